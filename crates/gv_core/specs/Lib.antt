@@ -1,0 +1,13 @@
+pub mod Text
+pub mod Kind
+pub mod Spelling
+pub mod Measure
+pub mod Node
+pub mod NodeFalls
+pub mod Tree
+pub mod Layout
+pub mod Reading
+pub mod Gives
+pub mod Container
+pub mod TypeString
+pub mod Stack
