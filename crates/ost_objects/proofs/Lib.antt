@@ -1,0 +1,9 @@
+pub mod Types
+pub mod RowLists
+pub mod Parts
+pub mod Texts
+pub mod Headers
+pub mod Streams
+pub mod OrderedNames
+pub mod Entries
+pub mod Laws
