@@ -1,0 +1,13 @@
+pub mod Puts
+pub mod Images
+pub mod Ways
+pub mod Refusals
+pub mod Trees
+pub mod Runs
+pub mod Crashes
+pub mod Effects
+pub mod Kept
+pub mod Facts
+pub mod Claims
+pub mod Converse
+pub mod Quiet
