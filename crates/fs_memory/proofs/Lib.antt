@@ -1,0 +1,15 @@
+mod Records
+mod Plans
+mod Untouched
+mod Removals
+mod Walks
+mod Children
+mod Listings
+mod Valid
+mod Sound
+mod Named
+mod Olders
+mod Choices
+mod Quiets
+mod Leaving
+mod Sorting

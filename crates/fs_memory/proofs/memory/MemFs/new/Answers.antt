@@ -1,0 +1,11 @@
+use Rattle.std.proofs.Common.{arith, ap, ◌∙◌}
+use Rattle.fs_memory.specs.Changes.{view_of}
+use Rattle.fs_memory.proofs.Records.{view_of-none}
+use Rattle.fs_memory.proofs.Valid.{empty_sound}
+use Rattle.fs_memory.proofs.memory.MemFs.new.Goals as goal
+
+pub invariant_of-result : goal.invariant_of-result
+invariant_of-result c = record { begun = omega arith; sound = empty_sound _ c.new.ensures.items }
+
+pub returns-clause-view : goal.returns-clause-view
+returns-clause-view c = ap view_of c.new.ensures.items ∙ view_of-none

@@ -1,0 +1,5 @@
+use Rattle.fs_memory.proofs.Valid.{obeys_reading}
+use Rattle.fs_memory.proofs.memory.MemFsFs.same.Goals as goal
+
+pub returns-clause-plan : goal.returns-clause-plan
+returns-clause-plan c = obeys_reading _ _ _ _ c.same_at.result _ c.in_ok-turn.ensures.plan c.same_at.ensures

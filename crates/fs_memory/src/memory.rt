@@ -1,0 +1,485 @@
+ghost use Rattle.std.specs.Prelude.{◌≡◌, ◌≢◌, ◌≤◌, ◌<◌, ◌++◌, ◌∷◌, ◌+◌, ◌-◌, ◌⊎◌, [], ℕ, Bool, Option, length, min, take, Some, None, IfOk, IfErr, OnErr, IfSome, IfNone, IsErrOf, true, false};
+ghost use Rattle.std.specs.Vec.{vec_capacity, vec_len};
+ghost use Rattle.fs_trait.specs.Count.{last};
+ghost use Rattle.fs_trait.specs.Image.{Image};
+ghost use Rattle.ost_types.specs.Mode.{IsFolderMode, IsFileMode, IsLinkMode};
+ghost use Rattle.fs_trait.specs.View.{View, named, created, moved, extended, file_synced, folder_synced, all_synced};
+ghost use Rattle.fs_trait.specs.Effect.{no_new, no_file, no_leaf, no_move, no_folder, no_link, no_rmdir, inode_of, part, one_inode, OfPlacing, OfFinding, OfEmptying, OfNone, HasNames, IsFresh, IsNode, IsListing, Changed, Created, Removed, Answered, Elapses, Ticks, IsQuiet, HasCause, TakesRoom};
+ghost use Rattle.fs_trait.specs.declared.types.Value.TheVariants.{Absent, Folder, Link};
+ghost use Rattle.fs_trait.specs.declared.types.FsErr.{FsErr};
+ghost use Rattle.fs_trait.specs.declared.types.FsErr.TheVariants as error;
+ghost use Rattle.fs_memory.specs.declared.change.Change.{Change};
+ghost use Rattle.fs_memory.specs.Calls.{IsNext};
+ghost use Rattle.fs_memory.specs.Changes.{view_of, empty_view, apply, Was, IsSound, SoundSince};
+ghost use Rattle.fs_memory.specs.Crash.{IsCrashOf};
+ghost use Rattle.fs_memory.specs.Recorded.{IsRecorded, Settles, Obeys, ObeysReading, IsTurn, planned};
+ghost use Rattle.fs_memory.specs.Laws.{was_now, was_only_now, was_bound, told_tree, told_always};
+
+use crate::calls::{next_call, one_more};
+use crate::change::Change;
+use crate::crash::{Choice, crashed};
+use crate::make::{
+    extend_file, link_leaf, make_file, make_folder, make_link, move_leaf, remove_folder,
+    remove_leaf, sync_file, sync_folder,
+};
+use crate::plan::{FailAt, plan_of};
+use crate::read::{list_at, node_at, part_at, read_at, same_at};
+use fs_trait::{Fs, FsErr, Node};
+use ost_types::{Bytes, FsPath, Meta, Names, NoMemory, Text};
+use places::Pool;
+use std::alloc::Global;
+
+/// A file system in memory, which tells its view.
+#[derive(Drop)]
+pub struct MemFs {
+    alloc: Global,
+    changes: Vec<Change>,
+    // how many of them were there when the clock was 0
+    base: usize,
+    places: Pool,
+    // a `rename` takes one of each pool
+    targets: Pool,
+    plan: Vec<FailAt>,
+    calls: u128,
+    faults: u64,
+    ghost begun: { base ≤ length changes.items },
+    ghost sound: { SoundSince base changes.items },
+}
+
+/// What is recorded of a call, and what it answers.
+#[derive(Drop)]
+struct Outcome {
+    change: Change,
+    answer: Result<(), FsErr>,
+}
+
+// None for want of memory.
+fn settle(change: Result<Change, FsErr>, done: Option<bool>) -> Option<Outcome>
+    ensures none { IfNone result (change ≡ Err error.NoMemory) }
+    ensures some { IfSome result (λ o. Settles done change o.change o.answer) }
+    ensures wants { IfSome result (λ o. change ≢ Err error.NoMemory) }
+{
+    match change {
+        Ok(change) => match done {
+            None => Some(Outcome {
+                change,
+                answer: Ok(()),
+            }),
+            Some(true) => Some(Outcome {
+                change,
+                answer: Err(FsErr::Failed),
+            }),
+            Some(false) => Some(Outcome {
+                change: Change::Nothing,
+                answer: Err(FsErr::Failed),
+            }),
+        },
+        Err(FsErr::NoMemory) => None,
+        Err(e) => match done {
+            None => Some(Outcome {
+                change: Change::Nothing,
+                answer: Err(e),
+            }),
+            Some(_) => Some(Outcome {
+                change: Change::Nothing,
+                answer: Err(FsErr::Failed),
+            }),
+        },
+    }
+}
+
+fn raised(faults: u64, answer: &Result<(), FsErr>) -> u64
+    ensures { HasCause faults result answer.now }
+{
+    match answer {
+        Ok(_) => faults,
+        Err(FsErr::Failed) => one_more(faults),
+        Err(_) => faults,
+    }
+}
+
+impl MemFs {
+    /// The root folder alone, with owner 0, group 0 and mode 0o040755. No call fails.
+    pub fn new(alloc: Global) -> Result<MemFs, NoMemory>
+        ensures view { IfOk result (λ m. view_of m.changes.items ≡ empty_view) }
+        ensures clock { IfOk result (λ m. length m.changes.items - m.base ≡ 0) }
+        ensures faults { IfOk result (λ m. m.faults ≡ 0) }
+        ensures plan { IfOk result (λ m. (m.plan.items ≡ []) × (m.calls ≡ 0)) }
+    {
+        Ok(MemFs {
+            alloc,
+            changes: Vec::new(alloc),
+            base: 0,
+            places: Pool::new(alloc),
+            targets: Pool::new(alloc),
+            plan: Vec::new(alloc),
+            calls: 0,
+            faults: 0,
+        })
+    }
+
+    /// From now on these calls fail. Calls of all kinds but `reserve`, `clock` and `faults` are numbered from 1, since
+    /// the file system was made.
+    pub fn fail_at(&mut self, plan: Vec<FailAt>)
+        ensures plan { self.new.plan ≡ plan }
+        ensures changes { (self.new.changes ≡ self.old.changes) × (self.new.base ≡ self.old.base) }
+        ensures pools { (self.new.places ≡ self.old.places) × (self.new.targets ≡ self.old.targets) }
+        ensures counts { (self.new.calls ≡ self.old.calls) × (self.new.faults ≡ self.old.faults) }
+    {
+        self.plan = plan;
+    }
+
+    /// The clock.
+    pub fn moments(&self) -> u64
+        ensures { result ≡ length self.now.changes.items - self.now.base }
+    {
+        (self.changes.len() - self.base) as u64
+    }
+
+    /// What a crash leaves that comes after so many changing calls. It has clock 0 and no plan.
+    pub fn image(&self, moment: u64, choice: &Choice) -> Result<MemFs, NoMemory>
+        requires { moment ≤ length self.now.changes.items - self.now.base }
+        ensures crash { IfOk result (λ m. IsCrashOf (view_of (take (self.now.base + moment) self.now.changes.items)) choice.now.picks.items choice.now.fill (view_of m.changes.items)) }
+        ensures image { IfOk result (λ m. Image (view_of (take (self.now.base + moment) self.now.changes.items)) (view_of m.changes.items).now) }
+        ensures clock { IfOk result (λ m. length m.changes.items - m.base ≡ 0) }
+        ensures plan { IfOk result (λ m. (m.plan.items ≡ []) × (m.calls ≡ 0) × (m.faults ≡ 0)) }
+    {
+        let end = self.base + moment as usize;
+        let changes = crashed(self.alloc, &self.changes[..end], choice)?;
+        let base = changes.len();
+        Ok(MemFs {
+            alloc: self.alloc,
+            changes,
+            base,
+            places: Pool::new(self.alloc),
+            targets: Pool::new(self.alloc),
+            plan: Vec::new(self.alloc),
+            calls: 0,
+            faults: 0,
+        })
+    }
+
+    // Counts a changing call, and records what it did. The clock is no more than the record's length, which stays
+    // below 2^63.
+    fn record(&mut self, change: Result<Change, FsErr>) -> Result<(), FsErr>
+        requires { IfOk change (λ c. IsSound (self.old.changes.items ++ c ∷ [])) }
+        ensures recorded { IsRecorded self.old.changes.items (planned self.old.plan.items self.new.calls) change result self.new.changes.items }
+        ensures time { Elapses (length self.old.changes.items - self.old.base) (length self.new.changes.items - self.new.base) (λ t v. Was self.old.changes.items (self.old.base + t) v) (λ t v. Was self.new.changes.items (self.new.base + t) v) (Some (view_of self.new.changes.items)) }
+        ensures ticks { Ticks (length self.old.changes.items - self.old.base) (length self.new.changes.items - self.new.base) result }
+        ensures stops { length self.old.changes.items - self.old.base ≡ last → Some (view_of self.new.changes.items) ≡ Some (view_of self.old.changes.items) }
+        ensures cause { HasCause self.old.faults self.new.faults result }
+        ensures number { (self.new.plan ≡ self.old.plan) × IsNext self.old.calls self.new.calls }
+        ensures base { self.new.base ≡ self.old.base }
+        ensures pools { (self.new.places ≡ self.old.places) × (self.new.targets ≡ self.old.targets) }
+        ensures wants { IsErrOf result error.NoMemory → IsErrOf change error.NoMemory ⊎ (vec_capacity self.old.changes ≤ vec_len self.old.changes) }
+        ensures left { vec_capacity self.old.changes - vec_len self.old.changes ≤ (vec_capacity self.new.changes - vec_len self.new.changes) + 1 }
+    {
+        self.calls = next_call(self.calls);
+        match settle(change, plan_of(&self.plan, self.calls)) {
+            None => Err(FsErr::NoMemory),
+            Some(outcome) => {
+                self.changes.push(outcome.change)?;
+                self.faults = raised(self.faults, &outcome.answer);
+                outcome.answer
+            }
+        }
+    }
+
+    // Counts a reading call.
+    fn turn(&mut self) -> Result<(), FsErr>
+        ensures changes { (self.new.changes ≡ self.old.changes) × (self.new.base ≡ self.old.base) }
+        ensures pools { (self.new.places ≡ self.old.places) × (self.new.targets ≡ self.old.targets) }
+        ensures cause { HasCause self.old.faults self.new.faults result }
+        ensures failed { OnErr result (IsErrOf result error.Failed) }
+        ensures plan { IsTurn (planned self.old.plan.items self.new.calls) result }
+        ensures number { (self.new.plan ≡ self.old.plan) × IsNext self.old.calls self.new.calls }
+    {
+        self.calls = next_call(self.calls);
+        match plan_of(&self.plan, self.calls) {
+            None => Ok(()),
+            Some(_) => {
+                self.faults = raised(self.faults, &Err(FsErr::Failed));
+                Err(FsErr::Failed)
+            }
+        }
+    }
+}
+
+impl Fs for MemFs {
+    ghost view = { λ m. Some (view_of m.changes.items) };
+
+    ghost clock = { λ m. length m.changes.items - m.base };
+
+    ghost was = { λ m t v. Was m.changes.items (m.base + t) v };
+
+    ghost faults = { λ m. m.faults };
+
+    ghost spare = { λ m. min (min m.places m.targets) (vec_capacity m.changes - vec_len m.changes) };
+
+    fn mkdir(&mut self, at: &FsPath, meta: &Meta) -> Result<(), FsErr>
+        requires { IsFolderMode meta.now.mode }
+        ensures effect { (v : View) → Some (view_of self.old.changes.items) ≡ Some v → Changed (no_new at.now v.now) v (named at.now (Folder meta.now) v) result (Some (view_of self.new.changes.items)) }
+        ensures named { IfErr result OfPlacing }
+        ensures time { Elapses (length self.old.changes.items - self.old.base) (length self.new.changes.items - self.new.base) (λ t v. Was self.old.changes.items (self.old.base + t) v) (λ t v. Was self.new.changes.items (self.new.base + t) v) (Some (view_of self.new.changes.items)) }
+        ensures ticks { Ticks (length self.old.changes.items - self.old.base) (length self.new.changes.items - self.new.base) result }
+        ensures stops { length self.old.changes.items - self.old.base ≡ last → Some (view_of self.new.changes.items) ≡ Some (view_of self.old.changes.items) }
+        ensures cause { HasCause self.old.faults self.new.faults result }
+        ensures room { TakesRoom false (min (min self.old.places self.old.targets) (vec_capacity self.old.changes - vec_len self.old.changes)) (min (min self.new.places self.new.targets) (vec_capacity self.new.changes - vec_len self.new.changes)) result }
+        ensures number { (self.new.plan ≡ self.old.plan) × IsNext self.old.calls self.new.calls }
+        ensures plan { Obeys (planned self.old.plan.items self.new.calls) (no_new at.now (view_of self.old.changes.items).now) (view_of self.old.changes.items) (named at.now (Folder meta.now) (view_of self.old.changes.items)) result (view_of self.new.changes.items) }
+    {
+        let change = make_folder(&mut self.places, &self.changes, at, meta);
+        self.record(change)
+    }
+
+    fn create(&mut self, at: &FsPath, meta: &Meta) -> Result<(), FsErr>
+        requires { IsFileMode meta.now.mode }
+        ensures effect { (v : View) → Some (view_of self.old.changes.items) ≡ Some v → Created at.now meta.now v result (Some (view_of self.new.changes.items)) }
+        ensures named { IfErr result OfPlacing }
+        ensures time { Elapses (length self.old.changes.items - self.old.base) (length self.new.changes.items - self.new.base) (λ t v. Was self.old.changes.items (self.old.base + t) v) (λ t v. Was self.new.changes.items (self.new.base + t) v) (Some (view_of self.new.changes.items)) }
+        ensures ticks { Ticks (length self.old.changes.items - self.old.base) (length self.new.changes.items - self.new.base) result }
+        ensures stops { length self.old.changes.items - self.old.base ≡ last → Some (view_of self.new.changes.items) ≡ Some (view_of self.old.changes.items) }
+        ensures cause { HasCause self.old.faults self.new.faults result }
+        ensures room { TakesRoom false (min (min self.old.places self.old.targets) (vec_capacity self.old.changes - vec_len self.old.changes)) (min (min self.new.places self.new.targets) (vec_capacity self.new.changes - vec_len self.new.changes)) result }
+        ensures number { (self.new.plan ≡ self.old.plan) × IsNext self.old.calls self.new.calls }
+        ensures plan { (n : ℕ) × IsFresh n (view_of self.old.changes.items) × Obeys (planned self.old.plan.items self.new.calls) (no_new at.now (view_of self.old.changes.items).now) (view_of self.old.changes.items) (created at.now meta.now n (view_of self.old.changes.items)) result (view_of self.new.changes.items) }
+    {
+        let change = make_file(&mut self.places, &self.changes, at, meta);
+        self.record(change)
+    }
+
+    fn append(&mut self, at: &FsPath, bytes: &[u8]) -> Result<(), FsErr>
+        ensures effect { (v : View) → Some (view_of self.old.changes.items) ≡ Some v → Changed (no_file at.now v.now) v (extended (inode_of (v.now.at at.now)) bytes.now v) result (Some (view_of self.new.changes.items)) }
+        ensures named { IfErr result OfFinding }
+        ensures time { Elapses (length self.old.changes.items - self.old.base) (length self.new.changes.items - self.new.base) (λ t v. Was self.old.changes.items (self.old.base + t) v) (λ t v. Was self.new.changes.items (self.new.base + t) v) (Some (view_of self.new.changes.items)) }
+        ensures ticks { Ticks (length self.old.changes.items - self.old.base) (length self.new.changes.items - self.new.base) result }
+        ensures stops { length self.old.changes.items - self.old.base ≡ last → Some (view_of self.new.changes.items) ≡ Some (view_of self.old.changes.items) }
+        ensures cause { HasCause self.old.faults self.new.faults result }
+        ensures room { TakesRoom false (min (min self.old.places self.old.targets) (vec_capacity self.old.changes - vec_len self.old.changes)) (min (min self.new.places self.new.targets) (vec_capacity self.new.changes - vec_len self.new.changes)) result }
+        ensures number { (self.new.plan ≡ self.old.plan) × IsNext self.old.calls self.new.calls }
+        ensures plan { Obeys (planned self.old.plan.items self.new.calls) (no_file at.now (view_of self.old.changes.items).now) (view_of self.old.changes.items) (extended (inode_of ((view_of self.old.changes.items).now.at at.now)) bytes.now (view_of self.old.changes.items)) result (view_of self.new.changes.items) }
+    {
+        let change = extend_file(self.alloc, &mut self.places, &self.changes, at, bytes);
+        self.record(change)
+    }
+
+    fn symlink(&mut self, at: &FsPath, target: &Text, meta: &Meta) -> Result<(), FsErr>
+        requires mode { IsLinkMode meta.now.mode }
+        requires target { target.now ≢ [] }
+        ensures effect { (v : View) → Some (view_of self.old.changes.items) ≡ Some v → Changed (no_new at.now v.now) v (named at.now (Link meta.now target.now) v) result (Some (view_of self.new.changes.items)) }
+        ensures named { IfErr result OfPlacing }
+        ensures time { Elapses (length self.old.changes.items - self.old.base) (length self.new.changes.items - self.new.base) (λ t v. Was self.old.changes.items (self.old.base + t) v) (λ t v. Was self.new.changes.items (self.new.base + t) v) (Some (view_of self.new.changes.items)) }
+        ensures ticks { Ticks (length self.old.changes.items - self.old.base) (length self.new.changes.items - self.new.base) result }
+        ensures stops { length self.old.changes.items - self.old.base ≡ last → Some (view_of self.new.changes.items) ≡ Some (view_of self.old.changes.items) }
+        ensures cause { HasCause self.old.faults self.new.faults result }
+        ensures room { TakesRoom false (min (min self.old.places self.old.targets) (vec_capacity self.old.changes - vec_len self.old.changes)) (min (min self.new.places self.new.targets) (vec_capacity self.new.changes - vec_len self.new.changes)) result }
+        ensures number { (self.new.plan ≡ self.old.plan) × IsNext self.old.calls self.new.calls }
+        ensures plan { Obeys (planned self.old.plan.items self.new.calls) (no_new at.now (view_of self.old.changes.items).now) (view_of self.old.changes.items) (named at.now (Link meta.now target.now) (view_of self.old.changes.items)) result (view_of self.new.changes.items) }
+    {
+        let change = make_link(&mut self.places, &self.changes, at, target, meta);
+        self.record(change)
+    }
+
+    fn link(&mut self, from: &FsPath, to: &FsPath) -> Result<(), FsErr>
+        ensures effect { (v : View) → Some (view_of self.old.changes.items) ≡ Some v → Changed (no_link from.now to.now v.now) v (named to.now (v.now.at from.now) v) result (Some (view_of self.new.changes.items)) }
+        ensures named { IfErr result OfPlacing }
+        ensures time { Elapses (length self.old.changes.items - self.old.base) (length self.new.changes.items - self.new.base) (λ t v. Was self.old.changes.items (self.old.base + t) v) (λ t v. Was self.new.changes.items (self.new.base + t) v) (Some (view_of self.new.changes.items)) }
+        ensures ticks { Ticks (length self.old.changes.items - self.old.base) (length self.new.changes.items - self.new.base) result }
+        ensures stops { length self.old.changes.items - self.old.base ≡ last → Some (view_of self.new.changes.items) ≡ Some (view_of self.old.changes.items) }
+        ensures cause { HasCause self.old.faults self.new.faults result }
+        ensures room { TakesRoom false (min (min self.old.places self.old.targets) (vec_capacity self.old.changes - vec_len self.old.changes)) (min (min self.new.places self.new.targets) (vec_capacity self.new.changes - vec_len self.new.changes)) result }
+        ensures number { (self.new.plan ≡ self.old.plan) × IsNext self.old.calls self.new.calls }
+        ensures plan { Obeys (planned self.old.plan.items self.new.calls) (no_link from.now to.now (view_of self.old.changes.items).now) (view_of self.old.changes.items) (named to.now ((view_of self.old.changes.items).now.at from.now) (view_of self.old.changes.items)) result (view_of self.new.changes.items) }
+    {
+        let change = link_leaf(
+            self.alloc,
+            &mut self.places,
+            &mut self.targets,
+            &self.changes,
+            from,
+            to,
+        );
+        self.record(change)
+    }
+
+    fn unlink(&mut self, at: &FsPath) -> Result<(), FsErr>
+        ensures effect { (v : View) → Some (view_of self.old.changes.items) ≡ Some v → Changed (no_leaf at.now v.now) v (named at.now Absent v) result (Some (view_of self.new.changes.items)) }
+        ensures named { IfErr result OfFinding }
+        ensures time { Elapses (length self.old.changes.items - self.old.base) (length self.new.changes.items - self.new.base) (λ t v. Was self.old.changes.items (self.old.base + t) v) (λ t v. Was self.new.changes.items (self.new.base + t) v) (Some (view_of self.new.changes.items)) }
+        ensures ticks { Ticks (length self.old.changes.items - self.old.base) (length self.new.changes.items - self.new.base) result }
+        ensures stops { length self.old.changes.items - self.old.base ≡ last → Some (view_of self.new.changes.items) ≡ Some (view_of self.old.changes.items) }
+        ensures cause { HasCause self.old.faults self.new.faults result }
+        ensures room { TakesRoom true (min (min self.old.places self.old.targets) (vec_capacity self.old.changes - vec_len self.old.changes)) (min (min self.new.places self.new.targets) (vec_capacity self.new.changes - vec_len self.new.changes)) result }
+        ensures number { (self.new.plan ≡ self.old.plan) × IsNext self.old.calls self.new.calls }
+        ensures plan { Obeys (planned self.old.plan.items self.new.calls) (no_leaf at.now (view_of self.old.changes.items).now) (view_of self.old.changes.items) (named at.now Absent (view_of self.old.changes.items)) result (view_of self.new.changes.items) }
+    {
+        let change = remove_leaf(&mut self.places, &self.changes, at);
+        self.record(change)
+    }
+
+    fn rmdir(&mut self, at: &FsPath) -> Result<(), FsErr>
+        ensures effect { (v : View) → Some (view_of self.old.changes.items) ≡ Some v → Removed at.now v result (Some (view_of self.new.changes.items)) }
+        ensures named { IfErr result OfEmptying }
+        ensures time { Elapses (length self.old.changes.items - self.old.base) (length self.new.changes.items - self.new.base) (λ t v. Was self.old.changes.items (self.old.base + t) v) (λ t v. Was self.new.changes.items (self.new.base + t) v) (Some (view_of self.new.changes.items)) }
+        ensures ticks { Ticks (length self.old.changes.items - self.old.base) (length self.new.changes.items - self.new.base) result }
+        ensures stops { length self.old.changes.items - self.old.base ≡ last → Some (view_of self.new.changes.items) ≡ Some (view_of self.old.changes.items) }
+        ensures cause { HasCause self.old.faults self.new.faults result }
+        ensures room { TakesRoom true (min (min self.old.places self.old.targets) (vec_capacity self.old.changes - vec_len self.old.changes)) (min (min self.new.places self.new.targets) (vec_capacity self.new.changes - vec_len self.new.changes)) result }
+        ensures number { (self.new.plan ≡ self.old.plan) × IsNext self.old.calls self.new.calls }
+        ensures plan { (b : Bool) × HasNames b at.now (view_of self.old.changes.items).now × Obeys (planned self.old.plan.items self.new.calls) (no_rmdir b at.now (view_of self.old.changes.items).now) (view_of self.old.changes.items) (named at.now Absent (view_of self.old.changes.items)) result (view_of self.new.changes.items) }
+    {
+        let change = remove_folder(&mut self.places, &self.changes, at);
+        self.record(change)
+    }
+
+    fn rename(&mut self, from: &FsPath, to: &FsPath) -> Result<(), FsErr>
+        requires { (v : View) → Some (view_of self.old.changes.items) ≡ Some v → one_inode (v.now.at from.now) (v.now.at to.now) ≡ false }
+        ensures effect { (v : View) → Some (view_of self.old.changes.items) ≡ Some v → Changed (no_move from.now to.now v.now) v (moved from.now to.now v) result (Some (view_of self.new.changes.items)) }
+        ensures named { IfErr result OfPlacing }
+        ensures time { Elapses (length self.old.changes.items - self.old.base) (length self.new.changes.items - self.new.base) (λ t v. Was self.old.changes.items (self.old.base + t) v) (λ t v. Was self.new.changes.items (self.new.base + t) v) (Some (view_of self.new.changes.items)) }
+        ensures ticks { Ticks (length self.old.changes.items - self.old.base) (length self.new.changes.items - self.new.base) result }
+        ensures stops { length self.old.changes.items - self.old.base ≡ last → Some (view_of self.new.changes.items) ≡ Some (view_of self.old.changes.items) }
+        ensures cause { HasCause self.old.faults self.new.faults result }
+        ensures room { TakesRoom true (min (min self.old.places self.old.targets) (vec_capacity self.old.changes - vec_len self.old.changes)) (min (min self.new.places self.new.targets) (vec_capacity self.new.changes - vec_len self.new.changes)) result }
+        ensures number { (self.new.plan ≡ self.old.plan) × IsNext self.old.calls self.new.calls }
+        ensures plan { Obeys (planned self.old.plan.items self.new.calls) (no_move from.now to.now (view_of self.old.changes.items).now) (view_of self.old.changes.items) (moved from.now to.now (view_of self.old.changes.items)) result (view_of self.new.changes.items) }
+    {
+        let change = move_leaf(&mut self.places, &mut self.targets, &self.changes, from, to);
+        self.record(change)
+    }
+
+    fn sync_file(&mut self, at: &FsPath) -> Result<(), FsErr>
+        ensures effect { (v : View) → Some (view_of self.old.changes.items) ≡ Some v → Changed (no_file at.now v.now) v (file_synced (inode_of (v.now.at at.now)) v) result (Some (view_of self.new.changes.items)) }
+        ensures named { IfErr result OfFinding }
+        ensures time { Elapses (length self.old.changes.items - self.old.base) (length self.new.changes.items - self.new.base) (λ t v. Was self.old.changes.items (self.old.base + t) v) (λ t v. Was self.new.changes.items (self.new.base + t) v) (Some (view_of self.new.changes.items)) }
+        ensures ticks { Ticks (length self.old.changes.items - self.old.base) (length self.new.changes.items - self.new.base) result }
+        ensures stops { length self.old.changes.items - self.old.base ≡ last → Some (view_of self.new.changes.items) ≡ Some (view_of self.old.changes.items) }
+        ensures cause { HasCause self.old.faults self.new.faults result }
+        ensures room { TakesRoom true (min (min self.old.places self.old.targets) (vec_capacity self.old.changes - vec_len self.old.changes)) (min (min self.new.places self.new.targets) (vec_capacity self.new.changes - vec_len self.new.changes)) result }
+        ensures number { (self.new.plan ≡ self.old.plan) × IsNext self.old.calls self.new.calls }
+        ensures plan { Obeys (planned self.old.plan.items self.new.calls) (no_file at.now (view_of self.old.changes.items).now) (view_of self.old.changes.items) (file_synced (inode_of ((view_of self.old.changes.items).now.at at.now)) (view_of self.old.changes.items)) result (view_of self.new.changes.items) }
+    {
+        let change = sync_file(&mut self.places, &self.changes, at);
+        self.record(change)
+    }
+
+    fn sync_dir(&mut self, at: &FsPath) -> Result<(), FsErr>
+        ensures effect { (v : View) → Some (view_of self.old.changes.items) ≡ Some v → Changed (no_folder at.now v.now) v (folder_synced at.now v) result (Some (view_of self.new.changes.items)) }
+        ensures named { IfErr result OfFinding }
+        ensures time { Elapses (length self.old.changes.items - self.old.base) (length self.new.changes.items - self.new.base) (λ t v. Was self.old.changes.items (self.old.base + t) v) (λ t v. Was self.new.changes.items (self.new.base + t) v) (Some (view_of self.new.changes.items)) }
+        ensures ticks { Ticks (length self.old.changes.items - self.old.base) (length self.new.changes.items - self.new.base) result }
+        ensures stops { length self.old.changes.items - self.old.base ≡ last → Some (view_of self.new.changes.items) ≡ Some (view_of self.old.changes.items) }
+        ensures cause { HasCause self.old.faults self.new.faults result }
+        ensures room { TakesRoom true (min (min self.old.places self.old.targets) (vec_capacity self.old.changes - vec_len self.old.changes)) (min (min self.new.places self.new.targets) (vec_capacity self.new.changes - vec_len self.new.changes)) result }
+        ensures number { (self.new.plan ≡ self.old.plan) × IsNext self.old.calls self.new.calls }
+        ensures plan { Obeys (planned self.old.plan.items self.new.calls) (no_folder at.now (view_of self.old.changes.items).now) (view_of self.old.changes.items) (folder_synced at.now (view_of self.old.changes.items)) result (view_of self.new.changes.items) }
+    {
+        let change = sync_folder(&mut self.places, &self.changes, at);
+        self.record(change)
+    }
+
+    fn sync_all(&mut self) -> Result<(), FsErr>
+        ensures effect { (v : View) → Some (view_of self.old.changes.items) ≡ Some v → Changed None v (all_synced v) result (Some (view_of self.new.changes.items)) }
+        ensures named { IfErr result OfNone }
+        ensures time { Elapses (length self.old.changes.items - self.old.base) (length self.new.changes.items - self.new.base) (λ t v. Was self.old.changes.items (self.old.base + t) v) (λ t v. Was self.new.changes.items (self.new.base + t) v) (Some (view_of self.new.changes.items)) }
+        ensures ticks { Ticks (length self.old.changes.items - self.old.base) (length self.new.changes.items - self.new.base) result }
+        ensures stops { length self.old.changes.items - self.old.base ≡ last → Some (view_of self.new.changes.items) ≡ Some (view_of self.old.changes.items) }
+        ensures cause { HasCause self.old.faults self.new.faults result }
+        ensures room { TakesRoom true (min (min self.old.places self.old.targets) (vec_capacity self.old.changes - vec_len self.old.changes)) (min (min self.new.places self.new.targets) (vec_capacity self.new.changes - vec_len self.new.changes)) result }
+        ensures number { (self.new.plan ≡ self.old.plan) × IsNext self.old.calls self.new.calls }
+        ensures plan { Obeys (planned self.old.plan.items self.new.calls) None (view_of self.old.changes.items) (all_synced (view_of self.old.changes.items)) result (view_of self.new.changes.items) }
+    {
+        self.record(Ok(Change::SyncAll))
+    }
+
+    fn reserve(&mut self, calls: u64) -> Result<(), FsErr> {
+        self.places.fill(calls)?;
+        self.targets.fill(calls)?;
+        self.changes.reserve(calls as usize)?;
+        Ok(())
+    }
+
+    fn stat(&mut self, at: &FsPath) -> Result<Option<Node>, FsErr>
+        ensures answer { (v : View) → Some (view_of self.old.changes.items) ≡ Some v → Answered None (IsNode v.now (v.now.at at.now)) result }
+        ensures named { IfErr result OfNone }
+        ensures quiet { IsQuiet (length self.old.changes.items - self.old.base) (length self.new.changes.items - self.new.base) (λ t v. Was self.old.changes.items (self.old.base + t) v) (λ t v. Was self.new.changes.items (self.new.base + t) v) (Some (view_of self.old.changes.items)) (Some (view_of self.new.changes.items)) }
+        ensures keeps_room { (min (min self.old.places self.old.targets) (vec_capacity self.old.changes - vec_len self.old.changes)) ≤ (min (min self.new.places self.new.targets) (vec_capacity self.new.changes - vec_len self.new.changes)) }
+        ensures cause { HasCause self.old.faults self.new.faults result }
+        ensures number { (self.new.plan ≡ self.old.plan) × IsNext self.old.calls self.new.calls }
+        ensures plan { ObeysReading (planned self.old.plan.items self.new.calls) result }
+    {
+        self.turn()?;
+        node_at(self.alloc, &self.changes, at)
+    }
+
+    fn read(&mut self, at: &FsPath) -> Result<Bytes, FsErr>
+        ensures answer { (v : View) → Some (view_of self.old.changes.items) ≡ Some v → Answered (no_file at.now v.now) (λ b. b ≡ v.now.bytes (inode_of (v.now.at at.now))) result }
+        ensures named { IfErr result OfFinding }
+        ensures quiet { IsQuiet (length self.old.changes.items - self.old.base) (length self.new.changes.items - self.new.base) (λ t v. Was self.old.changes.items (self.old.base + t) v) (λ t v. Was self.new.changes.items (self.new.base + t) v) (Some (view_of self.old.changes.items)) (Some (view_of self.new.changes.items)) }
+        ensures keeps_room { (min (min self.old.places self.old.targets) (vec_capacity self.old.changes - vec_len self.old.changes)) ≤ (min (min self.new.places self.new.targets) (vec_capacity self.new.changes - vec_len self.new.changes)) }
+        ensures cause { HasCause self.old.faults self.new.faults result }
+        ensures number { (self.new.plan ≡ self.old.plan) × IsNext self.old.calls self.new.calls }
+        ensures plan { ObeysReading (planned self.old.plan.items self.new.calls) result }
+    {
+        self.turn()?;
+        read_at(self.alloc, &self.changes, at)
+    }
+
+    fn read_part(&mut self, at: &FsPath, from: u64, max: u32) -> Result<Bytes, FsErr>
+        requires { 1 ≤ max }
+        ensures answer { (v : View) → Some (view_of self.old.changes.items) ≡ Some v → Answered (no_file at.now v.now) (λ b. b ≡ part from max (v.now.bytes (inode_of (v.now.at at.now)))) result }
+        ensures named { IfErr result OfFinding }
+        ensures quiet { IsQuiet (length self.old.changes.items - self.old.base) (length self.new.changes.items - self.new.base) (λ t v. Was self.old.changes.items (self.old.base + t) v) (λ t v. Was self.new.changes.items (self.new.base + t) v) (Some (view_of self.old.changes.items)) (Some (view_of self.new.changes.items)) }
+        ensures keeps_room { (min (min self.old.places self.old.targets) (vec_capacity self.old.changes - vec_len self.old.changes)) ≤ (min (min self.new.places self.new.targets) (vec_capacity self.new.changes - vec_len self.new.changes)) }
+        ensures cause { HasCause self.old.faults self.new.faults result }
+        ensures number { (self.new.plan ≡ self.old.plan) × IsNext self.old.calls self.new.calls }
+        ensures plan { ObeysReading (planned self.old.plan.items self.new.calls) result }
+    {
+        self.turn()?;
+        part_at(self.alloc, &self.changes, at, from, max)
+    }
+
+    fn list(&mut self, at: &FsPath) -> Result<Names, FsErr>
+        ensures answer { (v : View) → Some (view_of self.old.changes.items) ≡ Some v → Answered (no_folder at.now v.now) (IsListing v.now at.now) result }
+        ensures named { IfErr result OfFinding }
+        ensures quiet { IsQuiet (length self.old.changes.items - self.old.base) (length self.new.changes.items - self.new.base) (λ t v. Was self.old.changes.items (self.old.base + t) v) (λ t v. Was self.new.changes.items (self.new.base + t) v) (Some (view_of self.old.changes.items)) (Some (view_of self.new.changes.items)) }
+        ensures keeps_room { (min (min self.old.places self.old.targets) (vec_capacity self.old.changes - vec_len self.old.changes)) ≤ (min (min self.new.places self.new.targets) (vec_capacity self.new.changes - vec_len self.new.changes)) }
+        ensures cause { HasCause self.old.faults self.new.faults result }
+        ensures number { (self.new.plan ≡ self.old.plan) × IsNext self.old.calls self.new.calls }
+        ensures plan { ObeysReading (planned self.old.plan.items self.new.calls) result }
+    {
+        self.turn()?;
+        list_at(self.alloc, &self.changes, at)
+    }
+
+    fn same(&mut self, a: &FsPath, b: &FsPath) -> Result<bool, FsErr>
+        ensures answer { (v : View) → Some (view_of self.old.changes.items) ≡ Some v → Answered None (λ x. x ≡ one_inode (v.now.at a.now) (v.now.at b.now)) result }
+        ensures named { IfErr result OfNone }
+        ensures quiet { IsQuiet (length self.old.changes.items - self.old.base) (length self.new.changes.items - self.new.base) (λ t v. Was self.old.changes.items (self.old.base + t) v) (λ t v. Was self.new.changes.items (self.new.base + t) v) (Some (view_of self.old.changes.items)) (Some (view_of self.new.changes.items)) }
+        ensures keeps_room { (min (min self.old.places self.old.targets) (vec_capacity self.old.changes - vec_len self.old.changes)) ≤ (min (min self.new.places self.new.targets) (vec_capacity self.new.changes - vec_len self.new.changes)) }
+        ensures cause { HasCause self.old.faults self.new.faults result }
+        ensures number { (self.new.plan ≡ self.old.plan) × IsNext self.old.calls self.new.calls }
+        ensures plan { ObeysReading (planned self.old.plan.items self.new.calls) result }
+    {
+        self.turn()?;
+        same_at(self.alloc, &self.changes, a, b)
+    }
+
+    fn clock(&self) -> u64 {
+        self.moments()
+    }
+
+    fn faults(&self) -> u64 {
+        self.faults
+    }
+
+    ghost counts_now = { λ m t v le is. was_now m.base m.changes.items t v m.begun le is };
+
+    ghost only_now = { λ m t v le was. was_only_now m.base m.changes.items t v m.begun le was };
+
+    ghost bound = { λ m t v was. was_bound m.base m.changes.items t v was };
+
+    ghost tree = { λ m v is. told_tree m.base m.changes.items v m.begun m.sound is };
+
+    ghost told = { λ m n v is. told_always n.changes.items };
+}

@@ -1,0 +1,81 @@
+ghost use Rattle.std.specs.Prelude.{◌≡◌, None, false};
+ghost use Rattle.fs_trait.specs.Effect.{way, no_new, no_file, no_leaf, no_folder, inode_of, or_else, if_folder};
+ghost use Rattle.fs_memory.specs.Changes.{view_of};
+ghost use Rattle.fs_memory.specs.Seen.{value_of};
+ghost use Rattle.fs_memory.specs.Answer.{IsAnswer};
+
+use crate::change::Change;
+use crate::found::{Found, value_at};
+use fs_trait::FsErr;
+use ost_types::FsPath;
+use places::Place;
+
+// Walks to the last name of a path.
+fn walk(changes: &[Change], path: &FsPath, place: &Place) -> Result<(), FsErr>
+    requires { place.now ≡ path.now }
+    ensures { IsAnswer false (way (view_of changes.now).now path.now) (λ _. Unit {0}) result }
+{
+    let names = path.names();
+    let text = place.text();
+    let mut end = 0;
+    let mut i = 0;
+    while i + 1 < names.len() {
+        end += names[i].as_slice().len() + 1;
+        i += 1;
+        value_at(changes, &text[..end]).folder()?;
+    }
+    Ok(())
+}
+
+// What the last name of a path has.
+fn last<'a>(changes: &'a [Change], path: &FsPath, place: &'a Place) -> Result<Found<'a>, FsErr>
+    requires { place.now ≡ path.now }
+    ensures { IsAnswer false (way (view_of changes.now).now path.now) (λ f. value_of f ≡ (view_of changes.now).now.at path.now) result }
+{
+    walk(changes, path, place)?;
+    Ok(value_at(changes, place.text()))
+}
+
+/// Refused where something is at the path.
+#[tactic(auto, unfolding(fs_trait::specs::Effect::no_new))]
+pub fn free(changes: &[Change], path: &FsPath, place: &Place) -> Result<(), FsErr>
+    requires { place.now ≡ path.now }
+    ensures { IsAnswer false (no_new path.now (view_of changes.now).now) (λ _. Unit {0}) result }
+{
+    last(changes, path, place)?.vacant()
+}
+
+/// The inode of the file at a path.
+#[tactic(auto, unfolding(fs_trait::specs::Effect::no_file))]
+pub fn file_at(changes: &[Change], path: &FsPath, place: &Place) -> Result<u64, FsErr>
+    requires { place.now ≡ path.now }
+    ensures { IsAnswer false (no_file path.now (view_of changes.now).now) (λ n. n ≡ inode_of ((view_of changes.now).now.at path.now)) result }
+{
+    last(changes, path, place)?.file()
+}
+
+/// Refused where no leaf is at the path.
+#[tactic(auto, unfolding(fs_trait::specs::Effect::no_leaf))]
+pub fn leaf_at(changes: &[Change], path: &FsPath, place: &Place) -> Result<(), FsErr>
+    requires { place.now ≡ path.now }
+    ensures { IsAnswer false (no_leaf path.now (view_of changes.now).now) (λ _. Unit {0}) result }
+{
+    last(changes, path, place)?.leaf()
+}
+
+/// Refused where a folder is at the path.
+pub fn not_folder(changes: &[Change], path: &FsPath, place: &Place) -> Result<(), FsErr>
+    requires { place.now ≡ path.now }
+    ensures { IsAnswer false (or_else (way (view_of changes.now).now path.now) (if_folder ((view_of changes.now).now.at path.now))) (λ _. Unit {0}) result }
+{
+    last(changes, path, place)?.no_folder()
+}
+
+/// Refused where no folder is at the path.
+#[tactic(auto, unfolding(fs_trait::specs::Effect::no_folder))]
+pub fn folder_at(changes: &[Change], path: &FsPath, place: &Place) -> Result<(), FsErr>
+    requires { place.now ≡ path.now }
+    ensures { IsAnswer false (no_folder path.now (view_of changes.now).now) (λ _. Unit {0}) result }
+{
+    last(changes, path, place)?.folder()
+}
