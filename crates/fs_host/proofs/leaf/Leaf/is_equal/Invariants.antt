@@ -1,0 +1,4 @@
+use Rattle.fs_host.proofs.leaf.Leaf.is_equal.Given as goal
+
+abbrev pub decreases-loop-left : goal.decreases-loop-left
+decreases-loop-left g l = l.left

@@ -1,0 +1,24 @@
+//! The current folder of the machine as a file system, and the machine's standard streams as a source and a sink.
+#![tactic(auto)]
+
+mod changed;
+mod folder;
+mod fs;
+mod header;
+mod host_path;
+mod leaf;
+mod refusal;
+mod standing;
+mod streams;
+
+use folder::CurrentFolder;
+pub use fs::HostFs;
+use header::{FileHeader, HEADER_LEN};
+use host_path::HostPath;
+use leaf::Leaf;
+use refusal::{Fault, Refusal};
+use standing::Standing;
+pub use streams::{StdSink, StdSource};
+
+#[cfg(test)]
+mod tests;

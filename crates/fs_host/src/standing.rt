@@ -1,0 +1,78 @@
+//! What stands at a path of the host, by looks that follow no link.
+ghost use Rattle.std.specs.Prelude.{◌≡◌, ◌≤◌, length, OnOk, IfErr};
+ghost use Rattle.fs_trait.specs.Effect.{OfPlacing, OfFinding, OfEmptying};
+ghost use Rattle.fs_host.specs.Refusal.{answered};
+ghost use Rattle.fs_host.specs.HostPath.{host_text};
+
+use crate::leaf::open_leaf;
+use crate::{Fault, HostPath, Leaf, Refusal};
+use ost_types::FsPath;
+use std::fs;
+use std::io::ErrorKind;
+use std::rt::Files;
+
+/// The name that is kept for the attributes of the folder that it stands in. No node has it.
+pub const ATTRIBUTES: &str = ".ost-folder";
+
+/// What stands at a path.
+#[derive(Drop)]
+pub enum Standing<F> {
+    Absent,
+    Folder,
+    Leaf(Leaf<F>),
+}
+
+/// What stands at a path, whose text is spelled. The first folder on the way that is absent gives `Missing`, and the
+/// first leaf in a folder's place `NotFolder`. A link, a device, a file without a header and a path with the kept name
+/// are `Failed`.
+pub fn walk<R: Files>(
+    rt: &R,
+    at: &FsPath,
+    text: &mut HostPath,
+) -> Result<Standing<R::File>, Refusal>
+    ensures spelled { OnOk result (text.new ≡ host_text at.now) }
+    ensures short { OnOk result (length text.new ≤ 2049) }
+    ensures placing { IfErr (answered result) OfPlacing }
+    ensures finding { IfErr (answered result) OfFinding }
+    ensures emptying { IfErr (answered result) OfEmptying }
+{
+    let names = at.names();
+    if names.iter().any(|name| name.as_str() == ATTRIBUTES) {
+        return Err(Refusal::Failed);
+    }
+    text.restart();
+    for name in names {
+        pass(look(rt, text.as_str())?)?;
+        text.push(name.as_str());
+    }
+    Ok(look(rt, text.as_str())?)
+}
+
+// Whether a path can go on below what stands there.
+fn pass<F: Drop>(standing: Standing<F>) -> Result<(), Refusal>
+    ensures placing { IfErr (answered result) OfPlacing }
+    ensures finding { IfErr (answered result) OfFinding }
+    ensures emptying { IfErr (answered result) OfEmptying }
+{
+    match standing {
+        Standing::Folder => Ok(()),
+        Standing::Absent => Err(Refusal::Missing),
+        Standing::Leaf(_) => Err(Refusal::NotFolder),
+    }
+}
+
+/// What stands at the end of a text, above which there are only folders.
+pub fn look<R: Files>(rt: &R, text: &str) -> Result<Standing<R::File>, Fault> {
+    let metadata = match fs::symlink_metadata(rt, text) {
+        Ok(metadata) => metadata,
+        Err(e) if e.kind() == ErrorKind::NotFound => return Ok(Standing::Absent),
+        Err(_) => return Err(Fault),
+    };
+    if metadata.is_dir() {
+        return Ok(Standing::Folder);
+    }
+    if !metadata.is_file() {
+        return Err(Fault);
+    }
+    Ok(Standing::Leaf(open_leaf(rt, text)?))
+}
