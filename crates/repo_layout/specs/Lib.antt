@@ -1,0 +1,6 @@
+pub mod RefName
+pub mod OsName
+pub mod RefFile
+pub mod Paths
+pub mod Refs
+pub mod Place

@@ -1,0 +1,23 @@
+//! The names and paths of an OSTree bare repository, and the text of a ref's file.
+#![tactic(auto)]
+
+mod folder;
+mod known;
+mod laws;
+mod os_name;
+mod part;
+mod paths;
+mod ref_file;
+mod ref_name;
+
+pub use folder::{Folder, folder_path};
+pub use laws::{names_of_paths, places_of_things};
+pub use os_name::OsName;
+pub use paths::{
+    config_path, deploy_path, mark_path, object_path, objects_folder_path, ref_path, stage_path,
+};
+pub use ref_file::{read_ref, ref_text};
+pub use ref_name::RefName;
+
+#[cfg(test)]
+mod tests;
