@@ -1,0 +1,5 @@
+pub mod StepLemmas
+pub mod Answering
+pub mod Wholes
+pub mod Stable
+pub mod Begins

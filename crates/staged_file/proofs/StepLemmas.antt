@@ -1,0 +1,408 @@
+-- What each step writes and leaves.
+use Rattle.std.proofs.Common.{ltb-false, ◌≡◌, ◌≢◌, ◌⊎◌, inl, inr, ⊎_elim, ℕ, ◌≤◌, ◌+◌, ◌-◌, arith, Bool, true, false, refl, sym, ◌∙◌, ap, subst, List, ◌++◌, length, take, drop, Option, Some, None, if◌then◌else◌}
+use Rattle.std.specs.Prelude.{nat_lt, ◌==◌}
+use Rattle.std.specs.Bool.{Decides}
+use Rattle.std.specs.Option.{is_some}
+use Rattle.std.proofs.lemmas.Bool.Decides.{Decides-eqb}
+use Rattle.std.proofs.Math.Seq.{take-add}
+use Rattle.std.proofs.lemmas.List.{take_all}
+use Rattle.ost_types.specs.declared.meta.Meta.{Meta}
+use Rattle.ost_types.specs.Path.{Path, under, is_in, is_below}
+use Rattle.ost_types.proofs.Paths.{is_in-under, is_in-self, is_below-self}
+use Rattle.fs_trait.specs.declared.types.Value.{Value}
+use Rattle.fs_trait.specs.declared.types.Value.TheVariants.{Absent, Folder, Link, File}
+use Rattle.fs_trait.specs.declared.types.Node.{Node}
+use Rattle.fs_trait.specs.declared.types.FsErr.{FsErr}
+use Rattle.fs_trait.specs.View.{Disk, View, named, created, moved, extended, file_synced, folder_synced}
+use Rattle.fs_trait.specs.Image.{is_folder, Holds, IsTree}
+use Rattle.fs_trait.specs.Effect.{IsFresh, inode_of, no_new, no_file, no_leaf, no_link, no_move, no_folder, IsNode, one_inode, unless_leaf}
+use Rattle.fs_trait.specs.Seen.{Seen, Vacant, Leaf, seen, shows, MayShow, MayBe, IsDirectory, NotDirectory, bytes_in, IsFile}
+use Rattle.fs_trait.specs.Change.{Writes, Meets, Nothing, At, Moves, OfInode, LeadsTo, Own, Fixed}
+use Rattle.fs_trait.proofs.Puts.{same_inode}
+use Rattle.fs_trait.proofs.Images.{not_both}
+use Rattle.fs_trait.proofs.Ways.{way-there}
+use Rattle.fs_trait.proofs.Refusals.{no_file-there, no_leaf-there, no_move-there, no_folder-there}
+use Rattle.fs_trait.proofs.Kept.{meets_kept, firm_kept, weaker}
+use Rattle.fs_trait.proofs.Effects.{may_now, leaf_held, named-writes, created-writes, moved-writes, extended-writes_own, file_synced-writes, folder_synced-writes, shows_named, shows_named_apart, shows_created, shows_extended, shows_moved, file_synced-firm, folder_synced-firm}
+use Rattle.fs_trait.proofs.Claims.{folder_shows}
+use Rattle.fs_trait.proofs.Facts.{vacant_absent, leaf_file, no_folder_shown, may_held, under-not_below, no_new-free, shows_kept}
+use Rattle.staged_file.specs.declared.phase.Show.{Show}
+use Rattle.staged_file.specs.declared.phase.Show.TheVariants as show
+use Rattle.staged_file.specs.declared.phase.Phase.{Phase}
+use Rattle.staged_file.specs.declared.phase.Phase.TheVariants.{Clear, Create, Append, SyncFile, Look, Replace, Add, Unlink, SyncFolder}
+use Rattle.staged_file.specs.Staged.{Staged, is_directory, filled, first_show, next_in}
+use Rattle.staged_file.specs.Steps.{IsPlaced, NotVacant, IsWhole, writes_in, WritesOf, firm_shown, lasts, firm_in, here_shown, here_in, shown_by, Needs}
+
+-- a step whose call isn't refused
+pub record Step (t new : Staged) (v : View) (refusal : Option FsErr) (w : View) : Type 0 where
+  pub free : refusal ≡ None
+  pub writes : Writes (WritesOf t v) v w
+  pub after : Needs new w
+
+there_shown : (d : Disk) (z : Value) → z ≢ Absent → NotVacant (seen d z)
+there_shown d Absent there = there refl
+there_shown d (Folder m) there = tt
+there_shown d (Link m l) there = tt
+there_shown d (File n) there = tt
+
+leaf_free : (z : Value) → z ≢ Absent → is_folder z ≡ false → unless_leaf z ≡ None
+leaf_free Absent there leaf = absurd (there refl)
+leaf_free (Folder m) there leaf = let n : true ≡ false = leaf in cc
+leaf_free (Link m l) there leaf = refl
+leaf_free (File n) there leaf = refl
+
+no_leaf-leaf : (d : Disk) (p : Path) → IsTree d → d.at p ≢ Absent → is_folder (d.at p) ≡ false → no_leaf p d ≡ None
+unfolding no_leaf
+no_leaf-leaf d p tree there leaf = rw (way-there d tree p there) (leaf_free (d.at p) there leaf)
+
+-- what a look tells
+pub looked_leaf : (d : Disk) (z : Value) (x : Option Node) → IsNode d z x → is_directory x ≡ false → NotDirectory (seen d z)
+looked_leaf d Absent x is leaf = tt
+looked_leaf d (Folder m) x is leaf = let n : true ≡ false = ap is_directory (sym is) ∙ leaf in cc
+looked_leaf d (Link m l) x is leaf = tt
+looked_leaf d (File n) x is leaf = tt
+
+pub looked_folder : (d : Disk) (z : Value) (x : Option Node) → IsNode d z x → is_directory x ≡ true → IsDirectory (seen d z)
+looked_folder d Absent x is folder = let n : false ≡ true = ap is_directory (sym is) ∙ folder in cc
+looked_folder d (Folder m) x is folder = tt
+looked_folder d (Link m l) x is folder = let n : false ≡ true = ap is_directory (sym is) ∙ folder in cc
+looked_folder d (File n) x is folder = let n : false ≡ true = ap is_directory (sym is) ∙ folder in cc
+
+pub looked_none : (d : Disk) (z : Value) (x : Option Node) → IsNode d z x → is_some x ≡ false → z ≡ Absent
+looked_none d Absent x is none = refl
+looked_none d (Folder m) x is none = let n : true ≡ false = ap is_some (sym is) ∙ none in cc
+looked_none d (Link m l) x is none = let n : true ≡ false = ap is_some (sym is) ∙ none in cc
+looked_none d (File n) x is none = let n : true ≡ false = ap is_some (sym is) ∙ none in cc
+
+pub looked_some : (d : Disk) (z : Value) (x : Option Node) → IsNode d z x → is_some x ≡ true → z ≢ Absent
+looked_some d z x is some absent = let e : x ≡ None = subst (λ z. IsNode d z x) absent is in let n : false ≡ true = ap is_some (sym e) ∙ some in cc
+
+-- a link to a name in a folder is free where nothing is there
+no_link-free : (d : Disk) (from f : Path) (x : List ℕ) → IsTree d → no_leaf from d ≡ None → is_folder (d.at f) ≡ true → d.at (under f x) ≡ Absent → no_link from (under f x) d ≡ None
+unfolding no_link
+no_link-free d from f x tree leaf folder absent = rw leaf (no_new-free d f x tree folder absent)
+
+apart_inodes : (n k : ℕ) → n ≢ k → one_inode (File n) (File k) ≡ false
+apart_inodes n k apart = by (n == k) (Decides-eqb n k)
+  where
+    by : (b : Bool) → Decides b (n ≡ k) → b ≡ false
+    by true d = absurd (apart (d.0 refl))
+    by false d = refl
+
+-- what may be shown of a value that isn't absent
+may_there : (v : View) (z : Value) (s : Seen) → NotVacant (seen v.now z) → MayShow v z s → NotVacant s
+may_there v Absent s there e = absurd there
+may_there v (Folder m) s there e = subst NotVacant (sym e) tt
+may_there v (Link m l) s there e = subst NotVacant (sym e) tt
+may_there v (File n) s there (b, e, is) = subst NotVacant (sym e) tt
+
+piece_on : (xs : List ℕ) (k end : ℕ) → k ≤ end → take k xs ++ take (end - k) (drop k xs) ≡ take end xs
+piece_on xs k end le = let e : k + (end - k) ≡ end = omega (arith, le) in sym (take-add k (end - k) xs) ∙ ap (λ n. take n xs) e
+
+module _ (t : Staged) (placed : IsPlaced t.stage t.folder t.at) where
+  pub off_stage : (p : Path) → p ≡ t.stage → is_below p t.folder ≡ true → ⊥
+  off_stage p e below = not_both (subst (λ q. is_below q t.folder ≡ true) e below) placed.aside
+
+  pub off_at : (p : Path) → p ≡ t.at → is_below p t.folder ≡ true → ⊥
+  off_at p e below = not_both (subst (λ q. is_below q t.folder ≡ true) (e ∙ placed.inside.1) below) (under-not_below t.folder placed.inside.0)
+
+  off_parents : (p : Path) → p ≡ t.stage → is_in p t.stage ≡ true → ⊥
+  off_parents p e in_ = not_both (subst (λ q. is_in q t.stage ≡ true) e in_) (is_in-self t.stage)
+
+-- so many bytes are staged
+filled_needs : (t : Staged) (k n : ℕ) (w : View) → IsPlaced t.stage t.folder t.at
+    → ((p : Path) (s : Seen) → MayBe w p s → LeadsTo t.folder p s × Own n t.stage p s) → IsFile n (take k t.bytes) (shows w.now t.stage) → Needs (filled k t) w
+filled_needs t k n w placed firm here = by (nat_lt k (length t.bytes)) refl
+  where
+    at_stage : (b : List ℕ) → IsFile n b (shows w.now t.stage) → (p : Path) → p ≡ t.stage → IsFile n b (shows w.now p)
+    at_stage b is p e = subst (λ q. IsFile n b (shows w.now q)) (sym e) is
+
+    by : (b : Bool) → nat_lt k (length t.bytes) ≡ b → Needs (record t { written = k; phase = if b then Append else SyncFile }) w
+    by true e = record { placed = placed; way = tt; inode = n; meets = record { firm = firm; here = at_stage (take k t.bytes) here } }
+    by false e = record { placed = placed; way = tt; inode = n; meets = record { firm = firm; here = at_stage t.bytes (subst (λ b. IsFile n b (shows w.now t.stage)) (take_all k t.bytes (ltb-false k (length t.bytes) e)) here) } }
+
+module _ (t : Staged) (v : View) (tree : IsTree v.now) (needs : Needs t v) where
+  meets_in : (ph : Phase) → t.phase ≡ ph → Meets (firm_in ph t needs.inode) (here_in ph t needs.inode) v
+  meets_in ph is = subst (λ f. Meets (firm_in f t needs.inode) (here_in f t needs.inode) v) is needs.meets
+
+  way_in : (ph : Phase) → t.phase ≡ ph → shown_by ph t.show
+  way_in ph is = subst (λ f. shown_by f t.show) is needs.way
+
+  written : (ph : Phase) (w : View) → t.phase ≡ ph → Writes (writes_in ph t v) v w → Writes (WritesOf t v) v w
+  written ph w is writes = subst (λ f. Writes (writes_in f t v) v w) (sym is) writes
+
+  folder_now : ((p : Path) (s : Seen) → MayBe v p s → LeadsTo t.folder p s) → is_folder (v.now.at t.folder) ≡ true
+  folder_now leads = folder_shows v.now t.folder (leads t.folder _ (may_now v t.folder) (is_below-self t.folder))
+
+  leads_kept : (W : Path → Seen → Type 0) (w : View) → Writes W v w → ((p : Path) (s : Seen) → W p s → (p ≡ t.stage) ⊎ (p ≡ t.at))
+      → ((p : Path) (s : Seen) → MayBe v p s → LeadsTo t.folder p s) → (p : Path) (s : Seen) → MayBe w p s → LeadsTo t.folder p s
+  leads_kept W w writes where_ was = firm_kept W (LeadsTo t.folder) v w writes
+      (λ p s a below. absurd (⊎_elim (λ e. off_stage t needs.placed p e below) (λ e. off_at t needs.placed p e below) (where_ p s a))) was
+
+  parents_kept : (W : Path → Seen → Type 0) (w : View) → Writes W v w → ((p : Path) (s : Seen) → W p s → p ≡ t.stage)
+      → ((p : Path) → is_in p t.stage ≡ true → IsDirectory (shows v.now p)) → (p : Path) → is_in p t.stage ≡ true → IsDirectory (shows w.now p)
+  parents_kept W w writes at_stage was p in_ =
+      subst IsDirectory (sym (shows_kept W v w p writes (λ s a. off_parents t needs.placed p (at_stage p s a) in_))) (was p in_)
+
+  -- 1. what an earlier task left
+  clear_leads : (w : View) → ((p : Path) (s : Seen) → MayBe w p s → LeadsTo t.folder p s) → shows w.now t.stage ≡ Vacant
+      → ((p : Path) → is_in p t.stage ≡ true → IsDirectory (shows w.now p)) → Needs (next_in Clear t) w
+  clear_leads w leads vacant parents = record {
+    placed = needs.placed;
+    way = tt;
+    inode = needs.inode;
+    meets = record { firm = leads; here = λ p. ((λ e. ap (shows w.now) e ∙ vacant), parents p) };
+  }
+
+  pub clear_vacant : t.phase ≡ Clear → v.now.at t.stage ≡ Absent → Needs (next_in Clear t) v
+  clear_vacant is absent = let now = meets_in Clear is in clear_leads v now.firm (ap (seen v.now) absent) (λ p. (now.here p).1)
+
+  pub clear : t.phase ≡ Clear → v.now.at t.stage ≢ Absent → Step t (next_in Clear t) v (no_leaf t.stage v.now) (named t.stage Absent v)
+  clear is there =
+      let w = named t.stage Absent v in
+      let now = meets_in Clear is in
+      let writes : Writes (writes_in Clear t v) v w = named-writes v t.stage Absent in
+      record {
+        free = no_leaf-leaf v.now t.stage tree there (no_folder_shown v.now t.stage ((now.here t.stage).0 refl));
+        writes = written Clear w is writes;
+        after = clear_leads w (leads_kept (writes_in Clear t v) w writes (λ p s a. inl a.0) now.firm) (shows_named v t.stage Absent)
+            (parents_kept (writes_in Clear t v) w writes (λ p s a. a.0) (λ p. (now.here p).1));
+      }
+
+  -- 2. the empty file
+  pub create : (n : ℕ) (m : Meta) → IsFresh n v → t.phase ≡ Create → Step t (next_in Create t) v (no_new t.stage v.now) (created t.stage m n v)
+  create n m fresh is =
+      let w = created t.stage m n v in
+      let now = meets_in Create is in
+      let s = needs.placed.staging in
+      let folder : is_folder (v.now.at s.0) ≡ true = folder_shows v.now s.0 ((now.here s.0).1 (subst (λ q. is_in s.0 q ≡ true) (sym s.2) (is_in-under s.0 s.1))) in
+      let absent : v.now.at t.stage ≡ Absent = vacant_absent v.now t.stage ((now.here t.stage).0 refl) in
+      let writes : Writes (writes_in Create t v) v w = weaker (At t.stage (OfInode n m)) (writes_in Create t v) v w (λ p s a. (a.0, (n, m, a.1.0, a.1.1, fresh))) (created-writes v t.stage m n fresh) in
+      let leads = leads_kept (writes_in Create t v) w writes (λ p s a. inl a.0) now.firm in
+      record {
+        free = subst (λ q. v.now.at q ≡ Absent → no_new q v.now ≡ None) (sym s.2) (no_new-free v.now s.0 s.1 tree folder) absent;
+        writes = written Create w is writes;
+        after = filled_needs t 0 n w needs.placed
+            (λ p s may. (leads p s may, λ k b e. ⊎_elim (λ old. absurd (fresh p (leaf_held v p n k b (subst (MayBe v p) e old)))) (λ wrote. wrote.0) (writes.only p s may)))
+            (m, shows_created v t.stage m n);
+      }
+
+  -- 3. a piece of its bytes
+  append_inode : (b : List ℕ) (end : ℕ) → take t.written t.bytes ++ b ≡ take end t.bytes → t.phase ≡ Append → Step t (filled end t) v (no_file t.stage v.now) (extended needs.inode b v)
+  append_inode b end same is =
+      let n = needs.inode in
+      let w = extended n b v in
+      let now = meets_in Append is in
+      let here = now.here t.stage refl in
+      let file = leaf_file v.now t.stage n here.0 (take t.written t.bytes) here.1 in
+      let own : (q : Path) → Holds v q (File n) → q ≡ t.stage = λ q held. (now.firm q _ (may_held v q n held)).1 (v.now.meta n) (v.now.bytes n) refl in
+      let writes : Writes (writes_in Append t v) v w = weaker (At t.stage (OfInode n (v.now.meta n))) (writes_in Append t v) v w (λ p s a. (a.0, (n, v.now.meta n, a.1.0, a.1.1, file.0))) (extended-writes_own v n b t.stage own) in
+      record {
+        free = no_file-there v.now tree t.stage n file.0;
+        writes = written Append w is writes;
+        after = filled_needs t end n w needs.placed
+            (firm_kept (writes_in Append t v) (firm_in Append t n) v w writes (λ p s a. ((λ below. absurd (off_stage t needs.placed p a.0 below)), (λ m b e. a.0))) now.firm)
+            (v.now.meta n, shows_extended v n b t.stage file.0 ∙ ap (λ c. Leaf n (v.now.meta n) (c ++ b)) file.1 ∙ ap (Leaf n (v.now.meta n)) same);
+      }
+
+  stage_inode : (b : List ℕ) → IsFile needs.inode b (shows v.now t.stage) → needs.inode ≡ inode_of (v.now.at t.stage)
+  stage_inode b here = sym (ap inode_of (leaf_file v.now t.stage needs.inode here.0 b here.1).0)
+
+  pub append : (bytes : List ℕ) → bytes ≡ t.bytes → (end : ℕ) → t.written ≤ end → t.phase ≡ Append
+      → Step t (filled end t) v (no_file t.stage v.now) (extended (inode_of (v.now.at t.stage)) (take (end - t.written) (drop t.written bytes)) v)
+  append bytes same end le is =
+      let b = take (end - t.written) (drop t.written bytes) in
+      let on : take t.written t.bytes ++ b ≡ take end t.bytes = subst (λ c. take t.written t.bytes ++ take (end - t.written) (drop t.written c) ≡ take end t.bytes) (sym same) (piece_on t.bytes t.written end le) in
+      subst (λ k. Step t (filled end t) v (no_file t.stage v.now) (extended k b v))
+      (stage_inode (take t.written t.bytes) ((meets_in Append is).here t.stage refl)) (append_inode b end on is)
+
+  -- 4. its sync
+  show_needs : (how : Show) (w : View) → t.show ≡ how → ((p : Path) (s : Seen) → MayBe w p s → LeadsTo t.folder p s × Own needs.inode t.stage p s × Fixed t.stage needs.inode t.bytes p s)
+      → ((p : Path) → p ≡ t.stage → IsFile needs.inode t.bytes (shows w.now p)) → Needs (record t { phase = first_show how }) w
+  show_needs show.Rename w is firm here = record { placed = needs.placed; way = is; inode = needs.inode; meets = record { firm = firm; here = here } }
+  show_needs show.Link w is firm here = record { placed = needs.placed; way = is; inode = needs.inode; meets = record { firm = firm; here = here } }
+
+  sync_inode : t.phase ≡ SyncFile → Step t (next_in SyncFile t) v (no_file t.stage v.now) (file_synced needs.inode v)
+  sync_inode is =
+      let n = needs.inode in
+      let w = file_synced n v in
+      let now = meets_in SyncFile is in
+      let here = now.here t.stage refl in
+      let file = leaf_file v.now t.stage n here.0 t.bytes here.1 in
+      let kept = meets_kept Nothing (firm_in SyncFile t n) (here_in SyncFile t n) v w (file_synced-writes v n) (λ p s none. absurd none) (λ p s none. absurd none) now in
+      record {
+        free = no_file-there v.now tree t.stage n file.0;
+        writes = written SyncFile w is (file_synced-writes v n);
+        after = show_needs t.show w refl (λ p s may. ((kept.firm p s may).0, (kept.firm p s may).1, λ m b here e. file_synced-firm v n p m b (subst (MayBe w p) e may) ∙ file.1)) kept.here;
+      }
+
+  pub sync_file : t.phase ≡ SyncFile → Step t (next_in SyncFile t) v (no_file t.stage v.now) (file_synced (inode_of (v.now.at t.stage)) v)
+  sync_file is = subst (λ k. Step t (next_in SyncFile t) v (no_file t.stage v.now) (file_synced k v)) (stage_inode t.bytes ((meets_in SyncFile is).here t.stage refl)) (sync_inode is)
+
+  -- 5. the look at the target
+  pub look : t.phase ≡ Look → NotDirectory (shows v.now t.at) → Needs (next_in Look t) v
+  look is leaf =
+      let now = meets_in Look is in
+      record {
+        placed = needs.placed;
+        way = way_in Look is;
+        inode = needs.inode;
+        meets = record { firm = now.firm; here = λ p. (now.here p, λ e. subst (λ q. NotDirectory (shows v.now q)) (sym e) leaf) };
+      }
+
+  -- the staged file may be shown in no other way
+  whole : ((p : Path) (s : Seen) → MayBe v p s → Fixed t.stage needs.inode t.bytes p s) → v.now.at t.stage ≡ File needs.inode → (s : Seen) → MayShow v (v.now.at t.stage) s → IsWhole t v s
+  whole fixed file s shown =
+      let a : MayShow v (File needs.inode) s = subst (λ z. MayShow v z s) file shown in
+      let b : a.0 ≡ t.bytes = fixed t.stage s (record { value = v.now.at t.stage; held = inl refl; shown = shown }) (v.now.meta needs.inode) a.0 refl a.1 in
+      ((needs.inode, v.now.meta needs.inode, a.0, a.1, file), ap bytes_in a.1 ∙ ap Some b)
+
+  -- 6. the rename
+  pub two_inodes : t.phase ≡ Replace → one_inode (v.now.at t.stage) (v.now.at t.at) ≡ false
+  two_inodes is =
+      let now = meets_in Replace is in
+      let here = (now.here t.stage).0 refl in
+      let file = leaf_file v.now t.stage needs.inode here.0 t.bytes here.1 in
+      subst (λ z. one_inode z (v.now.at t.at) ≡ false) (sym file.0) (by (v.now.at t.at) refl (λ p s may. (now.firm p s may).1))
+    where
+      by : (z : Value) → v.now.at t.at ≡ z → ((p : Path) (s : Seen) → MayBe v p s → Own needs.inode t.stage p s) → one_inode (File needs.inode) z ≡ false
+      by Absent is own = refl
+      by (Folder m) is own = refl
+      by (Link m l) is own = refl
+      by (File k) is own = differs (same_inode needs.inode k)
+        where
+          differs : (needs.inode ≡ k) ⊎ (needs.inode ≢ k) → one_inode (File needs.inode) (File k) ≡ false
+          differs (inl e) = absurd (needs.placed.apart (sym (own t.at _ (may_held v t.at needs.inode (inl (sym (is ∙ ap File (sym e))))) (v.now.meta needs.inode) (v.now.bytes needs.inode) refl)))
+          differs (inr apart) = apart_inodes needs.inode k apart
+
+  replaced : ((p : Path) (s : Seen) → MayBe (moved t.stage t.at v) p s → LeadsTo t.folder p s × Fixed t.at needs.inode t.bytes p s) → ((p : Path) → p ≡ t.at → IsFile needs.inode t.bytes (shows (moved t.stage t.at v).now p))
+      → show.Rename ≡ t.show → Needs (record t { phase = SyncFolder }) (moved t.stage t.at v)
+  replaced firm here is = record {
+    placed = needs.placed;
+    way = tt;
+    inode = needs.inode;
+    meets = subst (λ how. Meets (λ p s. LeadsTo t.folder p s × firm_shown how t.at needs.inode t.bytes p s) (here_shown how t.at needs.inode t.bytes) (moved t.stage t.at v)) is (record { firm = firm; here = here });
+  }
+
+  pub replace : t.phase ≡ Replace → Step t (next_in Replace t) v (no_move t.stage t.at v.now) (moved t.stage t.at v)
+  replace is =
+      let n = needs.inode in
+      let w = moved t.stage t.at v in
+      let now = meets_in Replace is in
+      let here = (now.here t.stage).0 refl in
+      let file = leaf_file v.now t.stage n here.0 t.bytes here.1 in
+      let inside = needs.placed.inside in
+      let writes : Writes (writes_in Replace t v) v w =
+      weaker (Moves t.stage t.at (MayShow v (v.now.at t.stage))) (writes_in Replace t v) v w (λ p s a. ⊎_elim (λ a. inl (a.0, whole (λ p s may. (now.firm p s may).2) file.0 s a.1)) (λ a. inr a) a) (moved-writes v t.stage t.at) in
+      let leads = leads_kept (writes_in Replace t v) w writes (λ p s a. ⊎_elim (λ a. inr a.0) (λ a. inl a.0) a) (λ p s may. (now.firm p s may).0) in
+      record {
+        free = subst (λ q. is_folder (v.now.at q) ≡ false → no_move t.stage q v.now ≡ None) (sym inside.1)
+            (no_move-there v.now tree t.stage n t.folder inside.0 file.0 (folder_now (λ p s may. (now.firm p s may).0)))
+            (no_folder_shown v.now t.at ((now.here t.at).1 refl));
+        writes = written Replace w is writes;
+        after = replaced
+            (λ p s may. (
+              leads p s may,
+              λ m b e is. ⊎_elim
+                  (λ old. absurd (needs.placed.apart (sym ((now.firm p s old).1 m b is) ∙ e)))
+                  (λ wrote. ⊎_elim (λ a. let c : Some b ≡ Some t.bytes = sym (ap bytes_in is) ∙ a.1.1 in cc) (λ a. let c : Vacant ≡ Leaf n m b = sym a.1 ∙ is in cc) wrote)
+                  (writes.only p s may),
+            ))
+            (λ p e. (here.0, ap (shows w.now) e ∙ shows_moved v t.stage t.at needs.placed.apart ∙ here.1))
+            (sym (way_in Replace is));
+      }
+
+  -- 7. the link
+  linked : (w : View) → ((p : Path) (s : Seen) → MayBe w p s → LeadsTo t.folder p s) → IsFile needs.inode t.bytes (shows w.now t.stage) → NotVacant (shows w.now t.at) → t.show ≡ show.Link → Needs (next_in Add t) w
+  linked w leads stage there way = record {
+    placed = needs.placed;
+    way = way;
+    inode = needs.inode;
+    meets = record { firm = leads; here = λ p. ((λ e. subst (λ q. IsFile needs.inode t.bytes (shows w.now q)) (sym e) stage), (λ e. subst (λ q. NotVacant (shows w.now q)) (sym e) there)) };
+  }
+
+  -- something stands there already
+  pub add_there : t.phase ≡ Add → v.now.at t.at ≢ Absent → Needs (next_in Add t) v
+  add_there is there =
+      let now = meets_in Add is in
+      linked v (λ p s may. (now.firm p s may).0) (now.here t.stage refl) (there_shown v.now (v.now.at t.at) there) (way_in Add is)
+
+  pub add : t.phase ≡ Add → v.now.at t.at ≡ Absent → Step t (next_in Add t) v (no_link t.stage t.at v.now) (named t.at (v.now.at t.stage) v)
+  add is absent =
+      let n = needs.inode in
+      let w = named t.at (v.now.at t.stage) v in
+      let now = meets_in Add is in
+      let here = now.here t.stage refl in
+      let file = leaf_file v.now t.stage n here.0 t.bytes here.1 in
+      let inside = needs.placed.inside in
+      let vacant : shows v.now t.at ≡ Vacant = ap (seen v.now) absent in
+      let writes : Writes (writes_in Add t v) v w =
+      weaker (At t.at (MayShow v (v.now.at t.stage))) (writes_in Add t v) v w (λ p s a. (a.0, whole (λ p s may. (now.firm p s may).2) file.0 s a.1, vacant)) (named-writes v t.at (v.now.at t.stage)) in
+      record {
+        free = subst (λ q. v.now.at q ≡ Absent → no_link t.stage q v.now ≡ None) (sym inside.1)
+            (no_link-free v.now t.stage t.folder inside.0 tree (no_leaf-there v.now tree t.stage n file.0) (folder_now (λ p s may. (now.firm p s may).0))) absent;
+        writes = written Add w is writes;
+        after = linked w (leads_kept (writes_in Add t v) w writes (λ p s a. inr a.0) (λ p s may. (now.firm p s may).0))
+            (here.0, shows_named_apart v t.at (v.now.at t.stage) t.stage (λ e. needs.placed.apart (sym e)) ∙ here.1)
+            (subst NotVacant (sym (shows_named v t.at (v.now.at t.stage) ∙ here.1)) tt)
+            (way_in Add is);
+      }
+
+  -- 8. the staging path goes
+  unlinked : (w : View) → ((p : Path) (s : Seen) → MayBe w p s → LeadsTo t.folder p s) → NotVacant (shows w.now t.at) → show.Link ≡ t.show → Needs (next_in Unlink t) w
+  unlinked w leads there is = record {
+    placed = needs.placed;
+    way = tt;
+    inode = needs.inode;
+    meets = subst (λ how. Meets (λ p s. LeadsTo t.folder p s × firm_shown how t.at needs.inode t.bytes p s) (here_shown how t.at needs.inode t.bytes) w) is
+        (record { firm = λ p s may. (leads p s may, tt); here = λ p e. subst (λ q. NotVacant (shows w.now q)) (sym e) there });
+  }
+
+  pub unlink : t.phase ≡ Unlink → Step t (next_in Unlink t) v (no_leaf t.stage v.now) (named t.stage Absent v)
+  unlink is =
+      let w = named t.stage Absent v in
+      let now = meets_in Unlink is in
+      let here = (now.here t.stage).0 refl in
+      let file = leaf_file v.now t.stage needs.inode here.0 t.bytes here.1 in
+      let writes : Writes (writes_in Unlink t v) v w = named-writes v t.stage Absent in
+      record {
+        free = no_leaf-there v.now tree t.stage needs.inode file.0;
+        writes = written Unlink w is writes;
+        after = unlinked w (leads_kept (writes_in Unlink t v) w writes (λ p s a. inl a.0) now.firm)
+            (subst NotVacant (sym (shows_named_apart v t.stage Absent t.at needs.placed.apart)) ((now.here t.at).1 refl)) (sym (way_in Unlink is));
+      }
+
+  -- 9. the folder's sync
+  settled : (how : Show) → ((p : Path) (s : Seen) → MayBe v p s → LeadsTo t.folder p s × firm_shown how t.at needs.inode t.bytes p s) → ((p : Path) → here_shown how t.at needs.inode t.bytes p (shows v.now p)) → (s : Seen) → MayShow v (v.now.at t.at) s → lasts how t.bytes s
+  settled show.Rename firm here s shown =
+      let is = here t.at refl in
+      let file = leaf_file v.now t.at needs.inode is.0 t.bytes is.1 in
+      let a : MayShow v (File needs.inode) s = subst (λ z. MayShow v z s) file.0 shown in
+      let b : a.0 ≡ t.bytes = (firm t.at s (record { value = v.now.at t.at; held = inl refl; shown = shown })).1 (v.now.meta needs.inode) a.0 refl a.1 in
+      ap bytes_in a.1 ∙ ap Some b
+  settled show.Link firm here s shown = may_there v (v.now.at t.at) s (here t.at refl) shown
+
+  pub sync_folder : t.phase ≡ SyncFolder → Step t (next_in SyncFolder t) v (no_folder t.folder v.now) (folder_synced t.folder v)
+  sync_folder is =
+      let n = needs.inode in
+      let w = folder_synced t.folder v in
+      let now = meets_in SyncFolder is in
+      let inside = needs.placed.inside in
+      let leads = leads_kept Nothing w (folder_synced-writes v t.folder) (λ p s none. absurd none) (λ p s may. (now.firm p s may).0) in
+      record {
+        free = no_folder-there v.now tree t.folder (folder_now (λ p s may. (now.firm p s may).0));
+        writes = written SyncFolder w is (folder_synced-writes v t.folder);
+        after = record {
+          placed = needs.placed;
+          way = tt;
+          inode = n;
+          meets = record {
+            firm = λ p s may. (
+              leads p s may,
+              λ e. settled t.show now.firm now.here s
+                  (subst (λ q. MayBe w q s → MayShow v (v.now.at q) s) (sym inside.1) (folder_synced-firm v t.folder inside.0 s) (subst (λ q. MayBe w q s) e may)),
+            );
+            here = λ p. tt;
+          };
+        };
+      }

@@ -1,0 +1,129 @@
+-- A file on its way to a path, and which step comes next.
+use Rattle.std.specs.Prelude.{◌≡◌, ◌⊎◌, ◌≤◌, ◌<◌, ◌+◌, ◌-◌, nat_lt, ℕ, Bool, true, false, List, length, Option, Some, Result, Ok, Err, IsErrOf, OnOk, if◌then◌else◌}
+use Rattle.ost_types.specs.declared.meta.Meta.{Meta}
+use Rattle.ost_types.specs.Path.{Path}
+use Rattle.fs_trait.specs.declared.types.FsErr.{FsErr}
+use Rattle.fs_trait.specs.declared.types.FsErr.TheVariants.{NoMemory}
+use Rattle.fs_trait.specs.declared.task.Turn.{Turn}
+use Rattle.fs_trait.specs.declared.task.Turn.TheVariants.{More, Done}
+use Rattle.fs_trait.specs.declared.task.Need.{Need}
+use Rattle.fs_trait.specs.declared.task.Need.TheVariants as need
+use Rattle.fs_trait.specs.declared.types.Node.{Node}
+use Rattle.fs_trait.specs.declared.types.Node.TheVariants.{Folder}
+use Rattle.fs_trait.specs.Effect.{Next}
+use Rattle.staged_file.specs.declared.phase.Show.{Show}
+use Rattle.staged_file.specs.declared.phase.Show.TheVariants.{Rename, Link}
+use Rattle.staged_file.specs.declared.phase.Phase.{Phase}
+use Rattle.staged_file.specs.declared.phase.Phase.TheVariants.{Clear, Create, Append, SyncFile, Look, Replace, Add, Unlink, SyncFolder, Ended}
+
+-- the file's bytes and attributes, where it is staged and where it goes, the lock for that, and how far it is
+pub record Staged : Type 0 where
+  pub stage : Path
+  pub folder : Path
+  pub at : Path
+  pub meta : Meta
+  pub bytes : List ℕ
+  pub show : Show
+  pub lock : Need
+  pub phase : Phase
+  pub written : ℕ
+
+-- whether a look found a folder
+abbrev pub is_directory : Option Node → Bool
+is_directory (Some (Folder m)) = true
+is_directory x = false
+
+-- the most bytes that one step appends
+abbrev pub piece : ℕ
+piece = 1048576
+
+abbrev pub piece_end : Staged → ℕ
+piece_end t = if nat_lt piece (length t.bytes - t.written) then t.written + piece else length t.bytes
+
+-- so many bytes are written
+abbrev pub filled : ℕ → Staged → Staged
+filled n t = record t { written = n; phase = if nat_lt n (length t.bytes) then Append else SyncFile }
+
+abbrev pub first_show : Show → Phase
+first_show Rename = Look
+first_show Link = Add
+
+-- the task after its next step
+abbrev pub next_in : Phase → Staged → Staged
+next_in Clear t = record t { phase = Create }
+next_in Create t = filled 0 t
+next_in Append t = filled (piece_end t) t
+next_in SyncFile t = record t { phase = first_show t.show }
+next_in Look t = record t { phase = Replace }
+next_in Replace t = record t { phase = SyncFolder }
+next_in Add t = record t { phase = Unlink }
+next_in Unlink t = record t { phase = SyncFolder }
+next_in SyncFolder t = record t { phase = Ended }
+next_in Ended t = t
+
+abbrev pub next : Staged → Staged
+next t = next_in t.phase t
+
+-- whether the task is done when that step is
+abbrev pub is_last : Phase → Bool
+is_last SyncFolder = true
+is_last Ended = true
+is_last ph = false
+
+-- which step it was, and what changed in the task
+abbrev pub IsStepped : {T : Type 0} → Staged → Result (Turn T) FsErr → Staged → Type 0
+IsStepped old (Ok More) new = (new ≡ next old) × (is_last old.phase ≡ false)
+IsStepped old (Ok (Done x)) new = (new ≡ next old) × (is_last old.phase ≡ true)
+IsStepped old (Err e) new = new ≡ old
+
+-- no more steps than this are left: each byte counts as one
+abbrev pub left_in : Phase → Staged → ℕ
+left_in Clear t = 8 + length t.bytes
+left_in Create t = 7 + length t.bytes
+left_in Append t = 6 + (length t.bytes - t.written)
+left_in SyncFile t = 5
+left_in Look t = 4
+left_in Replace t = 3
+left_in Add t = 3
+left_in Unlink t = 2
+left_in SyncFolder t = 1
+left_in Ended t = 0
+
+abbrev pub left : Staged → ℕ
+left t = left_in t.phase t
+
+-- the lock under which a step stands: none while the file is staged, and the task's own from the look at the target on
+abbrev pub lock_in : Phase → Staged → Need
+lock_in Clear t = need.Nothing
+lock_in Create t = need.Nothing
+lock_in Append t = need.Nothing
+lock_in SyncFile t = need.Nothing
+lock_in Ended t = need.Nothing
+lock_in ph t = t.lock
+
+-- how a step moves the clock
+abbrev pub Takes : Phase → ℕ → ℕ → Type 0
+Takes Clear before now = Next before now ⊎ (now ≡ before)
+Takes Look before now = now ≡ before
+Takes Add before now = Next before now ⊎ (now ≡ before)
+Takes Ended before now = now ≡ before
+Takes ph before now = Next before now
+
+-- the steps behind the one that shows the file are owed
+abbrev pub is_owed : Phase → Bool
+is_owed Unlink = true
+is_owed SyncFolder = true
+is_owed ph = false
+
+-- for how many owed steps a step leaves room
+abbrev pub owed_after : Phase → ℕ
+owed_after Replace = 1
+owed_after Add = 2
+owed_after ph = 0
+
+-- A step takes the room of at most one call. An owed one that has room doesn't lack memory, and the one that shows the
+-- file leaves room for those that are owed then.
+pub record KeepsRoom {T : Type 0} (ph : Phase) (before now : ℕ) (result : Result T FsErr) : Type 0 where
+  pub at_most_one : before ≤ now + 1
+  pub enough : is_owed ph ≡ true → 0 < before → IsErrOf result NoMemory → ⊥
+  pub ready : OnOk result (owed_after ph ≤ now)

@@ -1,0 +1,112 @@
+-- What each step of a staged file needs, writes and is refused for.
+use Rattle.std.specs.Prelude.{◌≡◌, ◌≢◌, ℕ, true, false, List, take, Some}
+use Rattle.ost_types.specs.Path.{Name, Path, under, is_in, is_below}
+use Rattle.fs_trait.specs.declared.types.FsErr.{FsErr}
+use Rattle.fs_trait.specs.declared.types.FsErr.TheVariants.{Failed, NoMemory, Exists}
+use Rattle.fs_trait.specs.View.{View}
+use Rattle.fs_trait.specs.Seen.{Seen, Vacant, shows, IsDirectory, NotDirectory, bytes_in, IsFile}
+use Rattle.fs_trait.specs.Change.{Meets, Moves, LeadsTo, Own, Fixed, IsNewFile, IsFileOf}
+use Rattle.staged_file.specs.declared.phase.Show.{Show}
+use Rattle.staged_file.specs.declared.phase.Show.TheVariants.{Rename, Link}
+use Rattle.staged_file.specs.declared.phase.Phase.{Phase}
+use Rattle.staged_file.specs.declared.phase.Phase.TheVariants.{Clear, Create, Append, SyncFile, Look, Replace, Add, Unlink, SyncFolder, Ended}
+use Rattle.staged_file.specs.Staged.{Staged}
+
+-- where the task's paths lie: the target in its folder, and the staging path elsewhere, not on the way there
+pub record IsPlaced (stage folder at : Path) : Type 0 where
+  pub apart : stage ≢ at
+  pub staging : (g : Path) × (y : Name) × (stage ≡ under g y)
+  pub aside : is_below stage folder ≡ false
+  pub inside : (x : Name) × (at ≡ under folder x)
+
+abbrev pub NotVacant : Seen → Type 0
+NotVacant Vacant = ⊥
+NotVacant s = Unit {0}
+
+-- the staged file, with all its bytes
+abbrev pub IsWhole : Staged → View → Seen → Type 0
+IsWhole t v s = IsFileOf v t.stage s × (bytes_in s ≡ Some t.bytes)
+
+-- what the next step may write
+abbrev pub writes_in : Phase → Staged → View → Path → Seen → Type 0
+writes_in Clear t v p s = (p ≡ t.stage) × (s ≡ Vacant)
+writes_in Create t v p s = (p ≡ t.stage) × IsNewFile v s
+writes_in Append t v p s = (p ≡ t.stage) × IsFileOf v t.stage s
+writes_in SyncFile t v p s = ⊥
+writes_in Look t v p s = ⊥
+writes_in Replace t v p s = Moves t.stage t.at (IsWhole t v) p s
+writes_in Add t v p s = (p ≡ t.at) × IsWhole t v s × (shows v.now t.at ≡ Vacant)
+writes_in Unlink t v p s = (p ≡ t.stage) × (s ≡ Vacant)
+writes_in SyncFolder t v p s = ⊥
+writes_in Ended t v p s = ⊥
+
+abbrev pub WritesOf : Staged → View → Path → Seen → Type 0
+WritesOf t v = writes_in t.phase t v
+
+-- what it needs of all that a crash may leave of the target once the file is there,
+abbrev pub firm_shown : Show → Path → ℕ → List ℕ → Path → Seen → Type 0
+firm_shown Rename at n b p s = Fixed at n b p s
+firm_shown Link at n b p s = Unit {0}
+
+-- and once that is sure to last;
+abbrev pub lasts : Show → List ℕ → Seen → Type 0
+lasts Rename b s = bytes_in s ≡ Some b
+lasts Link b s = NotVacant s
+
+-- of all paths: that folders lead to the target, that the staged file stands nowhere else, that its bytes are synced
+abbrev pub firm_in : Phase → Staged → ℕ → Path → Seen → Type 0
+firm_in Clear t n p s = LeadsTo t.folder p s
+firm_in Create t n p s = LeadsTo t.folder p s
+firm_in Append t n p s = LeadsTo t.folder p s × Own n t.stage p s
+firm_in SyncFile t n p s = LeadsTo t.folder p s × Own n t.stage p s
+firm_in Look t n p s = LeadsTo t.folder p s × Own n t.stage p s × Fixed t.stage n t.bytes p s
+firm_in Replace t n p s = LeadsTo t.folder p s × Own n t.stage p s × Fixed t.stage n t.bytes p s
+firm_in Add t n p s = LeadsTo t.folder p s × Own n t.stage p s × Fixed t.stage n t.bytes p s
+firm_in Unlink t n p s = LeadsTo t.folder p s
+firm_in SyncFolder t n p s = LeadsTo t.folder p s × firm_shown t.show t.at n t.bytes p s
+firm_in Ended t n p s = LeadsTo t.folder p s × (p ≡ t.at → lasts t.show t.bytes s)
+
+abbrev pub FirmOf : Staged → ℕ → Path → Seen → Type 0
+FirmOf t n = firm_in t.phase t n
+
+-- and of what is there now
+abbrev pub here_shown : Show → Path → ℕ → List ℕ → Path → Seen → Type 0
+here_shown Rename at n b p s = p ≡ at → IsFile n b s
+here_shown Link at n b p s = p ≡ at → NotVacant s
+
+abbrev pub here_in : Phase → Staged → ℕ → Path → Seen → Type 0
+here_in Clear t n p s = (p ≡ t.stage → NotDirectory s) × (is_in p t.stage ≡ true → IsDirectory s)
+here_in Create t n p s = (p ≡ t.stage → s ≡ Vacant) × (is_in p t.stage ≡ true → IsDirectory s)
+here_in Append t n p s = p ≡ t.stage → IsFile n (take t.written t.bytes) s
+here_in SyncFile t n p s = p ≡ t.stage → IsFile n t.bytes s
+here_in Look t n p s = p ≡ t.stage → IsFile n t.bytes s
+here_in Replace t n p s = (p ≡ t.stage → IsFile n t.bytes s) × (p ≡ t.at → NotDirectory s)
+here_in Add t n p s = p ≡ t.stage → IsFile n t.bytes s
+here_in Unlink t n p s = (p ≡ t.stage → IsFile n t.bytes s) × (p ≡ t.at → NotVacant s)
+here_in SyncFolder t n p s = here_shown t.show t.at n t.bytes p s
+here_in Ended t n p s = Unit {0}
+
+abbrev pub HereOf : Staged → ℕ → Path → Seen → Type 0
+HereOf t n = here_in t.phase t n
+
+-- which way of showing the file has the phase
+abbrev pub shown_by : Phase → Show → Type 0
+shown_by Look show = show ≡ Rename
+shown_by Replace show = show ≡ Rename
+shown_by Add show = show ≡ Link
+shown_by Unlink show = show ≡ Link
+shown_by ph show = Unit {0}
+
+-- What the next step needs.
+pub record Needs (t : Staged) (v : View) : Type 0 where
+  pub placed : IsPlaced t.stage t.folder t.at
+  pub way : shown_by t.phase t.show
+  pub inode : ℕ
+  pub meets : Meets (FirmOf t inode) (HereOf t inode) v
+
+-- Why a step isn't done: the call failed or wanted for memory, or a folder stands where the file is to go.
+abbrev pub Refuses : Staged → View → FsErr → Type 0
+Refuses t v Failed = Unit {0}
+Refuses t v NoMemory = Unit {0}
+Refuses t v Exists = (t.phase ≡ Look) × IsDirectory (shows v.now t.at)
+Refuses t v e = ⊥
