@@ -1,0 +1,4 @@
+pub mod Lines
+pub mod Resolved
+pub mod Printing
+pub mod Outcomes

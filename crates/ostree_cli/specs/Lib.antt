@@ -1,0 +1,6 @@
+pub mod RevParse
+pub mod Text
+pub mod Output
+pub mod Status
+pub mod Words
+pub mod Top
