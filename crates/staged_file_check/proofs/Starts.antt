@@ -1,22 +1,24 @@
--- Where the task of the tests may begin: at a root folder with no folder at the staging path.
-use Rattle.std.proofs.Common.{◌≡◌, ◌≢◌, ⊎_elim, ℕ, true, false, refl, sym, ◌∙◌, ap, subst, [], ◌∷◌, arith, Some, Option}
-use Rattle.std.specs.Prelude.{IfSome}
+-- Where the task may begin: at a root folder with no folder at the staging path.
+use Rattle.std.proofs.Common.{◌≡◌, ◌≢◌, ⊎_elim, ℕ, true, false, refl, sym, ◌∙◌, ap, subst, inl, inr, [], ◌∷◌, arith, Some, Option}
+use Rattle.std.specs.Prelude.{IfSome, List, ◌⊎◌, Result, Ok, Err, OnOk}
 use Rattle.ost_types.specs.Mode.{IsFileMode}
 use Rattle.ost_types.specs.Path.{Path, under, is_below}
 use Rattle.ost_types.proofs.Paths.{under-folder}
 use Rattle.fs_trait.specs.declared.types.Value.{Value}
 use Rattle.fs_trait.specs.declared.types.Value.TheVariants.{Absent, Folder, Link, File}
 use Rattle.fs_trait.specs.View.{Disk, View}
-use Rattle.fs_trait.specs.Image.{is_folder, IsTree}
+use Rattle.fs_trait.specs.Image.{is_folder, reads, EachImage, Told, IsTree}
 use Rattle.fs_trait.specs.Seen.{seen, NotDirectory}
 use Rattle.fs_trait.specs.Change.{Writes}
 use Rattle.fs_trait.proofs.Puts.{put-apart}
 use Rattle.fs_trait.proofs.Facts.{no_folder_shown}
 use Rattle.fs_memory.specs.Changes.{empty_view}
 use Rattle.staged_file.specs.declared.phase.Phase.TheVariants.{Clear}
+use Rattle.staged_file.specs.declared.phase.Show.{Show}
+use Rattle.staged_file.specs.declared.phase.Show.TheVariants.{Link}
 use Rattle.staged_file.specs.declared.staged.Plan.{Plan}
 use Rattle.staged_file.specs.Staged.{Staged}
-use Rattle.staged_file.specs.Whole.{MayBegin, Written}
+use Rattle.staged_file.specs.Whole.{MayBegin, Written, IsThere}
 
 abbrev pub stage_path : Path
 stage_path = under [] (115 ∷ [])
@@ -35,12 +37,12 @@ not_below : is_below stage_path [] ≡ false
 unfolding is_below
 not_below = refl
 
--- the plan of the tests
-abbrev pub IsPlan : Plan → Type 0
-IsPlan p = (p.stage ≡ stage_path) × (p.folder ≡ []) × (p.at ≡ target_path) × IsFileMode p.meta.mode
+-- the plan
+abbrev pub IsPlan : List ℕ → Show → Plan → Type 0
+IsPlan bytes show p = (p.stage ≡ stage_path) × (p.folder ≡ []) × (p.at ≡ target_path) × IsFileMode p.meta.mode × (p.bytes ≡ bytes) × (p.show ≡ show)
 
-pub plan_of : (o : Option Plan) (p : Plan) → o ≡ Some p → IfSome o IsPlan → IsPlan p
-plan_of o p is some = subst (λ o. IfSome o IsPlan) is some
+pub plan_of : (bytes : List ℕ) (show : Show) (o : Option Plan) (p : Plan) → o ≡ Some p → IfSome o (IsPlan bytes show) → IsPlan bytes show p
+plan_of bytes show o p is some = subst (λ o. IfSome o (IsPlan bytes show)) is some
 
 pub begins : (t : Staged) (d : Disk) → IsTree d → t.phase ≡ Clear → t.stage ≡ stage_path → t.folder ≡ [] → t.at ≡ target_path → is_folder (d.at stage_path) ≡ false → MayBegin t d
 begins t d tree new stage folder at leaf = record {
@@ -68,3 +70,13 @@ still_leaf t v w stage at writes leaf = no_folder_shown w.now stage_path (⊎_el
     (λ same. subst NotDirectory (sym same) (leaf_directory v.now (v.now.at stage_path) leaf))
     (λ a. ⊎_elim (λ a. a.1) (λ a. absurd (paths_apart (a.0 ∙ at))) a)
     (writes.now stage_path))
+
+pub put_there : (t : Staged) (v : View) (bytes : List ℕ) (show : Show) → t.at ≡ target_path → t.bytes ≡ bytes → t.show ≡ show → (d : Disk) → IsThere t v d → (reads d target_path ≡ Some bytes) ⊎ (show ≡ Link)
+put_there t v bytes show at is how d there = ⊎_elim
+    (λ r. inl (subst (λ p. reads d p ≡ Some bytes) at (r ∙ ap (λ b. Some b) is)))
+    (λ l. inr (sym how ∙ l.0))
+    there
+
+pub each_image : {E : Type 0} {X : Type 0} (r : Result X E) (o : Option View) (P Q : Disk → Type 0) → ((d : Disk) → P d → Q d) → OnOk r (Told o (λ w. EachImage w P)) → OnOk r (Told o (λ w. EachImage w Q))
+each_image (Ok x) o P Q step told = (told.0, told.1, λ d image. step d (told.2 d image))
+each_image (Err e) o P Q step told = tt

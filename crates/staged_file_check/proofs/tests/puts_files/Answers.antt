@@ -10,7 +10,7 @@ put-requires g c = λ v told.
     empty_leaf v same
 
 pub put-requires-2 : goal.put-requires-2
-put-requires-2 g c = λ v told. c.put.ensures v (sym c.check_bytes.ensures ∙ told)
+put-requires-2 g c = λ v told. c.put.ensures.leaf v (sym c.check_bytes.ensures ∙ told)
 
 pub put-requires-3 : goal.put-requires-3
-put-requires-3 g c = λ v told. c.put-2.ensures v (sym c.check_bytes-2.ensures ∙ told)
+put-requires-3 g c = λ v told. c.put-2.ensures.leaf v (sym c.check_bytes-2.ensures ∙ told)

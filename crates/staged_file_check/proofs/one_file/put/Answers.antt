@@ -1,21 +1,28 @@
 use Rattle.std.proofs.Common.{◌≡◌, ◌∙◌, ap, subst, false}
 use Rattle.fs_trait.specs.Image.{is_folder}
 use Rattle.staged_file.specs.Staged.{Staged}
-use Rattle.staged_file_check.proofs.Starts.{begins, still_leaf, stage_path, plan_of}
-use Rattle.staged_file_check.proofs.tests.put.Goals as goal
+use Rattle.staged_file_check.proofs.Starts.{begins, still_leaf, put_there, each_image, stage_path, plan_of}
+use Rattle.staged_file_check.proofs.one_file.put.Goals as goal
 
 pub sync_and_put_file-requires : goal.sync_and_put_file-requires
 sync_and_put_file-requires g c = λ v told.
-    let paths = plan_of _ _ c.in-Some.is c.in_ok-plan.ensures in
+    let paths = plan_of c.args.bytes.now c.args.show _ _ c.in-Some.is c.in_ok-plan.ensures in
     begins c.new.result v.now (g.met.F.Fs.tree c.args.fs.now v told) (ap (λ (t : Staged). t.phase) c.new.ensures) (ap (λ (t : Staged). t.stage) c.new.ensures ∙ paths.0)
     (ap (λ (t : Staged). t.folder) c.new.ensures ∙ paths.1) (ap (λ (t : Staged). t.at) c.new.ensures ∙ paths.2) (c.requires v told)
 
-pub returns-in-Some : goal.returns-in-Some
-returns-in-Some g c = λ w told.
-    let paths = plan_of _ _ c.in-Some.is c.in_ok-plan.ensures in
+pub returns-in-Some-clause-leaf : goal.returns-in-Some-clause-leaf
+returns-in-Some-clause-leaf g c = λ w told.
+    let paths = plan_of c.args.bytes.now c.args.show _ _ c.in-Some.is c.in_ok-plan.ensures in
     let before = g.met.F.Fs.told _ c.args.fs.now w told in
     let after = c.sync_and_put_file.ensures.writes before.0 before.1 in
     let now = after.1 in
     let same : after.0 ≡ w = cc (now, told) in
     subst (λ w. is_folder (w.now.at stage_path) ≡ false) same
     (still_leaf c.new.result before.0 after.0 (ap (λ (t : Staged). t.stage) c.new.ensures ∙ paths.0) (ap (λ (t : Staged). t.at) c.new.ensures ∙ paths.2) after.2 (c.requires before.0 before.1))
+
+pub returns-in-Some-clause-done : goal.returns-in-Some-clause-done
+returns-in-Some-clause-done g c = λ v told.
+    let paths = plan_of c.args.bytes.now c.args.show _ _ c.in-Some.is c.in_ok-plan.ensures in
+    each_image _ _ _ _
+    (put_there c.new.result _ c.args.bytes.now c.args.show (ap (λ (t : Staged). t.at) c.new.ensures ∙ paths.2) (ap (λ (t : Staged). t.bytes) c.new.ensures ∙ paths.4) (ap (λ (t : Staged). t.show) c.new.ensures ∙ paths.5))
+    (c.sync_and_put_file.ensures.done v told)

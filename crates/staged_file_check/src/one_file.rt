@@ -1,0 +1,68 @@
+//! One file of the root folder.
+
+ghost use Rattle.std.specs.Prelude.{◌≡◌, ◌⊎◌, ◌∷◌, [], false, Some, IfOk, IfSome, OnOk};
+ghost use Rattle.ost_types.specs.Mode.{IsFileMode};
+ghost use Rattle.ost_types.specs.Path.{under};
+ghost use Rattle.fs_trait.specs.View.{View};
+ghost use Rattle.staged_file.specs.declared.phase.Show.TheVariants.{Link};
+ghost use Rattle.fs_trait.specs.Image.{is_folder, reads, EachImage, Told};
+
+use fs_trait::{Fs, FsErr, Need};
+use ost_types::{Bytes, FsPath, Meta, Name, NoMemory, Xattrs};
+use staged_file::{Plan, Show, StagedFile, sync_and_put_file};
+use std::alloc::Global;
+
+fn file_meta(alloc: Global) -> Meta
+    ensures { IsFileMode result.mode }
+{
+    Meta {
+        uid: 0,
+        gid: 0,
+        mode: 0o100644,
+        xattrs: Xattrs::new(alloc),
+    }
+}
+
+/// A name in the root folder.
+fn at_root(alloc: Global, name: &[u8]) -> Result<Option<FsPath>, NoMemory>
+    ensures { IfOk result (λ p. IfSome p (λ p. p ≡ under [] name.now)) }
+{
+    let root = FsPath::root(alloc);
+    let Some(name) = Name::parse(alloc, name)? else {
+        return Ok(None);
+    };
+    if !root.can_hold(&name) {
+        return Ok(None);
+    }
+    Ok(Some(root.child(&name)?))
+}
+
+/// The file at `/a`, staged at `/s`.
+fn plan(alloc: Global, bytes: &[u8], show: Show) -> Result<Option<Plan>, NoMemory>
+    ensures { IfOk result (λ p. IfSome p (λ p. (p.stage ≡ under [] (115 ∷ [])) × (p.folder ≡ []) × (p.at ≡ under [] (97 ∷ [])) × IsFileMode p.meta.mode × (p.bytes ≡ bytes.now) × (p.show ≡ show))) }
+{
+    let (Some(stage), Some(at)) = (at_root(alloc, b"s")?, at_root(alloc, b"a")?) else {
+        return Ok(None);
+    };
+    Ok(Some(Plan {
+        stage,
+        folder: FsPath::root(alloc),
+        at,
+        meta: file_meta(alloc),
+        bytes: Bytes::from_slice(alloc, bytes)?,
+        show,
+        lock: Need::Turn,
+    }))
+}
+
+/// Puts a file with these bytes at `/a`, staged at `/s`.
+pub fn put<F: Fs>(fs: &mut F, alloc: Global, bytes: &[u8], show: Show) -> Result<(), FsErr>
+    requires { (v : View) → F.view fs.old ≡ Some v → is_folder (v.now.at (under [] (115 ∷ []))) ≡ false }
+    ensures leaf { (v : View) → F.view fs.new ≡ Some v → is_folder (v.now.at (under [] (115 ∷ []))) ≡ false }
+    ensures done { (v : View) → F.view fs.old ≡ Some v → OnOk result (Told (F.view fs.new) (λ w. EachImage w (λ d. (reads d (under [] (97 ∷ [])) ≡ Some bytes.now) ⊎ (show ≡ Link)))) }
+{
+    match plan(alloc, bytes, show)? {
+        Some(plan) => sync_and_put_file(fs, StagedFile::new(plan)),
+        None => Err(FsErr::NoMemory),
+    }
+}
