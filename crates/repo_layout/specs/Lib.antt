@@ -2,5 +2,6 @@ pub mod RefName
 pub mod OsName
 pub mod RefFile
 pub mod Paths
+pub mod BootPaths
 pub mod Refs
 pub mod Place

@@ -11,7 +11,7 @@ mod ref_file;
 mod ref_name;
 
 pub use folder::{Folder, folder_path};
-pub use laws::{names_of_paths, places_of_things};
+pub use laws::{names_of_paths, places_of_boots, places_of_things};
 pub use os_name::OsName;
 pub use paths::{
     config_path, deploy_path, mark_path, object_path, objects_folder_path, ref_path, stage_path,

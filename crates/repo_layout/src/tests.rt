@@ -1,6 +1,7 @@
 use crate::{
     Folder, OsName, RefName, config_path, deploy_path, folder_path, mark_path, names_of_paths,
-    object_path, objects_folder_path, places_of_things, read_ref, ref_path, ref_text, stage_path,
+    object_path, objects_folder_path, places_of_boots, places_of_things, read_ref, ref_path,
+    ref_text, stage_path,
 };
 use ost_types::{Csum, FsPath, Kind, NoMemory, ObjName, TryCopy};
 use std::alloc::{AllocError, Global};
@@ -166,6 +167,7 @@ fn lays_out_paths(rt: HostRuntime) -> Result<(), Fail> {
         b"/ostree/deploy/fedora/deploy/6e340b9cffb37a989ca544e6bb780a2c78901d3fb33738768511a30617afa01d.4294967295",
     )?;
     places_of_things();
+    places_of_boots();
     names_of_paths();
     Ok(())
 }

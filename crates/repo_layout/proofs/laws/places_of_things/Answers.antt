@@ -1,5 +1,5 @@
 use Rattle.std.proofs.Common.{arith}
-use Rattle.repo_layout.proofs.Places.{place-config, place-stage, place-ref, place-objects_folder, place-object, place-mark, place-deployment, place-back}
+use Rattle.repo_layout.proofs.Places.{place-config, place-stage, place-ref, place-objects_folder, place-object, place-mark, place-deployment, place-etc, place-origin, place-summary, place-staged, place-boot_link, place-boot_link_stage, place-boot_folder, place-loader, place-loader_stage, place-loader_folder, place-kernel, place-checkout, place-back}
 use Rattle.repo_layout.proofs.laws.places_of_things.Goals as goal
 
 pub returns-clause-config : goal.returns-clause-config
@@ -21,7 +21,16 @@ pub returns-clause-marks : goal.returns-clause-marks
 returns-clause-marks c = place-mark
 
 pub returns-clause-deployments : goal.returns-clause-deployments
-returns-clause-deployments c = λ os commit serial rest is less. place-deployment os commit serial rest is (omega (arith, less))
+returns-clause-deployments c = λ os commit serial rest is less. place-deployment os commit serial is (omega (arith, less)) rest
+
+pub returns-clause-changeable : goal.returns-clause-changeable
+returns-clause-changeable c = λ os commit serial rest is less. place-etc os commit serial is (omega (arith, less)) rest
+
+pub returns-clause-origins : goal.returns-clause-origins
+returns-clause-origins c = λ os commit serial is less. place-origin os commit serial is (omega (arith, less))
+
+pub returns-clause-summary : goal.returns-clause-summary
+returns-clause-summary c = place-summary
 
 pub returns-clause-back : goal.returns-clause-back
 returns-clause-back c = place-back
