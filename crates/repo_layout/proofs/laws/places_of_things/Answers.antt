@@ -1,5 +1,5 @@
 use Rattle.std.proofs.Common.{arith}
-use Rattle.repo_layout.proofs.Places.{place-config, place-stage, place-ref, place-objects_folder, place-object, place-mark, place-deployment, place-etc, place-origin, place-summary, place-staged, place-boot_link, place-boot_link_stage, place-boot_folder, place-loader, place-loader_stage, place-loader_folder, place-kernel, place-checkout, place-back}
+use Rattle.repo_layout.proofs.Places.{place-config, place-stage, place-ref, place-objects_folder, place-object, place-mark, place-deployment, place-etc, place-origin, place-summary, place-back}
 use Rattle.repo_layout.proofs.laws.places_of_things.Goals as goal
 
 pub returns-clause-config : goal.returns-clause-config
