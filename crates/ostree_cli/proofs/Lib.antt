@@ -1,4 +1,3 @@
-pub mod Lines
 pub mod Resolved
 pub mod Printing
 pub mod Outcomes

@@ -1,7 +1,7 @@
 -- What the whole call tells, from what the command answered and how it was printed.
 use Rattle.std.proofs.Common.{◌≡◌, ◌⊎◌, inl, inr, ⊎_elim, ℕ, List, [], ◌∷◌, map, Option, Some, None, Result, Ok, Err, IfSome, MatchResult, refl, sym, ◌∙◌, ap, subst}
 use Rattle.fs_trait.specs.View.{Disk}
-use Rattle.ostree_cli.specs.declared.answer.Reply.{Reply}
+use Rattle.script.specs.declared.answer.Reply.{Reply}
 use Rattle.ostree_cli.specs.declared.answer.TopFault.{TopFault}
 use Rattle.ostree_cli.specs.declared.answer.TopFault.TheVariants.{NoMemory}
 use Rattle.ostree_cli.specs.RevParse.{Resolves}

@@ -5,8 +5,8 @@ use Rattle.fs_trait.specs.View.{Disk}
 use Rattle.fs_trait.specs.declared.types.FsErr.{FsErr}
 use Rattle.fs_trait.specs.declared.types.FsErr.TheVariants.{Failed}
 use Rattle.fs_trait.specs.declared.types.FsErr.TheVariants as fs
-use Rattle.ostree_cli.specs.declared.answer.Answer.{Answer}
-use Rattle.ostree_cli.specs.declared.answer.Answer.TheVariants.{Commit, NoRef}
+use Rattle.script.specs.declared.answer.Answer.{Answer}
+use Rattle.script.specs.declared.answer.Answer.TheVariants.{Commit, NoRef}
 use Rattle.ostree_cli.specs.declared.answer.Why.TheVariants.{BadRef}
 use Rattle.ostree_cli.specs.declared.answer.OpenFault.TheVariants.{Damaged, Disk as DiskFailed, Outside}
 use Rattle.ostree_cli.specs.declared.answer.TopFault.{TopFault}
@@ -18,6 +18,7 @@ use Rattle.repo_layout.specs.Refs.{is_leaf, ShowsCommit, ShowsNoCommit}
 abbrev pub ResolvesAt : Disk → Path → Result Answer TopFault → Type 0
 ResolvesAt d at (Ok (Commit sum)) = ShowsCommit d at sum
 ResolvesAt d at (Ok NoRef) = is_leaf (d.at at) ≡ false
+ResolvesAt d at (Ok x) = ⊥
 ResolvesAt d at (Err (Open (Damaged path BadRef))) = (path ≡ at) × ShowsNoCommit d at
 ResolvesAt d at (Err (Open DiskFailed)) = Unit {0}
 ResolvesAt d at (Err NoMemory) = Unit {0}

@@ -2,9 +2,9 @@
 use Rattle.std.specs.Prelude.{◌≡◌, ◌==◌, ◌||◌, nat_lt, max, ℕ, Bool, true, false, List, Option, Some, None, if◌then◌else◌}
 use Rattle.std.specs.List.{list_any}
 use Rattle.fs_trait.specs.Count.{last}
-use Rattle.ostree_cli.specs.declared.answer.Answer.{Answer}
-use Rattle.ostree_cli.specs.declared.answer.Answer.TheVariants.{Commit, NoRef}
-use Rattle.ostree_cli.specs.declared.answer.Reply.{Reply}
+use Rattle.script.specs.declared.answer.Answer.{Answer}
+use Rattle.script.specs.declared.answer.Answer.TheVariants as answer
+use Rattle.script.specs.declared.answer.Reply.{Reply}
 use Rattle.ostree_cli.specs.declared.answer.OpenFault.TheVariants.{Damaged, Disk, Outside}
 use Rattle.ostree_cli.specs.declared.answer.TopFault.{TopFault}
 use Rattle.ostree_cli.specs.declared.answer.TopFault.TheVariants.{Usage, Open, NoMemory}
@@ -14,8 +14,12 @@ abbrev pub has_risen : ℕ → ℕ → Bool
 has_risen before now = nat_lt before now || (now == last)
 
 abbrev pub is_refusal : Answer → Bool
-is_refusal (Commit sum) = false
-is_refusal NoRef = true
+is_refusal answer.NoRef = true
+is_refusal (answer.NoCommit sum) = true
+is_refusal (answer.Partial sum) = true
+is_refusal (answer.RefMoved seen now) = true
+is_refusal (answer.RefClash name) = true
+is_refusal x = false
 
 abbrev pub has_refusal : List (List Reply) → Bool
 has_refusal lanes = list_any (λ replies. list_any (λ reply. is_refusal reply.answer) replies) lanes

@@ -2,8 +2,8 @@
 use Rattle.std.specs.Prelude.{◌≡◌, ◌⊎◌, ℕ, List, [], ◌∷◌, Option, Some, None, Result, Ok, Err}
 use Rattle.fs_trait.specs.Count.{Rose}
 use Rattle.fs_trait.specs.View.{Disk}
-use Rattle.ostree_cli.specs.declared.answer.Answer.{Answer}
-use Rattle.ostree_cli.specs.declared.answer.Reply.{Reply}
+use Rattle.script.specs.declared.answer.Answer.{Answer}
+use Rattle.script.specs.declared.answer.Reply.{Reply}
 use Rattle.ostree_cli.specs.declared.answer.TopFault.{TopFault}
 use Rattle.ostree_cli.specs.RevParse.{Resolves}
 use Rattle.ostree_cli.specs.Output.{Wrote, WroteFront}

@@ -1,27 +1,4 @@
-use ost_types::{Csum, FsPath, NoMemory};
-
-/// What a command answered.
-#[derive(Drop, Debug)]
-pub enum Answer {
-    /// The name of a commit.
-    Commit(Csum),
-    /// There is no such ref.
-    NoRef,
-}
-
-/// A command's answer with its place among the others.
-#[derive(Drop, Debug)]
-pub struct Reply {
-    pub answer: Answer,
-    /// How many changes the history had before the command's first step.
-    pub start: u32,
-    /// How many it had just after the step that gave the reply.
-    pub place: u32,
-    /// How many replies had been given before it.
-    pub order: u32,
-    /// How many replies had been given before the step that took the lock on the list of deployments.
-    pub taken: Option<u32>,
-}
+use ost_types::{FsPath, NoMemory};
 
 /// What is wrong with a repository.
 #[derive(Drop, Debug)]

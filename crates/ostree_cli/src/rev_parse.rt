@@ -6,11 +6,12 @@ ghost use Rattle.ostree_cli.specs.RevParse.{Resolves, ResolvesAt, fault_of};
 ghost use Rattle.ostree_cli.specs.declared.answer.TopFault.{TopFault};
 ghost use Rattle.fs_trait.specs.declared.types.Value.TheVariants.{File};
 
-use crate::answer::{Answer, OpenFault, TopFault, Why};
+use crate::answer::{OpenFault, TopFault, Why};
 use fs_trait::{Fs, FsErr, Node};
 use ost_types::FsPath;
 use repo_layout::{RefName, read_ref, ref_path};
 use std::alloc::Global;
+use script::Answer;
 
 /// The commit that a ref names. What stands at its path is looked at once, and read where it has the length of a
 /// ref file.

@@ -2,7 +2,8 @@ ghost use Rattle.std.specs.Prelude.{◌≡◌, map, if◌then◌else◌};
 ghost use Rattle.std.specs.List.{list_any};
 ghost use Rattle.ostree_cli.specs.Status.{fault_status, has_refusal, has_risen, is_refusal, status_of};
 
-use crate::answer::{Answer, OpenFault, Reply, TopFault};
+use crate::answer::{OpenFault, TopFault};
+use script::{Answer, Reply};
 
 /// The exit status of a call, from what it came to and from whether the counts of the file system and of the sink
 /// have risen in it: the greatest of those whose cause stands.
@@ -56,8 +57,12 @@ fn any_refusal(replies: &[Reply]) -> bool
 fn is_refusal(answer: &Answer) -> bool
     ensures { result ≡ is_refusal answer.now }
 {
-    match answer {
-        Answer::Commit(_) => false,
-        Answer::NoRef => true,
-    }
+    matches!(
+        answer,
+        Answer::NoRef
+            | Answer::NoCommit(_)
+            | Answer::Partial(_)
+            | Answer::RefMoved { .. }
+            | Answer::RefClash(_)
+    )
 }

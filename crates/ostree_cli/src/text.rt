@@ -1,50 +1,12 @@
-ghost use Rattle.std.specs.Prelude.{◌≡◌, ◌++◌, List, [], ℕ, length, map, codes, ◌∷◌, IfOk, OnOk};
-ghost use Rattle.std.specs.String.{string_bytes};
-ghost use Rattle.ostree_cli.specs.Text.{reply_line, lane_lines, replies_text, why_text, escaped, is_plain, fault_line, output_of};
-ghost use Rattle.ost_types.specs.Csum.{hex_of};
+ghost use Rattle.std.specs.Prelude.{◌≡◌, ◌++◌, [], map, codes, ◌∷◌, IfOk};
+ghost use Rattle.script.specs.Field.{escaped};
+ghost use Rattle.ostree_cli.specs.Text.{why_text, fault_line, output_of};
 ghost use Rattle.ost_types.specs.Path.{text_of};
 
-use crate::answer::{Answer, OpenFault, Reply, TopFault, Why};
+use crate::answer::{OpenFault, TopFault, Why};
 use ost_types::{Bytes, FsPath, NoMemory};
+use script::{Reply, append_field, write_replies};
 use std::alloc::Global;
-
-/// The line of a reply: the number of its lane, of its command in the lane, and the answer.
-fn line_of(alloc: Global, lane: usize, command: usize, answer: &Answer) -> Result<String, NoMemory>
-    ensures { IfOk result (λ t. string_bytes t ≡ reply_line lane command answer.now) }
-{
-    match answer {
-        Answer::Commit(csum) => {
-            let digits = hex::encode(alloc, csum.bytes().as_slice())?;
-            Ok(format!(in alloc; "{lane} {command} ok {digits}\n")?)
-        }
-        Answer::NoRef => Ok(format!(in alloc; "{lane} {command} refused NoRef\n")?),
-    }
-}
-
-/// The lines of all replies, lane by lane.
-pub fn write_replies(alloc: Global, lanes: &[Vec<Reply>]) -> Result<Bytes, NoMemory>
-    ensures { IfOk result (λ t. t ≡ replies_text (map (λ lane. lane.items) lanes.now)) }
-{
-    let mut text = Bytes::new(alloc);
-    for (lane, replies) in lanes.iter().enumerate() {
-        write_lane(alloc, &mut text, lane, replies)?;
-    }
-    Ok(text)
-}
-
-fn write_lane(
-    alloc: Global,
-    text: &mut Bytes,
-    lane: usize,
-    replies: &[Reply],
-) -> Result<(), NoMemory>
-    ensures { OnOk result (text.new ≡ text.old ++ lane_lines lane 0 replies.now) }
-{
-    for (command, reply) in replies.iter().enumerate() {
-        text.append(line_of(alloc, lane, command, &reply.answer)?.as_bytes())?;
-    }
-    Ok(())
-}
 
 /// All that is printed of a call: the line of its fault, or the lines of its replies.
 pub fn output_of(
@@ -95,39 +57,7 @@ fn path_line(alloc: Global, before: &[u8], path: &FsPath, behind: &[u8]) -> Resu
     ensures { IfOk result (λ t. t ≡ before.now ++ (escaped (text_of path.now) ++ behind.now)) }
 {
     let mut line = Bytes::from_slice(alloc, before)?;
-    push_escaped(&mut line, path.text()?.as_slice())?;
+    append_field(&mut line, path.text()?.as_slice())?;
     line.append(behind)?;
     Ok(line)
 }
-
-// Writes each byte outside `!` to `~`, and each `%`, as `%` and two digits.
-fn push_escaped(line: &mut Bytes, text: &[u8]) -> Result<(), NoMemory>
-    ensures { OnOk result (line.new ≡ line.old ++ escaped text.now) }
-{
-    for byte in text {
-        if is_plain(*byte) {
-            line.push(*byte)?;
-        } else {
-            line.append(&escape(*byte))?;
-        }
-    }
-    Ok(())
-}
-
-fn is_plain(byte: u8) -> bool
-    ensures { result ≡ is_plain byte }
-{
-    (b'!'..=b'~').contains(&byte) && byte != b'%'
-}
-
-fn escape(byte: u8) -> [u8; 3]
-    ensures { result ≡ 37 ∷ hex_of (byte ∷ []) }
-{
-    [
-        b'%',
-        HEX_DIGITS[(byte / 16) as usize],
-        HEX_DIGITS[(byte % 16) as usize],
-    ]
-}
-
-const HEX_DIGITS: &[u8; 16] = b"0123456789abcdef";

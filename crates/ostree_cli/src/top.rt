@@ -3,14 +3,14 @@ ghost use Rattle.std.specs.String.{string_bytes};
 ghost use Rattle.fs_trait.specs.View.{View};
 ghost use Rattle.fs_trait.specs.Count.{Rose};
 ghost use Rattle.fs_trait.specs.Effect.{IsQuiet};
-ghost use Rattle.ostree_cli.specs.declared.answer.Reply.{Reply};
+ghost use Rattle.script.specs.declared.answer.Reply.{Reply};
 ghost use Rattle.ostree_cli.specs.Words.{IsRevParse, AreNoCommand};
 ghost use Rattle.ostree_cli.specs.RevParse.{Resolves};
 ghost use Rattle.ostree_cli.specs.Status.{has_risen, status_of};
 ghost use Rattle.ostree_cli.specs.Text.{output_of};
 ghost use Rattle.ostree_cli.specs.Top.{IsAlone, IsOneReply, Replies, Prints};
 
-use crate::answer::{Answer, OpenFault, Reply, TopFault};
+use crate::answer::{OpenFault, TopFault};
 use crate::output::write_all;
 use crate::rev_parse::rev_parse;
 use crate::status::{has_risen, status_of};
@@ -19,6 +19,7 @@ use crate::words::read_words;
 use fs_trait::{Fs, Sink};
 use ost_types::NoMemory;
 use std::alloc::Global;
+use script::{Answer, Reply};
 
 /// What a call of the program came to.
 #[derive(Drop)]

@@ -2,7 +2,7 @@ use Rattle.std.proofs.Common.{◌≡◌, Bool, List, [], ◌∷◌, ◌||◌, ma
 use Rattle.std.specs.List.{list_any}
 use Rattle.std.proofs.lemmas.Iterator.{YieldsList-from_slice}
 use Rattle.std.proofs.lemmas.Iterator.Search.{any_from_yields_List}
-use Rattle.ostree_cli.specs.declared.answer.Reply.{Reply}
+use Rattle.script.specs.declared.answer.Reply.{Reply}
 use Rattle.ostree_cli.specs.Status.{is_refusal}
 use Rattle.ostree_cli.proofs.status.has_refusal.Goals as goal
 

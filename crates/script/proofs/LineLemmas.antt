@@ -1,8 +1,8 @@
 -- One line more, and the lines of one lane more.
 use Rattle.std.proofs.Common.{◌≡◌, ◌<◌, ◌+◌, ◌-◌, ℕ, suc, List, [], ◌∷◌, ◌++◌, length, take, get_or, refl, sym, ◌∙◌, ap, arith, append_assoc, append-nil, map}
 use Rattle.std.proofs.lemmas.List.{take_more, length-take, length-map, map-append}
-use Rattle.ostree_cli.specs.declared.answer.Reply.{Reply}
-use Rattle.ostree_cli.specs.Text.{reply_line, lane_lines, lines_from}
+use Rattle.script.specs.declared.answer.Reply.{Reply}
+use Rattle.script.specs.Lines.{reply_line, lane_lines, lines_from}
 
 pub lane_lines-push : (lane first : ℕ) (replies : List Reply) (reply : Reply)
     → lane_lines lane first (replies ++ reply ∷ []) ≡ lane_lines lane first replies ++ reply_line lane (first + length replies) reply.answer

@@ -1,6 +1,6 @@
 use Rattle.std.proofs.Common.{refl}
 use Rattle.hex.specs.Hex.{encode_with}
-use Rattle.ostree_cli.proofs.text.escape.Goals as goal
+use Rattle.script.proofs.escape.escape.Goals as goal
 
 pub returns : goal.returns
 unfolding encode_with

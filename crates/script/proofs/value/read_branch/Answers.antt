@@ -1,0 +1,9 @@
+use Rattle.std.proofs.Common.{◌≡◌, ℕ, List, Option, Some, IfOk, MatchOption, subst, sym, ap}
+use Rattle.script.specs.Field.{IsField, IsNoField}
+use Rattle.script.proofs.Fields.{branch_from, both_ok}
+use Rattle.script.proofs.value.read_branch.Goals as goal
+
+pub returns-in-Some : goal.returns-in-Some
+returns-in-Some c =
+    let field = subst (λ o. MatchOption o (IsNoField c.args.field.now) (IsField c.args.field.now)) c.in-Some.is c.in_ok-value.ensures in
+    both_ok _ _ _ _ (λ o exact value. branch_from c.args.field.now c.as_slice.result.now o (subst (IsField c.args.field.now) (sym c.as_slice.ensures) field) exact value) c.parse.ensures.exact c.parse.ensures.value

@@ -1,0 +1,50 @@
+-- What is printed of replies.
+use Rattle.std.specs.Prelude.{◌≡◌, ◌+◌, ℕ, List, [], ◌∷◌, ◌++◌, length, codes, Option, Some, None}
+use Rattle.std.specs.List.{flat_map}
+use Rattle.std.specs.Fmt.{decimal}
+use Rattle.ost_types.specs.Path.{text_of}
+use Rattle.ost_types.specs.Csum.{hex_of}
+use Rattle.script.specs.Field.{escaped}
+use Rattle.script.specs.declared.answer.Answer.{Answer}
+use Rattle.script.specs.declared.answer.Answer.TheVariants.{Nothing, Refs, Commit, NoRef, NoCommit, Partial, RefMoved, RefClash, NoMemory, DiskFault, Halted, Outside}
+use Rattle.script.specs.declared.answer.Reply.{Reply}
+
+-- a ref and its commit on a line of their own
+abbrev pub ref_row : List ℕ × List ℕ → List ℕ
+ref_row row = codes "\n " ++ (row.0 ++ (32 ∷ hex_of row.1))
+
+abbrev pub value_text : Option (List ℕ) → List ℕ
+value_text None = codes "none"
+value_text (Some sum) = hex_of sum
+
+-- an answer behind the two numbers of its line
+abbrev pub answer_text : Answer → List ℕ
+answer_text Nothing = codes "ok"
+answer_text (Refs rows) = codes "ok " ++ (decimal (length rows.items) ++ flat_map ref_row rows.items)
+answer_text (Commit sum) = codes "ok " ++ hex_of sum
+answer_text NoRef = codes "refused NoRef"
+answer_text (NoCommit sum) = codes "refused NoCommit " ++ hex_of sum
+answer_text (Partial sum) = codes "refused Partial " ++ hex_of sum
+answer_text (RefMoved seen now) = codes "refused RefMoved " ++ (value_text seen ++ (32 ∷ value_text now))
+answer_text (RefClash name) = codes "refused RefClash " ++ name
+answer_text NoMemory = codes "fault NoMemory"
+answer_text DiskFault = codes "fault DiskFault"
+answer_text (Halted count) = codes "fault Halted " ++ decimal count
+answer_text (Outside path) = codes "fault Outside " ++ escaped (text_of path)
+
+-- a reply's lines: its lane, its command and its answer
+abbrev pub reply_line : ℕ → ℕ → Answer → List ℕ
+reply_line lane command answer = decimal lane ++ (32 ∷ (decimal command ++ (32 ∷ (answer_text answer ++ 10 ∷ []))))
+
+-- the lines of a lane's replies, the first of them with this number
+unfoldable pub lane_lines : ℕ → ℕ → List Reply → List ℕ
+lane_lines lane command [] = []
+lane_lines lane command (reply ∷ replies) = reply_line lane command reply.answer ++ lane_lines lane (command + 1) replies
+
+-- the lines of all lanes, the first of them with this number
+unfoldable pub lines_from : ℕ → List (List Reply) → List ℕ
+lines_from lane [] = []
+lines_from lane (replies ∷ lanes) = lane_lines lane 0 replies ++ lines_from (lane + 1) lanes
+
+abbrev pub replies_text : List (List Reply) → List ℕ
+replies_text lanes = lines_from 0 lanes

@@ -1,0 +1,49 @@
+use ost_types::{Csum, FsPath};
+use repo_layout::RefName;
+
+/// What a command answered. The first three are those of a command that was done, the next five refuse it, and the
+/// others end it for want of something outside.
+#[derive(Drop, Debug)]
+pub enum Answer {
+    /// It was done, and there is nothing to tell.
+    Nothing,
+    /// The refs, ascending by their names.
+    Refs(Vec<(RefName, Csum)>),
+    /// The name of a commit.
+    Commit(Csum),
+    /// There is no such ref.
+    NoRef,
+    /// There is no such commit.
+    NoCommit(Csum),
+    /// Objects of the commit may be missing.
+    Partial(Csum),
+    /// The ref has changed since the command looked at it: its value then, and its value now.
+    RefMoved {
+        seen: Option<Csum>,
+        now: Option<Csum>,
+    },
+    /// Another ref stands above or below this one: the least of these by the bytes of its name.
+    RefClash(RefName),
+    /// Memory was wanted and there was none.
+    NoMemory,
+    /// A call that reads failed.
+    DiskFault,
+    /// A call that changes something failed, and with it the run; the count of failed calls then.
+    Halted(u64),
+    /// Something else than this program changed what stands at the path.
+    Outside(FsPath),
+}
+
+/// A command's answer with its place among the others.
+#[derive(Drop, Debug)]
+pub struct Reply {
+    pub answer: Answer,
+    /// How many changes the history had before the command's first step.
+    pub start: u32,
+    /// How many it had just after the step that gave the reply.
+    pub place: u32,
+    /// How many replies had been given before it.
+    pub order: u32,
+    /// How many replies had been given before the step that took the lock on the list of deployments.
+    pub taken: Option<u32>,
+}

@@ -1,0 +1,22 @@
+//! Commands as words, and what they answer as lines.
+#![tactic(auto)]
+
+mod answer;
+mod command;
+mod escape;
+mod fault;
+mod field;
+mod lines;
+mod read;
+mod value;
+mod words;
+
+pub use answer::{Answer, Reply};
+pub use command::{Command, Lane, Rev};
+pub use escape::append_field;
+pub use fault::ScriptFault;
+pub use lines::write_replies;
+pub use words::read_words;
+
+#[cfg(test)]
+mod tests;

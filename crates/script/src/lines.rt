@@ -1,0 +1,157 @@
+//! Replies as lines.
+ghost use Rattle.std.specs.Prelude.{◌≡◌, ◌++◌, ◌∷◌, [], length, map, codes, IfOk, OnOk};
+ghost use Rattle.std.specs.List.{flat_map};
+ghost use Rattle.std.specs.Fmt.{decimal};
+ghost use Rattle.ost_types.specs.Csum.{hex_of};
+ghost use Rattle.ost_types.specs.Path.{text_of};
+ghost use Rattle.script.specs.Field.{escaped};
+ghost use Rattle.script.specs.Lines.{answer_text, lane_lines, ref_row, replies_text, reply_line, value_text};
+
+use crate::answer::{Answer, Reply};
+use crate::escape::append_field;
+use ost_types::{Bytes, Csum, FsPath, NoMemory};
+use repo_layout::RefName;
+use std::alloc::Global;
+
+/// The lines of all replies, lane by lane: the number of the lane, of the command in it, and the answer.
+pub fn write_replies(alloc: Global, lanes: &[Vec<Reply>]) -> Result<Bytes, NoMemory>
+    ensures { IfOk result (λ t. t ≡ replies_text (map (λ lane. lane.items) lanes.now)) }
+{
+    let mut text = Bytes::new(alloc);
+    for (lane, replies) in lanes.iter().enumerate() {
+        append_lane(alloc, &mut text, lane, replies)?;
+    }
+    Ok(text)
+}
+
+fn append_lane(
+    alloc: Global,
+    text: &mut Bytes,
+    lane: usize,
+    replies: &[Reply],
+) -> Result<(), NoMemory>
+    ensures { OnOk result (text.new ≡ text.old ++ lane_lines lane 0 replies.now) }
+{
+    for (command, reply) in replies.iter().enumerate() {
+        append_reply(alloc, text, lane, command, &reply.answer)?;
+    }
+    Ok(())
+}
+
+fn append_reply(
+    alloc: Global,
+    text: &mut Bytes,
+    lane: usize,
+    command: usize,
+    answer: &Answer,
+) -> Result<(), NoMemory>
+    ensures { OnOk result (text.new ≡ text.old ++ reply_line lane command answer.now) }
+{
+    text.append(format!(in alloc; "{lane} {command} ")?.as_bytes())?;
+    append_answer(alloc, text, answer)?;
+    text.push(b'\n')?;
+    Ok(())
+}
+
+fn append_answer(alloc: Global, text: &mut Bytes, answer: &Answer) -> Result<(), NoMemory>
+    ensures { OnOk result (text.new ≡ text.old ++ answer_text answer.now) }
+{
+    match answer {
+        Answer::Nothing => text.append(b"ok"),
+        Answer::Refs(rows) => append_refs(alloc, text, rows),
+        Answer::Commit(commit) => append_sum(text, b"ok ", commit),
+        Answer::NoRef => text.append(b"refused NoRef"),
+        Answer::NoCommit(commit) => append_sum(text, b"refused NoCommit ", commit),
+        Answer::Partial(commit) => append_sum(text, b"refused Partial ", commit),
+        Answer::RefMoved { seen, now } => append_moved(text, seen, now),
+        Answer::RefClash(name) => append_clash(text, name),
+        Answer::NoMemory => text.append(b"fault NoMemory"),
+        Answer::DiskFault => text.append(b"fault DiskFault"),
+        Answer::Halted(count) => append_halted(alloc, text, *count),
+        Answer::Outside(path) => append_outside(text, path),
+    }
+}
+
+fn append_refs(alloc: Global, text: &mut Bytes, rows: &[(RefName, Csum)]) -> Result<(), NoMemory>
+    ensures { OnOk result (text.new ≡ text.old ++ (codes "ok " ++ (decimal (length rows.now) ++ flat_map ref_row rows.now))) }
+{
+    let count = rows.len();
+    text.append(format!(in alloc; "ok {count}")?.as_bytes())?;
+    append_rows(text, rows)
+}
+
+fn append_rows(text: &mut Bytes, rows: &[(RefName, Csum)]) -> Result<(), NoMemory>
+    ensures { OnOk result (text.new ≡ text.old ++ flat_map ref_row rows.now) }
+{
+    for row in rows {
+        append_row(text, &row.0, &row.1)?;
+    }
+    Ok(())
+}
+
+fn append_row(text: &mut Bytes, name: &RefName, commit: &Csum) -> Result<(), NoMemory>
+    ensures { OnOk result (text.new ≡ text.old ++ ref_row (name.now, commit.now)) }
+{
+    text.append(b"\n ")?;
+    text.append(name.as_slice())?;
+    text.push(b' ')?;
+    text.append(&commit.to_hex())
+}
+
+fn append_sum(text: &mut Bytes, before: &[u8], commit: &Csum) -> Result<(), NoMemory>
+    ensures { OnOk result (text.new ≡ text.old ++ (before.now ++ hex_of commit.now)) }
+{
+    text.append(before)?;
+    text.append(&commit.to_hex())
+}
+
+fn append_moved(text: &mut Bytes, seen: &Option<Csum>, now: &Option<Csum>) -> Result<(), NoMemory>
+    ensures { OnOk result (text.new ≡ text.old ++ (codes "refused RefMoved " ++ (value_text seen.now ++ (32 ∷ value_text now.now)))) }
+{
+    text.append(b"refused RefMoved ")?;
+    append_value(text, seen)?;
+    text.push(b' ')?;
+    append_value(text, now)
+}
+
+fn append_value(text: &mut Bytes, value: &Option<Csum>) -> Result<(), NoMemory>
+    ensures { OnOk result (text.new ≡ text.old ++ value_text value.now) }
+{
+    match value {
+        None => text.append(b"none"),
+        Some(commit) => text.append(&commit.to_hex()),
+    }
+}
+
+fn append_clash(text: &mut Bytes, name: &RefName) -> Result<(), NoMemory>
+    ensures { OnOk result (text.new ≡ text.old ++ (codes "refused RefClash " ++ name.now)) }
+{
+    append_both(text, b"refused RefClash ", name.as_slice())
+}
+
+fn append_halted(alloc: Global, text: &mut Bytes, count: u64) -> Result<(), NoMemory>
+    ensures { OnOk result (text.new ≡ text.old ++ (codes "fault Halted " ++ decimal count)) }
+{
+    text.append(format!(in alloc; "fault Halted {count}")?.as_bytes())
+}
+
+fn append_outside(text: &mut Bytes, path: &FsPath) -> Result<(), NoMemory>
+    ensures { OnOk result (text.new ≡ text.old ++ (codes "fault Outside " ++ escaped (text_of path.now))) }
+{
+    let path = path.text()?;
+    append_escaped(text, b"fault Outside ", path.as_slice())
+}
+
+fn append_both(text: &mut Bytes, before: &[u8], behind: &[u8]) -> Result<(), NoMemory>
+    ensures { OnOk result (text.new ≡ text.old ++ (before.now ++ behind.now)) }
+{
+    text.append(before)?;
+    text.append(behind)
+}
+
+fn append_escaped(text: &mut Bytes, before: &[u8], behind: &[u8]) -> Result<(), NoMemory>
+    ensures { OnOk result (text.new ≡ text.old ++ (before.now ++ escaped behind.now)) }
+{
+    text.append(before)?;
+    append_field(text, behind)
+}
