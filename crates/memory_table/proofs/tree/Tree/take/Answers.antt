@@ -1,0 +1,5 @@
+use Rattle.memory_table.proofs.Holding.{taken}
+use Rattle.memory_table.proofs.tree.Tree.take.Goals as goal
+
+pub returns-in-Some-clause-below : goal.returns-in-Some-clause-below
+returns-in-Some-clause-below g c = λ t x. taken c.args.self.now.folders c.remove.new.self c.args.folder.now t x (c.in-Some.ensures.updates.0 t)

@@ -1,0 +1,11 @@
+//! What stands at each path, and what each file holds, in maps.
+#![tactic(auto)]
+
+mod key;
+mod parts;
+mod table;
+mod tree;
+
+pub use parts::folder_of;
+pub use table::{File, Table};
+pub use tree::Tree;
