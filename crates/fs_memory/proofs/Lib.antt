@@ -13,3 +13,4 @@ mod Choices
 mod Quiets
 mod Leaving
 mod Sorting
+mod Following

@@ -6,3 +6,4 @@ pub mod Laws
 pub mod Recorded
 pub mod Crash
 pub mod Traces
+pub mod Tied

@@ -10,6 +10,7 @@ mod found;
 mod listing;
 mod make;
 mod memory;
+mod past;
 mod plan;
 mod read;
 mod sink;

@@ -7,8 +7,7 @@ ghost use Rattle.fs_memory.specs.Changes.{view_of};
 ghost use Rattle.fs_memory.specs.Answer.{IsAnswer};
 
 use crate::change::Change;
-use crate::found::value_at;
-use crate::listing::has_names;
+use crate::past::Past;
 use crate::walk::{file_at, folder_at, free, leaf_at, not_folder};
 use fs_trait::{FsErr, Value};
 use ost_types::{Bytes, FsPath, Meta, Text, TryCopy};
@@ -18,62 +17,57 @@ use std::alloc::Global;
 /// A new folder.
 pub fn make_folder(
     places: &mut Pool,
-    changes: &[Change],
+    past: &Past,
     at: &FsPath,
     meta: &Meta,
 ) -> Result<Change, FsErr>
-    ensures answer { IsAnswer true (no_new at.now (view_of changes.now).now) (λ c. c ≡ Named at.now (Folder meta.now)) result }
+    ensures answer { IsAnswer true (no_new at.now (view_of past.now.changes.items).now) (λ c. c ≡ Named at.now (Folder meta.now)) result }
     ensures took { places.old ≤ places.new + 1 }
 {
     let place = places.place(at)?;
-    free(changes, at, &place)?;
+    free(past, at, &place)?;
     Ok(Change::Name(place, Value::Folder(meta.copy()?)))
 }
 
 /// A new empty file, whose inode is the number of the changes before.
-pub fn make_file(
-    places: &mut Pool,
-    changes: &[Change],
-    at: &FsPath,
-    meta: &Meta,
-) -> Result<Change, FsErr>
-    ensures answer { IsAnswer true (no_new at.now (view_of changes.now).now) (λ c. c ≡ Create at.now meta.now (length changes.now)) result }
+pub fn make_file(places: &mut Pool, past: &Past, at: &FsPath, meta: &Meta) -> Result<Change, FsErr>
+    ensures answer { IsAnswer true (no_new at.now (view_of past.now.changes.items).now) (λ c. c ≡ Create at.now meta.now (length past.now.changes.items)) result }
     ensures took { places.old ≤ places.new + 1 }
 {
     let place = places.place(at)?;
-    free(changes, at, &place)?;
-    Ok(Change::Create(place, meta.copy()?, changes.len() as u64))
+    free(past, at, &place)?;
+    Ok(Change::Create(place, meta.copy()?, past.changes.len() as u64))
 }
 
 /// More bytes in a file.
 pub fn extend_file(
     alloc: Global,
     places: &mut Pool,
-    changes: &[Change],
+    past: &Past,
     at: &FsPath,
     bytes: &[u8],
 ) -> Result<Change, FsErr>
-    ensures answer { IsAnswer true (no_file at.now (view_of changes.now).now) (λ c. c ≡ Extend (inode_of ((view_of changes.now).now.at at.now)) bytes.now) result }
+    ensures answer { IsAnswer true (no_file at.now (view_of past.now.changes.items).now) (λ c. c ≡ Extend (inode_of ((view_of past.now.changes.items).now.at at.now)) bytes.now) result }
     ensures took { places.old ≤ places.new + 1 }
 {
     let place = places.place(at)?;
-    let inode = file_at(changes, at, &place)?;
+    let inode = file_at(past, at, &place)?;
     Ok(Change::Extend(inode, Bytes::from_slice(alloc, bytes)?))
 }
 
 /// A new symbolic link.
 pub fn make_link(
     places: &mut Pool,
-    changes: &[Change],
+    past: &Past,
     at: &FsPath,
     target: &Text,
     meta: &Meta,
 ) -> Result<Change, FsErr>
-    ensures answer { IsAnswer true (no_new at.now (view_of changes.now).now) (λ c. c ≡ Named at.now (Link meta.now target.now)) result }
+    ensures answer { IsAnswer true (no_new at.now (view_of past.now.changes.items).now) (λ c. c ≡ Named at.now (Link meta.now target.now)) result }
     ensures took { places.old ≤ places.new + 1 }
 {
     let place = places.place(at)?;
-    free(changes, at, &place)?;
+    free(past, at, &place)?;
     Ok(Change::Name(place, Value::Link(meta.copy()?, target.copy()?)))
 }
 
@@ -83,41 +77,41 @@ pub fn link_leaf(
     alloc: Global,
     places: &mut Pool,
     targets: &mut Pool,
-    changes: &[Change],
+    past: &Past,
     from: &FsPath,
     to: &FsPath,
 ) -> Result<Change, FsErr>
-    ensures answer { IsAnswer true (no_link from.now to.now (view_of changes.now).now) (λ c. c ≡ Named to.now ((view_of changes.now).now.at from.now)) result }
+    ensures answer { IsAnswer true (no_link from.now to.now (view_of past.now.changes.items).now) (λ c. c ≡ Named to.now ((view_of past.now.changes.items).now.at from.now)) result }
     ensures took { (places.old ≤ places.new + 1) × (targets.old ≤ targets.new + 1) }
 {
     let from_place = places.place(from)?;
     let to_place = targets.place(to)?;
-    leaf_at(changes, from, &from_place)?;
-    free(changes, to, &to_place)?;
-    let value = value_at(changes, from_place.text()).copy(alloc)?;
+    leaf_at(past, from, &from_place)?;
+    free(past, to, &to_place)?;
+    let value = past.value_at(from_place.text()).copy(alloc)?;
     Ok(Change::Name(to_place, value))
 }
 
 /// A leaf's name gone.
-pub fn remove_leaf(places: &mut Pool, changes: &[Change], at: &FsPath) -> Result<Change, FsErr>
-    ensures answer { IsAnswer (places.old == 0) (no_leaf at.now (view_of changes.now).now) (λ c. c ≡ Named at.now Absent) result }
+pub fn remove_leaf(places: &mut Pool, past: &Past, at: &FsPath) -> Result<Change, FsErr>
+    ensures answer { IsAnswer (places.old == 0) (no_leaf at.now (view_of past.now.changes.items).now) (λ c. c ≡ Named at.now Absent) result }
     ensures took { places.old ≤ places.new + 1 }
 {
     let place = places.place(at)?;
-    leaf_at(changes, at, &place)?;
+    leaf_at(past, at, &place)?;
     Ok(Change::Name(place, Value::Absent))
 }
 
 /// An empty folder gone.
 #[tactic(auto, unfolding(fs_trait::specs::Effect::no_rmdir))]
-pub fn remove_folder(places: &mut Pool, changes: &[Change], at: &FsPath) -> Result<Change, FsErr>
-    ensures answer { (b : Bool) → HasNames b at.now (view_of changes.now).now → IsAnswer (places.old == 0) (no_rmdir b at.now (view_of changes.now).now) (λ c. c ≡ Named at.now Absent) result }
+pub fn remove_folder(places: &mut Pool, past: &Past, at: &FsPath) -> Result<Change, FsErr>
+    ensures answer { (b : Bool) → HasNames b at.now (view_of past.now.changes.items).now → IsAnswer (places.old == 0) (no_rmdir b at.now (view_of past.now.changes.items).now) (λ c. c ≡ Named at.now Absent) result }
     ensures wants { IsErrOf result NoMemory → IsTrue (places.old == 0) }
     ensures took { places.old ≤ places.new + 1 }
 {
     let place = places.place(at)?;
-    folder_at(changes, at, &place)?;
-    if has_names(changes, &place) {
+    folder_at(past, at, &place)?;
+    if past.has_names(&place) {
         return Err(FsErr::NotEmpty);
     }
     Ok(Change::Name(place, Value::Absent))
@@ -128,36 +122,36 @@ pub fn remove_folder(places: &mut Pool, changes: &[Change], at: &FsPath) -> Resu
 pub fn move_leaf(
     places: &mut Pool,
     targets: &mut Pool,
-    changes: &[Change],
+    past: &Past,
     from: &FsPath,
     to: &FsPath,
 ) -> Result<Change, FsErr>
-    ensures answer { IsAnswer ((places.old == 0) || (targets.old == 0)) (no_move from.now to.now (view_of changes.now).now) (λ c. c ≡ Move from.now to.now) result }
+    ensures answer { IsAnswer ((places.old == 0) || (targets.old == 0)) (no_move from.now to.now (view_of past.now.changes.items).now) (λ c. c ≡ Move from.now to.now) result }
     ensures took { (places.old ≤ places.new + 1) × (targets.old ≤ targets.new + 1) }
 {
     let from_place = places.place(from)?;
     let to_place = targets.place(to)?;
-    leaf_at(changes, from, &from_place)?;
-    not_folder(changes, to, &to_place)?;
+    leaf_at(past, from, &from_place)?;
+    not_folder(past, to, &to_place)?;
     Ok(Change::Move(from_place, to_place))
 }
 
 /// A file's bytes synced.
-pub fn sync_file(places: &mut Pool, changes: &[Change], at: &FsPath) -> Result<Change, FsErr>
-    ensures answer { IsAnswer (places.old == 0) (no_file at.now (view_of changes.now).now) (λ c. c ≡ SyncFile (inode_of ((view_of changes.now).now.at at.now))) result }
+pub fn sync_file(places: &mut Pool, past: &Past, at: &FsPath) -> Result<Change, FsErr>
+    ensures answer { IsAnswer (places.old == 0) (no_file at.now (view_of past.now.changes.items).now) (λ c. c ≡ SyncFile (inode_of ((view_of past.now.changes.items).now.at at.now))) result }
     ensures took { places.old ≤ places.new + 1 }
 {
     let place = places.place(at)?;
-    let inode = file_at(changes, at, &place)?;
+    let inode = file_at(past, at, &place)?;
     Ok(Change::SyncFile(inode))
 }
 
 /// A folder's names synced.
-pub fn sync_folder(places: &mut Pool, changes: &[Change], at: &FsPath) -> Result<Change, FsErr>
-    ensures answer { IsAnswer (places.old == 0) (no_folder at.now (view_of changes.now).now) (λ c. c ≡ SyncFolder at.now) result }
+pub fn sync_folder(places: &mut Pool, past: &Past, at: &FsPath) -> Result<Change, FsErr>
+    ensures answer { IsAnswer (places.old == 0) (no_folder at.now (view_of past.now.changes.items).now) (λ c. c ≡ SyncFolder at.now) result }
     ensures took { places.old ≤ places.new + 1 }
 {
     let place = places.place(at)?;
-    folder_at(changes, at, &place)?;
+    folder_at(past, at, &place)?;
     Ok(Change::SyncFolder(place))
 }

@@ -4,16 +4,16 @@ ghost use Rattle.fs_memory.specs.Changes.{view_of};
 ghost use Rattle.fs_memory.specs.Seen.{value_of};
 ghost use Rattle.fs_memory.specs.Answer.{IsAnswer};
 
-use crate::change::Change;
-use crate::found::{Found, value_at};
+use crate::found::Found;
+use crate::past::Past;
 use fs_trait::FsErr;
 use ost_types::FsPath;
 use places::Place;
 
 // Walks to the last name of a path.
-fn walk(changes: &[Change], path: &FsPath, place: &Place) -> Result<(), FsErr>
+fn walk(past: &Past, path: &FsPath, place: &Place) -> Result<(), FsErr>
     requires { place.now ≡ path.now }
-    ensures { IsAnswer false (way (view_of changes.now).now path.now) (λ _. Unit {0}) result }
+    ensures { IsAnswer false (way (view_of past.now.changes.items).now path.now) (λ _. Unit {0}) result }
 {
     let names = path.names();
     let text = place.text();
@@ -22,60 +22,60 @@ fn walk(changes: &[Change], path: &FsPath, place: &Place) -> Result<(), FsErr>
     while i + 1 < names.len() {
         end += names[i].as_slice().len() + 1;
         i += 1;
-        value_at(changes, &text[..end]).folder()?;
+        past.value_at(&text[..end]).folder()?;
     }
     Ok(())
 }
 
 // What the last name of a path has.
-fn last<'a>(changes: &'a [Change], path: &FsPath, place: &'a Place) -> Result<Found<'a>, FsErr>
+fn last<'a>(past: &'a Past, path: &FsPath, place: &'a Place) -> Result<Found<'a>, FsErr>
     requires { place.now ≡ path.now }
-    ensures { IsAnswer false (way (view_of changes.now).now path.now) (λ f. value_of f ≡ (view_of changes.now).now.at path.now) result }
+    ensures { IsAnswer false (way (view_of past.now.changes.items).now path.now) (λ f. value_of f ≡ (view_of past.now.changes.items).now.at path.now) result }
 {
-    walk(changes, path, place)?;
-    Ok(value_at(changes, place.text()))
+    walk(past, path, place)?;
+    Ok(past.value_at(place.text()))
 }
 
 /// Refused where something is at the path.
 #[tactic(auto, unfolding(fs_trait::specs::Effect::no_new))]
-pub fn free(changes: &[Change], path: &FsPath, place: &Place) -> Result<(), FsErr>
+pub fn free(past: &Past, path: &FsPath, place: &Place) -> Result<(), FsErr>
     requires { place.now ≡ path.now }
-    ensures { IsAnswer false (no_new path.now (view_of changes.now).now) (λ _. Unit {0}) result }
+    ensures { IsAnswer false (no_new path.now (view_of past.now.changes.items).now) (λ _. Unit {0}) result }
 {
-    last(changes, path, place)?.vacant()
+    last(past, path, place)?.vacant()
 }
 
 /// The inode of the file at a path.
 #[tactic(auto, unfolding(fs_trait::specs::Effect::no_file))]
-pub fn file_at(changes: &[Change], path: &FsPath, place: &Place) -> Result<u64, FsErr>
+pub fn file_at(past: &Past, path: &FsPath, place: &Place) -> Result<u64, FsErr>
     requires { place.now ≡ path.now }
-    ensures { IsAnswer false (no_file path.now (view_of changes.now).now) (λ n. n ≡ inode_of ((view_of changes.now).now.at path.now)) result }
+    ensures { IsAnswer false (no_file path.now (view_of past.now.changes.items).now) (λ n. n ≡ inode_of ((view_of past.now.changes.items).now.at path.now)) result }
 {
-    last(changes, path, place)?.file()
+    last(past, path, place)?.file()
 }
 
 /// Refused where no leaf is at the path.
 #[tactic(auto, unfolding(fs_trait::specs::Effect::no_leaf))]
-pub fn leaf_at(changes: &[Change], path: &FsPath, place: &Place) -> Result<(), FsErr>
+pub fn leaf_at(past: &Past, path: &FsPath, place: &Place) -> Result<(), FsErr>
     requires { place.now ≡ path.now }
-    ensures { IsAnswer false (no_leaf path.now (view_of changes.now).now) (λ _. Unit {0}) result }
+    ensures { IsAnswer false (no_leaf path.now (view_of past.now.changes.items).now) (λ _. Unit {0}) result }
 {
-    last(changes, path, place)?.leaf()
+    last(past, path, place)?.leaf()
 }
 
 /// Refused where a folder is at the path.
-pub fn not_folder(changes: &[Change], path: &FsPath, place: &Place) -> Result<(), FsErr>
+pub fn not_folder(past: &Past, path: &FsPath, place: &Place) -> Result<(), FsErr>
     requires { place.now ≡ path.now }
-    ensures { IsAnswer false (or_else (way (view_of changes.now).now path.now) (if_folder ((view_of changes.now).now.at path.now))) (λ _. Unit {0}) result }
+    ensures { IsAnswer false (or_else (way (view_of past.now.changes.items).now path.now) (if_folder ((view_of past.now.changes.items).now.at path.now))) (λ _. Unit {0}) result }
 {
-    last(changes, path, place)?.no_folder()
+    last(past, path, place)?.no_folder()
 }
 
 /// Refused where no folder is at the path.
 #[tactic(auto, unfolding(fs_trait::specs::Effect::no_folder))]
-pub fn folder_at(changes: &[Change], path: &FsPath, place: &Place) -> Result<(), FsErr>
+pub fn folder_at(past: &Past, path: &FsPath, place: &Place) -> Result<(), FsErr>
     requires { place.now ≡ path.now }
-    ensures { IsAnswer false (no_folder path.now (view_of changes.now).now) (λ _. Unit {0}) result }
+    ensures { IsAnswer false (no_folder path.now (view_of past.now.changes.items).now) (λ _. Unit {0}) result }
 {
-    last(changes, path, place)?.folder()
+    last(past, path, place)?.folder()
 }

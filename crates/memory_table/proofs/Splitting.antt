@@ -103,4 +103,3 @@ AreNames-folder (a ∷ f) x names = (names.0, AreNames-folder f x names.1)
 pub same_last : (f : Path) (x y : Name) → under f x ≡ under f y → x ≡ y
 same_last [] x y e = cc
 same_last (a ∷ f) x y e = same_last f x y cc
-

@@ -124,7 +124,9 @@ impl<V: Drop> Tree<V> {
     pub fn has_names(&self, folder: &Place) -> bool
         ensures { (g : Path → Option V) → Holds self.now g → HasAny result g folder.now }
     {
-        match self.folders.get(Sought { bytes: folder.text() }) {
+        match self.folders.get(Sought {
+            bytes: folder.text(),
+        }) {
             Some(names) => match names.first_key_value() {
                 Some(_) => true,
                 None => false,
@@ -137,10 +139,14 @@ impl<V: Drop> Tree<V> {
     pub fn names_in(&self, folder: &Place) -> Result<Names, NoMemory>
         ensures { IfOk result (λ ns. (g : Path → Option V) → Holds self.now g → IsNamesIn g folder.now ns) }
     {
-        Ok(match self.folders.get(Sought { bytes: folder.text() }) {
-            Some(names) => Names::from_vec(names_of(self.alloc, names)?),
-            None => Names::new(self.alloc),
-        })
+        Ok(
+            match self.folders.get(Sought {
+                bytes: folder.text(),
+            }) {
+                Some(names) => Names::from_vec(names_of(self.alloc, names)?),
+                None => Names::new(self.alloc),
+            },
+        )
     }
 }
 

@@ -5,7 +5,7 @@ use Rattle.fs_memory.proofs.Valid.{empty_sound}
 use Rattle.fs_memory.proofs.memory.MemFs.new.Goals as goal
 
 pub invariant_of-result : goal.invariant_of-result
-invariant_of-result c = record { begun = omega arith; sound = empty_sound _ c.new.ensures.items }
+invariant_of-result c = record { begun = omega arith; sound = empty_sound _ c.new.ensures }
 
 pub returns-clause-view : goal.returns-clause-view
-returns-clause-view c = ap view_of c.new.ensures.items ∙ view_of-none
+returns-clause-view c = ap view_of c.new.ensures ∙ view_of-none

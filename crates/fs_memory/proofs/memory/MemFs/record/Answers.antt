@@ -11,7 +11,7 @@ invariant_of-self-in-Break-1 c = record {
 
 pub invariant_of-self-in-Some : goal.invariant_of-self-in-Some
 invariant_of-self-in-Some c =
-    let cs = c.args.self.now.changes.items in
+    let cs = c.args.self.now.past.changes.items in
     let l = length-append cs (c.in-Some.outcome.change ∷ []) in
     let b = c.args.self.now.begun in
     record {

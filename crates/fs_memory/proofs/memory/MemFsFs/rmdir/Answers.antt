@@ -12,26 +12,26 @@ use Rattle.fs_memory.proofs.memory.MemFsFs.rmdir.Goals as goal
 
 pub record-requires : goal.record-requires
 record-requires c =
-    let answer = rw c.deref.ensures.value at c.remove_folder-change.ensures.answer in
-    let now = valid.sound_now c.args.self.now.base c.args.self.now.changes.items c.args.self.now.begun c.args.self.now.sound in
-    let has = decide_names c.args.self.now.changes.items c.args.at.now in
-    valid.if_answer _ _ _ (Name c.args.at.now Absent) (λ d. IsSound (c.args.self.now.changes.items ++ d ∷ [])) (answer has.0 has.1) (λ free. sound.sound-emptied c.args.self.now.changes.items now has.0 _ has.1 free)
+    let answer = c.remove_folder-change.ensures.answer in
+    let now = valid.sound_now c.args.self.now.base c.args.self.now.past.changes.items c.args.self.now.begun c.args.self.now.sound in
+    let has = decide_names c.args.self.now.past.changes.items c.args.at.now in
+    valid.if_answer _ _ _ (Name c.args.at.now Absent) (λ d. IsSound (c.args.self.now.past.changes.items ++ d ∷ [])) (answer has.0 has.1) (λ free. sound.sound-emptied c.args.self.now.past.changes.items now has.0 _ has.1 free)
 
 pub returns-clause-effect : goal.returns-clause-effect
 returns-clause-effect c = λ v is.
-    let answer = rw c.deref.ensures.value at c.remove_folder-change.ensures.answer in
-    let has = decide_names c.args.self.now.changes.items c.args.at.now in
-    valid.told c.args.self.now.changes.items v (λ v. (b : _) × HasNames b c.args.at.now v.now × Changed (no_rmdir b c.args.at.now v.now) v (named c.args.at.now Absent v) c.record.result (Some (view_of c.record.new.self.changes.items)))
-    ((has.0, has.1, valid.effect _ c.args.self.now.changes.items _ _ _ (Name c.args.at.now Absent) _ _ _ (answer has.0 has.1) c.record.ensures.recorded (valid.apply_name _ _ _))) is
+    let answer = c.remove_folder-change.ensures.answer in
+    let has = decide_names c.args.self.now.past.changes.items c.args.at.now in
+    valid.told c.args.self.now.past.changes.items v (λ v. (b : _) × HasNames b c.args.at.now v.now × Changed (no_rmdir b c.args.at.now v.now) v (named c.args.at.now Absent v) c.record.result (Some (view_of c.record.new.self.past.changes.items)))
+    ((has.0, has.1, valid.effect _ c.args.self.now.past.changes.items _ _ _ (Name c.args.at.now Absent) _ _ _ (answer has.0 has.1) c.record.ensures.recorded (valid.apply_name _ _ _))) is
 
 pub returns-clause-named : goal.returns-clause-named
 returns-clause-named c =
-    let answer = rw c.deref.ensures.value at c.remove_folder-change.ensures.answer in
-    let has = decide_names c.args.self.now.changes.items c.args.at.now in
-    names.changed_of OfEmptying tt tt _ _ _ c.record.result _ (names.rmdir_emptying has.0 _ _) (valid.effect _ c.args.self.now.changes.items _ _ _ (Name c.args.at.now Absent) _ _ _ (answer has.0 has.1) c.record.ensures.recorded (valid.apply_name _ _ _))
+    let answer = c.remove_folder-change.ensures.answer in
+    let has = decide_names c.args.self.now.past.changes.items c.args.at.now in
+    names.changed_of OfEmptying tt tt _ _ _ c.record.result _ (names.rmdir_emptying has.0 _ _) (valid.effect _ c.args.self.now.past.changes.items _ _ _ (Name c.args.at.now Absent) _ _ _ (answer has.0 has.1) c.record.ensures.recorded (valid.apply_name _ _ _))
 
 pub returns-clause-plan : goal.returns-clause-plan
 returns-clause-plan c =
-    let answer = rw c.deref.ensures.value at c.remove_folder-change.ensures.answer in
-    let has = decide_names c.args.self.now.changes.items c.args.at.now in
-    (has.0, has.1, valid.obeys _ c.args.self.now.changes.items _ _ _ (Name c.args.at.now Absent) _ _ _ (answer has.0 has.1) c.record.ensures.recorded (valid.apply_name _ _ _))
+    let answer = c.remove_folder-change.ensures.answer in
+    let has = decide_names c.args.self.now.past.changes.items c.args.at.now in
+    (has.0, has.1, valid.obeys _ c.args.self.now.past.changes.items _ _ _ (Name c.args.at.now Absent) _ _ _ (answer has.0 has.1) c.record.ensures.recorded (valid.apply_name _ _ _))

@@ -11,22 +11,22 @@ use Rattle.fs_memory.proofs.memory.MemFsFs.symlink.Goals as goal
 
 pub record-requires : goal.record-requires
 record-requires c =
-    let answer = rw c.deref.ensures.value at c.make_link-change.ensures.answer in
-    let now = valid.sound_now c.args.self.now.base c.args.self.now.changes.items c.args.self.now.begun c.args.self.now.sound in
-    valid.if_answer _ _ _ (Name c.args.at.now (Link c.args.meta.now c.args.target.now)) (λ d. IsSound (c.args.self.now.changes.items ++ d ∷ [])) answer (λ free. sound.sound-link c.args.self.now.changes.items now _ _ _ free)
+    let answer = c.make_link-change.ensures.answer in
+    let now = valid.sound_now c.args.self.now.base c.args.self.now.past.changes.items c.args.self.now.begun c.args.self.now.sound in
+    valid.if_answer _ _ _ (Name c.args.at.now (Link c.args.meta.now c.args.target.now)) (λ d. IsSound (c.args.self.now.past.changes.items ++ d ∷ [])) answer (λ free. sound.sound-link c.args.self.now.past.changes.items now _ _ _ free)
 
 pub returns-clause-effect : goal.returns-clause-effect
 returns-clause-effect c = λ v is.
-    let answer = rw c.deref.ensures.value at c.make_link-change.ensures.answer in
-    valid.told c.args.self.now.changes.items v (λ v. Changed (no_new c.args.at.now v.now) v (named c.args.at.now (Link c.args.meta.now c.args.target.now) v) c.record.result (Some (view_of c.record.new.self.changes.items)))
-    (valid.effect _ c.args.self.now.changes.items _ _ _ (Name c.args.at.now (Link c.args.meta.now c.args.target.now)) _ _ _ answer c.record.ensures.recorded (valid.apply_name _ _ _)) is
+    let answer = c.make_link-change.ensures.answer in
+    valid.told c.args.self.now.past.changes.items v (λ v. Changed (no_new c.args.at.now v.now) v (named c.args.at.now (Link c.args.meta.now c.args.target.now) v) c.record.result (Some (view_of c.record.new.self.past.changes.items)))
+    (valid.effect _ c.args.self.now.past.changes.items _ _ _ (Name c.args.at.now (Link c.args.meta.now c.args.target.now)) _ _ _ answer c.record.ensures.recorded (valid.apply_name _ _ _)) is
 
 pub returns-clause-named : goal.returns-clause-named
 returns-clause-named c =
-    let answer = rw c.deref.ensures.value at c.make_link-change.ensures.answer in
-    names.changed_of OfPlacing tt tt _ _ _ c.record.result _ (names.new_placing _ _) (valid.effect _ c.args.self.now.changes.items _ _ _ (Name c.args.at.now (Link c.args.meta.now c.args.target.now)) _ _ _ answer c.record.ensures.recorded (valid.apply_name _ _ _))
+    let answer = c.make_link-change.ensures.answer in
+    names.changed_of OfPlacing tt tt _ _ _ c.record.result _ (names.new_placing _ _) (valid.effect _ c.args.self.now.past.changes.items _ _ _ (Name c.args.at.now (Link c.args.meta.now c.args.target.now)) _ _ _ answer c.record.ensures.recorded (valid.apply_name _ _ _))
 
 pub returns-clause-plan : goal.returns-clause-plan
 returns-clause-plan c =
-    let answer = rw c.deref.ensures.value at c.make_link-change.ensures.answer in
-    valid.obeys _ c.args.self.now.changes.items _ _ _ (Name c.args.at.now (Link c.args.meta.now c.args.target.now)) _ _ _ answer c.record.ensures.recorded (valid.apply_name _ _ _)
+    let answer = c.make_link-change.ensures.answer in
+    valid.obeys _ c.args.self.now.past.changes.items _ _ _ (Name c.args.at.now (Link c.args.meta.now c.args.target.now)) _ _ _ answer c.record.ensures.recorded (valid.apply_name _ _ _)
