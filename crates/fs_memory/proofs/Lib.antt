@@ -9,6 +9,7 @@ mod Valid
 mod Sound
 mod Named
 mod Olders
+mod Trailing
 mod Choices
 mod Quiets
 mod Leaving

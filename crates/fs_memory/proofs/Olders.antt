@@ -10,10 +10,7 @@ use Rattle.fs_trait.specs.View.{View, put_inode, set_bytes, set_meta, named, cre
 use Rattle.fs_trait.proofs.Puts.{put-here, put-apart}
 use Rattle.fs_trait.proofs.Images.{named-here, named-apart}
 use Rattle.fs_memory.specs.declared.change.Change.TheVariants.{Nothing, Name, Create, Move, Extend, SyncFile, SyncFolder, SyncAll, Crash}
-use Rattle.fs_memory.specs.declared.crash.Trace.{Trace}
-use Rattle.fs_memory.specs.declared.crash.Trace.TheVariants.{Same, Once, Twice, Cleared}
 use Rattle.fs_memory.specs.Changes.{apply, after, view_of, empty_view, spoiled}
-use Rattle.fs_memory.specs.Traces.{older_after}
 
 named_older-here : (v : View) (p : Path) (x : Value) → (named p x v).older p ≡ v.older p ++ v.now.at p ∷ []
 unfolding named
@@ -96,18 +93,6 @@ module _ (v : View) (q : Path) where
   pub older_crash : (k : ℕ) → (apply (Crash k) v).older q ≡ []
   unfolding apply spoiled all_synced
   older_crash k = refl
-
-pub map-older_after : {A B : Type 0} (f : A → B) (t : Trace) (xs : List A) (x : A) → map f (older_after t xs x) ≡ older_after t (map f xs) (f x)
-map-older_after f Same xs x = refl
-map-older_after f Once xs x = map-append f xs (x ∷ [])
-map-older_after f Twice xs x = map-append f (xs ++ x ∷ []) (x ∷ []) ∙ ap (λ l. l ++ f x ∷ []) (map-append f xs (x ∷ []))
-map-older_after f Cleared xs x = refl
-
-pub All-older_after : {A : Type 0} (P : A → Type 0) (t : Trace) (xs : List A) (x : A) → All P xs → P x → All P (older_after t xs x)
-All-older_after P Same xs x all last = all
-All-older_after P Once xs x all last = All-push P xs x all last
-All-older_after P Twice xs x all last = All-push P (xs ++ x ∷ []) x (All-push P xs x all last) last
-All-older_after P Cleared xs x all last = λ k d less. absurd (omega (arith, less))
 
 pub empty_older-at : (p : Path) → (view_of []).older p ≡ []
 unfolding view_of after empty_view

@@ -7,3 +7,4 @@ pub mod Recorded
 pub mod Crash
 pub mod Traces
 pub mod Tied
+pub mod Trail

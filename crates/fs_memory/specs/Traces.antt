@@ -1,17 +1,8 @@
--- What one change does to the older values of a path, and which paths it names.
+-- Which paths a change names.
 use Rattle.std.specs.Prelude.{List, [], ◌∷◌, ◌++◌}
 use Rattle.ost_types.specs.Path.{Path}
 use Rattle.fs_memory.specs.declared.change.Change.{Change}
 use Rattle.fs_memory.specs.declared.change.Change.TheVariants.{Name, Create, Move}
-use Rattle.fs_memory.specs.declared.crash.Trace.{Trace}
-use Rattle.fs_memory.specs.declared.crash.Trace.TheVariants.{Same, Once, Twice, Cleared}
-
--- a list after a change, and what is added
-abbrev pub older_after : {A : Type 0} → Trace → List A → A → List A
-older_after Same xs x = xs
-older_after Once xs x = xs ++ x ∷ []
-older_after Twice xs x = xs ++ x ∷ [] ++ x ∷ []
-older_after Cleared xs x = []
 
 -- the path, unless it is the root
 abbrev pub below_root : Path → List Path

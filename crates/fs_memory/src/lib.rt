@@ -15,6 +15,7 @@ mod plan;
 mod read;
 mod sink;
 mod source;
+mod trail;
 mod walk;
 
 pub use crash::Choice;

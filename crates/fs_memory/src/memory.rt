@@ -146,11 +146,11 @@ impl MemFs {
         ensures plan { IfOk result (λ m. (m.plan.items ≡ []) × (m.calls ≡ 0) × (m.faults ≡ 0)) }
     {
         let end = self.base + moment as usize;
-        let changes = crashed(self.alloc, &self.past.changes[..end], choice)?;
-        let base = changes.len();
+        let past = crashed(self.alloc, &self.past.changes[..end], choice)?;
+        let base = past.changes.len();
         Ok(MemFs {
             alloc: self.alloc,
-            past: Past::of(changes),
+            past,
             base,
             places: Pool::new(self.alloc),
             targets: Pool::new(self.alloc),

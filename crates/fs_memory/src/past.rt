@@ -1,10 +1,11 @@
-ghost use Rattle.std.specs.Prelude.{◌≡◌, ◌≤◌, ◌+◌, ◌-◌, ◌++◌, ◌∷◌, [], ℕ, Option, IfOk, IfSome, MatchOption, OnOk, OnErr, is_ok, if◌then◌else◌};
+ghost use Rattle.std.specs.Prelude.{◌≡◌, ◌≤◌, ◌+◌, ◌-◌, ◌++◌, ◌∷◌, [], ℕ, Option, IfOk, IfSome, MatchOption, option_copied, OnOk, OnErr, is_ok, if◌then◌else◌};
 ghost use Rattle.std.specs.Vec.{vec_capacity, vec_len};
 ghost use Rattle.ost_types.specs.Path.{Path, AreNames};
 ghost use Rattle.ost_types.specs.Flat.{flat};
 ghost use Rattle.fs_trait.specs.View.{View, Disk};
 ghost use Rattle.fs_trait.specs.declared.types.Value.TheVariants.{Absent};
-ghost use Rattle.memory_table.specs.Ties.{Ties};
+ghost use Rattle.memory_table.specs.Ties.{Ties, present};
+ghost use Rattle.fs_trait.specs.declared.types.Value as shown;
 ghost use Rattle.fs_trait.specs.Effect.{HasNames, IsListing};
 ghost use Rattle.fs_memory.specs.Changes.{view_of, apply};
 ghost use Rattle.fs_memory.specs.Seen.{value_of};
@@ -36,16 +37,6 @@ impl Past {
         Past {
             changes: Vec::new(alloc),
             table: Some(Table::new(alloc, root_meta(alloc))),
-        }
-    }
-
-    /// Changes with no table.
-    pub fn of(changes: Vec<Change>) -> Past
-        ensures { result.changes ≡ changes }
-    {
-        Past {
-            changes,
-            table: None,
         }
     }
 
@@ -113,9 +104,10 @@ impl Past {
     }
 }
 
-// What a table has.
-fn found(value: Option<&Value>) -> Found<'_>
-    ensures { MatchOption value.entry (value_of result ≡ Absent) (λ x. value_of result ≡ x.now) }
+/// What a table has.
+pub fn found(value: Option<&Value>) -> Found<'_>
+    ensures shows { (x : shown.Value) → option_copied value.entry ≡ present x → value_of result ≡ x }
+    ensures value { MatchOption value.entry (value_of result ≡ Absent) (λ x. value_of result ≡ x.now) }
 {
     match value {
         Some(value) => Found::of(value),

@@ -113,6 +113,28 @@ impl<V: Drop> Tree<V> {
         Ok(())
     }
 
+    /// What it has at a path, which it has no more. Where it lacks memory for that, it isn't of use any more.
+    pub fn take_value(&mut self, place: &Place) -> Result<Option<V>, NoMemory>
+        ensures value { IfOk result (λ o. (g : Path → Option V) → Holds self.old g → o ≡ g place.now) }
+        ensures taken { OnOk result ((g : Path → Option V) → Holds self.old g → Holds self.new (view.put place.now None g)) }
+    {
+        match split(place.text()) {
+            None => Ok(self.root.take()),
+            Some(at) => self.take_in(at.folder, at.name),
+        }
+    }
+
+    fn take_in(&mut self, folder: &[u8], name: &[u8]) -> Result<Option<V>, NoMemory>
+        ensures value { IfOk result (λ o. o ≡ look self.old folder.now name.now) }
+        ensures root { self.new.root ≡ self.old.root }
+        ensures below { OnOk result ((t x : List ℕ) → look self.new t x ≡ (if same_name folder.now t && same_name name.now x then None else look self.old t x)) }
+    {
+        let mut names = self.take(folder);
+        let value = names.remove(Sought { bytes: name });
+        self.folders.insert(Key::of(self.alloc, folder)?, names)?;
+        Ok(value)
+    }
+
     /// It has nothing directly in a folder any more.
     pub fn clear(&mut self, folder: &Place)
         ensures { (g : Path → Option V) → Holds self.old g → Holds self.new (λ p. if is_in folder.now p then None else g p) }

@@ -30,10 +30,9 @@ loop-path-preserved c =
     let ps = c.deref-path-items.ensures.value in
     let sorted = subst (IsStrictlySortedBy path_cmp) (sym ps) c.in_ok-paths.ensures.ascending in
     let each = subst (λ (l : List Path). (p : Path) → Contains l p ↔ Contains (flat_map named_by c.args.changes.now) p) (sym ps) c.in_ok-paths.ensures.each in
-    let pushed = rw c.deref.ensures.value at c.in_ok-names.ensures.left in
-    let on = go_on c.args.changes.now c.args.choice.now.picks.items c.args.choice.now.fill c.deref-path-items.result.now c.requires sorted each c.loop-path.path-index c.loop-path.names c.loop-path.left.items c.leave.new.left.items c.loop-path.invariant.so_far c.loop-path-test.true c.path-item.result c.path-item.is pushed in
+    let on = go_on c.args.changes.now c.args.choice.now.picks.items c.args.choice.now.fill c.deref-path-items.result.now c.requires sorted each c.loop-path.path-index c.loop-path.names c.loop-path.left.changes.items c.leave.new.left.changes.items c.loop-path.invariant.so_far c.loop-path-test.true c.path-item.result c.path-item.is (λ f x is. (rw c.deref.ensures.value at c.in_ok-names.ensures.left) (view_of c.args.changes.now) f x c.in_ok-trail.ensures is) in
     record {
-      so_far = subst (λ n. HasLeft c.args.changes.now c.args.choice.now.picks.items c.args.choice.now.fill c.deref-path-items.result.now (c.loop-path.path-index + 1) n (view_of c.leave.new.left.items)) (sym c.in_ok-names.ensures.count) on.0;
+      so_far = subst (λ n. HasLeft c.args.changes.now c.args.choice.now.picks.items c.args.choice.now.fill c.deref-path-items.result.now (c.loop-path.path-index + 1) n (view_of c.leave.new.left.changes.items)) (sym (c.in_ok-names.ensures.count (view_of c.args.changes.now) c.in_ok-trail.ensures)) on.0;
       long = let l = c.loop-path.invariant.long in let m = on.1 in omega (arith, l, m);
     }
 
@@ -42,13 +41,13 @@ returns-clause-crash c =
     let ps = c.deref-path-items.ensures.value in
     let sorted = subst (IsStrictlySortedBy path_cmp) (sym ps) c.in_ok-paths.ensures.ascending in
     let each = subst (λ (l : List Path). (p : Path) → Contains l p ↔ Contains (flat_map named_by c.args.changes.now) p) (sym ps) c.in_ok-paths.ensures.each in
-    let all = ended c.args.changes.now c.args.choice.now.picks.items c.args.choice.now.fill c.deref-path-items.result.now c.loop-path.path-index c.loop-path.names (view_of c.loop-path.left.items) c.loop-path.auto.path-index-end c.loop-path-test.false c.loop-path.invariant.so_far in
-    rw c.in_ok-push.ensures.items (is_crash c.args.changes.now c.args.choice.now.picks.items c.args.choice.now.fill c.deref-path-items.result.now c.requires sorted each c.loop-path.left.items c.loop-path.names all)
+    let all = ended c.args.changes.now c.args.choice.now.picks.items c.args.choice.now.fill c.deref-path-items.result.now c.loop-path.path-index c.loop-path.names (view_of c.loop-path.left.changes.items) c.loop-path.auto.path-index-end c.loop-path-test.false c.loop-path.invariant.so_far in
+    rw c.in_ok-push.ensures.items (is_crash c.args.changes.now c.args.choice.now.picks.items c.args.choice.now.fill c.deref-path-items.result.now c.requires sorted each c.loop-path.left.changes.items c.loop-path.names all)
 
 pub returns-clause-sound : goal.returns-clause-sound
 returns-clause-sound c =
     let ps = c.deref-path-items.ensures.value in
     let sorted = subst (IsStrictlySortedBy path_cmp) (sym ps) c.in_ok-paths.ensures.ascending in
     let each = subst (λ (l : List Path). (p : Path) → Contains l p ↔ Contains (flat_map named_by c.args.changes.now) p) (sym ps) c.in_ok-paths.ensures.each in
-    let all = ended c.args.changes.now c.args.choice.now.picks.items c.args.choice.now.fill c.deref-path-items.result.now c.loop-path.path-index c.loop-path.names (view_of c.loop-path.left.items) c.loop-path.auto.path-index-end c.loop-path-test.false c.loop-path.invariant.so_far in
-    rw c.in_ok-push.ensures.items (is_sound c.args.changes.now c.args.choice.now.picks.items c.args.choice.now.fill c.deref-path-items.result.now c.requires sorted each c.loop-path.left.items c.loop-path.names all c.loop-path.invariant.long)
+    let all = ended c.args.changes.now c.args.choice.now.picks.items c.args.choice.now.fill c.deref-path-items.result.now c.loop-path.path-index c.loop-path.names (view_of c.loop-path.left.changes.items) c.loop-path.auto.path-index-end c.loop-path-test.false c.loop-path.invariant.so_far in
+    rw c.in_ok-push.ensures.items (is_sound c.args.changes.now c.args.choice.now.picks.items c.args.choice.now.fill c.deref-path-items.result.now c.requires sorted each c.loop-path.left.changes.items c.loop-path.names all c.loop-path.invariant.long)

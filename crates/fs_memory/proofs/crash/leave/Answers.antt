@@ -6,13 +6,13 @@ use Rattle.fs_memory.proofs.Walks.{AreNames-front}
 use Rattle.fs_memory.proofs.crash.leave.Goals as goal
 
 pub returns-then-picked-clause-left : goal.returns-then-picked-clause-left
-returns-then-picked-clause-left c = λ f x is.
+returns-then-picked-clause-left c = λ v f x s is.
     let names = subst AreNames is c.text.ensures.names in
-    let folder = (rw c.deref.ensures.value at c.value_at.ensures) f (AreNames-front f x names) (c.folder_of.ensures f x names (c.text-2.ensures.value ∙ ap flat is)) in
-    c.in_ok-push.ensures.items ∙ ap (λ n. c.args.left.now.items ++ n ∷ []) (both_left _ _ _ _ _ _ _ c.in_ok-copy.ensures c.in_ok-value.ensures folder (c.in_ok-picked.ensures.value c.args.path.now c.text.ensures.names c.text.ensures.value))
+    let folder = c.value_at.ensures f (AreNames-front f x names) (c.folder_of.ensures.value f x names (c.text-2.ensures.value ∙ ap flat is)) in
+    c.in_ok-push.ensures.items ∙ ap (λ n. c.args.left.now.changes.items ++ n ∷ []) (both_left _ _ _ _ _ _ _ c.in_ok-copy.ensures c.in_ok-value.ensures folder (c.pick-picked.ensures.value v c.args.path.now s c.text.ensures.names c.text.ensures.value))
 
 pub returns-else-picked-clause-left : goal.returns-else-picked-clause-left
-returns-else-picked-clause-left c = λ f x is.
+returns-else-picked-clause-left c = λ v f x s is.
     let names = subst AreNames is c.text.ensures.names in
-    let folder = (rw c.deref.ensures.value at c.value_at.ensures) f (AreNames-front f x names) (c.folder_of.ensures f x names (c.text-2.ensures.value ∙ ap flat is)) in
-    c.in_ok-push.ensures.items ∙ ap (λ n. c.args.left.now.items ++ n ∷ []) (both_left _ _ _ _ _ _ _ c.in_ok-copy.ensures c.in_ok-value.ensures folder (c.in_ok-picked.ensures.value c.args.path.now c.text.ensures.names c.text.ensures.value))
+    let folder = c.value_at.ensures f (AreNames-front f x names) (c.folder_of.ensures.value f x names (c.text-2.ensures.value ∙ ap flat is)) in
+    c.in_ok-push.ensures.items ∙ ap (λ n. c.args.left.now.changes.items ++ n ∷ []) (both_left _ _ _ _ _ _ _ c.in_ok-copy.ensures c.in_ok-value.ensures folder (c.pick-picked.ensures.value v c.args.path.now s c.text.ensures.names c.text.ensures.value))
