@@ -12,7 +12,7 @@ use Rattle.memory_table.specs.declared.table.Table.{Table}
 use Rattle.memory_table.specs.Ties.{Ties}
 use Rattle.fs_memory.specs.declared.change.Change.{Change}
 use Rattle.fs_memory.specs.declared.change.Change.TheVariants as change
-use Rattle.fs_memory.specs.Changes.{apply, view_of, root_meta}
+use Rattle.fs_memory.specs.Changes.{apply, view_of, root_meta, spoiled}
 use Rattle.fs_memory.specs.Tied.{IsTied, IsTiedTo}
 use Rattle.fs_memory.proofs.Records.{view_of-push, view_of-none, empty_at-root, empty_at-below}
 
@@ -57,6 +57,10 @@ module _ (t : Table) (v : View) (c : Change) (ties : Ties t v.now) where
   pub follow_sync_all : c ≡ change.SyncAll → Ties t (apply c v).now
   unfolding apply all_synced
   follow_sync_all is = subst (λ k. Ties t (apply k v).now) (sym is) ties
+
+pub follow_crash : (t u : Table) (v : View) (c : Change) (fill : ℕ) → c ≡ change.Crash fill → ((d e : Disk) → Ties t d → ((p : Path) → e.at p ≡ d.at p) → Ties u e) → Ties t v.now → Ties u (apply c v).now
+unfolding apply spoiled all_synced
+follow_crash t u v c fill is step ties = subst (λ k. Ties u (apply k v).now) (sym is) (step v.now _ ties (λ p. refl))
 
 pub first_root : (cs : List Change) (m : Meta) → cs ≡ [] → m ≡ root_meta → (view_of cs).now.at [] ≡ Folder m
 first_root cs m none is = ap (λ l. (view_of l).now.at []) none ∙ ap (λ (v : View). v.now.at []) view_of-none ∙ empty_at-root ∙ ap Folder (sym is)

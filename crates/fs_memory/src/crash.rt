@@ -71,11 +71,7 @@ fn leave(
     ensures count { IfOk result (λ n. (v : View) → Shows trail.now v → n ≡ names + cond (has_more (v.older path.now)) 1 0) }
 {
     let picked = trail.pick(path.text(), picks, names);
-    let value = masked(
-        alloc,
-        &picked.value,
-        &left.value_at(folder_of(path.text())),
-    )?;
+    let value = masked(alloc, &picked.value, &left.value_at(folder_of(path.text())))?;
     left.push(Change::Name(path.copy()?, value))?;
     Ok(if picked.more { names + 1 } else { names })
 }

@@ -133,7 +133,7 @@ fn followed(table: Option<Table>, change: &Change) -> Option<Table>
     Some(table)
 }
 
-// None where the table is to be given up: for want of memory, and after a crash, as it doesn't know what was synced.
+// None where memory is wanting for the table. It doesn't know which files a crash spoils, so it forgets them.
 fn follow(table: &mut Table, change: &Change) -> Option<()>
     ensures { IfSome result (λ _. (v : View) → Ties table.old v.now → Ties table.new (apply change.now v).now) }
 {
@@ -142,7 +142,10 @@ fn follow(table: &mut Table, change: &Change) -> Option<()>
         Change::Create(place, meta, inode) => table.create(place, meta.copy().ok()?, *inode).ok(),
         Change::Move(from, to) => table.rename(from, to).ok(),
         Change::Extend(inode, bytes) => table.extend(*inode, bytes.as_slice()).ok(),
-        Change::Crash(_) => None,
+        Change::Crash(_) => {
+            table.forget_files();
+            Some(())
+        }
         Change::Nothing => Some(()),
         Change::SyncFile(_) => Some(()),
         Change::SyncFolder(_) => Some(()),

@@ -106,6 +106,13 @@ impl Table {
         Ok(())
     }
 
+    /// It has no files any more, so it shows any disk with these names.
+    pub fn forget_files(&mut self)
+        ensures { (d e : Disk) → Ties self.old d → ((p : Path) → e.at p ≡ d.at p) → Ties self.new e }
+    {
+        self.files = BTreeMap::new(self.alloc);
+    }
+
     /// Whether there are names in a folder that isn't the root.
     pub fn has_names(&self, folder: &Place) -> bool
         ensures { (d : Disk) → Ties self.now d → folder.now ≢ [] → HasNames result folder.now d }

@@ -1,5 +1,5 @@
 use Rattle.memory_table.proofs.Holding.{on_ok}
-use Rattle.fs_memory.proofs.Following.{of_ok, some_ok, follow_name, follow_create, follow_move, follow_extend, follow_nothing, follow_sync_file, follow_sync_folder, follow_sync_all}
+use Rattle.fs_memory.proofs.Following.{of_ok, some_ok, follow_name, follow_create, follow_move, follow_extend, follow_nothing, follow_sync_file, follow_sync_folder, follow_sync_all, follow_crash}
 use Rattle.fs_memory.proofs.past.follow.Goals as goal
 
 pub returns-in_ok-ok-in-Name : goal.returns-in_ok-ok-in-Name
@@ -25,3 +25,6 @@ returns-in-SyncFolder c = λ v ties. follow_sync_folder c.args.table.now v c.arg
 
 pub returns-in-SyncAll : goal.returns-in-SyncAll
 returns-in-SyncAll c = λ v ties. follow_sync_all c.args.table.now v c.args.change.now ties c.in-SyncAll.is
+
+pub returns-in-Crash : goal.returns-in-Crash
+returns-in-Crash c = λ v ties. follow_crash c.args.table.now c.forget_files.new.self v c.args.change.now c.in-Crash.field-0 c.in-Crash.is c.forget_files.ensures ties
