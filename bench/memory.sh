@@ -14,7 +14,7 @@ rt new crates/memory_bench start_io > /dev/null
 grep -E '^(ost_types|fs_trait|places|memory_table|fs_memory):' "$here/../crates.txt" > crates.txt
 echo 'memory_bench: ost_types fs_trait fs_memory' >> crates.txt
 cd crates/memory_bench
-rm -rf proofs specs stdin stdout src/*
+rm -rf BUILD.bazel proofs specs stdin stdout src/*
 cp "$here/memory.main.in" src/main.rt
-rt try
+rt run
 rm -rf "$work"
