@@ -7,7 +7,7 @@ use Rattle.ost_types.specs.Text.{IsName}
 use Rattle.ost_objects.specs.declared.row.FileRow.{FileRow}
 use Rattle.ost_objects.specs.declared.row.FolderRow.{FolderRow}
 use Rattle.ost_objects.specs.declared.row.TreeRows.{TreeRows}
-use Rattle.ost_objects.specs.DirTree.{HasSums, HasNames}
+use Rattle.ost_objects.specs.DirTree.{HasSums, HasNames, AreFiles, AreFolders, IsAscending, file_names, folder_names}
 use Rattle.ost_objects.specs.FileRow.{file_of, folder_of, entries_of}
 
 All-unmap : {X Y : Type 0} (P : X → Type 0) (f : Y → X) (ys : List Y) → All P (map f ys) → All (λ y. P (f y)) ys
@@ -49,3 +49,18 @@ names_files r h = All-unmap (λ i. IsName i.name) file_of r.files.items (All-unm
 
 pub names_folders : (r : TreeRows) → HasNames (entries_of r) → FolderNames r.folders.items
 names_folders r h = All-unmap (λ i. IsName i.name) folder_of r.folders.items (All-unmap IsName (λ i. i.name) (map folder_of r.folders.items) h.folders)
+
+pub files_are : (rows : List FileRow) → FileSums rows → FileNames rows → IsAscending (file_names (map file_of rows)) → AreFiles (map file_of rows)
+files_are rows sums names ascending = record {
+  sums = All-map (λ i. length i.file ≡ 32) file_of rows sums;
+  names = All-map IsName (λ i. i.name) (map file_of rows) (All-map (λ i. IsName i.name) file_of rows names);
+  ascending = ascending;
+}
+
+pub folders_are : (rows : List FolderRow) → FolderSums rows → FolderNames rows → IsAscending (folder_names (map folder_of rows)) → AreFolders (map folder_of rows)
+folders_are rows sums names ascending = record {
+  trees = All-map (λ i. length i.tree ≡ 32) folder_of rows (λ k e lt. (sums k e lt).0);
+  metas = All-map (λ i. length i.meta ≡ 32) folder_of rows (λ k e lt. (sums k e lt).1);
+  names = All-map IsName (λ i. i.name) (map folder_of rows) (All-map (λ i. IsName i.name) folder_of rows names);
+  ascending = ascending;
+}

@@ -7,3 +7,8 @@ pub mod Streams
 pub mod OrderedNames
 pub mod Entries
 pub mod Laws
+pub mod Alone
+pub mod Commits
+pub mod ItemLists
+pub mod Parted
+pub mod FileTests

@@ -37,7 +37,7 @@ folder_kinds = kind text (kind bytes (kind bytes no_kinds))
 abbrev xattrs : Kind
 xattrs = array (tuple xattr_kinds)
 
-abbrev files : Kind
+abbrev pub files : Kind
 files = array (tuple file_kinds)
 
 abbrev folders : Kind
@@ -52,7 +52,7 @@ dirmeta_kinds = kind number (kind number (kind number (kind xattrs no_kinds)))
 abbrev pub header_kinds : Kinds
 header_kinds = kind number (kind number (kind number (kind number (kind text (kind xattrs no_kinds)))))
 
-abbrev metadata : Kind
+abbrev pub metadata : Kind
 metadata = array (entry b.Text variant)
 
 abbrev pub commit_kinds : Kinds
@@ -62,6 +62,8 @@ abbrev pub kind_at : ObjectType → Kind
 kind_at types.Commit = tuple commit_kinds
 kind_at types.Metadata = metadata
 kind_at types.Related = files
+kind_at types.AloneMetadata = tuple (kind metadata no_kinds)
+kind_at types.AloneRelated = tuple (kind files no_kinds)
 kind_at types.DirTree = tuple tree_kinds
 kind_at types.Files = files
 kind_at types.File = tuple file_kinds
@@ -77,6 +79,8 @@ unfolding spell
 spelled types.Commit = refl
 spelled types.Metadata = refl
 spelled types.Related = refl
+spelled types.AloneMetadata = refl
+spelled types.AloneRelated = refl
 spelled types.DirTree = refl
 spelled types.Files = refl
 spelled types.File = refl
@@ -91,6 +95,8 @@ shallow : (t : ObjectType) → kind_depth (kind_at t) ≤ 64
 shallow types.Commit = omega arith
 shallow types.Metadata = omega arith
 shallow types.Related = omega arith
+shallow types.AloneMetadata = omega arith
+shallow types.AloneRelated = omega arith
 shallow types.DirTree = omega arith
 shallow types.Files = omega arith
 shallow types.File = omega arith
@@ -127,7 +133,7 @@ AreSized no_kinds (r ∷ rs) = ⊥
 AreSized (kind k ks) [] = ⊥
 AreSized (kind k ks) (r ∷ rs) = (has_size (fixed k) r ≡ true) × AreSized ks rs
 
-if_then : {A : Type 0} (b : Bool) (o : Option A) (x : A) → cond b o None ≡ Some x → (b ≡ true) × (o ≡ Some x)
+pub if_then : {A : Type 0} (b : Bool) (o : Option A) (x : A) → cond b o None ≡ Some x → (b ≡ true) × (o ≡ Some x)
 if_then true o x e = (refl, e)
 if_then false o x e = absurd cc
 

@@ -1,5 +1,5 @@
 -- The attributes of a folder as an object: owner, group and mode with the high byte first, and extended attributes.
-use Rattle.std.specs.Prelude.{◌≡◌, ◌≤◌, ◌<◌, ℕ, List, [], ◌∷◌, length, Option, Some, Result, Ok, Err}
+use Rattle.std.specs.Prelude.{◌≡◌, ◌≤◌, ◌<◌, ◌^◌, ℕ, List, [], ◌∷◌, length, Option, Some, Result, Ok, Err}
 use Rattle.std.specs.Int.{w32, to_be_bytes}
 use Rattle.gv_core.specs.Container.{container_form}
 use Rattle.ost_types.specs.declared.meta.Meta.{Meta}
@@ -21,6 +21,9 @@ dirmeta_form m = xattrs_form m.xattrs >>= λ xs. container_form (type_text types
 -- some attributes have these bytes as their form
 pub record IsNormalDirMeta (bytes : List ℕ) (m : Meta) : Type 0 where
   pub short : length bytes ≤ object_limit
+  pub uid : m.uid < 2 ^ 32
+  pub gid : m.gid < 2 ^ 32
+  pub mode : m.mode < 2 ^ 32
   pub form : dirmeta_form m ≡ Some bytes
 
 -- Each answer of the reader of such bytes. No two of the first four hold of one run of bytes.

@@ -48,6 +48,18 @@ IsAscending = IsStrictlySortedBy (slice_cmp nat_cmp)
 abbrev pub AreApart : List (List ℕ) → List (List ℕ) → Type 0
 AreApart xs ys = (n : List ℕ) → Contains xs n → Contains ys n → ⊥
 
+-- what a list of files keeps, and one of folders
+pub record AreFiles (items : List FileItem) : Type 0 where
+  pub sums : All (λ i. length i.file ≡ 32) items
+  pub names : All IsName (file_names items)
+  pub ascending : IsAscending (file_names items)
+
+pub record AreFolders (items : List FolderItem) : Type 0 where
+  pub trees : All (λ i. length i.tree ≡ 32) items
+  pub metas : All (λ i. length i.meta ≡ 32) items
+  pub names : All IsName (folder_names items)
+  pub ascending : IsAscending (folder_names items)
+
 -- each sum has 32 bytes
 pub record HasSums (t : Entries) : Type 0 where
   pub files : All (λ i. length i.file ≡ 32) t.files

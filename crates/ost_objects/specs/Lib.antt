@@ -5,3 +5,5 @@ pub mod DirMeta
 pub mod Stream
 pub mod DirTree
 pub mod FileRow
+pub mod Commit
+pub mod CommitRow

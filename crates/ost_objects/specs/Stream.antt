@@ -1,5 +1,5 @@
 -- The content stream of a file: the length of the header with the high byte first, four zero bytes, the header and the content.
-use Rattle.std.specs.Prelude.{◌≡◌, ◌≢◌, ◌≤◌, ◌<◌, ◌+◌, ◌^◌, ◌⊎◌, ℕ, List, [], ◌∷◌, ◌++◌, length, take, drop, nat_lt, if◌then◌else◌, Option, Some, None, Result, Ok, Err}
+use Rattle.std.specs.Prelude.{Bool, true, false, ◌≡◌, ◌≢◌, ◌≤◌, ◌<◌, ◌+◌, ◌^◌, ◌⊎◌, ℕ, List, [], ◌∷◌, ◌++◌, length, take, drop, nat_lt, if◌then◌else◌, Option, Some, None, Result, Ok, Err}
 use Rattle.std.specs.Int.{w32, to_be_bytes, from_be_bytes}
 use Rattle.gv_core.specs.Container.{container_form}
 use Rattle.gv_core.specs.Layout.{text_bytes}
@@ -52,6 +52,11 @@ FitsMode mode (Symlink target) = IsLinkMode mode × (target ≢ [])
 abbrev pub IsFile : Header → List ℕ → Type 0
 IsFile h content = (body : Body) × (h ≡ header_of h.meta body) × (content ≡ bytes_of body) × FitsMode h.meta.mode body
 
+-- the test is true exactly where P holds
+abbrev pub Tells : Type 0 → Bool → Type 0
+Tells P true = P
+Tells P false = P → ⊥
+
 -- ---- what a stream says of its parts
 
 abbrev pub header_size : List ℕ → ℕ
@@ -70,17 +75,48 @@ content_part bytes = drop (header_size bytes) (drop 8 bytes)
 abbrev pub IsWithin : ℕ → List ℕ → Type 0
 IsWithin limit bytes = HeaderFits bytes → (header_size bytes ≤ object_limit) × (length (content_part bytes) ≤ limit)
 
+-- the numbers of a header have 32 bits
+pub record IsHeader (h : Header) : Type 0 where
+  pub uid : h.meta.uid < 2 ^ 32
+  pub gid : h.meta.gid < 2 ^ 32
+  pub mode : h.meta.mode < 2 ^ 32
+  pub rdev : h.rdev < 2 ^ 32
+
 -- Each answer of the reader, where content may have so many bytes. No two of the first four hold of one run of bytes.
 abbrev pub ReadsContent : {X : Type 0} → (X → Meta) → (X → Body) → ℕ → List ℕ → Result X ObjFault → Type 0
 ReadsContent meta body limit bytes (Ok x) = IsWithin limit bytes × (content_form (meta x) (body x) ≡ Some bytes) × FitsMode (meta x).mode (body x)
 ReadsContent meta body limit bytes (Err (TooLarge n)) =
     HeaderFits bytes × (((n ≡ header_size bytes) × (object_limit < n)) ⊎ ((header_size bytes ≤ object_limit) × (n ≡ length (content_part bytes)) × (limit < n)))
 ReadsContent meta body limit bytes (Err NotNormal) = IsWithin limit bytes × ((h : Header) (content : List ℕ) → stream_form content h ≡ Some bytes → ⊥)
-ReadsContent meta body limit bytes (Err BadMode) = IsWithin limit bytes × ((h : Header) × (content : List ℕ) × (stream_form content h ≡ Some bytes) × (IsFile h content → ⊥))
+ReadsContent meta body limit bytes (Err BadMode) = IsWithin limit bytes × ((h : Header) × (content : List ℕ) × IsHeader h × (stream_form content h ≡ Some bytes) × (IsFile h content → ⊥))
 ReadsContent meta body limit bytes (Err BadSumLength) = ⊥
 ReadsContent meta body limit bytes (Err BadName) = ⊥
 ReadsContent meta body limit bytes (Err NotSorted) = ⊥
 ReadsContent meta body limit bytes (Err NoMemory) = Unit {0}
+
+-- a file's attributes and what it holds
+pub record FileParts : Type 0 where
+  pub meta : Meta
+  pub body : Body
+
+abbrev pub ReadsFile : ℕ → List ℕ → Result FileParts ObjFault → Type 0
+ReadsFile = ReadsContent (λ f. f.meta) (λ f. f.body)
+
+-- Each answer of a reader that only tells whether there is such a file.
+abbrev pub TestsContent : {X : Type 0} → ℕ → List ℕ → Result X ObjFault → Type 0
+TestsContent limit bytes (Ok x) = (f : FileParts) × ReadsFile limit bytes (Ok f)
+TestsContent limit bytes (Err e) = ReadsFile limit bytes (Err e)
+
+-- what a stream holds, whether its header and its content go together or not
+abbrev pub Opens : {X : Type 0} → (X → Header) → (X → List ℕ) → ℕ → List ℕ → Result X ObjFault → Type 0
+Opens header content limit bytes (Ok x) = IsWithin limit bytes × IsHeader (header x) × (stream_form (content x) (header x) ≡ Some bytes)
+Opens header content limit bytes (Err (TooLarge n)) = ReadsFile limit bytes (Err (TooLarge n))
+Opens header content limit bytes (Err NotNormal) = ReadsFile limit bytes (Err NotNormal)
+Opens header content limit bytes (Err BadMode) = ⊥
+Opens header content limit bytes (Err BadSumLength) = ⊥
+Opens header content limit bytes (Err BadName) = ⊥
+Opens header content limit bytes (Err NotSorted) = ⊥
+Opens header content limit bytes (Err NoMemory) = Unit {0}
 
 -- what is made of a header and content
 abbrev pub Joins : {X : Type 0} → (X → Meta) → (X → Body) → Header → List ℕ → Result X ObjFault → Type 0

@@ -1,7 +1,7 @@
 //! Files and symbolic links as content streams.
 
 ghost use Rattle.std.specs.Prelude.{◌≡◌, ◌≤◌, Some, IfOk, MatchOption};
-ghost use Rattle.ost_objects.specs.Stream.{framed, stream_form, content_form, FitsMode, header_part, content_part, HeaderFits, ReadsContent, Joins};
+ghost use Rattle.ost_objects.specs.Stream.{framed, stream_form, content_form, FitsMode, header_part, content_part, HeaderFits, IsFile, ReadsContent, TestsContent, Tells, Opens, Joins};
 ghost use Rattle.ost_objects.specs.Finds.{Finds};
 
 use crate::body::{Body, Header};
@@ -25,6 +25,30 @@ pub struct Content {
 pub fn read_content(alloc: Global, bytes: &[u8], limits: &Limits) -> Result<Content, ObjFault>
     ensures { ReadsContent (λ c. c.meta) (λ c. c.body) limits.now.content bytes.now result }
 {
+    let (header, content) = open_stream(alloc, bytes, limits)?;
+    join_content(alloc, header, content)
+}
+
+/// Whether these bytes are a file's content stream. The content is only looked at, and not copied.
+pub fn test_content(alloc: Global, bytes: &[u8], limits: &Limits) -> Result<(), ObjFault>
+    ensures { TestsContent limits.now.content bytes.now result }
+{
+    let (header, content) = open_stream(alloc, bytes, limits)?;
+    if is_file(&header, content) {
+        Ok(())
+    } else {
+        Err(ObjFault::BadMode)
+    }
+}
+
+/// The header and the content, whether they go together or not.
+fn open_stream<'a>(
+    alloc: Global,
+    bytes: &'a [u8],
+    limits: &Limits,
+) -> Result<(Header, &'a [u8]), ObjFault>
+    ensures { Opens (λ p. p.0) (λ p. p.1.now) limits.now.content bytes.now result }
+{
     let Some((header, content)) = split_stream(bytes) else {
         return Err(ObjFault::NotNormal);
     };
@@ -35,7 +59,21 @@ pub fn read_content(alloc: Global, bytes: &[u8], limits: &Limits) -> Result<Cont
         return Err(ObjFault::TooLarge(content.len() as u64));
     }
     let header = read_stream(alloc, bytes, header)?;
-    join_content(alloc, header, content)
+    Ok((header, content))
+}
+
+fn is_file(header: &Header, content: &[u8]) -> bool
+    ensures { Tells (IsFile header.now content.now) result }
+{
+    let mode = header.meta.mode;
+    let target = header.target.as_slice();
+    if header.rdev != 0 {
+        return false;
+    }
+    if target.is_empty() {
+        return is_file_mode(mode);
+    }
+    is_link_mode(mode) && content.is_empty()
 }
 
 /// The header's bytes and the content, where the header fits the stream.

@@ -15,7 +15,8 @@ use crate::pieces::members;
 use crate::row::{FileRow, FolderRow, TreeRows};
 use crate::rows::{read_files, read_folders};
 use crate::sorting::{are_sorted, have_names, have_sums};
-use ost_types::{Csum, Name, NoMemory};
+use crate::sum::sum_at;
+use ost_types::{Name, NoMemory};
 use std::alloc::Global;
 
 /// The entries of a folder. No name is both a file's and a folder's.
@@ -129,13 +130,4 @@ fn name_of(alloc: Global, bytes: &[u8]) -> Result<Name, NoMemory>
         Some(name) => Ok(name),
         None => unreachable!(),
     }
-}
-
-fn sum_at(bytes: &[u8]) -> Csum
-    requires { length bytes.now ≡ 32 }
-    ensures { result ≡ bytes.now }
-{
-    let mut sum = [0; 32];
-    sum.copy_from_slice(bytes);
-    Csum::from_bytes(sum)
 }

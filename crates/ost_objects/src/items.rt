@@ -16,17 +16,17 @@ pub struct FileItems {
 impl Model for FileItems {
     ghost use Rattle.std.specs.Prelude.{List};
     ghost use Rattle.ost_objects.specs.declared.entry.FileItem.{FileItem as Item};
-    ghost use Rattle.ost_objects.specs.DirTree.{IsAscending, file_names};
+    ghost use Rattle.ost_objects.specs.DirTree.{AreFiles};
 
     ghost Value = { List Item };
 
     ghost view = { λ a. a.items.items };
 
-    ghost invariant = { λ a. IsAscending (file_names a.items.items) };
+    ghost invariant = { λ a. AreFiles a.items.items };
 }
 
 impl FileItems {
-    ghost use Rattle.ost_objects.specs.DirTree.{IsAscending, file_names};
+    ghost use Rattle.ost_objects.specs.DirTree.{AreFiles, IsAscending, file_names};
 
     pub fn new(alloc: Global) -> FileItems
         ensures { result ≡ [] }
@@ -37,7 +37,7 @@ impl FileItems {
     }
 
     pub(crate) fn from_vec(items: Vec<FileItem>) -> FileItems
-        requires { IsAscending (file_names items.items) }
+        requires { AreFiles items.items }
         ensures { result ≡ items.items }
     {
         FileItems { items }
@@ -49,13 +49,15 @@ impl FileItems {
         ensures ok { OnOk result (self.new ≡ self.old ++ item ∷ []) }
         ensures err { OnErr result (self.new ≡ self.old) }
     {
+        let _name = item.name.as_slice();
+        let _file = item.file.as_slice();
         self.items.push(item)?;
         Ok(())
     }
 
     pub fn as_slice(&self) -> &[FileItem]
         ensures value { result.now ≡ self.now }
-        ensures ascending { IsAscending (file_names result.now) }
+        ensures kept { AreFiles result.now }
     {
         &self.items
     }
@@ -70,17 +72,17 @@ pub struct FolderItems {
 impl Model for FolderItems {
     ghost use Rattle.std.specs.Prelude.{List};
     ghost use Rattle.ost_objects.specs.declared.entry.FolderItem.{FolderItem as Item};
-    ghost use Rattle.ost_objects.specs.DirTree.{IsAscending, folder_names};
+    ghost use Rattle.ost_objects.specs.DirTree.{AreFolders};
 
     ghost Value = { List Item };
 
     ghost view = { λ a. a.items.items };
 
-    ghost invariant = { λ a. IsAscending (folder_names a.items.items) };
+    ghost invariant = { λ a. AreFolders a.items.items };
 }
 
 impl FolderItems {
-    ghost use Rattle.ost_objects.specs.DirTree.{IsAscending, folder_names};
+    ghost use Rattle.ost_objects.specs.DirTree.{AreFolders, IsAscending, folder_names};
 
     pub fn new(alloc: Global) -> FolderItems
         ensures { result ≡ [] }
@@ -91,7 +93,7 @@ impl FolderItems {
     }
 
     pub(crate) fn from_vec(items: Vec<FolderItem>) -> FolderItems
-        requires { IsAscending (folder_names items.items) }
+        requires { AreFolders items.items }
         ensures { result ≡ items.items }
     {
         FolderItems { items }
@@ -103,13 +105,16 @@ impl FolderItems {
         ensures ok { OnOk result (self.new ≡ self.old ++ item ∷ []) }
         ensures err { OnErr result (self.new ≡ self.old) }
     {
+        let _name = item.name.as_slice();
+        let _tree = item.tree.as_slice();
+        let _meta = item.meta.as_slice();
         self.items.push(item)?;
         Ok(())
     }
 
     pub fn as_slice(&self) -> &[FolderItem]
         ensures value { result.now ≡ self.now }
-        ensures ascending { IsAscending (folder_names result.now) }
+        ensures kept { AreFolders result.now }
     {
         &self.items
     }

@@ -2,12 +2,18 @@
 #![tactic(auto)]
 
 mod body;
+mod commit;
+mod commit_bytes;
+mod commit_join;
+mod commit_new;
+mod commit_row;
 mod content;
 mod dirmeta;
 mod dirtree;
 mod entry;
 mod fault;
 mod header;
+mod inner_value;
 mod items;
 mod names;
 mod number;
@@ -23,6 +29,8 @@ mod tree_item;
 mod xattrs;
 
 pub use body::Body;
+pub use commit::Commit;
+pub use commit_bytes::{read_commit, write_commit};
 pub use content::{Content, read_content, write_content};
 pub use dirmeta::{DirMeta, OBJECT_LIMIT, read_dirmeta, write_dirmeta};
 pub use dirtree::{DirTree, read_dirtree};

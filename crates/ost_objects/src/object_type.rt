@@ -12,6 +12,10 @@ pub(crate) enum ObjectType {
     Commit,
     Metadata,
     Related,
+    /// Metadata as the only member of a tuple, in which it has the same bytes.
+    AloneMetadata,
+    /// Related objects as the only member of a tuple.
+    AloneRelated,
     DirTree,
     Files,
     File,
@@ -31,6 +35,8 @@ impl ObjectType {
             ObjectType::Commit => b"(a{sv}aya(say)sstayay)",
             ObjectType::Metadata => b"a{sv}",
             ObjectType::Related => b"a(say)",
+            ObjectType::AloneMetadata => b"(a{sv})",
+            ObjectType::AloneRelated => b"(a(say))",
             ObjectType::DirTree => b"(a(say)a(sayay))",
             ObjectType::Files => b"a(say)",
             ObjectType::File => b"(say)",

@@ -1,4 +1,4 @@
-ghost use Rattle.std.specs.Prelude.{◌≡◌};
+ghost use Rattle.std.specs.Prelude.{◌≡◌, length};
 ghost use Rattle.sha2.specs.Sha256.{sha256};
 
 use ost_types::Csum;
@@ -9,4 +9,14 @@ pub fn sum_of(bytes: &[u8]) -> Csum
     ensures { result ≡ sha256 bytes.now }
 {
     Csum::from_bytes(Sha256::digest(bytes))
+}
+
+/// The sum of which these are the bytes.
+pub(crate) fn sum_at(bytes: &[u8]) -> Csum
+    requires { length bytes.now ≡ 32 }
+    ensures { result ≡ bytes.now }
+{
+    let mut sum = [0; 32];
+    sum.copy_from_slice(bytes);
+    Csum::from_bytes(sum)
 }
