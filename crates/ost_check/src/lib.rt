@@ -1,14 +1,23 @@
 //! Objects that were checked: bytes with their name, which read as what the name says.
 #![tactic(auto)]
 
-mod check;
 mod checked;
+mod checking;
 mod fault;
+mod laws;
 mod make;
-mod test_object;
+mod testing;
 
-pub use check::check;
 pub use checked::Checked;
+pub use checking::check;
 pub use fault::{CheckFault, MakeFault};
-pub use test_object::test_object;
+pub use laws::{
+    commit_again, content_again, dirmeta_again, dirtree_again, one_commit, one_content,
+    one_dirmeta, one_dirtree,
+};
+pub use testing::test_object;
 
+#[cfg(test)]
+mod tests;
+#[cfg(test)]
+mod vectors;

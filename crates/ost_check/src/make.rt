@@ -1,6 +1,6 @@
 //! Checked objects of values.
 
-ghost use Rattle.std.specs.Prelude.{◌≡◌, ◌≤◌, ◌<◌, ◌⊎◌, ◌≢◌, Ok, Err, length};
+ghost use Rattle.std.specs.Prelude.{◌≡◌, ◌≤◌, ◌<◌, ◌^◌, ◌⊎◌, length};
 ghost use Rattle.ost_types.specs.declared.object.Kind.TheVariants as kinds;
 ghost use Rattle.ost_objects.specs.DirMeta.{object_limit, dirmeta_form};
 ghost use Rattle.ost_objects.specs.DirTree.{tree_form, HasSums, HasNames, IsSorted};
@@ -16,7 +16,7 @@ use ost_objects::{
     Commit, Content, DirMeta, DirTree, OBJECT_LIMIT, ObjFault, sum_of, test_content, write_commit,
     write_content, write_dirmeta, write_dirtree,
 };
-use ost_types::{Bytes, Csum, Kind, Limits, ObjName};
+use ost_types::{Bytes, Csum, Kind, Limits, Meta, ObjName};
 use std::alloc::Global;
 
 impl Checked {
@@ -42,6 +42,7 @@ impl Checked {
     pub fn of_dirmeta(alloc: Global, value: &DirMeta, limits: &Limits) -> Result<Checked, MakeFault>
         ensures { Makes kinds.DirMeta limits.now.content (dirmeta_form value.now.meta) result }
     {
+        meta_numbers(&value.meta);
         let bytes = write_dirmeta(alloc, value)?;
         named(Kind::DirMeta, bytes, limits)
     }
@@ -50,19 +51,38 @@ impl Checked {
     pub fn of_content(alloc: Global, value: &Content, limits: &Limits) -> Result<Checked, MakeFault>
         ensures { Makes kinds.File limits.now.content (content_form value.now.meta value.now.body) result }
     {
+        meta_numbers(&value.meta);
         let bytes = write_content(alloc, value)?;
         match test_content(alloc, bytes.as_slice(), limits) {
             Ok(()) => Ok(checked_of(Kind::File, bytes, limits)),
             Err(ObjFault::TooLarge(count)) => Err(MakeFault::TooLarge(count)),
-            Err(_) => Err(MakeFault::NoMemory),
+            Err(ObjFault::NoMemory) => Err(MakeFault::NoMemory),
+            Err(ObjFault::NotNormal) => unreachable!(),
+            Err(ObjFault::BadMode) => unreachable!(),
+            Err(ObjFault::BadSumLength) => unreachable!(),
+            Err(ObjFault::BadName) => unreachable!(),
+            Err(ObjFault::NotSorted) => unreachable!(),
         }
     }
 }
 
-/// The sums of a commit are sums.
-fn commit_sums(value: &Commit)
-    ensures { HasCommitSums (parts_of value.now) }
+/// The numbers of attributes have 32 bits.
+pub(crate) fn meta_numbers(meta: &Meta)
+    ensures uid { meta.now.uid < 2 ^ 32 }
+    ensures gid { meta.now.gid < 2 ^ 32 }
+    ensures mode { meta.now.mode < 2 ^ 32 }
 {
+    let _uid = meta.uid;
+    let _gid = meta.gid;
+    let _mode = meta.mode;
+}
+
+/// The sums of a commit are sums, and its time has 64 bits.
+pub(crate) fn commit_sums(value: &Commit)
+    ensures sums { HasCommitSums (parts_of value.now) }
+    ensures time { value.now.time < 2 ^ 64 }
+{
+    let _time = value.time;
     parent_sum(&value.parent);
     let _tree = value.tree.as_slice();
     let _meta = value.meta.as_slice();
@@ -77,7 +97,7 @@ fn parent_sum(parent: &Option<Csum>)
 }
 
 /// Entries keep the rules of a folder's object.
-fn tree_rules(value: &DirTree)
+pub(crate) fn tree_rules(value: &DirTree)
     ensures sums { HasSums (record { files = value.now.files; folders = value.now.folders }) }
     ensures names { HasNames (record { files = value.now.files; folders = value.now.folders }) }
     ensures sorted { IsSorted (record { files = value.now.files; folders = value.now.folders }) }

@@ -1,5 +1,5 @@
 -- Which headers and contents are a file's.
-use Rattle.std.proofs.Common.{arith, eqb, length, ◌≡◌, ◌≢◌, ℕ, Some, Ok, List, [], ◌∷◌, Bool, true, false, refl, sym, ap, ap₂, ◌∙◌}
+use Rattle.std.proofs.Common.{arith, eqb, length, ◌≡◌, ◌≢◌, ℕ, Some, Ok, List, [], ◌∷◌, Bool, true, false, refl, sym, ap, ap₂, subst, ◌∙◌}
 use Rattle.std.proofs.lemmas.Bool.{eqb-true}
 use Rattle.std.specs.Prelude.{◌↔◌, IsTrue}
 use Rattle.ost_types.specs.Mode.{IsFileMode, IsLinkMode}
@@ -7,7 +7,7 @@ use Rattle.ost_types.specs.declared.meta.Meta.{Meta}
 use Rattle.ost_objects.specs.declared.body.Header.{Header}
 use Rattle.ost_objects.specs.declared.body.Body.{Body}
 use Rattle.ost_objects.specs.declared.body.Body.TheVariants.{Regular, Symlink}
-use Rattle.ost_objects.specs.Stream.{Tells, IsFile, IsWithin, header_of, bytes_of, stream_form, FileParts, ReadsFile}
+use Rattle.ost_objects.specs.Stream.{Tells, IsHeader, IsFile, IsWithin, header_of, bytes_of, stream_form, FileParts, ReadsFile}
 
 made : (h : Header) (n : ℕ) (t : List ℕ) → h.rdev ≡ n → h.target ≡ t → h ≡ record { meta = h.meta; rdev = n; target = t }
 made h n t r e = ap₂ (λ (n : ℕ) (t : List ℕ). let h : Header = record { meta = h.meta; rdev = n; target = t } in h) r e
@@ -31,10 +31,10 @@ no_link h content t n (Regular bytes, is, e, m) = t (ap (λ h. h.target) is)
 no_link h content t n (Symlink target, is, e, m) = n m.0 e
 
 -- a stream that was opened, and is a file's
-pub file_read : (h : Header) (content : List ℕ) (limit : ℕ) (bytes : List ℕ) → IsWithin limit bytes → stream_form content h ≡ Some bytes → IsFile h content → (f : FileParts) × ReadsFile limit bytes (Ok f)
-file_read h content limit bytes short e is =
+pub file_read : (h : Header) (content : List ℕ) (limit : ℕ) (bytes : List ℕ) → IsWithin limit bytes → IsHeader h → stream_form content h ≡ Some bytes → IsFile h content → (f : FileParts) × ReadsFile limit bytes (Ok f)
+file_read h content limit bytes short wide e is =
     let form : stream_form (bytes_of is.0) (header_of h.meta is.0) ≡ Some bytes = ap₂ (λ (c : List ℕ) (h : Header). stream_form c h) (sym is.2) (sym is.1) ∙ e in
-    (record { meta = h.meta; body = is.0 }, (short, form, is.3))
+    (record { meta = h.meta; body = is.0 }, (short, form, is.3, subst IsHeader is.1 wide))
 
 pub tells : (P Q : Type 0) (b : Bool) → IsTrue b ↔ Q → (Q → P) → ((Q → ⊥) → P → ⊥) → Tells P b
 tells P Q b h holds fails = go b (λ e. h.0 e) (λ q. h.1 q)

@@ -12,3 +12,4 @@ pub mod Commits
 pub mod ItemLists
 pub mod Parted
 pub mod FileTests
+pub mod OwnStreams

@@ -15,9 +15,9 @@ use Rattle.ost_objects.specs.declared.object_type.ObjectType.{ObjectType}
 use Rattle.ost_objects.specs.declared.object_type.ObjectType.TheVariants as types
 use Rattle.ost_objects.specs.TypeText.{type_text}
 use Rattle.ost_objects.specs.Rows.{xattrs_form}
-use Rattle.ost_objects.specs.DirMeta.{dirmeta_form, IsNormalDirMeta}
+use Rattle.ost_objects.specs.DirMeta.{dirmeta_form}
 use Rattle.ost_objects.specs.Stream.{header_form, IsHeader}
-use Rattle.ost_objects.specs.Commit.{CommitParts, inner_form, commit_form, IsNormalCommit}
+use Rattle.ost_objects.specs.Commit.{CommitParts, inner_form, commit_form}
 use Rattle.ost_objects.proofs.Types.{kind_at, type_kind}
 use Rattle.ost_objects.proofs.Alone.{inner_is}
 use Rattle.ost_objects.proofs.Commits.{commit_members}
@@ -41,16 +41,27 @@ same_meta x y a b c d =
     ap (λ (p : (ℕ × ℕ) × (ℕ × List Xattr)). let r : Meta = record { uid = p.0.0; gid = p.0.1; mode = p.1.0; xattrs = p.1.1 } in r)
     (ap₂ (λ (p : ℕ × ℕ) (q : ℕ × List Xattr). (p, q)) (ap₂ (λ (p : ℕ) (q : ℕ). (p, q)) a b) (ap₂ (λ (p : ℕ) (q : List Xattr). (p, q)) c d))
 
-pub one_dirmeta : (x y : Meta) (bytes : List ℕ) → IsNormalDirMeta bytes x → IsNormalDirMeta bytes y → x ≡ y
-one_dirmeta x y bytes g h =
-    let p = bind_some (xattrs_form x.xattrs) (λ xs. container_form (type_text types.DirMeta) (to_be_bytes w32 x.uid ∷ to_be_bytes w32 x.gid ∷ to_be_bytes w32 x.mode ∷ xs ∷ [])) bytes g.form in
-    let q = bind_some (xattrs_form y.xattrs) (λ xs. container_form (type_text types.DirMeta) (to_be_bytes w32 y.uid ∷ to_be_bytes w32 y.gid ∷ to_be_bytes w32 y.mode ∷ xs ∷ [])) bytes h.form in
+-- the numbers of attributes have 32 bits
+pub record IsWide (m : Meta) : Type 0 where
+  pub uid : m.uid < 2 ^ 32
+  pub gid : m.gid < 2 ^ 32
+  pub mode : m.mode < 2 ^ 32
+
+pub one_dirmeta : (x y : Meta) (bytes : List ℕ) → IsWide x → IsWide y → dirmeta_form x ≡ Some bytes → dirmeta_form y ≡ Some bytes → x ≡ y
+one_dirmeta x y bytes g h e f =
+    let p = bind_some (xattrs_form x.xattrs) (λ xs. container_form (type_text types.DirMeta) (to_be_bytes w32 x.uid ∷ to_be_bytes w32 x.gid ∷ to_be_bytes w32 x.mode ∷ xs ∷ [])) bytes e in
+    let q = bind_some (xattrs_form y.xattrs) (λ xs. container_form (type_text types.DirMeta) (to_be_bytes w32 y.uid ∷ to_be_bytes w32 y.gid ∷ to_be_bytes w32 y.mode ∷ xs ∷ [])) bytes f in
     let rows = one_container types.DirMeta _ _ bytes p.2 q.2 in
     let a = head_is _ _ _ _ rows in
     let b = head_is _ _ _ _ a.1 in
     let c = head_is _ _ _ _ b.1 in
     let d = head_is _ _ _ _ c.1 in
     same_meta x y (one_32 _ _ g.uid h.uid a.0) (one_32 _ _ g.gid h.gid b.0) (one_32 _ _ g.mode h.mode c.0) (one_xattrs x.xattrs y.xattrs q.0 (p.1 ∙ ap Some d.0) q.1)
+
+same_header : (x y : Header) → x.meta ≡ y.meta → x.rdev ≡ y.rdev → x.target ≡ y.target → x ≡ y
+same_header x y m n t =
+    ap (λ (p : Meta × (ℕ × List ℕ)). let r : Header = record { meta = p.0; rdev = p.1.0; target = p.1.1 } in r)
+    (ap₂ (λ (m : Meta) (z : ℕ × List ℕ). (m, z)) m (ap₂ (λ (n : ℕ) (z : List ℕ). (n, z)) n t))
 
 pub one_header : (x y : Header) (bytes : List ℕ) → IsHeader x → IsHeader y → header_form x ≡ Some bytes → header_form y ≡ Some bytes → x ≡ y
 one_header x y bytes g h e f =
@@ -65,11 +76,9 @@ one_header x y bytes g h e f =
     let d = head_is _ _ _ _ c.1 in
     let t = head_is _ _ _ _ d.1 in
     let s = head_is _ _ _ _ t.1 in
-    let meta : x.meta ≡ y.meta = same_meta x.meta y.meta (one_32 _ _ g.uid h.uid a.0) (one_32 _ _ g.gid h.gid b.0) (one_32 _ _ g.mode h.mode c.0) (one_xattrs x.meta.xattrs y.meta.xattrs q2.0 (p2.1 ∙ ap Some s.0) q2.1) in
-    let target : x.target ≡ y.target = one_text x.target y.target q.0 (p.1 ∙ ap Some t.0) q.1 in
-    let rdev : x.rdev ≡ y.rdev = one_32 _ _ g.rdev h.rdev d.0 in
-    ap (λ (p : Meta × (ℕ × List ℕ)). let r : Header = record { meta = p.0; rdev = p.1.0; target = p.1.1 } in r)
-    (ap₂ (λ (m : Meta) (z : ℕ × List ℕ). (m, z)) meta (ap₂ (λ (n : ℕ) (z : List ℕ). (n, z)) rdev target))
+    same_header x y (same_meta x.meta y.meta (one_32 _ _ g.uid h.uid a.0) (one_32 _ _ g.gid h.gid b.0) (one_32 _ _ g.mode h.mode c.0) (one_xattrs x.meta.xattrs y.meta.xattrs q2.0 (p2.1 ∙ ap Some s.0) q2.1))
+    (one_32 _ _ g.rdev h.rdev d.0)
+    (one_text x.target y.target q.0 (p.1 ∙ ap Some t.0) q.1)
 
 abbrev Sums : Type 0
 Sums = (List ℕ × List ℕ) × (List ℕ × ℕ)
@@ -84,10 +93,10 @@ same_commit x y m p r s b n t u =
     (ap₂ (λ (a : List ℕ × List ℕ) (b : Tree × Tree). (a, b)) (ap₂ (λ (a : List ℕ) (b : List ℕ). (a, b)) s b) (ap₂ (λ (a : Tree) (b : Tree). (a, b)) m r))
     (ap₂ (λ (a : List ℕ × List ℕ) (b : List ℕ × ℕ). (a, b)) (ap₂ (λ (a : List ℕ) (b : List ℕ). (a, b)) t u) (ap₂ (λ (a : List ℕ) (b : ℕ). (a, b)) p n)))
 
-pub one_commit : (c d : CommitParts) (bytes : List ℕ) → IsNormalCommit bytes c → IsNormalCommit bytes d → c ≡ d
-one_commit x y bytes g h =
-    let p = (commit_members x bytes g.form).4 in
-    let q = (commit_members y bytes h.form).4 in
+pub one_commit : (c d : CommitParts) (bytes : List ℕ) → c.time < 2 ^ 64 → d.time < 2 ^ 64 → commit_form c ≡ Some bytes → commit_form d ≡ Some bytes → c ≡ d
+one_commit x y bytes g h i j =
+    let p = (commit_members x bytes i).4 in
+    let q = (commit_members y bytes j).4 in
     let rows = one_container types.Commit _ _ bytes p.whole q.whole in
     let a = head_is _ _ _ _ rows in
     let b = head_is _ _ _ _ a.1 in
@@ -103,6 +112,6 @@ one_commit x y bytes g h =
     (one_inner types.Related x.related y.related _ (p.related ∙ ap Some c.0) q.related)
     (one_text x.subject y.subject _ (p.subject ∙ ap Some d.0) q.subject)
     (one_text x.body y.body _ (p.body ∙ ap Some e.0) q.body)
-    (one_64 _ _ g.time h.time f.0)
+    (one_64 _ _ g h f.0)
     t.0
     u.0

@@ -84,7 +84,7 @@ pub record IsHeader (h : Header) : Type 0 where
 
 -- Each answer of the reader, where content may have so many bytes. No two of the first four hold of one run of bytes.
 abbrev pub ReadsContent : {X : Type 0} → (X → Meta) → (X → Body) → ℕ → List ℕ → Result X ObjFault → Type 0
-ReadsContent meta body limit bytes (Ok x) = IsWithin limit bytes × (content_form (meta x) (body x) ≡ Some bytes) × FitsMode (meta x).mode (body x)
+ReadsContent meta body limit bytes (Ok x) = IsWithin limit bytes × (content_form (meta x) (body x) ≡ Some bytes) × FitsMode (meta x).mode (body x) × IsHeader (header_of (meta x) (body x))
 ReadsContent meta body limit bytes (Err (TooLarge n)) =
     HeaderFits bytes × (((n ≡ header_size bytes) × (object_limit < n)) ⊎ ((header_size bytes ≤ object_limit) × (n ≡ length (content_part bytes)) × (limit < n)))
 ReadsContent meta body limit bytes (Err NotNormal) = IsWithin limit bytes × ((h : Header) (content : List ℕ) → stream_form content h ≡ Some bytes → ⊥)

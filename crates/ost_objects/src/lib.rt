@@ -31,7 +31,7 @@ mod xattrs;
 pub use body::Body;
 pub use commit::Commit;
 pub use commit_bytes::{read_commit, write_commit};
-pub use content::{Content, read_content, write_content};
+pub use content::{Content, read_content, test_content, write_content};
 pub use dirmeta::{DirMeta, OBJECT_LIMIT, read_dirmeta, write_dirmeta};
 pub use dirtree::{DirTree, read_dirtree};
 pub use entry::{FileItem, FolderItem};

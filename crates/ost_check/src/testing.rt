@@ -8,12 +8,7 @@ use ost_types::{Kind, Limits};
 use std::alloc::Global;
 
 /// Whether these bytes read as an object of the kind. A file's content is only looked at, and not copied.
-pub fn test_object(
-    alloc: Global,
-    kind: Kind,
-    bytes: &[u8],
-    limits: &Limits,
-) -> Result<(), ObjFault>
+pub fn test_object(alloc: Global, kind: Kind, bytes: &[u8], limits: &Limits) -> Result<(), ObjFault>
     ensures { Tests kind limits.now.content bytes.now result }
 {
     match kind {

@@ -4,7 +4,7 @@ ghost use Rattle.ost_check.specs.Checks.{Checks};
 
 use crate::checked::Checked;
 use crate::fault::CheckFault;
-use crate::test_object::test_object;
+use crate::testing::test_object;
 use ost_objects::{ObjFault, sum_of};
 use ost_types::{Bytes, Limits, ObjName};
 use std::alloc::Global;
