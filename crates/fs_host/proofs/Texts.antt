@@ -32,7 +32,7 @@ joined_shorter p i = omega (arith, ap (λ (q : Path). length (joined q)) (take-a
 pub text_more : (text : List ℕ) (p : Path) (i : ℕ) (x : Name) → text ≡ host_text (take i p) → i < length p → x ≡ get_or p i x → text ++ 47 ∷ x ≡ host_text (take (i + 1) p)
 text_more text p i x is lt item = ap (λ (t : List ℕ). t ++ 47 ∷ x) is ∙ ap (λ (t : List ℕ). 46 ∷ t) (sym (joined_more p i x lt (sym item)))
 
-pub text_fits : (text : List ℕ) (p : Path) (i : ℕ) (x : Name) → text ≡ host_text (take i p) → i < length p → x ≡ get_or p i x → length (joined p) ≤ 2048 → length text + 1 + length x ≤ 2064
+pub text_fits : (text : List ℕ) (p : Path) (i : ℕ) (x : Name) → text ≡ host_text (take i p) → i < length p → x ≡ get_or p i x → length (joined p) ≤ 2048 → length text + 1 + length x ≤ 2080
 text_fits text p i x is lt item short =
     let more : length (text ++ 47 ∷ x) ≡ length (host_text (take (i + 1) p)) = ap (λ (t : List ℕ). length t) (text_more text p i x is lt item) in
     omega (arith, more, length-append text (47 ∷ x), joined_shorter p (i + 1), short)
@@ -40,12 +40,15 @@ text_fits text p i x is lt item short =
 pub path_short : (p : Path) → IsPath p → length (joined p) ≤ 2048
 path_short p path = omega (arith, text_longest p, path.short)
 
--- what is spelled so far leaves room behind it for one more name of eleven bytes
+-- what is spelled so far leaves room behind it for the reserved names
 pub part_short : (text : List ℕ) (p : Path) (i : ℕ) → text ≡ host_text (take i p) → IsPath p → length text ≤ 2049
 part_short text p i is path = omega (arith, ap (λ (t : List ℕ). length t) is, joined_shorter p i, path_short p path)
 
 pub front_short : (p : Path) (n : ℕ) → IsPath p → length (joined (take n p)) ≤ 2048
 front_short p n path = omega (arith, joined_shorter p n, path_short p path)
+
+pub part_longest : (text : List ℕ) (p : Path) (n i : ℕ) → text ≡ host_text (take i (take n p)) → IsPath p → length text ≤ 2049
+part_longest text p n i is path = omega (arith, ap (λ (t : List ℕ). length t) is, joined_shorter (take n p) i, front_short p n path)
 
 -- all names but the last are the folder's
 pub parent_text : (text : List ℕ) (all : Path) (n i : ℕ) (p : Path) (x : Name) → text ≡ host_text (take i (take n all)) → length (take n all) ≤ i → n ≡ length all - 1 → all ≡ under p x → text ≡ host_text p

@@ -3,12 +3,10 @@ ghost use Rattle.std.specs.Prelude.{◌≡◌, [], OnOk, OnErr};
 ghost use Rattle.std.specs.BTreeSet.{contains_text};
 ghost use Rattle.fs_host.specs.Changed.{IsNoted, KeepsNotes, ForgetsOnly};
 
-use crate::Fault;
+use crate::{Fault, HostKind};
 use std::alloc::{AllocError, Global};
 use std::collections::BTreeSet;
-use std::fs;
 use std::fs::{File, OpenFile};
-use std::io::ErrorKind;
 use std::rt::Files;
 
 /// The host's files and folders that changed since they were last synced, by the texts of their paths.
@@ -81,11 +79,9 @@ impl Changed {
 }
 
 fn sync_if_there<R: Files>(rt: &R, text: &str) -> Result<(), Fault> {
-    match fs::symlink_metadata(rt, text) {
-        Ok(metadata) if metadata.is_dir() || metadata.is_file() => sync(rt, text),
-        Ok(_) => Err(Fault),
-        Err(e) if e.kind() == ErrorKind::NotFound => Ok(()),
-        Err(_) => Err(Fault),
+    match HostKind::of(rt, text)? {
+        HostKind::Absent => Ok(()),
+        HostKind::File | HostKind::Folder => sync(rt, text),
     }
 }
 

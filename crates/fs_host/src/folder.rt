@@ -1,25 +1,28 @@
 //! The current folder of the machine: what each call does there. Nothing is counted here.
-ghost use Rattle.std.specs.Prelude.{◌≡◌, IfErr};
+ghost use Rattle.std.specs.Prelude.{◌≡◌, ◌≢◌, ◌≤◌, [], length, OnOk, IfErr};
 ghost use Rattle.std.specs.Cmp.Lexicographic.{slice_cmp};
 ghost use Rattle.std.specs.List.Sorted.{IsStrictlySortedBy};
 ghost use Rattle.std.specs.Ordering.{nat_cmp};
-ghost use Rattle.fs_trait.specs.Effect.{OfPlacing, OfFinding, OfEmptying};
+ghost use Rattle.fs_trait.specs.Effect.{OfPlacing, OfFinding, OfEmptying, OfNone};
 ghost use Rattle.fs_host.specs.Refusal.{answered};
+ghost use Rattle.ost_types.specs.Mode.{IsFolderMode, IsFileMode, IsLinkMode};
 ghost use Rattle.ost_types.specs.Path.{Name, Path, under};
 ghost use Rattle.fs_host.specs.HostPath.{host_text};
 
+use crate::attributes::{attributes_bytes, is_plain, plain_attributes, read_attributes};
 use crate::changed::{Changed, sync};
-use crate::leaf::{extend_leaf, make_leaf};
-use crate::standing::{ATTRIBUTES, look, walk};
-use crate::{Fault, FileHeader, HostPath, Leaf, Refusal, Standing};
+use crate::front::{file_front, link_front};
+use crate::leaf::extend_leaf;
+use crate::standing::{ATTRIBUTES, is_reserved, walk};
+use crate::{Fault, FileHeader, HostKind, HostPath, Leaf, Refusal, Staging, Standing};
 use fs_trait::{FsErr, Node};
-use ost_types::{Bytes, FsPath, Meta, Name, Names, NoMemory, Xattrs};
+use ost_objects::{OBJECT_LIMIT, ObjFault};
+use ost_types::{Bytes, FsPath, Meta, Name, Names, NoMemory, Text};
+use std::alloc::Global;
 use std::fs;
-use std::fs::OpenFile;
+use std::fs::{File, OpenFile};
+use std::io::{ErrorKind, Read};
 use std::rt::Files;
-
-/// The mode of each folder.
-const FOLDER_MODE: u32 = 0o040755;
 
 /// The current folder, with room for the texts of paths.
 #[derive(Drop)]
@@ -28,6 +31,7 @@ pub struct CurrentFolder<R: Files + AllocGlobal + Clone + Drop> {
     path: HostPath,
     other: HostPath,
     parent: HostPath,
+    staging: Staging,
     changed: Changed,
 }
 
@@ -39,91 +43,94 @@ impl<R: Files + AllocGlobal + Clone + Drop> CurrentFolder<R> {
             path: HostPath::new(alloc)?,
             other: HostPath::new(alloc)?,
             parent: HostPath::new(alloc)?,
+            staging: Staging::new(alloc)?,
             changed: Changed::new(alloc),
         })
     }
 
-    pub fn mkdir(&mut self, at: &FsPath, meta: &Meta) -> Result<(), Refusal>
-        ensures { IfErr (answered result) OfPlacing }
+    pub fn mkdir(&mut self, at: &FsPath, meta: &Meta) -> Result<(), FsErr>
+        requires { IsFolderMode meta.now.mode }
+        ensures { IfErr result OfPlacing }
     {
-        let Standing::Absent = walk(&self.rt, at, &mut self.path)? else {
-            return Err(Refusal::Exists);
+        self.walk_to_nothing(at)?;
+        let made = if is_plain(meta) {
+            fs::create_dir(&self.rt, self.path.as_str()).map_err(Fault::from)
+        } else {
+            let attributes = attributes_bytes(self.rt.alloc(), meta)?;
+            self.show_folder(at, attributes.as_slice())
         };
-        if !is_plain_folder(meta) {
-            return Err(Refusal::Failed);
-        }
-        fs::create_dir(&self.rt, self.path.as_str())?;
         self.note_parent(at);
-        Ok(())
+        Ok(made?)
     }
 
-    pub fn create(&mut self, at: &FsPath, meta: &Meta) -> Result<(), Refusal>
-        ensures { IfErr (answered result) OfPlacing }
+    pub fn create(&mut self, at: &FsPath, meta: &Meta) -> Result<(), FsErr>
+        requires { IsFileMode meta.now.mode }
+        ensures { IfErr result OfPlacing }
     {
-        let Standing::Absent = walk(&self.rt, at, &mut self.path)? else {
-            return Err(Refusal::Exists);
+        self.walk_to_nothing(at)?;
+        let shown = if meta.xattrs.as_slice().is_empty() {
+            let header = FileHeader {
+                uid: meta.uid,
+                gid: meta.gid,
+                mode: meta.mode,
+            };
+            self.show_front(at, &header.to_bytes())
+        } else {
+            let front = file_front(self.rt.alloc(), meta)?;
+            self.show_front(at, front.as_slice())
         };
-        if !meta.xattrs.as_slice().is_empty() {
-            return Err(Refusal::Failed);
-        }
-        let header = FileHeader {
-            uid: meta.uid,
-            gid: meta.gid,
-            mode: meta.mode,
-        };
-        make_leaf(&self.rt, self.path.as_str(), header, &mut b"".as_slice())?;
-        self.changed.note(&self.rt, self.path.as_str());
         self.note_parent(at);
-        Ok(())
+        Ok(shown?)
     }
 
     pub fn append(&mut self, at: &FsPath, bytes: &[u8]) -> Result<(), Refusal>
         ensures { IfErr (answered result) OfFinding }
     {
-        let Standing::Leaf(leaf) = walk(&self.rt, at, &mut self.path)? else {
-            return Err(Refusal::Missing);
-        };
-        let added = extend_leaf(&self.rt, self.path.as_str(), leaf.len, bytes);
+        let leaf = self.walk_to_file(at)?;
+        let added = extend_leaf(&self.rt, self.path.as_str(), leaf.size(), bytes);
         self.changed.note(&self.rt, self.path.as_str());
         added?;
         Ok(())
     }
 
-    /// Symbolic links can't be stored.
-    pub fn symlink(&mut self, at: &FsPath) -> Result<(), Refusal>
-        ensures { IfErr (answered result) OfPlacing }
+    pub fn symlink(&mut self, at: &FsPath, target: &Text, meta: &Meta) -> Result<(), FsErr>
+        requires mode { IsLinkMode meta.now.mode }
+        requires target { target.now ≢ [] }
+        ensures { IfErr result OfPlacing }
     {
-        match walk(&self.rt, at, &mut self.path)? {
-            Standing::Absent => Err(Refusal::Failed),
-            _ => Err(Refusal::Exists),
-        }
+        self.walk_to_nothing(at)?;
+        let front = link_front(self.rt.alloc(), meta, target)?;
+        let shown = self.show_front(at, front.as_slice());
+        self.note_parent(at);
+        Ok(shown?)
     }
 
     pub fn link(&mut self, from: &FsPath, to: &FsPath) -> Result<(), Refusal>
         ensures { IfErr (answered result) OfPlacing }
     {
-        let Standing::Leaf(mut leaf) = walk(&self.rt, from, &mut self.path)? else {
+        let alloc = self.rt.alloc();
+        let Standing::Leaf(leaf) = walk(&self.rt, alloc, from, &mut self.path)? else {
             return Err(Refusal::Missing);
         };
-        let Standing::Absent = walk(&self.rt, to, &mut self.other)? else {
+        let Standing::Absent = walk(&self.rt, alloc, to, &mut self.other)? else {
             return Err(Refusal::Exists);
         };
-        let (source, target) = (self.path.as_str(), self.other.as_str());
-        let is_linked = fs::hard_link(&self.rt, source, target).is_ok();
-        if !is_linked {
-            make_leaf(&self.rt, target, leaf.header, &mut leaf.file)?;
-        }
-        if !is_linked || self.changed.contains(source) {
-            self.changed.note(&self.rt, target);
+        let linked = fs::hard_link(&self.rt, self.path.as_str(), self.other.as_str());
+        let there = match linked {
+            Ok(()) => Ok(()),
+            Err(_) => self.show_copy(to, leaf),
+        };
+        if self.changed.contains(self.path.as_str()) {
+            self.changed.note(&self.rt, self.other.as_str());
         }
         self.note_parent(to);
-        Ok(())
+        Ok(there?)
     }
 
     pub fn unlink(&mut self, at: &FsPath) -> Result<(), Refusal>
         ensures { IfErr (answered result) OfFinding }
     {
-        let Standing::Leaf(leaf) = walk(&self.rt, at, &mut self.path)? else {
+        let Standing::Leaf(leaf) = walk(&self.rt, self.rt.alloc(), at, &mut self.path)? else {
             return Err(Refusal::Missing);
         };
         settle(&mut self.changed, &leaf, self.path.as_str())?;
@@ -135,23 +142,25 @@ impl<R: Files + AllocGlobal + Clone + Drop> CurrentFolder<R> {
     pub fn rmdir(&mut self, at: &FsPath) -> Result<(), Refusal>
         ensures { IfErr (answered result) OfEmptying }
     {
-        walk_to_folder(&self.rt, at, &mut self.path)?;
+        walk_to_folder(&self.rt, self.rt.alloc(), at, &mut self.path)?;
         if at.names().is_empty() || has_names(&self.rt, self.path.as_str())? {
             return Err(Refusal::NotEmpty);
         }
-        fs::remove_dir(&self.rt, self.path.as_str())?;
-        self.changed.forget(self.path.as_str());
+        let removed = self.remove_folder(at);
         self.note_parent(at);
+        removed?;
+        self.changed.forget(self.path.as_str());
         Ok(())
     }
 
     pub fn rename(&mut self, from: &FsPath, to: &FsPath) -> Result<(), Refusal>
         ensures { IfErr (answered result) OfPlacing }
     {
-        let Standing::Leaf(_) = walk(&self.rt, from, &mut self.path)? else {
+        let alloc = self.rt.alloc();
+        let Standing::Leaf(_) = walk(&self.rt, alloc, from, &mut self.path)? else {
             return Err(Refusal::Missing);
         };
-        match walk(&self.rt, to, &mut self.other)? {
+        match walk(&self.rt, alloc, to, &mut self.other)? {
             Standing::Folder => return Err(Refusal::Exists),
             Standing::Leaf(leaf) => settle(&mut self.changed, &leaf, self.other.as_str())?,
             Standing::Absent => {}
@@ -170,9 +179,7 @@ impl<R: Files + AllocGlobal + Clone + Drop> CurrentFolder<R> {
     pub fn sync_file(&mut self, at: &FsPath) -> Result<(), Refusal>
         ensures { IfErr (answered result) OfFinding }
     {
-        let Standing::Leaf(leaf) = walk(&self.rt, at, &mut self.path)? else {
-            return Err(Refusal::Missing);
-        };
+        let leaf = self.walk_to_file(at)?;
         leaf.file.sync_all()?;
         self.changed.forget(self.path.as_str());
         Ok(())
@@ -181,7 +188,7 @@ impl<R: Files + AllocGlobal + Clone + Drop> CurrentFolder<R> {
     pub fn sync_dir(&mut self, at: &FsPath) -> Result<(), Refusal>
         ensures { IfErr (answered result) OfFinding }
     {
-        walk_to_folder(&self.rt, at, &mut self.path)?;
+        walk_to_folder(&self.rt, self.rt.alloc(), at, &mut self.path)?;
         sync(&self.rt, self.path.as_str())?;
         self.changed.forget(self.path.as_str());
         Ok(())
@@ -191,68 +198,139 @@ impl<R: Files + AllocGlobal + Clone + Drop> CurrentFolder<R> {
         self.changed.sync_all(&self.rt)
     }
 
-    pub fn stat(&mut self, at: &FsPath) -> Result<Option<Node>, Fault> {
+    pub fn stat(&mut self, at: &FsPath) -> Result<Option<Node>, FsErr>
+        ensures { IfErr result OfNone }
+    {
         let alloc = self.rt.alloc();
-        match walk(&self.rt, at, &mut self.path) {
+        match walk(&self.rt, alloc, at, &mut self.path) {
             Ok(Standing::Absent) | Err(Refusal::Missing | Refusal::NotFolder) => Ok(None),
             Ok(Standing::Folder) => {
                 self.path.push(ATTRIBUTES);
-                let Standing::Absent = look(&self.rt, self.path.as_str())? else {
-                    return Err(Fault);
-                };
-                Ok(Some(Node::Folder(Meta {
-                    uid: 0,
-                    gid: 0,
-                    mode: FOLDER_MODE,
-                    xattrs: Xattrs::new(alloc),
-                })))
+                let meta = folder_attributes(&self.rt, alloc, self.path.as_str())?;
+                Ok(Some(Node::Folder(meta)))
             }
-            Ok(Standing::Leaf(leaf)) => Ok(Some(Node::File {
-                meta: Meta {
-                    uid: leaf.header.uid,
-                    gid: leaf.header.gid,
-                    mode: leaf.header.mode,
-                    xattrs: Xattrs::new(alloc),
-                },
-                len: leaf.len,
-            })),
-            Err(_) => Err(Fault),
+            Ok(Standing::Leaf(leaf)) => match leaf.into_node() {
+                Some(node) => Ok(Some(node)),
+                None => Err(FsErr::NoMemory),
+            },
+            Err(_) => Err(FsErr::Failed),
         }
     }
 
     pub fn read(&mut self, at: &FsPath) -> Result<Bytes, FsErr>
         ensures { IfErr result OfFinding }
     {
-        let Standing::Leaf(leaf) = walk(&self.rt, at, &mut self.path)? else {
-            return Err(FsErr::Missing);
-        };
-        let len = leaf.len;
-        leaf.content(self.rt.alloc(), 0, len)
+        let leaf = self.walk_to_file(at)?;
+        leaf.whole_content(self.rt.alloc())
     }
 
     pub fn read_part(&mut self, at: &FsPath, from: u64, max: u32) -> Result<Bytes, FsErr>
         ensures { IfErr result OfFinding }
     {
-        let Standing::Leaf(leaf) = walk(&self.rt, at, &mut self.path)? else {
-            return Err(FsErr::Missing);
-        };
+        let leaf = self.walk_to_file(at)?;
         leaf.content(self.rt.alloc(), from, u64::from(max))
     }
 
     pub fn list(&mut self, at: &FsPath) -> Result<Names, FsErr>
         ensures { IfErr result OfFinding }
     {
-        walk_to_folder(&self.rt, at, &mut self.path)?;
+        walk_to_folder(&self.rt, self.rt.alloc(), at, &mut self.path)?;
         names_in(&self.rt, self.path.as_str())
     }
 
-    pub fn same(&mut self, a: &FsPath, b: &FsPath) -> Result<bool, Fault> {
-        let one = leaf_at(&self.rt, a, &mut self.path)?;
-        let two = leaf_at(&self.rt, b, &mut self.other)?;
+    pub fn same(&mut self, a: &FsPath, b: &FsPath) -> Result<bool, FsErr>
+        ensures { IfErr result OfNone }
+    {
+        let alloc = self.rt.alloc();
+        let one = file_at(&self.rt, alloc, a, &mut self.path)?;
+        let two = file_at(&self.rt, alloc, b, &mut self.other)?;
         match (one, two) {
-            (Some(one), Some(two)) => one.is_equal(two),
+            (Some(one), Some(two)) => Ok(one.is_equal(two)?),
             _ => Ok(false),
         }
+    }
+
+    fn walk_to_nothing(&mut self, at: &FsPath) -> Result<(), Refusal>
+        ensures { IfErr (answered result) OfPlacing }
+    {
+        match walk(&self.rt, self.rt.alloc(), at, &mut self.path)? {
+            Standing::Absent => Ok(()),
+            _ => Err(Refusal::Exists),
+        }
+    }
+
+    fn walk_to_file(&mut self, at: &FsPath) -> Result<Leaf<R::File>, Refusal>
+        ensures { IfErr (answered result) OfFinding }
+    {
+        match walk(&self.rt, self.rt.alloc(), at, &mut self.path)? {
+            Standing::Leaf(leaf) if !leaf.is_link => Ok(leaf),
+            _ => Err(Refusal::Missing),
+        }
+    }
+
+    // Makes a leaf that is no more than its front at a path, whose text is spelled.
+    fn show_front(&mut self, at: &FsPath, front: &[u8]) -> Result<(), Fault> {
+        if front.len().saturating_sub(8) > OBJECT_LIMIT {
+            return Err(Fault);
+        }
+        let mut front = front;
+        self.stage_beside(at);
+        self.staging
+            .show_leaf(&self.rt, self.path.as_str(), &mut front)
+    }
+
+    // Makes a folder at a path, whose text is spelled.
+    fn show_folder(&mut self, at: &FsPath, attributes: &[u8]) -> Result<(), Fault> {
+        if attributes.len() > OBJECT_LIMIT {
+            return Err(Fault);
+        }
+        self.stage_beside(at);
+        self.staging
+            .show_folder(&self.rt, self.path.as_str(), attributes)
+    }
+
+    // Copies a leaf to a path, whose text is spelled as the other.
+    fn show_copy(&mut self, to: &FsPath, leaf: Leaf<R::File>) -> Result<(), Fault> {
+        let mut file = leaf.into_file()?;
+        self.stage_beside(to);
+        self.staging
+            .show_leaf(&self.rt, self.other.as_str(), &mut file)
+    }
+
+    // Removes the folder at a path, whose text is spelled, with what it has of reserved names.
+    fn remove_folder(&mut self, at: &FsPath) -> Result<(), Fault>
+        requires { length self.old.path ≤ 2049 }
+    {
+        match fs::remove_dir(&self.rt, self.path.as_str()) {
+            Ok(()) => Ok(()),
+            Err(e) if e.kind() == ErrorKind::DirectoryNotEmpty => self.withdraw(at),
+            Err(_) => Err(Fault),
+        }
+    }
+
+    // A folder is out of sight before its attributes are removed.
+    fn withdraw(&mut self, at: &FsPath) -> Result<(), Fault>
+        requires { length self.old.path ≤ 2049 }
+    {
+        self.other.set(self.path.as_str());
+        self.other.push(ATTRIBUTES);
+        if HostKind::of(&self.rt, self.other.as_str())? == HostKind::Folder {
+            return Err(Fault);
+        }
+        self.staging.go_to(self.path.as_str());
+        self.staging.clear(&self.rt)?;
+        sync(&self.rt, self.path.as_str())?;
+        self.stage_beside(at);
+        self.staging
+            .withdraw(&self.rt, self.path.as_str(), self.parent.as_str())
+    }
+
+    // Goes to the reserved name in the folder that the last name of a path stands in.
+    fn stage_beside(&mut self, at: &FsPath)
+        ensures { self.new.path ≡ self.old.path }
+    {
+        spell_parent(at, &mut self.parent);
+        self.staging.go_to(self.parent.as_str());
     }
 
     // Notes that names changed in the folder that the last name of a path stands in.
@@ -262,8 +340,32 @@ impl<R: Files + AllocGlobal + Clone + Drop> CurrentFolder<R> {
     }
 }
 
-fn is_plain_folder(meta: &Meta) -> bool {
-    meta.uid == 0 && meta.gid == 0 && meta.mode == FOLDER_MODE && meta.xattrs.as_slice().is_empty()
+// The attributes of a folder, by the text of the file that is to hold them.
+fn folder_attributes<R: Files>(rt: &R, alloc: Global, text: &str) -> Result<Meta, FsErr>
+    ensures { IfErr result OfNone }
+{
+    match HostKind::of(rt, text)? {
+        HostKind::Absent => Ok(plain_attributes(alloc)),
+        HostKind::File => stored_attributes(rt, alloc, text),
+        HostKind::Folder => Err(FsErr::Failed),
+    }
+}
+
+fn stored_attributes<R: Files>(rt: &R, alloc: Global, text: &str) -> Result<Meta, FsErr>
+    ensures { IfErr result OfNone }
+{
+    let mut file = File::open(rt, text).map_err(Fault::from)?;
+    let len = file.metadata().map_err(Fault::from)?.len();
+    if len > OBJECT_LIMIT as u64 {
+        return Err(FsErr::Failed);
+    }
+    let mut bytes = Vec::from_elem(alloc, 0u8, len as usize)?;
+    file.read_exact(&mut bytes).map_err(Fault::from)?;
+    match read_attributes(alloc, &bytes) {
+        Ok(meta) => Ok(meta),
+        Err(ObjFault::NoMemory) => Err(FsErr::NoMemory),
+        Err(_) => Err(FsErr::Failed),
+    }
 }
 
 // Before a leaf loses a name by which its change is noted, its bytes are synced: it may have other names.
@@ -275,33 +377,43 @@ fn settle<F: OpenFile>(changed: &mut Changed, leaf: &Leaf<F>, text: &str) -> Res
     Ok(())
 }
 
-fn walk_to_folder<R: Files>(rt: &R, at: &FsPath, text: &mut HostPath) -> Result<(), Refusal>
+fn walk_to_folder<R: Files>(
+    rt: &R,
+    alloc: Global,
+    at: &FsPath,
+    text: &mut HostPath,
+) -> Result<(), Refusal>
+    ensures short { OnOk result (length text.new ≤ 2049) }
     ensures finding { IfErr (answered result) OfFinding }
     ensures emptying { IfErr (answered result) OfEmptying }
 {
-    match walk(rt, at, text)? {
+    match walk(rt, alloc, at, text)? {
         Standing::Folder => Ok(()),
         Standing::Absent => Err(Refusal::Missing),
         Standing::Leaf(_) => Err(Refusal::NotFolder),
     }
 }
 
-// The leaf at a path, if one is there.
-fn leaf_at<R: Files>(
+// The regular file at a path, if one is there.
+fn file_at<R: Files>(
     rt: &R,
+    alloc: Global,
     at: &FsPath,
     text: &mut HostPath,
-) -> Result<Option<Leaf<R::File>>, Fault> {
-    match walk(rt, at, text) {
-        Ok(Standing::Leaf(leaf)) => Ok(Some(leaf)),
+) -> Result<Option<Leaf<R::File>>, FsErr>
+    ensures { IfErr result OfNone }
+{
+    match walk(rt, alloc, at, text) {
+        Ok(Standing::Leaf(leaf)) if !leaf.is_read() => Err(FsErr::NoMemory),
+        Ok(Standing::Leaf(leaf)) if !leaf.is_link => Ok(Some(leaf)),
         Ok(_) | Err(Refusal::Missing | Refusal::NotFolder) => Ok(None),
-        Err(_) => Err(Fault),
+        Err(_) => Err(FsErr::Failed),
     }
 }
 
 fn has_names<R: Files + AllocGlobal + Clone + Drop>(rt: &R, text: &str) -> Result<bool, Fault> {
     for entry in fs::read_dir(rt, text)? {
-        if entry?.file_name() != ATTRIBUTES {
+        if !is_reserved(entry?.file_name()) {
             return Ok(true);
         }
     }
@@ -316,7 +428,7 @@ fn names_in<R: Files + AllocGlobal + Clone + Drop>(rt: &R, text: &str) -> Result
     let mut names = Vec::new(alloc);
     for entry in fs::read_dir(rt, text).map_err(Fault::from)? {
         let entry = entry.map_err(Fault::from)?;
-        if entry.file_name() == ATTRIBUTES {
+        if is_reserved(entry.file_name()) {
             continue;
         }
         let Some(name) = Name::parse(alloc, entry.file_name().as_bytes())? else {
@@ -338,7 +450,8 @@ fn ascending(names: Vec<Name>) -> Names
 
 // The text of the folder that the last name of a path stands in.
 fn spell_parent(at: &FsPath, text: &mut HostPath)
-    ensures { (p : Path) (x : Name) → at.now ≡ under p x → text.new ≡ host_text p }
+    ensures text { (p : Path) (x : Name) → at.now ≡ under p x → text.new ≡ host_text p }
+    ensures short { length text.new ≤ 2049 }
 {
     let names = at.names();
     text.restart();

@@ -3,7 +3,7 @@ ghost use Rattle.std.specs.Prelude.{◌≡◌, ◌<◌, None, OnOk, OnErr, IfErr
 ghost use Rattle.fs_trait.specs.Count.{last, Rose};
 ghost use Rattle.fs_trait.specs.Effect.{Next, HasCause};
 ghost use Rattle.fs_host.specs.Laws.{not_told};
-ghost use Rattle.fs_host.specs.Refusal.{answered};
+ghost use Rattle.fs_host.specs.Refusal.{answered, IsClockAfter};
 
 use crate::{CurrentFolder, Refusal};
 use fs_trait::{Fs, FsErr, Node};
@@ -12,10 +12,10 @@ use std::rt::Files;
 
 /// The current folder of the machine. It tells nothing of what it holds.
 ///
-/// A regular file is a host file of the same name that begins with the header of a content stream (owner, group, mode);
-/// its bytes follow. A folder is a host folder, of owner 0, group 0 and mode 0o040755. Any other host file, a link, a
-/// device and the name `.ost-folder` are `Failed` and counted, as is every error of the machine; and so are folders and
-/// files with other attributes and symbolic links where they are to be made.
+/// A regular file or a symbolic link is a host file of the same name that holds its content stream (OSTree). A folder is a
+/// host folder that holds its attributes in a file `.ost-folder`, as the bytes of a dirmeta object; one without that file
+/// has owner 0, group 0 and mode 0o040755. Any other host file, a link of the host, a device, and the names `.ost-folder`
+/// and `.ost-new` are `Failed` and counted, as is every error of the machine, and attributes of more than 64 MiB.
 #[derive(Drop)]
 pub struct HostFs<R: Files + AllocGlobal + Clone + Drop> {
     folder: CurrentFolder<R>,
@@ -76,6 +76,20 @@ impl<R: Files + AllocGlobal + Clone + Drop> HostFs<R> {
     {
         self.counted(outcome.map_err(FsErr::from))
     }
+
+    // The same of a call that may lack memory: it is then as if there had been no call.
+    fn answer_or_undo<T: Drop>(&mut self, outcome: Result<T, FsErr>) -> Result<T, FsErr>
+        requires { 0 < self.old.clock }
+        ensures answer { result ≡ outcome }
+        ensures folder { self.new.folder ≡ self.old.folder }
+        ensures clock { IsClockAfter self.old.clock self.new.clock result }
+        ensures cause { HasCause self.old.faults self.new.faults result }
+    {
+        if let Err(FsErr::NoMemory) = &outcome {
+            self.clock -= 1;
+        }
+        self.counted(outcome)
+    }
 }
 
 impl<R: Files + AllocGlobal + Clone + Drop> Fs for HostFs<R> {
@@ -92,13 +106,13 @@ impl<R: Files + AllocGlobal + Clone + Drop> Fs for HostFs<R> {
     fn mkdir(&mut self, at: &FsPath, meta: &Meta) -> Result<(), FsErr> {
         self.begin()?;
         let outcome = self.folder.mkdir(at, meta);
-        self.answer(outcome)
+        self.answer_or_undo(outcome)
     }
 
     fn create(&mut self, at: &FsPath, meta: &Meta) -> Result<(), FsErr> {
         self.begin()?;
         let outcome = self.folder.create(at, meta);
-        self.answer(outcome)
+        self.answer_or_undo(outcome)
     }
 
     fn append(&mut self, at: &FsPath, bytes: &[u8]) -> Result<(), FsErr> {
@@ -107,10 +121,10 @@ impl<R: Files + AllocGlobal + Clone + Drop> Fs for HostFs<R> {
         self.answer(outcome)
     }
 
-    fn symlink(&mut self, at: &FsPath, _target: &Text, _meta: &Meta) -> Result<(), FsErr> {
+    fn symlink(&mut self, at: &FsPath, target: &Text, meta: &Meta) -> Result<(), FsErr> {
         self.begin()?;
-        let outcome = self.folder.symlink(at);
-        self.answer(outcome)
+        let outcome = self.folder.symlink(at, target, meta);
+        self.answer_or_undo(outcome)
     }
 
     fn link(&mut self, from: &FsPath, to: &FsPath) -> Result<(), FsErr> {
@@ -161,7 +175,7 @@ impl<R: Files + AllocGlobal + Clone + Drop> Fs for HostFs<R> {
 
     fn stat(&mut self, at: &FsPath) -> Result<Option<Node>, FsErr> {
         let outcome = self.folder.stat(at);
-        self.counted(outcome.map_err(FsErr::from))
+        self.counted(outcome)
     }
 
     fn read(&mut self, at: &FsPath) -> Result<Bytes, FsErr> {
@@ -181,7 +195,7 @@ impl<R: Files + AllocGlobal + Clone + Drop> Fs for HostFs<R> {
 
     fn same(&mut self, a: &FsPath, b: &FsPath) -> Result<bool, FsErr> {
         let outcome = self.folder.same(a, b);
-        self.counted(outcome.map_err(FsErr::from))
+        self.counted(outcome)
     }
 
     fn clock(&self) -> u64 {

@@ -1,12 +1,17 @@
-//! The front of a host file: the header of an OSTree content stream, which says whose the leaf is.
-ghost use Rattle.std.specs.Prelude.{◌≡◌, ◌+◌, ◌≤◌, ◌<◌, ◌^◌, ℕ, IfSome, IsSomeAnd, take, drop};
+//! The front of a regular file without extended attributes, which is read and written without memory.
+ghost use Rattle.std.specs.Prelude.{◌≡◌, ◌+◌, ◌≤◌, ◌<◌, ◌^◌, ℕ, [], Some, IfSome, IsSomeAnd, take, drop};
 ghost use Rattle.std.specs.Int.{from_be_bytes, w32};
 ghost use Rattle.ost_types.specs.Mode.{IsFileMode};
+ghost use Rattle.ost_types.specs.declared.meta.Meta.{Meta};
+ghost use Rattle.ost_objects.specs.declared.body.Body.TheVariants.{Regular};
+ghost use Rattle.ost_objects.specs.Stream.{content_form};
 ghost use Rattle.fs_host.specs.Header.{header, IsHeader, Has};
 
-use ost_types::is_file_mode;
+use ost_objects::{Body, Content};
+use ost_types::{Bytes, Meta, Xattrs, is_file_mode};
+use std::alloc::Global;
 
-/// The number of bytes of such a header.
+/// The number of bytes of such a front, the least of any leaf.
 pub const HEADER_LEN: usize = 26;
 
 /// The header of a regular file without extended attributes.
@@ -46,9 +51,27 @@ impl FileHeader {
             17,
         ]
     }
+
+    /// The empty file with this header.
+    pub fn content(self, alloc: Global) -> Content
+        requires { IsFileMode self.mode }
+        ensures meta { result.meta ≡ record { uid = self.uid; gid = self.gid; mode = self.mode; xattrs = [] } }
+        ensures body { result.body ≡ Regular [] }
+        ensures form { content_form result.meta result.body ≡ Some (header self.uid self.gid self.mode) }
+    {
+        Content {
+            meta: Meta {
+                uid: self.uid,
+                gid: self.gid,
+                mode: self.mode,
+                xattrs: Xattrs::new(alloc),
+            },
+            body: Body::Regular(Bytes::new(alloc)),
+        }
+    }
 }
 
-fn number_at(bytes: &[u8; HEADER_LEN], at: usize) -> u32
+pub fn number_at(bytes: &[u8; HEADER_LEN], at: usize) -> u32
     requires { at + 4 ≤ 26 }
     ensures { result ≡ from_be_bytes w32 (take 4 (drop at bytes.now)) }
 {

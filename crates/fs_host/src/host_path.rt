@@ -6,10 +6,10 @@ use ost_types::{FsPath, NoMemory};
 use std::alloc::Global;
 use std::marker::Model;
 
-// The longest text of a path is of 2,048 bytes; there is room for the `.` before it and for one name of 11 bytes behind it.
-const ROOM: usize = 2064;
+// The longest text of a path is of 2,048 bytes; there is room for the `.` before it and for the reserved names behind it.
+const ROOM: usize = 2080;
 
-/// A text of at most 2,064 bytes, which takes no memory once it was made.
+/// A text of at most 2,080 bytes, which takes no memory once it was made.
 #[derive(Drop)]
 pub struct HostPath {
     text: String,
@@ -23,7 +23,7 @@ impl Model for HostPath {
 
     ghost view = { λ a. string_bytes a.text };
 
-    ghost invariant = { λ a. 2064 ≤ string_capacity a.text };
+    ghost invariant = { λ a. 2080 ≤ string_capacity a.text };
 }
 
 impl HostPath {
@@ -49,9 +49,18 @@ impl HostPath {
         self.add(".");
     }
 
+    /// Makes it this text.
+    pub fn set(&mut self, text: &str)
+        requires { length text.now ≤ 2080 }
+        ensures { self.new ≡ text.now }
+    {
+        self.text.clear();
+        self.add(text);
+    }
+
     /// Goes on to a name in the folder.
     pub fn push(&mut self, name: &str)
-        requires { length self.old + 1 + length name.now ≤ 2064 }
+        requires { length self.old + 1 + length name.now ≤ 2080 }
         ensures { self.new ≡ self.old ++ 47 ∷ name.now }
     {
         self.add("/");
@@ -59,7 +68,7 @@ impl HostPath {
     }
 
     fn add(&mut self, text: &str)
-        requires { length self.old + length text.now ≤ 2064 }
+        requires { length self.old + length text.now ≤ 2080 }
         ensures { self.new ≡ self.old ++ text.now }
     {
         let Ok(()) = self.text.push_str(text) else {

@@ -1,18 +1,25 @@
 //! What stands at a path of the host, by looks that follow no link.
-ghost use Rattle.std.specs.Prelude.{◌≡◌, ◌≤◌, length, OnOk, IfErr};
+ghost use Rattle.std.specs.Prelude.{◌≡◌, ◌≤◌, ◌⊎◌, ◌↔◌, codes, length, IsTrue, OnOk, IfErr};
 ghost use Rattle.fs_trait.specs.Effect.{OfPlacing, OfFinding, OfEmptying};
 ghost use Rattle.fs_host.specs.Refusal.{answered};
 ghost use Rattle.fs_host.specs.HostPath.{host_text};
 
 use crate::leaf::open_leaf;
-use crate::{Fault, HostPath, Leaf, Refusal};
+use crate::staging::STAGED;
+use crate::{Fault, HostKind, HostPath, Leaf, Refusal};
 use ost_types::FsPath;
-use std::fs;
-use std::io::ErrorKind;
+use std::alloc::Global;
 use std::rt::Files;
 
 /// The name that is kept for the attributes of the folder that it stands in. No node has it.
 pub const ATTRIBUTES: &str = ".ost-folder";
+
+/// Whether a name of the host is this crate's own.
+pub fn is_reserved(name: &str) -> bool
+    ensures { IsTrue result ↔ (name.now ≡ codes ".ost-folder") ⊎ (name.now ≡ codes ".ost-new") }
+{
+    name == ATTRIBUTES || name == STAGED
+}
 
 /// What stands at a path.
 #[derive(Drop)]
@@ -23,10 +30,11 @@ pub enum Standing<F> {
 }
 
 /// What stands at a path, whose text is spelled. The first folder on the way that is absent gives `Missing`, and the
-/// first leaf in a folder's place `NotFolder`. A link, a device, a file without a header and a path with the kept name
-/// are `Failed`.
+/// first leaf in a folder's place `NotFolder`. A link of the host, a device, a file that is no content stream and a path
+/// with a reserved name are `Failed`.
 pub fn walk<R: Files>(
     rt: &R,
+    alloc: Global,
     at: &FsPath,
     text: &mut HostPath,
 ) -> Result<Standing<R::File>, Refusal>
@@ -37,15 +45,15 @@ pub fn walk<R: Files>(
     ensures emptying { IfErr (answered result) OfEmptying }
 {
     let names = at.names();
-    if names.iter().any(|name| name.as_str() == ATTRIBUTES) {
+    if names.iter().any(|name| is_reserved(name.as_str())) {
         return Err(Refusal::Failed);
     }
     text.restart();
     for name in names {
-        pass(look(rt, text.as_str())?)?;
+        pass(look(rt, alloc, text.as_str())?)?;
         text.push(name.as_str());
     }
-    Ok(look(rt, text.as_str())?)
+    Ok(look(rt, alloc, text.as_str())?)
 }
 
 // Whether a path can go on below what stands there.
@@ -62,17 +70,10 @@ fn pass<F: Drop>(standing: Standing<F>) -> Result<(), Refusal>
 }
 
 /// What stands at the end of a text, above which there are only folders.
-pub fn look<R: Files>(rt: &R, text: &str) -> Result<Standing<R::File>, Fault> {
-    let metadata = match fs::symlink_metadata(rt, text) {
-        Ok(metadata) => metadata,
-        Err(e) if e.kind() == ErrorKind::NotFound => return Ok(Standing::Absent),
-        Err(_) => return Err(Fault),
-    };
-    if metadata.is_dir() {
-        return Ok(Standing::Folder);
+fn look<R: Files>(rt: &R, alloc: Global, text: &str) -> Result<Standing<R::File>, Fault> {
+    match HostKind::of(rt, text)? {
+        HostKind::Absent => Ok(Standing::Absent),
+        HostKind::Folder => Ok(Standing::Folder),
+        HostKind::File => Ok(Standing::Leaf(open_leaf(rt, alloc, text)?)),
     }
-    if !metadata.is_file() {
-        return Err(Fault);
-    }
-    Ok(Standing::Leaf(open_leaf(rt, text)?))
 }

@@ -1,6 +1,8 @@
 use crate::{HostFs, StdSink, StdSource};
 use fs_trait::{Fs, FsErr, Node, Sink, Source, SourceErr};
-use ost_types::{FsPath, Meta, Text, Xattrs, is_file_mode, is_folder_mode, is_link_mode};
+use ost_types::{
+    Bytes, FsPath, Meta, Text, Xattr, Xattrs, is_file_mode, is_folder_mode, is_link_mode,
+};
 use std::alloc::{AllocError, Allocator, Global};
 use std::fs::{File, Metadata, OpenOptions};
 use std::io::{ErrorKind, Read};
@@ -15,6 +17,19 @@ const PLAIN: &[u8; 26] = b"\0\0\0\x12\0\0\0\0\0\0\0\0\0\0\0\0\0\0\x81\xa4\0\0\0\
 // The same for owner 0x01020304, group 0xfffffffe and mode 0107777.
 const OTHER: &[u8; 26] =
     b"\0\0\0\x12\0\0\0\0\x01\x02\x03\x04\xff\xff\xff\xfe\0\0\x8f\xff\0\0\0\0\0\x11";
+
+// What ostree 2022.7 makes of files with owner 1 and group 258, whose objects have the names behind it: the front of one of
+// mode 0104755 with the attributes user.a and user.b (with `hello` and a newline
+// 9d7066980464741e17f8c71c0db2d0cf779184c3b983b629b3a2603a0d44a865), a link to usr/bin
+// (5f54c36d527f12d8e8156d9f81d3d0676875c0df7884a812fc0e5789d6fee651), and the attributes of a folder of mode 041777 with
+// user.dir (6d68f54c098f0b9dbd88042e5410e034b3bc966b7e718ae6fdd218a5b60c598c).
+const WITH_ATTRIBUTES: &[u8; 47] =
+    b"\0\0\0\x27\0\0\0\0\0\0\0\x01\0\0\x01\x02\0\0\x89\xed\0\0\0\0\0user.a\0x\x07user.b\0yz\x07\x09\x13\x11";
+
+const LINK: &[u8; 33] =
+    b"\0\0\0\x19\0\0\0\0\0\0\0\x01\0\0\x01\x02\0\0\xa1\xff\0\0\0\0usr/bin\0\x18";
+
+const FOLDER: &[u8; 24] = b"\0\0\0\x01\0\0\x01\x02\0\0\x43\xffuser.dir\0v\x09\x0b";
 
 // A folder of this name with nothing in it.
 fn fresh(rt: &HostRuntime, name: &str) -> io::Result<()> {
@@ -63,13 +78,23 @@ fn symlink(
     fs: &mut HostFs<HostRuntime>,
     at: &FsPath,
 ) -> Result<(), FsErr> {
-    let link = meta(alloc, 0, 0, 0o120777);
-    assert!(rt; is_link_mode(link.mode));
-    let Some(target) = Text::parse(alloc, b"t")? else {
+    symlink_to(rt, alloc, fs, at, b"t", &meta(alloc, 0, 0, 0o120777))
+}
+
+fn symlink_to(
+    rt: &impl Abort,
+    alloc: Global,
+    fs: &mut HostFs<HostRuntime>,
+    at: &FsPath,
+    target: &[u8],
+    meta: &Meta,
+) -> Result<(), FsErr> {
+    assert!(rt; is_link_mode(meta.mode));
+    let Some(target) = Text::parse(alloc, target)? else {
         return Err(FsErr::NoMemory);
     };
     assert!(rt; !target.as_slice().is_empty());
-    fs.symlink(at, &target, &link)
+    fs.symlink(at, &target, meta)
 }
 
 fn check_file(
@@ -132,11 +157,11 @@ fn read_folders(rt: &impl Abort, alloc: Global, fs: &mut HostFs<HostRuntime>) ->
     Ok(())
 }
 
-// The bytes of a file of the host: a front of 26 bytes and the rest.
-fn check_stored(rt: &impl Abort, stored: &[u8], front: &[u8; 26], rest: &[u8]) {
-    assert!(rt; stored.len() >= 26);
-    assert!(rt; &stored[..26] == front.as_slice());
-    assert!(rt; &stored[26..] == rest);
+// The bytes of a file of the host: a front and the rest.
+fn check_stored(rt: &impl Abort, stored: &[u8], front: &[u8], rest: &[u8]) {
+    assert!(rt; stored.len() >= front.len());
+    assert!(rt; &stored[..front.len()] == front);
+    assert!(rt; &stored[front.len()..] == rest);
 }
 
 #[test]
@@ -163,6 +188,144 @@ fn keeps_files_and_folders(rt: HostRuntime) -> Result<(), Fail> {
     read_folders(&rt, alloc, &mut again)?;
     assert_eq!(rt; (again.clock(), again.faults()), (0, 0));
     fs::remove_dir_all(&rt, "kept")?;
+    Ok(())
+}
+
+fn xattrs(alloc: Global, rows: &[(&str, &str)]) -> Result<Xattrs, Fail> {
+    let mut xattrs = Xattrs::new(alloc);
+    for (name, value) in rows {
+        xattrs.push(Xattr {
+            name: Bytes::from_slice(alloc, name.as_bytes())?,
+            value: Bytes::from_slice(alloc, value.as_bytes())?,
+        })?;
+    }
+    Ok(xattrs)
+}
+
+// The attributes of owner 1 and group 258.
+fn owned(alloc: Global, mode: u32, rows: &[(&str, &str)]) -> Result<Meta, Fail> {
+    Ok(Meta {
+        uid: 1,
+        gid: 258,
+        mode,
+        xattrs: xattrs(alloc, rows)?,
+    })
+}
+
+const FILE_ROWS: &[(&str, &str); 2] = &[("user.a\0", "x"), ("user.b\0", "yz")];
+
+const FOLDER_ROWS: &[(&str, &str); 1] = &[("user.dir\0", "v")];
+
+fn write_forms(rt: &impl Abort, alloc: Global, fs: &mut HostFs<HostRuntime>) -> Result<(), Fail> {
+    let folder = owned(alloc, 0o041777, FOLDER_ROWS.as_slice())?;
+    assert!(rt; is_folder_mode(folder.mode));
+    fs.mkdir(&path(alloc, "/forms/folder")?, &folder)?;
+    let file = path(alloc, "/forms/folder/file")?;
+    let attributes = owned(alloc, 0o104755, FILE_ROWS.as_slice())?;
+    create(rt, alloc, fs, &file, &attributes)?;
+    fs.append(&file, b"hello\n")?;
+    let link = owned(alloc, 0o120777, &[])?;
+    symlink_to(
+        rt,
+        alloc,
+        fs,
+        &path(alloc, "/forms/folder/link")?,
+        b"usr/bin",
+        &link,
+    )?;
+    fs.sync_all()?;
+    assert_eq!(rt; (fs.clock(), fs.faults()), (5, 0));
+    Ok(())
+}
+
+fn check_meta(rt: &impl Abort, found: &Meta, mode: u32, rows: &[(&str, &str)]) {
+    assert_eq!(rt; (found.uid, found.gid, found.mode), (1, 258, mode));
+    assert_eq!(rt; found.xattrs.as_slice().len(), rows.len());
+    for (xattr, (name, value)) in found.xattrs.as_slice().iter().zip(rows) {
+        assert!(rt; xattr.name.as_slice() == name.as_bytes());
+        assert!(rt; xattr.value.as_slice() == value.as_bytes());
+    }
+}
+
+fn read_forms(rt: &impl Abort, alloc: Global, fs: &mut HostFs<HostRuntime>) -> Result<(), Fail> {
+    let Some(Node::Folder(folder)) = fs.stat(&path(alloc, "/forms/folder")?)? else {
+        panic!(rt; "no folder");
+    };
+    check_meta(rt, &folder, 0o041777, FOLDER_ROWS.as_slice());
+    let at = path(alloc, "/forms/folder/file")?;
+    let Some(Node::File { meta, len }) = fs.stat(&at)? else {
+        panic!(rt; "no file");
+    };
+    check_meta(rt, &meta, 0o104755, FILE_ROWS.as_slice());
+    assert_eq!(rt; len, 6);
+    assert!(rt; fs.read(&at)?.as_slice() == b"hello\n".as_slice());
+    assert!(rt; fs.read_part(&at, 4, 9)?.as_slice() == b"o\n".as_slice());
+    let Some(Node::Link { meta, target }) = fs.stat(&path(alloc, "/forms/folder/link")?)? else {
+        panic!(rt; "no link");
+    };
+    check_meta(rt, &meta, 0o120777, &[]);
+    assert!(rt; target.as_str() == "usr/bin");
+    assert_eq!(rt;
+        fs.list(&path(alloc, "/forms/folder")?)?.as_slice().len(),
+        2
+    );
+    Ok(())
+}
+
+// A link is a leaf, and no regular file.
+fn check_link(rt: &impl Abort, alloc: Global, fs: &mut HostFs<HostRuntime>) -> Result<(), Fail> {
+    check_each(
+        rt,
+        alloc,
+        fs,
+        &[Call::Append, Call::SyncFile, Call::Read, Call::ReadPart],
+        &[("/forms/folder/link", FsErr::Missing)],
+    )?;
+    check_same(
+        rt,
+        alloc,
+        fs,
+        "/forms/folder/link",
+        "/forms/folder/link",
+        false,
+    )?;
+    check_same(
+        rt,
+        alloc,
+        fs,
+        "/forms/folder/file",
+        "/forms/folder/file",
+        true,
+    )?;
+    let (from, to) = (
+        path(alloc, "/forms/folder/link")?,
+        path(alloc, "/forms/moved")?,
+    );
+    fs.rename(&from, &to)?;
+    fs.link(&to, &from)?;
+    fs.unlink(&to)?;
+    fs.unlink(&from)?;
+    fs.unlink(&path(alloc, "/forms/folder/file")?)?;
+    fs.rmdir(&path(alloc, "/forms/folder")?)?;
+    fs.sync_all()?;
+    assert_eq!(rt; fs.faults(), 0);
+    Ok(())
+}
+
+#[test]
+fn keeps_links_and_attributes(rt: HostRuntime) -> Result<(), Fail> {
+    let alloc = rt.alloc();
+    fresh(&rt, "forms")?;
+    write_forms(&rt, alloc, &mut HostFs::new(rt.clone()?)?)?;
+    let file = fs::read(&rt, "forms/folder/file")?;
+    check_stored(&rt, &file, WITH_ATTRIBUTES, b"hello\n");
+    check_stored(&rt, &fs::read(&rt, "forms/folder/link")?, LINK, b"");
+    let attributes = fs::read(&rt, "forms/folder/.ost-folder")?;
+    check_stored(&rt, &attributes, FOLDER, b"");
+    let mut again = HostFs::new(rt.clone()?)?;
+    read_forms(&rt, alloc, &mut again)?;
+    check_link(&rt, alloc, &mut again)?;
+    fs::remove_dir(&rt, "forms")?;
     Ok(())
 }
 
@@ -453,8 +616,9 @@ fn check_failing(
     Ok(())
 }
 
-// Cut short, a length, the four zeros, the types of a folder and of a link, a device, a target, the framing offset.
-const ODD: [&[u8]; 10] = [
+// Cut short, a length, the four zeros, the types of a folder and of a link, a device, a target, the framing offset, a link
+// with content, attributes cut short, an offset among the attributes.
+const ODD: [&[u8]; 13] = [
     b"",
     b"\0\0\0\x12\0\0\0\0\0\0\0\0\0\0\0\0\0\0\x81\xa4\0\0\0\0\0",
     b"\0\0\0\x13\0\0\0\0\0\0\0\0\0\0\0\0\0\0\x81\xa4\0\0\0\0\0\x11",
@@ -465,6 +629,9 @@ const ODD: [&[u8]; 10] = [
     b"\0\0\0\x13\0\0\0\0\0\0\0\0\0\0\0\0\0\0\x81\xa4\0\0\0\0a\0\x12",
     b"\0\0\0\x12\0\0\0\0\0\0\0\0\0\0\0\0\0\0\x81\xa4\0\0\0\0\0\x10",
     b"another file, of more than 26 bytes",
+    b"\0\0\0\x19\0\0\0\0\0\0\0\x01\0\0\x01\x02\0\0\xa1\xff\0\0\0\0usr/bin\0\x18x",
+    b"\0\0\0\x27\0\0\0\0\0\0\0\x01\0\0\x01\x02\0\0\x89\xed\0\0\0\0\0user.a\0x\x07user.b\0yz\x07\x09\x13",
+    b"\0\0\0\x27\0\0\0\0\0\0\0\x01\0\0\x01\x02\0\0\x89\xed\0\0\0\0\0user.a\0x\x07user.b\0yz\x07\x09\x12\x11",
 ];
 
 #[test]
@@ -485,7 +652,7 @@ fn takes_only_its_own_files(rt: HostRuntime) -> Result<(), Fail> {
 }
 
 #[test]
-fn leaves_the_kept_name_alone(rt: HostRuntime) -> Result<(), Fail> {
+fn leaves_reserved_names_alone(rt: HostRuntime) -> Result<(), Fail> {
     let alloc = rt.alloc();
     fresh(&rt, "reserved")?;
     fs::write(&rt, "reserved/leaf", PLAIN.as_slice())?;
@@ -494,34 +661,50 @@ fn leaves_the_kept_name_alone(rt: HostRuntime) -> Result<(), Fail> {
     let mut fs = HostFs::new(rt.clone()?)?;
     for at in [
         "/reserved/kept/.ost-folder",
-        "/reserved/kept/.ost-folder/x",
-        "/reserved/no/x/.ost-folder",
+        "/reserved/kept/.ost-new",
+        "/reserved/no/.ost-folder/x",
+        "/reserved/no/x/.ost-new",
     ] {
         check_failing(&rt, alloc, &mut fs, "/reserved/leaf", at)?;
     }
     let folder = path(alloc, "/reserved/kept")?;
     assert!(rt; matches!(fs.stat(&folder), Err(FsErr::Failed)));
     assert!(rt; fs.list(&folder)?.as_slice().is_empty());
-    assert_eq!(rt; fs.rmdir(&folder), Err(FsErr::Failed));
     let kept = fs::read(&rt, "reserved/kept/.ost-folder")?;
     assert!(rt; kept.as_slice() == b"attributes".as_slice());
     fs::remove_dir_all(&rt, "reserved")?;
     Ok(())
 }
 
+// A call that was cut off may have left a file or a folder under the name for what is new.
+fn check_after_cut(
+    rt: &impl Abort,
+    alloc: Global,
+    fs: &mut HostFs<HostRuntime>,
+) -> Result<(), Fail> {
+    let folder = path(alloc, "/cut/folder")?;
+    assert!(rt; fs.list(&folder)?.as_slice().is_empty());
+    let leaf = path(alloc, "/cut/leaf")?;
+    create(rt, alloc, fs, &leaf, &meta(alloc, 0, 0, 0o100644))?;
+    check_file(rt, fs, &leaf, (0, 0, 0o100644, b""))?;
+    fs.unlink(&leaf)?;
+    fs.rmdir(&folder)?;
+    fs.sync_all()?;
+    assert_eq!(rt; fs.faults(), 0);
+    Ok(())
+}
+
 #[test]
-fn makes_no_folder_with_other_attributes(rt: HostRuntime) -> Result<(), Fail> {
+fn goes_on_after_a_call_that_was_cut_off(rt: HostRuntime) -> Result<(), Fail> {
     let alloc = rt.alloc();
-    fresh(&rt, "plain")?;
-    let at = path(alloc, "/plain/folder")?;
-    let mut fs = HostFs::new(rt.clone()?)?;
-    for (uid, gid, mode) in [(1, 0, 0o040755), (0, 1, 0o040755), (0, 0, 0o040750)] {
-        let folder = meta(alloc, uid, gid, mode);
-        assert!(rt; is_folder_mode(folder.mode));
-        assert_eq!(rt; fs.mkdir(&at, &folder), Err(FsErr::Failed));
-    }
-    assert!(rt; fs::symlink_metadata(&rt, "plain/folder").is_err());
-    fs::remove_dir_all(&rt, "plain")?;
+    fresh(&rt, "cut")?;
+    fs::create_dir(&rt, "cut/folder")?;
+    fs::write(&rt, "cut/folder/.ost-folder", FOLDER.as_slice())?;
+    fs::write(&rt, "cut/folder/.ost-new", b"cut")?;
+    fs::create_dir(&rt, "cut/.ost-new")?;
+    fs::write(&rt, "cut/.ost-new/.ost-folder", b"")?;
+    check_after_cut(&rt, alloc, &mut HostFs::new(rt.clone()?)?)?;
+    fs::remove_dir(&rt, "cut")?;
     Ok(())
 }
 
@@ -625,14 +808,19 @@ fn copies_where_there_are_no_hard_links(rt: HostRuntime) -> Result<(), Fail> {
     let alloc = rt.alloc();
     fresh(&rt, "copied")?;
     let mut fs = HostFs::new(Unlinked(rt.clone()?))?;
-    fs::write(&rt, "copied/one", OTHER.as_slice())?;
+    fs::write(&rt, "copied/one", WITH_ATTRIBUTES.as_slice())?;
     let one = path(alloc, "/copied/one")?;
     let two = path(alloc, "/copied/two")?;
     fs.append(&one, b"bytes")?;
     fs.link(&one, &two)?;
     assert!(rt; fs.same(&one, &two)?);
     fs.append(&one, b" more")?;
-    check_stored(&rt, &fs::read(&rt, "copied/two")?, OTHER, b"bytes");
+    check_stored(
+        &rt,
+        &fs::read(&rt, "copied/two")?,
+        WITH_ATTRIBUTES,
+        b"bytes",
+    );
     assert_eq!(rt; fs.faults(), 0);
     fs::remove_dir_all(&rt, "copied")?;
     Ok(())

@@ -1,6 +1,6 @@
 use Rattle.std.proofs.Common.{◌∙◌, ◌∷◌, ◌++◌, List, ℕ, take, ap}
 use Rattle.ost_types.specs.Path.{joined}
-use Rattle.fs_host.proofs.Texts.{text_more, text_fits, front_short, parent_text}
+use Rattle.fs_host.proofs.Texts.{text_more, text_fits, front_short, part_longest, parent_text}
 use Rattle.fs_host.proofs.folder.spell_parent.Goals as goal
 
 pub loop-name-init : goal.loop-name-init
@@ -19,6 +19,10 @@ loop-name-preserved c =
     c.push.ensures ∙ ap (λ (x : List ℕ). c.loop-name.text ++ 47 ∷ x) c.as_str.ensures.value
     ∙ text_more c.loop-name.text front c.loop-name.name-index c.name-item.result c.loop-name.invariant c.loop-name-test.true c.name-item.is
 
-pub returns : goal.returns
-returns c = λ p x is.
+pub returns-clause-text : goal.returns-clause-text
+returns-clause-text c = λ p x is.
     parent_text c.loop-name.text c.names-names.result.now c.saturating_sub.result c.loop-name.name-index p x c.loop-name.invariant c.loop-name-test.false c.saturating_sub.ensures (c.names-names.ensures.value ∙ is)
+
+pub returns-clause-short : goal.returns-clause-short
+returns-clause-short c =
+    part_longest c.loop-name.text c.names-names.result.now c.saturating_sub.result c.loop-name.name-index c.loop-name.invariant c.names-names.ensures.path
