@@ -1,11 +1,11 @@
 -- The front of a regular file without extended attributes is the form of its content stream.
-use Rattle.std.proofs.Common.{◌≡◌, ℕ, ◌≤◌, List, [], ◌∷◌, ◌++◌, Some, refl, sym, ap, ◌∙◌, arith, codes}
+use Rattle.std.proofs.Common.{◌≡◌, ℕ, ◌≤◌, List, [], ◌∷◌, ◌++◌, Some, ap, ◌∙◌, arith, codes}
 use Rattle.std.specs.Prelude.{option_and_then}
 use Rattle.std.proofs.lemmas.Bool.{cond-true, le-leb}
 use Rattle.std.specs.Int.{w32, to_be_bytes}
 use Rattle.std.specs.Str.{is_utf8, chars}
 use Rattle.gv_core.specs.declared.kind.Basic.TheVariants as b
-use Rattle.gv_core.specs.Kind.{Kind, Kinds, basic, array, tuple, no_kinds, kind, spell, kind_depth, variant_kind}
+use Rattle.gv_core.specs.Kind.{Kind, basic, array, tuple, no_kinds, kind, spell, kind_depth, variant_kind}
 use Rattle.gv_core.specs.Spelling.{kind_of-spell}
 use Rattle.gv_core.specs.Measure.{alignment, fixed}
 use Rattle.gv_core.specs.Layout.{offset_size}
