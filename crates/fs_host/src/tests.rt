@@ -191,51 +191,54 @@ fn keeps_files_and_folders(rt: HostRuntime) -> Result<(), Fail> {
     Ok(())
 }
 
-fn xattrs(alloc: Global, rows: &[(&str, &str)]) -> Result<Xattrs, Fail> {
-    let mut xattrs = Xattrs::new(alloc);
-    for (name, value) in rows {
-        xattrs.push(Xattr {
-            name: Bytes::from_slice(alloc, name.as_bytes())?,
-            value: Bytes::from_slice(alloc, value.as_bytes())?,
-        })?;
-    }
-    Ok(xattrs)
+fn at(rt: &impl Abort, alloc: Global, text: &str) -> FsPath {
+    FsPath::parse(alloc, text.as_bytes()).expect(rt, "a path")
+}
+
+fn bytes(rt: &impl Abort, alloc: Global, text: &str) -> Bytes {
+    Bytes::from_slice(alloc, text.as_bytes()).expect(rt, "memory")
 }
 
 // The attributes of owner 1 and group 258.
-fn owned(alloc: Global, mode: u32, rows: &[(&str, &str)]) -> Result<Meta, Fail> {
-    Ok(Meta {
+fn owned(rt: &impl Abort, alloc: Global, mode: u32, rows: &[(&str, &str)]) -> Meta {
+    let mut xattrs = Xattrs::new(alloc);
+    for (name, value) in rows {
+        let xattr = Xattr {
+            name: bytes(rt, alloc, name),
+            value: bytes(rt, alloc, value),
+        };
+        xattrs.push(xattr).expect(rt, "memory");
+    }
+    Meta {
         uid: 1,
         gid: 258,
         mode,
-        xattrs: xattrs(alloc, rows)?,
-    })
+        xattrs,
+    }
 }
 
 const FILE_ROWS: &[(&str, &str); 2] = &[("user.a\0", "x"), ("user.b\0", "yz")];
 
 const FOLDER_ROWS: &[(&str, &str); 1] = &[("user.dir\0", "v")];
 
-fn write_forms(rt: &impl Abort, alloc: Global, fs: &mut HostFs<HostRuntime>) -> Result<(), Fail> {
-    let folder = owned(alloc, 0o041777, FOLDER_ROWS.as_slice())?;
+fn make_folder(rt: &impl Abort, alloc: Global, fs: &mut HostFs<HostRuntime>) {
+    let folder = owned(rt, alloc, 0o041777, FOLDER_ROWS.as_slice());
     assert!(rt; is_folder_mode(folder.mode));
-    fs.mkdir(&path(alloc, "/forms/folder")?, &folder)?;
-    let file = path(alloc, "/forms/folder/file")?;
-    let attributes = owned(alloc, 0o104755, FILE_ROWS.as_slice())?;
-    create(rt, alloc, fs, &file, &attributes)?;
-    fs.append(&file, b"hello\n")?;
-    let link = owned(alloc, 0o120777, &[])?;
-    symlink_to(
-        rt,
-        alloc,
-        fs,
-        &path(alloc, "/forms/folder/link")?,
-        b"usr/bin",
-        &link,
-    )?;
-    fs.sync_all()?;
-    assert_eq!(rt; (fs.clock(), fs.faults()), (5, 0));
-    Ok(())
+    fs.mkdir(&at(rt, alloc, "/forms/folder"), &folder)
+        .expect(rt, "mkdir");
+}
+
+fn make_file(rt: &impl Abort, alloc: Global, fs: &mut HostFs<HostRuntime>) {
+    let file = at(rt, alloc, "/forms/folder/file");
+    let attributes = owned(rt, alloc, 0o104755, FILE_ROWS.as_slice());
+    create(rt, alloc, fs, &file, &attributes).expect(rt, "create");
+    fs.append(&file, b"hello\n").expect(rt, "append");
+}
+
+fn make_link(rt: &impl Abort, alloc: Global, fs: &mut HostFs<HostRuntime>) {
+    let link = at(rt, alloc, "/forms/folder/link");
+    let attributes = owned(rt, alloc, 0o120777, &[]);
+    symlink_to(rt, alloc, fs, &link, b"usr/bin", &attributes).expect(rt, "symlink");
 }
 
 fn check_meta(rt: &impl Abort, found: &Meta, mode: u32, rows: &[(&str, &str)]) {
@@ -247,84 +250,102 @@ fn check_meta(rt: &impl Abort, found: &Meta, mode: u32, rows: &[(&str, &str)]) {
     }
 }
 
-fn read_forms(rt: &impl Abort, alloc: Global, fs: &mut HostFs<HostRuntime>) -> Result<(), Fail> {
-    let Some(Node::Folder(folder)) = fs.stat(&path(alloc, "/forms/folder")?)? else {
-        panic!(rt; "no folder");
-    };
-    check_meta(rt, &folder, 0o041777, FOLDER_ROWS.as_slice());
-    let at = path(alloc, "/forms/folder/file")?;
-    let Some(Node::File { meta, len }) = fs.stat(&at)? else {
-        panic!(rt; "no file");
-    };
-    check_meta(rt, &meta, 0o104755, FILE_ROWS.as_slice());
-    assert_eq!(rt; len, 6);
-    assert!(rt; fs.read(&at)?.as_slice() == b"hello\n".as_slice());
-    assert!(rt; fs.read_part(&at, 4, 9)?.as_slice() == b"o\n".as_slice());
-    let Some(Node::Link { meta, target }) = fs.stat(&path(alloc, "/forms/folder/link")?)? else {
-        panic!(rt; "no link");
-    };
-    check_meta(rt, &meta, 0o120777, &[]);
-    assert!(rt; target.as_str() == "usr/bin");
-    assert_eq!(rt;
-        fs.list(&path(alloc, "/forms/folder")?)?.as_slice().len(),
-        2
-    );
-    Ok(())
+fn check_node(rt: &impl Abort, node: &Node) {
+    match node {
+        Node::Folder(meta) => check_meta(rt, meta, 0o041777, FOLDER_ROWS.as_slice()),
+        Node::File { meta, len } => {
+            check_meta(rt, meta, 0o104755, FILE_ROWS.as_slice());
+            assert_eq!(rt; *len, 6);
+        }
+        Node::Link { meta, target } => {
+            check_meta(rt, meta, 0o120777, &[]);
+            assert!(rt; target.as_str() == "usr/bin");
+        }
+    }
+}
+
+fn check_nodes(rt: &impl Abort, alloc: Global, fs: &mut HostFs<HostRuntime>) {
+    for text in ["/forms/folder", "/forms/folder/file", "/forms/folder/link"] {
+        let found = fs.stat(&at(rt, alloc, text)).expect(rt, "stat");
+        check_node(rt, &found.expect(rt, "a node"));
+    }
+    let file = at(rt, alloc, "/forms/folder/file");
+    let whole = fs.read(&file).expect(rt, "read");
+    assert!(rt; whole.as_slice() == b"hello\n".as_slice());
+    let part = fs.read_part(&file, 4, 9).expect(rt, "read_part");
+    assert!(rt; part.as_slice() == b"o\n".as_slice());
+}
+
+fn do_each(
+    rt: &impl Abort,
+    alloc: Global,
+    fs: &mut HostFs<HostRuntime>,
+    rows: &[(Call, &str, &str)],
+) {
+    for (call, from, to) in rows {
+        let (from, to) = (at(rt, alloc, from), at(rt, alloc, to));
+        answer(rt, alloc, fs, *call, &from, &to).expect(rt, "a call");
+    }
+    assert_eq!(rt; fs.faults(), 0);
 }
 
 // A link is a leaf, and no regular file.
 fn check_link(rt: &impl Abort, alloc: Global, fs: &mut HostFs<HostRuntime>) -> Result<(), Fail> {
+    let link = "/forms/folder/link";
     check_each(
         rt,
         alloc,
         fs,
         &[Call::Append, Call::SyncFile, Call::Read, Call::ReadPart],
-        &[("/forms/folder/link", FsErr::Missing)],
+        &[(link, FsErr::Missing)],
     )?;
-    check_same(
+    check_same(rt, alloc, fs, link, link, false)
+}
+
+fn move_and_remove(rt: &impl Abort, alloc: Global, fs: &mut HostFs<HostRuntime>) {
+    do_each(
         rt,
         alloc,
         fs,
-        "/forms/folder/link",
-        "/forms/folder/link",
-        false,
-    )?;
-    check_same(
-        rt,
-        alloc,
-        fs,
-        "/forms/folder/file",
-        "/forms/folder/file",
-        true,
-    )?;
-    let (from, to) = (
-        path(alloc, "/forms/folder/link")?,
-        path(alloc, "/forms/moved")?,
+        &[
+            (Call::Rename, "/forms/folder/link", "/forms/moved"),
+            (Call::Link, "/forms/moved", "/forms/folder/link"),
+            (Call::Unlink, "/forms/moved", "/"),
+            (Call::Unlink, "/forms/folder/link", "/"),
+            (Call::Unlink, "/forms/folder/file", "/"),
+            (Call::Rmdir, "/forms/folder", "/"),
+        ],
     );
-    fs.rename(&from, &to)?;
-    fs.link(&to, &from)?;
-    fs.unlink(&to)?;
-    fs.unlink(&from)?;
-    fs.unlink(&path(alloc, "/forms/folder/file")?)?;
-    fs.rmdir(&path(alloc, "/forms/folder")?)?;
-    fs.sync_all()?;
-    assert_eq!(rt; fs.faults(), 0);
-    Ok(())
 }
 
 #[test]
 fn keeps_links_and_attributes(rt: HostRuntime) -> Result<(), Fail> {
     let alloc = rt.alloc();
     fresh(&rt, "forms")?;
-    write_forms(&rt, alloc, &mut HostFs::new(rt.clone()?)?)?;
+    let mut fs = HostFs::new(rt.clone()?)?;
+    make_folder(&rt, alloc, &mut fs);
+    make_file(&rt, alloc, &mut fs);
+    make_link(&rt, alloc, &mut fs);
     let file = fs::read(&rt, "forms/folder/file")?;
     check_stored(&rt, &file, WITH_ATTRIBUTES, b"hello\n");
     check_stored(&rt, &fs::read(&rt, "forms/folder/link")?, LINK, b"");
     let attributes = fs::read(&rt, "forms/folder/.ost-folder")?;
     check_stored(&rt, &attributes, FOLDER, b"");
+    Ok(())
+}
+
+#[test]
+fn reads_links_and_attributes(rt: HostRuntime) -> Result<(), Fail> {
+    let alloc = rt.alloc();
+    fresh(&rt, "forms")?;
+    let mut fs = HostFs::new(rt.clone()?)?;
+    make_folder(&rt, alloc, &mut fs);
+    make_file(&rt, alloc, &mut fs);
+    make_link(&rt, alloc, &mut fs);
     let mut again = HostFs::new(rt.clone()?)?;
-    read_forms(&rt, alloc, &mut again)?;
+    check_nodes(&rt, alloc, &mut again);
     check_link(&rt, alloc, &mut again)?;
+    move_and_remove(&rt, alloc, &mut again);
     fs::remove_dir(&rt, "forms")?;
     Ok(())
 }
@@ -677,23 +698,6 @@ fn leaves_reserved_names_alone(rt: HostRuntime) -> Result<(), Fail> {
 }
 
 // A call that was cut off may have left a file or a folder under the name for what is new.
-fn check_after_cut(
-    rt: &impl Abort,
-    alloc: Global,
-    fs: &mut HostFs<HostRuntime>,
-) -> Result<(), Fail> {
-    let folder = path(alloc, "/cut/folder")?;
-    assert!(rt; fs.list(&folder)?.as_slice().is_empty());
-    let leaf = path(alloc, "/cut/leaf")?;
-    create(rt, alloc, fs, &leaf, &meta(alloc, 0, 0, 0o100644))?;
-    check_file(rt, fs, &leaf, (0, 0, 0o100644, b""))?;
-    fs.unlink(&leaf)?;
-    fs.rmdir(&folder)?;
-    fs.sync_all()?;
-    assert_eq!(rt; fs.faults(), 0);
-    Ok(())
-}
-
 #[test]
 fn goes_on_after_a_call_that_was_cut_off(rt: HostRuntime) -> Result<(), Fail> {
     let alloc = rt.alloc();
@@ -703,7 +707,16 @@ fn goes_on_after_a_call_that_was_cut_off(rt: HostRuntime) -> Result<(), Fail> {
     fs::write(&rt, "cut/folder/.ost-new", b"cut")?;
     fs::create_dir(&rt, "cut/.ost-new")?;
     fs::write(&rt, "cut/.ost-new/.ost-folder", b"")?;
-    check_after_cut(&rt, alloc, &mut HostFs::new(rt.clone()?)?)?;
+    do_each(
+        &rt,
+        alloc,
+        &mut HostFs::new(rt.clone()?)?,
+        &[
+            (Call::Create, "/cut/leaf", "/"),
+            (Call::Unlink, "/cut/leaf", "/"),
+            (Call::Rmdir, "/cut/folder", "/"),
+        ],
+    );
     fs::remove_dir(&rt, "cut")?;
     Ok(())
 }
