@@ -1,0 +1,132 @@
+-- What stands at and below a ref's path where no leaf stands there: what each step needs, writes and answers.
+use Rattle.std.specs.Prelude.{◌≡◌, ◌≢◌, ◌⊎◌, ◌≤◌, ◌<◌, ◌+◌, ◌-◌, ◌*◌, ◌++◌, ◌∷◌, ℕ, Bool, true, false, List, [], length, Contains, Option, Some, None, Result, Ok, Err}
+use Rattle.std.specs.List.Sorted.{IsStrictlySortedBy}
+use Rattle.std.specs.Cmp.Lexicographic.{slice_cmp}
+use Rattle.std.specs.Ordering.{nat_cmp}
+use Rattle.std.specs.declared.cmp.Ordering.TheVariants.{Less}
+use Rattle.ost_types.specs.Path.{Name, Path, IsPath, is_below, path_cmp}
+use Rattle.fs_trait.specs.declared.types.FsErr.{FsErr}
+use Rattle.fs_trait.specs.declared.types.FsErr.TheVariants.{Failed, NoMemory, NotEmpty}
+use Rattle.fs_trait.specs.declared.task.Turn.{Turn}
+use Rattle.fs_trait.specs.declared.task.Turn.TheVariants.{More, Done}
+use Rattle.fs_trait.specs.View.{View}
+use Rattle.fs_trait.specs.Seen.{Seen, Vacant, Directory, Symlink, Leaf, shows, IsDirectory}
+use Rattle.fs_trait.specs.Effect.{Next}
+use Rattle.repo_layout.specs.RefName.{IsRefName}
+use Rattle.repo_layout.specs.Paths.{ref_path}
+use Rattle.ref_room.specs.Clash.{IsLeastClash}
+
+-- The ref's name, the paths that weren't looked at yet, the folders that were found and not removed, ascending, and the least
+-- clash so far.
+pub record Cleared : Type 0 where
+  pub name : List ℕ
+  pub pending : List Path
+  pub folders : List Path
+  pub least : Option (List ℕ)
+
+-- the task at its beginning
+abbrev pub begun : List ℕ → Cleared
+begun name = record { name = name; pending = ref_path name ∷ []; folders = []; least = None }
+
+-- what the next step does: it looks at a path, tells the clash, removes a folder, or nothing
+pub data Act : Type 0 where
+  Looks : Act
+  Says : List ℕ → Act
+  Removes : Act
+  Ends : Act
+
+abbrev pub act_of : List Path → List Path → Option (List ℕ) → Act
+act_of (p ∷ pending) folders least = Looks
+act_of [] folders (Some other) = Says other
+act_of [] (f ∷ folders) None = Removes
+act_of [] [] None = Ends
+
+abbrev pub act : Cleared → Act
+act t = act_of t.pending t.folders t.least
+
+-- what a step changed in the task
+abbrev pub IsStepped : Cleared → Result (Turn (Option (List ℕ))) FsErr → Cleared → Type 0
+IsStepped old (Ok More) new = (new.name ≡ old.name) × ((act old ≡ Looks) ⊎ ((act old ≡ Removes) × (new.pending ≡ []) × (new.least ≡ None) × ((f : Path) × (old.folders ≡ new.folders ++ f ∷ []))))
+IsStepped old (Ok (Done (Some other))) new = (new ≡ old) × (act old ≡ Says other)
+IsStepped old (Ok (Done None)) new = (new ≡ old) × (act old ≡ Ends)
+IsStepped old (Err e) new = new ≡ old
+
+-- no more steps than this are left, whatever is found: as many folders and as many paths as there is memory for
+abbrev pub left_by : Act → Cleared → ℕ
+left_by Looks t = (9223372036854775808 - length t.folders) * 18446744073709551616 + length t.pending
+left_by (Says other) t = 1
+left_by Removes t = length t.folders + 1
+left_by Ends t = 1
+
+abbrev pub left : Cleared → ℕ
+left t = left_by (act t) t
+
+-- how a step moves the clock
+abbrev pub Takes : Act → ℕ → ℕ → Type 0
+Takes Removes before now = Next before now
+Takes a before now = now ≡ before
+
+-- the folder that the next step removes is the last
+abbrev pub IsRemoved : Cleared → Path → Type 0
+IsRemoved t p = (act t ≡ Removes) × ((rest : List Path) × (t.folders ≡ rest ++ p ∷ []))
+
+-- what the next step may write
+abbrev pub WritesOf : Cleared → View → Path → Seen → Type 0
+WritesOf t v p s = IsRemoved t p × (s ≡ Vacant) × IsDirectory (shows v.now p)
+
+abbrev pub IsLeaf : Seen → Type 0
+IsLeaf (Symlink m l) = Unit {0}
+IsLeaf (Leaf n m b) = Unit {0}
+IsLeaf s = ⊥
+
+-- no ref has this path
+abbrev pub IsNoRef : Path → Type 0
+IsNoRef p = (other : List ℕ) → IsRefName other → ¬ (ref_path other ≡ p)
+
+-- What the task leaves where it is: a leaf that is no ref, or what has too long a path to be looked at.
+abbrev pub IsAside : Path → Seen → Type 0
+IsAside p s = IsNoRef p × (IsLeaf s ⊎ (¬ (IsPath p)))
+
+-- a ref that isn't less than the least so far
+abbrev pub IsCounted : Option (List ℕ) → Path → Seen → Type 0
+IsCounted (Some least) p s = IsLeaf s × ((other : List ℕ) × IsRefName other × (ref_path other ≡ p) × (slice_cmp nat_cmp other least ≢ Less))
+IsCounted None p s = ⊥
+
+-- the path or one above it is yet to be looked at
+abbrev pub IsAhead : List Path → Path → Type 0
+IsAhead pending p = (q : Path) × Contains pending q × (is_below q p ≡ true)
+
+-- What the task knows of a path below the ref's: it is ahead, or a folder that was found, or vacant, or a ref that counts, or
+-- it is left aside.
+abbrev pub IsKnown : Cleared → Path → Seen → Type 0
+IsKnown t p s = IsAhead t.pending p ⊎ Contains t.folders p ⊎ (s ≡ Vacant) ⊎ IsCounted t.least p s ⊎ IsAside p s
+
+-- What it needs of each path: that it is known, that no leaf stands at the ref's own, that the folders are there, and that the
+-- least clash is.
+pub record HereOf (t : Cleared) (p : Path) (s : Seen) : Type 0 where
+  pub known : is_below (ref_path t.name) p ≡ true → IsKnown t p s
+  pub own : p ≡ ref_path t.name → ¬ (IsLeaf s)
+  pub folder : Contains t.folders p → IsDirectory s
+  pub least : (other : List ℕ) → t.least ≡ Some other → p ≡ ref_path other → IsLeaf s
+
+-- What the next step needs.
+pub record Needs (t : Cleared) (v : View) : Type 0 where
+  pub named : IsRefName t.name
+  pub pending : (p : Path) → Contains t.pending p → is_below (ref_path t.name) p ≡ true
+  pub folders : (p : Path) → Contains t.folders p → is_below (ref_path t.name) p ≡ true
+  pub ascending : IsStrictlySortedBy path_cmp t.folders
+  pub least : (other : List ℕ) → t.least ≡ Some other → IsRefName other × (is_below (ref_path t.name) (ref_path other) ≡ true)
+  pub here : (p : Path) → HereOf t p (shows v.now p)
+
+-- What a step tells of what reads see.
+abbrev pub Tells : Cleared → View → Turn (Option (List ℕ)) → Type 0
+Tells t v More = Unit {0}
+Tells t v (Done (Some other)) = IsLeastClash v.now t.name other
+Tells t v (Done None) = shows v.now (ref_path t.name) ≡ Vacant
+
+-- Why a step isn't done: the call failed or wanted for memory, or in the folder something is left aside.
+abbrev pub Refuses : Cleared → View → FsErr → Type 0
+Refuses t v Failed = Unit {0}
+Refuses t v NoMemory = Unit {0}
+Refuses t v NotEmpty = (act t ≡ Removes) × ((p : Path) × (is_below (ref_path t.name) p ≡ true) × (shows v.now p ≢ Vacant) × IsAside p (shows v.now p))
+Refuses t v e = ⊥

@@ -1,0 +1,4 @@
+pub mod Turns
+pub mod Clash
+pub mod Way
+pub mod Clearing

@@ -1,0 +1,167 @@
+ghost use Rattle.std.specs.Prelude.{◌≡◌, ◌⊎◌, ◌≤◌, ◌<◌, ◌+◌, ℕ, Option, Some, OnOk, IfOk, IfErr};
+ghost use Rattle.fs_trait.specs.View.{View};
+ghost use Rattle.fs_trait.specs.Image.{Told};
+ghost use Rattle.fs_trait.specs.Effect.{Elapses, HasCause, OfEmptying};
+ghost use Rattle.fs_trait.specs.Change.{Writes};
+ghost use Rattle.ref_room.specs.Turns.{OnMore};
+ghost use Rattle.ref_room.specs.Clearing.{Cleared, Act, Looks, Removes, Needs, WritesOf, IsStepped, Refuses, Takes, Tells, act, begun, left};
+
+use crate::name::ref_at;
+use fs_trait::{Fs, FsErr, Node, Turn};
+use ost_types::{FsPath, Names, NoMemory, TryCopy};
+use repo_layout::{RefName, ref_path};
+use std::alloc::Global;
+use std::collections::BTreeSet;
+use std::marker::Model;
+
+/// The task that makes room at a ref's path where no leaf stands, a step at a time: it looks at all that stands there and
+/// below. Where a ref stands below, it tells the first of them by the bytes of the names, and removes nothing. Else it removes
+/// the folders that it found.
+#[derive(Drop, Debug)]
+pub struct Clearing {
+    name: RefName,
+    // what wasn't looked at yet
+    pending: Vec<FsPath>,
+    folders: BTreeSet<FsPath>,
+    least: Option<RefName>,
+    alloc: Global,
+}
+
+impl Model for Clearing {
+    ghost use Rattle.ref_room.specs.Clearing.{Cleared};
+
+    ghost Value = { Cleared };
+
+    ghost view = { λ a. record { name = a.name; pending = a.pending.items; folders = a.folders.keys; least = a.least } };
+}
+
+impl Clearing {
+    /// The task for the ref's path, at which no leaf stands.
+    pub fn new(alloc: Global, name: RefName) -> Result<Clearing, NoMemory>
+        ensures { IfOk result (λ t. t ≡ begun name) }
+    {
+        let mut pending = Vec::new(alloc);
+        pending.push(ref_path(alloc, &name)?)?;
+        Ok(Clearing {
+            name,
+            pending,
+            folders: BTreeSet::new(alloc),
+            least: None,
+            alloc,
+        })
+    }
+
+    /// At most so many steps are left, whatever is found.
+    pub fn left(&self) -> u128
+        ensures { result ≡ left self.now }
+    {
+        let folders = self.folders.len() as u128;
+        if !self.pending.is_empty() {
+            ((1 << 63) - folders) * (1 << 64) + self.pending.len() as u128
+        } else if self.least.is_some() {
+            1
+        } else {
+            folders + 1
+        }
+    }
+
+    /// Does the next step: at most one changing call, or two reading calls. It is done with the least clash where refs stand
+    /// below the path, or with None when nothing stands at the path. After an error the task is unchanged, so that the step may
+    /// be tried again.
+    pub fn step<F: Fs>(&mut self, fs: &mut F) -> Result<Turn<Option<RefName>>, FsErr>
+        requires { (v : View) → F.view fs.old ≡ Some v → Needs self.old v }
+        ensures writes { (v : View) → F.view fs.old ≡ Some v → Told (F.view fs.new) (λ w. Writes (WritesOf self.old v) v w) }
+        ensures after { (v : View) → F.view fs.old ≡ Some v → OnOk result (Told (F.view fs.new) (λ w. Needs self.new w)) }
+        ensures tells { (v : View) → F.view fs.old ≡ Some v → IfOk result (Tells self.old v) }
+        ensures fails { (v : View) → F.view fs.old ≡ Some v → IfErr result (Refuses self.old v) }
+        ensures named { IfErr result OfEmptying }
+        ensures stepped { IsStepped self.old result self.new }
+        ensures falls { OnMore result (left self.new < left self.old) }
+        ensures time { Elapses (F.clock fs.old) (F.clock fs.new) (F.was fs.old) (F.was fs.new) (F.view fs.new) }
+        ensures ticks { OnOk result (Takes (act self.old) (F.clock fs.old) (F.clock fs.new)) }
+        ensures cause { HasCause (F.faults fs.old) (F.faults fs.new) result }
+        ensures room { F.spare fs.old ≤ F.spare fs.new + 1 }
+    {
+        if !self.pending.is_empty() {
+            return self.look(fs);
+        }
+        if let Some(other) = &self.least {
+            return Ok(Turn::Done(Some(other.copy()?)));
+        }
+        if self.folders.is_empty() {
+            return Ok(Turn::Done(None));
+        }
+        self.remove(fs)
+    }
+
+    // looks at the path that was found last
+    fn look<F: Fs>(&mut self, fs: &mut F) -> Result<Turn<Option<RefName>>, FsErr>
+    {
+        let at = &self.pending[self.pending.len() - 1];
+        match fs.stat(at)? {
+            None => {
+                self.pending.pop();
+            }
+            Some(Node::Folder(_)) => {
+                let names = fs.list(at)?;
+                self.found_folder(&names)?;
+            }
+            Some(_) => {
+                let other = ref_at(self.alloc, at)?;
+                self.found_leaf(other);
+            }
+        }
+        Ok(Turn::More)
+    }
+
+    // the last path is a leaf
+    fn found_leaf(&mut self, other: Option<RefName>) {
+        self.pending.pop();
+        if let Some(other) = other {
+            let is_less = match &self.least {
+                Some(least) => other < *least,
+                None => true,
+            };
+            if is_less {
+                self.least = Some(other);
+            }
+        }
+    }
+
+    // the last path is a folder with these names
+    fn found_folder(&mut self, names: &Names) -> Result<(), NoMemory> {
+        let at = &self.pending[self.pending.len() - 1];
+        let mut inside = paths_in(self.alloc, at, names)?;
+        let folder = at.copy()?;
+        self.pending.reserve(inside.len())?;
+        let is_new = self.folders.insert(folder)?;
+        self.pending.pop();
+        if is_new {
+            self.pending.append(&mut inside)?;
+        }
+        Ok(())
+    }
+
+    // removes the last folder, which has no other below it
+    fn remove<F: Fs>(&mut self, fs: &mut F) -> Result<Turn<Option<RefName>>, FsErr>
+    {
+        let Some(folder) = self.folders.last() else {
+            return Ok(Turn::Done(None));
+        };
+        fs.rmdir(folder)?;
+        self.folders.pop_last();
+        Ok(Turn::More)
+    }
+}
+
+// the paths of the names in the folder, as far as they are within the bounds of a path
+fn paths_in(alloc: Global, folder: &FsPath, names: &Names) -> Result<Vec<FsPath>, NoMemory>
+{
+    let mut paths = Vec::new(alloc);
+    for name in names.as_slice() {
+        if folder.can_hold(name) {
+            paths.push(folder.child(name)?)?;
+        }
+    }
+    Ok(paths)
+}

@@ -1,0 +1,12 @@
+//! Room for a ref's file: the folders on the way to its path are made, and empty folders at the path are removed, a step at
+//! a time; a ref that can't stand beside it is told.
+#![tactic(auto)]
+
+mod clearing;
+mod folder;
+mod name;
+mod way;
+
+pub use clearing::Clearing;
+pub use folder::ref_folder;
+pub use way::{Leg, Way};
