@@ -43,3 +43,7 @@ IsFree d name = (other : List ℕ) → ¬ (IsClash d name other)
 -- No leaf stands where a folder on the way has to be.
 abbrev pub IsFreeAbove : Disk → List ℕ → Type 0
 IsFreeAbove d name = (other : List ℕ) → IsAbove other name → ¬ (is_leaf (d.at (ref_path other)) ≡ true)
+
+-- no ref has this path
+abbrev pub IsNoRef : Path → Type 0
+IsNoRef p = (other : List ℕ) → IsRefName other → ¬ (ref_path other ≡ p)

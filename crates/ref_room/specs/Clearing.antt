@@ -14,7 +14,7 @@ use Rattle.fs_trait.specs.Seen.{Seen, Vacant, Directory, Symlink, Leaf, shows, I
 use Rattle.fs_trait.specs.Effect.{Next}
 use Rattle.repo_layout.specs.RefName.{IsRefName}
 use Rattle.repo_layout.specs.Paths.{ref_path}
-use Rattle.ref_room.specs.Clash.{IsLeastClash}
+use Rattle.ref_room.specs.Clash.{IsLeastClash, IsNoRef}
 
 -- The ref's name, the paths that weren't looked at yet, the folders that were found and not removed, ascending, and the least
 -- clash so far.
@@ -78,10 +78,6 @@ abbrev pub IsLeaf : Seen → Type 0
 IsLeaf (Symlink m l) = Unit {0}
 IsLeaf (Leaf n m b) = Unit {0}
 IsLeaf s = ⊥
-
--- no ref has this path
-abbrev pub IsNoRef : Path → Type 0
-IsNoRef p = (other : List ℕ) → IsRefName other → ¬ (ref_path other ≡ p)
 
 -- What the task leaves where it is: a leaf that is no ref, or what has too long a path to be looked at.
 abbrev pub IsAside : Path → Seen → Type 0

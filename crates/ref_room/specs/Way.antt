@@ -15,7 +15,7 @@ use Rattle.repo_layout.specs.Paths.{ref_path}
 use Rattle.repo_layout.specs.Refs.{is_leaf}
 use Rattle.ref_room.specs.declared.way.Leg.{Leg}
 use Rattle.ref_room.specs.declared.way.Leg.TheVariants.{Make, Sync, Over}
-use Rattle.ref_room.specs.Clash.{way_to, IsLeastClash, IsFreeAbove}
+use Rattle.ref_room.specs.Clash.{way_to, IsLeastClash, IsFreeAbove, IsNoRef}
 
 -- The ref's name, how many of its parts are folders that outlast a crash, and what is to be done for the next part.
 pub record Walked : Type 0 where
@@ -105,6 +105,7 @@ HereOf t = here_in t.leg t
 -- What the next step needs.
 pub record Needs (t : Walked) (v : View) : Type 0 where
   pub named : IsRefName t.name
+  pub place : leg_of t.leg t.reached t.name
   pub meets : Meets (FirmOf t) (HereOf t) v
 
 -- What a step tells of what reads see.
@@ -117,5 +118,11 @@ Tells t v (Done None) = IsFreeAbove v.now t.name
 abbrev pub Refuses : Walked → View → FsErr → Type 0
 Refuses t v Failed = Unit {0}
 Refuses t v NoMemory = Unit {0}
-Refuses t v Exists = (t.leg ≡ Make) × (is_leaf (v.now.at (next_folder t)) ≡ true) × ((other : List ℕ) → IsRefName other → ¬ (ref_path other ≡ next_folder t))
+Refuses t v Exists = (t.leg ≡ Make) × (is_leaf (v.now.at (next_folder t)) ≡ true) × IsNoRef (next_folder t)
 Refuses t v e = ⊥
+
+-- why no ref's name is told for a leaf at a path
+abbrev pub NoClash : Path → FsErr → Type 0
+NoClash p NoMemory = Unit {0}
+NoClash p Exists = IsNoRef p
+NoClash p e = ⊥

@@ -1,5 +1,5 @@
 //! The folders of refs.
-ghost use Rattle.std.specs.Prelude.{◌≡◌, IfOk};
+ghost use Rattle.std.specs.Prelude.{◌≡◌, ◌≤◌, IfOk, length, take};
 ghost use Rattle.ref_room.specs.Clash.{ref_folder};
 ghost use Rattle.ref_room.specs.Way.{folder_meta};
 
@@ -15,12 +15,19 @@ pub fn ref_folder(alloc: Global, name: &RefName) -> Result<FsPath, NoMemory>
     ensures { IfOk result (λ p. p ≡ ref_folder name.now) }
 {
     let at = ref_path(alloc, name)?;
-    let names = at.names();
-    let mut folder = folder_path(alloc, Folder::Heads)?;
-    for part in &names[HEADS..names.len() - 1] {
-        folder = folder.child(part)?;
+    front(alloc, &at, at.names().len() - 1)
+}
+
+// the path of the first names
+fn front(alloc: Global, path: &FsPath, count: usize) -> Result<FsPath, NoMemory>
+    requires { count ≤ length path.now }
+    ensures { IfOk result (λ p. p ≡ take count path.now) }
+{
+    let mut front = FsPath::root(alloc);
+    for name in &path.names()[..count] {
+        front = front.child(name)?;
     }
-    Ok(folder)
+    Ok(front)
 }
 
 /// The attributes of a folder of refs: owner 0, group 0, mode 0o040755.

@@ -1,7 +1,7 @@
 //! The ref that has a path.
-ghost use Rattle.std.specs.Prelude.{◌≡◌, List, ℕ, IfOk, IfSome, None};
-ghost use Rattle.repo_layout.specs.RefName.{IsRefName};
+ghost use Rattle.std.specs.Prelude.{◌≡◌, IfOk, IfSome, None};
 ghost use Rattle.repo_layout.specs.Paths.{ref_path};
+ghost use Rattle.ref_room.specs.Clash.{IsNoRef};
 
 use ost_types::{FsPath, NoMemory};
 use repo_layout::{RefName, ref_path};
@@ -13,7 +13,7 @@ const HEADS: &[u8] = b"/ostree/repo/refs/heads/";
 /// The ref whose file has this path, or None where no ref's has.
 pub fn ref_at(alloc: Global, at: &FsPath) -> Result<Option<RefName>, NoMemory>
     ensures some { IfOk result (λ found. IfSome found (λ name. ref_path name ≡ at.now)) }
-    ensures none { IfOk result (λ found. found ≡ None → (name : List ℕ) → IsRefName name → ¬ (ref_path name ≡ at.now)) }
+    ensures none { IfOk result (λ found. found ≡ None → IsNoRef at.now) }
 {
     let text = at.text()?;
     let Some(rest) = text.as_slice().strip_prefix(HEADS) else {

@@ -8,7 +8,7 @@ ghost use Rattle.repo_layout.specs.Paths.{ref_path};
 ghost use Rattle.ref_room.specs.declared.way.Leg.TheVariants as leg;
 ghost use Rattle.ref_room.specs.Clash.{ref_folder, way_to};
 ghost use Rattle.ref_room.specs.Turns.{OnMore};
-ghost use Rattle.ref_room.specs.Way.{Walked, Needs, WritesOf, IsStepped, Refuses, Takes, Tells, begun, is_over, left, next, next_folder};
+ghost use Rattle.ref_room.specs.Way.{Walked, Needs, NoClash, WritesOf, IsStepped, Refuses, Takes, Tells, begun, is_over, left, next, next_folder};
 
 use crate::folder::{HEADS, folder_meta};
 use crate::name::ref_at;
@@ -46,7 +46,7 @@ pub struct Way {
 
 impl Model for Way {
     ghost use Rattle.std.specs.Prelude.{◌≡◌, ◌<◌, ◌+◌, length};
-    ghost use Rattle.repo_layout.specs.RefName.{parts_of};
+    ghost use Rattle.repo_layout.specs.RefName.{IsRefName, parts_of};
     ghost use Rattle.repo_layout.specs.Paths.{ref_path};
     ghost use Rattle.ref_room.specs.Clash.{way_to};
     ghost use Rattle.ref_room.specs.Way.{Walked, folder_meta, leg_of};
@@ -55,7 +55,7 @@ impl Model for Way {
 
     ghost view = { λ a. record { name = a.name; reached = a.reached; leg = a.leg } };
 
-    ghost invariant = { λ a. (a.at ≡ ref_path a.name) × (a.folder ≡ way_to a.reached a.name) × (a.next ≡ way_to (a.reached + 1) a.name) × (a.meta ≡ folder_meta) × (a.reached < length (parts_of a.name)) × leg_of a.leg a.reached a.name };
+    ghost invariant = { λ a. (a.at ≡ ref_path a.name) × (a.folder ≡ way_to a.reached a.name) × (a.next ≡ way_to (a.reached + 1) a.name) × (a.meta ≡ folder_meta) × (a.reached < length (parts_of a.name)) × leg_of a.leg a.reached a.name × IsRefName a.name };
 }
 
 impl Way {
@@ -149,17 +149,19 @@ impl Way {
         match fs.stat(&self.next)? {
             None => fs.mkdir(&self.next, &self.meta)?,
             Some(Node::Folder(_)) => {}
-            Some(_) => return self.clash(),
+            Some(_) => return Ok(Turn::Done(Some(self.clash()?))),
         }
         self.leg = Leg::Sync;
         Ok(Turn::More)
     }
 
-    // a leaf stands in the next folder's place
-    fn clash(&self) -> Result<Turn<Option<RefName>>, FsErr>
+    // the ref that stands in the next folder's place
+    fn clash(&self) -> Result<RefName, FsErr>
+        ensures ok { IfOk result (λ other. ref_path other ≡ next_folder self.now) }
+        ensures err { IfErr result (NoClash (next_folder self.now)) }
     {
         match ref_at(self.alloc, &self.next)? {
-            Some(other) => Ok(Turn::Done(Some(other))),
+            Some(other) => Ok(other),
             None => Err(FsErr::Exists),
         }
     }
