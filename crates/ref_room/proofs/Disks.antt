@@ -13,6 +13,8 @@ use Rattle.fs_trait.specs.View.{Disk, View}
 use Rattle.fs_trait.specs.Image.{is_folder, IsTree}
 use Rattle.fs_trait.specs.Seen.{Seen, Vacant, seen, shows, MayShow, IsDirectory}
 use Rattle.repo_layout.specs.Refs.{is_leaf}
+use Rattle.ref_room.specs.declared.stands.Stands.TheVariants as Stands
+use Rattle.ref_room.specs.Stands.{stands}
 
 pub leaf_no_folder : (z : Value) → is_leaf z ≡ true → is_folder z ≡ false
 leaf_no_folder Absent e = let n : false ≡ true = e in cc
@@ -50,3 +52,22 @@ not_less Greater e is = let n : Greater ≡ Less = is in cc
 
 pub self_not_less : (a : List ℕ) → slice_cmp nat_cmp a a ≢ Less
 self_not_less a = not_less (slice_cmp nat_cmp a a) (nat_list_cmp_total.antisymm a a)
+
+-- what a look tells
+pub looked_nothing : (z : Value) → Stands.Nothing ≡ stands z → z ≡ Absent
+looked_nothing Absent e = refl
+looked_nothing (Folder m) e = let n : Stands.Nothing ≡ Stands.Folder = e in cc
+looked_nothing (Link m l) e = let n : Stands.Nothing ≡ Stands.Leaf = e in cc
+looked_nothing (File n) e = let n : Stands.Nothing ≡ Stands.Leaf = e in cc
+
+pub looked_folder : (d : Disk) (z : Value) → Stands.Folder ≡ stands z → IsDirectory (seen d z)
+looked_folder d Absent e = let n : Stands.Folder ≡ Stands.Nothing = e in cc
+looked_folder d (Folder m) e = tt
+looked_folder d (Link m l) e = let n : Stands.Folder ≡ Stands.Leaf = e in cc
+looked_folder d (File n) e = let n : Stands.Folder ≡ Stands.Leaf = e in cc
+
+pub looked_leaf : (z : Value) → Stands.Leaf ≡ stands z → is_leaf z ≡ true
+looked_leaf Absent e = let n : Stands.Leaf ≡ Stands.Nothing = e in cc
+looked_leaf (Folder m) e = let n : Stands.Leaf ≡ Stands.Folder = e in cc
+looked_leaf (Link m l) e = refl
+looked_leaf (File n) e = refl

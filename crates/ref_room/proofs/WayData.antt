@@ -1,12 +1,13 @@
 -- What a way's paths say of one another.
-use Rattle.std.proofs.Common.{ltb-false, ltb-true, ◌≡◌, ◌≤◌, ◌<◌, ◌+◌, ◌-◌, ◌*◌, ℕ, Bool, true, false, List, length, get_or, refl, sym, ◌∙◌, ap, subst, arith, if◌then◌else◌}
+use Rattle.std.proofs.Common.{ltb-false, ltb-true, ◌≡◌, ◌≤◌, ◌<◌, ◌+◌, ◌-◌, ◌*◌, ℕ, Bool, true, false, List, length, take, ◌++◌, get_or, refl, sym, ◌∙◌, ap, subst, arith, if◌then◌else◌}
 use Rattle.std.specs.Prelude.{nat_lt}
+use Rattle.std.proofs.Math.Seq.{take-append-add}
 use Rattle.ost_types.specs.Path.{Name, Path, IsPath, under}
 use Rattle.repo_layout.specs.RefName.{parts_of}
-use Rattle.repo_layout.specs.Paths.{ref_path}
+use Rattle.repo_layout.specs.Paths.{heads, ref_path}
 use Rattle.ref_room.specs.declared.way.Leg.{Leg}
 use Rattle.ref_room.specs.declared.way.Leg.TheVariants.{Make, Sync, Over}
-use Rattle.ref_room.specs.Clash.{way_to}
+use Rattle.ref_room.specs.Clash.{way_to, ref_folder}
 use Rattle.ref_room.specs.Way.{leg_of, leg_at}
 use Rattle.ref_room.proofs.Names.{length-ref_path, some_parts, way_to-more, way_to-path}
 
@@ -44,3 +45,12 @@ leg_by_length at name k leg is e =
     let n = length-at at name is in
     let same : length at - 4 ≡ length (parts_of name) = omega (arith, n) in
     e ∙ ap (λ m. if nat_lt (k + 1) m then Make else Over) same
+
+-- the path without its last name
+pub folder_front : (at names : Path) (name : List ℕ) → at ≡ ref_path name → names ≡ at → take (length names - 1) at ≡ ref_folder name
+unfolding ref_path way_to
+folder_front at names name is same =
+    let n = length-at names name (same ∙ is) in
+    let some = some_parts name in
+    let count : length names - 1 ≡ length heads + (length (parts_of name) - 1) = omega (arith, n, some) in
+    ap (λ k. take k at) count ∙ ap (take (length heads + (length (parts_of name) - 1))) is ∙ take-append-add heads (parts_of name) (length (parts_of name) - 1)

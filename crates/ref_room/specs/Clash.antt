@@ -1,6 +1,6 @@
 -- Refs that can't stand beside each other (OSTree manual, "Anatomy of an OSTree repository", Refs: a ref is a file, and the
 -- parts of its name before the last are folders).
-use Rattle.std.specs.Prelude.{◌≡◌, ◌≢◌, ◌⊎◌, ◌++◌, ◌∷◌, ◌-◌, ℕ, true, List, length, take}
+use Rattle.std.specs.Prelude.{◌≡◌, ◌≢◌, ◌⊎◌, ◌++◌, ◌∷◌, ◌-◌, ℕ, true, List, length, take, codes}
 use Rattle.std.specs.Cmp.Lexicographic.{slice_cmp}
 use Rattle.std.specs.Ordering.{nat_cmp}
 use Rattle.std.specs.declared.cmp.Ordering.TheVariants.{Less}
@@ -47,3 +47,7 @@ IsFreeAbove d name = (other : List ℕ) → IsAbove other name → ¬ (is_leaf (
 -- no ref has this path
 abbrev pub IsNoRef : Path → Type 0
 IsNoRef p = (other : List ℕ) → IsRefName other → ¬ (ref_path other ≡ p)
+
+-- what the text of a ref's path begins with
+abbrev pub below_heads : List ℕ
+below_heads = codes "/ostree/repo/refs/heads/"

@@ -1,10 +1,9 @@
 -- What stands at and below a ref's path where no leaf stands there: what each step needs, writes and answers.
-use Rattle.std.specs.Prelude.{◌≡◌, ◌≢◌, ◌⊎◌, ◌≤◌, ◌<◌, ◌+◌, ◌-◌, ◌*◌, ◌++◌, ◌∷◌, ℕ, Bool, true, false, List, [], length, Contains, Option, Some, None, Result, Ok, Err}
-use Rattle.std.specs.List.Sorted.{IsStrictlySortedBy}
+use Rattle.std.specs.Prelude.{◌≡◌, ◌≢◌, ◌⊎◌, ◌≤◌, ◌<◌, ◌+◌, ◌-◌, ◌*◌, ◌++◌, ◌∷◌, ℕ, Bool, true, false, List, [], length, take, slice_index_or, Contains, if◌then◌else◌, Option, Some, None, Result, Ok, Err}
 use Rattle.std.specs.Cmp.Lexicographic.{slice_cmp}
-use Rattle.std.specs.Ordering.{nat_cmp}
+use Rattle.std.specs.Ordering.{nat_cmp, is_lt}
 use Rattle.std.specs.declared.cmp.Ordering.TheVariants.{Less}
-use Rattle.ost_types.specs.Path.{Name, Path, IsPath, is_below, path_cmp}
+use Rattle.ost_types.specs.Path.{Name, Path, IsPath, under}
 use Rattle.fs_trait.specs.declared.types.FsErr.{FsErr}
 use Rattle.fs_trait.specs.declared.types.FsErr.TheVariants.{Failed, NoMemory, NotEmpty}
 use Rattle.fs_trait.specs.declared.task.Turn.{Turn}
@@ -14,7 +13,7 @@ use Rattle.fs_trait.specs.Seen.{Seen, Vacant, Directory, Symlink, Leaf, shows, I
 use Rattle.fs_trait.specs.Effect.{Next}
 use Rattle.repo_layout.specs.RefName.{IsRefName}
 use Rattle.repo_layout.specs.Paths.{ref_path}
-use Rattle.ref_room.specs.Clash.{IsLeastClash, IsNoRef}
+use Rattle.ref_room.specs.Clash.{IsAbove, IsLeastClash, IsNoRef}
 
 -- The ref's name, the paths that weren't looked at yet, the folders that were found and not removed, ascending, and the least
 -- clash so far.
@@ -61,6 +60,35 @@ left_by Ends t = 1
 abbrev pub left : Cleared → ℕ
 left t = left_by (act t) t
 
+-- the path that the next step looks at
+abbrev pub top : Cleared → Path
+top t = slice_index_or t.pending (length t.pending - 1) []
+
+-- the task once a path was looked at
+abbrev pub passed : Cleared → Cleared
+passed t = record t { pending = take (length t.pending - 1) t.pending }
+
+-- the lesser of the clash so far and a ref that was found
+abbrev pub lesser : Option (List ℕ) → Option (List ℕ) → Option (List ℕ)
+lesser least None = least
+lesser None (Some other) = Some other
+lesser (Some least) (Some other) = if is_lt (slice_cmp nat_cmp other least) then Some other else Some least
+
+abbrev pub counted : Option (List ℕ) → Cleared → Cleared
+counted other t = record t { pending = take (length t.pending - 1) t.pending; least = lesser t.least other }
+
+-- The path that was looked at is a folder with these names: it is one of the folders, and all that it has is yet to be looked at,
+-- where it wasn't among them before.
+pub record IsOpened (names : List Name) (old new : Cleared) : Type 0 where
+  pub name : new.name ≡ old.name
+  pub least : new.least ≡ old.least
+  pub folders : (p : Path) → Contains new.folders p → Contains old.folders p ⊎ (p ≡ top old)
+  pub folders_kept : (p : Path) → Contains old.folders p → Contains new.folders p
+  pub found : Contains new.folders (top old)
+  pub pending : (p : Path) → Contains new.pending p → Contains old.pending p ⊎ ((x : Name) × (p ≡ under (top old) x))
+  pub pending_kept : (p : Path) → Contains old.pending p → Contains new.pending p ⊎ (p ≡ top old)
+  pub inside : (x : Name) → Contains names x → IsPath (under (top old) x) → Contains old.folders (top old) ⊎ Contains new.pending (under (top old) x)
+
 -- how a step moves the clock
 abbrev pub Takes : Act → ℕ → ℕ → Type 0
 Takes Removes before now = Next before now
@@ -81,37 +109,36 @@ IsLeaf s = ⊥
 
 -- What the task leaves where it is: a leaf that is no ref, or what has too long a path to be looked at.
 abbrev pub IsAside : Path → Seen → Type 0
-IsAside p s = IsNoRef p × (IsLeaf s ⊎ (¬ (IsPath p)))
+IsAside p s = (IsLeaf s × IsNoRef p) ⊎ (¬ (IsPath p))
 
 -- a ref that isn't less than the least so far
 abbrev pub IsCounted : Option (List ℕ) → Path → Seen → Type 0
-IsCounted (Some least) p s = IsLeaf s × ((other : List ℕ) × IsRefName other × (ref_path other ≡ p) × (slice_cmp nat_cmp other least ≢ Less))
+IsCounted (Some least) p s = IsLeaf s × ((other : List ℕ) × (ref_path other ≡ p) × (slice_cmp nat_cmp other least ≢ Less))
 IsCounted None p s = ⊥
 
--- the path or one above it is yet to be looked at
-abbrev pub IsAhead : List Path → Path → Type 0
-IsAhead pending p = (q : Path) × Contains pending q × (is_below q p ≡ true)
+-- at the ref's path or below
+abbrev pub IsUnder : List ℕ → Path → Type 0
+IsUnder name p = (rest : Path) × (p ≡ ref_path name ++ rest)
 
--- What the task knows of a path below the ref's: it is ahead, or a folder that was found, or vacant, or a ref that counts, or
--- it is left aside.
+-- What the task knows of a name in a folder that it found: it is yet to be looked at, or a folder that was found, or vacant, or
+-- a ref that counts, or left aside.
 abbrev pub IsKnown : Cleared → Path → Seen → Type 0
-IsKnown t p s = IsAhead t.pending p ⊎ Contains t.folders p ⊎ (s ≡ Vacant) ⊎ IsCounted t.least p s ⊎ IsAside p s
+IsKnown t p s = Contains t.pending p ⊎ Contains t.folders p ⊎ (s ≡ Vacant) ⊎ IsCounted t.least p s ⊎ IsAside p s
 
--- What it needs of each path: that it is known, that no leaf stands at the ref's own, that the folders are there, and that the
--- least clash is.
+-- What it needs of each path: that it is known, also the ref's own, where no leaf stands; that the folders are there, and that
+-- the least clash is.
 pub record HereOf (t : Cleared) (p : Path) (s : Seen) : Type 0 where
-  pub known : is_below (ref_path t.name) p ≡ true → IsKnown t p s
-  pub own : p ≡ ref_path t.name → ¬ (IsLeaf s)
+  pub known : (f : Path) (x : Name) → p ≡ under f x → Contains t.folders f → IsKnown t p s
+  pub own : p ≡ ref_path t.name → (Contains t.pending p ⊎ Contains t.folders p ⊎ (s ≡ Vacant)) × (¬ (IsLeaf s))
   pub folder : Contains t.folders p → IsDirectory s
   pub least : (other : List ℕ) → t.least ≡ Some other → p ≡ ref_path other → IsLeaf s
 
 -- What the next step needs.
 pub record Needs (t : Cleared) (v : View) : Type 0 where
   pub named : IsRefName t.name
-  pub pending : (p : Path) → Contains t.pending p → is_below (ref_path t.name) p ≡ true
-  pub folders : (p : Path) → Contains t.folders p → is_below (ref_path t.name) p ≡ true
-  pub ascending : IsStrictlySortedBy path_cmp t.folders
-  pub least : (other : List ℕ) → t.least ≡ Some other → IsRefName other × (is_below (ref_path t.name) (ref_path other) ≡ true)
+  pub pending : (p : Path) → Contains t.pending p → IsUnder t.name p
+  pub folders : (p : Path) → Contains t.folders p → IsUnder t.name p
+  pub least : (other : List ℕ) → t.least ≡ Some other → IsRefName other × IsAbove t.name other
   pub here : (p : Path) → HereOf t p (shows v.now p)
 
 -- What a step tells of what reads see.
@@ -124,5 +151,5 @@ Tells t v (Done None) = shows v.now (ref_path t.name) ≡ Vacant
 abbrev pub Refuses : Cleared → View → FsErr → Type 0
 Refuses t v Failed = Unit {0}
 Refuses t v NoMemory = Unit {0}
-Refuses t v NotEmpty = (act t ≡ Removes) × ((p : Path) × (is_below (ref_path t.name) p ≡ true) × (shows v.now p ≢ Vacant) × IsAside p (shows v.now p))
+Refuses t v NotEmpty = (act t ≡ Removes) × ((p : Path) × IsUnder t.name p × (shows v.now p ≢ Vacant) × IsAside p (shows v.now p))
 Refuses t v e = ⊥

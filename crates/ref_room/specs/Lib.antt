@@ -1,3 +1,4 @@
+pub mod Stands
 pub mod Turns
 pub mod Clash
 pub mod Way

@@ -5,6 +5,7 @@
 mod clearing;
 mod folder;
 mod name;
+mod stands;
 mod way;
 
 pub use clearing::Clearing;

@@ -4,6 +4,7 @@ ghost use Rattle.fs_trait.specs.View.{View};
 ghost use Rattle.fs_trait.specs.Image.{Told};
 ghost use Rattle.fs_trait.specs.Effect.{Elapses, HasCause, OfPlacing};
 ghost use Rattle.fs_trait.specs.Change.{Writes};
+ghost use Rattle.repo_layout.specs.RefName.{IsRefName};
 ghost use Rattle.repo_layout.specs.Paths.{ref_path};
 ghost use Rattle.ref_room.specs.declared.way.Leg.TheVariants as leg;
 ghost use Rattle.ref_room.specs.Clash.{ref_folder, way_to};
@@ -12,7 +13,8 @@ ghost use Rattle.ref_room.specs.Way.{Walked, Needs, NoClash, WritesOf, IsStepped
 
 use crate::folder::{HEADS, folder_meta};
 use crate::name::ref_at;
-use fs_trait::{Fs, FsErr, Node, Turn};
+use crate::stands::{Stands, look_at};
+use fs_trait::{Fs, FsErr, Turn};
 use ost_types::{FsPath, Meta, NoMemory};
 use repo_layout::{Folder, RefName, folder_path, ref_path};
 use std::alloc::Global;
@@ -146,18 +148,23 @@ impl Way {
         ensures cause { HasCause (F.faults fs.old) (F.faults fs.new) result }
         ensures room { F.spare fs.old ≤ F.spare fs.new + 1 }
     {
-        match fs.stat(&self.next)? {
-            None => fs.mkdir(&self.next, &self.meta)?,
-            Some(Node::Folder(_)) => {}
-            Some(_) => return Ok(Turn::Done(Some(self.clash()?))),
+        match look_at(fs, &self.next)? {
+            Stands::Nothing => {
+                fs.mkdir(&self.next, &self.meta)?;
+                self.leg = Leg::Sync;
+                Ok(Turn::More)
+            }
+            Stands::Folder => {
+                self.leg = Leg::Sync;
+                Ok(Turn::More)
+            }
+            Stands::Leaf => Ok(Turn::Done(Some(self.clash()?))),
         }
-        self.leg = Leg::Sync;
-        Ok(Turn::More)
     }
 
     // the ref that stands in the next folder's place
     fn clash(&self) -> Result<RefName, FsErr>
-        ensures ok { IfOk result (λ other. ref_path other ≡ next_folder self.now) }
+        ensures ok { IfOk result (λ other. IsRefName other × (ref_path other ≡ next_folder self.now)) }
         ensures err { IfErr result (NoClash (next_folder self.now)) }
     {
         match ref_at(self.alloc, &self.next)? {
