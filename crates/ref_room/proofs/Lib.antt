@@ -4,4 +4,7 @@ pub mod Answering
 pub mod Named
 pub mod WayData
 pub mod WaySteps
+pub mod Lists
 pub mod Begins
+pub mod Stable
+pub mod ClearingSteps

@@ -87,7 +87,7 @@ pub record IsOpened (names : List Name) (old new : Cleared) : Type 0 where
   pub found : Contains new.folders (top old)
   pub pending : (p : Path) → Contains new.pending p → Contains old.pending p ⊎ ((x : Name) × (p ≡ under (top old) x))
   pub pending_kept : (p : Path) → Contains old.pending p → Contains new.pending p ⊎ (p ≡ top old)
-  pub inside : (x : Name) → Contains names x → IsPath (under (top old) x) → Contains old.folders (top old) ⊎ Contains new.pending (under (top old) x)
+  pub inside : (x : Name) → Contains names x → Contains old.folders (top old) ⊎ Contains new.pending (under (top old) x) ⊎ (¬ (IsPath (under (top old) x)))
 
 -- how a step moves the clock
 abbrev pub Takes : Act → ℕ → ℕ → Type 0

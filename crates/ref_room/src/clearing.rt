@@ -1,13 +1,15 @@
-ghost use Rattle.std.specs.Prelude.{◌≡◌, ◌⊎◌, ◌≤◌, ◌<◌, ◌+◌, ℕ, Option, Some, OnOk, IfOk, IfErr};
+ghost use Rattle.std.specs.Prelude.{◌≡◌, ◌⊎◌, ◌≤◌, ◌<◌, ◌+◌, ℕ, Contains, Option, Some, OnOk, OnErr, IfOk, IfErr};
+ghost use Rattle.ost_types.specs.Path.{Name, Path, IsPath, under};
 ghost use Rattle.fs_trait.specs.View.{View};
 ghost use Rattle.fs_trait.specs.Image.{Told};
 ghost use Rattle.fs_trait.specs.Effect.{Elapses, HasCause, OfEmptying};
 ghost use Rattle.fs_trait.specs.Change.{Writes};
 ghost use Rattle.ref_room.specs.Turns.{OnMore};
-ghost use Rattle.ref_room.specs.Clearing.{Cleared, Act, Looks, Removes, Needs, WritesOf, IsStepped, Refuses, Takes, Tells, act, begun, left};
+ghost use Rattle.ref_room.specs.Clearing.{Cleared, Act, Looks, Removes, Needs, WritesOf, IsOpened, IsStepped, Refuses, Takes, Tells, act, begun, counted, left, lesser, passed, top};
 
 use crate::name::ref_at;
-use fs_trait::{Fs, FsErr, Node, Turn};
+use crate::stands::{Stands, look_at};
+use fs_trait::{Fs, FsErr, Turn};
 use ost_types::{FsPath, Names, NoMemory, TryCopy};
 use repo_layout::{RefName, ref_path};
 use std::alloc::Global;
@@ -96,43 +98,87 @@ impl Clearing {
 
     // looks at the path that was found last
     fn look<F: Fs>(&mut self, fs: &mut F) -> Result<Turn<Option<RefName>>, FsErr>
+        requires act { act self.old ≡ Looks }
+        requires needs { (v : View) → F.view fs.old ≡ Some v → Needs self.old v }
+        ensures writes { (v : View) → F.view fs.old ≡ Some v → Told (F.view fs.new) (λ w. Writes (WritesOf self.old v) v w) }
+        ensures after { (v : View) → F.view fs.old ≡ Some v → OnOk result (Told (F.view fs.new) (λ w. Needs self.new w)) }
+        ensures tells { (v : View) → F.view fs.old ≡ Some v → IfOk result (Tells self.old v) }
+        ensures fails { (v : View) → F.view fs.old ≡ Some v → IfErr result (Refuses self.old v) }
+        ensures named { IfErr result OfEmptying }
+        ensures stepped { IsStepped self.old result self.new }
+        ensures falls { OnMore result (left self.new < left self.old) }
+        ensures time { Elapses (F.clock fs.old) (F.clock fs.new) (F.was fs.old) (F.was fs.new) (F.view fs.new) }
+        ensures ticks { OnOk result (Takes (act self.old) (F.clock fs.old) (F.clock fs.new)) }
+        ensures cause { HasCause (F.faults fs.old) (F.faults fs.new) result }
+        ensures room { F.spare fs.old ≤ F.spare fs.new + 1 }
     {
-        let at = &self.pending[self.pending.len() - 1];
-        match fs.stat(at)? {
-            None => {
-                self.pending.pop();
+        match look_at(fs, self.top())? {
+            Stands::Nothing => {
+                self.pass();
+                Ok(Turn::More)
             }
-            Some(Node::Folder(_)) => {
-                let names = fs.list(at)?;
-                self.found_folder(&names)?;
+            Stands::Leaf => {
+                let other = ref_at(self.alloc, self.top())?;
+                self.count(other);
+                Ok(Turn::More)
             }
-            Some(_) => {
-                let other = ref_at(self.alloc, at)?;
-                self.found_leaf(other);
+            Stands::Folder => {
+                let names = fs.list(self.top())?;
+                self.open(&names)?;
+                Ok(Turn::More)
             }
         }
-        Ok(Turn::More)
     }
 
-    // the last path is a leaf
-    fn found_leaf(&mut self, other: Option<RefName>) {
+    fn top(&self) -> &FsPath
+        requires { act self.now ≡ Looks }
+        ensures { result.now ≡ top self.now }
+    {
+        &self.pending[self.pending.len() - 1]
+    }
+
+    // nothing stands at the path
+    fn pass(&mut self)
+        requires { act self.old ≡ Looks }
+        ensures value { self.new ≡ passed self.old }
+        ensures falls { left self.new < left self.old }
+    {
+        self.pending.pop();
+    }
+
+    // a leaf stands there, which is this ref or none
+    fn count(&mut self, other: Option<RefName>)
+        requires { act self.old ≡ Looks }
+        ensures value { self.new ≡ counted other self.old }
+        ensures falls { left self.new < left self.old }
+    {
         self.pending.pop();
         if let Some(other) = other {
-            let is_less = match &self.least {
-                Some(least) => other < *least,
-                None => true,
-            };
-            if is_less {
-                self.least = Some(other);
-            }
+            self.offer(other);
         }
     }
 
-    // the last path is a folder with these names
-    fn found_folder(&mut self, names: &Names) -> Result<(), NoMemory> {
-        let at = &self.pending[self.pending.len() - 1];
-        let mut inside = paths_in(self.alloc, at, names)?;
-        let folder = at.copy()?;
+    fn offer(&mut self, other: RefName)
+        ensures { self.new ≡ record self.old { least = lesser self.old.least (Some other) } }
+    {
+        let is_less = match &self.least {
+            Some(least) => other < *least,
+            None => true,
+        };
+        if is_less {
+            self.least = Some(other);
+        }
+    }
+
+    // a folder with these names stands there
+    fn open(&mut self, names: &Names) -> Result<(), NoMemory>
+        requires { act self.old ≡ Looks }
+        ensures ok { OnOk result (IsOpened names.now self.old self.new) }
+        ensures err { OnErr result (self.new ≡ self.old) }
+        ensures falls { OnOk result (left self.new < left self.old) }
+    {
+        let folder = self.top().copy()?;
+        let mut inside = paths_in(self.alloc, &folder, names)?;
         self.pending.reserve(inside.len())?;
         let is_new = self.folders.insert(folder)?;
         self.pending.pop();
@@ -144,6 +190,19 @@ impl Clearing {
 
     // removes the last folder, which has no other below it
     fn remove<F: Fs>(&mut self, fs: &mut F) -> Result<Turn<Option<RefName>>, FsErr>
+        requires act { act self.old ≡ Removes }
+        requires needs { (v : View) → F.view fs.old ≡ Some v → Needs self.old v }
+        ensures writes { (v : View) → F.view fs.old ≡ Some v → Told (F.view fs.new) (λ w. Writes (WritesOf self.old v) v w) }
+        ensures after { (v : View) → F.view fs.old ≡ Some v → OnOk result (Told (F.view fs.new) (λ w. Needs self.new w)) }
+        ensures tells { (v : View) → F.view fs.old ≡ Some v → IfOk result (Tells self.old v) }
+        ensures fails { (v : View) → F.view fs.old ≡ Some v → IfErr result (Refuses self.old v) }
+        ensures named { IfErr result OfEmptying }
+        ensures stepped { IsStepped self.old result self.new }
+        ensures falls { OnMore result (left self.new < left self.old) }
+        ensures time { Elapses (F.clock fs.old) (F.clock fs.new) (F.was fs.old) (F.was fs.new) (F.view fs.new) }
+        ensures ticks { OnOk result (Takes (act self.old) (F.clock fs.old) (F.clock fs.new)) }
+        ensures cause { HasCause (F.faults fs.old) (F.faults fs.new) result }
+        ensures room { F.spare fs.old ≤ F.spare fs.new + 1 }
     {
         let Some(folder) = self.folders.last() else {
             return Ok(Turn::Done(None));
@@ -156,6 +215,8 @@ impl Clearing {
 
 // the paths of the names in the folder, as far as they are within the bounds of a path
 fn paths_in(alloc: Global, folder: &FsPath, names: &Names) -> Result<Vec<FsPath>, NoMemory>
+    ensures each { IfOk result (λ paths. (p : Path) → Contains paths.items p → (x : Name) × (p ≡ under folder.now x)) }
+    ensures all { IfOk result (λ paths. (x : Name) → Contains names.now x → Contains paths.items (under folder.now x) ⊎ (¬ (IsPath (under folder.now x)))) }
 {
     let mut paths = Vec::new(alloc);
     for name in names.as_slice() {
