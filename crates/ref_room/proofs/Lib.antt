@@ -8,3 +8,5 @@ pub mod Lists
 pub mod Begins
 pub mod Stable
 pub mod ClearingSteps
+pub mod Falls
+pub mod Sets

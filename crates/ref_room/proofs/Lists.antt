@@ -3,7 +3,8 @@ use Rattle.std.proofs.Common.{◌≡◌, ◌≢◌, ◌⊎◌, inl, inr, ⊎_eli
 use Rattle.std.specs.Prelude.{Contains}
 use Rattle.std.proofs.lemmas.List.Elements.{Contains-append_left, Contains-append_right, Contains-append_cases}
 use Rattle.std.proofs.Math.Seq.{take-suc, take-length}
-use Rattle.ost_types.specs.Path.{Name, Path}
+use Rattle.std.proofs.lemmas.List.{take_all}
+use Rattle.ost_types.specs.Path.{Name, Path, IsPath, under}
 
 module _ {X : Type 0} where
   pub one : (x : X) → Contains (x ∷ []) x
@@ -40,3 +41,37 @@ module _ {X : Type 0} where
   last_apart xs d some =
       let n : suc (length xs - 1) ≡ length xs = omega (arith, some) in
       sym (take-length xs) ∙ ap (λ k. take k xs) (sym n) ∙ take-suc xs (length xs - 1) d (omega (arith, some))
+
+-- the paths of the names so far
+abbrev pub IsInside : Path → List Name → ℕ → List Path → Type 0
+IsInside f names i paths = ((p : Path) → Contains paths p → (y : Name) × (p ≡ under f y)) × ((y : Name) → Contains (take i names) y → Contains paths (under f y) ⊎ (IsPath (under f y) → ⊥))
+
+pub one_more_path : (f : Path) (names : List Name) (i : ℕ) (x : Name) (paths : List Path) → i < length names → x ≡ get_or names i x
+    → ((p : Path) → Contains paths p → (y : Name) × (p ≡ under f y)) × ((y : Name) → Contains (take i names) y → Contains paths (under f y) ⊎ (IsPath (under f y) → ⊥))
+    → ((p : Path) → Contains (paths ++ under f x ∷ []) p → (y : Name) × (p ≡ under f y)) × ((y : Name) → Contains (take (i + 1) names) y → Contains (paths ++ under f x ∷ []) (under f y) ⊎ (IsPath (under f y) → ⊥))
+one_more_path f names i x paths less is (each, all) = (
+  λ p has. ⊎_elim (λ a. each p a) (λ b. (x, Contains-one p (under f x) b)) (Contains-append_cases paths (under f x ∷ []) p has),
+  λ y has. ⊎_elim
+      (λ a. ⊎_elim (λ b. inl (Contains-append_left paths (under f x ∷ []) (under f y) b)) (λ none. inr none) (all y a))
+      (λ e. inl (subst (λ z. Contains (paths ++ under f x ∷ []) (under f z)) (sym e) (Contains-append_right paths (under f x ∷ []) (under f x) (one (under f x)))))
+      (taken_more names i y x less is has),
+)
+
+pub one_less_path : (f : Path) (names : List Name) (i : ℕ) (x : Name) (paths : List Path) → i < length names → x ≡ get_or names i x → (IsPath (under f x) → ⊥)
+    → ((p : Path) → Contains paths p → (y : Name) × (p ≡ under f y)) × ((y : Name) → Contains (take i names) y → Contains paths (under f y) ⊎ (IsPath (under f y) → ⊥))
+    → ((p : Path) → Contains paths p → (y : Name) × (p ≡ under f y)) × ((y : Name) → Contains (take (i + 1) names) y → Contains paths (under f y) ⊎ (IsPath (under f y) → ⊥))
+one_less_path f names i x paths less is none (each, all) = (
+  each,
+  λ y has. ⊎_elim (λ a. all y a) (λ e. inr (subst (λ z. IsPath (under f z) → ⊥) (sym e) none)) (taken_more names i y x less is has),
+)
+
+pub no_paths : (f : Path) (paths : List Path) → paths ≡ [] → (p : Path) → Contains paths p → (y : Name) × (p ≡ under f y)
+no_paths f paths e p has = none (subst (λ l. Contains l p) e has)
+  where
+    none : Contains [] p → (y : Name) × (p ≡ under f y)
+    none (k, less, is) = absurd (omega (arith, less))
+
+pub all_paths : (f : Path) (items names : List Name) (i : ℕ) (paths : List Path) → items ≡ names → length items ≤ i → ((y : Name) → Contains (take i items) y → Contains paths (under f y) ⊎ (IsPath (under f y) → ⊥))
+    → (y : Name) → Contains names y → Contains paths (under f y) ⊎ (IsPath (under f y) → ⊥)
+all_paths f items names i paths same le all y has =
+    all y (subst (λ l. Contains l y) (sym (take_all i items le ∙ same)) has)

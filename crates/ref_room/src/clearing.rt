@@ -30,11 +30,14 @@ pub struct Clearing {
 }
 
 impl Model for Clearing {
+    ghost use Rattle.std.specs.Prelude.{◌<◌, ◌^◌, length};
     ghost use Rattle.ref_room.specs.Clearing.{Cleared};
 
     ghost Value = { Cleared };
 
     ghost view = { λ a. record { name = a.name; pending = a.pending.items; folders = a.folders.keys; least = a.least } };
+
+    ghost invariant = { λ a. length a.folders.keys < 2 ^ 63 };
 }
 
 impl Clearing {
@@ -180,11 +183,14 @@ impl Clearing {
         let folder = self.top().copy()?;
         let mut inside = paths_in(self.alloc, &folder, names)?;
         self.pending.reserve(inside.len())?;
-        let is_new = self.folders.insert(folder)?;
+        let before = self.folders.len();
+        self.folders.insert(folder)?;
         self.pending.pop();
-        if is_new {
-            self.pending.append(&mut inside)?;
+        if self.folders.len() == before {
+            // it was found before, with its names
+            return Ok(());
         }
+        self.pending.append(&mut inside)?;
         Ok(())
     }
 
