@@ -1,12 +1,12 @@
 -- From what a call answered to what a step's clauses say.
-use Rattle.std.proofs.Common.{◌≡◌, sym, ◌∙◌, Option, Some, None}
+use Rattle.std.proofs.Common.{◌≡◌, sym, ◌∙◌, Option, Some, None, Err}
 use Rattle.ost_types.specs.Path.{Path}
 use Rattle.fs_trait.specs.declared.types.FsErr.{FsErr}
 use Rattle.fs_trait.specs.declared.types.FsErr.TheVariants.{Failed, Exists, Missing, NotFolder, NotEmpty, NoMemory}
 use Rattle.fs_trait.specs.View.{View}
 use Rattle.fs_trait.specs.Image.{Told}
 use Rattle.fs_trait.specs.Seen.{Seen}
-use Rattle.fs_trait.specs.Effect.{Fails}
+use Rattle.fs_trait.specs.Effect.{Fails, Answered}
 use Rattle.fs_trait.specs.Change.{Writes}
 use Rattle.fs_trait.proofs.Facts.{Fails-writes}
 
@@ -36,3 +36,12 @@ module _ (W : Path → Seen → Type 0) (After : View → Type 0) (v : View) (re
   err_fails R failed memory Missing view fails = absurd (not_refused Missing refusal fails.0 step.free)
   err_fails R failed memory NotFolder view fails = absurd (not_refused NotFolder refusal fails.0 step.free)
   err_fails R failed memory NotEmpty view fails = absurd (not_refused NotEmpty refusal fails.0 step.free)
+
+-- why a reading call that isn't refused isn't done
+pub read_fails : {T : Type 0} (refusal : Option FsErr) (P : T → Type 0) (R : FsErr → Type 0) → refusal ≡ None → R Failed → R NoMemory → (e : FsErr) → Answered refusal P (Err e) → R e
+read_fails refusal P R free failed memory Failed answer = failed
+read_fails refusal P R free failed memory NoMemory answer = memory
+read_fails refusal P R free failed memory Exists answer = absurd (not_refused Exists refusal answer free)
+read_fails refusal P R free failed memory Missing answer = absurd (not_refused Missing refusal answer free)
+read_fails refusal P R free failed memory NotFolder answer = absurd (not_refused NotFolder refusal answer free)
+read_fails refusal P R free failed memory NotEmpty answer = absurd (not_refused NotEmpty refusal answer free)

@@ -1,6 +1,6 @@
 -- What each step of a clearing writes, tells and leaves.
 use Rattle.std.proofs.Common.{◌≡◌, ◌≢◌, ◌⊎◌, inl, inr, ⊎_elim, ℕ, ◌≤◌, ◌<◌, ◌+◌, ◌-◌, arith, Bool, true, false, refl, sym, ◌∙◌, ap, subst, List, [], ◌∷◌, ◌++◌, length, take, drop, get_or, append-nil, append_assoc, Option, Some, None, if◌then◌else◌}
-use Rattle.std.specs.Prelude.{Contains, All}
+use Rattle.std.specs.Prelude.{Contains, IfSome}
 use Rattle.std.specs.Ordering.{nat_cmp, is_lt, ordering_reverse}
 use Rattle.std.specs.Cmp.{IsTotalOrder}
 use Rattle.std.specs.Cmp.Lexicographic.{slice_cmp}
@@ -228,3 +228,7 @@ module _ (t : Cleared) (v : View) (looks : act t ≡ Looks) (needs : Needs t v) 
 
       fresh : (p : Path) (x : Name) → p ≡ under (top t) x → IsKnown new p (shows v.now p)
       fresh p x is = by p x is (v.now.at (under (top t) x)) refl
+
+pub looked_found : (t : Cleared) (v : View) → act t ≡ Looks → Needs t v → is_leaf (v.now.at (top t)) ≡ true → (found : Option (List ℕ)) → IfSome found (λ name. IsRefName name × (ref_path name ≡ top t)) → (found ≡ None → IsNoRef (top t)) → Needs (counted found t) v
+looked_found t v looks needs leaf (Some other) some none = looked_ref t v looks needs leaf other some.0 some.1
+looked_found t v looks needs leaf None some none = looked_other t v looks needs leaf (none refl)

@@ -10,3 +10,5 @@ pub mod Stable
 pub mod ClearingSteps
 pub mod Falls
 pub mod Sets
+pub mod Removing
+pub mod Telling
