@@ -136,3 +136,11 @@ says_least t v tree needs other says = record {
         let path : ref_path other ≡ ref_path third ++ b.0 ∷ (b.1 ++ x ∷ rest) =
             below_path t.name other least.1 ∙ ap (λ q. q ++ x ∷ rest) (sym (way_to-all t.name) ∙ b.2 ∙ ap (λ q. q ++ b.0 ∷ b.1) (sym w.3)) ∙ append_assoc (ref_path third) (b.0 ∷ b.1) (x ∷ rest) in
         leaf_there (v.now.at (ref_path other)) leaf (subst (λ q. v.now.at q ≡ Absent) (sym path) (below_absent v.now tree (ref_path third) b.0 (b.1 ++ x ∷ rest) (leaf_no_folder (v.now.at (ref_path third)) there)))
+
+says_by : (pending folders : List Path) (least : Option (List ℕ)) (other : List ℕ) → length pending ≡ 0 → least ≡ Some other → act_of pending folders least ≡ Says other
+says_by (p ∷ pending) folders least other none is = absurd (omega (arith, none))
+says_by [] folders (Some x) other none is = let n : x ≡ other = cc in ap Says n
+says_by [] folders None other none is = let n : None ≡ Some other = is in cc
+
+pub says_now : (t : Cleared) (other : List ℕ) → length t.pending ≡ 0 → t.least ≡ Some other → act t ≡ Says other
+says_now t other none is = says_by t.pending t.folders t.least other none is

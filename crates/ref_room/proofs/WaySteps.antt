@@ -36,7 +36,7 @@ pub next_name : (t : Walked) → t.reached + 1 < length (parts_of t.name) → (x
 next_name t less = (get_or (ref_path t.name) (4 + t.reached) [], sym (way_to-more t.reached t.name [] (omega (arith, less))))
 
 -- a new path on the way is that behind it, or the file's
-beyond_way : (k m : ℕ) (name : List ℕ) → k < m → m ≤ length (parts_of name) → (x : Name) × (rest : Path) × (way_to m name ≡ way_to k name ++ x ∷ rest)
+pub beyond_way : (k m : ℕ) (name : List ℕ) → k < m → m ≤ length (parts_of name) → (x : Name) × (rest : Path) × (way_to m name ≡ way_to k name ++ x ∷ rest)
 unfolding way_to
 beyond_way k m name less le =
     let front = take m (parts_of name) in
