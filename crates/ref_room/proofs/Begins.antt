@@ -1,5 +1,5 @@
 -- What a caller has to know where a task may begin.
-use Rattle.std.proofs.Common.{◌≡◌, inl, inr, sym, subst, ◌∷◌, [], List, ℕ, ◌<◌, arith, length, nat_lt, Bool, true, false, ltb-false, ltb-true, refl, Some, None, if◌then◌else◌, ◌+◌, ◌∙◌, append-nil}
+use Rattle.std.proofs.Common.{◌≡◌, inl, sym, subst, ◌∷◌, [], List, ℕ, arith, length, nat_lt, Bool, true, false, Some, None, if◌then◌else◌, ◌+◌, ◌∙◌, append-nil}
 use Rattle.std.specs.Prelude.{Contains}
 use Rattle.ost_types.specs.Path.{Path}
 use Rattle.fs_trait.specs.View.{View}

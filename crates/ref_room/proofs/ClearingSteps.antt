@@ -1,27 +1,23 @@
 -- What each step of a clearing writes, tells and leaves.
-use Rattle.std.proofs.Common.{◌≡◌, ◌≢◌, ◌⊎◌, inl, inr, ⊎_elim, ℕ, ◌≤◌, ◌<◌, ◌+◌, ◌-◌, arith, Bool, true, false, refl, sym, ◌∙◌, ap, subst, List, [], ◌∷◌, ◌++◌, length, take, drop, get_or, append-nil, append_assoc, Option, Some, None, if◌then◌else◌}
+use Rattle.std.proofs.Common.{◌≡◌, ◌≢◌, ◌⊎◌, inl, inr, ⊎_elim, ℕ, ◌<◌, ◌-◌, arith, true, false, refl, sym, ◌∙◌, ap, subst, List, [], ◌∷◌, ◌++◌, length, take, drop, append-nil, append_assoc, Option, Some, None, if◌then◌else◌}
 use Rattle.std.specs.Prelude.{Contains, IfSome}
-use Rattle.std.specs.Ordering.{nat_cmp, is_lt, ordering_reverse}
-use Rattle.std.specs.Cmp.{IsTotalOrder}
+use Rattle.std.specs.Ordering.{nat_cmp, is_lt}
 use Rattle.std.specs.Cmp.Lexicographic.{slice_cmp}
 use Rattle.std.specs.declared.cmp.Ordering.{Ordering}
 use Rattle.std.specs.declared.cmp.Ordering.TheVariants.{Less, Equal, Greater}
 use Rattle.std.proofs.lemmas.Cmp.{nat_list_cmp_total}
 use Rattle.std.proofs.lemmas.List.Elements.{Contains-append_left, Contains-append_right, Contains-append_cases}
 use Rattle.ost_types.specs.Path.{Name, Path, IsPath, under}
-use Rattle.ost_types.proofs.Paths.{same_or_apart, under-not_root, under-not_folder}
 use Rattle.fs_trait.specs.declared.types.Value.{Value}
 use Rattle.fs_trait.specs.declared.types.Value.TheVariants.{Absent, Folder, Link, File}
-use Rattle.fs_trait.specs.declared.types.FsErr.{FsErr}
-use Rattle.fs_trait.specs.View.{Disk, View, named}
-use Rattle.fs_trait.specs.Image.{is_folder, IsTree}
+use Rattle.fs_trait.specs.View.{Disk, View}
 use Rattle.fs_trait.specs.Effect.{IsListing}
 use Rattle.fs_trait.specs.Seen.{Seen, Vacant, seen, shows, IsDirectory}
 use Rattle.repo_layout.specs.RefName.{IsRefName, parts_of}
-use Rattle.repo_layout.specs.Paths.{heads, ref_path}
+use Rattle.repo_layout.specs.Paths.{ref_path}
 use Rattle.repo_layout.specs.Refs.{is_leaf}
-use Rattle.ref_room.specs.Clash.{IsAbove, IsClash, IsLeastClash, IsNoRef}
-use Rattle.ref_room.specs.Clearing.{Cleared, Act, Looks, Says, Removes, Ends, act, act_of, top, passed, counted, lesser, IsOpened, IsLeaf, IsAside, IsCounted, IsUnder, IsKnown, HereOf, Needs}
+use Rattle.ref_room.specs.Clash.{IsAbove, IsNoRef}
+use Rattle.ref_room.specs.Clearing.{Cleared, Looks, Says, Removes, Ends, act, act_of, top, passed, counted, lesser, IsOpened, IsLeaf, IsCounted, IsUnder, IsKnown, Needs}
 use Rattle.ref_room.proofs.Lists.{one, Contains-one, last_apart}
 use Rattle.ref_room.proofs.Names.{parts-one}
 use Rattle.ref_room.proofs.Disks.{self_not_less}

@@ -1,8 +1,7 @@
 -- Each look and each removal leaves fewer steps.
-use Rattle.std.proofs.Common.{◌≡◌, ◌⊎◌, inl, inr, ⊎_elim, ℕ, ◌≤◌, ◌<◌, ◌+◌, ◌-◌, ◌*◌, arith, refl, sym, ◌∙◌, ap, subst, List, [], ◌∷◌, length, take, Option, Some, None}
+use Rattle.std.proofs.Common.{◌≡◌, ℕ, ◌≤◌, ◌<◌, ◌+◌, ◌-◌, ◌*◌, arith, ◌∙◌, ap, length, take}
 use Rattle.std.proofs.lemmas.List.{length-take-le}
-use Rattle.ost_types.specs.Path.{Path}
-use Rattle.ref_room.specs.Clearing.{Cleared, Act, Looks, Says, Removes, Ends, act, act_of, left, left_by}
+use Rattle.ref_room.specs.Clearing.{Cleared, Act, Looks, Says, Removes, Ends, act, left, left_by}
 use Rattle.ref_room.proofs.ClearingSteps.{some_pending}
 
 -- the most that may be left

@@ -1,15 +1,14 @@
 -- The name that a path's text has.
-use Rattle.std.proofs.Common.{◌≡◌, ◌≢◌, ◌++◌, ◌∷◌, ℕ, Bool, true, false, IsTrue, List, take, drop, length, eqb, refl, sym, ◌∙◌, ap, subst, Option, Some, None, Result, Ok, Err}
+use Rattle.std.proofs.Common.{◌≡◌, ◌≢◌, ◌++◌, ℕ, Bool, true, IsTrue, List, take, drop, eqb, sym, ◌∙◌, ap, Option, Some, None, Result, Ok, Err}
 use Rattle.std.specs.Prelude.{IfOk, IfSome}
 use Rattle.std.specs.Cmp.Lexicographic.{pointwise}
 use Rattle.std.proofs.lemmas.List.{take-append-drop}
 use Rattle.ost_types.specs.Path.{Path, same_name, same_path, text_of}
 use Rattle.ost_types.proofs.Paths.{same_name-Decides, same_path-Decides}
 use Rattle.repo_layout.specs.RefName.{IsRefName}
-use Rattle.repo_layout.specs.Paths.{ref_path, heads_text}
+use Rattle.repo_layout.specs.Paths.{ref_path}
 use Rattle.repo_layout.proofs.RefPaths.{ref_path-text}
 use Rattle.ref_room.specs.Clash.{IsNoRef, below_heads}
-use Rattle.ref_room.proofs.Names.{ref_path-one}
 
 pub path_test : (b : Bool) (q p r : Path) → b ≡ pointwise same_name q p → q ≡ r → (IsTrue b → r ≡ p) × (r ≡ p → IsTrue b)
 unfolding same_path

@@ -1,5 +1,5 @@
 -- The folder that is removed is the last, and has none of the others below it.
-use Rattle.std.proofs.Common.{◌≡◌, ◌≢◌, ◌⊎◌, ◌↔◌, inl, inr, ⊎_elim, ℕ, ◌≤◌, ◌<◌, ◌+◌, ◌-◌, arith, Bool, true, false, refl, sym, ◌∙◌, ap, subst, List, [], ◌∷◌, ◌++◌, length, take, get_or, append_assoc, length-append, Option, Some, None}
+use Rattle.std.proofs.Common.{◌≡◌, ◌≢◌, ◌⊎◌, inl, inr, ⊎_elim, ℕ, ◌<◌, ◌+◌, ◌-◌, arith, Bool, true, false, refl, sym, ◌∙◌, ap, subst, List, [], ◌∷◌, ◌++◌, length, take, get_or, append_assoc, length-append, Option, Some, None}
 use Rattle.std.specs.Prelude.{Contains, All, IfSome, IsSome, slice_get}
 use Rattle.std.specs.Ordering.{nat_cmp, is_lt, ordering_reverse, ordering_then}
 use Rattle.std.specs.Cmp.Lexicographic.{slice_cmp}
@@ -10,16 +10,15 @@ use Rattle.std.proofs.lemmas.Cmp.{nat_list_cmp_total}
 use Rattle.std.proofs.Math.Seq.{get_or-append_seam}
 use Rattle.std.proofs.lemmas.Option.{get_or_from_slice_get}
 use Rattle.std.proofs.lemmas.List.Elements.{Contains-append_left, Contains-append_right, Contains-append_cases, All-contains}
-use Rattle.ost_types.specs.Path.{Name, Path, IsPath, path_cmp, under}
-use Rattle.ost_types.proofs.Paths.{same_or_apart, under-not_root}
-use Rattle.fs_trait.specs.declared.types.Value.{Value}
-use Rattle.fs_trait.specs.declared.types.Value.TheVariants.{Absent, Folder, Link, File}
+use Rattle.ost_types.specs.Path.{Name, Path, path_cmp, under}
+use Rattle.ost_types.proofs.Paths.{same_or_apart}
+use Rattle.fs_trait.specs.declared.types.Value.TheVariants.{Absent}
 use Rattle.fs_trait.specs.declared.types.FsErr.{FsErr}
 use Rattle.fs_trait.specs.declared.types.FsErr.TheVariants.{Failed, Exists, Missing, NotFolder, NotEmpty, NoMemory}
-use Rattle.fs_trait.specs.View.{Disk, View, named}
-use Rattle.fs_trait.specs.Image.{is_folder, IsTree, Told}
-use Rattle.fs_trait.specs.Effect.{HasNames, no_folder, no_rmdir, if_names, or_else, Fails}
-use Rattle.fs_trait.specs.Seen.{Seen, Vacant, Directory, Symlink, Leaf, seen, shows, MayShow, IsDirectory}
+use Rattle.fs_trait.specs.View.{View, named}
+use Rattle.fs_trait.specs.Image.{IsTree}
+use Rattle.fs_trait.specs.Effect.{HasNames, no_rmdir, if_names, or_else, Fails}
+use Rattle.fs_trait.specs.Seen.{Seen, Vacant, shows, MayShow, IsDirectory}
 use Rattle.fs_trait.specs.Change.{Writes, At}
 use Rattle.fs_trait.proofs.Kept.{weaker}
 use Rattle.fs_trait.proofs.Facts.{vacant_absent}
@@ -27,7 +26,7 @@ use Rattle.fs_trait.proofs.Refusals.{no_folder-there}
 use Rattle.fs_trait.proofs.Effects.{named-writes, shows_named, shows_named_apart}
 use Rattle.fs_trait.proofs.Claims.{folder_shows}
 use Rattle.repo_layout.specs.Paths.{heads, ref_path}
-use Rattle.ref_room.specs.Clearing.{Cleared, Act, Looks, Says, Removes, Ends, act, act_of, IsAside, IsCounted, IsUnder, IsKnown, IsLeaf, IsRemoved, WritesOf, HereOf, Needs, Refuses}
+use Rattle.ref_room.specs.Clearing.{Cleared, Looks, Says, Removes, Ends, act, act_of, IsAside, IsCounted, IsUnder, IsKnown, IsLeaf, IsRemoved, WritesOf, HereOf, Needs, Refuses}
 use Rattle.ref_room.proofs.Lists.{one, Contains-one, last_apart}
 
 not_equal : (o : Ordering) → o ≡ ordering_reverse o → o ≡ Equal

@@ -1,13 +1,13 @@
 -- What the tasks write, for all others; and their facts stay true under what others may write.
-use Rattle.std.proofs.Common.{◌≡◌, ◌⊎◌, inl, inr, ⊎_elim, ℕ, ◌≤◌, ◌<◌, ◌+◌, arith, true, refl, sym, ◌∙◌, ap, subst, List, [], ◌∷◌, ◌++◌, length, append-nil, append_assoc, Some}
+use Rattle.std.proofs.Common.{◌≡◌, ◌⊎◌, ⊎_elim, ℕ, ◌<◌, ◌+◌, arith, refl, sym, ◌∙◌, ap, subst, List, [], ◌∷◌, ◌++◌, length, append-nil, append_assoc}
 use Rattle.std.specs.Prelude.{Contains}
-use Rattle.ost_types.specs.Path.{Name, Path, under, is_below}
+use Rattle.ost_types.specs.Path.{Name, Path, under}
 use Rattle.std.proofs.lemmas.List.Elements.{Contains-append_right}
 use Rattle.fs_trait.specs.View.{View}
-use Rattle.fs_trait.specs.Seen.{Seen, Vacant, shows, MayBe, IsDirectory}
-use Rattle.fs_trait.specs.Change.{Writes, Meets, Harmless, LeadsTo}
+use Rattle.fs_trait.specs.Seen.{Seen, Vacant, shows, IsDirectory}
+use Rattle.fs_trait.specs.Change.{Writes, Harmless, LeadsTo}
 use Rattle.fs_trait.proofs.Kept.{meets_kept}
-use Rattle.repo_layout.specs.RefName.{IsRefName, parts_of}
+use Rattle.repo_layout.specs.RefName.{parts_of}
 use Rattle.repo_layout.specs.Paths.{heads, ref_path}
 use Rattle.ref_room.specs.declared.way.Leg.{Leg}
 use Rattle.ref_room.specs.declared.way.Leg.TheVariants.{Make, Sync, Over}

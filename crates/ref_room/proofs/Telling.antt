@@ -1,21 +1,21 @@
 -- What a clearing tells at its end.
-use Rattle.std.proofs.Common.{◌≡◌, ◌≢◌, ◌⊎◌, inl, inr, ⊎_elim, ℕ, ◌≤◌, ◌<◌, ◌+◌, arith, Bool, true, false, refl, sym, ◌∙◌, ap, subst, List, [], ◌∷◌, ◌++◌, length, append-nil, append_assoc, Option, Some, None}
+use Rattle.std.proofs.Common.{◌≡◌, ◌≢◌, inl, inr, ⊎_elim, ℕ, arith, true, false, refl, sym, ◌∙◌, ap, subst, List, [], ◌∷◌, ◌++◌, length, append_assoc, Option, Some, None}
 use Rattle.std.specs.Prelude.{Contains}
 use Rattle.std.specs.Ordering.{nat_cmp}
 use Rattle.std.specs.Cmp.Lexicographic.{slice_cmp}
 use Rattle.std.specs.declared.cmp.Ordering.TheVariants.{Less}
 use Rattle.ost_types.specs.Path.{Name, Path, IsPath, under}
 use Rattle.fs_trait.specs.declared.types.Value.TheVariants.{Absent}
-use Rattle.fs_trait.specs.View.{Disk, View}
+use Rattle.fs_trait.specs.View.{View}
 use Rattle.fs_trait.specs.Image.{is_folder, IsTree}
-use Rattle.fs_trait.specs.Seen.{Seen, Vacant, seen, shows, IsDirectory}
+use Rattle.fs_trait.specs.Seen.{Seen, Vacant, shows, IsDirectory}
 use Rattle.fs_trait.proofs.Facts.{vacant_absent}
 use Rattle.repo_layout.specs.RefName.{IsRefName, parts_of}
 use Rattle.repo_layout.specs.Paths.{heads, ref_path}
 use Rattle.repo_layout.specs.Refs.{is_leaf}
 use Rattle.repo_layout.proofs.KnownPaths.{ref-known}
-use Rattle.ref_room.specs.Clash.{way_to, IsAbove, IsClash, IsLeastClash, IsNoRef}
-use Rattle.ref_room.specs.Clearing.{Cleared, Act, Looks, Says, Removes, Ends, act, act_of, IsAside, IsCounted, IsKnown, IsLeaf, Needs}
+use Rattle.ref_room.specs.Clash.{IsAbove, IsLeastClash}
+use Rattle.ref_room.specs.Clearing.{Cleared, Looks, Says, Removes, Ends, act, act_of, IsCounted, IsKnown, IsLeaf, Needs}
 use Rattle.ref_room.proofs.Names.{IsPath-front, above-way, way_to-all, ref_path-one}
 use Rattle.ref_room.proofs.Disks.{leaf_no_folder, leaf_there, directory_no_leaf, below_absent}
 use Rattle.ref_room.proofs.WaySteps.{beyond_way}
@@ -97,9 +97,9 @@ module _ (t : Cleared) (v : View) (tree : IsTree v.now) (needs : Needs t v) (non
     counts above = ⊎_elim
         (λ a. not_in (ref_path t.name) t.pending none a)
         (λ more. ⊎_elim
-            (λ has. walk (ref_path t.name) above.0 above.1 has (sym (below_path t.name third above)))
-            (λ vacant. absurd (no_leaf_below (ref_path t.name) above.0 above.1 (no_folder_vacant (ref_path t.name) vacant) (subst (λ q. is_leaf (v.now.at q) ≡ true) (below_path t.name third above) leaf)))
-            more)
+        (λ has. walk (ref_path t.name) above.0 above.1 has (sym (below_path t.name third above)))
+        (λ vacant. absurd (no_leaf_below (ref_path t.name) above.0 above.1 (no_folder_vacant (ref_path t.name) vacant) (subst (λ q. is_leaf (v.now.at q) ≡ true) (below_path t.name third above) leaf)))
+        more)
         ((needs.here (ref_path t.name)).own refl).0
 
 no_less : (least : Option (List ℕ)) (other third : List ℕ) (s : Seen) → least ≡ Some other → IsCounted least (ref_path third) s → slice_cmp nat_cmp third other ≢ Less
@@ -134,7 +134,7 @@ says_least t v tree needs other says = record {
         let x = least.1.0 in
         let rest = least.1.1 in
         let path : ref_path other ≡ ref_path third ++ b.0 ∷ (b.1 ++ x ∷ rest) =
-            below_path t.name other least.1 ∙ ap (λ q. q ++ x ∷ rest) (sym (way_to-all t.name) ∙ b.2 ∙ ap (λ q. q ++ b.0 ∷ b.1) (sym w.3)) ∙ append_assoc (ref_path third) (b.0 ∷ b.1) (x ∷ rest) in
+        below_path t.name other least.1 ∙ ap (λ q. q ++ x ∷ rest) (sym (way_to-all t.name) ∙ b.2 ∙ ap (λ q. q ++ b.0 ∷ b.1) (sym w.3)) ∙ append_assoc (ref_path third) (b.0 ∷ b.1) (x ∷ rest) in
         leaf_there (v.now.at (ref_path other)) leaf (subst (λ q. v.now.at q ≡ Absent) (sym path) (below_absent v.now tree (ref_path third) b.0 (b.1 ++ x ∷ rest) (leaf_no_folder (v.now.at (ref_path third)) there)))
 
 says_by : (pending folders : List Path) (least : Option (List ℕ)) (other : List ℕ) → length pending ≡ 0 → least ≡ Some other → act_of pending folders least ≡ Says other

@@ -1,12 +1,12 @@
 -- What a way's paths say of one another.
-use Rattle.std.proofs.Common.{ltb-false, ltb-true, ◌≡◌, ◌≤◌, ◌<◌, ◌+◌, ◌-◌, ◌*◌, ℕ, Bool, true, false, List, length, take, ◌++◌, get_or, refl, sym, ◌∙◌, ap, subst, arith, if◌then◌else◌}
+use Rattle.std.proofs.Common.{ltb-false, ltb-true, ◌≡◌, ◌<◌, ◌+◌, ◌-◌, ℕ, Bool, true, false, List, length, take, get_or, refl, sym, ◌∙◌, ap, subst, arith, if◌then◌else◌}
 use Rattle.std.specs.Prelude.{nat_lt}
 use Rattle.std.proofs.Math.Seq.{take-append-add}
 use Rattle.ost_types.specs.Path.{Name, Path, IsPath, under}
 use Rattle.repo_layout.specs.RefName.{parts_of}
 use Rattle.repo_layout.specs.Paths.{heads, ref_path}
 use Rattle.ref_room.specs.declared.way.Leg.{Leg}
-use Rattle.ref_room.specs.declared.way.Leg.TheVariants.{Make, Sync, Over}
+use Rattle.ref_room.specs.declared.way.Leg.TheVariants.{Make, Over}
 use Rattle.ref_room.specs.Clash.{way_to, ref_folder}
 use Rattle.ref_room.specs.Way.{leg_of, leg_at}
 use Rattle.ref_room.proofs.Names.{length-ref_path, some_parts, way_to-more, way_to-path}

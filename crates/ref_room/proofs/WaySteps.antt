@@ -1,20 +1,18 @@
 -- What each step of a way writes, tells and leaves.
-use Rattle.std.proofs.Common.{ltb-false, ltb-true, ◌≡◌, ◌≢◌, ◌⊎◌, inl, inr, ⊎_elim, ℕ, ◌≤◌, ◌<◌, ◌+◌, ◌-◌, arith, Bool, true, false, refl, sym, ◌∙◌, ap, subst, List, [], ◌∷◌, ◌++◌, length, take, drop, get_or, append_assoc, Option, None, if◌then◌else◌}
+use Rattle.std.proofs.Common.{ltb-false, ltb-true, ◌≡◌, ◌≢◌, inr, ⊎_elim, ℕ, ◌≤◌, ◌<◌, ◌+◌, arith, Bool, true, false, refl, sym, ◌∙◌, ap, subst, List, [], ◌∷◌, ◌++◌, length, take, drop, get_or, append_assoc, None, if◌then◌else◌}
 use Rattle.std.specs.Prelude.{nat_lt}
 use Rattle.std.proofs.lemmas.List.{drop_more, take-append-drop, take-take, length-take-le}
 use Rattle.std.specs.Ordering.{nat_cmp}
 use Rattle.std.specs.Cmp.Lexicographic.{slice_cmp}
 use Rattle.std.specs.declared.cmp.Ordering.TheVariants.{Less}
 use Rattle.ost_types.specs.declared.meta.Meta.{Meta}
-use Rattle.ost_types.specs.Path.{Name, Path, under, is_below}
-use Rattle.ost_types.proofs.Paths.{is_below-self}
+use Rattle.ost_types.specs.Path.{Name, Path, under}
 use Rattle.fs_trait.specs.declared.types.Value.TheVariants.{Absent, Folder}
-use Rattle.fs_trait.specs.declared.types.FsErr.{FsErr}
-use Rattle.fs_trait.specs.View.{Disk, View, named, folder_synced}
+use Rattle.fs_trait.specs.View.{View, named, folder_synced}
 use Rattle.fs_trait.specs.Image.{is_folder, IsTree}
 use Rattle.fs_trait.specs.Effect.{no_new, no_folder}
-use Rattle.fs_trait.specs.Seen.{Seen, Vacant, Directory, seen, shows, MayShow, MayBe, IsDirectory}
-use Rattle.fs_trait.specs.Change.{Writes, Meets, Nothing, At, LeadsTo}
+use Rattle.fs_trait.specs.Seen.{Seen, Vacant, seen, shows, MayShow, MayBe, IsDirectory}
+use Rattle.fs_trait.specs.Change.{Writes, Nothing, At, LeadsTo}
 use Rattle.fs_trait.proofs.Refusals.{no_folder-there}
 use Rattle.fs_trait.proofs.Kept.{firm_kept, weaker}
 use Rattle.fs_trait.proofs.Effects.{may_now, named-writes, folder_synced-writes, shows_named, folder_synced-firm}
@@ -26,7 +24,7 @@ use Rattle.repo_layout.specs.Refs.{is_leaf}
 use Rattle.ref_room.specs.declared.way.Leg.{Leg}
 use Rattle.ref_room.specs.declared.way.Leg.TheVariants.{Make, Sync, Over}
 use Rattle.ref_room.specs.Clash.{way_to, IsAbove, IsClash, IsLeastClash, IsFreeAbove}
-use Rattle.ref_room.specs.Way.{Walked, Needs, WritesOf, writes_in, here_in, HereOf, leg_of, leg_at, folder, next_folder, next_in, is_over, folder_meta}
+use Rattle.ref_room.specs.Way.{Walked, Needs, WritesOf, writes_in, here_in, leg_of, leg_at, folder, next_folder, next_in, is_over, folder_meta}
 use Rattle.ref_room.proofs.Names.{way_to-more, way_to-all, ways-below, above-way, way-above, ref_path-one}
 use Rattle.ref_room.proofs.Disks.{leaf_no_folder, leaf_there, directory_no_leaf, may_directory, below_absent, self_not_less}
 use Rattle.ref_room.proofs.Answering.{Step}
@@ -40,10 +38,12 @@ pub beyond_way : (k m : ℕ) (name : List ℕ) → k < m → m ≤ length (parts
 unfolding way_to
 beyond_way k m name less le =
     let front = take m (parts_of name) in
-    let n : length front ≡ m = omega (arith, le, length-take-le m (parts_of name) le) in
-    (get_or front k [], drop (k + 1) front,
+    let n : length front ≡ m = omega (arith, le, length-take-le m (parts_of name) le) in (
+      get_or front k [],
+      drop (k + 1) front,
       ap (λ p. heads ++ p) (sym (take-append-drop k front) ∙ ap (λ p. take k front ++ p) (drop_more front k [] (omega (arith, n, less))) ∙ ap (λ p. p ++ get_or front k [] ∷ drop (k + 1) front) (take-take k m (parts_of name) (omega (arith, less))))
-      ∙ sym (append_assoc heads (take k (parts_of name)) (get_or front k [] ∷ drop (k + 1) front)))
+          ∙ sym (append_assoc heads (take k (parts_of name)) (get_or front k [] ∷ drop (k + 1) front)),
+    )
 
 module _ (t : Walked) (v : View) (tree : IsTree v.now) (needs : Needs t v) where
   place_in : (leg : Leg) → t.leg ≡ leg → leg_of leg t.reached t.name
@@ -123,9 +123,9 @@ module _ (t : Walked) (v : View) (tree : IsTree v.now) (needs : Needs t v) where
         let b = beyond_way (t.reached + 1) (length (parts_of t.name)) t.name less (omega arith) in
         let c = beyond_way w.0 (length (parts_of third)) third w.2 (omega arith) in
         let path : ref_path third ≡ next_folder t ++ b.0 ∷ (b.1 ++ c.0 ∷ c.1) =
-            sym (way_to-all third) ∙ c.2
-            ∙ ap (λ p. p ++ c.0 ∷ c.1) (sym w.3 ∙ sym (way_to-all t.name) ∙ b.2)
-            ∙ append_assoc (next_folder t) (b.0 ∷ b.1) (c.0 ∷ c.1) in
+        sym (way_to-all third) ∙ c.2
+        ∙ ap (λ p. p ++ c.0 ∷ c.1) (sym w.3 ∙ sym (way_to-all t.name) ∙ b.2)
+        ∙ append_assoc (next_folder t) (b.0 ∷ b.1) (c.0 ∷ c.1) in
         leaf_there (v.now.at (ref_path third)) there (subst (λ q. v.now.at q ≡ Absent) (sym path) (below_absent v.now tree (next_folder t) b.0 (b.1 ++ c.0 ∷ c.1) (leaf_no_folder (v.now.at (next_folder t)) leaf)))
 
     only : (third : List ℕ) → IsClash v.now t.name third → third ≡ other

@@ -1,5 +1,4 @@
 use Rattle.std.proofs.Common.{◌≡◌, ◌+◌, ◌++◌, ◌∷◌, [], false, true, sym, ◌∙◌, ap, subst}
-use Rattle.ost_types.specs.Path.{under}
 use Rattle.ref_room.proofs.Lists.{IsInside, one_more_path, one_less_path, no_paths, all_paths, nothing_taken}
 use Rattle.ref_room.proofs.clearing.paths_in.Goals as goal
 use Rattle.ref_room.proofs.clearing.paths_in.Goals.{then-can_hold+in_ok-child+in_ok-push, else-can_hold}

@@ -1,4 +1,4 @@
-use Rattle.std.proofs.Common.{◌≡◌, subst, sym, ap}
+use Rattle.std.proofs.Common.{subst, sym}
 use Rattle.ost_types.specs.Path.{IsPath, under}
 use Rattle.ref_room.proofs.Names.{IsPath-next}
 use Rattle.ref_room.proofs.folder.front.Goals as goal

@@ -1,6 +1,5 @@
-use Rattle.std.proofs.Common.{sym, ◌∙◌, ◌≡◌, ap, subst, arith, length, take}
+use Rattle.std.proofs.Common.{◌∙◌, ◌≡◌, subst, arith}
 use Rattle.std.specs.Prelude.{IfOk}
-use Rattle.ref_room.specs.Clash.{ref_folder}
 use Rattle.ref_room.proofs.WayData.{heads_shorter, folder_front}
 use Rattle.ref_room.proofs.folder.ref_folder.Goals as goal
 

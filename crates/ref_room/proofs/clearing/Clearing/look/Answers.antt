@@ -1,4 +1,4 @@
-use Rattle.std.proofs.Common.{◌≡◌, true, None, List, sym, ◌∙◌, ap, subst}
+use Rattle.std.proofs.Common.{◌≡◌, true, List, sym, ◌∙◌, subst}
 use Rattle.std.specs.Prelude.{IfSome}
 use Rattle.std.proofs.lemmas.Result.{err_from_is_err_and}
 use Rattle.ost_types.specs.Path.{Name}
@@ -11,7 +11,7 @@ use Rattle.repo_layout.specs.RefName.{IsRefName}
 use Rattle.repo_layout.specs.Paths.{ref_path}
 use Rattle.repo_layout.specs.Refs.{is_leaf}
 use Rattle.ref_room.specs.Clash.{IsNoRef}
-use Rattle.ref_room.specs.Clearing.{Cleared, Needs, Refuses, top}
+use Rattle.ref_room.specs.Clearing.{Cleared, Needs, Refuses}
 use Rattle.ref_room.proofs.Answering.{read_fails}
 use Rattle.ref_room.proofs.Disks.{looked_nothing, looked_folder, looked_leaf}
 use Rattle.ref_room.proofs.ClearingSteps.{looked_absent, looked_found, looked_opened}
@@ -36,8 +36,8 @@ pub returns-in_ok-other-in-Leaf-clause-after : goal.returns-in_ok-other-in-Leaf-
 returns-in_ok-other-in-Leaf-clause-after g c = λ v told.
     let leaf = looked_leaf (v.now.at c.top.result.now) (sym c.in-Leaf.is ∙ c.in_ok-look_at.ensures.told v told) in
     let needs = looked_found c.args.self.now v c.requires.act (c.requires.needs v told) (subst (λ q. is_leaf (v.now.at q) ≡ true) c.top.ensures leaf) c.in_ok-other-in-Leaf.other
-        (subst (λ q. IfSome c.in_ok-other-in-Leaf.other (λ name. IsRefName name × (ref_path name ≡ q))) c.top-in-Leaf.ensures c.in_ok-other-in-Leaf.ensures.some)
-        (λ e. subst IsNoRef c.top-in-Leaf.ensures (c.in_ok-other-in-Leaf.ensures.none e)) in
+    (subst (λ q. IfSome c.in_ok-other-in-Leaf.other (λ name. IsRefName name × (ref_path name ≡ q))) c.top-in-Leaf.ensures c.in_ok-other-in-Leaf.ensures.some)
+    (λ e. subst IsNoRef c.top-in-Leaf.ensures (c.in_ok-other-in-Leaf.ensures.none e)) in
     (v, c.in_ok-look_at.ensures.quiet.view ∙ told, subst (λ (t : Cleared). Needs t v) (sym c.count.ensures.value) needs)
 
 pub returns-in_ok-open-in-Folder-clause-after : goal.returns-in_ok-open-in-Folder-clause-after
@@ -46,5 +46,5 @@ returns-in_ok-open-in-Folder-clause-after g c = λ v told.
     let there = looked_folder v.now (v.now.at c.top.result.now) (sym c.in-Folder.is ∙ c.in_ok-look_at.ensures.told v told) in
     let listing = (c.in_ok-names-in-Folder.ensures.answer v still).1 in
     let needs = looked_opened c.args.self.now v c.requires.act (c.requires.needs v told) c.in_ok-names-in-Folder.names c.open.new.self (subst (λ q. IsDirectory (shows v.now q)) c.top.ensures there)
-        (subst (λ q. IsListing v.now q c.in_ok-names-in-Folder.names) c.top-in-Folder.ensures listing) c.in_ok-open-in-Folder.ensures.ok in
+    (subst (λ q. IsListing v.now q c.in_ok-names-in-Folder.names) c.top-in-Folder.ensures listing) c.in_ok-open-in-Folder.ensures.ok in
     (v, c.in_ok-names-in-Folder.ensures.quiet.view ∙ still, needs)

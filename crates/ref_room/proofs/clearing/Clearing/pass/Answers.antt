@@ -1,4 +1,4 @@
-use Rattle.std.proofs.Common.{◌≡◌, ◌-◌, ◌<◌, sym, ◌∙◌, ap, subst, length, take}
+use Rattle.std.proofs.Common.{◌-◌, ◌<◌, ◌∙◌, ap, subst, length, take}
 use Rattle.ref_room.specs.Clearing.{Cleared}
 use Rattle.ref_room.proofs.Falls.{falls_passed}
 use Rattle.ref_room.proofs.clearing.Clearing.pass.Goals as goal

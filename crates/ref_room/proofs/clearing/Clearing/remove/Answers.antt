@@ -1,14 +1,13 @@
-use Rattle.std.proofs.Common.{◌≡◌, ◌<◌, ◌-◌, Bool, false, Some, sym, ◌∙◌, ap, subst, length, List}
+use Rattle.std.proofs.Common.{◌≡◌, ◌<◌, ◌-◌, false, Some, sym, ◌∙◌, ap, subst, length}
 use Rattle.std.specs.Prelude.{All, slice_get}
 use Rattle.std.specs.Ordering.{is_lt}
 use Rattle.std.proofs.lemmas.Result.{err_from_is_err_and}
-use Rattle.ost_types.specs.Path.{Path, path_cmp}
+use Rattle.ost_types.specs.Path.{path_cmp}
 use Rattle.fs_trait.specs.declared.types.Value.TheVariants.{Absent}
 use Rattle.fs_trait.specs.View.{named}
 use Rattle.fs_trait.specs.Image.{Told}
 use Rattle.fs_trait.proofs.Facts.{Fails-writes}
-use Rattle.ref_room.specs.Clearing.{Cleared, Needs, Refuses, WritesOf}
-use Rattle.ref_room.proofs.Telling.{says_least}
+use Rattle.ref_room.specs.Clearing.{Cleared, Needs, WritesOf}
 use Rattle.ref_room.proofs.Removing.{writes, fails, after, pop_rest, some_folders}
 use Rattle.ref_room.proofs.clearing.Clearing.remove.Goals as goal
 

@@ -1,4 +1,4 @@
-use Rattle.std.proofs.Common.{◌≡◌, Some, sym, ◌∙◌, ap, length}
+use Rattle.std.proofs.Common.{Some, sym, ◌∙◌, ap, length}
 use Rattle.std.proofs.lemmas.Bool.Decides.{Decides-eqb}
 use Rattle.ref_room.specs.Clearing.{Cleared}
 use Rattle.ref_room.proofs.Telling.{says_least, says_now}

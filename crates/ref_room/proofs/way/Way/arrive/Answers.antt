@@ -1,8 +1,8 @@
-use Rattle.std.proofs.Common.{sym, ◌∙◌, ◌≡◌, ap, subst, ◌<◌, ◌+◌, arith, length}
+use Rattle.std.proofs.Common.{sym, ◌∙◌, ◌≡◌, ap, subst, ◌+◌, arith}
 use Rattle.ref_room.specs.declared.way.Leg.TheVariants.{Sync}
 use Rattle.ref_room.specs.Clash.{way_to}
-use Rattle.ref_room.specs.Way.{Walked, leg_of, leg_at, next_in}
-use Rattle.ref_room.proofs.WayData.{before_last, name_within, heads_shorter, leg_at-of, leg_by_length}
+use Rattle.ref_room.specs.Way.{Walked, leg_of, next_in}
+use Rattle.ref_room.proofs.WayData.{before_last, heads_shorter, leg_at-of, leg_by_length}
 use Rattle.ref_room.proofs.way.Way.arrive.Goals as goal
 
 pub overflow_add-self : goal.overflow_add-self
@@ -15,8 +15,7 @@ pub invariant_of-self : goal.invariant_of-self
 invariant_of-self c =
     let less = before_last _ Sync _ _ c.self.invariant.5 (ap (λ (t : Walked). t.leg) c.self.view_is ∙ c.requires.leg) in
     let leg = leg_by_length c.self.inside.at c.self.inside.name (c.self.inside.reached + 1) _ c.self.invariant.0 c.leg_at-self-inside.ensures in
-    let same : way_to (c.args.self.now.reached + 2) c.args.self.now.name ≡ way_to (c.self.inside.reached + 1 + 1) c.self.inside.name = sym (ap (λ n. way_to n c.self.inside.name) (omega arith) ∙ ap (λ (t : Walked). way_to (t.reached + 2) t.name) c.self.view_is) in
-    (
+    let same : way_to (c.args.self.now.reached + 2) c.args.self.now.name ≡ way_to (c.self.inside.reached + 1 + 1) c.self.inside.name = sym (ap (λ n. way_to n c.self.inside.name) (omega arith) ∙ ap (λ (t : Walked). way_to (t.reached + 2) t.name) c.self.view_is) in (
       c.self.invariant.0,
       c.replace.ensures.value ∙ c.self.invariant.2,
       c.replace.ensures.after ∙ c.requires.beyond ∙ same,

@@ -1,8 +1,8 @@
-use Rattle.std.proofs.Common.{sym, ◌∙◌, ◌≡◌, ap, subst, ◌<◌, ◌+◌, arith, length}
+use Rattle.std.proofs.Common.{◌∙◌, ◌≡◌, ap, subst, ◌+◌, arith}
 use Rattle.std.specs.Prelude.{IfOk}
 use Rattle.ref_room.specs.declared.way.Leg.TheVariants.{Sync}
 use Rattle.ref_room.specs.Clash.{way_to}
-use Rattle.ref_room.specs.Way.{Walked, leg_of}
+use Rattle.ref_room.specs.Way.{Walked}
 use Rattle.ref_room.proofs.WayData.{before_last, name_within, gone_on, gone_path}
 use Rattle.ref_room.proofs.way.Way.beyond.Goals as goal
 

@@ -1,4 +1,4 @@
-use Rattle.std.proofs.Common.{sym, ◌∙◌, ◌≡◌, ap, subst, arith, ◌+◌, ◌-◌, length}
+use Rattle.std.proofs.Common.{◌∙◌, ◌≡◌, ap, arith, ◌-◌, length}
 use Rattle.repo_layout.specs.RefName.{parts_of}
 use Rattle.ref_room.specs.declared.way.Leg.TheVariants.{Over}
 use Rattle.ref_room.specs.Clash.{way_to, ref_folder}

@@ -1,7 +1,7 @@
-use Rattle.std.proofs.Common.{sym, ◌∙◌, ◌≡◌, ap, subst, ◌<◌, ◌+◌, ◌-◌, ◌*◌, arith, length}
+use Rattle.std.proofs.Common.{sym, ◌∙◌, ◌≡◌, ap, ◌-◌, ◌*◌, arith, length}
 use Rattle.repo_layout.specs.RefName.{parts_of}
-use Rattle.ref_room.specs.declared.way.Leg.TheVariants.{Make, Sync}
-use Rattle.ref_room.specs.Way.{Walked, leg_of, left, left_in}
+use Rattle.ref_room.specs.declared.way.Leg.TheVariants.{Sync}
+use Rattle.ref_room.specs.Way.{Walked, left_in}
 use Rattle.ref_room.proofs.WayData.{before_last, length-at}
 use Rattle.ref_room.proofs.way.Way.left.Goals as goal
 

@@ -1,4 +1,4 @@
-use Rattle.std.proofs.Common.{sym, ◌∙◌, ap, subst, refl, ◌<◌, ◌+◌, arith, length}
+use Rattle.std.proofs.Common.{sym, ◌∙◌, ap, subst, refl}
 use Rattle.repo_layout.specs.RefName.{IsRefName}
 use Rattle.ref_room.specs.Way.{Walked, leg_of}
 use Rattle.ref_room.proofs.Names.{some_parts, way_to-none}
@@ -18,8 +18,7 @@ leg_at-leg-requires c = heads_shorter c.in_ok-at.at c.args.name c.in_ok-at.ensur
 pub invariant_of-result : goal.invariant_of-result
 invariant_of-result c =
     let on = gone_on c.names.result.now c.in_ok-folder.folder c.args.name 0 4 _ (c.names.ensures.value ∙ c.in_ok-at.ensures) (c.in_ok-folder.ensures ∙ sym (way_to-none c.args.name)) refl (some_parts c.args.name) c.index-names-4.is in
-    let leg = leg_by_length c.in_ok-at.at c.args.name 0 _ c.in_ok-at.ensures c.leg_at-leg.ensures in
-    (
+    let leg = leg_by_length c.in_ok-at.at c.args.name 0 _ c.in_ok-at.ensures c.leg_at-leg.ensures in (
       c.in_ok-at.ensures,
       c.in_ok-folder.ensures ∙ sym (way_to-none c.args.name),
       c.in_ok-next.ensures ∙ on,

@@ -3,8 +3,6 @@ use Rattle.ref_room.specs.declared.way.Leg.TheVariants.{Over}
 use Rattle.ref_room.specs.Way.{Walked}
 use Rattle.ref_room.proofs.WayData.{before_last}
 use Rattle.ref_room.proofs.WaySteps.{over_free}
-use Rattle.ref_room.proofs.Begins.{way_begins}
-use Rattle.ref_room.proofs.Stable.{way_kept}
 use Rattle.ref_room.proofs.way.Way.step.Goals as goal
 
 pub returns-in-Over-clause-after : goal.returns-in-Over-clause-after
