@@ -95,7 +95,8 @@ impl StagedFile {
         }
     }
 
-    fn phase(&self) -> Phase
+    /// What the next step does.
+    pub fn phase(&self) -> Phase
         ensures { result ≡ self.now.phase }
     {
         self.phase
