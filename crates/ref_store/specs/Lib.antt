@@ -1,1 +1,3 @@
 pub mod Lookup
+pub mod Change
+pub mod Steps

@@ -2,5 +2,10 @@
 #![tactic(auto)]
 
 mod lookup;
+mod phase;
+mod refusal;
+mod task;
 
 pub use lookup::{GetRef, get};
+pub use refusal::RefRefusal;
+pub use task::RefTask;

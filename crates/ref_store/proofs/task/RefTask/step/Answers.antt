@@ -1,0 +1,5 @@
+use Rattle.std.proofs.Common.{sym, ◌∙◌, ap, subst}
+use Rattle.ref_store.proofs.task.RefTask.step.Goals as goal
+
+pub returns-in-Ended-clause-after : goal.returns-in-Ended-clause-after
+returns-in-Ended-clause-after g c = λ v told. let x = c in ?

@@ -1,0 +1,157 @@
+ghost use Rattle.std.specs.Prelude.{◌≡◌, ◌<◌, ◌≤◌, ℕ, Option, Some, None, Ok, IfOk, IfErr, IsSome, OnOk};
+ghost use Rattle.fs_trait.specs.View.{View};
+ghost use Rattle.fs_trait.specs.Image.{Told};
+ghost use Rattle.fs_trait.specs.Effect.{Elapses, HasCause};
+ghost use Rattle.fs_trait.specs.Change.{Writes};
+ghost use Rattle.ref_room.specs.Turns.{OnMore};
+ghost use Rattle.ref_store.specs.declared.phase.Phase.TheVariants as phase;
+ghost use Rattle.ref_store.specs.Change.{Change, IsStepped, KeepsRoom, Takes, left, left_put, left_way, need_in};
+ghost use Rattle.ref_store.specs.Steps.{Needs, WritesOf, Refuses, Tells, OfPhase};
+
+mod steps;
+
+use crate::phase::Phase;
+use crate::RefRefusal;
+use fs_trait::{Fs, FsErr, Need, Turn};
+use ost_types::{Csum, FsPath, NoMemory};
+use ref_room::ref_folder;
+use repo_layout::{RefName, ref_path};
+use staged_file::Phase as FilePhase;
+use std::alloc::Global;
+use std::marker::Model;
+
+/// The task that changes one ref, a step at a time. It compares the ref's value with the one that it was to have, and tells a
+/// ref that can't stand beside it. Then it makes room for the ref's file, puts it there in one call, and makes sure that it
+/// outlasts a crash; or it takes the file away. A crash at any moment leaves the ref with the value before or the one after.
+#[derive(Drop, Debug)]
+pub struct RefTask {
+    alloc: Global,
+    actor: u8,
+    name: RefName,
+    seen: Option<Csum>,
+    // None: the ref is removed
+    value: Option<Csum>,
+    at: FsPath,
+    folder: FsPath,
+    phase: Phase,
+}
+
+impl Model for RefTask {
+    ghost use Rattle.std.specs.Prelude.{◌≡◌, ◌<◌};
+    ghost use Rattle.repo_layout.specs.Paths.{ref_path};
+    ghost use Rattle.ref_room.specs.Clash.{ref_folder};
+    ghost use Rattle.ref_store.specs.Change.{Change, IsMade};
+
+    ghost Value = { Change };
+
+    ghost view = { λ a. record { actor = a.actor; name = a.name; seen = a.seen; value = a.value; phase = a.phase } };
+
+    ghost invariant = { λ a. (a.actor < 16) × (a.at ≡ ref_path a.name) × (a.folder ≡ ref_folder a.name) × IsMade (record { actor = a.actor; name = a.name; seen = a.seen; value = a.value; phase = a.phase }) };
+}
+
+impl RefTask {
+    /// Lets the ref name a commit. It must have the value `seen` so far, None where there is no such ref.
+    pub fn set(
+        alloc: Global,
+        actor: u8,
+        name: RefName,
+        seen: Option<Csum>,
+        commit: Csum,
+    ) -> Result<RefTask, NoMemory>
+        requires { actor < 16 }
+        ensures { IfOk result (λ t. t ≡ record { actor = actor; name = name; seen = seen; value = Some commit; phase = phase.Look }) }
+    {
+        RefTask::new(alloc, actor, name, seen, Some(commit))
+    }
+
+    /// Removes the ref. It must name the commit `seen` so far.
+    pub fn remove(
+        alloc: Global,
+        actor: u8,
+        name: RefName,
+        seen: Csum,
+    ) -> Result<RefTask, NoMemory>
+        requires { actor < 16 }
+        ensures { IfOk result (λ t. t ≡ record { actor = actor; name = name; seen = Some seen; value = None; phase = phase.Look }) }
+    {
+        RefTask::new(alloc, actor, name, Some(seen), None)
+    }
+
+    fn new(
+        alloc: Global,
+        actor: u8,
+        name: RefName,
+        seen: Option<Csum>,
+        value: Option<Csum>,
+    ) -> Result<RefTask, NoMemory>
+        requires actor { actor < 16 }
+        requires removed { value ≡ None → IsSome seen }
+        ensures { IfOk result (λ t. t ≡ record { actor = actor; name = name; seen = seen; value = value; phase = phase.Look }) }
+    {
+        let at = ref_path(alloc, &name)?;
+        let folder = ref_folder(alloc, &name)?;
+        Ok(RefTask {
+            alloc,
+            actor,
+            name,
+            seen,
+            value,
+            at,
+            folder,
+            phase: Phase::Look,
+        })
+    }
+
+    /// The lock under which the next step must stand.
+    pub fn needs(&self) -> Need
+        ensures { result ≡ need_in self.now.phase }
+    {
+        match self.phase {
+            Phase::Ended => Need::Nothing,
+            _ => Need::Turn,
+        }
+    }
+
+    /// At most so many steps are left.
+    pub fn left(&self) -> u128
+        ensures { result ≡ left self.now }
+    {
+        match &self.phase {
+            Phase::Look => (1 << 127) + 2 + self.left_way(),
+            Phase::Clear(clearing) => clearing.left() + self.left_way(),
+            Phase::Walk(way) => {
+                if way.is_over() {
+                    8
+                } else {
+                    way.left() + 9
+                }
+            }
+            Phase::Put(file) => left_put(file.phase()),
+            Phase::Unlink => 2,
+            Phase::SyncFolder => 1,
+            Phase::Ended => 0,
+        }
+    }
+
+    fn left_way(&self) -> u128
+        ensures value { result ≡ left_way self.now.name }
+        ensures small { result < 1000 }
+    {
+        2 * self.at.names().len() as u128 + 9
+    }
+}
+
+fn left_put(phase: FilePhase) -> u128
+    ensures { result ≡ left_put phase }
+{
+    match phase {
+        FilePhase::Clear => 7,
+        FilePhase::Create => 6,
+        FilePhase::Append => 5,
+        FilePhase::SyncFile => 4,
+        FilePhase::Look | FilePhase::Add => 3,
+        FilePhase::Replace | FilePhase::Unlink => 2,
+        FilePhase::SyncFolder => 1,
+        FilePhase::Ended => 0,
+    }
+}
