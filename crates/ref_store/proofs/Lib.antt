@@ -1,3 +1,5 @@
 pub mod Lookups
 pub mod StepLemmas
 pub mod PutLemmas
+pub mod RoomLemmas
+pub mod LookLemmas

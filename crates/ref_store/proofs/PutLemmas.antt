@@ -66,7 +66,7 @@ same_file t s u same is = record {
 }
 
 -- the same file, of a change in another phase
-file_in : (t : Change) (ph : Phase) (s : Staged) → IsRefFile t s → IsRefFile (record t { phase = ph }) s
+pub file_in : (t : Change) (ph : Phase) (s : Staged) → IsRefFile t s → IsRefFile (record t { phase = ph }) s
 file_in t ph s is = record { commit = is.commit; value = is.value; sum = is.sum; stage = is.stage; folder = is.folder; at = is.at; bytes = is.bytes; long = is.long; show = is.show }
 
 -- no folder comes to the target
@@ -106,7 +106,7 @@ module _ (t : Change) (v : View) (needs : Needs t v) (s : Staged) (is : t.phase 
   last_phase file.Unlink x e last = let n : false ≡ true = last in cc
 
   settled : (u : Staged) → IsRefFile t u → u.phase ≡ file.Ended → (w : View) → steps.Needs u w → needs_in phase.Ended (record t { phase = phase.Ended }) w
-  settled u f ended w after = subst (λ o. ((s : Seen) → MayBe w (ref_path t.name) s → ShowsValue o s) × leads o (record t { phase = phase.Ended }) w) (sym f.value) (
+  settled u f ended w after = subst (λ o. ((s : Seen) → MayBe w (ref_path t.name) s → ShowsValue o s) × leads o t.name w) (sym f.value) (
     λ x may.
         let last = ended_lasts u w after ended x (subst (λ p. MayBe w p x) (sym f.at) may) in
         let b : bytes_in x ≡ Some u.bytes = subst (λ how. steps.lasts how u.bytes x) f.show last in

@@ -81,11 +81,11 @@ stage-not_ref actor name few = place-apart (stage_path actor) (ref_path name) (�
     let s : place (stage_path actor) ≡ Stage actor = subst (λ p. place p ≡ Stage actor) (append-nil (stage_path actor)) (place-stage actor [] (omega (arith, few))) in
     let n : Stage actor ≡ Ref name = sym s ∙ e ∙ place-ref name in cc)
 
-stage-home : (actor : ℕ) → (g : Path) × (y : Name) × (stage_path actor ≡ under g y)
+pub stage-home : (actor : ℕ) → (g : Path) × (y : Name) × (stage_path actor ≡ under g y)
 unfolding stage_path
 stage-home actor = (in_repo (codes "tmp" ∷ []), codes "actor-" ++ decimal actor, refl)
 
-stage-aside : (actor : ℕ) (k : ℕ) (name : List ℕ) → is_below (stage_path actor) (way_to k name) ≡ false
+pub stage-aside : (actor : ℕ) (k : ℕ) (name : List ℕ) → is_below (stage_path actor) (way_to k name) ≡ false
 unfolding stage_path way_to is_below
 stage-aside actor k name = refl
 
@@ -169,7 +169,7 @@ module _ (t : Change) (v : View) (tree : IsTree v.now) (needs : Needs t v) where
   gone s vacant may = subst (λ z. MayShow v z s) (vacant_absent v.now (ref_path t.name) vacant) may
 
   removed : t.value ≡ None → (w : View) → ((s : Seen) → MayBe w (ref_path t.name) s → s ≡ Vacant) → needs_in phase.Ended (record t { phase = phase.Ended }) w
-  removed none w vacant = subst (λ o. ((s : Seen) → MayBe w (ref_path t.name) s → ShowsValue o s) × leads o (record t { phase = phase.Ended }) w) (sym none) (vacant, tt)
+  removed none w vacant = subst (λ o. ((s : Seen) → MayBe w (ref_path t.name) s → ShowsValue o s) × leads o t.name w) (sym none) (vacant, tt)
 
   -- its folder is synced
   pub sync_folder : (folder : Path) → folder ≡ ref_folder t.name → t.phase ≡ phase.SyncFolder

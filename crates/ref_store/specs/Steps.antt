@@ -48,28 +48,28 @@ abbrev pub WritesOf : Change → View → Path → Seen → Type 0
 WritesOf t v = writes_in t.phase t v
 
 -- before the file is staged: no folder at the staging path, and its own folder is there
-abbrev pub HereOfStage : Change → Path → Seen → Type 0
-HereOfStage t p s = (p ≡ stage_path t.actor → NotDirectory s) × (is_in p (stage_path t.actor) ≡ true → IsDirectory s)
+abbrev pub HereOfStage : ℕ → Path → Seen → Type 0
+HereOfStage actor p s = (p ≡ stage_path actor → NotDirectory s) × (is_in p (stage_path actor) ≡ true → IsDirectory s)
 
 -- A ref that is set needs that folders lead to the folder of the refs, after each crash; one that is removed needs nothing.
-abbrev pub begins : Option (List ℕ) → Change → View → Type 0
-begins None t v = Unit {0}
-begins (Some commit) t v = Meets (LeadsTo heads) (HereOfStage t) v
+abbrev pub begins : Option (List ℕ) → ℕ → View → Type 0
+begins None actor v = Unit {0}
+begins (Some commit) actor v = Meets (LeadsTo heads) (HereOfStage actor) v
 
 -- that folders lead to the ref that is there
-abbrev pub leads : Option (List ℕ) → Change → View → Type 0
-leads None t v = Unit {0}
-leads (Some commit) t v = (p : Path) (s : Seen) → MayBe v p s → LeadsTo (ref_folder t.name) p s
+abbrev pub leads : Option (List ℕ) → List ℕ → View → Type 0
+leads None name v = Unit {0}
+leads (Some commit) name v = (p : Path) (s : Seen) → MayBe v p s → LeadsTo (ref_folder name) p s
 
 -- What the next step needs: what its part does, and before the file is staged what that needs.
 abbrev pub needs_in : Phase → Change → View → Type 0
-needs_in Look t v = begins t.value t v
-needs_in (Clear c) t v = begins t.value t v × clearing.Needs c v
-needs_in (Walk w) t v = begins t.value t v × way.Needs w v × NotDirectory (shows v.now (ref_path t.name))
+needs_in Look t v = begins t.value t.actor v
+needs_in (Clear c) t v = begins t.value t.actor v × clearing.Needs c v
+needs_in (Walk w) t v = begins t.value t.actor v × way.Needs w v × NotDirectory (shows v.now (ref_path t.name))
 needs_in (Put f) t v = staging.Needs f v × NotDirectory (shows v.now (ref_path t.name))
 needs_in Unlink t v = IsLeaf (shows v.now (ref_path t.name))
 needs_in SyncFolder t v = (shows v.now (ref_path t.name) ≡ Vacant) × IsDirectory (shows v.now (ref_folder t.name))
-needs_in Ended t v = ((s : Seen) → MayBe v (ref_path t.name) s → ShowsValue t.value s) × leads t.value t v
+needs_in Ended t v = ((s : Seen) → MayBe v (ref_path t.name) s → ShowsValue t.value s) × leads t.value t.name v
 
 pub record Needs (t : Change) (v : View) : Type 0 where
   pub named : IsRefName t.name

@@ -116,9 +116,10 @@ impl RefTask {
     pub fn left(&self) -> u128
         ensures { result ≡ left self.now }
     {
+        let left_way = self.left_way();
         match &self.phase {
-            Phase::Look => (1 << 127) + 2 + self.left_way(),
-            Phase::Clear(clearing) => clearing.left() + self.left_way(),
+            Phase::Look => (1 << 127) + 2 + left_way,
+            Phase::Clear(clearing) => clearing.left() + left_way,
             Phase::Walk(way) => {
                 if way.is_over() {
                     8

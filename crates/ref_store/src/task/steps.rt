@@ -142,9 +142,10 @@ impl RefTask {
             Turn::More => Ok(Turn::More),
             Turn::Done(Some(other)) => Ok(Turn::Done(Err(RefRefusal::RefClash(other)))),
             Turn::Done(None) => {
-                if was_over {
-                    self.phase = Phase::Put(self.new_file()?);
+                if !was_over {
+                    return Ok(Turn::More);
                 }
+                self.phase = Phase::Put(self.new_file()?);
                 Ok(Turn::More)
             }
         }

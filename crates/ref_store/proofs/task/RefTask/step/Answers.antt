@@ -1,5 +1,4 @@
-use Rattle.std.proofs.Common.{sym, ◌∙◌, ap, subst}
 use Rattle.ref_store.proofs.task.RefTask.step.Goals as goal
 
 pub returns-in-Ended-clause-after : goal.returns-in-Ended-clause-after
-returns-in-Ended-clause-after g c = λ v told. let x = c in ?
+returns-in-Ended-clause-after g c = λ v told. (v, told, c.requires v told)

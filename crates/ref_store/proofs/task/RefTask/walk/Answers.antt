@@ -1,14 +1,36 @@
-use Rattle.std.proofs.Common.{sym, ◌∙◌, ap, subst}
+use Rattle.std.proofs.Common.{◌≡◌, Ok, None, sym, ◌∙◌, ap, subst}
+use Rattle.fs_trait.specs.declared.task.Turn.TheVariants.{Done}
+use Rattle.ref_store.specs.declared.phase.Phase.TheVariants as phase
+use Rattle.ref_store.specs.Change.{Change}
+use Rattle.ref_store.specs.Steps.{Needs}
+use Rattle.ref_store.proofs.StepLemmas.{meets_in, told_both}
+use Rattle.ref_store.proofs.RoomLemmas.{walk_kept, walk_over, way_name, way_ends}
 use Rattle.ref_store.proofs.task.RefTask.walk.Goals as goal
 
 pub step-requires : goal.step-requires
-step-requires g c = λ v told. let x = c in ?
+step-requires g c = λ v told.
+    let needs = subst (λ t. Needs t v) (sym c.self.view_is) (c.requires.needs v told) in
+    (meets_in _ v needs (phase.Walk c.in-Walk.way) c.in-Walk.is).1
 
 pub returns-in-More-clause-after : goal.returns-in-More-clause-after
-returns-in-More-clause-after g c = λ v told. let x = c in ?
+returns-in-More-clause-after g c = λ v told.
+    let needs = subst (λ t. Needs t v) (sym c.self.view_is) (c.requires.needs v told) in
+    told_both _ _ _ _ (walk_kept _ v needs c.in-Walk.way c.in-Walk.is c.step.new.self (way_name c.in-Walk.way _ c.step.new.self c.step.ensures.stepped)) (c.step.ensures.writes v told) (c.in_ok-step.ensures.after v told)
 
 pub returns-in-Done-Some-clause-after : goal.returns-in-Done-Some-clause-after
-returns-in-Done-Some-clause-after g c = λ v told. let x = c in ?
+returns-in-Done-Some-clause-after g c = λ v told.
+    let needs = subst (λ t. Needs t v) (sym c.self.view_is) (c.requires.needs v told) in
+    told_both _ _ _ _ (walk_kept _ v needs c.in-Walk.way c.in-Walk.is c.step.new.self (way_name c.in-Walk.way _ c.step.new.self c.step.ensures.stepped)) (c.step.ensures.writes v told) (c.in_ok-step.ensures.after v told)
 
-pub returns-after-was_over-clause-after : goal.returns-after-was_over-clause-after
-returns-after-was_over-clause-after g c = λ v told. let x = c in ?
+pub returns-then-not-was_over-clause-after : goal.returns-then-not-was_over-clause-after
+returns-then-not-was_over-clause-after g c = λ v told.
+    let needs = subst (λ t. Needs t v) (sym c.self.view_is) (c.requires.needs v told) in
+    told_both _ _ _ _ (walk_kept _ v needs c.in-Walk.way c.in-Walk.is c.step.new.self (way_name c.in-Walk.way _ c.step.new.self c.step.ensures.stepped)) (c.step.ensures.writes v told) (c.in_ok-step.ensures.after v told)
+
+pub returns-in_ok-new_file-in-Done-None-clause-after : goal.returns-in_ok-new_file-in-Done-None-clause-after
+returns-in_ok-new_file-in-Done-None-clause-after g c = λ v told.
+    let needs = subst (λ t. Needs t v) (sym c.self.view_is) (c.requires.needs v told) in
+    let is : c.step.result ≡ Ok (Done None) = c.in_ok-step.was ∙ ap Ok (c.in-Done-None.is ∙ ap Done c.in-Done-None.field-0-is) in
+    told_both _ _ _ _
+    (walk_over _ v needs c.in-Walk.way c.in-Walk.is c.step.new.self (way_name c.in-Walk.way _ c.step.new.self c.step.ensures.stepped) (way_ends c.in-Walk.way c.step.new.self _ is c.step.ensures.stepped) c.in_ok-new_file-in-Done-None.field-0 c.in_ok-new_file-in-Done-None.ensures)
+    (c.step.ensures.writes v told) (c.in_ok-step.ensures.after v told)
