@@ -3,3 +3,4 @@ pub mod StepLemmas
 pub mod PutLemmas
 pub mod RoomLemmas
 pub mod LookLemmas
+pub mod Wholes

@@ -13,6 +13,7 @@ use Rattle.fs_trait.specs.View.{View}
 use Rattle.fs_trait.specs.Seen.{Seen, Vacant, Directory, shows, MayBe, IsDirectory, NotDirectory}
 use Rattle.fs_trait.specs.Change.{Writes, Meets, Harmless, LeadsTo}
 use Rattle.fs_trait.proofs.Images.{not_both}
+use Rattle.fs_trait.proofs.Claims.{is_below-before}
 use Rattle.fs_trait.proofs.Kept.{meets_kept}
 use Rattle.fs_trait.proofs.Facts.{shows_kept}
 use Rattle.repo_layout.specs.RefName.{IsRefName, parts_of}
@@ -24,6 +25,7 @@ use Rattle.ref_room.specs.declared.way.Leg.{Leg}
 use Rattle.ref_room.specs.declared.way.Leg.TheVariants as leg
 use Rattle.ref_room.proofs.Names.{length-ref_path, some_parts}
 use Rattle.ref_room.proofs.Begins.{way_begins}
+use Rattle.ref_room.proofs.Stable.{Goes, clearing_lies}
 use Rattle.staged_file.specs.Staged.{Staged}
 use Rattle.staged_file.specs.Steps as steps
 use Rattle.staged_file.proofs.Begins.{needs_new}
@@ -39,14 +41,14 @@ both_true true true e = (refl, refl)
 both_true true false e = let n : false ≡ true = e in cc
 both_true false b e = let n : false ≡ true = e in cc
 
-below-length : (p q : Path) → is_below p q ≡ true → length p ≤ length q
+pub below-length : (p q : Path) → is_below p q ≡ true → length p ≤ length q
 unfolding is_below
 below-length [] q e = omega arith
 below-length (a ∷ p) [] e = let n : false ≡ true = e in cc
 below-length (a ∷ p) (x ∷ q) e = let more : length p ≤ length q = below-length p q (both_true _ _ e).1 in omega (arith, more)
 
 -- nothing at or below a ref's path is on the way to the refs, or to a staging path
-off_heads : (name : List ℕ) (p : Path) → is_below (ref_path name) p ≡ true → is_below p heads ≡ true → ⊥
+pub off_heads : (name : List ℕ) (p : Path) → is_below (ref_path name) p ≡ true → is_below p heads ≡ true → ⊥
 off_heads name p a b = absurd (omega (arith, below-length _ _ a, below-length _ _ b, length-ref_path name, some_parts name))
 
 stage-off : (actor : ℕ) (name : List ℕ) → is_below (ref_path name) (stage_path actor) ≡ false
@@ -74,13 +76,12 @@ pub begins_here : (o : Option (List ℕ)) (actor : ℕ) (v : View) → IsSome o 
 begins_here None actor v some was = let n : false ≡ true = some in cc
 begins_here (Some commit) actor v some was = was.here
 
--- where the folders lie that a clearing removes
-pub clear_lies : (c : clearing.Cleared) (v : View) → clearing.Needs c v → (p : Path) (s : Seen) → clearing.WritesOf c v p s → (is_below (ref_path c.name) p ≡ true) × (s ≡ Vacant)
-clear_lies c v needs p s a = (needs.folders p (subst (λ l. Contains l p) (sym a.0.1.1) (Contains-push a.0.1.0 p)), a.1)
-
 module _ (t : Change) (v : View) (needs : Needs t v) (c : clearing.Cleared) (is : t.phase ≡ phase.Clear c) where
+  pub clear_lies : (p : Path) (s : Seen) → clearing.WritesOf c v p s → Goes t.name v p s
+  clear_lies p s a = subst (λ n. Goes n v p s) (made t v needs (phase.Clear c) is).0 (clearing_lies c v (meets_in t v needs (phase.Clear c) is).1 p s a)
+
   clear_below : (p : Path) (s : Seen) → clearing.WritesOf c v p s → is_below (ref_path t.name) p ≡ true
-  clear_below p s a = subst (λ n. is_below (ref_path n) p ≡ true) (made t v needs (phase.Clear c) is).0 (clear_lies c v (meets_in t v needs (phase.Clear c) is).1 p s a).0
+  clear_below p s a = let u = (clear_lies p s a).place in subst (λ q. is_below (ref_path t.name) q ≡ true) (sym u.1) (is_below-before (ref_path t.name) u.0)
 
   clear_begins : (w : View) → Writes (clearing.WritesOf c v) v w → begins t.value t.actor w
   clear_begins w writes = begins_kept t.value t.actor (clearing.WritesOf c v) v w writes
@@ -121,7 +122,7 @@ way_lies w v needs = by w.leg refl
     by leg.Sync is p s a = absurd a
     by leg.Over is p s a = absurd a
 
-way_to-short : (k : ℕ) (name : List ℕ) → k < length (parts_of name) → way_to k name ≢ ref_path name
+pub way_to-short : (k : ℕ) (name : List ℕ) → k < length (parts_of name) → way_to k name ≢ ref_path name
 unfolding way_to ref_path
 way_to-short k name few e = absurd (omega (arith, ap length e, few, length-append heads (take k (parts_of name)), length-append heads (parts_of name), length-take k (parts_of name)))
 
@@ -139,7 +140,7 @@ pub same_name : (w x : way.Walked) → x ≡ way.next w → x.name ≡ w.name
 same_name w x e = ap (λ (y : way.Walked). y.name) e ∙ next_name w.leg w
 
 module _ (t : Change) (v : View) (needs : Needs t v) (y : way.Walked) (is : t.phase ≡ phase.Walk y) where
-  walk_lies : (p : Path) (s : Seen) → way.WritesOf y v p s → (k : ℕ) × (p ≡ way_to k t.name) × (k < length (parts_of t.name)) × (s ≡ Directory way.folder_meta) × (shows v.now p ≡ Vacant)
+  pub walk_lies : (p : Path) (s : Seen) → way.WritesOf y v p s → (k : ℕ) × (p ≡ way_to k t.name) × (k < length (parts_of t.name)) × (s ≡ Directory way.folder_meta) × (shows v.now p ≡ Vacant)
   walk_lies p s a = subst (λ n. (k : ℕ) × (p ≡ way_to k n) × (k < length (parts_of n)) × (s ≡ Directory way.folder_meta) × (shows v.now p ≡ Vacant)) (made t v needs (phase.Walk y) is).0 (way_lies y v (meets_in t v needs (phase.Walk y) is).1 p s a)
 
   walk_begins : (w : View) → Writes (way.WritesOf y v) v w → begins t.value t.actor w

@@ -1,3 +1,4 @@
 pub mod Lookup
 pub mod Change
 pub mod Steps
+pub mod Whole

@@ -85,11 +85,17 @@ goes_on (Clear c) (Walk w) t v = shows v.now (ref_path t.name) ≡ Vacant
 goes_on (Walk w) (Put f) t v = IsFreeAbove v.now t.name
 goes_on last next t v = Unit {0}
 
+-- room is made, or looked for
+abbrev pub MakesRoom : Phase → Type 0
+MakesRoom (Clear c) = Unit {0}
+MakesRoom (Walk w) = Unit {0}
+MakesRoom ph = ⊥
+
 abbrev pub Tells : Change → Change → View → Turn (Result (Unit {0}) RefRefusal) → Type 0
 Tells old new v More = goes_on old.phase new.phase old v
 Tells old new v (Done (Ok x)) = Unit {0}
 Tells old new v (Done (Err (RefMoved seen now))) = (old.phase ≡ Look) × (seen ≡ old.seen) × HasValue v.now old.name now × (now ≢ seen)
-Tells old new v (Done (Err (RefClash other))) = (old.phase ≢ Look) × IsLeastClash v.now old.name other
+Tells old new v (Done (Err (RefClash other))) = MakesRoom old.phase × IsLeastClash v.now old.name other
 Tells old new v (Done (Err NoRef)) = ⊥
 
 -- Why a step isn't done: the call failed or wanted for memory, or what stands there is no ref and no folder of refs.

@@ -1,12 +1,13 @@
 ghost use Rattle.std.specs.Prelude.{◌≡◌, ◌<◌, ◌≤◌, ℕ, Option, Some, None, Ok, IfOk, IfErr, IsSome, OnOk};
 ghost use Rattle.fs_trait.specs.View.{View};
-ghost use Rattle.fs_trait.specs.Image.{Told};
-ghost use Rattle.fs_trait.specs.Effect.{Elapses, HasCause};
+ghost use Rattle.fs_trait.specs.Image.{EachImage, Told};
+ghost use Rattle.fs_trait.specs.Effect.{Elapses, HasCause, LeavesEach};
 ghost use Rattle.fs_trait.specs.Change.{Writes};
 ghost use Rattle.ref_room.specs.Turns.{OnMore};
 ghost use Rattle.ref_store.specs.declared.phase.Phase.TheVariants as phase;
 ghost use Rattle.ref_store.specs.Change.{Change, IsStepped, KeepsRoom, Takes, left, left_put, left_way, need_in};
-ghost use Rattle.ref_store.specs.Steps.{Needs, WritesOf, Refuses, Tells, OfPhase};
+ghost use Rattle.ref_store.specs.Steps.{Needs};
+ghost use Rattle.ref_store.specs.Whole.{Answers, Lasts, Leaves, SparesLeaves};
 
 mod steps;
 
@@ -154,5 +155,24 @@ fn left_put(phase: FilePhase) -> u128
         FilePhase::Replace | FilePhase::Unlink => 2,
         FilePhase::SyncFolder => 1,
         FilePhase::Ended => 0,
+    }
+}
+
+/// Changes the ref. A crash at any moment leaves it with the value before or the new one, and each other ref as it was.
+pub fn change_ref<F: Fs>(fs: &mut F, task: RefTask) -> Result<Result<(), RefRefusal>, FsErr>
+    requires new { task.phase ≡ phase.Look }
+    requires needs { (v : View) → F.view fs.old ≡ Some v → Needs task v }
+    ensures any_moment { (v : View) → F.view fs.old ≡ Some v → LeavesEach (F.clock fs.old) (F.clock fs.new) (F.was fs.old) (F.was fs.new) (Leaves task v) }
+    ensures done { (v : View) → F.view fs.old ≡ Some v → IfOk result (λ r. Told (F.view fs.new) (λ w. EachImage w (Lasts task r))) }
+    ensures answers { (v : View) → F.view fs.old ≡ Some v → IfOk result (Answers task v) }
+    ensures refused { (v : View) → F.view fs.old ≡ Some v → IfOk result (λ r. Told (F.view fs.new) (λ w. SparesLeaves r v.now w.now)) }
+    ensures cause { HasCause (F.faults fs.old) (F.faults fs.new) result }
+{
+    let mut task = task;
+    'steps: loop {
+        match task.step(fs)? {
+            Turn::More => {}
+            Turn::Done(answer) => return Ok(answer),
+        }
     }
 }

@@ -1,0 +1,150 @@
+-- A change alone, from its first step to any later moment.
+use Rattle.std.proofs.Common.{◌≡◌, ◌≢◌, ◌⊎◌, inl, inr, ⊎_elim, ℕ, ◌+◌, ◌≤◌, ◌<◌, arith, Bool, true, false, ◌&&◌, refl, sym, ◌∙◌, ap, subst, List, [], ◌∷◌, ◌++◌, append_assoc, length, length-append, Option, Some, None, Result, Ok, Err}
+use Rattle.std.specs.Prelude.{IsSome, Contains, IfOk}
+use Rattle.ost_types.specs.Path.{Name, Path, under, is_below}
+use Rattle.ost_types.proofs.Paths.{is_below-self, same_name-Decides}
+use Rattle.fs_trait.specs.declared.types.Value.{Value}
+use Rattle.fs_trait.specs.declared.types.Value.TheVariants.{Absent, Folder, Link, File}
+use Rattle.fs_trait.specs.View.{Disk, View}
+use Rattle.fs_trait.specs.Image.{Image, EachImage, is_folder, IsTree, Told, reads}
+use Rattle.fs_trait.specs.Seen.{Seen, Vacant, Directory, Symlink, Leaf, seen, shows, MayBe, IsDirectory, NotDirectory, bytes_in}
+use Rattle.fs_trait.specs.Change.{Writes, LeadsTo}
+use Rattle.fs_trait.proofs.Images.{not_both}
+use Rattle.fs_trait.proofs.Effects.{may_now}
+use Rattle.fs_trait.proofs.Facts.{no_folder_shown}
+use Rattle.fs_trait.proofs.Claims.{Image-may, Image-under, Image-folder, reads_shows, is_below-before}
+use Rattle.repo_layout.specs.RefName.{IsRefName, parts_of}
+use Rattle.repo_layout.specs.RefFile.{ref_text}
+use Rattle.repo_layout.specs.Paths.{heads, ref_path, stage_path}
+use Rattle.repo_layout.specs.Refs.{is_leaf, Lacks, Names}
+use Rattle.repo_layout.proofs.Places.{ref_path-injective}
+use Rattle.ref_room.specs.Clash.{way_to, ref_folder, IsAbove, IsClash, IsLeastClash, IsFree, IsFreeAbove}
+use Rattle.ref_room.specs.Clearing as clearing
+use Rattle.ref_room.specs.Clearing.{IsLeaf, IsUnder}
+use Rattle.ref_room.specs.Way as way
+use Rattle.ref_room.proofs.Names.{ref_folder-under}
+use Rattle.ref_room.proofs.Disks.{below_absent}
+use Rattle.ref_room.proofs.Stable.{Goes}
+use Rattle.staged_file.specs.Staged.{Staged}
+use Rattle.staged_file.specs.Steps as steps
+use Rattle.staged_file.proofs.Stable.{Lies, staged_lies}
+use Rattle.ref_store.specs.declared.phase.Phase.{Phase}
+use Rattle.ref_store.specs.declared.phase.Phase.TheVariants as phase
+use Rattle.ref_store.specs.Change.{Change, IsRefFile}
+use Rattle.ref_store.specs.Steps.{Needs, needs_in, writes_in, HasValue, ShowsValue}
+use Rattle.ref_store.specs.Whole.{IsSure, Leaves, SameLeaves}
+use Rattle.ref_store.proofs.StepLemmas.{stage-not_ref, stage-aside}
+use Rattle.ref_store.proofs.RoomLemmas.{clear_lies, walk_lies, way_to-short, below-length}
+
+-- leaves
+leaf_is : (d : Disk) (z : Value) → is_leaf z ≡ true → IsLeaf (seen d z)
+leaf_is d Absent e = let n : false ≡ true = e in cc
+leaf_is d (Folder m) e = let n : false ≡ true = e in cc
+leaf_is d (Link m l) e = tt
+leaf_is d (File n) e = tt
+
+is_a_leaf : (d : Disk) (z : Value) → IsLeaf (seen d z) → is_leaf z ≡ true
+is_a_leaf d Absent leaf = absurd leaf
+is_a_leaf d (Folder m) leaf = absurd leaf
+is_a_leaf d (Link m l) leaf = refl
+is_a_leaf d (File n) leaf = refl
+
+no_leaf : (d : Disk) (z : Value) → ¬ (IsLeaf (seen d z)) → is_leaf z ≡ false
+no_leaf d Absent none = refl
+no_leaf d (Folder m) none = refl
+no_leaf d (Link m l) none = absurd (none tt)
+no_leaf d (File n) none = absurd (none tt)
+
+directory_leaf : (s : Seen) → IsDirectory s → ¬ (IsLeaf s)
+directory_leaf (Directory m) is leaf = leaf
+directory_leaf Vacant is leaf = leaf
+directory_leaf (Symlink m l) is leaf = is
+directory_leaf (Leaf n m b) is leaf = is
+
+vacant_leaf : (s : Seen) → s ≡ Vacant → ¬ (IsLeaf s)
+vacant_leaf s e leaf = subst IsLeaf e leaf
+
+folder_not : (s : Seen) → IsDirectory s → NotDirectory s → ⊥
+folder_not (Directory m) is no_ = no_
+folder_not Vacant is no_ = is
+folder_not (Symlink m l) is no_ = is
+folder_not (Leaf n m b) is no_ = is
+
+file_leaf : (s : Seen) (b : List ℕ) → bytes_in s ≡ Some b → IsLeaf s
+file_leaf (Leaf n m c) b e = tt
+file_leaf Vacant b e = let n : None ≡ Some b = e in cc
+file_leaf (Directory m) b e = let n : None ≡ Some b = e in cc
+file_leaf (Symlink m l) b e = let n : None ≡ Some b = e in cc
+
+-- the value that a ref has where its path shows that
+pub shows_value : (d : Disk) (name : List ℕ) (o : Option (List ℕ)) → ShowsValue o (shows d (ref_path name)) → HasValue d name o
+shows_value d name None s = no_leaf d (d.at (ref_path name)) (vacant_leaf _ s)
+shows_value d name (Some commit) s = record { sum = s.0; file = reads_shows d (ref_path name) ∙ s.1 }
+
+value_leaf : (o : Option (List ℕ)) (s : Seen) → IsSome o → ShowsValue o s → IsLeaf s
+value_leaf None s some v = let n : false ≡ true = some in cc
+value_leaf (Some commit) s some v = file_leaf s _ v.1
+
+-- what is sure of a ref is so in each image
+pub sure_each : (o : Option (List ℕ)) (name : List ℕ) (w : View) → IsSure o name w → EachImage w (λ d. HasValue d name o)
+sure_each None name w sure d i = no_leaf d (d.at (ref_path name)) (⊎_elim (λ may. sure _ may) (λ none. vacant_leaf _ none) (Image-may w d i (ref_path name)))
+sure_each (Some commit) name w sure d i =
+    let u = ref_folder-under name in
+    let may : MayBe w (ref_path name) (shows d (ref_path name)) = subst (λ q. MayBe w q (shows d q)) (sym u.1) (Image-under w d i (ref_folder name) u.0 (Image-folder w d i (ref_folder name) sure.1)) in
+    shows_value d name (Some commit) (sure.0 _ may)
+
+-- what the path of the ref may show while it is changed
+abbrev pub Kept : Option (List ℕ) → List ℕ → Option (List ℕ) → View → Type 0
+Kept None name value w = (s : Seen) → MayBe w (ref_path name) s → (¬ (IsLeaf s)) ⊎ ShowsValue value s
+Kept (Some commit) name value w = ((s : Seen) → MayBe w (ref_path name) s → ShowsValue (Some commit) s ⊎ ShowsValue value s) × ((p : Path) (s : Seen) → MayBe w p s → LeadsTo (ref_folder name) p s)
+
+pub kept_sure : (o : Option (List ℕ)) (name : List ℕ) (value : Option (List ℕ)) (w : View) → IsSure o name w → Kept o name value w
+kept_sure None name value w sure = λ s may. inl (sure s may)
+kept_sure (Some commit) name value w sure = (λ s may. inl (sure.0 s may), sure.1)
+
+pub kept_each : (o : Option (List ℕ)) (name : List ℕ) (value : Option (List ℕ)) (w : View) → Kept o name value w → EachImage w (λ d. HasValue d name o ⊎ HasValue d name value)
+kept_each None name value w kept d i = ⊎_elim
+    (λ may. ⊎_elim (λ none. inl (no_leaf d (d.at (ref_path name)) none)) (λ new. inr (shows_value d name value new)) (kept _ may))
+    (λ none. inl (no_leaf d (d.at (ref_path name)) (vacant_leaf _ none)))
+    (Image-may w d i (ref_path name))
+kept_each (Some commit) name value w kept d i =
+    let u = ref_folder-under name in
+    let may : MayBe w (ref_path name) (shows d (ref_path name)) = subst (λ q. MayBe w q (shows d q)) (sym u.1) (Image-under w d i (ref_folder name) u.0 (Image-folder w d i (ref_folder name) kept.1)) in
+    ⊎_elim (λ old. inl (shows_value d name (Some commit) old)) (λ new. inr (shows_value d name value new)) (kept.0 _ may)
+
+-- nothing at or below a ref's path leads to it
+off_folder : (name : List ℕ) (p : Path) → is_below (ref_path name) p ≡ true → is_below p (ref_folder name) ≡ true → ⊥
+off_folder name p a b =
+    let u = ref_folder-under name in
+    absurd (omega (arith, below-length _ _ a, below-length _ _ b, ap length u.1, length-append (ref_folder name) (u.0 ∷ [])))
+
+both_true : (a b : Bool) → a && b ≡ true → (a ≡ true) × (b ≡ true)
+both_true true true e = (refl, refl)
+both_true true false e = let n : false ≡ true = e in cc
+both_true false b e = let n : false ≡ true = e in cc
+
+below-rest : (p q : Path) → is_below p q ≡ true → (rest : Path) × (q ≡ p ++ rest)
+unfolding is_below
+below-rest [] q e = (q, refl)
+below-rest (a ∷ p) [] e = let n : false ≡ true = e in cc
+below-rest (a ∷ p) (x ∷ q) e =
+    let s = both_true _ _ e in
+    let more = below-rest p q s.1 in
+    let head : a ≡ x = (same_name-Decides a x).0 s.0 in
+    (more.0, cc (head, more.1))
+
+-- a ref whose folder lies below another's path is below it
+under_ref : (name other : List ℕ) (p : Path) → IsUnder name p → is_below p (ref_folder other) ≡ true → IsUnder name (ref_path other)
+under_ref name other p place below =
+    let b = below-rest p (ref_folder other) below in
+    let u = ref_folder-under other in (
+      (place.0 ++ b.0) ++ u.0 ∷ [],
+      u.1 ∙ ap (λ q. under q u.0) (b.1 ∙ ap (λ q. q ++ b.0) place.1 ∙ append_assoc (ref_path name) place.0 b.0) ∙ append_assoc (ref_path name) (place.0 ++ b.0) (u.0 ∷ []),
+    )
+
+-- what a clearing knows once it removes
+removes : (pending folders : List Path) (least : Option (List ℕ)) → clearing.act_of pending folders least ≡ clearing.Removes → (pending ≡ []) × (least ≡ None)
+removes [] (f ∷ folders) None e = (refl, refl)
+removes [] [] None e = let n : clearing.Ends ≡ clearing.Removes = e in cc
+removes [] folders (Some other) e = let n : clearing.Says other ≡ clearing.Removes = e in cc
+removes (p ∷ pending) folders least e = let n : clearing.Looks ≡ clearing.Removes = e in cc
