@@ -4,3 +4,5 @@ pub mod PutLemmas
 pub mod RoomLemmas
 pub mod LookLemmas
 pub mod Wholes
+pub mod RunLemmas
+pub mod Runs

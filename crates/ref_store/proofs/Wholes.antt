@@ -37,40 +37,40 @@ use Rattle.ref_store.proofs.StepLemmas.{stage-not_ref, stage-aside}
 use Rattle.ref_store.proofs.RoomLemmas.{clear_lies, walk_lies, way_to-short, below-length}
 
 -- leaves
-leaf_is : (d : Disk) (z : Value) → is_leaf z ≡ true → IsLeaf (seen d z)
+pub leaf_is : (d : Disk) (z : Value) → is_leaf z ≡ true → IsLeaf (seen d z)
 leaf_is d Absent e = let n : false ≡ true = e in cc
 leaf_is d (Folder m) e = let n : false ≡ true = e in cc
 leaf_is d (Link m l) e = tt
 leaf_is d (File n) e = tt
 
-is_a_leaf : (d : Disk) (z : Value) → IsLeaf (seen d z) → is_leaf z ≡ true
+pub is_a_leaf : (d : Disk) (z : Value) → IsLeaf (seen d z) → is_leaf z ≡ true
 is_a_leaf d Absent leaf = absurd leaf
 is_a_leaf d (Folder m) leaf = absurd leaf
 is_a_leaf d (Link m l) leaf = refl
 is_a_leaf d (File n) leaf = refl
 
-no_leaf : (d : Disk) (z : Value) → ¬ (IsLeaf (seen d z)) → is_leaf z ≡ false
+pub no_leaf : (d : Disk) (z : Value) → ¬ (IsLeaf (seen d z)) → is_leaf z ≡ false
 no_leaf d Absent none = refl
 no_leaf d (Folder m) none = refl
 no_leaf d (Link m l) none = absurd (none tt)
 no_leaf d (File n) none = absurd (none tt)
 
-directory_leaf : (s : Seen) → IsDirectory s → ¬ (IsLeaf s)
+pub directory_leaf : (s : Seen) → IsDirectory s → ¬ (IsLeaf s)
 directory_leaf (Directory m) is leaf = leaf
 directory_leaf Vacant is leaf = leaf
 directory_leaf (Symlink m l) is leaf = is
 directory_leaf (Leaf n m b) is leaf = is
 
-vacant_leaf : (s : Seen) → s ≡ Vacant → ¬ (IsLeaf s)
+pub vacant_leaf : (s : Seen) → s ≡ Vacant → ¬ (IsLeaf s)
 vacant_leaf s e leaf = subst IsLeaf e leaf
 
-folder_not : (s : Seen) → IsDirectory s → NotDirectory s → ⊥
+pub folder_not : (s : Seen) → IsDirectory s → NotDirectory s → ⊥
 folder_not (Directory m) is no_ = no_
 folder_not Vacant is no_ = is
 folder_not (Symlink m l) is no_ = is
 folder_not (Leaf n m b) is no_ = is
 
-file_leaf : (s : Seen) (b : List ℕ) → bytes_in s ≡ Some b → IsLeaf s
+pub file_leaf : (s : Seen) (b : List ℕ) → bytes_in s ≡ Some b → IsLeaf s
 file_leaf (Leaf n m c) b e = tt
 file_leaf Vacant b e = let n : None ≡ Some b = e in cc
 file_leaf (Directory m) b e = let n : None ≡ Some b = e in cc
@@ -81,7 +81,7 @@ pub shows_value : (d : Disk) (name : List ℕ) (o : Option (List ℕ)) → Shows
 shows_value d name None s = no_leaf d (d.at (ref_path name)) (vacant_leaf _ s)
 shows_value d name (Some commit) s = record { sum = s.0; file = reads_shows d (ref_path name) ∙ s.1 }
 
-value_leaf : (o : Option (List ℕ)) (s : Seen) → IsSome o → ShowsValue o s → IsLeaf s
+pub value_leaf : (o : Option (List ℕ)) (s : Seen) → IsSome o → ShowsValue o s → IsLeaf s
 value_leaf None s some v = let n : false ≡ true = some in cc
 value_leaf (Some commit) s some v = file_leaf s _ v.1
 
@@ -113,7 +113,7 @@ kept_each (Some commit) name value w kept d i =
     ⊎_elim (λ old. inl (shows_value d name (Some commit) old)) (λ new. inr (shows_value d name value new)) (kept.0 _ may)
 
 -- nothing at or below a ref's path leads to it
-off_folder : (name : List ℕ) (p : Path) → is_below (ref_path name) p ≡ true → is_below p (ref_folder name) ≡ true → ⊥
+pub off_folder : (name : List ℕ) (p : Path) → is_below (ref_path name) p ≡ true → is_below p (ref_folder name) ≡ true → ⊥
 off_folder name p a b =
     let u = ref_folder-under name in
     absurd (omega (arith, below-length _ _ a, below-length _ _ b, ap length u.1, length-append (ref_folder name) (u.0 ∷ [])))
@@ -134,7 +134,7 @@ below-rest (a ∷ p) (x ∷ q) e =
     (more.0, cc (head, more.1))
 
 -- a ref whose folder lies below another's path is below it
-under_ref : (name other : List ℕ) (p : Path) → IsUnder name p → is_below p (ref_folder other) ≡ true → IsUnder name (ref_path other)
+pub under_ref : (name other : List ℕ) (p : Path) → IsUnder name p → is_below p (ref_folder other) ≡ true → IsUnder name (ref_path other)
 under_ref name other p place below =
     let b = below-rest p (ref_folder other) below in
     let u = ref_folder-under other in (
@@ -143,7 +143,7 @@ under_ref name other p place below =
     )
 
 -- what a clearing knows once it removes
-removes : (pending folders : List Path) (least : Option (List ℕ)) → clearing.act_of pending folders least ≡ clearing.Removes → (pending ≡ []) × (least ≡ None)
+pub removes : (pending folders : List Path) (least : Option (List ℕ)) → clearing.act_of pending folders least ≡ clearing.Removes → (pending ≡ []) × (least ≡ None)
 removes [] (f ∷ folders) None e = (refl, refl)
 removes [] [] None e = let n : clearing.Ends ≡ clearing.Removes = e in cc
 removes [] folders (Some other) e = let n : clearing.Says other ≡ clearing.Removes = e in cc

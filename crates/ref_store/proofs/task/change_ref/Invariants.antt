@@ -1,5 +1,23 @@
+use Rattle.std.proofs.Common.{◌≡◌, ◌≤◌, Some}
+use Rattle.fs_trait.specs.View.{View}
+use Rattle.fs_trait.specs.Image.{Told}
+use Rattle.fs_trait.specs.Effect.{LeavesEach}
 use Rattle.ref_store.specs.Change.{left}
+use Rattle.ref_store.specs.Steps.{Needs}
+use Rattle.ref_store.specs.Whole.{Leaves}
+use Rattle.ref_store.proofs.RunLemmas.{at_phase}
+use Rattle.ref_store.proofs.Runs.{Runs}
 use Rattle.ref_store.proofs.task.change_ref.Given as goal
+
+-- the next step has what it needs, and so far each crash left what it may leave
+abbrev pub invariant-steps : goal.invariant-steps
+invariant-steps g l = record {
+  same : l.task ≡ at_phase l.fn.task l.task.phase;
+  needs : (v : View) → g.F.Fs.view l.fs ≡ Some v → Needs l.task v;
+  run : (v : View) → g.F.Fs.view l.fn.fs ≡ Some v
+      → Told (g.F.Fs.view l.fs) (Runs l.fn.task v l.task.phase) × LeavesEach (g.F.Fs.clock l.fn.fs) (g.F.Fs.clock l.fs) (g.F.Fs.was l.fn.fs) (g.F.Fs.was l.fs) (Leaves l.fn.task v);
+  faults : g.F.Fs.faults l.fn.fs ≤ g.F.Fs.faults l.fs;
+}
 
 abbrev pub decreases-steps : goal.decreases-steps
 decreases-steps g l = left l.task

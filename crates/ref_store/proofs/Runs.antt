@@ -1,0 +1,258 @@
+-- A run of steps, from the beginning.
+use Rattle.std.proofs.Common.{◌≡◌, ◌≢◌, ◌⊎◌, inl, inr, ⊎_elim, ℕ, Bool, true, false, refl, sym, ◌∙◌, ap, subst, List, [], ◌∷◌, ◌++◌, append_assoc, Option, Some, None, Result, Ok, Err}
+use Rattle.std.specs.Prelude.{IsSome, IfOk}
+use Rattle.ost_types.specs.Path.{Name, Path}
+use Rattle.fs_trait.specs.declared.types.Value.TheVariants.{Absent}
+use Rattle.fs_trait.specs.declared.types.FsErr.{FsErr}
+use Rattle.fs_trait.specs.declared.task.Turn.{Turn}
+use Rattle.fs_trait.specs.declared.task.Turn.TheVariants.{More, Done}
+use Rattle.fs_trait.specs.View.{Disk, View}
+use Rattle.fs_trait.specs.Image.{EachImage, IsTree, Told}
+use Rattle.fs_trait.specs.Seen.{Seen, Vacant, seen, shows, MayBe, IsDirectory, NotDirectory, bytes_in}
+use Rattle.fs_trait.specs.Change.{Writes, LeadsTo}
+use Rattle.fs_trait.proofs.Claims.{reads_shows}
+use Rattle.fs_trait.proofs.Facts.{no_folder_shown}
+use Rattle.repo_layout.specs.RefName.{IsRefName, parts_of}
+use Rattle.repo_layout.specs.Paths.{heads, ref_path}
+use Rattle.repo_layout.specs.Refs.{is_leaf}
+use Rattle.ref_room.specs.Clash.{ref_folder, IsAbove, IsClash, IsLeastClash, IsFree, IsFreeAbove}
+use Rattle.ref_room.specs.Clearing.{IsLeaf}
+use Rattle.ref_room.proofs.Disks.{below_absent}
+use Rattle.ref_store.specs.declared.phase.Phase.{Phase}
+use Rattle.ref_store.specs.declared.phase.Phase.TheVariants as phase
+use Rattle.ref_store.specs.declared.lookup.There.{There}
+use Rattle.ref_store.specs.declared.lookup.There.TheVariants as there
+use Rattle.ref_store.specs.declared.refusal.RefRefusal.{RefRefusal}
+use Rattle.ref_store.specs.declared.refusal.RefRefusal.TheVariants.{RefClash, RefMoved, NoRef}
+use Rattle.ref_store.specs.Change.{Change, IsStepped, Follows, IsLast, begun}
+use Rattle.ref_store.specs.Steps.{Needs, needs_in, writes_in, WritesOf, HasValue, ShowsValue, leads, Tells, goes_on, MakesRoom}
+use Rattle.ref_store.specs.Whole.{IsSure, Leaves, SameLeaves, SparesLeaves, Answers, Lasts}
+use Rattle.ref_store.proofs.RoomLemmas.{clear_lies, walk_lies}
+use Rattle.ref_store.proofs.Wholes.{Kept, kept_sure, kept_each, sure_each, directory_leaf, vacant_leaf, file_leaf, leaf_is, is_a_leaf, no_leaf}
+use Rattle.ref_store.proofs.RunLemmas.{IsRoom, at_phase, kept_on, sure_on}
+
+-- what is known of the beginning
+abbrev pub so_far : Phase → Change → View → View → Type 0
+so_far phase.Look t v w = w ≡ v
+so_far (phase.Clear c) t v w = SameLeaves v.now w.now × HasValue v.now t.name t.seen
+so_far (phase.Walk y) t v w = SameLeaves v.now w.now × HasValue v.now t.name t.seen
+so_far (phase.Put f) t v w = HasValue v.now t.name t.seen × IsFree v.now t.name
+so_far phase.Unlink t v w = HasValue v.now t.name t.seen
+so_far phase.SyncFolder t v w = HasValue v.now t.name t.seen
+so_far phase.Ended t v w = HasValue v.now t.name t.seen × (IsSome t.value → IsFree v.now t.name)
+
+pub record Runs (t : Change) (v : View) (ph : Phase) (w : View) : Type 0 where
+  pub this : (old : Option (List ℕ)) → IsSure old t.name v → Kept old t.name t.value w
+  pub others : (other : List ℕ) (value : Option (List ℕ)) → IsRefName other → other ≢ t.name → IsSure value other v → IsSure value other w
+  pub so_far : so_far ph t v w
+
+SameLeaves-refl : (d : Disk) → SameLeaves d d
+SameLeaves-refl d = λ p leaf. refl
+
+same_on : (W : Path → Seen → Type 0) (d : Disk) (w x : View) → SameLeaves d w.now → Writes W w x → ((p : Path) (s : Seen) → W p s → IsRoom w p s) → SameLeaves d x.now
+same_on W d w x same writes room = λ p leaf. ⊎_elim
+    (λ still. still ∙ same p (⊎_elim (λ l. inl l) (λ l. inr (subst IsLeaf still l)) leaf))
+    (λ a. absurd (⊎_elim (λ l. (room p _ a).old (subst IsLeaf (sym (same p (inl l))) l)) (λ l. (room p _ a).new l) leaf))
+    (writes.now p)
+
+-- the steps that make room
+room_writes : (t : Change) (w : View) (ph : Phase) → (ph ≡ phase.Look) ⊎ MakesRoom ph → Needs (at_phase t ph) w → (p : Path) (s : Seen) → writes_in ph (at_phase t ph) w p s → IsRoom w p s
+room_writes t w phase.Look early needs p s a = absurd a
+room_writes t w (phase.Clear c) early needs p s a =
+    let l = clear_lies (at_phase t (phase.Clear c)) w needs c refl p s a in
+    record { new = vacant_leaf s l.vacant; old = directory_leaf _ l.folder }
+room_writes t w (phase.Walk y) early needs p s a =
+    let l = walk_lies (at_phase t (phase.Walk y)) w needs y refl p s a in
+    record { new = directory_leaf s (subst IsDirectory (sym l.3) tt); old = vacant_leaf _ l.4 }
+room_writes t w (phase.Put f) (inr no_) needs p s a = absurd no_
+room_writes t w (phase.Put f) (inl e) needs p s a = let n : phase.Put f ≡ phase.Look = e in cc
+room_writes t w phase.Unlink (inr no_) needs p s a = absurd no_
+room_writes t w phase.Unlink (inl e) needs p s a = let n : phase.Unlink ≡ phase.Look = e in cc
+room_writes t w phase.SyncFolder early needs p s a = absurd a
+room_writes t w phase.Ended early needs p s a = absurd a
+
+-- what a ref is, is as it was
+value_back : (o : Option (List ℕ)) (d e : Disk) (name : List ℕ) → SameLeaves d e → HasValue e name o → HasValue d name o
+value_back None d e name same lacks = no_leaf d (d.at (ref_path name)) (λ leaf.
+    let there : is_leaf (e.at (ref_path name)) ≡ true = is_a_leaf e (e.at (ref_path name)) (subst IsLeaf (sym (same (ref_path name) (inl leaf))) leaf) in
+    let n : true ≡ false = sym there ∙ lacks in cc)
+value_back (Some commit) d e name same names =
+    let b = sym (reads_shows e (ref_path name)) ∙ names.file in
+    record { sum = names.sum; file = reads_shows d (ref_path name) ∙ ap bytes_in (sym (same (ref_path name) (inr (file_leaf _ _ b)))) ∙ b }
+
+leaf_on : (d e : Disk) → SameLeaves d e → (p : Path) → is_leaf (d.at p) ≡ true → is_leaf (e.at p) ≡ true
+leaf_on d e same p leaf = let l = leaf_is d (d.at p) leaf in is_a_leaf e (e.at p) (subst IsLeaf (sym (same p (inl l))) l)
+
+leaf_back : (d e : Disk) → SameLeaves d e → (p : Path) → is_leaf (e.at p) ≡ true → is_leaf (d.at p) ≡ true
+leaf_back d e same p leaf = let l = leaf_is e (e.at p) leaf in is_a_leaf d (d.at p) (subst IsLeaf (same p (inr l)) l)
+
+least_back : (d e : Disk) (name other : List ℕ) → SameLeaves d e → IsLeastClash e name other → IsLeastClash d name other
+least_back d e name other same is = record {
+  clash = record { named = is.clash.named; leaf = leaf_back d e same (ref_path other) is.clash.leaf; clashes = is.clash.clashes };
+  least = λ third c. is.least third (record { named = c.named; leaf = leaf_on d e same (ref_path third) c.leaf; clashes = c.clashes });
+}
+
+above_path : (a b : List ℕ) (x : Name) (rest : Path) → parts_of b ≡ parts_of a ++ x ∷ rest → ref_path b ≡ ref_path a ++ x ∷ rest
+unfolding ref_path
+above_path a b x rest e = ap (λ q. heads ++ q) e ∙ sym (append_assoc heads (parts_of a) (x ∷ rest))
+
+free_from : (d : Disk) (w : View) (name : List ℕ) → SameLeaves d w.now → IsTree w.now → IsFreeAbove w.now name → NotDirectory (shows w.now (ref_path name)) → IsFree d name
+free_from d w name same tree above no_ other clash = ⊎_elim
+    (λ a.
+    let absent : w.now.at (ref_path other) ≡ Absent = subst (λ q. w.now.at q ≡ Absent) (sym (above_path name other a.0 a.1 a.2)) (below_absent w.now tree (ref_path name) a.0 a.1 (no_folder_shown w.now (ref_path name) no_)) in
+    let n : false ≡ true = sym (ap is_leaf absent) ∙ leaf_on d w.now same (ref_path other) clash.leaf in cc)
+    (λ a. above other a (leaf_on d w.now same (ref_path other) clash.leaf))
+    clash.clashes
+
+begun_so : (o : Option (List ℕ)) (found : There) (t : Change) (v x : View) → SameLeaves v.now x.now → HasValue v.now t.name t.seen → so_far (begun o found t.name) t v x
+begun_so None found t v x same value = value
+begun_so (Some commit) there.Folder t v x same value = (same, value)
+begun_so (Some commit) there.Nothing t v x same value = (same, value)
+begun_so (Some commit) (there.Commit c) t v x same value = (same, value)
+begun_so (Some commit) there.OtherLeaf t v x same value = (same, value)
+
+module _ (t : Change) (v w : View) (tree : IsTree w.now) (x : View) where
+  so_far_on : (ph next : Phase) → Needs (at_phase t ph) w → Follows ph next (at_phase t ph) → goes_on ph next (at_phase t ph) w → so_far ph t v w
+      → Writes (writes_in ph (at_phase t ph) w) w x → so_far next t v x
+  so_far_on phase.Look next needs f goes is writes =
+      let same : SameLeaves v.now x.now = same_on (writes_in phase.Look (at_phase t phase.Look) w) v.now w x (subst (λ y. SameLeaves v.now y.now) (sym is) (SameLeaves-refl v.now)) writes (room_writes t w phase.Look (inl refl) needs) in
+      subst (λ q. so_far q t v x) (sym f.1) (begun_so t.value f.0 t v x same (subst (λ y. HasValue y.now t.name t.seen) is goes))
+  so_far_on (phase.Clear c) (phase.Clear d) needs f goes is writes = (same_on _ v.now w x is.0 writes (room_writes t w (phase.Clear c) (inr tt) needs), is.1)
+  so_far_on (phase.Clear c) (phase.Walk y) needs f goes is writes = (same_on _ v.now w x is.0 writes (room_writes t w (phase.Clear c) (inr tt) needs), is.1)
+  so_far_on (phase.Clear c) phase.Look needs f goes is writes = absurd f
+  so_far_on (phase.Clear c) (phase.Put g) needs f goes is writes = absurd f
+  so_far_on (phase.Clear c) phase.Unlink needs f goes is writes = absurd f
+  so_far_on (phase.Clear c) phase.SyncFolder needs f goes is writes = absurd f
+  so_far_on (phase.Clear c) phase.Ended needs f goes is writes = absurd f
+  so_far_on (phase.Walk y) (phase.Walk z) needs f goes is writes = (same_on _ v.now w x is.0 writes (room_writes t w (phase.Walk y) (inr tt) needs), is.1)
+  so_far_on (phase.Walk y) (phase.Put g) needs f goes is writes = (is.1, free_from v.now w t.name is.0 tree goes needs.meets.2)
+  so_far_on (phase.Walk y) phase.Look needs f goes is writes = absurd f
+  so_far_on (phase.Walk y) (phase.Clear c) needs f goes is writes = absurd f
+  so_far_on (phase.Walk y) phase.Unlink needs f goes is writes = absurd f
+  so_far_on (phase.Walk y) phase.SyncFolder needs f goes is writes = absurd f
+  so_far_on (phase.Walk y) phase.Ended needs f goes is writes = absurd f
+  so_far_on (phase.Put g) (phase.Put h) needs f goes is writes = is
+  so_far_on (phase.Put g) phase.Look needs f goes is writes = absurd f
+  so_far_on (phase.Put g) (phase.Clear c) needs f goes is writes = absurd f
+  so_far_on (phase.Put g) (phase.Walk y) needs f goes is writes = absurd f
+  so_far_on (phase.Put g) phase.Unlink needs f goes is writes = absurd f
+  so_far_on (phase.Put g) phase.SyncFolder needs f goes is writes = absurd f
+  so_far_on (phase.Put g) phase.Ended needs f goes is writes = absurd f
+  so_far_on phase.Unlink phase.SyncFolder needs f goes is writes = is
+  so_far_on phase.Unlink phase.Look needs f goes is writes = absurd f
+  so_far_on phase.Unlink (phase.Clear c) needs f goes is writes = absurd f
+  so_far_on phase.Unlink (phase.Walk y) needs f goes is writes = absurd f
+  so_far_on phase.Unlink (phase.Put g) needs f goes is writes = absurd f
+  so_far_on phase.Unlink phase.Unlink needs f goes is writes = absurd f
+  so_far_on phase.Unlink phase.Ended needs f goes is writes = absurd f
+  so_far_on phase.SyncFolder next needs f goes is writes = absurd f
+  so_far_on phase.Ended next needs f goes is writes = absurd f
+
+-- the beginning
+pub runs_from : (t : Change) (v : View) (ph : Phase) → ph ≡ phase.Look → Runs t v ph v
+runs_from t v ph e = record {
+  this = λ old sure. kept_sure old t.name t.value v sure;
+  others = λ other value named apart sure. sure;
+  so_far = subst (λ q. so_far q t v v) (sym e) refl;
+}
+
+-- what is so of each ref, after one step more
+pub record Kept_of (t : Change) (v x : View) : Type 0 where
+  pub this : (old : Option (List ℕ)) → IsSure old t.name v → Kept old t.name t.value x
+  pub others : (other : List ℕ) (value : Option (List ℕ)) → IsRefName other → other ≢ t.name → IsSure value other v → IsSure value other x
+
+pub leaves_each : (t : Change) (v x : View) → Kept_of t v x → EachImage x (Leaves t v)
+leaves_each t v x kept d i = record {
+  this = λ old sure. kept_each old t.name t.value x (kept.this old sure) d i;
+  others = λ other value named apart sure. sure_each value other x (kept.others other value named apart sure) d i;
+}
+
+module _ (t : Change) (v : View) (u : Change) (same : u ≡ at_phase t u.phase) (w : View) (tree : IsTree w.now) (needs : Needs u w) (runs : Runs t v u.phase w) (x : View) (writes : Writes (WritesOf u w) w x) where
+  now : Needs (at_phase t u.phase) w
+  now = subst (λ y. Needs y w) same needs
+
+  wrote : Writes (writes_in u.phase (at_phase t u.phase) w) w x
+  wrote = subst (λ y. Writes (writes_in u.phase y w) w x) same writes
+
+  pub keeps : Kept_of t v x
+  keeps = record {
+    this = λ old sure. kept_on t w old u.phase now (runs.this old sure) x wrote;
+    others = λ other value named apart sure. sure_on t w value u.phase now tree other named apart (runs.others other value named apart sure) x wrote;
+  }
+
+  pub goes : (new : Change) → IsStepped u (Ok More) new → Tells u new w More → Runs t v new.phase x
+  goes new stepped tells = record {
+    this = keeps.this;
+    others = keeps.others;
+    so_far = so_far_on t v w tree x u.phase new.phase now (subst (λ y. Follows u.phase new.phase y) same stepped.1) (subst (λ y. goes_on u.phase new.phase y w) same tells) runs.so_far wrote;
+  }
+
+  room_so : (ph : Phase) → MakesRoom ph → so_far ph t v w → SameLeaves v.now w.now × HasValue v.now t.name t.seen
+  room_so (phase.Clear c) room is = is
+  room_so (phase.Walk y) room is = is
+  room_so phase.Look room is = absurd room
+  room_so (phase.Put f) room is = absurd room
+  room_so phase.Unlink room is = absurd room
+  room_so phase.SyncFolder room is = absurd room
+  room_so phase.Ended room is = absurd room
+
+  done_so : (ph : Phase) → IsLast ph → Needs (at_phase t ph) w → so_far ph t v w → HasValue v.now t.name t.seen × (IsSome t.value → IsFree v.now t.name)
+  done_so (phase.Put f) last needs is = (is.0, λ some. is.1)
+  done_so phase.SyncFolder last needs is = (is, λ some. let n : false ≡ true = subst IsSome needs.made some in cc)
+  done_so phase.Ended last needs is = is
+  done_so phase.Look last needs is = absurd last
+  done_so (phase.Clear c) last needs is = absurd last
+  done_so (phase.Walk y) last needs is = absurd last
+  done_so phase.Unlink last needs is = absurd last
+
+  -- why it is refused, by the beginning
+  pub refuses : (new : Change) (r : RefRefusal) → Tells u new w (Done (Err r)) → Answers t v (Err r)
+  refuses new (RefMoved seen found) a =
+      let b = subst (λ (y : Change). (y.phase ≡ phase.Look) × (seen ≡ y.seen) × HasValue w.now y.name found × (found ≢ seen)) same a in
+      let is : w ≡ v = subst (λ q. so_far q t v w) b.0 runs.so_far in
+      (b.1, subst (λ y. HasValue y.now t.name found) is b.2, b.3)
+  refuses new (RefClash other) a =
+      let b = subst (λ (y : Change). MakesRoom u.phase × IsLeastClash w.now y.name other) same a in
+      let s = room_so u.phase b.0 runs.so_far in
+      (s.1, least_back v.now w.now t.name other s.0 b.1)
+  refuses new NoRef a = a
+
+  early : (new : Change) (r : RefRefusal) → Tells u new w (Done (Err r)) → (u.phase ≡ phase.Look) ⊎ MakesRoom u.phase
+  early new (RefMoved seen found) a = inl a.0
+  early new (RefClash other) a = inr a.0
+  early new NoRef a = absurd a
+
+  same_so : (ph : Phase) → (ph ≡ phase.Look) ⊎ MakesRoom ph → so_far ph t v w → SameLeaves v.now w.now
+  same_so ph (inl e) is = subst (λ y. SameLeaves v.now y.now) (sym (subst (λ q. so_far q t v w) e is)) (SameLeaves-refl v.now)
+  same_so ph (inr room) is = (room_so ph room is).0
+
+  pub spares : (new : Change) (r : RefRefusal) → Tells u new w (Done (Err r)) → SameLeaves v.now x.now
+  spares new r a =
+      let e = early new r a in
+      same_on _ v.now w x (same_so u.phase e runs.so_far) wrote (room_writes t w u.phase e now)
+
+  pub spared : (new : Change) (r : Result (Unit {0}) RefRefusal) → Tells u new w (Done r) → SparesLeaves r v.now x.now
+  spared new (Ok y) a = tt
+  spared new (Err r) a = spares new r a
+
+  pub answers : (new : Change) (r : Result (Unit {0}) RefRefusal) → IsStepped u (Ok (Done r)) new → Tells u new w (Done r) → Answers t v r
+  answers new (Ok y) stepped tells = done_so u.phase stepped.1 now runs.so_far
+  answers new (Err r) stepped tells = refuses new r tells
+
+  -- after a change that is done
+  ended_each : (new : Change) → new ≡ at_phase u phase.Ended → Needs new x → EachImage x (λ d. HasValue d t.name t.value)
+  ended_each new e after = last t.value refl (subst (λ y. needs_in phase.Ended y x) same (subst (λ (y : Change). Needs y x) e after).meets)
+    where
+      last : (o : Option (List ℕ)) → t.value ≡ o → needs_in phase.Ended (at_phase t u.phase) x → EachImage x (λ d. HasValue d t.name t.value)
+      last None is m = subst (λ o. EachImage x (λ d. HasValue d t.name o)) (sym is) (sure_each None t.name x (λ s may. vacant_leaf s (subst (λ o. ShowsValue o s) is (m.0 s may))))
+      last (Some commit) is m = subst (λ o. EachImage x (λ d. HasValue d t.name o)) (sym is) (sure_each (Some commit) t.name x ((λ s may. subst (λ o. ShowsValue o s) is (m.0 s may)), subst (λ o. leads o t.name x) is m.1))
+
+  pub lasts : (new : Change) (r : Result (Unit {0}) RefRefusal) → IsStepped u (Ok (Done r)) new → Needs new x → EachImage x (Lasts t r)
+  lasts new (Ok y) stepped after = ended_each new stepped.0 after
+  lasts new (Err r) stepped after = λ d i. tt
+
+pub runs_leaves : (t : Change) (v : View) (ph : Phase) (w : View) → Runs t v ph w → EachImage w (Leaves t v)
+runs_leaves t v ph w runs = leaves_each t v w (record { this = runs.this; others = runs.others })
+
+pub same_goes : (t u new : Change) → u ≡ at_phase t u.phase → new ≡ at_phase u new.phase → new ≡ at_phase t new.phase
+same_goes t u new same e = e ∙ ap (λ (y : Change). at_phase y new.phase) same
