@@ -6,3 +6,4 @@ pub mod LookLemmas
 pub mod Wholes
 pub mod RunLemmas
 pub mod Runs
+pub mod Stable
