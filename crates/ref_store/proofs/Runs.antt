@@ -1,9 +1,10 @@
 -- A run of steps, from the beginning.
-use Rattle.std.proofs.Common.{◌≡◌, ◌≢◌, ◌⊎◌, inl, inr, ⊎_elim, ℕ, Bool, true, false, refl, sym, ◌∙◌, ap, subst, List, [], ◌∷◌, ◌++◌, append_assoc, Option, Some, None, Result, Ok, Err}
+use Rattle.std.proofs.Common.{◌+◌, ◌<◌, length, ◌≡◌, ◌≢◌, ◌⊎◌, inl, inr, ⊎_elim, ℕ, Bool, true, false, refl, sym, ◌∙◌, ap, subst, List, [], ◌∷◌, ◌++◌, append_assoc, Option, Some, None, Result, Ok, Err}
 use Rattle.std.specs.Prelude.{IsSome, IfOk}
 use Rattle.ost_types.specs.Path.{Name, Path}
 use Rattle.fs_trait.specs.declared.types.Value.TheVariants.{Absent}
 use Rattle.fs_trait.specs.declared.types.FsErr.{FsErr}
+use Rattle.fs_trait.specs.declared.types.FsErr.TheVariants.{Failed, NoMemory, Exists, Missing, NotFolder, NotEmpty}
 use Rattle.fs_trait.specs.declared.task.Turn.{Turn}
 use Rattle.fs_trait.specs.declared.task.Turn.TheVariants.{More, Done}
 use Rattle.fs_trait.specs.View.{Disk, View}
@@ -14,9 +15,11 @@ use Rattle.fs_trait.proofs.Claims.{reads_shows}
 use Rattle.fs_trait.proofs.Facts.{no_folder_shown}
 use Rattle.repo_layout.specs.RefName.{IsRefName, parts_of}
 use Rattle.repo_layout.specs.Paths.{heads, ref_path}
-use Rattle.repo_layout.specs.Refs.{is_leaf}
-use Rattle.ref_room.specs.Clash.{ref_folder, IsAbove, IsClash, IsLeastClash, IsFree, IsFreeAbove}
-use Rattle.ref_room.specs.Clearing.{IsLeaf}
+use Rattle.repo_layout.specs.Refs.{is_leaf, ShowsNoCommit}
+use Rattle.ref_room.specs.Clash.{way_to, ref_folder, IsAbove, IsClash, IsLeastClash, IsFree, IsFreeAbove, IsNoRef}
+use Rattle.ref_room.specs.Clearing as clearing
+use Rattle.ref_room.specs.Clearing.{IsLeaf, IsUnder, IsAside}
+use Rattle.ref_room.specs.Way as way
 use Rattle.ref_room.proofs.Disks.{below_absent}
 use Rattle.ref_store.specs.declared.phase.Phase.{Phase}
 use Rattle.ref_store.specs.declared.phase.Phase.TheVariants as phase
@@ -25,16 +28,20 @@ use Rattle.ref_store.specs.declared.lookup.There.TheVariants as there
 use Rattle.ref_store.specs.declared.refusal.RefRefusal.{RefRefusal}
 use Rattle.ref_store.specs.declared.refusal.RefRefusal.TheVariants.{RefClash, RefMoved, NoRef}
 use Rattle.ref_store.specs.Change.{Change, IsStepped, Follows, IsLast, begun}
-use Rattle.ref_store.specs.Steps.{Needs, needs_in, writes_in, WritesOf, HasValue, ShowsValue, leads, Tells, goes_on, MakesRoom}
-use Rattle.ref_store.specs.Whole.{IsSure, Leaves, SameLeaves, SparesLeaves, Answers, Lasts}
+use Rattle.ref_store.specs.Steps.{Needs, needs_in, writes_in, WritesOf, HasValue, ShowsValue, leads, Tells, goes_on, MakesRoom, Refuses, refuses_in}
+use Rattle.ref_store.specs.Whole.{IsSure, Leaves, SameLeaves, SparesLeaves, Answers, Lasts, Stops}
 use Rattle.ref_store.proofs.RoomLemmas.{clear_lies, walk_lies}
 use Rattle.ref_store.proofs.Wholes.{Kept, kept_sure, kept_each, sure_each, directory_leaf, vacant_leaf, file_leaf, leaf_is, is_a_leaf, no_leaf}
 use Rattle.ref_store.proofs.RunLemmas.{IsRoom, at_phase, kept_on, sure_on}
 
+-- what still stands below the ref's path stood there
+abbrev pub OnlyGoes : List ℕ → Disk → Disk → Type 0
+OnlyGoes name d e = (p : Path) → shows e p ≢ Vacant → IsUnder name p → shows e p ≡ shows d p
+
 -- what is known of the beginning
 abbrev pub so_far : Phase → Change → View → View → Type 0
 so_far phase.Look t v w = w ≡ v
-so_far (phase.Clear c) t v w = SameLeaves v.now w.now × HasValue v.now t.name t.seen
+so_far (phase.Clear c) t v w = SameLeaves v.now w.now × HasValue v.now t.name t.seen × OnlyGoes t.name v.now w.now
 so_far (phase.Walk y) t v w = SameLeaves v.now w.now × HasValue v.now t.name t.seen
 so_far (phase.Put f) t v w = HasValue v.now t.name t.seen × IsFree v.now t.name
 so_far phase.Unlink t v w = HasValue v.now t.name t.seen
@@ -104,20 +111,27 @@ free_from d w name same tree above no_ other clash = ⊎_elim
     (λ a. above other a (leaf_on d w.now same (ref_path other) clash.leaf))
     clash.clashes
 
-begun_so : (o : Option (List ℕ)) (found : There) (t : Change) (v x : View) → SameLeaves v.now x.now → HasValue v.now t.name t.seen → so_far (begun o found t.name) t v x
-begun_so None found t v x same value = value
-begun_so (Some commit) there.Folder t v x same value = (same, value)
-begun_so (Some commit) there.Nothing t v x same value = (same, value)
-begun_so (Some commit) (there.Commit c) t v x same value = (same, value)
-begun_so (Some commit) there.OtherLeaf t v x same value = (same, value)
+begun_so : (o : Option (List ℕ)) (found : There) (t : Change) (v x : View) → SameLeaves v.now x.now → HasValue v.now t.name t.seen → OnlyGoes t.name v.now x.now → so_far (begun o found t.name) t v x
+begun_so None found t v x same value goes = value
+begun_so (Some commit) there.Folder t v x same value goes = (same, value, goes)
+begun_so (Some commit) there.Nothing t v x same value goes = (same, value)
+begun_so (Some commit) (there.Commit c) t v x same value goes = (same, value)
+begun_so (Some commit) there.OtherLeaf t v x same value goes = (same, value)
+
+goes_on_still : (W : Path → Seen → Type 0) (name : List ℕ) (d : Disk) (w x : View) → OnlyGoes name d w.now → Writes W w x → ((p : Path) (s : Seen) → W p s → s ≡ Vacant) → OnlyGoes name d x.now
+goes_on_still W name d w x only writes vacant p there place = ⊎_elim
+    (λ same. same ∙ only p (subst (λ s. s ≢ Vacant) same there) place)
+    (λ a. absurd (there (vacant p _ a)))
+    (writes.now p)
 
 module _ (t : Change) (v w : View) (tree : IsTree w.now) (x : View) where
   so_far_on : (ph next : Phase) → Needs (at_phase t ph) w → Follows ph next (at_phase t ph) → goes_on ph next (at_phase t ph) w → so_far ph t v w
       → Writes (writes_in ph (at_phase t ph) w) w x → so_far next t v x
   so_far_on phase.Look next needs f goes is writes =
       let same : SameLeaves v.now x.now = same_on (writes_in phase.Look (at_phase t phase.Look) w) v.now w x (subst (λ y. SameLeaves v.now y.now) (sym is) (SameLeaves-refl v.now)) writes (room_writes t w phase.Look (inl refl) needs) in
-      subst (λ q. so_far q t v x) (sym f.1) (begun_so t.value f.0 t v x same (subst (λ y. HasValue y.now t.name t.seen) is goes))
-  so_far_on (phase.Clear c) (phase.Clear d) needs f goes is writes = (same_on _ v.now w x is.0 writes (room_writes t w (phase.Clear c) (inr tt) needs), is.1)
+      subst (λ q. so_far q t v x) (sym f.1) (begun_so t.value f.0 t v x same (subst (λ y. HasValue y.now t.name t.seen) is goes)
+          (goes_on_still (writes_in phase.Look (at_phase t phase.Look) w) t.name v.now w x (λ p there place. ap (λ y. shows y.now p) is) writes (λ p s none. absurd none)))
+  so_far_on (phase.Clear c) (phase.Clear d) needs f goes is writes = (same_on _ v.now w x is.0 writes (room_writes t w (phase.Clear c) (inr tt) needs), is.1, goes_on_still _ t.name v.now w x is.2 writes (λ p s a. (clear_lies (at_phase t (phase.Clear c)) w needs c refl p s a).vacant))
   so_far_on (phase.Clear c) (phase.Walk y) needs f goes is writes = (same_on _ v.now w x is.0 writes (room_writes t w (phase.Clear c) (inr tt) needs), is.1)
   so_far_on (phase.Clear c) phase.Look needs f goes is writes = absurd f
   so_far_on (phase.Clear c) (phase.Put g) needs f goes is writes = absurd f
@@ -188,7 +202,7 @@ module _ (t : Change) (v : View) (u : Change) (same : u ≡ at_phase t u.phase) 
   }
 
   room_so : (ph : Phase) → MakesRoom ph → so_far ph t v w → SameLeaves v.now w.now × HasValue v.now t.name t.seen
-  room_so (phase.Clear c) room is = is
+  room_so (phase.Clear c) room is = (is.0, is.1)
   room_so (phase.Walk y) room is = is
   room_so phase.Look room is = absurd room
   room_so (phase.Put f) room is = absurd room
@@ -204,6 +218,82 @@ module _ (t : Change) (v : View) (u : Change) (same : u ≡ at_phase t u.phase) 
   done_so (phase.Clear c) last needs is = absurd last
   done_so (phase.Walk y) last needs is = absurd last
   done_so phase.Unlink last needs is = absurd last
+
+  aside_back : (p : Path) → IsAside p (shows w.now p) → (shows w.now p ≡ shows v.now p) → IsAside p (shows v.now p)
+  aside_back p a e = subst (IsAside p) e a
+
+  way_stops : (y : way.Walked) → y.name ≡ t.name → way.Needs y w → SameLeaves v.now w.now → (e : FsErr) → way.Refuses y w e → Stops t v e
+  way_stops y n after leaves Failed r = tt
+  way_stops y n after leaves NoMemory r = tt
+  way_stops y n after leaves Exists r =
+      let k = subst (λ l. way.leg_of l y.reached y.name) r.0 after.place in
+      subst (λ m. ShowsNoCommit v.now (ref_path t.name) ⊎ ((k : ℕ) × (k < length (parts_of m)) × (is_leaf (v.now.at (way_to k m)) ≡ true) × IsNoRef (way_to k m))) n
+      (inr (y.reached + 1, k, leaf_back v.now w.now leaves (way_to (y.reached + 1) y.name) r.1, r.2))
+  way_stops y n after leaves Missing r = absurd r
+  way_stops y n after leaves NotFolder r = absurd r
+  way_stops y n after leaves NotEmpty r = absurd r
+
+  clear_stops : (c : clearing.Cleared) → c.name ≡ t.name → OnlyGoes t.name v.now w.now → (e : FsErr) → clearing.Refuses c w e → Stops t v e
+  clear_stops c n only Failed r = tt
+  clear_stops c n only NoMemory r = tt
+  clear_stops c n only NotEmpty r =
+      let b = r.1 in
+      let place = subst (λ m. IsUnder m b.0) n b.1 in
+      let back = only b.0 b.2 place in
+      (b.0, place, subst (λ s. s ≢ Vacant) back b.2, aside_back b.0 b.3 back)
+  clear_stops c n only Missing r = absurd r
+  clear_stops c n only NotFolder r = absurd r
+  clear_stops c n only Exists r = absurd r
+
+  look_stops : w ≡ v → (e : FsErr) → refuses_in phase.Look (at_phase t phase.Look) w e → Stops t v e
+  look_stops is Failed r = tt
+  look_stops is NoMemory r = tt
+  look_stops is Exists r = inl (subst (λ y. ShowsNoCommit y.now (ref_path t.name)) is r)
+  look_stops is Missing r = absurd r
+  look_stops is NotFolder r = absurd r
+  look_stops is NotEmpty r = absurd r
+
+  stops_in : (ph : Phase) → Needs (at_phase t ph) w → so_far ph t v w → (e : FsErr) → refuses_in ph (at_phase t ph) w e → Stops t v e
+  stops_in phase.Look n is e r = look_stops is e r
+  stops_in (phase.Clear c) n is Failed r = tt
+  stops_in (phase.Clear c) n is NoMemory r = tt
+  stops_in (phase.Clear c) n is Exists r = clear_stops c n.made.0 is.2 Exists r
+  stops_in (phase.Clear c) n is Missing r = clear_stops c n.made.0 is.2 Missing r
+  stops_in (phase.Clear c) n is NotFolder r = clear_stops c n.made.0 is.2 NotFolder r
+  stops_in (phase.Clear c) n is NotEmpty r = clear_stops c n.made.0 is.2 NotEmpty r
+  stops_in (phase.Walk y) n is Failed r = tt
+  stops_in (phase.Walk y) n is NoMemory r = tt
+  stops_in (phase.Walk y) n is Exists r = way_stops y n.made.0 n.meets.1 is.0 Exists r
+  stops_in (phase.Walk y) n is Missing r = way_stops y n.made.0 n.meets.1 is.0 Missing r
+  stops_in (phase.Walk y) n is NotFolder r = way_stops y n.made.0 n.meets.1 is.0 NotFolder r
+  stops_in (phase.Walk y) n is NotEmpty r = way_stops y n.made.0 n.meets.1 is.0 NotEmpty r
+  stops_in (phase.Put f) n is Failed r = tt
+  stops_in (phase.Put f) n is NoMemory r = tt
+  stops_in (phase.Put f) n is Exists r = absurd r
+  stops_in (phase.Put f) n is Missing r = absurd r
+  stops_in (phase.Put f) n is NotFolder r = absurd r
+  stops_in (phase.Put f) n is NotEmpty r = absurd r
+  stops_in phase.Unlink n is Failed r = tt
+  stops_in phase.Unlink n is NoMemory r = tt
+  stops_in phase.Unlink n is Exists r = absurd r
+  stops_in phase.Unlink n is Missing r = absurd r
+  stops_in phase.Unlink n is NotFolder r = absurd r
+  stops_in phase.Unlink n is NotEmpty r = absurd r
+  stops_in phase.SyncFolder n is Failed r = tt
+  stops_in phase.SyncFolder n is NoMemory r = tt
+  stops_in phase.SyncFolder n is Exists r = absurd r
+  stops_in phase.SyncFolder n is Missing r = absurd r
+  stops_in phase.SyncFolder n is NotFolder r = absurd r
+  stops_in phase.SyncFolder n is NotEmpty r = absurd r
+  stops_in phase.Ended n is Failed r = tt
+  stops_in phase.Ended n is NoMemory r = tt
+  stops_in phase.Ended n is Exists r = absurd r
+  stops_in phase.Ended n is Missing r = absurd r
+  stops_in phase.Ended n is NotFolder r = absurd r
+  stops_in phase.Ended n is NotEmpty r = absurd r
+
+  pub stops : (e : FsErr) → Refuses u w e → Stops t v e
+  stops e r = stops_in u.phase now runs.so_far e (subst (λ y. refuses_in u.phase y w e) same r)
 
   -- why it is refused, by the beginning
   pub refuses : (new : Change) (r : RefRefusal) → Tells u new w (Done (Err r)) → Answers t v (Err r)

@@ -1,13 +1,16 @@
 -- What a change leaves, from its first step to any later moment.
-use Rattle.std.specs.Prelude.{◌≡◌, ◌≢◌, ◌⊎◌, ℕ, List, Option, Some, None, IsSome, Result, Ok, Err}
+use Rattle.std.specs.Prelude.{◌≡◌, ◌≢◌, ◌⊎◌, ◌<◌, ℕ, true, List, length, Option, Some, None, IsSome, Result, Ok, Err}
 use Rattle.ost_types.specs.Path.{Path}
+use Rattle.fs_trait.specs.declared.types.FsErr.{FsErr}
+use Rattle.fs_trait.specs.declared.types.FsErr.TheVariants.{Failed, NoMemory, Exists, NotEmpty}
 use Rattle.fs_trait.specs.View.{Disk, View}
-use Rattle.fs_trait.specs.Seen.{Seen, shows, MayBe}
+use Rattle.fs_trait.specs.Seen.{Seen, Vacant, shows, MayBe}
 use Rattle.fs_trait.specs.Change.{LeadsTo}
-use Rattle.repo_layout.specs.RefName.{IsRefName}
+use Rattle.repo_layout.specs.RefName.{IsRefName, parts_of}
 use Rattle.repo_layout.specs.Paths.{ref_path}
-use Rattle.ref_room.specs.Clash.{ref_folder, IsLeastClash, IsFree}
-use Rattle.ref_room.specs.Clearing.{IsLeaf}
+use Rattle.repo_layout.specs.Refs.{is_leaf, ShowsNoCommit}
+use Rattle.ref_room.specs.Clash.{way_to, ref_folder, IsLeastClash, IsFree, IsNoRef}
+use Rattle.ref_room.specs.Clearing.{IsLeaf, IsUnder, IsAside}
 use Rattle.ref_store.specs.declared.refusal.RefRefusal.{RefRefusal}
 use Rattle.ref_store.specs.declared.refusal.RefRefusal.TheVariants.{RefClash, RefMoved, NoRef}
 use Rattle.ref_store.specs.Change.{Change}
@@ -44,3 +47,14 @@ SparesLeaves (Err refusal) d e = SameLeaves d e
 abbrev pub Lasts : Change → Result (Unit {0}) RefRefusal → Disk → Type 0
 Lasts t (Ok x) d = HasValue d t.name t.value
 Lasts t (Err refusal) d = Unit {0}
+
+-- Why the change ended early, by what reads see at its beginning: a call failed or wanted for memory; a leaf that is no ref file
+-- stands at the ref's path, or one that is no ref where a folder has to be; or something that no ref and no folder of refs is
+-- stands below the ref's path.
+abbrev pub Stops : Change → View → FsErr → Type 0
+Stops t v Failed = Unit {0}
+Stops t v NoMemory = Unit {0}
+Stops t v Exists = ShowsNoCommit v.now (ref_path t.name)
+    ⊎ ((k : ℕ) × (k < length (parts_of t.name)) × (is_leaf (v.now.at (way_to k t.name)) ≡ true) × IsNoRef (way_to k t.name))
+Stops t v NotEmpty = (p : Path) × IsUnder t.name p × (shows v.now p ≢ Vacant) × IsAside p (shows v.now p)
+Stops t v e = ⊥

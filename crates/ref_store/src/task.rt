@@ -7,7 +7,7 @@ ghost use Rattle.ref_room.specs.Turns.{OnMore};
 ghost use Rattle.ref_store.specs.declared.phase.Phase.TheVariants as phase;
 ghost use Rattle.ref_store.specs.Change.{Change, IsStepped, KeepsRoom, Takes, left, left_put, left_way, need_in};
 ghost use Rattle.ref_store.specs.Steps.{Needs};
-ghost use Rattle.ref_store.specs.Whole.{Answers, Lasts, Leaves, SparesLeaves};
+ghost use Rattle.ref_store.specs.Whole.{Answers, Lasts, Leaves, SparesLeaves, Stops};
 
 mod steps;
 
@@ -166,6 +166,7 @@ pub fn change_ref<F: Fs>(fs: &mut F, task: RefTask) -> Result<Result<(), RefRefu
     ensures done { (v : View) → F.view fs.old ≡ Some v → IfOk result (λ r. Told (F.view fs.new) (λ w. EachImage w (Lasts task r))) }
     ensures answers { (v : View) → F.view fs.old ≡ Some v → IfOk result (Answers task v) }
     ensures refused { (v : View) → F.view fs.old ≡ Some v → IfOk result (λ r. Told (F.view fs.new) (λ w. SparesLeaves r v.now w.now)) }
+    ensures fails { (v : View) → F.view fs.old ≡ Some v → IfErr result (Stops task v) }
     ensures cause { HasCause (F.faults fs.old) (F.faults fs.new) result }
 {
     let mut task = task;

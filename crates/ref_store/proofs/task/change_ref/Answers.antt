@@ -1,4 +1,5 @@
 use Rattle.std.proofs.Common.{◌≡◌, Ok, refl, sym, ◌∙◌, ap, subst, arith}
+use Rattle.std.proofs.lemmas.Result.{err_from_is_err_and}
 use Rattle.fs_trait.specs.declared.task.Turn.TheVariants.{More, Done}
 use Rattle.fs_trait.specs.Image.{EachImage}
 use Rattle.fs_trait.proofs.Runs.{begins, goes_on}
@@ -6,7 +7,7 @@ use Rattle.staged_file.proofs.Wholes.{told_once}
 use Rattle.ref_store.specs.Change.{IsStepped}
 use Rattle.ref_store.specs.Steps.{Needs, Tells}
 use Rattle.ref_store.specs.Whole.{Leaves}
-use Rattle.ref_store.proofs.Runs.{runs_from, runs_leaves, keeps, leaves_each, goes, same_goes, answers, spared, lasts}
+use Rattle.ref_store.proofs.Runs.{runs_from, runs_leaves, keeps, leaves_each, goes, same_goes, answers, spared, stops, lasts}
 use Rattle.ref_store.proofs.task.change_ref.Goals as goal
 
 pub steps-init : goal.steps-init
@@ -101,3 +102,13 @@ returns-in-Done-clause-refused g c = λ v told.
     let wrote = c.step.ensures.writes w e in
     let tells = subst (λ r. Tells c.steps.task c.step.new.self w r) c.in-Done.is (c.in_ok-step.ensures.tells w e) in
     (wrote.0, wrote.1, spared c.args.task v c.steps.task i.same w (g.met.F.Fs.tree c.steps.fs w e) (i.needs w e) before.0.2 wrote.0 wrote.2 c.step.new.self _ tells)
+
+pub returns-in_err-step-clause-fails : goal.returns-in_err-step-clause-fails
+returns-in_err-step-clause-fails g c = λ v told.
+    let i = c.steps.invariant in
+    let before = i.run v told in
+    let w = before.0.0 in
+    let e = before.0.1 in
+    let after = c.step.ensures.writes w e in
+    let error = err_from_is_err_and c.from_residual.result c.from_residual.ensures.1 in
+    rw (error.1, error.2) (stops c.args.task v c.steps.task i.same w (g.met.F.Fs.tree c.steps.fs w e) (i.needs w e) before.0.2 after.0 after.2 _ (c.in_err-step.ensures.fails w e))
