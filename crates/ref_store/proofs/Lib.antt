@@ -7,3 +7,4 @@ pub mod Wholes
 pub mod RunLemmas
 pub mod Runs
 pub mod Stable
+pub mod Begins

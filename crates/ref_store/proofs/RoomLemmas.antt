@@ -59,7 +59,7 @@ home-off : (name : List ℕ) → is_below (ref_path name) (in_repo (codes "tmp" 
 unfolding ref_path is_below
 home-off name = refl
 
-home_is : (actor : ℕ) (p : Path) → is_in p (stage_path actor) ≡ true → p ≡ in_repo (codes "tmp" ∷ [])
+pub home_is : (actor : ℕ) (p : Path) → is_in p (stage_path actor) ≡ true → p ≡ in_repo (codes "tmp" ∷ [])
 unfolding stage_path
 home_is actor p in_ = let u = under-is_in p (stage_path actor) in_ in under-folder p (in_repo (codes "tmp" ∷ [])) u.0 (codes "actor-" ++ decimal actor) (sym u.1)
 

@@ -222,7 +222,7 @@ module _ (t : Change) (v : View) (u : Change) (same : u ≡ at_phase t u.phase) 
   aside_back : (p : Path) → IsAside p (shows w.now p) → (shows w.now p ≡ shows v.now p) → IsAside p (shows v.now p)
   aside_back p a e = subst (IsAside p) e a
 
-  way_stops : (y : way.Walked) → y.name ≡ t.name → way.Needs y w → SameLeaves v.now w.now → (e : FsErr) → way.Refuses y w e → Stops t v e
+  way_stops : (y : way.Walked) → y.name ≡ t.name → way.Needs y w → SameLeaves v.now w.now → (e : FsErr) → way.Refuses y w e → Stops t v.now e
   way_stops y n after leaves Failed r = tt
   way_stops y n after leaves NoMemory r = tt
   way_stops y n after leaves Exists r =
@@ -233,7 +233,7 @@ module _ (t : Change) (v : View) (u : Change) (same : u ≡ at_phase t u.phase) 
   way_stops y n after leaves NotFolder r = absurd r
   way_stops y n after leaves NotEmpty r = absurd r
 
-  clear_stops : (c : clearing.Cleared) → c.name ≡ t.name → OnlyGoes t.name v.now w.now → (e : FsErr) → clearing.Refuses c w e → Stops t v e
+  clear_stops : (c : clearing.Cleared) → c.name ≡ t.name → OnlyGoes t.name v.now w.now → (e : FsErr) → clearing.Refuses c w e → Stops t v.now e
   clear_stops c n only Failed r = tt
   clear_stops c n only NoMemory r = tt
   clear_stops c n only NotEmpty r =
@@ -245,7 +245,7 @@ module _ (t : Change) (v : View) (u : Change) (same : u ≡ at_phase t u.phase) 
   clear_stops c n only NotFolder r = absurd r
   clear_stops c n only Exists r = absurd r
 
-  look_stops : w ≡ v → (e : FsErr) → refuses_in phase.Look (at_phase t phase.Look) w e → Stops t v e
+  look_stops : w ≡ v → (e : FsErr) → refuses_in phase.Look (at_phase t phase.Look) w e → Stops t v.now e
   look_stops is Failed r = tt
   look_stops is NoMemory r = tt
   look_stops is Exists r = inl (subst (λ y. ShowsNoCommit y.now (ref_path t.name)) is r)
@@ -253,7 +253,7 @@ module _ (t : Change) (v : View) (u : Change) (same : u ≡ at_phase t u.phase) 
   look_stops is NotFolder r = absurd r
   look_stops is NotEmpty r = absurd r
 
-  stops_in : (ph : Phase) → Needs (at_phase t ph) w → so_far ph t v w → (e : FsErr) → refuses_in ph (at_phase t ph) w e → Stops t v e
+  stops_in : (ph : Phase) → Needs (at_phase t ph) w → so_far ph t v w → (e : FsErr) → refuses_in ph (at_phase t ph) w e → Stops t v.now e
   stops_in phase.Look n is e r = look_stops is e r
   stops_in (phase.Clear c) n is Failed r = tt
   stops_in (phase.Clear c) n is NoMemory r = tt
@@ -292,11 +292,11 @@ module _ (t : Change) (v : View) (u : Change) (same : u ≡ at_phase t u.phase) 
   stops_in phase.Ended n is NotFolder r = absurd r
   stops_in phase.Ended n is NotEmpty r = absurd r
 
-  pub stops : (e : FsErr) → Refuses u w e → Stops t v e
+  pub stops : (e : FsErr) → Refuses u w e → Stops t v.now e
   stops e r = stops_in u.phase now runs.so_far e (subst (λ y. refuses_in u.phase y w e) same r)
 
   -- why it is refused, by the beginning
-  pub refuses : (new : Change) (r : RefRefusal) → Tells u new w (Done (Err r)) → Answers t v (Err r)
+  pub refuses : (new : Change) (r : RefRefusal) → Tells u new w (Done (Err r)) → Answers t v.now (Err r)
   refuses new (RefMoved seen found) a =
       let b = subst (λ (y : Change). (y.phase ≡ phase.Look) × (seen ≡ y.seen) × HasValue w.now y.name found × (found ≢ seen)) same a in
       let is : w ≡ v = subst (λ q. so_far q t v w) b.0 runs.so_far in
@@ -325,7 +325,7 @@ module _ (t : Change) (v : View) (u : Change) (same : u ≡ at_phase t u.phase) 
   spared new (Ok y) a = tt
   spared new (Err r) a = spares new r a
 
-  pub answers : (new : Change) (r : Result (Unit {0}) RefRefusal) → IsStepped u (Ok (Done r)) new → Tells u new w (Done r) → Answers t v r
+  pub answers : (new : Change) (r : Result (Unit {0}) RefRefusal) → IsStepped u (Ok (Done r)) new → Tells u new w (Done r) → Answers t v.now r
   answers new (Ok y) stepped tells = done_so u.phase stepped.1 now runs.so_far
   answers new (Err r) stepped tells = refuses new r tells
 

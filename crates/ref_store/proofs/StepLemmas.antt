@@ -69,7 +69,7 @@ no_leaf-leaf : (d : Disk) (p : Path) → IsTree d → IsLeaf (shows d p) → no_
 unfolding no_leaf
 no_leaf-leaf d p tree leaf = rw (way-there d tree p (leaf_there d (d.at p) leaf)) (leaf_free d (d.at p) leaf)
 
-folder_directory : (d : Disk) (z : Value) → is_folder z ≡ true → IsDirectory (seen d z)
+pub folder_directory : (d : Disk) (z : Value) → is_folder z ≡ true → IsDirectory (seen d z)
 folder_directory d (Folder m) e = tt
 folder_directory d Absent e = let n : false ≡ true = e in cc
 folder_directory d (Link m t) e = let n : false ≡ true = e in cc

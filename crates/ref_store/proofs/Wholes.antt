@@ -123,7 +123,7 @@ both_true true true e = (refl, refl)
 both_true true false e = let n : false ≡ true = e in cc
 both_true false b e = let n : false ≡ true = e in cc
 
-below-rest : (p q : Path) → is_below p q ≡ true → (rest : Path) × (q ≡ p ++ rest)
+pub below-rest : (p q : Path) → is_below p q ≡ true → (rest : Path) × (q ≡ p ++ rest)
 unfolding is_below
 below-rest [] q e = (q, refl)
 below-rest (a ∷ p) [] e = let n : false ≡ true = e in cc

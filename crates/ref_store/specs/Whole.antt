@@ -1,5 +1,5 @@
 -- What a change leaves, from its first step to any later moment.
-use Rattle.std.specs.Prelude.{◌≡◌, ◌≢◌, ◌⊎◌, ◌<◌, ℕ, true, List, length, Option, Some, None, IsSome, Result, Ok, Err}
+use Rattle.std.specs.Prelude.{◌≡◌, ◌≢◌, ◌⊎◌, ◌<◌, ℕ, true, false, List, length, Option, Some, None, IsSome, Result, Ok, Err}
 use Rattle.ost_types.specs.Path.{Path}
 use Rattle.fs_trait.specs.declared.types.FsErr.{FsErr}
 use Rattle.fs_trait.specs.declared.types.FsErr.TheVariants.{Failed, NoMemory, Exists, NotEmpty}
@@ -7,7 +7,10 @@ use Rattle.fs_trait.specs.View.{Disk, View}
 use Rattle.fs_trait.specs.Seen.{Seen, Vacant, shows, MayBe}
 use Rattle.fs_trait.specs.Change.{LeadsTo}
 use Rattle.repo_layout.specs.RefName.{IsRefName, parts_of}
-use Rattle.repo_layout.specs.Paths.{ref_path}
+use Rattle.repo_layout.specs.Paths.{heads, folder_path, ref_path, stage_path}
+use Rattle.repo_layout.specs.declared.folder.Folder.TheVariants.{Tmp}
+use Rattle.fs_trait.specs.Image.{is_folder}
+use Rattle.ref_store.specs.declared.phase.Phase.TheVariants.{Look}
 use Rattle.repo_layout.specs.Refs.{is_leaf, ShowsNoCommit}
 use Rattle.ref_room.specs.Clash.{way_to, ref_folder, IsLeastClash, IsFree, IsNoRef}
 use Rattle.ref_room.specs.Clearing.{IsLeaf, IsUnder, IsAside}
@@ -32,11 +35,11 @@ SameLeaves d e = (p : Path) → IsLeaf (shows d p) ⊎ IsLeaf (shows e p) → sh
 
 -- What the change answers, by what reads see at its beginning: it is done where the ref has the value that it was to have and,
 -- for a ref that is set, where no other is in its way.
-abbrev pub Answers : Change → View → Result (Unit {0}) RefRefusal → Type 0
-Answers t v (Ok x) = HasValue v.now t.name t.seen × (IsSome t.value → IsFree v.now t.name)
-Answers t v (Err (RefMoved seen now)) = (seen ≡ t.seen) × HasValue v.now t.name now × (now ≢ seen)
-Answers t v (Err (RefClash other)) = HasValue v.now t.name t.seen × IsLeastClash v.now t.name other
-Answers t v (Err NoRef) = ⊥
+abbrev pub Answers : Change → Disk → Result (Unit {0}) RefRefusal → Type 0
+Answers t d (Ok x) = HasValue d t.name t.seen × (IsSome t.value → IsFree d t.name)
+Answers t d (Err (RefMoved seen now)) = (seen ≡ t.seen) × HasValue d t.name now × (now ≢ seen)
+Answers t d (Err (RefClash other)) = HasValue d t.name t.seen × IsLeastClash d t.name other
+Answers t d (Err NoRef) = ⊥
 
 -- no leaf came or went in a change that was refused
 abbrev pub SparesLeaves : Result (Unit {0}) RefRefusal → Disk → Disk → Type 0
@@ -51,10 +54,21 @@ Lasts t (Err refusal) d = Unit {0}
 -- Why the change ended early, by what reads see at its beginning: a call failed or wanted for memory; a leaf that is no ref file
 -- stands at the ref's path, or one that is no ref where a folder has to be; or something that no ref and no folder of refs is
 -- stands below the ref's path.
-abbrev pub Stops : Change → View → FsErr → Type 0
-Stops t v Failed = Unit {0}
-Stops t v NoMemory = Unit {0}
-Stops t v Exists = ShowsNoCommit v.now (ref_path t.name)
-    ⊎ ((k : ℕ) × (k < length (parts_of t.name)) × (is_leaf (v.now.at (way_to k t.name)) ≡ true) × IsNoRef (way_to k t.name))
-Stops t v NotEmpty = (p : Path) × IsUnder t.name p × (shows v.now p ≢ Vacant) × IsAside p (shows v.now p)
-Stops t v e = ⊥
+abbrev pub Stops : Change → Disk → FsErr → Type 0
+Stops t d Failed = Unit {0}
+Stops t d NoMemory = Unit {0}
+Stops t d Exists = ShowsNoCommit d (ref_path t.name)
+    ⊎ ((k : ℕ) × (k < length (parts_of t.name)) × (is_leaf (d.at (way_to k t.name)) ≡ true) × IsNoRef (way_to k t.name))
+Stops t d NotEmpty = (p : Path) × IsUnder t.name p × (shows d p ≢ Vacant) × IsAside p (shows d p)
+Stops t d e = ⊥
+
+-- What reads must see where a change may begin, after a sync of all: the folder of the refs, and the folder of staging paths with
+-- no folder at this one.
+pub record MayBegin (t : Change) (d : Disk) : Type 0 where
+  pub new : t.phase ≡ Look
+  pub named : IsRefName t.name
+  pub actor : t.actor < 16
+  pub removed : t.value ≡ None → IsSome t.seen
+  pub refs : is_folder (d.at heads) ≡ true
+  pub home : is_folder (d.at (folder_path Tmp)) ≡ true
+  pub leaf : is_folder (d.at (stage_path t.actor)) ≡ false

@@ -8,4 +8,4 @@ mod task;
 
 pub use lookup::{GetRef, get};
 pub use refusal::RefRefusal;
-pub use task::{RefTask, change_ref};
+pub use task::{RefTask, change_ref, sync_and_change_ref};

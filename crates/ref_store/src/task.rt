@@ -7,7 +7,7 @@ ghost use Rattle.ref_room.specs.Turns.{OnMore};
 ghost use Rattle.ref_store.specs.declared.phase.Phase.TheVariants as phase;
 ghost use Rattle.ref_store.specs.Change.{Change, IsStepped, KeepsRoom, Takes, left, left_put, left_way, need_in};
 ghost use Rattle.ref_store.specs.Steps.{Needs};
-ghost use Rattle.ref_store.specs.Whole.{Answers, Lasts, Leaves, SparesLeaves, Stops};
+ghost use Rattle.ref_store.specs.Whole.{Answers, Lasts, Leaves, MayBegin, SparesLeaves, Stops};
 
 mod steps;
 
@@ -160,13 +160,13 @@ fn left_put(phase: FilePhase) -> u128
 
 /// Changes the ref. A crash at any moment leaves it with the value before or the new one, and each other ref as it was.
 pub fn change_ref<F: Fs>(fs: &mut F, task: RefTask) -> Result<Result<(), RefRefusal>, FsErr>
-    requires new { task.phase ≡ phase.Look }
+    requires new { (v : View) → F.view fs.old ≡ Some v → task.phase ≡ phase.Look }
     requires needs { (v : View) → F.view fs.old ≡ Some v → Needs task v }
     ensures any_moment { (v : View) → F.view fs.old ≡ Some v → LeavesEach (F.clock fs.old) (F.clock fs.new) (F.was fs.old) (F.was fs.new) (Leaves task v) }
     ensures done { (v : View) → F.view fs.old ≡ Some v → IfOk result (λ r. Told (F.view fs.new) (λ w. EachImage w (Lasts task r))) }
-    ensures answers { (v : View) → F.view fs.old ≡ Some v → IfOk result (Answers task v) }
+    ensures answers { (v : View) → F.view fs.old ≡ Some v → IfOk result (Answers task v.now) }
     ensures refused { (v : View) → F.view fs.old ≡ Some v → IfOk result (λ r. Told (F.view fs.new) (λ w. SparesLeaves r v.now w.now)) }
-    ensures fails { (v : View) → F.view fs.old ≡ Some v → IfErr result (Stops task v) }
+    ensures fails { (v : View) → F.view fs.old ≡ Some v → IfErr result (Stops task v.now) }
     ensures cause { HasCause (F.faults fs.old) (F.faults fs.new) result }
 {
     let mut task = task;
@@ -176,4 +176,20 @@ pub fn change_ref<F: Fs>(fs: &mut F, task: RefTask) -> Result<Result<(), RefRefu
             Turn::Done(answer) => return Ok(answer),
         }
     }
+}
+
+/// Syncs all, and then changes the ref: what reads see before is enough to know that it can be changed.
+pub fn sync_and_change_ref<F: Fs>(
+    fs: &mut F,
+    task: RefTask,
+) -> Result<Result<(), RefRefusal>, FsErr>
+    requires { (v : View) → F.view fs.old ≡ Some v → MayBegin task v.now }
+    ensures done { (v : View) → F.view fs.old ≡ Some v → IfOk result (λ r. Told (F.view fs.new) (λ w. EachImage w (Lasts task r))) }
+    ensures answers { (v : View) → F.view fs.old ≡ Some v → IfOk result (Answers task v.now) }
+    ensures refused { (v : View) → F.view fs.old ≡ Some v → IfOk result (λ r. Told (F.view fs.new) (λ w. SparesLeaves r v.now w.now)) }
+    ensures fails { (v : View) → F.view fs.old ≡ Some v → IfErr result (Stops task v.now) }
+    ensures cause { HasCause (F.faults fs.old) (F.faults fs.new) result }
+{
+    fs.sync_all()?;
+    change_ref(fs, task)
 }

@@ -15,9 +15,9 @@ steps-init g c = record {
   same = refl;
   needs = c.requires.needs;
   run = λ v told. (
-    (v, told, runs_from c.args.task v _ c.requires.new),
+    (v, told, runs_from c.args.task v _ (c.requires.new v told)),
     begins (Leaves c.args.task v) _ _ (g.F.Fs.view c.args.fs.now) (λ w was. g.met.F.Fs.only_now c.args.fs.now _ w (omega arith) was)
-        (λ w is. told_once (λ w. EachImage w (Leaves c.args.task v)) _ (v, told, runs_leaves c.args.task v _ v (runs_from c.args.task v _ c.requires.new)) w is),
+        (λ w is. told_once (λ w. EachImage w (Leaves c.args.task v)) _ (v, told, runs_leaves c.args.task v _ v (runs_from c.args.task v _ (c.requires.new v told))) w is),
   );
   faults = omega arith;
 }
