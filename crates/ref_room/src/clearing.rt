@@ -1,4 +1,4 @@
-ghost use Rattle.std.specs.Prelude.{◌≡◌, ◌⊎◌, ◌≤◌, ◌<◌, ◌+◌, ℕ, Contains, Option, Some, OnOk, OnErr, IfOk, IfErr};
+ghost use Rattle.std.specs.Prelude.{◌≡◌, ◌⊎◌, ◌≤◌, ◌<◌, ◌+◌, ◌^◌, ℕ, Contains, Option, Some, OnOk, OnErr, IfOk, IfErr};
 ghost use Rattle.ost_types.specs.Path.{Name, Path, IsPath, under};
 ghost use Rattle.fs_trait.specs.View.{View};
 ghost use Rattle.fs_trait.specs.Image.{Told};
@@ -58,7 +58,8 @@ impl Clearing {
 
     /// At most so many steps are left, whatever is found.
     pub fn left(&self) -> u128
-        ensures { result ≡ left self.now }
+        ensures value { result ≡ left self.now }
+        ensures small { result < 2 ^ 127 + 2 ^ 64 }
     {
         let folders = self.folders.len() as u128;
         if !self.pending.is_empty() {

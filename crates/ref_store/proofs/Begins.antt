@@ -1,21 +1,17 @@
 -- A change may begin after a sync of all, by what reads see then.
-use Rattle.std.proofs.Common.{◌≡◌, true, false, refl, sym, ◌∙◌, ap, subst, ℕ, List, ◌∷◌, [], ◌++◌, Option, Some, None, Result, Ok, Err}
-use Rattle.std.specs.Prelude.{IfOk, IfErr, codes}
-use Rattle.std.specs.Fmt.{decimal}
-use Rattle.ost_types.specs.Path.{Path, is_in, is_below}
-use Rattle.ost_types.proofs.Paths.{under-is_in, under-folder}
+use Rattle.std.proofs.Common.{◌≡◌, true, false, refl, sym, subst, ℕ, List, Option, Some, None, Result}
+use Rattle.std.specs.Prelude.{IfOk, IfErr}
+use Rattle.ost_types.specs.Path.{Path, is_below}
 use Rattle.fs_trait.specs.declared.types.Value.{Value}
 use Rattle.fs_trait.specs.declared.types.Value.TheVariants.{Absent, Folder, Link, File}
 use Rattle.fs_trait.specs.declared.types.FsErr.{FsErr}
 use Rattle.fs_trait.specs.View.{Disk, View, all_synced}
 use Rattle.fs_trait.specs.Image.{is_folder, IsTree, Told}
-use Rattle.fs_trait.specs.Seen.{Seen, seen, shows, MayBe, IsDirectory, NotDirectory}
-use Rattle.fs_trait.specs.Change.{LeadsTo}
+use Rattle.fs_trait.specs.Seen.{Seen, seen, shows, IsDirectory, NotDirectory}
 use Rattle.fs_trait.proofs.Ways.{above}
 use Rattle.fs_trait.proofs.Effects.{all_synced-firm}
-use Rattle.repo_layout.specs.Paths.{heads, folder_path, in_repo, stage_path}
+use Rattle.repo_layout.specs.Paths.{heads, folder_path, stage_path}
 use Rattle.repo_layout.specs.declared.folder.Folder.TheVariants.{Tmp}
-use Rattle.ref_store.specs.declared.phase.Phase.TheVariants as phase
 use Rattle.ref_store.specs.declared.refusal.RefRefusal.{RefRefusal}
 use Rattle.ref_store.specs.Change.{Change, made_in}
 use Rattle.ref_store.specs.Steps.{Needs, needs_in, begins}

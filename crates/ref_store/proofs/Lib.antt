@@ -8,3 +8,4 @@ pub mod RunLemmas
 pub mod Runs
 pub mod Stable
 pub mod Begins
+pub mod FallLemmas

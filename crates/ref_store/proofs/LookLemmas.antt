@@ -1,5 +1,5 @@
 -- What follows the look at a ref.
-use Rattle.std.proofs.Common.{◌≡◌, ℕ, true, false, refl, sym, ◌∙◌, ap, subst, List, Option, Some, None}
+use Rattle.std.proofs.Common.{◌≡◌, ℕ, true, false, refl, sym, ◌∙◌, subst, List, Option, Some, None}
 use Rattle.std.specs.Prelude.{IsSome}
 use Rattle.fs_trait.specs.declared.types.Value.{Value}
 use Rattle.fs_trait.specs.declared.types.Value.TheVariants.{Absent, Folder, Link, File}
@@ -18,7 +18,7 @@ use Rattle.ref_store.specs.declared.lookup.There.{There}
 use Rattle.ref_store.specs.declared.lookup.There.TheVariants as there
 use Rattle.ref_store.specs.Lookup.{IsThere}
 use Rattle.ref_store.specs.Change.{Change, IsLook, begun, commit_of}
-use Rattle.ref_store.specs.Steps.{Needs, needs_in, begins}
+use Rattle.ref_store.specs.Steps.{Needs}
 use Rattle.ref_store.proofs.StepLemmas.{meets_in, made}
 use Rattle.ref_store.proofs.RoomLemmas.{begins_leads}
 

@@ -1,20 +1,15 @@
 -- The ref's file is put at its path.
-use Rattle.std.proofs.Common.{◌≡◌, ◌⊎◌, inl, inr, ⊎_elim, ℕ, Bool, true, false, refl, sym, ◌∙◌, ap, subst, List, length, Option, Some, None, Result, Ok, Err}
-use Rattle.ost_types.specs.Path.{Path}
+use Rattle.std.proofs.Common.{◌≡◌, ⊎_elim, ℕ, true, false, refl, sym, ◌∙◌, ap, subst, List, length, Some, None, Ok}
 use Rattle.fs_trait.specs.declared.types.FsErr.{FsErr}
 use Rattle.fs_trait.specs.declared.types.FsErr.TheVariants.{Failed, NoMemory, Exists, Missing, NotFolder, NotEmpty}
-use Rattle.fs_trait.specs.declared.task.Turn.{Turn}
 use Rattle.fs_trait.specs.declared.task.Turn.TheVariants.{More, Done}
 use Rattle.fs_trait.specs.View.{View}
 use Rattle.fs_trait.specs.Seen.{Seen, Vacant, Directory, Symlink, Leaf, shows, MayBe, IsDirectory, NotDirectory, bytes_in}
 use Rattle.fs_trait.specs.Change.{Writes, LeadsTo}
 use Rattle.fs_trait.proofs.Kept.{same_view}
 use Rattle.repo_layout.specs.Paths.{ref_path}
-use Rattle.repo_layout.specs.RefFile.{ref_text}
-use Rattle.ref_room.specs.Clash.{ref_folder}
 use Rattle.staged_file.specs.declared.phase.Phase as staged
 use Rattle.staged_file.specs.declared.phase.Phase.TheVariants as file
-use Rattle.staged_file.specs.declared.phase.Show.TheVariants.{Rename}
 use Rattle.staged_file.specs.Staged as staging
 use Rattle.staged_file.specs.Staged.{Staged}
 use Rattle.staged_file.specs.Steps as steps
@@ -25,7 +20,7 @@ use Rattle.ref_store.specs.declared.phase.Phase.{Phase}
 use Rattle.ref_store.specs.declared.phase.Phase.TheVariants as phase
 use Rattle.ref_store.specs.Change.{Change, IsRefFile}
 use Rattle.ref_store.specs.Steps.{Needs, needs_in, Refuses, refuses_in, ShowsValue, leads}
-use Rattle.ref_store.proofs.StepLemmas.{meets_in, made, failed, no_memory}
+use Rattle.ref_store.proofs.StepLemmas.{meets_in, made}
 
 both_not : (s : Seen) → IsDirectory s → NotDirectory s → ⊥
 both_not (Directory m) is no_ = no_

@@ -1,22 +1,21 @@
 -- Room is made for the ref's file.
-use Rattle.std.proofs.Common.{◌≡◌, ◌≢◌, ◌⊎◌, inl, inr, ⊎_elim, ℕ, ◌+◌, ◌-◌, ◌*◌, ◌≤◌, ◌<◌, arith, Bool, true, false, ◌&&◌, refl, sym, ◌∙◌, ap, subst, List, [], ◌∷◌, ◌++◌, length, take, length-append, Option, Some, None, Result, Ok, Err}
-use Rattle.std.specs.Prelude.{IsSome, IfOk, Contains, codes}
+use Rattle.std.proofs.Common.{◌≡◌, ◌≢◌, ℕ, ◌+◌, ◌-◌, ◌*◌, ◌≤◌, ◌<◌, arith, Bool, true, false, ◌&&◌, refl, sym, ◌∙◌, ap, subst, List, [], ◌∷◌, ◌++◌, length, take, length-append, Option, Some, None, Result, Ok, Err}
+use Rattle.std.specs.Prelude.{IsSome, IfOk, codes}
 use Rattle.std.specs.Fmt.{decimal}
 use Rattle.std.proofs.lemmas.List.{length-take}
-use Rattle.std.proofs.lemmas.List.Elements.{Contains-push}
-use Rattle.ost_types.specs.Path.{Name, Path, under, is_in, is_below}
+use Rattle.ost_types.specs.Path.{Path, is_in, is_below}
 use Rattle.ost_types.proofs.Paths.{under-is_in, under-folder, is_below-self}
 use Rattle.fs_trait.specs.declared.types.FsErr.{FsErr}
 use Rattle.fs_trait.specs.declared.task.Turn.{Turn}
 use Rattle.fs_trait.specs.declared.task.Turn.TheVariants.{More, Done}
 use Rattle.fs_trait.specs.View.{View}
 use Rattle.fs_trait.specs.Seen.{Seen, Vacant, Directory, shows, MayBe, IsDirectory, NotDirectory}
-use Rattle.fs_trait.specs.Change.{Writes, Meets, Harmless, LeadsTo}
+use Rattle.fs_trait.specs.Change.{Writes, Harmless, LeadsTo}
 use Rattle.fs_trait.proofs.Images.{not_both}
 use Rattle.fs_trait.proofs.Claims.{is_below-before}
 use Rattle.fs_trait.proofs.Kept.{meets_kept}
 use Rattle.fs_trait.proofs.Facts.{shows_kept}
-use Rattle.repo_layout.specs.RefName.{IsRefName, parts_of}
+use Rattle.repo_layout.specs.RefName.{parts_of}
 use Rattle.repo_layout.specs.Paths.{heads, in_repo, ref_path, stage_path}
 use Rattle.ref_room.specs.Clash.{way_to, ref_folder}
 use Rattle.ref_room.specs.Way as way
@@ -29,10 +28,9 @@ use Rattle.ref_room.proofs.Stable.{Goes, clearing_lies}
 use Rattle.staged_file.specs.Staged.{Staged}
 use Rattle.staged_file.specs.Steps as steps
 use Rattle.staged_file.proofs.Begins.{needs_new}
-use Rattle.ref_store.specs.declared.phase.Phase.{Phase}
 use Rattle.ref_store.specs.declared.phase.Phase.TheVariants as phase
-use Rattle.ref_store.specs.Change.{Change, IsRefFile, IsNew, made_in, left_way}
-use Rattle.ref_store.specs.Steps.{Needs, needs_in, begins, HereOfStage}
+use Rattle.ref_store.specs.Change.{Change, IsNew, left_way}
+use Rattle.ref_store.specs.Steps.{Needs, begins, HereOfStage}
 use Rattle.ref_store.proofs.StepLemmas.{meets_in, made, placed, stage-aside}
 use Rattle.ref_store.proofs.PutLemmas.{file_in}
 

@@ -1,36 +1,33 @@
 -- What each step keeps, of this ref and of the others.
-use Rattle.std.proofs.Common.{◌≡◌, ◌≢◌, ◌⊎◌, inl, inr, ⊎_elim, ℕ, ◌+◌, ◌≤◌, ◌<◌, arith, Bool, true, false, refl, sym, ◌∙◌, ap, subst, List, [], ◌∷◌, ◌++◌, append_assoc, append-nil, length, length-append, Option, Some, None, Result, Ok, Err}
+use Rattle.std.proofs.Common.{◌≡◌, ◌≢◌, ◌⊎◌, inl, inr, ⊎_elim, ℕ, arith, true, false, refl, sym, ◌∙◌, ap, subst, List, [], ◌∷◌, ◌++◌, append_assoc, append-nil, Option, Some, None}
 use Rattle.std.specs.Prelude.{IsSome, Contains}
-use Rattle.ost_types.specs.Path.{Name, Path, IsPath, under, is_below, text_of}
+use Rattle.ost_types.specs.Path.{Name, Path, IsPath, under, is_below}
 use Rattle.ost_types.proofs.Paths.{is_below-self}
 use Rattle.fs_trait.specs.declared.types.Value.TheVariants.{Absent}
-use Rattle.fs_trait.specs.View.{Disk, View}
-use Rattle.fs_trait.specs.Image.{IsTree, is_folder}
-use Rattle.fs_trait.specs.Seen.{Seen, Vacant, Directory, seen, shows, MayBe, IsDirectory, NotDirectory, bytes_in}
+use Rattle.fs_trait.specs.View.{View}
+use Rattle.fs_trait.specs.Image.{IsTree}
+use Rattle.fs_trait.specs.Seen.{Seen, Vacant, seen, shows, IsDirectory, NotDirectory, bytes_in}
 use Rattle.fs_trait.specs.Change.{Writes, LeadsTo}
 use Rattle.fs_trait.proofs.Images.{not_both}
 use Rattle.fs_trait.proofs.Effects.{may_now}
 use Rattle.fs_trait.proofs.Facts.{no_folder_shown}
 use Rattle.fs_trait.proofs.Claims.{is_below-before}
-use Rattle.repo_layout.specs.RefName.{IsRefName, parts_of}
-use Rattle.repo_layout.specs.Paths.{heads, ref_path, stage_path}
+use Rattle.repo_layout.specs.RefName.{IsRefName}
+use Rattle.repo_layout.specs.Paths.{ref_path}
 use Rattle.repo_layout.proofs.Places.{ref_path-injective}
-use Rattle.repo_layout.proofs.KnownPaths.{IsKnown, ref-known}
-use Rattle.ref_room.specs.Clash.{way_to, ref_folder, IsNoRef}
+use Rattle.repo_layout.proofs.KnownPaths.{ref-known}
+use Rattle.ref_room.specs.Clash.{ref_folder, IsNoRef}
 use Rattle.ref_room.specs.Clearing as clearing
 use Rattle.ref_room.specs.Clearing.{IsLeaf, IsUnder}
-use Rattle.ref_room.specs.Way as way
 use Rattle.ref_room.proofs.Names.{IsPath-front}
 use Rattle.ref_room.proofs.Disks.{below_absent}
-use Rattle.ref_room.proofs.Stable.{Goes}
-use Rattle.staged_file.specs.Staged.{Staged, lock_in}
-use Rattle.staged_file.specs.Steps as steps
-use Rattle.staged_file.proofs.Stable.{Lies, staged_lies}
+use Rattle.staged_file.specs.Staged.{lock_in}
+use Rattle.staged_file.proofs.Stable.{staged_lies}
 use Rattle.ref_store.specs.declared.phase.Phase.{Phase}
 use Rattle.ref_store.specs.declared.phase.Phase.TheVariants as phase
-use Rattle.ref_store.specs.Change.{Change, IsRefFile}
-use Rattle.ref_store.specs.Steps.{Needs, needs_in, writes_in, HasValue, ShowsValue}
-use Rattle.ref_store.specs.Whole.{IsSure, SameLeaves}
+use Rattle.ref_store.specs.Change.{Change}
+use Rattle.ref_store.specs.Steps.{Needs, writes_in, ShowsValue}
+use Rattle.ref_store.specs.Whole.{IsSure}
 use Rattle.ref_store.proofs.StepLemmas.{stage-not_ref, stage-aside}
 use Rattle.ref_store.proofs.RoomLemmas.{clear_lies, walk_lies, way_to-short}
 use Rattle.ref_store.proofs.LookLemmas.{leaf_not_folder}

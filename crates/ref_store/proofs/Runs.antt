@@ -1,22 +1,21 @@
 -- A run of steps, from the beginning.
-use Rattle.std.proofs.Common.{◌+◌, ◌<◌, length, ◌≡◌, ◌≢◌, ◌⊎◌, inl, inr, ⊎_elim, ℕ, Bool, true, false, refl, sym, ◌∙◌, ap, subst, List, [], ◌∷◌, ◌++◌, append_assoc, Option, Some, None, Result, Ok, Err}
-use Rattle.std.specs.Prelude.{IsSome, IfOk}
+use Rattle.std.proofs.Common.{◌+◌, ◌<◌, length, ◌≡◌, ◌≢◌, ◌⊎◌, inl, inr, ⊎_elim, ℕ, true, false, refl, sym, ◌∙◌, ap, subst, List, ◌∷◌, ◌++◌, append_assoc, Option, Some, None, Result, Ok, Err}
+use Rattle.std.specs.Prelude.{IsSome}
 use Rattle.ost_types.specs.Path.{Name, Path}
 use Rattle.fs_trait.specs.declared.types.Value.TheVariants.{Absent}
 use Rattle.fs_trait.specs.declared.types.FsErr.{FsErr}
 use Rattle.fs_trait.specs.declared.types.FsErr.TheVariants.{Failed, NoMemory, Exists, Missing, NotFolder, NotEmpty}
-use Rattle.fs_trait.specs.declared.task.Turn.{Turn}
 use Rattle.fs_trait.specs.declared.task.Turn.TheVariants.{More, Done}
 use Rattle.fs_trait.specs.View.{Disk, View}
-use Rattle.fs_trait.specs.Image.{EachImage, IsTree, Told}
-use Rattle.fs_trait.specs.Seen.{Seen, Vacant, seen, shows, MayBe, IsDirectory, NotDirectory, bytes_in}
-use Rattle.fs_trait.specs.Change.{Writes, LeadsTo}
+use Rattle.fs_trait.specs.Image.{EachImage, IsTree}
+use Rattle.fs_trait.specs.Seen.{Seen, Vacant, seen, shows, IsDirectory, NotDirectory, bytes_in}
+use Rattle.fs_trait.specs.Change.{Writes}
 use Rattle.fs_trait.proofs.Claims.{reads_shows}
 use Rattle.fs_trait.proofs.Facts.{no_folder_shown}
 use Rattle.repo_layout.specs.RefName.{IsRefName, parts_of}
 use Rattle.repo_layout.specs.Paths.{heads, ref_path}
 use Rattle.repo_layout.specs.Refs.{is_leaf, ShowsNoCommit}
-use Rattle.ref_room.specs.Clash.{way_to, ref_folder, IsAbove, IsClash, IsLeastClash, IsFree, IsFreeAbove, IsNoRef}
+use Rattle.ref_room.specs.Clash.{way_to, IsLeastClash, IsFree, IsFreeAbove, IsNoRef}
 use Rattle.ref_room.specs.Clearing as clearing
 use Rattle.ref_room.specs.Clearing.{IsLeaf, IsUnder, IsAside}
 use Rattle.ref_room.specs.Way as way

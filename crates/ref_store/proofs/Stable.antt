@@ -1,6 +1,5 @@
 -- What a change writes, for all others; and its facts stay true under what others may write.
-use Rattle.std.proofs.Common.{◌≡◌, ◌⊎◌, inl, inr, ⊎_elim, ℕ, ◌+◌, ◌-◌, ◌≤◌, ◌<◌, arith, true, false, refl, sym, ◌∙◌, ap, subst, List, [], ◌++◌, append-nil, length, Option, Some, None}
-use Rattle.std.specs.Prelude.{IsSome}
+use Rattle.std.proofs.Common.{◌≡◌, ◌⊎◌, inl, inr, ⊎_elim, ℕ, ◌+◌, ◌-◌, ◌<◌, arith, true, refl, sym, ◌∙◌, ap, subst, List, [], append-nil, length, Option, Some, None}
 use Rattle.ost_types.specs.declared.meta.Meta.{Meta}
 use Rattle.ost_types.specs.Path.{Path, is_in}
 use Rattle.fs_trait.specs.declared.types.Value.TheVariants.{File}
@@ -13,15 +12,13 @@ use Rattle.fs_trait.proofs.Facts.{shows_kept}
 use Rattle.repo_layout.specs.RefName.{parts_of}
 use Rattle.repo_layout.specs.Paths.{heads, ref_path, stage_path}
 use Rattle.ref_room.specs.Clash.{way_to, ref_folder}
-use Rattle.ref_room.specs.Clearing as clearing
 use Rattle.ref_room.specs.Clearing.{IsLeaf, IsUnder}
 use Rattle.ref_room.specs.Way as way
 use Rattle.ref_room.specs.declared.way.Leg.{Leg}
 use Rattle.ref_room.specs.declared.way.Leg.TheVariants as leg
 use Rattle.ref_room.proofs.Names.{way_to-none, way_to-all, some_parts}
 use Rattle.ref_room.proofs.Stable.{OnWay, Goes, way_lies, way_kept, clearing_kept}
-use Rattle.staged_file.specs.Staged.{Staged, lock_in}
-use Rattle.staged_file.specs.Steps as steps
+use Rattle.staged_file.specs.Staged.{Staged}
 use Rattle.staged_file.proofs.Stable as staged
 use Rattle.ref_store.specs.declared.phase.Phase.{Phase}
 use Rattle.ref_store.specs.declared.phase.Phase.TheVariants as phase

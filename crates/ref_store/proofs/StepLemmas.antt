@@ -1,9 +1,8 @@
 -- What each step writes and leaves.
-use Rattle.std.proofs.Common.{◌≡◌, ◌≢◌, ◌⊎◌, inl, inr, ⊎_elim, ℕ, ◌≤◌, ◌<◌, ◌^◌, ◌+◌, arith, Bool, true, false, refl, sym, ◌∙◌, ap, subst, List, [], ◌∷◌, ◌++◌, append-nil, length, Option, Some, None, Result, Ok, Err}
-use Rattle.std.specs.Prelude.{OnOk, IfErr, IsSome, codes}
+use Rattle.std.proofs.Common.{◌≡◌, ◌≢◌, ℕ, ◌<◌, arith, true, false, refl, sym, ◌∙◌, subst, List, [], ◌∷◌, ◌++◌, append-nil, Option, None}
+use Rattle.std.specs.Prelude.{codes}
 use Rattle.std.specs.Fmt.{decimal}
-use Rattle.ost_types.specs.declared.meta.Meta.{Meta}
-use Rattle.ost_types.specs.Path.{Name, Path, under, is_in, is_below}
+use Rattle.ost_types.specs.Path.{Name, Path, under, is_below}
 use Rattle.ost_types.proofs.Paths.{under-not_folder}
 use Rattle.fs_trait.specs.declared.types.Value.{Value}
 use Rattle.fs_trait.specs.declared.types.Value.TheVariants.{Absent, Folder, Link, File}
@@ -12,27 +11,24 @@ use Rattle.fs_trait.specs.declared.types.FsErr.TheVariants.{Failed, NoMemory}
 use Rattle.fs_trait.specs.View.{Disk, View, named, folder_synced}
 use Rattle.fs_trait.specs.Image.{is_folder, IsTree, Told}
 use Rattle.fs_trait.specs.Effect.{no_leaf, no_folder, unless_leaf}
-use Rattle.fs_trait.specs.Seen.{Seen, Vacant, Directory, Symlink, Leaf, seen, shows, MayShow, MayBe, IsDirectory, NotDirectory, bytes_in}
-use Rattle.fs_trait.specs.Change.{Writes, Meets, Nothing, At, LeadsTo}
-use Rattle.fs_trait.proofs.Images.{not_both}
+use Rattle.fs_trait.specs.Seen.{Seen, Vacant, seen, shows, MayShow, MayBe, IsDirectory}
+use Rattle.fs_trait.specs.Change.{Writes}
 use Rattle.fs_trait.proofs.Ways.{way-there, folder_of}
 use Rattle.fs_trait.proofs.Refusals.{no_folder-there}
 use Rattle.fs_trait.proofs.Effects.{named-writes, folder_synced-writes, shows_named, shows_named_apart, folder_synced-firm}
 use Rattle.fs_trait.proofs.Claims.{folder_shows}
 use Rattle.fs_trait.proofs.Facts.{vacant_absent}
-use Rattle.repo_layout.specs.RefName.{IsRefName}
-use Rattle.repo_layout.specs.Paths.{heads, heads_text, in_repo, ref_path, stage_path}
-use Rattle.repo_layout.specs.Place.{Place, place, Stage, Ref}
+use Rattle.repo_layout.specs.Paths.{in_repo, ref_path, stage_path}
+use Rattle.repo_layout.specs.Place.{place, Stage, Ref}
 use Rattle.repo_layout.proofs.Places.{place-ref, place-stage, place-apart}
 use Rattle.ref_room.specs.Clash.{way_to, ref_folder}
 use Rattle.ref_room.specs.Clearing.{IsLeaf}
 use Rattle.ref_room.proofs.Names.{ref_folder-under}
 use Rattle.ref_room.proofs.Answering.{Step}
-use Rattle.staged_file.specs.Staged.{Staged}
 use Rattle.staged_file.specs.Steps.{IsPlaced}
 use Rattle.ref_store.specs.declared.phase.Phase.{Phase}
 use Rattle.ref_store.specs.declared.phase.Phase.TheVariants as phase
-use Rattle.ref_store.specs.Change.{Change, IsRefFile, IsMade, made_in, IsLook, IsClear, IsWalk, IsPut, IsUnlink, IsSyncFolder}
+use Rattle.ref_store.specs.Change.{Change, made_in, IsUnlink, IsSyncFolder}
 use Rattle.ref_store.specs.Steps.{Needs, needs_in, writes_in, WritesOf, refuses_in, ShowsValue, leads}
 
 pub is_unlink : (ph : Phase) → IsUnlink ph → ph ≡ phase.Unlink

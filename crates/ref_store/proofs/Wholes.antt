@@ -1,40 +1,24 @@
 -- A change alone, from its first step to any later moment.
-use Rattle.std.proofs.Common.{◌≡◌, ◌≢◌, ◌⊎◌, inl, inr, ⊎_elim, ℕ, ◌+◌, ◌≤◌, ◌<◌, arith, Bool, true, false, ◌&&◌, refl, sym, ◌∙◌, ap, subst, List, [], ◌∷◌, ◌++◌, append_assoc, length, length-append, Option, Some, None, Result, Ok, Err}
-use Rattle.std.specs.Prelude.{IsSome, Contains, IfOk}
-use Rattle.ost_types.specs.Path.{Name, Path, under, is_below}
-use Rattle.ost_types.proofs.Paths.{is_below-self, same_name-Decides}
+use Rattle.std.proofs.Common.{◌≡◌, ◌⊎◌, inl, inr, ⊎_elim, ℕ, arith, Bool, true, false, ◌&&◌, refl, sym, ◌∙◌, ap, subst, List, [], ◌∷◌, ◌++◌, append_assoc, length, length-append, Option, Some, None}
+use Rattle.std.specs.Prelude.{IsSome}
+use Rattle.ost_types.specs.Path.{Path, under, is_below}
+use Rattle.ost_types.proofs.Paths.{same_name-Decides}
 use Rattle.fs_trait.specs.declared.types.Value.{Value}
 use Rattle.fs_trait.specs.declared.types.Value.TheVariants.{Absent, Folder, Link, File}
 use Rattle.fs_trait.specs.View.{Disk, View}
-use Rattle.fs_trait.specs.Image.{Image, EachImage, is_folder, IsTree, Told, reads}
+use Rattle.fs_trait.specs.Image.{EachImage}
 use Rattle.fs_trait.specs.Seen.{Seen, Vacant, Directory, Symlink, Leaf, seen, shows, MayBe, IsDirectory, NotDirectory, bytes_in}
-use Rattle.fs_trait.specs.Change.{Writes, LeadsTo}
-use Rattle.fs_trait.proofs.Images.{not_both}
-use Rattle.fs_trait.proofs.Effects.{may_now}
-use Rattle.fs_trait.proofs.Facts.{no_folder_shown}
-use Rattle.fs_trait.proofs.Claims.{Image-may, Image-under, Image-folder, reads_shows, is_below-before}
-use Rattle.repo_layout.specs.RefName.{IsRefName, parts_of}
-use Rattle.repo_layout.specs.RefFile.{ref_text}
-use Rattle.repo_layout.specs.Paths.{heads, ref_path, stage_path}
-use Rattle.repo_layout.specs.Refs.{is_leaf, Lacks, Names}
-use Rattle.repo_layout.proofs.Places.{ref_path-injective}
-use Rattle.ref_room.specs.Clash.{way_to, ref_folder, IsAbove, IsClash, IsLeastClash, IsFree, IsFreeAbove}
+use Rattle.fs_trait.specs.Change.{LeadsTo}
+use Rattle.fs_trait.proofs.Claims.{Image-may, Image-under, Image-folder, reads_shows}
+use Rattle.repo_layout.specs.Paths.{ref_path}
+use Rattle.repo_layout.specs.Refs.{is_leaf}
+use Rattle.ref_room.specs.Clash.{ref_folder}
 use Rattle.ref_room.specs.Clearing as clearing
 use Rattle.ref_room.specs.Clearing.{IsLeaf, IsUnder}
-use Rattle.ref_room.specs.Way as way
 use Rattle.ref_room.proofs.Names.{ref_folder-under}
-use Rattle.ref_room.proofs.Disks.{below_absent}
-use Rattle.ref_room.proofs.Stable.{Goes}
-use Rattle.staged_file.specs.Staged.{Staged}
-use Rattle.staged_file.specs.Steps as steps
-use Rattle.staged_file.proofs.Stable.{Lies, staged_lies}
-use Rattle.ref_store.specs.declared.phase.Phase.{Phase}
-use Rattle.ref_store.specs.declared.phase.Phase.TheVariants as phase
-use Rattle.ref_store.specs.Change.{Change, IsRefFile}
-use Rattle.ref_store.specs.Steps.{Needs, needs_in, writes_in, HasValue, ShowsValue}
-use Rattle.ref_store.specs.Whole.{IsSure, Leaves, SameLeaves}
-use Rattle.ref_store.proofs.StepLemmas.{stage-not_ref, stage-aside}
-use Rattle.ref_store.proofs.RoomLemmas.{clear_lies, walk_lies, way_to-short, below-length}
+use Rattle.ref_store.specs.Steps.{HasValue, ShowsValue}
+use Rattle.ref_store.specs.Whole.{IsSure}
+use Rattle.ref_store.proofs.RoomLemmas.{below-length}
 
 -- leaves
 pub leaf_is : (d : Disk) (z : Value) → is_leaf z ≡ true → IsLeaf (seen d z)

@@ -1,6 +1,5 @@
 -- A change of a ref, and which step comes next.
 use Rattle.std.specs.Prelude.{◌≡◌, ◌⊎◌, ◌≤◌, ◌<◌, ◌+◌, ◌*◌, ℕ, Bool, true, false, List, length, Option, Some, None, IsSome, Result, Ok, Err, IsErrOf, OnOk, if◌then◌else◌}
-use Rattle.ost_types.specs.Path.{Path}
 use Rattle.fs_trait.specs.declared.types.FsErr.{FsErr}
 use Rattle.fs_trait.specs.declared.types.FsErr.TheVariants as fs
 use Rattle.fs_trait.specs.declared.task.Turn.{Turn}
@@ -13,7 +12,6 @@ use Rattle.repo_layout.specs.RefFile.{IsSum, ref_text}
 use Rattle.ref_room.specs.Clash.{ref_folder}
 use Rattle.ref_room.specs.Clearing as clearing
 use Rattle.ref_room.specs.Way as way
-use Rattle.ref_room.specs.declared.way.Leg.{Leg}
 use Rattle.staged_file.specs.declared.phase.Show.TheVariants.{Rename}
 use Rattle.staged_file.specs.declared.phase.Phase as staged
 use Rattle.staged_file.specs.declared.phase.Phase.TheVariants as file

@@ -1,4 +1,4 @@
-use Rattle.std.proofs.Common.{◌≡◌, ◌≢◌, Some, sym, ◌∙◌, ap, subst, length}
+use Rattle.std.proofs.Common.{◌≢◌, Some, ◌∙◌, ap, subst, length}
 use Rattle.fs_trait.specs.Effect.{IsNode}
 use Rattle.ref_store.proofs.Lookups.{link_shows_none, is_link, is_file, shows_none-length}
 use Rattle.ref_store.proofs.lookup.look.Goals as goal

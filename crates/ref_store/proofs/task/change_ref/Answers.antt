@@ -1,6 +1,5 @@
-use Rattle.std.proofs.Common.{◌≡◌, Ok, refl, sym, ◌∙◌, ap, subst, arith}
+use Rattle.std.proofs.Common.{Ok, refl, subst, arith}
 use Rattle.std.proofs.lemmas.Result.{err_from_is_err_and}
-use Rattle.fs_trait.specs.declared.task.Turn.TheVariants.{More, Done}
 use Rattle.fs_trait.specs.Image.{EachImage}
 use Rattle.fs_trait.proofs.Runs.{begins, goes_on}
 use Rattle.staged_file.proofs.Wholes.{told_once}

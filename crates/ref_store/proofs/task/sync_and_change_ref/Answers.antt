@@ -1,4 +1,3 @@
-use Rattle.fs_trait.specs.View.{all_synced}
 use Rattle.staged_file.proofs.Wholes.{told_once}
 use Rattle.ref_store.specs.Steps.{Needs}
 use Rattle.ref_store.proofs.Begins.{needs_synced, answers_synced, stops_synced, spares_synced}

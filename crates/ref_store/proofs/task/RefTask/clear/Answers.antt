@@ -2,10 +2,10 @@ use Rattle.std.proofs.Common.{◌≡◌, Ok, None, sym, ◌∙◌, ap, subst}
 use Rattle.fs_trait.specs.declared.task.Turn.TheVariants.{Done}
 use Rattle.ref_room.specs.Way as way
 use Rattle.ref_store.specs.declared.phase.Phase.TheVariants as phase
-use Rattle.ref_store.specs.Change.{Change}
 use Rattle.ref_store.specs.Steps.{Needs}
 use Rattle.ref_store.proofs.StepLemmas.{meets_in, told_both, written_as}
 use Rattle.ref_store.proofs.RoomLemmas.{clear_kept, clear_over, clear_name, clear_told, clear_ends}
+use Rattle.ref_store.proofs.FallLemmas.{clear_falls}
 use Rattle.ref_store.proofs.task.RefTask.clear.Goals as goal
 
 pub step-requires : goal.step-requires
@@ -45,3 +45,9 @@ returns-in_ok-new-in-Done-None-clause-after g c = λ v told.
     let w = c.step.ensures.writes v told in
     let x = c.in_ok-new-in-Done-None.ensures ∙ ap way.begun c.in_ok-copy-in-Done-None.ensures in
     (w.0, w.1, clear_over _ v needs c.in-Clear.clearing c.in-Clear.is _ x (clear_told c.in-Clear.clearing v _ is (c.step.ensures.tells v told)) (clear_ends c.in-Clear.clearing c.step.new.self _ is c.step.ensures.stepped) w.0 w.2)
+
+pub returns-in_ok-new-in-Done-None-clause-falls : goal.returns-in_ok-new-in-Done-None-clause-falls
+returns-in_ok-new-in-Done-None-clause-falls g c =
+    let is : c.step.result ≡ Ok (Done None) = c.in_ok-step.was ∙ ap Ok (c.in-Done-None.is ∙ ap Done c.in-Done-None.field-0-is) in
+    let x = c.in_ok-new-in-Done-None.ensures ∙ ap way.begun c.in_ok-copy-in-Done-None.ensures in
+    clear_falls _ _ c.self.view_is c.in-Clear.clearing c.in-Clear.is c.in_ok-new-in-Done-None.field-0 x (clear_ends c.in-Clear.clearing c.step.new.self _ is c.step.ensures.stepped)

@@ -1,4 +1,4 @@
-use Rattle.std.proofs.Common.{◌≡◌, ◌∙◌, ap, subst, arith}
+use Rattle.std.proofs.Common.{◌∙◌, ap, subst, arith}
 use Rattle.ref_store.specs.Change.{Change, made_in}
 use Rattle.ref_store.proofs.RoomLemmas.{left_small}
 use Rattle.ref_store.proofs.task.RefTask.left.Goals as goal

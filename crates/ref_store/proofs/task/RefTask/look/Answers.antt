@@ -1,7 +1,9 @@
-use Rattle.std.proofs.Common.{rules, ◌≡◌, sym, ◌∙◌, ap, subst}
+use Rattle.std.proofs.Common.{rules, ◌≡◌, ◌≢◌, sym, ◌∙◌, ap, subst}
 use Rattle.ref_store.specs.Change.{Change, begun}
 use Rattle.ref_store.specs.Steps.{Needs}
 use Rattle.ref_store.proofs.LookLemmas.{is_look, look_over}
+use Rattle.ref_store.specs.declared.lookup.There.TheVariants as there
+use Rattle.ref_store.proofs.FallLemmas.{look_falls, look_tells}
 use Rattle.ref_store.proofs.task.RefTask.look.Goals as goal
 
 pub returns-then-ne-clause-after : goal.returns-then-ne-clause-after
@@ -15,3 +17,16 @@ returns-clause-after g c = λ v told.
     let same : c.commit_of-now.result ≡ c.self.inside.seen = search rules in
     let next = c.in_ok-self-inside.ensures ∙ sym (ap (λ (t : Change). begun t.value c.in_ok-there.there t.name) c.self.view_is) in
     (v, c.look.ensures.quiet.view ∙ told, look_over _ v needs phase _ c.self.invariant.1 c.in_ok-there.there there (sym c.commit_of-now.ensures ∙ same) _ next)
+
+pub returns-clause-falls : goal.returns-clause-falls
+returns-clause-falls g c =
+    let phase = ap (λ (t : Change). t.phase) c.self.view_is ∙ is_look _ c.requires.phase in
+    let next = c.in_ok-self-inside.ensures ∙ sym (ap (λ (t : Change). begun t.value c.in_ok-there.there t.name) c.self.view_is) in
+    look_falls _ _ c.self.view_is phase c.in_ok-there.there c.in_ok-self-inside.field-0 next
+
+pub returns-clause-tells : goal.returns-clause-tells
+returns-clause-tells g c = λ v told.
+    let phase = ap (λ (t : Change). t.phase) c.self.view_is ∙ is_look _ c.requires.phase in
+    let same : c.commit_of-now.result ≡ c.self.inside.seen = search rules in
+    let other : c.in_ok-there.there ≢ there.OtherLeaf = search rules in
+    look_tells _ _ c.self.view_is phase v c.self.inside.at c.self.invariant.1 c.in_ok-there.there other (c.in_ok-there.ensures.told v told) (sym c.commit_of-now.ensures ∙ same) _

@@ -1,9 +1,7 @@
-use Rattle.std.proofs.Common.{sym, ◌∙◌, ap, subst}
+use Rattle.std.proofs.Common.{sym, subst}
 use Rattle.std.proofs.lemmas.Result.{err_from_is_err_and}
-use Rattle.staged_file.specs.Steps as steps
 use Rattle.ref_store.specs.declared.phase.Phase.TheVariants as phase
-use Rattle.ref_store.specs.Change.{Change}
-use Rattle.ref_store.specs.Steps.{Needs, Refuses}
+use Rattle.ref_store.specs.Steps.{Needs}
 use Rattle.ref_store.proofs.StepLemmas.{meets_in, written_as, told_both}
 use Rattle.ref_store.proofs.PutLemmas.{put_fails, put_more, put_done}
 use Rattle.ref_store.proofs.task.RefTask.put.Goals as goal

@@ -1,9 +1,8 @@
 use Rattle.std.proofs.Common.{◌≡◌, Ok, None, sym, ◌∙◌, ap, subst}
 use Rattle.fs_trait.specs.declared.task.Turn.TheVariants.{Done}
 use Rattle.ref_store.specs.declared.phase.Phase.TheVariants as phase
-use Rattle.ref_store.specs.Change.{Change}
 use Rattle.ref_store.specs.Steps.{Needs}
-use Rattle.ref_store.proofs.StepLemmas.{meets_in, told_both}
+use Rattle.ref_store.proofs.StepLemmas.{meets_in, told_both, written_as}
 use Rattle.ref_store.proofs.RoomLemmas.{walk_kept, walk_over, way_name, way_ends}
 use Rattle.ref_store.proofs.task.RefTask.walk.Goals as goal
 
@@ -34,3 +33,6 @@ returns-in_ok-new_file-in-Done-None-clause-after g c = λ v told.
     told_both _ _ _ _
     (walk_over _ v needs c.in-Walk.way c.in-Walk.is c.step.new.self (way_name c.in-Walk.way _ c.step.new.self c.step.ensures.stepped) (way_ends c.in-Walk.way c.step.new.self _ is c.step.ensures.stepped) c.in_ok-new_file-in-Done-None.field-0 c.in_ok-new_file-in-Done-None.ensures)
     (c.step.ensures.writes v told) (c.in_ok-step.ensures.after v told)
+
+pub returns-in_ok-new_file-in-Done-None-clause-writes : goal.returns-in_ok-new_file-in-Done-None-clause-writes
+returns-in_ok-new_file-in-Done-None-clause-writes g c = λ v told. written_as _ _ c.self.view_is (phase.Walk c.in-Walk.way) c.in-Walk.is v _ (c.step.ensures.writes v told)
