@@ -117,8 +117,8 @@ module _ (t : Change) (w : View) where
   kept_on (Some commit) ph needs kept x writes = (
     λ s may. ⊎_elim (kept.0 s)
         (λ a. ⊎_elim
-            (λ r. absurd (r.1.old (⊎_elim (λ old. value_leaf (Some commit) _ refl old) (λ new. value_leaf t.value _ r.0 new) (kept.0 _ (may_now w (ref_path t.name))))))
-            (λ new. inr new) (at_ref ph needs s a))
+        (λ r. absurd (r.1.old (⊎_elim (λ old. value_leaf (Some commit) _ refl old) (λ new. value_leaf t.value _ r.0 new) (kept.0 _ (may_now w (ref_path t.name))))))
+        (λ new. inr new) (at_ref ph needs s a))
         (writes.only (ref_path t.name) s may),
     λ p s may. ⊎_elim (kept.1 p s) (leads_on ph needs p s) (writes.only p s may),
   )
@@ -146,7 +146,7 @@ module _ (t : Change) (w : View) where
   other_leads (phase.Clear c) needs tree other commit named sure p s a below =
       let l = clear_lies (at_phase t (phase.Clear c)) w needs c refl p s a in
       absurd (no_ref_below c w tree needs.meets.1 a.0.0 other named (value_leaf (Some commit) _ refl (sure.0 _ (may_now w (ref_path other))))
-          (subst (λ n. IsUnder n (ref_path other)) (sym needs.made.0) (under_ref t.name other p l.place below)))
+      (subst (λ n. IsUnder n (ref_path other)) (sym needs.made.0) (under_ref t.name other p l.place below)))
   other_leads (phase.Walk y) needs tree other commit named sure p s a below = subst IsDirectory (sym (walk_lies (at_phase t (phase.Walk y)) w needs y refl p s a).3) tt
   other_leads (phase.Put f) needs tree other commit named sure p s a below = ⊎_elim
       (λ e. absurd (not_both below (subst (λ q. is_below q (ref_folder other) ≡ false) (sym (e ∙ needs.made.stage)) (stage-aside t.actor _ other))))

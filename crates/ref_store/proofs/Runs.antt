@@ -129,7 +129,7 @@ module _ (t : Change) (v w : View) (tree : IsTree w.now) (x : View) where
   so_far_on phase.Look next needs f goes is writes =
       let same : SameLeaves v.now x.now = same_on (writes_in phase.Look (at_phase t phase.Look) w) v.now w x (subst (λ y. SameLeaves v.now y.now) (sym is) (SameLeaves-refl v.now)) writes (room_writes t w phase.Look (inl refl) needs) in
       subst (λ q. so_far q t v x) (sym f.1) (begun_so t.value f.0 t v x same (subst (λ y. HasValue y.now t.name t.seen) is goes)
-          (goes_on_still (writes_in phase.Look (at_phase t phase.Look) w) t.name v.now w x (λ p there place. ap (λ y. shows y.now p) is) writes (λ p s none. absurd none)))
+      (goes_on_still (writes_in phase.Look (at_phase t phase.Look) w) t.name v.now w x (λ p there place. ap (λ y. shows y.now p) is) writes (λ p s none. absurd none)))
   so_far_on (phase.Clear c) (phase.Clear d) needs f goes is writes = (same_on _ v.now w x is.0 writes (room_writes t w (phase.Clear c) (inr tt) needs), is.1, goes_on_still _ t.name v.now w x is.2 writes (λ p s a. (clear_lies (at_phase t (phase.Clear c)) w needs c refl p s a).vacant))
   so_far_on (phase.Clear c) (phase.Walk y) needs f goes is writes = (same_on _ v.now w x is.0 writes (room_writes t w (phase.Clear c) (inr tt) needs), is.1)
   so_far_on (phase.Clear c) phase.Look needs f goes is writes = absurd f

@@ -99,9 +99,9 @@ module _ (W : Path → Seen → Type 0) (t : Change) (v : View) (spares : Spares
   begins_still None was = tt
   begins_still (Some commit) was =
       meets_kept W (LeadsTo heads) (HereOfStage t.actor) v w writes
-          (subst (λ f. Harmless W (LeadsTo f)) (way_to-none t.name) (spares.leads 0 (some_parts t.name) (subst (λ f. (p : Path) (s : Seen) → MayBe v p s → LeadsTo f p s) (sym (way_to-none t.name)) was.firm)))
-          (λ p s wrote. ((λ e. absurd (spares.stage s (subst (λ q. W q s) e wrote))), (λ in_. spares.parents p s in_ ((was.here p).1 in_) wrote)))
-          was
+      (subst (λ f. Harmless W (LeadsTo f)) (way_to-none t.name) (spares.leads 0 (some_parts t.name) (subst (λ f. (p : Path) (s : Seen) → MayBe v p s → LeadsTo f p s) (sym (way_to-none t.name)) was.firm)))
+      (λ p s wrote. ((λ e. absurd (spares.stage s (subst (λ q. W q s) e wrote))), (λ in_. spares.parents p s in_ ((was.here p).1 in_) wrote)))
+      was
 
   last_part : length (parts_of t.name) - 1 < length (parts_of t.name)
   last_part = omega (arith, some_parts t.name)
@@ -118,7 +118,7 @@ module _ (W : Path → Seen → Type 0) (t : Change) (v : View) (spares : Spares
   walk_still : (y : way.Walked) → y.name ≡ t.name → way.Needs y v → way.Needs y w
   walk_still y e was = way_kept W y v was
       (subst (λ n. Harmless W (LeadsTo (way_to y.reached n))) (sym e)
-          (spares.leads y.reached (subst (λ n. y.reached < length (parts_of n)) e few) (subst (λ n. (p : Path) (s : Seen) → MayBe v p s → LeadsTo (way_to y.reached n) p s) e was.meets.firm)))
+      (spares.leads y.reached (subst (λ n. y.reached < length (parts_of n)) e few) (subst (λ n. (p : Path) (s : Seen) → MayBe v p s → LeadsTo (way_to y.reached n) p s) e was.meets.firm)))
       (λ s wrote. next_by y.leg y.reached (subst (λ n. way.leg_of y.leg y.reached n) e was.place) s (subst (λ n. W (way_to (y.reached + 1) n) s) e wrote)) w writes
     where
       short : (l : Leg) → way.leg_of l y.reached y.name → y.reached < length (parts_of y.name)

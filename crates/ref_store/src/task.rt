@@ -11,8 +11,8 @@ ghost use Rattle.ref_store.specs.Whole.{Answers, Lasts, Leaves, MayBegin, Spares
 
 mod steps;
 
-use crate::phase::Phase;
 use crate::RefRefusal;
+use crate::phase::Phase;
 use fs_trait::{Fs, FsErr, Need, Turn};
 use ost_types::{Csum, FsPath, NoMemory};
 use ref_room::ref_folder;
@@ -66,12 +66,7 @@ impl RefTask {
     }
 
     /// Removes the ref. It must name the commit `seen` so far.
-    pub fn remove(
-        alloc: Global,
-        actor: u8,
-        name: RefName,
-        seen: Csum,
-    ) -> Result<RefTask, NoMemory>
+    pub fn remove(alloc: Global, actor: u8, name: RefName, seen: Csum) -> Result<RefTask, NoMemory>
         requires { actor < 16 }
         ensures { IfOk result (λ t. t ≡ record { actor = actor; name = name; seen = Some seen; value = None; phase = phase.Look }) }
     {
@@ -121,13 +116,7 @@ impl RefTask {
         match &self.phase {
             Phase::Look => (1 << 127) + 2 + left_way,
             Phase::Clear(clearing) => clearing.left() + left_way,
-            Phase::Walk(way) => {
-                if way.is_over() {
-                    8
-                } else {
-                    way.left() + 9
-                }
-            }
+            Phase::Walk(way) => { if way.is_over() { 8 } else { way.left() + 9 } }
             Phase::Put(file) => left_put(file.phase()),
             Phase::Unlink => 2,
             Phase::SyncFolder => 1,
