@@ -1,0 +1,4 @@
+pub mod States
+pub mod Layouts
+pub mod Knowns
+pub mod Goods

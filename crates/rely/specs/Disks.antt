@@ -1,0 +1,48 @@
+-- What a disk shows of the state.
+use Rattle.std.specs.Prelude.{◌≡◌, ◌≢◌, ℕ, true, IsTrue, List, Option, Some, None}
+use Rattle.ost_types.specs.Path.{Path, is_below}
+use Rattle.fs_trait.specs.View.{Disk}
+use Rattle.fs_trait.specs.Image.{is_folder}
+use Rattle.fs_trait.specs.Seen.{Seen, Vacant, Directory, Symlink, Leaf, shows, bytes_in}
+use Rattle.repo_layout.specs.declared.folder.Folder.{Folder}
+use Rattle.repo_layout.specs.Paths.{folder_path, heads, ref_path}
+use Rattle.repo_layout.specs.Place.{Place, Other, place}
+use Rattle.repo_layout.specs.RefFile.{IsSum, ref_text}
+use Rattle.repo_layout.specs.RefName.{IsRefName}
+use Rattle.repo_layout.specs.Refs.{Names, Lacks, is_leaf}
+use Rattle.rely.specs.State.{Topic, RefOf, Said, State}
+
+-- where the state's topics stand
+abbrev pub path_of : Topic → Path
+path_of (RefOf name) = ref_path name
+
+abbrev pub IsLeaf : Seen → Type 0
+IsLeaf (Symlink m t) = Unit {0}
+IsLeaf (Leaf n m b) = Unit {0}
+IsLeaf s = ⊥
+
+-- what is shown there says this
+abbrev pub Says : Topic → Said → Seen → Type 0
+Says (RefOf name) None s = IsLeaf s → ⊥
+Says (RefOf name) (Some commit) s = IsSum commit × (bytes_in s ≡ Some (ref_text commit))
+
+-- the disk has this state
+abbrev pub Logical : Disk → State → Type 0
+Logical d state = (t : Topic) → Says t (state t) (shows d (path_of t))
+
+-- a ref of a disk: its commit, or none
+abbrev pub HasRef : Disk → List ℕ → Option (List ℕ) → Type 0
+HasRef d name None = Lacks d name
+HasRef d name (Some commit) = Names d name commit
+
+-- no place of the layout
+abbrev pub IsOther : Place → Type 0
+IsOther (Other p) = Unit {0}
+IsOther x = ⊥
+
+-- A disk on which the system can begin, as far as refs go: the folders of the layout are there, and each leaf below the
+-- folder of refs is a ref file under the name of a ref.
+pub record IsGood (d : Disk) : Type 0 where
+  pub folders : (f : Folder) → is_folder (d.at (folder_path f)) ≡ true
+  pub refs : (name : List ℕ) → is_leaf (d.at (ref_path name)) ≡ true → IsRefName name × (commit : List ℕ) × Names d name commit
+  pub others : (p : Path) → IsTrue (is_below heads p) → ((name : List ℕ) → p ≢ ref_path name) → is_leaf (d.at p) ≢ true

@@ -1,0 +1,7 @@
+pub mod Books
+pub mod State
+pub mod Disks
+pub mod Rely
+pub mod Sound
+pub mod Change
+pub mod Laws

@@ -1,0 +1,87 @@
+use crate::Event;
+use ost_types::{Csum, ObjName};
+use repo_layout::OsName;
+
+/// A change that lasts.
+#[derive(Drop, Debug)]
+pub struct Entry {
+    pub lane: u8,
+    /// The number of the command in its lane.
+    pub command: u32,
+    pub event: Event,
+    /// The file system's clock when the change was acknowledged.
+    pub moment: u64,
+}
+
+/// A change that is shown, or may be, and doesn't last yet.
+#[derive(Drop, Debug)]
+pub struct Pending {
+    pub lane: u8,
+    pub command: u32,
+    pub event: Event,
+}
+
+/// An object that no prune removes while the lane's command runs.
+#[derive(Clone, Copy, Debug, PartialEq, Eq)]
+pub struct Pin {
+    pub lane: u8,
+    pub object: ObjName,
+}
+
+/// A lane reads the `etc` of the deployment at this place of the list.
+#[derive(Clone, Copy, Debug, PartialEq, Eq)]
+pub struct Hold {
+    pub lane: u8,
+    pub place: u8,
+}
+
+/// An actor has an object of a lane's pull in hand.
+#[derive(Clone, Copy, Debug, PartialEq, Eq)]
+pub struct Want {
+    pub actor: u8,
+    pub lane: u8,
+    pub object: ObjName,
+}
+
+/// A lane uses a deployment.
+#[derive(Drop, Debug)]
+pub struct Use {
+    pub lane: u8,
+    pub os: OsName,
+    pub commit: Csum,
+    pub serial: u32,
+}
+
+/// All that the system knows beside the disk: who holds what, and what was changed.
+#[derive(Drop, Debug)]
+pub struct Books {
+    /// The actors that store an object.
+    pub shared: Vec<u8>,
+    /// The lane that removes objects.
+    pub exclusive: Option<u8>,
+    /// The lane that shows a change.
+    pub turn: Option<u8>,
+    /// The lane that works on the list of deployments.
+    pub sysroot: Option<u8>,
+    pub holds: Vec<Hold>,
+    pub wants: Vec<Want>,
+    pub pins: Vec<Pin>,
+    pub uses: Vec<Use>,
+    pub history: Vec<Entry>,
+    pub pending: Option<Pending>,
+    /// How many replies were given.
+    pub replies: u32,
+    /// How many changing calls are owed before the pending change lasts.
+    pub owed: u64,
+    /// A changing call failed, and no command goes on.
+    pub halted: bool,
+    /// The file system's clock at the opening.
+    pub opened: u64,
+}
+
+/// The file system with the books.
+#[derive(Drop)]
+pub struct Base<F> {
+    pub fs: F,
+    pub books: Books,
+}

@@ -1,0 +1,15 @@
+use ost_types::Csum;
+use repo_layout::RefName;
+
+/// A change that a command makes, as the stored history has it.
+#[derive(Drop, Debug)]
+pub enum Event {
+    /// A ref names this commit. So far it named `seen`, or there was no such ref.
+    SetRef {
+        name: RefName,
+        seen: Option<Csum>,
+        commit: Csum,
+    },
+    /// A ref goes, which named `seen`.
+    DropRef { name: RefName, seen: Csum },
+}

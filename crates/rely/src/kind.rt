@@ -1,0 +1,44 @@
+use fs_trait::FsErr;
+use ost_types::ObjName;
+
+/// What a task's next step is to the whole system.
+#[derive(Clone, Copy, Debug, PartialEq, Eq)]
+pub enum Step {
+    /// It changes nothing that the state speaks of.
+    Quiet,
+    /// So too, and another actor may take it.
+    Store,
+    /// So too, once these locks are taken.
+    Take(Wants),
+    /// It shows a change.
+    Show,
+    /// It comes between the step that shows a change and the one that makes it last.
+    Shown,
+    /// It makes a change last.
+    Settle,
+}
+
+/// What a lane asks for at once.
+#[derive(Clone, Copy, Debug, PartialEq, Eq)]
+pub struct Wants {
+    pub exclusive: bool,
+    pub turn: bool,
+    pub shared: bool,
+    pub sysroot: bool,
+    /// The place of a deployment.
+    pub hold: Option<u8>,
+    pub pin: Option<ObjName>,
+}
+
+/// What an act came to.
+#[derive(Clone, Copy, Debug, PartialEq, Eq)]
+pub enum Outcome {
+    /// Another holds what the step asks for, and nothing was done.
+    Blocked,
+    More,
+    Done,
+    /// The command ends, since its step answered this. Nothing of it is shown.
+    Refused(FsErr),
+    /// A changing call failed, and no command goes on.
+    Halted,
+}
