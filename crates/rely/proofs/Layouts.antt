@@ -47,39 +47,43 @@ below_or (y ∷ p) (x ∷ a) b e =
     let both = both_true _ _ e in
     let first : y ≡ x = (same_name-Decides y x).0 both.0 in
     ⊎_elim
-    (λ is. inl (rw (both.0, is) refl))
+    (λ is. inl (ap (λ t. t && is_below p a) both.0 ∙ is))
     (λ rest. inr (rest.0, subst (λ z. y ∷ p ≡ z ∷ a ++ rest.0) first (ap (λ r. y ∷ r) rest.1)))
     (below_or p a b both.1)
+
+take_nil : (k : ℕ) → take {A = Name} k [] ≡ []
+take_nil zero = refl
+take_nil (suc k) = refl
 
 -- the folders of the layout and those above them are no other thing's
 fixed : (f : Folder) (k : ℕ) → place (take k (folder_path f)) ≡ Other (take k (folder_path f))
 unfolding place ostree_place repo_place object_place ref_place stage_place mark_place
 fixed folder.Ostree zero = refl
-fixed folder.Ostree (suc k) = refl
+fixed folder.Ostree (suc k) = subst (λ (q : Path). place (folder_path folder.Ostree ++ q) ≡ Other (folder_path folder.Ostree ++ q)) (sym (take_nil k)) refl
 fixed folder.Repo zero = refl
 fixed folder.Repo (suc zero) = refl
-fixed folder.Repo (suc (suc k)) = refl
+fixed folder.Repo (suc (suc k)) = subst (λ (q : Path). place (folder_path folder.Repo ++ q) ≡ Other (folder_path folder.Repo ++ q)) (sym (take_nil k)) refl
 fixed folder.Objects zero = refl
 fixed folder.Objects (suc zero) = refl
 fixed folder.Objects (suc (suc zero)) = refl
-fixed folder.Objects (suc (suc (suc k))) = refl
+fixed folder.Objects (suc (suc (suc k))) = subst (λ (q : Path). place (folder_path folder.Objects ++ q) ≡ Other (folder_path folder.Objects ++ q)) (sym (take_nil k)) refl
 fixed folder.Refs zero = refl
 fixed folder.Refs (suc zero) = refl
 fixed folder.Refs (suc (suc zero)) = refl
-fixed folder.Refs (suc (suc (suc k))) = refl
+fixed folder.Refs (suc (suc (suc k))) = subst (λ (q : Path). place (folder_path folder.Refs ++ q) ≡ Other (folder_path folder.Refs ++ q)) (sym (take_nil k)) refl
 fixed folder.Heads zero = refl
 fixed folder.Heads (suc zero) = refl
 fixed folder.Heads (suc (suc zero)) = refl
 fixed folder.Heads (suc (suc (suc zero))) = refl
-fixed folder.Heads (suc (suc (suc (suc k)))) = refl
+fixed folder.Heads (suc (suc (suc (suc k)))) = subst (λ (q : Path). place (folder_path folder.Heads ++ q) ≡ Other (folder_path folder.Heads ++ q)) (sym (take_nil k)) refl
 fixed folder.State zero = refl
 fixed folder.State (suc zero) = refl
 fixed folder.State (suc (suc zero)) = refl
-fixed folder.State (suc (suc (suc k))) = refl
+fixed folder.State (suc (suc (suc k))) = subst (λ (q : Path). place (folder_path folder.State ++ q) ≡ Other (folder_path folder.State ++ q)) (sym (take_nil k)) refl
 fixed folder.Tmp zero = refl
 fixed folder.Tmp (suc zero) = refl
 fixed folder.Tmp (suc (suc zero)) = refl
-fixed folder.Tmp (suc (suc (suc k))) = refl
+fixed folder.Tmp (suc (suc (suc k))) = subst (λ (q : Path). place (folder_path folder.Tmp ++ q) ≡ Other (folder_path folder.Tmp ++ q)) (sym (take_nil k)) refl
 
 pub fixed_other : (f : Folder) (p : Path) → is_below p (folder_path f) ≡ true → place p ≡ Other p
 fixed_other f p below = let e = below_take p (folder_path f) below in subst (λ q. place q ≡ Other q) (sym e) (fixed f (length p))

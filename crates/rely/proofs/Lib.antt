@@ -1,4 +1,5 @@
 pub mod States
 pub mod Layouts
-pub mod Knowns
 pub mod Goods
+pub mod Mays
+pub mod Knowns

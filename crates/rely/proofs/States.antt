@@ -1,14 +1,16 @@
 -- The state after events.
-use Rattle.std.proofs.Common.{◌≡◌, ◌⊎◌, inl, inr, ⊎_elim, ◌+◌, ◌<◌, ◌≤◌, ℕ, suc, Bool, true, false, refl, sym, ◌∙◌, ap, subst, arith, List, [], ◌∷◌, ◌++◌, length, nat_le, Option, Some, None, if◌then◌else◌, take}
+use Rattle.std.proofs.Common.{◌≡◌, ◌⊎◌, inl, inr, ⊎_elim, ◌+◌, ◌<◌, ◌≤◌, ℕ, suc, Bool, true, false, refl, sym, ◌∙◌, ap, subst, arith, List, [], ◌∷◌, ◌++◌, length, nat_le, Option, Some, None, if◌then◌else◌, take, codes}
 use Rattle.std.proofs.lemmas.Bool.Decides.{nat_tests}
 use Rattle.std.proofs.Math.Seq.{take-append_seam}
 use Rattle.ost_types.proofs.Paths.{same_name-Decides}
 use Rattle.ost_types.specs.Csum.{hex_of}
-use Rattle.hex.proofs.HexLemmas.{decode_of-encode_lower}
+use Rattle.ost_types.proofs.HexSums.{IsHexSum-hex_of}
+use Rattle.ost_types.specs.Path.{Path}
 use Rattle.fs_trait.specs.Seen.{Seen, Vacant, Directory, Symlink, Leaf, bytes_in}
 use Rattle.repo_layout.specs.RefName.{IsRefName}
 use Rattle.repo_layout.specs.RefFile.{IsSum, ref_text}
-use Rattle.repo_layout.specs.Place.{sum_of}
+use Rattle.repo_layout.specs.Paths.{in_repo, mark_path}
+use Rattle.repo_layout.proofs.Places.{mark_path-injective}
 use Rattle.rely.specs.declared.books.Entry.{Entry}
 use Rattle.rely.specs.declared.event.Event.{Event}
 use Rattle.rely.specs.declared.event.Event.TheVariants.{SetRef, DropRef}
@@ -83,12 +85,21 @@ pub after_named : (es : List Event) (s : State) → IsRun es s → IsNamed s →
 after_named [] s run was = was
 after_named (e ∷ es) s run was = after_named es (next e s) run.1 (next_named e s run.0 was)
 
--- what is shown says one thing
-pub sum_of-ref_text : (c : List ℕ) → IsSum c → sum_of (take (length (hex_of c)) (ref_text c)) ≡ c
-sum_of-ref_text c is = ap sum_of (take-append_seam (hex_of c) (10 ∷ [])) ∙ sum_of-hex c is
-  where
-    sum_of-hex : (c : List ℕ) → IsSum c → sum_of (hex_of c) ≡ c
-    sum_of-hex c is = rw (decode_of-encode_lower c is.bytes) refl
+-- a ref's file says one commit
+digits : (c : List ℕ) → IsSum c → length (hex_of c) ≡ 64
+digits c is = (IsHexSum-hex_of c is.whole is.bytes).whole
+
+front : (h : List ℕ) → length h ≡ 64 → take 64 (h ++ 10 ∷ []) ≡ h
+front h e = ap (λ k. take k (h ++ 10 ∷ [])) (sym e) ∙ take-append_seam h (10 ∷ [])
+
+mark_of : List ℕ → Path
+mark_of h = in_repo (codes "state" ∷ (h ++ codes ".commitpartial") ∷ [])
+
+texts_one : (a b : List ℕ) → IsSum a → IsSum b → ref_text a ≡ ref_text b → a ≡ b
+unfolding mark_of mark_path
+texts_one a b is also e =
+    let h : hex_of a ≡ hex_of b = sym (front (hex_of a) (digits a is)) ∙ ap (take 64) e ∙ front (hex_of b) (digits b also) in
+    mark_path-injective a b is also (ap mark_of h)
 
 leaf_bytes : (s : Seen) (b : List ℕ) → bytes_in s ≡ Some b → IsLeaf s
 leaf_bytes (Leaf n m c) b e = tt
@@ -101,16 +112,6 @@ says_leaf name c s is = leaf_bytes s (ref_text c) is.1
 
 pub says_vacant : (t : Topic) → Says t None Vacant
 says_vacant (RefOf name) = λ bad. bad
-
-hex_length : (a b : List ℕ) → IsSum a → IsSum b → length (hex_of a) ≡ length (hex_of b)
-hex_length a b is also = ?
-
-texts_one : (a b : List ℕ) → IsSum a → IsSum b → ref_text a ≡ ref_text b → a ≡ b
-texts_one a b is also e =
-    sym (sum_of-ref_text a is)
-    ∙ ap (λ n. sum_of (take n (ref_text a))) (hex_length a b is also)
-    ∙ ap (λ t. sum_of (take (length (hex_of b)) t)) e
-    ∙ sum_of-ref_text b also
 
 pub says_one : (t : Topic) (a b : Said) (s : Seen) → Says t a s → Says t b s → a ≡ b
 says_one (RefOf name) None None s x y = refl
