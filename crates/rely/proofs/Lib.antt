@@ -3,3 +3,7 @@ pub mod Layouts
 pub mod Goods
 pub mod Mays
 pub mod Knowns
+mod Lists
+pub mod Locking
+pub mod Sounds
+pub mod Acting

@@ -1,17 +1,19 @@
 -- Who holds what, and what was changed.
-use Rattle.std.specs.Prelude.{◌≡◌, ◌≢◌, ◌⊎◌, ◌≤◌, ℕ, Bool, true, false, List, ◌++◌, Contains, Option, Some, None}
+use Rattle.std.specs.Prelude.{◌≡◌, ◌≢◌, ◌⊎◌, ◌≤◌, ℕ, Bool, IsTrue, IsSome, List, ◌++◌, All, Contains, Option, Some}
+use Rattle.ost_types.specs.declared.object.ObjName.{ObjName}
 use Rattle.rely.specs.declared.books.Books as rust
 use Rattle.rely.specs.declared.books.Entry.{Entry}
 use Rattle.rely.specs.declared.books.Hold.{Hold}
 use Rattle.rely.specs.declared.books.Pending.{Pending}
 use Rattle.rely.specs.declared.books.Pin.{Pin}
+use Rattle.rely.specs.declared.books.Share.{Share}
 use Rattle.rely.specs.declared.books.Use.{Use}
 use Rattle.rely.specs.declared.books.Want.{Want}
 use Rattle.rely.specs.declared.kind.Wants.{Wants}
 
 -- the books as plain data: all that the system knows beside the disk
 pub record Books : Type 0 where
-  pub shared : List ℕ
+  pub shared : List Share
   pub exclusive : Option ℕ
   pub turn : Option ℕ
   pub sysroot : Option ℕ
@@ -25,6 +27,7 @@ pub record Books : Type 0 where
   pub owed : ℕ
   pub halted : Bool
   pub opened : ℕ
+  pub start : List (List ℕ × List ℕ)
 
 abbrev pub books_of : rust.Books → Books
 books_of b = record {
@@ -42,40 +45,43 @@ books_of b = record {
   owed = b.owed;
   halted = b.halted;
   opened = b.opened;
+  start = b.start.items;
 }
 
 -- nobody else holds it
 abbrev pub Free : Option ℕ → ℕ → Type 0
 Free lock who = (b : ℕ) → lock ≡ Some b → b ≡ who
 
--- no other actor stores an object
-abbrev pub NoOther : List ℕ → ℕ → Type 0
-NoOther actors who = (a : ℕ) → Contains actors a → a ≡ who
+-- no object is stored for another lane
+abbrev pub NoOther : List Share → ℕ → Type 0
+NoOther shares lane = All (λ x. x.lane ≡ lane) shares
 
 -- The lane may have what it asks for: each lock is held off by those of others that exclude it.
-pub record Frees (w : Wants) (actor lane : ℕ) (b : Books) : Type 0 where
-  pub exclusive : w.exclusive ≡ true → Free b.exclusive lane × Free b.turn lane × NoOther b.shared actor
-  pub turn : w.turn ≡ true → Free b.exclusive lane × Free b.turn lane
-  pub shared : w.shared ≡ true → Free b.exclusive lane
-  pub sysroot : w.sysroot ≡ true → Free b.sysroot lane
-  pub hold : (p : ℕ) → w.hold ≡ Some p → Free b.turn lane
+pub record Frees (w : Wants) (lane : ℕ) (b : Books) : Type 0 where
+  pub exclusive : IsTrue w.exclusive → Free b.exclusive lane × Free b.turn lane × NoOther b.shared lane
+  pub turn : IsTrue w.turn → Free b.exclusive lane × Free b.turn lane
+  pub shared : IsTrue w.shared → Free b.exclusive lane
+  pub pin : IsSome w.pin → Free b.exclusive lane
+  pub sysroot : IsTrue w.sysroot → Free b.sysroot lane
+  pub hold : IsSome w.hold → Free b.turn lane
 
 -- The lane has what it asked for.
 pub record Granted (w : Wants) (actor lane : ℕ) (b : Books) : Type 0 where
-  pub exclusive : w.exclusive ≡ true → b.exclusive ≡ Some lane
-  pub turn : w.turn ≡ true → b.turn ≡ Some lane
-  pub shared : w.shared ≡ true → Contains b.shared actor
-  pub sysroot : w.sysroot ≡ true → b.sysroot ≡ Some lane
+  pub exclusive : IsTrue w.exclusive → b.exclusive ≡ Some lane
+  pub turn : IsTrue w.turn → b.turn ≡ Some lane
+  pub shared : IsTrue w.shared → Contains b.shared (record { actor = actor; lane = lane })
+  pub pin : (o : ObjName) → w.pin ≡ Some o → Contains b.pins (record { lane = lane; object = o })
+  pub sysroot : IsTrue w.sysroot → b.sysroot ≡ Some lane
   pub hold : (p : ℕ) → w.hold ≡ Some p → Contains b.holds (record { lane = lane; place = p })
 
 -- No two locks that exclude each other are held.
 pub record Agrees (b : Books) : Type 0 where
   pub turn : (x y : ℕ) → b.exclusive ≡ Some x → b.turn ≡ Some y → y ≡ x
-  pub shared : (x a : ℕ) → b.exclusive ≡ Some x → Contains b.shared a → a ≡ x
+  pub shared : (x : ℕ) → b.exclusive ≡ Some x → NoOther b.shared x
 
 -- What an act of this actor for this lane does to the books: all that others hold stays.
 pub record Spared (actor lane : ℕ) (b b' : Books) : Type 0 where
-  pub shared : (x : ℕ) → x ≢ actor → Contains b.shared x → Contains b'.shared x
+  pub shared : (x : Share) → x.actor ≢ actor → x.lane ≢ lane → Contains b.shared x → Contains b'.shared x
   pub exclusive : (x : ℕ) → x ≢ lane → b.exclusive ≡ Some x → b'.exclusive ≡ Some x
   pub turn : (x : ℕ) → x ≢ lane → b.turn ≡ Some x → b'.turn ≡ Some x
   pub sysroot : (x : ℕ) → x ≢ lane → b.sysroot ≡ Some x → b'.sysroot ≡ Some x
@@ -93,13 +99,14 @@ pub record Spared (actor lane : ℕ) (b b' : Books) : Type 0 where
   pub grows : b'.history ≡ b.history ++ more
   pub replies : b.replies ≤ b'.replies
   pub opened : b'.opened ≡ b.opened
+  pub start : b'.start ≡ b.start
 
 -- The lane goes on to have what it has.
 pub record Keeps (lane : ℕ) (b b' : Books) : Type 0 where
   pub exclusive : b.exclusive ≡ Some lane → b'.exclusive ≡ Some lane
   pub turn : b.turn ≡ Some lane → b'.turn ≡ Some lane
   pub sysroot : b.sysroot ≡ Some lane → b'.sysroot ≡ Some lane
-  pub shared : (a : ℕ) → Contains b.shared a → Contains b'.shared a
+  pub shared : (x : Share) → x.lane ≡ lane → Contains b.shared x → Contains b'.shared x
   pub holds : (h : Hold) → h.lane ≡ lane → Contains b.holds h → Contains b'.holds h
   pub wants : (w : Want) → w.lane ≡ lane → Contains b.wants w → Contains b'.wants w
   pub pins : (p : Pin) → p.lane ≡ lane → Contains b.pins p → Contains b'.pins p

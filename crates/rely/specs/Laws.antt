@@ -1,5 +1,5 @@
 -- What every kind of task tells of its steps, and the laws that the one act of all tasks stands on.
-use Rattle.std.specs.Prelude.{◌≡◌, ◌≢◌, ◌⊎◌, ◌≤◌, ◌<◌, ℕ, suc, true, false, Option, Some, None}
+use Rattle.std.specs.Prelude.{◌≡◌, ◌≢◌, ◌⊎◌, ◌≤◌, ◌<◌, ℕ, ◌+◌, suc, true, false, Option, Some, None, Result, Ok, Err, IsErrOf, OnOk}
 use Rattle.ost_types.specs.Path.{Path}
 use Rattle.fs_trait.specs.declared.task.Turn.{Turn}
 use Rattle.fs_trait.specs.declared.task.Turn.TheVariants as turn
@@ -16,8 +16,7 @@ use Rattle.rely.specs.declared.kind.Outcome.TheVariants as came
 use Rattle.rely.specs.declared.kind.Step.{Step}
 use Rattle.rely.specs.declared.kind.Step.TheVariants as step
 use Rattle.rely.specs.declared.kind.Wants.{Wants}
-use Rattle.rely.specs.State.{State}
-use Rattle.rely.specs.Books.{Books, books_of, Free, Granted, Spared, Keeps}
+use Rattle.rely.specs.Books.{Books, books_of, Free, Granted, Agrees, Spared, Keeps}
 use Rattle.rely.specs.Rely.{May, Does}
 use Rattle.rely.specs.Sound.{Sound}
 use Rattle.rely.specs.Change.{Still, Away, Shows, Final}
@@ -102,6 +101,41 @@ Chain (Show e) next = Follows e (owed_by next) next
 Chain (Shown e owed) next = (most : ℕ) × (owed ≡ suc most) × Follows e most next
 Chain (Settle e) next = ⊥
 
+-- the step shows a change, or makes it last
+abbrev pub IsShow : Kind → Type 0
+IsShow (Show e) = Unit {0}
+IsShow k = ⊥
+
+abbrev pub IsSettle : Kind → Type 0
+IsSettle (Settle e) = Unit {0}
+IsSettle k = ⊥
+
+abbrev pub IsShown : Kind → Type 0
+IsShown (Shown e owed) = Unit {0}
+IsShown k = ⊥
+
+abbrev pub IsStore : Kind → Type 0
+IsStore Store = Unit {0}
+IsStore k = ⊥
+
+abbrev pub IsTake : Wants → Kind → Type 0
+IsTake wants (Take w) = w ≡ wants
+IsTake wants k = ⊥
+
+-- it changes nothing that the state speaks of, and nothing of its lane is shown
+abbrev pub IsQuiet : Kind → Type 0
+IsQuiet Quiet = Unit {0}
+IsQuiet Store = Unit {0}
+IsQuiet (Take wants) = Unit {0}
+IsQuiet k = ⊥
+
+-- A step takes the room of at most one call. One that is owed and has room doesn't lack memory, and the one that shows the
+-- change leaves room for those that are owed then.
+pub record KeepsRoom {T : Type 0} (kind next : Kind) (before now : ℕ) (result : Result T FsErr) : Type 0 where
+  pub at_most_one : before ≤ now + 1
+  pub enough : 0 < owed_by kind → 0 < before → IsErrOf result err.NoMemory → ⊥
+  pub ready : IsShow kind → OnOk result (owed_by next ≤ now)
+
 abbrev pub Within : (Path → Seen → Type 0) → (Path → Seen → Type 0) → Type 0
 Within W M = (p : Path) (s : Seen) → W p s → M p s
 
@@ -143,8 +177,8 @@ pub record Runs {T : Type 0} (kind : T → Kind) (of : ℕ → T → View → Bo
   pub holds : Holds (kind t) lane b
 
 -- Before an act, where `runs` are the facts of its lane's task.
-pub record Ready {F : Type 0} (view : F → Option View) (clock spare : F → ℕ) (was : F → ℕ → View → Type 0) (start : State) (runs : Option View → Books → Type 0) (base : Base F) : Type 0 where
-  pub sound : Sound view clock spare was start base
+pub record Ready {F : Type 0} (view : F → Option View) (clock spare : F → ℕ) (was : F → ℕ → View → Type 0) (runs : Option View → Books → Type 0) (base : Base F) : Type 0 where
+  pub sound : Sound view clock spare was base
   pub live : base.books.halted ≡ false
   pub task : runs (view base.fs) (books_of base.books)
 
@@ -156,8 +190,24 @@ Tells view runs (came.Refused e) new = Unit {0}
 Tells view runs came.Halted new = new.books.halted ≡ true
 
 -- After it. What others may rely on stands where the view is told.
-pub record Acts {F : Type 0} (view : F → Option View) (clock spare : F → ℕ) (was : F → ℕ → View → Type 0) (start : State) (actor lane : ℕ) (outcome : Outcome) (runs : Option View → Books → Type 0) (old new : Base F) : Type 0 where
-  pub sound : Sound view clock spare was start new
+pub record Acts {F : Type 0} (view : F → Option View) (clock spare : F → ℕ) (was : F → ℕ → View → Type 0) (actor lane : ℕ) (outcome : Outcome) (runs : Option View → Books → Type 0) (old new : Base F) : Type 0 where
+  pub sound : Sound view clock spare was new
   pub does : (v : View) → view old.fs ≡ Some v → (w : View) × (view new.fs ≡ Some w) × Does actor lane v (books_of old.books) w (books_of new.books)
   pub books : Spared actor lane (books_of old.books) (books_of new.books)
   pub tells : Tells view runs outcome new
+
+-- A command has ended: its lane may have given up what it holds, and nothing else is otherwise.
+pub record Ends {F : Type 0} (actor lane : ℕ) (old new : Base F) : Type 0 where
+  pub fs : new.fs ≡ old.fs
+  pub history : new.books.history ≡ old.books.history
+  pub pending : new.books.pending ≡ old.books.pending
+  pub owed : new.books.owed ≡ old.books.owed
+  pub opened : new.books.opened ≡ old.books.opened
+  pub start : new.books.start ≡ old.books.start
+  pub spared : Spared actor lane (books_of old.books) (books_of new.books)
+  pub agrees : Agrees (books_of old.books) → Agrees (books_of new.books)
+
+abbrev pub IsEnd : {F : Type 0} → Outcome → Base F → Type 0
+IsEnd (came.Refused e) new = Unit {0}
+IsEnd came.Halted new = new.books.halted ≡ true
+IsEnd outcome new = ⊥

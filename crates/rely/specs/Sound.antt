@@ -12,7 +12,7 @@ use Rattle.rely.specs.declared.books.Base.{Base}
 use Rattle.rely.specs.declared.books.Entry.{Entry}
 use Rattle.rely.specs.declared.books.Pending.{Pending}
 use Rattle.rely.specs.declared.event.Event.{Event}
-use Rattle.rely.specs.State.{Topic, Said, State, target, gives, after, IsRun, IsNamed, events_of, stored, acked, Ascends}
+use Rattle.rely.specs.State.{Topic, Said, State, first, target, gives, after, IsRun, IsNamed, events_of, stored, acked, Ascends}
 use Rattle.rely.specs.Disks.{path_of, IsLeaf, Says, Logical, IsOther, IsGood}
 use Rattle.rely.specs.Books.{Books, books_of, Agrees}
 
@@ -72,7 +72,7 @@ pub record Ordered {F : Type 0} (clock spare : F → ℕ) (base : Base F) : Type
   pub entry : 0 < base.books.owed → vec_len base.books.history < vec_capacity base.books.history
 
 -- What every value keeps.
-pub record Sound {F : Type 0} (view : F → Option View) (clock spare : F → ℕ) (was : F → ℕ → View → Type 0) (start : State) (base : Base F) : Type 0 where
+pub record Sound {F : Type 0} (view : F → Option View) (clock spare : F → ℕ) (was : F → ℕ → View → Type 0) (base : Base F) : Type 0 where
   pub ordered : Ordered clock spare base
-  pub stands : (v : View) → view base.fs ≡ Some v → Stands start base.books.history.items base.books.pending v
-  pub crash : (v : View) → view base.fs ≡ Some v → Crash (Left (was base.fs)) base.books.opened start base.books.history.items base.books.pending
+  pub stands : (v : View) → view base.fs ≡ Some v → Stands (first base.books.start.items) base.books.history.items base.books.pending v
+  pub crash : (v : View) → view base.fs ≡ Some v → Crash (Left (was base.fs)) base.books.opened (first base.books.start.items) base.books.history.items base.books.pending

@@ -22,6 +22,11 @@ State = Topic → Said
 abbrev pub same_topic : Topic → Topic → Bool
 same_topic (RefOf a) (RefOf b) = same_name a b
 
+-- the state that these refs are
+abbrev pub first : List (List ℕ × List ℕ) → State
+first [] t = None
+first (r ∷ refs) t = if same_topic t (RefOf r.0) then Some r.1 else first refs t
+
 -- what an event changes, from what, and to what
 abbrev pub target : Event → Topic
 target (SetRef name seen commit) = RefOf name

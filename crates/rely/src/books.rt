@@ -1,6 +1,6 @@
 use crate::Event;
 use ost_types::{Csum, ObjName};
-use repo_layout::OsName;
+use repo_layout::{OsName, RefName};
 
 /// A change that lasts.
 #[derive(Drop, Debug)]
@@ -35,6 +35,13 @@ pub struct Hold {
     pub place: u8,
 }
 
+/// An actor stores an object for a lane.
+#[derive(Clone, Copy, Debug, PartialEq, Eq)]
+pub struct Share {
+    pub actor: u8,
+    pub lane: u8,
+}
+
 /// An actor has an object of a lane's pull in hand.
 #[derive(Clone, Copy, Debug, PartialEq, Eq)]
 pub struct Want {
@@ -55,8 +62,7 @@ pub struct Use {
 /// All that the system knows beside the disk: who holds what, and what was changed.
 #[derive(Drop, Debug)]
 pub struct Books {
-    /// The actors that store an object.
-    pub shared: Vec<u8>,
+    pub shared: Vec<Share>,
     /// The lane that removes objects.
     pub exclusive: Option<u8>,
     /// The lane that shows a change.
@@ -77,6 +83,8 @@ pub struct Books {
     pub halted: bool,
     /// The file system's clock at the opening.
     pub opened: u64,
+    /// The refs at the opening.
+    pub start: Vec<(RefName, Csum)>,
 }
 
 /// The file system with the books.

@@ -2,10 +2,15 @@
 //! tasks go on.
 #![tactic(auto)]
 
+mod act;
 mod books;
 mod event;
 mod kind;
+mod locks;
+mod work;
 
-pub use books::{Base, Books, Entry, Hold, Pending, Pin, Use, Want};
+pub use books::{Base, Books, Entry, Hold, Pending, Pin, Share, Use, Want};
 pub use event::Event;
+pub(crate) use locks::is_free;
 pub use kind::{Outcome, Step, Wants};
+pub use work::Work;

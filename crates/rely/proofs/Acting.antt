@@ -1,0 +1,136 @@
+-- The one act of all tasks, from their laws.
+use Rattle.std.proofs.Common.{◌≡◌, ◌≢◌, ◌⊎◌, inl, inr, ⊎_elim, ◌+◌, ◌<◌, ◌≤◌, ℕ, zero, suc, refl, sym, ◌∙◌, ap, subst, arith, List, [], ◌∷◌, ◌++◌, append-nil, Bool, true, false, Option, Some, None}
+use Rattle.ost_types.specs.Path.{Path}
+use Rattle.fs_trait.specs.declared.task.Turn.{Turn}
+use Rattle.fs_trait.specs.declared.task.Turn.TheVariants as turn
+use Rattle.fs_trait.specs.View.{View}
+use Rattle.fs_trait.specs.Image.{Told}
+use Rattle.fs_trait.specs.Seen.{Seen}
+use Rattle.fs_trait.specs.Change.{Writes, Nothing}
+use Rattle.fs_trait.specs.Effect.{Elapses, Next}
+use Rattle.fs_trait.proofs.Kept.{weaker}
+use Rattle.rely.specs.declared.books.Base.{Base}
+use Rattle.rely.specs.declared.books.Entry.{Entry}
+use Rattle.rely.specs.declared.books.Pending.{Pending}
+use Rattle.rely.specs.declared.event.Event.{Event}
+use Rattle.rely.specs.declared.kind.Wants.{Wants}
+use Rattle.rely.specs.State.{State, first, events_of, stored, acked, Ascends}
+use Rattle.rely.specs.Books.{Books, books_of, Free, Agrees, Spared, Keeps}
+use Rattle.rely.specs.Rely.{May, Does}
+use Rattle.rely.specs.Sound.{Stands, Ordered, Sound}
+use Rattle.rely.specs.Change.{Still, Away, Shows, Final}
+use Rattle.rely.specs.Laws.{Kind, Quiet, Store, Take, Show, Shown, Settle, Laws, Duty, Within, IsQuiet, IsBy, IsBefore, Chain, Follows, Holds, Stood, NotPending, IsPending, Runs, Ready, Ends, owed_by}
+use Rattle.rely.proofs.States.{ascends_later}
+use Rattle.rely.proofs.Knowns.{stands_quiet}
+use Rattle.rely.proofs.Locking.{spared_refl}
+use Rattle.rely.proofs.Sounds.{IsFs, sound_goes}
+
+pub told_same : {P : View → Type 0} (view : Option View) (w : View) → view ≡ Some w → Told view P → P w
+told_same {P} view w is told = let e : Some told.0 ≡ Some w = sym told.1 ∙ is in let k : told.0 ≡ w = cc in subst P k told.2
+
+pub keeps_refl : (lane : ℕ) (b : Books) → Keeps lane b b
+keeps_refl lane b = record { exclusive = λ k. k; turn = λ k. k; sysroot = λ k. k; shared = λ x l k. k; holds = λ h l k. k; wants = λ w l k. k; pins = λ p l k. k }
+
+-- what is to be held for the next step
+before_holds : (next : Kind) (lane : ℕ) (b : Books) → IsBefore next → NotPending lane b → Holds next lane b
+before_holds Quiet lane b is none = none
+before_holds Store lane b is none = none
+before_holds (Take wants) lane b is none = none
+before_holds (Show e) lane b is none = none
+before_holds (Shown e owed) lane b is none = absurd is
+before_holds (Settle e) lane b is none = absurd is
+
+pub quiet_not : (kind : Kind) (lane : ℕ) (b : Books) → IsQuiet kind → Holds kind lane b → NotPending lane b
+quiet_not Quiet lane b is h = h
+quiet_not Store lane b is h = h
+quiet_not (Take wants) lane b is h = h
+quiet_not (Show e) lane b is h = absurd is
+quiet_not (Shown e owed) lane b is h = absurd is
+quiet_not (Settle e) lane b is h = absurd is
+
+quiet_chain : (kind next : Kind) → IsQuiet kind → Chain kind next → IsBefore next
+quiet_chain Quiet next is c = c
+quiet_chain Store next is c = c
+quiet_chain (Take wants) next is c = c
+quiet_chain (Show e) next is c = absurd is
+quiet_chain (Shown e owed) next is c = absurd is
+quiet_chain (Settle e) next is c = absurd is
+
+own : (W : Path → Seen → Type 0) (b : Books) (v : View) (actor lane : ℕ) (kind : Kind) → IsBy kind actor lane → (kind ≡ Store → ⊥) → Within W (May b v lane lane) → Within W (May b v actor lane)
+own W b v actor lane kind by not within = subst (λ (a : ℕ). Within W (May b v a lane)) (sym (⊎_elim (λ e. e) (λ s. absurd (not s)) by)) within
+
+quiet_duty : (kind : Kind) (actor lane : ℕ) (v : View) (b : Books) (W : Path → Seen → Type 0) (Done : View → Type 0) → IsQuiet kind → IsBy kind actor lane → Duty kind actor lane v b W Done → Within W (May b v actor lane) × Still W v
+quiet_duty Quiet actor lane v b W Done is by d = (own W b v actor lane Quiet by (λ (z : Quiet ≡ Store). cc) d.0, d.1)
+quiet_duty Store actor lane v b W Done is by d = d
+quiet_duty (Take wants) actor lane v b W Done is by d = (own W b v actor lane (Take wants) by (λ (z : Take wants ≡ Store). cc) d.0, d.1)
+quiet_duty (Show e) actor lane v b W Done is by d = absurd is
+quiet_duty (Shown e owed) actor lane v b W Done is by d = absurd is
+quiet_duty (Settle e) actor lane v b W Done is by d = absurd is
+
+module _ {F : Type 0} (view : F → Option View) (clock spare : F → ℕ) (was : F → ℕ → View → Type 0) (fslaws : IsFs view clock was)
+    {T : Type 0} {kind : T → Kind} {needs : ℕ → T → View → Type 0} {writes : ℕ → T → View → Path → Seen → Type 0} {stepped : T → Turn (Unit {0}) → T → Type 0} {leaves : T → Turn (Unit {0}) → T → View → View → Type 0} {facts : ℕ → T → View → Books → Type 0}
+    (laws : Laws kind needs writes stepped leaves facts) where
+  abbrev Calls : F → F → Type 0
+  Calls old new = Elapses (clock old) (clock new) (was old) (was new) (view new)
+
+  -- what was written, where the view is told
+  abbrev Wrote : F → F → ℕ → T → Type 0
+  Wrote old new actor t = (v : View) → view old ≡ Some v → Told (view new) (λ w. Writes (writes actor t v) v w)
+
+  pub asks : (base : Base F) (actor lane : ℕ) (t : T) → IsBy (kind t) actor lane → Ready view clock spare was (Runs kind facts lane t) base → (v : View) → view base.fs ≡ Some v → needs actor t v
+  asks base actor lane t by ready v is = laws.ready actor lane t v (books_of base.books) by (ready.task.facts v is)
+
+  quiet_parts : (base : Base F) (actor lane : ℕ) (t : T) → IsBy (kind t) actor lane → IsQuiet (kind t) → Stood (kind t) actor lane (books_of base.books) → Ready view clock spare was (Runs kind facts lane t) base
+      → (v : View) → view base.fs ≡ Some v → Within (writes actor t v) (May (books_of base.books) v actor lane) × Still (writes actor t v) v
+  quiet_parts base actor lane t by is stood ready v told =
+      quiet_duty (kind t) actor lane v (books_of base.books) (writes actor t v) (leaves t (turn.Done tt) t v) is by (laws.duty actor lane t t v (books_of base.books) by stood (ready.task.facts v told))
+
+  -- the books are in order after a step and what the command gives up at its end
+  pub ends_ordered : (old mid new : Base F) (actor lane : ℕ) → mid.books ≡ old.books → Ends actor lane mid new → NotPending lane (books_of old.books) → clock old.fs ≤ clock mid.fs → old.books.owed ≤ spare mid.fs → Ordered clock spare old → Ordered clock spare new
+  ends_ordered old mid new actor lane same ends none later room was = record {
+    agrees = ends.agrees (rw same was.agrees);
+    owner = λ p is.
+        let before : old.books.pending ≡ Some p = sym (ap (λ b. b.pending) same) ∙ sym ends.pending ∙ is in
+        ends.spared.turn p.lane (none p before) (rw same (was.owner p before));
+    ascends = rw (ends.opened, ends.history, ends.fs, same) (ascends_later old.books.opened old.books.history.items (clock old.fs) (clock mid.fs) was.ascends later);
+    idle = λ is. ends.owed ∙ ap (λ b. b.owed) same ∙ was.idle (sym (ap (λ b. b.pending) same) ∙ sym ends.pending ∙ is);
+    room = rw (ends.owed, ends.fs, same) room;
+    entry = λ owes. rw (ends.history, same) (was.entry (subst (λ n. 0 < n) (ends.owed ∙ ap (λ b. b.owed) same) owes));
+  }
+
+  pub quiet_sound : (old mid new : Base F) (actor lane : ℕ) (t : T) → mid.books ≡ old.books → Ends actor lane mid new → IsBy (kind t) actor lane → IsQuiet (kind t) → Stood (kind t) actor lane (books_of old.books) → Ready view clock spare was (Runs kind facts lane t) old
+      → Wrote old.fs mid.fs actor t → Calls old.fs mid.fs → old.books.owed ≤ spare mid.fs → Sound view clock spare was new
+  quiet_sound old mid new actor lane t same ends by is stood ready wrote time room =
+      let none = quiet_not (kind t) lane (books_of old.books) is ready.task.holds in
+      let history : new.books.history ≡ old.books.history = ends.history ∙ ap (λ b. b.history) same in
+      let pending : new.books.pending ≡ old.books.pending = ends.pending ∙ ap (λ b. b.pending) same in
+      sound_goes view clock spare was fslaws old new [] ready.sound (subst (Calls old.fs) (sym ends.fs) time)
+      (ends_ordered old mid new actor lane same ends none time.later room ready.sound.ordered)
+      (ends.opened ∙ ap (λ b. b.opened) same)
+      (ap (λ v. v.items) (ends.start ∙ ap (λ b. b.start) same))
+      (rw (history, pending) (sym (append-nil (stored old.books.history.items old.books.pending))))
+      (λ t le. rw history refl)
+      (λ v w told_v told_w stands.
+          let parts = quiet_parts old actor lane t by is stood ready v told_v in
+          let wrote_w : Writes (writes actor t v) v w = told_same (view mid.fs) w (ap view (sym ends.fs) ∙ told_w) (wrote v told_v) in
+          rw (history, pending) (stands_quiet (first old.books.start.items) old.books.history.items (books_of old.books) actor lane (writes actor t v) v w wrote_w parts.0 parts.1 ready.sound.ordered.owner none stands))
+
+  pub quiet_does : (old mid new : Base F) (actor lane : ℕ) (t : T) → mid.books ≡ old.books → Ends actor lane mid new → IsBy (kind t) actor lane → IsQuiet (kind t) → Stood (kind t) actor lane (books_of old.books) → Ready view clock spare was (Runs kind facts lane t) old
+      → Wrote old.fs mid.fs actor t → (v : View) → view old.fs ≡ Some v → (w : View) × (view new.fs ≡ Some w) × Does actor lane v (books_of old.books) w (books_of new.books)
+  quiet_does old mid new actor lane t same ends by is stood ready wrote v told =
+      let w = wrote v told in
+      let parts = quiet_parts old actor lane t by is stood ready v told in
+      (w.0, ap view ends.fs ∙ w.1, record { writes = weaker (writes actor t v) (May (books_of old.books) v actor lane) v w.0 parts.0 w.2; books = subst (λ b. Spared actor lane (books_of b) (books_of new.books)) same ends.spared })
+
+  pub quiet_runs : (old : Base F) (fs : F) (actor lane : ℕ) (t new : T) → IsQuiet (kind t) → Stood (kind t) actor lane (books_of old.books) → Ready view clock spare was (Runs kind facts lane t) old
+      → stepped t turn.More new → ((v : View) → view old.fs ≡ Some v → Told (view fs) (λ w. leaves t turn.More new v w))
+      → Runs kind facts lane new (view fs) (books_of old.books)
+  quiet_runs old fs actor lane t new is stood ready step after = record {
+    facts = λ w told_w.
+        let v = fslaws.told fs old.fs w told_w in
+        laws.next actor lane t new v.0 w (books_of old.books) (books_of old.books) stood (ready.task.facts v.0 v.1) (told_same (view fs) w told_w (after v.0 v.1)) (keeps_refl lane (books_of old.books));
+    holds = before_holds (kind new) lane (books_of old.books) (quiet_chain (kind t) (kind new) is (laws.chain t new step)) (quiet_not (kind t) lane (books_of old.books) is ready.task.holds);
+  }
+
+pub ends_refl : {F : Type 0} (actor lane : ℕ) (base : Base F) → Ends actor lane base base
+ends_refl actor lane base = record { fs = refl; history = refl; pending = refl; owed = refl; opened = refl; start = refl; spared = spared_refl actor lane (books_of base.books); agrees = λ a. a }

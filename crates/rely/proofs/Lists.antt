@@ -1,0 +1,44 @@
+-- Lists from which some were taken, or to which one was added.
+use Rattle.std.proofs.Common.{◌≡◌, ◌≢◌, ◌⊎◌, inl, inr, ⊎_elim, ◌<◌, ℕ, zero, suc, Bool, true, false, not, nat_eq, refl, sym, ◌∙◌, ap, subst, arith, List, [], ◌∷◌, ◌++◌, length, All, Contains}
+use Rattle.std.specs.List.{filter}
+use Rattle.std.proofs.lemmas.Bool.Decides.{nat_tests}
+use Rattle.std.proofs.lemmas.List.Elements.{All-contains, Contains-get_or}
+
+pub apart_test : (a b : ℕ) → a ≢ b → not (nat_eq a b) ≡ true
+apart_test a b other = by (nat_eq a b) refl
+  where
+    by : (t : Bool) → nat_eq a b ≡ t → not (nat_eq a b) ≡ true
+    by true is = absurd (other (let e : a ≡ b = grind (arith, nat_tests) in e))
+    by false is = ap not is
+
+module _ {X : Type 0} where
+  contains_here : (xs : List X) (y x : X) → y ≡ x → Contains (y ∷ xs) x
+  contains_here xs y x e = (0, omega arith, e)
+
+  contains_later : (xs : List X) (y x : X) → Contains xs x → Contains (y ∷ xs) x
+  contains_later xs y x h = let lt = h.1 in (suc h.0, omega arith, h.2)
+
+  contains_cases : (xs : List X) (y x : X) → Contains (y ∷ xs) x → (y ≡ x) ⊎ Contains xs x
+  contains_cases xs y x (zero, lt, e) = inl e
+  contains_cases xs y x (suc k, lt, e) = inr (k, omega arith, e)
+
+  pub contains_filter : (test : X → Bool) (xs : List X) (x : X) → test x ≡ true → Contains xs x → Contains (filter test xs) x
+  contains_filter test [] x is has = has
+  contains_filter test (y ∷ xs) x is has = by (test y) refl (contains_filter test xs x is) (contains_cases xs y x has)
+    where
+      by : (b : Bool) → test y ≡ b → (Contains xs x → Contains (filter test xs) x) → (y ≡ x) ⊎ Contains xs x → Contains (filter test (y ∷ xs)) x
+      by true e rest (inl here) = rw e (contains_here (filter test xs) y x here)
+      by true e rest (inr later) = rw e (contains_later (filter test xs) y x (rest later))
+      by false e rest (inl here) = let z : true ≡ false = sym is ∙ ap test (sym here) ∙ e in cc
+      by false e rest (inr later) = rw e (rest later)
+
+  pub filter_contains : (test : X → Bool) (xs : List X) (x : X) → Contains (filter test xs) x → Contains xs x
+  filter_contains test [] x has = has
+  filter_contains test (y ∷ xs) x has = by (test y) refl (filter_contains test xs x)
+    where
+      by : (b : Bool) → test y ≡ b → (Contains (filter test xs) x → Contains xs x) → Contains (y ∷ xs) x
+      by true e rest = ⊎_elim (λ here. contains_here xs y x here) (λ later. contains_later xs y x (rest later)) (contains_cases (filter test xs) y x (let h : Contains (y ∷ filter test xs) x = rw e at has in h))
+      by false e rest = contains_later xs y x (rest (let h : Contains (filter test xs) x = rw e at has in h))
+
+  pub all_of : (P : X → Type 0) (xs : List X) → ((x : X) → Contains xs x → P x) → All P xs
+  all_of P xs each = λ k d lt. each _ (Contains-get_or xs k d lt)

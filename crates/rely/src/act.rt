@@ -1,0 +1,75 @@
+ghost use Rattle.std.specs.Prelude.{◌≡◌, ◌≢◌, ◌≤◌, ℕ, true, Option, Some, None, IfOk, OnOk, IsErrOf};
+ghost use Rattle.fs_trait.specs.declared.types.FsErr.TheVariants.{NoMemory};
+ghost use Rattle.fs_trait.specs.View.{View};
+ghost use Rattle.fs_trait.specs.Image.{Told};
+ghost use Rattle.fs_trait.specs.Change.{Writes};
+ghost use Rattle.fs_trait.specs.Effect.{Elapses, HasCause, Next};
+ghost use Rattle.rely.specs.Books.{books_of};
+ghost use Rattle.rely.specs.Laws.{IsShow, IsShown, IsSettle, IsQuiet, IsStore, IsTake, KeepsRoom, owed_by, Ready, Runs, IsBy, Stood, Acts, Ends, IsEnd};
+
+use crate::{Base, Entry, Outcome, Pending, Step, Wants, Work, is_free};
+use fs_trait::{Fs, FsErr, Turn};
+
+/// Takes a step that isn't owed, once there is room for it and for all calls that are owed.
+fn advance_with_room<T: Work, F: Fs>(
+    base: &mut Base<F>,
+    actor: u8,
+    task: &mut T,
+) -> Result<Turn<()>, FsErr>
+    requires needs { (v : View) → F.view base.old.fs ≡ Some v → T.needs actor task.old v }
+    requires room { base.old.books.owed ≤ F.spare base.old.fs }
+    ensures books { base.new ≡ record base.old { fs = base.new.fs } }
+    ensures writes { (v : View) → F.view base.old.fs ≡ Some v → Told (F.view base.new.fs) (λ w. Writes (T.writes_of actor task.old v) v w) }
+    ensures unchanged { IsErrOf result NoMemory → F.view base.new.fs ≡ F.view base.old.fs }
+    ensures time { Elapses (F.clock base.old.fs) (F.clock base.new.fs) (F.was base.old.fs) (F.was base.new.fs) (F.view base.new.fs) }
+    ensures stepped { IfOk result (λ turn. T.stepped task.old turn task.new) }
+    ensures after { (v : View) → F.view base.old.fs ≡ Some v → IfOk result (λ turn. Told (F.view base.new.fs) (λ w. T.leaves task.old turn task.new v w)) }
+    ensures room { base.old.books.owed ≤ F.spare base.new.fs }
+    ensures ready { IsShow (T.kind_of task.old) → OnOk result (owed_by (T.kind_of task.new) ≤ F.spare base.new.fs) }
+{
+    let Some(calls) = base.books.owed.checked_add(1) else {
+        return Err(FsErr::NoMemory);
+    };
+    base.fs.reserve(calls)?;
+    task.advance(actor, &mut base.fs)
+}
+
+/// A command ends, and its lane holds nothing any more.
+fn end<F>(base: &mut Base<F>, actor: u8, lane: u8)
+    ensures { Ends actor lane base.old base.new }
+{
+    base.books.release(actor, lane);
+}
+
+/// A command ends, since its step answered this before it showed anything. After a changing call that failed no command
+/// goes on.
+fn refuse<F: Fs>(base: &mut Base<F>, actor: u8, lane: u8, before: u64, e: FsErr) -> Outcome
+    ensures ends { Ends actor lane base.old base.new }
+    ensures told { IsEnd result base.new }
+{
+    if e == FsErr::Failed && base.fs.clock() != before {
+        base.books.halted = true;
+        return Outcome::Halted;
+    }
+    end(base, actor, lane);
+    Outcome::Refused(e)
+}
+
+/// A step that changes nothing that the state speaks of.
+fn quiet<T: Work, F: Fs>(base: &mut Base<F>, actor: u8, lane: u8, task: &mut T) -> Outcome
+    requires ready { Ready F.view F.clock F.spare F.was (Runs T.kind_of T.facts lane task.old) base.old }
+    requires by { IsBy (T.kind_of task.old) actor lane }
+    requires unseen { IsQuiet (T.kind_of task.old) }
+    requires stood { Stood (T.kind_of task.old) actor lane (books_of base.old.books) }
+    ensures { Acts F.view F.clock F.spare F.was actor lane result (Runs T.kind_of T.facts lane task.new) base.old base.new }
+{
+    let before = base.fs.clock();
+    match advance_with_room(base, actor, task) {
+        Ok(Turn::More) => Outcome::More,
+        Ok(Turn::Done(())) => {
+            end(base, actor, lane);
+            Outcome::Done
+        }
+        Err(e) => refuse(base, actor, lane, before, e),
+    }
+}

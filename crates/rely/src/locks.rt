@@ -1,0 +1,160 @@
+ghost use Rattle.std.specs.Prelude.{◌≡◌, ◌↔◌, ◌≢◌, ◌⊎◌, ℕ, List, Option, Some, IsTrue, All, Contains, OnOk};
+ghost use Rattle.ost_types.specs.declared.object.ObjName.{ObjName};
+ghost use Rattle.rely.specs.declared.books.Hold.{Hold};
+ghost use Rattle.rely.specs.declared.books.Pin.{Pin};
+ghost use Rattle.rely.specs.declared.books.Share.{Share};
+ghost use Rattle.rely.specs.declared.books.Want.{Want};
+ghost use Rattle.rely.specs.Books.{books_of, Free, Frees, Granted, Agrees, Spared, Keeps};
+
+use crate::{Books, Hold, Pin, Share, Want, Wants};
+use ost_types::{NoMemory, ObjName};
+
+/// Whether nobody else holds the lock.
+pub(crate) fn is_free(lock: Option<u8>, who: u8) -> bool
+    ensures { IsTrue result ↔ Free lock who }
+{
+    match lock {
+        Some(holder) => holder == who,
+        None => true,
+    }
+}
+
+fn only_of(shares: &[Share], lane: u8) -> bool
+    ensures { IsTrue result ↔ All (λ x. x.lane ≡ lane) shares.now }
+{
+    shares.iter().all(|x| x.lane == lane)
+}
+
+/// Gives a lock up, if the lane has it.
+fn given_up(lock: Option<u8>, lane: u8) -> Option<u8>
+    ensures others { (x : ℕ) → x ≢ lane → lock ≡ Some x → result ≡ Some x }
+    ensures no_more { (x : ℕ) → result ≡ Some x → lock ≡ Some x }
+{
+    match lock {
+        Some(holder) => if holder == lane { None } else { Some(holder) },
+        None => None,
+    }
+}
+
+fn give_up_shares(shares: &mut Vec<Share>, lane: u8)
+    ensures kept { (x : Share) → x.lane ≢ lane → Contains shares.old.items x → Contains shares.new.items x }
+    ensures no_more { (x : Share) → Contains shares.new.items x → Contains shares.old.items x }
+{
+    shares.retain(|x| x.lane != lane);
+}
+
+fn give_up_holds(holds: &mut Vec<Hold>, lane: u8)
+    ensures { (x : Hold) → x.lane ≢ lane → Contains holds.old.items x → Contains holds.new.items x }
+{
+    holds.retain(|x| x.lane != lane);
+}
+
+fn give_up_wants(wants: &mut Vec<Want>, lane: u8)
+    ensures { (x : Want) → x.lane ≢ lane → Contains wants.old.items x → Contains wants.new.items x }
+{
+    wants.retain(|x| x.lane != lane);
+}
+
+fn give_up_pins(pins: &mut Vec<Pin>, lane: u8)
+    ensures { (x : Pin) → x.lane ≢ lane → Contains pins.old.items x → Contains pins.new.items x }
+{
+    pins.retain(|x| x.lane != lane);
+}
+
+/// Takes a lock.
+fn taken(lock: Option<u8>, wanted: bool, lane: u8) -> Option<u8>
+    ensures wanted { IsTrue wanted → result ≡ Some lane }
+    ensures kept { (IsTrue wanted → Free lock lane) → (x : ℕ) → lock ≡ Some x → result ≡ Some x }
+    ensures no_more { (x : ℕ) → result ≡ Some x → (lock ≡ Some x) ⊎ (IsTrue wanted × (x ≡ lane)) }
+{
+    if wanted { Some(lane) } else { lock }
+}
+
+fn add_share(shares: &mut Vec<Share>, wanted: bool, actor: u8, lane: u8) -> Result<(), NoMemory>
+    ensures wanted { OnOk result (IsTrue wanted → Contains shares.new.items (record { actor = actor; lane = lane })) }
+    ensures kept { (x : Share) → Contains shares.old.items x → Contains shares.new.items x }
+    ensures no_more { (x : Share) → Contains shares.new.items x → Contains shares.old.items x ⊎ (IsTrue wanted × (x.lane ≡ lane)) }
+{
+    if wanted {
+        shares.push(Share { actor, lane })?;
+    }
+    Ok(())
+}
+
+fn add_hold(holds: &mut Vec<Hold>, wanted: Option<u8>, lane: u8) -> Result<(), NoMemory>
+    ensures wanted { OnOk result ((p : ℕ) → wanted ≡ Some p → Contains holds.new.items (record { lane = lane; place = p })) }
+    ensures kept { (x : Hold) → Contains holds.old.items x → Contains holds.new.items x }
+{
+    if let Some(place) = wanted {
+        holds.push(Hold { lane, place })?;
+    }
+    Ok(())
+}
+
+fn add_pin(pins: &mut Vec<Pin>, wanted: Option<ObjName>, lane: u8) -> Result<(), NoMemory>
+    ensures wanted { OnOk result ((o : ObjName) → wanted ≡ Some o → Contains pins.new.items (record { lane = lane; object = o })) }
+    ensures kept { (x : Pin) → Contains pins.old.items x → Contains pins.new.items x }
+{
+    if let Some(object) = wanted {
+        pins.push(Pin { lane, object })?;
+    }
+    Ok(())
+}
+
+impl Books {
+    /// Whether the lane may have what it asks for.
+    pub(crate) fn frees(&self, wants: &Wants, lane: u8) -> bool
+        ensures { IsTrue result ↔ Frees wants.now lane (books_of self.now) }
+    {
+        (!wants.exclusive || self.frees_exclusive(lane))
+            && (!wants.turn || self.frees_turn(lane))
+            && (!(wants.shared || wants.pin.is_some()) || is_free(self.exclusive, lane))
+            && (!wants.sysroot || is_free(self.sysroot, lane))
+            && (wants.hold.is_none() || is_free(self.turn, lane))
+    }
+
+    fn frees_exclusive(&self, lane: u8) -> bool
+        ensures { IsTrue result ↔ (Free self.now.exclusive lane × Free self.now.turn lane × All (λ x. x.lane ≡ lane) self.now.shared.items) }
+    {
+        self.frees_turn(lane) && only_of(&self.shared, lane)
+    }
+
+    pub(crate) fn frees_turn(&self, lane: u8) -> bool
+        ensures { IsTrue result ↔ (Free self.now.exclusive lane × Free self.now.turn lane) }
+    {
+        is_free(self.exclusive, lane) && is_free(self.turn, lane)
+    }
+
+    /// Gives the lane what it asks for. Where memory is wanting it may have a part of it.
+    pub(crate) fn grant(&mut self, wants: &Wants, actor: u8, lane: u8) -> Result<(), NoMemory>
+        requires { Frees wants.now lane (books_of self.old) }
+        ensures same { self.new ≡ record self.old { shared = self.new.shared; exclusive = self.new.exclusive; turn = self.new.turn; sysroot = self.new.sysroot; holds = self.new.holds; pins = self.new.pins } }
+        ensures granted { OnOk result (Granted wants.now actor lane (books_of self.new)) }
+        ensures spared { Spared actor lane (books_of self.old) (books_of self.new) }
+        ensures keeps { Keeps lane (books_of self.old) (books_of self.new) }
+        ensures agrees { Agrees (books_of self.old) → Agrees (books_of self.new) }
+    {
+        self.exclusive = taken(self.exclusive, wants.exclusive, lane);
+        self.turn = taken(self.turn, wants.turn, lane);
+        self.sysroot = taken(self.sysroot, wants.sysroot, lane);
+        add_share(&mut self.shared, wants.shared, actor, lane)?;
+        add_hold(&mut self.holds, wants.hold, lane)?;
+        add_pin(&mut self.pins, wants.pin, lane)
+    }
+
+    /// Gives up all that a lane holds.
+    pub(crate) fn release(&mut self, actor: u8, lane: u8)
+        ensures same { self.new ≡ record self.old { shared = self.new.shared; exclusive = self.new.exclusive; turn = self.new.turn; sysroot = self.new.sysroot; holds = self.new.holds; wants = self.new.wants; pins = self.new.pins } }
+        ensures turn { (x : ℕ) → self.new.turn ≡ Some x → self.old.turn ≡ Some x }
+        ensures spared { Spared actor lane (books_of self.old) (books_of self.new) }
+        ensures agrees { Agrees (books_of self.old) → Agrees (books_of self.new) }
+    {
+        self.exclusive = given_up(self.exclusive, lane);
+        self.turn = given_up(self.turn, lane);
+        self.sysroot = given_up(self.sysroot, lane);
+        give_up_shares(&mut self.shared, lane);
+        give_up_holds(&mut self.holds, lane);
+        give_up_wants(&mut self.wants, lane);
+        give_up_pins(&mut self.pins, lane);
+    }
+}

@@ -1,0 +1,62 @@
+ghost use Rattle.std.specs.Prelude.{◌≡◌, ℕ, Option, Some, IfOk, OnOk, IsErrOf};
+ghost use Rattle.fs_trait.specs.declared.types.FsErr.TheVariants as err;
+ghost use Rattle.ost_types.specs.Path.{Path};
+ghost use Rattle.fs_trait.specs.declared.task.Turn.{Turn};
+ghost use Rattle.fs_trait.specs.View.{View};
+ghost use Rattle.fs_trait.specs.Image.{Told};
+ghost use Rattle.fs_trait.specs.Seen.{Seen};
+ghost use Rattle.fs_trait.specs.Change.{Writes};
+ghost use Rattle.fs_trait.specs.Effect.{Elapses, HasCause, Next};
+ghost use Rattle.rely.specs.declared.event.Event.{Event};
+ghost use Rattle.rely.specs.Books.{Books};
+ghost use Rattle.rely.specs.Laws.{Kind, Show, IsSettle, KeepsRoom, Laws, step_of, owed_by};
+
+use crate::{Event, Step};
+use fs_trait::{Fs, FsErr, Turn};
+use ost_types::NoMemory;
+
+/// The running task of a command, as the system sees it.
+pub trait Work {
+    /// What its next step is to the whole system.
+    ghost kind_of: { Self → Kind };
+
+    /// What its next step, taken by this actor, asks of a view that is told, and what it may write.
+    ghost needs: { ℕ → Self → View → Type 0 };
+
+    ghost writes_of: { ℕ → Self → View → Path → Seen → Type 0 };
+
+    /// What changes in the task itself.
+    ghost stepped: { Self → Turn (Unit {0}) → Self → Type 0 };
+
+    /// What is so of the view before and after such a step.
+    ghost leaves: { Self → Turn (Unit {0}) → Self → View → View → Type 0 };
+
+    /// What is so of the view and the books while others act, for a task of this lane.
+    ghost facts: { ℕ → Self → View → Books → Type 0 };
+
+    fn kind(&self) -> Step
+        ensures { result ≡ step_of (kind_of self.now) };
+
+    /// The change that the next step shows.
+    fn event(&self) -> Result<Event, NoMemory>
+        ensures { (e : Event) → kind_of self.now ≡ Show e → IfOk result (λ x. x ≡ e) };
+
+    /// How many calls are owed, that of the next step among them.
+    fn owes(&self) -> u64
+        ensures { result ≡ owed_by (kind_of self.now) };
+
+    /// Takes the next step: at most one changing call.
+    fn advance<F: Fs>(&mut self, actor: u8, fs: &mut F) -> Result<Turn<()>, FsErr>
+        requires { (v : View) → F.view fs.old ≡ Some v → needs actor self.old v }
+        ensures writes { (v : View) → F.view fs.old ≡ Some v → Told (F.view fs.new) (λ w. Writes (writes_of actor self.old v) v w) }
+        ensures unchanged { IsErrOf result err.NoMemory → F.view fs.new ≡ F.view fs.old }
+        ensures time { Elapses (F.clock fs.old) (F.clock fs.new) (F.was fs.old) (F.was fs.new) (F.view fs.new) }
+        ensures ticks { IsSettle (kind_of self.old) → OnOk result (Next (F.clock fs.old) (F.clock fs.new)) }
+        ensures stepped { IfOk result (λ turn. stepped self.old turn self.new) }
+        ensures after { (v : View) → F.view fs.old ≡ Some v → IfOk result (λ turn. Told (F.view fs.new) (λ w. leaves self.old turn self.new v w)) }
+        ensures cause { HasCause (F.faults fs.old) (F.faults fs.new) result }
+        ensures room { KeepsRoom (kind_of self.old) (kind_of self.new) (F.spare fs.old) (F.spare fs.new) result };
+
+    /// What each kind of task proves.
+    ghost laws: { Laws kind_of needs writes_of stepped leaves facts };
+}
