@@ -13,13 +13,15 @@ use Rattle.rely.specs.declared.books.Base.{Base}
 use Rattle.rely.specs.declared.books.Entry.{Entry}
 use Rattle.rely.specs.declared.books.Pending.{Pending}
 use Rattle.rely.specs.declared.event.Event.{Event}
+use Rattle.rely.specs.declared.kind.Outcome.{Outcome}
+use Rattle.rely.specs.declared.kind.Outcome.TheVariants as came
 use Rattle.rely.specs.declared.kind.Wants.{Wants}
 use Rattle.rely.specs.State.{State, first, events_of, stored, acked, Ascends}
 use Rattle.rely.specs.Books.{Books, books_of, Free, Agrees, Spared, Keeps}
 use Rattle.rely.specs.Rely.{May, Does}
 use Rattle.rely.specs.Sound.{Stands, Ordered, Sound}
 use Rattle.rely.specs.Change.{Still, Away, Shows, Final}
-use Rattle.rely.specs.Laws.{Kind, Quiet, Store, Take, Show, Shown, Settle, Laws, Duty, Within, IsQuiet, IsBy, IsBefore, Chain, Follows, Holds, Stood, NotPending, IsPending, Runs, Ready, Ends, owed_by}
+use Rattle.rely.specs.Laws.{Kind, Quiet, Store, Take, Show, Shown, Settle, Laws, Duty, Within, IsQuiet, IsBy, IsBefore, Chain, Follows, Holds, Stood, NotPending, IsPending, Runs, Ready, Tells, Acts, Ends, IsEnd, owed_by}
 use Rattle.rely.proofs.States.{ascends_later}
 use Rattle.rely.proofs.Knowns.{stands_quiet}
 use Rattle.rely.proofs.Locking.{spared_refl}
@@ -131,6 +133,33 @@ module _ {F : Type 0} (view : F → Option View) (clock spare : F → ℕ) (was 
         laws.next actor lane t new v.0 w (books_of old.books) (books_of old.books) stood (ready.task.facts v.0 v.1) (told_same (view fs) w told_w (after v.0 v.1)) (keeps_refl lane (books_of old.books));
     holds = before_holds (kind new) lane (books_of old.books) (quiet_chain (kind t) (kind new) is (laws.chain t new step)) (quiet_not (kind t) lane (books_of old.books) is ready.task.holds);
   }
+
+  -- A step that changes nothing that the state speaks of, and what its command gives up then.
+  pub quiet_acts : (old mid new : Base F) (actor lane : ℕ) (t next : T) (outcome : Outcome) → mid ≡ record old { fs = mid.fs } → Ends actor lane mid new → IsBy (kind t) actor lane → IsQuiet (kind t) → Stood (kind t) actor lane (books_of old.books)
+      → Ready view clock spare was (Runs kind facts lane t) old → Wrote old.fs mid.fs actor t → Calls old.fs mid.fs → old.books.owed ≤ spare mid.fs → Tells view (Runs kind facts lane next) outcome new
+      → Acts view clock spare was actor lane outcome (Runs kind facts lane next) old new
+  quiet_acts old mid new actor lane t next outcome only ends by is stood ready wrote time room tells =
+      let same : mid.books ≡ old.books = ap (λ b. b.books) only in
+      record {
+        sound = quiet_sound old mid new actor lane t same ends by is stood ready wrote time room;
+        does = quiet_does old mid new actor lane t same ends by is stood ready wrote;
+        books = subst (λ b. Spared actor lane (books_of b) (books_of new.books)) same ends.spared;
+        tells = tells;
+      }
+
+  pub quiet_tells : (old mid : Base F) (actor lane : ℕ) (t next : T) (u : Turn (Unit {0})) → mid ≡ record old { fs = mid.fs } → IsQuiet (kind t) → Stood (kind t) actor lane (books_of old.books) → Ready view clock spare was (Runs kind facts lane t) old
+      → u ≡ turn.More → stepped t u next → ((v : View) → view old.fs ≡ Some v → Told (view mid.fs) (λ w. leaves t u next v w))
+      → Runs kind facts lane next (view mid.fs) (books_of mid.books)
+  quiet_tells old mid actor lane t next u only is stood ready more step after =
+      subst (λ b. Runs kind facts lane next (view mid.fs) (books_of b)) (sym (ap (λ b. b.books) only))
+      (quiet_runs old mid.fs actor lane t next is stood ready (subst (λ x. stepped t x next) more step) (λ v told. subst (λ x. Told (view mid.fs) (λ w. leaves t x next v w)) more (after v told)))
+
+pub tells_end : {F : Type 0} (view : F → Option View) (runs : Option View → Books → Type 0) (outcome : Outcome) (new : Base F) → IsEnd outcome new → Tells view runs outcome new
+tells_end view runs (came.Refused e) new is = tt
+tells_end view runs came.Halted new is = is
+tells_end view runs came.Blocked new is = absurd is
+tells_end view runs came.More new is = absurd is
+tells_end view runs came.Done new is = tt
 
 pub ends_refl : {F : Type 0} (actor lane : ℕ) (base : Base F) → Ends actor lane base base
 ends_refl actor lane base = record { fs = refl; history = refl; pending = refl; owed = refl; opened = refl; start = refl; spared = spared_refl actor lane (books_of base.books); agrees = λ a. a }

@@ -7,3 +7,4 @@ mod Lists
 pub mod Locking
 pub mod Sounds
 pub mod Acting
+pub mod Showing

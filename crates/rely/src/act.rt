@@ -1,13 +1,14 @@
-ghost use Rattle.std.specs.Prelude.{◌≡◌, ◌≢◌, ◌≤◌, ℕ, true, Option, Some, None, IfOk, OnOk, IsErrOf};
+ghost use Rattle.std.specs.Prelude.{◌≡◌, ◌≢◌, ◌≤◌, ◌<◌, ℕ, true, Option, Some, None, IfOk, OnOk, IsErrOf};
 ghost use Rattle.fs_trait.specs.declared.types.FsErr.TheVariants.{NoMemory};
 ghost use Rattle.fs_trait.specs.View.{View};
 ghost use Rattle.fs_trait.specs.Image.{Told};
 ghost use Rattle.fs_trait.specs.Change.{Writes};
 ghost use Rattle.fs_trait.specs.Effect.{Elapses, HasCause, Next};
-ghost use Rattle.rely.specs.Books.{books_of};
-ghost use Rattle.rely.specs.Laws.{IsShow, IsShown, IsSettle, IsQuiet, IsStore, IsTake, KeepsRoom, owed_by, Ready, Runs, IsBy, Stood, Acts, Ends, IsEnd};
+ghost use Rattle.std.specs.Vec.{vec_len, vec_capacity};
+ghost use Rattle.rely.specs.Books.{books_of, Free};
+ghost use Rattle.rely.specs.Laws.{IsShow, IsShown, IsSettle, IsQuiet, IsStore, IsTake, KeepsRoom, owed_by, Ready, Runs, IsBy, Stood, Acts, Ends, IsEnd, Show, Shown, Settle};
 
-use crate::{Base, Entry, Outcome, Pending, Step, Wants, Work, is_free};
+use crate::{Base, Event, Outcome, Step, Wants, Work, is_free};
 use fs_trait::{Fs, FsErr, Turn};
 
 /// Takes a step that isn't owed, once there is room for it and for all calls that are owed.
@@ -71,5 +72,97 @@ fn quiet<T: Work, F: Fs>(base: &mut Base<F>, actor: u8, lane: u8, task: &mut T) 
             Outcome::Done
         }
         Err(e) => refuse(base, actor, lane, before, e),
+    }
+}
+
+/// The step that shows a change.
+fn show<T: Work, F: Fs>(base: &mut Base<F>, lane: u8, command: u32, task: &mut T) -> Outcome
+    requires ready { Ready F.view F.clock F.spare F.was (Runs T.kind_of T.facts lane task.old) base.old }
+    requires kind { IsShow (T.kind_of task.old) }
+    ensures { Acts F.view F.clock F.spare F.was lane lane result (Runs T.kind_of T.facts lane task.new) base.old base.new }
+{
+    if !base.books.frees_turn(lane) {
+        return Outcome::Blocked;
+    }
+    let Ok(event) = task.event() else {
+        end(base, lane, lane);
+        return Outcome::Refused(FsErr::NoMemory);
+    };
+    if base.books.make_room().is_err() {
+        end(base, lane, lane);
+        return Outcome::Refused(FsErr::NoMemory);
+    }
+    show_event(base, lane, command, event, task)
+}
+
+/// So, once nobody else holds it off, and there is room for its entry.
+fn show_event<T: Work, F: Fs>(
+    base: &mut Base<F>,
+    lane: u8,
+    command: u32,
+    event: Event,
+    task: &mut T,
+) -> Outcome
+    requires ready { Ready F.view F.clock F.spare F.was (Runs T.kind_of T.facts lane task.old) base.old }
+    requires kind { T.kind_of task.old ≡ Show event }
+    requires free { Free base.old.books.exclusive lane × Free base.old.books.turn lane }
+    requires entry { vec_len base.old.books.history < vec_capacity base.old.books.history }
+    ensures { Acts F.view F.clock F.spare F.was lane lane result (Runs T.kind_of T.facts lane task.new) base.old base.new }
+{
+    match advance_with_room(base, lane, task) {
+        Ok(_) => {
+            base.books.show(lane, command, event, task.owes());
+            Outcome::More
+        }
+        Err(FsErr::NoMemory) => {
+            end(base, lane, lane);
+            Outcome::Refused(FsErr::NoMemory)
+        }
+        Err(_) => {
+            base.books.show(lane, command, event, 0);
+            base.books.halted = true;
+            Outcome::Halted
+        }
+    }
+}
+
+/// A step between the one that shows a change and the one that makes it last.
+fn shown<T: Work, F: Fs>(base: &mut Base<F>, lane: u8, task: &mut T) -> Outcome
+    requires ready { Ready F.view F.clock F.spare F.was (Runs T.kind_of T.facts lane task.old) base.old }
+    requires kind { IsShown (T.kind_of task.old) }
+    ensures { Acts F.view F.clock F.spare F.was lane lane result (Runs T.kind_of T.facts lane task.new) base.old base.new }
+{
+    base.books.pay();
+    match task.advance(lane, &mut base.fs) {
+        Ok(_) => Outcome::More,
+        Err(_) => {
+            base.books.halted = true;
+            Outcome::Halted
+        }
+    }
+}
+
+/// The step that makes it last, which acknowledges it.
+fn settle<T: Work, F: Fs>(base: &mut Base<F>, lane: u8, task: &mut T) -> Outcome
+    requires ready { Ready F.view F.clock F.spare F.was (Runs T.kind_of T.facts lane task.old) base.old }
+    requires kind { IsSettle (T.kind_of task.old) }
+    ensures { Acts F.view F.clock F.spare F.was lane lane result (Runs T.kind_of T.facts lane task.new) base.old base.new }
+{
+    match task.advance(lane, &mut base.fs) {
+        Ok(Turn::Done(())) => {
+            let moment = base.fs.clock();
+            if !base.books.acknowledge(moment) {
+                base.books.halted = true;
+                return Outcome::Halted;
+            }
+            end(base, lane, lane);
+            Outcome::Done
+        }
+        Ok(Turn::More) => Outcome::More,
+        Err(_) => {
+            base.books.pay();
+            base.books.halted = true;
+            Outcome::Halted
+        }
     }
 }

@@ -1,12 +1,14 @@
-ghost use Rattle.std.specs.Prelude.{◌≡◌, ◌↔◌, ◌≢◌, ◌⊎◌, ℕ, List, Option, Some, IsTrue, All, Contains, OnOk};
+ghost use Rattle.std.specs.Prelude.{◌≡◌, ◌↔◌, ◌≢◌, ◌⊎◌, ◌<◌, ◌-◌, ◌++◌, ◌∷◌, [], ℕ, List, Option, Some, None, IsTrue, All, Contains, OnOk};
 ghost use Rattle.ost_types.specs.declared.object.ObjName.{ObjName};
 ghost use Rattle.rely.specs.declared.books.Hold.{Hold};
+ghost use Rattle.rely.specs.declared.books.Pending.{Pending};
 ghost use Rattle.rely.specs.declared.books.Pin.{Pin};
+ghost use Rattle.std.specs.Vec.{vec_len, vec_capacity};
 ghost use Rattle.rely.specs.declared.books.Share.{Share};
 ghost use Rattle.rely.specs.declared.books.Want.{Want};
 ghost use Rattle.rely.specs.Books.{books_of, Free, Frees, Granted, Agrees, Spared, Keeps};
 
-use crate::{Books, Hold, Pin, Share, Want, Wants};
+use crate::{Books, Entry, Event, Hold, Pending, Pin, Share, Want, Wants};
 use ost_types::{NoMemory, ObjName};
 
 /// Whether nobody else holds the lock.
@@ -156,5 +158,49 @@ impl Books {
         give_up_holds(&mut self.holds, lane);
         give_up_wants(&mut self.wants, lane);
         give_up_pins(&mut self.pins, lane);
+    }
+
+    /// Room for one more entry of the history.
+    pub(crate) fn make_room(&mut self) -> Result<(), NoMemory>
+        ensures same { self.new ≡ record self.old { history = self.new.history } }
+        ensures items { self.new.history.items ≡ self.old.history.items }
+        ensures more { vec_len self.old.history < vec_capacity self.old.history → vec_len self.new.history < vec_capacity self.new.history }
+        ensures room { OnOk result (vec_len self.new.history < vec_capacity self.new.history) }
+    {
+        self.history.reserve(1)?;
+        Ok(())
+    }
+
+    /// The lane's change is shown, or may be.
+    pub(crate) fn show(&mut self, lane: u8, command: u32, event: Event, owed: u64)
+        ensures { self.new ≡ record self.old { turn = Some lane; pending = Some (record { lane = lane; command = command; event = event }); owed = owed } }
+    {
+        self.turn = Some(lane);
+        self.pending = Some(Pending {
+            lane,
+            command,
+            event,
+        });
+        self.owed = owed;
+    }
+
+    /// One call less is owed.
+    pub(crate) fn pay(&mut self)
+        ensures { self.new ≡ record self.old { owed = self.old.owed - 1 } }
+    {
+        self.owed = self.owed.saturating_sub(1);
+    }
+
+    /// The pending change is acknowledged at this moment.
+    pub(crate) fn acknowledge(&mut self, moment: u64) -> bool
+        ensures done { (p : Pending) → self.old.pending ≡ Some p → vec_len self.old.history < vec_capacity self.old.history → IsTrue result }
+        ensures same { self.new ≡ record self.old { history = self.new.history; pending = None; owed = 0 } }
+        ensures entry { IsTrue result → (p : Pending) → self.old.pending ≡ Some p → self.new.history.items ≡ self.old.history.items ++ record { lane = p.lane; command = p.command; event = p.event; moment = moment } ∷ [] }
+    {
+        self.owed = 0;
+        match self.pending.take() {
+            Some(Pending { lane, command, event }) => self.history.push(Entry { lane, command, event, moment }).is_ok(),
+            None => false,
+        }
     }
 }

@@ -1,0 +1,46 @@
+use Rattle.std.proofs.Common.{ap, Err, inl, refl, subst, sym, true, arith, ◌≤◌}
+use Rattle.rely.specs.Laws.{Runs, IsShow, Kind, owed_by}
+use Rattle.rely.proofs.Sounds.{IsFs}
+use Rattle.rely.proofs.Acting.{asks}
+use Rattle.rely.proofs.Showing.{still_acts, show_done, show_tells, show_not}
+use Rattle.rely.proofs.act.show_event.Given as given
+use Rattle.rely.proofs.act.show_event.Goals as goal
+
+module _ (g : given.Over) where
+  fs : IsFs g.F.Fs.view g.F.Fs.clock g.F.Fs.was
+  fs = record { only_now = g.met.F.Fs.only_now; bound = g.met.F.Fs.bound; told = g.met.F.Fs.told }
+
+pub advance_with_room-requires-clause-needs : goal.advance_with_room-requires-clause-needs
+advance_with_room-requires-clause-needs g c = asks g.F.Fs.view g.F.Fs.clock g.F.Fs.spare g.F.Fs.was (fs g) g.met.T.Work.laws c.args.base.now c.args.lane c.args.lane c.args.task.now (inl refl) c.requires.ready
+
+pub returns-in-Ok : goal.returns-in-Ok
+returns-in-Ok g c =
+    let e = c.in-Ok.ensures in
+    let r = c.requires in
+    let mid = c.advance_with_room.new.base in
+    let next = c.advance_with_room.new.task in
+    let old = c.args.base.now in
+    let is : IsShow (g.T.Work.kind_of c.args.task.now) = subst IsShow (sym r.kind) tt in
+    let room : c.owes.result ≤ g.F.Fs.spare mid.fs = subst (λ n. n ≤ g.F.Fs.spare mid.fs) (sym c.owes.ensures) (e.ready is) in
+    show_done g.F.Fs.view g.F.Fs.clock g.F.Fs.spare g.F.Fs.was (fs g) g.met.T.Work.laws old mid c.show.new.self c.args.lane c.args.command c.args.task.now next c.args.event c.owes.result c.show.new.self.halted _
+    e.books c.show.ensures r.kind r.free r.entry r.ready e.writes e.time room
+    (show_tells g.F.Fs.view g.F.Fs.clock g.F.Fs.spare g.F.Fs.was (fs g) g.met.T.Work.laws old mid c.show.new.self c.args.lane c.args.command c.args.task.now next c.in-Ok.field-0 c.args.event c.owes.result e.books c.show.ensures c.owes.ensures r.kind r.free r.ready e.stepped e.after)
+
+pub returns-in-Err-NoMemory : goal.returns-in-Err-NoMemory
+returns-in-Err-NoMemory g c =
+    let e = c.in-Err-NoMemory.ensures in
+    let r = c.requires in
+    let mid = c.advance_with_room.new.base in
+    let old = c.args.base.now in
+    let is : IsShow (g.T.Work.kind_of c.args.task.now) = subst IsShow (sym r.kind) tt in
+    still_acts g.F.Fs.view g.F.Fs.clock g.F.Fs.spare g.F.Fs.was (fs g) g.met.T.Work.laws old mid c.end.new.base c.args.lane c.args.lane (Runs g.T.Work.kind_of g.T.Work.facts c.args.lane c.args.task.now) (Runs g.T.Work.kind_of g.T.Work.facts c.args.lane c.advance_with_room.new.task) _
+    e.books (e.unchanged (ap Err c.in-Err-NoMemory.field-0-is)) e.time e.room c.end.ensures (show_not g.F.Fs.view g.F.Fs.clock g.F.Fs.spare g.F.Fs.was (fs g) g.met.T.Work.laws old c.args.lane c.args.task.now is r.ready) r.ready
+
+pub returns-in-Err : goal.returns-in-Err
+returns-in-Err g c =
+    let e = c.in-Err.ensures in
+    let r = c.requires in
+    let mid = c.advance_with_room.new.base in
+    let next = c.advance_with_room.new.task in
+    show_done g.F.Fs.view g.F.Fs.clock g.F.Fs.spare g.F.Fs.was (fs g) g.met.T.Work.laws c.args.base.now mid c.show-in-Err.new.self c.args.lane c.args.command c.args.task.now next c.args.event 0 true _
+    e.books c.show-in-Err.ensures r.kind r.free r.entry r.ready e.writes e.time (omega arith) refl
