@@ -8,3 +8,4 @@ pub mod Locking
 pub mod Sounds
 pub mod Acting
 pub mod Showing
+pub mod Taking

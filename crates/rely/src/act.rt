@@ -166,3 +166,70 @@ fn settle<T: Work, F: Fs>(base: &mut Base<F>, lane: u8, task: &mut T) -> Outcome
         }
     }
 }
+
+/// A step that any actor may take, where nobody removes objects.
+fn store<T: Work, F: Fs>(base: &mut Base<F>, actor: u8, lane: u8, task: &mut T) -> Outcome
+    requires ready { Ready F.view F.clock F.spare F.was (Runs T.kind_of T.facts lane task.old) base.old }
+    requires kind { IsStore (T.kind_of task.old) }
+    ensures { Acts F.view F.clock F.spare F.was actor lane result (Runs T.kind_of T.facts lane task.new) base.old base.new }
+{
+    if !is_free(base.books.exclusive, lane) {
+        return Outcome::Blocked;
+    }
+    quiet(base, actor, lane, task)
+}
+
+/// A step that is taken once the lane has these locks.
+fn take<T: Work, F: Fs>(base: &mut Base<F>, lane: u8, wants: Wants, task: &mut T) -> Outcome
+    requires ready { Ready F.view F.clock F.spare F.was (Runs T.kind_of T.facts lane task.old) base.old }
+    requires kind { IsTake wants (T.kind_of task.old) }
+    ensures { Acts F.view F.clock F.spare F.was lane lane result (Runs T.kind_of T.facts lane task.new) base.old base.new }
+{
+    if !base.books.frees(&wants, lane) {
+        return Outcome::Blocked;
+    }
+    if base.books.grant(&wants, lane, lane).is_err() {
+        end(base, lane, lane);
+        return Outcome::Refused(FsErr::NoMemory);
+    }
+    quiet(base, lane, lane, task)
+}
+
+/// Takes the next step of a lane's task: the lane's own actor, or a helper where the step may be anybody's. A lane's own
+/// actor has the number of the lane.
+pub fn task_act<T: Work, F: Fs>(
+    base: &mut Base<F>,
+    actor: u8,
+    lane: u8,
+    command: u32,
+    task: &mut T,
+) -> Outcome
+    requires ready { Ready F.view F.clock F.spare F.was (Runs T.kind_of T.facts lane task.old) base.old }
+    requires by { IsBy (T.kind_of task.old) actor lane }
+    ensures { Acts F.view F.clock F.spare F.was actor lane result (Runs T.kind_of T.facts lane task.new) base.old base.new }
+{
+    match task.kind() {
+        Step::Quiet => quiet(base, actor, lane, task),
+        Step::Store => store(base, actor, lane, task),
+        Step::Take(wants) => take(base, lane, wants, task),
+        Step::Show => show(base, lane, command, task),
+        Step::Shown => shown(base, lane, task),
+        Step::Settle => settle(base, lane, task),
+    }
+}
+
+/// Takes the next step of another lane's task, where it may be anybody's.
+pub fn help_act<T: Work, F: Fs>(
+    base: &mut Base<F>,
+    actor: u8,
+    lane: u8,
+    task: &mut T,
+) -> Outcome
+    requires { Ready F.view F.clock F.spare F.was (Runs T.kind_of T.facts lane task.old) base.old }
+    ensures { Acts F.view F.clock F.spare F.was actor lane result (Runs T.kind_of T.facts lane task.new) base.old base.new }
+{
+    match task.kind() {
+        Step::Store => store(base, actor, lane, task),
+        _ => Outcome::Blocked,
+    }
+}

@@ -9,6 +9,7 @@ mod kind;
 mod locks;
 mod work;
 
+pub use act::{help_act, task_act};
 pub use books::{Base, Books, Entry, Hold, Pending, Pin, Share, Use, Want};
 pub use event::Event;
 pub(crate) use locks::is_free;

@@ -1,0 +1,120 @@
+-- Locks that a lane takes in the middle of its task.
+use Rattle.std.proofs.Common.{◌≡◌, ◌≢◌, ◌⊎◌, inl, inr, ⊎_elim, ◌≤◌, ◌<◌, ℕ, nat_eq, true, false, refl, sym, ◌∙◌, ap, subst, arith, List, Bool, Option, Some, None, Contains}
+use Rattle.std.proofs.lemmas.Bool.Decides.{nat_tests}
+use Rattle.ost_types.specs.declared.object.Kind as object
+use Rattle.ost_types.specs.Path.{Path}
+use Rattle.fs_trait.specs.declared.task.Turn.{Turn}
+use Rattle.fs_trait.specs.View.{View}
+use Rattle.fs_trait.specs.Seen.{Seen, Vacant}
+use Rattle.fs_trait.specs.Change.{Writes}
+use Rattle.fs_trait.proofs.Kept.{weaker}
+use Rattle.repo_layout.specs.Place.{Place, Config, Stage, Ref, ObjectsFolder, Object, Mark, Summary, Deployment, Etc, Origin, Staged, BootLink, BootLinkStage, BootFolder, Loader, LoaderStage, LoaderFolder, KernelCopy, Checkout, Other, place}
+use Rattle.rely.specs.declared.books.Base.{Base}
+use Rattle.rely.specs.declared.books.Books as rust
+use Rattle.rely.specs.declared.books.Pin.{Pin}
+use Rattle.rely.specs.declared.kind.Outcome.{Outcome}
+use Rattle.rely.specs.declared.kind.Wants.{Wants}
+use Rattle.rely.specs.Books.{Books, books_of, Free, Frees, Granted, Agrees, Spared, Keeps}
+use Rattle.rely.specs.Rely.{May, may_at, NotPinned, Does}
+use Rattle.rely.specs.Sound.{Ordered, Sound}
+use Rattle.rely.specs.Laws.{Kind, Quiet, Store, Take, Show, Shown, Settle, Laws, IsStore, IsTake, IsQuiet, IsBy, Holds, Stood, NotPending, Runs, Ready, Tells, Acts}
+use Rattle.rely.proofs.Locking.{free_before, spared_then}
+use Rattle.rely.proofs.Sounds.{IsFs}
+
+other_or_own : (a b : ℕ) → (a ≢ b → a ≡ b) → a ≡ b
+other_or_own a b h = by (nat_eq a b) refl
+  where
+    by : (t : Bool) → nat_eq a b ≡ t → a ≡ b
+    by true e = grind (arith, nat_tests)
+    by false e = h (λ same. let z : true ≡ false = sym (let k : nat_eq b b ≡ true = grind (arith, nat_tests) in k) ∙ ap (λ y. nat_eq y b) (sym same) ∙ e in cc)
+
+-- With more locks of its own a lane may write no more than before.
+may_before : (b b' : Books) (actor lane : ℕ) → Spared actor lane b b' → Keeps lane b b' → (x : Place) (s : Seen) → may_at b' actor lane x s → may_at b actor lane x s
+may_before b b' actor lane sp ke Config s m = m
+may_before b b' actor lane sp ke (Stage a) s m = m
+may_before b b' actor lane sp ke (Ref n) s m = (free_before b.turn b'.turn lane sp.turn m.0, free_before b.exclusive b'.exclusive lane sp.exclusive m.1)
+may_before b b' actor lane sp ke (ObjectsFolder d) s m = m
+may_before b b' actor lane sp ke (Object k c) s m = (free_before b.exclusive b'.exclusive lane sp.exclusive m.0, m.1, λ none p has k e. pinned p (m.2 none) has k e)
+  where
+    pinned : (p : Pin) → NotPinned b'.pins lane k c → Contains b.pins p → p.object.kind ≡ k → p.object.csum ≡ c → p.lane ≡ lane
+    pinned p none has kk cc_ = other_or_own p.lane lane (λ other. none p (sp.pins p other has) kk cc_)
+may_before b b' actor lane sp ke (Mark c) s m = m
+may_before b b' actor lane sp ke Summary s m = (free_before b.turn b'.turn lane sp.turn m.0, free_before b.exclusive b'.exclusive lane sp.exclusive m.1)
+may_before b b' actor lane sp ke (Deployment o c n r) s m = free_before b.sysroot b'.sysroot lane sp.sysroot m
+may_before b b' actor lane sp ke (Etc o c n r) s m = m
+may_before b b' actor lane sp ke (Origin o c n) s m = free_before b.sysroot b'.sysroot lane sp.sysroot m
+may_before b b' actor lane sp ke Staged s m = free_before b.sysroot b'.sysroot lane sp.sysroot m
+may_before b b' actor lane sp ke (BootLink n) s m = free_before b.sysroot b'.sysroot lane sp.sysroot m
+may_before b b' actor lane sp ke BootLinkStage s m = free_before b.sysroot b'.sysroot lane sp.sysroot m
+may_before b b' actor lane sp ke (BootFolder n k r) s m = free_before b.sysroot b'.sysroot lane sp.sysroot m
+may_before b b' actor lane sp ke Loader s m = (free_before b.turn b'.turn lane sp.turn m.0, free_before b.exclusive b'.exclusive lane sp.exclusive m.1, free_before b.sysroot b'.sysroot lane sp.sysroot m.2)
+may_before b b' actor lane sp ke LoaderStage s m = free_before b.sysroot b'.sysroot lane sp.sysroot m
+may_before b b' actor lane sp ke (LoaderFolder n r) s m = free_before b.sysroot b'.sysroot lane sp.sysroot m
+may_before b b' actor lane sp ke (KernelCopy o c r) s m = free_before b.sysroot b'.sysroot lane sp.sysroot m
+may_before b b' actor lane sp ke (Checkout n r) s m = m
+may_before b b' actor lane sp ke (Other p) s m = m
+
+pub may_less : (b b' : Books) (v : View) (actor lane : ℕ) → Spared actor lane b b' → Keeps lane b b' → (p : Path) (s : Seen) → May b' v actor lane p s → May b v actor lane p s
+may_less b b' v actor lane sp ke p s m = record { at = may_before b b' actor lane sp ke (place p) s m.at; comes = m.comes; folders = m.folders }
+
+pub store_is : (k : Kind) → IsStore k → k ≡ Store
+store_is Quiet is = absurd is
+store_is Store is = refl
+store_is (Take wants) is = absurd is
+store_is (Show e) is = absurd is
+store_is (Shown e owed) is = absurd is
+store_is (Settle e) is = absurd is
+
+pub take_is : (wants : Wants) (k : Kind) → IsTake wants k → k ≡ Take wants
+take_is wants Quiet is = absurd is
+take_is wants Store is = absurd is
+take_is wants (Take w) is = ap Take is
+take_is wants (Show e) is = absurd is
+take_is wants (Shown e owed) is = absurd is
+take_is wants (Settle e) is = absurd is
+
+module _ {F : Type 0} (view : F → Option View) (clock spare : F → ℕ) (was : F → ℕ → View → Type 0)
+    {T : Type 0} {kind : T → Kind} {needs : ℕ → T → View → Type 0} {writes : ℕ → T → View → Path → Seen → Type 0} {stepped : T → Turn (Unit {0}) → T → Type 0} {leaves : T → Turn (Unit {0}) → T → View → View → Type 0} {facts : ℕ → T → View → Books → Type 0}
+    (laws : Laws kind needs writes stepped leaves facts) where
+  -- with the locks it is ready
+  pub take_ready : (old : Base F) (b : rust.Books) (lane : ℕ) (t : T) (wants : Wants) → kind t ≡ Take wants
+      → b ≡ record old.books { shared = b.shared; exclusive = b.exclusive; turn = b.turn; sysroot = b.sysroot; holds = b.holds; pins = b.pins }
+      → Spared lane lane (books_of old.books) (books_of b) → Keeps lane (books_of old.books) (books_of b) → (Agrees (books_of old.books) → Agrees (books_of b))
+      → Ready view clock spare was (Runs kind facts lane t) old → Ready view clock spare was (Runs kind facts lane t) (record old { books = b })
+  take_ready old b lane t wants is same spared keeps agrees ready =
+      let ord = ready.sound.ordered in
+      let none : NotPending lane (books_of old.books) = subst (λ (k : Kind). Holds k lane (books_of old.books)) is ready.task.holds in
+      let pending : b.pending ≡ old.books.pending = ap (λ x. x.pending) same in
+      let owed : b.owed ≡ old.books.owed = ap (λ x. x.owed) same in
+      let opened : b.opened ≡ old.books.opened = ap (λ x. x.opened) same in
+      let history : b.history ≡ old.books.history = ap (λ x. x.history) same in
+      let start : b.start ≡ old.books.start = ap (λ x. x.start) same in
+      record {
+        sound = record {
+          ordered = record {
+            agrees = agrees ord.agrees;
+            owner = λ p has. let before : old.books.pending ≡ Some p = sym pending ∙ has in spared.turn p.lane (none p before) (ord.owner p before);
+            ascends = rw (opened, history) ord.ascends;
+            idle = λ no. owed ∙ ord.idle (sym pending ∙ no);
+            room = rw owed ord.room;
+            entry = λ owes. rw history (ord.entry (subst (λ n. 0 < n) owed owes));
+          };
+          stands = rw (history, pending, start) ready.sound.stands;
+          crash = rw (history, pending, start, opened) ready.sound.crash;
+        };
+        live = ap (λ x. x.halted) same ∙ ready.live;
+        task = record {
+          facts = λ v told. laws.gains lane t v (books_of old.books) (books_of b) keeps (ready.task.facts v told);
+          holds = subst (λ (k : Kind). Holds k lane (books_of b)) (sym is) (λ p has. none p (sym pending ∙ has));
+        };
+      }
+
+  pub take_acts : (old new : Base F) (b : rust.Books) (lane : ℕ) (outcome : Outcome) (runs : Option View → Books → Type 0) → Spared lane lane (books_of old.books) (books_of b) → Keeps lane (books_of old.books) (books_of b)
+      → Acts view clock spare was lane lane outcome runs (record old { books = b }) new → Acts view clock spare was lane lane outcome runs old new
+  take_acts old new b lane outcome runs spared keeps acts = record {
+    sound = acts.sound;
+    does = λ v told. let d = acts.does v told in
+        (d.0, d.1, record { writes = weaker (May (books_of b) v lane lane) (May (books_of old.books) v lane lane) v d.0 (may_less (books_of old.books) (books_of b) v lane lane spared keeps) d.2.writes; books = spared_then lane lane (books_of old.books) (books_of b) (books_of new.books) spared d.2.books });
+    books = spared_then lane lane (books_of old.books) (books_of b) (books_of new.books) spared acts.books;
+    tells = acts.tells;
+  }

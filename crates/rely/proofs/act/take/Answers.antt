@@ -1,0 +1,34 @@
+use Rattle.std.proofs.Common.{refl, subst, sym}
+use Rattle.rely.specs.Laws.{Kind, Runs, Holds, NotPending}
+use Rattle.rely.specs.Books.{books_of}
+use Rattle.rely.proofs.Sounds.{IsFs}
+use Rattle.rely.proofs.Showing.{blocked_acts, still_acts, no_time}
+use Rattle.rely.proofs.Taking.{take_is, take_ready, take_acts}
+use Rattle.rely.proofs.act.take.Given as given
+use Rattle.rely.proofs.act.take.Goals as goal
+
+module _ (g : given.Over) where
+  fs : IsFs g.F.Fs.view g.F.Fs.clock g.F.Fs.was
+  fs = record { only_now = g.met.F.Fs.only_now; bound = g.met.F.Fs.bound; told = g.met.F.Fs.told }
+
+pub returns-then-not-frees : goal.returns-then-not-frees
+returns-then-not-frees g c = blocked_acts g.F.Fs.view g.F.Fs.clock g.F.Fs.spare g.F.Fs.was (fs g) g.met.T.Work.laws c.args.base.now c.args.lane c.args.lane c.args.task.now c.requires.ready
+
+pub returns-then-is_err : goal.returns-then-is_err
+returns-then-is_err g c =
+    let r = c.requires in
+    let old = c.args.base.now in
+    let t = c.args.task.now in
+    let b = c.grant.new.self in
+    let e = c.grant.ensures in
+    let is = take_is c.args.wants (g.T.Work.kind_of t) r.kind in
+    let mid = record old { books = b } in
+    let runs = Runs g.T.Work.kind_of g.T.Work.facts c.args.lane t in
+    let ready = take_ready g.F.Fs.view g.F.Fs.clock g.F.Fs.spare g.F.Fs.was g.met.T.Work.laws old b c.args.lane t c.args.wants is e.same e.spared e.keeps e.agrees r.ready in
+    let none : NotPending c.args.lane (books_of b) = subst (λ (k : Kind). Holds k c.args.lane (books_of b)) is ready.task.holds in
+    take_acts g.F.Fs.view g.F.Fs.clock g.F.Fs.spare g.F.Fs.was g.met.T.Work.laws old c.end.new.base b c.args.lane _ runs e.spared e.keeps
+    (still_acts g.F.Fs.view g.F.Fs.clock g.F.Fs.spare g.F.Fs.was (fs g) g.met.T.Work.laws mid mid c.end.new.base c.args.lane c.args.lane runs runs _
+    refl refl (no_time g.F.Fs.view g.F.Fs.clock g.F.Fs.spare g.F.Fs.was (fs g) g.met.T.Work.laws old.fs) ready.sound.ordered.room c.end.ensures none ready)
+
+pub returns : goal.returns
+returns g c = take_acts g.F.Fs.view g.F.Fs.clock g.F.Fs.spare g.F.Fs.was g.met.T.Work.laws c.args.base.now c.quiet.new.base c.grant.new.self c.args.lane c.quiet.result _ c.grant.ensures.spared c.grant.ensures.keeps c.quiet.ensures
