@@ -9,3 +9,4 @@ pub mod Sounds
 pub mod Acting
 pub mod Showing
 pub mod Taking
+pub mod Headlines

@@ -5,3 +5,4 @@ pub mod Rely
 pub mod Sound
 pub mod Change
 pub mod Laws
+pub mod Headline

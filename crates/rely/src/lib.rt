@@ -4,6 +4,7 @@
 
 mod act;
 mod books;
+mod crash;
 mod event;
 mod kind;
 mod locks;
@@ -11,6 +12,7 @@ mod work;
 
 pub use act::{help_act, task_act};
 pub use books::{Base, Books, Entry, Hold, Pending, Pin, Share, Use, Want};
+pub use crash::certify;
 pub use event::Event;
 pub(crate) use locks::is_free;
 pub use kind::{Outcome, Step, Wants};

@@ -1,0 +1,31 @@
+-- From what every value keeps to the headline, and the beginning.
+use Rattle.std.proofs.Common.{◌≡◌, ◌⊎◌, inl, inr, ⊎_elim, ◌≤◌, ℕ, refl, sym, ◌∙◌, ap, subst, arith, List, [], ◌∷◌, ◌++◌, length, take, length-append, append-nil, true, Option, Some, None}
+use Rattle.std.proofs.Math.Seq.{take-append_seam}
+use Rattle.ost_types.specs.Path.{Path, under}
+use Rattle.fs_trait.specs.View.{Disk, View}
+use Rattle.fs_trait.specs.Image.{Image, is_folder, IsTree}
+use Rattle.fs_trait.specs.Seen.{Seen, shows, MayBe, Always}
+use Rattle.fs_trait.specs.Change.{Left}
+use Rattle.rely.specs.declared.books.Base.{Base}
+use Rattle.rely.specs.State.{RefOf, State, first, after, events_of, stored, acked, IsNamed, Ascends}
+use Rattle.rely.specs.Disks.{path_of, Says, Logical, IsGood}
+use Rattle.rely.specs.Books.{books_of, Agrees}
+use Rattle.rely.specs.Sound.{Stands, Fits, Crash, Ordered, Sound}
+use Rattle.rely.specs.Headline.{Has, CrashFits, Headline, state_at}
+use Rattle.rely.proofs.Goods.{has_ref, fits_now}
+use Rattle.rely.proofs.Sounds.{IsFs}
+
+pub headline : {F : Type 0} (view : F → Option View) (clock spare : F → ℕ) (was : F → ℕ → View → Type 0) (base : Base F) → Sound view clock spare was base → (v : View) → view base.fs ≡ Some v → Headline was base
+headline view clock spare was base sound v told = record { crash = crash; run = (sound.stands v told).run }
+  where
+    crash : (t : ℕ) (d : Disk) → base.books.opened ≤ t → Left (was base.fs) t d → CrashFits base t d
+    crash t d from left =
+        let f = (sound.crash v told).each t d from left in
+        let e : take (length f.past) (stored base.books.history.items base.books.pending) ≡ f.past = rw (← f.split) (take-append_seam f.past f.rest) in
+        let logical : Logical d (state_at base (length f.past)) = rw e f.shows in
+        record {
+          count = length f.past;
+          has_acked = f.has_acked;
+          within = rw (← f.split) (omega (arith, length-append f.past f.rest));
+          has = record { good = f.good; logical = logical; refs = λ name. has_ref d name _ (logical (RefOf name)) };
+        }
