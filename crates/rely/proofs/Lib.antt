@@ -10,3 +10,4 @@ pub mod Acting
 pub mod Showing
 pub mod Taking
 pub mod Headlines
+pub mod Openings

@@ -97,13 +97,12 @@ module _ {F : Type 0} (view : F → Option View) (clock spare : F → ℕ) (was 
   }
 
   -- the command ended, and the view is as it was
-  pub still_acts : (old mid new : Base F) (actor lane : ℕ) (runs after : Option View → Books → Type 0) (e : FsErr) → mid ≡ record old { fs = mid.fs } → view mid.fs ≡ view old.fs → Calls old.fs mid.fs → old.books.owed ≤ spare mid.fs → Ends actor lane mid new → NotPending lane (books_of old.books)
+  pub still_acts : (old mid new : Base F) (actor lane : ℕ) (runs after : Option View → Books → Type 0) (e : FsErr) → mid ≡ record old { fs = mid.fs } → ((v : View) → view old.fs ≡ Some v → view mid.fs ≡ Some v) → Calls old.fs mid.fs → old.books.owed ≤ spare mid.fs → Ends actor lane mid new → NotPending lane (books_of old.books)
       → Ready view clock spare was runs old → Acts view clock spare was actor lane (came.Refused e) after old new
   still_acts old mid new actor lane runs after e only unchanged time room ends none ready =
       let same : mid.books ≡ old.books = ap (λ b. b.books) only in
       let history : new.books.history ≡ old.books.history = ends.history ∙ ap (λ b. b.history) same in
       let pending : new.books.pending ≡ old.books.pending = ends.pending ∙ ap (λ b. b.pending) same in
-      let seen : view new.fs ≡ view old.fs = ap view ends.fs ∙ unchanged in
       let spared = subst (λ b. Spared actor lane (books_of b) (books_of new.books)) same ends.spared in
       record {
         sound = sound_goes view clock spare was fslaws old new [] ready.sound (subst (Calls old.fs) (sym ends.fs) time)
@@ -113,10 +112,10 @@ module _ {F : Type 0} (view : F → Option View) (clock spare : F → ℕ) (was 
             (rw (history, pending) (sym (append-nil (stored old.books.history.items old.books.pending))))
             (λ t le. rw history refl)
             (λ v w told_v told_w stands.
-                let one : Some v ≡ Some w = sym told_v ∙ sym seen ∙ told_w in
+                let one : Some v ≡ Some w = sym (unchanged v told_v) ∙ sym (ap view ends.fs) ∙ told_w in
                 let k : v ≡ w = cc in
                 rw (history, pending) (subst (λ x. Stands (first old.books.start.items) old.books.history.items old.books.pending x) k stands));
-        does = λ v told. (v, seen ∙ told, record { writes = same_view (May (books_of old.books) v actor lane) v; books = spared });
+        does = λ v told. (v, ap view ends.fs ∙ unchanged v told, record { writes = same_view (May (books_of old.books) v actor lane) v; books = spared });
         books = spared;
         tells = tt;
       }

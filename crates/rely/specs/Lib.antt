@@ -6,3 +6,5 @@ pub mod Sound
 pub mod Change
 pub mod Laws
 pub mod Headline
+pub mod Opening
+pub mod Barrier

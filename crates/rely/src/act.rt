@@ -21,7 +21,7 @@ fn advance_with_room<T: Work, F: Fs>(
     requires room { base.old.books.owed ≤ F.spare base.old.fs }
     ensures books { base.new ≡ record base.old { fs = base.new.fs } }
     ensures writes { (v : View) → F.view base.old.fs ≡ Some v → Told (F.view base.new.fs) (λ w. Writes (T.writes_of actor task.old v) v w) }
-    ensures unchanged { IsErrOf result NoMemory → F.view base.new.fs ≡ F.view base.old.fs }
+    ensures unchanged { (v : View) → F.view base.old.fs ≡ Some v → IsErrOf result NoMemory → F.view base.new.fs ≡ Some v }
     ensures time { Elapses (F.clock base.old.fs) (F.clock base.new.fs) (F.was base.old.fs) (F.was base.new.fs) (F.view base.new.fs) }
     ensures stepped { IfOk result (λ turn. T.stepped task.old turn task.new) }
     ensures after { (v : View) → F.view base.old.fs ≡ Some v → IfOk result (λ turn. Told (F.view base.new.fs) (λ w. T.leaves task.old turn task.new v w)) }

@@ -3,14 +3,17 @@
 #![tactic(auto)]
 
 mod act;
+mod barrier;
 mod books;
 mod crash;
 mod event;
 mod kind;
 mod locks;
+mod open;
 mod work;
 
 pub use act::{help_act, task_act};
+pub use barrier::Barrier;
 pub use books::{Base, Books, Entry, Hold, Pending, Pin, Share, Use, Want};
 pub use crash::certify;
 pub use event::Event;

@@ -49,7 +49,7 @@ pub trait Work {
     fn advance<F: Fs>(&mut self, actor: u8, fs: &mut F) -> Result<Turn<()>, FsErr>
         requires { (v : View) → F.view fs.old ≡ Some v → needs actor self.old v }
         ensures writes { (v : View) → F.view fs.old ≡ Some v → Told (F.view fs.new) (λ w. Writes (writes_of actor self.old v) v w) }
-        ensures unchanged { IsErrOf result err.NoMemory → F.view fs.new ≡ F.view fs.old }
+        ensures unchanged { (v : View) → F.view fs.old ≡ Some v → IsErrOf result err.NoMemory → F.view fs.new ≡ Some v }
         ensures time { Elapses (F.clock fs.old) (F.clock fs.new) (F.was fs.old) (F.was fs.new) (F.view fs.new) }
         ensures ticks { IsSettle (kind_of self.old) → OnOk result (Next (F.clock fs.old) (F.clock fs.new)) }
         ensures stepped { IfOk result (λ turn. stepped self.old turn self.new) }

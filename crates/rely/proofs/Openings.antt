@@ -1,0 +1,100 @@
+-- The beginning keeps what every value keeps.
+use Rattle.std.proofs.Common.{◌≡◌, ◌≢◌, ◌⊎◌, inl, inr, ⊎_elim, ◌<◌, ◌≤◌, ℕ, refl, sym, ◌∙◌, ap, subst, arith, List, [], ◌∷◌, ◌++◌, length, append-nil, Bool, true, false, Option, Some, None}
+use Rattle.ost_types.specs.Path.{Path, under, is_below}
+use Rattle.fs_trait.specs.declared.types.Value.{Value}
+use Rattle.fs_trait.specs.declared.types.Value.TheVariants.{Absent, Folder, Link, File}
+use Rattle.fs_trait.specs.View.{Disk, View}
+use Rattle.fs_trait.specs.Image.{Image, is_folder, IsTree}
+use Rattle.fs_trait.specs.Seen.{Seen, seen, shows, MayBe, IsDirectory}
+use Rattle.fs_trait.specs.Change.{Left}
+use Rattle.fs_trait.proofs.Images.{folder_or_not}
+use Rattle.fs_trait.proofs.Ways.{above}
+use Rattle.repo_layout.specs.Paths.{folder_path, heads, ref_path}
+use Rattle.repo_layout.specs.Place.{Ref, Other, place}
+use Rattle.repo_layout.specs.Refs.{is_leaf}
+use Rattle.repo_layout.proofs.Places.{place-ref}
+use Rattle.rely.specs.declared.books.Base.{Base}
+use Rattle.rely.specs.State.{Topic, RefOf, Said, State, first, after, events_of, stored, acked, IsNamed, Ascends}
+use Rattle.rely.specs.Disks.{path_of, IsLeaf, Says, Logical, IsOther, IsGood}
+use Rattle.rely.specs.Books.{books_of, Agrees}
+use Rattle.rely.specs.Sound.{Shown, Leads, NoStray, Known, Stands, Fits, Crash, Ordered, Sound}
+use Rattle.rely.specs.Opening.{IsOpening}
+use Rattle.rely.proofs.States.{says_leaf}
+use Rattle.rely.proofs.Layouts.{below_split}
+use Rattle.rely.proofs.Goods.{fits_now}
+use Rattle.rely.proofs.Sounds.{IsFs}
+
+shows_directory : (d : Disk) (z : Value) → is_folder z ≡ true → IsDirectory (seen d z)
+shows_directory d (Folder m) e = tt
+shows_directory d Absent e = let n : false ≡ true = e in cc
+shows_directory d (Link m t) e = let n : false ≡ true = e in cc
+shows_directory d (File k) e = let n : false ≡ true = e in cc
+
+leaf_value : (d : Disk) (z : Value) → IsLeaf (seen d z) → is_leaf z ≡ true
+leaf_value d (Link m t) leaf = refl
+leaf_value d (File n) leaf = refl
+leaf_value d Absent leaf = absurd leaf
+leaf_value d (Folder m) leaf = absurd leaf
+
+module _ (start : State) (v : View) (tree : IsTree v.now) (begins : IsOpening start v) where
+  only : (p : Path) (s : Seen) → MayBe v p s → s ≡ shows v.now p
+  only p s may = (begins.settled p).each s may
+
+  -- the folders above a folder that is there
+  leads_there : (f : Path) → is_folder (v.now.at f) ≡ true → Leads v f
+  leads_there f folder p s may below =
+      let w = below_split p f below in
+      let here : is_folder (v.now.at p) ≡ true = above v.now tree p w.0 (subst (λ q. is_folder (v.now.at q) ≡ true) w.1 folder) in
+      subst IsDirectory (sym (only p s may)) (shows_directory v.now (v.now.at p) here)
+
+  parent_there : (f : Path) (x : List ℕ) → IsLeaf (shows v.now (under f x)) → is_folder (v.now.at f) ≡ true
+  parent_there f x leaf = ⊎_elim (λ is. is)
+      (λ no_. let none : v.now.at (under f x) ≡ Absent = tree.folders f x no_ in let bad : IsLeaf (seen v.now Absent) = subst (λ z. IsLeaf (seen v.now z)) none leaf in absurd bad)
+      (folder_or_not (v.now.at f))
+
+  named : IsNamed start
+  named name commit is = (begins.good.refs name (leaf_value v.now (v.now.at (ref_path name)) (says_leaf name commit _ (subst (λ y. Says (RefOf name) y (shows v.now (ref_path name))) is (begins.state (RefOf name)))))).0
+
+  leads_value : (t : Topic) (f : Path) (x : List ℕ) → path_of t ≡ under f x → (said : Said) → start t ≡ said → (start t ≡ None) ⊎ Leads v f
+  leads_value (RefOf name) f x e None is = inl is
+  leads_value (RefOf name) f x e (Some commit) is =
+      let leaf : IsLeaf (shows v.now (ref_path name)) = says_leaf name commit _ (subst (λ y. Says (RefOf name) y (shows v.now (ref_path name))) is (begins.state (RefOf name))) in
+      inr (leads_there f (parent_there f x (subst (λ q. IsLeaf (shows v.now q)) e leaf)))
+
+  no_stray : (p : Path) (s : Seen) → MayBe v p s → NoStray p s
+  no_stray p s may below other leaf =
+      begins.good.others p below
+      (λ name e. let k : place p ≡ Ref name = ap place e ∙ place-ref name in let bad : IsOther (Ref name) = subst IsOther k other in bad)
+      (leaf_value v.now (v.now.at p) (subst IsLeaf (only p s may) leaf))
+
+  pub stands_begins : Stands start [] None v
+  stands_begins = record {
+    named = named;
+    run = tt;
+    known = record {
+      each = λ t s may. inl (subst (Says t (start t)) (sym (only (path_of t) s may)) (begins.state t));
+      leads = λ t f x e. leads_value t f x e (start t) refl;
+    };
+    folders = λ f. leads_there (folder_path f) (begins.good.folders f);
+    strays = no_stray;
+  }
+
+pub sound_begins : {F : Type 0} (view : F → Option View) (clock spare : F → ℕ) (was : F → ℕ → View → Type 0) → IsFs view clock was → ((fs : F) (v : View) → view fs ≡ Some v → IsTree v.now) → (base : Base F)
+    → base.books.exclusive ≡ None → base.books.turn ≡ None → base.books.history.items ≡ [] → base.books.pending ≡ None → base.books.owed ≡ 0 → base.books.opened ≡ clock base.fs
+    → ((v : View) → view base.fs ≡ Some v → IsOpening (first base.books.start.items) v) → Sound view clock spare was base
+sound_begins view clock spare was fslaws trees base alone turn empty none nothing opened begins = record {
+  ordered = record {
+    agrees = record { turn = λ x y ex. absurd (let z : None ≡ Some x = sym alone ∙ ex in cc); shared = λ x ex. absurd (let z : None ≡ Some x = sym alone ∙ ex in cc) };
+    owner = λ p is. absurd (let z : None ≡ Some p = sym none ∙ is in cc);
+    ascends = rw (empty, opened) (omega arith);
+    idle = λ is. nothing;
+    room = rw nothing (omega arith);
+    entry = λ more. absurd (let z : 0 < 0 = subst (λ n. 0 < n) nothing more in omega (arith, z));
+  };
+  stands = λ v told. rw (empty, none) (stands_begins (first base.books.start.items) v (trees base.fs v told) (begins v told));
+  crash = λ v told. rw (empty, none) (record {
+    each = λ t d from left.
+        let now : view base.fs ≡ Some left.0 = fslaws.only_now base.fs t left.0 (subst (λ n. n ≤ t) opened from) left.1 in
+        fits_now (first base.books.start.items) [] None left.0 (stands_begins (first base.books.start.items) left.0 (trees base.fs left.0 now) (begins left.0 now)) t d left.2;
+  });
+}

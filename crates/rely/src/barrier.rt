@@ -1,0 +1,44 @@
+ghost use Rattle.rely.specs.Barrier.{barrier_kind, barrier_needs, barrier_writes, barrier_stepped, barrier_leaves, barrier_facts, barrier_laws};
+
+use crate::{Event, Step, Work};
+use fs_trait::{Fs, FsErr, Turn};
+use ost_types::NoMemory;
+
+/// A task of one step, which makes outlast a crash all that is there.
+#[derive(Clone, Copy, Debug, PartialEq, Eq)]
+pub struct Barrier;
+
+impl Work for Barrier {
+    ghost kind_of = { barrier_kind };
+
+    ghost needs = { barrier_needs };
+
+    ghost writes_of = { barrier_writes };
+
+    ghost stepped = { barrier_stepped };
+
+    ghost leaves = { barrier_leaves };
+
+    ghost facts = { barrier_facts };
+
+    ghost laws = { barrier_laws };
+
+    fn kind(&self) -> Step {
+        Step::Quiet
+    }
+
+    fn event(&self) -> Result<Event, NoMemory> {
+        Err(NoMemory)
+    }
+
+    fn owes(&self) -> u64 {
+        0
+    }
+
+    fn advance<F: Fs>(&mut self, _actor: u8, fs: &mut F) -> Result<Turn<()>, FsErr> {
+        match fs.sync_all() {
+            Ok(()) => Ok(Turn::Done(())),
+            Err(e) => Err(e),
+        }
+    }
+}

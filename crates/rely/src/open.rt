@@ -1,0 +1,57 @@
+ghost use Rattle.std.specs.Prelude.{◌≡◌, Some, None, [], false};
+ghost use Rattle.fs_trait.specs.View.{View};
+ghost use Rattle.rely.specs.State.{first};
+ghost use Rattle.rely.specs.Sound.{Sound};
+ghost use Rattle.rely.specs.Opening.{IsOpening};
+
+use crate::{Base, Books};
+use fs_trait::Fs;
+use ost_types::Csum;
+use repo_layout::RefName;
+use std::alloc::Global;
+
+impl Books {
+    /// The books at the opening: nobody holds anything, and nothing has changed.
+    fn new(alloc: Global, opened: u64, start: Vec<(RefName, Csum)>) -> Books
+        ensures fresh { result ≡ record { shared = result.shared; exclusive = None; turn = None; sysroot = None; holds = result.holds; wants = result.wants; pins = result.pins; uses = result.uses; history = result.history; pending = None; replies = 0; owed = 0; halted = false; opened = opened; start = start } }
+        ensures history { result.history.items ≡ [] }
+    {
+        Books {
+            shared: Vec::new(alloc),
+            exclusive: None,
+            turn: None,
+            sysroot: None,
+            holds: Vec::new(alloc),
+            wants: Vec::new(alloc),
+            pins: Vec::new(alloc),
+            uses: Vec::new(alloc),
+            history: Vec::new(alloc),
+            pending: None,
+            replies: 0,
+            owed: 0,
+            halted: false,
+            opened,
+            start,
+        }
+    }
+}
+
+impl<F: Fs> Base<F> {
+    /// The file system at the opening, on which everything is synced, with these refs.
+    pub fn new(alloc: Global, fs: F, start: Vec<(RefName, Csum)>) -> Base<F>
+        requires { (v : View) → F.view fs ≡ Some v → IsOpening (first start.items) v }
+        ensures fs { result.fs ≡ fs }
+        ensures start { result.books.start ≡ start }
+        ensures history { result.books.history.items ≡ [] }
+        ensures pending { result.books.pending ≡ None }
+        ensures live { result.books.halted ≡ false }
+        ensures opened { result.books.opened ≡ F.clock fs }
+        ensures sound { Sound F.view F.clock F.spare F.was result }
+    {
+        let opened = fs.clock();
+        Base {
+            fs,
+            books: Books::new(alloc, opened, start),
+        }
+    }
+}
