@@ -154,6 +154,40 @@ module _ {F : Type 0} (view : F → Option View) (clock spare : F → ℕ) (was 
       subst (λ b. Runs kind facts lane next (view mid.fs) (books_of b)) (sym (ap (λ b. b.books) only))
       (quiet_runs old mid.fs actor lane t next is stood ready (subst (λ x. stepped t x next) more step) (λ v told. subst (λ x. Told (view mid.fs) (λ w. leaves t x next v w)) more (after v told)))
 
+-- What a lane's task needs survives what others do.
+module _ {T : Type 0} {kind : T → Kind} {needs : ℕ → T → View → Type 0} {writes : ℕ → T → View → Path → Seen → Type 0} {stepped : T → Turn (Unit {0}) → T → Type 0} {leaves : T → Turn (Unit {0}) → T → View → View → Type 0} {facts : ℕ → T → View → Books → Type 0}
+    (laws : Laws kind needs writes stepped leaves facts) where
+  others_hold : (k : Kind) (actor lane mine : ℕ) (b b' : Books) → mine ≢ lane → Spared actor lane b b' → Holds k mine b → Holds k mine b'
+  others_hold k actor lane mine b b' other spared holds = by k holds
+    where
+      not_mine : NotPending mine b → NotPending mine b'
+      not_mine none p is = ⊎_elim (λ was. none p was) (λ theirs own_p. other (sym own_p ∙ theirs)) (spared.shown p is)
+
+      still : (e : Event) (owed : ℕ) → IsPending e owed mine b → IsPending e owed mine b'
+      still e owed h =
+          let p : Pending = record { lane = mine; command = h.command; event = e } in
+          record { command = h.command; turn = spared.turn mine other h.turn; pending = spared.pending p other h.pending; owes = subst (λ n. owed ≤ n) (sym (spared.owed p other h.pending)) h.owes }
+
+      by : (k : Kind) → Holds k mine b → Holds k mine b'
+      by Quiet h = not_mine h
+      by Store h = not_mine h
+      by (Take wants) h = not_mine h
+      by (Show e) h = not_mine h
+      by (Shown e owed) h = (still e owed h.0, h.1)
+      by (Settle e) h = still e 1 h
+
+  pub runs_kept : {F : Type 0} (view : F → Option View) (told : (fs gs : F) (v : View) → view fs ≡ Some v → Told (view gs) (λ w. Unit {0})) (actor lane mine : ℕ) (t : T) (fs gs : F) (b b' : Books) → mine ≢ actor → mine ≢ lane
+      → ((v : View) → view fs ≡ Some v → (w : View) × (view gs ≡ Some w) × Does actor lane v b w b') → Spared actor lane b b' → Runs kind facts mine t (view fs) b → Runs kind facts mine t (view gs) b'
+  runs_kept view told actor lane mine t fs gs b b' not other does spared runs = record {
+    facts = λ w told_w.
+        let v = told gs fs w told_w in
+        let d = does v.0 v.1 in
+        let one : Some d.0 ≡ Some w = sym d.1 ∙ told_w in
+        let k : d.0 ≡ w = cc in
+        laws.kept actor lane mine t v.0 w b b' not other (subst (λ x. Does actor lane v.0 b x b') k d.2) runs.holds (runs.facts v.0 v.1);
+    holds = others_hold (kind t) actor lane mine b b' other spared runs.holds;
+  }
+
 pub tells_end : {F : Type 0} (view : F → Option View) (runs : Option View → Books → Type 0) (outcome : Outcome) (new : Base F) → IsEnd outcome new → Tells view runs outcome new
 tells_end view runs (came.Refused e) new is = tt
 tells_end view runs came.Halted new is = is

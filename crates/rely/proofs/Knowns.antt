@@ -25,14 +25,10 @@ use Rattle.rely.proofs.States.{topic_same, topic_not, next_here, next_apart, aft
 use Rattle.rely.proofs.Layouts.{above_ref}
 use Rattle.rely.proofs.Mays.{at_place, not_other, ref_turn, leads_stay, folders_harmless, strays_harmless}
 
--- what isn't vacant is there
-there : (d : Disk) (p : Path) → IsLeaf (shows d p) → d.at p ≢ Absent
-there d p leaf e = subst (λ z. IsLeaf (seen d z)) e leaf
-
 -- what has a value shows it now, where nothing is shown
-leaf_now : (value : State) (v : View) → Known (Shown None) value v → (name commit : List ℕ) → value (RefOf name) ≡ Some commit → v.now.at (ref_path name) ≢ Absent
+leaf_now : (value : State) (v : View) → Known (Shown None) value v → (name commit : List ℕ) → value (RefOf name) ≡ Some commit → IsLeaf (shows v.now (ref_path name))
 leaf_now value v known name commit is =
-    there v.now (ref_path name) (says_leaf name commit _ (⊎_elim (λ k. subst (λ y. Says (RefOf name) y (shows v.now (ref_path name))) is k) (λ bad. absurd bad) (known.each (RefOf name) _ (may_now v (ref_path name)))))
+    says_leaf name commit _ (⊎_elim (λ k. subst (λ y. Says (RefOf name) y (shows v.now (ref_path name))) is k) (λ bad. absurd bad) (known.each (RefOf name) _ (may_now v (ref_path name))))
 
 -- what nothing says has no value
 none_here : (value : State) (v : View) → Known (Shown None) value v → (t : Topic) → Says t None (shows v.now (path_of t)) → value t ≡ None

@@ -9,5 +9,6 @@ pub mod Sounds
 pub mod Acting
 pub mod Showing
 pub mod Taking
+pub mod Calls
 pub mod Headlines
 pub mod Openings

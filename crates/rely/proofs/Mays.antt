@@ -17,7 +17,7 @@ use Rattle.repo_layout.specs.Place.{Place, Config, Stage, Ref, ObjectsFolder, Ob
 use Rattle.repo_layout.proofs.Places.{place-ref}
 use Rattle.rely.specs.declared.books.Pin.{Pin}
 use Rattle.rely.specs.Books.{Books, Free}
-use Rattle.rely.specs.Disks.{IsOther}
+use Rattle.rely.specs.Disks.{IsLeaf, IsOther}
 use Rattle.rely.specs.Rely.{May, may_at, OwnTree, IsEmpty, NotOthers}
 use Rattle.rely.specs.Sound.{Leads, NoStray}
 use Rattle.rely.proofs.Layouts.{fixed_other, above_ref, below_split, split_below}
@@ -76,6 +76,9 @@ both (Leaf n m b) no_ is = is
 
 absent_no : (d : Disk) (z : Value) → z ≡ Absent → IsDirectory (seen d z) → ⊥
 absent_no d z e is = let k : IsDirectory (seen d Absent) = subst (λ y. IsDirectory (seen d y)) e is in k
+
+absent_leaf : (d : Disk) (z : Value) → z ≡ Absent → IsLeaf (seen d z) → ⊥
+absent_leaf d z e leaf = let k : IsLeaf (seen d Absent) = subst (λ y. IsLeaf (seen d y)) e leaf in k
 
 module _ (b : Books) (v : View) (actor lane : ℕ) where
   abbrev M : Path → Seen → Type 0
@@ -139,8 +142,8 @@ module _ (b : Books) (v : View) (actor lane : ℕ) where
   pub exclusive_apart : (mine : ℕ) (kind : object.Kind) (sum : List ℕ) (p : Path) (s : Seen) → b.exclusive ≡ Some mine → mine ≢ lane → place p ≡ Object kind sum → M p s → ⊥
   exclusive_apart mine kind sum p s alone other at m = other ((at_place p s (Object kind sum) at m).0 mine alone)
 
-  -- what is on the way to a path that isn't vacant now, whoever writes
-  pub leads_stay : (name : List ℕ) (f : Path) (x : Name) → ref_path name ≡ under f x → v.now.at (ref_path name) ≢ Absent → Leads v f → Harmless M (LeadsTo f)
+  -- what is on the way to a ref that is there now, whoever writes
+  pub leads_stay : (name : List ℕ) (f : Path) (x : Name) → ref_path name ≡ under f x → IsLeaf (shows v.now (ref_path name)) → Leads v f → Harmless M (LeadsTo f)
   leads_stay name f x e there leads p s m below =
       let front = below_split p f below in
       let is_now : IsDirectory (shows v.now p) = leads p _ (may_now v p) below in
@@ -151,7 +154,7 @@ module _ (b : Books) (v : View) (actor lane : ℕ) where
           (λ folder. folder)
           (λ more. absurd (⊎_elim
               (λ leaf. both (shows v.now p) leaf is_now)
-              (λ last. ⊎_elim (λ own. no_tree r.0 (subst (OwnTree actor) r.1 own)) (λ empty. not_empty front.0 front.1 empty) last)
+              (λ last. ⊎_elim (λ own. no_tree r.0 (subst (OwnTree actor) r.1 own)) (λ none. ⊎_elim (λ empty. not_empty front.0 front.1 empty) (λ refs. refs name on there) none) last)
               more))
           m.folders)
       (above_ref name p on)
@@ -160,7 +163,7 @@ module _ (b : Books) (v : View) (actor lane : ℕ) where
       no_tree n own = own
 
       not_empty : (rest : Path) → f ≡ p ++ rest → IsEmpty v p → ⊥
-      not_empty [] is empty = there (ap v.now.at (e ∙ ap (λ q. under q x) (is ∙ append-nil p)) ∙ empty x)
+      not_empty [] is empty = absent_leaf v.now (v.now.at (ref_path name)) (ap v.now.at (e ∙ ap (λ q. under q x) (is ∙ append-nil p)) ∙ empty x) there
       not_empty (y ∷ rest) is empty =
           let step : f ≡ under p y ++ rest = is ∙ sym (append_assoc p (y ∷ []) rest) in
           absent_no v.now (v.now.at (under p y)) (empty y) (leads (under p y) _ (may_now v (under p y)) (subst (λ q. is_below (under p y) q ≡ true) (sym step) (split_below (under p y) rest)))

@@ -1,16 +1,18 @@
 -- What an actor may write, as far as what the others hold goes, and what an act keeps for them.
-use Rattle.std.specs.Prelude.{◌≡◌, ◌⊎◌, ℕ, List, Contains, Option, Some}
+use Rattle.std.specs.Prelude.{◌≡◌, ◌⊎◌, ℕ, List, Contains, IsTrue, Option, Some}
 use Rattle.ost_types.specs.declared.meta.Meta.{Meta}
 use Rattle.ost_types.specs.declared.object.Kind as object
-use Rattle.ost_types.specs.Path.{Name, Path, under}
+use Rattle.ost_types.specs.Path.{Name, Path, under, is_below}
 use Rattle.fs_trait.specs.declared.types.Value.TheVariants.{Absent, File}
 use Rattle.fs_trait.specs.View.{View}
 use Rattle.fs_trait.specs.Image.{Holds}
 use Rattle.fs_trait.specs.Effect.{IsFresh}
 use Rattle.fs_trait.specs.Seen.{Seen, Vacant, Leaf, shows, IsDirectory, NotDirectory}
 use Rattle.fs_trait.specs.Change.{Writes}
+use Rattle.repo_layout.specs.Paths.{ref_path}
 use Rattle.repo_layout.specs.Place.{Place, Config, Stage, Ref, ObjectsFolder, Object, Mark, Summary, Deployment, Etc, Origin, Staged, BootLink, BootLinkStage, BootFolder, Loader, LoaderStage, LoaderFolder, KernelCopy, Checkout, Other, place}
 use Rattle.rely.specs.declared.books.Pin.{Pin}
+use Rattle.rely.specs.Disks.{IsLeaf}
 use Rattle.rely.specs.Books.{Books, Free, Spared}
 
 -- no other lane has pinned the object
@@ -53,12 +55,17 @@ OwnTree actor x = ⊥
 abbrev pub IsEmpty : View → Path → Type 0
 IsEmpty v p = (x : Name) → v.now.at (under p x) ≡ Absent
 
+-- no ref stands at the folder or below it
+abbrev pub HasNoRefs : View → Path → Type 0
+HasNoRefs v p = (name : List ℕ) → IsTrue (is_below p (ref_path name)) → IsLeaf (shows v.now (ref_path name)) → ⊥
+
 -- What this actor, for this lane, may write over this view: something that may be at such a place; no file but a new one, or
--- one that stands at a path that is no other's staging path; and nothing in a folder's place, but where the folder is empty.
+-- one that stands at a path that is no other's staging path; and nothing in a folder's place, but where nothing, or no ref, is in
+-- the folder.
 pub record May (b : Books) (v : View) (actor lane : ℕ) (p : Path) (s : Seen) : Type 0 where
   pub at : may_at b actor lane (place p) s
   pub comes : (n : ℕ) (m : Meta) (bytes : List ℕ) → s ≡ Leaf n m bytes → IsFresh n v ⊎ ((q : Path) × Holds v q (File n) × NotOthers actor (place q))
-  pub folders : IsDirectory s ⊎ NotDirectory (shows v.now p) ⊎ OwnTree actor (place p) ⊎ IsEmpty v p
+  pub folders : IsDirectory s ⊎ NotDirectory (shows v.now p) ⊎ OwnTree actor (place p) ⊎ IsEmpty v p ⊎ HasNoRefs v p
 
 -- An act of this actor for this lane: its writes, and all that others hold stays.
 pub record Does (actor lane : ℕ) (v : View) (b : Books) (w : View) (b' : Books) : Type 0 where

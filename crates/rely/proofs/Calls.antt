@@ -1,0 +1,113 @@
+-- What single calls owe: each kind of call once, for the tasks of all commands.
+use Rattle.std.proofs.Common.{◌≡◌, ◌≢◌, ◌⊎◌, inl, inr, ⊎_elim, ℕ, true, refl, sym, ◌∙◌, ap, subst, List, [], ◌∷◌, ◌++◌, Option, Some, None}
+use Rattle.ost_types.specs.declared.meta.Meta.{Meta}
+use Rattle.ost_types.specs.Path.{Path, under, is_below}
+use Rattle.ost_types.proofs.Paths.{same_name-Decides}
+use Rattle.fs_trait.specs.declared.types.Value.TheVariants.{File}
+use Rattle.fs_trait.specs.View.{View}
+use Rattle.fs_trait.specs.Image.{Holds}
+use Rattle.fs_trait.specs.Effect.{IsFresh}
+use Rattle.fs_trait.specs.Seen.{Seen, Vacant, Directory, Symlink, Leaf, shows, MayBe, IsDirectory, NotDirectory, bytes_in}
+use Rattle.fs_trait.specs.Change.{Nothing}
+use Rattle.repo_layout.specs.RefName.{IsRefName}
+use Rattle.repo_layout.specs.RefFile.{IsSum, ref_text}
+use Rattle.repo_layout.specs.Paths.{ref_path}
+use Rattle.repo_layout.specs.Place.{Place, Stage, Ref, place}
+use Rattle.repo_layout.proofs.Places.{place-ref, ref_path-injective}
+use Rattle.rely.specs.declared.event.Event.{Event}
+use Rattle.rely.specs.declared.event.Event.TheVariants.{SetRef, DropRef}
+use Rattle.rely.specs.State.{Topic, RefOf, Said, target, before, gives}
+use Rattle.rely.specs.Disks.{path_of, IsLeaf, Says}
+use Rattle.rely.specs.Books.{Books, Free}
+use Rattle.rely.specs.Rely.{May, may_at, NotOthers, OwnTree, HasNoRefs}
+use Rattle.rely.specs.Sound.{ShownBy, Leads}
+use Rattle.rely.specs.Change.{Still, Away, Shows, Final}
+use Rattle.rely.specs.Laws.{Within}
+use Rattle.rely.proofs.States.{says_vacant}
+
+-- a staging path is no ref's
+pub stage_no_ref : (t : Topic) (p : Path) (a : ℕ) → place p ≡ Stage a → path_of t ≡ p → ⊥
+stage_no_ref (RefOf name) p a at e = let k : Ref name ≡ Stage a = sym (place-ref name) ∙ ap place e ∙ at in cc
+
+-- A sync, or no call.
+pub sync_within : (b : Books) (v : View) (actor lane : ℕ) → Within Nothing (May b v actor lane)
+sync_within b v actor lane p s wrote = absurd wrote
+
+pub sync_still : (v : View) → Still Nothing v
+sync_still v t s wrote = absurd wrote
+
+-- A write at the actor's own staging path.
+pub stage_within : (b : Books) (v : View) (actor lane : ℕ) (p : Path) (s : Seen) → place p ≡ Stage actor
+    → ((n : ℕ) (m : Meta) (bytes : List ℕ) → s ≡ Leaf n m bytes → IsFresh n v ⊎ ((q : Path) × Holds v q (File n) × NotOthers actor (place q))) → May b v actor lane p s
+stage_within b v actor lane p s at comes = record {
+  at = subst (λ x. may_at b actor lane x s) (sym at) refl;
+  comes = comes;
+  folders = inr (inr (inl (subst (OwnTree actor) (sym at) refl)));
+}
+
+pub own_file : (v : View) (actor : ℕ) (q : Path) (n : ℕ) → place q ≡ Stage actor → v.now.at q ≡ File n → (r : Path) × Holds v r (File n) × NotOthers actor (place r)
+own_file v actor q n at is = (q, inl (sym is), λ a e. let k : Stage actor ≡ Stage a = sym at ∙ e in cc)
+
+-- Whatever is written at staging paths alone changes nothing that the state speaks of.
+pub stage_still : (W : Path → Seen → Type 0) (v : View) (actor : ℕ) → ((p : Path) (s : Seen) → W p s → place p ≡ Stage actor) → Still W v
+stage_still W v actor at t s wrote = absurd (stage_no_ref t (path_of t) actor (at (path_of t) s wrote) refl)
+
+pub stage_away : (W : Path → Seen → Type 0) (actor : ℕ) → ((p : Path) (s : Seen) → W p s → place p ≡ Stage actor) → Away W
+stage_away W actor at t s wrote = stage_no_ref t (path_of t) actor (at (path_of t) s wrote) refl
+
+-- A write at a ref's path, or at a folder above refs, under the Turn.
+pub ref_within : (b : Books) (v : View) (actor lane : ℕ) (name : List ℕ) (p : Path) (s : Seen) → p ≡ ref_path name → Free b.turn lane → Free b.exclusive lane
+    → ((n : ℕ) (m : Meta) (bytes : List ℕ) → s ≡ Leaf n m bytes → IsFresh n v ⊎ ((q : Path) × Holds v q (File n) × NotOthers actor (place q)))
+    → IsDirectory s ⊎ NotDirectory (shows v.now p) ⊎ HasNoRefs v p → May b v actor lane p s
+ref_within b v actor lane name p s e turn alone comes folders = record {
+  at = subst (λ x. may_at b actor lane x s) (sym (ap place e ∙ place-ref name)) (turn, alone);
+  comes = comes;
+  folders = ⊎_elim (λ k. inl k) (λ rest. ⊎_elim (λ k. inr (inl k)) (λ k. inr (inr (inr (inr k)))) rest) folders;
+}
+
+no_leaf : (s : Seen) → IsDirectory s → IsLeaf s → ⊥
+no_leaf (Directory m) is leaf = leaf
+no_leaf Vacant is leaf = is
+no_leaf (Symlink m t) is leaf = is
+no_leaf (Leaf n m b) is leaf = is
+
+-- a folder, or nothing, in the place of a folder or of nothing
+pub folder_still : (W : Path → Seen → Type 0) (v : View) → ((p : Path) (s : Seen) → W p s → ((s ≡ Vacant) ⊎ IsDirectory s) × ((shows v.now p ≡ Vacant) ⊎ IsDirectory (shows v.now p))) → Still W v
+folder_still W v shape (RefOf name) s wrote =
+    let k = shape (ref_path name) s wrote in
+    let none : (x : Seen) → (x ≡ Vacant) ⊎ IsDirectory x → Says (RefOf name) None x = (λ x is. ⊎_elim (λ e. subst (λ y. Says (RefOf name) None y) (sym e) (says_vacant (RefOf name))) (λ d. no_leaf x d) is) in
+    (none s k.0, none (shows v.now (ref_path name)) k.1)
+
+-- The rename of a ref's staged file to its path.
+pub set_shows : (W : Path → Seen → Type 0) (v : View) (actor : ℕ) (name commit : List ℕ) (seen : Option (List ℕ))
+    → ((p : Path) (s : Seen) → W p s → (place p ≡ Stage actor) ⊎ ((p ≡ ref_path name) × (bytes_in s ≡ Some (ref_text commit))))
+    → IsRefName name → IsSum commit → Says (RefOf name) seen (shows v.now (ref_path name)) → Shows W v (SetRef name seen commit)
+set_shows W v actor name commit seen lies is sum was = record {
+  writes = writes;
+  valid = (is, sum);
+  was = was;
+}
+  where
+    writes : (t : Topic) (s : Seen) → W (path_of t) s → ShownBy (SetRef name seen commit) t s
+    writes (RefOf n) s wrote = ⊎_elim
+        (λ at. absurd (stage_no_ref (RefOf n) (ref_path n) actor at refl))
+        (λ k. (ap RefOf (ref_path-injective n name k.0), (sum, k.1)))
+        (lies (ref_path n) s wrote)
+
+-- The unlink of a ref's file.
+pub drop_shows : (W : Path → Seen → Type 0) (v : View) (name seen : List ℕ) → ((p : Path) (s : Seen) → W p s → (p ≡ ref_path name) × (s ≡ Vacant))
+    → IsRefName name → Says (RefOf name) (Some seen) (shows v.now (ref_path name)) → Shows W v (DropRef name seen)
+drop_shows W v name seen lies is was = record { writes = writes; valid = is; was = was }
+  where
+    writes : (t : Topic) (s : Seen) → W (path_of t) s → ShownBy (DropRef name seen) t s
+    writes (RefOf n) s wrote =
+        let k = lies (ref_path n) s wrote in
+        (ap RefOf (ref_path-injective n name k.0), subst (λ y. Says (RefOf n) None y) (sym k.1) (says_vacant (RefOf n)))
+
+-- The sync that makes it last.
+pub set_final : (w : View) (name commit : List ℕ) (seen : Option (List ℕ)) → IsSum commit → ((s : Seen) → MayBe w (ref_path name) s → bytes_in s ≡ Some (ref_text commit))
+    → ((f : Path) (x : List ℕ) → ref_path name ≡ under f x → Leads w f) → Final (SetRef name seen commit) w
+set_final w name commit seen sum only leads = record { only = λ s may. (sum, only s may); leads = λ c is. leads }
+
+pub drop_final : (w : View) (name seen : List ℕ) → ((s : Seen) → MayBe w (ref_path name) s → IsLeaf s → ⊥) → Final (DropRef name seen) w
+drop_final w name seen only = record { only = only; leads = λ c is. absurd (let z : None ≡ Some c = is in cc) }
