@@ -113,9 +113,9 @@ module _ {F : Type 0} (view : F → Option View) (clock spare : F → ℕ) (was 
       (rw (history, pending) (sym (append-nil (stored old.books.history.items old.books.pending))))
       (λ t le. rw history refl)
       (λ v w told_v told_w stands.
-          let parts = quiet_parts old actor lane t by is stood ready v told_v in
-          let wrote_w : Writes (writes actor t v) v w = told_same (view mid.fs) w (ap view (sym ends.fs) ∙ told_w) (wrote v told_v) in
-          rw (history, pending) (stands_quiet (first old.books.start.items) old.books.history.items (books_of old.books) actor lane (writes actor t v) v w wrote_w parts.0 parts.1 ready.sound.ordered.owner none stands))
+      let parts = quiet_parts old actor lane t by is stood ready v told_v in
+      let wrote_w : Writes (writes actor t v) v w = told_same (view mid.fs) w (ap view (sym ends.fs) ∙ told_w) (wrote v told_v) in
+      rw (history, pending) (stands_quiet (first old.books.start.items) old.books.history.items (books_of old.books) actor lane (writes actor t v) v w wrote_w parts.0 parts.1 ready.sound.ordered.owner none stands))
 
   pub quiet_does : (old mid new : Base F) (actor lane : ℕ) (t : T) → mid.books ≡ old.books → Ends actor lane mid new → IsBy (kind t) actor lane → IsQuiet (kind t) → Stood (kind t) actor lane (books_of old.books) → Ready view clock spare was (Runs kind facts lane t) old
       → Wrote old.fs mid.fs actor t → (v : View) → view old.fs ≡ Some v → (w : View) × (view new.fs ≡ Some w) × Does actor lane v (books_of old.books) w (books_of new.books)

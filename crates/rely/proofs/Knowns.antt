@@ -51,9 +51,9 @@ module _ (W : Path → Seen → Type 0) (v w : View) (writes : Writes W v w) whe
   leads_away : (b : Books) (actor lane : ℕ) (shown : Topic → Seen → Type 0) (value : State) → Within W (May b v actor lane) → Away W → Known shown value v → (t : Topic) (f : Path) (x : List ℕ) → path_of t ≡ under f x → (value t ≡ None) ⊎ Leads w f
   leads_away b actor lane shown value within away known (RefOf name) f x e = ⊎_elim (λ none. inl none)
       (λ leads. inr (leads_on f (λ p s wrote below. absurd (⊎_elim
-          (λ o. not_other b v actor lane p s o (within p s wrote))
-          (λ r. away (RefOf r.0) s (subst (λ q. W q s) r.2 wrote))
-          (above_ref name p (subst (λ q. is_below p q ≡ true) (sym e) (is_below-under p f x below))))) leads))
+      (λ o. not_other b v actor lane p s o (within p s wrote))
+      (λ r. away (RefOf r.0) s (subst (λ q. W q s) r.2 wrote))
+      (above_ref name p (subst (λ q. is_below p q ≡ true) (sym e) (is_below-under p f x below))))) leads))
       (known.leads (RefOf name) f x e)
 
   pub known_away : (b : Books) (actor lane : ℕ) (shown : Topic → Seen → Type 0) (value : State) → Within W (May b v actor lane) → Away W → Known shown value v → Known shown value w

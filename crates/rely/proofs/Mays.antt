@@ -151,12 +151,12 @@ module _ (b : Books) (v : View) (actor lane : ℕ) where
       ⊎_elim
       (λ o. absurd (not_other p s o m))
       (λ r. ⊎_elim
-          (λ folder. folder)
-          (λ more. absurd (⊎_elim
-              (λ leaf. both (shows v.now p) leaf is_now)
-              (λ last. ⊎_elim (λ own. no_tree r.0 (subst (OwnTree actor) r.1 own)) (λ none. ⊎_elim (λ empty. not_empty front.0 front.1 empty) (λ refs. refs name on there) none) last)
-              more))
-          m.folders)
+      (λ folder. folder)
+      (λ more. absurd (⊎_elim
+      (λ leaf. both (shows v.now p) leaf is_now)
+      (λ last. ⊎_elim (λ own. no_tree r.0 (subst (OwnTree actor) r.1 own)) (λ none. ⊎_elim (λ empty. not_empty front.0 front.1 empty) (λ refs. refs name on there) none) last)
+      more))
+      m.folders)
       (above_ref name p on)
     where
       no_tree : (n : List ℕ) → OwnTree actor (Ref n) → ⊥

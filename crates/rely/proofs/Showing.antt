@@ -112,9 +112,9 @@ module _ {F : Type 0} (view : F → Option View) (clock spare : F → ℕ) (was 
             (rw (history, pending) (sym (append-nil (stored old.books.history.items old.books.pending))))
             (λ t le. rw history refl)
             (λ v w told_v told_w stands.
-                let one : Some v ≡ Some w = sym (unchanged v told_v) ∙ sym (ap view ends.fs) ∙ told_w in
-                let k : v ≡ w = cc in
-                rw (history, pending) (subst (λ x. Stands (first old.books.start.items) old.books.history.items old.books.pending x) k stands));
+            let one : Some v ≡ Some w = sym (unchanged v told_v) ∙ sym (ap view ends.fs) ∙ told_w in
+            let k : v ≡ w = cc in
+            rw (history, pending) (subst (λ x. Stands (first old.books.start.items) old.books.history.items old.books.pending x) k stands));
         does = λ v told. (v, ap view ends.fs ∙ unchanged v told, record { writes = same_view (May (books_of old.books) v actor lane) v; books = spared });
         books = spared;
         tells = tt;
@@ -185,9 +185,9 @@ module _ {F : Type 0} (view : F → Option View) (clock spare : F → ℕ) (was 
             (rw none (ap (λ (l : List Event). l ++ e ∷ []) (sym (append-nil (events_of old.books.history.items)))))
             (λ t le. refl)
             (λ v w told_v told_w stands.
-                let d = show_duty old lane t e is turn_free free ready v told_v in
-                stands_show (first old.books.start.items) old.books.history.items (books_of old.books) lane lane p (writes lane t v) v w (told_same (view fs) w told_w (wrote v told_v)) d.0 d.1
-                (subst (λ (o : Option Pending). Stands (first old.books.start.items) old.books.history.items o v) none stands));
+            let d = show_duty old lane t e is turn_free free ready v told_v in
+            stands_show (first old.books.start.items) old.books.history.items (books_of old.books) lane lane p (writes lane t v) v w (told_same (view fs) w told_w (wrote v told_v)) d.0 d.1
+            (subst (λ (o : Option Pending). Stands (first old.books.start.items) old.books.history.items o v) none stands));
         does = λ v told. let w = wrote v told in let d = show_duty old lane t e is turn_free free ready v told in
             (w.0, w.1, record { writes = weaker (writes lane t v) (May (books_of old.books) v lane lane) v w.0 d.0 w.2; books = spared });
         books = spared;
@@ -250,8 +250,8 @@ module _ {F : Type 0} (view : F → Option View) (clock spare : F → ℕ) (was 
             })
             refl refl (sym (append-nil (stored old.books.history.items old.books.pending))) (λ t le. refl)
             (λ v w told_v told_w stands.
-                let d = parts v told_v in
-                stands_away (first old.books.start.items) old.books.history.items (books_of old.books) lane lane (writes lane t v) v w (told_same (view fs) w told_w (wrote v told_v)) d.0 d.1 stands);
+            let d = parts v told_v in
+            stands_away (first old.books.start.items) old.books.history.items (books_of old.books) lane lane (writes lane t v) v w (told_same (view fs) w told_w (wrote v told_v)) d.0 d.1 stands);
         does = λ v told. let w = wrote v told in let d = parts v told in
             (w.0, w.1, record { writes = weaker (writes lane t v) (May (books_of old.books) v lane lane) v w.0 d.0 w.2; books = spared });
         books = spared;
@@ -370,12 +370,12 @@ module _ {F : Type 0} (view : F → Option View) (clock spare : F → ℕ) (was 
             (rw (history, none) (append-nil (events_of (old.books.history.items ++ en ∷ [])) ∙ events_push old.books.history.items en ∙ sym (append-nil (events_of old.books.history.items ++ e ∷ [])) ∙ ap (λ (o : Option Pending). stored old.books.history.items o ++ []) (sym pend.pending)))
             (λ t le. rw history (acked_late t old.books.history.items en (omega (arith, le, ticks.is))))
             (λ v w told_v told_w stands.
-                let told_m : view mid.fs ≡ Some w = ap view (sym ends.fs) ∙ told_w in
-                let d = settle_duty old lane t next e is ready v told_v in
-                rw (history, none) (stands_settle (first old.books.start.items) old.books.history.items p en v w refl
-                (weaker (writes lane t v) Nothing v w d.0 (told_same (view mid.fs) w told_m (wrote v told_v)))
-                (d.1 w (told_same (view mid.fs) w told_m (subst (λ x. Told (view mid.fs) (λ w. leaves t x next v w)) done (after v told_v))))
-                (subst (λ (o : Option Pending). Stands (first old.books.start.items) old.books.history.items o v) pend.pending stands)));
+            let told_m : view mid.fs ≡ Some w = ap view (sym ends.fs) ∙ told_w in
+            let d = settle_duty old lane t next e is ready v told_v in
+            rw (history, none) (stands_settle (first old.books.start.items) old.books.history.items p en v w refl
+            (weaker (writes lane t v) Nothing v w d.0 (told_same (view mid.fs) w told_m (wrote v told_v)))
+            (d.1 w (told_same (view mid.fs) w told_m (subst (λ x. Told (view mid.fs) (λ w. leaves t x next v w)) done (after v told_v))))
+            (subst (λ (o : Option Pending). Stands (first old.books.start.items) old.books.history.items o v) pend.pending stands)));
         does = λ v told. let w = wrote v told in let d = settle_duty old lane t next e is ready v told in
             (w.0, ap view ends.fs ∙ w.1, record { writes = weaker (writes lane t v) (May (books_of old.books) v lane lane) v w.0 (λ q s k. absurd (d.0 q s k)) w.2; books = spared });
         books = spared;

@@ -114,6 +114,13 @@ abbrev pub IsShown : Kind → Type 0
 IsShown (Shown e owed) = Unit {0}
 IsShown k = ⊥
 
+-- the step shows a change or is owed by one
+abbrev pub IsOwing : Kind → Type 0
+IsOwing (Show e) = Unit {0}
+IsOwing (Shown e owed) = Unit {0}
+IsOwing (Settle e) = Unit {0}
+IsOwing k = ⊥
+
 abbrev pub IsStore : Kind → Type 0
 IsStore Store = Unit {0}
 IsStore k = ⊥

@@ -8,3 +8,4 @@ pub mod Laws
 pub mod Headline
 pub mod Opening
 pub mod Barrier
+pub mod Exact

@@ -1,12 +1,16 @@
-ghost use Rattle.std.specs.Prelude.{◌≡◌, ◌≢◌, ◌≤◌, ◌<◌, ℕ, true, Option, Some, None, IfOk, OnOk, IsErrOf};
+ghost use Rattle.std.specs.Prelude.{◌≡◌, ◌≢◌, ◌⊎◌, ◌≤◌, ◌<◌, ℕ, true, Option, Some, None, IfOk, IfErr, OnOk, IsErrOf};
 ghost use Rattle.fs_trait.specs.declared.types.FsErr.TheVariants.{NoMemory};
 ghost use Rattle.fs_trait.specs.View.{View};
 ghost use Rattle.fs_trait.specs.Image.{Told};
 ghost use Rattle.fs_trait.specs.Change.{Writes};
-ghost use Rattle.fs_trait.specs.Effect.{Elapses, HasCause, Next};
+ghost use Rattle.fs_trait.specs.Effect.{Elapses, HasCause, Next, OfNone};
 ghost use Rattle.std.specs.Vec.{vec_len, vec_capacity};
-ghost use Rattle.rely.specs.Books.{books_of, Free};
-ghost use Rattle.rely.specs.Laws.{IsShow, IsShown, IsSettle, IsQuiet, IsStore, IsTake, KeepsRoom, owed_by, Ready, Runs, IsBy, Stood, Acts, Ends, IsEnd, Show, Shown, Settle};
+ghost use Rattle.rely.specs.declared.event.Event.{Event};
+ghost use Rattle.rely.specs.declared.kind.Outcome.TheVariants as Outcome;
+ghost use Rattle.fs_trait.specs.declared.types.FsErr.TheVariants as FsErr;
+ghost use Rattle.rely.specs.Books.{books_of, Free, Frees};
+ghost use Rattle.rely.specs.Exact.{Opens, Steps, IsUnbooked, IsShownBy, IsSettledBy, IsBooked, Causes};
+ghost use Rattle.rely.specs.Laws.{IsShow, IsShown, IsOwing, IsSettle, IsQuiet, IsStore, IsTake, KeepsRoom, owed_by, Ready, Runs, IsBy, Stood, Acts, Ends, IsEnd, Show, Shown, Settle};
 
 use crate::{Base, Event, Outcome, Step, Wants, Work, is_free};
 use fs_trait::{Fs, FsErr, Turn};
@@ -23,6 +27,8 @@ fn advance_with_room<T: Work, F: Fs>(
     ensures writes { (v : View) → F.view base.old.fs ≡ Some v → Told (F.view base.new.fs) (λ w. Writes (T.writes_of actor task.old v) v w) }
     ensures unchanged { (v : View) → F.view base.old.fs ≡ Some v → IsErrOf result NoMemory → F.view base.new.fs ≡ Some v }
     ensures time { Elapses (F.clock base.old.fs) (F.clock base.new.fs) (F.was base.old.fs) (F.was base.new.fs) (F.view base.new.fs) }
+    ensures cause { HasCause (F.faults base.old.fs) (F.faults base.new.fs) result }
+    ensures fails { (v : View) → F.view base.old.fs ≡ Some v → IsOwing (T.kind_of task.old) → IfErr result OfNone }
     ensures stepped { IfOk result (λ turn. T.stepped task.old turn task.new) }
     ensures after { (v : View) → F.view base.old.fs ≡ Some v → IfOk result (λ turn. Told (F.view base.new.fs) (λ w. T.leaves task.old turn task.new v w)) }
     ensures room { base.old.books.owed ≤ F.spare base.new.fs }
@@ -47,6 +53,7 @@ fn end<F>(base: &mut Base<F>, actor: u8, lane: u8)
 fn refuse<F: Fs>(base: &mut Base<F>, actor: u8, lane: u8, before: u64, e: FsErr) -> Outcome
     ensures ends { Ends actor lane base.old base.new }
     ensures told { IsEnd result base.new }
+    ensures answer { ((result ≡ Outcome.Halted) × (e ≡ FsErr.Failed)) ⊎ (result ≡ Outcome.Refused e) }
 {
     if e == FsErr::Failed && base.fs.clock() != before {
         base.books.halted = true;
@@ -62,7 +69,11 @@ fn quiet<T: Work, F: Fs>(base: &mut Base<F>, actor: u8, lane: u8, task: &mut T) 
     requires by { IsBy (T.kind_of task.old) actor lane }
     requires unseen { IsQuiet (T.kind_of task.old) }
     requires stood { Stood (T.kind_of task.old) actor lane (books_of base.old.books) }
-    ensures { Acts F.view F.clock F.spare F.was actor lane result (Runs T.kind_of T.facts lane task.new) base.old base.new }
+    ensures acts { Acts F.view F.clock F.spare F.was actor lane result (Runs T.kind_of T.facts lane task.new) base.old base.new }
+    ensures steps { Steps T.stepped task.old result task.new }
+    ensures goes { result ≢ Outcome.Blocked }
+    ensures booked { IsUnbooked base.old.books base.new.books }
+    ensures cause { Causes (F.faults base.old.fs) (F.faults base.new.fs) result }
 {
     let before = base.fs.clock();
     match advance_with_room(base, actor, task) {
@@ -79,7 +90,12 @@ fn quiet<T: Work, F: Fs>(base: &mut Base<F>, actor: u8, lane: u8, task: &mut T) 
 fn show<T: Work, F: Fs>(base: &mut Base<F>, lane: u8, command: u32, task: &mut T) -> Outcome
     requires ready { Ready F.view F.clock F.spare F.was (Runs T.kind_of T.facts lane task.old) base.old }
     requires kind { IsShow (T.kind_of task.old) }
-    ensures { Acts F.view F.clock F.spare F.was lane lane result (Runs T.kind_of T.facts lane task.new) base.old base.new }
+    ensures acts { Acts F.view F.clock F.spare F.was lane lane result (Runs T.kind_of T.facts lane task.new) base.old base.new }
+    ensures steps { Steps T.stepped task.old result task.new }
+    ensures blocked { result ≡ Outcome.Blocked → (base.new ≡ base.old) × ((Free base.old.books.exclusive lane × Free base.old.books.turn lane) → ⊥) }
+    ensures opens { result ≢ Outcome.Blocked → (Free base.old.books.exclusive lane × Free base.old.books.turn lane) }
+    ensures booked { (e : Event) → T.kind_of task.old ≡ Show e → IsShownBy lane command e result base.old.books base.new.books }
+    ensures cause { (v : View) → F.view base.old.fs ≡ Some v → Causes (F.faults base.old.fs) (F.faults base.new.fs) result }
 {
     if !base.books.frees_turn(lane) {
         return Outcome::Blocked;
@@ -107,7 +123,11 @@ fn show_event<T: Work, F: Fs>(
     requires kind { T.kind_of task.old ≡ Show event }
     requires free { Free base.old.books.exclusive lane × Free base.old.books.turn lane }
     requires entry { vec_len base.old.books.history < vec_capacity base.old.books.history }
-    ensures { Acts F.view F.clock F.spare F.was lane lane result (Runs T.kind_of T.facts lane task.new) base.old base.new }
+    ensures acts { Acts F.view F.clock F.spare F.was lane lane result (Runs T.kind_of T.facts lane task.new) base.old base.new }
+    ensures steps { Steps T.stepped task.old result task.new }
+    ensures goes { result ≢ Outcome.Blocked }
+    ensures booked { IsShownBy lane command event result base.old.books base.new.books }
+    ensures cause { (v : View) → F.view base.old.fs ≡ Some v → Causes (F.faults base.old.fs) (F.faults base.new.fs) result }
 {
     match advance_with_room(base, lane, task) {
         Ok(_) => {
@@ -130,7 +150,11 @@ fn show_event<T: Work, F: Fs>(
 fn shown<T: Work, F: Fs>(base: &mut Base<F>, lane: u8, task: &mut T) -> Outcome
     requires ready { Ready F.view F.clock F.spare F.was (Runs T.kind_of T.facts lane task.old) base.old }
     requires kind { IsShown (T.kind_of task.old) }
-    ensures { Acts F.view F.clock F.spare F.was lane lane result (Runs T.kind_of T.facts lane task.new) base.old base.new }
+    ensures acts { Acts F.view F.clock F.spare F.was lane lane result (Runs T.kind_of T.facts lane task.new) base.old base.new }
+    ensures steps { Steps T.stepped task.old result task.new }
+    ensures goes { result ≢ Outcome.Blocked }
+    ensures booked { IsUnbooked base.old.books base.new.books }
+    ensures cause { (v : View) → F.view base.old.fs ≡ Some v → Causes (F.faults base.old.fs) (F.faults base.new.fs) result }
 {
     base.books.pay();
     match task.advance(lane, &mut base.fs) {
@@ -146,7 +170,11 @@ fn shown<T: Work, F: Fs>(base: &mut Base<F>, lane: u8, task: &mut T) -> Outcome
 fn settle<T: Work, F: Fs>(base: &mut Base<F>, lane: u8, task: &mut T) -> Outcome
     requires ready { Ready F.view F.clock F.spare F.was (Runs T.kind_of T.facts lane task.old) base.old }
     requires kind { IsSettle (T.kind_of task.old) }
-    ensures { Acts F.view F.clock F.spare F.was lane lane result (Runs T.kind_of T.facts lane task.new) base.old base.new }
+    ensures acts { Acts F.view F.clock F.spare F.was lane lane result (Runs T.kind_of T.facts lane task.new) base.old base.new }
+    ensures steps { Steps T.stepped task.old result task.new }
+    ensures goes { result ≢ Outcome.Blocked }
+    ensures booked { IsSettledBy (F.clock base.new.fs) result base.old.books base.new.books }
+    ensures cause { (v : View) → F.view base.old.fs ≡ Some v → Causes (F.faults base.old.fs) (F.faults base.new.fs) result }
 {
     match task.advance(lane, &mut base.fs) {
         Ok(Turn::Done(())) => {
@@ -171,7 +199,12 @@ fn settle<T: Work, F: Fs>(base: &mut Base<F>, lane: u8, task: &mut T) -> Outcome
 fn store<T: Work, F: Fs>(base: &mut Base<F>, actor: u8, lane: u8, task: &mut T) -> Outcome
     requires ready { Ready F.view F.clock F.spare F.was (Runs T.kind_of T.facts lane task.old) base.old }
     requires kind { IsStore (T.kind_of task.old) }
-    ensures { Acts F.view F.clock F.spare F.was actor lane result (Runs T.kind_of T.facts lane task.new) base.old base.new }
+    ensures acts { Acts F.view F.clock F.spare F.was actor lane result (Runs T.kind_of T.facts lane task.new) base.old base.new }
+    ensures steps { Steps T.stepped task.old result task.new }
+    ensures blocked { result ≡ Outcome.Blocked → (base.new ≡ base.old) × (Free base.old.books.exclusive lane → ⊥) }
+    ensures opens { result ≢ Outcome.Blocked → Free base.old.books.exclusive lane }
+    ensures booked { IsUnbooked base.old.books base.new.books }
+    ensures cause { Causes (F.faults base.old.fs) (F.faults base.new.fs) result }
 {
     if !is_free(base.books.exclusive, lane) {
         return Outcome::Blocked;
@@ -183,7 +216,12 @@ fn store<T: Work, F: Fs>(base: &mut Base<F>, actor: u8, lane: u8, task: &mut T) 
 fn take<T: Work, F: Fs>(base: &mut Base<F>, lane: u8, wants: Wants, task: &mut T) -> Outcome
     requires ready { Ready F.view F.clock F.spare F.was (Runs T.kind_of T.facts lane task.old) base.old }
     requires kind { IsTake wants (T.kind_of task.old) }
-    ensures { Acts F.view F.clock F.spare F.was lane lane result (Runs T.kind_of T.facts lane task.new) base.old base.new }
+    ensures acts { Acts F.view F.clock F.spare F.was lane lane result (Runs T.kind_of T.facts lane task.new) base.old base.new }
+    ensures steps { Steps T.stepped task.old result task.new }
+    ensures blocked { result ≡ Outcome.Blocked → (base.new ≡ base.old) × (Frees wants lane (books_of base.old.books) → ⊥) }
+    ensures opens { result ≢ Outcome.Blocked → Frees wants lane (books_of base.old.books) }
+    ensures booked { IsUnbooked base.old.books base.new.books }
+    ensures cause { Causes (F.faults base.old.fs) (F.faults base.new.fs) result }
 {
     if !base.books.frees(&wants, lane) {
         return Outcome::Blocked;
@@ -206,7 +244,12 @@ pub fn task_act<T: Work, F: Fs>(
 ) -> Outcome
     requires ready { Ready F.view F.clock F.spare F.was (Runs T.kind_of T.facts lane task.old) base.old }
     requires by { IsBy (T.kind_of task.old) actor lane }
-    ensures { Acts F.view F.clock F.spare F.was actor lane result (Runs T.kind_of T.facts lane task.new) base.old base.new }
+    ensures acts { Acts F.view F.clock F.spare F.was actor lane result (Runs T.kind_of T.facts lane task.new) base.old base.new }
+    ensures steps { Steps T.stepped task.old result task.new }
+    ensures blocked { result ≡ Outcome.Blocked → (base.new ≡ base.old) × (Opens (T.kind_of task.old) lane (books_of base.old.books) → ⊥) }
+    ensures opens { result ≢ Outcome.Blocked → Opens (T.kind_of task.old) lane (books_of base.old.books) }
+    ensures booked { IsBooked (T.kind_of task.old) lane command (F.clock base.new.fs) result base.old.books base.new.books }
+    ensures cause { (v : View) → F.view base.old.fs ≡ Some v → Causes (F.faults base.old.fs) (F.faults base.new.fs) result }
 {
     match task.kind() {
         Step::Quiet => quiet(base, actor, lane, task),
@@ -219,14 +262,12 @@ pub fn task_act<T: Work, F: Fs>(
 }
 
 /// Takes the next step of another lane's task, where it may be anybody's.
-pub fn help_act<T: Work, F: Fs>(
-    base: &mut Base<F>,
-    actor: u8,
-    lane: u8,
-    task: &mut T,
-) -> Outcome
+pub fn help_act<T: Work, F: Fs>(base: &mut Base<F>, actor: u8, lane: u8, task: &mut T) -> Outcome
     requires { Ready F.view F.clock F.spare F.was (Runs T.kind_of T.facts lane task.old) base.old }
-    ensures { Acts F.view F.clock F.spare F.was actor lane result (Runs T.kind_of T.facts lane task.new) base.old base.new }
+    ensures acts { Acts F.view F.clock F.spare F.was actor lane result (Runs T.kind_of T.facts lane task.new) base.old base.new }
+    ensures steps { Steps T.stepped task.old result task.new }
+    ensures booked { IsUnbooked base.old.books base.new.books }
+    ensures cause { Causes (F.faults base.old.fs) (F.faults base.new.fs) result }
 {
     match task.kind() {
         Step::Store => store(base, actor, lane, task),

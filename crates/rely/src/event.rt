@@ -11,5 +11,8 @@ pub enum Event {
         commit: Csum,
     },
     /// A ref goes, which named `seen`.
-    DropRef { name: RefName, seen: Csum },
+    DropRef {
+        name: RefName,
+        seen: Csum,
+    },
 }

@@ -17,6 +17,6 @@ pub use barrier::Barrier;
 pub use books::{Base, Books, Entry, Hold, Pending, Pin, Share, Use, Want};
 pub use crash::certify;
 pub use event::Event;
-pub(crate) use locks::is_free;
 pub use kind::{Outcome, Step, Wants};
+pub(crate) use locks::is_free;
 pub use work::Work;

@@ -199,7 +199,21 @@ impl Books {
     {
         self.owed = 0;
         match self.pending.take() {
-            Some(Pending { lane, command, event }) => self.history.push(Entry { lane, command, event, moment }).is_ok(),
+            Some(
+                Pending {
+                    lane,
+                    command,
+                    event,
+                },
+            ) => self
+                .history
+                .push(Entry {
+                    lane,
+                    command,
+                    event,
+                    moment,
+                })
+                .is_ok(),
             None => false,
         }
     }

@@ -1,4 +1,4 @@
-ghost use Rattle.std.specs.Prelude.{◌≡◌, ℕ, Option, Some, IfOk, OnOk, IsErrOf};
+ghost use Rattle.std.specs.Prelude.{◌≡◌, ℕ, Option, Some, IfOk, IfErr, OnOk, IsErrOf};
 ghost use Rattle.fs_trait.specs.declared.types.FsErr.TheVariants as err;
 ghost use Rattle.ost_types.specs.Path.{Path};
 ghost use Rattle.fs_trait.specs.declared.task.Turn.{Turn};
@@ -6,10 +6,10 @@ ghost use Rattle.fs_trait.specs.View.{View};
 ghost use Rattle.fs_trait.specs.Image.{Told};
 ghost use Rattle.fs_trait.specs.Seen.{Seen};
 ghost use Rattle.fs_trait.specs.Change.{Writes};
-ghost use Rattle.fs_trait.specs.Effect.{Elapses, HasCause, Next};
+ghost use Rattle.fs_trait.specs.Effect.{Elapses, HasCause, Next, OfNone};
 ghost use Rattle.rely.specs.declared.event.Event.{Event};
 ghost use Rattle.rely.specs.Books.{Books};
-ghost use Rattle.rely.specs.Laws.{Kind, Show, IsSettle, KeepsRoom, Laws, step_of, owed_by};
+ghost use Rattle.rely.specs.Laws.{Kind, Show, IsOwing, IsSettle, KeepsRoom, Laws, step_of, owed_by};
 
 use crate::{Event, Step};
 use fs_trait::{Fs, FsErr, Turn};
@@ -55,6 +55,7 @@ pub trait Work {
         ensures stepped { IfOk result (λ turn. stepped self.old turn self.new) }
         ensures after { (v : View) → F.view fs.old ≡ Some v → IfOk result (λ turn. Told (F.view fs.new) (λ w. leaves self.old turn self.new v w)) }
         ensures cause { HasCause (F.faults fs.old) (F.faults fs.new) result }
+        ensures fails { (v : View) → F.view fs.old ≡ Some v → IsOwing (kind_of self.old) → IfErr result OfNone }
         ensures room { KeepsRoom (kind_of self.old) (kind_of self.new) (F.spare fs.old) (F.spare fs.new) result };
 
     /// What each kind of task proves.

@@ -11,8 +11,8 @@ module _ (g : given.Over) where
 pub advance_with_room-requires-clause-needs : goal.advance_with_room-requires-clause-needs
 advance_with_room-requires-clause-needs g c = asks g.F.Fs.view g.F.Fs.clock g.F.Fs.spare g.F.Fs.was (fs g) g.met.T.Work.laws c.args.base.now c.args.actor c.args.lane c.args.task.now c.requires.by c.requires.ready
 
-pub returns-in-Ok-More : goal.returns-in-Ok-More
-returns-in-Ok-More g c =
+pub returns-in-Ok-More-clause-acts : goal.returns-in-Ok-More-clause-acts
+returns-in-Ok-More-clause-acts g c =
     let e = c.in-Ok-More.ensures in
     let r = c.requires in
     let mid = c.advance_with_room.new.base in
@@ -20,15 +20,15 @@ returns-in-Ok-More g c =
     e.books (ends_refl c.args.actor c.args.lane mid) r.by r.unseen r.stood r.ready e.writes e.time e.room
     (quiet_tells g.F.Fs.view g.F.Fs.clock g.F.Fs.spare g.F.Fs.was (fs g) g.met.T.Work.laws c.args.base.now mid c.args.actor c.args.lane c.args.task.now c.advance_with_room.new.task c.in-Ok-More.field-0 e.books r.unseen r.stood r.ready c.in-Ok-More.field-0-is e.stepped e.after)
 
-pub returns-in-Ok-Done : goal.returns-in-Ok-Done
-returns-in-Ok-Done g c =
+pub returns-in-Ok-Done-clause-acts : goal.returns-in-Ok-Done-clause-acts
+returns-in-Ok-Done-clause-acts g c =
     let e = c.in-Ok-Done.ensures in
     let r = c.requires in
     quiet_acts g.F.Fs.view g.F.Fs.clock g.F.Fs.spare g.F.Fs.was (fs g) g.met.T.Work.laws c.args.base.now c.advance_with_room.new.base c.end.new.base c.args.actor c.args.lane c.args.task.now c.advance_with_room.new.task _
     e.books c.end.ensures r.by r.unseen r.stood r.ready e.writes e.time e.room tt
 
-pub returns-in-Err : goal.returns-in-Err
-returns-in-Err g c =
+pub returns-in-Err-clause-acts : goal.returns-in-Err-clause-acts
+returns-in-Err-clause-acts g c =
     let e = c.in-Err.ensures in
     let r = c.requires in
     quiet_acts g.F.Fs.view g.F.Fs.clock g.F.Fs.spare g.F.Fs.was (fs g) g.met.T.Work.laws c.args.base.now c.advance_with_room.new.base c.refuse.new.base c.args.actor c.args.lane c.args.task.now c.advance_with_room.new.task c.refuse.result

@@ -13,8 +13,8 @@ module _ (g : given.Over) where
 pub advance-requires : goal.advance-requires
 advance-requires g c = asks g.F.Fs.view g.F.Fs.clock g.F.Fs.spare g.F.Fs.was (fs g) g.met.T.Work.laws c.args.base.now c.args.lane c.args.lane c.args.task.now (inl refl) c.requires.ready
 
-pub returns-else-not-acknowledge : goal.returns-else-not-acknowledge
-returns-else-not-acknowledge g c =
+pub returns-else-not-acknowledge-clause-acts : goal.returns-else-not-acknowledge-clause-acts
+returns-else-not-acknowledge-clause-acts g c =
     let e = c.in-Ok-Done.ensures in
     let r = c.requires in
     let t = c.args.task.now in
@@ -25,8 +25,8 @@ returns-else-not-acknowledge g c =
     (λ p is. c.acknowledge.ensures.entry c.if-not-acknowledge.false p is ∙ ap (λ (m : ℕ). old.books.history.items ++ record { lane = p.lane; command = p.command; event = p.event; moment = m } ∷ []) c.clock-moment.ensures)
     c.end.ensures r.ready e.writes e.time (e.ticks r.kind) c.in-Ok-Done.field-0-is e.after
 
-pub returns-in-Err : goal.returns-in-Err
-returns-in-Err g c =
+pub returns-in-Err-clause-acts : goal.returns-in-Err-clause-acts
+returns-in-Err-clause-acts g c =
     let e = c.in-Err.ensures in
     let r = c.requires in
     let t = c.args.task.now in

@@ -9,11 +9,11 @@ module _ (g : given.Over) where
   fs : IsFs g.F.Fs.view g.F.Fs.clock g.F.Fs.was
   fs = record { only_now = g.met.F.Fs.only_now; bound = g.met.F.Fs.bound; told = g.met.F.Fs.told }
 
-pub returns-then-not-frees_turn : goal.returns-then-not-frees_turn
-returns-then-not-frees_turn g c = blocked_acts g.F.Fs.view g.F.Fs.clock g.F.Fs.spare g.F.Fs.was (fs g) g.met.T.Work.laws c.args.base.now c.args.lane c.args.lane c.args.task.now c.requires.ready
+pub returns-then-not-frees_turn-clause-acts : goal.returns-then-not-frees_turn-clause-acts
+returns-then-not-frees_turn-clause-acts g c = blocked_acts g.F.Fs.view g.F.Fs.clock g.F.Fs.spare g.F.Fs.was (fs g) g.met.T.Work.laws c.args.base.now c.args.lane c.args.lane c.args.task.now c.requires.ready
 
-pub returns-in_default : goal.returns-in_default
-returns-in_default g c =
+pub returns-in_default-clause-acts : goal.returns-in_default-clause-acts
+returns-in_default-clause-acts g c =
     let r = c.requires in
     let old = c.args.base.now in
     let t = c.args.task.now in
@@ -21,8 +21,8 @@ returns-in_default g c =
     refl (λ v told. told) (no_time g.F.Fs.view g.F.Fs.clock g.F.Fs.spare g.F.Fs.was (fs g) g.met.T.Work.laws old.fs) r.ready.sound.ordered.room c.end.ensures
     (show_not g.F.Fs.view g.F.Fs.clock g.F.Fs.spare g.F.Fs.was (fs g) g.met.T.Work.laws old c.args.lane t r.kind r.ready) r.ready
 
-pub returns-then-is_err : goal.returns-then-is_err
-returns-then-is_err g c =
+pub returns-then-is_err-clause-acts : goal.returns-then-is_err-clause-acts
+returns-then-is_err-clause-acts g c =
     let r = c.requires in
     let old = c.args.base.now in
     let t = c.args.task.now in

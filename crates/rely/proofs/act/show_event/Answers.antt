@@ -13,8 +13,8 @@ module _ (g : given.Over) where
 pub advance_with_room-requires-clause-needs : goal.advance_with_room-requires-clause-needs
 advance_with_room-requires-clause-needs g c = asks g.F.Fs.view g.F.Fs.clock g.F.Fs.spare g.F.Fs.was (fs g) g.met.T.Work.laws c.args.base.now c.args.lane c.args.lane c.args.task.now (inl refl) c.requires.ready
 
-pub returns-in-Ok : goal.returns-in-Ok
-returns-in-Ok g c =
+pub returns-in-Ok-clause-acts : goal.returns-in-Ok-clause-acts
+returns-in-Ok-clause-acts g c =
     let e = c.in-Ok.ensures in
     let r = c.requires in
     let mid = c.advance_with_room.new.base in
@@ -26,8 +26,8 @@ returns-in-Ok g c =
     e.books c.show.ensures r.kind r.free r.entry r.ready e.writes e.time room
     (show_tells g.F.Fs.view g.F.Fs.clock g.F.Fs.spare g.F.Fs.was (fs g) g.met.T.Work.laws old mid c.show.new.self c.args.lane c.args.command c.args.task.now next c.in-Ok.field-0 c.args.event c.owes.result e.books c.show.ensures c.owes.ensures r.kind r.free r.ready e.stepped e.after)
 
-pub returns-in-Err-NoMemory : goal.returns-in-Err-NoMemory
-returns-in-Err-NoMemory g c =
+pub returns-in-Err-NoMemory-clause-acts : goal.returns-in-Err-NoMemory-clause-acts
+returns-in-Err-NoMemory-clause-acts g c =
     let e = c.in-Err-NoMemory.ensures in
     let r = c.requires in
     let mid = c.advance_with_room.new.base in
@@ -36,8 +36,8 @@ returns-in-Err-NoMemory g c =
     still_acts g.F.Fs.view g.F.Fs.clock g.F.Fs.spare g.F.Fs.was (fs g) g.met.T.Work.laws old mid c.end.new.base c.args.lane c.args.lane (Runs g.T.Work.kind_of g.T.Work.facts c.args.lane c.args.task.now) (Runs g.T.Work.kind_of g.T.Work.facts c.args.lane c.advance_with_room.new.task) _
     e.books (λ v told. e.unchanged v told (ap Err c.in-Err-NoMemory.field-0-is)) e.time e.room c.end.ensures (show_not g.F.Fs.view g.F.Fs.clock g.F.Fs.spare g.F.Fs.was (fs g) g.met.T.Work.laws old c.args.lane c.args.task.now is r.ready) r.ready
 
-pub returns-in-Err : goal.returns-in-Err
-returns-in-Err g c =
+pub returns-in-Err-clause-acts : goal.returns-in-Err-clause-acts
+returns-in-Err-clause-acts g c =
     let e = c.in-Err.ensures in
     let r = c.requires in
     let mid = c.advance_with_room.new.base in

@@ -13,8 +13,8 @@ module _ (g : given.Over) where
 pub advance-requires : goal.advance-requires
 advance-requires g c = asks g.F.Fs.view g.F.Fs.clock g.F.Fs.spare g.F.Fs.was (fs g) g.met.T.Work.laws c.args.base.now c.args.lane c.args.lane c.args.task.now (inl refl) c.requires.ready
 
-pub returns-in-Ok : goal.returns-in-Ok
-returns-in-Ok g c =
+pub returns-in-Ok-clause-acts : goal.returns-in-Ok-clause-acts
+returns-in-Ok-clause-acts g c =
     let e = c.in-Ok.ensures in
     let r = c.requires in
     let t = c.args.task.now in
@@ -26,8 +26,8 @@ returns-in-Ok g c =
     r.ready.sound e.writes e.time e.room.at_most_one
     (shown_runs g.F.Fs.view g.F.Fs.clock g.F.Fs.spare g.F.Fs.was (fs g) g.met.T.Work.laws old c.advance.new.fs c.pay.new.self c.args.lane t c.advance.new.self c.in-Ok.field-0 k.0 k.1 c.pay.ensures k.2 r.ready e.stepped e.after)
 
-pub returns-in-Err : goal.returns-in-Err
-returns-in-Err g c =
+pub returns-in-Err-clause-acts : goal.returns-in-Err-clause-acts
+returns-in-Err-clause-acts g c =
     let e = c.in-Err.ensures in
     let r = c.requires in
     let t = c.args.task.now in

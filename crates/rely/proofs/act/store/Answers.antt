@@ -7,5 +7,5 @@ module _ (g : given.Over) where
   fs : IsFs g.F.Fs.view g.F.Fs.clock g.F.Fs.was
   fs = record { only_now = g.met.F.Fs.only_now; bound = g.met.F.Fs.bound; told = g.met.F.Fs.told }
 
-pub returns-then-not-is_free : goal.returns-then-not-is_free
-returns-then-not-is_free g c = blocked_acts g.F.Fs.view g.F.Fs.clock g.F.Fs.spare g.F.Fs.was (fs g) g.met.T.Work.laws c.args.base.now c.args.actor c.args.lane c.args.task.now c.requires.ready
+pub returns-then-not-is_free-clause-acts : goal.returns-then-not-is_free-clause-acts
+returns-then-not-is_free-clause-acts g c = blocked_acts g.F.Fs.view g.F.Fs.clock g.F.Fs.spare g.F.Fs.was (fs g) g.met.T.Work.laws c.args.base.now c.args.actor c.args.lane c.args.task.now c.requires.ready

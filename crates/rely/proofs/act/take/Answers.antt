@@ -11,11 +11,11 @@ module _ (g : given.Over) where
   fs : IsFs g.F.Fs.view g.F.Fs.clock g.F.Fs.was
   fs = record { only_now = g.met.F.Fs.only_now; bound = g.met.F.Fs.bound; told = g.met.F.Fs.told }
 
-pub returns-then-not-frees : goal.returns-then-not-frees
-returns-then-not-frees g c = blocked_acts g.F.Fs.view g.F.Fs.clock g.F.Fs.spare g.F.Fs.was (fs g) g.met.T.Work.laws c.args.base.now c.args.lane c.args.lane c.args.task.now c.requires.ready
+pub returns-then-not-frees-clause-acts : goal.returns-then-not-frees-clause-acts
+returns-then-not-frees-clause-acts g c = blocked_acts g.F.Fs.view g.F.Fs.clock g.F.Fs.spare g.F.Fs.was (fs g) g.met.T.Work.laws c.args.base.now c.args.lane c.args.lane c.args.task.now c.requires.ready
 
-pub returns-then-is_err : goal.returns-then-is_err
-returns-then-is_err g c =
+pub returns-then-is_err-clause-acts : goal.returns-then-is_err-clause-acts
+returns-then-is_err-clause-acts g c =
     let r = c.requires in
     let old = c.args.base.now in
     let t = c.args.task.now in
@@ -30,5 +30,5 @@ returns-then-is_err g c =
     (still_acts g.F.Fs.view g.F.Fs.clock g.F.Fs.spare g.F.Fs.was (fs g) g.met.T.Work.laws mid mid c.end.new.base c.args.lane c.args.lane runs runs _
     refl (λ v told. told) (no_time g.F.Fs.view g.F.Fs.clock g.F.Fs.spare g.F.Fs.was (fs g) g.met.T.Work.laws old.fs) ready.sound.ordered.room c.end.ensures none ready)
 
-pub returns : goal.returns
-returns g c = take_acts g.F.Fs.view g.F.Fs.clock g.F.Fs.spare g.F.Fs.was g.met.T.Work.laws c.args.base.now c.quiet.new.base c.grant.new.self c.args.lane c.quiet.result _ c.grant.ensures.spared c.grant.ensures.keeps c.quiet.ensures
+pub returns-clause-acts : goal.returns-clause-acts
+returns-clause-acts g c = take_acts g.F.Fs.view g.F.Fs.clock g.F.Fs.spare g.F.Fs.was g.met.T.Work.laws c.args.base.now c.quiet.new.base c.grant.new.self c.args.lane c.quiet.result _ c.grant.ensures.spared c.grant.ensures.keeps c.quiet.ensures.acts

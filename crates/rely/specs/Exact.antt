@@ -1,0 +1,70 @@
+-- What each answer of an act says, exactly.
+use Rattle.std.specs.Prelude.{◌≡◌, ℕ, ◌++◌, ◌∷◌, [], Some, None}
+use Rattle.fs_trait.specs.Count.{Rose}
+use Rattle.fs_trait.specs.declared.task.Turn.{Turn}
+use Rattle.fs_trait.specs.declared.task.Turn.TheVariants as turn
+use Rattle.fs_trait.specs.declared.types.FsErr.TheVariants as err
+use Rattle.rely.specs.declared.books.Books as rust
+use Rattle.rely.specs.declared.books.Pending.{Pending}
+use Rattle.rely.specs.declared.event.Event.{Event}
+use Rattle.rely.specs.declared.kind.Outcome.{Outcome}
+use Rattle.rely.specs.declared.kind.Outcome.TheVariants as came
+use Rattle.rely.specs.Books.{Books, Free, Frees}
+use Rattle.rely.specs.Laws.{Kind, Quiet, Store, Take, Show, Shown, Settle}
+
+-- what others leave free for such a step
+abbrev pub Opens : Kind → ℕ → Books → Type 0
+Opens Quiet lane b = Unit {0}
+Opens Store lane b = Free b.exclusive lane
+Opens (Take wants) lane b = Frees wants lane b
+Opens (Show e) lane b = Free b.exclusive lane × Free b.turn lane
+Opens (Shown e owed) lane b = Unit {0}
+Opens (Settle e) lane b = Unit {0}
+
+-- how the task went on
+abbrev pub Steps : {T : Type 0} → (T → Turn (Unit {0}) → T → Type 0) → T → Outcome → T → Type 0
+Steps stepped old came.More new = stepped old turn.More new
+Steps stepped old came.Done new = stepped old (turn.Done tt) new
+Steps stepped old came.Blocked new = new ≡ old
+Steps stepped old outcome new = Unit {0}
+
+-- history and pending change are as they were
+abbrev pub IsUnbooked : rust.Books → rust.Books → Type 0
+IsUnbooked old new = (new.history.items ≡ old.history.items) × (new.pending ≡ old.pending)
+
+-- the change is pending
+abbrev pub IsNoted : ℕ → ℕ → Event → rust.Books → rust.Books → Type 0
+IsNoted lane command e old new = (new.history.items ≡ old.history.items) × (new.pending ≡ Some (record { lane = lane; command = command; event = e }))
+
+-- the pending change is the last entry, with this moment
+abbrev pub IsEntered : ℕ → rust.Books → rust.Books → Type 0
+IsEntered moment old new = (new.pending ≡ None)
+    × ((p : Pending) → old.pending ≡ Some p → new.history.items ≡ old.history.items ++ record { lane = p.lane; command = p.command; event = p.event; moment = moment } ∷ [])
+
+abbrev pub IsShownBy : ℕ → ℕ → Event → Outcome → rust.Books → rust.Books → Type 0
+IsShownBy lane command e came.More old new = IsNoted lane command e old new
+IsShownBy lane command e came.Halted old new = IsNoted lane command e old new
+IsShownBy lane command e came.Blocked old new = IsUnbooked old new
+IsShownBy lane command e (came.Refused f) old new = IsUnbooked old new
+IsShownBy lane command e came.Done old new = ⊥
+
+abbrev pub IsSettledBy : ℕ → Outcome → rust.Books → rust.Books → Type 0
+IsSettledBy moment came.Done old new = IsEntered moment old new
+IsSettledBy moment came.Halted old new = IsUnbooked old new
+IsSettledBy moment outcome old new = ⊥
+
+-- What the books have of the step: the one that shows a change notes it as pending, also where the call failed, and the one
+-- that makes it last makes of it the last entry of the history. No other step changes either.
+abbrev pub IsBooked : Kind → ℕ → ℕ → ℕ → Outcome → rust.Books → rust.Books → Type 0
+IsBooked (Show e) lane command moment outcome old new = IsShownBy lane command e outcome old new
+IsBooked (Settle e) lane command moment outcome old new = IsSettledBy moment outcome old new
+IsBooked Quiet lane command moment outcome old new = IsUnbooked old new
+IsBooked Store lane command moment outcome old new = IsUnbooked old new
+IsBooked (Take wants) lane command moment outcome old new = IsUnbooked old new
+IsBooked (Shown e owed) lane command moment outcome old new = IsUnbooked old new
+
+-- a command ends for a call that failed, or for a failed change of all, only where the count of faults rose
+abbrev pub Causes : ℕ → ℕ → Outcome → Type 0
+Causes before now (came.Refused err.Failed) = Rose before now
+Causes before now came.Halted = Rose before now
+Causes before now outcome = Unit {0}
