@@ -132,3 +132,10 @@ fits_now start entries None v stands t d i =
       shows = logical;
       good = good start entries None v stands d i (after events start) (after_named events start (run_front events [] start stands.run) stands.named) logical;
     }
+
+-- and where nothing is pending, what there is at all
+pub fits_all : (start : State) (entries : List Entry) (v : View) → Stands start entries None v → (d : Disk) → Image v d → IsGood d × Logical d (after (events_of entries) start)
+fits_all start entries v stands d i =
+    let events = events_of entries in
+    let logical : Logical d (after events start) = λ q. ⊎_elim (λ k. k) (λ bad. absurd bad) (known_at (Shown None) (after events start) v stands.known d i q) in
+    (good start entries None v stands d i (after events start) (after_named events start (run_front events [] start stands.run) stands.named) logical, logical)

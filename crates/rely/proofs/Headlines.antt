@@ -12,11 +12,13 @@ use Rattle.rely.specs.Disks.{path_of, Says, Logical, IsGood}
 use Rattle.rely.specs.Books.{books_of, Agrees}
 use Rattle.rely.specs.Sound.{Stands, Fits, Crash, Ordered, Sound}
 use Rattle.rely.specs.Headline.{Has, CrashFits, Headline, state_at}
-use Rattle.rely.proofs.Goods.{has_ref, fits_now}
+use Rattle.fs_trait.proofs.Images.{Image-now}
+use Rattle.rely.specs.declared.books.Pending.{Pending}
+use Rattle.rely.proofs.Goods.{has_ref, fits_now, fits_all}
 use Rattle.rely.proofs.Sounds.{IsFs}
 
-pub headline : {F : Type 0} (view : F → Option View) (clock spare : F → ℕ) (was : F → ℕ → View → Type 0) (base : Base F) → Sound view clock spare was base → (v : View) → view base.fs ≡ Some v → Headline was base
-headline view clock spare was base sound v told = record { crash = crash; run = (sound.stands v told).run }
+pub headline : {F : Type 0} (view : F → Option View) (clock spare : F → ℕ) (was : F → ℕ → View → Type 0) (base : Base F) → Sound view clock spare was base → (v : View) → view base.fs ≡ Some v → IsTree v.now → Headline clock was base v
+headline view clock spare was base sound v told tree = record { crash = crash; now = now; run = (sound.stands v told).run; moments = sound.ordered.ascends }
   where
     crash : (t : ℕ) (d : Disk) → base.books.opened ≤ t → Left (was base.fs) t d → CrashFits base t d
     crash t d from left =
@@ -29,3 +31,9 @@ headline view clock spare was base sound v told = record { crash = crash; run = 
           within = rw (← f.split) (omega (arith, length-append f.past f.rest));
           has = record { good = f.good; logical = logical; refs = λ name. has_ref d name _ (logical (RefOf name)) };
         }
+
+    now : base.books.pending ≡ None → Has v.now (after (events_of base.books.history.items) (first base.books.start.items))
+    now none =
+        let stands : Stands (first base.books.start.items) base.books.history.items None v = subst (λ (o : Option Pending). Stands (first base.books.start.items) base.books.history.items o v) none (sound.stands v told) in
+        let f = fits_all (first base.books.start.items) base.books.history.items v stands v.now (Image-now v tree) in
+        record { good = f.0; logical = f.1; refs = λ name. has_ref v.now name _ (f.1 (RefOf name)) }

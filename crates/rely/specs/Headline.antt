@@ -1,9 +1,9 @@
 -- The headline, with the state after so many events.
-use Rattle.std.specs.Prelude.{◌≡◌, ◌≤◌, ℕ, List, length, take, Option}
+use Rattle.std.specs.Prelude.{◌≡◌, ◌≤◌, ℕ, List, length, take, None}
 use Rattle.fs_trait.specs.View.{Disk, View}
 use Rattle.fs_trait.specs.Change.{Left}
 use Rattle.rely.specs.declared.books.Base.{Base}
-use Rattle.rely.specs.State.{RefOf, State, first, after, stored, acked, IsRun}
+use Rattle.rely.specs.State.{RefOf, State, first, after, events_of, stored, acked, IsRun, Ascends}
 use Rattle.rely.specs.Disks.{HasRef, Logical, IsGood}
 
 -- The disk is good, and its refs are those of this state.
@@ -24,7 +24,10 @@ pub record CrashFits {F : Type 0} (base : Base F) (t : ℕ) (d : Disk) : Type 0 
   pub within : count ≤ length (stored base.books.history.items base.books.pending)
   pub has : Has d (state_at base count)
 
--- Each disk that a crash left since the opening fits; each event of the stored history could follow the state before it.
-pub record Headline {F : Type 0} (was : F → ℕ → View → Type 0) (base : Base F) : Type 0 where
+-- Each disk that a crash left since the opening fits. What reads see has the state after the whole history, but for a pending
+-- change. Each event of the stored history could follow the state before it, and the moments of the entries don't fall.
+pub record Headline {F : Type 0} (clock : F → ℕ) (was : F → ℕ → View → Type 0) (base : Base F) (v : View) : Type 0 where
   pub crash : (t : ℕ) (d : Disk) → base.books.opened ≤ t → Left (was base.fs) t d → CrashFits base t d
+  pub now : base.books.pending ≡ None → Has v.now (after (events_of base.books.history.items) (first base.books.start.items))
   pub run : IsRun (stored base.books.history.items base.books.pending) (first base.books.start.items)
+  pub moments : Ascends base.books.opened base.books.history.items (clock base.fs)

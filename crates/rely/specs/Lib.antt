@@ -9,3 +9,4 @@ pub mod Headline
 pub mod Opening
 pub mod Barrier
 pub mod Exact
+pub mod Part

@@ -10,6 +10,7 @@ mod event;
 mod kind;
 mod locks;
 mod open;
+mod seq;
 mod work;
 
 pub use act::{help_act, task_act};
@@ -19,4 +20,5 @@ pub use crash::certify;
 pub use event::Event;
 pub use kind::{Outcome, Step, Wants};
 pub(crate) use locks::is_free;
+pub use seq::{Seq, Then};
 pub use work::Work;

@@ -1,0 +1,100 @@
+ghost use Rattle.std.specs.Prelude.{◌≡◌, ℕ, IfOk};
+ghost use Rattle.ost_types.specs.Path.{Path};
+ghost use Rattle.fs_trait.specs.declared.task.Turn.{Turn};
+ghost use Rattle.fs_trait.specs.View.{View};
+ghost use Rattle.fs_trait.specs.Seen.{Seen};
+ghost use Rattle.rely.specs.Books.{Books};
+ghost use Rattle.rely.specs.Part.{Hands, part_at, part_kind, part_needs, part_writes, part_stepped, part_leaves, part_facts, part_laws, laws_along};
+
+use crate::{Event, Step, Work};
+use fs_trait::{Fs, FsErr, Turn};
+use ost_types::NoMemory;
+
+/// A task that hands over to another one when it is done.
+pub trait Then<B: Work>: Work {
+    /// The task that follows.
+    ghost follower: { Self → B };
+
+    fn then(&self) -> Result<B, NoMemory>
+        ensures { IfOk result (λ b. b ≡ follower self.now) };
+
+    ghost hands: { Hands Self.Work.kind_of Self.Work.stepped Self.Work.leaves Self.Work.facts B.kind_of B.facts follower };
+}
+
+/// A task, and the one that follows it in the same command. The second is made in a step of its own.
+#[derive(Drop)]
+pub struct Seq<A, B> {
+    first: A,
+    over: bool,
+    second: Option<B>,
+}
+
+impl<A: Work + Then<B> + Drop, B: Work + Drop> Work for Seq<A, B> {
+    ghost kind_of = { λ t. part_kind A.kind_of B.kind_of (part_at t.over t.second t.first) };
+
+    ghost needs = { λ actor t. part_needs A.needs B.needs actor (part_at t.over t.second t.first) };
+
+    ghost writes_of = { λ actor t. part_writes A.writes_of B.writes_of actor (part_at t.over t.second t.first) };
+
+    ghost stepped = { λ t u new. part_stepped A.stepped B.stepped A.follower (part_at t.over t.second t.first) u (part_at new.over new.second new.first) };
+
+    ghost leaves = { λ t u new. part_leaves A.leaves B.leaves A.follower (part_at t.over t.second t.first) u (part_at new.over new.second new.first) };
+
+    ghost facts = { λ lane t. part_facts A.facts B.facts A.follower lane (part_at t.over t.second t.first) };
+
+    ghost laws = { laws_along (λ t. part_at t.over t.second t.first) (part_laws A.laws B.laws A.hands) };
+
+    fn kind(&self) -> Step {
+        if !self.over {
+            return self.first.kind();
+        }
+        match &self.second {
+            None => Step::Quiet,
+            Some(task) => task.kind(),
+        }
+    }
+
+    fn event(&self) -> Result<Event, NoMemory> {
+        if !self.over {
+            return self.first.event();
+        }
+        match &self.second {
+            None => Err(NoMemory),
+            Some(task) => task.event(),
+        }
+    }
+
+    fn owes(&self) -> u64 {
+        if !self.over {
+            return self.first.owes();
+        }
+        match &self.second {
+            None => 0,
+            Some(task) => task.owes(),
+        }
+    }
+
+    fn advance<F: Fs>(&mut self, actor: u8, fs: &mut F) -> Result<Turn<()>, FsErr> {
+        if !self.over {
+            return match self.first.advance(actor, fs) {
+                Ok(Turn::More) => Ok(Turn::More),
+                Ok(Turn::Done(())) => {
+                    self.over = true;
+                    self.second = None;
+                    Ok(Turn::More)
+                }
+                Err(e) => Err(e),
+            };
+        }
+        match &mut self.second {
+            Some(task) => task.advance(actor, fs),
+            None => match self.first.then() {
+                Ok(task) => {
+                    self.second = Some(task);
+                    Ok(Turn::More)
+                }
+                Err(_) => Err(FsErr::NoMemory),
+            },
+        }
+    }
+}
