@@ -158,6 +158,9 @@ fn smallest_commit(rt: HostRuntime) -> Result<(), Fail> {
     bytes.extend_from_slice(b"\x30\x07\x06\0\0\0")?;
     assert_eq!(rt; bytes.len(), 86);
     assert!(rt; write_commit(alloc, &commit)?.as_slice() == bytes.as_slice());
+    // what `ostree commit` prints for this tree, subject and time
+    let printed = b"92103022c2d63325076cf02c4f967ea58e4356e6fb35bfb73ff241757bfb198d";
+    assert_eq!(rt; sum_of(&bytes).to_hex().as_slice(), printed.as_slice());
     Ok(())
 }
 
