@@ -10,8 +10,8 @@ use crate::answer::{OpenFault, TopFault, Why};
 use fs_trait::{Fs, FsErr, Node};
 use ost_types::FsPath;
 use repo_layout::{RefName, read_ref, ref_path};
-use std::alloc::Global;
 use script::Answer;
+use std::alloc::Global;
 
 /// The commit that a ref names. What stands at its path is looked at once, and read where it has the length of a
 /// ref file.

@@ -18,8 +18,8 @@ use crate::text::{MEMORY_LINE, output_of};
 use crate::words::read_words;
 use fs_trait::{Fs, Sink};
 use ost_types::NoMemory;
-use std::alloc::Global;
 use script::{Answer, Reply};
+use std::alloc::Global;
 
 /// What a call of the program came to.
 #[derive(Drop)]
