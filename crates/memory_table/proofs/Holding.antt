@@ -1,5 +1,5 @@
 -- What a change of the map makes of the function that it holds.
-use Rattle.std.proofs.Common.{◌≡◌, ◌≢◌, ◌⊎◌, inl, inr, ℕ, Bool, true, false, cond, ◌&&◌, if◌then◌else◌, refl, sym, ◌∙◌, ap, subst, List, [], ◌∷◌, length, Option, Some, None, Result, Ok, Err, OnOk, IsSome, is_some, Contains, arith, ◌<◌, ◌↔◌}
+use Rattle.std.proofs.Common.{◌≡◌, ◌≢◌, ◌⊎◌, inl, inr, ℕ, Bool, true, false, cond, ◌&&◌, if◌then◌else◌, refl, sym, ◌∙◌, ap, subst, List, [], ◌∷◌, length, Option, Some, None, Result, Ok, Err, OnOk, IsSome, is_some, arith, ◌<◌}
 use Rattle.std.specs.Bool.{Decides}
 use Rattle.std.specs.BTreeMap.{BTreeMap, get}
 use Rattle.std.specs.BTreeMap.{keys, IsOrdered, btree_map_len}
@@ -9,7 +9,7 @@ use Rattle.std.proofs.lemmas.Cmp.{nat_list_cmp_total}
 use Rattle.std.proofs.lemmas.Map.Lookups.{exact_bytes}
 use Rattle.std.proofs.lemmas.Map.Views.{btree_map_contains_key_iff}
 use Rattle.ost_types.specs.Text.{IsName}
-use Rattle.std.specs.Cmp.Lexicographic.{pointwise, slice_cmp, texts_ties}
+use Rattle.std.specs.Cmp.Lexicographic.{slice_cmp, texts_ties}
 use Rattle.std.specs.Ordering.{nat_cmp, is_eq}
 use Rattle.std.specs.declared.cmp.Ordering.{Ordering}
 use Rattle.ost_types.specs.Path.{Name, Path, AreNames, under, same_name, same_path, is_in}
@@ -19,7 +19,7 @@ use Rattle.ost_types.proofs.Paths.{same_name-Decides, same_path-Decides, under-n
 use Rattle.fs_trait.specs.View.{put}
 use Rattle.fs_trait.proofs.Puts.{put-here, put-apart}
 use Rattle.memory_table.specs.declared.tree.Tree.{Tree}
-use Rattle.memory_table.specs.Tree.{look, look_in, Holds, HasAny, IsNamesIn}
+use Rattle.memory_table.specs.Tree.{look, look_in, Holds, IsNamesIn}
 use Rattle.memory_table.proofs.Splitting.{same_last, last_name, AreNames-folder, no_flat}
 
 abbrev pub order : List ℕ → List ℕ → Ordering

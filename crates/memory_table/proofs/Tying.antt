@@ -1,5 +1,5 @@
 -- What a change of the table makes of the disk that it shows.
-use Rattle.std.proofs.Common.{◌≡◌, ◌≢◌, ◌⊎◌, inl, inr, ℕ, Bool, true, false, cond, if◌then◌else◌, refl, sym, ◌∙◌, ap, subst, List, [], ◌∷◌, Option, Some, None, Result, Ok, Err, IfOk, Contains}
+use Rattle.std.proofs.Common.{◌≡◌, ◌≢◌, ◌⊎◌, inl, inr, ℕ, Bool, true, false, cond, if◌then◌else◌, refl, sym, ◌∙◌, ap, subst, List, [], Option, Some, None, Result, Ok, Err, IfOk}
 use Rattle.std.specs.Bool.{Decides}
 use Rattle.std.proofs.lemmas.Bool.Decides.{Decides-eqb}
 use Rattle.std.proofs.Math.Dec.{eqb}
@@ -17,7 +17,6 @@ use Rattle.fs_trait.specs.Effect.{HasNames, IsListing}
 use Rattle.fs_trait.proofs.Puts.{put-here, put-apart}
 use Rattle.memory_table.specs.declared.table.File as file
 use Rattle.memory_table.specs.declared.table.Table.{Table}
-use Rattle.memory_table.specs.declared.tree.Tree.{Tree}
 use Rattle.memory_table.specs.Tree.{Holds, HasAny, IsNamesIn}
 use Rattle.memory_table.specs.Ties.{Ties, present}
 use Rattle.memory_table.proofs.Holding.{Holds-same}

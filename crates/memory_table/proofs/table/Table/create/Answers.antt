@@ -1,4 +1,4 @@
-use Rattle.std.proofs.Common.{◌≡◌, refl, ap, ◌∙◌, sym, Some, []}
+use Rattle.std.proofs.Common.{◌≡◌, ap, ◌∙◌, sym, []}
 use Rattle.fs_trait.specs.View.{set_bytes, set_meta}
 use Rattle.fs_trait.proofs.Puts.{put_inode-here, put_inode-apart}
 use Rattle.memory_table.specs.declared.table.File.{File}

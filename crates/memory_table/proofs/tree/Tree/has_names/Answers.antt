@@ -1,4 +1,4 @@
-use Rattle.std.proofs.Common.{◌≡◌, sym, ◌∙◌, ap, true, false}
+use Rattle.std.proofs.Common.{◌≡◌, sym, ◌∙◌, true, false}
 use Rattle.memory_table.proofs.Holding.{some_there, in_names, no_names, no_entries}
 use Rattle.memory_table.proofs.tree.Tree.has_names.Goals as goal
 

@@ -1,4 +1,4 @@
-use Rattle.std.proofs.Common.{refl, Some, None}
+use Rattle.std.proofs.Common.{refl, Some}
 use Rattle.memory_table.proofs.Holding.{Holds-root, Holds-put_at, root_text, name_at, on_ok}
 use Rattle.memory_table.proofs.tree.Tree.put.Goals as goal
 

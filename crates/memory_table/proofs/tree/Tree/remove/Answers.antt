@@ -1,5 +1,5 @@
-use Rattle.std.proofs.Common.{refl, Some, None}
-use Rattle.memory_table.proofs.Holding.{Holds-root, Holds-put_at, root_text, name_at, on_ok}
+use Rattle.std.proofs.Common.{refl, None}
+use Rattle.memory_table.proofs.Holding.{Holds-root, Holds-put_at, root_text, on_ok}
 use Rattle.memory_table.proofs.tree.Tree.remove.Goals as goal
 
 pub returns-in-None : goal.returns-in-None
