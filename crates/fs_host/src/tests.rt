@@ -8,7 +8,6 @@ use std::fs::{File, Metadata, OpenOptions};
 use std::io::{ErrorKind, Read};
 use std::process::Abort;
 use std::rt::Files;
-use std::test::Fail;
 use std::{fs, io};
 
 // The header of a content stream, as OSTree writes it for owner 0, group 0 and mode 0100644.
@@ -32,609 +31,474 @@ const LINK: &[u8; 33] =
 const FOLDER: &[u8; 24] = b"\0\0\0\x01\0\0\x01\x02\0\0\x43\xffuser.dir\0v\x09\x0b";
 
 // A folder of this name with nothing in it.
-fn fresh(rt: &HostRuntime, name: &str) -> io::Result<()> {
+fn fresh<R: Abort + Files + AllocGlobal + Clone + Drop>(rt: &R, name: &str) {
     let _ = fs::remove_dir_all(rt, name);
-    fs::create_dir(rt, name)
+    folder(rt, name);
 }
 
-fn meta(alloc: Global, uid: u32, gid: u32, mode: u32) -> Meta {
+fn folder<R: Abort + Files + AllocGlobal + Clone + Drop>(rt: &R, name: &str) {
+    fs::create_dir(rt, name).expect(rt, name);
+}
+
+fn clear<R: Abort + Files + AllocGlobal + Clone + Drop>(rt: &R, name: &str) {
+    fs::remove_dir_all(rt, name).expect(rt, name);
+}
+
+fn put<R: Abort + Files + AllocGlobal + Clone + Drop>(rt: &R, name: &str, bytes: &[u8]) {
+    fs::write(rt, name, bytes).expect(rt, name);
+}
+
+// The bytes of a file of the host: a front and the rest.
+fn check_stored<R: Abort + Files + AllocGlobal + Clone + Drop>(
+    rt: &R,
+    name: &str,
+    front: &[u8],
+    rest: &[u8],
+) {
+    let stored = fs::read(rt, name).expect(rt, name);
+    let Some((start, end)) = stored.as_slice().split_at_checked(front.len()) else {
+        panic!(rt; "{name} is short");
+    };
+    assert!(rt; start == front, "of {name}");
+    assert!(rt; end == rest, "of {name}");
+}
+
+fn open<R: Abort + Files + AllocGlobal + Clone + Drop>(rt: &R) -> HostFs<R> {
+    HostFs::new(rt.clone().expect(rt, "memory")).expect(rt, "memory")
+}
+
+fn path<R: Abort + Files + AllocGlobal + Clone + Drop>(rt: &R, text: &str) -> FsPath {
+    FsPath::parse(rt.alloc(), text.as_bytes()).expect(rt, text)
+}
+
+fn bytes<R: Abort + Files + AllocGlobal + Clone + Drop>(rt: &R, text: &str) -> Bytes {
+    Bytes::from_slice(rt.alloc(), text.as_bytes()).expect(rt, "memory")
+}
+
+fn owned<R: Abort + Files + AllocGlobal + Clone + Drop>(
+    rt: &R,
+    uid: u32,
+    gid: u32,
+    mode: u32,
+) -> Meta {
     Meta {
         uid,
         gid,
         mode,
-        xattrs: Xattrs::new(alloc),
+        xattrs: Xattrs::new(rt.alloc()),
     }
 }
 
-fn path(alloc: Global, text: &str) -> Result<FsPath, Fail> {
-    Ok(FsPath::parse(alloc, text.as_bytes())?)
-}
-
-fn mkdir(
-    rt: &impl Abort,
-    alloc: Global,
-    fs: &mut HostFs<HostRuntime>,
-    at: &FsPath,
+fn mkdir<R: Abort + Files + AllocGlobal + Clone + Drop>(
+    rt: &R,
+    fs: &mut HostFs<R>,
+    at: &str,
+    meta: &Meta,
 ) -> Result<(), FsErr> {
-    let folder = meta(alloc, 0, 0, 0o040755);
-    assert!(rt; is_folder_mode(folder.mode));
-    fs.mkdir(at, &folder)
+    assert!(rt; is_folder_mode(meta.mode));
+    fs.mkdir(&path(rt, at), meta)
 }
 
-fn create(
-    rt: &impl Abort,
-    alloc: Global,
-    fs: &mut HostFs<HostRuntime>,
-    at: &FsPath,
+fn create<R: Abort + Files + AllocGlobal + Clone + Drop>(
+    rt: &R,
+    fs: &mut HostFs<R>,
+    at: &str,
     meta: &Meta,
 ) -> Result<(), FsErr> {
     assert!(rt; is_file_mode(meta.mode));
-    fs.create(at, meta)
+    fs.create(&path(rt, at), meta)
 }
 
-fn symlink(
-    rt: &impl Abort,
-    alloc: Global,
-    fs: &mut HostFs<HostRuntime>,
-    at: &FsPath,
-) -> Result<(), FsErr> {
-    symlink_to(rt, alloc, fs, at, b"t", &meta(alloc, 0, 0, 0o120777))
-}
-
-fn symlink_to(
-    rt: &impl Abort,
-    alloc: Global,
-    fs: &mut HostFs<HostRuntime>,
-    at: &FsPath,
-    target: &[u8],
+fn symlink<R: Abort + Files + AllocGlobal + Clone + Drop>(
+    rt: &R,
+    fs: &mut HostFs<R>,
+    at: &str,
+    target: &str,
     meta: &Meta,
 ) -> Result<(), FsErr> {
+    let target = Text::parse(rt.alloc(), target.as_bytes()).expect(rt, "memory");
+    let target = target.expect(rt, "a text");
     assert!(rt; is_link_mode(meta.mode));
-    let Some(target) = Text::parse(alloc, target)? else {
-        return Err(FsErr::NoMemory);
-    };
     assert!(rt; !target.as_slice().is_empty());
-    fs.symlink(at, &target, meta)
+    fs.symlink(&path(rt, at), &target, meta)
 }
 
-fn check_file(
-    rt: &impl Abort,
-    fs: &mut HostFs<HostRuntime>,
+// A call by its name. The second is a path, or bytes.
+fn call<R: Abort + Files + AllocGlobal + Clone + Drop>(
+    rt: &R,
+    fs: &mut HostFs<R>,
+    name: &str,
+    at: &str,
+    second: &str,
+) -> Result<(), FsErr> {
+    match name {
+        "mkdir" => mkdir(rt, fs, at, &owned(rt, 0, 0, 0o040755)),
+        "create" => create(rt, fs, at, &owned(rt, 0, 0, 0o100644)),
+        "symlink" => symlink(rt, fs, at, "t", &owned(rt, 0, 0, 0o120777)),
+        "append" => fs.append(&path(rt, at), second.as_bytes()),
+        "link" => fs.link(&path(rt, at), &path(rt, second)),
+        "rename" => fs.rename(&path(rt, at), &path(rt, second)),
+        "read" | "read_part" | "list" => look(fs, name, &path(rt, at)),
+        _ => call_of_one(fs, name, &path(rt, at)),
+    }
+}
+
+fn call_of_one<R: Files + AllocGlobal + Clone + Drop>(
+    fs: &mut HostFs<R>,
+    name: &str,
     at: &FsPath,
-    wanted: (u32, u32, u32, &[u8]),
-) -> Result<(), Fail> {
-    let (uid, gid, mode, bytes) = wanted;
-    let Some(Node::File { meta, len }) = fs.stat(at)? else {
-        panic!(rt; "no file");
-    };
-    assert_eq!(rt; (meta.uid, meta.gid, meta.mode), (uid, gid, mode));
-    assert_eq!(rt; len, bytes.len() as u64);
-    assert!(rt; fs.read(at)?.as_slice() == bytes);
-    Ok(())
+) -> Result<(), FsErr> {
+    match name {
+        "unlink" => fs.unlink(at),
+        "rmdir" => fs.rmdir(at),
+        "sync_file" => fs.sync_file(at),
+        "sync_dir" => fs.sync_dir(at),
+        _ => fs.sync_all(),
+    }
 }
 
-fn write_files(rt: &impl Abort, alloc: Global, fs: &mut HostFs<HostRuntime>) -> Result<(), Fail> {
-    let plain = path(alloc, "/kept/a/plain")?;
-    mkdir(rt, alloc, fs, &path(alloc, "/kept/a")?)?;
-    create(rt, alloc, fs, &plain, &meta(alloc, 0, 0, 0o100644))?;
-    fs.append(&plain, b"one ")?;
-    fs.append(&plain, b"two")?;
-    fs.sync_file(&plain)?;
-    fs.sync_dir(&path(alloc, "/kept/a")?)?;
-    let strange = meta(alloc, 0x0102_0304, 0xffff_fffe, 0o107777);
-    create(rt, alloc, fs, &path(alloc, "/kept/other")?, &strange)?;
-    fs.sync_all()?;
-    assert_eq!(rt; (fs.clock(), fs.faults()), (8, 0));
-    Ok(())
+fn look<R: Files + AllocGlobal + Clone + Drop>(
+    fs: &mut HostFs<R>,
+    name: &str,
+    at: &FsPath,
+) -> Result<(), FsErr> {
+    match name {
+        "read" => fs.read(at).map(|_| ()),
+        "read_part" => fs.read_part(at, 0, 1).map(|_| ()),
+        _ => fs.list(at).map(|_| ()),
+    }
 }
 
-fn read_part(
-    rt: &impl Abort,
-    alloc: Global,
-    fs: &mut HostFs<HostRuntime>,
-    from: u64,
-    max: u32,
-    wanted: &[u8],
-) -> Result<(), Fail> {
-    let plain = path(alloc, "/kept/a/plain")?;
+fn told(answer: Result<(), FsErr>) -> &'static str {
+    match answer {
+        Ok(()) => "ok",
+        Err(FsErr::Failed) => "failed",
+        Err(FsErr::Exists) => "exists",
+        Err(FsErr::Missing) => "missing",
+        Err(FsErr::NotFolder) => "not_folder",
+        Err(FsErr::NotEmpty) => "not_empty",
+        Err(FsErr::NoMemory) => "no_memory",
+    }
+}
+
+// Each line is an answer, a call, a path, and a second path or bytes.
+fn calls<R: Abort + Files + AllocGlobal + Clone + Drop>(rt: &R, fs: &mut HostFs<R>, lines: &str) {
+    for line in lines.split(';') {
+        let (wanted, rest) = line.split_once(' ').unwrap_or(("", line));
+        let (name, rest) = rest.split_once(' ').unwrap_or((rest, "/"));
+        let (at, second) = rest.split_once(' ').unwrap_or((rest, "/"));
+        assert_eq!(rt; told(call(rt, fs, name, at, second)), wanted, "of {line}");
+    }
+}
+
+// Makes each of these calls, which answer alike.
+fn each<R: Abort + Files + AllocGlobal + Clone + Drop>(
+    rt: &R,
+    fs: &mut HostFs<R>,
+    names: &str,
+    paths: (&str, &str),
+    wanted: &str,
+) {
+    let (at, second) = paths;
+    for name in names.split(';') {
+        assert_eq!(rt;
+            told(call(rt, fs, name, at, second)),
+            wanted,
+            "{name} {at} {second}"
+        );
+    }
+}
+
+fn check_read<R: Abort + Files + AllocGlobal + Clone + Drop>(
+    rt: &R,
+    fs: &mut HostFs<R>,
+    at: &str,
+    wanted: &str,
+) {
+    let whole = fs.read(&path(rt, at)).expect(rt, at);
+    assert!(rt; whole.as_slice() == wanted.as_bytes(), "of {at}");
+}
+
+fn check_part<R: Abort + Files + AllocGlobal + Clone + Drop>(
+    rt: &R,
+    fs: &mut HostFs<R>,
+    at: &str,
+    (from, max): (u64, u32),
+    wanted: &str,
+) {
     assert!(rt; max >= 1);
-    assert!(rt;
-        fs.read_part(&plain, from, max)?.as_slice() == wanted,
-        "from {from}"
-    );
-    Ok(())
+    let part = fs.read_part(&path(rt, at), from, max).expect(rt, at);
+    assert!(rt; part.as_slice() == wanted.as_bytes(), "from {from}");
 }
 
-fn read_folders(rt: &impl Abort, alloc: Global, fs: &mut HostFs<HostRuntime>) -> Result<(), Fail> {
-    let Some(Node::Folder(found)) = fs.stat(&path(alloc, "/kept/a")?)? else {
-        panic!(rt; "no folder");
-    };
-    assert_eq!(rt; (found.uid, found.gid, found.mode), (0, 0, 0o040755));
-    let names = fs.list(&path(alloc, "/kept")?)?;
-    assert_eq!(rt; names.as_slice().len(), 2);
-    assert!(rt; names.as_slice()[0].as_str() == "a");
-    assert!(rt; names.as_slice()[1].as_str() == "other");
-    Ok(())
+fn check_parts<R: Abort + Files + AllocGlobal + Clone + Drop>(rt: &R, fs: &mut HostFs<R>) {
+    for (range, wanted) in [
+        ((0, 3), "one"),
+        ((4, 9), "two"),
+        ((6, 1), "o"),
+        ((7, 1), ""),
+        ((u64::MAX, 1), ""),
+    ] {
+        check_part(rt, fs, "/kept/a/plain", range, wanted);
+    }
 }
 
-// The bytes of a file of the host: a front and the rest.
-fn check_stored(rt: &impl Abort, stored: &[u8], front: &[u8], rest: &[u8]) {
-    assert!(rt; stored.len() >= front.len());
-    assert!(rt; &stored[..front.len()] == front);
-    assert!(rt; &stored[front.len()..] == rest);
+fn check_owner(rt: &impl Abort, meta: &Meta, uid: u32, gid: u32, mode: u32) {
+    assert_eq!(rt; meta.uid, uid);
+    assert_eq!(rt; meta.gid, gid);
+    assert_eq!(rt; meta.mode, mode);
+}
+
+// Names, each followed by a line feed.
+fn check_list<R: Abort + Files + AllocGlobal + Clone + Drop>(
+    rt: &R,
+    fs: &mut HostFs<R>,
+    at: &str,
+    wanted: &str,
+) {
+    let names = fs.list(&path(rt, at)).expect(rt, at);
+    let mut rest = wanted;
+    for name in names.as_slice() {
+        let (first, more) = rest.split_once('\n').expect(rt, at);
+        assert_eq!(rt; name.as_str(), first, "in {at}");
+        rest = more;
+    }
+    assert_eq!(rt; rest, "", "in {at}");
 }
 
 #[test]
-fn keeps_files_and_folders(rt: HostRuntime) -> Result<(), Fail> {
-    let alloc = rt.alloc();
-    fresh(&rt, "kept")?;
-    write_files(&rt, alloc, &mut HostFs::new(rt.clone()?)?)?;
-    check_stored(&rt, &fs::read(&rt, "kept/a/plain")?, PLAIN, b"one two");
-    check_stored(&rt, &fs::read(&rt, "kept/other")?, OTHER, b"");
-    let mut again = HostFs::new(rt.clone()?)?;
-    let plain = (0, 0, 0o100644, b"one two".as_slice());
-    check_file(&rt, &mut again, &path(alloc, "/kept/a/plain")?, plain)?;
-    let strange = (0x0102_0304, 0xffff_fffe, 0o107777, b"".as_slice());
-    check_file(&rt, &mut again, &path(alloc, "/kept/other")?, strange)?;
-    for (from, max, wanted) in [
-        (0, 3, b"one".as_slice()),
-        (4, 9, b"two".as_slice()),
-        (6, 1, b"o".as_slice()),
-        (7, 1, b"".as_slice()),
-        (u64::MAX, 1, b"".as_slice()),
-    ] {
-        read_part(&rt, alloc, &mut again, from, max, wanted)?;
-    }
-    read_folders(&rt, alloc, &mut again)?;
-    assert_eq!(rt; (again.clock(), again.faults()), (0, 0));
-    fs::remove_dir_all(&rt, "kept")?;
-    Ok(())
+fn keeps_files_and_folders(rt: HostRuntime) {
+    fresh(&rt, "kept");
+    calls(
+        &rt,
+        &mut open(&rt),
+        "ok mkdir /kept/a;ok create /kept/a/plain;ok append /kept/a/plain one ;ok append /kept/a/plain two;ok sync_file /kept/a/plain;ok sync_dir /kept/a;ok sync_all",
+    );
+    check_stored(&rt, "kept/a/plain", PLAIN, b"one two");
+    let mut again = open(&rt);
+    check_read(&rt, &mut again, "/kept/a/plain", "one two");
+    check_parts(&rt, &mut again);
+    check_list(&rt, &mut again, "/kept", "a\n");
+    clear(&rt, "kept");
 }
 
-fn at(rt: &impl Abort, alloc: Global, text: &str) -> FsPath {
-    FsPath::parse(alloc, text.as_bytes()).expect(rt, "a path")
+#[test]
+fn keeps_owner_and_mode(rt: HostRuntime) {
+    fresh(&rt, "owned");
+    let meta = owned(&rt, 0x0102_0304, 0xffff_fffe, 0o107777);
+    create(&rt, &mut open(&rt), "/owned/other", &meta).expect(&rt, "create");
+    check_stored(&rt, "owned/other", OTHER, b"");
+    let found = open(&rt).stat(&path(&rt, "/owned/other"));
+    let Some(Node::File { meta, len }) = found.expect(&rt, "stat") else {
+        panic!(rt; "no file");
+    };
+    check_owner(&rt, &meta, 0x0102_0304, 0xffff_fffe, 0o107777);
+    assert_eq!(rt; len, 0);
+    clear(&rt, "owned");
 }
 
-fn bytes(rt: &impl Abort, alloc: Global, text: &str) -> Bytes {
-    Bytes::from_slice(alloc, text.as_bytes()).expect(rt, "memory")
+// Adds an extended attribute.
+fn with_xattr<R: Abort + Files + AllocGlobal + Clone + Drop>(
+    rt: &R,
+    mut meta: Meta,
+    name: &str,
+    value: &str,
+) -> Meta {
+    let xattr = Xattr {
+        name: bytes(rt, name),
+        value: bytes(rt, value),
+    };
+    meta.xattrs.push(xattr).expect(rt, "memory");
+    meta
 }
 
-// The attributes of owner 1 and group 258.
-fn owned(rt: &impl Abort, alloc: Global, mode: u32, rows: &[(&str, &str)]) -> Meta {
-    let mut xattrs = Xattrs::new(alloc);
-    for (name, value) in rows {
-        let xattr = Xattr {
-            name: bytes(rt, alloc, name),
-            value: bytes(rt, alloc, value),
-        };
-        xattrs.push(xattr).expect(rt, "memory");
-    }
-    Meta {
-        uid: 1,
-        gid: 258,
-        mode,
-        xattrs,
-    }
+fn folder_meta<R: Abort + Files + AllocGlobal + Clone + Drop>(rt: &R) -> Meta {
+    with_xattr(rt, owned(rt, 1, 258, 0o041777), "user.dir\0", "v")
 }
 
-const FILE_ROWS: &[(&str, &str); 2] = &[("user.a\0", "x"), ("user.b\0", "yz")];
-
-const FOLDER_ROWS: &[(&str, &str); 1] = &[("user.dir\0", "v")];
-
-fn make_folder(rt: &impl Abort, alloc: Global, fs: &mut HostFs<HostRuntime>) {
-    let folder = owned(rt, alloc, 0o041777, FOLDER_ROWS.as_slice());
-    assert!(rt; is_folder_mode(folder.mode));
-    fs.mkdir(&at(rt, alloc, "/forms/folder"), &folder)
-        .expect(rt, "mkdir");
+fn file_meta<R: Abort + Files + AllocGlobal + Clone + Drop>(rt: &R) -> Meta {
+    let first = with_xattr(rt, owned(rt, 1, 258, 0o104755), "user.a\0", "x");
+    with_xattr(rt, first, "user.b\0", "yz")
 }
 
-fn make_file(rt: &impl Abort, alloc: Global, fs: &mut HostFs<HostRuntime>) {
-    let file = at(rt, alloc, "/forms/folder/file");
-    let attributes = owned(rt, alloc, 0o104755, FILE_ROWS.as_slice());
-    create(rt, alloc, fs, &file, &attributes).expect(rt, "create");
-    fs.append(&file, b"hello\n").expect(rt, "append");
+// A folder, a file and a link with attributes.
+fn make_forms<R: Abort + Files + AllocGlobal + Clone + Drop>(rt: &R) {
+    fresh(rt, "forms");
+    let mut fs = open(rt);
+    mkdir(rt, &mut fs, "/forms/folder", &folder_meta(rt)).expect(rt, "mkdir");
+    create(rt, &mut fs, "/forms/folder/file", &file_meta(rt)).expect(rt, "create");
+    calls(rt, &mut fs, "ok append /forms/folder/file hello\n");
+    let link = owned(rt, 1, 258, 0o120777);
+    symlink(rt, &mut fs, "/forms/folder/link", "usr/bin", &link).expect(rt, "symlink");
 }
 
-fn make_link(rt: &impl Abort, alloc: Global, fs: &mut HostFs<HostRuntime>) {
-    let link = at(rt, alloc, "/forms/folder/link");
-    let attributes = owned(rt, alloc, 0o120777, &[]);
-    symlink_to(rt, alloc, fs, &link, b"usr/bin", &attributes).expect(rt, "symlink");
+#[test]
+fn writes_what_ostree_writes(rt: HostRuntime) {
+    make_forms(&rt);
+    check_stored(&rt, "forms/folder/file", WITH_ATTRIBUTES, b"hello\n");
+    check_stored(&rt, "forms/folder/link", LINK, b"");
+    check_stored(&rt, "forms/folder/.ost-folder", FOLDER, b"");
 }
 
-fn check_meta(rt: &impl Abort, found: &Meta, mode: u32, rows: &[(&str, &str)]) {
-    assert_eq!(rt; (found.uid, found.gid, found.mode), (1, 258, mode));
-    assert_eq!(rt; found.xattrs.as_slice().len(), rows.len());
-    for (xattr, (name, value)) in found.xattrs.as_slice().iter().zip(rows) {
-        assert!(rt; xattr.name.as_slice() == name.as_bytes());
-        assert!(rt; xattr.value.as_slice() == value.as_bytes());
-    }
+fn node<R: Abort + Files + AllocGlobal + Clone + Drop>(rt: &R, at: &str) -> Node {
+    open(rt).stat(&path(rt, at)).expect(rt, at).expect(rt, at)
 }
 
-fn check_node(rt: &impl Abort, node: &Node) {
-    match node {
-        Node::Folder(meta) => check_meta(rt, meta, 0o041777, FOLDER_ROWS.as_slice()),
-        Node::File { meta, len } => {
-            check_meta(rt, meta, 0o104755, FILE_ROWS.as_slice());
-            assert_eq!(rt; *len, 6);
-        }
-        Node::Link { meta, target } => {
-            check_meta(rt, meta, 0o120777, &[]);
-            assert!(rt; target.as_str() == "usr/bin");
-        }
-    }
+fn check_xattr(rt: &impl Abort, found: Option<&Xattr>, name: &str, value: &str) {
+    let xattr = found.expect(rt, name);
+    assert!(rt; xattr.name.as_slice() == name.as_bytes());
+    assert!(rt; xattr.value.as_slice() == value.as_bytes());
 }
 
-fn check_nodes(rt: &impl Abort, alloc: Global, fs: &mut HostFs<HostRuntime>) {
-    for text in ["/forms/folder", "/forms/folder/file", "/forms/folder/link"] {
-        let found = fs.stat(&at(rt, alloc, text)).expect(rt, "stat");
-        check_node(rt, &found.expect(rt, "a node"));
-    }
-    let file = at(rt, alloc, "/forms/folder/file");
-    let whole = fs.read(&file).expect(rt, "read");
-    assert!(rt; whole.as_slice() == b"hello\n".as_slice());
-    let part = fs.read_part(&file, 4, 9).expect(rt, "read_part");
-    assert!(rt; part.as_slice() == b"o\n".as_slice());
+#[test]
+fn reads_a_folder(rt: HostRuntime) {
+    make_forms(&rt);
+    let Node::Folder(meta) = node(&rt, "/forms/folder") else {
+        panic!(rt; "no folder");
+    };
+    check_owner(&rt, &meta, 1, 258, 0o041777);
+    assert_eq!(rt; meta.xattrs.as_slice().len(), 1);
+    check_xattr(&rt, meta.xattrs.as_slice().first(), "user.dir\0", "v");
 }
 
-fn do_each(
-    rt: &impl Abort,
-    alloc: Global,
-    fs: &mut HostFs<HostRuntime>,
-    rows: &[(Call, &str, &str)],
-) {
-    for (call, from, to) in rows {
-        let (from, to) = (at(rt, alloc, from), at(rt, alloc, to));
-        answer(rt, alloc, fs, *call, &from, &to).expect(rt, "a call");
-    }
-    assert_eq!(rt; fs.faults(), 0);
+#[test]
+fn reads_a_file(rt: HostRuntime) {
+    make_forms(&rt);
+    let Node::File { meta, len } = node(&rt, "/forms/folder/file") else {
+        panic!(rt; "no file");
+    };
+    assert_eq!(rt; len, 6);
+    check_owner(&rt, &meta, 1, 258, 0o104755);
+    assert_eq!(rt; meta.xattrs.as_slice().len(), 2);
+    check_xattr(&rt, meta.xattrs.as_slice().first(), "user.a\0", "x");
+    check_xattr(&rt, meta.xattrs.as_slice().last(), "user.b\0", "yz");
+    check_read(&rt, &mut open(&rt), "/forms/folder/file", "hello\n");
+}
+
+#[test]
+fn reads_a_link(rt: HostRuntime) {
+    make_forms(&rt);
+    let Node::Link { meta, target } = node(&rt, "/forms/folder/link") else {
+        panic!(rt; "no link");
+    };
+    check_owner(&rt, &meta, 1, 258, 0o120777);
+    assert!(rt; meta.xattrs.as_slice().is_empty());
+    assert_eq!(rt; target.as_str(), "usr/bin");
 }
 
 // A link is a leaf, and no regular file.
-fn check_link(rt: &impl Abort, alloc: Global, fs: &mut HostFs<HostRuntime>) -> Result<(), Fail> {
-    let link = "/forms/folder/link";
-    check_each(
-        rt,
-        alloc,
-        fs,
-        &[Call::Append, Call::SyncFile, Call::Read, Call::ReadPart],
-        &[(link, FsErr::Missing)],
-    )?;
-    check_same(rt, alloc, fs, link, link, false)
+#[test]
+fn moves_and_removes_a_link(rt: HostRuntime) {
+    make_forms(&rt);
+    calls(
+        &rt,
+        &mut open(&rt),
+        "missing append /forms/folder/link x;missing sync_file /forms/folder/link;missing read /forms/folder/link;missing read_part /forms/folder/link;ok rename /forms/folder/link /forms/moved;ok link /forms/moved /forms/folder/link;ok unlink /forms/moved;ok unlink /forms/folder/link;ok unlink /forms/folder/file;ok rmdir /forms/folder;ok rmdir /forms",
+    );
 }
 
-fn move_and_remove(rt: &impl Abort, alloc: Global, fs: &mut HostFs<HostRuntime>) {
-    do_each(
-        rt,
-        alloc,
-        fs,
-        &[
-            (Call::Rename, "/forms/folder/link", "/forms/moved"),
-            (Call::Link, "/forms/moved", "/forms/folder/link"),
-            (Call::Unlink, "/forms/moved", "/"),
-            (Call::Unlink, "/forms/folder/link", "/"),
-            (Call::Unlink, "/forms/folder/file", "/"),
-            (Call::Rmdir, "/forms/folder", "/"),
-        ],
+fn check_same<R: Abort + Files + AllocGlobal + Clone + Drop>(
+    rt: &R,
+    fs: &mut HostFs<R>,
+    at: &str,
+    other: &str,
+    wanted: bool,
+) {
+    let same = fs.same(&path(rt, at), &path(rt, other)).expect(rt, at);
+    assert_eq!(rt; same, wanted, "{at} {other}");
+}
+
+// Two names of one file, and another file.
+#[test]
+fn links_moves_and_removes(rt: HostRuntime) {
+    fresh(&rt, "moved");
+    let mut fs = open(&rt);
+    calls(
+        &rt,
+        &mut fs,
+        "ok create /moved/one;ok append /moved/one bytes;ok link /moved/one /moved/two;ok create /moved/three;ok append /moved/three bytez",
+    );
+    check_same(&rt, &mut fs, "/moved/one", "/moved/two", true);
+    check_same(&rt, &mut fs, "/moved/one", "/moved/three", false);
+    check_same(&rt, &mut fs, "/moved/one/x", "/moved/one", false);
+    calls(
+        &rt,
+        &mut fs,
+        "ok rename /moved/one /moved/three;missing read /moved/one",
+    );
+    check_read(&rt, &mut fs, "/moved/three", "bytes");
+    calls(
+        &rt,
+        &mut fs,
+        "ok unlink /moved/three;ok read /moved/two;ok unlink /moved/two;ok rmdir /moved;ok sync_all;missing list /moved",
     );
 }
 
 #[test]
-fn keeps_links_and_attributes(rt: HostRuntime) -> Result<(), Fail> {
-    let alloc = rt.alloc();
-    fresh(&rt, "forms")?;
-    let mut fs = HostFs::new(rt.clone()?)?;
-    make_folder(&rt, alloc, &mut fs);
-    make_file(&rt, alloc, &mut fs);
-    make_link(&rt, alloc, &mut fs);
-    let file = fs::read(&rt, "forms/folder/file")?;
-    check_stored(&rt, &file, WITH_ATTRIBUTES, b"hello\n");
-    check_stored(&rt, &fs::read(&rt, "forms/folder/link")?, LINK, b"");
-    let attributes = fs::read(&rt, "forms/folder/.ost-folder")?;
-    check_stored(&rt, &attributes, FOLDER, b"");
-    Ok(())
+fn refuses(rt: HostRuntime) {
+    fresh(&rt, "table");
+    put(&rt, "table/leaf", PLAIN.as_slice());
+    folder(&rt, "table/full");
+    folder(&rt, "table/full/x");
+    let mut fs = open(&rt);
+    for line in "/ exists;/table/full exists;/table/leaf exists;/table/no/x missing;/table/leaf/x not_folder".split(
+        ';',
+    ) {
+        let (at, wanted) = line.split_once(' ').unwrap_or((line, ""));
+        each(&rt, &mut fs, "mkdir;create;symlink", (at, "/"), wanted);
+        each(&rt, &mut fs, "link", ("/table/leaf", at), wanted);
+    }
+    for line in "/ missing;/table/full missing;/table/no missing;/table/no/x missing;/table/leaf/x not_folder".split(
+        ';',
+    ) {
+        let (at, wanted) = line.split_once(' ').unwrap_or((line, ""));
+        each(
+            &rt,
+            &mut fs,
+            "append;unlink;sync_file;read;read_part;link;rename",
+            (at, "/table/new"),
+            wanted,
+        );
+    }
 }
 
 #[test]
-fn reads_links_and_attributes(rt: HostRuntime) -> Result<(), Fail> {
-    let alloc = rt.alloc();
-    fresh(&rt, "forms")?;
-    let mut fs = HostFs::new(rt.clone()?)?;
-    make_folder(&rt, alloc, &mut fs);
-    make_file(&rt, alloc, &mut fs);
-    make_link(&rt, alloc, &mut fs);
-    let mut again = HostFs::new(rt.clone()?)?;
-    check_nodes(&rt, alloc, &mut again);
-    check_link(&rt, alloc, &mut again)?;
-    move_and_remove(&rt, alloc, &mut again);
-    fs::remove_dir(&rt, "forms")?;
-    Ok(())
-}
-
-fn check_same(
-    rt: &impl Abort,
-    alloc: Global,
-    fs: &mut HostFs<HostRuntime>,
-    a: &str,
-    b: &str,
-    wanted: bool,
-) -> Result<(), Fail> {
-    let same = fs.same(&path(alloc, a)?, &path(alloc, b)?)?;
-    assert_eq!(rt; same, wanted, "{a} {b}");
-    Ok(())
-}
-
-// Two names of one file, and another file.
-fn make_three(rt: &impl Abort, alloc: Global, fs: &mut HostFs<HostRuntime>) -> Result<(), Fail> {
-    let one = path(alloc, "/moved/one")?;
-    let three = path(alloc, "/moved/three")?;
-    create(rt, alloc, fs, &one, &meta(alloc, 0, 0, 0o100644))?;
-    fs.append(&one, b"bytes")?;
-    fs.link(&one, &path(alloc, "/moved/two")?)?;
-    create(rt, alloc, fs, &three, &meta(alloc, 0, 0, 0o100644))?;
-    check_same(rt, alloc, fs, "/moved/one", "/moved/two", true)?;
-    check_same(rt, alloc, fs, "/moved/one", "/moved/three", false)?;
-    fs.append(&three, b"bytez")?;
-    check_same(rt, alloc, fs, "/moved/one", "/moved/three", false)?;
-    check_same(rt, alloc, fs, "/moved/one", "/moved", false)?;
-    check_same(rt, alloc, fs, "/moved/one/x", "/moved/one", false)
-}
-
-#[test]
-fn links_moves_and_removes(rt: HostRuntime) -> Result<(), Fail> {
-    let alloc = rt.alloc();
-    fresh(&rt, "moved")?;
-    let mut fs = HostFs::new(rt.clone()?)?;
-    make_three(&rt, alloc, &mut fs)?;
-    let wanted = (0, 0, 0o100644, b"bytes".as_slice());
-    let (one, two) = (path(alloc, "/moved/one")?, path(alloc, "/moved/two")?);
-    let three = path(alloc, "/moved/three")?;
-    fs.rename(&one, &three)?;
-    assert!(rt; fs.stat(&one)?.is_none());
-    check_file(&rt, &mut fs, &three, wanted)?;
-    fs.unlink(&three)?;
-    check_file(&rt, &mut fs, &two, wanted)?;
-    fs.sync_all()?;
-    fs.unlink(&two)?;
-    fs.rmdir(&path(alloc, "/moved")?)?;
-    fs.sync_all()?;
-    assert!(rt; fs::symlink_metadata(&rt, "moved").is_err());
-    assert_eq!(rt; fs.faults(), 0);
-    Ok(())
-}
-
-#[derive(Clone, Copy, Debug, PartialEq, Eq)]
-enum Call {
-    Mkdir,
-    Create,
-    Append,
-    Symlink,
-    Link,
-    Unlink,
-    Rmdir,
-    Rename,
-    SyncFile,
-    SyncDir,
-    Read,
-    ReadPart,
-    List,
-}
-
-fn answer(
-    rt: &impl Abort,
-    alloc: Global,
-    fs: &mut HostFs<HostRuntime>,
-    call: Call,
-    at: &FsPath,
-    to: &FsPath,
-) -> Result<(), FsErr> {
-    match call {
-        Call::Mkdir => mkdir(rt, alloc, fs, at),
-        Call::Create => create(rt, alloc, fs, at, &meta(alloc, 0, 0, 0o100644)),
-        Call::Append => fs.append(at, b"x"),
-        Call::Symlink => symlink(rt, alloc, fs, at),
-        Call::Link => fs.link(at, to),
-        Call::Unlink => fs.unlink(at),
-        Call::Rmdir => fs.rmdir(at),
-        Call::Rename => fs.rename(at, to),
-        Call::SyncFile => fs.sync_file(at),
-        Call::SyncDir => fs.sync_dir(at),
-        Call::Read => fs.read(at).map(|_| ()),
-        Call::ReadPart => fs.read_part(at, 0, 1).map(|_| ()),
-        Call::List => fs.list(at).map(|_| ()),
+fn refuses_folders(rt: HostRuntime) {
+    fresh(&rt, "folders");
+    put(&rt, "folders/leaf", PLAIN.as_slice());
+    folder(&rt, "folders/full");
+    folder(&rt, "folders/full/x");
+    let mut fs = open(&rt);
+    for line in "/folders/no missing;/folders/leaf not_folder;/folders/no/x missing;/folders/leaf/x not_folder".split(
+        ';',
+    ) {
+        let (at, wanted) = line.split_once(' ').unwrap_or((line, ""));
+        each(&rt, &mut fs, "sync_dir;list;rmdir", (at, "/"), wanted);
     }
+    calls(
+        &rt,
+        &mut fs,
+        "not_empty rmdir /;not_empty rmdir /folders/full;exists rename /folders/leaf /;exists rename /folders/leaf /folders/full;missing rename /folders/leaf /folders/no/x;not_folder rename /folders/leaf /folders/leaf/x",
+    );
+    check_stored(&rt, "folders/leaf", PLAIN, b"");
+    clear(&rt, "folders");
 }
 
-fn is_changing(call: Call) -> bool {
-    !matches!(call, Call::Read | Call::ReadPart | Call::List)
-}
-
-// Makes the call, and tests its answer and how the counts rose.
-fn check(
-    rt: &impl Abort,
-    alloc: Global,
-    fs: &mut HostFs<HostRuntime>,
-    call: Call,
-    at: &str,
-    to: &str,
-    wanted: FsErr,
-) -> Result<(), Fail> {
-    let (clock, faults) = (fs.clock(), fs.faults());
-    let (from, into) = (path(alloc, at)?, path(alloc, to)?);
-    let result = answer(rt, alloc, fs, call, &from, &into);
-    assert_eq!(rt; result, Err(wanted), "{call:?} {at} {to}");
-    let ticks = u64::from(is_changing(call));
-    assert_eq!(rt; fs.clock().wrapping_sub(clock), ticks, "{call:?}");
-    let rises = u64::from(wanted == FsErr::Failed);
-    assert_eq!(rt; fs.faults().wrapping_sub(faults), rises, "{call:?}");
-    Ok(())
-}
-
-fn check_each(
-    rt: &impl Abort,
-    alloc: Global,
-    fs: &mut HostFs<HostRuntime>,
-    calls: &[Call],
-    rows: &[(&str, FsErr)],
-) -> Result<(), Fail> {
-    for call in calls {
-        for (at, wanted) in rows {
-            check(rt, alloc, fs, *call, at, "/table/new", *wanted)?;
-        }
-    }
-    Ok(())
-}
-
-fn refuses_to_place(
-    rt: &impl Abort,
-    alloc: Global,
-    fs: &mut HostFs<HostRuntime>,
-) -> Result<(), Fail> {
-    check_each(
+// What isn't a node here answers `Failed` to each call.
+fn check_failing<R: Abort + Files + AllocGlobal + Clone + Drop>(rt: &R, leaf: &str, at: &str) {
+    let mut fs = open(rt);
+    each(
         rt,
-        alloc,
-        fs,
-        &[Call::Mkdir, Call::Create, Call::Symlink],
-        &[
-            ("/", FsErr::Exists),
-            ("/table/full", FsErr::Exists),
-            ("/table/leaf", FsErr::Exists),
-            ("/table/no/x", FsErr::Missing),
-            ("/table/leaf/x", FsErr::NotFolder),
-        ],
-    )
-}
-
-fn refuses_to_find_a_leaf(
-    rt: &impl Abort,
-    alloc: Global,
-    fs: &mut HostFs<HostRuntime>,
-) -> Result<(), Fail> {
-    check_each(
-        rt,
-        alloc,
-        fs,
-        &[
-            Call::Append,
-            Call::Unlink,
-            Call::SyncFile,
-            Call::Read,
-            Call::ReadPart,
-            Call::Link,
-            Call::Rename,
-        ],
-        &[
-            ("/", FsErr::Missing),
-            ("/table/full", FsErr::Missing),
-            ("/table/no", FsErr::Missing),
-            ("/table/no/x", FsErr::Missing),
-            ("/table/leaf/x", FsErr::NotFolder),
-        ],
-    )
-}
-
-fn refuses_to_find_a_folder(
-    rt: &impl Abort,
-    alloc: Global,
-    fs: &mut HostFs<HostRuntime>,
-) -> Result<(), Fail> {
-    check_each(
-        rt,
-        alloc,
-        fs,
-        &[Call::SyncDir, Call::List, Call::Rmdir],
-        &[
-            ("/table/no", FsErr::Missing),
-            ("/table/leaf", FsErr::NotFolder),
-            ("/table/no/x", FsErr::Missing),
-            ("/table/leaf/x", FsErr::NotFolder),
-        ],
-    )?;
-    check_each(
-        rt,
-        alloc,
-        fs,
-        &[Call::Rmdir],
-        &[("/", FsErr::NotEmpty), ("/table/full", FsErr::NotEmpty)],
-    )
-}
-
-fn refuses_a_second_path(
-    rt: &impl Abort,
-    alloc: Global,
-    fs: &mut HostFs<HostRuntime>,
-) -> Result<(), Fail> {
-    for (to, wanted) in [
-        ("/", FsErr::Exists),
-        ("/table/full", FsErr::Exists),
-        ("/table/no/x", FsErr::Missing),
-        ("/table/leaf/x", FsErr::NotFolder),
-    ] {
-        check(rt, alloc, fs, Call::Link, "/table/leaf", to, wanted)?;
-        check(rt, alloc, fs, Call::Rename, "/table/leaf", to, wanted)?;
-    }
-    check(
-        rt,
-        alloc,
-        fs,
-        Call::Link,
-        "/table/leaf",
-        "/table/leaf",
-        FsErr::Exists,
-    )
-}
-
-#[test]
-fn refuses(rt: HostRuntime) -> Result<(), Fail> {
-    let alloc = rt.alloc();
-    fresh(&rt, "table")?;
-    fs::write(&rt, "table/leaf", PLAIN.as_slice())?;
-    fs::create_dir(&rt, "table/full")?;
-    fs::create_dir(&rt, "table/full/x")?;
-    let mut fs = HostFs::new(rt.clone()?)?;
-    refuses_to_place(&rt, alloc, &mut fs)?;
-    refuses_to_find_a_leaf(&rt, alloc, &mut fs)?;
-    refuses_to_find_a_folder(&rt, alloc, &mut fs)?;
-    refuses_a_second_path(&rt, alloc, &mut fs)?;
-    for at in ["/table/no", "/table/no/x", "/table/leaf/x"] {
-        assert!(rt; fs.stat(&path(alloc, at)?)?.is_none());
-    }
-    check_stored(&rt, &fs::read(&rt, "table/leaf")?, PLAIN, b"");
-    assert_eq!(rt; fs.list(&path(alloc, "/table")?)?.as_slice().len(), 2);
-    fs::remove_dir_all(&rt, "table")?;
-    Ok(())
-}
-
-// What isn't a node here answers `Failed` to each call, and is counted.
-fn check_failing(
-    rt: &impl Abort,
-    alloc: Global,
-    fs: &mut HostFs<HostRuntime>,
-    leaf: &str,
-    at: &str,
-) -> Result<(), Fail> {
-    for call in [
-        Call::Mkdir,
-        Call::Create,
-        Call::Append,
-        Call::Symlink,
-        Call::Unlink,
-        Call::Rmdir,
-        Call::SyncFile,
-        Call::SyncDir,
-        Call::Read,
-        Call::ReadPart,
-        Call::List,
-    ] {
-        check(rt, alloc, fs, call, at, "/", FsErr::Failed)?;
-    }
-    for call in [Call::Link, Call::Rename] {
-        check(rt, alloc, fs, call, at, "/failing_new", FsErr::Failed)?;
-        check(rt, alloc, fs, call, leaf, at, FsErr::Failed)?;
-    }
-    let (leaf, at) = (path(alloc, leaf)?, path(alloc, at)?);
-    assert!(rt; matches!(fs.stat(&at), Err(FsErr::Failed)));
-    assert!(rt; matches!(fs.same(&leaf, &at), Err(FsErr::Failed)));
-    Ok(())
+        &mut fs,
+        "mkdir;create;append;symlink;unlink;rmdir;sync_file;sync_dir;read;read_part;list;link;rename",
+        (at, "/failing_new"),
+        "failed",
+    );
+    each(rt, &mut fs, "link;rename", (leaf, at), "failed");
+    let node = fs.stat(&path(rt, at));
+    assert!(rt; matches!(node, Err(FsErr::Failed)));
+    let same = fs.same(&path(rt, leaf), &path(rt, at));
+    assert!(rt; matches!(same, Err(FsErr::Failed)));
 }
 
 // Cut short, a length, the four zeros, the types of a folder and of a link, a device, a target, the framing offset, a link
@@ -656,100 +520,81 @@ const ODD: [&[u8]; 13] = [
 ];
 
 #[test]
-fn takes_only_its_own_files(rt: HostRuntime) -> Result<(), Fail> {
-    let alloc = rt.alloc();
-    fresh(&rt, "odd")?;
-    fs::write(&rt, "odd/leaf", PLAIN.as_slice())?;
-    let mut fs = HostFs::new(rt.clone()?)?;
+fn takes_only_its_own_files(rt: HostRuntime) {
+    fresh(&rt, "odd");
+    put(&rt, "odd/leaf", PLAIN.as_slice());
     for bytes in ODD {
-        fs::write(&rt, "odd/file", bytes)?;
-        check_failing(&rt, alloc, &mut fs, "/odd/leaf", "/odd/file")?;
-        check_failing(&rt, alloc, &mut fs, "/odd/leaf", "/odd/file/x")?;
-        assert!(rt; fs::read(&rt, "odd/file")?.as_slice() == bytes);
+        put(&rt, "odd/file", bytes);
+        check_failing(&rt, "/odd/leaf", "/odd/file");
+        check_failing(&rt, "/odd/leaf", "/odd/file/x");
+        check_stored(&rt, "odd/file", bytes, b"");
     }
-    assert!(rt; fs::symlink_metadata(&rt, "failing_new").is_err());
-    fs::remove_dir_all(&rt, "odd")?;
-    Ok(())
+    clear(&rt, "odd");
 }
 
 #[test]
-fn leaves_reserved_names_alone(rt: HostRuntime) -> Result<(), Fail> {
-    let alloc = rt.alloc();
-    fresh(&rt, "reserved")?;
-    fs::write(&rt, "reserved/leaf", PLAIN.as_slice())?;
-    fs::create_dir(&rt, "reserved/kept")?;
-    fs::write(&rt, "reserved/kept/.ost-folder", b"attributes")?;
-    let mut fs = HostFs::new(rt.clone()?)?;
-    for at in [
-        "/reserved/kept/.ost-folder",
-        "/reserved/kept/.ost-new",
-        "/reserved/no/.ost-folder/x",
-        "/reserved/no/x/.ost-new",
-    ] {
-        check_failing(&rt, alloc, &mut fs, "/reserved/leaf", at)?;
+fn leaves_reserved_names_alone(rt: HostRuntime) {
+    fresh(&rt, "reserved");
+    put(&rt, "reserved/leaf", PLAIN.as_slice());
+    folder(&rt, "reserved/kept");
+    put(&rt, "reserved/kept/.ost-folder", b"attributes");
+    for at in "/reserved/kept/.ost-folder;/reserved/kept/.ost-new;/reserved/no/.ost-folder/x;/reserved/no/x/.ost-new".split(
+        ';',
+    ) {
+        check_failing(&rt, "/reserved/leaf", at);
     }
-    let folder = path(alloc, "/reserved/kept")?;
-    assert!(rt; matches!(fs.stat(&folder), Err(FsErr::Failed)));
-    assert!(rt; fs.list(&folder)?.as_slice().is_empty());
-    let kept = fs::read(&rt, "reserved/kept/.ost-folder")?;
-    assert!(rt; kept.as_slice() == b"attributes".as_slice());
-    fs::remove_dir_all(&rt, "reserved")?;
-    Ok(())
+    let damaged = open(&rt).stat(&path(&rt, "/reserved/kept"));
+    assert!(rt; matches!(damaged, Err(FsErr::Failed)));
+    check_list(&rt, &mut open(&rt), "/reserved/kept", "");
+    check_stored(&rt, "reserved/kept/.ost-folder", b"attributes", b"");
+    clear(&rt, "reserved");
 }
 
 // A call that was cut off may have left a file or a folder under the name for what is new.
 #[test]
-fn goes_on_after_a_call_that_was_cut_off(rt: HostRuntime) -> Result<(), Fail> {
-    let alloc = rt.alloc();
-    fresh(&rt, "cut")?;
-    fs::create_dir(&rt, "cut/folder")?;
-    fs::write(&rt, "cut/folder/.ost-folder", FOLDER.as_slice())?;
-    fs::write(&rt, "cut/folder/.ost-new", b"cut")?;
-    fs::create_dir(&rt, "cut/.ost-new")?;
-    fs::write(&rt, "cut/.ost-new/.ost-folder", b"")?;
-    do_each(
+fn goes_on_after_a_call_that_was_cut_off(rt: HostRuntime) {
+    fresh(&rt, "cut");
+    folder(&rt, "cut/folder");
+    put(&rt, "cut/folder/.ost-folder", FOLDER.as_slice());
+    put(&rt, "cut/folder/.ost-new", b"cut");
+    folder(&rt, "cut/.ost-new");
+    put(&rt, "cut/.ost-new/.ost-folder", b"");
+    calls(
         &rt,
-        alloc,
-        &mut HostFs::new(rt.clone()?)?,
-        &[
-            (Call::Create, "/cut/leaf", "/"),
-            (Call::Unlink, "/cut/leaf", "/"),
-            (Call::Rmdir, "/cut/folder", "/"),
-        ],
+        &mut open(&rt),
+        "ok create /cut/leaf;ok unlink /cut/leaf;ok rmdir /cut/folder;ok rmdir /cut",
     );
-    fs::remove_dir(&rt, "cut")?;
-    Ok(())
+}
+
+fn host_link<R: Abort + Files + AllocGlobal + Clone + Drop>(rt: &R, target: &str, link: &str) {
+    std::os::unix::fs::symlink(rt, target, link).expect(rt, link);
+}
+
+fn check_host_link<R: Abort + Files + AllocGlobal + Clone + Drop>(rt: &R, link: &str) {
+    let metadata = fs::symlink_metadata(rt, link).expect(rt, link);
+    assert!(rt; metadata.is_symlink());
 }
 
 #[test]
-fn follows_no_links(rt: HostRuntime) -> Result<(), Fail> {
-    let alloc = rt.alloc();
-    fresh(&rt, "outside")?;
-    fs::write(&rt, "outside/leaf", PLAIN.as_slice())?;
-    fresh(&rt, "linked")?;
-    fs::write(&rt, "linked/leaf", PLAIN.as_slice())?;
-    std::os::unix::fs::symlink(&rt, "../outside/leaf", "linked/link")?;
-    std::os::unix::fs::symlink(&rt, "../outside", "linked/folder")?;
-    std::os::unix::fs::symlink(&rt, "nothing", "linked/dangling")?;
-    let mut fs = HostFs::new(rt.clone()?)?;
-    for at in [
-        "/linked/link",
-        "/linked/folder",
-        "/linked/dangling",
-        "/linked/folder/leaf",
-        "/linked/folder/new",
-        "/linked/link/x",
-    ] {
-        check_failing(&rt, alloc, &mut fs, "/linked/leaf", at)?;
+fn follows_no_links(rt: HostRuntime) {
+    fresh(&rt, "outside");
+    put(&rt, "outside/leaf", PLAIN.as_slice());
+    fresh(&rt, "linked");
+    put(&rt, "linked/leaf", PLAIN.as_slice());
+    host_link(&rt, "../outside/leaf", "linked/link");
+    host_link(&rt, "../outside", "linked/folder");
+    host_link(&rt, "nothing", "linked/dangling");
+    for at in "/linked/link;/linked/folder;/linked/dangling;/linked/folder/leaf;/linked/folder/new;/linked/link/x".split(
+        ';',
+    ) {
+        check_failing(&rt, "/linked/leaf", at);
     }
-    check_stored(&rt, &fs::read(&rt, "outside/leaf")?, PLAIN, b"");
-    assert_eq!(rt; fs.list(&path(alloc, "/outside")?)?.as_slice().len(), 1);
-    for link in ["linked/link", "linked/folder", "linked/dangling"] {
-        assert!(rt; fs::symlink_metadata(&rt, link)?.is_symlink());
-    }
-    fs::remove_dir_all(&rt, "linked")?;
-    fs::remove_dir_all(&rt, "outside")?;
-    Ok(())
+    check_host_link(&rt, "linked/link");
+    check_host_link(&rt, "linked/folder");
+    check_stored(&rt, "outside/leaf", PLAIN, b"");
+    check_list(&rt, &mut open(&rt), "/outside", "leaf\n");
+    clear(&rt, "linked");
+    clear(&rt, "outside");
 }
 
 // A machine without hard links.
@@ -817,26 +662,17 @@ impl Files for Unlinked {
 }
 
 #[test]
-fn copies_where_there_are_no_hard_links(rt: HostRuntime) -> Result<(), Fail> {
-    let alloc = rt.alloc();
-    fresh(&rt, "copied")?;
-    let mut fs = HostFs::new(Unlinked(rt.clone()?))?;
-    fs::write(&rt, "copied/one", WITH_ATTRIBUTES.as_slice())?;
-    let one = path(alloc, "/copied/one")?;
-    let two = path(alloc, "/copied/two")?;
-    fs.append(&one, b"bytes")?;
-    fs.link(&one, &two)?;
-    assert!(rt; fs.same(&one, &two)?);
-    fs.append(&one, b" more")?;
-    check_stored(
-        &rt,
-        &fs::read(&rt, "copied/two")?,
-        WITH_ATTRIBUTES,
-        b"bytes",
-    );
-    assert_eq!(rt; fs.faults(), 0);
-    fs::remove_dir_all(&rt, "copied")?;
-    Ok(())
+fn copies_where_there_are_no_hard_links(rt: HostRuntime) {
+    fresh(&rt, "copied");
+    put(&rt, "copied/one", WITH_ATTRIBUTES.as_slice());
+    let host = Unlinked(rt.clone().expect(&rt, "memory"));
+    let mut fs = HostFs::new(host).expect(&rt, "memory");
+    let one = path(&rt, "/copied/one");
+    fs.append(&one, b"bytes").expect(&rt, "append");
+    fs.link(&one, &path(&rt, "/copied/two")).expect(&rt, "link");
+    fs.append(&one, b" more").expect(&rt, "append");
+    check_stored(&rt, "copied/two", WITH_ATTRIBUTES, b"bytes");
+    clear(&rt, "copied");
 }
 
 // A reader that is interrupted once, gives some bytes, and then fails.
@@ -857,23 +693,27 @@ impl Read for Broken {
 }
 
 #[test]
-fn streams_count_their_faults(rt: HostRuntime) -> Result<(), Fail> {
-    let alloc = rt.alloc();
+fn source_gives_pieces(rt: HostRuntime) {
     let mut piece = [0u8; 4];
     let mut source = StdSource::new(b"abcdef".as_slice());
     assert_eq!(rt; source.take(&mut piece), Ok(4));
     assert!(rt; &piece == b"abcd");
     assert_eq!(rt; source.take(&mut piece), Ok(2));
     assert_eq!(rt; source.take(&mut piece), Ok(0));
-    assert_eq!(rt; source.faults(), 0);
+}
+
+#[test]
+fn broken_source_counts_its_faults(rt: HostRuntime) {
+    let mut piece = [0u8; 4];
     let mut broken = StdSource::new(Broken { calls: 0 });
     assert_eq!(rt; broken.take(&mut piece), Ok(2));
-    assert_eq!(rt; broken.faults(), 0);
     assert_eq!(rt; broken.take(&mut piece), Err(SourceErr::Failed));
     assert_eq!(rt; broken.faults(), 1);
-    let mut sink = StdSink::new(rt.clone()?);
+}
+
+#[test]
+fn sink_takes_bytes(rt: HostRuntime) {
+    let mut sink = StdSink::new(rt.clone().expect(&rt, "memory"));
     assert_eq!(rt; sink.put(b"ok\n"), Ok(3));
     assert_eq!(rt; sink.put(b""), Ok(0));
-    assert_eq!(rt; sink.faults(), 0);
-    Ok(())
 }
