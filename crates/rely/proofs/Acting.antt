@@ -1,27 +1,25 @@
 -- The one act of all tasks, from their laws.
-use Rattle.std.proofs.Common.{◌≡◌, ◌≢◌, ◌⊎◌, inl, inr, ⊎_elim, ◌+◌, ◌<◌, ◌≤◌, ℕ, zero, suc, refl, sym, ◌∙◌, ap, subst, arith, List, [], ◌∷◌, ◌++◌, append-nil, Bool, true, false, Option, Some, None}
+use Rattle.std.proofs.Common.{◌≡◌, ◌≢◌, ⊎_elim, ◌<◌, ◌≤◌, ℕ, refl, sym, ◌∙◌, ap, subst, [], append-nil, Option, Some}
 use Rattle.ost_types.specs.Path.{Path}
 use Rattle.fs_trait.specs.declared.task.Turn.{Turn}
 use Rattle.fs_trait.specs.declared.task.Turn.TheVariants as turn
 use Rattle.fs_trait.specs.View.{View}
 use Rattle.fs_trait.specs.Image.{Told}
 use Rattle.fs_trait.specs.Seen.{Seen}
-use Rattle.fs_trait.specs.Change.{Writes, Nothing}
-use Rattle.fs_trait.specs.Effect.{Elapses, Next}
+use Rattle.fs_trait.specs.Change.{Writes}
+use Rattle.fs_trait.specs.Effect.{Elapses}
 use Rattle.fs_trait.proofs.Kept.{weaker}
 use Rattle.rely.specs.declared.books.Base.{Base}
-use Rattle.rely.specs.declared.books.Entry.{Entry}
 use Rattle.rely.specs.declared.books.Pending.{Pending}
 use Rattle.rely.specs.declared.event.Event.{Event}
 use Rattle.rely.specs.declared.kind.Outcome.{Outcome}
 use Rattle.rely.specs.declared.kind.Outcome.TheVariants as came
-use Rattle.rely.specs.declared.kind.Wants.{Wants}
-use Rattle.rely.specs.State.{State, first, events_of, stored, acked, Ascends}
-use Rattle.rely.specs.Books.{Books, books_of, Free, Agrees, Spared, Keeps}
+use Rattle.rely.specs.State.{first, stored}
+use Rattle.rely.specs.Books.{Books, books_of, Spared, Keeps}
 use Rattle.rely.specs.Rely.{May, Does}
-use Rattle.rely.specs.Sound.{Stands, Ordered, Sound}
-use Rattle.rely.specs.Change.{Still, Away, Shows, Final}
-use Rattle.rely.specs.Laws.{Kind, Quiet, Store, Take, Show, Shown, Settle, Laws, Duty, Within, IsQuiet, IsBy, IsBefore, Chain, Follows, Holds, Stood, NotPending, IsPending, Runs, Ready, Tells, Acts, Ends, IsEnd, owed_by}
+use Rattle.rely.specs.Sound.{Ordered, Sound}
+use Rattle.rely.specs.Change.{Still}
+use Rattle.rely.specs.Laws.{Kind, Quiet, Store, Take, Show, Shown, Settle, Laws, Duty, Within, IsQuiet, IsBy, IsBefore, Chain, Holds, Stood, NotPending, IsPending, Runs, Ready, Tells, Acts, Ends, IsEnd}
 use Rattle.rely.proofs.States.{ascends_later}
 use Rattle.rely.proofs.Knowns.{stands_quiet}
 use Rattle.rely.proofs.Locking.{spared_refl}

@@ -1,8 +1,7 @@
 -- What single calls owe: each kind of call once, for the tasks of all commands.
-use Rattle.std.proofs.Common.{◌≡◌, ◌≢◌, ◌⊎◌, inl, inr, ⊎_elim, ℕ, true, refl, sym, ◌∙◌, ap, subst, List, [], ◌∷◌, ◌++◌, Option, Some, None}
+use Rattle.std.proofs.Common.{◌≡◌, ◌⊎◌, inl, inr, ⊎_elim, ℕ, refl, sym, ◌∙◌, ap, subst, List, Option, Some, None}
 use Rattle.ost_types.specs.declared.meta.Meta.{Meta}
-use Rattle.ost_types.specs.Path.{Path, under, is_below}
-use Rattle.ost_types.proofs.Paths.{same_name-Decides}
+use Rattle.ost_types.specs.Path.{Path, under}
 use Rattle.fs_trait.specs.declared.types.Value.TheVariants.{File}
 use Rattle.fs_trait.specs.View.{View}
 use Rattle.fs_trait.specs.Image.{Holds}
@@ -12,11 +11,10 @@ use Rattle.fs_trait.specs.Change.{Nothing}
 use Rattle.repo_layout.specs.RefName.{IsRefName}
 use Rattle.repo_layout.specs.RefFile.{IsSum, ref_text}
 use Rattle.repo_layout.specs.Paths.{ref_path}
-use Rattle.repo_layout.specs.Place.{Place, Stage, Ref, place}
+use Rattle.repo_layout.specs.Place.{Stage, Ref, place}
 use Rattle.repo_layout.proofs.Places.{place-ref, ref_path-injective}
-use Rattle.rely.specs.declared.event.Event.{Event}
 use Rattle.rely.specs.declared.event.Event.TheVariants.{SetRef, DropRef}
-use Rattle.rely.specs.State.{Topic, RefOf, Said, target, before, gives}
+use Rattle.rely.specs.State.{Topic, RefOf}
 use Rattle.rely.specs.Disks.{path_of, IsLeaf, Says}
 use Rattle.rely.specs.Books.{Books, Free}
 use Rattle.rely.specs.Rely.{May, may_at, NotOthers, OwnTree, HasNoRefs}

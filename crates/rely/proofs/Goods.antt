@@ -1,21 +1,20 @@
 -- What each crash leaves of the state.
-use Rattle.std.proofs.Common.{◌≡◌, ◌≢◌, ◌⊎◌, inl, inr, ⊎_elim, ◌+◌, ◌≤◌, ℕ, Bool, true, false, refl, sym, ◌∙◌, ap, subst, arith, List, [], ◌∷◌, ◌++◌, length, append-nil, length-append, IsTrue, Option, Some, None}
-use Rattle.ost_types.specs.Path.{Path, under, is_below}
+use Rattle.std.proofs.Common.{◌≡◌, ◌⊎◌, inl, inr, ⊎_elim, ◌≤◌, ℕ, Bool, true, false, refl, sym, ◌∙◌, subst, arith, List, [], ◌∷◌, ◌++◌, length, append-nil, length-append, Option, Some, None}
+use Rattle.ost_types.specs.Path.{Path, under}
 use Rattle.ost_types.proofs.Paths.{root_or_under}
 use Rattle.fs_trait.specs.declared.types.Value.{Value}
 use Rattle.fs_trait.specs.declared.types.Value.TheVariants.{Absent, Folder, Link, File}
 use Rattle.fs_trait.specs.View.{Disk, View}
-use Rattle.fs_trait.specs.Image.{Image, is_folder}
+use Rattle.fs_trait.specs.Image.{Image}
 use Rattle.fs_trait.specs.Seen.{Seen, Vacant, seen, shows, MayBe}
 use Rattle.fs_trait.proofs.Claims.{claim_each, firm_each, folder_each, reads_shows}
-use Rattle.repo_layout.specs.Paths.{folder_path, heads, ref_path}
-use Rattle.repo_layout.specs.Place.{Place, Ref, Other, place}
+use Rattle.repo_layout.specs.Paths.{folder_path, ref_path}
 use Rattle.repo_layout.specs.RefName.{IsRefName}
 use Rattle.repo_layout.specs.Refs.{is_leaf, Names, Lacks}
 use Rattle.rely.specs.declared.books.Entry.{Entry}
 use Rattle.rely.specs.declared.books.Pending.{Pending}
 use Rattle.rely.specs.declared.event.Event.{Event}
-use Rattle.rely.specs.State.{Topic, RefOf, Said, State, same_topic, target, gives, next, after, IsRun, IsNamed, events_of, stored, acked}
+use Rattle.rely.specs.State.{Topic, RefOf, Said, State, same_topic, target, gives, next, after, IsNamed, events_of, stored, acked}
 use Rattle.rely.specs.Disks.{path_of, IsLeaf, Says, Logical, HasRef, IsOther, IsGood}
 use Rattle.rely.specs.Sound.{ShownBy, Shown, Known, NoStray, Stands, Fits}
 use Rattle.rely.proofs.States.{topic_same, topic_not, next_here, next_apart, after_push, run_front, after_named, length-events, acked_few, says_vacant}

@@ -1,21 +1,17 @@
 -- From what every value keeps to the headline, and the beginning.
-use Rattle.std.proofs.Common.{◌≡◌, ◌⊎◌, inl, inr, ⊎_elim, ◌≤◌, ℕ, refl, sym, ◌∙◌, ap, subst, arith, List, [], ◌∷◌, ◌++◌, length, take, length-append, append-nil, true, Option, Some, None}
+use Rattle.std.proofs.Common.{◌≡◌, ◌≤◌, ℕ, subst, arith, length, take, length-append, Option, Some, None}
 use Rattle.std.proofs.Math.Seq.{take-append_seam}
-use Rattle.ost_types.specs.Path.{Path, under}
 use Rattle.fs_trait.specs.View.{Disk, View}
-use Rattle.fs_trait.specs.Image.{Image, is_folder, IsTree}
-use Rattle.fs_trait.specs.Seen.{Seen, shows, MayBe, Always}
+use Rattle.fs_trait.specs.Image.{IsTree}
 use Rattle.fs_trait.specs.Change.{Left}
 use Rattle.rely.specs.declared.books.Base.{Base}
-use Rattle.rely.specs.State.{RefOf, State, first, after, events_of, stored, acked, IsNamed, Ascends}
-use Rattle.rely.specs.Disks.{path_of, Says, Logical, IsGood}
-use Rattle.rely.specs.Books.{books_of, Agrees}
-use Rattle.rely.specs.Sound.{Stands, Fits, Crash, Ordered, Sound}
+use Rattle.rely.specs.State.{RefOf, first, after, events_of, stored}
+use Rattle.rely.specs.Disks.{Logical}
+use Rattle.rely.specs.Sound.{Stands, Sound}
 use Rattle.rely.specs.Headline.{Has, CrashFits, Headline, state_at}
 use Rattle.fs_trait.proofs.Images.{Image-now}
 use Rattle.rely.specs.declared.books.Pending.{Pending}
-use Rattle.rely.proofs.Goods.{has_ref, fits_now, fits_all}
-use Rattle.rely.proofs.Sounds.{IsFs}
+use Rattle.rely.proofs.Goods.{has_ref, fits_all}
 
 pub headline : {F : Type 0} (view : F → Option View) (clock spare : F → ℕ) (was : F → ℕ → View → Type 0) (base : Base F) → Sound view clock spare was base → (v : View) → view base.fs ≡ Some v → IsTree v.now → Headline clock was base v
 headline view clock spare was base sound v told tree = record { crash = crash; now = now; run = (sound.stands v told).run; moments = sound.ordered.ascends }

@@ -1,29 +1,26 @@
 -- How what is known of the state goes on: the kinds of change.
-use Rattle.std.proofs.Common.{◌≡◌, ◌≢◌, ◌⊎◌, inl, inr, ⊎_elim, ℕ, Bool, true, false, refl, sym, ◌∙◌, ap, subst, List, [], ◌∷◌, ◌++◌, append-nil, Option, Some, None}
+use Rattle.std.proofs.Common.{◌≡◌, ◌⊎◌, inl, inr, ⊎_elim, ℕ, Bool, true, false, refl, sym, ◌∙◌, ap, subst, List, [], ◌∷◌, ◌++◌, append-nil, Option, Some, None}
 use Rattle.ost_types.specs.Path.{Path, under, is_below}
 use Rattle.ost_types.proofs.Paths.{is_below-under}
-use Rattle.fs_trait.specs.declared.types.Value.{Value}
-use Rattle.fs_trait.specs.declared.types.Value.TheVariants.{Absent}
-use Rattle.fs_trait.specs.View.{Disk, View}
-use Rattle.fs_trait.specs.Seen.{Seen, Vacant, seen, shows, MayBe}
+use Rattle.fs_trait.specs.View.{View}
+use Rattle.fs_trait.specs.Seen.{Seen, shows, MayBe}
 use Rattle.fs_trait.specs.Change.{Writes, Nothing, Harmless, LeadsTo}
 use Rattle.fs_trait.proofs.Effects.{may_now}
 use Rattle.fs_trait.proofs.Kept.{firm_kept}
 use Rattle.repo_layout.specs.Paths.{folder_path, ref_path}
-use Rattle.repo_layout.specs.Place.{Ref, Other, place}
 use Rattle.rely.specs.declared.books.Entry.{Entry}
 use Rattle.rely.specs.declared.books.Pending.{Pending}
 use Rattle.rely.specs.declared.event.Event.{Event}
-use Rattle.rely.specs.State.{Topic, RefOf, Said, State, same_topic, target, before, gives, IsValid, next, Applies, after, IsRun, events_of, stored}
+use Rattle.rely.specs.State.{Topic, RefOf, Said, State, same_topic, target, before, gives, next, after, IsRun, events_of}
 use Rattle.rely.specs.Disks.{path_of, IsLeaf, Says}
-use Rattle.rely.specs.Books.{Books, Free}
+use Rattle.rely.specs.Books.{Books}
 use Rattle.rely.specs.Rely.{May}
-use Rattle.rely.specs.Sound.{ShownBy, Shown, Leads, NoStray, Known, Stands}
+use Rattle.rely.specs.Sound.{Shown, Leads, NoStray, Known, Stands}
 use Rattle.rely.specs.Change.{Still, Away, Shows, Final}
 use Rattle.rely.specs.Laws.{Within, NotPending}
 use Rattle.rely.proofs.States.{topic_same, topic_not, next_here, next_apart, after_push, events_push, run_push, says_leaf, says_one}
 use Rattle.rely.proofs.Layouts.{above_ref}
-use Rattle.rely.proofs.Mays.{at_place, not_other, ref_turn, leads_stay, folders_harmless, strays_harmless}
+use Rattle.rely.proofs.Mays.{not_other, ref_turn, leads_stay, folders_harmless, strays_harmless}
 
 -- what has a value shows it now, where nothing is shown
 leaf_now : (value : State) (v : View) → Known (Shown None) value v → (name commit : List ℕ) → value (RefOf name) ≡ Some commit → IsLeaf (shows v.now (ref_path name))

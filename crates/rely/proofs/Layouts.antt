@@ -1,12 +1,12 @@
 -- Which places lead to the things of a repository.
-use Rattle.std.proofs.Common.{◌≡◌, ◌≢◌, ◌⊎◌, inl, inr, ⊎_elim, ℕ, zero, suc, Bool, true, false, ◌&&◌, if◌then◌else◌, refl, sym, ◌∙◌, ap, subst, List, [], ◌∷◌, ◌++◌, length, take, codes, append-nil}
-use Rattle.ost_types.specs.Path.{Name, Path, under, is_below, same_name, same_path}
+use Rattle.std.proofs.Common.{◌≡◌, ◌⊎◌, inl, inr, ⊎_elim, ℕ, zero, suc, Bool, true, false, ◌&&◌, if◌then◌else◌, refl, sym, ◌∙◌, ap, subst, List, [], ◌∷◌, ◌++◌, length, take}
+use Rattle.ost_types.specs.Path.{Name, Path, is_below, same_path}
 use Rattle.ost_types.proofs.Paths.{same_name-Decides, same_path-Decides}
 use Rattle.repo_layout.specs.declared.folder.Folder.{Folder}
 use Rattle.repo_layout.specs.declared.folder.Folder.TheVariants as folder
 use Rattle.repo_layout.specs.RefName.{parts_of}
 use Rattle.repo_layout.specs.Paths.{folder_path, heads, ref_path}
-use Rattle.repo_layout.specs.Place.{Place, Ref, Other, place, ostree_place, repo_place, object_place, ref_place, stage_place, mark_place, name_of}
+use Rattle.repo_layout.specs.Place.{Ref, Other, place, ostree_place, repo_place, object_place, ref_place, stage_place, mark_place, name_of}
 
 both_true : (a b : Bool) → a && b ≡ true → (a ≡ true) × (b ≡ true)
 both_true true true e = (refl, refl)

@@ -1,12 +1,11 @@
 -- The table of locks, and what others hold.
-use Rattle.std.proofs.Common.{◌≡◌, ◌≢◌, ◌⊎◌, inl, inr, ⊎_elim, ◌≤◌, ℕ, Bool, true, false, nat_eq, refl, sym, ◌∙◌, ap, subst, arith, List, [], ◌∷◌, ◌++◌, append-nil, append_assoc, Option, Some, None, IsTrue, All, Contains}
+use Rattle.std.proofs.Common.{◌≡◌, ◌≢◌, ◌⊎◌, inl, inr, ⊎_elim, ℕ, Bool, true, false, nat_eq, refl, sym, ◌∙◌, ap, arith, List, [], ◌++◌, append-nil, append_assoc, Option, Some, IsTrue, Contains}
 use Rattle.std.proofs.lemmas.Bool.Decides.{nat_tests}
 use Rattle.std.proofs.lemmas.List.Elements.{All-contains}
 use Rattle.rely.specs.declared.books.Entry.{Entry}
-use Rattle.rely.specs.declared.books.Pending.{Pending}
 use Rattle.rely.specs.declared.books.Share.{Share}
 use Rattle.rely.specs.declared.kind.Wants.{Wants}
-use Rattle.rely.specs.Books.{Books, Free, NoOther, Frees, Agrees, Spared, Keeps}
+use Rattle.rely.specs.Books.{Books, Free, Frees, Agrees, Spared}
 use Rattle.rely.proofs.Lists.{all_of}
 
 pub agrees_granted : (w : Wants) (lane : ℕ) (b b' : Books) → Frees w lane b

@@ -1,9 +1,8 @@
 -- What an actor may write is harmless to what others claim: each form of claim once.
-use Rattle.std.proofs.Common.{◌≡◌, ◌≢◌, ◌⊎◌, inl, inr, ⊎_elim, ℕ, true, false, refl, sym, ◌∙◌, ap, subst, List, [], ◌∷◌, ◌++◌, append-nil, append_assoc, Contains, Option, Some, None, IsTrue}
-use Rattle.ost_types.specs.declared.meta.Meta.{Meta}
+use Rattle.std.proofs.Common.{◌≡◌, ◌≢◌, inl, ⊎_elim, ℕ, true, refl, sym, ◌∙◌, ap, subst, List, [], ◌∷◌, ◌++◌, append-nil, append_assoc, Contains, Some}
 use Rattle.ost_types.specs.declared.object.Kind as object
-use Rattle.ost_types.specs.Path.{Name, Path, under, is_in, is_below}
-use Rattle.ost_types.proofs.Paths.{is_below-under, is_below-self}
+use Rattle.ost_types.specs.Path.{Name, Path, under, is_below}
+use Rattle.ost_types.proofs.Paths.{is_below-under}
 use Rattle.fs_trait.specs.declared.types.Value.{Value}
 use Rattle.fs_trait.specs.declared.types.Value.TheVariants.{Absent, File}
 use Rattle.fs_trait.specs.View.{Disk, View}
@@ -12,13 +11,13 @@ use Rattle.fs_trait.specs.Change.{Harmless, LeadsTo, Own}
 use Rattle.fs_trait.proofs.Effects.{may_now}
 use Rattle.fs_trait.proofs.Facts.{may_held}
 use Rattle.repo_layout.specs.declared.folder.Folder.{Folder}
-use Rattle.repo_layout.specs.Paths.{folder_path, heads, ref_path}
+use Rattle.repo_layout.specs.Paths.{folder_path, ref_path}
 use Rattle.repo_layout.specs.Place.{Place, Config, Stage, Ref, ObjectsFolder, Object, Mark, Summary, Deployment, Etc, Origin, Staged, BootLink, BootLinkStage, BootFolder, Loader, LoaderStage, LoaderFolder, KernelCopy, Checkout, Other, place}
 use Rattle.repo_layout.proofs.Places.{place-ref}
 use Rattle.rely.specs.declared.books.Pin.{Pin}
 use Rattle.rely.specs.Books.{Books, Free}
 use Rattle.rely.specs.Disks.{IsLeaf, IsOther}
-use Rattle.rely.specs.Rely.{May, may_at, OwnTree, IsEmpty, NotOthers}
+use Rattle.rely.specs.Rely.{May, may_at, OwnTree, IsEmpty}
 use Rattle.rely.specs.Sound.{Leads, NoStray}
 use Rattle.rely.proofs.Layouts.{fixed_other, above_ref, below_split, split_below}
 

@@ -1,23 +1,21 @@
 -- The beginning keeps what every value keeps.
-use Rattle.std.proofs.Common.{◌≡◌, ◌≢◌, ◌⊎◌, inl, inr, ⊎_elim, ◌<◌, ◌≤◌, ℕ, refl, sym, ◌∙◌, ap, subst, arith, List, [], ◌∷◌, ◌++◌, length, append-nil, Bool, true, false, Option, Some, None}
-use Rattle.ost_types.specs.Path.{Path, under, is_below}
+use Rattle.std.proofs.Common.{◌≡◌, ◌⊎◌, inl, inr, ⊎_elim, ◌<◌, ◌≤◌, ℕ, refl, sym, ◌∙◌, ap, subst, arith, List, [], true, false, Option, Some, None}
+use Rattle.ost_types.specs.Path.{Path, under}
 use Rattle.fs_trait.specs.declared.types.Value.{Value}
 use Rattle.fs_trait.specs.declared.types.Value.TheVariants.{Absent, Folder, Link, File}
 use Rattle.fs_trait.specs.View.{Disk, View}
-use Rattle.fs_trait.specs.Image.{Image, is_folder, IsTree}
+use Rattle.fs_trait.specs.Image.{is_folder, IsTree}
 use Rattle.fs_trait.specs.Seen.{Seen, seen, shows, MayBe, IsDirectory}
-use Rattle.fs_trait.specs.Change.{Left}
 use Rattle.fs_trait.proofs.Images.{folder_or_not}
 use Rattle.fs_trait.proofs.Ways.{above}
-use Rattle.repo_layout.specs.Paths.{folder_path, heads, ref_path}
-use Rattle.repo_layout.specs.Place.{Ref, Other, place}
+use Rattle.repo_layout.specs.Paths.{folder_path, ref_path}
+use Rattle.repo_layout.specs.Place.{Ref, place}
 use Rattle.repo_layout.specs.Refs.{is_leaf}
 use Rattle.repo_layout.proofs.Places.{place-ref}
 use Rattle.rely.specs.declared.books.Base.{Base}
-use Rattle.rely.specs.State.{Topic, RefOf, Said, State, first, after, events_of, stored, acked, IsNamed, Ascends}
-use Rattle.rely.specs.Disks.{path_of, IsLeaf, Says, Logical, IsOther, IsGood}
-use Rattle.rely.specs.Books.{books_of, Agrees}
-use Rattle.rely.specs.Sound.{Shown, Leads, NoStray, Known, Stands, Fits, Crash, Ordered, Sound}
+use Rattle.rely.specs.State.{Topic, RefOf, Said, State, first, IsNamed}
+use Rattle.rely.specs.Disks.{path_of, IsLeaf, Says, IsOther}
+use Rattle.rely.specs.Sound.{Leads, NoStray, Stands, Sound}
 use Rattle.rely.specs.Opening.{IsOpening}
 use Rattle.rely.proofs.States.{says_leaf}
 use Rattle.rely.proofs.Layouts.{below_split}

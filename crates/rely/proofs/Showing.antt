@@ -1,5 +1,5 @@
 -- The step that shows a change, those behind it, and the one that makes it last.
-use Rattle.std.proofs.Common.{◌≡◌, ◌≢◌, ◌⊎◌, inl, inr, ⊎_elim, ◌+◌, ◌-◌, ◌<◌, ◌≤◌, ℕ, zero, suc, refl, sym, ◌∙◌, ap, subst, arith, List, [], ◌∷◌, ◌++◌, append-nil, Bool, true, false, Option, Some, None}
+use Rattle.std.proofs.Common.{◌≡◌, inl, inr, ◌+◌, ◌-◌, ◌<◌, ◌≤◌, ℕ, refl, sym, ◌∙◌, ap, subst, arith, List, [], ◌∷◌, ◌++◌, append-nil, Bool, Option, Some, None}
 use Rattle.std.specs.Vec.{vec_len, vec_capacity}
 use Rattle.ost_types.specs.Path.{Path}
 use Rattle.fs_trait.specs.declared.task.Turn.{Turn}
@@ -18,17 +18,17 @@ use Rattle.rely.specs.declared.books.Pending.{Pending}
 use Rattle.rely.specs.declared.event.Event.{Event}
 use Rattle.rely.specs.declared.kind.Outcome.{Outcome}
 use Rattle.rely.specs.declared.kind.Outcome.TheVariants as came
-use Rattle.rely.specs.State.{State, first, events_of, stored, acked, Ascends}
-use Rattle.rely.specs.Books.{Books, books_of, Free, Agrees, Spared, Keeps}
+use Rattle.rely.specs.State.{first, events_of, stored}
+use Rattle.rely.specs.Books.{Books, books_of, Free, Agrees, Spared}
 use Rattle.rely.specs.Rely.{May, Does}
-use Rattle.rely.specs.Sound.{Stands, Ordered, Sound}
-use Rattle.rely.specs.Change.{Still, Away, Shows, Final}
-use Rattle.rely.specs.Laws.{Kind, Quiet, Store, Take, Show, Shown, Settle, Laws, Duty, Within, IsShow, IsShown, IsSettle, IsLastly, IsBy, Chain, Follows, Holds, Stood, NotPending, IsPending, Runs, Ready, Tells, Acts, Ends, owed_by}
+use Rattle.rely.specs.Sound.{Stands, Sound}
+use Rattle.rely.specs.Change.{Away, Shows, Final}
+use Rattle.rely.specs.Laws.{Kind, Quiet, Store, Take, Show, Shown, Settle, Laws, Duty, Within, IsShow, IsShown, IsSettle, IsLastly, Chain, Follows, Holds, Stood, NotPending, IsPending, Runs, Ready, Tells, Acts, Ends, owed_by}
 use Rattle.rely.proofs.States.{ascends_later, ascends_push, events_push, acked_late}
 use Rattle.rely.proofs.Knowns.{stands_show, stands_away, stands_settle}
 use Rattle.rely.proofs.Locking.{spared_refl, spared_then}
 use Rattle.rely.proofs.Sounds.{IsFs, sound_goes}
-use Rattle.rely.proofs.Acting.{told_same, keeps_refl, ends_ordered}
+use Rattle.rely.proofs.Acting.{told_same, ends_ordered}
 
 pub no_pending : (o : Option Pending) → ((p : Pending) → o ≡ Some p → ⊥) → o ≡ None
 no_pending None none = refl

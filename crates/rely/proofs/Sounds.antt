@@ -1,17 +1,15 @@
 -- What every value keeps goes on: the past, and what is so now.
-use Rattle.std.proofs.Common.{◌≡◌, ◌≢◌, ◌⊎◌, inl, inr, ⊎_elim, ◌+◌, ◌<◌, ◌≤◌, ℕ, refl, sym, ◌∙◌, ap, subst, arith, List, [], ◌∷◌, ◌++◌, length, append-nil, append_assoc, Option, Some, None}
-use Rattle.ost_types.specs.Path.{Path}
+use Rattle.std.proofs.Common.{◌≡◌, ⊎_elim, ◌≤◌, ℕ, sym, ◌∙◌, ap, subst, List, ◌++◌, length, append_assoc, Option, Some}
 use Rattle.fs_trait.specs.View.{Disk, View}
-use Rattle.fs_trait.specs.Image.{Image, Told}
-use Rattle.fs_trait.specs.Seen.{Seen}
-use Rattle.fs_trait.specs.Change.{Writes, Nothing, Passes, Left}
-use Rattle.fs_trait.specs.Effect.{Elapses, IsQuiet}
+use Rattle.fs_trait.specs.Image.{Told}
+use Rattle.fs_trait.specs.Change.{Passes, Left}
+use Rattle.fs_trait.specs.Effect.{Elapses}
 use Rattle.fs_trait.proofs.Claims.{passes}
 use Rattle.rely.specs.declared.books.Base.{Base}
 use Rattle.rely.specs.declared.books.Entry.{Entry}
 use Rattle.rely.specs.declared.books.Pending.{Pending}
 use Rattle.rely.specs.declared.event.Event.{Event}
-use Rattle.rely.specs.State.{State, first, events_of, stored, acked}
+use Rattle.rely.specs.State.{State, first, stored, acked}
 use Rattle.rely.specs.Sound.{Stands, Fits, Crash, Ordered, Sound}
 use Rattle.rely.proofs.Goods.{fits_now}
 

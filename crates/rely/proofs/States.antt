@@ -1,5 +1,5 @@
 -- The state after events.
-use Rattle.std.proofs.Common.{◌≡◌, ◌⊎◌, inl, inr, ⊎_elim, ◌+◌, ◌<◌, ◌≤◌, ℕ, suc, Bool, true, false, refl, sym, ◌∙◌, ap, subst, arith, List, [], ◌∷◌, ◌++◌, length, nat_le, Option, Some, None, if◌then◌else◌, take, codes}
+use Rattle.std.proofs.Common.{◌≡◌, ◌+◌, ◌<◌, ◌≤◌, ℕ, suc, Bool, true, false, refl, sym, ◌∙◌, ap, subst, arith, List, [], ◌∷◌, ◌++◌, length, nat_le, Some, None, if◌then◌else◌, take, codes}
 use Rattle.std.proofs.lemmas.Bool.Decides.{nat_tests}
 use Rattle.std.proofs.Math.Seq.{take-append_seam}
 use Rattle.ost_types.proofs.Paths.{same_name-Decides}
@@ -14,7 +14,7 @@ use Rattle.repo_layout.proofs.Places.{mark_path-injective}
 use Rattle.rely.specs.declared.books.Entry.{Entry}
 use Rattle.rely.specs.declared.event.Event.{Event}
 use Rattle.rely.specs.declared.event.Event.TheVariants.{SetRef, DropRef}
-use Rattle.rely.specs.State.{Topic, RefOf, Said, State, same_topic, target, before, gives, IsValid, next, Applies, after, IsRun, IsNamed, events_of, acked, Ascends}
+use Rattle.rely.specs.State.{Topic, RefOf, Said, State, same_topic, target, gives, IsValid, next, Applies, after, IsRun, IsNamed, events_of, acked, Ascends}
 use Rattle.rely.specs.Disks.{IsLeaf, Says}
 
 pub topic_same : (a b : Topic) → same_topic a b ≡ true → a ≡ b

@@ -1,12 +1,10 @@
 -- Locks that a lane takes in the middle of its task.
-use Rattle.std.proofs.Common.{◌≡◌, ◌≢◌, ◌⊎◌, inl, inr, ⊎_elim, ◌≤◌, ◌<◌, ℕ, nat_eq, true, false, refl, sym, ◌∙◌, ap, subst, arith, List, Bool, Option, Some, None, Contains}
+use Rattle.std.proofs.Common.{◌≡◌, ◌≢◌, ◌<◌, ℕ, nat_eq, true, false, refl, sym, ◌∙◌, ap, subst, arith, Bool, Option, Some, Contains}
 use Rattle.std.proofs.lemmas.Bool.Decides.{nat_tests}
-use Rattle.ost_types.specs.declared.object.Kind as object
 use Rattle.ost_types.specs.Path.{Path}
 use Rattle.fs_trait.specs.declared.task.Turn.{Turn}
 use Rattle.fs_trait.specs.View.{View}
-use Rattle.fs_trait.specs.Seen.{Seen, Vacant}
-use Rattle.fs_trait.specs.Change.{Writes}
+use Rattle.fs_trait.specs.Seen.{Seen}
 use Rattle.fs_trait.proofs.Kept.{weaker}
 use Rattle.repo_layout.specs.Place.{Place, Config, Stage, Ref, ObjectsFolder, Object, Mark, Summary, Deployment, Etc, Origin, Staged, BootLink, BootLinkStage, BootFolder, Loader, LoaderStage, LoaderFolder, KernelCopy, Checkout, Other, place}
 use Rattle.rely.specs.declared.books.Base.{Base}
@@ -14,12 +12,10 @@ use Rattle.rely.specs.declared.books.Books as rust
 use Rattle.rely.specs.declared.books.Pin.{Pin}
 use Rattle.rely.specs.declared.kind.Outcome.{Outcome}
 use Rattle.rely.specs.declared.kind.Wants.{Wants}
-use Rattle.rely.specs.Books.{Books, books_of, Free, Frees, Granted, Agrees, Spared, Keeps}
-use Rattle.rely.specs.Rely.{May, may_at, NotPinned, Does}
-use Rattle.rely.specs.Sound.{Ordered, Sound}
-use Rattle.rely.specs.Laws.{Kind, Quiet, Store, Take, Show, Shown, Settle, Laws, IsStore, IsTake, IsQuiet, IsBy, Holds, Stood, NotPending, Runs, Ready, Tells, Acts}
+use Rattle.rely.specs.Books.{Books, books_of, Agrees, Spared, Keeps}
+use Rattle.rely.specs.Rely.{May, may_at, NotPinned}
+use Rattle.rely.specs.Laws.{Kind, Quiet, Store, Take, Show, Shown, Settle, Laws, IsStore, IsTake, Holds, NotPending, Runs, Ready, Acts}
 use Rattle.rely.proofs.Locking.{free_before, spared_then}
-use Rattle.rely.proofs.Sounds.{IsFs}
 
 other_or_own : (a b : ℕ) → (a ≢ b → a ≡ b) → a ≡ b
 other_or_own a b h = by (nat_eq a b) refl

@@ -3,10 +3,10 @@ use Rattle.std.specs.Prelude.{◌≡◌, ◌≢◌, ℕ, true, IsTrue, List, Opt
 use Rattle.ost_types.specs.Path.{Path, is_below}
 use Rattle.fs_trait.specs.View.{Disk}
 use Rattle.fs_trait.specs.Image.{is_folder}
-use Rattle.fs_trait.specs.Seen.{Seen, Vacant, Directory, Symlink, Leaf, shows, bytes_in}
+use Rattle.fs_trait.specs.Seen.{Seen, Symlink, Leaf, shows, bytes_in}
 use Rattle.repo_layout.specs.declared.folder.Folder.{Folder}
 use Rattle.repo_layout.specs.Paths.{folder_path, heads, ref_path}
-use Rattle.repo_layout.specs.Place.{Place, Other, place}
+use Rattle.repo_layout.specs.Place.{Place, Other}
 use Rattle.repo_layout.specs.RefFile.{IsSum, ref_text}
 use Rattle.repo_layout.specs.RefName.{IsRefName}
 use Rattle.repo_layout.specs.Refs.{Names, Lacks, is_leaf}

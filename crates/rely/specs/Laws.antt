@@ -1,5 +1,5 @@
 -- What every kind of task tells of its steps, and the laws that the one act of all tasks stands on.
-use Rattle.std.specs.Prelude.{◌≡◌, ◌≢◌, ◌⊎◌, ◌≤◌, ◌<◌, ℕ, ◌+◌, suc, true, false, Option, Some, None, Result, Ok, Err, IsErrOf, OnOk}
+use Rattle.std.specs.Prelude.{◌≡◌, ◌≢◌, ◌⊎◌, ◌≤◌, ◌<◌, ℕ, ◌+◌, suc, true, false, Option, Some, Result, IsErrOf, OnOk}
 use Rattle.ost_types.specs.Path.{Path}
 use Rattle.fs_trait.specs.declared.task.Turn.{Turn}
 use Rattle.fs_trait.specs.declared.task.Turn.TheVariants as turn

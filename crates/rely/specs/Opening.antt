@@ -1,5 +1,4 @@
 -- What a system begins with.
-use Rattle.std.specs.Prelude.{◌≡◌, ℕ, List}
 use Rattle.ost_types.specs.Path.{Path}
 use Rattle.fs_trait.specs.View.{View}
 use Rattle.fs_trait.specs.Seen.{shows, Always}

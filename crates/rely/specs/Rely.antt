@@ -1,5 +1,5 @@
 -- What an actor may write, as far as what the others hold goes, and what an act keeps for them.
-use Rattle.std.specs.Prelude.{◌≡◌, ◌⊎◌, ℕ, List, Contains, IsTrue, Option, Some}
+use Rattle.std.specs.Prelude.{◌≡◌, ◌⊎◌, ℕ, List, Contains, IsTrue}
 use Rattle.ost_types.specs.declared.meta.Meta.{Meta}
 use Rattle.ost_types.specs.declared.object.Kind as object
 use Rattle.ost_types.specs.Path.{Name, Path, under, is_below}

@@ -1,5 +1,5 @@
 -- What every value of the system keeps.
-use Rattle.std.specs.Prelude.{◌≡◌, ◌⊎◌, ◌<◌, ◌≤◌, ℕ, IsTrue, List, ◌++◌, length, Option, Some, None, IsSome}
+use Rattle.std.specs.Prelude.{◌≡◌, ◌⊎◌, ◌<◌, ◌≤◌, ℕ, IsTrue, List, ◌++◌, length, Option, Some, None}
 use Rattle.std.specs.Vec.{vec_len, vec_capacity}
 use Rattle.ost_types.specs.Path.{Path, is_below, under}
 use Rattle.fs_trait.specs.View.{Disk, View}
@@ -12,9 +12,9 @@ use Rattle.rely.specs.declared.books.Base.{Base}
 use Rattle.rely.specs.declared.books.Entry.{Entry}
 use Rattle.rely.specs.declared.books.Pending.{Pending}
 use Rattle.rely.specs.declared.event.Event.{Event}
-use Rattle.rely.specs.State.{Topic, Said, State, first, target, gives, after, IsRun, IsNamed, events_of, stored, acked, Ascends}
+use Rattle.rely.specs.State.{Topic, State, first, target, gives, after, IsRun, IsNamed, events_of, stored, acked, Ascends}
 use Rattle.rely.specs.Disks.{path_of, IsLeaf, Says, Logical, IsOther, IsGood}
-use Rattle.rely.specs.Books.{Books, books_of, Agrees}
+use Rattle.rely.specs.Books.{books_of, Agrees}
 
 -- what is shown is the event's value
 abbrev pub ShownBy : Event → Topic → Seen → Type 0

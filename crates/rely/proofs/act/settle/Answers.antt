@@ -1,8 +1,8 @@
-use Rattle.std.proofs.Common.{◌∙◌, ◌++◌, ◌∷◌, [], ℕ, ap, inl, refl, subst, sym, true}
-use Rattle.rely.specs.Laws.{Runs, IsSettle}
+use Rattle.std.proofs.Common.{◌∙◌, ◌++◌, ◌∷◌, [], ℕ, ap, inl, refl, true}
+use Rattle.rely.specs.Laws.{Runs}
 use Rattle.rely.proofs.Sounds.{IsFs}
 use Rattle.rely.proofs.Acting.{asks}
-use Rattle.rely.proofs.Showing.{settle_is, owed_acts, settle_parts, settle_pending, settle_acts, settle_more}
+use Rattle.rely.proofs.Showing.{settle_is, owed_acts, settle_parts, settle_pending, settle_acts}
 use Rattle.rely.proofs.act.settle.Given as given
 use Rattle.rely.proofs.act.settle.Goals as goal
 

@@ -1,5 +1,5 @@
 use Rattle.std.proofs.Common.{ap, Err, inl, refl, subst, sym, true, arith, ◌≤◌}
-use Rattle.rely.specs.Laws.{Runs, IsShow, Kind, owed_by}
+use Rattle.rely.specs.Laws.{Runs, IsShow}
 use Rattle.rely.proofs.Sounds.{IsFs}
 use Rattle.rely.proofs.Acting.{asks}
 use Rattle.rely.proofs.Showing.{still_acts, show_done, show_tells, show_not}

@@ -1,4 +1,4 @@
-use Rattle.std.proofs.Common.{refl, subst, sym}
+use Rattle.std.proofs.Common.{refl, subst}
 use Rattle.rely.specs.Laws.{Kind, Runs, Holds, NotPending}
 use Rattle.rely.specs.Books.{books_of}
 use Rattle.rely.proofs.Sounds.{IsFs}

@@ -1,4 +1,4 @@
-use Rattle.std.proofs.Common.{◌≡◌, subst, sym, Err, None}
+use Rattle.std.proofs.Common.{◌≡◌, subst, None}
 use Rattle.fs_trait.specs.declared.types.FsErr.TheVariants.{NoMemory}
 use Rattle.fs_trait.specs.View.{all_synced}
 use Rattle.fs_trait.specs.Effect.{Fails}

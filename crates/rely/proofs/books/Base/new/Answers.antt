@@ -1,4 +1,4 @@
-use Rattle.std.proofs.Common.{◌∙◌, ap, refl, subst, sym}
+use Rattle.std.proofs.Common.{◌∙◌, ap, subst, sym}
 use Rattle.rely.specs.State.{first}
 use Rattle.rely.specs.Opening.{IsOpening}
 use Rattle.rely.proofs.Openings.{sound_begins}
