@@ -266,6 +266,8 @@ pub fn help_act<T: Work, F: Fs>(base: &mut Base<F>, actor: u8, lane: u8, task: &
     requires { Ready F.view F.clock F.spare F.was (Runs T.kind_of T.facts lane task.old) base.old }
     ensures acts { Acts F.view F.clock F.spare F.was actor lane result (Runs T.kind_of T.facts lane task.new) base.old base.new }
     ensures steps { Steps T.stepped task.old result task.new }
+    ensures blocked { result ≡ Outcome.Blocked → (base.new ≡ base.old) × (IsStore (T.kind_of task.old) → Free base.old.books.exclusive lane → ⊥) }
+    ensures opens { result ≢ Outcome.Blocked → IsStore (T.kind_of task.old) × Free base.old.books.exclusive lane }
     ensures booked { IsUnbooked base.old.books base.new.books }
     ensures cause { Causes (F.faults base.old.fs) (F.faults base.new.fs) result }
 {
