@@ -1,29 +1,23 @@
 -- What a change of the map makes of the function that it holds.
-use Rattle.std.proofs.Common.{◌≡◌, ◌≢◌, ◌⊎◌, inl, inr, ℕ, Bool, true, false, cond, ◌&&◌, if◌then◌else◌, refl, sym, ◌∙◌, ap, subst, List, [], ◌∷◌, length, Option, Some, None, Result, Ok, Err, OnOk, IsSome, is_some, arith, ◌<◌}
+use Rattle.std.proofs.Common.{◌≡◌, ◌≢◌, ◌⊎◌, inl, inr, ℕ, Bool, true, false, ◌&&◌, if◌then◌else◌, refl, sym, ◌∙◌, ap, subst, List, [], ◌∷◌, length, Option, Some, None, Result, Ok, Err, OnOk, IfOk, Contains, ◌↔◌, arith, ◌<◌}
 use Rattle.std.specs.Bool.{Decides}
-use Rattle.std.specs.BTreeMap.{BTreeMap, get}
-use Rattle.std.specs.BTreeMap.{keys, IsOrdered, btree_map_len}
-use Rattle.std.specs.Map.{lookup}
+use Rattle.std.specs.Global.{Vec}
+use Rattle.std.specs.BTreeMap.{BTreeMap}
 use Rattle.std.specs.List.Sorted.{IsStrictlySortedBy}
-use Rattle.std.proofs.lemmas.Cmp.{nat_list_cmp_total}
-use Rattle.std.proofs.lemmas.Map.Lookups.{exact_bytes}
-use Rattle.std.proofs.lemmas.Map.Views.{btree_map_contains_key_iff}
 use Rattle.ost_types.specs.Text.{IsName}
-use Rattle.std.specs.Cmp.Lexicographic.{slice_cmp, texts_ties}
-use Rattle.std.specs.Ordering.{nat_cmp, is_eq}
-use Rattle.std.specs.declared.cmp.Ordering.{Ordering}
+use Rattle.std.specs.Cmp.Lexicographic.{slice_cmp}
+use Rattle.std.specs.Ordering.{nat_cmp}
 use Rattle.ost_types.specs.Path.{Name, Path, AreNames, under, same_name, same_path, is_in}
 use Rattle.ost_types.specs.Flat.{flat}
 use Rattle.ost_types.proofs.Flats.{flat-injective}
 use Rattle.ost_types.proofs.Paths.{same_name-Decides, same_path-Decides, under-not_root, under-folder, under-is_in, is_in-under, root_or_under}
 use Rattle.fs_trait.specs.View.{put}
 use Rattle.fs_trait.proofs.Puts.{put-here, put-apart}
+use Rattle.memory_table.specs.declared.folder.Folder.{Folder}
 use Rattle.memory_table.specs.declared.tree.Tree.{Tree}
-use Rattle.memory_table.specs.Tree.{look, look_in, Holds, IsNamesIn}
+use Rattle.memory_table.specs.Bytes.{at_bytes, HasSome}
+use Rattle.memory_table.specs.Tree.{look, look_in, Holds, HasAny, IsNamesIn}
 use Rattle.memory_table.proofs.Splitting.{same_last, last_name, AreNames-folder, no_flat}
-
-abbrev pub order : List ℕ → List ℕ → Ordering
-order = slice_cmp nat_cmp
 
 same_test : {P Q : Type 0} (a b : Bool) → Decides a P → Decides b Q → (P → Q) → (Q → P) → a ≡ b
 same_test true true d e to back = refl
@@ -38,31 +32,28 @@ and-Decides false b d e = ((λ h. let n : false ≡ true = h in cc), λ h. d.1 h
 
 module _ {V : Type 0} where
   -- a folder's names taken out
-  pub taken : (m n : BTreeMap (List ℕ) (BTreeMap Name V)) (a t x : List ℕ) → get order n t ≡ cond (is_eq (order a t)) None (get order m t) → look_in x (get order n t) ≡ (if same_name a t then None else look_in x (get order m t))
-  taken m n a t x is = ap (look_in x) is ∙ go (is_eq (order a t)) (same_name a t) (sym (texts_ties a t))
+  pub taken : (m n : BTreeMap (Vec ℕ) (Folder V)) (a t x : List ℕ) → at_bytes n t ≡ (if same_name a t then None else at_bytes m t) → look_in x (at_bytes n t) ≡ (if same_name a t then None else look_in x (at_bytes m t))
+  taken m n a t x is = ap (look_in x) is ∙ go (same_name a t)
     where
-      go : (b c : Bool) → b ≡ c → look_in x (cond b None (get order m t)) ≡ (if c then None else look_in x (get order m t))
-      go true true e = refl
-      go false false e = refl
-      go true false e = cc
-      go false true e = cc
+      go : (c : Bool) → look_in x (if c then None else at_bytes m t) ≡ (if c then None else look_in x (at_bytes m t))
+      go true = refl
+      go false = refl
 
   -- a folder's names put back, with another value at one
-  module _ (old : List ℕ → Name → Option V) (a b : List ℕ) (v : Option V) (before after : BTreeMap Name V) (mid new : BTreeMap (List ℕ) (BTreeMap Name V)) where
-    pub replaced : (j k : List ℕ) → j ≡ a → k ≡ b → ((x : Name) → get order before x ≡ old a x)
-        → ((t : List ℕ) (x : Name) → look_in x (get order mid t) ≡ (if same_name a t then None else old t x))
-        → ((x : Name) → get order after x ≡ cond (is_eq (order k x)) v (get order before x))
-        → ((t : List ℕ) → get order new t ≡ cond (is_eq (order j t)) (Some after) (get order mid t))
-        → (t : List ℕ) (x : Name) → look_in x (get order new t) ≡ (if same_name a t && same_name b x then v else old t x)
-    replaced j k ja kb here rest in_names in_folders t x =
-        ap (look_in x) (in_folders t ∙ ap (λ l. cond (is_eq (order l t)) (Some after) (get order mid t)) ja) ∙ ap (λ c. look_in x (cond c (Some after) (get order mid t))) (sym (texts_ties a t)) ∙ folder (same_name a t) (same_name-Decides a t) (rest t x)
+  module _ (old : List ℕ → Name → Option V) (a b : List ℕ) (v : Option V) (before after : Folder V) (mid new : BTreeMap (Vec ℕ) (Folder V)) where
+    pub replaced : ((x : Name) → at_bytes before.values x ≡ old a x)
+        → ((t : List ℕ) (x : Name) → look_in x (at_bytes mid t) ≡ (if same_name a t then None else old t x))
+        → ((x : Name) → at_bytes after.values x ≡ (if same_name b x then v else at_bytes before.values x))
+        → ((t : List ℕ) → at_bytes new t ≡ (if same_name a t then Some after else at_bytes mid t))
+        → (t : List ℕ) (x : Name) → look_in x (at_bytes new t) ≡ (if same_name a t && same_name b x then v else old t x)
+    replaced here rest in_names in_folders t x = ap (look_in x) (in_folders t) ∙ folder (same_name a t) (same_name-Decides a t) (rest t x)
       where
-        name : (c : Bool) → a ≡ t → cond c v (get order before x) ≡ (if c then v else old t x)
+        name : (c : Bool) → a ≡ t → (if c then v else at_bytes before.values x) ≡ (if c then v else old t x)
         name true e = refl
         name false e = here x ∙ ap (λ s. old s x) e
 
-        folder : (c : Bool) → Decides c (a ≡ t) → look_in x (get order mid t) ≡ (if c then None else old t x) → look_in x (cond c (Some after) (get order mid t)) ≡ (if c && same_name b x then v else old t x)
-        folder true d e = in_names x ∙ ap (λ l. cond (is_eq (order l x)) v (get order before x)) kb ∙ ap (λ c. cond c v (get order before x)) (sym (texts_ties b x)) ∙ name (same_name b x) (d.0 refl)
+        folder : (c : Bool) → Decides c (a ≡ t) → look_in x (at_bytes mid t) ≡ (if c then None else old t x) → look_in x (if c then Some after else at_bytes mid t) ≡ (if c && same_name b x then v else old t x)
+        folder true d e = in_names x ∙ name (same_name b x) (d.0 refl)
         folder false d e = e
 
   pub Holds-new : (m : Tree V) (v : Option V) → m.root ≡ v → ((t : List ℕ) (x : Name) → look m t x ≡ None) → Holds m (put [] v (λ p. None))
@@ -128,24 +119,15 @@ module _ {V : Type 0} where
           is ∙ ap (λ k. look m k b) s.0 ∙ ap (look m (flat f)) s.1 ∙ holds.below f x (AreNames-folder f x nu) ∙ ap g (sym e)
 
   -- the names in a folder
-  pub some_there : (m : Tree V) (g : Path → Option V) (f : Path) (a : List ℕ) (x : Name) (v : V) (names : BTreeMap Name V) → Holds m g → AreNames f → a ≡ flat f → get order m.folders a ≡ Some names → get order names x ≡ Some v → g (under f x) ≢ None
-  some_there m g f a x v names holds nf af is has none =
-      let e : look m (flat f) x ≡ Some v = ap (look_in x) (ap (get order m.folders) (sym af) ∙ is) ∙ has in
-      let n : Some v ≡ None = sym e ∙ holds.below f x nf ∙ none in
-      cc
+  pub in_names : (m : Tree V) (g : Path → Option V) (f : Path) (a : List ℕ) (x : Name) (names : Folder V) → Holds m g → AreNames f → a ≡ flat f → at_bytes m.folders a ≡ Some names → at_bytes names.values x ≡ g (under f x)
+  in_names m g f a x names holds nf af is = ap (look_in x) (sym is ∙ ap (at_bytes m.folders) af) ∙ holds.below f x nf
 
-  pub in_names : (m : Tree V) (g : Path → Option V) (f : Path) (a : List ℕ) (x : Name) (names : BTreeMap Name V) → Holds m g → AreNames f → a ≡ flat f → get order m.folders a ≡ Some names → get order names x ≡ g (under f x)
-  in_names m g f a x names holds nf af is = ap (look_in x) (sym is ∙ ap (get order m.folders) af) ∙ holds.below f x nf
+  pub no_names : (m : Tree V) (g : Path → Option V) (f : Path) (a : List ℕ) (x : Name) → Holds m g → AreNames f → a ≡ flat f → at_bytes m.folders a ≡ None → g (under f x) ≡ None
+  no_names m g f a x holds nf af is = sym (holds.below f x nf) ∙ ap (look_in x) (ap (at_bytes m.folders) (sym af) ∙ is)
 
-  pub no_names : (m : Tree V) (g : Path → Option V) (f : Path) (a : List ℕ) (x : Name) → Holds m g → AreNames f → a ≡ flat f → get order m.folders a ≡ None → g (under f x) ≡ None
-  no_names m g f a x holds nf af is = sym (holds.below f x nf) ∙ ap (look_in x) (ap (get order m.folders) (sym af) ∙ is)
-
-  pub no_entries : (names : BTreeMap Name V) (x : Name) → ((0 < btree_map_len names) → ⊥) → get order names x ≡ None
-  no_entries names x none = ap (lookup _) (go names.entries none)
-    where
-      go : (es : List (Name × V)) → ((0 < length es) → ⊥) → es ≡ []
-      go [] none = refl
-      go (e ∷ es) none = absurd (none (omega arith))
+  pub any_there : (m : Tree V) (g : Path → Option V) (f : Path) (a : List ℕ) (names : Folder V) (b : Bool) → Holds m g → AreNames f → a ≡ flat f → at_bytes m.folders a ≡ Some names → HasSome b names.values → HasAny b g f
+  any_there m g f a names true holds nf af is (x, some) = (x, λ none. some (in_names m g f a x names holds nf af is ∙ none))
+  any_there m g f a names false holds nf af is none = λ x. sym (in_names m g f a x names holds nf af is) ∙ none x
 
   -- a change at a path that isn't the root
   pub Holds-put_at : (m n : Tree V) (p : Path) (t a b : List ℕ) (v : Option V) (g : Path → Option V) → AreNames p → t ≡ flat p → t ≢ []
@@ -161,22 +143,14 @@ module _ {V : Type 0} where
           let s = parts f x nu (tp ∙ ap flat e) in
           subst (λ q. Holds n (put q v g)) (sym e) (Holds-put m n f x a b v g (AreNames-folder f x nu) s.0 s.1 root all holds)
 
-  pub listed : (m : Tree V) (g : Path → Option V) (f : Path) (a : List ℕ) (names : BTreeMap Name V) (ns : List Name) → Holds m g → AreNames f → a ≡ flat f → get order m.folders a ≡ Some names → IsOrdered order names → ns ≡ keys names → IsNamesIn g f ns
-  listed m g f a names ns holds nf af is sorted all = subst (IsNamesIn g f) (sym all) (record {
+  pub listed : (m : Tree V) (g : Path → Option V) (f : Path) (a : List ℕ) (names : Folder V) (ns : List Name) → Holds m g → AreNames f → a ≡ flat f → at_bytes m.folders a ≡ Some names → IsStrictlySortedBy (slice_cmp nat_cmp) ns → ((x : Name) → Contains ns x ↔ (at_bytes names.values x ≢ None)) → IsNamesIn g f ns
+  listed m g f a names ns holds nf af is sorted exact = record {
     ascending = sorted;
-    there = λ x has. some x (get order names x) refl ((btree_map_contains_key_iff nat_list_cmp_total exact_bytes names x).1 has);
-    all = λ x there. (btree_map_contains_key_iff nat_list_cmp_total exact_bytes names x).0 (is_there x (get order names x) refl there);
-  })
-    where
-      some : (x : Name) (o : Option V) → get order names x ≡ o → IsSome o → g (under f x) ≢ None
-      some x None e has = let n : false ≡ true = has in cc
-      some x (Some v) e has = some_there m g f a x v names holds nf af is e
+    there = λ x has none. (exact x).0 has (in_names m g f a x names holds nf af is ∙ none);
+    all = λ x there. (exact x).1 (λ none. there (sym (in_names m g f a x names holds nf af is) ∙ none));
+  }
 
-      is_there : (x : Name) (o : Option V) → get order names x ≡ o → g (under f x) ≢ None → IsSome (get order names x)
-      is_there x None e there = absurd (there (sym (in_names m g f a x names holds nf af is) ∙ e))
-      is_there x (Some v) e there = ap is_some e
-
-  pub none_listed : (m : Tree V) (g : Path → Option V) (f : Path) (a : List ℕ) (ns : List Name) → Holds m g → AreNames f → a ≡ flat f → get order m.folders a ≡ None → ns ≡ [] → IsNamesIn g f ns
+  pub none_listed : (m : Tree V) (g : Path → Option V) (f : Path) (a : List ℕ) (ns : List Name) → Holds m g → AreNames f → a ≡ flat f → at_bytes m.folders a ≡ None → ns ≡ [] → IsNamesIn g f ns
   unfolding IsStrictlySortedBy
   none_listed m g f a ns holds nf af is empty = subst (IsNamesIn g f) (sym empty) (record {
     ascending = tt;
@@ -200,3 +174,7 @@ root_text p t is none = no_flat t p is (ap length none)
 pub on_ok : {T E : Type 0} (r : Result T E) (P Q : Type 0) → (P → Q) → OnOk r P → OnOk r Q
 on_ok (Ok x) P Q to h = to h
 on_ok (Err e) P Q to h = h
+
+pub both_ok : {T E : Type 0} (r : Result T E) (P Q R : T → Type 0) → ((x : T) → P x → Q x → R x) → IfOk r P → IfOk r Q → IfOk r R
+both_ok (Ok x) P Q R to p q = to x p q
+both_ok (Err e) P Q R to p q = p

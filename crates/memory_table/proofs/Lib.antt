@@ -1,3 +1,4 @@
+pub mod Keyed
 pub mod Splitting
 pub mod Holding
 pub mod Tying

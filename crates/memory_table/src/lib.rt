@@ -1,7 +1,7 @@
 //! What stands at each path, and what each file holds, in maps.
 #![tactic(auto)]
 
-mod key;
+mod folder;
 mod parts;
 mod table;
 mod tree;

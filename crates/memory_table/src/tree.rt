@@ -1,16 +1,13 @@
 ghost use Rattle.std.specs.Prelude.{◌≡◌, ◌&&◌, [], List, ℕ, Option, Some, None, IfOk, OnOk, if◌then◌else◌, option_copied};
-ghost use Rattle.std.specs.BTreeMap.{keys, IsOrdered};
-ghost use Rattle.std.specs.Cmp.Lexicographic.{slice_cmp};
-ghost use Rattle.std.specs.Ordering.{nat_cmp};
 ghost use Rattle.ost_types.specs.Path.{Path, AreNames, same_name, is_in};
 ghost use Rattle.ost_types.specs.Flat.{flat};
 ghost use Rattle.ost_types.specs.Text.{IsName};
 ghost use Rattle.fs_trait.specs.View as view;
 ghost use Rattle.memory_table.specs.Tree.{look, look_in, Holds, HasAny, IsNamesIn};
 
-use crate::key::{Key, Sought};
+use crate::folder::Folder;
 use crate::parts::split;
-use ost_types::{Name, Names, NoMemory, TryCopy};
+use ost_types::{Names, NoMemory};
 use places::Place;
 use std::alloc::Global;
 use std::collections::BTreeMap;
@@ -20,7 +17,7 @@ use std::collections::BTreeMap;
 pub struct Tree<V> {
     alloc: Global,
     root: Option<V>,
-    folders: BTreeMap<Key, BTreeMap<Name, V>>,
+    folders: BTreeMap<Vec<u8>, Folder<V>>,
 }
 
 impl<V: Drop> Tree<V> {
@@ -48,8 +45,8 @@ impl<V: Drop> Tree<V> {
     fn look(&self, folder: &[u8], name: &[u8]) -> Option<&V>
         ensures { option_copied result ≡ look self.now folder.now name.now }
     {
-        match self.folders.get(Sought { bytes: folder }) {
-            Some(names) => names.get(Sought { bytes: name }),
+        match self.folders.get(folder) {
+            Some(names) => names.get(name),
             None => None,
         }
     }
@@ -73,20 +70,20 @@ impl<V: Drop> Tree<V> {
         ensures below { OnOk result ((t x : List ℕ) → look self.new t x ≡ (if same_name folder.now t && same_name name.now x then Some value else look self.old t x)) }
     {
         let mut names = self.take(folder);
-        names.insert(name_of(self.alloc, name)?, value)?;
-        self.folders.insert(Key::of(self.alloc, folder)?, names)?;
+        names.insert(self.alloc, name, value)?;
+        self.folders.insert(Vec::from_slice(self.alloc, folder)?, names)?;
         Ok(())
     }
 
     // The names of a folder, which the map has no more.
-    fn take(&mut self, folder: &[u8]) -> BTreeMap<Name, V>
+    fn take(&mut self, folder: &[u8]) -> Folder<V>
         ensures root { self.new.root ≡ self.old.root }
         ensures here { (x : List ℕ) → look_in x (Some result) ≡ look self.old folder.now x }
         ensures below { (t x : List ℕ) → look self.new t x ≡ (if same_name folder.now t then None else look self.old t x) }
     {
-        match self.folders.remove(Sought { bytes: folder }) {
+        match self.folders.remove(folder) {
             Some(names) => names,
-            None => BTreeMap::new(self.alloc),
+            None => Folder::new(self.alloc),
         }
     }
 
@@ -108,8 +105,8 @@ impl<V: Drop> Tree<V> {
         ensures below { OnOk result ((t x : List ℕ) → look self.new t x ≡ (if same_name folder.now t && same_name name.now x then None else look self.old t x)) }
     {
         let mut names = self.take(folder);
-        names.remove(Sought { bytes: name });
-        self.folders.insert(Key::of(self.alloc, folder)?, names)?;
+        names.remove(name);
+        self.folders.insert(Vec::from_slice(self.alloc, folder)?, names)?;
         Ok(())
     }
 
@@ -130,8 +127,8 @@ impl<V: Drop> Tree<V> {
         ensures below { OnOk result ((t x : List ℕ) → look self.new t x ≡ (if same_name folder.now t && same_name name.now x then None else look self.old t x)) }
     {
         let mut names = self.take(folder);
-        let value = names.remove(Sought { bytes: name });
-        self.folders.insert(Key::of(self.alloc, folder)?, names)?;
+        let value = names.remove(name);
+        self.folders.insert(Vec::from_slice(self.alloc, folder)?, names)?;
         Ok(value)
     }
 
@@ -146,13 +143,8 @@ impl<V: Drop> Tree<V> {
     pub fn has_names(&self, folder: &Place) -> bool
         ensures { (g : Path → Option V) → Holds self.now g → HasAny result g folder.now }
     {
-        match self.folders.get(Sought {
-            bytes: folder.text(),
-        }) {
-            Some(names) => match names.first_key_value() {
-                Some(_) => true,
-                None => false,
-            },
+        match self.folders.get(folder.text()) {
+            Some(names) => names.has_any(),
             None => false,
         }
     }
@@ -161,34 +153,9 @@ impl<V: Drop> Tree<V> {
     pub fn names_in(&self, folder: &Place) -> Result<Names, NoMemory>
         ensures { IfOk result (λ ns. (g : Path → Option V) → Holds self.now g → IsNamesIn g folder.now ns) }
     {
-        Ok(
-            match self.folders.get(Sought {
-                bytes: folder.text(),
-            }) {
-                Some(names) => Names::from_vec(names_of(self.alloc, names)?),
-                None => Names::new(self.alloc),
-            },
-        )
+        match self.folders.get(folder.text()) {
+            Some(names) => names.names(self.alloc),
+            None => Ok(Names::new(self.alloc)),
+        }
     }
-}
-
-fn name_of(alloc: Global, text: &[u8]) -> Result<Name, NoMemory>
-    requires { IsName text.now }
-    ensures { IfOk result (λ n. n ≡ text.now) }
-{
-    match Name::parse(alloc, text)? {
-        Some(name) => Ok(name),
-        None => unreachable!(),
-    }
-}
-
-fn names_of<V: Drop>(alloc: Global, names: &BTreeMap<Name, V>) -> Result<Vec<Name>, NoMemory>
-    ensures all { IfOk result (λ v. v.items ≡ keys names.now) }
-    ensures ordered { IfOk result (λ v. IsOrdered (slice_cmp nat_cmp) names.now) }
-{
-    let mut listed: Vec<Name> = Vec::new(alloc);
-    for name in names.keys() {
-        listed.push(name.copy()?)?;
-    }
-    Ok(listed)
 }
