@@ -71,7 +71,8 @@ impl<V: Drop> Tree<V> {
     {
         let mut names = self.take(folder);
         names.insert(self.alloc, name, value)?;
-        self.folders.insert(Vec::from_slice(self.alloc, folder)?, names)?;
+        self.folders
+            .insert(Vec::from_slice(self.alloc, folder)?, names)?;
         Ok(())
     }
 
@@ -106,7 +107,8 @@ impl<V: Drop> Tree<V> {
     {
         let mut names = self.take(folder);
         names.remove(name);
-        self.folders.insert(Vec::from_slice(self.alloc, folder)?, names)?;
+        self.folders
+            .insert(Vec::from_slice(self.alloc, folder)?, names)?;
         Ok(())
     }
 
@@ -128,7 +130,8 @@ impl<V: Drop> Tree<V> {
     {
         let mut names = self.take(folder);
         let value = names.remove(name);
-        self.folders.insert(Vec::from_slice(self.alloc, folder)?, names)?;
+        self.folders
+            .insert(Vec::from_slice(self.alloc, folder)?, names)?;
         Ok(value)
     }
 
