@@ -3,9 +3,10 @@
 use super::*;
 use crate::vectors::{MANY, OBJECTS};
 use ost_objects::{
-    Commit, ObjFault, read_commit, read_content, read_dirmeta, read_dirtree, sum_of, write_commit,
+    BodySpec, Commit, ObjFault, TreeItem, read_commit, read_content, read_dirmeta, read_dirtree,
+    sum_of, write_commit,
 };
-use ost_types::{Bytes, Csum, Kind, Limits, ObjName, Text};
+use ost_types::{Bytes, Csum, FsPath, Kind, Limits, Meta, ObjName, Text, TryCopy, Xattrs};
 use std::alloc::Global;
 use std::process::Abort;
 use std::test::Fail;
@@ -239,4 +240,53 @@ fn faults_of_names(rt: HostRuntime) -> Result<(), Fail> {
     assert_eq!(rt; fault_of(alloc, tree, b"\x01")?, Some(wrong));
     assert_eq!(rt; fault_of(alloc, meta, b"\0")?, Some(odd));
     Ok(())
+}
+
+/// What the check finds wrong with so many zero bytes.
+fn fault_of_zeros(alloc: Global, kind: Kind, len: usize) -> Result<Option<ObjFault>, Fail> {
+    let mut bytes = Vec::with_capacity(alloc, len)?;
+    bytes.resize(len, 0)?;
+    let csum = sum_of(&bytes);
+    let name = ObjName { csum, kind };
+    match check(alloc, name, Bytes::from_vec(bytes), &Limits::standard()) {
+        Err((_, CheckFault::Unreadable(fault))) => Ok(Some(fault)),
+        _ => Ok(None),
+    }
+}
+
+#[test]
+fn objects_above_64_mebibytes(rt: HostRuntime) -> Result<(), Fail> {
+    for kind in [Kind::Commit, Kind::DirTree, Kind::DirMeta] {
+        let fault = fault_of_zeros(rt.alloc(), kind, 67_108_865)?;
+        assert!(&rt; fault == Some(ObjFault::TooLarge(67_108_865)));
+        let fault = fault_of_zeros(rt.alloc(), kind, 64)?;
+        assert!(&rt; fault != Some(ObjFault::TooLarge(64)));
+    }
+    Ok(())
+}
+
+#[test]
+fn items_are_copied(rt: HostRuntime) -> Result<(), Fail> {
+    let alloc = rt.alloc();
+    let item = TreeItem {
+        path: FsPath::root(alloc),
+        meta: Meta {
+            uid: 1,
+            gid: 2,
+            mode: 0o100644,
+            xattrs: Xattrs::new(alloc),
+        },
+        body: Some(BodySpec::Given(Bytes::from_slice(alloc, b"ab")?)),
+    };
+    let again = item.copy()?;
+    assert!(&rt; again.meta.gid == 2);
+    assert!(&rt; gives(&again.body, b"ab"));
+    Ok(())
+}
+
+fn gives(body: &Option<BodySpec>, wanted: &[u8]) -> bool {
+    match body {
+        Some(BodySpec::Given(bytes)) => bytes.as_slice() == wanted,
+        _ => false,
+    }
 }
