@@ -33,46 +33,57 @@ fn command(rt: &impl Abort, alloc: Global, line: &[u8]) -> Command {
     }
 }
 
+fn names_ref(command: &Command, name: &[u8]) -> bool {
+    match command {
+        Command::RevParse {
+            rev: Rev::Ref(found),
+        } => found.as_slice() == name,
+        _ => false,
+    }
+}
+
+fn names_commit(command: &Command, digits: &[u8]) -> bool {
+    match command {
+        Command::RevParse {
+            rev: Rev::Commit(found),
+        } => found.to_hex().as_slice() == digits,
+        _ => false,
+    }
+}
+
+fn resets(command: &Command, name: &[u8], digits: &[u8]) -> bool {
+    match command {
+        Command::Reset { branch, commit } => {
+            branch.as_slice() == name && commit.to_hex().as_slice() == digits
+        }
+        _ => false,
+    }
+}
+
 #[test]
 fn reads_refs_and_revisions(rt: HostRuntime) {
     let alloc = rt.alloc();
     assert!(&rt; matches!(read(&rt, alloc, b"refs"), Ok(_)));
     assert!(&rt; matches!(command(&rt, alloc, b"refs"), Command::Refs));
-    let Command::RevParse {
-        rev: Rev::Ref(name),
-    } = command(&rt, alloc, b"rev-parse a/%62")
-    else {
-        assert!(&rt; false);
-        return;
-    };
-    assert!(&rt; name.as_slice() == b"a/b".as_slice());
-    let Command::RevParse {
-        rev: Rev::Commit(commit),
-    } = command(
+    let by_name = command(&rt, alloc, b"rev-parse a/%62");
+    assert!(&rt; names_ref(&by_name, b"a/b"));
+    let by_digits = command(
         &rt,
         alloc,
         b"rev-parse 1111111111111111111111111111111111111111111111111111111111111111",
-    )
-    else {
-        assert!(&rt; false);
-        return;
-    };
-    assert!(&rt; commit.to_hex().as_slice() == ONES);
+    );
+    assert!(&rt; names_commit(&by_digits, ONES));
 }
 
 #[test]
 fn reads_changes(rt: HostRuntime) {
     let alloc = rt.alloc();
-    let Command::Reset { branch, commit } = command(
+    let reset = command(
         &rt,
         alloc,
         b"reset main 1111111111111111111111111111111111111111111111111111111111111111",
-    ) else {
-        assert!(&rt; false);
-        return;
-    };
-    assert!(&rt; branch.as_slice() == b"main".as_slice());
-    assert!(&rt; commit.to_hex().as_slice() == ONES);
+    );
+    assert!(&rt; resets(&reset, b"main", ONES));
     assert!(&rt; matches!(command(&rt, alloc, b"drop main"), Command::DropRef { .. }));
 }
 
