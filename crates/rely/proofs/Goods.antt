@@ -5,7 +5,7 @@ use Rattle.ost_types.proofs.Paths.{root_or_under}
 use Rattle.fs_trait.specs.declared.types.Value.{Value}
 use Rattle.fs_trait.specs.declared.types.Value.TheVariants.{Absent, Folder, Link, File}
 use Rattle.fs_trait.specs.View.{Disk, View}
-use Rattle.fs_trait.specs.Image.{Image}
+use Rattle.fs_trait.specs.Image.{Image, is_folder}
 use Rattle.fs_trait.specs.Seen.{Seen, Vacant, seen, shows, MayBe}
 use Rattle.fs_trait.proofs.Claims.{claim_each, firm_each, folder_each, reads_shows}
 use Rattle.repo_layout.specs.Paths.{folder_path, ref_path}
@@ -50,6 +50,12 @@ seen_leaf d (Folder m) none = refl
 seen_leaf d (Link m t) none = absurd (none tt)
 seen_leaf d (File n) none = absurd (none tt)
 
+folder_no_leaf : (z : Value) → is_folder z ≡ true → is_leaf z ≡ false
+folder_no_leaf (Folder m) e = refl
+folder_no_leaf Absent e = refl
+folder_no_leaf (Link m t) e = let n : false ≡ true = e in cc
+folder_no_leaf (File k) e = let n : false ≡ true = e in cc
+
 -- the refs of a disk that has a state
 pub has_ref : (d : Disk) (name : List ℕ) (said : Said) → Says (RefOf name) said (shows d (ref_path name)) → HasRef d name said
 has_ref d name None says = seen_leaf d (d.at (ref_path name)) says
@@ -58,7 +64,7 @@ has_ref d name (Some commit) says = record { sum = says.0; file = reads_shows d 
 -- a disk of this state is good
 good : (start : State) (entries : List Entry) (pending : Option Pending) (v : View) → Stands start entries pending v → (d : Disk) → Image v d → (state : State) → IsNamed state → Logical d state → IsGood d
 good start entries pending v stands d i state named logical = record {
-  folders = λ f. folder_each v (folder_path f) (stands.folders f) d i;
+  folders = λ f. folder_no_leaf (d.at (folder_path f)) (folder_each v (folder_path f) (stands.folders f) d i);
   refs = λ name leaf. by name leaf (state (RefOf name)) refl;
   others = λ p below none leaf. ⊎_elim
       (λ other. firm_each NoStray v stands.strays p (λ b o bad. bad) d i below (subst IsOther (sym other) tt) (leaf_seen d (d.at p) leaf))

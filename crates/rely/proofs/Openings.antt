@@ -6,6 +6,7 @@ use Rattle.fs_trait.specs.declared.types.Value.TheVariants.{Absent, Folder, Link
 use Rattle.fs_trait.specs.View.{Disk, View}
 use Rattle.fs_trait.specs.Image.{is_folder, IsTree}
 use Rattle.fs_trait.specs.Seen.{Seen, seen, shows, MayBe, IsDirectory}
+use Rattle.fs_trait.specs.Change.{Left}
 use Rattle.fs_trait.proofs.Images.{folder_or_not}
 use Rattle.fs_trait.proofs.Ways.{above}
 use Rattle.repo_layout.specs.Paths.{folder_path, ref_path}
@@ -13,14 +14,13 @@ use Rattle.repo_layout.specs.Place.{Ref, place}
 use Rattle.repo_layout.specs.Refs.{is_leaf}
 use Rattle.repo_layout.proofs.Places.{place-ref}
 use Rattle.rely.specs.declared.books.Base.{Base}
+use Rattle.rely.specs.declared.books.Books.{Books}
 use Rattle.rely.specs.State.{Topic, RefOf, Said, State, first, IsNamed}
 use Rattle.rely.specs.Disks.{path_of, IsLeaf, Says, IsOther}
 use Rattle.rely.specs.Sound.{Leads, NoStray, Stands, Sound}
-use Rattle.rely.specs.Opening.{IsOpening}
+use Rattle.rely.specs.Opening.{IsOpening, HasSince}
 use Rattle.rely.proofs.States.{says_leaf}
 use Rattle.rely.proofs.Layouts.{below_split}
-use Rattle.rely.proofs.Goods.{fits_now}
-use Rattle.rely.proofs.Sounds.{IsFs}
 
 shows_directory : (d : Disk) (z : Value) → is_folder z ≡ true → IsDirectory (seen d z)
 shows_directory d (Folder m) e = tt
@@ -73,18 +73,19 @@ module _ (start : State) (v : View) (tree : IsTree v.now) (begins : IsOpening st
       each = λ t s may. inl (subst (Says t (start t)) (sym (only (path_of t) s may)) (begins.state t));
       leads = λ t f x e. leads_value t f x e (start t) refl;
     };
-    folders = λ f. leads_there (folder_path f) (begins.good.folders f);
+    folders = λ f. leads_there (folder_path f) (begins.folders f);
     strays = no_stray;
   }
 
-pub sound_begins : {F : Type 0} (view : F → Option View) (clock spare : F → ℕ) (was : F → ℕ → View → Type 0) → IsFs view clock was → ((fs : F) (v : View) → view fs ≡ Some v → IsTree v.now) → (base : Base F)
-    → base.books.exclusive ≡ None → base.books.turn ≡ None → base.books.history.items ≡ [] → base.books.pending ≡ None → base.books.owed ≡ 0 → base.books.opened ≡ clock base.fs
-    → ((v : View) → view base.fs ≡ Some v → IsOpening (first base.books.start.items) v) → Sound view clock spare was base
-sound_begins view clock spare was fslaws trees base alone turn empty none nothing opened begins = record {
+pub sound_begins : {F : Type 0} (view : F → Option View) (clock spare : F → ℕ) (was : F → ℕ → View → Type 0) → ((fs : F) (v : View) → view fs ≡ Some v → IsTree v.now) → (base : Base F)
+    → base.books.exclusive ≡ None → base.books.turn ≡ None → base.books.history.items ≡ [] → base.books.pending ≡ None → base.books.owed ≡ 0 → base.books.opened ≤ clock base.fs
+    → ((v : View) → view base.fs ≡ Some v → IsOpening (first base.books.start.items) v)
+    → ((v : View) → view base.fs ≡ Some v → HasSince (Left (was base.fs)) base.books.opened (first base.books.start.items)) → Sound view clock spare was base
+sound_begins view clock spare was trees base alone turn empty none nothing opened begins since = record {
   ordered = record {
     agrees = record { turn = λ x y ex. absurd (let z : None ≡ Some x = sym alone ∙ ex in cc); shared = λ x ex. absurd (let z : None ≡ Some x = sym alone ∙ ex in cc) };
     owner = λ p is. absurd (let z : None ≡ Some p = sym none ∙ is in cc);
-    ascends = rw (empty, opened) (omega arith);
+    ascends = rw empty opened;
     idle = λ is. nothing;
     room = rw nothing (omega arith);
     entry = λ more. absurd (let z : 0 < 0 = subst (λ n. 0 < n) nothing more in omega (arith, z));
@@ -92,7 +93,18 @@ sound_begins view clock spare was fslaws trees base alone turn empty none nothin
   stands = λ v told. rw (empty, none) (stands_begins (first base.books.start.items) v (trees base.fs v told) (begins v told));
   crash = λ v told. rw (empty, none) (record {
     each = λ t d from left.
-        let now : view base.fs ≡ Some left.0 = fslaws.only_now base.fs t left.0 (subst (λ n. n ≤ t) opened from) left.1 in
-        fits_now (first base.books.start.items) [] None left.0 (stands_begins (first base.books.start.items) left.0 (trees base.fs left.0 now) (begins left.0 now)) t d left.2;
+        let has = since v told t d from left in
+        record { past = []; rest = []; split = refl; has_acked = omega arith; shows = has.1; good = has.0 };
   });
 }
+
+-- so it is of books that are new
+pub sound_new : {F : Type 0} (view : F → Option View) (clock spare : F → ℕ) (was : F → ℕ → View → Type 0) → ((fs : F) (v : View) → view fs ≡ Some v → IsTree v.now) → (fs : F) (books : Books) (opened : ℕ) (start : List (List ℕ × List ℕ))
+    → books.exclusive ≡ None → books.turn ≡ None → books.history.items ≡ [] → books.pending ≡ None → books.owed ≡ 0 → books.opened ≡ opened → books.start.items ≡ start
+    → opened ≤ clock fs → ((v : View) → view fs ≡ Some v → IsOpening (first start) v) → ((v : View) → view fs ≡ Some v → HasSince (Left (was fs)) opened (first start))
+    → Sound view clock spare was (record { fs = fs; books = books })
+sound_new view clock spare was trees fs books opened start alone turn empty none nothing at these past begins since =
+    sound_begins view clock spare was trees (record { fs = fs; books = books }) alone turn empty none nothing
+    (subst (λ n. n ≤ clock fs) (sym at) past)
+    (λ v told. subst (λ l. IsOpening (first l) v) (sym these) (begins v told))
+    (λ v told. subst (λ n. HasSince (Left (was fs)) n (first books.start.items)) (sym at) (subst (λ l. HasSince (Left (was fs)) opened (first l)) (sym these) (since v told)))

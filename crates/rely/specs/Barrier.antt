@@ -3,6 +3,8 @@ use Rattle.std.specs.Prelude.{◌≡◌, ℕ}
 use Rattle.ost_types.specs.Path.{Path}
 use Rattle.fs_trait.specs.declared.task.Turn.{Turn}
 use Rattle.fs_trait.specs.declared.task.Turn.TheVariants as turn
+use Rattle.fs_trait.specs.declared.types.FsErr.{FsErr}
+use Rattle.fs_trait.specs.Effect.{OfNone}
 use Rattle.fs_trait.specs.View.{View, all_synced}
 use Rattle.fs_trait.specs.Seen.{Seen}
 use Rattle.fs_trait.specs.Change.{Nothing}
@@ -27,6 +29,9 @@ barrier_stepped t (turn.Done x) new = Unit {0}
 abbrev pub barrier_leaves : Barrier → Turn (Unit {0}) → Barrier → View → View → Type 0
 barrier_leaves t turn.More new v w = ⊥
 barrier_leaves t (turn.Done x) new v w = w ≡ all_synced v
+
+abbrev pub barrier_refuses : Barrier → View → FsErr → Type 0
+barrier_refuses t v = OfNone
 
 abbrev pub barrier_facts : ℕ → Barrier → View → Books → Type 0
 barrier_facts lane t v b = Unit {0}

@@ -1,9 +1,12 @@
 -- What each answer of an act says, exactly.
-use Rattle.std.specs.Prelude.{◌≡◌, ℕ, ◌++◌, ◌∷◌, [], Some, None}
+use Rattle.std.specs.Prelude.{◌≡◌, ◌⊎◌, ℕ, ◌++◌, ◌∷◌, [], Option, Some, None}
 use Rattle.fs_trait.specs.Count.{Rose}
 use Rattle.fs_trait.specs.declared.task.Turn.{Turn}
 use Rattle.fs_trait.specs.declared.task.Turn.TheVariants as turn
+use Rattle.fs_trait.specs.declared.types.FsErr.{FsErr}
 use Rattle.fs_trait.specs.declared.types.FsErr.TheVariants as err
+use Rattle.fs_trait.specs.Image.{Told}
+use Rattle.fs_trait.specs.View.{View}
 use Rattle.rely.specs.declared.books.Books as rust
 use Rattle.rely.specs.declared.books.Pending.{Pending}
 use Rattle.rely.specs.declared.event.Event.{Event}
@@ -27,6 +30,12 @@ Steps stepped old came.More new = stepped old turn.More new
 Steps stepped old came.Done new = stepped old (turn.Done tt) new
 Steps stepped old came.Blocked new = new ≡ old
 Steps stepped old outcome new = Unit {0}
+
+-- what the views say of a step that was the last one, and of one that ended the command
+abbrev pub Tells : {T : Type 0} → (T → Turn (Unit {0}) → T → View → View → Type 0) → (T → View → FsErr → Type 0) → T → Outcome → T → Option View → Option View → Type 0
+Tells leaves refuses old came.Done new before now = (v : View) → before ≡ Some v → Told now (λ w. leaves old (turn.Done tt) new v w)
+Tells leaves refuses old (came.Refused e) new before now = (v : View) → before ≡ Some v → (e ≡ err.NoMemory) ⊎ refuses old v e
+Tells leaves refuses old outcome new before now = Unit {0}
 
 -- history and pending change are as they were
 abbrev pub IsUnbooked : rust.Books → rust.Books → Type 0

@@ -4,6 +4,8 @@ use Rattle.std.proofs.Common.{sym, subst}
 use Rattle.ost_types.specs.Path.{Path}
 use Rattle.fs_trait.specs.declared.task.Turn.{Turn}
 use Rattle.fs_trait.specs.declared.task.Turn.TheVariants as turn
+use Rattle.fs_trait.specs.declared.types.FsErr.{FsErr}
+use Rattle.fs_trait.specs.declared.types.FsErr.TheVariants.{NoMemory}
 use Rattle.fs_trait.specs.View.{View}
 use Rattle.fs_trait.specs.Seen.{Seen}
 use Rattle.fs_trait.specs.Change.{Nothing}
@@ -54,6 +56,11 @@ part_leaves la lb h (First a) turn.More (Between new) v w = la a (turn.Done tt) 
 part_leaves la lb h (Between a) turn.More (Second b) v w = (w ≡ v) × (b ≡ h a)
 part_leaves la lb h (Second b) u (Second new) v w = lb b u new v w
 part_leaves la lb h old u new v w = ⊥
+
+abbrev pub part_refuses : {A B : Type 0} → (A → View → FsErr → Type 0) → (B → View → FsErr → Type 0) → Part A B → View → FsErr → Type 0
+part_refuses ra rb (First a) v e = ra a v e
+part_refuses ra rb (Between a) v e = e ≡ NoMemory
+part_refuses ra rb (Second b) v e = rb b v e
 
 -- The first shows no change. When it is done the second's facts hold, and nothing of it is shown.
 pub record Hands {A B : Type 0} (ka : A → Kind) (sa : A → Turn (Unit {0}) → A → Type 0) (la : A → Turn (Unit {0}) → A → View → View → Type 0) (fa : ℕ → A → View → Books → Type 0)

@@ -9,7 +9,7 @@ ghost use Rattle.rely.specs.declared.event.Event.{Event};
 ghost use Rattle.rely.specs.declared.kind.Outcome.TheVariants as Outcome;
 ghost use Rattle.fs_trait.specs.declared.types.FsErr.TheVariants as FsErr;
 ghost use Rattle.rely.specs.Books.{books_of, Free, Frees};
-ghost use Rattle.rely.specs.Exact.{Opens, Steps, IsUnbooked, IsShownBy, IsSettledBy, IsBooked, Causes};
+ghost use Rattle.rely.specs.Exact.{Opens, Steps, Tells, IsUnbooked, IsShownBy, IsSettledBy, IsBooked, Causes};
 ghost use Rattle.rely.specs.Laws.{IsShow, IsShown, IsOwing, IsSettle, IsQuiet, IsStore, IsTake, KeepsRoom, owed_by, Ready, Runs, IsBy, Stood, Acts, Ends, IsEnd, Show, Shown, Settle};
 
 use crate::{Base, Event, Outcome, Step, Wants, Work, is_free};
@@ -27,6 +27,7 @@ fn advance_with_room<T: Work, F: Fs>(
     ensures writes { (v : View) → F.view base.old.fs ≡ Some v → Told (F.view base.new.fs) (λ w. Writes (T.writes_of actor task.old v) v w) }
     ensures unchanged { (v : View) → F.view base.old.fs ≡ Some v → IsErrOf result NoMemory → F.view base.new.fs ≡ Some v }
     ensures time { Elapses (F.clock base.old.fs) (F.clock base.new.fs) (F.was base.old.fs) (F.was base.new.fs) (F.view base.new.fs) }
+    ensures refused { (v : View) → F.view base.old.fs ≡ Some v → IfErr result (λ e. (e ≡ NoMemory) ⊎ T.refuses task.old v e) }
     ensures cause { HasCause (F.faults base.old.fs) (F.faults base.new.fs) result }
     ensures fails { (v : View) → F.view base.old.fs ≡ Some v → IsOwing (T.kind_of task.old) → IfErr result OfNone }
     ensures stepped { IfOk result (λ turn. T.stepped task.old turn task.new) }
@@ -71,6 +72,7 @@ fn quiet<T: Work, F: Fs>(base: &mut Base<F>, actor: u8, lane: u8, task: &mut T) 
     requires stood { Stood (T.kind_of task.old) actor lane (books_of base.old.books) }
     ensures acts { Acts F.view F.clock F.spare F.was actor lane result (Runs T.kind_of T.facts lane task.new) base.old base.new }
     ensures steps { Steps T.stepped task.old result task.new }
+    ensures tells { Tells T.leaves T.refuses task.old result task.new (F.view base.old.fs) (F.view base.new.fs) }
     ensures goes { result ≢ Outcome.Blocked }
     ensures booked { IsUnbooked base.old.books base.new.books }
     ensures cause { Causes (F.faults base.old.fs) (F.faults base.new.fs) result }
@@ -92,6 +94,7 @@ fn show<T: Work, F: Fs>(base: &mut Base<F>, lane: u8, command: u32, task: &mut T
     requires kind { IsShow (T.kind_of task.old) }
     ensures acts { Acts F.view F.clock F.spare F.was lane lane result (Runs T.kind_of T.facts lane task.new) base.old base.new }
     ensures steps { Steps T.stepped task.old result task.new }
+    ensures tells { Tells T.leaves T.refuses task.old result task.new (F.view base.old.fs) (F.view base.new.fs) }
     ensures blocked { result ≡ Outcome.Blocked → (base.new ≡ base.old) × ((Free base.old.books.exclusive lane × Free base.old.books.turn lane) → ⊥) }
     ensures opens { result ≢ Outcome.Blocked → (Free base.old.books.exclusive lane × Free base.old.books.turn lane) }
     ensures booked { (e : Event) → T.kind_of task.old ≡ Show e → IsShownBy lane command e result base.old.books base.new.books }
@@ -125,6 +128,7 @@ fn show_event<T: Work, F: Fs>(
     requires entry { vec_len base.old.books.history < vec_capacity base.old.books.history }
     ensures acts { Acts F.view F.clock F.spare F.was lane lane result (Runs T.kind_of T.facts lane task.new) base.old base.new }
     ensures steps { Steps T.stepped task.old result task.new }
+    ensures tells { Tells T.leaves T.refuses task.old result task.new (F.view base.old.fs) (F.view base.new.fs) }
     ensures goes { result ≢ Outcome.Blocked }
     ensures booked { IsShownBy lane command event result base.old.books base.new.books }
     ensures cause { (v : View) → F.view base.old.fs ≡ Some v → Causes (F.faults base.old.fs) (F.faults base.new.fs) result }
@@ -152,6 +156,7 @@ fn shown<T: Work, F: Fs>(base: &mut Base<F>, lane: u8, task: &mut T) -> Outcome
     requires kind { IsShown (T.kind_of task.old) }
     ensures acts { Acts F.view F.clock F.spare F.was lane lane result (Runs T.kind_of T.facts lane task.new) base.old base.new }
     ensures steps { Steps T.stepped task.old result task.new }
+    ensures tells { Tells T.leaves T.refuses task.old result task.new (F.view base.old.fs) (F.view base.new.fs) }
     ensures goes { result ≢ Outcome.Blocked }
     ensures booked { IsUnbooked base.old.books base.new.books }
     ensures cause { (v : View) → F.view base.old.fs ≡ Some v → Causes (F.faults base.old.fs) (F.faults base.new.fs) result }
@@ -172,6 +177,7 @@ fn settle<T: Work, F: Fs>(base: &mut Base<F>, lane: u8, task: &mut T) -> Outcome
     requires kind { IsSettle (T.kind_of task.old) }
     ensures acts { Acts F.view F.clock F.spare F.was lane lane result (Runs T.kind_of T.facts lane task.new) base.old base.new }
     ensures steps { Steps T.stepped task.old result task.new }
+    ensures tells { Tells T.leaves T.refuses task.old result task.new (F.view base.old.fs) (F.view base.new.fs) }
     ensures goes { result ≢ Outcome.Blocked }
     ensures booked { IsSettledBy (F.clock base.new.fs) result base.old.books base.new.books }
     ensures cause { (v : View) → F.view base.old.fs ≡ Some v → Causes (F.faults base.old.fs) (F.faults base.new.fs) result }
@@ -201,6 +207,7 @@ fn store<T: Work, F: Fs>(base: &mut Base<F>, actor: u8, lane: u8, task: &mut T) 
     requires kind { IsStore (T.kind_of task.old) }
     ensures acts { Acts F.view F.clock F.spare F.was actor lane result (Runs T.kind_of T.facts lane task.new) base.old base.new }
     ensures steps { Steps T.stepped task.old result task.new }
+    ensures tells { Tells T.leaves T.refuses task.old result task.new (F.view base.old.fs) (F.view base.new.fs) }
     ensures blocked { result ≡ Outcome.Blocked → (base.new ≡ base.old) × (Free base.old.books.exclusive lane → ⊥) }
     ensures opens { result ≢ Outcome.Blocked → Free base.old.books.exclusive lane }
     ensures booked { IsUnbooked base.old.books base.new.books }
@@ -218,6 +225,7 @@ fn take<T: Work, F: Fs>(base: &mut Base<F>, lane: u8, wants: Wants, task: &mut T
     requires kind { IsTake wants (T.kind_of task.old) }
     ensures acts { Acts F.view F.clock F.spare F.was lane lane result (Runs T.kind_of T.facts lane task.new) base.old base.new }
     ensures steps { Steps T.stepped task.old result task.new }
+    ensures tells { Tells T.leaves T.refuses task.old result task.new (F.view base.old.fs) (F.view base.new.fs) }
     ensures blocked { result ≡ Outcome.Blocked → (base.new ≡ base.old) × (Frees wants lane (books_of base.old.books) → ⊥) }
     ensures opens { result ≢ Outcome.Blocked → Frees wants lane (books_of base.old.books) }
     ensures booked { IsUnbooked base.old.books base.new.books }
@@ -246,6 +254,7 @@ pub fn task_act<T: Work, F: Fs>(
     requires by { IsBy (T.kind_of task.old) actor lane }
     ensures acts { Acts F.view F.clock F.spare F.was actor lane result (Runs T.kind_of T.facts lane task.new) base.old base.new }
     ensures steps { Steps T.stepped task.old result task.new }
+    ensures tells { Tells T.leaves T.refuses task.old result task.new (F.view base.old.fs) (F.view base.new.fs) }
     ensures blocked { result ≡ Outcome.Blocked → (base.new ≡ base.old) × (Opens (T.kind_of task.old) lane (books_of base.old.books) → ⊥) }
     ensures opens { result ≢ Outcome.Blocked → Opens (T.kind_of task.old) lane (books_of base.old.books) }
     ensures booked { IsBooked (T.kind_of task.old) lane command (F.clock base.new.fs) result base.old.books base.new.books }
@@ -266,6 +275,7 @@ pub fn help_act<T: Work, F: Fs>(base: &mut Base<F>, actor: u8, lane: u8, task: &
     requires { Ready F.view F.clock F.spare F.was (Runs T.kind_of T.facts lane task.old) base.old }
     ensures acts { Acts F.view F.clock F.spare F.was actor lane result (Runs T.kind_of T.facts lane task.new) base.old base.new }
     ensures steps { Steps T.stepped task.old result task.new }
+    ensures tells { Tells T.leaves T.refuses task.old result task.new (F.view base.old.fs) (F.view base.new.fs) }
     ensures blocked { result ≡ Outcome.Blocked → (base.new ≡ base.old) × (IsStore (T.kind_of task.old) → Free base.old.books.exclusive lane → ⊥) }
     ensures opens { result ≢ Outcome.Blocked → IsStore (T.kind_of task.old) × Free base.old.books.exclusive lane }
     ensures booked { IsUnbooked base.old.books base.new.books }

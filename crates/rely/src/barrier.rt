@@ -1,4 +1,4 @@
-ghost use Rattle.rely.specs.Barrier.{barrier_kind, barrier_needs, barrier_writes, barrier_stepped, barrier_leaves, barrier_facts, barrier_laws};
+ghost use Rattle.rely.specs.Barrier.{barrier_kind, barrier_needs, barrier_writes, barrier_stepped, barrier_leaves, barrier_refuses, barrier_facts, barrier_laws};
 
 use crate::{Event, Step, Work};
 use fs_trait::{Fs, FsErr, Turn};
@@ -18,6 +18,8 @@ impl Work for Barrier {
     ghost stepped = { barrier_stepped };
 
     ghost leaves = { barrier_leaves };
+
+    ghost refuses = { barrier_refuses };
 
     ghost facts = { barrier_facts };
 

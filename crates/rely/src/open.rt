@@ -1,8 +1,9 @@
-ghost use Rattle.std.specs.Prelude.{◌≡◌, Some, None, [], false};
+ghost use Rattle.std.specs.Prelude.{◌≡◌, ◌≤◌, Some, None, [], false};
 ghost use Rattle.fs_trait.specs.View.{View};
 ghost use Rattle.rely.specs.State.{first};
 ghost use Rattle.rely.specs.Sound.{Sound};
-ghost use Rattle.rely.specs.Opening.{IsOpening};
+ghost use Rattle.rely.specs.Opening.{IsOpening, HasSince};
+ghost use Rattle.fs_trait.specs.Change.{Left};
 
 use crate::{Base, Books};
 use fs_trait::Fs;
@@ -37,18 +38,20 @@ impl Books {
 }
 
 impl<F: Fs> Base<F> {
-    /// The file system at the opening, on which everything is synced, with these refs.
-    pub fn new(alloc: Global, fs: F, start: Vec<(RefName, Csum)>) -> Base<F>
-        requires { (v : View) → F.view fs ≡ Some v → IsOpening (first start.items) v }
+    /// The file system at the opening, on which everything is synced, with these refs. `opened` is a moment since which each
+    /// crash left a good disk with them.
+    pub fn new(alloc: Global, fs: F, opened: u64, start: Vec<(RefName, Csum)>) -> Base<F>
+        requires opening { (v : View) → F.view fs ≡ Some v → IsOpening (first start.items) v }
+        requires since { (v : View) → F.view fs ≡ Some v → HasSince (Left (F.was fs)) opened (first start.items) }
+        requires past { opened ≤ F.clock fs }
         ensures fs { result.fs ≡ fs }
         ensures start { result.books.start ≡ start }
         ensures history { result.books.history.items ≡ [] }
         ensures pending { result.books.pending ≡ None }
         ensures live { result.books.halted ≡ false }
-        ensures opened { result.books.opened ≡ F.clock fs }
+        ensures opened { result.books.opened ≡ opened }
         ensures sound { Sound F.view F.clock F.spare F.was result }
     {
-        let opened = fs.clock();
         Base {
             fs,
             books: Books::new(alloc, opened, start),

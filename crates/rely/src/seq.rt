@@ -4,7 +4,7 @@ ghost use Rattle.fs_trait.specs.declared.task.Turn.{Turn};
 ghost use Rattle.fs_trait.specs.View.{View};
 ghost use Rattle.fs_trait.specs.Seen.{Seen};
 ghost use Rattle.rely.specs.Books.{Books};
-ghost use Rattle.rely.specs.Part.{Hands, part_at, part_kind, part_needs, part_writes, part_stepped, part_leaves, part_facts, part_laws, laws_along};
+ghost use Rattle.rely.specs.Part.{Hands, part_at, part_kind, part_needs, part_writes, part_stepped, part_leaves, part_refuses, part_facts, part_laws, laws_along};
 
 use crate::{Event, Step, Work};
 use fs_trait::{Fs, FsErr, Turn};
@@ -39,6 +39,8 @@ impl<A: Work + Then<B> + Drop, B: Work + Drop> Work for Seq<A, B> {
     ghost stepped = { λ t u new. part_stepped A.stepped B.stepped A.follower (part_at t.over t.second t.first) u (part_at new.over new.second new.first) };
 
     ghost leaves = { λ t u new. part_leaves A.leaves B.leaves A.follower (part_at t.over t.second t.first) u (part_at new.over new.second new.first) };
+
+    ghost refuses = { λ t. part_refuses A.refuses B.refuses (part_at t.over t.second t.first) };
 
     ghost facts = { λ lane t. part_facts A.facts B.facts A.follower lane (part_at t.over t.second t.first) };
 

@@ -1,4 +1,5 @@
 ghost use Rattle.std.specs.Prelude.{◌≡◌, ℕ, Option, Some, IfOk, IfErr, OnOk, IsErrOf};
+ghost use Rattle.fs_trait.specs.declared.types.FsErr.{FsErr};
 ghost use Rattle.fs_trait.specs.declared.types.FsErr.TheVariants as err;
 ghost use Rattle.ost_types.specs.Path.{Path};
 ghost use Rattle.fs_trait.specs.declared.task.Turn.{Turn};
@@ -31,6 +32,9 @@ pub trait Work {
     /// What is so of the view before and after such a step.
     ghost leaves: { Self → Turn (Unit {0}) → Self → View → View → Type 0 };
 
+    /// Why such a step isn't done, by the view before it.
+    ghost refuses: { Self → View → FsErr → Type 0 };
+
     /// What is so of the view and the books while others act, for a task of this lane.
     ghost facts: { ℕ → Self → View → Books → Type 0 };
 
@@ -54,6 +58,7 @@ pub trait Work {
         ensures ticks { IsSettle (kind_of self.old) → OnOk result (Next (F.clock fs.old) (F.clock fs.new)) }
         ensures stepped { IfOk result (λ turn. stepped self.old turn self.new) }
         ensures after { (v : View) → F.view fs.old ≡ Some v → IfOk result (λ turn. Told (F.view fs.new) (λ w. leaves self.old turn self.new v w)) }
+        ensures refused { (v : View) → F.view fs.old ≡ Some v → IfErr result (refuses self.old v) }
         ensures cause { HasCause (F.faults fs.old) (F.faults fs.new) result }
         ensures fails { (v : View) → F.view fs.old ≡ Some v → IsOwing (kind_of self.old) → IfErr result OfNone }
         ensures room { KeepsRoom (kind_of self.old) (kind_of self.new) (F.spare fs.old) (F.spare fs.new) result };
