@@ -9,3 +9,5 @@ pub mod Runs
 pub mod Stable
 pub mod Begins
 pub mod FallLemmas
+pub mod Progresses
+pub mod Seen

@@ -83,7 +83,7 @@ module _ {F : Type 0} (view : F → Option View) (clock spare : F → ℕ) (was 
   quiet_parts : (base : Base F) (actor lane : ℕ) (t : T) → IsBy (kind t) actor lane → IsQuiet (kind t) → Stood (kind t) actor lane (books_of base.books) → Ready view clock spare was (Runs kind facts lane t) base
       → (v : View) → view base.fs ≡ Some v → Within (writes actor t v) (May (books_of base.books) v actor lane) × Still (writes actor t v) v
   quiet_parts base actor lane t by is stood ready v told =
-      quiet_duty (kind t) actor lane v (books_of base.books) (writes actor t v) (leaves t (turn.Done tt) t v) is by (laws.duty actor lane t t v (books_of base.books) by stood (ready.task.facts v told))
+      quiet_duty (kind t) actor lane v (books_of base.books) (writes actor t v) (leaves t (turn.Done tt) t v) is by (laws.duty actor lane t t v (books_of base.books) ready.sound.ordered.agrees by stood (ready.task.facts v told))
 
   -- the books are in order after a step and what the command gives up at its end
   pub ends_ordered : (old mid new : Base F) (actor lane : ℕ) → mid.books ≡ old.books → Ends actor lane mid new → NotPending lane (books_of old.books) → clock old.fs ≤ clock mid.fs → old.books.owed ≤ spare mid.fs → Ordered clock spare old → Ordered clock spare new

@@ -132,7 +132,7 @@ module _ {F : Type 0} (view : F → Option View) (clock spare : F → ℕ) (was 
       → Within (writes lane t v) (May (books_of old.books) v lane lane) × Shows (writes lane t v) v e
   show_duty old lane t e is turn_free free ready v told =
       subst (λ (k : Kind). Duty k lane lane v (books_of old.books) (writes lane t v) (leaves t (turn.Done tt) t v)) is
-      (laws.duty lane lane t t v (books_of old.books) (inl refl) (subst (λ (k : Kind). Stood k lane lane (books_of old.books)) (sym is) (turn_free, free)) (ready.task.facts v told))
+      (laws.duty lane lane t t v (books_of old.books) ready.sound.ordered.agrees (inl refl) (subst (λ (k : Kind). Stood k lane lane (books_of old.books)) (sym is) (turn_free, free)) (ready.task.facts v told))
 
   show_none : (old : Base F) (lane : ℕ) (t : T) (e : Event) → kind t ≡ Show e → Free old.books.turn lane → Ready view clock spare was (Runs kind facts lane t) old → old.books.pending ≡ None
   show_none old lane t e is turn_free ready =
@@ -271,7 +271,7 @@ module _ {F : Type 0} (view : F → Option View) (clock spare : F → ℕ) (was 
       → Within (writes lane t v) (May (books_of old.books) v lane lane) × Away (writes lane t v)
   shown_parts old lane t e n is ready v told =
       subst (λ (k : Kind). Duty k lane lane v (books_of old.books) (writes lane t v) (leaves t (turn.Done tt) t v)) is
-      (laws.duty lane lane t t v (books_of old.books) (inl refl) (subst (λ (k : Kind). Stood k lane lane (books_of old.books)) (sym is) tt) (ready.task.facts v told))
+      (laws.duty lane lane t t v (books_of old.books) ready.sound.ordered.agrees (inl refl) (subst (λ (k : Kind). Stood k lane lane (books_of old.books)) (sym is) tt) (ready.task.facts v told))
 
   pub shown_pending : (old : Base F) (lane : ℕ) (t : T) (e : Event) (n : ℕ) → kind t ≡ Shown e n → Ready view clock spare was (Runs kind facts lane t) old → IsPending e n lane (books_of old.books)
   shown_pending old lane t e n is ready = let h : IsPending e n lane (books_of old.books) × (0 < n) = subst (λ (k : Kind). Holds k lane (books_of old.books)) is ready.task.holds in h.0
@@ -302,7 +302,7 @@ module _ {F : Type 0} (view : F → Option View) (clock spare : F → ℕ) (was 
       → Within (writes lane t v) Nothing × ((w : View) → leaves t (turn.Done tt) next v w → Final e w)
   settle_duty old lane t next e is ready v told =
       subst (λ (k : Kind). Duty k lane lane v (books_of old.books) (writes lane t v) (leaves t (turn.Done tt) next v)) is
-      (laws.duty lane lane t next v (books_of old.books) (inl refl) (subst (λ (k : Kind). Stood k lane lane (books_of old.books)) (sym is) tt) (ready.task.facts v told))
+      (laws.duty lane lane t next v (books_of old.books) ready.sound.ordered.agrees (inl refl) (subst (λ (k : Kind). Stood k lane lane (books_of old.books)) (sym is) tt) (ready.task.facts v told))
 
   pub settle_parts : (old : Base F) (lane : ℕ) (t : T) (e : Event) → kind t ≡ Settle e → Ready view clock spare was (Runs kind facts lane t) old → (v : View) → view old.fs ≡ Some v
       → Within (writes lane t v) (May (books_of old.books) v lane lane) × Away (writes lane t v)

@@ -107,11 +107,11 @@ module _ {A B : Type 0} {ka : A → Kind} {na : ℕ → A → View → Type 0} {
     ];
     gains = λ lane. elim [ First a ↦ one.gains lane a | Between a ↦ two.gains lane (h a) | Second b ↦ two.gains lane b ];
     duty = λ actor lane. elim [
-      | First a ↦ λ new v b by stood f. duty_more (ka a) actor lane v b (wa actor a v) (la a (turn.Done tt) a v) (part_leaves la lb h (First a) (turn.Done tt) new v) (λ w bad. bad) (one.duty actor lane a a v b by stood f)
-      | Between a ↦ λ new v b by stood f. ((λ p s wrote. absurd wrote), (λ q s wrote. absurd wrote))
+      | First a ↦ λ new v b agrees by stood f. duty_more (ka a) actor lane v b (wa actor a v) (la a (turn.Done tt) a v) (part_leaves la lb h (First a) (turn.Done tt) new v) (λ w bad. bad) (one.duty actor lane a a v b agrees by stood f)
+      | Between a ↦ λ new v b agrees by stood f. ((λ p s wrote. absurd wrote), (λ q s wrote. absurd wrote))
       | Second t ↦ elim [
-        | First new ↦ λ v b by stood f. duty_more (kb t) actor lane v b (wb actor t v) (lb t (turn.Done tt) t v) (λ w. ⊥) (λ w bad. bad) (two.duty actor lane t t v b by stood f)
-        | Between new ↦ λ v b by stood f. duty_more (kb t) actor lane v b (wb actor t v) (lb t (turn.Done tt) t v) (λ w. ⊥) (λ w bad. bad) (two.duty actor lane t t v b by stood f)
+        | First new ↦ λ v b agrees by stood f. duty_more (kb t) actor lane v b (wb actor t v) (lb t (turn.Done tt) t v) (λ w. ⊥) (λ w bad. bad) (two.duty actor lane t t v b agrees by stood f)
+        | Between new ↦ λ v b agrees by stood f. duty_more (kb t) actor lane v b (wb actor t v) (lb t (turn.Done tt) t v) (λ w. ⊥) (λ w bad. bad) (two.duty actor lane t t v b agrees by stood f)
         | Second new ↦ two.duty actor lane t new
       ]
     ];

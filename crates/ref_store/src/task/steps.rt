@@ -1,13 +1,14 @@
 //! The steps of a change, one function a phase.
-ghost use Rattle.std.specs.Prelude.{◌≡◌, ◌<◌, ℕ, Option, Some, OnOk, IfOk, IfErr, IsSome, length};
+ghost use Rattle.std.specs.Prelude.{◌≡◌, ◌<◌, ℕ, Option, Some, OnOk, IfOk, IfErr, IsErrOf, IsSome, length};
 ghost use Rattle.fs_trait.specs.View.{View};
 ghost use Rattle.fs_trait.specs.Image.{Told};
+ghost use Rattle.fs_trait.specs.declared.types.FsErr.TheVariants as err;
 ghost use Rattle.fs_trait.specs.Effect.{Elapses, HasCause};
 ghost use Rattle.fs_trait.specs.Change.{Writes};
 ghost use Rattle.ost_types.specs.Mode.{IsFileMode};
 ghost use Rattle.repo_layout.specs.RefFile.{IsSum, ref_text};
 ghost use Rattle.ref_room.specs.Turns.{OnMore};
-ghost use Rattle.ref_store.specs.Change.{Change, IsLook, IsClear, IsWalk, IsPut, IsUnlink, IsSyncFolder, IsStepped, KeepsRoom, IsNew, Takes, begun, commit_of, left};
+ghost use Rattle.ref_store.specs.Change.{Change, IsLook, IsClear, IsWalk, IsPut, IsUnlink, IsSyncFolder, IsAccepted, IsStepped, MayCome, KeepsRoom, IsNew, Takes, begun, commit_of, left};
 ghost use Rattle.ref_store.specs.Steps.{Needs, WritesOf, Refuses, Tells, OfPhase};
 
 use super::RefTask;
@@ -32,11 +33,13 @@ impl RefTask {
         ensures fails { (v : View) → F.view fs.old ≡ Some v → IfErr result (Refuses self.old v) }
         ensures named { IfErr result (OfPhase self.old.phase) }
         ensures stepped { IsStepped self.old result self.new }
+        ensures refuses { IfOk result (MayCome self.old.phase) }
         ensures falls { OnMore result (left self.new < left self.old) }
         ensures time { Elapses (F.clock fs.old) (F.clock fs.new) (F.was fs.old) (F.was fs.new) (F.view fs.new) }
         ensures ticks { OnOk result (Takes self.old.phase (F.clock fs.old) (F.clock fs.new)) }
         ensures cause { HasCause (F.faults fs.old) (F.faults fs.new) result }
         ensures room { KeepsRoom self.old.phase (F.spare fs.old) (F.spare fs.new) result }
+        ensures unchanged { (v : View) → F.view fs.old ≡ Some v → IsErrOf result err.NoMemory → F.view fs.new ≡ Some v }
     {
         match self.phase {
             Phase::Look => self.look(fs),
@@ -63,6 +66,7 @@ impl RefTask {
         ensures ticks { OnOk result (Takes self.old.phase (F.clock fs.old) (F.clock fs.new)) }
         ensures cause { HasCause (F.faults fs.old) (F.faults fs.new) result }
         ensures room { KeepsRoom self.old.phase (F.spare fs.old) (F.spare fs.new) result }
+        ensures unchanged { (v : View) → F.view fs.old ≡ Some v → IsErrOf result err.NoMemory → F.view fs.new ≡ Some v }
     {
         let there = look(fs, &self.at)?;
         if there == There::OtherLeaf {
@@ -105,6 +109,7 @@ impl RefTask {
         ensures ticks { OnOk result (Takes self.old.phase (F.clock fs.old) (F.clock fs.new)) }
         ensures cause { HasCause (F.faults fs.old) (F.faults fs.new) result }
         ensures room { KeepsRoom self.old.phase (F.spare fs.old) (F.spare fs.new) result }
+        ensures unchanged { (v : View) → F.view fs.old ≡ Some v → IsErrOf result err.NoMemory → F.view fs.new ≡ Some v }
     {
         let Phase::Clear(clearing) = &mut self.phase else {
             unreachable!()
@@ -133,6 +138,7 @@ impl RefTask {
         ensures ticks { OnOk result (Takes self.old.phase (F.clock fs.old) (F.clock fs.new)) }
         ensures cause { HasCause (F.faults fs.old) (F.faults fs.new) result }
         ensures room { KeepsRoom self.old.phase (F.spare fs.old) (F.spare fs.new) result }
+        ensures unchanged { (v : View) → F.view fs.old ≡ Some v → IsErrOf result err.NoMemory → F.view fs.new ≡ Some v }
     {
         let Phase::Walk(way) = &mut self.phase else {
             unreachable!()
@@ -179,11 +185,13 @@ impl RefTask {
         ensures fails { (v : View) → F.view fs.old ≡ Some v → IfErr result (Refuses self.old v) }
         ensures named { IfErr result (OfPhase self.old.phase) }
         ensures stepped { IsStepped self.old result self.new }
+        ensures accepts { IfOk result IsAccepted }
         ensures falls { OnMore result (left self.new < left self.old) }
         ensures time { Elapses (F.clock fs.old) (F.clock fs.new) (F.was fs.old) (F.was fs.new) (F.view fs.new) }
         ensures ticks { OnOk result (Takes self.old.phase (F.clock fs.old) (F.clock fs.new)) }
         ensures cause { HasCause (F.faults fs.old) (F.faults fs.new) result }
         ensures room { KeepsRoom self.old.phase (F.spare fs.old) (F.spare fs.new) result }
+        ensures unchanged { (v : View) → F.view fs.old ≡ Some v → IsErrOf result err.NoMemory → F.view fs.new ≡ Some v }
     {
         let Phase::Put(file) = &mut self.phase else {
             unreachable!()
@@ -206,11 +214,13 @@ impl RefTask {
         ensures fails { (v : View) → F.view fs.old ≡ Some v → IfErr result (Refuses self.old v) }
         ensures named { IfErr result (OfPhase self.old.phase) }
         ensures stepped { IsStepped self.old result self.new }
+        ensures accepts { IfOk result IsAccepted }
         ensures falls { OnMore result (left self.new < left self.old) }
         ensures time { Elapses (F.clock fs.old) (F.clock fs.new) (F.was fs.old) (F.was fs.new) (F.view fs.new) }
         ensures ticks { OnOk result (Takes self.old.phase (F.clock fs.old) (F.clock fs.new)) }
         ensures cause { HasCause (F.faults fs.old) (F.faults fs.new) result }
         ensures room { KeepsRoom self.old.phase (F.spare fs.old) (F.spare fs.new) result }
+        ensures unchanged { (v : View) → F.view fs.old ≡ Some v → IsErrOf result err.NoMemory → F.view fs.new ≡ Some v }
     {
         fs.reserve(2)?;
         fs.unlink(&self.at)?;
@@ -227,11 +237,13 @@ impl RefTask {
         ensures fails { (v : View) → F.view fs.old ≡ Some v → IfErr result (Refuses self.old v) }
         ensures named { IfErr result (OfPhase self.old.phase) }
         ensures stepped { IsStepped self.old result self.new }
+        ensures accepts { IfOk result IsAccepted }
         ensures falls { OnMore result (left self.new < left self.old) }
         ensures time { Elapses (F.clock fs.old) (F.clock fs.new) (F.was fs.old) (F.was fs.new) (F.view fs.new) }
         ensures ticks { OnOk result (Takes self.old.phase (F.clock fs.old) (F.clock fs.new)) }
         ensures cause { HasCause (F.faults fs.old) (F.faults fs.new) result }
         ensures room { KeepsRoom self.old.phase (F.spare fs.old) (F.spare fs.new) result }
+        ensures unchanged { (v : View) → F.view fs.old ≡ Some v → IsErrOf result err.NoMemory → F.view fs.new ≡ Some v }
     {
         fs.sync_dir(&self.folder)?;
         self.phase = Phase::Ended;
