@@ -1,5 +1,5 @@
 -- What a step of a change is to the system, by its phase.
-use Rattle.std.proofs.Common.{◌≡◌, ◌≤◌, ◌<◌, ℕ, true, refl, sym, subst, arith}
+use Rattle.std.proofs.Common.{◌≡◌, ◌≤◌, ◌<◌, ℕ, true, refl, sym, subst, arith, List, Option, Some, None, Result, ◌+◌}
 use Rattle.fs_trait.specs.declared.types.FsErr.{FsErr}
 use Rattle.fs_trait.specs.View.{View}
 use Rattle.fs_trait.specs.Effect.{Next, OfNone}
@@ -14,7 +14,9 @@ use Rattle.ref_store.specs.Change.{Change, Follows, Takes, is_owed, owed_after}
 use Rattle.ref_store.specs.Steps.{IsPlacing, refuses_in}
 use Rattle.ref_store.proofs.Seen.{placing_fails}
 use Rattle.rely.specs.declared.event.Event.{Event}
-use Rattle.rely.specs.Laws.{Kind, Quiet, Store, Take, Show, Shown, Settle, IsShow, IsOwing, IsSettle, IsLastly, owed_by}
+use Rattle.rely.specs.Laws.{Kind, Quiet, Store, Take, Show, Shown, Settle, IsShow, IsOwing, IsSettle, IsLastly, KeepsRoom, owed_by}
+use Rattle.ref_work.specs.declared.look_up.Found.{Found}
+use Rattle.ref_work.specs.Commands.{found_kind}
 use Rattle.ref_work.specs.Kinds.{kind_at, kind_in, put_kind, turn_wants}
 
 pub kind_shows : (p : Progress) (d e : Event) → kind_at p d ≡ Show e → d ≡ e
@@ -126,3 +128,8 @@ shows_lastly Store shows last = absurd shows
 shows_lastly (Take wants) shows last = absurd shows
 shows_lastly (Shown e owed) shows last = absurd shows
 shows_lastly (Settle e) shows last = absurd shows
+
+-- a step that shows nothing and owes nothing takes the room of at most one call
+pub found_room : {T : Type 0} (found : Option Found) (commit : List ℕ) (next : Kind) (before now : ℕ) (r : Result T FsErr) → before ≤ now + 1 → KeepsRoom (found_kind found commit) next before now r
+found_room None commit next before now r one = record { at_most_one = one; enough = λ some room is. no_owed some; ready = λ shows. absurd shows }
+found_room (Some found) commit next before now r one = record { at_most_one = one; enough = λ some room is. no_owed some; ready = λ shows. absurd shows }

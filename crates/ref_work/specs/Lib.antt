@@ -4,3 +4,7 @@ pub mod Facts
 pub mod Kept
 pub mod Duties
 pub mod Laws
+pub mod Found
+pub mod Commands
+pub mod CommandLaws
+pub mod Answers

@@ -1,6 +1,14 @@
 //! The commands on refs, as tasks of the system.
 #![tactic(auto)]
 
+mod command;
+mod laws;
+mod look_up;
+mod plan;
 mod work;
 
+pub use command::RefCommand;
+pub use laws::{answers_of_commands, lanes_without_a_task, steps_fall};
+pub use look_up::{Found, LookUp};
+pub use plan::Plan;
 pub use work::RefWork;

@@ -48,10 +48,10 @@ impl RefWork {
     }
 
     /// What it came to, once it is done.
-    pub fn answer(&self) -> &Option<Result<(), RefRefusal>>
-        ensures { result.now ≡ self.now.answer }
+    pub fn into_answer(self) -> Option<Result<(), RefRefusal>>
+        ensures { result ≡ self.answer }
     {
-        &self.answer
+        self.answer
     }
 
     /// At most so many steps are left.

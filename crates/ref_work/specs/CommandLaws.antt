@@ -1,0 +1,118 @@
+-- The laws of the commands as tasks.
+use Rattle.std.proofs.Common.{◌≡◌, ◌<◌, ℕ, true, false, refl, sym, ap, subst, List, Option, Some, None}
+use Rattle.ost_types.specs.Path.{Path}
+use Rattle.fs_trait.specs.declared.task.Turn.TheVariants as turn
+use Rattle.fs_trait.specs.View.{View, all_synced}
+use Rattle.fs_trait.specs.Seen.{Seen}
+use Rattle.fs_trait.specs.Change.{LeadsTo, Nothing}
+use Rattle.fs_trait.proofs.Kept.{meets_kept}
+use Rattle.fs_trait.proofs.Effects.{all_synced-writes}
+use Rattle.repo_layout.specs.Paths.{heads}
+use Rattle.ref_store.specs.Steps.{HereOfStage}
+use Rattle.rely.specs.Books.{Books, Agrees, Keeps}
+use Rattle.rely.specs.Rely.{Does}
+use Rattle.rely.specs.Laws.{Kind, Quiet, Take, Laws, IsBy, IsBefore, IsLastly, Chain, Holds, Stood, Duty}
+use Rattle.ref_work.specs.declared.work.RefWork.{RefWork}
+use Rattle.ref_work.specs.declared.look_up.LookUp.{LookUp}
+use Rattle.ref_work.specs.declared.plan.Plan.{Plan}
+use Rattle.ref_work.specs.declared.command.RefCommand.{RefCommand}
+use Rattle.ref_work.specs.declared.command.RefCommand.TheVariants.{Parse, Reset, Change}
+use Rattle.ref_work.specs.declared.look_up.Found.{Found}
+use Rattle.ref_work.specs.declared.look_up.Found.TheVariants.{Whole}
+use Rattle.ref_work.specs.Kinds.{event, kind_in, ref_kind, ref_leaves}
+use Rattle.ref_work.specs.Facts.{Facts, ref_facts}
+use Rattle.ref_work.specs.Kept.{facts_kept, facts_gain}
+use Rattle.ref_work.specs.Duties.{change_duty}
+use Rattle.ref_work.specs.Laws.{ref_laws}
+use Rattle.ref_work.specs.Commands.{pin_wants, found_kind, planned, command_kind, command_needs, command_writes, reset_stepped, command_stepped, reset_leaves, command_leaves, command_facts}
+
+ready_of : (actor lane : ℕ) (t : RefCommand) (v : View) (b : Books) → IsBy (command_kind t) actor lane → command_facts lane t v b → command_needs actor t v
+ready_of actor lane (Parse look) v b by f = tt
+ready_of actor lane (Reset look plan) v b by f = tt
+ready_of actor lane (Change work) v b by f = f.needs
+
+kept_of : (actor lane mine : ℕ) (t : RefCommand) (v w : View) (b b' : Books) → ¬ (mine ≡ actor) → ¬ (mine ≡ lane) → Does actor lane v b w b' → Holds (command_kind t) mine b → command_facts mine t v b → command_facts mine t w b'
+kept_of actor lane mine (Parse look) v w b b' not other does holds f = tt
+kept_of actor lane mine (Reset look plan) v w b b' not other does holds f = facts_kept b v actor lane mine not other (planned plan).task w b' f does
+kept_of actor lane mine (Change work) v w b b' not other does holds f = facts_kept b v actor lane mine not other work.task w b' f does
+
+gains_of : (lane : ℕ) (t : RefCommand) (v : View) (b b' : Books) → Keeps lane b b' → command_facts lane t v b → command_facts lane t v b'
+gains_of lane (Parse look) v b b' keeps f = tt
+gains_of lane (Reset look plan) v b b' keeps f = facts_gain lane (planned plan).task v b b' keeps f
+gains_of lane (Change work) v b b' keeps f = facts_gain lane work.task v b b' keeps f
+
+-- a step that writes nothing and settles nothing
+found_duty : (found : Option Found) (commit : List ℕ) (actor lane : ℕ) (v : View) (b : Books) (Done : View → Type 0) → Duty (found_kind found commit) actor lane v b (λ p s. ⊥) Done
+found_duty None commit actor lane v b Done = ((λ p s a. absurd a), (λ q s a. absurd a))
+found_duty (Some found) commit actor lane v b Done = ((λ p s a. absurd a), (λ q s a. absurd a))
+
+duty_of : (actor lane : ℕ) (t new : RefCommand) (v : View) (b : Books) → Agrees b → IsBy (command_kind t) actor lane → Stood (command_kind t) actor lane b → command_facts lane t v b
+    → Duty (command_kind t) actor lane v b (command_writes actor t v) (command_leaves t (turn.Done tt) new v)
+duty_of actor lane (Parse look) new v b agrees by stood f = ((λ p s a. absurd a), (λ q s a. absurd a))
+duty_of actor lane (Reset look plan) new v b agrees by stood f = found_duty look.found look.commit actor lane v b (reset_leaves look.found look plan (turn.Done tt) new v)
+duty_of actor lane (Change work) (Change new) v b agrees by stood f = ref_laws.duty actor lane work new v b agrees by stood f
+duty_of actor lane (Change work) (Parse look) v b agrees by stood f = change_duty b v actor lane work.task f agrees (λ w. ⊥) (λ settles w bad. absurd bad) stood
+duty_of actor lane (Change work) (Reset look plan) v b agrees by stood f = change_duty b v actor lane work.task f agrees (λ w. ⊥) (λ settles w bad. absurd bad) stood
+
+reset_chain : (found : Option Found) (look : LookUp) (plan : Plan) (new : RefCommand) → reset_stepped found look plan turn.More new → Chain (found_kind found look.commit) (command_kind new)
+reset_chain None look plan (Reset next p) step = subst (λ (x : LookUp). IsBefore (found_kind x.found x.commit)) (sym step.0) tt
+reset_chain None look plan (Parse next) step = absurd step
+reset_chain None look plan (Change work) step = absurd step
+reset_chain (Some found) look plan (Change work) step = subst (λ (x : RefWork). IsBefore (ref_kind x)) (sym step) tt
+reset_chain (Some found) look plan (Parse next) step = absurd step
+reset_chain (Some found) look plan (Reset next p) step = absurd step
+
+chain_of : (t new : RefCommand) → command_stepped t turn.More new → Chain (command_kind t) (command_kind new)
+chain_of (Parse look) new step = absurd step
+chain_of (Reset look plan) new step = reset_chain look.found look plan new step
+chain_of (Change work) (Change new) step = ref_laws.chain work new step
+chain_of (Change work) (Parse look) step = absurd step
+chain_of (Change work) (Reset look plan) step = absurd step
+
+found_last : (found : Option Found) (commit : List ℕ) → IsLastly (found_kind found commit)
+found_last None commit = tt
+found_last (Some found) commit = tt
+
+last_of : (t new : RefCommand) → command_stepped t (turn.Done tt) new → IsLastly (command_kind t)
+last_of (Parse look) new step = tt
+last_of (Reset look plan) new step = found_last look.found look.commit
+last_of (Change work) (Change new) step = ref_laws.last work new step
+last_of (Change work) (Parse look) step = absurd step
+last_of (Change work) (Reset look plan) step = absurd step
+
+-- a sync of all is no harm to a change that is to begin
+facts_synced : (lane : ℕ) (plan : Plan) (v : View) (b : Books) → Facts lane (planned plan).task v b → Facts lane (planned plan).task (all_synced v) b
+facts_synced lane plan v b f = record {
+  needs = record {
+    named = f.needs.named;
+    actor = f.needs.actor;
+    made = f.needs.made;
+    meets = meets_kept Nothing (LeadsTo heads) (HereOfStage plan.lane) v (all_synced v) (all_synced-writes v) (λ p s a. absurd a) (λ p s a. absurd a) f.needs.meets;
+  };
+  mine = f.mine;
+  runs = tt;
+  turn = tt;
+  seen = λ goes. let n : false ≡ true = goes in cc;
+}
+
+reset_next : (found : Option Found) (lane : ℕ) (look : LookUp) (plan : Plan) (new : RefCommand) (v w : View) (b b' : Books) → Facts lane (planned plan).task v b → reset_leaves found look plan turn.More new v w → Keeps lane b b' → command_facts lane new w b'
+reset_next None lane look plan (Reset next p) v w b b' f l keeps =
+    subst (λ (x : Plan). Facts lane (planned x).task w b') (sym l.1)
+    (subst (λ (x : View). Facts lane (planned plan).task x b') (sym l.0.0) (facts_gain lane (planned plan).task v b b' keeps f))
+reset_next None lane look plan (Parse next) v w b b' f l keeps = absurd l
+reset_next None lane look plan (Change work) v w b b' f l keeps = absurd l
+reset_next (Some found) lane look plan (Change work) v w b b' f l keeps =
+    subst (λ (x : RefWork). ref_facts lane x w b') (sym l.0)
+    (subst (λ (x : View). Facts lane (planned plan).task x b') (sym l.1) (facts_gain lane (planned plan).task (all_synced v) b b' keeps (facts_synced lane plan v b f)))
+reset_next (Some found) lane look plan (Parse next) v w b b' f l keeps = absurd l
+reset_next (Some found) lane look plan (Reset next p) v w b b' f l keeps = absurd l
+
+next_of : (actor lane : ℕ) (t new : RefCommand) (v w : View) (b b' : Books) → Stood (command_kind t) actor lane b → command_facts lane t v b → command_leaves t turn.More new v w → Keeps lane b b' → command_facts lane new w b'
+next_of actor lane (Parse look) new v w b b' stood f l keeps = absurd l
+next_of actor lane (Reset look plan) new v w b b' stood f l keeps = reset_next look.found lane look plan new v w b b' f l keeps
+next_of actor lane (Change work) (Change new) v w b b' stood f l keeps = ref_laws.next actor lane work new v w b b' stood f l keeps
+next_of actor lane (Change work) (Parse look) v w b b' stood f l keeps = absurd l
+next_of actor lane (Change work) (Reset look plan) v w b b' stood f l keeps = absurd l
+
+pub command_laws : Laws command_kind command_needs command_writes command_stepped command_leaves command_facts
+command_laws = record { ready = ready_of; kept = kept_of; gains = gains_of; duty = duty_of; chain = chain_of; last = last_of; next = next_of }

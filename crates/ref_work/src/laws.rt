@@ -1,0 +1,35 @@
+//! What others may rest on, beside the contracts of the steps.
+ghost use Rattle.std.specs.Prelude.{◌≡◌, ◌≢◌, ◌⊎◌, ◌<◌, ℕ, List, Option, Some, None, IsSome};
+ghost use Rattle.fs_trait.specs.View.{View};
+ghost use Rattle.fs_trait.specs.Change.{Writes};
+ghost use Rattle.fs_trait.specs.declared.task.Turn.TheVariants as turn;
+ghost use Rattle.repo_layout.specs.RefName.{IsRefName};
+ghost use Rattle.script.specs.declared.answer.Answer.{Answer};
+ghost use Rattle.rely.specs.declared.books.Entry.{Entry};
+ghost use Rattle.rely.specs.declared.books.Pending.{Pending};
+ghost use Rattle.rely.specs.State.{State};
+ghost use Rattle.rely.specs.Books.{Books};
+ghost use Rattle.rely.specs.Rely.{Does};
+ghost use Rattle.rely.specs.Sound.{Stands};
+ghost use Rattle.ref_work.specs.declared.command.RefCommand.{RefCommand};
+ghost use Rattle.ref_work.specs.Facts.{Home};
+ghost use Rattle.ref_work.specs.Commands.{answer_of, command_facts, command_leaves, command_left, command_stepped, command_writes};
+ghost use Rattle.ref_work.specs.Answers.{Begins, Says};
+
+/// Of a lane without a task it is known that no folder stands where it stages. Nothing that others do changes that, nor a step
+/// of its own tasks, whatever the step answers; and with it a new task has its facts.
+pub fn lanes_without_a_task()
+    ensures others { (actor lane mine : ℕ) (v w : View) (b b' : Books) → mine < 16 → mine ≢ actor → mine ≢ lane → Does actor lane v b w b' → Home mine v → Home mine w }
+    ensures own { (actor lane : ℕ) (t : RefCommand) (v w : View) (b : Books) → command_facts lane t v b → Writes (command_writes actor t v) v w → Home lane v → Home lane w }
+    ensures begins { (start : State) (entries : List Entry) (pending : Option Pending) (lane : ℕ) (v : View) (b : Books) (t : RefCommand) → Stands start entries pending v → Home lane v → Begins lane t → command_facts lane t v b }
+{}
+
+/// What each answer says of the view before the step that gave it.
+pub fn answers_of_commands()
+    ensures { (lane : ℕ) (t new : RefCommand) (v w : View) (b : Books) (a : Answer) → command_facts lane t v b → command_leaves t (turn.Done tt) new v w → answer_of new ≡ Some a → Says a t v w }
+{}
+
+/// Each step but the last leaves fewer steps.
+pub fn steps_fall()
+    ensures { (lane : ℕ) (t new : RefCommand) (v : View) (b : Books) → command_facts lane t v b → command_stepped t turn.More new → command_left new < command_left t }
+{}
