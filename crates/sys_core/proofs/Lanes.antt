@@ -1,0 +1,88 @@
+-- From a step of a command's task to the act of its lane.
+use Rattle.std.proofs.Common.{◌≡◌, ◌⊎◌, inl, inr, ◌<◌, ℕ, true, false, refl, sym, ◌∙◌, ap, subst, List, Option, Some, None}
+use Rattle.fs_trait.specs.View.{View}
+use Rattle.ref_store.specs.declared.phase.Phase.TheVariants as phase
+use Rattle.ref_store.specs.Change.{Change as Changing, progress_in}
+use Rattle.rely.specs.declared.books.Base.{Base}
+use Rattle.rely.specs.declared.kind.Outcome.{Outcome}
+use Rattle.rely.specs.declared.kind.Outcome.TheVariants as came
+use Rattle.rely.specs.Books.{Books, books_of}
+use Rattle.rely.specs.Laws.{Kind, Quiet, Take, Holds, NotPending, Ready, Runs, Acts}
+use Rattle.rely.specs.Sound.{Sound}
+use Rattle.rely.proofs.Acting.{ends_refl}
+use Rattle.ref_book.specs.declared.book.RefBook.{RefBook}
+use Rattle.ref_book.specs.Tracks.{Tracks, HasRoom}
+use Rattle.ref_work.specs.declared.look_up.Found.{Found}
+use Rattle.ref_work.specs.declared.command.RefCommand.{RefCommand}
+use Rattle.ref_work.specs.declared.command.RefCommand.TheVariants.{Parse, Reset, Change}
+use Rattle.ref_work.specs.Answers.{Begins}
+use Rattle.ref_work.specs.Kinds.{event, kind_in}
+use Rattle.ref_work.specs.Commands.{command_kind, command_facts, found_kind}
+use Rattle.ref_work.proofs.Ends.{begins_of}
+use Rattle.sys_core.specs.declared.run.Running.{Running}
+use Rattle.sys_core.specs.Lanes.{Facts, HasRoomFor, IsHome, IsOver, LaneActs, RunsIn, now_of}
+use Rattle.sys_core.proofs.Steps.{room_more}
+
+found_holds : (found : Option Found) (commit : List ℕ) (lane : ℕ) (b : Books) → NotPending lane b → Holds (found_kind found commit) lane b
+found_holds None commit lane b none = none
+found_holds (Some f) commit lane b none = none
+
+-- a task that begins asks for a lock, with nothing of its lane pending
+begin_holds : (lane : ℕ) (t : RefCommand) (b : Books) → Begins lane t → NotPending lane b → Holds (command_kind t) lane b
+begin_holds lane (Parse look) b begins none = none
+begin_holds lane (Reset look plan) b begins none = found_holds look.found look.commit lane b none
+begin_holds lane (Change work) b begins none = subst (λ (t : Changing). Holds (kind_in t.phase (event t)) lane b) (sym begins.3) none
+
+module _ {F : Type 0} (view : F → Option View) (clock spare : F → ℕ) (was : F → ℕ → View → Type 0) where
+  pub begin_ready : (lane : ℕ) (base : Base F) (refs : RefBook) (t : RefCommand) → Sound view clock spare was base → base.books.halted ≡ false → Facts lane refs None (view base.fs) (books_of base.books) → Begins lane t
+      → Ready view clock spare was (Runs command_kind command_facts lane t) base
+  begin_ready lane base refs t sound live facts begins = record {
+    sound = sound;
+    live = live;
+    task = record {
+      facts = λ v told. begins_of _ _ _ lane v (books_of base.books) t (sound.stands v told) (facts.home v told) begins;
+      holds = begin_holds lane t (books_of base.books) begins facts.runs;
+    };
+  }
+
+  -- nothing was done
+  pub nothing_acts : (lane : ℕ) (base : Base F) (refs refs' : RefBook) → Sound view clock spare was base → Tracks refs' (now_of base.books) → ((name : List ℕ) → HasRoom refs name → HasRoom refs' name)
+      → Facts lane refs None (view base.fs) (books_of base.books) → LaneActs view clock spare was lane refs refs' None base base
+  nothing_acts lane base refs refs' sound tracks rooms facts = record {
+    sound = sound;
+    does = λ v told. (v, told, record { writes = record { only = λ p s may. inl may; now = λ p. inl refl }; books = (ends_refl lane lane base).spared });
+    books = (ends_refl lane lane base).spared;
+    tracks = tracks;
+    rooms = rooms;
+    facts = λ live. record { home = facts.home; runs = facts.runs };
+  }
+
+  -- what a lane has of a step of its task
+  pub step_acts : (lane : ℕ) (old new : Base F) (refs refs' : RefBook) (outcome : Outcome) (task : Option Running) (work : RefCommand)
+      → Acts view clock spare was lane lane outcome (Runs command_kind command_facts lane work) old new → Tracks refs' (now_of new.books) → ((name : List ℕ) → HasRoom refs name → HasRoom refs' name)
+      → IsHome lane (view new.fs) → (new.books.halted ≡ false → RunsIn lane refs' task (view new.fs) (books_of new.books)) → LaneActs view clock spare was lane refs refs' task old new
+  step_acts lane old new refs refs' outcome task work acts tracks rooms home runs = record {
+    sound = acts.sound;
+    does = acts.does;
+    books = acts.books;
+    tracks = tracks;
+    rooms = rooms;
+    facts = λ live. record { home = home; runs = runs live };
+  }
+
+  -- a command that ended
+  pub ended_runs : (lane : ℕ) (old new : Base F) (refs : RefBook) (outcome : Outcome) (work : RefCommand) → Acts view clock spare was lane lane outcome (Runs command_kind command_facts lane work) old new
+      → (IsOver outcome → NotPending lane (books_of new.books)) → (outcome ≡ came.Blocked → ⊥) → (outcome ≡ came.More → ⊥) → new.books.halted ≡ false → RunsIn lane refs None (view new.fs) (books_of new.books)
+  ended_runs lane old new refs came.Done work acts over nb nm live = over tt
+  ended_runs lane old new refs (came.Refused e) work acts over nb nm live = over tt
+  ended_runs lane old new refs came.Halted work acts over nb nm live = let z : true ≡ false = sym acts.tells ∙ live in cc
+  ended_runs lane old new refs came.Blocked work acts over nb nm live = absurd (nb refl)
+  ended_runs lane old new refs came.More work acts over nb nm live = absurd (nm refl)
+
+  pub tells_more : (lane : ℕ) (old new : Base F) (outcome : Outcome) (work : RefCommand) → outcome ≡ came.More → Acts view clock spare was lane lane outcome (Runs command_kind command_facts lane work) old new
+      → Runs command_kind command_facts lane work (view new.fs) (books_of new.books)
+  tells_more lane old new outcome work is acts = (subst (λ (o : Outcome). Acts view clock spare was lane lane o (Runs command_kind command_facts lane work) old new) is acts).tells
+
+  pub tells_blocked : (lane : ℕ) (old new : Base F) (outcome : Outcome) (work : RefCommand) → outcome ≡ came.Blocked → Acts view clock spare was lane lane outcome (Runs command_kind command_facts lane work) old new
+      → Runs command_kind command_facts lane work (view new.fs) (books_of new.books)
+  tells_blocked lane old new outcome work is acts = (subst (λ (o : Outcome). Acts view clock spare was lane lane o (Runs command_kind command_facts lane work) old new) is acts).tells

@@ -1,0 +1,11 @@
+use Rattle.std.proofs.Common.{rules, ◌≡◌, ◌<◌, ap, subst, length, slice_index_or}
+use Rattle.ref_book.specs.Tracks.{HasRoom, name_of}
+use Rattle.rely.specs.declared.books.Entry.{Entry}
+use Rattle.sys_core.proofs.lane.note.Goals as goal
+
+pub change-requires : goal.change-requires
+change-requires c =
+    let entry = c.in-Some.entry.now in
+    let few : c.args.before < length c.args.history.now = search rules in
+    let is : slice_index_or c.args.history.now c.args.before entry ≡ entry = search rules in
+    subst (λ (e : Entry). HasRoom c.args.refs.now (name_of e.event)) is (c.requires.room entry few)

@@ -1,0 +1,65 @@
+-- What is so of a lane, and what one act of it keeps.
+use Rattle.std.specs.Prelude.{◌≡◌, ◌<◌, ◌≤◌, ℕ, false, List, length, slice_index_or, Option, Some, None}
+use Rattle.fs_trait.specs.View.{View}
+use Rattle.ref_book.specs.declared.book.RefBook.{RefBook}
+use Rattle.ref_book.specs.Tracks.{Tracks, HasRoom}
+use Rattle.ref_work.specs.declared.command.RefCommand.{RefCommand}
+use Rattle.ref_work.specs.declared.command.RefCommand.TheVariants.{Parse, Reset, Change}
+use Rattle.ref_work.specs.Commands.{command_kind, command_facts}
+use Rattle.ref_work.specs.Facts.{Home}
+use Rattle.rely.specs.declared.books.Base.{Base}
+use Rattle.rely.specs.declared.books.Books as rust
+use Rattle.rely.specs.declared.kind.Outcome.{Outcome}
+use Rattle.rely.specs.declared.kind.Outcome.TheVariants as came
+use Rattle.rely.specs.Books.{Books, books_of, Spared}
+use Rattle.rely.specs.Laws.{NotPending, Runs}
+use Rattle.rely.specs.Rely.{Does}
+use Rattle.rely.specs.Sound.{Sound}
+use Rattle.rely.specs.State.{State, first, after, events_of}
+use Rattle.sys_core.specs.declared.run.Run.{Run}
+use Rattle.sys_core.specs.declared.run.Running.{Running}
+
+-- the state after the history
+abbrev pub now_of : rust.Books → State
+now_of b = after (events_of b.history.items) (first b.start.items)
+
+-- there is room for the ref that a command changes
+abbrev pub HasRoomFor : RefBook → RefCommand → Type 0
+HasRoomFor refs (Parse look) = Unit {0}
+HasRoomFor refs (Reset look plan) = HasRoom refs plan.name
+HasRoomFor refs (Change work) = HasRoom refs work.task.name
+
+-- a command that runs has its facts, and nothing is pending for a lane without one
+abbrev pub RunsIn : ℕ → RefBook → Option Running → Option View → Books → Type 0
+RunsIn lane refs None view b = NotPending lane b
+RunsIn lane refs (Some r) view b = Runs command_kind command_facts lane r.work view b × HasRoomFor refs r.work
+
+-- the lane's staging path shows no folder
+abbrev pub IsHome : ℕ → Option View → Type 0
+IsHome lane view = (v : View) → view ≡ Some v → Home lane v
+
+pub record Facts (lane : ℕ) (refs : RefBook) (task : Option Running) (view : Option View) (b : Books) : Type 0 where
+  pub home : IsHome lane view
+  pub runs : RunsIn lane refs task view b
+
+-- One act of a lane: what every value keeps, what others may rely on, and the lane's facts.
+pub record LaneActs {F : Type 0} (view : F → Option View) (clock spare : F → ℕ) (was : F → ℕ → View → Type 0) (lane : ℕ) (refs refs' : RefBook) (task : Option Running) (old new : Base F) : Type 0 where
+  pub sound : Sound view clock spare was new
+  pub does : (v : View) → view old.fs ≡ Some v → (w : View) × (view new.fs ≡ Some w) × Does lane lane v (books_of old.books) w (books_of new.books)
+  pub books : Spared lane lane (books_of old.books) (books_of new.books)
+  pub tracks : Tracks refs' (now_of new.books)
+  pub rooms : (name : List ℕ) → HasRoom refs name → HasRoom refs' name
+  pub facts : new.books.halted ≡ false → Facts lane refs' task (view new.fs) (books_of new.books)
+
+-- What the whole system keeps.
+pub record Kept {F : Type 0} (view : F → Option View) (clock spare : F → ℕ) (was : F → ℕ → View → Type 0) (base : Base F) (refs : RefBook) (runs : List Run) : Type 0 where
+  pub sound : Sound view clock spare was base
+  pub tracks : Tracks refs (now_of base.books)
+  pub few : length runs ≤ 8
+  pub facts : base.books.halted ≡ false → (lane : ℕ) (d : Run) → lane < length runs → Facts lane refs (slice_index_or runs lane d).task (view base.fs) (books_of base.books)
+
+-- the command ended, and nothing of it is shown
+abbrev pub IsOver : Outcome → Type 0
+IsOver came.Done = Unit {0}
+IsOver (came.Refused e) = Unit {0}
+IsOver outcome = ⊥

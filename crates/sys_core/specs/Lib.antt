@@ -1,0 +1,3 @@
+pub mod Lanes
+pub mod Begins
+pub mod System

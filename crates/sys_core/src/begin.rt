@@ -1,0 +1,73 @@
+ghost use Rattle.std.specs.Prelude.{◌≡◌, ◌<◌, ℕ, List, Some, IfOk};
+ghost use Rattle.fs_trait.specs.View.{View};
+ghost use Rattle.ref_book.specs.Tracks.{Tracks, HasRoom};
+ghost use Rattle.rely.specs.State.{State};
+ghost use Rattle.sys_core.specs.Lanes.{HasRoomFor};
+ghost use Rattle.sys_core.specs.Begins.{IsBegun};
+
+use ost_types::{Csum, NoMemory, TryCopy};
+use ref_book::RefBook;
+use ref_work::RefCommand;
+use script::{Answer, Command, Rev};
+use std::alloc::Global;
+
+/// What a command's first act comes to by the books alone: an answer, or the task that it runs.
+pub(crate) enum Begun {
+    Answered(Answer),
+    Runs(RefCommand),
+}
+
+/// Begins a command.
+pub(crate) fn begin(alloc: Global, refs: &mut RefBook, lane: u8, command: &Command) -> Begun
+    requires { lane < 8 }
+    ensures refs { (s : State) → Tracks refs.old s → Tracks refs.new s }
+    ensures rooms { (name : List ℕ) → HasRoom refs.old name → HasRoom refs.new name }
+    ensures begun { IsBegun lane refs.new result }
+{
+    match task_of(alloc, refs, lane, command) {
+        Ok(begun) => begun,
+        Err(NoMemory) => Begun::Answered(Answer::NoMemory),
+    }
+}
+
+fn task_of(
+    alloc: Global,
+    refs: &mut RefBook,
+    lane: u8,
+    command: &Command,
+) -> Result<Begun, NoMemory>
+    requires { lane < 8 }
+    ensures refs { (s : State) → Tracks refs.old s → Tracks refs.new s }
+    ensures rooms { (name : List ℕ) → HasRoom refs.old name → HasRoom refs.new name }
+    ensures begun { IfOk result (IsBegun lane refs.new) }
+{
+    match command {
+        Command::Refs => Ok(Begun::Answered(Answer::Refs(refs.rows()?))),
+        Command::RevParse { rev } => Ok(parse(alloc, refs, rev)),
+        Command::Reset { branch, commit } => {
+            refs.make_room(branch)?;
+            let seen = refs.get(branch);
+            Ok(Begun::Runs(RefCommand::reset(alloc, lane, branch.copy()?, seen, *commit)))
+        }
+        Command::DropRef { branch } => match refs.get(branch) {
+            None => Ok(Begun::Answered(Answer::NoRef)),
+            Some(seen) => {
+                refs.make_room(branch)?;
+                Ok(Begun::Runs(RefCommand::drop(alloc, lane, branch.copy()?, seen)?))
+            }
+        },
+    }
+}
+
+// a ref must be there; its commit, or the one that was named, is looked up
+fn parse(alloc: Global, refs: &RefBook, rev: &Rev) -> Begun
+    ensures { (lane : ℕ) → IsBegun lane refs.now result }
+{
+    match rev {
+        Rev::Commit(commit) => Begun::Runs(RefCommand::parse(alloc, *commit)),
+        Rev::Ref(name) => match refs.get(name) {
+            None => Begun::Answered(Answer::NoRef),
+            Some(commit) => Begun::Runs(RefCommand::parse(alloc, commit)),
+        },
+    }
+}

@@ -1,0 +1,171 @@
+ghost use Rattle.std.specs.Prelude.{◌≡◌, ◌<◌, ◌≤◌, ◌+◌, ℕ, List, Option, Some, None, false, drop, length, slice_index_or};
+ghost use Rattle.fs_trait.specs.View.{View};
+ghost use Rattle.ref_book.specs.Tracks.{Tracks, HasRoom, name_of};
+ghost use Rattle.ref_work.specs.Commands.{command_kind, command_facts};
+ghost use Rattle.rely.specs.declared.books.Entry.{Entry};
+ghost use Rattle.rely.specs.declared.kind.Outcome.TheVariants as came;
+ghost use Rattle.rely.specs.Books.{books_of};
+ghost use Rattle.rely.specs.Laws.{NotPending, Ready, Runs, Acts};
+ghost use Rattle.rely.specs.State.{State, after, events_of};
+ghost use Rattle.rely.specs.Sound.{Sound};
+ghost use Rattle.sys_core.specs.Lanes.{Facts, HasRoomFor, IsHome, IsOver, LaneActs, now_of};
+
+use crate::answer::answer_of;
+use crate::begin::{Begun, begin};
+use crate::run::{Run, Running};
+use fs_trait::Fs;
+use ref_book::RefBook;
+use ref_work::RefCommand;
+use rely::{Base, Entry, Outcome, task_act};
+use script::{Answer, Command};
+use std::alloc::Global;
+
+/// What an act of a lane came to.
+pub(crate) enum Came {
+    Blocked,
+    More,
+    /// The command has this answer, and began when the history had so many changes.
+    Answered { answer: Answer, start: usize },
+}
+
+/// The next step of the lane's command.
+pub(crate) fn lane_act<F: Fs>(
+    alloc: Global,
+    base: &mut Base<F>,
+    refs: &mut RefBook,
+    lane: u8,
+    command: &Command,
+    run: &mut Run,
+) -> Came
+    requires few { lane < 8 }
+    requires live { base.old.books.halted ≡ false }
+    requires sound { Sound F.view F.clock F.spare F.was base.old }
+    requires tracks { Tracks refs.old (now_of base.old.books) }
+    requires facts { Facts lane refs.old run.old.task (F.view base.old.fs) (books_of base.old.books) }
+    ensures { LaneActs F.view F.clock F.spare F.was lane refs.old refs.new run.new.task base.old base.new }
+{
+    match run.task.take() {
+        Some(running) => goes_on(alloc, base, refs, lane, command, run, running),
+        None => begins(alloc, base, refs, lane, command, run),
+    }
+}
+
+/// The first step of a command. Where another holds it off the command hasn't begun.
+fn begins<F: Fs>(
+    alloc: Global,
+    base: &mut Base<F>,
+    refs: &mut RefBook,
+    lane: u8,
+    command: &Command,
+    run: &mut Run,
+) -> Came
+    requires few { lane < 8 }
+    requires live { base.old.books.halted ≡ false }
+    requires sound { Sound F.view F.clock F.spare F.was base.old }
+    requires tracks { Tracks refs.old (now_of base.old.books) }
+    requires facts { Facts lane refs.old None (F.view base.old.fs) (books_of base.old.books) }
+    requires idle { run.old.task ≡ None }
+    ensures { LaneActs F.view F.clock F.spare F.was lane refs.old refs.new run.new.task base.old base.new }
+{
+    let start = base.books.history.len();
+    match begin(alloc, refs, lane, command) {
+        Begun::Answered(answer) => Came::Answered { answer, start },
+        Begun::Runs(work) => {
+            let mut running = Running { work, start };
+            match running_act(base, refs, lane, run.command, &mut running.work) {
+                Outcome::Blocked => Came::Blocked,
+                Outcome::More => {
+                    run.task = Some(running);
+                    Came::More
+                }
+                outcome => ends(alloc, base, command, running, outcome),
+            }
+        }
+    }
+}
+
+/// A further step of it.
+fn goes_on<F: Fs>(
+    alloc: Global,
+    base: &mut Base<F>,
+    refs: &mut RefBook,
+    lane: u8,
+    command: &Command,
+    run: &mut Run,
+    running: Running,
+) -> Came
+    requires live { base.old.books.halted ≡ false }
+    requires sound { Sound F.view F.clock F.spare F.was base.old }
+    requires tracks { Tracks refs.old (now_of base.old.books) }
+    requires facts { Facts lane refs.old (Some running) (F.view base.old.fs) (books_of base.old.books) }
+    requires idle { run.old.task ≡ None }
+    ensures { LaneActs F.view F.clock F.spare F.was lane refs.old refs.new run.new.task base.old base.new }
+{
+    let mut running = running;
+    match running_act(base, refs, lane, run.command, &mut running.work) {
+        Outcome::Blocked => {
+            run.task = Some(running);
+            Came::Blocked
+        }
+        Outcome::More => {
+            run.task = Some(running);
+            Came::More
+        }
+        outcome => ends(alloc, base, command, running, outcome),
+    }
+}
+
+/// What a command answers that has ended.
+fn ends<F: Fs>(
+    alloc: Global,
+    base: &Base<F>,
+    command: &Command,
+    running: Running,
+    outcome: Outcome,
+) -> Came {
+    let Running { work, start } = running;
+    let answer = match outcome {
+        Outcome::Refused(e) => answer_of(alloc, command, e),
+        Outcome::Halted => Answer::Halted(base.fs.faults()),
+        _ => work.into_answer().unwrap_or(Answer::NoMemory),
+    };
+    Came::Answered { answer, start }
+}
+
+/// One step of a command's task. A change that lasts from then on is noted among the refs.
+fn running_act<F: Fs>(
+    base: &mut Base<F>,
+    refs: &mut RefBook,
+    lane: u8,
+    number: u32,
+    work: &mut RefCommand,
+) -> Outcome
+    requires ready { Ready F.view F.clock F.spare F.was (Runs command_kind command_facts lane work.old) base.old }
+    requires tracks { Tracks refs.old (now_of base.old.books) }
+    requires room { HasRoomFor refs.old work.old }
+    requires home { IsHome lane (F.view base.old.fs) }
+    ensures acts { Acts F.view F.clock F.spare F.was lane lane result (Runs command_kind command_facts lane work.new) base.old base.new }
+    ensures tracks { Tracks refs.new (now_of base.new.books) }
+    ensures rooms { (name : List ℕ) → HasRoom refs.old name → HasRoom refs.new name }
+    ensures room { result ≡ came.More → HasRoomFor refs.new work.new }
+    ensures blocked { result ≡ came.Blocked → (base.new ≡ base.old) × (work.new ≡ work.old) }
+    ensures home { IsHome lane (F.view base.new.fs) }
+    ensures over { IsOver result → NotPending lane (books_of base.new.books) }
+{
+    let before = base.books.history.len();
+    let outcome = task_act(base, lane, lane, number, work);
+    note(&base.books.history, refs, before);
+    outcome
+}
+
+/// A change that was made to last since the history had so many is one of the refs.
+fn note(history: &[Entry], refs: &mut RefBook, before: usize)
+    requires few { length history.now ≤ before + 1 }
+    requires room { (d : Entry) → before < length history.now → HasRoom refs.old (name_of (slice_index_or history.now before d).event) }
+    ensures refs { (s : State) → Tracks refs.old s → Tracks refs.new (after (events_of (drop before history.now)) s) }
+    ensures rooms { (name : List ℕ) → HasRoom refs.old name → HasRoom refs.new name }
+{
+    if let Some(entry) = history.get(before) {
+        refs.change(&entry.event);
+    }
+}

@@ -1,0 +1,12 @@
+//! The system: lanes of commands over one repository, and the one step that any of them takes at a time.
+#![tactic(auto)]
+
+mod answer;
+mod ask;
+mod begin;
+mod lane;
+mod run;
+mod system;
+
+pub use ask::Ask;
+pub use system::System;
