@@ -1,7 +1,8 @@
 //! The steps of a staged file, one function a phase.
-ghost use Rattle.std.specs.Prelude.{◌≡◌, ◌⊎◌, ◌≤◌, ◌<◌, ℕ, Option, Some, OnOk, IfErr, length};
+ghost use Rattle.std.specs.Prelude.{◌≡◌, ◌⊎◌, ◌≤◌, ◌<◌, ℕ, Option, Some, OnOk, IfErr, IsErrOf, length};
 ghost use Rattle.fs_trait.specs.View.{View};
 ghost use Rattle.fs_trait.specs.Image.{Told};
+ghost use Rattle.fs_trait.specs.declared.types.FsErr.TheVariants as err;
 ghost use Rattle.fs_trait.specs.Effect.{Elapses, HasCause, OfPlacing};
 ghost use Rattle.fs_trait.specs.Change.{Writes};
 ghost use Rattle.staged_file.specs.declared.phase.Phase.TheVariants as phase;
@@ -36,6 +37,7 @@ impl StagedFile {
         ensures ticks { OnOk result (Takes self.old.phase (F.clock fs.old) (F.clock fs.new)) }
         ensures cause { HasCause (F.faults fs.old) (F.faults fs.new) result }
         ensures room { KeepsRoom self.old.phase (F.spare fs.old) (F.spare fs.new) result }
+        ensures unchanged { (v : View) → F.view fs.old ≡ Some v → IsErrOf result err.NoMemory → F.view fs.new ≡ Some v }
     {
         match self.phase {
             Phase::Clear => self.clear(fs),
@@ -90,6 +92,7 @@ impl StagedFile {
         ensures ticks { OnOk result (Takes self.old.phase (F.clock fs.old) (F.clock fs.new)) }
         ensures cause { HasCause (F.faults fs.old) (F.faults fs.new) result }
         ensures room { KeepsRoom self.old.phase (F.spare fs.old) (F.spare fs.new) result }
+        ensures unchanged { (v : View) → F.view fs.old ≡ Some v → IsErrOf result err.NoMemory → F.view fs.new ≡ Some v }
     {
         if fs.stat(&self.plan.stage)?.is_some() {
             fs.unlink(&self.plan.stage)?;
@@ -111,6 +114,7 @@ impl StagedFile {
         ensures ticks { OnOk result (Takes self.old.phase (F.clock fs.old) (F.clock fs.new)) }
         ensures cause { HasCause (F.faults fs.old) (F.faults fs.new) result }
         ensures room { KeepsRoom self.old.phase (F.spare fs.old) (F.spare fs.new) result }
+        ensures unchanged { (v : View) → F.view fs.old ≡ Some v → IsErrOf result err.NoMemory → F.view fs.new ≡ Some v }
     {
         fs.create(&self.plan.stage, &self.plan.meta)?;
         self.filled(0);
@@ -130,6 +134,7 @@ impl StagedFile {
         ensures ticks { OnOk result (Takes self.old.phase (F.clock fs.old) (F.clock fs.new)) }
         ensures cause { HasCause (F.faults fs.old) (F.faults fs.new) result }
         ensures room { KeepsRoom self.old.phase (F.spare fs.old) (F.spare fs.new) result }
+        ensures unchanged { (v : View) → F.view fs.old ≡ Some v → IsErrOf result err.NoMemory → F.view fs.new ≡ Some v }
     {
         let end = self.piece_end();
         let piece = &self.plan.bytes.as_slice()[self.written..end];
@@ -151,6 +156,7 @@ impl StagedFile {
         ensures ticks { OnOk result (Takes self.old.phase (F.clock fs.old) (F.clock fs.new)) }
         ensures cause { HasCause (F.faults fs.old) (F.faults fs.new) result }
         ensures room { KeepsRoom self.old.phase (F.spare fs.old) (F.spare fs.new) result }
+        ensures unchanged { (v : View) → F.view fs.old ≡ Some v → IsErrOf result err.NoMemory → F.view fs.new ≡ Some v }
     {
         fs.sync_file(&self.plan.stage)?;
         self.phase = self.plan.show.first_phase();
@@ -170,6 +176,7 @@ impl StagedFile {
         ensures ticks { OnOk result (Takes self.old.phase (F.clock fs.old) (F.clock fs.new)) }
         ensures cause { HasCause (F.faults fs.old) (F.faults fs.new) result }
         ensures room { KeepsRoom self.old.phase (F.spare fs.old) (F.spare fs.new) result }
+        ensures unchanged { (v : View) → F.view fs.old ≡ Some v → IsErrOf result err.NoMemory → F.view fs.new ≡ Some v }
     {
         if is_folder(&fs.stat(&self.plan.at)?) {
             return Err(FsErr::Exists);
@@ -191,6 +198,7 @@ impl StagedFile {
         ensures ticks { OnOk result (Takes self.old.phase (F.clock fs.old) (F.clock fs.new)) }
         ensures cause { HasCause (F.faults fs.old) (F.faults fs.new) result }
         ensures room { KeepsRoom self.old.phase (F.spare fs.old) (F.spare fs.new) result }
+        ensures unchanged { (v : View) → F.view fs.old ≡ Some v → IsErrOf result err.NoMemory → F.view fs.new ≡ Some v }
     {
         fs.reserve(2)?;
         fs.rename(&self.plan.stage, &self.plan.at)?;
@@ -211,6 +219,7 @@ impl StagedFile {
         ensures ticks { OnOk result (Takes self.old.phase (F.clock fs.old) (F.clock fs.new)) }
         ensures cause { HasCause (F.faults fs.old) (F.faults fs.new) result }
         ensures room { KeepsRoom self.old.phase (F.spare fs.old) (F.spare fs.new) result }
+        ensures unchanged { (v : View) → F.view fs.old ≡ Some v → IsErrOf result err.NoMemory → F.view fs.new ≡ Some v }
     {
         fs.reserve(3)?;
         // what stands there already stays
@@ -234,6 +243,7 @@ impl StagedFile {
         ensures ticks { OnOk result (Takes self.old.phase (F.clock fs.old) (F.clock fs.new)) }
         ensures cause { HasCause (F.faults fs.old) (F.faults fs.new) result }
         ensures room { KeepsRoom self.old.phase (F.spare fs.old) (F.spare fs.new) result }
+        ensures unchanged { (v : View) → F.view fs.old ≡ Some v → IsErrOf result err.NoMemory → F.view fs.new ≡ Some v }
     {
         fs.unlink(&self.plan.stage)?;
         self.phase = Phase::SyncFolder;
@@ -253,6 +263,7 @@ impl StagedFile {
         ensures ticks { OnOk result (Takes self.old.phase (F.clock fs.old) (F.clock fs.new)) }
         ensures cause { HasCause (F.faults fs.old) (F.faults fs.new) result }
         ensures room { KeepsRoom self.old.phase (F.spare fs.old) (F.spare fs.new) result }
+        ensures unchanged { (v : View) → F.view fs.old ≡ Some v → IsErrOf result err.NoMemory → F.view fs.new ≡ Some v }
     {
         fs.sync_dir(&self.plan.folder)?;
         self.phase = Phase::Ended;
