@@ -1,5 +1,6 @@
 -- From what a call answered to what a step's clauses say.
-use Rattle.std.proofs.Common.{◌≡◌, sym, ◌∙◌, Option, Some, None, Err}
+use Rattle.std.proofs.Common.{◌≡◌, sym, ◌∙◌, subst, Option, Some, None, Err}
+use Rattle.std.specs.Prelude.{IsErrOf}
 use Rattle.ost_types.specs.Path.{Path}
 use Rattle.fs_trait.specs.declared.types.FsErr.{FsErr}
 use Rattle.fs_trait.specs.declared.types.FsErr.TheVariants.{Failed, Exists, Missing, NotFolder, NotEmpty, NoMemory}
@@ -36,6 +37,10 @@ module _ (W : Path → Seen → Type 0) (After : View → Type 0) (v : View) (re
   err_fails R failed memory Missing view fails = absurd (not_refused Missing refusal fails.0 step.free)
   err_fails R failed memory NotFolder view fails = absurd (not_refused NotFolder refusal fails.0 step.free)
   err_fails R failed memory NotEmpty view fails = absurd (not_refused NotEmpty refusal fails.0 step.free)
+
+-- a call that wants for memory leaves the view as it was
+pub err_unchanged : {T : Type 0} (refusal : Option FsErr) (v w : View) (e : FsErr) (view : Option View) → Fails refusal v w e view → IsErrOf {T = T} (Err e) NoMemory → view ≡ Some v
+err_unchanged refusal v w e view fails is = let n : e ≡ NoMemory = cc in subst (λ x. Fails refusal v w x view) n fails
 
 -- why a reading call that isn't refused isn't done
 pub read_fails : {T : Type 0} (refusal : Option FsErr) (P : T → Type 0) (R : FsErr → Type 0) → refusal ≡ None → R Failed → R NoMemory → (e : FsErr) → Answered refusal P (Err e) → R e

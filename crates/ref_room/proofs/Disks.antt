@@ -14,6 +14,7 @@ use Rattle.fs_trait.specs.Seen.{Seen, seen, MayShow, IsDirectory}
 use Rattle.repo_layout.specs.Refs.{is_leaf}
 use Rattle.ref_room.specs.declared.stands.Stands.TheVariants as Stands
 use Rattle.ref_room.specs.Stands.{stands}
+use Rattle.ref_room.specs.Clearing.{IsEmpty}
 
 pub leaf_no_folder : (z : Value) → is_leaf z ≡ true → is_folder z ≡ false
 leaf_no_folder Absent e = let n : false ≡ true = e in cc
@@ -43,6 +44,11 @@ module _ (d : Disk) (tree : IsTree d) where
   pub below_absent : (p : Path) (x : Name) (rest : Path) → is_folder (d.at p) ≡ false → d.at (p ++ x ∷ rest) ≡ Absent
   below_absent p x [] none = tree.folders p x none
   below_absent p x (y ∷ rest) none = subst (λ q. d.at q ≡ Absent) (append_assoc p (x ∷ []) (y ∷ rest)) (below_absent (under p x) y rest (ap is_folder (tree.folders p x none)))
+
+  -- and below an empty folder neither
+  pub below_empty : (p : Path) (x : Name) (rest : Path) → IsEmpty d p → d.at (p ++ x ∷ rest) ≡ Absent
+  below_empty p x [] empty = empty x
+  below_empty p x (y ∷ rest) empty = subst (λ q. d.at q ≡ Absent) (append_assoc p (x ∷ []) (y ∷ rest)) (below_absent (under p x) y rest (ap is_folder (empty x)))
 
 not_less : (r : Ordering) → r ≡ ordering_reverse r → r ≢ Less
 not_less Less e is = let n : Less ≡ Greater = e in cc

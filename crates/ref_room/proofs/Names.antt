@@ -1,9 +1,10 @@
 -- The paths on the way to a ref's file.
-use Rattle.std.proofs.Common.{◌≡◌, ◌==◌, ◌≤◌, ◌<◌, ◌+◌, ◌-◌, ℕ, suc, true, List, [], ◌∷◌, ◌++◌, length, take, drop, get_or, sym, ◌∙◌, ap, subst, arith, length-append, append-nil, append_assoc}
+use Rattle.std.proofs.Common.{◌≡◌, ◌==◌, ◌≤◌, ◌<◌, ◌+◌, ◌-◌, ℕ, suc, Bool, true, false, ◌&&◌, refl, List, [], ◌∷◌, ◌++◌, length, take, drop, get_or, sym, ◌∙◌, ap, subst, arith, length-append, append-nil, append_assoc}
 use Rattle.std.proofs.Math.Seq.{take-suc, take-length, take-append_seam}
 use Rattle.std.proofs.lemmas.List.{take-append-drop, get_or-append-add, drop_more, take-take}
 use Rattle.std.proofs.lemmas.List.Splits.{length-slice_split}
 use Rattle.ost_types.specs.Path.{Name, Path, AreNames, IsPath, joined, under, is_below}
+use Rattle.ost_types.proofs.Paths.{same_name-Decides}
 use Rattle.ost_types.proofs.Joined.{joined-append, IsPath-joined, IsPath-from_joined}
 use Rattle.fs_trait.proofs.Claims.{is_below-before}
 use Rattle.repo_layout.specs.RefName.{parts_of}
@@ -117,3 +118,19 @@ unfolding ref_path way_to
 way-above k a b less e =
     let front : parts_of a ≡ take k (parts_of b) = ap (drop 4) e in
     (get_or (parts_of b) k [], drop (k + 1) (parts_of b), sym (take-append-drop k (parts_of b)) ∙ ap (λ p. p ++ drop k (parts_of b)) (sym front) ∙ ap (λ p. parts_of a ++ p) (drop_more (parts_of b) k [] less))
+
+both_true : (a b : Bool) → a && b ≡ true → (a ≡ true) × (b ≡ true)
+both_true true true e = (refl, refl)
+both_true true false e = let n : false ≡ true = e in cc
+both_true false b e = let n : false ≡ true = e in cc
+
+-- what is below a path is the path with more behind it
+pub below-rest : (p q : Path) → is_below p q ≡ true → (rest : Path) × (q ≡ p ++ rest)
+unfolding is_below
+below-rest [] q e = (q, refl)
+below-rest (a ∷ p) [] e = let n : false ≡ true = e in cc
+below-rest (a ∷ p) (x ∷ q) e =
+    let s = both_true _ _ e in
+    let more = below-rest p q s.1 in
+    let head : a ≡ x = (same_name-Decides a x).0 s.0 in
+    (more.0, cc (head, more.1))

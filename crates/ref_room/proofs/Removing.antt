@@ -15,18 +15,18 @@ use Rattle.ost_types.proofs.Paths.{same_or_apart}
 use Rattle.fs_trait.specs.declared.types.Value.TheVariants.{Absent}
 use Rattle.fs_trait.specs.declared.types.FsErr.{FsErr}
 use Rattle.fs_trait.specs.declared.types.FsErr.TheVariants.{Failed, Exists, Missing, NotFolder, NotEmpty, NoMemory}
-use Rattle.fs_trait.specs.View.{View, named}
-use Rattle.fs_trait.specs.Image.{IsTree}
-use Rattle.fs_trait.specs.Effect.{HasNames, no_rmdir, if_names, or_else, Fails}
+use Rattle.fs_trait.specs.View.{Disk, View, named}
+use Rattle.fs_trait.specs.Image.{IsTree, Told}
+use Rattle.fs_trait.specs.Effect.{HasNames, no_folder, no_rmdir, if_names, or_else, Fails}
 use Rattle.fs_trait.specs.Seen.{Seen, Vacant, shows, MayShow, IsDirectory}
 use Rattle.fs_trait.specs.Change.{Writes, At}
-use Rattle.fs_trait.proofs.Kept.{weaker}
+use Rattle.fs_trait.proofs.Kept.{weaker, same_view}
 use Rattle.fs_trait.proofs.Facts.{vacant_absent}
 use Rattle.fs_trait.proofs.Refusals.{no_folder-there}
 use Rattle.fs_trait.proofs.Effects.{named-writes, shows_named, shows_named_apart}
 use Rattle.fs_trait.proofs.Claims.{folder_shows}
 use Rattle.repo_layout.specs.Paths.{heads, ref_path}
-use Rattle.ref_room.specs.Clearing.{Cleared, Looks, Says, Removes, Ends, act, act_of, IsAside, IsCounted, IsUnder, IsKnown, IsLeaf, IsRemoved, WritesOf, HereOf, Needs, Refuses}
+use Rattle.ref_room.specs.Clearing.{Cleared, Looks, Says, Removes, Ends, act, act_of, IsAside, IsCounted, IsUnder, IsKnown, IsLeaf, IsEmpty, IsRemoved, WritesOf, HereOf, Needs, Refuses}
 use Rattle.ref_room.proofs.Lists.{one, Contains-one, last_apart}
 
 not_equal : (o : Ordering) → o ≡ ordering_reverse o → o ≡ Equal
@@ -83,6 +83,16 @@ directory_not_vacant s is e = subst IsDirectory e is
 vacant_not_leaf : (s : Seen) → s ≡ Vacant → IsLeaf s → ⊥
 vacant_not_leaf s e leaf = subst IsLeaf e leaf
 
+none_free : (o : Option FsErr) (b : Bool) → or_else o (if_names b) ≡ None → b ≡ false
+none_free (Some e) b is = let n : Some e ≡ None = is in cc
+none_free None true is = let n : Some NotEmpty ≡ None = is in cc
+none_free None false is = refl
+
+-- a folder that can be removed is empty
+emptied : (d : Disk) (f : Path) (b : Bool) → HasNames b f d → no_rmdir b f d ≡ None → IsEmpty d f
+unfolding no_rmdir
+emptied d f b has free = (subst (λ c. HasNames c f d) (none_free (no_folder f d) b free) has).1
+
 module _ (t : Cleared) (v : View) (tree : IsTree v.now) (needs : Needs t v) (removes : act t ≡ Removes) (f : Path) (last : slice_get t.folders (length t.folders - 1) ≡ Some f) where
   state : Removing t.pending t.folders t.least
   state = removing_by t.pending t.folders t.least removes
@@ -99,8 +109,22 @@ module _ (t : Cleared) (v : View) (tree : IsTree v.now) (needs : Needs t v) (rem
   removed_ : IsRemoved t f
   removed_ = (removes, (take (length t.folders - 1) t.folders, apart))
 
-  pub writes : Writes (WritesOf t v) v (named f Absent v)
-  writes = weaker (At f (MayShow v Absent)) (WritesOf t v) v (named f Absent v) (λ p s a. (subst (IsRemoved t) (sym a.0) removed_, a.1, subst (λ q. IsDirectory (shows v.now q)) (sym a.0) there)) (named-writes v f Absent)
+  writes : IsEmpty v.now f → Writes (WritesOf t v) v (named f Absent v)
+  writes empty = weaker (At f (MayShow v Absent)) (WritesOf t v) v (named f Absent v)
+      (λ p s a. (subst (IsRemoved t) (sym a.0) removed_, a.1, subst (λ q. IsDirectory (shows v.now q)) (sym a.0) there, subst (IsEmpty v.now) (sym a.0) empty)) (named-writes v f Absent)
+
+  -- it is written only where it goes, and it goes only where it is empty
+  pub ok_writes : (b : Bool) → HasNames b f v.now → (view : Option View) → (no_rmdir b f v.now ≡ None) × (view ≡ Some (named f Absent v)) → Told view (λ x. Writes (WritesOf t v) v x)
+  ok_writes b has view changed = (named f Absent v, changed.1, writes (emptied v.now f b has changed.0))
+
+  pub err_writes : (b : Bool) → HasNames b f v.now → (e : FsErr) (view : Option View) → Fails (no_rmdir b f v.now) v (named f Absent v) e view → Told view (λ x. Writes (WritesOf t v) v x)
+  err_writes b has Failed view (inl same) = (v, same, same_view (WritesOf t v) v)
+  err_writes b has Failed view (inr done) = ok_writes b has view done
+  err_writes b has NoMemory view same = (v, same, same_view (WritesOf t v) v)
+  err_writes b has Exists view is = (v, is.1, same_view (WritesOf t v) v)
+  err_writes b has Missing view is = (v, is.1, same_view (WritesOf t v) v)
+  err_writes b has NotFolder view is = (v, is.1, same_view (WritesOf t v) v)
+  err_writes b has NotEmpty view is = (v, is.1, same_view (WritesOf t v) v)
 
   -- what is in it isn't among the folders
   module _ (greatest : All (λ q. is_lt (path_cmp f q) ≡ false) t.folders) where

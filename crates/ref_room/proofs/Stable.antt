@@ -1,10 +1,11 @@
 -- What the tasks write, for all others; and their facts stay true under what others may write.
-use Rattle.std.proofs.Common.{◌≡◌, ◌⊎◌, ⊎_elim, ℕ, ◌<◌, ◌+◌, arith, refl, sym, ◌∙◌, ap, subst, List, [], ◌∷◌, ◌++◌, length, append-nil, append_assoc}
+use Rattle.std.proofs.Common.{◌≡◌, ◌⊎◌, true, ⊎_elim, ℕ, ◌<◌, ◌+◌, arith, refl, sym, ◌∙◌, ap, subst, List, [], ◌∷◌, ◌++◌, length, append-nil, append_assoc}
 use Rattle.std.specs.Prelude.{Contains}
-use Rattle.ost_types.specs.Path.{Name, Path, under}
+use Rattle.ost_types.specs.Path.{Name, Path, under, is_below}
 use Rattle.std.proofs.lemmas.List.Elements.{Contains-append_right}
 use Rattle.fs_trait.specs.View.{View}
-use Rattle.fs_trait.specs.Seen.{Seen, Vacant, shows, IsDirectory}
+use Rattle.fs_trait.specs.Image.{IsTree}
+use Rattle.fs_trait.specs.Seen.{Seen, Vacant, seen, shows, IsDirectory}
 use Rattle.fs_trait.specs.Change.{Writes, Harmless, LeadsTo}
 use Rattle.fs_trait.proofs.Kept.{meets_kept}
 use Rattle.repo_layout.specs.RefName.{parts_of}
@@ -16,7 +17,10 @@ use Rattle.ref_room.proofs.Lists.{one}
 use Rattle.ref_room.specs.Way as way
 use Rattle.ref_room.specs.Way.{Walked, leg_of, folder, next_folder, writes_in, here_in}
 use Rattle.ref_room.specs.Clearing as clearing
-use Rattle.ref_room.specs.Clearing.{Cleared, IsUnder, HereOf, IsLeaf}
+use Rattle.ref_room.specs.Clearing.{Cleared, IsUnder, IsEmpty, HereOf, IsLeaf}
+use Rattle.ref_room.proofs.Names.{below-rest}
+use Rattle.ref_room.proofs.Disks.{directory_no_leaf, below_empty}
+use Rattle.ref_room.proofs.ClearingSteps.{seen_leaf}
 
 -- Where a write of a way's next step lies: it is a new folder on the way to the ref's file.
 pub record OnWay (name : List ℕ) (v : View) (p : Path) (s : Seen) : Type 0 where
@@ -57,18 +61,30 @@ module _ (W : Path → Seen → Type 0) (t : Walked) (v : View) (needs : way.Nee
     meets = meets_kept W (way.FirmOf t) (way.HereOf t) v w writes leads (way_here t.leg) needs.meets;
   }
 
--- Where a write of a clearing's next step lies: a folder at or below the ref's path goes.
+-- Where a write of a clearing's next step lies: an empty folder at or below the ref's path goes.
 pub record Goes (name : List ℕ) (v : View) (p : Path) (s : Seen) : Type 0 where
   pub place : IsUnder name p
   pub vacant : s ≡ Vacant
   pub folder : IsDirectory (shows v.now p)
+  pub empty : IsEmpty v.now p
 
 pub clearing_lies : (t : Cleared) (v : View) → clearing.Needs t v → (p : Path) (s : Seen) → clearing.WritesOf t v p s → Goes t.name v p s
 clearing_lies t v needs p s a = record {
   place = needs.folders p (subst (λ l. Contains l p) (sym a.0.1.1) (Contains-append_right a.0.1.0 (p ∷ []) p (one p)));
   vacant = a.1;
   folder = a.2;
+  empty = a.3;
 }
+
+no_leaf_at : (v : View) (p : Path) → IsTree v.now → IsDirectory (shows v.now p) → IsEmpty v.now p → (rest : Path) → IsLeaf (shows v.now (p ++ rest)) → ⊥
+no_leaf_at v p tree folder empty [] leaf = directory_no_leaf v.now (v.now.at p) folder (seen_leaf v.now (v.now.at p) (subst (λ q. IsLeaf (shows v.now q)) (append-nil p) leaf))
+no_leaf_at v p tree folder empty (x ∷ rest) leaf = subst IsLeaf (ap (seen v.now) (below_empty v.now tree p x rest empty)) leaf
+
+-- No leaf stands at the folder or below it, so no ref goes with it.
+pub goes_alone : (name : List ℕ) (v : View) (p : Path) (s : Seen) → IsTree v.now → Goes name v p s → (q : Path) → is_below p q ≡ true → IsLeaf (shows v.now q) → ⊥
+goes_alone name v p s tree goes q below leaf =
+    let rest = below-rest p q below in
+    no_leaf_at v p tree goes.folder goes.empty rest.0 (subst (λ r. IsLeaf (shows v.now r)) rest.1 leaf)
 
 module _ (W : Path → Seen → Type 0) (t : Cleared) (v : View) (needs : clearing.Needs t v) (apart : (p : Path) (s : Seen) → IsUnder t.name p → W p s → ⊥) where
   kept_here : (w : View) → Writes W v w → (p : Path) → IsUnder t.name p → shows w.now p ≡ shows v.now p

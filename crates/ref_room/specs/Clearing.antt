@@ -8,7 +8,8 @@ use Rattle.fs_trait.specs.declared.types.FsErr.{FsErr}
 use Rattle.fs_trait.specs.declared.types.FsErr.TheVariants.{Failed, NoMemory, NotEmpty}
 use Rattle.fs_trait.specs.declared.task.Turn.{Turn}
 use Rattle.fs_trait.specs.declared.task.Turn.TheVariants.{More, Done}
-use Rattle.fs_trait.specs.View.{View}
+use Rattle.fs_trait.specs.declared.types.Value.TheVariants.{Absent}
+use Rattle.fs_trait.specs.View.{Disk, View}
 use Rattle.fs_trait.specs.Seen.{Seen, Vacant, Symlink, Leaf, shows, IsDirectory}
 use Rattle.fs_trait.specs.Effect.{Next}
 use Rattle.repo_layout.specs.RefName.{IsRefName}
@@ -98,9 +99,13 @@ Takes a before now = now ≡ before
 abbrev pub IsRemoved : Cleared → Path → Type 0
 IsRemoved t p = (act t ≡ Removes) × ((rest : List Path) × (t.folders ≡ rest ++ p ∷ []))
 
+-- nothing stands in the folder
+abbrev pub IsEmpty : Disk → Path → Type 0
+IsEmpty d p = (x : Name) → d.at (under p x) ≡ Absent
+
 -- what the next step may write
 abbrev pub WritesOf : Cleared → View → Path → Seen → Type 0
-WritesOf t v p s = IsRemoved t p × (s ≡ Vacant) × IsDirectory (shows v.now p)
+WritesOf t v p s = IsRemoved t p × (s ≡ Vacant) × IsDirectory (shows v.now p) × IsEmpty v.now p
 
 abbrev pub IsLeaf : Seen → Type 0
 IsLeaf (Symlink m l) = Unit {0}

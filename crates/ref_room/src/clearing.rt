@@ -1,7 +1,8 @@
-ghost use Rattle.std.specs.Prelude.{◌≡◌, ◌⊎◌, ◌≤◌, ◌<◌, ◌+◌, ◌^◌, ℕ, Contains, Option, Some, OnOk, OnErr, IfOk, IfErr};
+ghost use Rattle.std.specs.Prelude.{◌≡◌, ◌⊎◌, ◌≤◌, ◌<◌, ◌+◌, ◌^◌, ℕ, Contains, Option, Some, OnOk, OnErr, IfOk, IfErr, IsErrOf};
 ghost use Rattle.ost_types.specs.Path.{Name, Path, IsPath, under};
 ghost use Rattle.fs_trait.specs.View.{View};
 ghost use Rattle.fs_trait.specs.Image.{Told};
+ghost use Rattle.fs_trait.specs.declared.types.FsErr.TheVariants as err;
 ghost use Rattle.fs_trait.specs.Effect.{Elapses, HasCause, OfEmptying};
 ghost use Rattle.fs_trait.specs.Change.{Writes};
 ghost use Rattle.ref_room.specs.Turns.{OnMore};
@@ -87,6 +88,7 @@ impl Clearing {
         ensures ticks { OnOk result (Takes (act self.old) (F.clock fs.old) (F.clock fs.new)) }
         ensures cause { HasCause (F.faults fs.old) (F.faults fs.new) result }
         ensures room { F.spare fs.old ≤ F.spare fs.new + 1 }
+        ensures unchanged { (v : View) → F.view fs.old ≡ Some v → IsErrOf result err.NoMemory → F.view fs.new ≡ Some v }
     {
         if !self.pending.is_empty() {
             return self.look(fs);
@@ -115,6 +117,7 @@ impl Clearing {
         ensures ticks { OnOk result (Takes (act self.old) (F.clock fs.old) (F.clock fs.new)) }
         ensures cause { HasCause (F.faults fs.old) (F.faults fs.new) result }
         ensures room { F.spare fs.old ≤ F.spare fs.new + 1 }
+        ensures unchanged { (v : View) → F.view fs.old ≡ Some v → IsErrOf result err.NoMemory → F.view fs.new ≡ Some v }
     {
         match look_at(fs, self.top())? {
             Stands::Nothing => {
@@ -210,6 +213,7 @@ impl Clearing {
         ensures ticks { OnOk result (Takes (act self.old) (F.clock fs.old) (F.clock fs.new)) }
         ensures cause { HasCause (F.faults fs.old) (F.faults fs.new) result }
         ensures room { F.spare fs.old ≤ F.spare fs.new + 1 }
+        ensures unchanged { (v : View) → F.view fs.old ≡ Some v → IsErrOf result err.NoMemory → F.view fs.new ≡ Some v }
     {
         let Some(folder) = self.folders.last() else {
             return Ok(Turn::Done(None));

@@ -1,7 +1,8 @@
-ghost use Rattle.std.specs.Prelude.{◌≡◌, ◌⊎◌, ◌≤◌, ◌<◌, ◌+◌, ◌-◌, nat_lt, ℕ, Option, Some, OnOk, IfOk, IfErr, length, if◌then◌else◌};
+ghost use Rattle.std.specs.Prelude.{◌≡◌, ◌⊎◌, ◌≤◌, ◌<◌, ◌+◌, ◌-◌, nat_lt, ℕ, Option, Some, OnOk, IfOk, IfErr, IsErrOf, length, if◌then◌else◌};
 ghost use Rattle.ost_types.specs.Path.{under};
 ghost use Rattle.fs_trait.specs.View.{View};
 ghost use Rattle.fs_trait.specs.Image.{Told};
+ghost use Rattle.fs_trait.specs.declared.types.FsErr.TheVariants as err;
 ghost use Rattle.fs_trait.specs.Effect.{Elapses, HasCause, OfPlacing};
 ghost use Rattle.fs_trait.specs.Change.{Writes};
 ghost use Rattle.repo_layout.specs.RefName.{IsRefName};
@@ -125,6 +126,7 @@ impl Way {
         ensures ticks { OnOk result (Takes self.old.leg (F.clock fs.old) (F.clock fs.new)) }
         ensures cause { HasCause (F.faults fs.old) (F.faults fs.new) result }
         ensures room { F.spare fs.old ≤ F.spare fs.new + 1 }
+        ensures unchanged { (v : View) → F.view fs.old ≡ Some v → IsErrOf result err.NoMemory → F.view fs.new ≡ Some v }
     {
         match self.leg {
             Leg::Make => self.make(fs),
@@ -147,6 +149,7 @@ impl Way {
         ensures ticks { OnOk result (Takes self.old.leg (F.clock fs.old) (F.clock fs.new)) }
         ensures cause { HasCause (F.faults fs.old) (F.faults fs.new) result }
         ensures room { F.spare fs.old ≤ F.spare fs.new + 1 }
+        ensures unchanged { (v : View) → F.view fs.old ≡ Some v → IsErrOf result err.NoMemory → F.view fs.new ≡ Some v }
     {
         match look_at(fs, &self.next)? {
             Stands::Nothing => {
@@ -187,6 +190,7 @@ impl Way {
         ensures ticks { OnOk result (Takes self.old.leg (F.clock fs.old) (F.clock fs.new)) }
         ensures cause { HasCause (F.faults fs.old) (F.faults fs.new) result }
         ensures room { F.spare fs.old ≤ F.spare fs.new + 1 }
+        ensures unchanged { (v : View) → F.view fs.old ≡ Some v → IsErrOf result err.NoMemory → F.view fs.new ≡ Some v }
     {
         let beyond = self.beyond()?;
         fs.sync_dir(&self.folder)?;

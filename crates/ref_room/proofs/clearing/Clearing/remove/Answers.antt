@@ -6,9 +6,8 @@ use Rattle.ost_types.specs.Path.{path_cmp}
 use Rattle.fs_trait.specs.declared.types.Value.TheVariants.{Absent}
 use Rattle.fs_trait.specs.View.{named}
 use Rattle.fs_trait.specs.Image.{Told}
-use Rattle.fs_trait.proofs.Facts.{Fails-writes}
-use Rattle.ref_room.specs.Clearing.{Cleared, Needs, WritesOf}
-use Rattle.ref_room.proofs.Removing.{writes, fails, after, pop_rest, some_folders}
+use Rattle.ref_room.specs.Clearing.{Cleared, Needs}
+use Rattle.ref_room.proofs.Removing.{ok_writes, err_writes, fails, after, pop_rest, some_folders}
 use Rattle.ref_room.proofs.clearing.Clearing.remove.Goals as goal
 
 pub returns-in_err-rmdir-clause-writes : goal.returns-in_err-rmdir-clause-writes
@@ -16,7 +15,8 @@ returns-in_err-rmdir-clause-writes g c = λ v told.
     let t = c.args.self.now in
     let f = c.in-Some.folder.now in
     let last = subst (λ (t : Cleared). slice_get t.folders (length t.folders - 1) ≡ Some f) c.self.view_is c.in-Some.ensures.last in
-    Fails-writes (WritesOf t v) _ v (named f Absent v) _ _ (c.in_err-rmdir.ensures.effect v told).2 (writes t v (g.met.F.Fs.tree c.args.fs.now v told) (c.requires.needs v told) c.requires.act f last)
+    let effect = c.in_err-rmdir.ensures.effect v told in
+    err_writes t v (g.met.F.Fs.tree c.args.fs.now v told) (c.requires.needs v told) c.requires.act f last effect.0 effect.1 _ _ effect.2
 
 pub returns-in_err-rmdir-clause-fails : goal.returns-in_err-rmdir-clause-fails
 returns-in_err-rmdir-clause-fails g c = λ v told.
@@ -33,7 +33,8 @@ returns-clause-writes g c = λ v told.
     let t = c.args.self.now in
     let f = c.in-Some.folder.now in
     let last = subst (λ (t : Cleared). slice_get t.folders (length t.folders - 1) ≡ Some f) c.self.view_is c.in-Some.ensures.last in
-    (named f Absent v, (c.in_ok-rmdir.ensures.effect v told).2.1, writes t v (g.met.F.Fs.tree c.args.fs.now v told) (c.requires.needs v told) c.requires.act f last)
+    let effect = c.in_ok-rmdir.ensures.effect v told in
+    ok_writes t v (g.met.F.Fs.tree c.args.fs.now v told) (c.requires.needs v told) c.requires.act f last effect.0 effect.1 _ effect.2
 
 pub returns-clause-after : goal.returns-clause-after
 returns-clause-after g c = λ v told.

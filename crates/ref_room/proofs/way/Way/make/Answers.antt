@@ -6,7 +6,7 @@ use Rattle.fs_trait.specs.Seen.{shows, IsDirectory}
 use Rattle.repo_layout.specs.Refs.{is_leaf}
 use Rattle.ref_room.specs.declared.way.Leg.TheVariants.{Make}
 use Rattle.ref_room.specs.Way.{Needs, Refuses, Walked, next_folder, next_in}
-use Rattle.ref_room.proofs.Answering.{ok_writes, ok_after, err_writes, err_fails}
+use Rattle.ref_room.proofs.Answering.{ok_writes, ok_after, err_writes, err_fails, err_unchanged}
 use Rattle.ref_room.proofs.Disks.{looked_nothing, looked_folder, looked_leaf}
 use Rattle.ref_room.proofs.WaySteps.{found, made, least}
 use Rattle.ref_room.proofs.way.Way.make.Goals as goal
@@ -54,3 +54,9 @@ returns-in_ok-clash-in-Leaf-clause-tells g c = λ v told.
     let leaf = looked_leaf _ (sym c.in-Leaf.is ∙ c.in_ok-look_at.ensures.told v told) in
     least c.args.self.now v (g.met.F.Fs.tree c.args.fs.now v told) (c.requires.needs v told) c.requires.leg _ c.in_ok-clash-in-Leaf.ensures.ok.0 c.in_ok-clash-in-Leaf.ensures.ok.1
     (subst (λ q. is_leaf (v.now.at q) ≡ true) (c.self.invariant.2 ∙ ap next_folder c.self.view_is) leaf)
+
+pub returns-in_err-mkdir-in-Nothing-clause-unchanged : goal.returns-in_err-mkdir-in-Nothing-clause-unchanged
+returns-in_err-mkdir-in-Nothing-clause-unchanged g c = λ v told.
+    let still = c.in_ok-look_at.ensures.quiet.view ∙ told in
+    let error = err_from_is_err_and c.from_residual-in_err-mkdir-in-Nothing.result c.from_residual-in_err-mkdir-in-Nothing.ensures.1 in
+    rw (error.1, error.2) (λ is. err_unchanged _ v _ _ _ (c.in_err-mkdir-in-Nothing.ensures.effect v still) is)
