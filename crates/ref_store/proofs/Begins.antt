@@ -18,7 +18,7 @@ use Rattle.ref_store.specs.Steps.{Needs, needs_in, begins}
 use Rattle.ref_store.specs.Whole.{MayBegin, Answers, SparesLeaves, Stops}
 use Rattle.ref_store.proofs.StepLemmas.{folder_directory}
 use Rattle.ref_store.proofs.RoomLemmas.{home_is}
-use Rattle.ref_store.proofs.Wholes.{below-rest}
+use Rattle.ref_room.proofs.Names.{below-rest}
 
 -- a sync of all changes nothing that reads see
 pub synced_now : (v : View) → (all_synced v).now ≡ v.now

@@ -9,3 +9,4 @@ pub mod Runs
 pub mod Stable
 pub mod Begins
 pub mod FallLemmas
+pub mod Seen

@@ -10,6 +10,7 @@ use Rattle.fs_trait.specs.declared.task.Turn.{Turn}
 use Rattle.fs_trait.specs.declared.task.Turn.TheVariants.{More, Done}
 use Rattle.fs_trait.specs.View.{View}
 use Rattle.fs_trait.specs.Seen.{Seen, Vacant, Directory, shows, MayBe, IsDirectory, NotDirectory}
+use Rattle.fs_trait.specs.Effect.{Elapses}
 use Rattle.fs_trait.specs.Change.{Writes, Harmless, LeadsTo}
 use Rattle.fs_trait.proofs.Images.{not_both}
 use Rattle.fs_trait.proofs.Claims.{is_below-before}
@@ -218,3 +219,15 @@ clear_ends c d result is stepped = (subst (λ r. clearing.IsStepped c r d) is st
 
 pub way_ends : (w x : way.Walked) (result : Result (Turn (Option (List ℕ))) FsErr) → result ≡ Ok (Done None) → way.IsStepped w result x → x.leg ≡ leg.Over
 way_ends w x result is stepped = is_over x.leg (subst (λ r. way.IsStepped w r x) is stepped).1
+
+-- where no changing call was made, the view stands
+pub view_stands : (before now : ℕ) (past since : ℕ → View → Type 0) (view : Option View) (v : View)
+    → Elapses before now past since view → now ≡ before → past before v → ((w : View) → since now w → view ≡ Some w) → view ≡ Some v
+view_stands before now past since view v time same was only = only v (subst (λ t. since t v) (sym same) (time.keeps before v (omega arith) was))
+
+-- and none is made once the room is there
+pub clear_idle : (c : clearing.Cleared) (before now : ℕ) → clearing.act c ≡ clearing.Ends → clearing.Takes (clearing.act c) before now → now ≡ before
+clear_idle c before now ends takes = subst (λ a. clearing.Takes a before now) ends takes
+
+pub way_idle : (w : way.Walked) (before now : ℕ) → way.is_over w.leg ≡ true → way.Takes w.leg before now → now ≡ before
+way_idle w before now over takes = subst (λ l. way.Takes l before now) (is_over w.leg over) takes

@@ -15,7 +15,7 @@ use Rattle.repo_layout.specs.Refs.{is_leaf}
 use Rattle.ref_room.specs.Clash.{ref_folder}
 use Rattle.ref_room.specs.Clearing as clearing
 use Rattle.ref_room.specs.Clearing.{IsLeaf, IsUnder}
-use Rattle.ref_room.proofs.Names.{ref_folder-under}
+use Rattle.ref_room.proofs.Names.{ref_folder-under, below-rest}
 use Rattle.ref_store.specs.Steps.{HasValue, ShowsValue}
 use Rattle.ref_store.specs.Whole.{IsSure}
 use Rattle.ref_store.proofs.RoomLemmas.{below-length}
@@ -101,21 +101,6 @@ pub off_folder : (name : List ℕ) (p : Path) → is_below (ref_path name) p ≡
 off_folder name p a b =
     let u = ref_folder-under name in
     absurd (omega (arith, below-length _ _ a, below-length _ _ b, ap length u.1, length-append (ref_folder name) (u.0 ∷ [])))
-
-both_true : (a b : Bool) → a && b ≡ true → (a ≡ true) × (b ≡ true)
-both_true true true e = (refl, refl)
-both_true true false e = let n : false ≡ true = e in cc
-both_true false b e = let n : false ≡ true = e in cc
-
-pub below-rest : (p q : Path) → is_below p q ≡ true → (rest : Path) × (q ≡ p ++ rest)
-unfolding is_below
-below-rest [] q e = (q, refl)
-below-rest (a ∷ p) [] e = let n : false ≡ true = e in cc
-below-rest (a ∷ p) (x ∷ q) e =
-    let s = both_true _ _ e in
-    let more = below-rest p q s.1 in
-    let head : a ≡ x = (same_name-Decides a x).0 s.0 in
-    (more.0, cc (head, more.1))
 
 -- a ref whose folder lies below another's path is below it
 pub under_ref : (name other : List ℕ) (p : Path) → IsUnder name p → is_below p (ref_folder other) ≡ true → IsUnder name (ref_path other)

@@ -1,5 +1,5 @@
 -- What each step of a change needs, writes, tells and is refused for.
-use Rattle.std.specs.Prelude.{◌≡◌, ◌≢◌, ◌<◌, ℕ, true, List, Option, Some, None, Result, Ok, Err}
+use Rattle.std.specs.Prelude.{◌≡◌, ◌≢◌, ◌<◌, ℕ, Bool, true, false, List, Option, Some, None, Result, Ok, Err}
 use Rattle.ost_types.specs.Path.{Path, is_in}
 use Rattle.fs_trait.specs.declared.types.FsErr.{FsErr}
 use Rattle.fs_trait.specs.declared.types.FsErr.TheVariants.{Failed, NoMemory, Exists}
@@ -17,6 +17,8 @@ use Rattle.ref_room.specs.Clash.{ref_folder, IsLeastClash, IsFreeAbove}
 use Rattle.ref_room.specs.Clearing as clearing
 use Rattle.ref_room.specs.Clearing.{IsLeaf}
 use Rattle.ref_room.specs.Way as way
+use Rattle.staged_file.specs.declared.phase.Phase as staged
+use Rattle.staged_file.specs.declared.phase.Phase.TheVariants as file
 use Rattle.staged_file.specs.Steps as staging
 use Rattle.ref_store.specs.declared.phase.Phase.{Phase}
 use Rattle.ref_store.specs.declared.phase.Phase.TheVariants.{Look, Clear, Walk, Put, Unlink, SyncFolder, Ended}
@@ -33,6 +35,29 @@ HasValue d name (Some commit) = Names d name commit
 abbrev pub ShowsValue : Option (List ℕ) → Seen → Type 0
 ShowsValue None s = s ≡ Vacant
 ShowsValue (Some commit) s = IsSum commit × (bytes_in s ≡ Some (ref_text commit))
+
+-- what the ref's path shows while it has a value
+abbrev pub ShowsHad : Option (List ℕ) → Seen → Type 0
+ShowsHad None s = ¬ (IsLeaf s)
+ShowsHad (Some commit) s = IsSum commit × (bytes_in s ≡ Some (ref_text commit))
+
+-- the ref was looked at, and the change isn't shown yet
+abbrev pub awaits_file : staged.Phase → Bool
+awaits_file file.Unlink = false
+awaits_file file.SyncFolder = false
+awaits_file file.Ended = false
+awaits_file ph = true
+
+abbrev pub awaits : Phase → Bool
+awaits (Clear c) = true
+awaits (Walk w) = true
+awaits (Put f) = awaits_file f.phase
+awaits Unlink = true
+awaits ph = false
+
+-- From the look to the step that shows the change the ref has the value that it was to have.
+abbrev pub HasSeen : Change → View → Type 0
+HasSeen t v = awaits t.phase ≡ true → ShowsHad t.seen (shows v.now (ref_path t.name))
 
 -- what the next step may write
 abbrev pub writes_in : Phase → Change → View → Path → Seen → Type 0
@@ -119,3 +144,10 @@ OfPhase (Put f) = OfPlacing
 OfPhase Unlink = OfFinding
 OfPhase SyncFolder = OfFinding
 OfPhase Ended = λ e. ⊥
+
+-- the file is put or taken away, or that is to outlast a crash
+abbrev pub IsPlacing : Phase → Type 0
+IsPlacing (Put f) = Unit {0}
+IsPlacing Unlink = Unit {0}
+IsPlacing SyncFolder = Unit {0}
+IsPlacing ph = ⊥

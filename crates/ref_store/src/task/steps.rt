@@ -1,7 +1,8 @@
 //! The steps of a change, one function a phase.
-ghost use Rattle.std.specs.Prelude.{◌≡◌, ◌<◌, ℕ, Option, Some, OnOk, IfOk, IfErr, IsSome, length};
+ghost use Rattle.std.specs.Prelude.{◌≡◌, ◌<◌, ℕ, Option, Some, OnOk, IfOk, IfErr, IsErrOf, IsSome, length};
 ghost use Rattle.fs_trait.specs.View.{View};
 ghost use Rattle.fs_trait.specs.Image.{Told};
+ghost use Rattle.fs_trait.specs.declared.types.FsErr.TheVariants as err;
 ghost use Rattle.fs_trait.specs.Effect.{Elapses, HasCause};
 ghost use Rattle.fs_trait.specs.Change.{Writes};
 ghost use Rattle.ost_types.specs.Mode.{IsFileMode};
@@ -37,6 +38,7 @@ impl RefTask {
         ensures ticks { OnOk result (Takes self.old.phase (F.clock fs.old) (F.clock fs.new)) }
         ensures cause { HasCause (F.faults fs.old) (F.faults fs.new) result }
         ensures room { KeepsRoom self.old.phase (F.spare fs.old) (F.spare fs.new) result }
+        ensures unchanged { (v : View) → F.view fs.old ≡ Some v → IsErrOf result err.NoMemory → F.view fs.new ≡ Some v }
     {
         match self.phase {
             Phase::Look => self.look(fs),
@@ -63,6 +65,7 @@ impl RefTask {
         ensures ticks { OnOk result (Takes self.old.phase (F.clock fs.old) (F.clock fs.new)) }
         ensures cause { HasCause (F.faults fs.old) (F.faults fs.new) result }
         ensures room { KeepsRoom self.old.phase (F.spare fs.old) (F.spare fs.new) result }
+        ensures unchanged { (v : View) → F.view fs.old ≡ Some v → IsErrOf result err.NoMemory → F.view fs.new ≡ Some v }
     {
         let there = look(fs, &self.at)?;
         if there == There::OtherLeaf {
@@ -105,6 +108,7 @@ impl RefTask {
         ensures ticks { OnOk result (Takes self.old.phase (F.clock fs.old) (F.clock fs.new)) }
         ensures cause { HasCause (F.faults fs.old) (F.faults fs.new) result }
         ensures room { KeepsRoom self.old.phase (F.spare fs.old) (F.spare fs.new) result }
+        ensures unchanged { (v : View) → F.view fs.old ≡ Some v → IsErrOf result err.NoMemory → F.view fs.new ≡ Some v }
     {
         let Phase::Clear(clearing) = &mut self.phase else {
             unreachable!()
@@ -133,6 +137,7 @@ impl RefTask {
         ensures ticks { OnOk result (Takes self.old.phase (F.clock fs.old) (F.clock fs.new)) }
         ensures cause { HasCause (F.faults fs.old) (F.faults fs.new) result }
         ensures room { KeepsRoom self.old.phase (F.spare fs.old) (F.spare fs.new) result }
+        ensures unchanged { (v : View) → F.view fs.old ≡ Some v → IsErrOf result err.NoMemory → F.view fs.new ≡ Some v }
     {
         let Phase::Walk(way) = &mut self.phase else {
             unreachable!()
@@ -184,6 +189,7 @@ impl RefTask {
         ensures ticks { OnOk result (Takes self.old.phase (F.clock fs.old) (F.clock fs.new)) }
         ensures cause { HasCause (F.faults fs.old) (F.faults fs.new) result }
         ensures room { KeepsRoom self.old.phase (F.spare fs.old) (F.spare fs.new) result }
+        ensures unchanged { (v : View) → F.view fs.old ≡ Some v → IsErrOf result err.NoMemory → F.view fs.new ≡ Some v }
     {
         let Phase::Put(file) = &mut self.phase else {
             unreachable!()
@@ -211,6 +217,7 @@ impl RefTask {
         ensures ticks { OnOk result (Takes self.old.phase (F.clock fs.old) (F.clock fs.new)) }
         ensures cause { HasCause (F.faults fs.old) (F.faults fs.new) result }
         ensures room { KeepsRoom self.old.phase (F.spare fs.old) (F.spare fs.new) result }
+        ensures unchanged { (v : View) → F.view fs.old ≡ Some v → IsErrOf result err.NoMemory → F.view fs.new ≡ Some v }
     {
         fs.reserve(2)?;
         fs.unlink(&self.at)?;
@@ -232,6 +239,7 @@ impl RefTask {
         ensures ticks { OnOk result (Takes self.old.phase (F.clock fs.old) (F.clock fs.new)) }
         ensures cause { HasCause (F.faults fs.old) (F.faults fs.new) result }
         ensures room { KeepsRoom self.old.phase (F.spare fs.old) (F.spare fs.new) result }
+        ensures unchanged { (v : View) → F.view fs.old ≡ Some v → IsErrOf result err.NoMemory → F.view fs.new ≡ Some v }
     {
         fs.sync_dir(&self.folder)?;
         self.phase = Phase::Ended;

@@ -1,10 +1,10 @@
-use Rattle.std.proofs.Common.{◌≡◌, Ok, None, sym, ◌∙◌, ap, subst}
+use Rattle.std.proofs.Common.{◌≡◌, Ok, None, arith, sym, ◌∙◌, ap, subst}
 use Rattle.fs_trait.specs.declared.task.Turn.TheVariants.{Done}
 use Rattle.ref_room.specs.Way as way
 use Rattle.ref_store.specs.declared.phase.Phase.TheVariants as phase
 use Rattle.ref_store.specs.Steps.{Needs}
 use Rattle.ref_store.proofs.StepLemmas.{meets_in, told_both, written_as}
-use Rattle.ref_store.proofs.RoomLemmas.{clear_kept, clear_over, clear_name, clear_told, clear_ends}
+use Rattle.ref_store.proofs.RoomLemmas.{clear_kept, clear_over, clear_name, clear_told, clear_ends, clear_idle, view_stands}
 use Rattle.ref_store.proofs.FallLemmas.{clear_falls}
 use Rattle.ref_store.proofs.task.RefTask.clear.Goals as goal
 
@@ -51,3 +51,15 @@ returns-in_ok-new-in-Done-None-clause-falls g c =
     let is : c.step.result ≡ Ok (Done None) = c.in_ok-step.was ∙ ap Ok (c.in-Done-None.is ∙ ap Done c.in-Done-None.field-0-is) in
     let x = c.in_ok-new-in-Done-None.ensures ∙ ap way.begun c.in_ok-copy-in-Done-None.ensures in
     clear_falls _ _ c.self.view_is c.in-Clear.clearing c.in-Clear.is c.in_ok-new-in-Done-None.field-0 x (clear_ends c.in-Clear.clearing c.step.new.self _ is c.step.ensures.stepped)
+
+pub returns-in_err-copy-in-Done-None-clause-unchanged : goal.returns-in_err-copy-in-Done-None-clause-unchanged
+returns-in_err-copy-in-Done-None-clause-unchanged g c = λ v told memory.
+    let is : c.step.result ≡ Ok (Done None) = c.in_ok-step.was ∙ ap Ok (c.in-Done-None.is ∙ ap Done c.in-Done-None.field-0-is) in
+    let ends = clear_ends c.in-Clear.clearing c.step.new.self _ is c.step.ensures.stepped in
+    view_stands _ _ _ _ _ v c.step.ensures.time (clear_idle c.in-Clear.clearing _ _ ends c.in_ok-step.ensures.ticks) (g.met.F.Fs.counts_now c.args.fs.now _ v (omega arith) told) (λ w was. g.met.F.Fs.only_now c.step.new.fs _ w (omega arith) was)
+
+pub returns-in_err-new-in-Done-None-clause-unchanged : goal.returns-in_err-new-in-Done-None-clause-unchanged
+returns-in_err-new-in-Done-None-clause-unchanged g c = λ v told memory.
+    let is : c.step.result ≡ Ok (Done None) = c.in_ok-step.was ∙ ap Ok (c.in-Done-None.is ∙ ap Done c.in-Done-None.field-0-is) in
+    let ends = clear_ends c.in-Clear.clearing c.step.new.self _ is c.step.ensures.stepped in
+    view_stands _ _ _ _ _ v c.step.ensures.time (clear_idle c.in-Clear.clearing _ _ ends c.in_ok-step.ensures.ticks) (g.met.F.Fs.counts_now c.args.fs.now _ v (omega arith) told) (λ w was. g.met.F.Fs.only_now c.step.new.fs _ w (omega arith) was)

@@ -1,9 +1,9 @@
-use Rattle.std.proofs.Common.{◌≡◌, Ok, None, sym, ◌∙◌, ap, subst}
+use Rattle.std.proofs.Common.{rules, ◌≡◌, Ok, None, arith, sym, ◌∙◌, ap, subst}
 use Rattle.fs_trait.specs.declared.task.Turn.TheVariants.{Done}
 use Rattle.ref_store.specs.declared.phase.Phase.TheVariants as phase
 use Rattle.ref_store.specs.Steps.{Needs}
 use Rattle.ref_store.proofs.StepLemmas.{meets_in, told_both, written_as}
-use Rattle.ref_store.proofs.RoomLemmas.{walk_kept, walk_over, way_name, way_ends}
+use Rattle.ref_store.proofs.RoomLemmas.{walk_kept, walk_over, way_name, way_ends, way_idle, view_stands}
 use Rattle.ref_store.proofs.task.RefTask.walk.Goals as goal
 
 pub step-requires : goal.step-requires
@@ -36,3 +36,7 @@ returns-in_ok-new_file-in-Done-None-clause-after g c = λ v told.
 
 pub returns-in_ok-new_file-in-Done-None-clause-writes : goal.returns-in_ok-new_file-in-Done-None-clause-writes
 returns-in_ok-new_file-in-Done-None-clause-writes g c = λ v told. written_as _ _ c.self.view_is (phase.Walk c.in-Walk.way) c.in-Walk.is v _ (c.step.ensures.writes v told)
+
+pub returns-in_err-new_file-in-Done-None-clause-unchanged : goal.returns-in_err-new_file-in-Done-None-clause-unchanged
+returns-in_err-new_file-in-Done-None-clause-unchanged g c = λ v told memory.
+    view_stands _ _ _ _ _ v c.step.ensures.time (way_idle c.in-Walk.way _ _ (search rules) c.in_ok-step.ensures.ticks) (g.met.F.Fs.counts_now c.args.fs.now _ v (omega arith) told) (λ w was. g.met.F.Fs.only_now c.step.new.fs _ w (omega arith) was)
