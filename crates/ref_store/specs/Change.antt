@@ -18,6 +18,8 @@ use Rattle.staged_file.specs.declared.phase.Phase.TheVariants as file
 use Rattle.staged_file.specs.Staged as staging
 use Rattle.ref_store.specs.declared.phase.Phase.{Phase}
 use Rattle.ref_store.specs.declared.phase.Phase.TheVariants.{Look, Clear, Walk, Put, Unlink, SyncFolder, Ended}
+use Rattle.ref_store.specs.declared.progress.Progress.{Progress}
+use Rattle.ref_store.specs.declared.progress.Progress.TheVariants as progress
 use Rattle.ref_store.specs.declared.refusal.RefRefusal.{RefRefusal}
 use Rattle.ref_store.specs.declared.lookup.There.{There}
 use Rattle.ref_store.specs.declared.lookup.There.TheVariants as there
@@ -95,6 +97,40 @@ IsStepped old (Ok More) new = (new ≡ record old { phase = new.phase }) × Foll
 IsStepped old (Ok (Done (Ok x))) new = (new ≡ record old { phase = Ended }) × IsLast old.phase
 IsStepped old (Ok (Done (Err refusal))) new = new ≡ old
 IsStepped old (Err e) new = new ≡ old
+
+-- a change is refused by the look, and while room is made
+abbrev pub IsRefusing : Phase → Type 0
+IsRefusing Look = Unit {0}
+IsRefusing (Clear c) = Unit {0}
+IsRefusing (Walk w) = Unit {0}
+IsRefusing ph = ⊥
+
+abbrev pub MayCome : Phase → Turn (Result (Unit {0}) RefRefusal) → Type 0
+MayCome ph (Done (Err refusal)) = IsRefusing ph
+MayCome ph turn = Unit {0}
+
+abbrev pub IsAccepted : Turn (Result (Unit {0}) RefRefusal) → Type 0
+IsAccepted (Done (Err refusal)) = ⊥
+IsAccepted turn = Unit {0}
+
+-- what a step of a staged file does to the ref,
+abbrev pub progress_of : staged.Phase → Progress
+progress_of file.Replace = progress.Showing
+progress_of file.Add = progress.Showing
+progress_of file.Unlink = progress.Shown
+progress_of file.SyncFolder = progress.Settling
+progress_of file.Ended = progress.Ended
+progress_of ph = progress.Preparing
+
+-- and what any step does
+abbrev pub progress_in : Phase → Progress
+progress_in Look = progress.Looking
+progress_in (Clear c) = progress.Preparing
+progress_in (Walk w) = progress.Preparing
+progress_in (Put s) = progress_of s.phase
+progress_in Unlink = progress.Showing
+progress_in SyncFolder = progress.Settling
+progress_in Ended = progress.Ended
 
 -- no more steps than this are left to put the file,
 abbrev pub left_put : staged.Phase → ℕ

@@ -10,6 +10,7 @@ ghost use Rattle.ref_store.specs.Steps.{Needs};
 ghost use Rattle.ref_store.specs.Whole.{Answers, Lasts, Leaves, MayBegin, SparesLeaves, Stops};
 
 mod steps;
+mod tells;
 
 use crate::RefRefusal;
 use crate::phase::Phase;

@@ -8,7 +8,7 @@ ghost use Rattle.fs_trait.specs.Change.{Writes};
 ghost use Rattle.ost_types.specs.Mode.{IsFileMode};
 ghost use Rattle.repo_layout.specs.RefFile.{IsSum, ref_text};
 ghost use Rattle.ref_room.specs.Turns.{OnMore};
-ghost use Rattle.ref_store.specs.Change.{Change, IsLook, IsClear, IsWalk, IsPut, IsUnlink, IsSyncFolder, IsStepped, KeepsRoom, IsNew, Takes, begun, commit_of, left};
+ghost use Rattle.ref_store.specs.Change.{Change, IsLook, IsClear, IsWalk, IsPut, IsUnlink, IsSyncFolder, IsAccepted, IsStepped, MayCome, KeepsRoom, IsNew, Takes, begun, commit_of, left};
 ghost use Rattle.ref_store.specs.Steps.{Needs, WritesOf, Refuses, Tells, OfPhase};
 
 use super::RefTask;
@@ -33,6 +33,7 @@ impl RefTask {
         ensures fails { (v : View) → F.view fs.old ≡ Some v → IfErr result (Refuses self.old v) }
         ensures named { IfErr result (OfPhase self.old.phase) }
         ensures stepped { IsStepped self.old result self.new }
+        ensures refuses { IfOk result (MayCome self.old.phase) }
         ensures falls { OnMore result (left self.new < left self.old) }
         ensures time { Elapses (F.clock fs.old) (F.clock fs.new) (F.was fs.old) (F.was fs.new) (F.view fs.new) }
         ensures ticks { OnOk result (Takes self.old.phase (F.clock fs.old) (F.clock fs.new)) }
@@ -184,6 +185,7 @@ impl RefTask {
         ensures fails { (v : View) → F.view fs.old ≡ Some v → IfErr result (Refuses self.old v) }
         ensures named { IfErr result (OfPhase self.old.phase) }
         ensures stepped { IsStepped self.old result self.new }
+        ensures accepts { IfOk result IsAccepted }
         ensures falls { OnMore result (left self.new < left self.old) }
         ensures time { Elapses (F.clock fs.old) (F.clock fs.new) (F.was fs.old) (F.was fs.new) (F.view fs.new) }
         ensures ticks { OnOk result (Takes self.old.phase (F.clock fs.old) (F.clock fs.new)) }
@@ -212,6 +214,7 @@ impl RefTask {
         ensures fails { (v : View) → F.view fs.old ≡ Some v → IfErr result (Refuses self.old v) }
         ensures named { IfErr result (OfPhase self.old.phase) }
         ensures stepped { IsStepped self.old result self.new }
+        ensures accepts { IfOk result IsAccepted }
         ensures falls { OnMore result (left self.new < left self.old) }
         ensures time { Elapses (F.clock fs.old) (F.clock fs.new) (F.was fs.old) (F.was fs.new) (F.view fs.new) }
         ensures ticks { OnOk result (Takes self.old.phase (F.clock fs.old) (F.clock fs.new)) }
@@ -234,6 +237,7 @@ impl RefTask {
         ensures fails { (v : View) → F.view fs.old ≡ Some v → IfErr result (Refuses self.old v) }
         ensures named { IfErr result (OfPhase self.old.phase) }
         ensures stepped { IsStepped self.old result self.new }
+        ensures accepts { IfOk result IsAccepted }
         ensures falls { OnMore result (left self.new < left self.old) }
         ensures time { Elapses (F.clock fs.old) (F.clock fs.new) (F.was fs.old) (F.was fs.new) (F.view fs.new) }
         ensures ticks { OnOk result (Takes self.old.phase (F.clock fs.old) (F.clock fs.new)) }
