@@ -10,7 +10,7 @@ use Rattle.std.proofs.lemmas.Cmp.{nat_list_cmp_total}
 use Rattle.std.proofs.Math.Seq.{get_or-append_seam}
 use Rattle.std.proofs.lemmas.Option.{get_or_from_slice_get}
 use Rattle.std.proofs.lemmas.List.Elements.{Contains-append_left, Contains-append_right, Contains-append_cases, All-contains}
-use Rattle.ost_types.specs.Path.{Name, Path, path_cmp, under}
+use Rattle.ost_types.specs.Path.{Name, Path, IsPath, path_cmp, under}
 use Rattle.ost_types.proofs.Paths.{same_or_apart}
 use Rattle.fs_trait.specs.declared.types.Value.TheVariants.{Absent}
 use Rattle.fs_trait.specs.declared.types.FsErr.{FsErr}
@@ -109,22 +109,22 @@ module _ (t : Cleared) (v : View) (tree : IsTree v.now) (needs : Needs t v) (rem
   removed_ : IsRemoved t f
   removed_ = (removes, (take (length t.folders - 1) t.folders, apart))
 
-  writes : IsEmpty v.now f → Writes (WritesOf t v) v (named f Absent v)
-  writes empty = weaker (At f (MayShow v Absent)) (WritesOf t v) v (named f Absent v)
-      (λ p s a. (subst (IsRemoved t) (sym a.0) removed_, a.1, subst (λ q. IsDirectory (shows v.now q)) (sym a.0) there, subst (IsEmpty v.now) (sym a.0) empty)) (named-writes v f Absent)
+  writes : IsPath f → IsEmpty v.now f → Writes (WritesOf t v) v (named f Absent v)
+  writes path empty = weaker (At f (MayShow v Absent)) (WritesOf t v) v (named f Absent v)
+      (λ p s a. (subst (IsRemoved t) (sym a.0) removed_, a.1, subst (λ q. IsDirectory (shows v.now q)) (sym a.0) there, subst (IsEmpty v.now) (sym a.0) empty, subst IsPath (sym a.0) path)) (named-writes v f Absent)
 
   -- it is written only where it goes, and it goes only where it is empty
-  pub ok_writes : (b : Bool) → HasNames b f v.now → (view : Option View) → (no_rmdir b f v.now ≡ None) × (view ≡ Some (named f Absent v)) → Told view (λ x. Writes (WritesOf t v) v x)
-  ok_writes b has view changed = (named f Absent v, changed.1, writes (emptied v.now f b has changed.0))
+  pub ok_writes : IsPath f → (b : Bool) → HasNames b f v.now → (view : Option View) → (no_rmdir b f v.now ≡ None) × (view ≡ Some (named f Absent v)) → Told view (λ x. Writes (WritesOf t v) v x)
+  ok_writes path b has view changed = (named f Absent v, changed.1, writes path (emptied v.now f b has changed.0))
 
-  pub err_writes : (b : Bool) → HasNames b f v.now → (e : FsErr) (view : Option View) → Fails (no_rmdir b f v.now) v (named f Absent v) e view → Told view (λ x. Writes (WritesOf t v) v x)
-  err_writes b has Failed view (inl same) = (v, same, same_view (WritesOf t v) v)
-  err_writes b has Failed view (inr done) = ok_writes b has view done
-  err_writes b has NoMemory view same = (v, same, same_view (WritesOf t v) v)
-  err_writes b has Exists view is = (v, is.1, same_view (WritesOf t v) v)
-  err_writes b has Missing view is = (v, is.1, same_view (WritesOf t v) v)
-  err_writes b has NotFolder view is = (v, is.1, same_view (WritesOf t v) v)
-  err_writes b has NotEmpty view is = (v, is.1, same_view (WritesOf t v) v)
+  pub err_writes : IsPath f → (b : Bool) → HasNames b f v.now → (e : FsErr) (view : Option View) → Fails (no_rmdir b f v.now) v (named f Absent v) e view → Told view (λ x. Writes (WritesOf t v) v x)
+  err_writes path b has Failed view (inl same) = (v, same, same_view (WritesOf t v) v)
+  err_writes path b has Failed view (inr done) = ok_writes path b has view done
+  err_writes path b has NoMemory view same = (v, same, same_view (WritesOf t v) v)
+  err_writes path b has Exists view is = (v, is.1, same_view (WritesOf t v) v)
+  err_writes path b has Missing view is = (v, is.1, same_view (WritesOf t v) v)
+  err_writes path b has NotFolder view is = (v, is.1, same_view (WritesOf t v) v)
+  err_writes path b has NotEmpty view is = (v, is.1, same_view (WritesOf t v) v)
 
   -- what is in it isn't among the folders
   module _ (greatest : All (λ q. is_lt (path_cmp f q) ≡ false) t.folders) where

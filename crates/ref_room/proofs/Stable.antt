@@ -1,7 +1,7 @@
 -- What the tasks write, for all others; and their facts stay true under what others may write.
 use Rattle.std.proofs.Common.{◌≡◌, ◌⊎◌, true, ⊎_elim, ℕ, ◌<◌, ◌+◌, arith, refl, sym, ◌∙◌, ap, subst, List, [], ◌∷◌, ◌++◌, length, append-nil, append_assoc}
 use Rattle.std.specs.Prelude.{Contains}
-use Rattle.ost_types.specs.Path.{Name, Path, under, is_below}
+use Rattle.ost_types.specs.Path.{Name, Path, IsPath, under, is_below}
 use Rattle.std.proofs.lemmas.List.Elements.{Contains-append_right}
 use Rattle.fs_trait.specs.View.{View}
 use Rattle.fs_trait.specs.Image.{IsTree}
@@ -67,6 +67,7 @@ pub record Goes (name : List ℕ) (v : View) (p : Path) (s : Seen) : Type 0 wher
   pub vacant : s ≡ Vacant
   pub folder : IsDirectory (shows v.now p)
   pub empty : IsEmpty v.now p
+  pub path : IsPath p
 
 pub clearing_lies : (t : Cleared) (v : View) → clearing.Needs t v → (p : Path) (s : Seen) → clearing.WritesOf t v p s → Goes t.name v p s
 clearing_lies t v needs p s a = record {
@@ -74,6 +75,7 @@ clearing_lies t v needs p s a = record {
   vacant = a.1;
   folder = a.2;
   empty = a.3;
+  path = a.4;
 }
 
 no_leaf_at : (v : View) (p : Path) → IsTree v.now → IsDirectory (shows v.now p) → IsEmpty v.now p → (rest : Path) → IsLeaf (shows v.now (p ++ rest)) → ⊥

@@ -105,7 +105,7 @@ IsEmpty d p = (x : Name) → d.at (under p x) ≡ Absent
 
 -- what the next step may write
 abbrev pub WritesOf : Cleared → View → Path → Seen → Type 0
-WritesOf t v p s = IsRemoved t p × (s ≡ Vacant) × IsDirectory (shows v.now p) × IsEmpty v.now p
+WritesOf t v p s = IsRemoved t p × (s ≡ Vacant) × IsDirectory (shows v.now p) × IsEmpty v.now p × IsPath p
 
 abbrev pub IsLeaf : Seen → Type 0
 IsLeaf (Symlink m l) = Unit {0}

@@ -218,6 +218,7 @@ impl Clearing {
         let Some(folder) = self.folders.last() else {
             return Ok(Turn::Done(None));
         };
+        let _names = folder.names();
         fs.rmdir(folder)?;
         self.folders.pop_last();
         Ok(Turn::More)

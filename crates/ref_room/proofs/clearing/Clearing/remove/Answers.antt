@@ -2,7 +2,7 @@ use Rattle.std.proofs.Common.{◌≡◌, ◌<◌, ◌-◌, false, Some, sym, ◌
 use Rattle.std.specs.Prelude.{All, slice_get}
 use Rattle.std.specs.Ordering.{is_lt}
 use Rattle.std.proofs.lemmas.Result.{err_from_is_err_and}
-use Rattle.ost_types.specs.Path.{path_cmp}
+use Rattle.ost_types.specs.Path.{IsPath, path_cmp}
 use Rattle.fs_trait.specs.declared.types.Value.TheVariants.{Absent}
 use Rattle.fs_trait.specs.View.{named}
 use Rattle.fs_trait.specs.Image.{Told}
@@ -16,7 +16,7 @@ returns-in_err-rmdir-clause-writes g c = λ v told.
     let f = c.in-Some.folder.now in
     let last = subst (λ (t : Cleared). slice_get t.folders (length t.folders - 1) ≡ Some f) c.self.view_is c.in-Some.ensures.last in
     let effect = c.in_err-rmdir.ensures.effect v told in
-    err_writes t v (g.met.F.Fs.tree c.args.fs.now v told) (c.requires.needs v told) c.requires.act f last effect.0 effect.1 _ _ effect.2
+    err_writes t v (g.met.F.Fs.tree c.args.fs.now v told) (c.requires.needs v told) c.requires.act f last (subst IsPath c.names-names.ensures.value c.names-names.ensures.path) effect.0 effect.1 _ _ effect.2
 
 pub returns-in_err-rmdir-clause-fails : goal.returns-in_err-rmdir-clause-fails
 returns-in_err-rmdir-clause-fails g c = λ v told.
@@ -34,7 +34,7 @@ returns-clause-writes g c = λ v told.
     let f = c.in-Some.folder.now in
     let last = subst (λ (t : Cleared). slice_get t.folders (length t.folders - 1) ≡ Some f) c.self.view_is c.in-Some.ensures.last in
     let effect = c.in_ok-rmdir.ensures.effect v told in
-    ok_writes t v (g.met.F.Fs.tree c.args.fs.now v told) (c.requires.needs v told) c.requires.act f last effect.0 effect.1 _ effect.2
+    ok_writes t v (g.met.F.Fs.tree c.args.fs.now v told) (c.requires.needs v told) c.requires.act f last (subst IsPath c.names-names.ensures.value c.names-names.ensures.path) effect.0 effect.1 _ effect.2
 
 pub returns-clause-after : goal.returns-clause-after
 returns-clause-after g c = λ v told.
