@@ -10,3 +10,4 @@ pub mod Stable
 pub mod Begins
 pub mod FallLemmas
 pub mod Seen
+pub mod Writings
