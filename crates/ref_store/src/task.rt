@@ -169,7 +169,8 @@ pub fn change_ref<F: Fs>(fs: &mut F, task: RefTask) -> Result<Result<(), RefRefu
     }
 }
 
-/// Syncs all, and then changes the ref: what reads see before is enough to know that it can be changed.
+/// Syncs all, and then changes the ref: what reads see before is enough to know that it can be changed. It isn't enough to know
+/// what a crash before the sync leaves: there the ref has its value where a crash was sure to leave that already.
 pub fn sync_and_change_ref<F: Fs>(
     fs: &mut F,
     task: RefTask,
