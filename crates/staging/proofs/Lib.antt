@@ -1,2 +1,4 @@
 pub mod StepLemmas
 pub mod Answering
+pub mod Stable
+pub mod Begins
