@@ -90,7 +90,7 @@ pub record Same (d e : Draft) : Type 0 where
   pub meta : e.meta ≡ d.meta
   pub bytes : e.bytes ≡ d.bytes
 
-next_same : (d : Draft) (ph : staged.Phase) → Same d (draft.next_in ph d)
+pub next_same : (d : Draft) (ph : staged.Phase) → Same d (draft.next_in ph d)
 next_same d stage.Clear = record { stage = refl; meta = refl; bytes = refl }
 next_same d stage.Create = record { stage = refl; meta = refl; bytes = refl }
 next_same d stage.Append = record { stage = refl; meta = refl; bytes = refl }
@@ -330,7 +330,7 @@ link_free : (d : Disk) (from to : Path) → no_leaf from d ≡ None → no_new t
 unfolding no_link
 link_free d from to leaf new = rw leaf new
 
-any_inode : (k : Kind) (n : ℕ) (m : Meta) (b : List ℕ) → object_in k (Leaf n m b) ≡ object_in k (Leaf 0 m b)
+pub any_inode : (k : Kind) (n : ℕ) (m : Meta) (b : List ℕ) → object_in k (Leaf n m b) ≡ object_in k (Leaf 0 m b)
 any_inode kind.Commit n m b = refl
 any_inode kind.DirTree n m b = refl
 any_inode kind.DirMeta n m b = refl

@@ -1,20 +1,21 @@
 -- What is told of the objects whose sums begin with one byte.
-use Rattle.std.specs.Prelude.{◌≡◌, ◌≢◌, ℕ, List, [], ◌∷◌, Contains, take, true, Result, Ok, Err}
+use Rattle.std.specs.Prelude.{◌≡◌, ◌≢◌, ◌++◌, ℕ, List, [], ◌∷◌, Contains, take, drop}
 use Rattle.std.specs.Cmp.Lexicographic.{slice_cmp}
 use Rattle.std.specs.Ordering.{nat_cmp}
 use Rattle.std.specs.declared.cmp.Ordering.{Ordering}
 use Rattle.std.specs.declared.cmp.Ordering.TheVariants.{Equal}
 use Rattle.std.specs.List.Sorted.{IsStrictlySortedBy}
+use Rattle.ost_types.specs.Csum.{hex_of}
+use Rattle.ost_types.specs.Path.{Name}
 use Rattle.ost_types.specs.declared.object.Kind.{Kind}
 use Rattle.ost_types.specs.declared.object.Kind.TheVariants.{Commit, DirTree, DirMeta, File}
 use Rattle.ost_types.specs.declared.object.ObjName.{ObjName}
 use Rattle.fs_trait.specs.declared.types.FsErr.{FsErr}
-use Rattle.fs_trait.specs.declared.types.FsErr.TheVariants.{Failed, NoMemory, NotFolder}
+use Rattle.fs_trait.specs.declared.types.FsErr.TheVariants.{Missing, NotFolder}
 use Rattle.fs_trait.specs.declared.types.Value.TheVariants.{Absent}
 use Rattle.fs_trait.specs.View.{Disk}
-use Rattle.repo_layout.specs.Paths.{objects_folder_path}
+use Rattle.repo_layout.specs.Paths.{ending}
 use Rattle.repo_layout.specs.RefFile.{IsSum}
-use Rattle.repo_layout.specs.Refs.{is_leaf}
 use Rattle.repo_model.specs.Objects.{path_of}
 
 abbrev pub kind_rank : Kind → ℕ
@@ -43,10 +44,24 @@ pub record IsList (d : Disk) (first : ℕ) (names : List ObjName) : Type 0 where
   pub here : (name : ObjName) → Contains names name → IsHere d first name
   pub all : (name : ObjName) → IsHere d first name → Contains names name
 
--- A leaf in the folder's place is told; where no folder is, nothing is listed.
-abbrev pub Lists : Disk → ℕ → Result (List ObjName) FsErr → Type 0
-Lists d first (Ok names) = IsList d first names
-Lists d first (Err Failed) = Unit {0}
-Lists d first (Err NoMemory) = Unit {0}
-Lists d first (Err NotFolder) = is_leaf (d.at (objects_folder_path (first ∷ []))) ≡ true
-Lists d first (Err e) = ⊥
+-- the name of an object's file in its folder
+abbrev pub file_name : ObjName → Name
+file_name o = drop 2 (hex_of o.csum) ++ ending o.kind
+
+-- the file's name is one of these, and the sum begins so
+pub record IsNamedBy (first : ℕ) (names : List Name) (o : ObjName) : Type 0 where
+  pub sum : IsSum o.csum
+  pub begins : take 1 o.csum ≡ first ∷ []
+  pub among : Contains names (file_name o)
+
+-- The objects whose files have these names.
+pub record AreObjects (first : ℕ) (names : List Name) (found : List ObjName) : Type 0 where
+  pub ascending : IsStrictlySortedBy name_cmp found
+  pub each : (o : ObjName) → Contains found o → IsNamedBy first names o
+  pub all : (o : ObjName) → IsNamedBy first names o → Contains found o
+
+-- no folder is there
+abbrev pub IsGone : FsErr → Type 0
+IsGone Missing = Unit {0}
+IsGone NotFolder = Unit {0}
+IsGone e = ⊥

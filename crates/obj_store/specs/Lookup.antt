@@ -18,7 +18,7 @@ use Rattle.fs_trait.specs.declared.types.Value.{Value}
 use Rattle.fs_trait.specs.declared.types.Value.TheVariants.{Absent, File}
 use Rattle.fs_trait.specs.Count.{Rose}
 use Rattle.fs_trait.specs.View.{Disk}
-use Rattle.fs_trait.specs.Seen.{Seen, Directory, Symlink, Leaf, shows}
+use Rattle.fs_trait.specs.Seen.{Seen, Symlink, Leaf, shows}
 use Rattle.repo_model.specs.Objects.{Stores, object_at, object_in, path_of}
 use Rattle.obj_store.specs.declared.fault.LoadFault.{LoadFault}
 use Rattle.obj_store.specs.declared.fault.LoadFault.TheVariants.{Fs, Damaged, NoMemory}
@@ -34,12 +34,6 @@ Looks d name (Ok there) = there ≡ is_there (d.at (path_of name))
 Looks d name (Err fs.Failed) = Unit {0}
 Looks d name (Err fs.NoMemory) = Unit {0}
 Looks d name (Err e) = ⊥
-
--- what holds no bytes of an object of the kind
-abbrev pub HoldsNone : Kind → Seen → Type 0
-HoldsNone k (Directory m) = Unit {0}
-HoldsNone k (Symlink m target) = k ≢ kind.File
-HoldsNone k s = ⊥
 
 -- a file, or a link, whose mode is another's, and a link that leads nowhere
 abbrev pub IsMisfit : Seen → Type 0
@@ -62,14 +56,13 @@ pub record IsOther (d : Disk) (name : ObjName) (found : List ℕ) : Type 0 where
   pub other : found ≢ name.csum
 
 -- The object is what the store has under its name. It comes back damaged exactly where something else stands at its path: another
--- object's bytes, some that don't read as its kind, or a file whose mode is no file's.
+-- object's bytes, some that don't read as its kind, or a file whose mode is no file's. No refusal of a call comes.
 abbrev pub Loads : Disk → ObjName → ℕ → Result (Option Checked) LoadFault → Type 0
 Loads d name limit (Ok None) = d.at (path_of name) ≡ Absent
 Loads d name limit (Ok (Some c)) = (c.name ≡ name) × (c.limit ≡ limit) × Stores d name c.bytes
 Loads d name limit (Err (Damaged (check.WrongSum found))) = IsOther d name found
 Loads d name limit (Err (Damaged (check.Unreadable e))) = IsMisread d limit name e ⊎ ((e ≡ read.BadMode) × (name.kind ≡ kind.File) × IsMisfit (shows d (path_of name)))
 Loads d name limit (Err (Damaged check.NoMemory)) = ⊥
-Loads d name limit (Err (Fs fs.Missing)) = HoldsNone name.kind (shows d (path_of name))
 Loads d name limit (Err (Fs fs.Failed)) = Unit {0}
 Loads d name limit (Err (Fs fs.NoMemory)) = Unit {0}
 Loads d name limit (Err (Fs e)) = ⊥
@@ -91,7 +84,6 @@ fault_of e = Damaged e
 abbrev pub Opens : Kind → Seen → Result (List ℕ) LoadFault → Type 0
 Opens k s (Ok bytes) = object_in k s ≡ Some bytes
 Opens k s (Err (Damaged (check.Unreadable read.BadMode))) = (k ≡ kind.File) × IsMisfit s
-Opens k s (Err (Fs fs.Missing)) = HoldsNone k s
 Opens k s (Err (Fs fs.Failed)) = Unit {0}
 Opens k s (Err (Fs fs.NoMemory)) = Unit {0}
 Opens k s (Err NoMemory) = Unit {0}

@@ -9,8 +9,7 @@ use ost_types::NoMemory;
 
 #[derive(Clone, Copy, Debug, PartialEq, Eq)]
 pub enum LoadFault {
-    /// A call failed or wanted for memory, or what stands at the object's path holds no bytes of an object of the kind: a folder,
-    /// or a symbolic link under the name of another object than a file, which is `Missing`.
+    /// A call failed or wanted for memory.
     Fs(FsErr),
     /// What stands there doesn't have the name, or doesn't read as the kind. `CheckFault::NoMemory` never stands here.
     Damaged(CheckFault),

@@ -32,7 +32,8 @@ pub fn has<F: Fs>(alloc: Global, fs: &mut F, name: &ObjName) -> Result<bool, FsE
     Ok(node.is_some())
 }
 
-/// The object of this name, or None where nothing stands at its path. A file's object is its content stream.
+/// The object of this name, or None where nothing stands at its path. A file's object is its content stream; a folder, and a link
+/// under the name of another object than a file, are read as no bytes.
 pub fn load<F: Fs>(
     alloc: Global,
     fs: &mut F,
@@ -91,7 +92,7 @@ fn object_bytes<F: Fs>(
     ensures cause { HasCauseOf (F.faults fs.old) (F.faults fs.new) result }
 {
     match node {
-        Node::Folder(_) => Err(LoadFault::Fs(FsErr::Missing)),
+        Node::Folder(_) => Ok(Bytes::new(alloc)),
         Node::File { meta, .. } => file_bytes(alloc, fs, kind, at, meta),
         Node::Link { meta, target } => link_bytes(alloc, kind, meta, target),
     }
@@ -139,7 +140,7 @@ fn link_bytes(alloc: Global, kind: Kind, meta: Meta, target: Text) -> Result<Byt
     if kind == Kind::File {
         link_stream(alloc, meta, target)
     } else {
-        Err(LoadFault::Fs(FsErr::Missing))
+        Ok(Bytes::new(alloc))
     }
 }
 

@@ -1,30 +1,26 @@
 -- The objects of a repository on a disk, by what their paths show (OSTree manual, "Anatomy of an OSTree repository"; the bare mode
 -- keeps a file's object as the file itself).
-use Rattle.std.specs.Prelude.{◌≡◌, ℕ, true, List, Option, Some, None}
+use Rattle.std.specs.Prelude.{◌≡◌, ℕ, true, List, [], Option, Some, None}
 use Rattle.ost_types.specs.declared.object.Kind.{Kind}
-use Rattle.ost_types.specs.declared.object.Kind.TheVariants.{Commit, DirTree, DirMeta, File}
+use Rattle.ost_types.specs.declared.object.Kind.TheVariants.{File}
 use Rattle.ost_types.specs.declared.object.ObjName.{ObjName}
 use Rattle.ost_objects.specs.declared.body.Body.TheVariants.{Regular, Symlink}
 use Rattle.ost_objects.specs.Stream.{content_form}
 use Rattle.ost_check.specs.Object.{IsNamed, HasForm}
 use Rattle.fs_trait.specs.View.{Disk}
-use Rattle.fs_trait.specs.Seen.{Seen, Vacant, Directory, Symlink as SeenLink, Leaf, shows, bytes_in}
+use Rattle.fs_trait.specs.Seen.{Seen, Vacant, Directory, Symlink as SeenLink, Leaf, shows}
 use Rattle.repo_layout.specs.Paths.{object_path, mark_path}
 use Rattle.repo_layout.specs.Refs.{is_leaf}
 
--- the content stream of a file that is shown, or of a link
-abbrev pub stream_in : Seen → Option (List ℕ)
-stream_in Vacant = None
-stream_in (Directory m) = None
-stream_in (SeenLink m target) = content_form m (Symlink target)
-stream_in (Leaf n m bytes) = content_form m (Regular bytes)
-
--- the bytes of what is shown as an object of the kind
+-- The bytes of what is shown as an object of the kind: a file's object is its content stream. A folder holds no bytes, nor does a
+-- link under the name of another object than a file.
 abbrev pub object_in : Kind → Seen → Option (List ℕ)
-object_in Commit s = bytes_in s
-object_in DirTree s = bytes_in s
-object_in DirMeta s = bytes_in s
-object_in File s = stream_in s
+object_in k Vacant = None
+object_in k (Directory m) = Some []
+object_in File (SeenLink m target) = content_form m (Symlink target)
+object_in k (SeenLink m target) = Some []
+object_in File (Leaf n m bytes) = content_form m (Regular bytes)
+object_in k (Leaf n m bytes) = Some bytes
 
 -- where an object stands
 abbrev pub path_of : ObjName → List (List ℕ)
