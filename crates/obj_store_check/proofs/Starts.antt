@@ -4,8 +4,9 @@ use Rattle.ost_types.specs.declared.object.ObjName.{ObjName}
 use Rattle.fs_trait.specs.declared.types.FsErr.{FsErr}
 use Rattle.fs_trait.specs.declared.types.FsErr.TheVariants.{Failed, Exists, Missing, NotFolder, NotEmpty, NoMemory}
 use Rattle.fs_trait.specs.declared.types.Value.TheVariants.{Absent}
-use Rattle.fs_trait.specs.View.{Disk}
-use Rattle.fs_trait.specs.Image.{is_folder}
+use Rattle.std.specs.Prelude.{IfOk, Option, Result, Ok, Err}
+use Rattle.fs_trait.specs.View.{Disk, View}
+use Rattle.fs_trait.specs.Image.{is_folder, Told}
 use Rattle.fs_trait.specs.Seen.{shows}
 use Rattle.repo_layout.specs.Paths.{objects_folder_path, stage_path}
 use Rattle.repo_model.specs.Objects.{Stores, path_of}
@@ -49,3 +50,11 @@ module _ (name : ObjName) (bytes : List ℕ) (t : Putting) (new : IsNew 5 name b
   fails d Missing s = absurd s
   fails d NotFolder s = subst (λ (n : ObjName). IsLeaf (shows d (objects_folder_path n.csum))) same_name s
   fails d NotEmpty s = absurd s
+
+  pub leaves_result : (d : Disk) (view : Option View) (r : Result Put FsErr) → IfOk r (λ put. Told view (λ w. Ends t put d w.now)) → IfOk r (λ put. Told view (λ w. Leaves put name bytes d w.now))
+  leaves_result d view (Ok put) told = (told.0, told.1, leaves put d told.0.now told.2)
+  leaves_result d view (Err e) told = tt
+
+  pub answers_result : (d : Disk) (r : Result Put FsErr) → IfOk r (λ put. whole.Answers put t d) → IfOk r (λ put. Answers put name d)
+  answers_result d (Ok put) a = answers put d a
+  answers_result d (Err e) a = tt

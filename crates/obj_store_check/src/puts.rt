@@ -46,12 +46,7 @@ fn can_begin<F: Fs>(fs: &mut F, alloc: Global) -> Result<bool, FsErr>
 
 /// Puts the object, which was read under these limits. `Missing` where the folders of a repository aren't there, or a folder is
 /// where the file is staged.
-pub fn put<F: Fs>(
-    fs: &mut F,
-    alloc: Global,
-    object: Checked,
-    limits: &Limits,
-) -> Result<Put, FsErr>
+pub fn put<F: Fs>(fs: &mut F, alloc: Global, object: Checked, limits: &Limits) -> Result<Put, FsErr>
     requires { object.limit ≡ limits.now.content }
     ensures done { (v : View) → F.view fs.old ≡ Some v → IfOk result (λ put. Told (F.view fs.new) (λ w. Leaves put object.name object.bytes v.now w.now)) }
     ensures answers { (v : View) → F.view fs.old ≡ Some v → IfOk result (λ put. Answers put object.name v.now) }

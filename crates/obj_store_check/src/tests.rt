@@ -98,12 +98,7 @@ fn put_line(fs: &mut MemFs, alloc: Global, line: &str) -> Result<Put, Fail> {
 }
 
 /// The store has the object, whole.
-fn check_loaded(
-    rt: &impl Abort,
-    alloc: Global,
-    fs: &mut MemFs,
-    line: &str,
-) -> Result<(), Fail> {
+fn check_loaded(rt: &impl Abort, alloc: Global, fs: &mut MemFs, line: &str) -> Result<(), Fail> {
     let name = read_name(line)?;
     assert!(rt; has(alloc, fs, &name)?);
     match &load(alloc, fs, &name, &Limits::standard())? {
@@ -265,7 +260,12 @@ fn lists_a_part(rt: HostRuntime) -> Result<(), Fail> {
         };
         put_bytes_at(&mut fs, alloc, &object_path(alloc, &other)?, b"")?;
     }
-    put_bytes_at(&mut fs, alloc, &FsPath::parse(alloc, b"/ostree/repo/objects/b5/other")?, b"")?;
+    put_bytes_at(
+        &mut fs,
+        alloc,
+        &FsPath::parse(alloc, b"/ostree/repo/objects/b5/other")?,
+        b"",
+    )?;
     let names = list_part(alloc, &mut fs, 0xb5)?;
     assert_eq!(rt; names.len(), 3);
     let kinds = [Kind::Commit, Kind::DirTree, Kind::DirMeta];
