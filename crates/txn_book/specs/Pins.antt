@@ -1,6 +1,6 @@
 -- Which objects are pinned, and by which lanes.
-use Rattle.std.specs.Prelude.{◌≡◌, ◌-◌, ◌×◌, ℕ, List, [], ◌∷◌, ◌++◌, map, length, slice_index_or, slice_set, suc}
-use Rattle.std.specs.Vec.{Vec}
+use Rattle.std.specs.Prelude.{◌-◌, ℕ, List, [], ◌∷◌, ◌++◌, map, slice_index_or, slice_set, suc}
+use Rattle.std.specs.Global.{Vec}
 use Rattle.ost_types.specs.declared.object.ObjName.{ObjName}
 
 -- the pins of each lane in the order in which they came, lane by lane, and for how many more there is room

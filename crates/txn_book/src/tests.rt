@@ -16,10 +16,10 @@ fn pins_of_lanes(rt: HostRuntime) -> Result<(), Fail> {
     txns.pin(0, name(1));
     txns.pin(7, name(2));
     txns.pin(0, name(1));
-    assert!(rt; *txns.pins_of(0) == [name(1), name(1)]);
-    assert!(rt; *txns.pins_of(7) == [name(2)]);
+    assert!(rt; txns.pins_of(0) == [name(1), name(1)].as_slice());
+    assert!(rt; txns.pins_of(7) == [name(2)].as_slice());
     txns.end(0);
     assert!(rt; txns.pins_of(0).is_empty());
-    assert!(rt; *txns.pins_of(7) == [name(2)]);
+    assert!(rt; txns.pins_of(7) == [name(2)].as_slice());
     Ok(())
 }
