@@ -1,5 +1,5 @@
-use Rattle.fs_memory.proofs.Valid.{sound_at}
-use Rattle.fs_memory.proofs.Leaving.{crash_image}
+use Rattle.memory_record.proofs.Moments.{sound_at}
+use Rattle.memory_record.proofs.Leaving.{crash_image}
 use Rattle.fs_memory.proofs.memory.MemFs.image.Goals as goal
 
 pub crashed-requires : goal.crashed-requires

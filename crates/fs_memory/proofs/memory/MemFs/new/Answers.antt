@@ -1,7 +1,7 @@
 use Rattle.std.proofs.Common.{arith, ap, ◌∙◌}
-use Rattle.fs_memory.specs.Changes.{view_of}
-use Rattle.fs_memory.proofs.Records.{view_of-none}
-use Rattle.fs_memory.proofs.Valid.{empty_sound}
+use Rattle.memory_record.specs.Changes.{view_of}
+use Rattle.memory_record.proofs.Records.{view_of-none}
+use Rattle.memory_record.proofs.Moments.{empty_sound}
 use Rattle.fs_memory.proofs.memory.MemFs.new.Goals as goal
 
 pub invariant_of-result : goal.invariant_of-result

@@ -1,6 +1,7 @@
 use Rattle.std.proofs.Common.{◌≤◌, ◌∷◌, [], length, arith, sym, subst, length-append}
-use Rattle.fs_memory.specs.Changes.{SoundSince}
-use Rattle.fs_memory.proofs.Valid.{settled_sound, sound_push, elapses_push}
+use Rattle.memory_record.specs.Changes.{SoundSince}
+use Rattle.memory_record.proofs.Moments.{sound_push, elapses_push}
+use Rattle.fs_memory.proofs.Valid.{settled_sound}
 use Rattle.fs_memory.proofs.memory.MemFs.record.Goals as goal
 
 pub invariant_of-self-in-Break-1 : goal.invariant_of-self-in-Break-1
