@@ -1,7 +1,6 @@
 -- The trail after one change more.
-use Rattle.std.proofs.Common.{◌≡◌, ◌≢◌, ◌<◌, ◌≤◌, ◌+◌, ℕ, zero, suc, Bool, true, false, refl, sym, ◌∙◌, ap, subst, List, [], ◌∷◌, ◌++◌, length, get_or, Option, Some, None, if◌then◌else◌, arith, length-append}
+use Rattle.std.proofs.Common.{◌≡◌, ◌<◌, ◌≤◌, ◌+◌, ℕ, zero, suc, Bool, true, false, refl, sym, ◌∙◌, ap, subst, List, [], ◌∷◌, ◌++◌, length, get_or, Option, Some, None, if◌then◌else◌, arith, length-append}
 use Rattle.std.proofs.Math.Seq.{get_or-append_seam}
-use Rattle.std.proofs.Math.ListN.{get_or-append}
 use Rattle.ost_types.specs.declared.meta.Meta.{Meta}
 use Rattle.ost_types.specs.Path.{Name, Path, under, same_path, is_in}
 use Rattle.fs_trait.specs.declared.types.Value.{Value}
@@ -15,9 +14,8 @@ use Rattle.memory_record.specs.declared.change.Change.{Change}
 use Rattle.memory_record.specs.declared.change.Change.TheVariants as change
 use Rattle.memory_record.specs.declared.trail.Trail.{Trail}
 use Rattle.memory_record.specs.Changes.{apply, after, view_of, empty_view, root_meta, spoiled}
-use Rattle.memory_record.specs.Crash.{values, place, chosen, has_more}
+use Rattle.memory_record.specs.Crash.{place, chosen, has_more}
 use Rattle.memory_record.specs.Trail.{Shows, kept}
-use Rattle.memory_record.proofs.Choices.{chosen-one}
 use Rattle.memory_record.proofs.Following.{first_root, first_below}
 
 put_none : (q p : Path) → put {A = Option (List Value)} q None (λ r. None) p ≡ None

@@ -4,11 +4,10 @@
 mod filling;
 mod folder;
 mod parts;
-
 mod table;
 mod tree;
 
-pub use parts::folder_of;
 pub use filling::spoil;
+pub use parts::folder_of;
 pub use table::{File, Table};
 pub use tree::Tree;

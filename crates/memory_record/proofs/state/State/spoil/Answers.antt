@@ -1,4 +1,4 @@
-use Rattle.std.proofs.Common.{◌≡◌, false, true, sym, ◌∙◌}
+use Rattle.std.proofs.Common.{◌≡◌, false, true, ◌∙◌}
 use Rattle.memory_record.proofs.Following.{no_keys, spoiling_next, spoiling_last}
 use Rattle.memory_record.proofs.state.State.spoil.Goals as goal
 

@@ -2,7 +2,7 @@ use Rattle.std.proofs.Common.{◌≤◌, ◌∷◌, [], length, arith, sym, subs
 use Rattle.memory_record.specs.Changes.{SoundSince}
 use Rattle.memory_record.proofs.Moments.{sound_push, elapses_push}
 use Rattle.fs_memory.proofs.Valid.{settled_sound}
-use Rattle.fs_memory.proofs.memory.MemFs.record.Goals as goal
+use Rattle.fs_memory.proofs.mem_fs.MemFs.record.Goals as goal
 
 pub invariant_of-self-in-Break-1 : goal.invariant_of-self-in-Break-1
 invariant_of-self-in-Break-1 c = record {
