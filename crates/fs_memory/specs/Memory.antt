@@ -44,6 +44,10 @@ KeepsPools old new = (new.places ≡ old.places) × (new.targets ≡ old.targets
 abbrev pub HasNoPlan : MemFs → Type 0
 HasNoPlan m = (m.plan.items ≡ []) × (m.calls ≡ 0)
 
+-- it counted none, and has the same plan
+abbrev pub CountsNone : MemFs → MemFs → Type 0
+CountsNone old new = (new.plan ≡ old.plan) × (new.calls ≡ old.calls)
+
 -- it counted one call more, by the same plan
 abbrev pub CountsCall : MemFs → MemFs → Type 0
 CountsCall old new = (new.plan ≡ old.plan) × IsNext old.calls new.calls

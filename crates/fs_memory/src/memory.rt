@@ -1,4 +1,4 @@
-ghost use Rattle.std.specs.Prelude.{◌≡◌, ◌≢◌, ◌≤◌, ◌<◌, ◌++◌, ◌∷◌, ◌+◌, ◌-◌, ◌⊎◌, [], ℕ, Bool, Option, length, min, take, Some, None, IfOk, IfErr, OnErr, IfSome, IfNone, IsErrOf, true, false};
+ghost use Rattle.std.specs.Prelude.{◌≡◌, ◌≢◌, ◌≤◌, ◌<◌, ◌++◌, ◌∷◌, ◌+◌, ◌-◌, ◌⊎◌, [], ℕ, Bool, Option, length, Some, None, IfOk, IfErr, OnOk, OnErr, IfSome, IfNone, IsErrOf, true, false};
 ghost use Rattle.std.specs.Vec.{vec_capacity, vec_len};
 ghost use Rattle.fs_trait.specs.Count.{last};
 ghost use Rattle.fs_trait.specs.Image.{Image};
@@ -9,9 +9,9 @@ ghost use Rattle.fs_trait.specs.declared.types.Value.TheVariants.{Absent, Folder
 ghost use Rattle.fs_trait.specs.declared.types.FsErr.{FsErr};
 ghost use Rattle.fs_trait.specs.declared.types.FsErr.TheVariants as error;
 ghost use Rattle.memory_record.specs.declared.change.Change.{Change};
-ghost use Rattle.memory_record.specs.Changes.{empty_view, apply, IsSound, SoundSince};
+ghost use Rattle.memory_record.specs.Changes.{empty_view, IsSound};
 ghost use Rattle.memory_record.specs.Crash.{IsCrashOf};
-ghost use Rattle.fs_memory.specs.Memory.{record_of, view_now, view_at, clock_of, was_since, room_of, KeepsRecord, KeepsPools, HasNoPlan, CountsCall, planned_call};
+ghost use Rattle.fs_memory.specs.Memory.{record_of, view_now, view_at, clock_of, was_since, room_of, KeepsRecord, KeepsPools, HasNoPlan, CountsNone, CountsCall, planned_call};
 ghost use Rattle.fs_memory.specs.Recorded.{IsRecorded, Settles, Obeys, ObeysReading, IsTurn};
 ghost use Rattle.memory_record.specs.Laws.{was_now, was_only_now, was_bound, told_tree, told_always};
 
@@ -376,7 +376,14 @@ impl Fs for MemFs {
         self.record(Ok(Change::SyncAll))
     }
 
-    fn reserve(&mut self, calls: u64) -> Result<(), FsErr> {
+    fn reserve(&mut self, calls: u64) -> Result<(), FsErr>
+        ensures ok { OnOk result (calls ≤ room_of self.new) }
+        ensures keeps_room { room_of self.old ≤ room_of self.new }
+        ensures err { IfErr result (λ e. e ≡ error.NoMemory) }
+        ensures faults { self.new.faults ≡ self.old.faults }
+        ensures quiet { IsQuiet (clock_of self.old) (clock_of self.new) (was_since self.old) (was_since self.new) (Some (view_now self.old)) (Some (view_now self.new)) }
+        ensures plan { CountsNone self.old self.new }
+    {
         self.places.fill(calls)?;
         self.targets.fill(calls)?;
         self.past.reserve(calls as usize)?;

@@ -1,4 +1,4 @@
-ghost use Rattle.std.specs.Prelude.{◌≡◌, None, false};
+ghost use Rattle.std.specs.Prelude.{◌≡◌, false};
 ghost use Rattle.fs_trait.specs.Effect.{way, no_new, no_file, no_leaf, no_folder, inode_of, or_else, if_folder};
 ghost use Rattle.memory_record.specs.Changes.{view_of};
 ghost use Rattle.memory_record.specs.Seen.{value_of};

@@ -1,11 +1,10 @@
-ghost use Rattle.std.specs.Prelude.{◌≡◌, ◌≤◌, ◌<◌, ◌+◌, ◌^◌, ◌++◌, ◌∷◌, ◌↔◌, ℕ, List, [], All, Contains, length, map, take, get_or, cond, IfOk, OnOk, if◌then◌else◌};
+ghost use Rattle.std.specs.Prelude.{◌≡◌, ◌<◌, ◌+◌, ◌^◌, ◌++◌, ◌∷◌, ◌↔◌, ℕ, List, [], Contains, cond, IfOk, OnOk, if◌then◌else◌};
 ghost use Rattle.std.specs.List.{flat_map};
 ghost use Rattle.std.specs.List.Sorted.{IsStrictlySortedBy};
-ghost use Rattle.ost_types.specs.Path.{Path, AreNames, path_cmp, under};
-ghost use Rattle.ost_types.specs.Flat.{flat};
+ghost use Rattle.ost_types.specs.Path.{Path, path_cmp, under};
 ghost use Rattle.fs_trait.specs.View.{View};
 ghost use Rattle.fs_trait.specs.Image.{is_folder};
-ghost use Rattle.memory_record.specs.Changes.{apply, view_of, IsSound};
+ghost use Rattle.memory_record.specs.Changes.{view_of, IsSound};
 ghost use Rattle.fs_trait.specs.declared.types.Value.TheVariants.{Absent};
 ghost use Rattle.memory_record.specs.declared.change.Change.TheVariants.{Name as Named};
 ghost use Rattle.memory_record.specs.Crash.{place, chosen, has_more, IsCrashOf};

@@ -1,6 +1,5 @@
 ghost use Rattle.std.specs.Prelude.{◌≡◌, IfOk, MatchOption};
 ghost use Rattle.ost_types.specs.declared.meta.Meta.{Meta};
-ghost use Rattle.memory_table.specs.Filled.{filled};
 ghost use Rattle.memory_record.specs.Changes.{view_of};
 ghost use Rattle.memory_record.specs.Seen.{bytes_after, synced_after, meta_after};
 

@@ -1,4 +1,4 @@
-ghost use Rattle.std.specs.Prelude.{◌≡◌, ◌++◌, [], ℕ, List, IfOk, IfSome, OnOk, MatchOption};
+ghost use Rattle.std.specs.Prelude.{◌≡◌, [], IfOk, IfSome, OnOk};
 ghost use Rattle.ost_types.specs.Path.{Path, AreNames};
 ghost use Rattle.ost_types.specs.Flat.{flat};
 ghost use Rattle.fs_trait.specs.Effect.{HasNames, IsListing};
