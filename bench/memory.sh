@@ -1,6 +1,6 @@
 #!/bin/sh
 # Times fs_memory: some 1,000, 10,000 and 100,000 changing calls, and 20 images of each run's moments; then an image of each
-# moment of the run of 10,000.
+# moment of the runs of 1,000 and of 10,000.
 # Needs rt. Works in a temporary folder; nothing is proved there of the program that measures.
 set -e
 here=$(cd "$(dirname "$0")" && pwd)
