@@ -62,6 +62,12 @@ IsSettledBy moment came.Done old new = IsEntered moment old new
 IsSettledBy moment came.Halted old new = IsUnbooked old new
 IsSettledBy moment outcome old new = ⊥
 
+-- a change that is shown stays pending
+abbrev pub IsHeldBy : Outcome → rust.Books → rust.Books → Type 0
+IsHeldBy came.More old new = IsUnbooked old new
+IsHeldBy came.Halted old new = IsUnbooked old new
+IsHeldBy outcome old new = ⊥
+
 -- What the books have of the step: the one that shows a change notes it as pending, also where the call failed, and the one
 -- that makes it last makes of it the last entry of the history. No other step changes either.
 abbrev pub IsBooked : Kind → ℕ → ℕ → ℕ → Outcome → rust.Books → rust.Books → Type 0
@@ -70,7 +76,7 @@ IsBooked (Settle e) lane command moment outcome old new = IsSettledBy moment out
 IsBooked Quiet lane command moment outcome old new = IsUnbooked old new
 IsBooked Store lane command moment outcome old new = IsUnbooked old new
 IsBooked (Take wants) lane command moment outcome old new = IsUnbooked old new
-IsBooked (Shown e owed) lane command moment outcome old new = IsUnbooked old new
+IsBooked (Shown e owed) lane command moment outcome old new = IsHeldBy outcome old new
 
 -- a command ends for a call that failed, or for a failed change of all, only where the count of faults rose
 abbrev pub Causes : ℕ → ℕ → Outcome → Type 0

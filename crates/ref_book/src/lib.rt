@@ -1,0 +1,9 @@
+//! The refs as the system knows them: those after the stored history.
+#![tactic(auto)]
+
+mod book;
+
+pub use book::RefBook;
+
+#[cfg(test)]
+mod tests;
