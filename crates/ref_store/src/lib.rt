@@ -6,6 +6,6 @@ mod phase;
 mod refusal;
 mod task;
 
-pub use lookup::{GetRef, get};
+pub use lookup::{GetRef, There, get, look};
 pub use refusal::RefRefusal;
 pub use task::{RefTask, change_ref, sync_and_change_ref};

@@ -1,0 +1,5 @@
+mod FaultLemmas
+mod Lists
+mod Orders
+mod Walks
+mod Reaching

@@ -1,0 +1,8 @@
+//! Opening the repository of a file system: it is checked, its folders are laid out, and what was staged is removed.
+#![tactic(auto)]
+
+mod children;
+mod fault;
+mod reach;
+
+pub use fault::{OpenFault, Why};
