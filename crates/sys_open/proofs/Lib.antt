@@ -3,3 +3,5 @@ mod Lists
 mod Orders
 mod Walks
 mod Reaching
+mod Working
+mod Clearings

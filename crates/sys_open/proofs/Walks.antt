@@ -23,7 +23,7 @@ absent_or_not (Link m t) = inr (λ e. let n : Link m t ≡ Absent = e in cc)
 absent_or_not (File k) = inr (λ e. let n : File k ≡ Absent = e in cc)
 
 -- below a path in a folder is below the folder
-below_under : (at : Path) (x : Name) (q : Path) → is_below (under at x) q ≡ true → (rest : Path) × (q ≡ under at x ++ rest) × (is_below at q ≡ true)
+pub below_under : (at : Path) (x : Name) (q : Path) → is_below (under at x) q ≡ true → (rest : Path) × (q ≡ under at x ++ rest) × (is_below at q ≡ true)
 below_under at x q below =
     let s = below_split (under at x) q below in
     let again : under at x ++ s.0 ≡ at ++ x ∷ s.0 = append_assoc at (x ∷ []) s.0 in

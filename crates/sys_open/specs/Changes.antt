@@ -1,8 +1,9 @@
 -- What the opening changes.
-use Rattle.std.specs.Prelude.{◌≡◌, ◌⊎◌, ◌≤◌, ◌<◌, ℕ, IsTrue, Option}
-use Rattle.ost_types.specs.Path.{Path, is_below}
+use Rattle.std.specs.Prelude.{◌≡◌, ◌≢◌, ◌⊎◌, ◌≤◌, ◌<◌, ℕ, true, IsTrue, [], Option}
+use Rattle.ost_types.specs.Path.{Name, Path, is_below, under}
+use Rattle.fs_trait.specs.declared.types.Value.TheVariants.{Absent}
 use Rattle.fs_trait.specs.View.{Disk, View}
-use Rattle.fs_trait.specs.Image.{Told}
+use Rattle.fs_trait.specs.Image.{is_folder, Told}
 use Rattle.fs_trait.specs.Seen.{Seen, Vacant, Directory, shows}
 use Rattle.fs_trait.specs.Change.{Writes}
 use Rattle.repo_layout.specs.declared.folder.Folder.{Folder}
@@ -34,3 +35,13 @@ pub record Works (W : Path → Seen → Type 0) (v : View) (before now : ℕ) (p
   pub left : Told view (λ w. Writes W v w)
   pub nothing_else : (t : ℕ) (w : View) → since t w → past t w ⊎ Writes W v w
   pub keeps : (t : ℕ) (w : View) → t ≤ before → past t w → since t w
+
+-- what stands in a folder goes, with all below it
+abbrev pub ClearsInside : Path → Path → Seen → Type 0
+ClearsInside at p s = (x : Name) × Clears (under at x) p s
+
+-- an empty folder, which isn't the root
+pub record IsEmptied (d : Disk) (at : Path) : Type 0 where
+  pub folder : is_folder (d.at at) ≡ true
+  pub below_root : at ≢ []
+  pub empty : (x : Name) → d.at (under at x) ≡ Absent

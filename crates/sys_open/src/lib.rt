@@ -2,6 +2,7 @@
 #![tactic(auto)]
 
 mod children;
+mod clear;
 mod fault;
 mod reach;
 
