@@ -5,3 +5,6 @@ mod Walks
 mod Reaching
 mod Working
 mod Clearings
+mod Holding
+mod FolderLemmas
+mod StageLemmas

@@ -26,7 +26,7 @@ module _ (W : Path → Seen → Type 0) (v : View) (before now : ℕ) (past sinc
   works_call only_now time left = record {
     later = time.later;
     left = left;
-    nothing_else = λ t w is. by t w is (leb_tells t before);
+    nothing_else = λ t w is. by t w is (⊎_elim (λ a. inl a.1) (λ a. inr a.1) (leb_tells t before));
     keeps = time.keeps;
   }
     where

@@ -4,3 +4,5 @@ pub mod Walk
 pub mod Changes
 pub mod Gathered
 pub mod Opening
+pub mod Folders
+pub mod Stages

@@ -4,6 +4,10 @@
 mod children;
 mod clear;
 mod fault;
+mod found;
+mod kinds;
 mod reach;
+mod refs;
+mod stages;
 
 pub use fault::{OpenFault, Why};
