@@ -8,3 +8,6 @@ mod Clearings
 mod Holding
 mod FolderLemmas
 mod StageLemmas
+mod Checking
+mod Laying
+mod StageClearing

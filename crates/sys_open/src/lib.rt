@@ -1,11 +1,13 @@
 //! Opening the repository of a file system: it is checked, its folders are laid out, and what was staged is removed.
 #![tactic(auto)]
 
+mod check;
 mod children;
 mod clear;
 mod fault;
 mod found;
 mod kinds;
+mod layout;
 mod reach;
 mod refs;
 mod stages;
