@@ -11,3 +11,5 @@ mod StageLemmas
 mod Checking
 mod Laying
 mod StageClearing
+mod Arranging
+mod Beginning

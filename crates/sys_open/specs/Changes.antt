@@ -45,3 +45,8 @@ pub record IsEmptied (d : Disk) (at : Path) : Type 0 where
   pub folder : is_folder (d.at at) ≡ true
   pub below_root : at ≢ []
   pub empty : (x : Name) → d.at (under at x) ≡ Absent
+
+-- All folders that are there from the beginning are, and nothing stands at a staging path.
+pub record IsArranged (d : Disk) : Type 0 where
+  pub folders : (f : Folder) → is_folder (d.at (folder_path f)) ≡ true
+  pub staging : (actor : ℕ) → actor < 16 → shows d (stage_path actor) ≡ Vacant

@@ -1,6 +1,7 @@
 //! Opening the repository of a file system: it is checked, its folders are laid out, and what was staged is removed.
 #![tactic(auto)]
 
+mod arrange;
 mod check;
 mod children;
 mod clear;
@@ -8,8 +9,10 @@ mod fault;
 mod found;
 mod kinds;
 mod layout;
+mod opening;
 mod reach;
 mod refs;
 mod stages;
 
 pub use fault::{OpenFault, Why};
+pub use opening::open;
