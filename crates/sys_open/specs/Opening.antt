@@ -16,11 +16,14 @@ use Rattle.sys_open.specs.Checks.{IsFault, IsSane}
 use Rattle.sys_open.specs.Changes.{Keeps}
 
 -- Whether it is opened, by what reads see at the beginning.
+abbrev pub IsToldOf : Disk → OpenFault → Type 0
+IsToldOf d (fault.Damaged p why) = IsFault d p why
+IsToldOf d (fault.Outside p) = ⊥
+IsToldOf d e = Unit {0}
+
 abbrev pub Answers : {T : Type 0} → Disk → Result T OpenFault → Type 0
 Answers d (Ok x) = IsSane d
-Answers d (Err (fault.Damaged p why)) = IsFault d p why
-Answers d (Err (fault.Outside p)) = ⊥
-Answers d (Err e) = Unit {0}
+Answers d (Err e) = IsToldOf d e
 
 -- refs by their names, each once, ascending by the bytes of the names
 abbrev pub AreAscending : List (List ℕ × List ℕ) → Type 0
@@ -34,6 +37,10 @@ pub record Begins (refs : List (List ℕ × List ℕ)) (v w : View) : Type 0 whe
   pub staging : (actor : ℕ) → actor < 16 → (p : Path) → IsTrue (is_below (stage_path actor) p) → shows w.now p ≡ Vacant
 
 -- after damage was told all is as it was, and outlasts a crash
+abbrev pub StaysOnDamage : OpenFault → Type 0 → Type 0
+StaysOnDamage (fault.Damaged p why) P = P
+StaysOnDamage e P = Unit {0}
+
 abbrev pub OnDamage : {T : Type 0} → Result T OpenFault → Type 0 → Type 0
-OnDamage (Err (fault.Damaged p why)) P = P
-OnDamage r P = Unit {0}
+OnDamage (Err e) P = StaysOnDamage e P
+OnDamage (Ok x) P = Unit {0}

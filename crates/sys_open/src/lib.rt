@@ -1,6 +1,7 @@
 //! Opening the repository of a file system: it is checked, its folders are laid out, and what was staged is removed.
 #![tactic(auto)]
 
+mod adopting;
 mod arrange;
 mod check;
 mod children;
@@ -14,5 +15,5 @@ mod reach;
 mod refs;
 mod stages;
 
+pub use adopting::{Opened, adopt};
 pub use fault::{OpenFault, Why};
-pub use opening::open;
