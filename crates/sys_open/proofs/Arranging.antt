@@ -1,16 +1,14 @@
 -- What is left where the folders were laid out and the staging paths cleared.
-use Rattle.std.proofs.Common.{◌≡◌, ◌⊎◌, inl, inr, ⊎_elim, ◌<◌, ℕ, Bool, true, false, refl, sym, ◌∙◌, ap, subst, arith, List, [], ◌∷◌, ◌++◌, Option, Some, Result, Ok, Err}
-use Rattle.std.specs.Prelude.{codes, OnOk}
-use Rattle.std.specs.Fmt.{decimal}
-use Rattle.ost_types.specs.Path.{Name, Path, is_below, same_name, under}
+use Rattle.std.proofs.Common.{◌≡◌, ⊎_elim, ◌<◌, ℕ, true, false, refl, sym, ◌∙◌, ap, subst, Option, Some, Result, Ok, Err}
+use Rattle.std.specs.Prelude.{OnOk}
+use Rattle.ost_types.specs.Path.{Name, Path, is_below, under}
 use Rattle.ost_types.proofs.Paths.{is_below-under}
-use Rattle.fs_trait.specs.declared.types.Value.TheVariants.{Absent}
 use Rattle.fs_trait.specs.declared.types.FsErr.{FsErr}
 use Rattle.fs_trait.specs.declared.types.FsErr.TheVariants as err
 use Rattle.fs_trait.specs.View.{Disk, View, all_synced}
 use Rattle.fs_trait.specs.Image.{is_folder, IsTree, Told}
 use Rattle.fs_trait.specs.Effect.{OfNone}
-use Rattle.fs_trait.specs.Seen.{Seen, Vacant, Directory, seen, shows, IsDirectory, Always}
+use Rattle.fs_trait.specs.Seen.{Vacant, seen, shows, Always}
 use Rattle.fs_trait.specs.Change.{Writes}
 use Rattle.fs_trait.proofs.Facts.{vacant_absent}
 use Rattle.fs_trait.proofs.Effects.{all_synced-firm}
@@ -19,8 +17,8 @@ use Rattle.repo_layout.specs.declared.folder.Folder.TheVariants.{Ostree, Repo, O
 use Rattle.repo_layout.specs.Paths.{folder_path, stage_path}
 use Rattle.sys_open.specs.declared.fault.OpenFault.{OpenFault}
 use Rattle.sys_open.specs.Faults.{IsRefusal, IsInterruption}
-use Rattle.sys_open.specs.Checks.{IsReached, Asks, Staging, Kinds, FolderOrNothing, Suits, IsSane}
-use Rattle.sys_open.specs.Changes.{Lays, ClearsStages, Changes, IsArranged}
+use Rattle.sys_open.specs.Checks.{Asks, Staging, Kinds, FolderOrNothing, Suits, IsSane}
+use Rattle.sys_open.specs.Changes.{Lays, ClearsStages, IsArranged}
 use Rattle.sys_open.proofs.Clearings.{folder_still}
 use Rattle.sys_open.proofs.Working.{one_view}
 
@@ -67,10 +65,14 @@ sync_interrupted at err.NotEmpty f named is = absurd named
 
 pub arranged_of : {T : Type 0} (u w : View) → Writes ClearsStages u w → ((f : Folder) → is_folder (u.now.at (folder_path f)) ≡ true) → (view : Option View) (r : Result T OpenFault) → view ≡ Some w
     → OnOk r (Told view (λ x. (actor : ℕ) → actor < 16 → shows x.now (stage_path actor) ≡ Vacant)) → OnOk r (Told view (λ x. IsArranged x.now))
-arranged_of u w writes laid view (Ok x) told clear = (w, told, record {
-  folders = λ f. folders_stay u w writes f (laid f);
-  staging = subst (λ (y : View). (actor : ℕ) → actor < 16 → shows y.now (stage_path actor) ≡ Vacant) (one_view view clear.0 w clear.1 told) clear.2;
-})
+arranged_of u w writes laid view (Ok x) told clear = (
+  w,
+  told,
+  record {
+    folders = λ f. folders_stay u w writes f (laid f);
+    staging = subst (λ (y : View). (actor : ℕ) → actor < 16 → shows y.now (stage_path actor) ≡ Vacant) (one_view view clear.0 w clear.1 told) clear.2;
+  },
+)
 arranged_of u w writes laid view (Err e) told clear = tt
 
 -- a sync of all changes nothing that reads see, and makes it last

@@ -1,21 +1,20 @@
 -- What a system can begin with, where a sane disk was arranged.
-use Rattle.std.proofs.Common.{◌≡◌, ◌≢◌, ◌⊎◌, inl, inr, ⊎_elim, ◌<◌, ℕ, true, false, IsTrue, refl, sym, ◌∙◌, ap, subst, List, [], ◌∷◌, ◌++◌, Option, Some, None, Result, Ok, Err}
+use Rattle.std.proofs.Common.{◌≡◌, ◌⊎◌, inl, inr, ℕ, true, false, refl, sym, ◌∙◌, ap, subst, List, ◌++◌, Some, None, Err}
 use Rattle.ost_types.specs.Path.{Path, is_below}
 use Rattle.fs_trait.specs.declared.types.Value.{Value}
 use Rattle.fs_trait.specs.declared.types.Value.TheVariants.{Absent, Folder, Link, File}
-use Rattle.fs_trait.specs.View.{Disk, View, all_synced}
-use Rattle.fs_trait.specs.Image.{is_folder, IsTree, Told}
-use Rattle.fs_trait.specs.Seen.{Seen, Vacant, Directory, Symlink, Leaf, seen, shows, Always, bytes_in}
-use Rattle.fs_trait.specs.Change.{Writes}
+use Rattle.fs_trait.specs.View.{Disk, View}
+use Rattle.fs_trait.specs.Image.{IsTree}
+use Rattle.fs_trait.specs.Seen.{Vacant, Directory, seen, shows, Always, bytes_in}
 use Rattle.fs_trait.proofs.Claims.{reads_shows, is_below-before}
 use Rattle.fs_trait.proofs.Facts.{vacant_absent}
-use Rattle.repo_layout.specs.Paths.{folder_path, heads, ref_path, stage_path}
+use Rattle.repo_layout.specs.Paths.{heads, ref_path, stage_path}
 use Rattle.repo_layout.specs.RefName.{IsRefName, parts_of}
 use Rattle.repo_layout.specs.Refs.{Names, is_leaf}
 use Rattle.repo_layout.specs.RefFile.{ref_text}
 use Rattle.ref_room.specs.Way.{folder_meta}
 use Rattle.ref_room.proofs.Names.{ref_path-one}
-use Rattle.rely.specs.State.{RefOf, Said, State, first}
+use Rattle.rely.specs.State.{RefOf, Said, first}
 use Rattle.rely.specs.Disks.{IsLeaf, Says, Logical, IsGood}
 use Rattle.rely.proofs.Layouts.{below_split}
 use Rattle.sys_open.specs.declared.fault.OpenFault.{OpenFault}

@@ -1,11 +1,11 @@
 -- From what each check found to what an opening tells.
-use Rattle.std.proofs.Common.{◌≡◌, ◌⊎◌, ◌<◌, ℕ, true, false, IsTrue, refl, sym, ◌∙◌, ap, subst, arith, List, [], ◌∷◌, Option, Some, None, Result, Ok, Err, if◌then◌else◌}
+use Rattle.std.proofs.Common.{◌≡◌, ◌<◌, ℕ, true, false, refl, sym, ◌∙◌, ap, subst, arith, List, [], ◌∷◌, Some, None, Err, if◌then◌else◌}
 use Rattle.std.specs.Prelude.{IsSome}
 use Rattle.std.specs.BTreeMap.{get}
 use Rattle.std.specs.Map.{lookup}
 use Rattle.std.specs.Cmp.Lexicographic.{slice_cmp, texts_ties}
 use Rattle.std.specs.Ordering.{nat_cmp, is_eq}
-use Rattle.ost_types.specs.Path.{Path, is_below, same_name}
+use Rattle.ost_types.specs.Path.{Path, is_below}
 use Rattle.fs_trait.specs.declared.types.Value.{Value}
 use Rattle.fs_trait.specs.declared.types.Value.TheVariants.{Absent, Folder, Link, File}
 use Rattle.fs_trait.specs.View.{Disk}
@@ -14,7 +14,7 @@ use Rattle.fs_trait.proofs.Claims.{reads_shows, is_below-before}
 use Rattle.repo_layout.specs.Paths.{heads, ref_path}
 use Rattle.repo_layout.specs.RefName.{parts_of}
 use Rattle.repo_layout.specs.Refs.{is_leaf}
-use Rattle.rely.specs.State.{Topic, RefOf, Said, first}
+use Rattle.rely.specs.State.{RefOf, Said, first}
 use Rattle.rely.specs.Disks.{IsLeaf, Says, Logical}
 use Rattle.sys_open.specs.declared.fault.OpenFault.{OpenFault}
 use Rattle.sys_open.specs.declared.fault.OpenFault.TheVariants as fault

@@ -1,11 +1,10 @@
 -- The folders that are there from the beginning: their order, and the folder above each.
-use Rattle.std.proofs.Common.{◌≡◌, ◌⊎◌, inl, inr, ⊎_elim, ◌<◌, ◌≤◌, ◌+◌, ℕ, true, false, refl, sym, ◌∙◌, ap, subst, arith, List, [], ◌∷◌, length, map, get_or, Result, Ok, Err}
-use Rattle.std.specs.Prelude.{codes}
+use Rattle.std.proofs.Common.{◌≡◌, ◌⊎◌, inl, inr, ◌<◌, ◌≤◌, ◌+◌, ℕ, true, false, refl, sym, ◌∙◌, ap, subst, arith, List, [], length, map, get_or, Err}
 use Rattle.std.specs.List.Sorted.{IsStrictlySortedBy}
 use Rattle.std.specs.declared.cmp.Ordering.TheVariants.{Less}
 use Rattle.std.proofs.lemmas.List.{get_or-map, get_or_default}
 use Rattle.std.proofs.lemmas.Map.Keys.{Less-from_sorted}
-use Rattle.ost_types.specs.Path.{Name, Path, is_below, path_cmp, under}
+use Rattle.ost_types.specs.Path.{Path, is_below, path_cmp}
 use Rattle.fs_trait.specs.declared.types.Value.{Value}
 use Rattle.fs_trait.specs.declared.types.Value.TheVariants as value
 use Rattle.fs_trait.specs.View.{Disk}
@@ -17,7 +16,7 @@ use Rattle.repo_layout.specs.Refs.{is_leaf}
 use Rattle.sys_open.specs.declared.fault.OpenFault.{OpenFault}
 use Rattle.sys_open.specs.declared.fault.OpenFault.TheVariants as fault
 use Rattle.sys_open.specs.declared.fault.Why.TheVariants.{WrongKind}
-use Rattle.sys_open.specs.Checks.{Rule, FolderOrNothing, Suits, Asks, Kinds}
+use Rattle.sys_open.specs.Checks.{FolderOrNothing, Suits, Asks, Kinds}
 use Rattle.sys_open.specs.Folders.{all_folders}
 use Rattle.sys_open.specs.Walk.{IsSoBelow, IsFirstBelow, Looked, Walked}
 use Rattle.sys_open.proofs.Orders.{not_both_less, not_less_itself}

@@ -1,12 +1,12 @@
 -- The refs at a path and below it.
-use Rattle.std.proofs.Common.{◌≡◌, ◌≢◌, ◌⊎◌, inl, inr, ⊎_elim, ◌<◌, ◌≤◌, ◌+◌, ℕ, Bool, true, false, if◌then◌else◌, refl, sym, ◌∙◌, ap, subst, arith, List, [], ◌∷◌, ◌++◌, length, get_or, append-nil, append_assoc, Option, Some, None, Result, Ok, Err}
+use Rattle.std.proofs.Common.{◌≡◌, ◌≢◌, ◌⊎◌, inl, inr, ⊎_elim, ◌<◌, ◌≤◌, ◌+◌, ℕ, Bool, true, false, refl, sym, ◌∙◌, ap, subst, arith, List, [], length, get_or, Some, None, Result, Ok, Err}
 use Rattle.std.specs.Prelude.{OnOk, IsSome}
 use Rattle.std.specs.Bool.{Decides}
 use Rattle.std.specs.BTreeMap.{get, Updates}
 use Rattle.std.specs.Cmp.Lexicographic.{slice_cmp, texts_ties}
 use Rattle.std.specs.Ordering.{nat_cmp, is_eq}
 use Rattle.std.specs.declared.cmp.Ordering.{Ordering}
-use Rattle.ost_types.specs.Path.{Name, Path, is_below, same_name, under}
+use Rattle.ost_types.specs.Path.{Name, Path, same_name}
 use Rattle.ost_types.proofs.Paths.{same_name-Decides, is_below-self}
 use Rattle.fs_trait.specs.declared.types.Value.{Value}
 use Rattle.fs_trait.specs.declared.types.Value.TheVariants.{Absent, Folder, Link, File}
@@ -14,21 +14,16 @@ use Rattle.fs_trait.specs.View.{Disk}
 use Rattle.fs_trait.specs.Image.{is_folder, IsTree, reads, bytes_of}
 use Rattle.fs_trait.specs.Effect.{IsListing}
 use Rattle.repo_layout.specs.Paths.{ref_path}
-use Rattle.repo_layout.specs.RefName.{IsRefName}
 use Rattle.repo_layout.specs.Refs.{Names, ShowsCommit, ShowsNoCommit, is_leaf}
 use Rattle.std.proofs.lemmas.List.{get_or_default}
-use Rattle.ref_room.specs.Clash.{IsNoRef}
 use Rattle.sys_open.specs.declared.fault.OpenFault.{OpenFault}
 use Rattle.sys_open.specs.declared.fault.OpenFault.TheVariants as fault
 use Rattle.sys_open.specs.declared.fault.Why.{Why}
 use Rattle.sys_open.specs.declared.fault.Why.TheVariants.{BadRef}
-use Rattle.fs_trait.specs.declared.types.FsErr.{FsErr}
-use Rattle.fs_trait.specs.declared.types.FsErr.TheVariants as err
-use Rattle.sys_open.specs.Faults.{IsRefusal, IsInterruption}
 use Rattle.sys_open.specs.Checks.{HoldsRefs, IsRefAt, IsReached}
 use Rattle.sys_open.specs.Walk.{IsSoBelow, IsFirstBelow, Looked, Walked, paths_in}
 use Rattle.sys_open.specs.Gathered.{Refs, Has, HasAt, HasLeafAt, AreOf, HasAllBelow, Grows}
-use Rattle.sys_open.proofs.Walks.{leaf_walk, first_here, absent_or_not, absent_below}
+use Rattle.sys_open.proofs.Walks.{leaf_walk, first_here}
 use Rattle.sys_open.proofs.Reaching.{leaf_no_folder, reached_vacant, walked_all}
 
 abbrev order : List ℕ → List ℕ → Ordering

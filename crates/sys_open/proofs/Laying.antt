@@ -1,5 +1,5 @@
 -- What is left where the folders are laid out.
-use Rattle.std.proofs.Common.{◌≡◌, ◌⊎◌, inl, inr, ⊎_elim, ◌<◌, ◌≤◌, ◌+◌, ℕ, zero, suc, true, false, refl, sym, ◌∙◌, ap, subst, arith, List, [], ◌∷◌, length, get_or, Option, Some, None}
+use Rattle.std.proofs.Common.{◌≡◌, ◌⊎◌, inl, inr, ⊎_elim, ◌<◌, ◌≤◌, ◌+◌, ℕ, zero, suc, true, refl, sym, ◌∙◌, ap, subst, arith, List, [], length, get_or, Option, Some, None}
 use Rattle.std.proofs.lemmas.List.{get_or_default}
 use Rattle.ost_types.specs.declared.meta.Meta.{Meta}
 use Rattle.ost_types.specs.Path.{Name, Path, under}
@@ -16,7 +16,7 @@ use Rattle.fs_trait.proofs.Facts.{no_new-free}
 use Rattle.fs_trait.proofs.Images.{named-here}
 use Rattle.fs_trait.proofs.Claims.{folder_shows}
 use Rattle.repo_layout.specs.declared.folder.Folder.{Folder}
-use Rattle.repo_layout.specs.declared.folder.Folder.TheVariants.{Ostree, Repo, Objects, Refs, Heads, State, Tmp}
+use Rattle.repo_layout.specs.declared.folder.Folder.TheVariants.{Ostree, Repo, Refs}
 use Rattle.repo_layout.specs.Paths.{folder_path}
 use Rattle.ref_room.specs.Way.{folder_meta}
 use Rattle.sys_open.specs.Checks.{FolderOrNothing, Suits}

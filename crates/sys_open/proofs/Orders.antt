@@ -1,12 +1,12 @@
 -- The order of paths, of which one is above another.
-use Rattle.std.proofs.Common.{◌≡◌, true, false, ◌&&◌, Bool, refl, sym, ◌∙◌, ap, subst, List, [], ◌∷◌, ◌++◌, ℕ, append-nil, append_assoc}
+use Rattle.std.proofs.Common.{◌≡◌, true, false, refl, sym, ◌∙◌, ap, subst, [], ◌∷◌, ◌++◌, append-nil, append_assoc}
 use Rattle.std.specs.Cmp.Lexicographic.{slice_cmp}
 use Rattle.std.specs.Cmp.{IsTotalOrder}
 use Rattle.std.specs.Ordering.{nat_cmp, is_eq}
 use Rattle.std.specs.declared.cmp.Ordering.{Ordering}
 use Rattle.std.specs.declared.cmp.Ordering.TheVariants.{Less, Equal, Greater}
 use Rattle.std.proofs.lemmas.Cmp.{nat_list_cmp_total, lists_total, eq_by_cmp_equiv}
-use Rattle.ost_types.specs.Path.{Name, Path, is_below, path_cmp, under}
+use Rattle.ost_types.specs.Path.{Name, Path, path_cmp, under}
 
 path_order : IsTotalOrder path_cmp
 path_order = lists_total nat_list_cmp_total

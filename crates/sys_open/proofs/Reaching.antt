@@ -1,7 +1,7 @@
 -- That what stands at a path and below it can be removed.
-use Rattle.std.proofs.Common.{◌≡◌, ◌≢◌, ◌<◌, ◌≤◌, ℕ, true, false, refl, sym, ◌∙◌, ap, subst, arith, List, [], length, get_or, Result, Ok, Err}
+use Rattle.std.proofs.Common.{◌≡◌, ◌<◌, ◌≤◌, ℕ, true, false, refl, sym, ◌∙◌, ap, subst, arith, List, [], length, get_or, Err}
 use Rattle.std.proofs.lemmas.List.{get_or_default}
-use Rattle.ost_types.specs.Path.{Name, Path, IsPath, under}
+use Rattle.ost_types.specs.Path.{Name, Path}
 use Rattle.ost_types.proofs.Paths.{is_below-self}
 use Rattle.fs_trait.specs.declared.types.Value.{Value}
 use Rattle.fs_trait.specs.declared.types.Value.TheVariants.{Absent, Folder, Link, File}
@@ -14,7 +14,7 @@ use Rattle.sys_open.specs.declared.fault.OpenFault.TheVariants as fault
 use Rattle.sys_open.specs.declared.fault.Why.{Why}
 use Rattle.sys_open.specs.Checks.{IsReached}
 use Rattle.sys_open.specs.Walk.{IsSoBelow, IsFirstBelow, Looked, Walked, paths_in}
-use Rattle.sys_open.proofs.Walks.{leaf_walk, nothing_walk, first_here, folder_walk, folder_first}
+use Rattle.sys_open.proofs.Walks.{leaf_walk, first_here, folder_walk, folder_first}
 
 pub leaf_no_folder : (z : Value) → is_leaf z ≡ true → is_folder z ≡ false
 leaf_no_folder Absent e = refl

@@ -1,8 +1,7 @@
 -- What is left where the staging paths are cleared.
-use Rattle.std.proofs.Common.{◌≡◌, ◌≢◌, ◌⊎◌, inl, inr, ⊎_elim, ◌<◌, ◌≤◌, ◌+◌, ℕ, true, false, refl, sym, ◌∙◌, ap, subst, arith, List, [], ◌∷◌, length, get_or}
+use Rattle.std.proofs.Common.{◌≡◌, ◌≢◌, ◌⊎◌, inl, inr, ⊎_elim, ◌<◌, ◌≤◌, ◌+◌, ℕ, sym, ◌∙◌, ap, subst, arith, List, [], length, get_or}
 use Rattle.std.proofs.lemmas.List.{get_or_default}
-use Rattle.ost_types.specs.Path.{Name, Path, under}
-use Rattle.fs_trait.specs.declared.types.Value.TheVariants.{Absent}
+use Rattle.ost_types.specs.Path.{Path, under}
 use Rattle.fs_trait.specs.View.{Disk, View}
 use Rattle.fs_trait.specs.Seen.{Seen, Vacant, seen, shows}
 use Rattle.fs_trait.specs.Change.{Writes}

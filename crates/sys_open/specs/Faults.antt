@@ -1,11 +1,11 @@
 -- Why a repository isn't opened, as far as a call of the file system is the reason.
-use Rattle.std.specs.Prelude.{◌≡◌, ◌⊎◌, ◌≤◌, ℕ, Result, Ok, Err, IsErrOf}
+use Rattle.std.specs.Prelude.{◌≡◌, ◌⊎◌, ◌≤◌, ℕ, Result, IsErrOf}
 use Rattle.ost_types.specs.Path.{Path}
 use Rattle.fs_trait.specs.declared.types.FsErr.{FsErr}
 use Rattle.fs_trait.specs.declared.types.FsErr.TheVariants as err
 use Rattle.fs_trait.specs.Count.{Rose}
 use Rattle.sys_open.specs.declared.fault.OpenFault.{OpenFault}
-use Rattle.sys_open.specs.declared.fault.OpenFault.TheVariants.{Damaged, Disk, Outside, NoMemory}
+use Rattle.sys_open.specs.declared.fault.OpenFault.TheVariants.{Disk, Outside, NoMemory}
 
 -- what is told where a call on a path answered an error
 abbrev pub IsRefusal : Path → FsErr → OpenFault → Type 0

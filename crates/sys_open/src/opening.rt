@@ -38,10 +38,7 @@ fn settle<F: Fs>(alloc: Global, fs: &mut F) -> Result<(), OpenFault>
 
 /// Opens the repository: makes all that is there outlast a crash, checks it, and then makes the folders that are absent and
 /// clears the staging paths. The refs are told, ascending by the bytes of their names, and the clock after the first barrier.
-pub fn open<F: Fs>(
-    alloc: Global,
-    fs: &mut F,
-) -> Result<(Vec<(RefName, Csum)>, u64), OpenFault>
+pub fn open<F: Fs>(alloc: Global, fs: &mut F) -> Result<(Vec<(RefName, Csum)>, u64), OpenFault>
     ensures told { (v : View) → F.view fs.old ≡ Some v → Answers v.now result }
     ensures begins { (v : View) → F.view fs.old ≡ Some v → IfOk result (λ o. Told (F.view fs.new) (λ w. Begins o.0.items v w)) }
     ensures still { (v : View) → F.view fs.old ≡ Some v → OnDamage result (F.view fs.new ≡ Some (all_synced v)) }

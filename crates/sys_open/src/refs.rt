@@ -13,8 +13,8 @@ ghost use Rattle.sys_open.specs.Walk.{Finds, IsFileAt, Looked, Visited, Walked};
 ghost use Rattle.sys_open.specs.Gathered.{AreOf, Grows, HasAllBelow, HasAt};
 
 use crate::children::children;
-use crate::found::Found;
 use crate::fault::{OpenFault, Why, damaged, refused};
+use crate::found::Found;
 use fs_trait::{Fs, Node};
 use ost_types::{Bytes, Csum, FsPath};
 use ref_room::{Stands, ref_at};
@@ -146,12 +146,7 @@ fn bytes_at<F: Fs>(fs: &mut F, at: &FsPath) -> Result<Bytes, OpenFault>
 }
 
 // the ref whose file stands at the path names this commit
-fn enter(
-    alloc: Global,
-    at: &FsPath,
-    commit: Csum,
-    found: &mut Found,
-) -> Result<(), OpenFault>
+fn enter(alloc: Global, at: &FsPath, commit: Csum, found: &mut Found) -> Result<(), OpenFault>
     ensures told { (d : Disk) → ShowsCommit d at.now commit → Looked (IsRefAt d at.now) BadRef at.now result }
     ensures right { (d : Disk) → ShowsCommit d at.now commit → OnOk result (AreOf d found.old.refs → AreOf d found.new.refs) }
     ensures there { OnOk result (HasAt at.now found.new.refs) }

@@ -1,9 +1,7 @@
-use Rattle.std.proofs.Common.{◌≡◌, inl, inr, ap, subst, sym}
-use Rattle.fs_trait.specs.View.{View}
-use Rattle.fs_trait.specs.Change.{Writes}
-use Rattle.sys_open.specs.Changes.{Lays, ClearsStages, Changes, IsArranged}
+use Rattle.std.proofs.Common.{inl, inr}
+use Rattle.sys_open.specs.Changes.{Lays, ClearsStages, Changes}
 use Rattle.sys_open.proofs.Arranging.{arranged_of, asks_kept, kinds_suit_all}
-use Rattle.sys_open.proofs.Working.{one_view, works_then, works_weaker}
+use Rattle.sys_open.proofs.Working.{works_then, works_weaker}
 use Rattle.sys_open.proofs.arrange.arrange.Goals as goal
 
 pub lay_out-requires : goal.lay_out-requires

@@ -1,4 +1,4 @@
-use Rattle.std.proofs.Common.{◌≡◌, [], None}
+use Rattle.std.proofs.Common.{None}
 use Rattle.fs_trait.specs.View.{all_synced}
 use Rattle.fs_trait.specs.Change.{Nothing}
 use Rattle.fs_trait.proofs.Effects.{all_synced-writes}

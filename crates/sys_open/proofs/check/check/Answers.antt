@@ -1,9 +1,6 @@
-use Rattle.std.proofs.Common.{◌≡◌, sym, ◌∙◌, ap, subst, List, ℕ, Err}
+use Rattle.std.proofs.Common.{◌∙◌, subst, List, ℕ, Err}
 use Rattle.std.proofs.lemmas.Result.{err_from_is_err_and}
 use Rattle.std.specs.Global.{Vec}
-use Rattle.ost_types.specs.Path.{Path}
-use Rattle.fs_trait.specs.View.{View}
-use Rattle.sys_open.specs.declared.fault.OpenFault.{OpenFault}
 use Rattle.sys_open.specs.declared.fault.Why.TheVariants.{BadRef}
 use Rattle.sys_open.specs.Checks.{HoldsRefs}
 use Rattle.sys_open.specs.Gathered.{HasAllBelow}

@@ -1,4 +1,4 @@
-use Rattle.std.proofs.Common.{◌≡◌, ◌≤◌, sym, ◌∙◌, ap, subst, arith}
+use Rattle.std.proofs.Common.{◌≡◌, ◌∙◌, subst, arith}
 use Rattle.std.proofs.lemmas.Result.{err_from_is_err_and}
 use Rattle.std.specs.Global.{Vec}
 use Rattle.ost_types.specs.Path.{Path}
@@ -7,7 +7,6 @@ use Rattle.fs_trait.specs.View.{View}
 use Rattle.fs_trait.specs.Seen.{Vacant, shows}
 use Rattle.fs_trait.specs.Change.{Writes}
 use Rattle.sys_open.specs.declared.fault.Why.TheVariants.{WrongKind}
-use Rattle.sys_open.specs.Faults.{IsInterruption}
 use Rattle.sys_open.specs.Checks.{IsReached}
 use Rattle.sys_open.specs.Changes.{Clears, ClearsInside, IsEmptied}
 use Rattle.sys_open.proofs.Clearings.{inside_below, looked_fails, clears_path, reached_still, emptied, more_cleared}
@@ -54,8 +53,8 @@ clear_inside-loop-path-preserved g t c =
     let listed = c.in_ok-inside.ensures.listed in
     let lead = clears_path c.args.at.now c.as_slice-path-items.result.now listed.0 (c.as_slice-path-items.ensures.value ∙ listed.1) c.loop-path.path-index c.path-item.result c.loop-path-test.true c.path-item.is in
     let so_far = c.loop-path.invariant.0 in
-    let later = c.clear.ensures.reason.later in
-    (omega (arith, so_far, later),
+    let later = c.clear.ensures.reason.later in (
+      omega (arith, so_far, later),
       λ v told.
           let first = c.loop-path.invariant.1 v told in
           works_then (ClearsInside c.args.at.now) (Clears c.path-item.result) v first.left.0 _ _ _ _ _ _ _ _ first.left.1 first (c.clear.ensures.works first.left.0 first.left.1) lead,
@@ -67,7 +66,8 @@ clear_inside-loop-path-preserved g t c =
           more_cleared c.as_slice-path-items.result.now c.loop-path.path-index c.path-item.result u w c.loop-path-test.true c.path-item.is
           (subst (λ x. Writes (Clears c.path-item.result) u x) (one_view _ works.left.0 w works.left.1 now) works.left.2)
           (subst (λ (x : View). shows x.now c.path-item.result ≡ Vacant) (one_view _ here.0 w here.1 now) here.2)
-          (c.loop-path.invariant.2 v told u first.left.1))
+          (c.loop-path.invariant.2 v told u first.left.1),
+    )
 
 pub clear_inside-returns-clause-emptied : goal.clear_inside-returns-clause-emptied
 clear_inside-returns-clause-emptied g t c = λ v told.

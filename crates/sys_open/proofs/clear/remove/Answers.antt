@@ -1,11 +1,9 @@
-use Rattle.std.proofs.Common.{◌≡◌}
 use Rattle.fs_trait.specs.declared.types.Value.TheVariants.{Absent}
 use Rattle.fs_trait.specs.View.{named}
-use Rattle.fs_trait.specs.Effect.{no_leaf}
 use Rattle.sys_open.specs.Changes.{Clears}
-use Rattle.sys_open.proofs.Clearings.{clears_name, cleared_name, no_leaf-free, no_rmdir-free, removed_left}
+use Rattle.sys_open.proofs.Clearings.{cleared_name, no_rmdir-free, removed_left}
 use Rattle.sys_open.proofs.FaultLemmas.{call_interrupted}
-use Rattle.sys_open.proofs.Working.{changed_left, works_call}
+use Rattle.sys_open.proofs.Working.{works_call}
 use Rattle.sys_open.proofs.clear.remove.Goals as goal
 
 pub returns-in-Ok-clause-works : goal.returns-in-Ok-clause-works

@@ -1,5 +1,4 @@
-use Rattle.std.proofs.Common.{◌≡◌, sym, ◌∙◌, ap, subst, true}
-use Rattle.fs_trait.specs.Seen.{seen, IsDirectory}
+use Rattle.std.proofs.Common.{◌≡◌, sym, ◌∙◌, subst, true}
 use Rattle.repo_layout.specs.Paths.{folder_path}
 use Rattle.repo_layout.specs.Refs.{is_leaf}
 use Rattle.ref_room.proofs.Disks.{looked_nothing, looked_folder, looked_leaf}

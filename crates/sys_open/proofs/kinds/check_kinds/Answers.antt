@@ -1,4 +1,4 @@
-use Rattle.std.proofs.Common.{◌≡◌, sym, ◌∙◌, ap, subst, arith}
+use Rattle.std.proofs.Common.{◌∙◌, arith}
 use Rattle.std.proofs.lemmas.Result.{err_from_is_err_and}
 use Rattle.std.proofs.lemmas.List.{get_or_default}
 use Rattle.fs_trait.proofs.Quiet.{IsQuiet-trans}
@@ -9,9 +9,11 @@ pub loop-folder-preserved : goal.loop-folder-preserved
 loop-folder-preserved g c =
     let inv = c.loop-folder.invariant in
     let first = inv.1 in
-    let later = c.check_kind.ensures.reason.later in
-    (IsQuiet-trans _ _ _ _ _ _ _ _ _ inv.0 c.check_kind.ensures.quiet, omega (arith, first, later),
-      λ v told. more_suit v.now c.folders-folder-items.result.now c.loop-folder.folder-index _ c.loop-folder-test.true (get_or_default c.folders-folder-items.result.now c.loop-folder.folder-index _ _ c.loop-folder-test.true) (c.in_ok-check_kind.ensures.told v (inv.0.view ∙ told)) (inv.2 v told))
+    let later = c.check_kind.ensures.reason.later in (
+      IsQuiet-trans _ _ _ _ _ _ _ _ _ inv.0 c.check_kind.ensures.quiet,
+      omega (arith, first, later),
+      λ v told. more_suit v.now c.folders-folder-items.result.now c.loop-folder.folder-index _ c.loop-folder-test.true (get_or_default c.folders-folder-items.result.now c.loop-folder.folder-index _ _ c.loop-folder-test.true) (c.in_ok-check_kind.ensures.told v (inv.0.view ∙ told)) (inv.2 v told),
+    )
 
 pub returns-in_err-check_kind-clause-told : goal.returns-in_err-check_kind-clause-told
 returns-in_err-check_kind-clause-told g c = λ v told.

@@ -1,4 +1,4 @@
-use Rattle.std.proofs.Common.{◌≡◌, ◌≤◌, sym, ◌∙◌, ap, subst, arith, get_or, true}
+use Rattle.std.proofs.Common.{◌≡◌, subst, arith, get_or, true}
 use Rattle.std.proofs.lemmas.List.{get_or_default}
 use Rattle.fs_trait.specs.View.{View}
 use Rattle.fs_trait.specs.Image.{is_folder}
@@ -33,8 +33,8 @@ loop-folder-preserved g c =
     let items = c.folders-folder-items.result.now in
     let i = c.loop-folder.folder-index in
     let so_far = c.loop-folder.invariant.0 in
-    let later = c.lay.ensures.reason.later in
-    (omega (arith, so_far, later),
+    let later = c.lay.ensures.reason.later in (
+      omega (arith, so_far, later),
       λ v told.
           let first = c.loop-folder.invariant.1 v told in
           let u = first.left.0 in
@@ -46,4 +46,5 @@ loop-folder-preserved g c =
           more_laid b.0 w items i (get_or items i Ostree) c.loop-folder-test.true (get_or_default items i Ostree (get_or items i Ostree) c.loop-folder-test.true)
           (subst (λ x. Writes (Lays b.0.now) b.0 x) (one_view _ works.left.0 w works.left.1 now) works.left.2)
           (subst (λ (x : View). is_folder (x.now.at (folder_path (get_or items i Ostree))) ≡ true) (one_view _ laid.0 w laid.1 now) laid.2)
-          (c.loop-folder.invariant.2 b.0 b.1))
+          (c.loop-folder.invariant.2 b.0 b.1),
+    )

@@ -1,8 +1,8 @@
-use Rattle.std.proofs.Common.{◌≡◌, ◌≤◌, sym, ◌∙◌, ap, subst, arith, List, ℕ, Some, Err}
+use Rattle.std.proofs.Common.{◌∙◌, subst, List, ℕ, Err}
 use Rattle.std.proofs.lemmas.Result.{err_from_is_err_and}
 use Rattle.std.specs.Global.{Vec}
 use Rattle.ost_types.specs.Path.{Path}
-use Rattle.fs_trait.specs.View.{Disk, View, all_synced}
+use Rattle.fs_trait.specs.View.{View, all_synced}
 use Rattle.fs_trait.specs.Seen.{Always, shows}
 use Rattle.fs_trait.specs.Change.{Nothing, Writes}
 use Rattle.rely.specs.State.{first}
@@ -11,7 +11,7 @@ use Rattle.sys_open.specs.Checks.{IsSane}
 use Rattle.sys_open.specs.Opening.{Answers}
 use Rattle.sys_open.specs.Changes.{Changes, Keeps}
 use Rattle.sys_open.proofs.Arranging.{synced_now, synced_always}
-use Rattle.sys_open.proofs.Beginning.{interrupted_answer, still_answers, interrupted_damage, any_damage, begins}
+use Rattle.sys_open.proofs.Beginning.{interrupted_answer, still_answers, interrupted_damage, begins}
 use Rattle.sys_open.proofs.Working.{one_view, works_quiet, works_then, works_weaker}
 use Rattle.sys_open.proofs.opening.open.Goals as goal
 
@@ -73,7 +73,10 @@ returns-clause-begins g c = λ v told.
     let works = c.settle.ensures.works (all_synced v) now in
     let w = arranged.0 in
     let writes = subst (λ x. Writes (Changes (all_synced v).now) (all_synced v) x) (one_view _ works.left.0 w works.left.1 arranged.1) works.left.2 in
-    let keeps : Keeps v.now w.now = subst (λ d. Keeps d w.now) (synced_now v) writes.now in
-    (w, arranged.1, begins v w (subst IsSane (synced_now v) (c.in_ok-refs.ensures.told (all_synced v) synced)) keeps (g.met.F.Fs.tree c.settle.new.fs w arranged.1) arranged.2
-      (subst (λ (x : View). (p : Path) → Always x p (shows x.now p)) (one_view _ settled.0 w settled.1 arranged.1) settled.2)
-      c.in_ok-refs.refs.items (subst (λ d. Logical d (first c.in_ok-refs.refs.items)) (synced_now v) (c.in_ok-refs.ensures.refs (all_synced v) synced)))
+    let keeps : Keeps v.now w.now = subst (λ d. Keeps d w.now) (synced_now v) writes.now in (
+      w,
+      arranged.1,
+      begins v w (subst IsSane (synced_now v) (c.in_ok-refs.ensures.told (all_synced v) synced)) keeps (g.met.F.Fs.tree c.settle.new.fs w arranged.1) arranged.2
+          (subst (λ (x : View). (p : Path) → Always x p (shows x.now p)) (one_view _ settled.0 w settled.1 arranged.1) settled.2)
+          c.in_ok-refs.refs.items (subst (λ d. Logical d (first c.in_ok-refs.refs.items)) (synced_now v) (c.in_ok-refs.ensures.refs (all_synced v) synced)),
+    )

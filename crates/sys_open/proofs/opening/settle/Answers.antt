@@ -1,11 +1,7 @@
-use Rattle.std.proofs.Common.{◌≡◌, ◌≤◌, sym, ◌∙◌, ap, subst, arith}
-use Rattle.ost_types.specs.Path.{Path}
-use Rattle.fs_trait.specs.View.{View}
-use Rattle.fs_trait.specs.Seen.{Always, shows}
 use Rattle.fs_trait.specs.Change.{Nothing}
 use Rattle.sys_open.specs.Changes.{Changes, IsArranged}
 use Rattle.sys_open.proofs.Arranging.{synced_told, synced_settled}
-use Rattle.sys_open.proofs.Working.{one_view, works_then, works_still}
+use Rattle.sys_open.proofs.Working.{works_then}
 use Rattle.sys_open.proofs.opening.settle.Goals as goal
 
 pub returns-else-clock-before-clause-works : goal.returns-else-clock-before-clause-works

@@ -1,17 +1,15 @@
-use Rattle.std.proofs.Common.{◌≡◌, ◌≤◌, refl, sym, ◌∙◌, ap, subst, arith, true, false, Err}
+use Rattle.std.proofs.Common.{◌∙◌, arith, Err}
 use Rattle.std.proofs.lemmas.Result.{err_from_is_err_and}
 use Rattle.std.specs.Global.{Vec}
 use Rattle.ost_types.specs.Path.{Path}
-use Rattle.fs_trait.specs.Image.{is_folder}
-use Rattle.ref_store.specs.Lookup.{Looks, IsThere}
 use Rattle.fs_trait.proofs.Quiet.{IsQuiet-trans}
 use Rattle.ref_room.specs.declared.stands.Stands.{Stands}
 use Rattle.sys_open.specs.declared.fault.Why.TheVariants.{BadRef}
 use Rattle.sys_open.specs.Checks.{HoldsRefs, IsReached}
-use Rattle.sys_open.specs.Gathered.{AreOf, Grows, HasAllBelow}
-use Rattle.sys_open.proofs.FaultLemmas.{interrupted_walk, look_same}
+use Rattle.sys_open.specs.Gathered.{AreOf}
+use Rattle.sys_open.proofs.FaultLemmas.{look_same}
 use Rattle.sys_open.proofs.Reaching.{walked_here, walked_later, walked_all}
-use Rattle.sys_open.proofs.Holding.{holds_vacant, holds_nothing, holds_folder, none_below, one_below, folder_below, more_below, more_so, wrong_leaf, grows_refl, grows_trans, commit_leaf, on_ok_then, on_ok_grows, still_walked}
+use Rattle.sys_open.proofs.Holding.{holds_vacant, holds_folder, folder_below, more_below, more_so, grows_trans, on_ok_then, on_ok_grows, still_walked}
 use Rattle.sys_open.proofs.refs.+read.Goals as goal
 
 pub read_refs-returns-in-Ok-Folder-clause-right : goal.read_refs-returns-in-Ok-Folder-clause-right
@@ -58,9 +56,11 @@ read_folder-loop-path-preserved g t c =
     let inv = c.loop-path.invariant in
     let first = inv.1 in
     let later = c.read_refs.ensures.reason.later in
-    let quiet = IsQuiet-trans _ _ _ _ _ _ _ _ _ inv.0 c.read_refs.ensures.quiet in
-    (quiet, omega (arith, first, later),
+    let quiet = IsQuiet-trans _ _ _ _ _ _ _ _ _ inv.0 c.read_refs.ensures.quiet in (
+      quiet,
+      omega (arith, first, later),
       λ v told. more_so (HoldsRefs v.now) c.as_slice-path-items.result.now c.loop-path.path-index c.path-item.result c.loop-path-test.true c.path-item.is (c.in_ok-read_refs.ensures.told v (inv.0.view ∙ told)) (inv.2 v told),
       grows_trans c.args.found.now.refs c.loop-path.found.refs c.read_refs.new.found.refs inv.3 c.in_ok-read_refs.ensures.grows,
       λ v told are. c.in_ok-read_refs.ensures.right v (inv.0.view ∙ told) (inv.4 v told are),
-      λ v told. more_below v.now c.loop-path.found.refs c.read_refs.new.found.refs c.as_slice-path-items.result.now c.loop-path.path-index c.path-item.result c.loop-path-test.true c.path-item.is c.in_ok-read_refs.ensures.grows (c.in_ok-read_refs.ensures.whole v (inv.0.view ∙ told)) (inv.5 v told))
+      λ v told. more_below v.now c.loop-path.found.refs c.read_refs.new.found.refs c.as_slice-path-items.result.now c.loop-path.path-index c.path-item.result c.loop-path-test.true c.path-item.is c.in_ok-read_refs.ensures.grows (c.in_ok-read_refs.ensures.whole v (inv.0.view ∙ told)) (inv.5 v told),
+    )

@@ -1,4 +1,4 @@
-use Rattle.std.proofs.Common.{◌≡◌, subst, sym, Option}
+use Rattle.std.proofs.Common.{◌≡◌, subst, sym}
 use Rattle.std.specs.Prelude.{IfSome}
 use Rattle.repo_layout.specs.RefName.{IsRefName}
 use Rattle.repo_layout.specs.Paths.{ref_path}

@@ -1,4 +1,4 @@
-use Rattle.std.proofs.Common.{◌≡◌, refl}
+use Rattle.std.proofs.Common.{refl}
 use Rattle.fs_trait.specs.Effect.{IsNode}
 use Rattle.sys_open.proofs.FaultLemmas.{read_interrupted}
 use Rattle.sys_open.proofs.refs.node_at.Goals as goal

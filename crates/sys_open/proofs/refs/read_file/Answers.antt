@@ -1,7 +1,5 @@
-use Rattle.std.proofs.Common.{◌≡◌, refl, sym, ◌∙◌, ap, subst, true}
+use Rattle.std.proofs.Common.{refl, sym, ◌∙◌}
 use Rattle.std.proofs.lemmas.Result.{err_from_is_err_and}
-use Rattle.fs_trait.specs.View.{View}
-use Rattle.repo_layout.specs.Refs.{ShowsCommit}
 use Rattle.ref_room.specs.declared.stands.Stands.{Stands}
 use Rattle.ref_store.proofs.Lookups.{shows, shows_none}
 use Rattle.sys_open.specs.declared.fault.Why.TheVariants.{BadRef}

@@ -1,11 +1,7 @@
-use Rattle.std.proofs.Common.{◌≡◌, ◌≢◌, refl, sym, ◌∙◌, ap, subst, true, Some, length}
-use Rattle.std.proofs.lemmas.Result.{err_from_is_err_and}
+use Rattle.std.proofs.Common.{◌≢◌, ◌∙◌, ap, subst, Some, length}
 use Rattle.fs_trait.specs.Effect.{IsNode}
 use Rattle.ref_room.specs.declared.stands.Stands.{Stands}
-use Rattle.ref_store.proofs.Lookups.{is_absent, is_a_folder, is_link, is_file, link_shows_none, shows_none-length}
-use Rattle.sys_open.specs.declared.fault.Why.TheVariants.{BadRef}
-use Rattle.sys_open.specs.Checks.{HoldsRefs}
-use Rattle.sys_open.proofs.FaultLemmas.{interrupted_walk}
+use Rattle.ref_store.proofs.Lookups.{is_absent, is_link, is_file, link_shows_none, shows_none-length}
 use Rattle.sys_open.proofs.Holding.{holds_nothing, none_below, wrong_leaf, damaged_walk}
 use Rattle.sys_open.proofs.refs.visit.Goals as goal
 

@@ -1,4 +1,4 @@
-use Rattle.std.proofs.Common.{◌≡◌, ◌≢◌, [], sym, ◌∙◌}
+use Rattle.std.proofs.Common.{sym, ◌∙◌}
 use Rattle.sys_open.proofs.StageClearing.{stage_below_root}
 use Rattle.sys_open.proofs.stages.clear_stage.Goals as goal
 

@@ -1,4 +1,4 @@
-use Rattle.std.proofs.Common.{◌≡◌, ◌≤◌, sym, ◌∙◌, ap, subst, arith, get_or, true}
+use Rattle.std.proofs.Common.{◌≡◌, subst, arith, get_or}
 use Rattle.std.proofs.lemmas.List.{get_or_default}
 use Rattle.std.proofs.lemmas.Result.{err_from_is_err_and}
 use Rattle.fs_trait.specs.View.{View}
@@ -35,8 +35,8 @@ loop-actor-preserved g c =
     let i = c.loop-actor.actor-index in
     let a = get_or items i 0 in
     let so_far = c.loop-actor.invariant.0 in
-    let later = c.clear_stage.ensures.reason.later in
-    (omega (arith, so_far, later),
+    let later = c.clear_stage.ensures.reason.later in (
+      omega (arith, so_far, later),
       λ v told.
           let first = c.loop-actor.invariant.1 v told in
           let u = first.left.0 in
@@ -48,4 +48,5 @@ loop-actor-preserved g c =
           more_clear b.0 w items i a c.loop-actor-test.true (get_or_default items i 0 a c.loop-actor-test.true)
           (subst (λ x. Writes (Clears (stage_path a)) b.0 x) (one_view _ works.left.0 w works.left.1 now) works.left.2)
           (subst (λ (x : View). shows x.now (stage_path a) ≡ Vacant) (one_view _ clear.0 w clear.1 now) clear.2)
-          (c.loop-actor.invariant.2 b.0 b.1))
+          (c.loop-actor.invariant.2 b.0 b.1),
+    )
