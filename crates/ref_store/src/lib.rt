@@ -7,7 +7,7 @@ mod progress;
 mod refusal;
 mod task;
 
-pub use lookup::{GetRef, There, get, look};
+pub use lookup::{GetRef, get};
 pub use progress::Progress;
 pub use refusal::RefRefusal;
 pub use task::{RefTask, change_ref, sync_and_change_ref};

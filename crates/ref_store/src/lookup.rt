@@ -23,7 +23,7 @@ pub enum GetRef {
 
 /// What stands at a path where a ref's file may stand.
 #[derive(Clone, Copy, Debug, PartialEq, Eq)]
-pub enum There {
+pub(crate) enum There {
     Nothing,
     Folder,
     /// A ref file, which names this commit.
@@ -59,7 +59,7 @@ fn ref_of(there: There) -> GetRef
 }
 
 /// Looks at what stands at the path, and reads it where it may be a ref file.
-pub fn look<F: Fs>(fs: &mut F, at: &FsPath) -> Result<There, FsErr>
+pub(crate) fn look<F: Fs>(fs: &mut F, at: &FsPath) -> Result<There, FsErr>
     ensures told { (v : View) → F.view fs.old ≡ Some v → Looks v.now at.now result }
     ensures named { IfErr result OfFinding }
     ensures quiet { IsQuiet (F.clock fs.old) (F.clock fs.new) (F.was fs.old) (F.was fs.new) (F.view fs.old) (F.view fs.new) }
