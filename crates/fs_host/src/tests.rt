@@ -338,6 +338,7 @@ fn writes_what_ostree_writes(rt: HostRuntime) {
     check_stored(&rt, "forms/folder/file", WITH_ATTRIBUTES, b"hello\n");
     check_stored(&rt, "forms/folder/link", LINK, b"");
     check_stored(&rt, "forms/folder/.ost-folder", FOLDER, b"");
+    clear(&rt, "forms");
 }
 
 fn node<R: Abort + Files + AllocGlobal + Clone + Drop>(rt: &R, at: &str) -> Node {
@@ -359,6 +360,7 @@ fn reads_a_folder(rt: HostRuntime) {
     check_owner(&rt, &meta, 1, 258, 0o041777);
     assert_eq!(rt; meta.xattrs.as_slice().len(), 1);
     check_xattr(&rt, meta.xattrs.as_slice().first(), "user.dir\0", "v");
+    clear(&rt, "forms");
 }
 
 #[test]
@@ -373,6 +375,7 @@ fn reads_a_file(rt: HostRuntime) {
     check_xattr(&rt, meta.xattrs.as_slice().first(), "user.a\0", "x");
     check_xattr(&rt, meta.xattrs.as_slice().last(), "user.b\0", "yz");
     check_read(&rt, &mut open(&rt), "/forms/folder/file", "hello\n");
+    clear(&rt, "forms");
 }
 
 #[test]
@@ -384,6 +387,7 @@ fn reads_a_link(rt: HostRuntime) {
     check_owner(&rt, &meta, 1, 258, 0o120777);
     assert!(rt; meta.xattrs.as_slice().is_empty());
     assert_eq!(rt; target.as_str(), "usr/bin");
+    clear(&rt, "forms");
 }
 
 // A link is a leaf, and no regular file.
@@ -460,6 +464,7 @@ fn refuses(rt: HostRuntime) {
             wanted,
         );
     }
+    clear(&rt, "table");
 }
 
 #[test]

@@ -1,17 +1,6 @@
-mod Records
 mod Plans
-mod Untouched
 mod Removals
 mod Walks
-mod Children
-mod Listings
 mod Valid
 mod Sound
 mod Named
-mod Olders
-mod Trailing
-mod Choices
-mod Quiets
-mod Leaving
-mod Sorting
-mod Following

@@ -7,7 +7,7 @@ use Rattle.fs_trait.specs.declared.types.Value.{Value}
 use Rattle.fs_trait.specs.declared.types.Value.TheVariants.{Absent, Folder, Link, File}
 use Rattle.fs_trait.specs.View.{Disk, View}
 use Rattle.fs_trait.specs.Effect.{way_from, or_else, no_way, if_there, unless_file, unless_leaf, if_folder, if_names, no_new, no_file, no_leaf, no_move, no_folder, no_link, no_rmdir, OfPlacing, OfFinding, OfEmptying, Changed}
-use Rattle.fs_memory.specs.Answer.{IsAnswer}
+use Rattle.memory_record.specs.Answer.{IsAnswer}
 
 -- a refusal that is one of these
 abbrev pub IsOf : (FsErr → Type 0) → Option FsErr → Type 0

@@ -15,10 +15,10 @@ use Rattle.fs_trait.proofs.Puts.{put-apart}
 use Rattle.fs_trait.proofs.Images.{named-here, named-apart, not_root}
 use Rattle.fs_trait.proofs.Ways.{way-there}
 use Rattle.fs_trait.proofs.Trees.{tree-named, Holds-named_any, Holds-created, Holds-extended, Holds-file_synced, Holds-folder_synced}
-use Rattle.fs_memory.specs.declared.change.Change.{Change}
-use Rattle.fs_memory.specs.declared.change.Change.TheVariants.{Name, Create, Move, Extend, SyncFile, SyncFolder, SyncAll}
-use Rattle.fs_memory.specs.Changes.{apply, view_of, IsSound}
-use Rattle.fs_memory.proofs.Records.{view_of-push, extend, sync_file, sync_folder, sync_all}
+use Rattle.memory_record.specs.declared.change.Change.{Change}
+use Rattle.memory_record.specs.declared.change.Change.TheVariants.{Name, Create, Move, Extend, SyncFile, SyncFolder, SyncAll}
+use Rattle.memory_record.specs.Changes.{apply, view_of, IsSound}
+use Rattle.memory_record.proofs.Records.{view_of-push, extend, sync_file, sync_folder, sync_all}
 use Rattle.fs_memory.proofs.Removals.{tree-removed}
 
 first_none : (a b : Option FsErr) → or_else a b ≡ None → (a ≡ None) × (b ≡ None)

@@ -1,26 +1,17 @@
--- The record, a change longer.
-use Rattle.std.proofs.Common.{◌≡◌, ◌≢◌, ◌⊎◌, inl, inr, ℕ, zero, suc, ◌+◌, ◌-◌, ◌<◌, ◌≤◌, refl, sym, ◌∙◌, ap, subst, List, [], ◌∷◌, ◌++◌, length, take, arith, length-append, Bool, true, false, Option, Some, None, Result, Ok, Err, IfOk, IsErrOf}
-use Rattle.ost_types.specs.Path.{Path}
-use Rattle.ost_types.proofs.Paths.{under-not_root}
-use Rattle.fs_trait.specs.declared.types.Value.{Value}
-use Rattle.fs_trait.specs.declared.types.Value.TheVariants.{Absent, Folder, File}
+-- What the record of a call comes to.
+use Rattle.std.proofs.Common.{◌≡◌, ◌≢◌, inl, inr, ℕ, ◌≤◌, refl, sym, ◌∙◌, ap, subst, List, [], ◌∷◌, ◌++◌, length, Bool, true, false, Option, Some, None, Result, Ok, Err, IfOk, IsErrOf}
 use Rattle.fs_trait.specs.declared.types.FsErr.{FsErr}
 use Rattle.fs_trait.specs.declared.types.FsErr.TheVariants.{Failed, Exists, Missing, NotFolder, NotEmpty, NoMemory}
-use Rattle.fs_trait.specs.View.{View, named, created, moved, extended, file_synced, folder_synced, all_synced}
-use Rattle.fs_trait.specs.Image.{is_folder, IsTree, Holds}
-use Rattle.fs_trait.specs.Effect.{Fails, Changed, Elapses}
-use Rattle.fs_memory.specs.declared.change.Change.{Change}
-use Rattle.ost_types.specs.declared.meta.Meta.{Meta}
-use Rattle.fs_memory.specs.declared.change.Change.TheVariants.{Nothing, Name, Create, Move, Extend, SyncFile, SyncFolder, SyncAll}
-use Rattle.fs_memory.specs.Changes.{apply, view_of, Was, IsSound, SoundSince, empty_view, root_meta}
-use Rattle.fs_memory.specs.Laws.{take_whole}
-use Rattle.fs_memory.specs.Answer.{Refuses, IsAnswer}
+use Rattle.fs_trait.specs.View.{View}
+use Rattle.fs_trait.specs.Effect.{Fails, Changed}
+use Rattle.memory_record.specs.declared.change.Change.{Change}
+use Rattle.memory_record.specs.declared.change.Change.TheVariants.{Nothing}
+use Rattle.memory_record.specs.Changes.{apply, view_of, IsSound, SoundSince}
+use Rattle.memory_record.specs.Answer.{Refuses, IsAnswer}
+use Rattle.memory_record.proofs.Applied.{apply_nothing}
+use Rattle.memory_record.proofs.Moments.{sound_now, sound-Nothing}
+use Rattle.memory_record.proofs.Records.{view_of-push}
 use Rattle.fs_memory.specs.Recorded.{IsRecorded, Settles, Obeys, ObeysReading, IsTurn}
-use Rattle.fs_memory.proofs.Records.{view_of-push, view_of-none, empty_at-root, empty_at-below, empty_older, empty_root}
-
-pub apply_nothing : (v : View) → apply Nothing v ≡ v
-unfolding apply
-apply_nothing v = refl
 
 idle_after : (cs new : List Change) (e : Change) → e ≡ Nothing → new ≡ cs ++ e ∷ [] → Some (view_of new) ≡ Some (view_of cs)
 idle_after cs new e idle pushed = ap Some (ap view_of pushed ∙ view_of-push cs e ∙ ap (λ k. apply k (view_of cs)) idle ∙ apply_nothing (view_of cs))
@@ -100,59 +91,6 @@ obeys_reading None lacks refusal P (Ok y) x first answer = λ n. ok_not_failed y
 obeys_reading {T} None lacks refusal P (Err e) x first answer = λ f. not_failed lacks refusal e answer (failed_inside {T = T} e f)
 obeys_reading (Some done) lacks refusal P r x first answer = absurd (ok_not_failed x first)
 
-take_front : (k : ℕ) (cs : List Change) (c : Change) → k ≤ length cs → take k (cs ++ c ∷ []) ≡ take k cs
-take_front zero cs c h = refl
-take_front (suc k) [] c h = absurd (omega arith)
-take_front (suc k) (d ∷ cs) c h = ap (λ l. d ∷ l) (take_front k cs c (omega arith))
-
-le_or : (a b : ℕ) → (a ≤ b) ⊎ (b + 1 ≤ a)
-le_or a b = grind arith
-
-pushed_elapses : (b : ℕ) (cs : List Change) (c : Change) → b ≤ length cs → Elapses (length cs - b) (length (cs ++ c ∷ []) - b) (λ t v. Was cs (b + t) v) (λ t v. Was (cs ++ c ∷ []) (b + t) v) (Some (view_of (cs ++ c ∷ [])))
-pushed_elapses b cs c begun =
-    let l : length (cs ++ c ∷ []) ≡ length cs + 1 = length-append cs (c ∷ []) in
-    record {
-      later = omega (arith, l);
-      soon = omega (arith, l, begun);
-      nothing_else = λ t w le was. moment (b + t) w was (le_or (was.moment) (length cs));
-      keeps = λ t w le was. record { moment = was.moment; since = was.since; until = let u : was.moment ≤ length cs = was.until in omega (arith, l, u); is = was.is ∙ ap view_of (sym (take_front was.moment cs c was.until)) };
-    }
-  where
-    moment : (t : ℕ) (w : View) (was : Was (cs ++ c ∷ []) t w) → (was.moment ≤ length cs) ⊎ (length cs + 1 ≤ was.moment) → Was cs t w ⊎ (Some (view_of (cs ++ c ∷ [])) ≡ Some w)
-    moment t w was (inl le) = inl (record { moment = was.moment; since = was.since; until = le; is = was.is ∙ ap view_of (take_front was.moment cs c le) })
-    moment t w was (inr gt) =
-        let l : length (cs ++ c ∷ []) ≡ length cs + 1 = length-append cs (c ∷ []) in
-        let u : was.moment ≤ length (cs ++ c ∷ []) = was.until in
-        let k : was.moment ≡ length (cs ++ c ∷ []) = omega (arith, l, u, gt) in
-        inr (ap Some (sym (was.is ∙ ap (λ j. view_of (take j (cs ++ c ∷ []))) k ∙ ap view_of (take_whole (cs ++ c ∷ [])))))
-
-pub elapses_push : (b : ℕ) (cs new : List Change) (c : Change) → b ≤ length cs → new ≡ cs ++ c ∷ [] → Elapses (length cs - b) (length new - b) (λ t v. Was cs (b + t) v) (λ t v. Was new (b + t) v) (Some (view_of new))
-elapses_push b cs new c begun is = subst (λ l. Elapses (length cs - b) (length l - b) (λ t v. Was cs (b + t) v) (λ t v. Was l (b + t) v) (Some (view_of l))) (sym is) (pushed_elapses b cs c begun)
-
-pub sound_now : (b : ℕ) (cs : List Change) → b ≤ length cs → SoundSince b cs → IsSound cs
-sound_now b cs begun sound = subst IsSound (take_whole cs) (sound (length cs) begun (omega arith))
-
-pub sound_push : (b : ℕ) (cs : List Change) (c : Change) → b ≤ length cs → SoundSince b cs → IsSound (cs ++ c ∷ []) → SoundSince b (cs ++ c ∷ [])
-sound_push b cs c begun sound now k low high = go (le_or k (length cs))
-  where
-    go : (k ≤ length cs) ⊎ (length cs + 1 ≤ k) → IsSound (take k (cs ++ c ∷ []))
-    go (inl le) = subst IsSound (sym (take_front k cs c le)) (sound k low le)
-    go (inr gt) =
-        let l : length (cs ++ c ∷ []) ≡ length cs + 1 = length-append cs (c ∷ []) in
-        let e : k ≡ length (cs ++ c ∷ []) = omega (arith, l, high, gt) in
-        subst (λ j. IsSound (take j (cs ++ c ∷ []))) (sym e) (subst IsSound (sym (take_whole (cs ++ c ∷ []))) now)
-
--- nothing is recorded but that time goes by
-sound-Nothing : (cs : List Change) → IsSound cs → IsSound (cs ++ Nothing ∷ [])
-sound-Nothing cs sound =
-    let same : view_of cs ≡ view_of (cs ++ Nothing ∷ []) = sym (view_of-push cs Nothing ∙ apply_nothing (view_of cs)) in
-    let l : length (cs ++ Nothing ∷ []) ≡ length cs + 1 = length-append cs (Nothing ∷ []) in
-    record {
-      tree = subst (λ (w : View). IsTree w.now) same sound.tree;
-      numbered = λ q n holds. let below : n < length cs = sound.numbered q n (subst (λ v. Holds v q (File n)) (sym same) holds) in omega (arith, l, below);
-      root = subst (λ (w : View). w.older [] ≡ []) same sound.root;
-    }
-
 -- what is recorded of a call keeps the record sound
 pub settled_sound : (cs : List Change) (b : ℕ) → b ≤ length cs → SoundSince b cs → (plan : Option Bool) (change : Result Change FsErr) (c : Change) (r : Result (Unit {0}) FsErr) → Settles plan change c r → IfOk change (λ d. IsSound (cs ++ d ∷ [])) → IsSound (cs ++ c ∷ [])
 settled_sound cs b begun sound plan change c r = go plan change
@@ -168,72 +106,9 @@ settled_sound cs b begun sound plan change c r = go plan change
     go (Some true) (Err e) s all = idle s.0
     go (Some false) (Err e) s all = idle s.0
 
-pub empty_sound : (cs : List Change) → cs ≡ [] → SoundSince 0 cs
-empty_sound cs is k low high = subst IsSound (sym (front ∙ is)) empty
-  where
-    front : take k cs ≡ cs
-    front = let l : length cs ≡ 0 = ap length is in let e : k ≡ length cs = omega (arith, l, high) in ap (λ j. take j cs) e ∙ take_whole cs
-
-    none : (q : Path) (n : ℕ) → (q ≡ []) ⊎ (q ≢ []) → Holds empty_view q (File n) → ⊥
-    none q n (inl e) (inl is) = let f : File n ≡ Folder root_meta = is ∙ ap empty_view.now.at e ∙ empty_at-root in cc
-    none q n (inr below) (inl is) = let f : File n ≡ Absent = is ∙ empty_at-below q below in cc
-    none q n any (inr among) = empty_older q (File n) among
-
-    root_or : (q : Path) → (q ≡ []) ⊎ (q ≢ [])
-    root_or [] = inl refl
-    root_or (x ∷ q) = inr (λ e. cc)
-
-    empty : IsSound []
-    empty = record {
-      tree = record {
-        root = ap (λ (v : View). is_folder (v.now.at [])) view_of-none ∙ ap is_folder empty_at-root;
-        folders = λ f x none. ap (λ (v : View). v.now.at (f ++ x ∷ [])) view_of-none ∙ empty_at-below (f ++ x ∷ []) (under-not_root f x);
-      };
-      numbered = λ q n holds. absurd (none q n (root_or q) (subst (λ v. Holds v q (File n)) view_of-none holds));
-      root = ap (λ (v : View). v.older []) view_of-none ∙ empty_root;
-    }
-
 pub if_answer : (lacks : Bool) (r : Result Change FsErr) (refusal : Option FsErr) (c : Change) (P : Change → Type 0) → IsAnswer lacks refusal (λ d. d ≡ c) r → (refusal ≡ None → P c) → IfOk r P
 if_answer lacks (Ok d) refusal c P answer h = subst P (sym answer.1) (h answer.0)
 if_answer lacks (Err e) refusal c P answer h = tt
 
 pub told : (cs : List Change) (v : View) (P : View → Type 0) → P (view_of cs) → Some (view_of cs) ≡ Some v → P v
 told cs v P h is = let e : view_of cs ≡ v = cc in subst P e h
-
--- a change is what its call does
-module _ (v : View) where
-  pub apply_name : (p : Path) (x : Value) → apply (Name p x) v ≡ named p x v
-  unfolding apply
-  apply_name p x = refl
-
-  pub apply_create : (p : Path) (m : Meta) (n : ℕ) → apply (Create p m n) v ≡ created p m n v
-  unfolding apply
-  apply_create p m n = refl
-
-  pub apply_move : (from to : Path) → apply (Move from to) v ≡ moved from to v
-  unfolding apply
-  apply_move from to = refl
-
-  pub apply_extend : (n : ℕ) (b : List ℕ) → apply (Extend n b) v ≡ extended n b v
-  unfolding apply
-  apply_extend n b = refl
-
-  pub apply_sync_file : (n : ℕ) → apply (SyncFile n) v ≡ file_synced n v
-  unfolding apply
-  apply_sync_file n = refl
-
-  pub apply_sync_folder : (f : Path) → apply (SyncFolder f) v ≡ folder_synced f v
-  unfolding apply
-  apply_sync_folder f = refl
-
-  pub apply_sync_all : apply SyncAll v ≡ all_synced v
-  unfolding apply
-  apply_sync_all = refl
-
--- a record that begins anew
-pub sound_whole : (cs : List Change) → IsSound cs → SoundSince (length cs) cs
-sound_whole cs sound k low high = let e : k ≡ length cs = omega (arith, low, high) in subst IsSound (sym (ap (λ j. take j cs) e ∙ take_whole cs)) sound
-
--- the record at a moment
-pub sound_at : (b : ℕ) (cs : List Change) (t : ℕ) → b ≤ length cs → SoundSince b cs → t ≤ length cs - b → IsSound (take (b + t) cs)
-sound_at b cs t begun sound le = sound (b + t) (omega arith) (omega (arith, begun, le))

@@ -10,7 +10,7 @@ use Rattle.fs_trait.specs.View.{Disk}
 use Rattle.fs_trait.specs.declared.types.FsErr.TheVariants.{Failed, Exists, Missing, NotFolder, NotEmpty, NoMemory}
 use Rattle.fs_trait.specs.declared.types.Value.{Value}
 use Rattle.fs_trait.specs.Effect.{way, way_from, or_else, no_way, no_new, no_leaf, no_move, no_link, if_folder}
-use Rattle.fs_memory.specs.Answer.{Refuses, IsAnswer}
+use Rattle.memory_record.specs.Answer.{Refuses, IsAnswer}
 
 pub walk_step : (d : Disk) (p : Path) (i : ℕ) → i + 1 < length p → way_from d (take i p) (drop i p) ≡ or_else (no_way (d.at (take (i + 1) p))) (way_from d (take (i + 1) p) (drop (i + 1) p))
 unfolding way_from

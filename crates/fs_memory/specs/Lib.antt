@@ -1,10 +1,7 @@
-pub mod Calls
+pub use Rattle.memory_record.specs.Answer
+pub use Rattle.memory_record.specs.Crash
+pub use Rattle.memory_record.specs.Laws
 pub mod Changes
-pub mod Seen
-pub mod Answer
-pub mod Laws
+pub mod Calls
 pub mod Recorded
-pub mod Crash
-pub mod Traces
-pub mod Tied
-pub mod Trail
+pub mod Memory

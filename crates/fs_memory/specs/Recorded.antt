@@ -4,8 +4,8 @@ use Rattle.fs_trait.specs.declared.types.FsErr.{FsErr}
 use Rattle.fs_trait.specs.declared.types.FsErr.TheVariants.{Failed, NoMemory}
 use Rattle.fs_trait.specs.View.{View}
 use Rattle.fs_memory.specs.declared.plan.FailAt.{FailAt}
-use Rattle.fs_memory.specs.declared.change.Change.{Change}
-use Rattle.fs_memory.specs.declared.change.Change.TheVariants.{Nothing}
+use Rattle.memory_record.specs.declared.change.Change.{Change}
+use Rattle.memory_record.specs.declared.change.Change.TheVariants.{Nothing}
 
 -- the plan's word on a call: none, or that it fails, before its effect or after
 unfoldable pub planned : List FailAt → ℕ → Option Bool

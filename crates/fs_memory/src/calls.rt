@@ -1,4 +1,4 @@
-ghost use Rattle.std.specs.Prelude.{◌≡◌, ◌≤◌, ◌↔◌, Contains, IsTrue};
+ghost use Rattle.std.specs.Prelude.{◌≤◌, ◌↔◌, Contains, IsTrue};
 ghost use Rattle.fs_trait.specs.Count.{Rose};
 ghost use Rattle.fs_memory.specs.Calls.{IsNext};
 

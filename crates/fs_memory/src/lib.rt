@@ -3,23 +3,17 @@
 #![tactic(auto)]
 
 mod calls;
-mod change;
-mod crash;
-mod files;
-mod found;
-mod listing;
 mod make;
+mod mem_fs;
 mod memory;
-mod past;
 mod plan;
 mod read;
 mod sink;
 mod source;
-mod trail;
 mod walk;
 
-pub use crash::Choice;
-pub use memory::MemFs;
+pub use mem_fs::MemFs;
+pub use memory_record::Choice;
 pub use plan::FailAt;
 pub use sink::MemSink;
 pub use source::MemSource;

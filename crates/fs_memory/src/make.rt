@@ -1,15 +1,14 @@
-ghost use Rattle.std.specs.Prelude.{◌≡◌, ◌≤◌, ◌+◌, ◌==◌, ◌||◌, ℕ, Bool, length, true, false, IsTrue, IsErrOf};
+ghost use Rattle.std.specs.Prelude.{◌≡◌, ◌≤◌, ◌+◌, ◌==◌, ◌||◌, Bool, length, true, IsTrue, IsErrOf};
 ghost use Rattle.fs_trait.specs.Effect.{no_new, no_file, no_leaf, no_move, no_folder, no_link, no_rmdir, inode_of, HasNames};
 ghost use Rattle.fs_trait.specs.declared.types.Value.TheVariants.{Absent, Folder, Link};
 ghost use Rattle.fs_trait.specs.declared.types.FsErr.TheVariants.{NoMemory};
-ghost use Rattle.fs_memory.specs.declared.change.Change.TheVariants.{Name as Named, Create, Move, Extend, SyncFile, SyncFolder};
-ghost use Rattle.fs_memory.specs.Changes.{view_of};
-ghost use Rattle.fs_memory.specs.Answer.{IsAnswer};
+ghost use Rattle.memory_record.specs.declared.change.Change.TheVariants.{Name as Named, Create, Move, Extend, SyncFile, SyncFolder};
+ghost use Rattle.memory_record.specs.Changes.{view_of};
+ghost use Rattle.memory_record.specs.Answer.{IsAnswer};
 
-use crate::change::Change;
-use crate::past::Past;
 use crate::walk::{file_at, folder_at, free, leaf_at, not_folder};
 use fs_trait::{FsErr, Value};
+use memory_record::{Change, Past};
 use ost_types::{Bytes, FsPath, Meta, Text, TryCopy};
 use places::Pool;
 use std::alloc::Global;

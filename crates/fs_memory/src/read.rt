@@ -1,13 +1,11 @@
 ghost use Rattle.std.specs.Prelude.{◌≡◌, None, true, length, IfOk};
 ghost use Rattle.fs_trait.specs.Effect.{no_file, no_folder, inode_of, part, one_inode, IsNode, IsListing};
-ghost use Rattle.fs_memory.specs.Changes.{view_of};
-ghost use Rattle.fs_memory.specs.Answer.{IsAnswer};
+ghost use Rattle.memory_record.specs.Changes.{view_of};
+ghost use Rattle.memory_record.specs.Answer.{IsAnswer};
 
-use crate::files::{bytes_of, meta_of};
-use crate::found::{Found, root_meta};
-use crate::past::Past;
 use crate::walk::{file_at, folder_at};
 use fs_trait::{FsErr, Node};
+use memory_record::{Found, Past, bytes_of, meta_of, root_meta};
 use ost_types::{Bytes, FsPath, Meta, Names, NoMemory, TryCopy};
 use places::Place;
 use std::alloc::Global;

@@ -1,4 +1,4 @@
-ghost use Rattle.std.specs.Prelude.{◌≡◌, ◌≤◌, ◌<◌, ◌-◌, ◌↔◌, List, ℕ, [], Some, Contains, length, min, IfOk, IsErr, OnErr};
+ghost use Rattle.std.specs.Prelude.{◌≡◌, ◌≤◌, ◌<◌, ◌-◌, ◌↔◌, ◌⊎◌, List, ℕ, [], Some, Contains, length, min, IfOk, IsErr, OnErr};
 ghost use Rattle.std.specs.Vec.{vec_capacity};
 ghost use Rattle.fs_trait.specs.Count.{Rose};
 ghost use Rattle.fs_trait.specs.Streams.{Puts};
@@ -62,6 +62,7 @@ impl Sink for MemSink {
         ensures planned { IsErr result ↔ Contains self.old.fail.items self.new.calls }
         ensures count { IfOk result (λ n. n ≡ min (length bytes.now) (self.old.room - length self.old.bytes.items)) }
         ensures number { IsNext self.old.calls self.new.calls }
+        ensures same_faults { IfOk result (λ n. (0 < n) ⊎ (length bytes.now ≡ 0) → self.new.faults ≡ self.old.faults) }
         ensures keeps { (self.new.fail ≡ self.old.fail) × (self.new.room ≡ self.old.room) }
     {
         self.calls = next_call(self.calls);

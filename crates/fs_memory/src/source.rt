@@ -1,4 +1,4 @@
-ghost use Rattle.std.specs.Prelude.{◌≡◌, ◌≤◌, ◌-◌, ◌++◌, ◌↔◌, List, ℕ, [], Some, Contains, length, min, take, drop, IfOk, IsErr, OnErr};
+ghost use Rattle.std.specs.Prelude.{◌≡◌, ◌≤◌, ◌-◌, ◌↔◌, List, ℕ, Some, Contains, length, min, take, drop, IfOk, IsErr, OnOk, OnErr};
 ghost use Rattle.fs_trait.specs.Count.{Rose};
 ghost use Rattle.fs_trait.specs.Streams.{Takes};
 ghost use Rattle.fs_memory.specs.Calls.{IsNext};
@@ -52,6 +52,7 @@ impl Source for MemSource {
         ensures rest { IfOk result (λ n. drop n into.new ≡ drop n into.old) }
         ensures err { OnErr result (into.new ≡ into.old) }
         ensures number { IsNext self.old.calls self.new.calls }
+        ensures same_faults { OnOk result (self.new.faults ≡ self.old.faults) }
         ensures keeps { self.new.fail ≡ self.old.fail }
     {
         self.calls = next_call(self.calls);

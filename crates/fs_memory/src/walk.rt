@@ -1,12 +1,11 @@
-ghost use Rattle.std.specs.Prelude.{◌≡◌, None, false};
+ghost use Rattle.std.specs.Prelude.{◌≡◌, false};
 ghost use Rattle.fs_trait.specs.Effect.{way, no_new, no_file, no_leaf, no_folder, inode_of, or_else, if_folder};
-ghost use Rattle.fs_memory.specs.Changes.{view_of};
-ghost use Rattle.fs_memory.specs.Seen.{value_of};
-ghost use Rattle.fs_memory.specs.Answer.{IsAnswer};
+ghost use Rattle.memory_record.specs.Changes.{view_of};
+ghost use Rattle.memory_record.specs.Seen.{value_of};
+ghost use Rattle.memory_record.specs.Answer.{IsAnswer};
 
-use crate::found::Found;
-use crate::past::Past;
 use fs_trait::FsErr;
+use memory_record::{Found, Past};
 use ost_types::FsPath;
 use places::Place;
 

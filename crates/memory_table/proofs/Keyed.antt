@@ -11,7 +11,7 @@ use Rattle.std.specs.declared.cmp.Ordering.{Ordering}
 use Rattle.std.specs.declared.cmp.Ordering.TheVariants.{Less}
 use Rattle.std.specs.Cmp.Lexicographic.{slice_cmp, texts_ties}
 use Rattle.std.proofs.lemmas.Cmp.{nat_list_cmp_total, eq_by_cmp_equiv, on_total}
-use Rattle.std.proofs.lemmas.Map.Lookups.{exact_bytes, map_keys}
+use Rattle.std.proofs.lemmas.Map.Lookups.{map_keys}
 use Rattle.std.proofs.lemmas.Map.Views.{All-keys_from_lookup, IsSome-lookup_from_Contains, Contains-keys_from_lookup}
 use Rattle.ost_types.specs.Path.{same_name}
 use Rattle.ost_types.specs.Text.{IsName}

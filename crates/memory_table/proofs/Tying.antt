@@ -62,12 +62,6 @@ Ties-name t u p x o d files is holds ties = record {
     same q true = sym is
     same q false = refl
 
-pub Ties-names : (t : Table) (m : BTreeMap ℕ file.File) (d e : Disk) → m.entries ≡ [] → Ties t d → ((p : Path) → e.at p ≡ d.at p) → Ties (record t { files = m }) e
-Ties-names t m d e empty ties same = record {
-  names = Holds-same t.names _ (λ p. present (e.at p)) (λ p. ap present (sym (same p))) ties.names;
-  files = no_files m e empty;
-}
-
 pub Ties-new : (t : Table) (d : Disk) (m : Meta) → Holds t.names (put [] (Some (Folder m)) (λ p. None)) → t.files.entries ≡ [] → d.at [] ≡ Folder m → ((f : Path) (x : Name) → d.at (under f x) ≡ Absent) → Ties t d
 Ties-new t d m holds empty root below = record {
   names = Holds-same t.names _ (λ p. present (d.at p)) (λ p. each p (root_or_under p)) holds;

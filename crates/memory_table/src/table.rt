@@ -4,8 +4,10 @@ ghost use Rattle.ost_types.specs.Flat.{flat};
 ghost use Rattle.fs_trait.specs.View.{Disk, set_at, set_meta, set_bytes};
 ghost use Rattle.fs_trait.specs.Effect.{HasNames, IsListing};
 ghost use Rattle.fs_trait.specs.declared.types.Value.TheVariants as value;
+ghost use Rattle.memory_table.specs.Filled.{filled};
 ghost use Rattle.memory_table.specs.Ties.{Ties, present};
 
+use crate::filling::spoil;
 use crate::tree::Tree;
 use fs_trait::Value;
 use ost_types::{Bytes, Meta, Names, NoMemory, TryCopy};
@@ -106,11 +108,22 @@ impl Table {
         Ok(())
     }
 
-    /// It has no files any more, so it shows any disk with these names.
-    pub fn forget_files(&mut self)
-        ensures { (d e : Disk) → Ties self.old d → ((p : Path) → e.at p ≡ d.at p) → Ties self.new e }
+    /// Each byte of a file is XORed with one byte.
+    pub fn spoil(&mut self, inode: u64, fill: u8) -> Result<(), NoMemory>
+        ensures { OnOk result ((d : Disk) → Ties self.old d → Ties self.new (set_bytes inode (filled fill (d.bytes inode)) d)) }
     {
-        self.files = BTreeMap::new(self.alloc);
+        if let Some(file) = self.files.remove(&inode) {
+            let File { meta, bytes } = file;
+            let spoiled = spoil(self.alloc, &bytes, fill)?;
+            self.files.insert(
+                inode,
+                File {
+                    meta,
+                    bytes: spoiled,
+                },
+            )?;
+        }
+        Ok(())
     }
 
     /// Whether there are names in a folder that isn't the root.

@@ -9,5 +9,7 @@ mod stands;
 mod way;
 
 pub use clearing::Clearing;
-pub use folder::ref_folder;
+pub use folder::{folder_meta, ref_folder};
+pub use name::ref_at;
+pub use stands::{Stands, look_at};
 pub use way::{Leg, Way};

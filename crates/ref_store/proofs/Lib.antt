@@ -11,3 +11,4 @@ pub mod Begins
 pub mod FallLemmas
 pub mod Progresses
 pub mod Seen
+pub mod Writings

@@ -1,7 +1,7 @@
 -- A run of steps, from the beginning.
 use Rattle.std.proofs.Common.{◌+◌, ◌<◌, length, ◌≡◌, ◌≢◌, ◌⊎◌, inl, inr, ⊎_elim, ℕ, true, false, refl, sym, ◌∙◌, ap, subst, List, ◌∷◌, ◌++◌, append_assoc, Option, Some, None, Result, Ok, Err}
 use Rattle.std.specs.Prelude.{IsSome}
-use Rattle.ost_types.specs.Path.{Name, Path}
+use Rattle.ost_types.specs.Path.{Name, Path, under}
 use Rattle.fs_trait.specs.declared.types.Value.TheVariants.{Absent}
 use Rattle.fs_trait.specs.declared.types.FsErr.{FsErr}
 use Rattle.fs_trait.specs.declared.types.FsErr.TheVariants.{Failed, NoMemory, Exists, Missing, NotFolder, NotEmpty}
@@ -9,8 +9,9 @@ use Rattle.fs_trait.specs.declared.task.Turn.TheVariants.{More, Done}
 use Rattle.fs_trait.specs.View.{Disk, View}
 use Rattle.fs_trait.specs.Image.{EachImage, IsTree}
 use Rattle.fs_trait.specs.Seen.{Seen, Vacant, seen, shows, IsDirectory, NotDirectory, bytes_in}
-use Rattle.fs_trait.specs.Change.{Writes}
-use Rattle.fs_trait.proofs.Claims.{reads_shows}
+use Rattle.fs_trait.specs.Change.{Writes, Nothing}
+use Rattle.fs_trait.proofs.Kept.{same_view}
+use Rattle.fs_trait.proofs.Claims.{Image-under, reads_shows}
 use Rattle.fs_trait.proofs.Facts.{no_folder_shown}
 use Rattle.repo_layout.specs.RefName.{IsRefName, parts_of}
 use Rattle.repo_layout.specs.Paths.{heads, ref_path}
@@ -28,10 +29,11 @@ use Rattle.ref_store.specs.declared.refusal.RefRefusal.{RefRefusal}
 use Rattle.ref_store.specs.declared.refusal.RefRefusal.TheVariants.{RefClash, RefMoved, NoRef}
 use Rattle.ref_store.specs.Change.{Change, IsStepped, Follows, IsLast, begun}
 use Rattle.ref_store.specs.Steps.{Needs, needs_in, writes_in, WritesOf, HasValue, ShowsValue, leads, Tells, goes_on, MakesRoom, Refuses, refuses_in}
-use Rattle.ref_store.specs.Whole.{IsSure, Leaves, SameLeaves, SparesLeaves, Answers, Lasts, Stops}
+use Rattle.ref_store.specs.Whole.{IsSure, Written, Leaves, SameLeaves, SparesLeaves, Answers, Lasts, Stops}
 use Rattle.ref_store.proofs.RoomLemmas.{clear_lies, walk_lies}
 use Rattle.ref_store.proofs.Wholes.{Kept, kept_sure, kept_each, sure_each, directory_leaf, vacant_leaf, file_leaf, leaf_is, is_a_leaf, no_leaf}
 use Rattle.ref_store.proofs.RunLemmas.{IsRoom, at_phase, kept_on, sure_on}
+use Rattle.ref_store.proofs.Writings.{written_in, written_on, sure_still}
 
 -- what still stands below the ref's path stood there
 abbrev pub OnlyGoes : List ℕ → Disk → Disk → Type 0
@@ -48,6 +50,7 @@ so_far phase.SyncFolder t v w = HasValue v.now t.name t.seen
 so_far phase.Ended t v w = HasValue v.now t.name t.seen × (IsSome t.value → IsFree v.now t.name)
 
 pub record Runs (t : Change) (v : View) (ph : Phase) (w : View) : Type 0 where
+  pub writes : Writes (Written t v.now) v w
   pub this : (old : Option (List ℕ)) → IsSure old t.name v → Kept old t.name t.value w
   pub others : (other : List ℕ) (value : Option (List ℕ)) → IsRefName other → other ≢ t.name → IsSure value other v → IsSure value other w
   pub so_far : so_far ph t v w
@@ -164,13 +167,15 @@ module _ (t : Change) (v w : View) (tree : IsTree w.now) (x : View) where
 -- the beginning
 pub runs_from : (t : Change) (v : View) (ph : Phase) → ph ≡ phase.Look → Runs t v ph v
 runs_from t v ph e = record {
+  writes = same_view (Written t v.now) v;
   this = λ old sure. kept_sure old t.name t.value v sure;
   others = λ other value named apart sure. sure;
   so_far = subst (λ q. so_far q t v v) (sym e) refl;
 }
 
--- what is so of each ref, after one step more
+-- what was written, and what is so of each ref, after one step more
 pub record Kept_of (t : Change) (v x : View) : Type 0 where
+  pub writes : Writes (Written t v.now) v x
   pub this : (old : Option (List ℕ)) → IsSure old t.name v → Kept old t.name t.value x
   pub others : (other : List ℕ) (value : Option (List ℕ)) → IsRefName other → other ≢ t.name → IsSure value other v → IsSure value other x
 
@@ -178,6 +183,28 @@ pub leaves_each : (t : Change) (v x : View) → Kept_of t v x → EachImage x (L
 leaves_each t v x kept d i = record {
   this = λ old sure. kept_each old t.name t.value x (kept.this old sure) d i;
   others = λ other value named apart sure. sure_each value other x (kept.others other value named apart sure) d i;
+  elsewhere = λ f y folder. kept.writes.only _ _ (Image-under x d i f y folder);
+  gone = i.gone;
+}
+
+-- at the beginning each crash leaves what it may leave
+pub first_leaves : (t : Change) (v : View) → EachImage v (Leaves t v)
+first_leaves t v = leaves_each t v v (record {
+  writes = same_view (Written t v.now) v;
+  this = λ old sure. kept_sure old t.name t.value v sure;
+  others = λ other value named apart sure. sure;
+})
+
+-- where nothing was written before a run, what the run leaves it leaves from there on
+pub leaves_before : (t : Change) (v w : View) → Writes Nothing v w → w.now ≡ v.now → (d : Disk) → Leaves t w d → Leaves t v d
+leaves_before t v w writes same d leaves = record {
+  this = λ old sure. leaves.this old (sure_still old t.name v w writes sure);
+  others = λ other value named apart sure. leaves.others other value named apart (sure_still value other v w writes sure);
+  elsewhere = λ f x folder. ⊎_elim
+      (λ may. ⊎_elim (λ was. inl was) (λ none. absurd none) (writes.only _ _ may))
+      (λ a. inr (subst (λ e. Written t e (under f x) (shows d (under f x))) same a))
+      (leaves.elsewhere f x folder);
+  gone = leaves.gone;
 }
 
 module _ (t : Change) (v : View) (u : Change) (same : u ≡ at_phase t u.phase) (w : View) (tree : IsTree w.now) (needs : Needs u w) (runs : Runs t v u.phase w) (x : View) (writes : Writes (WritesOf u w) w x) where
@@ -187,14 +214,21 @@ module _ (t : Change) (v : View) (u : Change) (same : u ≡ at_phase t u.phase) 
   wrote : Writes (writes_in u.phase (at_phase t u.phase) w) w x
   wrote = subst (λ y. Writes (writes_in u.phase y w) w x) same writes
 
+  stood : (ph : Phase) → so_far ph t v w → (c : clearing.Cleared) → ph ≡ phase.Clear c → (p : Path) → IsUnder t.name p → IsDirectory (shows w.now p) → IsDirectory (shows v.now p)
+  stood ph is c e p place folder =
+      let only : OnlyGoes t.name v.now w.now = (subst (λ q. so_far q t v w) e is).2 in
+      subst IsDirectory (only p (λ vacant. subst IsDirectory vacant folder) place) folder
+
   pub keeps : Kept_of t v x
   keeps = record {
+    writes = written_on t v.now (writes_in u.phase (at_phase t u.phase) w) v w x (written_in t w v.now u.phase now (stood u.phase runs.so_far)) runs.writes wrote;
     this = λ old sure. kept_on t w old u.phase now (runs.this old sure) x wrote;
     others = λ other value named apart sure. sure_on t w value u.phase now tree other named apart (runs.others other value named apart sure) x wrote;
   }
 
   pub goes : (new : Change) → IsStepped u (Ok More) new → Tells u new w More → Runs t v new.phase x
   goes new stepped tells = record {
+    writes = keeps.writes;
     this = keeps.this;
     others = keeps.others;
     so_far = so_far_on t v w tree x u.phase new.phase now (subst (λ y. Follows u.phase new.phase y) same stepped.1) (subst (λ y. goes_on u.phase new.phase y w) same tells) runs.so_far wrote;
@@ -341,7 +375,7 @@ module _ (t : Change) (v : View) (u : Change) (same : u ≡ at_phase t u.phase) 
   lasts new (Err r) stepped after = λ d i. tt
 
 pub runs_leaves : (t : Change) (v : View) (ph : Phase) (w : View) → Runs t v ph w → EachImage w (Leaves t v)
-runs_leaves t v ph w runs = leaves_each t v w (record { this = runs.this; others = runs.others })
+runs_leaves t v ph w runs = leaves_each t v w (record { writes = runs.writes; this = runs.this; others = runs.others })
 
 pub same_goes : (t u new : Change) → u ≡ at_phase t u.phase → new ≡ at_phase u new.phase → new ≡ at_phase t new.phase
 same_goes t u new same e = e ∙ ap (λ (y : Change). at_phase y new.phase) same

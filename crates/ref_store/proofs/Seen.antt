@@ -1,20 +1,16 @@
 -- From the look to the step that shows the change the ref keeps its value.
 use Rattle.std.proofs.Common.{◌≡◌, ⊎_elim, ℕ, true, false, refl, sym, ◌∙◌, ap, subst, List, [], append-nil, Option, Some, None, Ok}
-use Rattle.fs_trait.specs.declared.types.Value.{Value}
-use Rattle.fs_trait.specs.declared.types.Value.TheVariants.{Absent, Folder, Link, File}
 use Rattle.fs_trait.specs.declared.types.FsErr.{FsErr}
 use Rattle.fs_trait.specs.declared.types.FsErr.TheVariants.{Failed, NoMemory, Exists, Missing, NotFolder, NotEmpty}
 use Rattle.fs_trait.specs.declared.task.Turn.TheVariants.{More}
 use Rattle.ost_types.specs.Path.{Path}
 use Rattle.fs_trait.specs.View.{Disk, View}
-use Rattle.fs_trait.specs.Seen.{Seen, seen, shows, bytes_in}
+use Rattle.fs_trait.specs.Seen.{Seen, shows}
 use Rattle.fs_trait.specs.Effect.{OfNone}
 use Rattle.fs_trait.specs.Change.{Writes}
 use Rattle.fs_trait.proofs.Claims.{reads_shows}
 use Rattle.fs_trait.proofs.Facts.{shows_kept}
 use Rattle.repo_layout.specs.Paths.{ref_path}
-use Rattle.repo_layout.specs.Refs.{is_leaf}
-use Rattle.ref_room.specs.Way as way
 use Rattle.ref_room.specs.Clearing as clearing
 use Rattle.ref_room.specs.Clearing.{IsLeaf}
 use Rattle.staged_file.specs.declared.phase.Phase as staged

@@ -1,10 +1,11 @@
 -- What a change leaves, from its first step to any later moment.
 use Rattle.std.specs.Prelude.{◌≡◌, ◌≢◌, ◌⊎◌, ◌<◌, ℕ, true, false, List, length, Option, Some, None, IsSome, Result, Ok, Err}
-use Rattle.ost_types.specs.Path.{Path}
+use Rattle.ost_types.specs.Path.{Name, Path, under}
+use Rattle.fs_trait.specs.declared.types.Value.TheVariants.{Absent}
 use Rattle.fs_trait.specs.declared.types.FsErr.{FsErr}
 use Rattle.fs_trait.specs.declared.types.FsErr.TheVariants.{Failed, NoMemory, Exists, NotEmpty}
 use Rattle.fs_trait.specs.View.{Disk, View}
-use Rattle.fs_trait.specs.Seen.{Seen, Vacant, shows, MayBe}
+use Rattle.fs_trait.specs.Seen.{Seen, Vacant, shows, MayBe, IsDirectory, NotDirectory}
 use Rattle.fs_trait.specs.Change.{LeadsTo}
 use Rattle.repo_layout.specs.RefName.{IsRefName, parts_of}
 use Rattle.repo_layout.specs.Paths.{heads, folder_path, ref_path, stage_path}
@@ -24,10 +25,24 @@ abbrev pub IsSure : Option (List ℕ) → List ℕ → View → Type 0
 IsSure None name v = (s : Seen) → MayBe v (ref_path name) s → ¬ (IsLeaf s)
 IsSure (Some commit) name v = ((s : Seen) → MayBe v (ref_path name) s → ShowsValue (Some commit) s) × ((p : Path) (s : Seen) → MayBe v p s → LeadsTo (ref_folder name) p s)
 
--- A crash left this disk: the ref has the value that it had, or the new one, and each other ref has the value that it had.
+-- What the steps that make room and stage the file may write over a disk: no folder at the staging path; a folder on the way to
+-- the ref; and where a folder stood at the ref's path or below it may go.
+abbrev pub Prepares : Change → Disk → Path → Seen → Type 0
+Prepares t d p s = ((p ≡ stage_path t.actor) × NotDirectory s)
+    ⊎ ((k : ℕ) × (0 < k) × (k < length (parts_of t.name)) × (p ≡ way_to k t.name) × IsDirectory s)
+    ⊎ (IsUnder t.name p × (s ≡ Vacant) × IsDirectory (shows d p))
+
+-- What all steps together may write: the new value at the ref's path and, for a ref that is set, what prepares it.
+abbrev pub Written : Change → Disk → Path → Seen → Type 0
+Written t d p s = ((p ≡ ref_path t.name) × ShowsValue t.value s) ⊎ (IsSome t.value × Prepares t d p s)
+
+-- A crash left this disk: the ref has the value that it had, or the new one, and each other ref has the value that it had. At each
+-- path in a folder is what might have been there, or what the change writes.
 pub record Leaves (t : Change) (v : View) (d : Disk) : Type 0 where
   pub this : (old : Option (List ℕ)) → IsSure old t.name v → HasValue d t.name old ⊎ HasValue d t.name t.value
   pub others : (other : List ℕ) (value : Option (List ℕ)) → IsRefName other → other ≢ t.name → IsSure value other v → HasValue d other value
+  pub elsewhere : (f : Path) (x : Name) → is_folder (d.at f) ≡ true → MayBe v (under f x) (shows d (under f x)) ⊎ Written t v.now (under f x) (shows d (under f x))
+  pub gone : (f : Path) (x : Name) → is_folder (d.at f) ≡ false → d.at (under f x) ≡ Absent
 
 -- no leaf came or went
 abbrev pub SameLeaves : Disk → Disk → Type 0

@@ -7,7 +7,7 @@ ghost use Rattle.ref_room.specs.Turns.{OnMore};
 ghost use Rattle.ref_store.specs.declared.phase.Phase.TheVariants as phase;
 ghost use Rattle.ref_store.specs.Change.{Change, IsStepped, KeepsRoom, Takes, left, left_put, left_way, need_in};
 ghost use Rattle.ref_store.specs.Steps.{Needs};
-ghost use Rattle.ref_store.specs.Whole.{Answers, Lasts, Leaves, MayBegin, SparesLeaves, Stops};
+ghost use Rattle.ref_store.specs.Whole.{Answers, Lasts, Leaves, MayBegin, SparesLeaves, Stops, Written};
 
 mod steps;
 mod tells;
@@ -153,6 +153,7 @@ pub fn change_ref<F: Fs>(fs: &mut F, task: RefTask) -> Result<Result<(), RefRefu
     requires new { (v : View) → F.view fs.old ≡ Some v → task.phase ≡ phase.Look }
     requires needs { (v : View) → F.view fs.old ≡ Some v → Needs task v }
     ensures any_moment { (v : View) → F.view fs.old ≡ Some v → LeavesEach (F.clock fs.old) (F.clock fs.new) (F.was fs.old) (F.was fs.new) (Leaves task v) }
+    ensures writes { (v : View) → F.view fs.old ≡ Some v → Told (F.view fs.new) (λ w. Writes (Written task v.now) v w) }
     ensures done { (v : View) → F.view fs.old ≡ Some v → IfOk result (λ r. Told (F.view fs.new) (λ w. EachImage w (Lasts task r))) }
     ensures answers { (v : View) → F.view fs.old ≡ Some v → IfOk result (Answers task v.now) }
     ensures refused { (v : View) → F.view fs.old ≡ Some v → IfOk result (λ r. Told (F.view fs.new) (λ w. SparesLeaves r v.now w.now)) }
@@ -168,12 +169,15 @@ pub fn change_ref<F: Fs>(fs: &mut F, task: RefTask) -> Result<Result<(), RefRefu
     }
 }
 
-/// Syncs all, and then changes the ref: what reads see before is enough to know that it can be changed.
+/// Syncs all, and then changes the ref: what reads see before is enough to know that it can be changed. It isn't enough to know
+/// what a crash before the sync leaves: there the ref has its value where a crash was sure to leave that already.
 pub fn sync_and_change_ref<F: Fs>(
     fs: &mut F,
     task: RefTask,
 ) -> Result<Result<(), RefRefusal>, FsErr>
     requires { (v : View) → F.view fs.old ≡ Some v → MayBegin task v.now }
+    ensures any_moment { (v : View) → F.view fs.old ≡ Some v → LeavesEach (F.clock fs.old) (F.clock fs.new) (F.was fs.old) (F.was fs.new) (Leaves task v) }
+    ensures writes { (v : View) → F.view fs.old ≡ Some v → Told (F.view fs.new) (λ w. Writes (Written task v.now) v w) }
     ensures done { (v : View) → F.view fs.old ≡ Some v → IfOk result (λ r. Told (F.view fs.new) (λ w. EachImage w (Lasts task r))) }
     ensures answers { (v : View) → F.view fs.old ≡ Some v → IfOk result (Answers task v.now) }
     ensures refused { (v : View) → F.view fs.old ≡ Some v → IfOk result (λ r. Told (F.view fs.new) (λ w. SparesLeaves r v.now w.now)) }

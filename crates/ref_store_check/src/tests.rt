@@ -91,6 +91,59 @@ fn changes_refs(rt: HostRuntime) -> Result<(), Fail> {
     Ok(())
 }
 
+fn has_moved(answer: &Result<(), RefRefusal>, wanted: &Option<Csum>, found: &Option<Csum>) -> bool {
+    match answer {
+        Err(RefRefusal::RefMoved { seen, now }) => seen == wanted && now == found,
+        _ => false,
+    }
+}
+
+fn check_moved(
+    rt: &impl Abort,
+    alloc: Global,
+    fs: &mut MemFs,
+    wrong: Option<Csum>,
+    was: Option<Csum>,
+) -> Result<(), Fail> {
+    let answer = set_named(fs, alloc, b"main", wrong, sum(3))?;
+    assert!(rt; has_moved(&answer, &wrong, &was));
+    Ok(())
+}
+
+#[test]
+fn tells_moved_refs(rt: HostRuntime) -> Result<(), Fail> {
+    let alloc = rt.alloc();
+    let mut fs = laid_out(alloc)?;
+    check_moved(&rt, alloc, &mut fs, Some(sum(1)), None)?;
+    check_set(&rt, alloc, &mut fs, b"main", None, None)?;
+    check_moved(&rt, alloc, &mut fs, None, Some(sum(1)))?;
+    check_moved(&rt, alloc, &mut fs, Some(sum(2)), Some(sum(1)))?;
+    Ok(())
+}
+
+fn check_get(
+    rt: &impl Abort,
+    alloc: Global,
+    fs: &mut MemFs,
+    name: &[u8],
+    wanted: GetRef,
+) -> Result<(), Fail> {
+    assert!(rt; get(alloc, fs, &name_of(alloc, name)?)? == wanted);
+    Ok(())
+}
+
+#[test]
+fn reads_refs(rt: HostRuntime) -> Result<(), Fail> {
+    let alloc = rt.alloc();
+    let mut fs = laid_out(alloc)?;
+    check_set(&rt, alloc, &mut fs, b"a/b", None, None)?;
+    check_get(&rt, alloc, &mut fs, b"a/b", GetRef::Names(sum(1)))?;
+    check_get(&rt, alloc, &mut fs, b"a/c", GetRef::Absent)?;
+    check_get(&rt, alloc, &mut fs, b"a/b/c", GetRef::Absent)?;
+    check_get(&rt, alloc, &mut fs, b"a", GetRef::Unreadable)?;
+    Ok(())
+}
+
 #[test]
 fn removes_refs(rt: HostRuntime) -> Result<(), Fail> {
     let alloc = rt.alloc();
@@ -144,6 +197,69 @@ fn fails_at_each_call(rt: HostRuntime) -> Result<(), Fail> {
     for call in 7..=22 {
         check_failing(&rt, alloc, call, false)?;
         check_failing(&rt, alloc, call, true)?;
+    }
+    Ok(())
+}
+
+fn value_left(
+    alloc: Global,
+    fs: &MemFs,
+    picks: Vec<u32>,
+    name: &[u8],
+) -> Result<Option<Csum>, Fail> {
+    let mut left = fs.image(fs.moments(), &Choice { picks, fill: 1 })?;
+    match get(alloc, &mut left, &name_of(alloc, name)?)? {
+        GetRef::Absent => Ok(None),
+        GetRef::Names(commit) => Ok(Some(commit)),
+        GetRef::Unreadable => Err("unreadable")?,
+    }
+}
+
+// A ref is there or gone, and the one beside it stays.
+fn check_one_gone(
+    rt: &impl Abort,
+    alloc: Global,
+    fs: &MemFs,
+    pick: u32,
+    is_done: bool,
+) -> Result<(), Fail> {
+    let left = value_left(alloc, fs, vec![in alloc; pick]?, b"a/b")?;
+    assert!(rt; left.is_none() || (!is_done && left == Some(sum(1))));
+    let beside = value_left(alloc, fs, vec![in alloc; pick]?, b"a/c")?;
+    assert!(rt; beside == Some(sum(1)));
+    Ok(())
+}
+
+fn with_two_refs(rt: &impl Abort, alloc: Global) -> Result<MemFs, Fail> {
+    let mut fs = laid_out(alloc)?;
+    check_set(rt, alloc, &mut fs, b"a/b", None, None)?;
+    check_set(rt, alloc, &mut fs, b"a/c", None, None)?;
+    Ok(fs)
+}
+
+// The calls of the removal are the 36th to the 43rd.
+fn check_failing_removal(
+    rt: &impl Abort,
+    alloc: Global,
+    call: u64,
+    done: bool,
+) -> Result<(), Fail> {
+    let mut fs = with_two_refs(rt, alloc)?;
+    fs.fail_at(vec![in alloc; FailAt { call, done }]?);
+    let answer = remove(&mut fs, alloc, name_of(alloc, b"a/b")?, sum(1));
+    let is_done = matches!(answer, Ok(Ok(())));
+    assert_eq!(rt; is_done, call > 43);
+    check_one_gone(rt, alloc, &fs, 0, is_done)?;
+    check_one_gone(rt, alloc, &fs, 1, is_done)?;
+    Ok(())
+}
+
+#[test]
+fn fails_at_each_call_of_a_removal(rt: HostRuntime) -> Result<(), Fail> {
+    let alloc = rt.alloc();
+    for call in 36..=44 {
+        check_failing_removal(&rt, alloc, call, false)?;
+        check_failing_removal(&rt, alloc, call, true)?;
     }
     Ok(())
 }

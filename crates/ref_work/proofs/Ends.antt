@@ -1,5 +1,5 @@
 -- What the last step's answer says, and that each other step leaves fewer.
-use Rattle.std.proofs.Common.{◌≡◌, ◌≢◌, ◌<◌, ◌≤◌, ℕ, true, false, refl, sym, ◌∙◌, ap, subst, arith, List, length, Option, Some, None, Result, Ok, Err}
+use Rattle.std.proofs.Common.{◌≡◌, ◌<◌, ◌≤◌, ℕ, true, false, refl, sym, ◌∙◌, ap, subst, arith, List, length, Option, Some, None, Ok, Err}
 use Rattle.fs_trait.specs.declared.task.Turn.TheVariants as turn
 use Rattle.fs_trait.specs.View.{View}
 use Rattle.repo_layout.specs.RefName.{parts_of}

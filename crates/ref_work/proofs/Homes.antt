@@ -1,5 +1,5 @@
 -- What is so of a lane that runs no task, and how a task begins from it.
-use Rattle.std.proofs.Common.{◌≡◌, ◌⊎◌, inl, inr, ⊎_elim, ◌<◌, ℕ, true, false, refl, sym, ◌∙◌, ap, subst, List, Option, Some, None}
+use Rattle.std.proofs.Common.{◌≡◌, inl, inr, ⊎_elim, ◌<◌, ℕ, true, false, refl, sym, ◌∙◌, ap, subst, List, Option, Some, None}
 use Rattle.std.specs.Prelude.{IsSome}
 use Rattle.ost_types.specs.declared.meta.Meta.{Meta}
 use Rattle.fs_trait.specs.View.{View}

@@ -1,9 +1,7 @@
 -- The laws of the commands as tasks.
-use Rattle.std.proofs.Common.{◌≡◌, ◌<◌, ℕ, true, false, refl, sym, ap, subst, List, Option, Some, None}
-use Rattle.ost_types.specs.Path.{Path}
+use Rattle.std.proofs.Common.{◌≡◌, ℕ, true, false, sym, subst, List, Option, Some, None}
 use Rattle.fs_trait.specs.declared.task.Turn.TheVariants as turn
 use Rattle.fs_trait.specs.View.{View, all_synced}
-use Rattle.fs_trait.specs.Seen.{Seen}
 use Rattle.fs_trait.specs.Change.{LeadsTo, Nothing}
 use Rattle.fs_trait.proofs.Kept.{meets_kept}
 use Rattle.fs_trait.proofs.Effects.{all_synced-writes}
@@ -11,20 +9,19 @@ use Rattle.repo_layout.specs.Paths.{heads}
 use Rattle.ref_store.specs.Steps.{HereOfStage}
 use Rattle.rely.specs.Books.{Books, Agrees, Keeps}
 use Rattle.rely.specs.Rely.{Does}
-use Rattle.rely.specs.Laws.{Kind, Quiet, Take, Laws, IsBy, IsBefore, IsLastly, Chain, Holds, Stood, Duty}
+use Rattle.rely.specs.Laws.{Laws, IsBy, IsBefore, IsLastly, Chain, Holds, Stood, Duty}
 use Rattle.ref_work.specs.declared.work.RefWork.{RefWork}
 use Rattle.ref_work.specs.declared.look_up.LookUp.{LookUp}
 use Rattle.ref_work.specs.declared.plan.Plan.{Plan}
 use Rattle.ref_work.specs.declared.command.RefCommand.{RefCommand}
 use Rattle.ref_work.specs.declared.command.RefCommand.TheVariants.{Parse, Reset, Change}
 use Rattle.ref_work.specs.declared.look_up.Found.{Found}
-use Rattle.ref_work.specs.declared.look_up.Found.TheVariants.{Whole}
-use Rattle.ref_work.specs.Kinds.{event, kind_in, ref_kind, ref_leaves}
+use Rattle.ref_work.specs.Kinds.{ref_kind}
 use Rattle.ref_work.specs.Facts.{Facts, ref_facts}
 use Rattle.ref_work.specs.Kept.{facts_kept, facts_gain}
 use Rattle.ref_work.specs.Duties.{change_duty}
 use Rattle.ref_work.specs.Laws.{ref_laws}
-use Rattle.ref_work.specs.Commands.{pin_wants, found_kind, planned, command_kind, command_needs, command_writes, reset_stepped, command_stepped, reset_leaves, command_leaves, command_facts}
+use Rattle.ref_work.specs.Commands.{found_kind, planned, command_kind, command_needs, command_writes, reset_stepped, command_stepped, reset_leaves, command_leaves, command_facts}
 
 ready_of : (actor lane : ℕ) (t : RefCommand) (v : View) (b : Books) → IsBy (command_kind t) actor lane → command_facts lane t v b → command_needs actor t v
 ready_of actor lane (Parse look) v b by f = tt

@@ -24,7 +24,7 @@ use Rattle.ref_work.specs.declared.look_up.Found.{Found}
 use Rattle.ref_work.specs.declared.look_up.Found.TheVariants.{Missing, Partial, Whole}
 use Rattle.ref_work.specs.Found.{commit_name, IsFound}
 use Rattle.ref_work.specs.Kinds.{Answer, ref_kind, ref_needs, ref_writes, ref_stepped, ref_leaves, ref_refuses}
-use Rattle.ref_work.specs.Facts.{Facts, ref_facts}
+use Rattle.ref_work.specs.Facts.{ref_facts}
 
 -- a pin of the commit, and nothing else
 abbrev pub pin_wants : List ℕ → Wants

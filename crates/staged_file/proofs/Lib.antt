@@ -3,3 +3,4 @@ pub mod Answering
 pub mod Wholes
 pub mod Stable
 pub mod Begins
+pub mod Leaving

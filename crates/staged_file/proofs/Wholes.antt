@@ -57,7 +57,7 @@ same_stepped old (Ok (Done x)) new s = subst (IsSame old) (sym s.0) (same_next o
 same_stepped old (Err e) new s = subst (IsSame old) (sym s) (IsSame-refl old)
 
 -- what each step writes is what all may write
-written_in : (ph : Phase) (u : Staged) (v : View) (p : Path) (s : Seen) → writes_in ph u v p s → Written u p s
+pub written_in : (ph : Phase) (u : Staged) (v : View) (p : Path) (s : Seen) → writes_in ph u v p s → Written u p s
 written_in Clear u v p s a = inl (a.0, subst NotDirectory (sym a.1) tt)
 written_in Create u v p s a = inl (a.0, leaf_not_directory s a.1.0 a.1.1 a.1.2 a.1.3)
 written_in Append u v p s a = inl (a.0, leaf_not_directory s a.1.0 a.1.1 a.1.2 a.1.3)

@@ -4,8 +4,8 @@ use Rattle.ost_types.specs.Path.{Name, Path, under}
 use Rattle.fs_trait.specs.declared.types.FsErr.{FsErr}
 use Rattle.fs_trait.specs.declared.types.FsErr.TheVariants.{Failed, NoMemory, Exists}
 use Rattle.fs_trait.specs.declared.types.Value.TheVariants.{Absent}
-use Rattle.fs_trait.specs.View.{Disk, View}
-use Rattle.fs_trait.specs.Image.{is_folder, reads}
+use Rattle.fs_trait.specs.View.{Disk, View, all_synced}
+use Rattle.fs_trait.specs.Image.{Image, is_folder, reads}
 use Rattle.fs_trait.specs.Seen.{Seen, shows, MayBe, IsDirectory, NotDirectory, bytes_in}
 use Rattle.staged_file.specs.declared.phase.Show.TheVariants.{Rename, Link}
 use Rattle.staged_file.specs.declared.phase.Phase.TheVariants.{Clear}
@@ -31,6 +31,10 @@ pub record Leaves (t : Staged) (v : View) (d : Disk) : Type 0 where
   pub target : MayBe v t.at (shows d t.at) ⊎ (reads d t.at ≡ Some t.bytes)
   pub others : (f : Path) (x : Name) → is_folder (d.at f) ≡ true → MayBe v (under f x) (shows d (under f x)) ⊎ Written t (under f x) (shows d (under f x))
   pub gone : (f : Path) (x : Name) → is_folder (d.at f) ≡ false → d.at (under f x) ≡ Absent
+
+-- A crash left this disk: before the sync of all, or behind it.
+abbrev pub LeavesSynced : Staged → View → Disk → Type 0
+LeavesSynced t v d = Image v d ⊎ Leaves t (all_synced v) d
 
 -- the new file is there, or it was to be linked, and what stood there stayed
 abbrev pub IsThere : Staged → View → Disk → Type 0

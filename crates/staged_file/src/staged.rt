@@ -7,7 +7,7 @@ ghost use Rattle.fs_trait.specs.Change.{Writes};
 ghost use Rattle.staged_file.specs.declared.phase.Phase.TheVariants as phase;
 ghost use Rattle.staged_file.specs.Staged.{Staged, IsStepped, KeepsRoom, Takes, left, lock_in};
 ghost use Rattle.staged_file.specs.Steps.{Needs, WritesOf, Refuses};
-ghost use Rattle.staged_file.specs.Whole.{Written, Leaves, IsThere, Stops, MayBegin};
+ghost use Rattle.staged_file.specs.Whole.{Written, Leaves, LeavesSynced, IsThere, Stops, MayBegin};
 
 mod steps;
 
@@ -123,6 +123,7 @@ pub fn put_file<F: Fs>(fs: &mut F, task: StagedFile) -> Result<(), FsErr>
 /// Syncs all, and then makes the file: what reads see before is enough to know that it can be made.
 pub fn sync_and_put_file<F: Fs>(fs: &mut F, task: StagedFile) -> Result<(), FsErr>
     requires { (v : View) → F.view fs.old ≡ Some v → MayBegin task v.now }
+    ensures any_moment { (v : View) → F.view fs.old ≡ Some v → LeavesEach (F.clock fs.old) (F.clock fs.new) (F.was fs.old) (F.was fs.new) (LeavesSynced task v) }
     ensures writes { (v : View) → F.view fs.old ≡ Some v → Told (F.view fs.new) (λ w. Writes (Written task) v w) }
     ensures done { (v : View) → F.view fs.old ≡ Some v → OnOk result (Told (F.view fs.new) (λ w. EachImage w (IsThere task (all_synced v)))) }
     ensures fails { (v : View) → F.view fs.old ≡ Some v → IfErr result (Stops task v) }

@@ -1,7 +1,7 @@
 use Rattle.std.proofs.Common.{◌≡◌, length, ◌-◌, ◌≤◌, take, drop}
 use Rattle.ost_types.specs.Flat.{flat}
 use Rattle.fs_trait.specs.Effect.{way, way_from}
-use Rattle.fs_memory.specs.Changes.{view_of}
+use Rattle.memory_record.specs.Changes.{view_of}
 use Rattle.fs_memory.proofs.walk.walk.Given as goal
 
 abbrev pub invariant-loop-i : goal.invariant-loop-i

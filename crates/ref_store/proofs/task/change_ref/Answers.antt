@@ -111,3 +111,21 @@ returns-in_err-step-clause-fails g c = λ v told.
     let after = c.step.ensures.writes w e in
     let error = err_from_is_err_and c.from_residual.result c.from_residual.ensures.1 in
     rw (error.1, error.2) (stops c.args.task v c.steps.task i.same w (g.met.F.Fs.tree c.steps.fs w e) (i.needs w e) before.0.2 after.0 after.2 _ (c.in_err-step.ensures.fails w e))
+
+pub returns-in_err-step-clause-writes : goal.returns-in_err-step-clause-writes
+returns-in_err-step-clause-writes g c = λ v told.
+    let i = c.steps.invariant in
+    let before = i.run v told in
+    let w = before.0.0 in
+    let e = before.0.1 in
+    let after = c.step.ensures.writes w e in
+    (after.0, after.1, (keeps c.args.task v c.steps.task i.same w (g.met.F.Fs.tree c.steps.fs w e) (i.needs w e) before.0.2 after.0 after.2).writes)
+
+pub returns-in-Done-clause-writes : goal.returns-in-Done-clause-writes
+returns-in-Done-clause-writes g c = λ v told.
+    let i = c.steps.invariant in
+    let before = i.run v told in
+    let w = before.0.0 in
+    let e = before.0.1 in
+    let after = c.step.ensures.writes w e in
+    (after.0, after.1, (keeps c.args.task v c.steps.task i.same w (g.met.F.Fs.tree c.steps.fs w e) (i.needs w e) before.0.2 after.0 after.2).writes)

@@ -1,6 +1,17 @@
+use Rattle.std.proofs.Common.{arith, subst, ⊎_elim}
+use Rattle.fs_trait.specs.View.{all_synced}
+use Rattle.fs_trait.specs.Image.{Image, EachImage}
+use Rattle.fs_trait.specs.Change.{Nothing}
+use Rattle.fs_trait.proofs.Images.{Image-all_synced}
+use Rattle.fs_trait.proofs.Kept.{weaker, then_writes}
+use Rattle.fs_trait.proofs.Effects.{all_synced-writes}
+use Rattle.fs_trait.proofs.Facts.{Fails-writes}
+use Rattle.staged_file.proofs.Leaving.{fails_holds, image_run, leaves_then, leaves_weaker}
+use Rattle.ref_store.specs.Whole.{Leaves, Written}
+use Rattle.ref_store.proofs.Runs.{first_leaves, leaves_before}
 use Rattle.staged_file.proofs.Wholes.{told_once}
 use Rattle.ref_store.specs.Steps.{Needs}
-use Rattle.ref_store.proofs.Begins.{needs_synced, answers_synced, stops_synced, spares_synced}
+use Rattle.ref_store.proofs.Begins.{needs_synced, answers_synced, stops_synced, spares_synced, synced_now}
 use Rattle.ref_store.proofs.task.sync_and_change_ref.Goals as goal
 
 pub change_ref-requires-clause-needs : goal.change_ref-requires-clause-needs
@@ -26,3 +37,31 @@ pub change_ref-requires-clause-new : goal.change_ref-requires-clause-new
 change_ref-requires-clause-new g c = λ w told.
     let before = g.met.F.Fs.told _ c.args.fs.now w told in
     (c.requires before.0 before.1).new
+
+pub returns-in_err-sync_all-clause-any_moment : goal.returns-in_err-sync_all-clause-any_moment
+returns-in_err-sync_all-clause-any_moment g c = λ v told.
+    let after = fails_holds _ v (all_synced v) (λ w. EachImage w (Image v)) _ _ (c.in_err-sync_all.ensures.effect v told) (λ d i. i) (Image-all_synced v) in
+    leaves_weaker (Image v) (Leaves c.args.task v) _ _ _ _ (first_leaves c.args.task v)
+    (image_run v _ _ _ _ (g.F.Fs.view c.args.fs.now) _ told after (λ w was. g.met.F.Fs.only_now c.args.fs.now _ w (omega arith) was) c.sync_all.ensures.time)
+
+pub returns-in_err-sync_all-clause-writes : goal.returns-in_err-sync_all-clause-writes
+returns-in_err-sync_all-clause-writes g c = λ v told.
+    Fails-writes (Written c.args.task v.now) _ v _ _ _ (c.in_err-sync_all.ensures.effect v told) (weaker Nothing (Written c.args.task v.now) v (all_synced v) (λ p s none. absurd none) (all_synced-writes v))
+
+pub returns-clause-any_moment : goal.returns-clause-any_moment
+returns-clause-any_moment g c = λ v told.
+    let done = (c.in_ok-sync_all.ensures.effect v told).1 in
+    leaves_then (Leaves c.args.task v) _ _ _ _ _ _
+    (leaves_weaker (Image v) (Leaves c.args.task v) _ _ _ _ (first_leaves c.args.task v)
+    (image_run v _ _ _ _ (g.F.Fs.view c.args.fs.now) _ told (all_synced v, done, Image-all_synced v) (λ w was. g.met.F.Fs.only_now c.args.fs.now _ w (omega arith) was) c.sync_all.ensures.time))
+    (leaves_weaker (Leaves c.args.task (all_synced v)) (Leaves c.args.task v) _ _ _ _ (leaves_before c.args.task v (all_synced v) (all_synced-writes v) (synced_now v)) (c.change_ref.ensures.any_moment _ done))
+
+pub returns-clause-writes : goal.returns-clause-writes
+returns-clause-writes g c = λ v told.
+    let after = c.change_ref.ensures.writes _ (c.in_ok-sync_all.ensures.effect v told).1 in (
+      after.0,
+      after.1,
+      weaker _ (Written c.args.task v.now) v after.0
+          (λ p s a. ⊎_elim (λ none. absurd none) (λ b. subst (λ d. Written c.args.task d p s) (synced_now v) b) a)
+          (then_writes Nothing (Written c.args.task (all_synced v).now) v (all_synced v) after.0 (all_synced-writes v) after.2),
+    )

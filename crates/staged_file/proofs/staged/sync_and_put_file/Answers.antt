@@ -1,12 +1,15 @@
-use Rattle.std.proofs.Common.{⊎_elim}
+use Rattle.std.proofs.Common.{inl, inr, ⊎_elim, arith}
 use Rattle.fs_trait.specs.View.{all_synced}
+use Rattle.fs_trait.specs.Image.{Image, EachImage}
 use Rattle.fs_trait.specs.Change.{Nothing}
+use Rattle.fs_trait.proofs.Images.{Image-all_synced}
 use Rattle.fs_trait.proofs.Kept.{weaker, then_writes}
 use Rattle.fs_trait.proofs.Effects.{all_synced-writes}
 use Rattle.fs_trait.proofs.Facts.{Fails-writes}
-use Rattle.staged_file.specs.Whole.{Written}
+use Rattle.staged_file.specs.Whole.{Written, Leaves, LeavesSynced}
 use Rattle.staged_file.specs.Steps.{Needs}
 use Rattle.staged_file.proofs.Wholes.{told_once}
+use Rattle.staged_file.proofs.Leaving.{fails_holds, image_run, leaves_then, leaves_weaker}
 use Rattle.staged_file.proofs.Begins.{needs_synced, stops_synced}
 use Rattle.staged_file.proofs.staged.sync_and_put_file.Goals as goal
 
@@ -32,3 +35,17 @@ pub returns-clause-writes : goal.returns-clause-writes
 returns-clause-writes g c = λ v told.
     let after = c.put_file.ensures.writes _ (c.in_ok-sync_all.ensures.effect v told).1 in
     (after.0, after.1, weaker _ (Written c.args.task) v after.0 (λ p s a. ⊎_elim (λ none. absurd none) (λ a. a) a) (then_writes Nothing (Written c.args.task) v (all_synced v) after.0 (all_synced-writes v) after.2))
+
+pub returns-in_err-sync_all-clause-any_moment : goal.returns-in_err-sync_all-clause-any_moment
+returns-in_err-sync_all-clause-any_moment g c = λ v told.
+    let after = fails_holds _ v (all_synced v) (λ w. EachImage w (Image v)) _ _ (c.in_err-sync_all.ensures.effect v told) (λ d i. i) (Image-all_synced v) in
+    leaves_weaker (Image v) (LeavesSynced c.args.task v) _ _ _ _ (λ d i. inl i)
+    (image_run v _ _ _ _ (g.F.Fs.view c.args.fs.now) _ told after (λ w was. g.met.F.Fs.only_now c.args.fs.now _ w (omega arith) was) c.sync_all.ensures.time)
+
+pub returns-clause-any_moment : goal.returns-clause-any_moment
+returns-clause-any_moment g c = λ v told.
+    let done = (c.in_ok-sync_all.ensures.effect v told).1 in
+    leaves_then (LeavesSynced c.args.task v) _ _ _ _ _ _
+    (leaves_weaker (Image v) (LeavesSynced c.args.task v) _ _ _ _ (λ d i. inl i)
+    (image_run v _ _ _ _ (g.F.Fs.view c.args.fs.now) _ told (all_synced v, done, Image-all_synced v) (λ w was. g.met.F.Fs.only_now c.args.fs.now _ w (omega arith) was) c.sync_all.ensures.time))
+    (leaves_weaker (Leaves c.args.task (all_synced v)) (LeavesSynced c.args.task v) _ _ _ _ (λ d l. inr l) (c.put_file.ensures.any_moment _ done))

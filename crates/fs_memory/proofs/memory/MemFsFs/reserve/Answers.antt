@@ -1,5 +1,5 @@
 use Rattle.std.proofs.Common.{◌≤◌, sym, subst, length}
-use Rattle.fs_memory.specs.Changes.{SoundSince}
+use Rattle.memory_record.specs.Changes.{SoundSince}
 use Rattle.fs_memory.proofs.memory.MemFsFs.reserve.Goals as goal
 
 pub invariant_of-self-2 : goal.invariant_of-self-2

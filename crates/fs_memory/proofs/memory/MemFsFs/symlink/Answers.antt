@@ -2,8 +2,10 @@ use Rattle.std.proofs.Common.{◌++◌, ◌∷◌, [], Some}
 use Rattle.fs_trait.specs.View.{named}
 use Rattle.fs_trait.specs.Effect.{no_new, Changed, OfPlacing}
 use Rattle.fs_trait.specs.declared.types.Value.TheVariants.{Link}
-use Rattle.fs_memory.specs.declared.change.Change.TheVariants.{Name}
-use Rattle.fs_memory.specs.Changes.{view_of, IsSound}
+use Rattle.memory_record.specs.declared.change.Change.TheVariants.{Name}
+use Rattle.memory_record.specs.Changes.{view_of, IsSound}
+use Rattle.memory_record.proofs.Applied as applied
+use Rattle.memory_record.proofs.Moments as moments
 use Rattle.fs_memory.proofs.Valid as valid
 use Rattle.fs_memory.proofs.Sound as sound
 use Rattle.fs_memory.proofs.Named as names
@@ -12,21 +14,21 @@ use Rattle.fs_memory.proofs.memory.MemFsFs.symlink.Goals as goal
 pub record-requires : goal.record-requires
 record-requires c =
     let answer = c.make_link-change.ensures.answer in
-    let now = valid.sound_now c.args.self.now.base c.args.self.now.past.changes.items c.args.self.now.begun c.args.self.now.sound in
+    let now = moments.sound_now c.args.self.now.base c.args.self.now.past.changes.items c.args.self.now.begun c.args.self.now.sound in
     valid.if_answer _ _ _ (Name c.args.at.now (Link c.args.meta.now c.args.target.now)) (λ d. IsSound (c.args.self.now.past.changes.items ++ d ∷ [])) answer (λ free. sound.sound-link c.args.self.now.past.changes.items now _ _ _ free)
 
 pub returns-clause-effect : goal.returns-clause-effect
 returns-clause-effect c = λ v is.
     let answer = c.make_link-change.ensures.answer in
     valid.told c.args.self.now.past.changes.items v (λ v. Changed (no_new c.args.at.now v.now) v (named c.args.at.now (Link c.args.meta.now c.args.target.now) v) c.record.result (Some (view_of c.record.new.self.past.changes.items)))
-    (valid.effect _ c.args.self.now.past.changes.items _ _ _ (Name c.args.at.now (Link c.args.meta.now c.args.target.now)) _ _ _ answer c.record.ensures.recorded (valid.apply_name _ _ _)) is
+    (valid.effect _ c.args.self.now.past.changes.items _ _ _ (Name c.args.at.now (Link c.args.meta.now c.args.target.now)) _ _ _ answer c.record.ensures.recorded (applied.apply_name _ _ _)) is
 
 pub returns-clause-named : goal.returns-clause-named
 returns-clause-named c =
     let answer = c.make_link-change.ensures.answer in
-    names.changed_of OfPlacing tt tt _ _ _ c.record.result _ (names.new_placing _ _) (valid.effect _ c.args.self.now.past.changes.items _ _ _ (Name c.args.at.now (Link c.args.meta.now c.args.target.now)) _ _ _ answer c.record.ensures.recorded (valid.apply_name _ _ _))
+    names.changed_of OfPlacing tt tt _ _ _ c.record.result _ (names.new_placing _ _) (valid.effect _ c.args.self.now.past.changes.items _ _ _ (Name c.args.at.now (Link c.args.meta.now c.args.target.now)) _ _ _ answer c.record.ensures.recorded (applied.apply_name _ _ _))
 
 pub returns-clause-plan : goal.returns-clause-plan
 returns-clause-plan c =
     let answer = c.make_link-change.ensures.answer in
-    valid.obeys _ c.args.self.now.past.changes.items _ _ _ (Name c.args.at.now (Link c.args.meta.now c.args.target.now)) _ _ _ answer c.record.ensures.recorded (valid.apply_name _ _ _)
+    valid.obeys _ c.args.self.now.past.changes.items _ _ _ (Name c.args.at.now (Link c.args.meta.now c.args.target.now)) _ _ _ answer c.record.ensures.recorded (applied.apply_name _ _ _)

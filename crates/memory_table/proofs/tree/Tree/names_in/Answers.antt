@@ -1,4 +1,4 @@
-use Rattle.std.proofs.Common.{sym, Ok, Err}
+use Rattle.std.proofs.Common.{sym}
 use Rattle.memory_table.proofs.Holding.{listed, none_listed, both_ok}
 use Rattle.memory_table.proofs.tree.Tree.names_in.Goals as goal
 

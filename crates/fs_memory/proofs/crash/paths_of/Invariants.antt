@@ -1,7 +1,0 @@
-use Rattle.std.proofs.Common.{◌≡◌, take}
-use Rattle.std.specs.List.{flat_map}
-use Rattle.fs_memory.specs.Traces.{named_by}
-use Rattle.fs_memory.proofs.crash.paths_of.Given as goal
-
-abbrev pub invariant-loop-change : goal.invariant-loop-change
-invariant-loop-change l = l.paths.items ≡ flat_map named_by (take l.change-index l.changes)

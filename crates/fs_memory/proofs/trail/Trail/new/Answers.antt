@@ -1,5 +1,0 @@
-use Rattle.fs_memory.proofs.Trailing.{shows_first}
-use Rattle.fs_memory.proofs.trail.Trail.new.Goals as goal
-
-pub returns : goal.returns
-returns c = shows_first _ c.root_meta.result c.root_meta.ensures c.new.ensures c.new-2.ensures

@@ -1,7 +1,0 @@
-use Rattle.std.proofs.Common.{sym, subst}
-use Rattle.fs_memory.specs.Trail.{Shows}
-use Rattle.fs_memory.proofs.Records.{view_of-item}
-use Rattle.fs_memory.proofs.trail.Trail.of.Goals as goal
-
-pub loop-change-preserved : goal.loop-change-preserved
-loop-change-preserved c = subst (Shows c.follow.new.self) (sym (view_of-item c.loop-change.change-index c.args.changes.now c.change-item.result c.change-item.result c.loop-change-test.true c.change-item.is)) (c.in_ok-follow.ensures _ c.loop-change.invariant)

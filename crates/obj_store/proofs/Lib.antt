@@ -1,0 +1,8 @@
+pub mod Lookups
+pub mod Streaming
+pub mod PutLemmas
+mod PlaceLemmas
+pub mod Runs
+pub mod Begins
+pub mod Stable
+mod ListLemmas

@@ -1,0 +1,5 @@
+pub mod Lookup
+pub mod Putting
+pub mod Steps
+pub mod Listing
+pub mod Whole

@@ -1,0 +1,129 @@
+-- Where the view is told, and stands as the system keeps it, nothing that stands there refuses a change.
+use Rattle.std.proofs.Common.{◌≡◌, ◌⊎◌, inl, inr, ⊎_elim, ◌<◌, ◌+◌, ℕ, true, refl, sym, ◌∙◌, ap, subst, arith, List, ◌++◌, append_assoc, length, Option}
+use Rattle.ost_types.specs.Path.{Path}
+use Rattle.fs_trait.specs.declared.types.FsErr.{FsErr}
+use Rattle.fs_trait.specs.declared.types.FsErr.TheVariants.{Failed, NoMemory, Exists, Missing, NotFolder, NotEmpty}
+use Rattle.fs_trait.specs.View.{Disk, View}
+use Rattle.fs_trait.specs.Image.{IsTree}
+use Rattle.fs_trait.specs.Effect.{OfNone}
+use Rattle.fs_trait.proofs.Images.{Image-now}
+use Rattle.fs_trait.proofs.Claims.{is_below-before}
+use Rattle.repo_layout.specs.RefName.{IsRefName, parts_of}
+use Rattle.repo_layout.specs.Paths.{heads, ref_path}
+use Rattle.repo_layout.specs.Place.{Ref, Other, IsAt, place}
+use Rattle.repo_layout.specs.Refs.{is_leaf, ShowsNoCommit}
+use Rattle.repo_layout.proofs.Places.{place-ref, place-back}
+use Rattle.ref_room.specs.Clash.{way_to, IsNoRef}
+use Rattle.ref_room.specs.Clearing as clearing
+use Rattle.ref_room.specs.Clearing.{IsUnder}
+use Rattle.ref_room.specs.Way as way
+use Rattle.ref_room.proofs.ClearingSteps.{seen_leaf}
+use Rattle.ref_store.specs.declared.phase.Phase.{Phase}
+use Rattle.ref_store.specs.declared.phase.Phase.TheVariants as phase
+use Rattle.ref_store.specs.Change as store
+use Rattle.ref_store.specs.Steps.{Needs, refuses_in}
+use Rattle.ref_store.proofs.StepLemmas.{meets_in, made}
+use Rattle.rely.specs.declared.books.Entry.{Entry}
+use Rattle.rely.specs.declared.books.Pending.{Pending}
+use Rattle.rely.specs.State.{State}
+use Rattle.rely.specs.Books.{Books}
+use Rattle.rely.specs.Disks.{IsGood}
+use Rattle.rely.specs.Sound.{Stands}
+use Rattle.rely.proofs.Goods.{fits_now}
+use Rattle.rely.proofs.Layouts.{in_heads}
+use Rattle.ref_work.specs.declared.command.RefCommand.{RefCommand}
+use Rattle.ref_work.specs.declared.command.RefCommand.TheVariants.{Parse, Reset, Change}
+use Rattle.ref_work.specs.Places.{placed_way}
+use Rattle.ref_work.specs.Commands.{command_facts, command_refuses}
+use Rattle.ref_work.specs.Answers.{IsBeyond, BeyondRef}
+
+module _ (d : Disk) (good : IsGood d) where
+  -- a leaf that stands where a ref can is a ref
+  no_leaf_at : (p : Path) (other : List ℕ) → place p ≡ Ref other → is_leaf (d.at p) ≡ true → IsNoRef p → ⊥
+  no_leaf_at p other at leaf none =
+      let e : p ≡ ref_path other = subst (λ x. IsAt x p) at (place-back p) in
+      none other (good.refs other (subst (λ q. is_leaf (d.at q) ≡ true) e leaf)).0 (sym e)
+
+  no_leaf_below : (rest : Path) → is_leaf (d.at (heads ++ rest)) ≡ true → IsNoRef (heads ++ rest) → ⊥
+  no_leaf_below rest leaf none = ⊎_elim
+      (λ other. good.others (heads ++ rest) (is_below-before heads rest) (λ name e. let n : Other (heads ++ rest) ≡ Ref name = sym other ∙ ap place e ∙ place-ref name in cc) leaf)
+      (λ r. no_leaf_at (heads ++ rest) r.0 r.1 leaf none)
+      (in_heads rest)
+
+  no_leaf_under : (name : List ℕ) (p : Path) → IsUnder name p → is_leaf (d.at p) ≡ true → IsNoRef p → ⊥
+  unfolding ref_path
+  no_leaf_under name p under leaf none =
+      let e : p ≡ heads ++ (parts_of name ++ under.0) = under.1 ∙ append_assoc heads (parts_of name) under.0 in
+      no_leaf_below (parts_of name ++ under.0) (subst (λ q. is_leaf (d.at q) ≡ true) e leaf) (subst IsNoRef e none)
+
+module _ (t : store.Change) (v : View) (needs : Needs t v) (good : IsGood v.now) where
+  look_none : ShowsNoCommit v.now (ref_path t.name) → ⊥
+  look_none why = let r = good.refs t.name why.leaf in why.none r.1 r.2
+
+  walk_none : (y : way.Walked) → t.phase ≡ phase.Walk y → way.Refuses y v Exists → ⊥
+  walk_none y is why =
+      let m = meets_in t v needs (phase.Walk y) is in
+      let few : y.reached + 1 < length (parts_of y.name) = subst (λ l. way.leg_of l y.reached y.name) why.0 m.1.place in
+      let named : IsRefName y.name = m.1.named in
+      let other = placed_way y.name (y.reached + 1) named (omega arith) few in
+      no_leaf_at v.now good (way_to (y.reached + 1) y.name) other.0 other.1 why.1 why.2
+
+  clear_beyond : (c : clearing.Cleared) → t.phase ≡ phase.Clear c → clearing.Refuses c v NotEmpty → BeyondRef t.name v
+  clear_beyond c is why =
+      let name : c.name ≡ t.name = (made t v needs (phase.Clear c) is).0 in
+      let under : IsUnder t.name why.1.0 = subst (λ n. IsUnder n why.1.0) name why.1.1 in
+      ⊎_elim
+      (λ leaf. absurd (no_leaf_under v.now good t.name why.1.0 under (seen_leaf v.now (v.now.at why.1.0) leaf.0) leaf.1))
+      (λ long. (why.1.0, under, why.1.2, long))
+      why.1.3
+
+  refused : (ph : Phase) → t.phase ≡ ph → (e : FsErr) → refuses_in ph t v e → OfNone e ⊎ BeyondRef t.name v
+  refused phase.Look is Failed why = inl tt
+  refused phase.Look is NoMemory why = inl tt
+  refused phase.Look is Exists why = absurd (look_none why)
+  refused phase.Look is Missing why = absurd why
+  refused phase.Look is NotFolder why = absurd why
+  refused phase.Look is NotEmpty why = absurd why
+  refused (phase.Clear c) is Failed why = inl tt
+  refused (phase.Clear c) is NoMemory why = inl tt
+  refused (phase.Clear c) is Exists why = absurd why
+  refused (phase.Clear c) is Missing why = absurd why
+  refused (phase.Clear c) is NotFolder why = absurd why
+  refused (phase.Clear c) is NotEmpty why = inr (clear_beyond c is why)
+  refused (phase.Walk y) is Failed why = inl tt
+  refused (phase.Walk y) is NoMemory why = inl tt
+  refused (phase.Walk y) is Exists why = absurd (walk_none y is why)
+  refused (phase.Walk y) is Missing why = absurd why
+  refused (phase.Walk y) is NotFolder why = absurd why
+  refused (phase.Walk y) is NotEmpty why = absurd why
+  refused (phase.Put g) is Failed why = inl tt
+  refused (phase.Put g) is NoMemory why = inl tt
+  refused (phase.Put g) is Exists why = absurd why
+  refused (phase.Put g) is Missing why = absurd why
+  refused (phase.Put g) is NotFolder why = absurd why
+  refused (phase.Put g) is NotEmpty why = absurd why
+  refused phase.Unlink is Failed why = inl tt
+  refused phase.Unlink is NoMemory why = inl tt
+  refused phase.Unlink is Exists why = absurd why
+  refused phase.Unlink is Missing why = absurd why
+  refused phase.Unlink is NotFolder why = absurd why
+  refused phase.Unlink is NotEmpty why = absurd why
+  refused phase.SyncFolder is Failed why = inl tt
+  refused phase.SyncFolder is NoMemory why = inl tt
+  refused phase.SyncFolder is Exists why = absurd why
+  refused phase.SyncFolder is Missing why = absurd why
+  refused phase.SyncFolder is NotFolder why = absurd why
+  refused phase.SyncFolder is NotEmpty why = absurd why
+  refused phase.Ended is Failed why = inl tt
+  refused phase.Ended is NoMemory why = inl tt
+  refused phase.Ended is Exists why = absurd why
+  refused phase.Ended is Missing why = absurd why
+  refused phase.Ended is NotFolder why = absurd why
+  refused phase.Ended is NotEmpty why = absurd why
+
+pub refused_of : (start : State) (entries : List Entry) (pending : Option Pending) (lane : ℕ) (v : View) (b : Books) (t : RefCommand) (e : FsErr) → IsTree v.now → Stands start entries pending v → command_facts lane t v b → command_refuses t v e
+    → OfNone e ⊎ IsBeyond t v
+refused_of start entries pending lane v b (Parse look) e tree stands f why = inl why
+refused_of start entries pending lane v b (Reset look plan) e tree stands f why = inl why
+refused_of start entries pending lane v b (Change work) e tree stands f why =
+    refused work.task v f.needs (fits_now start entries pending v stands 0 v.now (Image-now v tree)).good work.task.phase refl e why

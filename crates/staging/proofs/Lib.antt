@@ -1,0 +1,4 @@
+pub mod StepLemmas
+pub mod Answering
+pub mod Stable
+pub mod Begins

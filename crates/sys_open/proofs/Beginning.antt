@@ -1,0 +1,122 @@
+-- What a system can begin with, where a sane disk was arranged.
+use Rattle.std.proofs.Common.{◌≡◌, ◌⊎◌, inl, inr, ℕ, true, false, refl, sym, ◌∙◌, ap, subst, List, ◌++◌, Some, None, Err}
+use Rattle.ost_types.specs.Path.{Path, is_below}
+use Rattle.fs_trait.specs.declared.types.Value.{Value}
+use Rattle.fs_trait.specs.declared.types.Value.TheVariants.{Absent, Folder, Link, File}
+use Rattle.fs_trait.specs.View.{Disk, View}
+use Rattle.fs_trait.specs.Image.{IsTree}
+use Rattle.fs_trait.specs.Seen.{Vacant, Directory, seen, shows, Always, bytes_in}
+use Rattle.fs_trait.proofs.Claims.{reads_shows, is_below-before}
+use Rattle.fs_trait.proofs.Facts.{vacant_absent}
+use Rattle.repo_layout.specs.Paths.{heads, ref_path, stage_path}
+use Rattle.repo_layout.specs.RefName.{IsRefName, parts_of}
+use Rattle.repo_layout.specs.Refs.{Names, is_leaf}
+use Rattle.repo_layout.specs.RefFile.{ref_text}
+use Rattle.ref_room.specs.Way.{folder_meta}
+use Rattle.ref_room.proofs.Names.{ref_path-one}
+use Rattle.rely.specs.State.{RefOf, Said, first}
+use Rattle.rely.specs.Disks.{IsLeaf, Says, Logical, IsGood}
+use Rattle.rely.proofs.Layouts.{below_split}
+use Rattle.sys_open.specs.declared.fault.OpenFault.{OpenFault}
+use Rattle.sys_open.specs.declared.fault.OpenFault.TheVariants as fault
+use Rattle.sys_open.specs.Faults.{IsInterruption}
+use Rattle.sys_open.specs.Checks.{IsSane, RefFiles, IsRefAt}
+use Rattle.sys_open.specs.Changes.{Changes, Keeps, IsArranged}
+use Rattle.sys_open.specs.Opening.{Answers, Begins, OnDamage}
+use Rattle.sys_open.proofs.Walks.{absent_below}
+
+pub interrupted_answer : (T : Type 0) (d : Disk) (f : OpenFault) → IsInterruption f → Answers {T = T} d (Err f)
+interrupted_answer T d fault.Disk is = tt
+interrupted_answer T d fault.NoMemory is = tt
+interrupted_answer T d (fault.Damaged p y) is = absurd is
+interrupted_answer T d (fault.Outside p) is = absurd is
+
+pub still_answers : (T U : Type 0) (d : Disk) (f : OpenFault) → Answers {T = T} d (Err f) → Answers {T = U} d (Err f)
+still_answers T U d fault.Disk answers = tt
+still_answers T U d fault.NoMemory answers = tt
+still_answers T U d (fault.Damaged p y) answers = answers
+still_answers T U d (fault.Outside p) answers = answers
+
+pub interrupted_damage : (T : Type 0) (P : Type 0) (f : OpenFault) → IsInterruption f → OnDamage {T = T} (Err f) P
+interrupted_damage T P fault.Disk is = tt
+interrupted_damage T P fault.NoMemory is = tt
+interrupted_damage T P (fault.Damaged p y) is = absurd is
+interrupted_damage T P (fault.Outside p) is = absurd is
+
+pub any_damage : (T : Type 0) (P : Type 0) (f : OpenFault) → P → OnDamage {T = T} (Err f) P
+any_damage T P fault.Disk is = tt
+any_damage T P fault.NoMemory is = tt
+any_damage T P (fault.Damaged p y) is = is
+any_damage T P (fault.Outside p) is = tt
+
+leaf_shown : (d : Disk) (z : Value) → is_leaf z ≡ true → IsLeaf (seen d z)
+leaf_shown d Absent e = let n : false ≡ true = e in cc
+leaf_shown d (Folder m) e = let n : false ≡ true = e in cc
+leaf_shown d (Link m t) e = tt
+leaf_shown d (File n) e = tt
+
+leaf_value : (d : Disk) (z : Value) → IsLeaf (seen d z) → is_leaf z ≡ true
+leaf_value d (Link m t) leaf = refl
+leaf_value d (File n) leaf = refl
+leaf_value d Absent leaf = absurd leaf
+leaf_value d (Folder m) leaf = absurd leaf
+
+not_staged : (actor : ℕ) (rest : Path) → is_below (stage_path actor) (heads ++ rest) ≡ false
+unfolding is_below stage_path
+not_staged actor rest = refl
+
+module _ (v w : View) (sane : IsSane v.now) (keeps : Keeps v.now w.now) where
+  -- what shows below the folder of refs is what showed there, or a folder
+  ref_shown : (p : Path) → is_below heads p ≡ true → IsLeaf (shows w.now p) → shows w.now p ≡ shows v.now p
+  ref_shown p below leaf = by (keeps p)
+    where
+      by : (shows w.now p ≡ shows v.now p) ⊎ Changes v.now p (shows w.now p) → shows w.now p ≡ shows v.now p
+      by (inl same) = same
+      by (inr (inl lays)) = let bad : IsLeaf (Directory folder_meta) = subst IsLeaf lays.1 leaf in absurd bad
+      by (inr (inr clears)) = let bad : IsLeaf Vacant = subst IsLeaf clears.2.1 leaf in absurd bad
+
+  leaf_was : (p : Path) → is_below heads p ≡ true → is_leaf (w.now.at p) ≡ true → (shows w.now p ≡ shows v.now p) × IsRefAt v.now p
+  leaf_was p below leaf =
+      let same = ref_shown p below (leaf_shown w.now (w.now.at p) leaf) in
+      (same, (sane RefFiles p below).leaf (leaf_value v.now (v.now.at p) (subst IsLeaf same (leaf_shown w.now (w.now.at p) leaf))))
+
+  below_heads : (name : List ℕ) → is_below heads (ref_path name) ≡ true
+  unfolding ref_path
+  below_heads name = is_below-before heads (parts_of name)
+
+  unstaged : (actor : ℕ) (name : List ℕ) → is_below (stage_path actor) (ref_path name) ≡ true → ⊥
+  unfolding ref_path
+  unstaged actor name below = let n : false ≡ true = sym (not_staged actor (parts_of name)) ∙ below in cc
+
+  good_ref : (name : List ℕ) → is_leaf (w.now.at (ref_path name)) ≡ true → IsRefName name × (commit : List ℕ) × Names w.now name commit
+  good_ref name leaf =
+      let was = leaf_was (ref_path name) (below_heads name) leaf in
+      let at = was.1 in
+      (subst IsRefName (ref_path-one at.0 name at.2) at.1, at.3.0, record { sum = at.3.1.sum; file = reads_shows w.now (ref_path name) ∙ ap bytes_in was.0 ∙ sym (reads_shows v.now (ref_path name)) ∙ at.3.1.file })
+
+  pub good_disk : IsArranged w.now → IsGood w.now
+  good_disk arranged = record {
+    folders = arranged.folders;
+    refs = good_ref;
+    others = λ p below none leaf. let at = (leaf_was p below leaf).1 in none at.0 (sym at.2);
+  }
+
+  says_still : (said : Said) (name : List ℕ) → Says (RefOf name) said (shows v.now (ref_path name)) → Says (RefOf name) said (shows w.now (ref_path name))
+  says_still said name says = by said says (keeps (ref_path name))
+    where
+      by : (said : Said) → Says (RefOf name) said (shows v.now (ref_path name)) → (shows w.now (ref_path name) ≡ shows v.now (ref_path name)) ⊎ Changes v.now (ref_path name) (shows w.now (ref_path name)) → Says (RefOf name) said (shows w.now (ref_path name))
+      by said says (inl same) = subst (Says (RefOf name) said) (sym same) says
+      by None says (inr (inl lays)) = λ leaf. let bad : IsLeaf (Directory folder_meta) = subst IsLeaf lays.1 leaf in absurd bad
+      by (Some commit) says (inr (inl lays)) = let n : None ≡ Some (ref_text commit) = sym (ap bytes_in lays.2) ∙ says.1 in cc
+      by said says (inr (inr clears)) = absurd (unstaged clears.0 name clears.2.0)
+
+  pub begins : IsTree w.now → IsArranged w.now → ((p : Path) → Always w p (shows w.now p)) → (refs : List (List ℕ × List ℕ)) → Logical v.now (first refs) → Begins refs v w
+  begins tree arranged settled refs logical = record {
+    opening = record { settled = settled; good = good_disk arranged; state = state };
+    same = logical;
+    keeps = keeps;
+    staging = λ actor small p below. let s = below_split (stage_path actor) p below in ap (seen w.now) (subst (λ q. w.now.at q ≡ Absent) (sym s.1) (absent_below w.now tree (stage_path actor) s.0 (vacant_absent w.now (stage_path actor) (arranged.staging actor small))));
+  }
+    where
+      state : Logical w.now (first refs)
+      state (RefOf name) = says_still (first refs (RefOf name)) name (logical (RefOf name))

@@ -1,0 +1,15 @@
+mod FaultLemmas
+mod Lists
+mod Orders
+mod Walks
+mod Reaching
+mod Working
+mod Clearings
+mod Holding
+mod FolderLemmas
+mod StageLemmas
+mod Checking
+mod Laying
+mod StageClearing
+mod Arranging
+mod Beginning

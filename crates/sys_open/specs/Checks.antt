@@ -1,0 +1,81 @@
+-- What a disk has to be like where a repository is opened on it.
+use Rattle.std.specs.Prelude.{◌≡◌, ◌≢◌, ◌<◌, ℕ, true, IsTrue, List}
+use Rattle.std.specs.declared.cmp.Ordering.TheVariants.{Less}
+use Rattle.ost_types.specs.Path.{Name, Path, IsPath, is_below, path_cmp, under}
+use Rattle.fs_trait.specs.declared.types.Value.{Value}
+use Rattle.fs_trait.specs.declared.types.Value.TheVariants.{Absent, Folder}
+use Rattle.fs_trait.specs.View.{Disk}
+use Rattle.repo_layout.specs.declared.folder.Folder as layout
+use Rattle.repo_layout.specs.Paths.{folder_path, heads, ref_path, stage_path}
+use Rattle.repo_layout.specs.RefName.{IsRefName}
+use Rattle.repo_layout.specs.Refs.{ShowsCommit, is_leaf}
+use Rattle.sys_open.specs.declared.fault.Why.{Why}
+use Rattle.sys_open.specs.declared.fault.Why.TheVariants.{BadRef, WrongKind}
+
+-- What a place of the layout asks of what stands there.
+pub data Rule : Type 0 where
+  FolderOrNothing : Rule
+
+abbrev pub Suits : Rule → Value → Type 0
+Suits FolderOrNothing Absent = Unit {0}
+Suits FolderOrNothing (Folder m) = Unit {0}
+Suits FolderOrNothing x = ⊥
+
+-- the paths that the rule is for: the folders that are there from the beginning
+abbrev pub IsFor : Rule → Path → Type 0
+IsFor FolderOrNothing p = (f : layout.Folder) × (p ≡ folder_path f)
+
+-- A ref file stands there, under the path of a good name.
+abbrev pub IsRefAt : Disk → Path → Type 0
+IsRefAt d p = (name : List ℕ) × IsRefName name × (ref_path name ≡ p) × ((commit : List ℕ) × ShowsCommit d p commit)
+
+-- all that stands in the folder has a path
+abbrev pub IsReached : Disk → Path → Type 0
+IsReached d p = (x : Name) → d.at (under p x) ≢ Absent → IsPath (under p x)
+
+-- What is asked of a path at or below the folder of refs.
+pub record HoldsRefs (d : Disk) (p : Path) : Type 0 where
+  pub leaf : is_leaf (d.at p) ≡ true → IsRefAt d p
+  pub reached : IsReached d p
+
+-- The checks, in the order in which they are made.
+pub data Check : Type 0 where
+  Kinds : Check  -- what stands at a place of the layout suits it
+  RefFiles : Check  -- each leaf at or below the folder of refs is a ref file under the path of a good name
+  Staging : Check  -- what stands at a staging path can be removed
+
+abbrev pub turn : Check → ℕ
+turn Kinds = 1
+turn RefFiles = 3
+turn Staging = 8
+
+-- what a check asks of a path
+abbrev pub Asks : Check → Disk → Path → Type 0
+Asks Kinds d p = (rule : Rule) → IsFor rule p → Suits rule (d.at p)
+Asks RefFiles d p = IsTrue (is_below heads p) → HoldsRefs d p
+Asks Staging d p = (actor : ℕ) → actor < 16 → IsTrue (is_below (stage_path actor) p) → IsReached d p
+
+-- Each path is as each check asks.
+abbrev pub IsSane : Disk → Type 0
+IsSane d = (check : Check) (p : Path) → Asks check d p
+
+-- What is told where a check fails.
+abbrev pub why_of : Check → Why
+why_of Kinds = WrongKind
+why_of RefFiles = BadRef
+why_of Staging = WrongKind
+
+-- Wrong of kind there, and a bad ref there.
+abbrev pub IsWrongKind : Disk → Path → Type 0
+IsWrongKind d p = ¬ (Asks Kinds d p)
+
+abbrev pub IsBadRef : Disk → Path → Type 0
+IsBadRef d p = ¬ (Asks RefFiles d p)
+
+-- The first check that fails, and the least path at which it does.
+pub record IsFault (d : Disk) (p : Path) (why : Why) : Type 0 where
+  pub check : Check
+  pub told : why ≡ why_of check
+  pub wrong : ¬ (Asks check d p)
+  pub first : (earlier : Check) → turn earlier < turn check → (q : Path) → Asks earlier d q
+  pub least : (q : Path) → path_cmp q p ≡ Less → Asks check d q

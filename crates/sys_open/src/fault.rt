@@ -1,0 +1,87 @@
+ghost use Rattle.std.specs.Prelude.{◌≡◌, ◌⊎◌};
+ghost use Rattle.sys_open.specs.declared.fault.OpenFault.TheVariants as fault;
+ghost use Rattle.sys_open.specs.Faults.{IsRefusal};
+
+use fs_trait::FsErr;
+use ost_types::{FsPath, NoMemory, TryCopy};
+use std::alloc::{AllocError, AllocFailed};
+
+/// What is wrong with what stands at a path.
+#[derive(Clone, Copy, Debug, PartialEq, Eq)]
+pub enum Why {
+    /// A leaf at or below the folder of refs isn't a ref file under the path of a good name, or a folder there has a name
+    /// that is too long for a path.
+    BadRef,
+    /// Something else than a folder stands in a folder's place, or a folder at a staging path has a name that is too long for
+    /// a path.
+    WrongKind,
+}
+
+/// Why a repository isn't opened.
+#[derive(Drop, Debug)]
+pub enum OpenFault {
+    /// A check failed at this path.
+    Damaged(FsPath, Why),
+    /// A call failed.
+    Disk,
+    /// A call on this path was refused against what was read before.
+    Outside(FsPath),
+    NoMemory,
+}
+
+impl From<NoMemory> for OpenFault {
+    ghost from_gives = { λ _ e. e ≡ fault.NoMemory };
+
+    fn from(_: NoMemory) -> OpenFault {
+        OpenFault::NoMemory
+    }
+}
+
+impl From<AllocError> for OpenFault {
+    ghost from_gives = { λ _ e. e ≡ fault.NoMemory };
+
+    fn from(_: AllocError) -> OpenFault {
+        OpenFault::NoMemory
+    }
+}
+
+impl<T: Drop> From<AllocFailed<T>> for OpenFault {
+    ghost from_gives = { λ _ e. e ≡ fault.NoMemory };
+
+    fn from(_: AllocFailed<T>) -> OpenFault {
+        OpenFault::NoMemory
+    }
+}
+
+/// What is told where a call on the path answered the error.
+pub fn refused(at: &FsPath, error: FsErr) -> OpenFault
+    ensures { IsRefusal at.now error result }
+{
+    match error {
+        FsErr::Failed => OpenFault::Disk,
+        FsErr::NoMemory => OpenFault::NoMemory,
+        FsErr::Exists => outside(at),
+        FsErr::Missing => outside(at),
+        FsErr::NotFolder => outside(at),
+        FsErr::NotEmpty => outside(at),
+    }
+}
+
+fn outside(at: &FsPath) -> OpenFault
+    ensures { (result ≡ fault.Outside at.now) ⊎ (result ≡ fault.NoMemory) }
+{
+    match at.copy() {
+        Ok(path) => OpenFault::Outside(path),
+        Err(NoMemory) => OpenFault::NoMemory,
+    }
+}
+
+/// The damage at a path.
+pub fn damaged(at: &FsPath, why: Why) -> OpenFault
+    ensures { (result ≡ fault.Damaged at.now why) ⊎ (result ≡ fault.NoMemory) }
+{
+    match at.copy() {
+        Ok(path) => OpenFault::Damaged(path, why),
+        Err(NoMemory) => OpenFault::NoMemory,
+    }
+}

@@ -1,0 +1,19 @@
+//! Opening the repository of a file system: it is checked, its folders are laid out, and what was staged is removed.
+#![tactic(auto)]
+
+mod adopting;
+mod arrange;
+mod check;
+mod children;
+mod clear;
+mod fault;
+mod found;
+mod kinds;
+mod layout;
+mod opening;
+mod reach;
+mod refs;
+mod stages;
+
+pub use adopting::{Opened, adopt};
+pub use fault::{OpenFault, Why};
