@@ -63,3 +63,7 @@ abbrev pub IsOver : Outcome → Type 0
 IsOver came.Done = Unit {0}
 IsOver (came.Refused e) = Unit {0}
 IsOver outcome = ⊥
+
+-- no lane has a command that runs
+abbrev pub AreIdle : List Run → Type 0
+AreIdle runs = (lane : ℕ) (d : Run) → lane < length runs → (slice_index_or runs lane d).task ≡ None

@@ -5,8 +5,9 @@ mod answer;
 mod ask;
 mod begin;
 mod lane;
+mod prepare;
 mod run;
 mod system;
 
 pub use ask::Ask;
-pub use system::System;
+pub use system::{Parts, System};

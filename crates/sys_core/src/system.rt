@@ -1,20 +1,30 @@
-ghost use Rattle.std.specs.Prelude.{◌≡◌, ◌<◌, ◌≤◌, ℕ, [], false, length, None, slice_index_or};
-ghost use Rattle.rely.specs.Headline.{Headline};
+ghost use Rattle.std.specs.Prelude.{◌≡◌, ◌<◌, ◌≤◌, ℕ, length, Some, IfOk, IfErr};
 ghost use Rattle.fs_trait.specs.View.{View};
+ghost use Rattle.ref_work.specs.Facts.{Home};
+ghost use Rattle.rely.specs.Headline.{Headline};
+ghost use Rattle.rely.specs.Opening.{IsOpening};
+ghost use Rattle.rely.specs.State.{first};
+ghost use Rattle.ref_book.specs.Tracks.{Tracks};
+ghost use Rattle.sys_core.specs.Lanes.{AreIdle};
 
 use crate::Ask;
 use crate::lane::{Came, lane_act};
+use crate::prepare::{Prepared, prepare};
 use crate::run::Run;
 use fs_trait::Fs;
 use ost_types::NoMemory;
 use ref_book::RefBook;
-use rely::{Base, Entry, Event, Pending};
-use script::{Lane, Reply};
+use rely::{Base, Entry, Pending, certify};
+use script::{Answer, Lane, Reply};
 use std::alloc::Global;
 use std::marker::Model;
+use sys_open::Opened;
 
 /// A repository on a file system, and the lanes of commands that work on it. At most one step of one lane is taken at a
 /// time, by `act`.
+///
+/// Each value keeps, for any file system that tells its view: a crash at any moment since the opening leaves a good disk
+/// whose refs are those after a prefix of the stored history that has each change acknowledged by then.
 #[derive(Drop)]
 pub struct System<F: Fs> {
     alloc: Global,
@@ -23,6 +33,7 @@ pub struct System<F: Fs> {
     lanes: Vec<Lane>,
     runs: Vec<Run>,
     replies: Vec<Vec<Reply>>,
+    given: u32,
 }
 
 impl<F: Fs> Model for System<F> {
@@ -36,23 +47,192 @@ impl<F: Fs> Model for System<F> {
     ghost invariant = { λ s. Kept F.view F.clock F.spare F.was s.base s.refs s.runs.items };
 }
 
+/// What a system is taken apart into.
+#[derive(Drop)]
+pub struct Parts<F> {
+    pub fs: F,
+    pub history: Vec<Entry>,
+    pub pending: Option<Pending>,
+    pub replies: Vec<Vec<Reply>>,
+    pub lanes: Vec<Lane>,
+}
+
 impl<F: Fs> System<F> {
-    /// The next step of an actor. An actor of a lane has its number.
+    /// A system of these lanes on a repository that was opened. Where memory is wanting the repository comes back.
+    pub fn new(
+        alloc: Global,
+        opened: Opened<F>,
+        lanes: Vec<Lane>,
+    ) -> Result<System<F>, (Opened<F>, NoMemory)>
+        requires few { length lanes.items ≤ 8 }
+        requires begins { (w : View) → F.view opened.fs ≡ Some w → IsOpening (first opened.refs.items) w }
+        requires homes { (w : View) (lane : ℕ) → F.view opened.fs ≡ Some w → lane < 8 → Home lane w }
+        ensures start { IfOk result (λ s. s.base.books.start ≡ opened.refs) }
+        ensures lanes { IfOk result (λ s. s.lanes ≡ lanes.items) }
+        ensures back { IfErr result (λ e. e.0 ≡ opened) }
+    {
+        match prepare(alloc, &opened.refs, &lanes) {
+            Ok(prepared) => Ok(System::begun(alloc, opened, lanes, prepared)),
+            Err(NoMemory) => Err((opened, NoMemory)),
+        }
+    }
+
+    fn begun(
+        alloc: Global,
+        opened: Opened<F>,
+        lanes: Vec<Lane>,
+        prepared: Prepared,
+    ) -> System<F>
+        requires few { length prepared.runs.items ≤ 8 }
+        requires begins { (w : View) → F.view opened.fs ≡ Some w → IsOpening (first opened.refs.items) w }
+        requires homes { (w : View) (lane : ℕ) → F.view opened.fs ≡ Some w → lane < 8 → Home lane w }
+        requires refs { Tracks prepared.refs (first opened.refs.items) }
+        requires idle { AreIdle prepared.runs.items }
+        ensures start { result.base.books.start ≡ opened.refs }
+        ensures lanes { result.lanes ≡ lanes.items }
+    {
+        let Opened {
+            fs,
+            refs: start,
+            clock: _,
+            faults: _,
+            limits: _,
+        } = opened;
+        let Prepared { refs, runs, replies } = prepared;
+        let clock = fs.clock();
+        System {
+            alloc,
+            base: Base::new(alloc, fs, clock, start),
+            refs,
+            lanes,
+            runs,
+            replies,
+            given: 0,
+        }
+    }
+
+    /// The next step of an actor. The actor of a lane has its number.
     pub fn act(&mut self, actor: u8) -> Ask {
         let number = actor as usize;
         if number >= self.lanes.len() || number >= self.runs.len() {
             return Ask::Ended;
         }
-        let Some(command) = self.lanes[number].commands.get(self.runs[number].command as usize) else {
+        let next = self.runs[number].command as usize;
+        let Some(command) = self.lanes[number].commands.get(next) else {
             return Ask::Ended;
         };
-        if self.base.books.halted {
-            return Ask::Ended;
-        }
-        match lane_act(self.alloc, &mut self.base, &mut self.refs, actor, command, &mut self.runs[number]) {
+        let came = if self.base.books.halted {
+            Came::Answered {
+                answer: Answer::Halted(self.base.fs.faults()),
+                start: self.base.books.history.len(),
+            }
+        } else {
+            lane_act(
+                self.alloc,
+                &mut self.base,
+                &mut self.refs,
+                actor,
+                command,
+                &mut self.runs[number],
+            )
+        };
+        match came {
             Came::Blocked => Ask::Blocked,
             Came::More => Ask::More,
-            Came::Answered { answer: _, start: _ } => Ask::Ended,
+            Came::Answered { answer, start } => self.reply(actor, answer, start),
+        }
+    }
+
+    /// Gives the reply of the lane's command.
+    fn reply(&mut self, lane: u8, answer: Answer, start: usize) -> Ask {
+        let number = lane as usize;
+        if number >= self.runs.len() || number >= self.replies.len() {
+            return Ask::Ended;
+        }
+        let command = self.runs[number].command;
+        let place = self.base.books.history.len();
+        let _ = self.replies[number].push(Reply {
+            answer,
+            start: start as u32,
+            place: place as u32,
+            order: self.given,
+            taken: None,
+        });
+        self.given = self.given.saturating_add(1);
+        self.runs[number].command = command.saturating_add(1);
+        Ask::Done { lane, command }
+    }
+
+    /// The changes that last, in the order in which they came.
+    pub fn history(&self) -> &[Entry]
+        ensures { result.now ≡ self.now.base.books.history.items }
+    {
+        &self.base.books.history
+    }
+
+    /// The change that is shown, or may be, and doesn't last yet.
+    pub fn pending(&self) -> &Option<Pending>
+        ensures { result.now ≡ self.now.base.books.pending }
+    {
+        &self.base.books.pending
+    }
+
+    /// The replies so far, lane by lane.
+    pub fn replies(&self) -> &[Vec<Reply>] {
+        &self.replies
+    }
+
+    pub fn lanes(&self) -> &[Lane]
+        ensures { result.now ≡ self.now.lanes }
+    {
+        &self.lanes
+    }
+
+    /// A crash at any moment since the opening left a good disk whose refs are those after a prefix of the stored history
+    /// that has each change acknowledged by that moment; and reads see the refs after the history, but for a change that
+    /// is pending.
+    pub fn certify(&self)
+        ensures { (v : View) → F.view self.now.base.fs ≡ Some v → Headline F.clock F.was self.now.base v }
+    {
+        certify(&self.base);
+    }
+
+    /// Acts once for each actor of the schedule.
+    pub fn drive(&mut self, schedule: &[u8])
+        ensures { (v : View) → F.view self.new.base.fs ≡ Some v → Headline F.clock F.was self.new.base v }
+    {
+        for actor in schedule {
+            let _ = self.act(*actor);
+        }
+        self.certify();
+    }
+
+    pub fn into_parts(self) -> Parts<F>
+        ensures fs { result.fs ≡ self.base.fs }
+        ensures history { result.history ≡ self.base.books.history }
+        ensures pending { result.pending ≡ self.base.books.pending }
+        ensures lanes { result.lanes.items ≡ self.lanes }
+        ensures headline { (v : View) → F.view self.base.fs ≡ Some v → Headline F.clock F.was self.base v }
+    {
+        self.certify();
+        let System {
+            alloc: _,
+            base,
+            refs: _,
+            lanes,
+            runs: _,
+            replies,
+            given: _,
+        } = self;
+        let Base { fs, books } = base;
+        let history = books.history;
+        let pending = books.pending;
+        Parts {
+            fs,
+            history,
+            pending,
+            replies,
+            lanes,
         }
     }
 }

@@ -4,11 +4,11 @@ use Rattle.ost_types.specs.Path.{Path, is_below}
 use Rattle.fs_trait.specs.declared.types.Value.{Value}
 use Rattle.fs_trait.specs.declared.types.Value.TheVariants.{Absent, Folder, Link, File}
 use Rattle.fs_trait.specs.View.{Disk, View}
-use Rattle.fs_trait.specs.Image.{IsTree}
+use Rattle.fs_trait.specs.Image.{is_folder, IsTree}
 use Rattle.fs_trait.specs.Seen.{Vacant, Directory, seen, shows, Always, bytes_in}
 use Rattle.fs_trait.proofs.Claims.{reads_shows, is_below-before}
 use Rattle.fs_trait.proofs.Facts.{vacant_absent}
-use Rattle.repo_layout.specs.Paths.{heads, ref_path, stage_path}
+use Rattle.repo_layout.specs.Paths.{folder_path, heads, ref_path, stage_path}
 use Rattle.repo_layout.specs.RefName.{IsRefName, parts_of}
 use Rattle.repo_layout.specs.Refs.{Names, is_leaf}
 use Rattle.repo_layout.specs.RefFile.{ref_text}
@@ -94,9 +94,15 @@ module _ (v w : View) (sane : IsSane v.now) (keeps : Keeps v.now w.now) where
       let at = was.1 in
       (subst IsRefName (ref_path-one at.0 name at.2) at.1, at.3.0, record { sum = at.3.1.sum; file = reads_shows w.now (ref_path name) ∙ ap bytes_in was.0 ∙ sym (reads_shows v.now (ref_path name)) ∙ at.3.1.file })
 
+  folder_no_leaf : (z : Value) → is_folder z ≡ true → is_leaf z ≡ false
+  folder_no_leaf (Folder m) e = refl
+  folder_no_leaf Absent e = refl
+  folder_no_leaf (Link m t) e = let n : false ≡ true = e in cc
+  folder_no_leaf (File k) e = let n : false ≡ true = e in cc
+
   pub good_disk : IsArranged w.now → IsGood w.now
   good_disk arranged = record {
-    folders = arranged.folders;
+    folders = λ f. folder_no_leaf (w.now.at (folder_path f)) (arranged.folders f);
     refs = good_ref;
     others = λ p below none leaf. let at = (leaf_was p below leaf).1 in none at.0 (sym at.2);
   }
@@ -112,7 +118,7 @@ module _ (v w : View) (sane : IsSane v.now) (keeps : Keeps v.now w.now) where
 
   pub begins : IsTree w.now → IsArranged w.now → ((p : Path) → Always w p (shows w.now p)) → (refs : List (List ℕ × List ℕ)) → Logical v.now (first refs) → Begins refs v w
   begins tree arranged settled refs logical = record {
-    opening = record { settled = settled; good = good_disk arranged; state = state };
+    opening = record { settled = settled; folders = arranged.folders; good = good_disk arranged; state = state };
     same = logical;
     keeps = keeps;
     staging = λ actor small p below. let s = below_split (stage_path actor) p below in ap (seen w.now) (subst (λ q. w.now.at q ≡ Absent) (sym s.1) (absent_below w.now tree (stage_path actor) s.0 (vacant_absent w.now (stage_path actor) (arranged.staging actor small))));
