@@ -59,3 +59,23 @@ module _ {F : Type 0} (view : F → Option View) (clock spare : F → ℕ) (was 
           let ne : b ≢ lane = λ e. absurd (grind (arith, nat_tests)) in
           subst (λ (x : Run). Facts b refs' x.task (view new.fs) (books_of new.books)) (sym (get_or-set_other runs lane b run d ne))
           (others_kept lane b old new refs refs' run.task acts ne (omega (arith, kept.few, lt)) (get_or runs b d).task (kept.facts live b d lt))
+
+-- what is so of the tasks alone isn't changed by their numbers
+pub kept_number : {F : Type 0} (view : F → Option View) (clock spare : F → ℕ) (was : F → ℕ → View → Type 0) (base : Base F) (refs : RefBook) (runs : List Run) (lane : ℕ) (run x : Run) → Kept view clock spare was base refs runs → lane < length runs
+    → run.task ≡ (get_or runs lane x).task → Kept view clock spare was base refs (set runs lane run)
+kept_number view clock spare was base refs runs lane run x kept within same = record {
+  sound = kept.sound;
+  tracks = kept.tracks;
+  few = omega (arith, length-set runs lane run, kept.few);
+  facts = λ live b d lt. at live b d (omega (arith, length-set runs lane run, lt)) (nat_eq b lane) refl;
+}
+  where
+    at : base.books.halted ≡ false → (b : ℕ) (d : Run) → b < length runs → (t : Bool) → nat_eq b lane ≡ t → Facts b refs (get_or (set runs lane run) b d).task (view base.fs) (books_of base.books)
+    at live b d lt true is =
+        let e : b ≡ lane = grind (arith, nat_tests) in
+        subst (λ k. Facts k refs (get_or (set runs lane run) k d).task (view base.fs) (books_of base.books)) (sym e)
+        (subst (λ (x : Run). Facts lane refs x.task (view base.fs) (books_of base.books)) (sym (get_or-set_same runs lane run d within))
+        (subst (λ (o : Option Running). Facts lane refs o (view base.fs) (books_of base.books)) (sym same) (kept.facts live lane x within)))
+    at live b d lt false is =
+        let ne : b ≢ lane = λ e. absurd (grind (arith, nat_tests)) in
+        subst (λ (x : Run). Facts b refs x.task (view base.fs) (books_of base.books)) (sym (get_or-set_other runs lane b run d ne)) (kept.facts live b d lt)

@@ -2,3 +2,4 @@ pub mod Histories
 pub mod Steps
 pub mod Lanes
 pub mod Keeping
+pub mod Starting

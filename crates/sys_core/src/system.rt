@@ -153,8 +153,8 @@ impl<F: Fs> System<F> {
         let place = self.base.books.history.len();
         let _ = self.replies[number].push(Reply {
             answer,
-            start: start as u32,
-            place: place as u32,
+            start: number_of(start),
+            place: number_of(place),
             order: self.given,
             taken: None,
         });
@@ -234,5 +234,15 @@ impl<F: Fs> System<F> {
             replies,
             lanes,
         }
+    }
+}
+
+/// A length as a number of a reply. There are far fewer changes than that.
+fn number_of(length: usize) -> u32
+    ensures { length < 4294967296 → result ≡ length }
+{
+    match u32::try_from(length) {
+        Ok(number) => number,
+        Err(_) => u32::MAX,
     }
 }
