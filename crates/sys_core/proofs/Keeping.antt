@@ -34,9 +34,10 @@ module _ {F : Type 0} (view : F → Option View) (clock spare : F → ℕ) (was 
 
     others_run : (r : Option Running) → RunsIn mine refs r (view old.fs) (books_of old.books) → RunsIn mine refs' r (view new.fs) (books_of new.books)
     others_run None runs = others_idle lane mine (books_of old.books) (books_of new.books) other acts.books runs
-    others_run (Some r) runs =
-        (runs_kept command_laws view told lane lane mine r.work old.fs new.fs (books_of old.books) (books_of new.books) other other acts.does acts.books runs.0,
-        room_more refs refs' r.work acts.rooms runs.1)
+    others_run (Some r) runs = (
+      runs_kept command_laws view told lane lane mine r.work old.fs new.fs (books_of old.books) (books_of new.books) other other acts.does acts.books runs.0,
+      room_more refs refs' r.work acts.rooms runs.1,
+    )
 
     others_kept : (r : Option Running) → Facts mine refs r (view old.fs) (books_of old.books) → Facts mine refs' r (view new.fs) (books_of new.books)
     others_kept r f = record { home = others_home f.home; runs = others_run r f.runs }

@@ -3,3 +3,5 @@ pub mod Steps
 pub mod Lanes
 pub mod Keeping
 pub mod Starting
+pub mod Booking
+pub mod Acting

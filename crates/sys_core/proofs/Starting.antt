@@ -11,14 +11,21 @@ use Rattle.rely.specs.Opening.{IsOpening, HasSince}
 use Rattle.rely.specs.State.{State, first}
 use Rattle.rely.proofs.Goods.{fits_all}
 use Rattle.rely.proofs.Openings.{stands_begins}
+use Rattle.std.proofs.lemmas.List.{get_or_default}
+use Rattle.std.specs.Vec.{vec_capacity}
+use Rattle.std.specs.Global.{Vec}
+use Rattle.script.specs.declared.answer.Reply.{Reply}
+use Rattle.script.specs.declared.command.Lane.{Lane}
+use Rattle.sys_core.specs.Booked.{Booked, HasRoomFor}
+use Rattle.sys_core.proofs.Booking.{some_of}
 use Rattle.sys_core.specs.declared.run.Run.{Run}
-use Rattle.sys_core.specs.Lanes.{AreIdle}
+use Rattle.sys_core.specs.Lanes.{AreIdle, IsNew}
 
 -- one more lane that hasn't begun
-pub idle_push : (runs : List Run) (r : Run) → AreIdle runs → r.task ≡ None → AreIdle (runs ++ r ∷ [])
+pub idle_push : (runs : List Run) (r : Run) → AreIdle runs → IsNew r → AreIdle (runs ++ r ∷ [])
 idle_push runs r idle none lane d lt = ⊎_elim
-    (λ below. subst (λ (x : Run). x.task ≡ None) (sym (get_or_append_left runs (r ∷ []) d lane below)) (idle lane d below))
-    (λ at. subst (λ k. (get_or (runs ++ r ∷ []) k d).task ≡ None) (sym at) (subst (λ (x : Run). x.task ≡ None) (sym (get_or-append_seam runs r [] d)) none))
+    (λ below. subst IsNew (sym (get_or_append_left runs (r ∷ []) d lane below)) (idle lane d below))
+    (λ at. subst (λ k. IsNew (get_or (runs ++ r ∷ []) k d)) (sym at) (subst IsNew (sym (get_or-append_seam runs r [] d)) none))
     (split (nat_lt lane (length runs)) refl)
   where
     split : (t : Bool) → nat_lt lane (length runs) ≡ t → (lane < length runs) ⊎ (lane ≡ length runs)
@@ -34,3 +41,30 @@ pub since_now : {F : Type 0} (view : F → Option View) (clock : F → ℕ) (was
 since_now view clock was only_now trees fs start begins t d from left =
     let now = only_now fs t left.0 from left.1 in
     fits_all start [] left.0 (stands_begins start left.0 (trees fs left.0 now) (begins left.0 now)) d left.2
+
+-- room for the replies of one more lane
+pub room_push : (lanes : List Lane) (n : ℕ) (replies : List (Vec Reply)) (v : Vec Reply) (x : Lane) → n < length lanes → length replies ≡ n → HasRoomFor lanes n replies → v.items ≡ [] → get_or lanes n x ≡ x → length x.commands.items ≤ vec_capacity v → HasRoomFor lanes (n + 1) (replies ++ v ∷ [])
+room_push lanes n replies v x few is room empty at enough l d w lt = ⊎_elim
+    (λ below. let e = get_or_append_left replies (v ∷ []) w l (omega (arith, below, is)) in
+    (ap (λ (y : Vec Reply). y.items) e ∙ (room l d w below).0, subst (λ (y : Vec Reply). length (get_or lanes l d).commands.items ≤ vec_capacity y) (sym e) (room l d w below).1))
+    (λ last. let e : get_or (replies ++ v ∷ []) l w ≡ v = ap (λ k. get_or (replies ++ v ∷ []) k w) (last ∙ sym is) ∙ get_or-append_seam replies v [] w in (
+      ap (λ (y : Vec Reply). y.items) e ∙ empty,
+      subst (λ (y : Vec Reply). length (get_or lanes l d).commands.items ≤ vec_capacity y) (sym e) (subst (λ (y : Lane). length y.commands.items ≤ vec_capacity v) (sym (ap (λ k. get_or lanes k d) last ∙ get_or_default lanes n d x few ∙ at)) enough),
+    ))
+    (split (nat_lt l n) refl)
+  where
+    split : (t : Bool) → nat_lt l n ≡ t → (l < n) ⊎ (l ≡ n)
+    split true is = inl (grind (arith, nat_tests))
+    split false is = inr (let more : n ≤ l = grind (arith, nat_tests) in omega (arith, more, lt))
+
+-- and so the books are at the beginning
+pub new_booked : (lanes : List Lane) (runs : List Run) (replies : List (Vec Reply)) → length runs ≡ length lanes → length replies ≡ length lanes → ((l : ℕ) (d : Lane) → l < length lanes → length (get_or lanes l d).commands.items ≤ 64)
+    → AreIdle runs → HasRoomFor lanes (length lanes) replies → Booked lanes runs replies
+new_booked lanes runs replies each replied short idle room = record {
+  each_runs = each;
+  each_replied = replied;
+  short = short;
+  within = λ l d r lt. omega (arith, (idle l r (omega (arith, each, lt))).1);
+  counts = λ l r v lt. ap length (room l (some_of lanes l lt) v lt).0 ∙ sym (idle l r (omega (arith, each, lt))).1;
+  room = λ l d v lt. (room l d v lt).1;
+}

@@ -64,6 +64,9 @@ IsOver came.Done = Unit {0}
 IsOver (came.Refused e) = Unit {0}
 IsOver outcome = ⊥
 
--- no lane has a command that runs
+-- no lane has begun
+abbrev pub IsNew : Run → Type 0
+IsNew r = (r.task ≡ None) × (r.command ≡ 0)
+
 abbrev pub AreIdle : List Run → Type 0
-AreIdle runs = (lane : ℕ) (d : Run) → lane < length runs → (slice_index_or runs lane d).task ≡ None
+AreIdle runs = (lane : ℕ) (d : Run) → lane < length runs → IsNew (slice_index_or runs lane d)

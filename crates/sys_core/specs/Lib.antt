@@ -1,3 +1,4 @@
 pub mod Lanes
 pub mod Begins
 pub mod System
+pub mod Booked

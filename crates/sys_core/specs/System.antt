@@ -1,8 +1,10 @@
--- A system as plain data: the file system with the books, and the commands of its lanes.
+-- A system as plain data: the file system with the books, the commands of its lanes, and their replies so far.
 use Rattle.std.specs.Prelude.{List}
+use Rattle.script.specs.declared.answer.Reply.{Reply}
 use Rattle.script.specs.declared.command.Lane.{Lane}
 use Rattle.rely.specs.declared.books.Base.{Base}
 
 pub record System (F : Type 0) : Type 0 where
   pub base : Base F
   pub lanes : List Lane
+  pub replies : List (List Reply)

@@ -1,4 +1,5 @@
-ghost use Rattle.std.specs.Prelude.{◌≡◌, ◌<◌, ◌≤◌, ◌+◌, ℕ, List, Option, Some, None, false, drop, length, slice_index_or};
+ghost use Rattle.sys_core.specs.declared.lane.Came.TheVariants as Came;
+ghost use Rattle.std.specs.Prelude.{◌≡◌, ◌≢◌, ◌<◌, ◌≤◌, ◌+◌, ℕ, List, Option, Some, None, false, drop, length, slice_index_or};
 ghost use Rattle.fs_trait.specs.View.{View};
 ghost use Rattle.ref_book.specs.Tracks.{Tracks, HasRoom, name_of};
 ghost use Rattle.ref_work.specs.Commands.{command_kind, command_facts};
@@ -42,7 +43,9 @@ pub(crate) fn lane_act<F: Fs>(
     requires sound { Sound F.view F.clock F.spare F.was base.old }
     requires tracks { Tracks refs.old (now_of base.old.books) }
     requires facts { Facts lane refs.old run.old.task (F.view base.old.fs) (books_of base.old.books) }
-    ensures { LaneActs F.view F.clock F.spare F.was lane refs.old refs.new run.new.task base.old base.new }
+    ensures acts { LaneActs F.view F.clock F.spare F.was lane refs.old refs.new run.new.task base.old base.new }
+    ensures number { run.new.command ≡ run.old.command }
+    ensures blocked { result ≡ Came.Blocked → base.new ≡ base.old }
 {
     match run.task.take() {
         Some(running) => goes_on(alloc, base, refs, lane, command, run, running),
@@ -65,7 +68,9 @@ fn begins<F: Fs>(
     requires tracks { Tracks refs.old (now_of base.old.books) }
     requires facts { Facts lane refs.old None (F.view base.old.fs) (books_of base.old.books) }
     requires idle { run.old.task ≡ None }
-    ensures { LaneActs F.view F.clock F.spare F.was lane refs.old refs.new run.new.task base.old base.new }
+    ensures acts { LaneActs F.view F.clock F.spare F.was lane refs.old refs.new run.new.task base.old base.new }
+    ensures number { run.new.command ≡ run.old.command }
+    ensures blocked { result ≡ Came.Blocked → base.new ≡ base.old }
 {
     let start = base.books.history.len();
     match begin(alloc, refs, lane, command) {
@@ -99,7 +104,9 @@ fn goes_on<F: Fs>(
     requires tracks { Tracks refs.old (now_of base.old.books) }
     requires facts { Facts lane refs.old (Some running) (F.view base.old.fs) (books_of base.old.books) }
     requires idle { run.old.task ≡ None }
-    ensures { LaneActs F.view F.clock F.spare F.was lane refs.old refs.new run.new.task base.old base.new }
+    ensures acts { LaneActs F.view F.clock F.spare F.was lane refs.old refs.new run.new.task base.old base.new }
+    ensures number { run.new.command ≡ run.old.command }
+    ensures blocked { result ≡ Came.Blocked → base.new ≡ base.old }
 {
     let mut running = running;
     match running_act(base, refs, lane, run.command, &mut running.work) {
@@ -122,7 +129,9 @@ fn ends<F: Fs>(
     command: &Command,
     running: Running,
     outcome: Outcome,
-) -> Came {
+) -> Came
+    ensures { result ≢ Came.Blocked }
+{
     let Running { work, start } = running;
     let answer = match outcome {
         Outcome::Refused(e) => answer_of(alloc, command, e),

@@ -4,10 +4,12 @@
 mod answer;
 mod ask;
 mod begin;
+mod book;
 mod lane;
 mod prepare;
 mod run;
 mod system;
+mod turn;
 
 pub use ask::Ask;
 pub use system::{Parts, System};

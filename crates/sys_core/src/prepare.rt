@@ -2,6 +2,7 @@ ghost use Rattle.std.specs.Prelude.{◌≡◌, ◌≤◌, ◌<◌, ℕ, None, If
 ghost use Rattle.rely.specs.State.{first};
 ghost use Rattle.ref_book.specs.Tracks.{Tracks};
 ghost use Rattle.sys_core.specs.Lanes.{AreIdle};
+ghost use Rattle.sys_core.specs.Booked.{HasRoomFor};
 
 use crate::run::Run;
 use ost_types::{Csum, NoMemory};
@@ -27,6 +28,8 @@ pub(crate) fn prepare(
     ensures refs { IfOk result (λ p. Tracks p.refs (first start.now)) }
     ensures runs { IfOk result (λ p. AreIdle p.runs.items) }
     ensures all { IfOk result (λ p. length p.runs.items ≡ length lanes.now) }
+    ensures room { IfOk result (λ p. HasRoomFor lanes.now (length lanes.now) p.replies.items) }
+    ensures replies { IfOk result (λ p. length p.replies.items ≡ length lanes.now) }
 {
     Ok(Prepared {
         refs: RefBook::new(alloc, start)?,
@@ -51,7 +54,10 @@ fn idle(alloc: Global, lanes: &[Lane]) -> Result<Vec<Run>, NoMemory>
 }
 
 /// Room for a reply to each command.
-fn room(alloc: Global, lanes: &[Lane]) -> Result<Vec<Vec<Reply>>, NoMemory> {
+fn room(alloc: Global, lanes: &[Lane]) -> Result<Vec<Vec<Reply>>, NoMemory>
+    ensures room { IfOk result (λ r. HasRoomFor lanes.now (length lanes.now) r.items) }
+    ensures all { IfOk result (λ r. length r.items ≡ length lanes.now) }
+{
     let mut replies = Vec::with_capacity(alloc, lanes.len())?;
     for lane in lanes {
         replies.push(Vec::with_capacity(alloc, lane.commands.len())?)?;

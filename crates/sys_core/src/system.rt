@@ -1,21 +1,25 @@
-ghost use Rattle.std.specs.Prelude.{◌≡◌, ◌<◌, ◌≤◌, ℕ, length, Some, IfOk, IfErr};
+ghost use Rattle.std.specs.Prelude.{◌≡◌, ◌<◌, ◌≤◌, ℕ, length, slice_index_or, Some, IfOk, IfErr};
 ghost use Rattle.fs_trait.specs.View.{View};
 ghost use Rattle.ref_work.specs.Facts.{Home};
 ghost use Rattle.rely.specs.Headline.{Headline};
 ghost use Rattle.rely.specs.Opening.{IsOpening};
 ghost use Rattle.rely.specs.State.{first};
 ghost use Rattle.ref_book.specs.Tracks.{Tracks};
+ghost use Rattle.script.specs.declared.command.Lane.{Lane};
 ghost use Rattle.sys_core.specs.Lanes.{AreIdle};
+ghost use Rattle.sys_core.specs.Booked.{Acted, Booked, replies_of};
 
 use crate::Ask;
-use crate::lane::{Came, lane_act};
+use crate::book::book;
+use crate::lane::Came;
 use crate::prepare::{Prepared, prepare};
 use crate::run::Run;
+use crate::turn::turn;
 use fs_trait::Fs;
 use ost_types::NoMemory;
 use ref_book::RefBook;
 use rely::{Base, Entry, Pending, certify};
-use script::{Answer, Lane, Reply};
+use script::{Lane, Reply};
 use std::alloc::Global;
 use std::marker::Model;
 use sys_open::Opened;
@@ -39,12 +43,13 @@ pub struct System<F: Fs> {
 impl<F: Fs> Model for System<F> {
     ghost use Rattle.sys_core.specs.Lanes.{Kept};
     ghost use Rattle.sys_core.specs.System.{System};
+    ghost use Rattle.sys_core.specs.Booked.{Booked, replies_of};
 
     ghost Value = { System F };
 
-    ghost view = { λ s. record { base = s.base; lanes = s.lanes.items } };
+    ghost view = { λ s. record { base = s.base; lanes = s.lanes.items; replies = replies_of s.replies.items } };
 
-    ghost invariant = { λ s. Kept F.view F.clock F.spare F.was s.base s.refs s.runs.items };
+    ghost invariant = { λ s. Kept F.view F.clock F.spare F.was s.base s.refs s.runs.items × Booked s.lanes.items s.runs.items s.replies.items };
 }
 
 /// What a system is taken apart into.
@@ -65,6 +70,7 @@ impl<F: Fs> System<F> {
         lanes: Vec<Lane>,
     ) -> Result<System<F>, (Opened<F>, NoMemory)>
         requires few { length lanes.items ≤ 8 }
+        requires short { (l : ℕ) (d : Lane) → l < length lanes.items → length (slice_index_or lanes.items l d).commands.items ≤ 64 }
         requires begins { (w : View) → F.view opened.fs ≡ Some w → IsOpening (first opened.refs.items) w }
         requires homes { (w : View) (lane : ℕ) → F.view opened.fs ≡ Some w → lane < 8 → Home lane w }
         ensures start { IfOk result (λ s. s.base.books.start ≡ opened.refs) }
@@ -77,13 +83,9 @@ impl<F: Fs> System<F> {
         }
     }
 
-    fn begun(
-        alloc: Global,
-        opened: Opened<F>,
-        lanes: Vec<Lane>,
-        prepared: Prepared,
-    ) -> System<F>
+    fn begun(alloc: Global, opened: Opened<F>, lanes: Vec<Lane>, prepared: Prepared) -> System<F>
         requires few { length prepared.runs.items ≤ 8 }
+        requires booked { Booked lanes.items prepared.runs.items prepared.replies.items }
         requires begins { (w : View) → F.view opened.fs ≡ Some w → IsOpening (first opened.refs.items) w }
         requires homes { (w : View) (lane : ℕ) → F.view opened.fs ≡ Some w → lane < 8 → Home lane w }
         requires refs { Tracks prepared.refs (first opened.refs.items) }
@@ -98,7 +100,11 @@ impl<F: Fs> System<F> {
             faults: _,
             limits: _,
         } = opened;
-        let Prepared { refs, runs, replies } = prepared;
+        let Prepared {
+            refs,
+            runs,
+            replies,
+        } = prepared;
         let clock = fs.clock();
         System {
             alloc,
@@ -112,55 +118,51 @@ impl<F: Fs> System<F> {
     }
 
     /// The next step of an actor. The actor of a lane has its number.
-    pub fn act(&mut self, actor: u8) -> Ask {
+    pub fn act(&mut self, actor: u8) -> Ask
+        ensures acted { Acted self.old self.new actor result }
+        ensures lanes { self.new.lanes ≡ self.old.lanes }
+    {
         let number = actor as usize;
-        if number >= self.lanes.len() || number >= self.runs.len() {
+        if number >= self.lanes.len() {
             return Ask::Ended;
         }
-        let next = self.runs[number].command as usize;
-        let Some(command) = self.lanes[number].commands.get(next) else {
+        let next = self.runs[number].command;
+        let Some(command) = self.lanes[number].commands.get(next as usize) else {
             return Ask::Ended;
         };
-        let came = if self.base.books.halted {
-            Came::Answered {
-                answer: Answer::Halted(self.base.fs.faults()),
-                start: self.base.books.history.len(),
-            }
-        } else {
-            lane_act(
-                self.alloc,
-                &mut self.base,
-                &mut self.refs,
-                actor,
-                command,
-                &mut self.runs[number],
-            )
-        };
+        let came = turn(
+            self.alloc,
+            &mut self.base,
+            &mut self.refs,
+            &mut self.runs,
+            actor,
+            command,
+        );
         match came {
             Came::Blocked => Ask::Blocked,
             Came::More => Ask::More,
-            Came::Answered { answer, start } => self.reply(actor, answer, start),
+            Came::Answered { answer, start } => {
+                let reply = Reply {
+                    answer,
+                    start: number_of(start),
+                    place: number_of(self.base.books.history.len()),
+                    order: self.given,
+                    taken: None,
+                };
+                self.given = self.given.saturating_add(1);
+                book(
+                    &self.lanes,
+                    &mut self.runs,
+                    &mut self.replies,
+                    number,
+                    reply,
+                );
+                Ask::Done {
+                    lane: actor,
+                    command: next,
+                }
+            }
         }
-    }
-
-    /// Gives the reply of the lane's command.
-    fn reply(&mut self, lane: u8, answer: Answer, start: usize) -> Ask {
-        let number = lane as usize;
-        if number >= self.runs.len() || number >= self.replies.len() {
-            return Ask::Ended;
-        }
-        let command = self.runs[number].command;
-        let place = self.base.books.history.len();
-        let _ = self.replies[number].push(Reply {
-            answer,
-            start: number_of(start),
-            place: number_of(place),
-            order: self.given,
-            taken: None,
-        });
-        self.given = self.given.saturating_add(1);
-        self.runs[number].command = command.saturating_add(1);
-        Ask::Done { lane, command }
     }
 
     /// The changes that last, in the order in which they came.
@@ -178,7 +180,9 @@ impl<F: Fs> System<F> {
     }
 
     /// The replies so far, lane by lane.
-    pub fn replies(&self) -> &[Vec<Reply>] {
+    pub fn replies(&self) -> &[Vec<Reply>]
+        ensures { replies_of result.now ≡ self.now.replies }
+    {
         &self.replies
     }
 

@@ -14,27 +14,27 @@ running_act-requires-clause-ready g c = begin_ready g.F.Fs.view g.F.Fs.clock g.F
 pub running_act-requires-clause-tracks : goal.running_act-requires-clause-tracks
 running_act-requires-clause-tracks g c = c.in-Runs.ensures.refs (now_of c.args.base.now.books) c.requires.tracks
 
-pub returns-in-Answered : goal.returns-in-Answered
-returns-in-Answered g c = subst (λ (t : Option Running). LaneActs g.F.Fs.view g.F.Fs.clock g.F.Fs.spare g.F.Fs.was c.args.lane c.args.refs.now c.begin.new.refs t c.args.base.now c.args.base.now) (sym c.requires.idle)
+pub returns-in-Answered-clause-acts : goal.returns-in-Answered-clause-acts
+returns-in-Answered-clause-acts g c = subst (λ (t : Option Running). LaneActs g.F.Fs.view g.F.Fs.clock g.F.Fs.spare g.F.Fs.was c.args.lane c.args.refs.now c.begin.new.refs t c.args.base.now c.args.base.now) (sym c.requires.idle)
     (nothing_acts g.F.Fs.view g.F.Fs.clock g.F.Fs.spare g.F.Fs.was c.args.lane c.args.base.now c.args.refs.now c.begin.new.refs c.requires.sound (c.begin.ensures.refs (now_of c.args.base.now.books) c.requires.tracks) c.begin.ensures.rooms c.requires.facts)
 
-pub returns-in-Blocked : goal.returns-in-Blocked
-returns-in-Blocked g c =
+pub returns-in-Blocked-clause-acts : goal.returns-in-Blocked-clause-acts
+returns-in-Blocked-clause-acts g c =
     let e = c.running_act.ensures in
     step_acts g.F.Fs.view g.F.Fs.clock g.F.Fs.spare g.F.Fs.was c.args.lane c.args.base.now c.running_act.new.base c.args.refs.now c.running_act.new.refs c.running_act.result c.args.run.now.task c.running_act.new.work
     e.acts e.tracks (λ name had. e.rooms name (c.begin.ensures.rooms name had)) e.home
     (λ live. subst (λ (t : Option Running). RunsIn c.args.lane c.running_act.new.refs t (g.F.Fs.view c.running_act.new.base.fs) (books_of c.running_act.new.base.books)) (sym c.requires.idle)
     (subst (λ b. NotPending c.args.lane (books_of b)) (sym (ap (λ x. x.books) (e.blocked c.in-Blocked.is).0)) c.requires.facts.runs))
 
-pub returns-in-More : goal.returns-in-More
-returns-in-More g c =
+pub returns-in-More-clause-acts : goal.returns-in-More-clause-acts
+returns-in-More-clause-acts g c =
     let e = c.running_act.ensures in
     step_acts g.F.Fs.view g.F.Fs.clock g.F.Fs.spare g.F.Fs.was c.args.lane c.args.base.now c.running_act.new.base c.args.refs.now c.running_act.new.refs c.running_act.result _ c.running_act.new.work
     e.acts e.tracks (λ name had. e.rooms name (c.begin.ensures.rooms name had)) e.home
     (λ live. (tells_more g.F.Fs.view g.F.Fs.clock g.F.Fs.spare g.F.Fs.was c.args.lane c.args.base.now c.running_act.new.base c.running_act.result c.running_act.new.work c.in-More.is e.acts, e.room c.in-More.is))
 
-pub returns-in_default : goal.returns-in_default
-returns-in_default g c =
+pub returns-in_default-clause-acts : goal.returns-in_default-clause-acts
+returns-in_default-clause-acts g c =
     let e = c.running_act.ensures in
     step_acts g.F.Fs.view g.F.Fs.clock g.F.Fs.spare g.F.Fs.was c.args.lane c.args.base.now c.running_act.new.base c.args.refs.now c.running_act.new.refs c.running_act.result c.args.run.now.task c.running_act.new.work
     e.acts e.tracks (λ name had. e.rooms name (c.begin.ensures.rooms name had)) e.home

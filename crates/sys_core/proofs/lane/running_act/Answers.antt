@@ -45,8 +45,8 @@ returns-clause-tracks g c =
     let is : c.deref.result.now ≡ new.history.items = search rules in
     let gr = grown c.args.lane c.args.number (g.F.Fs.clock c.task_act-outcome.new.base.fs) old new (command_kind c.args.work.now) c.task_act-outcome.result c.requires.ready.task.holds c.task_act-outcome.ensures.booked in
     let e : after (events_of (drop c.len-before.result c.deref.result.now)) (now_of old) ≡ now_of new =
-        ap (λ n. after (events_of (drop n c.deref.result.now)) (now_of old)) at ∙ ap (λ (l : List Entry). after (events_of (drop (length old.history.items) l)) (now_of old)) is
-        ∙ now_goes (command_kind c.args.work.now) old new c.task_act-outcome.ensures.acts.books.start gr in
+    ap (λ n. after (events_of (drop n c.deref.result.now)) (now_of old)) at ∙ ap (λ (l : List Entry). after (events_of (drop (length old.history.items) l)) (now_of old)) is
+    ∙ now_goes (command_kind c.args.work.now) old new c.task_act-outcome.ensures.acts.books.start gr in
     subst (Tracks c.note.new.refs) e (c.note.ensures.refs (now_of old) c.requires.tracks)
 
 pub returns-clause-room : goal.returns-clause-room
