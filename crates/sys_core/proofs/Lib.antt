@@ -5,3 +5,4 @@ pub mod Keeping
 pub mod Starting
 pub mod Booking
 pub mod Acting
+pub mod Beginning

@@ -3,7 +3,8 @@ ghost use Rattle.fs_trait.specs.View.{View};
 ghost use Rattle.ref_book.specs.Tracks.{Tracks, HasRoom};
 ghost use Rattle.rely.specs.State.{State};
 ghost use Rattle.sys_core.specs.Lanes.{HasRoomFor};
-ghost use Rattle.sys_core.specs.Begins.{IsBegun};
+ghost use Rattle.sys_core.specs.Begins.{IsBegun, IsBy};
+ghost use Rattle.script.specs.declared.command.Command.TheVariants as Command;
 
 use ost_types::{Csum, NoMemory, TryCopy};
 use ref_book::RefBook;
@@ -23,6 +24,7 @@ pub(crate) fn begin(alloc: Global, refs: &mut RefBook, lane: u8, command: &Comma
     ensures refs { (s : State) → Tracks refs.old s → Tracks refs.new s }
     ensures rooms { (name : List ℕ) → HasRoom refs.old name → HasRoom refs.new name }
     ensures begun { IsBegun lane refs.new result }
+    ensures by { (s : State) → Tracks refs.old s → IsBy lane s command.now result }
 {
     match task_of(alloc, refs, lane, command) {
         Ok(begun) => begun,
@@ -40,6 +42,7 @@ fn task_of(
     ensures refs { (s : State) → Tracks refs.old s → Tracks refs.new s }
     ensures rooms { (name : List ℕ) → HasRoom refs.old name → HasRoom refs.new name }
     ensures begun { IfOk result (IsBegun lane refs.new) }
+    ensures by { (s : State) → Tracks refs.old s → IfOk result (IsBy lane s command.now) }
 {
     match command {
         Command::Refs => Ok(Begun::Answered(Answer::Refs(refs.rows()?))),
@@ -61,7 +64,8 @@ fn task_of(
 
 // a ref must be there; its commit, or the one that was named, is looked up
 fn parse(alloc: Global, refs: &RefBook, rev: &Rev) -> Begun
-    ensures { (lane : ℕ) → IsBegun lane refs.now result }
+    ensures begun { (lane : ℕ) → IsBegun lane refs.now result }
+    ensures by { (lane : ℕ) (s : State) → Tracks refs.now s → IsBy lane s (Command.RevParse rev.now) result }
 {
     match rev {
         Rev::Commit(commit) => Begun::Runs(RefCommand::parse(alloc, *commit)),
