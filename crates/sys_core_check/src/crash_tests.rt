@@ -78,7 +78,9 @@ fn check_goes_on(rt: &impl Abort, alloc: Global, fs: &MemFs) -> Result<(), Fail>
 
 // The calls of the opening are the 8th to the 60th, and those of the reset follow.
 const RESET: u64 = 61;
+
 const RESET_RENAME: u64 = 70;
+
 const RESET_SYNC: u64 = 71;
 
 fn check_failing_reset(rt: &impl Abort, alloc: Global, call: u64, done: bool) -> Result<(), Fail> {
@@ -111,7 +113,13 @@ fn fails_at_each_call_of_a_reset(rt: HostRuntime) -> Result<(), Fail> {
 fn halts_where_the_last_sync_fails(rt: HostRuntime) -> Result<(), Fail> {
     let alloc = rt.alloc();
     let ran = run_failing(alloc, b"reset main X|refs", RESET_SYNC, false)?;
-    assert!(rt; says(alloc, &ran.replies, "0 0 fault Halted 1\n0 1 fault Halted 1\n")?);
+    assert!(rt;
+        says(
+            alloc,
+            &ran.replies,
+            "0 0 fault Halted 1\n0 1 fault Halted 1\n"
+        )?
+    );
     // after the call that failed, and between the rename and it
     for back in 0..2 {
         assert!(rt; has_last(alloc, &ran.fs, back)?);
@@ -123,7 +131,9 @@ fn halts_where_the_last_sync_fails(rt: HostRuntime) -> Result<(), Fail> {
 }
 
 const DROP: u64 = 72;
+
 const DROP_UNLINK: u64 = 74;
+
 const DROP_SYNC: u64 = 75;
 
 fn check_failing_drop(rt: &impl Abort, alloc: Global, call: u64, done: bool) -> Result<(), Fail> {

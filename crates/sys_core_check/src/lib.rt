@@ -6,10 +6,8 @@ mod running;
 pub use running::{NotRun, run};
 
 #[cfg(test)]
-mod tests;
-
-#[cfg(test)]
 mod crash_tests;
-
+#[cfg(test)]
+mod tests;
 #[cfg(test)]
 mod turn_tests;

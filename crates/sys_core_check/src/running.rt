@@ -1,4 +1,13 @@
 //! All commands of some lanes, on the repository of a file system.
+ghost use Rattle.std.specs.Prelude.{◌≡◌, ◌≤◌, ◌<◌, ℕ, Some, IfOk, IfErr, length};
+ghost use Rattle.fs_trait.specs.View.{View};
+ghost use Rattle.ref_work.specs.Facts.{Home};
+ghost use Rattle.rely.specs.Opening.{IsOpening};
+ghost use Rattle.rely.specs.State.{first};
+ghost use Rattle.sys_open.specs.Checks.{IsSane};
+ghost use Rattle.sys_open.specs.Changes.{Changes, Works};
+ghost use Rattle.sys_core_check.specs.declared.running.NotRun.TheVariants as not_run;
+ghost use Rattle.sys_core_check.specs.Ran.{IsReason, LeftBy, Ran};
 
 use fs_trait::Fs;
 use ost_types::{Limits, NoMemory};
@@ -42,7 +51,13 @@ fn run_opened<F: Fs>(
     alloc: Global,
     opened: Opened<F>,
     lanes: Vec<Lane>,
-) -> Result<Parts<F>, (F, NotRun)> {
+) -> Result<Parts<F>, (F, NotRun)>
+    requires few { length lanes.items ≤ 8 }
+    requires begins { (w : View) → F.view opened.fs ≡ Some w → IsOpening (first opened.refs.items) w }
+    requires homes { (w : View) (lane : ℕ) → F.view opened.fs ≡ Some w → lane < 8 → Home lane w }
+    ensures ran { IfOk result (Ran F.view F.clock F.was) }
+    ensures back { IfErr result (λ e. (e.0 ≡ opened.fs) × (e.1 ≡ not_run.NoMemory)) }
+{
     match System::new(alloc, opened, lanes) {
         Ok(system) => {
             let mut system = system;
@@ -54,7 +69,12 @@ fn run_opened<F: Fs>(
 }
 
 /// Opens the repository of the file system, and runs all commands of the lanes. Where no lane is run the file system comes back.
-pub fn run<F: Fs>(alloc: Global, fs: F, lanes: Vec<Lane>) -> Result<Parts<F>, (F, NotRun)> {
+pub fn run<F: Fs>(alloc: Global, fs: F, lanes: Vec<Lane>) -> Result<Parts<F>, (F, NotRun)>
+    ensures ran { IfOk result (Ran F.view F.clock F.was) }
+    ensures sane { (v : View) → F.view fs ≡ Some v → IfOk result (λ p. IsSane v.now) }
+    ensures told { (v : View) → F.view fs ≡ Some v → IfErr result (λ e. IsReason lanes.items v.now e.1) }
+    ensures left { (v : View) → F.view fs ≡ Some v → IfErr result (λ e. LeftBy e.1 (e.0 ≡ fs) (Works (Changes v.now) v (F.clock fs) (F.clock e.0) (F.was fs) (F.was e.0) (F.view e.0))) }
+{
     if lanes.len() > 8 {
         return Err((fs, NotRun::TooManyLanes));
     }

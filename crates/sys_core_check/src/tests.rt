@@ -11,6 +11,7 @@ use sys_open::{OpenFault, Why, adopt};
 
 // X and Y in the lines of commands
 const ONES: &str = "1111111111111111111111111111111111111111111111111111111111111111";
+
 const TWOS: &str = "2222222222222222222222222222222222222222222222222222222222222222";
 
 fn meta(alloc: Global, mode: u32) -> Meta {
@@ -182,8 +183,14 @@ fn removes_what_was_staged(rt: HostRuntime) -> Result<(), Fail> {
 #[test]
 fn changes_a_ref(rt: HostRuntime) -> Result<(), Fail> {
     let alloc = rt.alloc();
-    let parts = run_lane(alloc, with_commit(alloc)?, b"reset main X|rev-parse main|refs|rev-parse X")?;
-    let wanted = format!(in alloc; "0 0 ok\n0 1 ok {ONES}\n0 2 ok 1\n main {ONES}\n0 3 ok {ONES}\n")?;
+    let parts = run_lane(
+        alloc,
+        with_commit(alloc)?,
+        b"reset main X|rev-parse main|refs|rev-parse X",
+    )?;
+    let wanted = format!(in alloc;
+        "0 0 ok\n0 1 ok {ONES}\n0 2 ok 1\n main {ONES}\n0 3 ok {ONES}\n"
+    )?;
     assert!(rt; says(alloc, &parts.replies, wanted.as_str())?);
     assert!(rt; parts.history.len() == 1 && parts.pending.is_none());
     Ok(())
@@ -192,8 +199,14 @@ fn changes_a_ref(rt: HostRuntime) -> Result<(), Fail> {
 #[test]
 fn refuses_what_is_no_commit(rt: HostRuntime) -> Result<(), Fail> {
     let alloc = rt.alloc();
-    let parts = run_lane(alloc, with_commit(alloc)?, b"reset main Y|rev-parse main|rev-parse Y")?;
-    let wanted = format!(in alloc; "0 0 refused NoCommit {TWOS}\n0 1 refused NoRef\n0 2 refused NoCommit {TWOS}\n")?;
+    let parts = run_lane(
+        alloc,
+        with_commit(alloc)?,
+        b"reset main Y|rev-parse main|rev-parse Y",
+    )?;
+    let wanted = format!(in alloc;
+        "0 0 refused NoCommit {TWOS}\n0 1 refused NoRef\n0 2 refused NoCommit {TWOS}\n"
+    )?;
     assert!(rt; says(alloc, &parts.replies, wanted.as_str())?);
     assert!(rt; parts.history.is_empty());
     Ok(())
@@ -217,8 +230,18 @@ fn tells_a_partial_commit(rt: HostRuntime) -> Result<(), Fail> {
 #[test]
 fn refuses_a_ref_below_another(rt: HostRuntime) -> Result<(), Fail> {
     let alloc = rt.alloc();
-    let parts = run_lane(alloc, with_commit(alloc)?, b"reset main X|reset main/x X|rev-parse main/x")?;
-    assert!(rt; says(alloc, &parts.replies, "0 0 ok\n0 1 refused RefClash main\n0 2 refused NoRef\n")?);
+    let parts = run_lane(
+        alloc,
+        with_commit(alloc)?,
+        b"reset main X|reset main/x X|rev-parse main/x",
+    )?;
+    assert!(rt;
+        says(
+            alloc,
+            &parts.replies,
+            "0 0 ok\n0 1 refused RefClash main\n0 2 refused NoRef\n"
+        )?
+    );
     assert!(rt; parts.history.len() == 1);
     Ok(())
 }
@@ -226,8 +249,18 @@ fn refuses_a_ref_below_another(rt: HostRuntime) -> Result<(), Fail> {
 #[test]
 fn drops_a_ref_once(rt: HostRuntime) -> Result<(), Fail> {
     let alloc = rt.alloc();
-    let parts = run_lane(alloc, with_commit(alloc)?, b"reset main X|drop main|drop main|rev-parse other|refs")?;
-    assert!(rt; says(alloc, &parts.replies, "0 0 ok\n0 1 ok\n0 2 refused NoRef\n0 3 refused NoRef\n0 4 ok 0\n")?);
+    let parts = run_lane(
+        alloc,
+        with_commit(alloc)?,
+        b"reset main X|drop main|drop main|rev-parse other|refs",
+    )?;
+    assert!(rt;
+        says(
+            alloc,
+            &parts.replies,
+            "0 0 ok\n0 1 ok\n0 2 refused NoRef\n0 3 refused NoRef\n0 4 ok 0\n"
+        )?
+    );
     assert!(rt; parts.history.len() == 2);
     Ok(())
 }

@@ -85,11 +85,19 @@ fn waits_for_the_turn(rt: HostRuntime) -> Result<(), Fail> {
     act_till_pending(&mut system, 0);
     assert!(rt; is_held_off(&mut system, 1));
     assert!(rt; system.act(1) == Ask::Blocked);
-    assert!(rt; system.act(0) == Ask::Done { lane: 0, command: 0 });
+    assert!(rt;
+        system.act(0)
+            == Ask::Done {
+                lane: 0,
+                command: 0
+            }
+    );
     assert!(rt; system.pending().is_none());
     assert!(rt; system.act(1) == Ask::More);
     assert!(rt; !interleave(&mut system, 100));
-    let wanted = format!(in alloc; "0 0 ok\n1 0 ok\n1 1 ok {ONES}\n1 2 ok 2\n a {ONES}\n b {ONES}\n")?;
+    let wanted = format!(in alloc;
+        "0 0 ok\n1 0 ok\n1 1 ok {ONES}\n1 2 ok 2\n a {ONES}\n b {ONES}\n"
+    )?;
     assert!(rt; says(alloc, system.replies(), wanted.as_str())?);
     Ok(())
 }
