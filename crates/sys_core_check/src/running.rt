@@ -1,0 +1,85 @@
+//! All commands of some lanes, on the repository of a file system.
+ghost use Rattle.std.specs.Prelude.{◌≡◌, ◌≤◌, ◌<◌, ℕ, Some, IfOk, IfErr, length};
+ghost use Rattle.fs_trait.specs.View.{View};
+ghost use Rattle.ref_work.specs.Facts.{Home};
+ghost use Rattle.rely.specs.Opening.{IsOpening};
+ghost use Rattle.rely.specs.State.{first};
+ghost use Rattle.sys_open.specs.Checks.{IsSane};
+ghost use Rattle.sys_open.specs.Changes.{Changes, Works};
+ghost use Rattle.sys_core_check.specs.declared.running.NotRun.TheVariants as not_run;
+ghost use Rattle.sys_core_check.specs.Ran.{IsReason, LeftBy, Ran};
+
+use fs_trait::Fs;
+use ost_types::{Limits, NoMemory};
+use script::Lane;
+use std::alloc::Global;
+use sys_core::{Ask, Parts, System};
+use sys_open::{OpenFault, Opened, adopt};
+
+/// Why no lane was run.
+#[derive(Drop, Debug)]
+pub enum NotRun {
+    /// The repository isn't opened.
+    NotOpened(OpenFault),
+    /// There are more than 8 lanes.
+    TooManyLanes,
+    NoMemory,
+}
+
+/// One act of each lane. Whether any of them did work.
+fn round<F: Fs>(system: &mut System<F>) -> bool {
+    let mut worked = false;
+    for lane in 0..8 {
+        worked = match system.act(lane) {
+            Ask::More | Ask::Done { .. } => true,
+            Ask::Blocked | Ask::Ended => worked,
+        };
+    }
+    worked
+}
+
+/// Acts of the lanes in turn, till none of them does work.
+fn run_all<F: Fs>(system: &mut System<F>) {
+    for _ in 0..u64::MAX {
+        if !round(system) {
+            break;
+        }
+    }
+}
+
+fn run_opened<F: Fs>(
+    alloc: Global,
+    opened: Opened<F>,
+    lanes: Vec<Lane>,
+) -> Result<Parts<F>, (F, NotRun)>
+    requires few { length lanes.items ≤ 8 }
+    requires begins { (w : View) → F.view opened.fs ≡ Some w → IsOpening (first opened.refs.items) w }
+    requires homes { (w : View) (lane : ℕ) → F.view opened.fs ≡ Some w → lane < 8 → Home lane w }
+    ensures ran { IfOk result (Ran F.view F.clock F.was) }
+    ensures back { IfErr result (λ e. (e.0 ≡ opened.fs) × (e.1 ≡ not_run.NoMemory)) }
+{
+    match System::new(alloc, opened, lanes) {
+        Ok(system) => {
+            let mut system = system;
+            run_all(&mut system);
+            Ok(system.into_parts())
+        }
+        Err((opened, NoMemory)) => Err((opened.fs, NotRun::NoMemory)),
+    }
+}
+
+/// Opens the repository of the file system, and runs all commands of the lanes. Where no lane is run the file system comes back.
+pub fn run<F: Fs>(alloc: Global, fs: F, lanes: Vec<Lane>) -> Result<Parts<F>, (F, NotRun)>
+    ensures ran { IfOk result (Ran F.view F.clock F.was) }
+    ensures sane { (v : View) → F.view fs ≡ Some v → IfOk result (λ p. IsSane v.now) }
+    ensures told { (v : View) → F.view fs ≡ Some v → IfErr result (λ e. IsReason lanes.items v.now e.1) }
+    ensures left { (v : View) → F.view fs ≡ Some v → IfErr result (λ e. LeftBy e.1 (e.0 ≡ fs) (Works (Changes v.now) v (F.clock fs) (F.clock e.0) (F.was fs) (F.was e.0) (F.view e.0))) }
+{
+    if lanes.len() > 8 {
+        return Err((fs, NotRun::TooManyLanes));
+    }
+    match adopt(alloc, fs, Limits::standard()) {
+        Ok(opened) => run_opened(alloc, opened, lanes),
+        Err((fs, fault)) => Err((fs, NotRun::NotOpened(fault))),
+    }
+}
