@@ -1,12 +1,12 @@
 -- What a run of lanes gives back, and why none was run.
-use Rattle.std.specs.Prelude.{◌≡◌, ◌<◌, ℕ, List, length, Option, Some}
+use Rattle.std.specs.Prelude.{◌≡◌, ◌<◌, ℕ, List, length, slice_index_or, Option, Some}
 use Rattle.fs_trait.specs.View.{Disk, View}
 use Rattle.rely.specs.declared.books.Base.{Base}
 use Rattle.rely.specs.Headline.{Headline}
 use Rattle.script.specs.declared.command.Lane.{Lane}
 use Rattle.sys_core.specs.declared.system.Parts.{Parts}
 use Rattle.sys_core_check.specs.declared.running.NotRun.{NotRun}
-use Rattle.sys_core_check.specs.declared.running.NotRun.TheVariants.{NotOpened, TooManyLanes, NoMemory}
+use Rattle.sys_core_check.specs.declared.running.NotRun.TheVariants.{NotOpened, TooManyLanes, TooManyCommands, NoMemory}
 use Rattle.sys_open.specs.Opening.{IsToldOf}
 
 -- The file system, with the changes that last and the one that is pending, is that of books of which the headline is so.
@@ -21,9 +21,11 @@ pub record Ran {F : Type 0} (view : F → Option View) (clock : F → ℕ) (was 
 abbrev pub IsReason : List Lane → Disk → NotRun → Type 0
 IsReason lanes d (NotOpened fault) = IsToldOf d fault
 IsReason lanes d TooManyLanes = 8 < length lanes
+IsReason lanes d (TooManyCommands l) = (l < length lanes) × ((x : Lane) → 64 < length (slice_index_or lanes l x).commands.items)
 IsReason lanes d NoMemory = Unit {0}
 
 -- what is left where no lane was run: all as it was, or what an opening leaves
 abbrev pub LeftBy : NotRun → Type 0 → Type 0 → Type 0
 LeftBy TooManyLanes Same Opening = Same
+LeftBy (TooManyCommands l) Same Opening = Same
 LeftBy e Same Opening = Opening

@@ -1,5 +1,5 @@
 //! All commands of some lanes, on the repository of a file system.
-ghost use Rattle.std.specs.Prelude.{◌≡◌, ◌≤◌, ◌<◌, ℕ, Some, IfOk, IfErr, length};
+ghost use Rattle.std.specs.Prelude.{◌≡◌, ◌≤◌, ◌<◌, ℕ, Some, IsNone, IfSome, IfOk, IfErr, length, slice_index_or};
 ghost use Rattle.fs_trait.specs.View.{View};
 ghost use Rattle.ref_work.specs.Facts.{Home};
 ghost use Rattle.rely.specs.Opening.{IsOpening};
@@ -7,6 +7,7 @@ ghost use Rattle.rely.specs.State.{first};
 ghost use Rattle.sys_open.specs.Checks.{IsSane};
 ghost use Rattle.sys_open.specs.Changes.{Changes, Works};
 ghost use Rattle.sys_core_check.specs.declared.running.NotRun.TheVariants as not_run;
+ghost use Rattle.script.specs.declared.command.Lane.{Lane};
 ghost use Rattle.sys_core_check.specs.Ran.{IsReason, LeftBy, Ran};
 
 use fs_trait::Fs;
@@ -23,6 +24,8 @@ pub enum NotRun {
     NotOpened(OpenFault),
     /// There are more than 8 lanes.
     TooManyLanes,
+    /// This lane has more than 64 commands.
+    TooManyCommands(usize),
     NoMemory,
 }
 
@@ -53,6 +56,7 @@ fn run_opened<F: Fs>(
     lanes: Vec<Lane>,
 ) -> Result<Parts<F>, (F, NotRun)>
     requires few { length lanes.items ≤ 8 }
+    requires short { (l : ℕ) (d : Lane) → l < length lanes.items → length (slice_index_or lanes.items l d).commands.items ≤ 64 }
     requires begins { (w : View) → F.view opened.fs ≡ Some w → IsOpening (first opened.refs.items) w }
     requires homes { (w : View) (lane : ℕ) → F.view opened.fs ≡ Some w → lane < 8 → Home lane w }
     ensures ran { IfOk result (Ran F.view F.clock F.was) }
@@ -68,6 +72,14 @@ fn run_opened<F: Fs>(
     }
 }
 
+/// The first lane with more than 64 commands.
+fn long_lane(lanes: &[Lane]) -> Option<usize>
+    ensures short { IsNone result → (l : ℕ) (d : Lane) → l < length lanes.now → length (slice_index_or lanes.now l d).commands.items ≤ 64 }
+    ensures long { IfSome result (λ l. (l < length lanes.now) × ((d : Lane) → 64 < length (slice_index_or lanes.now l d).commands.items)) }
+{
+    lanes.iter().position(|lane| lane.commands.len() > 64)
+}
+
 /// Opens the repository of the file system, and runs all commands of the lanes. Where no lane is run the file system comes back.
 pub fn run<F: Fs>(alloc: Global, fs: F, lanes: Vec<Lane>) -> Result<Parts<F>, (F, NotRun)>
     ensures ran { IfOk result (Ran F.view F.clock F.was) }
@@ -77,6 +89,9 @@ pub fn run<F: Fs>(alloc: Global, fs: F, lanes: Vec<Lane>) -> Result<Parts<F>, (F
 {
     if lanes.len() > 8 {
         return Err((fs, NotRun::TooManyLanes));
+    }
+    if let Some(lane) = long_lane(&lanes) {
+        return Err((fs, NotRun::TooManyCommands(lane)));
     }
     match adopt(alloc, fs, Limits::standard()) {
         Ok(opened) => run_opened(alloc, opened, lanes),
