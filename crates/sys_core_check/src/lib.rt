@@ -1,13 +1,6 @@
-//! The system over a file system in memory: what it answers, and what a crash leaves of it.
+//! The system over a file system: all commands of some lanes, from the opening on.
 #![tactic(auto)]
 
 mod running;
 
 pub use running::{NotRun, run};
-
-#[cfg(test)]
-mod crash_tests;
-#[cfg(test)]
-mod tests;
-#[cfg(test)]
-mod turn_tests;
