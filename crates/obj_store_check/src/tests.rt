@@ -243,6 +243,10 @@ fn other_bytes_are_damaged(rt: HostRuntime) -> Result<(), Fail> {
     Ok(())
 }
 
+fn put_empty(fs: &mut MemFs, alloc: Global, name: &ObjName) -> Result<(), Fail> {
+    put_bytes_at(fs, alloc, &object_path(alloc, name)?, b"")
+}
+
 #[test]
 fn lists_a_part(rt: HostRuntime) -> Result<(), Fail> {
     let alloc = rt.alloc();
@@ -251,14 +255,10 @@ fn lists_a_part(rt: HostRuntime) -> Result<(), Fail> {
         put_line(&mut fs, alloc, line)?;
     }
     let line = OBJECTS.lines().next().ok_or("no line")?;
-    let name = read_name(line)?;
+    let csum = read_name(line)?.csum;
     // other kinds of the same sum, in another order than their files'
     for kind in [Kind::DirMeta, Kind::DirTree] {
-        let other = ObjName {
-            csum: name.csum,
-            kind,
-        };
-        put_bytes_at(&mut fs, alloc, &object_path(alloc, &other)?, b"")?;
+        put_empty(&mut fs, alloc, &ObjName { csum, kind })?;
     }
     put_bytes_at(
         &mut fs,
@@ -270,7 +270,7 @@ fn lists_a_part(rt: HostRuntime) -> Result<(), Fail> {
     assert_eq!(rt; names.len(), 3);
     let kinds = [Kind::Commit, Kind::DirTree, Kind::DirMeta];
     for (found, kind) in names.iter().zip(kinds) {
-        assert!(rt; found.csum == name.csum && found.kind == kind);
+        assert!(rt; found.csum == csum && found.kind == kind);
     }
     assert!(rt; list_part(alloc, &mut fs, 0xb6)?.is_empty());
     Ok(())
