@@ -1,3 +1,7 @@
+ghost use Rattle.std.specs.Prelude.{◌≡◌};
+ghost use Rattle.fs_trait.specs.declared.types.FsErr.TheVariants as err;
+ghost use Rattle.script.specs.declared.answer.Answer.TheVariants as answer;
+
 use fs_trait::FsErr;
 use ost_types::NoMemory;
 use repo_layout::ref_path;
@@ -5,7 +9,10 @@ use script::{Answer, Command};
 use std::alloc::Global;
 
 /// The answer of a command whose step was refused before it changed anything.
-pub(crate) fn answer_of(alloc: Global, command: &Command, e: FsErr) -> Answer {
+pub(crate) fn answer_of(alloc: Global, command: &Command, e: FsErr) -> Answer
+    ensures memory { e ≡ err.NoMemory → result ≡ answer.NoMemory }
+    ensures disk { e ≡ err.Failed → result ≡ answer.DiskFault }
+{
     match e {
         FsErr::NoMemory => Answer::NoMemory,
         FsErr::Failed => Answer::DiskFault,
