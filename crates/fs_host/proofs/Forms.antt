@@ -11,9 +11,9 @@ use Rattle.gv_core.specs.Measure.{alignment, fixed}
 use Rattle.gv_core.specs.Layout.{offset_size}
 use Rattle.gv_core.specs.Container.{container, container_form}
 use Rattle.ost_types.specs.declared.meta.Meta.{Meta}
-use Rattle.ost_objects.specs.declared.body.Body.TheVariants.{Regular}
-use Rattle.ost_objects.specs.Rows.{xattrs_form}
-use Rattle.ost_objects.specs.Stream.{header_form, header_of, framed, content_form}
+use Rattle.ost_forms.specs.declared.body.Body.TheVariants.{Regular}
+use Rattle.ost_forms.specs.Rows.{xattrs_form}
+use Rattle.ost_forms.specs.Stream.{header_form, header_of, framed, content_form}
 use Rattle.fs_host.specs.Header.{header}
 
 abbrev bytes : Kind

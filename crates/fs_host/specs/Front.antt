@@ -2,10 +2,10 @@
 use Rattle.std.specs.Prelude.{◌≡◌, ◌≤◌, ℕ, List, Bool, true, false, take, drop}
 use Rattle.std.specs.Int.{from_be_bytes, w32}
 use Rattle.ost_types.specs.Mode.{IsFileMode, IsLinkMode}
-use Rattle.ost_objects.specs.DirMeta.{object_limit}
+use Rattle.ost_forms.specs.DirMeta.{object_limit}
 use Rattle.ost_types.specs.declared.meta.Meta.{Meta}
-use Rattle.ost_objects.specs.declared.body.Body.{Body}
-use Rattle.ost_objects.specs.declared.body.Body.TheVariants.{Regular, Symlink}
+use Rattle.ost_forms.specs.declared.body.Body.{Body}
+use Rattle.ost_forms.specs.declared.body.Body.TheVariants.{Regular, Symlink}
 use Rattle.fs_trait.specs.declared.types.Node.{Node}
 use Rattle.fs_trait.specs.declared.types.Node.TheVariants.{File, Link}
 use Rattle.fs_host.specs.declared.front.Start.{Start}

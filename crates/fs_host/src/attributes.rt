@@ -1,9 +1,9 @@
 //! The attributes of a folder: the bytes of the file `.ost-folder` inside it, or its absence.
 ghost use Rattle.std.specs.Prelude.{◌≡◌, [], Some, IfOk, IsTrue};
 ghost use Rattle.ost_types.specs.Mode.{IsFolderMode};
-ghost use Rattle.ost_objects.specs.DirMeta.{dirmeta_form, ReadsDirMeta};
+ghost use Rattle.ost_forms.specs.DirMeta.{dirmeta_form, ReadsDirMeta};
 
-use ost_objects::{DirMeta, ObjFault, read_dirmeta, write_dirmeta};
+use ost_forms::{DirMeta, ObjFault, read_dirmeta, write_dirmeta};
 use ost_types::{Bytes, Meta, NoMemory, TryCopy, Xattrs};
 use std::alloc::Global;
 

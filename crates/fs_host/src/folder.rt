@@ -16,7 +16,7 @@ use crate::leaf::extend_leaf;
 use crate::standing::{ATTRIBUTES, is_reserved, walk};
 use crate::{Fault, FileHeader, HostKind, HostPath, Leaf, Refusal, Staging, Standing};
 use fs_trait::{FsErr, Node};
-use ost_objects::{OBJECT_LIMIT, ObjFault};
+use ost_forms::{OBJECT_LIMIT, ObjFault};
 use ost_types::{Bytes, FsPath, Meta, Name, Names, NoMemory, Text};
 use std::alloc::Global;
 use std::fs;

@@ -1,14 +1,14 @@
 //! The front of a leaf: its content stream without the content, which says whose it is and where a link leads.
 ghost use Rattle.std.specs.Prelude.{◌≡◌, ◌≢◌, ◌≤◌, Bool, [], Some, IfOk, MatchOption};
 ghost use Rattle.ost_types.specs.Mode.{IsFileMode, IsLinkMode};
-ghost use Rattle.ost_objects.specs.declared.body.Body.TheVariants.{Regular, Symlink};
-ghost use Rattle.ost_objects.specs.Stream.{content_form, ReadsContent};
+ghost use Rattle.ost_forms.specs.declared.body.Body.TheVariants.{Regular, Symlink};
+ghost use Rattle.ost_forms.specs.Stream.{content_form, ReadsContent};
 ghost use Rattle.fs_host.specs.declared.front.Start.{Start};
 ghost use Rattle.fs_host.specs.Front.{IsStart, IsLeafMode};
 
 use crate::HEADER_LEN;
 use crate::header::number_at;
-use ost_objects::{Body, Content, OBJECT_LIMIT, ObjFault, read_content, write_content};
+use ost_forms::{Body, Content, OBJECT_LIMIT, ObjFault, read_content, write_content};
 use ost_types::{Bytes, Limits, Meta, NoMemory, Text, TryCopy, is_file_mode, is_link_mode};
 use std::alloc::Global;
 

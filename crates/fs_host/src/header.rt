@@ -3,11 +3,11 @@ ghost use Rattle.std.specs.Prelude.{◌≡◌, ◌+◌, ◌≤◌, ◌<◌, ◌^
 ghost use Rattle.std.specs.Int.{from_be_bytes, w32};
 ghost use Rattle.ost_types.specs.Mode.{IsFileMode};
 ghost use Rattle.ost_types.specs.declared.meta.Meta.{Meta};
-ghost use Rattle.ost_objects.specs.declared.body.Body.TheVariants.{Regular};
-ghost use Rattle.ost_objects.specs.Stream.{content_form};
+ghost use Rattle.ost_forms.specs.declared.body.Body.TheVariants.{Regular};
+ghost use Rattle.ost_forms.specs.Stream.{content_form};
 ghost use Rattle.fs_host.specs.Header.{header, IsHeader, Has};
 
-use ost_objects::{Body, Content};
+use ost_forms::{Body, Content};
 use ost_types::{Bytes, Meta, Xattrs, is_file_mode};
 use std::alloc::Global;
 

@@ -7,7 +7,7 @@ ghost use Rattle.fs_host.specs.Front.{node_of};
 use crate::front::read_front;
 use crate::{Fault, FileHeader, HEADER_LEN, Start};
 use fs_trait::{FsErr, Node};
-use ost_objects::{Body, Content, ObjFault};
+use ost_forms::{Body, Content, ObjFault};
 use ost_types::Bytes;
 use std::alloc::Global;
 use std::fs::{File, OpenFile, OpenOptions};

@@ -33,7 +33,7 @@ use Rattle.obj_store.specs.Putting.{Putting, IsMade, IsReady, IsObject, Follows,
 use Rattle.obj_store.specs.Steps.{Needs, needs_in, stage_needs, stage_writes, gone_stage, writes_in, WritesOf, IsPut, Came, Tells, goes_on, ends, IsLeaf, Refuses, refuses_in, OfPhase}
 use Rattle.obj_store.specs.Whole.{IsShown, Written, Leaves, Has, Ends, Answers, Stops}
 use Rattle.fs_trait.specs.Effect.{OfFinding, OfPlacing}
-use Rattle.ost_check.specs.Object.{IsNamed}
+use Rattle.ost_objects.specs.Object.{IsNamed}
 use Rattle.obj_store.proofs.PutLemmas.{Same, next_same, any_inode}
 use Rattle.obj_store.proofs.PlaceLemmas.{stage-object, stage-folder, folder-object, one_name}
 

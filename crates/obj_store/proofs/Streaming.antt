@@ -4,13 +4,13 @@ use Rattle.std.proofs.Math.Logic.{∥∥₁_elim}
 use Rattle.ost_types.specs.declared.meta.Meta.{Meta}
 use Rattle.ost_types.specs.declared.object.Kind.{Kind}
 use Rattle.ost_types.specs.declared.object.Kind.TheVariants as kind
-use Rattle.ost_objects.specs.declared.body.Body.{Body}
-use Rattle.ost_objects.specs.declared.fault.ObjFault.{ObjFault}
-use Rattle.ost_objects.specs.declared.fault.ObjFault.TheVariants.{NotNormal, BadSumLength, BadName, NotSorted, BadMode, TooLarge, NoMemory}
-use Rattle.ost_objects.specs.DirMeta.{object_limit}
-use Rattle.ost_objects.specs.Stream.{FileParts, ReadsFile, ReadsContent, header_size}
-use Rattle.ost_check.specs.Object.{HasForm}
-use Rattle.ost_check.proofs.Backs.{content_back}
+use Rattle.ost_forms.specs.declared.body.Body.{Body}
+use Rattle.ost_forms.specs.declared.fault.ObjFault.{ObjFault}
+use Rattle.ost_forms.specs.declared.fault.ObjFault.TheVariants.{NotNormal, BadSumLength, BadName, NotSorted, BadMode, TooLarge, NoMemory}
+use Rattle.ost_forms.specs.DirMeta.{object_limit}
+use Rattle.ost_forms.specs.Stream.{FileParts, ReadsFile, ReadsContent, header_size}
+use Rattle.ost_objects.specs.Object.{HasForm}
+use Rattle.ost_objects.proofs.Backs.{content_back}
 
 too_much : (n m k : ℕ) → n ≡ m → m ≤ k → k < n → ⊥
 too_much n m k e le lt = omega (arith, e, le, lt)

@@ -6,12 +6,12 @@ use Rattle.ost_types.specs.declared.object.Kind.{Kind}
 use Rattle.ost_types.specs.declared.object.Kind.TheVariants as kind
 use Rattle.ost_types.specs.declared.object.ObjName.{ObjName}
 use Rattle.ost_types.specs.Mode.{IsFileMode, IsLinkMode}
-use Rattle.ost_objects.specs.declared.fault.ObjFault.{ObjFault}
-use Rattle.ost_objects.specs.declared.fault.ObjFault.TheVariants as read
-use Rattle.ost_check.specs.declared.checked.Checked.{Checked}
-use Rattle.ost_check.specs.declared.fault.CheckFault.{CheckFault}
-use Rattle.ost_check.specs.declared.fault.CheckFault.TheVariants as check
-use Rattle.ost_check.specs.Object.{IsNamed, Misreads}
+use Rattle.ost_forms.specs.declared.fault.ObjFault.{ObjFault}
+use Rattle.ost_forms.specs.declared.fault.ObjFault.TheVariants as read
+use Rattle.ost_objects.specs.declared.checked.Checked.{Checked}
+use Rattle.ost_objects.specs.declared.fault.CheckFault.{CheckFault}
+use Rattle.ost_objects.specs.declared.fault.CheckFault.TheVariants as check
+use Rattle.ost_objects.specs.Object.{IsNamed, Misreads}
 use Rattle.fs_trait.specs.declared.types.FsErr.{FsErr}
 use Rattle.fs_trait.specs.declared.types.FsErr.TheVariants as fs
 use Rattle.fs_trait.specs.declared.types.Value.{Value}

@@ -4,7 +4,7 @@ ghost use Rattle.std.specs.Prelude.{◌≡◌};
 ghost use Rattle.obj_store.specs.declared.fault.LoadFault.TheVariants as faults;
 
 use fs_trait::FsErr;
-use ost_check::CheckFault;
+use ost_objects::CheckFault;
 use ost_types::NoMemory;
 
 #[derive(Clone, Copy, Debug, PartialEq, Eq)]

@@ -1,7 +1,7 @@
 //! What stands at an object's path.
 ghost use Rattle.std.specs.Prelude.{◌≡◌, ◌≢◌, ◌≤◌, ℕ, [], Some, IfOk, IfErr};
-ghost use Rattle.ost_objects.specs.Stream.{content_form};
-ghost use Rattle.ost_objects.specs.declared.body.Body.TheVariants.{Regular, Symlink};
+ghost use Rattle.ost_forms.specs.Stream.{content_form};
+ghost use Rattle.ost_forms.specs.declared.body.Body.TheVariants.{Regular, Symlink};
 ghost use Rattle.ost_types.specs.Mode.{IsFileMode, IsLinkMode};
 ghost use Rattle.fs_trait.specs.View.{View};
 ghost use Rattle.fs_trait.specs.Effect.{HasCause, IsNode, IsQuiet, OfNone};
@@ -11,8 +11,8 @@ ghost use Rattle.obj_store.specs.Lookup.{Looks, Loads, ChecksAs, fault_of, Opens
 
 use crate::LoadFault;
 use fs_trait::{Fs, FsErr, Node};
-use ost_check::{CheckFault, Checked, check};
-use ost_objects::{Body, Content, ObjFault, write_content};
+use ost_forms::{Body, Content, ObjFault, write_content};
+use ost_objects::{CheckFault, Checked, check};
 use ost_types::{
     Bytes, FsPath, Kind, Limits, Meta, NoMemory, ObjName, Text, is_file_mode, is_link_mode,
 };

@@ -1,7 +1,7 @@
 ghost use Rattle.std.specs.Prelude.{◌≡◌, ◌≢◌, ◌<◌, ◌^◌, Some, IfOk};
 ghost use Rattle.ost_types.specs.declared.object.Kind.TheVariants as kinds;
-ghost use Rattle.ost_objects.specs.declared.fault.ObjFault.TheVariants as faults;
-ghost use Rattle.ost_objects.specs.Stream.{content_form, FitsMode};
+ghost use Rattle.ost_forms.specs.declared.fault.ObjFault.TheVariants as faults;
+ghost use Rattle.ost_forms.specs.Stream.{content_form, FitsMode};
 ghost use Rattle.obj_store.specs.Putting.{Putting, IsNew, IsSourceOf, left, left_of, need_in, plain_meta};
 
 mod steps;
@@ -9,8 +9,8 @@ mod steps;
 use crate::phase::Phase;
 use crate::source::Source;
 use fs_trait::Need;
-use ost_check::Checked;
-use ost_objects::{Body, Content, ObjFault, read_content};
+use ost_forms::{Body, Content, ObjFault, read_content};
+use ost_objects::Checked;
 use ost_types::{FsPath, Kind, Limits, Meta, NoMemory, ObjName, Xattrs};
 use repo_layout::{object_path, objects_folder_path, stage_path};
 use staging::{Plan, Staging};

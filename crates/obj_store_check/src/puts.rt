@@ -8,7 +8,7 @@ ghost use Rattle.obj_store_check.specs.Puts.{Answers, CanBegin, Fails, Leaves};
 
 use fs_trait::{Fs, FsErr, Node};
 use obj_store::{Put, PutTask, put_object};
-use ost_check::Checked;
+use ost_objects::Checked;
 use ost_types::{FsPath, Limits};
 use repo_layout::{Folder, folder_path, stage_path};
 use std::alloc::Global;

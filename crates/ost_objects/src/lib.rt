@@ -1,45 +1,29 @@
-//! The four objects of an OSTree repository: their bytes, their names, and what makes bytes one of them.
+//! The four objects of an OSTree repository, with their bytes and names, and objects that were checked: bytes with their
+//! name, which read as what the name says.
 #![tactic(auto)]
 
-mod body;
-mod commit;
-mod commit_bytes;
-mod commit_join;
-mod commit_new;
-mod commit_row;
-mod content;
-mod dirmeta;
-mod dirtree;
-mod entry;
+mod checked;
+mod checking;
 mod fault;
-mod header;
-mod inner_value;
-mod items;
-mod names;
-mod number;
-mod object_type;
-mod pieces;
-mod row;
-mod rows;
-mod sorting;
-mod sum;
-mod text;
-mod tree_bytes;
-mod tree_item;
-mod xattrs;
+mod laws;
+mod make;
+mod testing;
 
-pub use body::Body;
-pub use commit::Commit;
-pub use commit_bytes::{read_commit, write_commit};
-pub use content::{Content, read_content, test_content, write_content};
-pub use dirmeta::{DirMeta, OBJECT_LIMIT, read_dirmeta, write_dirmeta};
-pub use dirtree::{DirTree, read_dirtree};
-pub use entry::{FileItem, FolderItem};
-pub use fault::ObjFault;
-pub use items::{FileItems, FolderItems};
-pub use sum::sum_of;
-pub use tree_bytes::write_dirtree;
-pub use tree_item::{BodySpec, TreeItem};
+pub use checked::Checked;
+pub use checking::check;
+pub use fault::{CheckFault, MakeFault};
+pub use laws::{
+    commit_again, content_again, dirmeta_again, dirtree_again, one_commit, one_content,
+    one_dirmeta, one_dirtree,
+};
+pub use ost_forms::{
+    Body, BodySpec, Commit, Content, DirMeta, DirTree, FileItem, FileItems, FolderItem,
+    FolderItems, ObjFault, TreeItem, read_commit, read_content, read_dirmeta, read_dirtree, sum_of,
+    write_commit, write_content, write_dirmeta, write_dirtree,
+};
+pub use testing::test_object;
 
 #[cfg(test)]
 mod tests;
+#[cfg(test)]
+mod vectors;

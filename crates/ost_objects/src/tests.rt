@@ -1,206 +1,292 @@
-use crate::{
-    ObjFault, read_content, read_dirmeta, read_dirtree, sum_of, write_content, write_dirmeta,
-    write_dirtree,
+//! Objects as ostree makes them, the worked examples, and each fault of the check.
+
+use super::*;
+use crate::vectors::{MANY, OBJECTS};
+use ost_forms::{
+    BodySpec, Commit, ObjFault, TreeItem, read_commit, read_content, read_dirmeta, read_dirtree,
+    sum_of, write_commit,
 };
-use ost_types::Limits;
-use std::alloc::{AllocError, Global};
+use ost_types::{Bytes, Csum, FsPath, Kind, Limits, Meta, ObjName, Text, TryCopy, Xattrs};
+use std::alloc::Global;
 use std::process::Abort;
 use std::test::Fail;
 
-// The objects of `tools/ostree_objects.sh`, which runs ostree 2022.7.
-const OSTREE_TREE: &[u8] =
-    b"\x65\x6d\x70\x74\x79\x00\x2e\xd2\xa8\xcd\xda\x46\xc8\x7a\x3d\x25\x77\x43\xa7\xd0\x8c\x46\xc6\x20\x2c\x39\x9a\x80\x08\x66\x5a\x4f\x25\x17\x69\x74\x00\x4b\x06\x68\x65\x6c\x6c\x6f\x00\x44\xf7\x78\xe5\x9f\x0a\x47\x48\xd6\xb0\xc9\x0a\x47\x34\x72\x12\xa2\x31\xc4\xad\x1e\x8f\x7e\xa5\xc5\xdf\xfc\x77\x49\x15\x3a\x6b\x06\x6c\x69\x6e\x6b\x00\x38\x98\x46\xc2\x70\x22\x16\xe1\x36\x7c\x8d\xfb\x68\x32\x6a\x6b\x93\xcc\xf5\x70\x3c\x89\xc9\x39\x79\x05\x2a\x9b\xf3\x59\x60\x8e\x05\x27\x4e\x74\x64\x00\x6e\x34\x0b\x9c\xff\xb3\x7a\x98\x9c\xa5\x44\xe6\xbb\x78\x0a\x2c\x78\x90\x1d\x3f\xb3\x37\x38\x76\x85\x11\xa3\x06\x17\xaf\xa0\x1d\x44\x6a\x0e\xf1\x1b\x7c\xc1\x67\xf3\xb6\x03\xe5\x85\xc7\xee\xee\xb6\x75\xfa\xa4\x12\xd5\xec\x73\xf6\x29\x88\xeb\x0b\x6c\x54\x88\x22\x02\x44\x77";
-
-const OSTREE_TREE_SUM: &[u8] = b"e7a5d8d0f036be442b80bcfd69c9d6611c9badbc5ae2707ab161aa8f7ffa6a1c";
-
-const OSTREE_META: &[u8] = b"\0\0\0\0\0\0\0\0\0\0\x41\xed";
-
-const OSTREE_META_SUM: &[u8] = b"446a0ef11b7cc167f3b603e585c7eeeeb675faa412d5ec73f62988eb0b6c5488";
-
-fn joined(alloc: Global, parts: &[&[u8]]) -> Result<Vec<u8>, AllocError> {
-    let mut bytes = Vec::new(alloc);
-    for part in parts {
-        bytes.extend_from_slice(part)?;
+fn kind_of(word: &str) -> Kind {
+    match word {
+        "commit" => Kind::Commit,
+        "dirtree" => Kind::DirTree,
+        "dirmeta" => Kind::DirMeta,
+        _ => Kind::File,
     }
-    Ok(bytes)
 }
 
-fn repeated(alloc: Global, byte: u8, count: u8) -> Result<Vec<u8>, AllocError> {
-    let mut bytes = Vec::new(alloc);
-    for _ in 0..count {
-        bytes.push(byte)?;
-    }
-    Ok(bytes)
+/// The object that writing makes of what reading finds.
+fn made_again(alloc: Global, kind: Kind, bytes: &[u8]) -> Result<Checked, Fail> {
+    let limits = Limits::standard();
+    let made = match kind {
+        Kind::Commit => Checked::of_commit(alloc, &read_commit(alloc, bytes)?, &limits)?,
+        Kind::DirTree => Checked::of_dirtree(alloc, &read_dirtree(alloc, bytes)?, &limits)?,
+        Kind::DirMeta => Checked::of_dirmeta(alloc, &read_dirmeta(alloc, bytes)?, &limits)?,
+        Kind::File => Checked::of_content(alloc, &read_content(alloc, bytes, &limits)?, &limits)?,
+    };
+    Ok(made)
 }
 
-fn check_dirmeta(
-    rt: &impl Abort,
-    alloc: Global,
-    bytes: &[u8],
-    wanted: Option<ObjFault>,
-) -> Result<(), Fail> {
-    match read_dirmeta(alloc, bytes) {
-        Ok(value) => {
-            assert_eq!(rt; wanted, None, "of {bytes:?}");
-            assert!(rt; write_dirmeta(alloc, &value)?.as_slice() == bytes);
-        }
-        Err(fault) => assert_eq!(rt; wanted, Some(fault), "of {bytes:?}"),
-    }
+/// These bytes have the name, and are what is written of them.
+fn check_object(rt: &impl Abort, alloc: Global, name: ObjName, bytes: Vec<u8>) -> Result<(), Fail> {
+    let again = made_again(alloc, name.kind, &bytes)?;
+    assert!(rt; *again.name() == name, "of {name:?}");
+    let limits = Limits::standard();
+    let checked = check(alloc, name, Bytes::from_vec(bytes), &limits)?;
+    assert!(rt; checked.bytes() == again.bytes(), "of {name:?}");
     Ok(())
 }
 
 #[test]
-fn reads_attributes_of_folders(rt: HostRuntime) -> Result<(), Fail> {
+fn as_ostree_makes_them(rt: HostRuntime) -> Result<(), Fail> {
     let alloc = rt.alloc();
-    for (bytes, wanted) in [
-        (OSTREE_META, None),
-        (
-            b"\0\0\0\0\0\0\0\0\0\0\x41\xeduser.a\0\x78\x07\x09".as_slice(),
-            None,
-        ),
-        (
-            b"\0\0\0\0\0\0\0\0\0\0\x81\xa4".as_slice(),
-            Some(ObjFault::BadMode),
-        ),
-        (
-            b"\0\0\0\0\0\0\0\0\0\0\x41".as_slice(),
-            Some(ObjFault::NotNormal),
-        ),
-        (
-            b"\0\0\0\0\0\0\0\0\0\0\x41\xed\0".as_slice(),
-            Some(ObjFault::NotNormal),
-        ),
-    ] {
-        check_dirmeta(&rt, alloc, bytes, wanted)?;
+    let mut count = 0u32;
+    for line in OBJECTS.lines() {
+        let (kind, rest) = line.split_once(' ').ok_or("no kind")?;
+        let (sum, bytes) = rest.split_once(' ').ok_or("no bytes")?;
+        let csum = Csum::from_hex(sum.as_bytes()).ok_or("no sum")?;
+        let name = ObjName {
+            csum,
+            kind: kind_of(kind),
+        };
+        check_object(&rt, alloc, name, hex::decode(alloc, bytes)?)?;
+        count = count.wrapping_add(1);
     }
-    assert_eq!(rt; sum_of(OSTREE_META).to_hex().as_slice(), OSTREE_META_SUM);
+    assert_eq!(rt; count, 42);
     Ok(())
 }
 
-fn check_dirtree(
-    rt: &impl Abort,
-    alloc: Global,
-    parts: &[&[u8]],
-    wanted: Option<ObjFault>,
-) -> Result<(), Fail> {
-    let bytes = joined(alloc, parts)?;
-    match read_dirtree(alloc, &bytes) {
-        Ok(value) => {
-            assert_eq!(rt; wanted, None, "of {bytes:?}");
-            assert!(rt; write_dirtree(alloc, &value)?.as_slice() == bytes.as_slice());
-        }
-        Err(fault) => assert_eq!(rt; wanted, Some(fault), "of {bytes:?}"),
+fn put(bytes: &mut Vec<u8>, number: usize, width: usize) -> Result<(), Fail> {
+    for byte in u32::try_from(number)?.to_le_bytes().iter().take(width) {
+        bytes.push(*byte)?;
     }
     Ok(())
+}
+
+fn add_row(
+    bytes: &mut Vec<u8>,
+    ends: &mut Vec<usize>,
+    name: &[u8],
+    sum: &[u8],
+) -> Result<(), Fail> {
+    bytes.extend_from_slice(name)?;
+    bytes.push(0)?;
+    bytes.extend_from_slice(sum)?;
+    put(bytes, name.len().wrapping_add(1), 1)?;
+    ends.push(bytes.len())?;
+    Ok(())
+}
+
+/// A folder of the files `f00000` to `f01558` and one of so many letters `g`, all with this sum.
+fn many_files(alloc: Global, letters: u32, sum: &[u8]) -> Result<Vec<u8>, Fail> {
+    let mut bytes = Vec::new(alloc);
+    let mut ends = Vec::new(alloc);
+    for i in 0..1559u32 {
+        let name = format!(in alloc; "f{i:05}")?;
+        add_row(&mut bytes, &mut ends, name.as_bytes(), sum)?;
+    }
+    let mut last = Vec::new(alloc);
+    for _ in 0..letters {
+        last.push(b'g')?;
+    }
+    add_row(&mut bytes, &mut ends, &last, sum)?;
+    let width = if bytes.len() <= 62_415 { 2 } else { 4 };
+    for end in &ends {
+        put(&mut bytes, *end, width)?;
+    }
+    let all = bytes.len();
+    let width = if all <= 65_533 { 2 } else { 4 };
+    put(&mut bytes, all, width)?;
+    Ok(bytes)
 }
 
 #[test]
-fn reads_folders(rt: HostRuntime) -> Result<(), Fail> {
+fn folders_of_many_files(rt: HostRuntime) -> Result<(), Fail> {
     let alloc = rt.alloc();
-    let sum = repeated(alloc, 0x11, 32)?;
-    let short = repeated(alloc, 0x11, 31)?;
-    let long = repeated(alloc, b'a', 219)?;
-    for (parts, wanted) in [
-        ([OSTREE_TREE, b"", b"", b"", b""], None),
-        ([b"\0".as_slice(), b"", b"", b"", b""], None),
+    let empty = sum_of(b"\0\0\0\x12\0\0\0\0\0\0\0\0\0\0\0\0\0\0\x81\xa4\0\0\0\0\0\x11");
+    for line in MANY.lines() {
+        let (letters, rest) = line.split_once(' ').ok_or("no letters")?;
+        let (sum, size) = rest.split_once(' ').ok_or("no size")?;
+        let name = ObjName {
+            csum: Csum::from_hex(sum.as_bytes()).ok_or("no sum")?,
+            kind: Kind::DirTree,
+        };
+        let bytes = many_files(alloc, letters.parse()?, empty.as_slice())?;
+        assert_eq!(rt; bytes.len(), size.parse()?);
+        check_object(&rt, alloc, name, bytes)?;
+    }
+    Ok(())
+}
+
+fn text(alloc: Global, bytes: &[u8]) -> Result<Text, Fail> {
+    Ok(Text::parse(alloc, bytes)?.ok_or("no text")?)
+}
+
+/// The commit of one folder in a folder, byte for byte.
+#[test]
+fn smallest_commit(rt: HostRuntime) -> Result<(), Fail> {
+    let alloc = rt.alloc();
+    let empty = sum_of(b"\0");
+    let wanted = b"6e340b9cffb37a989ca544e6bb780a2c78901d3fb33738768511a30617afa01d";
+    assert_eq!(rt; empty.to_hex().as_slice(), wanted.as_slice());
+    let meta = made_again(alloc, Kind::DirMeta, b"\0\0\0\0\0\0\0\0\0\0\x41\xed")?
+        .name()
+        .csum;
+    let mut root = Vec::new(alloc);
+    root.extend_from_slice(b"d\0")?;
+    root.extend_from_slice(empty.as_slice())?;
+    root.extend_from_slice(meta.as_slice())?;
+    root.extend_from_slice(b"\x22\x02\x44\0")?;
+    let tree = made_again(alloc, Kind::DirTree, &root)?.name().csum;
+    let commit = Commit::new(
+        alloc,
+        None,
+        text(alloc, b"first")?,
+        text(alloc, b"")?,
+        1_700_000_000,
+        tree,
+        meta,
+    )?;
+    let mut bytes = Vec::new(alloc);
+    bytes.extend_from_slice(b"first\0\0\0\0\0\0\0\x65\x53\xf1\0")?;
+    bytes.extend_from_slice(tree.as_slice())?;
+    bytes.extend_from_slice(meta.as_slice())?;
+    bytes.extend_from_slice(b"\x30\x07\x06\0\0\0")?;
+    assert_eq!(rt; bytes.len(), 86);
+    assert!(rt; write_commit(alloc, &commit)?.as_slice() == bytes.as_slice());
+    // what `ostree commit` prints for this tree, subject and time
+    let printed = b"92103022c2d63325076cf02c4f967ea58e4356e6fb35bfb73ff241757bfb198d";
+    assert_eq!(rt; sum_of(&bytes).to_hex().as_slice(), printed.as_slice());
+    Ok(())
+}
+
+fn commit_bytes(alloc: Global, parent: usize, tree: usize, tail: &[u8]) -> Result<Vec<u8>, Fail> {
+    let mut bytes = Vec::new(alloc);
+    for _ in 0..parent {
+        bytes.push(b'p')?;
+    }
+    bytes.extend_from_slice(b"s\0\0")?;
+    for _ in 0..40usize.wrapping_sub(parent).wrapping_sub(3) {
+        bytes.push(0)?;
+    }
+    bytes.extend_from_slice(b"\0\0\0\0\0\0\0\x07")?;
+    for _ in 0..tree {
+        bytes.push(b't')?;
+    }
+    for _ in 0..32 {
+        bytes.push(b'm')?;
+    }
+    bytes.extend_from_slice(tail)?;
+    Ok(bytes)
+}
+
+#[test]
+fn faults_of_commits(rt: HostRuntime) -> Result<(), Fail> {
+    let alloc = rt.alloc();
+    for (parent, tree, tail, wanted) in [
+        (32, 32, b"\x50\x23\x22\x20\x20\0".as_slice(), None),
         (
-            [b"\x01".as_slice(), b"", b"", b"", b""],
-            Some(ObjFault::NotNormal),
-        ),
-        ([long.as_slice(), b"\0", &sum, b"\xdc\xfd\xfe", b""], None),
-        (
-            [long.as_slice(), b"a\0", &sum, b"\xdd\xfe\xff\0", b""],
-            None,
-        ),
-        (
-            [long.as_slice(), b"\0", &sum, b"\xdc\xfd\xfe\0", b""],
-            Some(ObjFault::NotNormal),
-        ),
-        (
-            [b"a\0".as_slice(), &short, b"\x02\x22\x23", b"", b""],
+            31,
+            32,
+            b"\x50\x22\x21\x1f\x1f\0".as_slice(),
             Some(ObjFault::BadSumLength),
         ),
         (
-            [b"..\0".as_slice(), &sum, b"\x03\x24\x25", b"", b""],
-            Some(ObjFault::BadName),
+            32,
+            33,
+            b"\x51\x23\x22\x20\x20\0".as_slice(),
+            Some(ObjFault::BadSumLength),
         ),
         (
-            [
-                b"b\0".as_slice(),
-                &sum,
-                b"\x02a\0",
-                &sum,
-                b"\x02\x23\x46\x48",
-            ],
-            Some(ObjFault::NotSorted),
+            32,
+            32,
+            b"\x50\x23\x22\x20\x20\x01".as_slice(),
+            Some(ObjFault::NotNormal),
         ),
+        (32, 32, b"".as_slice(), Some(ObjFault::NotNormal)),
     ] {
-        check_dirtree(&rt, alloc, parts.as_slice(), wanted)?;
+        let bytes = commit_bytes(alloc, parent, tree, tail)?;
+        assert_eq!(rt; read_commit(alloc, &bytes).err(), wanted, "of {bytes:?}");
     }
-    let twice = [
-        b"a\0".as_slice(),
-        &sum,
-        b"\x02\x23a\0",
-        &sum,
-        &sum,
-        b"\x22\x02\x44\x24",
-    ];
-    check_dirtree(&rt, alloc, twice.as_slice(), Some(ObjFault::NotSorted))?;
-    assert_eq!(rt; sum_of(OSTREE_TREE).to_hex().as_slice(), OSTREE_TREE_SUM);
     Ok(())
 }
 
-fn check_content(
-    rt: &impl Abort,
-    alloc: Global,
-    bytes: &[u8],
-    wanted: Option<ObjFault>,
-) -> Result<(), Fail> {
-    let limits = Limits {
-        objects: 9,
-        paths: 9,
-        content: 6,
+fn fault_of(alloc: Global, name: ObjName, bytes: &[u8]) -> Result<Option<CheckFault>, Fail> {
+    let limits = Limits::standard();
+    let bytes = Bytes::from_slice(alloc, bytes)?;
+    Ok(check(alloc, name, bytes, &limits).err().map(|back| back.1))
+}
+
+#[test]
+fn faults_of_names(rt: HostRuntime) -> Result<(), Fail> {
+    let alloc = rt.alloc();
+    let csum = sum_of(b"\0");
+    let tree = ObjName {
+        csum,
+        kind: Kind::DirTree,
     };
-    match read_content(alloc, bytes, &limits) {
-        Ok(value) => {
-            assert_eq!(rt; wanted, None, "of {bytes:?}");
-            assert!(rt; write_content(alloc, &value)?.as_slice() == bytes);
-        }
-        Err(fault) => assert_eq!(rt; wanted, Some(fault), "of {bytes:?}"),
+    let meta = ObjName {
+        csum,
+        kind: Kind::DirMeta,
+    };
+    let wrong = CheckFault::WrongSum(sum_of(b"\x01"));
+    let odd = CheckFault::Unreadable(ObjFault::NotNormal);
+    assert_eq!(rt; fault_of(alloc, tree, b"\0")?, None);
+    assert_eq!(rt; fault_of(alloc, tree, b"\x01")?, Some(wrong));
+    assert_eq!(rt; fault_of(alloc, meta, b"\0")?, Some(odd));
+    Ok(())
+}
+
+/// What the check finds wrong with so many zero bytes.
+fn fault_of_zeros(alloc: Global, kind: Kind, len: usize) -> Result<Option<ObjFault>, Fail> {
+    let mut bytes = Vec::with_capacity(alloc, len)?;
+    bytes.resize(len, 0)?;
+    let csum = sum_of(&bytes);
+    let name = ObjName { csum, kind };
+    match check(alloc, name, Bytes::from_vec(bytes), &Limits::standard()) {
+        Err((_, CheckFault::Unreadable(fault))) => Ok(Some(fault)),
+        _ => Ok(None),
+    }
+}
+
+#[test]
+fn objects_above_64_mebibytes(rt: HostRuntime) -> Result<(), Fail> {
+    for kind in [Kind::Commit, Kind::DirTree, Kind::DirMeta] {
+        let fault = fault_of_zeros(rt.alloc(), kind, 67_108_865)?;
+        assert!(&rt; fault == Some(ObjFault::TooLarge(67_108_865)));
+        let fault = fault_of_zeros(rt.alloc(), kind, 64)?;
+        assert!(&rt; fault != Some(ObjFault::TooLarge(64)));
     }
     Ok(())
 }
 
 #[test]
-fn reads_files(rt: HostRuntime) -> Result<(), Fail> {
+fn items_are_copied(rt: HostRuntime) -> Result<(), Fail> {
     let alloc = rt.alloc();
-    let file = b"\0\0\0\x12\0\0\0\0\0\0\0\0\0\0\0\0\0\0\x81\xa4\0\0\0\0\0\x11";
-    let link = b"\0\0\0\x19\0\0\0\0\0\0\0\0\0\0\0\0\0\0\xa1\xff\0\0\0\0usr/bin\0\x18";
-    let device = b"\0\0\0\x12\0\0\0\0\0\0\0\0\0\0\0\0\0\0\x81\xa4\0\0\0\x01\0\x11";
-    let padded = b"\0\0\0\x12\0\0\0\x01\0\0\0\0\0\0\0\0\0\0\x81\xa4\0\0\0\0\0\x11";
-    let aimless = b"\0\0\0\x12\0\0\0\0\0\0\0\0\0\0\0\0\0\0\xa1\xff\0\0\0\0\0\x11";
-    for (bytes, content, wanted) in [
-        (file.as_slice(), b"".as_slice(), None),
-        (file.as_slice(), b"hello\n".as_slice(), None),
-        (
-            file.as_slice(),
-            b"hello\n!".as_slice(),
-            Some(ObjFault::TooLarge(7)),
-        ),
-        (link.as_slice(), b"".as_slice(), None),
-        (link.as_slice(), b"x".as_slice(), Some(ObjFault::BadMode)),
-        (device.as_slice(), b"".as_slice(), Some(ObjFault::BadMode)),
-        (aimless.as_slice(), b"".as_slice(), Some(ObjFault::BadMode)),
-        (padded.as_slice(), b"".as_slice(), Some(ObjFault::NotNormal)),
-        (&file[..25], b"".as_slice(), Some(ObjFault::NotNormal)),
-        (&file[..7], b"".as_slice(), Some(ObjFault::NotNormal)),
-    ] {
-        check_content(&rt, alloc, &joined(alloc, &[bytes, content])?, wanted)?;
-    }
-    let hello = sum_of(&joined(alloc, &[file.as_slice(), b"hello\n"])?);
-    let wanted = b"44f778e59f0a4748d6b0c90a47347212a231c4ad1e8f7ea5c5dffc7749153a6b";
-    assert_eq!(rt; hello.to_hex().as_slice(), wanted.as_slice());
-    let wanted = b"389846c2702216e1367c8dfb68326a6b93ccf5703c89c93979052a9bf359608e";
-    assert_eq!(rt; sum_of(link).to_hex().as_slice(), wanted.as_slice());
+    let item = TreeItem {
+        path: FsPath::root(alloc),
+        meta: Meta {
+            uid: 1,
+            gid: 2,
+            mode: 0o100644,
+            xattrs: Xattrs::new(alloc),
+        },
+        body: Some(BodySpec::Given(Bytes::from_slice(alloc, b"ab")?)),
+    };
+    let again = item.copy()?;
+    assert!(&rt; again.meta.gid == 2);
+    assert!(&rt; gives(&again.body, b"ab"));
     Ok(())
+}
+
+fn gives(body: &Option<BodySpec>, wanted: &[u8]) -> bool {
+    match body {
+        Some(BodySpec::Given(bytes)) => bytes.as_slice() == wanted,
+        _ => false,
+    }
 }

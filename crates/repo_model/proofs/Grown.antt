@@ -6,9 +6,9 @@ use Rattle.ost_types.specs.declared.meta.Meta.{Meta}
 use Rattle.ost_types.specs.declared.object.ObjName.{ObjName}
 use Rattle.ost_types.specs.declared.object.Kind.TheVariants.{Commit, DirTree, DirMeta}
 use Rattle.ost_types.specs.Path.{Path}
-use Rattle.ost_objects.specs.Commit.{CommitParts}
-use Rattle.ost_objects.specs.DirTree.{Entries, ReadsDirTree}
-use Rattle.ost_objects.specs.DirMeta.{ReadsDirMeta}
+use Rattle.ost_forms.specs.Commit.{CommitParts}
+use Rattle.ost_forms.specs.DirTree.{Entries, ReadsDirTree}
+use Rattle.ost_forms.specs.DirMeta.{ReadsDirMeta}
 use Rattle.repo_model.specs.Objects.{Store, IsMap, Has}
 use Rattle.repo_model.specs.Trees.{HasCommit, HasEntries, HasMeta, HasFolder, Shows, Names, TreeShows, name_of}
 use Rattle.repo_model.specs.Whole.{Complete}

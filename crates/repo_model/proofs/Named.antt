@@ -6,7 +6,7 @@ use Rattle.hex.specs.Hex.{IsBytes}
 use Rattle.sha2.specs.Sha256.{digest_bytes, sha256}
 use Rattle.sha2.proofs.Facts256.{length-sha256}
 use Rattle.ost_types.specs.declared.object.ObjName.{ObjName}
-use Rattle.ost_check.specs.Object.{IsNamed}
+use Rattle.ost_objects.specs.Object.{IsNamed}
 use Rattle.repo_layout.specs.RefFile.{IsSum}
 
 IsBytes-append : (xs ys : List ℕ) → IsBytes xs → IsBytes ys → IsBytes (xs ++ ys)

@@ -4,9 +4,9 @@ use Rattle.std.specs.Prelude.{◌≡◌, ℕ, true, List, [], Option, Some, None
 use Rattle.ost_types.specs.declared.object.Kind.{Kind}
 use Rattle.ost_types.specs.declared.object.Kind.TheVariants.{File}
 use Rattle.ost_types.specs.declared.object.ObjName.{ObjName}
-use Rattle.ost_objects.specs.declared.body.Body.TheVariants.{Regular, Symlink}
-use Rattle.ost_objects.specs.Stream.{content_form}
-use Rattle.ost_check.specs.Object.{IsNamed, HasForm}
+use Rattle.ost_forms.specs.declared.body.Body.TheVariants.{Regular, Symlink}
+use Rattle.ost_forms.specs.Stream.{content_form}
+use Rattle.ost_objects.specs.Object.{IsNamed, HasForm}
 use Rattle.fs_trait.specs.View.{Disk}
 use Rattle.fs_trait.specs.Seen.{Seen, Vacant, Directory, Symlink as SeenLink, Leaf, shows}
 use Rattle.repo_layout.specs.Paths.{object_path, mark_path}

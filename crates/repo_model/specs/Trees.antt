@@ -7,11 +7,11 @@ use Rattle.ost_types.specs.declared.object.Kind.{Kind}
 use Rattle.ost_types.specs.declared.object.Kind.TheVariants.{Commit, DirTree, DirMeta, File}
 use Rattle.ost_types.specs.declared.object.ObjName.{ObjName}
 use Rattle.ost_types.specs.Path.{Name, Path}
-use Rattle.ost_objects.specs.declared.entry.FileItem.{FileItem}
-use Rattle.ost_objects.specs.declared.entry.FolderItem.{FolderItem}
-use Rattle.ost_objects.specs.Commit.{CommitParts, ReadsCommit}
-use Rattle.ost_objects.specs.DirTree.{Entries, ReadsDirTree}
-use Rattle.ost_objects.specs.DirMeta.{ReadsDirMeta}
+use Rattle.ost_forms.specs.declared.entry.FileItem.{FileItem}
+use Rattle.ost_forms.specs.declared.entry.FolderItem.{FolderItem}
+use Rattle.ost_forms.specs.Commit.{CommitParts, ReadsCommit}
+use Rattle.ost_forms.specs.DirTree.{Entries, ReadsDirTree}
+use Rattle.ost_forms.specs.DirMeta.{ReadsDirMeta}
 use Rattle.repo_model.specs.Objects.{Store}
 
 abbrev pub name_of : Kind → List ℕ → ObjName

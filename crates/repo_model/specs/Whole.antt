@@ -4,7 +4,7 @@ use Rattle.ost_types.specs.declared.limits.Limits.{Limits}
 use Rattle.ost_types.specs.declared.node.NodeName.{NodeName}
 use Rattle.ost_types.specs.declared.object.ObjName.{ObjName}
 use Rattle.ost_types.specs.Path.{Path, text_of}
-use Rattle.ost_objects.specs.Commit.{CommitParts}
+use Rattle.ost_forms.specs.Commit.{CommitParts}
 use Rattle.repo_model.specs.Objects.{Store, Has}
 use Rattle.repo_model.specs.Trees.{HasCommit, Shows, Names}
 

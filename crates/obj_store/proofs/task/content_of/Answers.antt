@@ -1,6 +1,6 @@
 use Rattle.std.proofs.Common.{Err, subst}
-use Rattle.ost_objects.specs.Stream.{ReadsContent}
-use Rattle.ost_objects.specs.declared.content.Content.{Content}
+use Rattle.ost_forms.specs.Stream.{ReadsContent}
+use Rattle.ost_forms.specs.declared.content.Content.{Content}
 use Rattle.obj_store.proofs.Streaming.{only_memory_of}
 use Rattle.obj_store.proofs.task.content_of.Goals as goal
 

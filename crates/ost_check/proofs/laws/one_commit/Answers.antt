@@ -1,5 +1,0 @@
-use Rattle.ost_objects.proofs.Parted.{one_commit}
-use Rattle.ost_check.proofs.laws.one_commit.Goals as goal
-
-pub returns : goal.returns
-returns c = λ bytes e f. one_commit _ _ bytes c.commit_sums.ensures.time c.commit_sums-2.ensures.time e f

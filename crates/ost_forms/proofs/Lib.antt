@@ -1,0 +1,15 @@
+pub mod Types
+pub mod RowLists
+pub mod Parts
+pub mod Texts
+pub mod Headers
+pub mod Streams
+pub mod OrderedNames
+pub mod Entries
+pub mod Laws
+pub mod Alone
+pub mod Commits
+pub mod ItemLists
+pub mod Parted
+pub mod FileTests
+pub mod OwnStreams

@@ -1,0 +1,6 @@
+use Rattle.std.proofs.Common.{◌≡◌, map, take}
+use Rattle.ost_forms.specs.FileRow.{folder_of}
+use Rattle.ost_forms.proofs.dirtree.folder_items.Given as goal
+
+abbrev pub invariant-loop-row : goal.invariant-loop-row
+invariant-loop-row l = l.items.items ≡ map folder_of (take l.row-index l.rows)

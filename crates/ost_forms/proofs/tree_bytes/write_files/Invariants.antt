@@ -1,0 +1,7 @@
+use Rattle.std.proofs.Common.{◌≡◌, take, Some}
+use Rattle.ost_forms.specs.Rows.{each}
+use Rattle.ost_forms.specs.DirTree.{file_form}
+use Rattle.ost_forms.proofs.tree_bytes.write_files.Given as goal
+
+abbrev pub invariant-loop-item : goal.invariant-loop-item
+invariant-loop-item l = each file_form (take l.item-index l.items) ≡ Some l.rows.items

@@ -1,6 +1,0 @@
-use Rattle.std.proofs.Common.{◌≡◌, map, take}
-use Rattle.ost_objects.specs.FileRow.{folder_of}
-use Rattle.ost_objects.proofs.dirtree.folder_items.Given as goal
-
-abbrev pub invariant-loop-row : goal.invariant-loop-row
-invariant-loop-row l = l.items.items ≡ map folder_of (take l.row-index l.rows)

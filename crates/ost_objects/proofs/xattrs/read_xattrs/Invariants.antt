@@ -1,7 +1,0 @@
-use Rattle.std.proofs.Common.{map, drop}
-use Rattle.ost_objects.specs.Rows.{xattr_form}
-use Rattle.ost_objects.proofs.RowLists.{Reading}
-use Rattle.ost_objects.proofs.xattrs.read_xattrs.Given as goal
-
-abbrev pub invariant-loop-row : goal.invariant-loop-row
-invariant-loop-row l = Reading xattr_form l.xattrs.items (map (λ b. b.now) (drop l.row-index l.row-items)) (map (λ b. b.now) l.row-items)
