@@ -1,3 +1,1 @@
-pub mod Resolved
 pub mod Printing
-pub mod Outcomes

@@ -1,4 +1,3 @@
-pub mod RevParse
 pub mod Text
 pub mod Output
 pub mod Status

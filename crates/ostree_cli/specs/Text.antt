@@ -4,20 +4,23 @@ use Rattle.ost_types.specs.Path.{text_of}
 use Rattle.script.specs.Field.{escaped}
 use Rattle.script.specs.Lines.{replies_text}
 use Rattle.script.specs.declared.answer.Reply.{Reply}
-use Rattle.ostree_cli.specs.declared.answer.Why.{Why}
-use Rattle.ostree_cli.specs.declared.answer.Why.TheVariants.{BadRef}
+use Rattle.sys_open.specs.declared.fault.Why.{Why}
+use Rattle.sys_open.specs.declared.fault.Why.TheVariants.{BadRef, WrongKind}
 use Rattle.ostree_cli.specs.declared.answer.OpenFault.{OpenFault}
-use Rattle.ostree_cli.specs.declared.answer.OpenFault.TheVariants.{Damaged, Disk, Outside}
-use Rattle.ostree_cli.specs.declared.answer.TopFault.{TopFault}
-use Rattle.ostree_cli.specs.declared.answer.TopFault.TheVariants.{Usage, Open, NoMemory}
+use Rattle.sys_open.specs.declared.fault.OpenFault.TheVariants.{Damaged, Disk, Outside}
+use Rattle.sys_open.specs.declared.fault.OpenFault.TheVariants as open
+use Rattle.ostree_cli.specs.declared.fault.TopFault.{TopFault}
+use Rattle.ostree_cli.specs.declared.fault.TopFault.TheVariants.{Usage, Open, NoMemory}
 
 abbrev pub why_text : Why → List ℕ
 why_text BadRef = codes "BadRef"
+why_text WrongKind = codes "WrongKind"
 
 -- the one line of a fault before the lanes
 abbrev pub fault_line : TopFault → List ℕ
 fault_line Usage = codes "fault usage\n"
 fault_line NoMemory = codes "fault memory\n"
+fault_line (Open open.NoMemory) = codes "fault memory\n"
 fault_line (Open Disk) = codes "fault open Disk\n"
 fault_line (Open (Damaged path why)) = codes "fault open Damaged " ++ (escaped (text_of path) ++ (32 ∷ (why_text why ++ 10 ∷ [])))
 fault_line (Open (Outside path)) = codes "fault open Outside " ++ (escaped (text_of path) ++ 10 ∷ [])

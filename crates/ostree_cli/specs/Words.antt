@@ -1,12 +1,17 @@
--- The command line: a command and its fields.
-use Rattle.std.specs.Prelude.{◌≡◌, ℕ, List, [], ◌∷◌, codes}
-use Rattle.repo_layout.specs.RefName.{IsRefName}
+-- The command line: `init` alone, or a command and its fields.
+use Rattle.std.specs.Prelude.{◌≡◌, ◌≢◌, ◌⊎◌, ℕ, List, [], ◌∷◌, codes}
+use Rattle.script.specs.declared.command.Command.{Command}
+use Rattle.script.specs.Words.{IsCommand, AreNoCommand}
 
--- `rev-parse` and the name of a ref
-pub record IsRevParse (line : List (List ℕ)) (name : List ℕ) : Type 0 where
-  pub words : line ≡ codes "rev-parse" ∷ name ∷ []
-  pub ref : IsRefName name
+abbrev pub init : List (List ℕ)
+init = codes "init" ∷ []
 
--- no command
-abbrev pub AreNoCommand : List (List ℕ) → Type 0
-AreNoCommand words = (name : List ℕ) → ¬ (IsRevParse words name)
+-- The lanes of a command line: none of `init`, which only opens; else one lane with the one command.
+abbrev pub IsLine : List (List ℕ) → List (List Command) → Type 0
+IsLine words lanes =
+    ((words ≡ init) × (lanes ≡ []))
+    ⊎ ((command : Command) × (lanes ≡ (command ∷ []) ∷ []) × IsCommand words command)
+
+-- no command line
+abbrev pub AreNoLine : List (List ℕ) → Type 0
+AreNoLine words = (words ≢ init) × AreNoCommand words

@@ -10,12 +10,18 @@ Usage: ostree_cli COMMAND [FIELD]...
 Works on the OSTree repository at ostree/repo below the current folder.
 
 Commands:
-  rev-parse REF    print the commit that a ref names
-  --help           print this text
-  --version        print the program's version
+  init                  open the repository, and lay out what is missing
+  refs                  list the refs with their commits
+  rev-parse REV         print the commit that REV names
+  reset BRANCH COMMIT   make the ref name the commit
+  drop BRANCH           remove the ref
+  --help                print this text
+  --version             print the program's version
 
-REF is 1 to 12 parts of A-Z a-z 0-9 - _ . that don't begin with a dot,
-joined by /, at most 255 bytes in all.
+BRANCH is the name of a ref: 1 to 12 parts of A-Z a-z 0-9 - _ . that don't
+begin with a dot, joined by /, at most 255 bytes in all, and not 64 digits.
+COMMIT is 64 digits of 0-9 a-f. REV is a BRANCH or a COMMIT. A byte of a field
+may be written as % and two digits of 0-9 a-f.
 
 Status:
   0  the command was done

@@ -1,10 +1,10 @@
 //! The program `ostree_cli`: an OSTree bare repository in the current folder.
 #![tactic(auto)]
 
-mod answer;
+mod fault;
 mod help;
+mod lanes;
 mod output;
-mod rev_parse;
 mod status;
 #[cfg(test)]
 mod tests;

@@ -1,9 +1,10 @@
 ghost use Rattle.std.specs.Prelude.{◌≡◌, map, if◌then◌else◌};
 ghost use Rattle.std.specs.List.{list_any};
-ghost use Rattle.ostree_cli.specs.Status.{fault_status, has_refusal, has_risen, is_refusal, status_of};
+ghost use Rattle.ostree_cli.specs.Status.{answer_status, fault_status, has_risen, replies_status, status_of};
 
-use crate::answer::{OpenFault, TopFault};
+use crate::fault::TopFault;
 use script::{Answer, Reply};
+use sys_open::OpenFault;
 
 /// The exit status of a call, from what it came to and from whether the counts of the file system and of the sink
 /// have risen in it: the greatest of those whose cause stands.
@@ -12,7 +13,7 @@ pub fn status_of(fault: &Option<TopFault>, lanes: &[Vec<Reply>], disk: bool, sin
     ensures { result ≡ status_of fault.now (map (λ lane. lane.items) lanes.now) disk sink }
 {
     let by_counts = status_where(sink, 6).max(status_where(disk, 4));
-    let by_answers = fault_status(fault).max(status_where(has_refusal(lanes), 1));
+    let by_answers = fault_status(fault).max(replies_status(lanes));
     by_counts.max(by_answers)
 }
 
@@ -38,31 +39,45 @@ fn fault_status(fault: &Option<TopFault>) -> u8
         Some(TopFault::NoMemory) => 3,
         Some(TopFault::Open(OpenFault::Outside(_))) => 4,
         Some(TopFault::Open(OpenFault::Disk)) => 0,
+        Some(TopFault::Open(OpenFault::NoMemory)) => 3,
         Some(TopFault::Open(OpenFault::Damaged(_, _))) => 8,
     }
 }
 
-fn has_refusal(lanes: &[Vec<Reply>]) -> bool
-    ensures { result ≡ has_refusal (map (λ lane. lane.items) lanes.now) }
+// the greatest status of a reply
+fn replies_status(lanes: &[Vec<Reply>]) -> u8
+    ensures { result ≡ replies_status (map (λ lane. lane.items) lanes.now) }
 {
-    lanes.iter().any(|replies| any_refusal(replies))
+    let mut status = 0;
+    for replies in lanes {
+        status = status.max(lane_status(replies));
+    }
+    status
 }
 
-fn any_refusal(replies: &[Reply]) -> bool
-    ensures { result ≡ list_any (λ reply. is_refusal reply.answer) replies.now }
+fn lane_status(replies: &[Reply]) -> u8
+    ensures { result ≡ lane_status replies.now }
 {
-    replies.iter().any(|reply| is_refusal(&reply.answer))
+    let mut status = 0;
+    for reply in replies {
+        status = status.max(answer_status(&reply.answer));
+    }
+    status
 }
 
-fn is_refusal(answer: &Answer) -> bool
-    ensures { result ≡ is_refusal answer.now }
+fn answer_status(answer: &Answer) -> u8
+    ensures { result ≡ answer_status answer.now }
 {
-    matches!(
-        answer,
+    match answer {
+        Answer::Nothing | Answer::Refs(_) | Answer::Commit(_) => 0,
         Answer::NoRef
-            | Answer::NoCommit(_)
-            | Answer::Partial(_)
-            | Answer::RefMoved { .. }
-            | Answer::RefClash(_)
-    )
+        | Answer::NoCommit(_)
+        | Answer::Partial(_)
+        | Answer::RefMoved { .. }
+        | Answer::RefClash(_) => 1,
+        Answer::NoMemory => 3,
+        Answer::Outside(_) => 4,
+        // the disk's count shows these
+        Answer::DiskFault | Answer::Halted(_) => 0,
+    }
 }

@@ -1,220 +1,233 @@
-mod fickle;
-
-ghost use Rattle.std.specs.Prelude.{◌≡◌, IfOk};
-ghost use Rattle.ost_types.specs.Mode.{IsFolderMode, IsFileMode, IsLinkMode};
-
 use crate::top::ostree;
-use fickle::Fickle;
 use fs_host::HostFs;
-use fs_memory::{FailAt, MemFs, MemSink};
+use fs_memory::{Choice, FailAt, MemFs, MemSink};
 use fs_trait::Fs;
-use ost_types::{FsPath, Meta, Text, Xattrs};
+use ost_types::{FsPath, Meta, Xattrs};
 use std::alloc::Global;
 use std::fs;
 use std::process::Abort;
 use std::test::Fail;
 
-// The name of the empty dirtree, the SHA-256 of one zero byte.
-const REF_FILE: &[u8] = b"6e340b9cffb37a989ca544e6bb780a2c78901d3fb33738768511a30617afa01d\n";
+// 64 digits 1, a commit of the disks here; and 64 digits 2, none.
+const ONES: &str = "1111111111111111111111111111111111111111111111111111111111111111";
 
-fn folder_meta(alloc: Global) -> Meta
-    ensures { IsFolderMode result.mode }
-{
-    Meta {
-        uid: 0,
-        gid: 0,
-        mode: 0o040755,
-        xattrs: Xattrs::new(alloc),
+const TWOS: &str = "2222222222222222222222222222222222222222222222222222222222222222";
+
+// What a call prints and its exit status, call by call on one disk. X and Y stand for the digits.
+const TABLE: &[(&str, &str, u8)] = &[
+    ("init", "", 0),
+    ("refs", "0 0 ok 0\n", 0),
+    ("rev-parse main", "0 0 refused NoRef\n", 1),
+    ("rev-parse X", "0 0 ok X\n", 0),
+    ("rev-parse Y", "0 0 refused NoCommit Y\n", 1),
+    ("drop main", "0 0 refused NoRef\n", 1),
+    ("reset main Y", "0 0 refused NoCommit Y\n", 1),
+    ("reset main X", "0 0 ok\n", 0),
+    ("rev-parse main", "0 0 ok X\n", 0),
+    ("rev-parse m%61in", "0 0 ok X\n", 0),
+    ("reset main/x X", "0 0 refused RefClash main\n", 1),
+    ("reset a/b/c X", "0 0 ok\n", 0),
+    ("reset a X", "0 0 refused RefClash a/b/c\n", 1),
+    ("refs", "0 0 ok 2\n a/b/c X\n main X\n", 0),
+    ("drop main", "0 0 ok\n", 0),
+    ("drop main", "0 0 refused NoRef\n", 1),
+    ("refs", "0 0 ok 1\n a/b/c X\n", 0),
+    ("rev-parse", "fault usage\n", 2),
+    ("rev-parse .main", "fault usage\n", 2),
+    ("init now", "fault usage\n", 2),
+    ("refs main", "fault usage\n", 2),
+    ("commit main", "fault usage\n", 2),
+    ("", "fault usage\n", 2),
+];
+
+// The text with the digits in the places of X and Y.
+fn digits(alloc: Global, text: &str) -> Result<String, Fail> {
+    let mut whole = String::new(alloc);
+    for letter in text.chars() {
+        match letter {
+            'X' => whole.push_str(ONES)?,
+            'Y' => whole.push_str(TWOS)?,
+            letter => whole.push(letter)?,
+        }
     }
+    Ok(whole)
 }
 
-fn file_meta(alloc: Global) -> Meta
-    ensures { IsFileMode result.mode }
-{
-    Meta {
-        uid: 0,
-        gid: 0,
-        mode: 0o100644,
-        xattrs: Xattrs::new(alloc),
+fn words_of(alloc: Global, line: &str) -> Result<Vec<String>, Fail> {
+    let mut words = Vec::new(alloc);
+    for word in line.split(' ') {
+        if !word.is_empty() {
+            words.push(digits(alloc, word)?)?;
+        }
     }
+    Ok(words)
 }
 
-fn link_meta(alloc: Global) -> Meta
-    ensures { IsLinkMode result.mode }
-{
-    Meta {
-        uid: 0,
-        gid: 0,
-        mode: 0o120777,
-        xattrs: Xattrs::new(alloc),
-    }
-}
-
-// A disk with the folder of the refs.
-fn laid_out(rt: &impl Abort, alloc: Global) -> Result<MemFs, Fail> {
-    let mut disk = MemFs::new(alloc)?;
-    let meta = folder_meta(alloc);
-    for folder in [
-        "/ostree",
-        "/ostree/repo",
-        "/ostree/repo/refs",
-        "/ostree/repo/refs/heads",
-    ] {
-        disk.mkdir(&FsPath::parse(alloc, folder.as_bytes())?, &meta)?;
-    }
-    assert_eq!(rt; disk.clock(), 4);
-    Ok(disk)
-}
-
-fn put(disk: &mut MemFs, alloc: Global, path: &str, bytes: &[u8]) -> Result<(), Fail> {
-    let path = FsPath::parse(alloc, path.as_bytes())?;
-    disk.create(&path, &file_meta(alloc))?;
-    disk.append(&path, bytes)?;
-    Ok(())
-}
-
-// Runs the words over the disk and compares what was printed and the status.
-fn expect<F: Fs>(
-    rt: &impl Abort,
+// Whether a call with these words prints this with this status. The file system comes back.
+fn answers<F: Fs>(
     alloc: Global,
-    words: &[&str],
-    disk: F,
-    room: usize,
+    fs: F,
+    line: &str,
     output: &str,
     status: u8,
-) -> Result<F, Fail> {
-    let mut line = Vec::new(alloc);
-    for word in words {
-        line.push(String::from_str(alloc, word)?)?;
+) -> Result<(F, bool), Fail> {
+    let mut out = MemSink::new(alloc, 1000, Vec::new(alloc))?;
+    let ended = ostree(alloc, &words_of(alloc, line)?, fs, &mut out);
+    let wanted = digits(alloc, output)?;
+    let same = out.bytes() == wanted.as_bytes() && ended.status == status;
+    Ok((ended.fs, same))
+}
+
+fn meta(alloc: Global, mode: u32) -> Meta
+    ensures { result.mode ≡ mode }
+{
+    Meta {
+        uid: 0,
+        gid: 0,
+        mode,
+        xattrs: Xattrs::new(alloc),
     }
-    let mut out = MemSink::new(alloc, room, Vec::new(alloc))?;
-    let ended = ostree(alloc, &line, disk, &mut out);
-    assert_eq!(rt; out.bytes(), output.as_bytes());
-    assert_eq!(rt; ended.status, status, "of {output}");
-    Ok(ended.fs)
+}
+
+fn add_folder(fs: &mut MemFs, alloc: Global, at: &[u8]) -> Result<(), Fail> {
+    Ok(fs.mkdir(&FsPath::parse(alloc, at)?, &meta(alloc, 0o040755))?)
+}
+
+fn add_file(fs: &mut MemFs, alloc: Global, at: &[u8], bytes: &[u8]) -> Result<(), Fail> {
+    let at = FsPath::parse(alloc, at)?;
+    fs.create(&at, &meta(alloc, 0o100644))?;
+    Ok(fs.append(&at, bytes)?)
+}
+
+// A disk with an empty file in the place of the commit.
+fn with_commit(alloc: Global) -> Result<MemFs, Fail> {
+    let mut fs = MemFs::new(alloc)?;
+    add_folder(&mut fs, alloc, b"/ostree")?;
+    add_folder(&mut fs, alloc, b"/ostree/repo")?;
+    add_folder(&mut fs, alloc, b"/ostree/repo/objects")?;
+    add_folder(&mut fs, alloc, b"/ostree/repo/objects/11")?;
+    add_file(
+        &mut fs,
+        alloc,
+        b"/ostree/repo/objects/11/11111111111111111111111111111111111111111111111111111111111111.commit",
+        b"",
+    )?;
+    fs.sync_all()?;
+    Ok(fs)
 }
 
 #[test]
-fn answers_over_a_memory_disk(rt: HostRuntime) -> Result<(), Fail> {
+fn answers_over_memory(rt: HostRuntime) -> Result<(), Fail> {
     let alloc = rt.alloc();
-    let empty = MemFs::new(alloc)?;
-    expect(
-        &rt,
-        alloc,
-        &["rev-parse", "main"],
-        empty,
-        100,
-        "0 0 refused NoRef\n",
-        1,
-    )?;
-
-    let mut disk = laid_out(&rt, alloc)?;
-    put(&mut disk, alloc, "/ostree/repo/refs/heads/main", REF_FILE)?;
-    put(
-        &mut disk,
-        alloc,
-        "/ostree/repo/refs/heads/cut",
-        REF_FILE.split_last().map_or(b"".as_slice(), |s| s.1),
-    )?;
-    put(
-        &mut disk,
-        alloc,
-        "/ostree/repo/refs/heads/upper",
-        b"6E340B9CFFB37A989CA544E6BB780A2C78901D3FB33738768511A30617AFA01D\n",
-    )?;
-    put(&mut disk, alloc, "/ostree/repo/refs/heads/none", b"")?;
-    disk.mkdir(
-        &FsPath::parse(alloc, b"/ostree/repo/refs/heads/a")?,
-        &folder_meta(alloc),
-    )?;
-    put(&mut disk, alloc, "/ostree/repo/refs/heads/a/b", REF_FILE)?;
-    let ok = "0 0 ok 6e340b9cffb37a989ca544e6bb780a2c78901d3fb33738768511a30617afa01d\n";
-    for (name, output, status) in [
-        ("main", ok, 0),
-        ("a/b", ok, 0),
-        ("a", "0 0 refused NoRef\n", 1),
-        ("main/x", "0 0 refused NoRef\n", 1),
-        (
-            "cut",
-            "fault open Damaged /ostree/repo/refs/heads/cut BadRef\n",
-            8,
-        ),
-        (
-            "upper",
-            "fault open Damaged /ostree/repo/refs/heads/upper BadRef\n",
-            8,
-        ),
-        (
-            "none",
-            "fault open Damaged /ostree/repo/refs/heads/none BadRef\n",
-            8,
-        ),
-        (".main", "fault usage\n", 2),
-        ("a//b", "fault usage\n", 2),
-        (
-            "1111111111111111111111111111111111111111111111111111111111111111",
-            "fault usage\n",
-            2,
-        ),
-    ] {
-        disk = expect(&rt, alloc, &["rev-parse", name], disk, 200, output, status)?;
+    let mut fs = with_commit(alloc)?;
+    for (line, output, status) in TABLE {
+        let (back, same) = answers(alloc, fs, line, output, *status)?;
+        assert!(rt; same, "{line}");
+        fs = back;
     }
-    disk = expect(&rt, alloc, &["rev-parse"], disk, 100, "fault usage\n", 2)?;
-    disk = expect(
-        &rt,
-        alloc,
-        &["rev-parse", "main", "main"],
-        disk,
-        100,
-        "fault usage\n",
-        2,
-    )?;
-    disk = expect(&rt, alloc, &["refs"], disk, 100, "fault usage\n", 2)?;
-    disk = expect(&rt, alloc, &["rev-parse", "main"], disk, 3, "0 0", 6)?;
-    expect(&rt, alloc, &["rev-parse", "cut"], disk, 3, "fau", 8)?;
     Ok(())
 }
 
 #[test]
-fn tells_failed_calls(rt: HostRuntime) -> Result<(), Fail> {
+fn refuses_a_partial_commit(rt: HostRuntime) -> Result<(), Fail> {
     let alloc = rt.alloc();
-    // Four folders, a file and its bytes are six calls, so the look at the ref is the seventh and the read the eighth.
-    for call in [7, 8] {
-        let mut disk = laid_out(&rt, alloc)?;
-        put(&mut disk, alloc, "/ostree/repo/refs/heads/main", REF_FILE)?;
-        disk.fail_at(vec![in alloc; FailAt { call, done: false }]?);
-        let disk = expect(
-            &rt,
-            alloc,
-            &["rev-parse", "main"],
-            disk,
-            100,
-            "fault open Disk\n",
-            4,
-        )?;
-        assert_eq!(rt; disk.faults(), 1);
-        expect(&rt, alloc, &["rev-parse", "main"], disk, 2, "0 ", 6)?;
-    }
-    let mut disk = laid_out(&rt, alloc)?;
-    let link = link_meta(alloc);
-    let Some(target) = Text::parse(alloc, b"other")? else {
-        return Ok(());
-    };
-    assert!(rt; !target.as_slice().is_empty());
-    disk.symlink(
-        &FsPath::parse(alloc, b"/ostree/repo/refs/heads/main")?,
-        &target,
-        &link,
-    )?;
-    expect(
-        &rt,
+    let mut fs = with_commit(alloc)?;
+    add_folder(&mut fs, alloc, b"/ostree/repo/state")?;
+    add_file(
+        &mut fs,
         alloc,
-        &["rev-parse", "main"],
-        disk,
-        100,
+        b"/ostree/repo/state/1111111111111111111111111111111111111111111111111111111111111111.commitpartial",
+        b"",
+    )?;
+    let (_, same) = answers(alloc, fs, "reset main X", "0 0 refused Partial X\n", 1)?;
+    assert!(rt; same);
+    Ok(())
+}
+
+#[test]
+fn tells_damage(rt: HostRuntime) -> Result<(), Fail> {
+    let alloc = rt.alloc();
+    let (mut fs, _) = answers(alloc, with_commit(alloc)?, "init", "", 0)?;
+    add_file(
+        &mut fs,
+        alloc,
+        b"/ostree/repo/refs/heads/main",
+        ONES.as_bytes(),
+    )?;
+    let (_, same) = answers(
+        alloc,
+        fs,
+        "refs",
         "fault open Damaged /ostree/repo/refs/heads/main BadRef\n",
         8,
     )?;
+    assert!(rt; same);
+    let mut fs = MemFs::new(alloc)?;
+    add_file(&mut fs, alloc, b"/ostree", b"")?;
+    let (_, same) = answers(
+        alloc,
+        fs,
+        "init",
+        "fault open Damaged /ostree WrongKind\n",
+        8,
+    )?;
+    assert!(rt; same);
+    Ok(())
+}
+
+// Its last sync fails, as the first call that does: what was shown may last or not.
+#[test]
+fn halts_where_a_sync_fails(rt: HostRuntime) -> Result<(), Fail> {
+    let alloc = rt.alloc();
+    let (fs, _) = answers(alloc, with_commit(alloc)?, "init", "", 0)?;
+    let (fs, _) = answers(alloc, fs, "reset main X", "0 0 ok\n", 0)?;
+    let calls = fs.moments();
+    let mut halted = false;
+    for call in 1..200 {
+        let (mut fs, _) = answers(alloc, with_commit(alloc)?, "init", "", 0)?;
+        fs.fail_at(vec![in alloc; FailAt { call, done: false }]?);
+        let before = fs.faults();
+        let mut out = MemSink::new(alloc, 1000, Vec::new(alloc))?;
+        let ended = ostree(alloc, &words_of(alloc, "reset main X")?, fs, &mut out);
+        if ended.fs.faults() == before || out.bytes() != b"0 0 fault Halted 1\n".as_slice() {
+            continue;
+        }
+        assert_eq!(rt; ended.status, 4);
+        if ended.pending.is_some() && ended.fs.moments() == calls {
+            halted = true;
+            let old = Choice {
+                picks: vec![in alloc; 0]?,
+                fill: 0,
+            };
+            let image = ended.fs.image(calls - 1, &old)?;
+            let (_, same) = answers(alloc, image, "rev-parse main", "0 0 refused NoRef\n", 1)?;
+            assert!(rt; same);
+            let new = Choice {
+                picks: Vec::new(alloc),
+                fill: 0,
+            };
+            let image = ended.fs.image(calls - 1, &new)?;
+            let (_, same) = answers(alloc, image, "rev-parse main", "0 0 ok X\n", 0)?;
+            assert!(rt; same);
+        }
+    }
+    assert!(rt; halted);
+    Ok(())
+}
+
+// A sink that takes 3 bytes and then fails.
+#[test]
+fn tells_a_sink_that_fails(rt: HostRuntime) -> Result<(), Fail> {
+    let alloc = rt.alloc();
+    let mut out = MemSink::new(alloc, 3, Vec::new(alloc))?;
+    let ended = ostree(
+        alloc,
+        &words_of(alloc, "refs")?,
+        MemFs::new(alloc)?,
+        &mut out,
+    );
+    assert_eq!(rt; out.bytes(), b"0 0".as_slice());
+    assert_eq!(rt; ended.status, 6);
     Ok(())
 }
 
@@ -223,54 +236,20 @@ const HEADER: &[u8] = &[
     0, 0, 0, 18, 0, 0, 0, 0, 0, 0, 0, 0, 0, 0, 0, 0, 0, 0, 0x81, 0xa4, 0, 0, 0, 0, 0, 17,
 ];
 
-fn write_host(rt: &HostRuntime, path: &str, header: &[u8], bytes: &[u8]) -> Result<(), Fail> {
-    let mut whole = header.to_vec(rt.alloc())?;
-    whole.extend_from_slice(bytes)?;
-    fs::write(rt, path, &whole)?;
-    Ok(())
-}
-
 #[test]
-fn tells_a_contradiction(rt: HostRuntime) -> Result<(), Fail> {
-    let alloc = rt.alloc();
-    let fickle = Fickle::new(alloc);
-    expect(
-        &rt,
-        alloc,
-        &["rev-parse", "main"],
-        fickle,
-        100,
-        "fault open Outside /ostree/repo/refs/heads/main\n",
-        4,
-    )?;
-    Ok(())
-}
-
-#[test]
-fn answers_over_host_files(rt: HostRuntime) -> Result<(), Fail> {
+fn answers_over_the_host(rt: HostRuntime) -> Result<(), Fail> {
     let alloc = rt.alloc();
     let _ = fs::remove_dir_all(&rt, "ostree");
-    fs::create_dir_all(&rt, "ostree/repo/refs/heads")?;
-    write_host(&rt, "ostree/repo/refs/heads/main", HEADER, REF_FILE)?;
-    write_host(&rt, "ostree/repo/refs/heads/bare", b"", REF_FILE)?;
-    write_host(&rt, "ostree/repo/refs/heads/short", b"", b"x")?;
-    fs::create_dir(&rt, "ostree/repo/refs/heads/folder")?;
-    write_host(&rt, "ostree/repo/refs/heads/folder/main", HEADER, REF_FILE)?;
-    std::os::unix::fs::symlink(&rt, "main", "ostree/repo/refs/heads/leaf")?;
-    std::os::unix::fs::symlink(&rt, "folder", "ostree/repo/refs/heads/way")?;
-    let ok = "0 0 ok 6e340b9cffb37a989ca544e6bb780a2c78901d3fb33738768511a30617afa01d\n";
-    for (name, output, status) in [
-        ("main", ok, 0),
-        ("folder/main", ok, 0),
-        ("folder", "0 0 refused NoRef\n", 1),
-        ("absent", "0 0 refused NoRef\n", 1),
-        ("bare", "fault open Disk\n", 4),
-        ("short", "fault open Disk\n", 4),
-        ("leaf", "fault open Disk\n", 4),
-        ("way/main", "fault open Disk\n", 4),
-    ] {
-        let disk = HostFs::new(rt.clone()?)?;
-        expect(&rt, alloc, &["rev-parse", name], disk, 200, output, status)?;
+    fs::create_dir_all(&rt, "ostree/repo/objects/11")?;
+    fs::write(
+        &rt,
+        "ostree/repo/objects/11/11111111111111111111111111111111111111111111111111111111111111.commit",
+        HEADER,
+    )?;
+    for (line, output, status) in TABLE {
+        let host = HostFs::new(rt.clone()?)?;
+        let (_, same) = answers(alloc, host, line, output, *status)?;
+        assert!(rt; same, "{line}");
     }
     fs::remove_dir_all(&rt, "ostree")?;
     Ok(())

@@ -3,10 +3,11 @@ ghost use Rattle.script.specs.Field.{escaped};
 ghost use Rattle.ostree_cli.specs.Text.{why_text, fault_line, output_of};
 ghost use Rattle.ost_types.specs.Path.{text_of};
 
-use crate::answer::{OpenFault, TopFault, Why};
+use crate::fault::TopFault;
 use ost_types::{Bytes, FsPath, NoMemory};
 use script::{Reply, append_field, write_replies};
 use std::alloc::Global;
+use sys_open::{OpenFault, Why};
 
 /// All that is printed of a call: the line of its fault, or the lines of its replies.
 pub fn output_of(
@@ -33,7 +34,9 @@ fn fault_line(alloc: Global, fault: &TopFault) -> Result<Bytes, NoMemory>
 {
     match fault {
         TopFault::Usage => Bytes::from_slice(alloc, USAGE_LINE),
-        TopFault::NoMemory => Bytes::from_slice(alloc, MEMORY_LINE),
+        TopFault::NoMemory | TopFault::Open(OpenFault::NoMemory) => {
+            Bytes::from_slice(alloc, MEMORY_LINE)
+        }
         TopFault::Open(OpenFault::Disk) => Bytes::from_slice(alloc, b"fault open Disk\n"),
         TopFault::Open(OpenFault::Damaged(path, why)) => damaged_line(alloc, path, why),
         TopFault::Open(OpenFault::Outside(path)) => path_line(
@@ -50,6 +53,7 @@ fn damaged_line(alloc: Global, path: &FsPath, why: &Why) -> Result<Bytes, NoMemo
 {
     match why {
         Why::BadRef => path_line(alloc, b"fault open Damaged ", path, b" BadRef\n"),
+        Why::WrongKind => path_line(alloc, b"fault open Damaged ", path, b" WrongKind\n"),
     }
 }
 
