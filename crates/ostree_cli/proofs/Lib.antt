@@ -1,1 +1,3 @@
 pub mod Printing
+pub mod Greatest
+pub mod Texts

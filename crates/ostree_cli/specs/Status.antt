@@ -5,7 +5,7 @@ use Rattle.script.specs.declared.answer.Answer.{Answer}
 use Rattle.script.specs.declared.answer.Answer.TheVariants as answer
 use Rattle.script.specs.declared.answer.Reply.{Reply}
 use Rattle.sys_open.specs.declared.fault.OpenFault.TheVariants.{Damaged, Disk, Outside}
-use Rattle.sys_open.specs.declared.fault.OpenFault.TheVariants as open
+use Rattle.sys_open.specs.declared.fault.OpenFault.TheVariants as opening
 use Rattle.ostree_cli.specs.declared.fault.TopFault.{TopFault}
 use Rattle.ostree_cli.specs.declared.fault.TopFault.TheVariants.{Usage, Open, NoMemory}
 
@@ -42,7 +42,7 @@ fault_status (Some Usage) = 2
 fault_status (Some NoMemory) = 3
 fault_status (Some (Open (Outside path))) = 4
 fault_status (Some (Open Disk)) = 0
-fault_status (Some (Open open.NoMemory)) = 3
+fault_status (Some (Open opening.NoMemory)) = 3
 fault_status (Some (Open (Damaged path why))) = 8
 
 -- disk and sink tell whether the count of the file system, and of the sink, has risen

@@ -8,7 +8,7 @@ use Rattle.sys_open.specs.declared.fault.Why.{Why}
 use Rattle.sys_open.specs.declared.fault.Why.TheVariants.{BadRef, WrongKind}
 use Rattle.ostree_cli.specs.declared.answer.OpenFault.{OpenFault}
 use Rattle.sys_open.specs.declared.fault.OpenFault.TheVariants.{Damaged, Disk, Outside}
-use Rattle.sys_open.specs.declared.fault.OpenFault.TheVariants as open
+use Rattle.sys_open.specs.declared.fault.OpenFault.TheVariants as opening
 use Rattle.ostree_cli.specs.declared.fault.TopFault.{TopFault}
 use Rattle.ostree_cli.specs.declared.fault.TopFault.TheVariants.{Usage, Open, NoMemory}
 
@@ -20,7 +20,7 @@ why_text WrongKind = codes "WrongKind"
 abbrev pub fault_line : TopFault → List ℕ
 fault_line Usage = codes "fault usage\n"
 fault_line NoMemory = codes "fault memory\n"
-fault_line (Open open.NoMemory) = codes "fault memory\n"
+fault_line (Open opening.NoMemory) = codes "fault memory\n"
 fault_line (Open Disk) = codes "fault open Disk\n"
 fault_line (Open (Damaged path why)) = codes "fault open Damaged " ++ (escaped (text_of path) ++ (32 ∷ (why_text why ++ 10 ∷ [])))
 fault_line (Open (Outside path)) = codes "fault open Outside " ++ (escaped (text_of path) ++ 10 ∷ [])

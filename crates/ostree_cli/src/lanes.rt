@@ -4,7 +4,7 @@ ghost use Rattle.fs_trait.specs.View.{View};
 ghost use Rattle.fs_trait.specs.Count.{Rose};
 ghost use Rattle.script.specs.declared.command.Lane.{Lane};
 ghost use Rattle.sys_open.specs.Checks.{IsSane};
-ghost use Rattle.sys_open.specs.declared.fault.OpenFault.TheVariants as open;
+ghost use Rattle.sys_open.specs.declared.fault.OpenFault.TheVariants as opening;
 ghost use Rattle.ostree_cli.specs.declared.fault.TopFault.TheVariants as fault;
 ghost use Rattle.ostree_cli.specs.Top.{IsStop};
 
@@ -26,7 +26,7 @@ pub fn run_lanes<F: Fs>(
     requires short { (l : ℕ) (d : Lane) → l < length lanes.items → length (slice_index_or lanes.items l d).commands.items ≤ 64 }
     ensures sane { (v : View) → F.view fs ≡ Some v → IfOk result (λ p. IsSane v.now) }
     ensures told { (v : View) → F.view fs ≡ Some v → IfErr result (λ e. IsStop v.now e.1) }
-    ensures disk { IfErr result (λ e. e.1 ≡ fault.Open open.Disk → Rose (F.faults fs) (F.faults e.0)) }
+    ensures disk { IfErr result (λ e. e.1 ≡ fault.Open opening.Disk → Rose (F.faults fs) (F.faults e.0)) }
 {
     match adopt(alloc, fs, Limits::standard()) {
         Ok(opened) => run_opened(alloc, opened, lanes),
