@@ -14,3 +14,4 @@ pub mod Dones
 pub mod Cuts
 pub mod Folders
 pub mod Counts
+pub mod Shown

@@ -6,9 +6,11 @@ mod commit;
 mod entries;
 mod file;
 mod folder;
+mod laws;
 mod paths;
 mod progress;
 mod sums;
 
 pub use build::TreeBuild;
 pub use commit::commit_object;
+pub use laws::tree_is_whole;
