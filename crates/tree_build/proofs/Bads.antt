@@ -1,16 +1,16 @@
 -- Of items in ascending order the first that lies in no folder before it is the least that lies in none.
-use Rattle.std.proofs.Common.{◌≡◌, ◌≢◌, ◌⊎◌, inl, inr, ℕ, zero, suc, ◌<◌, ◌≤◌, ◌+◌, ◌-◌, Bool, true, false, List, [], ◌∷◌, ◌++◌, length, get_or, Option, Some, None, refl, sym, ◌∙◌, ap, subst, ⊎_elim, arith}
-use Rattle.std.specs.Prelude.{map, Contains}
+use Rattle.std.proofs.Common.{◌≡◌, ◌≢◌, ◌⊎◌, inl, inr, ℕ, zero, suc, ◌<◌, ◌≤◌, ◌+◌, ◌-◌, true, false, List, [], ◌∷◌, length, get_or, None, refl, sym, ◌∙◌, ap, subst, ⊎_elim, arith}
+use Rattle.std.specs.Prelude.{Contains}
 use Rattle.std.specs.List.Sorted.{IsStrictlySortedBy}
 use Rattle.std.specs.declared.cmp.Ordering.TheVariants.{Less}
 use Rattle.std.proofs.lemmas.Map.Keys.{Less-from_sorted}
 use Rattle.std.proofs.lemmas.List.{length-map, get_or_default, length_push}
 use Rattle.std.proofs.lemmas.List.Elements.{Contains-get_or}
-use Rattle.ost_types.specs.Path.{Name, Path, path_cmp, under, is_below}
-use Rattle.ost_types.proofs.Paths.{under-is_below, under-folder, under-not_root, root_or_under, same_or_apart, is_below-self, is_below-under}
+use Rattle.ost_types.specs.Path.{Path, path_cmp, under, is_below}
+use Rattle.ost_types.proofs.Paths.{under-is_below, same_or_apart, is_below-self}
 use Rattle.ost_forms.specs.declared.tree_item.TreeItem.{TreeItem}
 use Rattle.tree_build.specs.Items.{AreItems, HasItem, HasFolder, IsInFolder, IsBadPath, IsLeastBad, IsTree, GoesOn, StartsAtRoot, paths_of}
-use Rattle.tree_build.proofs.Orders.{path_order, not_less_itself, not_less_same, less_once, above_first, folder_first, between, none_before_root}
+use Rattle.tree_build.proofs.Orders.{not_less_same, less_once, folder_first, between, none_before_root}
 
 path_of_place : (items : List TreeItem) (k : ℕ) (d : TreeItem) → get_or (paths_of items) k d.path ≡ (get_or items k d).path
 path_of_place [] k d = refl

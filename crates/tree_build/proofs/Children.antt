@@ -1,7 +1,7 @@
 -- What lies in a folder, in the order of the names.
-use Rattle.std.proofs.Common.{◌≡◌, ◌⊎◌, inl, inr, List, [], ◌∷◌, ◌++◌, Option, Some, None, refl, sym, ◌∙◌, ap, subst, ⊎_elim}
-use Rattle.std.specs.Prelude.{map, Contains, option_and_then}
-use Rattle.std.specs.List.{AllByRecursion, filter_map, cons_option}
+use Rattle.std.proofs.Common.{◌≡◌, List, [], ◌∷◌, ◌++◌, Option, Some, None, refl, sym, ◌∙◌, ap, subst, ⊎_elim}
+use Rattle.std.specs.Prelude.{map}
+use Rattle.std.specs.List.{AllByRecursion, cons_option}
 use Rattle.std.specs.List.Sorted.{IsStrictlySortedBy}
 use Rattle.std.specs.Cmp.Lexicographic.{slice_cmp}
 use Rattle.std.specs.Ordering.{nat_cmp}
@@ -10,8 +10,6 @@ use Rattle.std.proofs.lemmas.Cmp.{nat_list_cmp_total, tied_itself}
 use Rattle.std.proofs.lemmas.List.{map-append}
 use Rattle.std.proofs.lemmas.List.Elements.{filter_map-append}
 use Rattle.ost_types.specs.Path.{Name, Path, path_cmp, under}
-use Rattle.ost_forms.specs.declared.entry.FileItem.{FileItem}
-use Rattle.ost_forms.specs.declared.entry.FolderItem.{FolderItem}
 use Rattle.ost_forms.specs.DirTree.{IsAscending, AreApart, file_names, folder_names}
 use Rattle.tree_build.specs.declared.sums.Sums.{Sums}
 use Rattle.tree_build.specs.declared.sums.Sums.TheVariants.{File, Folder}

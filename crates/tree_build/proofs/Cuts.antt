@@ -1,5 +1,5 @@
 -- The loops over what lies in no folder yet.
-use Rattle.std.proofs.Common.{◌≡◌, ◌≢◌, ℕ, zero, suc, ◌<◌, ◌≤◌, ◌+◌, ◌-◌, Bool, true, false, cond, List, [], ◌∷◌, ◌++◌, length, get_or, take, drop, Option, Some, None, refl, sym, ◌∙◌, ap, subst, arith, Bor}
+use Rattle.std.proofs.Common.{◌≡◌, ℕ, zero, suc, ◌<◌, ◌≤◌, ◌+◌, ◌-◌, Bool, true, false, List, [], ◌∷◌, ◌++◌, length, get_or, take, drop, Option, Some, None, refl, sym, ◌∙◌, ap, subst, arith, Bor}
 use Rattle.std.specs.Prelude.{All, map, slice_index, is_some, not}
 use Rattle.std.specs.Option.{option_copied}
 use Rattle.std.specs.List.{cons_option}
@@ -11,7 +11,7 @@ use Rattle.ost_forms.specs.declared.entry.FolderItem.{FolderItem}
 use Rattle.ost_forms.specs.declared.tree_item.TreeItem.{TreeItem}
 use Rattle.ost_forms.specs.DirTree.{IsAscending, file_names, folder_names}
 use Rattle.tree_build.specs.declared.progress.Done.{Done}
-use Rattle.tree_build.specs.Objects.{Made, name_in, children, files_of, folders_of, file_at, folder_at}
+use Rattle.tree_build.specs.Objects.{name_in, children, files_of, folders_of, file_at, folder_at}
 use Rattle.tree_build.specs.Building.{path_at, seen, all_seen, IsCut, last_place}
 use Rattle.tree_build.proofs.Works.{seen_parts, path_at_is}
 use Rattle.tree_build.proofs.Names.{name_in-inside, name_in-outside}

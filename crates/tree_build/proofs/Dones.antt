@@ -1,14 +1,12 @@
 -- How many objects were given, and what is left at the end.
-use Rattle.std.proofs.Common.{◌≡◌, ◌≢◌, ◌⊎◌, inl, inr, ℕ, zero, suc, ◌<◌, ◌≤◌, ◌+◌, ◌-◌, Bool, true, false, List, [], ◌∷◌, ◌++◌, length, get_or, take, drop, map, reverse, Option, Some, None, refl, sym, ◌∙◌, ap, subst, ⊎_elim, arith}
+use Rattle.std.proofs.Common.{◌≡◌, inl, inr, ℕ, ◌<◌, ◌≤◌, ◌+◌, ◌-◌, true, false, List, [], ◌∷◌, ◌++◌, length, take, drop, map, reverse, Option, Some, None, refl, sym, ◌∙◌, ap, ⊎_elim, arith}
 use Rattle.std.specs.Prelude.{not, slice_get}
 use Rattle.std.specs.Global.{Vec}
 use Rattle.ost_types.specs.declared.limits.Limits.{Limits}
-use Rattle.std.specs.List.{AllByRecursion, filter}
 use Rattle.std.specs.declared.cmp.Ordering.TheVariants.{Less}
 use Rattle.std.proofs.lemmas.List.{take-append-drop, length-append, reverse-reverse, length-take-le, drop_all}
 use Rattle.std.proofs.lemmas.List.Elements.{All-same, All-nil}
-use Rattle.sha2.specs.Sha256.{sha256}
-use Rattle.ost_types.specs.Path.{Name, Path, path_cmp, is_in, under}
+use Rattle.ost_types.specs.Path.{Path, path_cmp, is_in, under}
 use Rattle.ost_types.proofs.Paths.{is_in-under}
 use Rattle.ost_forms.specs.declared.tree_item.BodySpec.{BodySpec}
 use Rattle.ost_forms.specs.declared.tree_item.TreeItem.{TreeItem}
@@ -16,14 +14,14 @@ use Rattle.tree_build.specs.declared.progress.Done.{Done}
 use Rattle.tree_build.specs.declared.progress.Progress.{Progress}
 use Rattle.tree_build.specs.declared.sums.Sums.TheVariants.{Folder}
 use Rattle.tree_build.specs.Items.{AreItems, IsTree}
-use Rattle.tree_build.specs.Objects.{Made, work, made, root_of}
-use Rattle.tree_build.specs.Building.{Building, IsBetween, IsHalf, IsAt, IsProgress, pending, left_by, seen, all_seen}
+use Rattle.tree_build.specs.Objects.{Made, work, root_of}
+use Rattle.tree_build.specs.Building.{Building, IsAt, IsProgress, pending, left_by, seen, all_seen}
 use Rattle.tree_build.proofs.Lists.{all_right, all_more, filter_none}
 use Rattle.tree_build.proofs.Orders.{not_less_same, none_before_root}
 use Rattle.tree_build.proofs.Suffixes.{Rises, FolderAt, IsPlaced, rises_from, has_folder_at, beyond_folder, all_placed}
 use Rattle.tree_build.proofs.Pendings.{AllMade, IsFree, all_pending, pending_free}
 use Rattle.tree_build.proofs.Counts.{none_left}
-use Rattle.tree_build.proofs.Works.{work_front, work_first, work_file, work_folder, split_by, pending_folder}
+use Rattle.tree_build.proofs.Works.{work_front, work_file, work_folder, split_by, pending_folder}
 
 behind_within : (front items : List TreeItem) → length (work items) ≤ length (work (front ++ items))
 behind_within front items = let w = work_front front items in omega (arith, ap length w.1, length-append (work items) w.0)

@@ -1,15 +1,14 @@
 -- The entries of a folder are what stands behind the cut.
-use Rattle.std.proofs.Common.{◌≡◌, ◌≢◌, ◌⊎◌, inl, inr, ℕ, zero, suc, ◌<◌, ◌≤◌, ◌+◌, ◌-◌, Bool, true, false, List, [], ◌∷◌, ◌++◌, length, get_or, take, drop, Option, Some, None, refl, sym, ◌∙◌, ap, subst, arith}
-use Rattle.std.specs.Prelude.{All, not, map, slice_index}
+use Rattle.std.proofs.Common.{◌≡◌, ℕ, zero, suc, ◌<◌, ◌≤◌, ◌+◌, ◌-◌, Bool, true, false, List, [], ◌∷◌, ◌++◌, length, get_or, take, drop, Some, None, refl, sym, ◌∙◌, ap, subst, arith}
+use Rattle.std.specs.Prelude.{not, map, slice_index}
 use Rattle.std.specs.Global.{Vec}
-use Rattle.std.specs.List.{AllByRecursion, filter}
+use Rattle.std.specs.List.{AllByRecursion}
 use Rattle.std.specs.declared.cmp.Ordering.TheVariants.{Less}
 use Rattle.std.proofs.lemmas.List.{take-append-drop, append-nil, take_more, take_rest, get_or_default}
-use Rattle.std.proofs.lemmas.List.Elements.{All-drop, All-take, All-same, recursion_from_All, filter-append, filter_map-append}
-use Rattle.sha2.specs.Sha256.{sha256}
+use Rattle.std.proofs.lemmas.List.Elements.{All-take, All-same, recursion_from_All, filter-append, filter_map-append}
 use Rattle.ost_types.specs.Path.{Path, path_cmp, is_in}
 use Rattle.ost_forms.specs.declared.tree_item.TreeItem.{TreeItem}
-use Rattle.ost_forms.specs.DirTree.{IsAscending, Entries, tree_form}
+use Rattle.ost_forms.specs.DirTree.{IsAscending, tree_form}
 use Rattle.ost_objects.specs.declared.checked.Checked.{Checked}
 use Rattle.tree_build.specs.declared.progress.Done.{Done}
 use Rattle.tree_build.specs.declared.progress.Progress.{Progress}
@@ -17,7 +16,7 @@ use Rattle.tree_build.specs.Items.{AreItems, IsTree}
 use Rattle.tree_build.specs.Objects.{Object, Made, Child, child_in, made, work, children, entries_of, tree_bytes, meta_bytes, tree_object, meta_object}
 use Rattle.tree_build.specs.Objects as objects
 use Rattle.tree_build.specs.Makeable.{AreSmall, IsSmall}
-use Rattle.tree_build.specs.Building.{IsNumber, object_of, pending, outside, left_by, path_at, seen, all_seen, IsCut, last_place, IsBetween, IsHalf, IsProgress, Advances}
+use Rattle.tree_build.specs.Building.{IsNumber, object_of, pending, outside, left_by, path_at, seen, all_seen, IsCut, last_place, IsProgress, Advances}
 use Rattle.tree_build.proofs.Lists.{all_joined, all_right, all_more, filter_all, filter_none, maps_none}
 use Rattle.tree_build.proofs.Names.{name_in-outside}
 use Rattle.tree_build.proofs.Suffixes.{Rises, Beyond, IsPlaced, rises_from, rises_right, all_placed}

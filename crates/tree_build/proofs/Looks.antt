@@ -1,10 +1,9 @@
 -- What the tests on two paths say.
-use Rattle.std.proofs.Common.{◌≡◌, ◌≢◌, ℕ, zero, suc, ◌<◌, ◌≤◌, Bool, true, false, ◌&&◌, cond, List, [], ◌∷◌, ◌++◌, length, take, Option, Some, None, refl, sym, ◌∙◌, ap, subst, arith}
-use Rattle.std.specs.Prelude.{IsTrue}
+use Rattle.std.proofs.Common.{◌≡◌, ◌<◌, ◌≤◌, Bool, true, false, ◌&&◌, cond, [], ◌∷◌, ◌++◌, length, take, Some, None, refl, sym, ◌∙◌, ap, subst, arith}
 use Rattle.std.proofs.lemmas.List.{length_push}
 use Rattle.std.specs.Cmp.Lexicographic.{pointwise}
-use Rattle.ost_types.specs.Path.{Name, Path, same_name, same_path, under, is_below}
-use Rattle.ost_types.proofs.Paths.{same_name-Decides, under-folder, is_below-self}
+use Rattle.ost_types.specs.Path.{Name, Path, same_name, same_path, is_below}
+use Rattle.ost_types.proofs.Paths.{same_name-Decides, under-folder}
 use Rattle.ost_forms.specs.declared.tree_item.TreeItem.{TreeItem}
 use Rattle.tree_build.specs.Items.{GoesOn}
 use Rattle.tree_build.specs.Objects.{name_in}

@@ -1,6 +1,5 @@
 -- Names in a folder.
-use Rattle.std.proofs.Common.{◌≡◌, ◌≢◌, Bool, true, false, cond, List, [], ◌∷◌, ◌++◌, Option, Some, None, refl, sym, ◌∙◌, ap}
-use Rattle.std.specs.Prelude.{if◌then◌else◌, not}
+use Rattle.std.proofs.Common.{◌≡◌, ◌≢◌, Bool, true, false, cond, [], ◌∷◌, Option, Some, None, refl, sym, ◌∙◌, ap}
 use Rattle.ost_types.specs.Path.{Name, Path, same_name, same_path, under, is_in}
 use Rattle.ost_types.proofs.Paths.{same_name-Decides, same_path-Decides, under-is_in, is_in-under, under-folder}
 use Rattle.tree_build.specs.Objects.{name_in}

@@ -1,19 +1,17 @@
 -- What is made and lies in no folder that is made: of these a folder's stand together, before all others.
 use Rattle.std.proofs.Common.{◌≡◌, ◌≢◌, ◌⊎◌, inl, inr, Bool, true, false, cond, List, [], ◌∷◌, ◌++◌, Option, Some, None, refl, sym, ◌∙◌, ap, subst, ⊎_elim}
 use Rattle.std.specs.Prelude.{not}
-use Rattle.std.specs.List.{AllByRecursion, filter, filter_map, cons_option}
+use Rattle.std.specs.List.{AllByRecursion, filter, cons_option}
 use Rattle.std.specs.declared.cmp.Ordering.TheVariants.{Less}
-use Rattle.std.proofs.lemmas.List.Elements.{filter-append, filter_map-append}
-use Rattle.std.proofs.lemmas.List.{append-nil}
 use Rattle.ost_types.specs.Path.{Name, Path, path_cmp, under, is_in, is_below}
 use Rattle.ost_types.proofs.Paths.{is_in-under, under-is_in, under-is_below, under-not_folder, same_or_apart}
 use Rattle.ost_forms.specs.declared.tree_item.BodySpec.{BodySpec}
 use Rattle.ost_forms.specs.declared.tree_item.TreeItem.{TreeItem}
-use Rattle.tree_build.specs.Objects.{Made, Child, made, made_of, child_in, children, name_in}
-use Rattle.tree_build.specs.Building.{pending, outside, left_by}
-use Rattle.tree_build.proofs.Orders.{path_order, not_less_itself, not_less_same, less_once, none_before_root, above_first, folder_first, between}
-use Rattle.tree_build.proofs.Lists.{all_more, all_right, all_kept, filter_all, filter_none, maps_none, maps_kept}
-use Rattle.tree_build.proofs.Names.{name_in-other, name_in-outside}
+use Rattle.tree_build.specs.Objects.{Made, made, made_of, child_in, children, name_in}
+use Rattle.tree_build.specs.Building.{pending, left_by}
+use Rattle.tree_build.proofs.Orders.{not_less_same, less_once, none_before_root, above_first, folder_first, between}
+use Rattle.tree_build.proofs.Lists.{all_more, all_kept, maps_kept}
+use Rattle.tree_build.proofs.Names.{name_in-other}
 use Rattle.tree_build.proofs.Suffixes.{Beyond, Rises, FolderAt, IsPlaced, beyond_folder, sides}
 
 abbrev pub AllMade : (Path → Type 0) → List Made → Type 0

@@ -1,14 +1,14 @@
 -- Where an item stands, with those behind it, and what is made of them.
-use Rattle.std.proofs.Common.{◌≡◌, ◌≢◌, ◌⊎◌, inl, inr, List, [], ◌∷◌, ◌++◌, Option, Some, None, refl, sym, ◌∙◌, ap, subst, ⊎_elim}
-use Rattle.std.specs.List.{AllByRecursion, filter_map, cons_option}
+use Rattle.std.proofs.Common.{◌≡◌, inl, inr, List, [], ◌∷◌, ◌++◌, Option, Some, None, refl, sym, ◌∙◌, ap, subst, ⊎_elim}
+use Rattle.std.specs.List.{filter_map, cons_option}
 use Rattle.std.specs.declared.cmp.Ordering.TheVariants.{Less}
 use Rattle.std.proofs.lemmas.List.{append_assoc}
-use Rattle.ost_types.specs.Path.{Path, path_cmp}
+use Rattle.ost_types.specs.Path.{path_cmp}
 use Rattle.ost_forms.specs.declared.tree_item.TreeItem.{TreeItem}
 use Rattle.tree_build.specs.Objects.{Object, Made, made, made_of, work, objects_of}
 use Rattle.tree_build.proofs.Lists.{Among, among_left, among_right, all_at}
 use Rattle.tree_build.proofs.Works.{work_front, work_first}
-use Rattle.tree_build.proofs.Suffixes.{Beyond, Rises, rises_right}
+use Rattle.tree_build.proofs.Suffixes.{Rises}
 use Rattle.tree_build.proofs.Orders.{not_less_same}
 
 -- the item stands among them, and these behind it

@@ -1,10 +1,10 @@
 -- A store that has the objects of a tree shows the tree, and all that a way down names is there.
-use Rattle.std.proofs.Common.{◌≡◌, ◌≢◌, ◌⊎◌, inl, inr, ℕ, ◌<◌, ◌≤◌, ◌^◌, true, cond, ltb, List, [], ◌∷◌, ◌++◌, length, get_or, Option, Some, None, Ok, refl, sym, ◌∙◌, ap, ap₂, subst, ⊎_elim, arith}
+use Rattle.std.proofs.Common.{◌≡◌, ◌≢◌, ◌⊎◌, inl, inr, ℕ, ◌≤◌, ◌^◌, true, cond, ltb, List, [], ◌∷◌, ◌++◌, length, Option, Some, None, Ok, refl, sym, ◌∙◌, ap, ap₂, subst, ⊎_elim, arith}
 use Rattle.std.specs.Prelude.{◌↔◌, All, Contains, map, option_and_then}
 use Rattle.std.specs.Int.{w32, to_be_bytes}
 use Rattle.std.specs.List.{AllByRecursion}
 use Rattle.std.specs.declared.cmp.Ordering.TheVariants.{Less}
-use Rattle.std.proofs.lemmas.Bool.{cond-true, lt-ltb}
+use Rattle.std.proofs.lemmas.Bool.{lt-ltb}
 use Rattle.std.proofs.lemmas.List.{append_assoc, append-nil, length-map, length-append}
 use Rattle.std.proofs.lemmas.List.Elements.{All-contains, All-from_recursion, All-map}
 use Rattle.sha2.specs.Sha256.{sha256}
@@ -15,7 +15,6 @@ use Rattle.ost_types.specs.declared.node.NodeName.{NodeName}
 use Rattle.ost_types.specs.declared.node.NodeName.TheVariants as node
 use Rattle.ost_types.specs.declared.object.ObjName.{ObjName}
 use Rattle.ost_types.specs.declared.object.Kind.TheVariants as kinds
-use Rattle.ost_types.specs.Mode.{IsFolderMode}
 use Rattle.ost_types.specs.Path.{Name, Path, AreNames, same_name, path_cmp, under, is_below, text_of}
 use Rattle.ost_types.specs.Text.{IsName}
 use Rattle.ost_types.proofs.Paths.{same_name-Decides}
@@ -26,20 +25,20 @@ use Rattle.ost_forms.specs.declared.tree_item.BodySpec.{BodySpec}
 use Rattle.ost_forms.specs.declared.tree_item.TreeItem.{TreeItem}
 use Rattle.ost_forms.specs.Commit.{CommitParts}
 use Rattle.ost_forms.specs.DirMeta.{object_limit, dirmeta_form, ReadsDirMeta}
-use Rattle.ost_forms.specs.DirTree.{Entries, HasSums, HasNames, IsSorted, ReadsDirTree, tree_form, file_names, folder_names}
-use Rattle.ost_forms.specs.Stream.{content_form, header_form, header_of, bytes_of, framed, zeros, FitsMode, FileParts, ReadsFile}
+use Rattle.ost_forms.specs.DirTree.{Entries, HasSums, HasNames, IsSorted, ReadsDirTree, tree_form}
+use Rattle.ost_forms.specs.Stream.{content_form, bytes_of, framed, zeros, ReadsFile}
 use Rattle.ost_forms.proofs.Laws.{one_tree}
 use Rattle.ost_forms.proofs.Parted.{one_dirmeta, one_commit}
 use Rattle.ost_forms.proofs.OwnStreams.{header_wide}
 use Rattle.repo_model.specs.Objects.{Store, IsMap, Has}
-use Rattle.repo_model.specs.Trees.{name_of, HasCommit, HasEntries, HasMeta, HasFile, HasFolder, Shows, ShowsLeaf, Names, NamesFile, TreeShows}
+use Rattle.repo_model.specs.Trees.{name_of, HasCommit, HasEntries, HasMeta, HasFolder, Shows, ShowsLeaf, Names, NamesFile, TreeShows}
 use Rattle.repo_model.specs.Whole.{Complete}
 use Rattle.tree_build.specs.declared.sums.Sums.{Sums}
 use Rattle.tree_build.specs.declared.sums.Sums.TheVariants as sums
-use Rattle.tree_build.specs.Items.{AreItems, AreTyped, IsTree, IsWide, FitsBody, body_of, paths_of, HasFolder as ItemFolder}
+use Rattle.tree_build.specs.Items.{IsWide, FitsBody, body_of, paths_of, HasFolder as ItemFolder}
 use Rattle.tree_build.specs.Objects.{Object, Made, Child, made, made_of, sums_by, child_in, children, name_in, file_by, folder_by, files_of, folders_of, entries_of, tree_bytes, meta_bytes, file_bytes, work, node_by, file_object, tree_object, meta_object}
 use Rattle.tree_build.specs.Objects as objects
-use Rattle.tree_build.specs.Makeable.{AreMakeable, IsSmall, IsSmallFile, IsSmallBy, AreSmall}
+use Rattle.tree_build.specs.Makeable.{IsSmall, IsSmallFile, IsSmallBy, AreSmall}
 use Rattle.tree_build.specs.Commits.{ItemShows, HasTree, CommitsTree}
 use Rattle.tree_build.proofs.Lists.{Among, contained_among, among_contained, among_right, all_from, all_at}
 use Rattle.tree_build.proofs.Names.{under-name_in, name_in-under}
@@ -331,11 +330,11 @@ module _ (S : Store) (limits : Limits) (items : List TreeItem) (has : HasTree S 
       let e = entries_same i behind shown.0 s folder shown.1 in
       ⊎_elim (λ leaf. leaf_up q n i behind x shown.0 s e leaf)
       (λ f.
-        let h = f.2 in
-        let w = folder_from behind i.path h.item (subst (λ (e : Entries). Among h.item e.folders) e (contained_among h.item shown.0.folders h.among)) in
-        let stands = stands_behind items i behind w.item w.behind s w.stands in
-        let below = subst (λ m. Shows S (sha256 (tree_bytes (made w.behind) w.item.path)) m q n) (sym h.meta_is ∙ w.meta_is) (subst (λ t. Shows S t f.1 q n) (sym h.tree_is ∙ w.tree_is) f.3) in
-        show_at _ _ n (deeper i.path w.item.path x q (w.at ∙ ap (under i.path) h.name)) (tree_up q n w.item w.behind stands w.is below))
+      let h = f.2 in
+      let w = folder_from behind i.path h.item (subst (λ (e : Entries). Among h.item e.folders) e (contained_among h.item shown.0.folders h.among)) in
+      let stands = stands_behind items i behind w.item w.behind s w.stands in
+      let below = subst (λ m. Shows S (sha256 (tree_bytes (made w.behind) w.item.path)) m q n) (sym h.meta_is ∙ w.meta_is) (subst (λ t. Shows S t f.1 q n) (sym h.tree_is ∙ w.tree_is) f.3) in
+      show_at _ _ n (deeper i.path w.item.path x q (w.at ∙ ap (under i.path) h.name)) (tree_up q n w.item w.behind stands w.is below))
       shown.2
 
   -- what comes after an item stands behind it
@@ -401,19 +400,23 @@ module _ (S : Store) (limits : Limits) (items : List TreeItem) (has : HasTree S 
   tree_down (x ∷ []) n i behind s folder shown =
       let j = shown.item in
       let w = stands_after i behind j x s (contained_among j items shown.among) shown.at in
-      let stands = stands_behind items i behind j w.0 s w.1 in
-      (entries_in i behind, has_entries i behind s folder,
+      let stands = stands_behind items i behind j w.0 s w.1 in (
+        entries_in i behind,
+        has_entries i behind s folder,
         ⊎_elim
-        (λ (none : j.body ≡ None). by_folder i behind x [] n j w.0 w.1 shown.at none (j.meta, has_meta j w.0 stands none, shown.node ∙ ap (node_by j.meta) none))
-        (λ (b : (body : BodySpec) × (j.body ≡ Some body)). inl (by_file i behind x n j w.0 b.0 w.1 shown.at b.1 shown.node))
-        (body_cases j.body))
+            (λ (none : j.body ≡ None). by_folder i behind x [] n j w.0 w.1 shown.at none (j.meta, has_meta j w.0 stands none, shown.node ∙ ap (node_by j.meta) none))
+            (λ (b : (body : BodySpec) × (j.body ≡ Some body)). inl (by_file i behind x n j w.0 b.0 w.1 shown.at b.1 shown.node))
+            (body_cases j.body),
+      )
   tree_down (x ∷ y ∷ r) n i behind s folder shown =
       let k = first_folder i.path x y r n shown in
       let w = stands_after i behind k.item x s (contained_among k.item items k.among) k.at in
-      let stands = stands_behind items i behind k.item w.0 s w.1 in
-      (entries_in i behind, has_entries i behind s folder,
+      let stands = stands_behind items i behind k.item w.0 s w.1 in (
+        entries_in i behind,
+        has_entries i behind s folder,
         by_folder i behind x (y ∷ r) n k.item w.0 w.1 k.at k.folder
-        (tree_down (y ∷ r) n k.item w.0 stands k.folder (show_at _ _ n (sym (deeper i.path k.item.path x (y ∷ r) k.at)) shown)))
+            (tree_down (y ∷ r) n k.item w.0 stands k.folder (show_at _ _ n (sym (deeper i.path k.item.path x (y ∷ r) k.at)) shown)),
+      )
 
   file_have : (q : Path) (o : ObjName) (i : TreeItem) (behind : List TreeItem) (x : Name) (e : Entries) → Stands items i behind → e ≡ entries_in i behind → NamesFile e x q o → Has S limits.content o
   file_have (y ∷ q) o i behind x e s same names = absurd names
@@ -435,11 +438,11 @@ module _ (S : Store) (limits : Limits) (items : List TreeItem) (has : HasTree S 
       let e = entries_same i behind names.0 s folder names.1 in
       ⊎_elim (λ file. file_have q o i behind x names.0 s e file)
       (λ f.
-        let h = f.2 in
-        let w = folder_from behind i.path h.item (subst (λ (e : Entries). Among h.item e.folders) e (contained_among h.item names.0.folders h.among)) in
-        let stands = stands_behind items i behind w.item w.behind s w.stands in
-        names_have q o w.item w.behind stands w.is
-        (subst (λ m. Names S (sha256 (tree_bytes (made w.behind) w.item.path)) m q o) (sym h.meta_is ∙ w.meta_is) (subst (λ t. Names S t f.1 q o) (sym h.tree_is ∙ w.tree_is) f.3)))
+      let h = f.2 in
+      let w = folder_from behind i.path h.item (subst (λ (e : Entries). Among h.item e.folders) e (contained_among h.item names.0.folders h.among)) in
+      let stands = stands_behind items i behind w.item w.behind s w.stands in
+      names_have q o w.item w.behind stands w.is
+      (subst (λ m. Names S (sha256 (tree_bytes (made w.behind) w.item.path)) m q o) (sym h.meta_is ∙ w.meta_is) (subst (λ t. Names S t f.1 q o) (sym h.tree_is ∙ w.tree_is) f.3)))
       names.2
 
 -- ---- the whole commit

@@ -1,5 +1,5 @@
 -- Within the bounds no object is too large.
-use Rattle.std.proofs.Common.{◌≡◌, ◌≤◌, ◌<◌, ◌⊎◌, inl, inr, ℕ, List, [], ◌∷◌, ◌++◌, length, drop, Option, Some, Err, refl, sym, ◌∙◌, ap, subst, ⊎_elim, arith}
+use Rattle.std.proofs.Common.{◌≡◌, ◌≤◌, ◌<◌, ℕ, List, [], ◌∷◌, ◌++◌, length, drop, Option, Some, sym, ◌∙◌, ap, subst, ⊎_elim, arith}
 use Rattle.std.proofs.lemmas.List.{length-take, length-drop}
 use Rattle.gv_core.proofs.Sizes.{some_is}
 use Rattle.ost_types.specs.declared.meta.Meta.{Meta}
@@ -8,7 +8,7 @@ use Rattle.ost_forms.specs.declared.body.Body.{Body}
 use Rattle.ost_forms.specs.declared.fault.ObjFault.TheVariants as faults
 use Rattle.ost_forms.specs.declared.tree_item.TreeItem.{TreeItem}
 use Rattle.ost_forms.specs.DirMeta.{object_limit}
-use Rattle.ost_forms.specs.Stream.{content_form, header_of, bytes_of, header_size, content_part, header_part, HeaderFits}
+use Rattle.ost_forms.specs.Stream.{content_form, header_of, bytes_of, header_size, content_part, header_part}
 use Rattle.ost_forms.proofs.Streams.{stream_parts}
 use Rattle.ost_objects.specs.Object.{Misreads}
 use Rattle.tree_build.specs.Objects as objects

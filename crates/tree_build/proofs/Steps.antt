@@ -1,23 +1,19 @@
 -- One object more.
-use Rattle.std.proofs.Common.{◌≡◌, ◌≢◌, ◌⊎◌, inl, inr, ℕ, zero, suc, ◌<◌, ◌≤◌, ◌+◌, ◌-◌, ◌^◌, Bool, true, false, List, [], ◌∷◌, ◌++◌, length, get_or, take, drop, Option, Some, None, refl, sym, ◌∙◌, ap, subst, arith}
-use Rattle.std.specs.Prelude.{All, not, slice_index}
+use Rattle.std.proofs.Common.{◌≡◌, ℕ, ◌<◌, ◌≤◌, ◌+◌, ◌-◌, List, [], ◌∷◌, ◌++◌, length, get_or, take, drop, Option, Some, None, refl, sym, ◌∙◌, ap, subst, arith}
 use Rattle.std.specs.Global.{Vec}
-use Rattle.std.specs.List.{AllByRecursion, filter}
-use Rattle.std.proofs.lemmas.List.{take-append-drop, length-append, append_assoc}
-use Rattle.std.proofs.lemmas.List.Elements.{All-push, All-take, All-same, recursion_from_All, filter-append, filter_map-append}
+use Rattle.std.proofs.lemmas.List.Elements.{All-push, All-same}
 use Rattle.sha2.specs.Sha256.{sha256}
-use Rattle.ost_types.specs.Path.{Path, is_in}
+use Rattle.ost_types.specs.Path.{Path}
 use Rattle.ost_forms.specs.declared.tree_item.BodySpec.{BodySpec}
 use Rattle.ost_forms.specs.declared.tree_item.TreeItem.{TreeItem}
 use Rattle.ost_forms.specs.DirMeta.{dirmeta_form}
 use Rattle.ost_objects.specs.declared.checked.Checked.{Checked}
 use Rattle.tree_build.specs.declared.progress.Done.{Done}
 use Rattle.tree_build.specs.declared.progress.Progress.{Progress}
-use Rattle.tree_build.specs.declared.sums.Sums.{Sums}
 use Rattle.tree_build.specs.declared.sums.Sums.TheVariants.{File, Folder}
-use Rattle.tree_build.specs.Objects.{Object, Made, made, work, objects_of, file_bytes, meta_bytes, tree_bytes, file_object, tree_object, meta_object}
-use Rattle.tree_build.specs.Makeable.{AreSmall, IsSmall, IsSmallBy, IsSmallFile}
-use Rattle.tree_build.specs.Building.{IsNumber, object_of, pending, left_by, path_at, seen, all_seen, IsBetween, IsHalf, IsAt, IsProgress, Advances}
+use Rattle.tree_build.specs.Objects.{Object, made, work, file_bytes, meta_bytes, tree_bytes, file_object, tree_object, meta_object}
+use Rattle.tree_build.specs.Makeable.{AreSmall, IsSmall, IsSmallBy}
+use Rattle.tree_build.specs.Building.{IsNumber, object_of, pending, left_by, seen, all_seen, IsBetween, IsHalf, IsAt, IsProgress, Advances}
 use Rattle.tree_build.proofs.Smalls.{small_at}
 use Rattle.tree_build.proofs.Works.{number_first, number_second, objects_file, objects_folder, work_file, work_folder, seen_more, path_at_is, drop_at, split_by, read_by, pending_file, pending_folder}
 

@@ -1,14 +1,12 @@
 -- Items in order, the last ones of them, and where an item stands.
-use Rattle.std.proofs.Common.{◌≡◌, ◌≢◌, ◌⊎◌, inl, inr, ℕ, zero, suc, List, [], ◌∷◌, ◌++◌, None, refl, sym, ◌∙◌, ap, subst}
-use Rattle.std.specs.Prelude.{map, Contains}
+use Rattle.std.proofs.Common.{◌≡◌, ◌⊎◌, inl, inr, List, [], ◌∷◌, ◌++◌, None, ◌∙◌, ap, subst}
 use Rattle.std.specs.List.{AllByRecursion}
 use Rattle.std.specs.List.Sorted.{IsStrictlySortedBy}
 use Rattle.std.specs.declared.cmp.Ordering.TheVariants.{Less}
 use Rattle.ost_types.specs.Path.{Name, Path, path_cmp, under}
 use Rattle.ost_forms.specs.declared.tree_item.TreeItem.{TreeItem}
 use Rattle.tree_build.specs.Items.{IsTree, HasFolder, IsInFolder, paths_of}
-use Rattle.tree_build.proofs.Lists.{Among, contained_among, among_contained, all_from, all_right}
-use Rattle.tree_build.proofs.Orders.{path_order, not_less_itself}
+use Rattle.tree_build.proofs.Lists.{Among, contained_among, among_contained, all_from}
 
 -- each item comes after the path
 abbrev pub Beyond : Path → List TreeItem → Type 0

@@ -1,15 +1,12 @@
 -- The list of all objects in parts, and what is made as the way goes on.
-use Rattle.std.proofs.Common.{◌≡◌, ◌≢◌, ℕ, zero, suc, ◌<◌, ◌≤◌, ◌+◌, ◌-◌, List, [], ◌∷◌, ◌++◌, length, get_or, take, drop, reverse, map, Option, Some, None, refl, sym, ◌∙◌, ap, subst, arith}
-use Rattle.std.proofs.lemmas.List.{append-nil, append_assoc, append_cancel_left, map-append, reverse-append, take-append-drop, drop_more, length-append}
+use Rattle.std.proofs.Common.{◌≡◌, ℕ, zero, suc, ◌<◌, ◌+◌, List, [], ◌∷◌, ◌++◌, length, get_or, take, drop, reverse, map, Some, None, refl, sym, ◌∙◌, ap, subst, arith}
+use Rattle.std.proofs.lemmas.List.{append-nil, append_assoc, map-append, reverse-append, take-append-drop, drop_more, length-append}
 use Rattle.sha2.specs.Sha256.{sha256}
-use Rattle.ost_types.specs.Path.{Path}
 use Rattle.ost_forms.specs.declared.tree_item.BodySpec.{BodySpec}
 use Rattle.ost_forms.specs.declared.tree_item.TreeItem.{TreeItem}
 use Rattle.tree_build.specs.declared.progress.Done.{Done}
-use Rattle.tree_build.specs.declared.sums.Sums.{Sums}
 use Rattle.tree_build.specs.declared.sums.Sums.TheVariants.{File, Folder}
-use Rattle.tree_build.specs.Items.{paths_of}
-use Rattle.tree_build.specs.Objects.{Object, Made, made, made_of, sums_by, work, objects_of, objects_by, file_bytes, meta_bytes, tree_bytes, file_object, tree_object, meta_object}
+use Rattle.tree_build.specs.Objects.{Object, Made, made, sums_by, work, objects_of, objects_by, file_bytes, meta_bytes, tree_bytes, file_object, tree_object, meta_object}
 use Rattle.tree_build.specs.Building.{IsNumber, pending, left_by, path_at, seen, all_seen}
 use Rattle.tree_build.proofs.Lists.{number_at}
 

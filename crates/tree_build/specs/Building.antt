@@ -1,5 +1,5 @@
 -- How far the making of the objects is.
-use Rattle.std.specs.Prelude.{◌≡◌, ◌≢◌, true, false, ◌≤◌, ◌<◌, ◌+◌, ◌-◌, ◌^◌, ℕ, List, [], ◌∷◌, length, map, reverse, drop, slice_index, slice_index_or, not, All, Option, Some, None, Result, Ok, Err, MatchOption}
+use Rattle.std.specs.Prelude.{◌≡◌, ◌≢◌, true, false, ◌≤◌, ◌<◌, ◌+◌, ◌-◌, ◌^◌, ℕ, List, [], ◌∷◌, length, map, reverse, drop, slice_index, slice_index_or, not, All, Option, Some, None, Result, Ok, Err}
 use Rattle.std.specs.List.{filter}
 use Rattle.sha2.specs.Sha256.{sha256}
 use Rattle.ost_types.specs.declared.limits.Limits.{Limits}
@@ -10,8 +10,8 @@ use Rattle.ost_forms.specs.declared.tree_item.TreeItem.{TreeItem}
 use Rattle.ost_objects.specs.declared.checked.Checked.{Checked}
 use Rattle.tree_build.specs.declared.progress.Done.{Done}
 use Rattle.tree_build.specs.declared.progress.Progress.{Progress}
-use Rattle.tree_build.specs.Items.{AreItems, IsTree, AreTyped, paths_of}
-use Rattle.tree_build.specs.Objects.{Object, Made, made, made_of, work, tree_bytes, root_of}
+use Rattle.tree_build.specs.Items.{AreItems, AreTyped, paths_of}
+use Rattle.tree_build.specs.Objects.{Object, Made, made, made_of, work, tree_bytes}
 use Rattle.tree_build.specs.Makeable.{AreMakeable}
 
 -- the items, the bounds, and how many of the objects were given

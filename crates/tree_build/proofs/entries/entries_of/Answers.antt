@@ -1,5 +1,3 @@
-use Rattle.std.proofs.Common.{sym, ap, subst}
-use Rattle.ost_forms.specs.DirTree.{AreApart, file_names, folder_names}
 use Rattle.tree_build.proofs.Children.{entries_apart}
 use Rattle.tree_build.proofs.entries.entries_of.Goals as goal
 

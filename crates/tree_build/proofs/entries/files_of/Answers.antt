@@ -1,4 +1,4 @@
-use Rattle.std.proofs.Common.{◌-◌, ◌++◌, ◌∷◌, [], get_or, sym, ◌∙◌, subst, arith}
+use Rattle.std.proofs.Common.{◌-◌, get_or, sym, ◌∙◌, subst, arith}
 use Rattle.ost_forms.specs.DirTree.{IsAscending, file_names}
 use Rattle.tree_build.proofs.Cuts.{files_some, files_none, files_rise, itself}
 use Rattle.tree_build.proofs.entries.files_of.Goals as goal

@@ -1,4 +1,4 @@
-use Rattle.std.proofs.Common.{◌-◌, ◌++◌, ◌∷◌, [], get_or, sym, ◌∙◌, subst, arith}
+use Rattle.std.proofs.Common.{◌-◌, get_or, sym, ◌∙◌, subst, arith}
 use Rattle.ost_forms.specs.DirTree.{IsAscending, folder_names}
 use Rattle.tree_build.proofs.Cuts.{folders_some, folders_none, folders_rise, itself}
 use Rattle.tree_build.proofs.entries.folders_of.Goals as goal

@@ -1,4 +1,4 @@
-use Rattle.std.proofs.Common.{◌≡◌, ◌-◌, List, get_or, sym, ap, ap₂, ◌∙◌, subst, arith}
+use Rattle.std.proofs.Common.{◌-◌, List, get_or, sym, ap, ap₂, ◌∙◌, subst, arith}
 use Rattle.ost_types.specs.declared.object.ObjName.{ObjName}
 use Rattle.ost_forms.specs.declared.entry.FileItem.{FileItem}
 use Rattle.ost_forms.specs.declared.entry.FolderItem.{FolderItem}

@@ -1,7 +1,5 @@
-use Rattle.std.proofs.Common.{◌≡◌, true, false, ◌++◌, ◌∷◌, [], ◌<◌, ◌≤◌, length, sym, ◌∙◌, ap, subst}
+use Rattle.std.proofs.Common.{◌≡◌, true, false, ◌<◌, ◌≤◌, length, sym, ◌∙◌, ap, subst}
 use Rattle.std.proofs.lemmas.Bool.{lt-ltb}
-use Rattle.ost_types.specs.Path.{is_below}
-use Rattle.tree_build.specs.Items.{GoesOn}
 use Rattle.tree_build.proofs.Looks.{starts_is, on_the_way, in_the_item, goes_below, goes_folder, root_goes_nowhere}
 use Rattle.tree_build.proofs.paths.goes_on.Goals as goal
 

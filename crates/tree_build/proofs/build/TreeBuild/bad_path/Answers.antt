@@ -1,4 +1,4 @@
-use Rattle.std.proofs.Common.{◌≡◌, true, false, sym, ◌∙◌, ap, subst}
+use Rattle.std.proofs.Common.{◌≡◌, true, false, sym, ◌∙◌, subst}
 use Rattle.tree_build.specs.Items.{IsLeastBad, StartsAtRoot}
 use Rattle.tree_build.specs.Building.{Building}
 use Rattle.tree_build.proofs.Bads.{bad_at_root}

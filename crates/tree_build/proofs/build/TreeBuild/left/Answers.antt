@@ -1,6 +1,4 @@
-use Rattle.std.proofs.Common.{ap, ◌∙◌, arith}
-use Rattle.tree_build.specs.Building.{Building}
-use Rattle.tree_build.specs.Objects.{work}
+use Rattle.std.proofs.Common.{arith}
 use Rattle.tree_build.proofs.Dones.{done_within}
 use Rattle.tree_build.proofs.build.TreeBuild.left.Goals as goal
 
