@@ -47,7 +47,7 @@ fn run_opened<F: Fs>(
             run_all(&mut system);
             Ok(system.into_parts())
         }
-        Err((opened, NoMemory)) => Err((opened.fs, TopFault::NoMemory)),
+        Err((opened, NoMemory)) => Err((opened.into_fs(), TopFault::NoMemory)),
     }
 }
 
