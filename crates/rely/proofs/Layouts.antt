@@ -6,7 +6,7 @@ use Rattle.repo_layout.specs.declared.folder.Folder.{Folder}
 use Rattle.repo_layout.specs.declared.folder.Folder.TheVariants as folder
 use Rattle.repo_layout.specs.RefName.{parts_of}
 use Rattle.repo_layout.specs.Paths.{folder_path, heads, ref_path}
-use Rattle.repo_layout.specs.Place.{Ref, Other, place, ostree_place, repo_place, object_place, ref_place, stage_place, mark_place, name_of}
+use Rattle.repo_layout.specs.Place.{Ref, Other, place, ostree_place, repo_place, object_place, ref_place, stage_place, mark_place, deploy_place, boot_place, kernel_place, checkout_place, name_of}
 
 both_true : (a b : Bool) → a && b ≡ true → (a ≡ true) × (b ≡ true)
 both_true true true e = (refl, refl)
@@ -57,7 +57,7 @@ take_nil (suc k) = refl
 
 -- the folders of the layout and those above them are no other thing's
 fixed : (f : Folder) (k : ℕ) → place (take k (folder_path f)) ≡ Other (take k (folder_path f))
-unfolding place ostree_place repo_place object_place ref_place stage_place mark_place
+unfolding place ostree_place repo_place object_place ref_place stage_place mark_place deploy_place boot_place kernel_place checkout_place
 fixed folder.Ostree zero = refl
 fixed folder.Ostree (suc k) = subst (λ (q : Path). place (folder_path folder.Ostree ++ q) ≡ Other (folder_path folder.Ostree ++ q)) (sym (take_nil k)) refl
 fixed folder.Repo zero = refl
@@ -84,6 +84,16 @@ fixed folder.Tmp zero = refl
 fixed folder.Tmp (suc zero) = refl
 fixed folder.Tmp (suc (suc zero)) = refl
 fixed folder.Tmp (suc (suc (suc k))) = subst (λ (q : Path). place (folder_path folder.Tmp ++ q) ≡ Other (folder_path folder.Tmp ++ q)) (sym (take_nil k)) refl
+fixed folder.Deploy zero = refl
+fixed folder.Deploy (suc zero) = refl
+fixed folder.Deploy (suc (suc k)) = subst (λ (q : Path). place (folder_path folder.Deploy ++ q) ≡ Other (folder_path folder.Deploy ++ q)) (sym (take_nil k)) refl
+fixed folder.Boot zero = refl
+fixed folder.Boot (suc k) = subst (λ (q : Path). place (folder_path folder.Boot ++ q) ≡ Other (folder_path folder.Boot ++ q)) (sym (take_nil k)) refl
+fixed folder.Kernels zero = refl
+fixed folder.Kernels (suc zero) = refl
+fixed folder.Kernels (suc (suc k)) = subst (λ (q : Path). place (folder_path folder.Kernels ++ q) ≡ Other (folder_path folder.Kernels ++ q)) (sym (take_nil k)) refl
+fixed folder.Checkouts zero = refl
+fixed folder.Checkouts (suc k) = subst (λ (q : Path). place (folder_path folder.Checkouts ++ q) ≡ Other (folder_path folder.Checkouts ++ q)) (sym (take_nil k)) refl
 
 pub fixed_other : (f : Folder) (p : Path) → is_below p (folder_path f) ≡ true → place p ≡ Other p
 fixed_other f p below = let e = below_take p (folder_path f) below in subst (λ q. place q ≡ Other q) (sym e) (fixed f (length p))

@@ -1,6 +1,6 @@
 -- The paths of the layout are those that are read from their texts.
 use Rattle.std.proofs.Common.{◌≡◌, ◌+◌, ◌*◌, ◌<◌, ◌≤◌, ◌^◌, inl, inr, ℕ, List, [], ◌∷◌, ◌++◌, length, take, drop, codes, Ok, Err, refl, sym, ◌∙◌, ap, subst, arith, length-append}
-use Rattle.std.specs.Fmt.{decimal}
+use Rattle.std.specs.Fmt.{decimal, digits}
 use Rattle.std.proofs.lemmas.Fmt.{length-decimal-le}
 use Rattle.std.proofs.lemmas.List.{length-take, length-drop}
 use Rattle.std.proofs.lemmas.List.Elements.{All-take, All-drop}
@@ -18,7 +18,12 @@ use Rattle.repo_layout.specs.RefName.{IsPart, IsRefName, parts_of}
 use Rattle.repo_layout.specs.OsName.{IsOsName}
 use Rattle.repo_layout.specs.Paths.{config_path, deploy_path, ending, folder_path, heads, in_repo, mark_path, object_path, objects_folder_path, ref_path, stage_path}
 use Rattle.repo_layout.specs.declared.folder.Folder.{Folder}
-use Rattle.repo_layout.specs.declared.folder.Folder.TheVariants.{Ostree, Repo, Objects, Refs, Heads, State, Tmp}
+use Rattle.repo_layout.specs.declared.folder.Folder.TheVariants.{Ostree, Repo, Objects, Refs, Heads, State, Tmp, Deploy, Boot, Kernels, Checkouts}
+use Rattle.repo_layout.specs.BootPaths.{boot_folder_path, boot_link_path, loader_folder_path}
+use Rattle.repo_layout.specs.Fixed.{fixed_path}
+use Rattle.repo_layout.specs.declared.fixed.Fixed.{Fixed}
+use Rattle.repo_layout.specs.declared.fixed.Fixed.TheVariants.{LoaderFolder, Entries, BootLink, BootFolder, Summary}
+use Rattle.repo_layout.specs.declared.fixed.Version.TheVariants.{Zero, One}
 use Rattle.repo_layout.proofs.Plain.{IsPlain, IsPlain-digits, IsPlain-decimal, name_of_part, names_of_parts, IsPlain-append, long_name, plain, word}
 use Rattle.repo_layout.proofs.RefPaths.{ref_path-short}
 
@@ -98,6 +103,15 @@ tmp_name = word (codes "tmp") (refl, (refl, (refl, tt))) (omega arith) (omega ar
 deploy_name : IsName (codes "deploy")
 deploy_name = word (codes "deploy") (refl, (refl, (refl, (refl, (refl, (refl, tt)))))) (omega arith) (omega arith)
 
+ostree_name : IsName (codes "ostree")
+ostree_name = word (codes "ostree") (refl, (refl, (refl, (refl, (refl, (refl, tt)))))) (omega arith) (omega arith)
+
+boot_name : IsName (codes "boot")
+boot_name = word (codes "boot") (refl, (refl, (refl, (refl, tt)))) (omega arith) (omega arith)
+
+checkout_name : IsName (codes "checkout")
+checkout_name = word (codes "checkout") (refl, (refl, (refl, (refl, (refl, (refl, (refl, (refl, tt)))))))) (omega arith) (omega arith)
+
 config_name : IsName (codes "config")
 config_name = word (codes "config") (refl, (refl, (refl, (refl, (refl, (refl, tt)))))) (omega arith) (omega arith)
 
@@ -110,6 +124,10 @@ folder-known Refs = known_in_repo _ (refs_name, tt) (omega arith)
 folder-known Heads = known_in_repo _ (refs_name, (heads_name, tt)) (omega arith)
 folder-known State = known_in_repo _ (state_name, tt) (omega arith)
 folder-known Tmp = known_in_repo _ (tmp_name, tt) (omega arith)
+folder-known Deploy = known (codes "deploy") [] deploy_name (omega arith) tt (omega arith)
+folder-known Boot = record { names = (boot_name, tt); short = omega arith; few = omega arith }
+folder-known Kernels = record { names = (boot_name, (ostree_name, tt)); short = omega arith; few = omega arith }
+folder-known Checkouts = record { names = (checkout_name, tt); short = omega arith; few = omega arith }
 
 pub config-known : IsKnown config_path
 config-known = known_in_repo _ (config_name, tt) (omega arith)
@@ -186,3 +204,37 @@ deploy-known os commit serial os_is is less =
     let id : IsName (hex_of commit ++ end) = long_name (hex_of commit ++ end) (IsPlain-append (hex_of commit) end (IsPlain-digits (hex_of commit) is.digits) (IsPlain-append (46 ∷ []) (decimal serial) (plain (46 ∷ []) (refl, tt)) (IsPlain-decimal serial (omega arith))))
     (omega (arith, n, is.whole)) (omega (arith, n, is.whole, short)) in
     known (codes "deploy") _ deploy_name (omega arith) (name_of_part os os_is.part, (deploy_name, (id, tt))) (omega arith)
+
+entries_name : IsName (codes "entries")
+entries_name = word (codes "entries") (refl, (refl, (refl, (refl, (refl, (refl, (refl, tt))))))) (omega arith) (omega arith)
+
+few_known : (x : Name) (p : Path) → AreNames (x ∷ p) → length p ≤ 3 → IsKnown (x ∷ p)
+unfolding joined
+few_known x p names few = record {
+  names = names;
+  short = omega (arith, length-append x (joined p), names.0.short, joined-bound p names.1, few);
+  few = omega (arith, few);
+}
+
+loader_known : (x : Name) → IsName x → IsKnown (codes "boot" ∷ x ∷ [])
+loader_known x name = few_known (codes "boot") (x ∷ []) (boot_name, (name, tt)) (omega arith)
+
+entries_known : (x : Name) → IsName x → IsKnown (codes "boot" ∷ x ∷ codes "entries" ∷ [])
+entries_known x name = few_known (codes "boot") (x ∷ codes "entries" ∷ []) (boot_name, (name, (entries_name, tt))) (omega arith)
+
+links_known : (x : Name) → IsName x → IsKnown (codes "ostree" ∷ x ∷ [])
+links_known x name = few_known (codes "ostree") (x ∷ []) (ostree_name, (name, tt)) (omega arith)
+
+pub fixed-known : (fixed : Fixed) → IsKnown (fixed_path fixed)
+unfolding loader_folder_path boot_link_path boot_folder_path digits
+fixed-known (LoaderFolder Zero) = loader_known (codes "loader.0") (word (codes "loader.0") (refl, (refl, (refl, (refl, (refl, (refl, (refl, (refl, tt)))))))) (omega arith) (omega arith))
+fixed-known (LoaderFolder One) = loader_known (codes "loader.1") (word (codes "loader.1") (refl, (refl, (refl, (refl, (refl, (refl, (refl, (refl, tt)))))))) (omega arith) (omega arith))
+fixed-known (Entries Zero) = entries_known (codes "loader.0") (word (codes "loader.0") (refl, (refl, (refl, (refl, (refl, (refl, (refl, (refl, tt)))))))) (omega arith) (omega arith))
+fixed-known (Entries One) = entries_known (codes "loader.1") (word (codes "loader.1") (refl, (refl, (refl, (refl, (refl, (refl, (refl, (refl, tt)))))))) (omega arith) (omega arith))
+fixed-known (BootLink Zero) = links_known (codes "boot.0") (word (codes "boot.0") (refl, (refl, (refl, (refl, (refl, (refl, tt)))))) (omega arith) (omega arith))
+fixed-known (BootLink One) = links_known (codes "boot.1") (word (codes "boot.1") (refl, (refl, (refl, (refl, (refl, (refl, tt)))))) (omega arith) (omega arith))
+fixed-known (BootFolder Zero Zero) = links_known (codes "boot.0.0") (word (codes "boot.0.0") (refl, (refl, (refl, (refl, (refl, (refl, (refl, (refl, tt)))))))) (omega arith) (omega arith))
+fixed-known (BootFolder Zero One) = links_known (codes "boot.0.1") (word (codes "boot.0.1") (refl, (refl, (refl, (refl, (refl, (refl, (refl, (refl, tt)))))))) (omega arith) (omega arith))
+fixed-known (BootFolder One Zero) = links_known (codes "boot.1.0") (word (codes "boot.1.0") (refl, (refl, (refl, (refl, (refl, (refl, (refl, (refl, tt)))))))) (omega arith) (omega arith))
+fixed-known (BootFolder One One) = links_known (codes "boot.1.1") (word (codes "boot.1.1") (refl, (refl, (refl, (refl, (refl, (refl, (refl, (refl, tt)))))))) (omega arith) (omega arith))
+fixed-known Summary = known_in_repo (codes "summary" ∷ []) ((word (codes "summary") (refl, (refl, (refl, (refl, (refl, (refl, (refl, tt))))))) (omega arith) (omega arith)), tt) (omega arith)

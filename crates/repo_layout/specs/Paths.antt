@@ -7,7 +7,7 @@ use Rattle.ost_types.specs.declared.object.Kind.{Kind}
 use Rattle.ost_types.specs.declared.object.Kind.TheVariants.{Commit, DirTree, DirMeta, File}
 use Rattle.repo_layout.specs.RefName.{parts_of}
 use Rattle.repo_layout.specs.declared.folder.Folder.{Folder}
-use Rattle.repo_layout.specs.declared.folder.Folder.TheVariants.{Ostree, Repo, Objects, Refs, Heads, State, Tmp}
+use Rattle.repo_layout.specs.declared.folder.Folder.TheVariants.{Ostree, Repo, Objects, Refs, Heads, State, Tmp, Deploy, Boot, Kernels, Checkouts}
 
 -- a path in the repository
 abbrev pub in_repo : Path → Path
@@ -22,6 +22,10 @@ folder_path Refs = in_repo (codes "refs" ∷ [])
 folder_path Heads = in_repo (codes "refs" ∷ codes "heads" ∷ [])
 folder_path State = in_repo (codes "state" ∷ [])
 folder_path Tmp = in_repo (codes "tmp" ∷ [])
+folder_path Deploy = codes "ostree" ∷ codes "deploy" ∷ []
+folder_path Boot = codes "boot" ∷ []
+folder_path Kernels = codes "boot" ∷ codes "ostree" ∷ []
+folder_path Checkouts = codes "checkout" ∷ []
 
 abbrev pub config_path : Path
 config_path = in_repo (codes "config" ∷ [])

@@ -6,7 +6,7 @@ use crate::known::known_path;
 use ost_types::{FsPath, NoMemory};
 use std::alloc::Global;
 
-/// A folder that a repository has from the beginning. Each stands before those that lie in it.
+/// A folder that a repository and its sysroot have from the beginning. Each stands before those that lie in it.
 #[derive(Clone, Copy, Debug, PartialEq, Eq, PartialOrd, Ord)]
 pub enum Folder {
     /// `/ostree`
@@ -23,6 +23,14 @@ pub enum Folder {
     State,
     /// `/ostree/repo/tmp`
     Tmp,
+    /// `/ostree/deploy`, the stateroots
+    Deploy,
+    /// `/boot`
+    Boot,
+    /// `/boot/ostree`, the copies of kernels
+    Kernels,
+    /// `/checkout`, the trees that are checked out
+    Checkouts,
 }
 
 /// Where the folder stands.
@@ -43,5 +51,9 @@ fn folder_text(folder: Folder) -> &'static [u8]
         Folder::Heads => b"/ostree/repo/refs/heads",
         Folder::State => b"/ostree/repo/state",
         Folder::Tmp => b"/ostree/repo/tmp",
+        Folder::Deploy => b"/ostree/deploy",
+        Folder::Boot => b"/boot",
+        Folder::Kernels => b"/boot/ostree",
+        Folder::Checkouts => b"/checkout",
     }
 }

@@ -1,6 +1,7 @@
 //! The names and paths of an OSTree bare repository, and the text of a ref's file.
 #![tactic(auto)]
 
+mod fixed;
 mod folder;
 mod known;
 mod laws;
@@ -10,6 +11,7 @@ mod paths;
 mod ref_file;
 mod ref_name;
 
+pub use fixed::{Fixed, Version, fixed_path};
 pub use folder::{Folder, folder_path};
 pub use laws::{names_of_paths, places_of_boots, places_of_things};
 pub use os_name::OsName;

@@ -183,6 +183,10 @@ fn lays_out_folders(rt: HostRuntime) -> Result<(), Fail> {
         (Folder::Heads, b"/ostree/repo/refs/heads".as_slice()),
         (Folder::State, b"/ostree/repo/state".as_slice()),
         (Folder::Tmp, b"/ostree/repo/tmp".as_slice()),
+        (Folder::Deploy, b"/ostree/deploy".as_slice()),
+        (Folder::Boot, b"/boot".as_slice()),
+        (Folder::Kernels, b"/boot/ostree".as_slice()),
+        (Folder::Checkouts, b"/checkout".as_slice()),
     ] {
         check_path(&rt, folder_path(alloc, folder), wanted)?;
     }

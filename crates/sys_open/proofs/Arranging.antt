@@ -13,11 +13,13 @@ use Rattle.fs_trait.specs.Change.{Writes}
 use Rattle.fs_trait.proofs.Facts.{vacant_absent}
 use Rattle.fs_trait.proofs.Effects.{all_synced-firm}
 use Rattle.repo_layout.specs.declared.folder.Folder.{Folder}
-use Rattle.repo_layout.specs.declared.folder.Folder.TheVariants.{Ostree, Repo, Objects, Refs, Heads, State, Tmp}
+use Rattle.repo_layout.specs.declared.folder.Folder.TheVariants.{Ostree, Repo, Objects, Refs, Heads, State, Tmp, Deploy, Boot, Kernels, Checkouts}
 use Rattle.repo_layout.specs.Paths.{folder_path, stage_path}
 use Rattle.sys_open.specs.declared.fault.OpenFault.{OpenFault}
 use Rattle.sys_open.specs.Faults.{IsRefusal, IsInterruption}
-use Rattle.sys_open.specs.Checks.{Asks, Staging, Kinds, FolderOrNothing, Suits, IsSane}
+use Rattle.sys_open.specs.declared.spots.Rule.TheVariants.{FolderOrNothing}
+use Rattle.sys_open.specs.declared.spots.Spot.TheVariants.{Laid}
+use Rattle.sys_open.specs.Checks.{Asks, Staging, Kinds, Suits, IsSane}
 use Rattle.sys_open.specs.Changes.{Lays, ClearsStages, IsArranged}
 use Rattle.sys_open.proofs.Clearings.{folder_still}
 use Rattle.sys_open.proofs.Working.{one_view}
@@ -32,6 +34,10 @@ apart Refs actor = refl
 apart Heads actor = refl
 apart State actor = refl
 apart Tmp actor = refl
+apart Deploy actor = refl
+apart Boot actor = refl
+apart Kernels actor = refl
+apart Checkouts actor = refl
 
 pub folders_stay : (v u : View) → Writes ClearsStages v u → (f : Folder) → is_folder (v.now.at (folder_path f)) ≡ true → is_folder (u.now.at (folder_path f)) ≡ true
 folders_stay v u writes f folder = ⊎_elim
@@ -53,7 +59,7 @@ pub asks_kept : (v u : View) → IsTree u.now → Writes (Lays v.now) v u → Is
 asks_kept v u tree writes sane = laid_reached v u tree writes (sane Staging)
 
 pub kinds_suit_all : (d : Disk) → IsSane d → (f : Folder) → Suits FolderOrNothing (d.at (folder_path f))
-kinds_suit_all d sane f = sane Kinds (folder_path f) FolderOrNothing (f, refl)
+kinds_suit_all d sane f = sane Kinds (folder_path f) FolderOrNothing (Laid f, refl, refl)
 
 pub sync_interrupted : (at : Path) (e : FsErr) (f : OpenFault) → OfNone e → IsRefusal at e f → IsInterruption f
 sync_interrupted at err.Failed f named is = subst IsInterruption (sym is) tt

@@ -25,7 +25,8 @@ use Rattle.rely.proofs.Layouts.{below_split}
 use Rattle.sys_open.specs.declared.fault.OpenFault.{OpenFault}
 use Rattle.sys_open.specs.declared.fault.OpenFault.TheVariants as fault
 use Rattle.sys_open.specs.Faults.{IsInterruption}
-use Rattle.sys_open.specs.Checks.{FolderOrNothing, IsSane, IsRefAt, RefFiles, Suits}
+use Rattle.sys_open.specs.declared.spots.Rule.TheVariants.{FolderOrNothing}
+use Rattle.sys_open.specs.Checks.{IsSane, IsRefAt, RefFiles, Suits}
 use Rattle.sys_open.specs.Changes.{Changes, Keeps, IsArranged}
 use Rattle.sys_open.specs.Opening.{Answers, Begins, OnDamage}
 use Rattle.sys_open.proofs.Arranging.{kinds_suit_all}
@@ -96,7 +97,7 @@ module _ (d e : Disk) (sane : IsSane d) (keeps : Keeps d e) where
       by (inr (inl lays)) = let bad : IsLeaf (Directory folder_meta) = subst IsLeaf lays.1 leaf in absurd bad
       by (inr (inr clears)) = let bad : IsLeaf Vacant = subst IsLeaf clears.2.1 leaf in absurd bad
 
-  leaf_was : (p : Path) → is_below heads p ≡ true → is_leaf (e.at p) ≡ true → (shows e p ≡ shows d p) × IsRefAt d p
+  pub leaf_was : (p : Path) → is_below heads p ≡ true → is_leaf (e.at p) ≡ true → (shows e p ≡ shows d p) × IsRefAt d p
   leaf_was p below leaf =
       let same = ref_shown p below (leaf_shown e (e.at p) leaf) in
       (same, (sane RefFiles p below).leaf (leaf_value d (d.at p) (subst IsLeaf same (leaf_shown e (e.at p) leaf))))

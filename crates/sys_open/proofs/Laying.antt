@@ -16,10 +16,11 @@ use Rattle.fs_trait.proofs.Facts.{no_new-free}
 use Rattle.fs_trait.proofs.Images.{named-here}
 use Rattle.fs_trait.proofs.Claims.{folder_shows}
 use Rattle.repo_layout.specs.declared.folder.Folder.{Folder}
-use Rattle.repo_layout.specs.declared.folder.Folder.TheVariants.{Ostree, Repo, Refs}
+use Rattle.repo_layout.specs.declared.folder.Folder.TheVariants.{Ostree, Repo, Refs, Boot}
 use Rattle.repo_layout.specs.Paths.{folder_path}
 use Rattle.ref_room.specs.Way.{folder_meta}
-use Rattle.sys_open.specs.Checks.{FolderOrNothing, Suits}
+use Rattle.sys_open.specs.declared.spots.Rule.TheVariants.{FolderOrNothing}
+use Rattle.sys_open.specs.Checks.{Suits}
 use Rattle.sys_open.specs.Changes.{Lays}
 use Rattle.sys_open.specs.Folders.{all_folders, HasParent, IsFree}
 use Rattle.sys_open.proofs.Clearings.{folder_still}
@@ -60,15 +61,19 @@ suits_kept v u writes p suits = ⊎_elim
     (writes.now p)
 
 -- the folder above the one at a place of the list is the root, or stands at an earlier place
-parent_at : (i : ℕ) → i < 7 → ((x : Name) × (folder_path (get_or all_folders i Ostree) ≡ under [] x)) ⊎ ((j : ℕ) × (j < i) × (h : Folder) × (get_or all_folders j h ≡ h) × (x : Name) × (folder_path (get_or all_folders i Ostree) ≡ under (folder_path h) x))
+parent_at : (i : ℕ) → i < 11 → ((x : Name) × (folder_path (get_or all_folders i Ostree) ≡ under [] x)) ⊎ ((j : ℕ) × (j < i) × (h : Folder) × (get_or all_folders j h ≡ h) × (x : Name) × (folder_path (get_or all_folders i Ostree) ≡ under (folder_path h) x))
 parent_at zero less = inl (_, refl)
-parent_at (suc zero) less = inr (0, omega arith, Ostree, refl, _, refl)
-parent_at (suc (suc zero)) less = inr (1, omega arith, Repo, refl, _, refl)
-parent_at (suc (suc (suc zero))) less = inr (1, omega arith, Repo, refl, _, refl)
-parent_at (suc (suc (suc (suc zero)))) less = inr (3, omega arith, Refs, refl, _, refl)
-parent_at (suc (suc (suc (suc (suc zero))))) less = inr (1, omega arith, Repo, refl, _, refl)
-parent_at (suc (suc (suc (suc (suc (suc zero)))))) less = inr (1, omega arith, Repo, refl, _, refl)
-parent_at (suc (suc (suc (suc (suc (suc (suc n))))))) less = absurd (omega (arith, less))
+parent_at (suc zero) less = inr (0, omega arith, Boot, refl, _, refl)
+parent_at (suc (suc zero)) less = inl (_, refl)
+parent_at (suc (suc (suc zero))) less = inl (_, refl)
+parent_at (suc (suc (suc (suc zero)))) less = inr (3, omega arith, Ostree, refl, _, refl)
+parent_at (suc (suc (suc (suc (suc zero))))) less = inr (3, omega arith, Ostree, refl, _, refl)
+parent_at (suc (suc (suc (suc (suc (suc zero)))))) less = inr (5, omega arith, Repo, refl, _, refl)
+parent_at (suc (suc (suc (suc (suc (suc (suc zero))))))) less = inr (5, omega arith, Repo, refl, _, refl)
+parent_at (suc (suc (suc (suc (suc (suc (suc (suc zero)))))))) less = inr (7, omega arith, Refs, refl, _, refl)
+parent_at (suc (suc (suc (suc (suc (suc (suc (suc (suc zero))))))))) less = inr (5, omega arith, Repo, refl, _, refl)
+parent_at (suc (suc (suc (suc (suc (suc (suc (suc (suc (suc zero)))))))))) less = inr (5, omega arith, Repo, refl, _, refl)
+parent_at (suc (suc (suc (suc (suc (suc (suc (suc (suc (suc (suc n))))))))))) less = absurd (omega (arith, less))
 
 -- the first so many are there
 abbrev pub LaidFirst : Disk → List Folder → ℕ → Type 0
@@ -76,12 +81,12 @@ LaidFirst d folders i = (k : ℕ) (f : Folder) → k < i → get_or folders k f 
 
 pub parent_laid : (d : Disk) → IsTree d → (folders : List Folder) (i : ℕ) (f : Folder) → folders ≡ all_folders → i < length folders → f ≡ get_or folders i f → LaidFirst d folders i → HasParent d f
 parent_laid d tree folders i f are less is laid =
-    let seven : i < 7 = let n : length folders ≡ 7 = ap length are in omega (arith, n, less) in
-    let same : get_or all_folders i Ostree ≡ f = get_or_default all_folders i Ostree f seven ∙ sym (is ∙ ap (λ l. get_or l i f) are) in
+    let all_of : i < 11 = let n : length folders ≡ 11 = ap length are in omega (arith, n, less) in
+    let same : get_or all_folders i Ostree ≡ f = get_or_default all_folders i Ostree f all_of ∙ sym (is ∙ ap (λ l. get_or l i f) are) in
     ⊎_elim
     (λ w. ([], w.0, ap folder_path (sym same) ∙ w.1, tree.root))
     (λ w. (folder_path w.2, w.4, ap folder_path (sym same) ∙ w.5, laid w.0 w.2 w.1 (ap (λ l. get_or l w.0 w.2) are ∙ w.3)))
-    (parent_at i seven)
+    (parent_at i all_of)
 
 pub more_laid : (u w : View) (folders : List Folder) (i : ℕ) (f : Folder) → i < length folders → f ≡ get_or folders i f → Writes (Lays u.now) u w → is_folder (w.now.at (folder_path f)) ≡ true → LaidFirst u.now folders i → LaidFirst w.now folders (i + 1)
 more_laid u w folders i f less is writes here before k h within is_h = by (order k i within)
@@ -96,7 +101,7 @@ more_laid u w folders i f less is writes here before k h within is_h = by (order
 pub all_laid : (d : Disk) (folders : List Folder) (i : ℕ) → folders ≡ all_folders → length folders ≤ i → LaidFirst d folders i → (f : Folder) → is_folder (d.at (folder_path f)) ≡ true
 all_laid d folders i are le laid f =
     let one = is_one f in
-    laid one.0 f (let n : length folders ≡ 7 = ap length are in omega (arith, n, le, one.1)) (ap (λ l. get_or l one.0 f) are ∙ one.2)
+    laid one.0 f (let n : length folders ≡ 11 = ap length are in omega (arith, n, le, one.1)) (ap (λ l. get_or l one.0 f) are ∙ one.2)
 
 -- what is laid out later was absent at the beginning too
 pub lays_from : (v u : View) → Writes (Lays v.now) v u → (p : Path) (s : Seen) → Lays u.now p s → Lays v.now p s

@@ -7,6 +7,7 @@ mod Working
 mod Clearings
 mod Holding
 mod FolderLemmas
+mod SpotLemmas
 mod StageLemmas
 mod Checking
 mod Laying
@@ -14,4 +15,5 @@ mod StageClearing
 mod Arranging
 mod Beginning
 mod Crashing
+mod Reopening
 mod Opens

@@ -9,13 +9,18 @@ use Rattle.rely.specs.Disks.{Logical}
 use Rattle.fs_trait.specs.View.{Disk}
 use Rattle.sys_open.specs.Checks.{IsSane}
 use Rattle.sys_open.specs.Opened.{IsOpened}
-use Rattle.sys_open.specs.Opening.{AreAscending, Begins, KeepsSince}
+use Rattle.sys_open.specs.Opening.{AreAscending, Begins, KeepsSince, OpensSince}
 use Rattle.sys_open.proofs.Beginning.{good_disk, logical_kept}
+use Rattle.sys_open.proofs.Reopening.{still_sane}
 use Rattle.sys_open.proofs.Working.{one_view}
 
 -- each disk that a crash left is good, and has the refs
 pub good_since : (left : ℕ → Disk → Type 0) (opened : ℕ) (d : Disk) (refs : List (List ℕ × List ℕ)) → IsSane d → Logical d (first refs) → KeepsSince left opened d → HasSince left opened (first refs)
 good_since left opened d refs sane logical keeps t e from is = let k = keeps t e from is in (good_disk d e sane k, logical_kept d e sane k refs logical)
+
+-- and opens again
+pub sane_since : (left : ℕ → Disk → Type 0) (opened : ℕ) (d : Disk) → IsSane d → KeepsSince left opened d → OpensSince left opened
+sane_since left opened d sane keeps t e from is = still_sane d e sane (keeps t e from is)
 
 module _ {F : Type 0} (view : F → Option View) (clock : F → ℕ) (was : F → ℕ → View → Type 0) (told : (fs gs : F) (v : View) → view fs ≡ Some v → Told (view gs) (λ w. Unit {0})) where
   pub is_opened : (old new : F) (opened : ℕ) (refs : List (List ℕ × List ℕ)) → AreAscending refs → opened ≤ clock new

@@ -5,25 +5,27 @@ use Rattle.ost_types.specs.Path.{Name, Path, IsPath, is_below, path_cmp, under}
 use Rattle.fs_trait.specs.declared.types.Value.{Value}
 use Rattle.fs_trait.specs.declared.types.Value.TheVariants.{Absent, Folder}
 use Rattle.fs_trait.specs.View.{Disk}
-use Rattle.repo_layout.specs.declared.folder.Folder as layout
-use Rattle.repo_layout.specs.Paths.{folder_path, heads, ref_path, stage_path}
+use Rattle.repo_layout.specs.Paths.{heads, ref_path, stage_path}
 use Rattle.repo_layout.specs.RefName.{IsRefName}
 use Rattle.repo_layout.specs.Refs.{ShowsCommit, is_leaf}
+use Rattle.sys_open.specs.declared.spots.Rule.{Rule}
+use Rattle.sys_open.specs.declared.spots.Rule.TheVariants.{FolderOrNothing, NoFolder}
+use Rattle.sys_open.specs.declared.spots.Spot.{Spot}
+use Rattle.sys_open.specs.Spots.{rule_of, spot_path}
 use Rattle.sys_open.specs.declared.fault.Why.{Why}
 use Rattle.sys_open.specs.declared.fault.Why.TheVariants.{BadRef, WrongKind}
 
--- What a place of the layout asks of what stands there.
-pub data Rule : Type 0 where
-  FolderOrNothing : Rule
-
+-- What a rule asks of what stands at a place.
 abbrev pub Suits : Rule → Value → Type 0
 Suits FolderOrNothing Absent = Unit {0}
 Suits FolderOrNothing (Folder m) = Unit {0}
 Suits FolderOrNothing x = ⊥
+Suits NoFolder (Folder m) = ⊥
+Suits NoFolder x = Unit {0}
 
--- the paths that the rule is for: the folders that are there from the beginning
+-- the paths that the rule is for
 abbrev pub IsFor : Rule → Path → Type 0
-IsFor FolderOrNothing p = (f : layout.Folder) × (p ≡ folder_path f)
+IsFor rule p = (spot : Spot) × (rule_of spot ≡ rule) × (p ≡ spot_path spot)
 
 -- A ref file stands there, under the path of a good name.
 abbrev pub IsRefAt : Disk → Path → Type 0

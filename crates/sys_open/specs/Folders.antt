@@ -6,11 +6,11 @@ use Rattle.fs_trait.specs.View.{Disk}
 use Rattle.fs_trait.specs.Image.{is_folder}
 use Rattle.repo_layout.specs.Paths.{folder_path}
 use Rattle.repo_layout.specs.declared.folder.Folder.{Folder}
-use Rattle.repo_layout.specs.declared.folder.Folder.TheVariants.{Ostree, Repo, Objects, Refs, Heads, State, Tmp}
+use Rattle.repo_layout.specs.declared.folder.Folder.TheVariants.{Ostree, Repo, Objects, Refs, Heads, State, Tmp, Deploy, Boot, Kernels, Checkouts}
 
 -- ascending by their paths
 abbrev pub all_folders : List Folder
-all_folders = Ostree ∷ Repo ∷ Objects ∷ Refs ∷ Heads ∷ State ∷ Tmp ∷ []
+all_folders = Boot ∷ Kernels ∷ Checkouts ∷ Ostree ∷ Deploy ∷ Repo ∷ Objects ∷ Refs ∷ Heads ∷ State ∷ Tmp ∷ []
 
 -- the folder above is there
 abbrev pub HasParent : Disk → Folder → Type 0

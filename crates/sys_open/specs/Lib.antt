@@ -1,4 +1,5 @@
 pub mod Faults
+pub mod Spots
 pub mod Checks
 pub mod Walk
 pub mod Changes

@@ -37,6 +37,10 @@ HasNoStages d = (actor : ℕ) → actor < 16 → (p : Path) → IsTrue (is_below
 abbrev pub KeepsSince : (ℕ → Disk → Type 0) → ℕ → Disk → Type 0
 KeepsSince left opened d = (t : ℕ) (e : Disk) → opened ≤ t → left t e → Keeps d e
 
+-- Each disk that a crash left since that moment opens again.
+abbrev pub OpensSince : (ℕ → Disk → Type 0) → ℕ → Type 0
+OpensSince left opened = (t : ℕ) (d : Disk) → opened ≤ t → left t d → IsSane d
+
 -- What it leaves: a system can begin with these refs, which are those of the beginning, and nothing stands at a staging path.
 pub record Begins (refs : List (List ℕ × List ℕ)) (v w : View) : Type 0 where
   pub opening : IsOpening (first refs) w

@@ -10,7 +10,7 @@ ghost use Rattle.sys_open.specs.declared.fault.OpenFault.TheVariants as fault;
 ghost use Rattle.sys_open.specs.Checks.{IsSane};
 ghost use Rattle.sys_open.specs.Changes.{Changes, Works};
 ghost use Rattle.sys_open.specs.Opened.{IsOpened};
-ghost use Rattle.sys_open.specs.Opening.{AreAscending, Begins, IsToldOf, KeepsSince, StaysOnDamage};
+ghost use Rattle.sys_open.specs.Opening.{AreAscending, Begins, IsToldOf, KeepsSince, OpensSince, StaysOnDamage};
 
 use crate::fault::OpenFault;
 use crate::opening::open;
@@ -117,6 +117,7 @@ pub fn adopt<F: Fs>(alloc: Global, fs: F, limits: Limits) -> Result<Opened<F>, (
     ensures begins { (v : View) → F.view fs ≡ Some v → IfOk result (λ o. Told (F.view o.fs) (Begins o.refs v)) }
     ensures keeps { (v : View) → F.view fs ≡ Some v → IfOk result (λ o. KeepsSince (Left (F.was o.fs)) o.clock v.now) }
     ensures since { (v : View) → F.view fs ≡ Some v → IfOk result (λ o. HasSince (Left (F.was o.fs)) o.clock (first o.refs)) }
+    ensures again { (v : View) → F.view fs ≡ Some v → IfOk result (λ o. OpensSince (Left (F.was o.fs)) o.clock) }
     ensures told { (v : View) → F.view fs ≡ Some v → IfErr result (λ e. IsToldOf v.now e.1) }
     ensures still { (v : View) → F.view fs ≡ Some v → IfErr result (λ e. StaysOnDamage e.1 (F.view e.0 ≡ Some (all_synced v))) }
     ensures works { (v : View) → F.view fs ≡ Some v → IfOk result (λ o. Works (Changes v.now) v (F.clock fs) (F.clock o.fs) (F.was fs) (F.was o.fs) (F.view o.fs)) }

@@ -1,57 +1,76 @@
-//! The folders that are there from the beginning, and what stands in their places.
+//! What stands at the places of the layout that have one path each.
 ghost use Rattle.std.specs.Prelude.{◌≡◌, [], Some};
 ghost use Rattle.fs_trait.specs.View.{View};
 ghost use Rattle.fs_trait.specs.Effect.{IsQuiet};
-ghost use Rattle.repo_layout.specs.Paths.{folder_path};
 ghost use Rattle.sys_open.specs.declared.fault.Why.TheVariants.{WrongKind};
+ghost use Rattle.sys_open.specs.declared.spots.Rule.TheVariants.{FolderOrNothing, NoFolder};
 ghost use Rattle.sys_open.specs.Faults.{HasReason};
-ghost use Rattle.sys_open.specs.Checks.{Asks, FolderOrNothing, Kinds, Suits};
-ghost use Rattle.sys_open.specs.Folders.{all_folders};
+ghost use Rattle.sys_open.specs.Checks.{Asks, Kinds, Suits};
+ghost use Rattle.sys_open.specs.Spots.{rule_of, spot_path};
 ghost use Rattle.sys_open.specs.Walk.{Looked, Walked};
 
 use crate::fault::{OpenFault, Why, damaged, refused};
+use crate::spots::{Rule, Spot, rule_of, spot_path, spots};
 use fs_trait::Fs;
+use ost_types::FsPath;
 use ref_room::{Stands, look_at};
-use repo_layout::{Folder, folder_path};
 use std::alloc::Global;
 
-/// The folders that are there from the beginning, ascending by their paths.
-pub fn folders() -> &'static [Folder]
-    ensures { result.now ≡ all_folders }
-{
-    &[
-        Folder::Ostree,
-        Folder::Repo,
-        Folder::Objects,
-        Folder::Refs,
-        Folder::Heads,
-        Folder::State,
-        Folder::Tmp,
-    ]
-}
-
-/// Looks at the place of each of these folders. The least one is told at which something else stands.
+/// Looks at each of these places. The least one is told at which something stands that it doesn't allow.
 pub fn check_kinds<F: Fs>(alloc: Global, fs: &mut F) -> Result<(), OpenFault>
     ensures told { (v : View) → F.view fs.old ≡ Some v → Walked (Asks Kinds v.now) WrongKind [] result }
     ensures quiet { IsQuiet (F.clock fs.old) (F.clock fs.new) (F.was fs.old) (F.was fs.new) (F.view fs.old) (F.view fs.new) }
     ensures reason { HasReason (F.faults fs.old) (F.faults fs.new) result }
 {
-    for folder in folders() {
-        check_kind(alloc, fs, *folder)?;
+    for spot in spots() {
+        check_kind(alloc, fs, *spot)?;
     }
     Ok(())
 }
 
-fn check_kind<F: Fs>(alloc: Global, fs: &mut F, folder: Folder) -> Result<(), OpenFault>
-    ensures told { (v : View) → F.view fs.old ≡ Some v → Looked (Suits FolderOrNothing (v.now.at (folder_path folder))) WrongKind (folder_path folder) result }
+fn check_kind<F: Fs>(alloc: Global, fs: &mut F, spot: Spot) -> Result<(), OpenFault>
+    ensures told { (v : View) → F.view fs.old ≡ Some v → Looked (Suits (rule_of spot) (v.now.at (spot_path spot))) WrongKind (spot_path spot) result }
     ensures quiet { IsQuiet (F.clock fs.old) (F.clock fs.new) (F.was fs.old) (F.was fs.new) (F.view fs.old) (F.view fs.new) }
     ensures reason { HasReason (F.faults fs.old) (F.faults fs.new) result }
 {
-    let at = folder_path(alloc, folder)?;
-    match look_at(fs, &at) {
+    let at = spot_path(alloc, spot)?;
+    check_rule(fs, &at, rule_of(spot))
+}
+
+/// Looks whether what stands at a path is what the rule allows.
+pub fn check_rule<F: Fs>(fs: &mut F, at: &FsPath, rule: Rule) -> Result<(), OpenFault>
+    ensures told { (v : View) → F.view fs.old ≡ Some v → Looked (Suits rule (v.now.at at.now)) WrongKind at.now result }
+    ensures quiet { IsQuiet (F.clock fs.old) (F.clock fs.new) (F.was fs.old) (F.was fs.new) (F.view fs.old) (F.view fs.new) }
+    ensures reason { HasReason (F.faults fs.old) (F.faults fs.new) result }
+{
+    match rule {
+        Rule::FolderOrNothing => check_folder(fs, at),
+        Rule::NoFolder => check_no_folder(fs, at),
+    }
+}
+
+fn check_folder<F: Fs>(fs: &mut F, at: &FsPath) -> Result<(), OpenFault>
+    ensures told { (v : View) → F.view fs.old ≡ Some v → Looked (Suits FolderOrNothing (v.now.at at.now)) WrongKind at.now result }
+    ensures quiet { IsQuiet (F.clock fs.old) (F.clock fs.new) (F.was fs.old) (F.was fs.new) (F.view fs.old) (F.view fs.new) }
+    ensures reason { HasReason (F.faults fs.old) (F.faults fs.new) result }
+{
+    match look_at(fs, at) {
         Ok(Stands::Nothing) => Ok(()),
         Ok(Stands::Folder) => Ok(()),
-        Ok(Stands::Leaf) => Err(damaged(&at, Why::WrongKind)),
-        Err(error) => Err(refused(&at, error)),
+        Ok(Stands::Leaf) => Err(damaged(at, Why::WrongKind)),
+        Err(error) => Err(refused(at, error)),
+    }
+}
+
+fn check_no_folder<F: Fs>(fs: &mut F, at: &FsPath) -> Result<(), OpenFault>
+    ensures told { (v : View) → F.view fs.old ≡ Some v → Looked (Suits NoFolder (v.now.at at.now)) WrongKind at.now result }
+    ensures quiet { IsQuiet (F.clock fs.old) (F.clock fs.new) (F.was fs.old) (F.was fs.new) (F.view fs.old) (F.view fs.new) }
+    ensures reason { HasReason (F.faults fs.old) (F.faults fs.new) result }
+{
+    match look_at(fs, at) {
+        Ok(Stands::Nothing) => Ok(()),
+        Ok(Stands::Folder) => Err(damaged(at, Why::WrongKind)),
+        Ok(Stands::Leaf) => Ok(()),
+        Err(error) => Err(refused(at, error)),
     }
 }

@@ -5,17 +5,36 @@ ghost use Rattle.fs_trait.specs.Image.{is_folder, Told};
 ghost use Rattle.repo_layout.specs.declared.folder.Folder as layout;
 ghost use Rattle.repo_layout.specs.Paths.{folder_path};
 ghost use Rattle.sys_open.specs.Faults.{HasReason, IsInterruption};
-ghost use Rattle.sys_open.specs.Checks.{FolderOrNothing, Suits};
-ghost use Rattle.sys_open.specs.Folders.{HasParent, IsFree};
+ghost use Rattle.sys_open.specs.declared.spots.Rule.TheVariants.{FolderOrNothing};
+ghost use Rattle.sys_open.specs.Checks.{Suits};
+ghost use Rattle.sys_open.specs.Folders.{HasParent, IsFree, all_folders};
 ghost use Rattle.sys_open.specs.Changes.{Lays, Works};
 
 use crate::fault::{OpenFault, refused};
-use crate::kinds::folders;
 use fs_trait::{Fs, FsErr};
 use ost_types::FsPath;
 use ref_room::{Stands, folder_meta, look_at};
 use repo_layout::{Folder, folder_path};
 use std::alloc::Global;
+
+/// The folders that are there from the beginning, each after the one that it is in.
+fn folders() -> &'static [Folder]
+    ensures { result.now ≡ all_folders }
+{
+    &[
+        Folder::Boot,
+        Folder::Kernels,
+        Folder::Checkouts,
+        Folder::Ostree,
+        Folder::Deploy,
+        Folder::Repo,
+        Folder::Objects,
+        Folder::Refs,
+        Folder::Heads,
+        Folder::State,
+        Folder::Tmp,
+    ]
+}
 
 /// Makes each of the folders that is absent.
 pub fn lay_out<F: Fs>(alloc: Global, fs: &mut F) -> Result<(), OpenFault>

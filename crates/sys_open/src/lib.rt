@@ -13,6 +13,7 @@ mod layout;
 mod opening;
 mod reach;
 mod refs;
+mod spots;
 mod stages;
 
 pub use adopting::{Opened, OpenedParts, adopt};

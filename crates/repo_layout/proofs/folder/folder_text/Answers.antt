@@ -30,3 +30,19 @@ returns-in-State c = ap (λ f. text_of (folder_path f)) (sym c.in-State.is)
 pub returns-in-Tmp : goal.returns-in-Tmp
 unfolding joined
 returns-in-Tmp c = ap (λ f. text_of (folder_path f)) (sym c.in-Tmp.is)
+
+pub returns-in-Deploy : goal.returns-in-Deploy
+unfolding joined
+returns-in-Deploy c = ap (λ f. text_of (folder_path f)) (sym c.in-Deploy.is)
+
+pub returns-in-Boot : goal.returns-in-Boot
+unfolding joined
+returns-in-Boot c = ap (λ f. text_of (folder_path f)) (sym c.in-Boot.is)
+
+pub returns-in-Kernels : goal.returns-in-Kernels
+unfolding joined
+returns-in-Kernels c = ap (λ f. text_of (folder_path f)) (sym c.in-Kernels.is)
+
+pub returns-in-Checkouts : goal.returns-in-Checkouts
+unfolding joined
+returns-in-Checkouts c = ap (λ f. text_of (folder_path f)) (sym c.in-Checkouts.is)

@@ -6,7 +6,7 @@ use Rattle.fs_trait.specs.Change.{Writes}
 use Rattle.repo_layout.specs.declared.folder.Folder.TheVariants.{Ostree}
 use Rattle.repo_layout.specs.Paths.{folder_path}
 use Rattle.sys_open.specs.Changes.{Lays}
-use Rattle.sys_open.proofs.Laying.{suits_kept, parent_laid, more_laid, lays_from}
+use Rattle.sys_open.proofs.Laying.{suits_kept, parent_laid, more_laid, all_laid, lays_from}
 use Rattle.sys_open.proofs.Working.{one_view, works_then}
 use Rattle.sys_open.proofs.layout.lay_out.Goals as goal
 
@@ -49,3 +49,9 @@ loop-folder-preserved g c =
           (c.loop-folder.invariant.2 b.0 b.1),
       omega (arith, c.loop-folder.invariant.3, c.lay.ensures.later),
     )
+
+pub returns-clause-laid : goal.returns-clause-laid
+returns-clause-laid g c = λ v told.
+    let works = c.loop-folder.invariant.1 v told in
+    let u = works.left.0 in
+    (u, works.left.1, all_laid u.now c.folders-folder-items.result.now c.loop-folder.folder-index c.folders-folder-items.ensures c.loop-folder-test.false (c.loop-folder.invariant.2 u works.left.1))

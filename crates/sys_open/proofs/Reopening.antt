@@ -1,0 +1,89 @@
+-- What keeps a sane disk is sane.
+use Rattle.std.proofs.Common.{◌≡◌, ◌⊎◌, inl, inr, ◌≤◌, ◌<◌, ℕ, true, refl, sym, ◌∙◌, ap, subst, arith}
+use Rattle.ost_types.specs.Path.{Name, Path, IsPath, is_below, under}
+use Rattle.ost_types.proofs.Paths.{is_below-self}
+use Rattle.fs_trait.specs.declared.types.Value.{Value}
+use Rattle.fs_trait.specs.declared.types.Value.TheVariants as value
+use Rattle.fs_trait.specs.View.{Disk}
+use Rattle.fs_trait.specs.Seen.{Vacant, Directory, Symlink, Leaf, IsDirectory, seen, shows, bytes_in}
+use Rattle.fs_trait.proofs.Claims.{reads_shows}
+use Rattle.fs_trait.proofs.Facts.{vacant_absent}
+use Rattle.repo_layout.specs.declared.fixed.Fixed.TheVariants as fixed
+use Rattle.repo_layout.specs.declared.fixed.Version.TheVariants.{Zero, One}
+use Rattle.repo_layout.specs.declared.folder.Folder.{Folder}
+use Rattle.repo_layout.specs.Paths.{folder_path, heads}
+use Rattle.repo_layout.specs.Place.{BootLink, Other, Place, Summary, place}
+use Rattle.repo_layout.proofs.KnownPaths.{folder-known}
+use Rattle.repo_layout.proofs.Places.{place-boot_link, place-summary}
+use Rattle.repo_layout.specs.Refs.{is_leaf}
+use Rattle.rely.proofs.Layouts.{fixed_other}
+use Rattle.sys_open.specs.declared.spots.Rule.{Rule}
+use Rattle.sys_open.specs.declared.spots.Rule.TheVariants.{FolderOrNothing, NoFolder}
+use Rattle.sys_open.specs.declared.spots.Spot.{Spot}
+use Rattle.sys_open.specs.declared.spots.Spot.TheVariants.{Laid, Known}
+use Rattle.sys_open.specs.Changes.{Changes, Keeps}
+use Rattle.sys_open.specs.Checks.{Asks, HoldsRefs, IsFor, IsReached, IsSane, Kinds, RefFiles, Staging, Suits}
+use Rattle.sys_open.specs.Spots.{rule_of, spot_path}
+use Rattle.sys_open.proofs.Beginning.{leaf_was}
+use Rattle.sys_open.proofs.FolderLemmas.{absent_no_folder, absent_suits, folder_suits}
+use Rattle.sys_open.proofs.Laying.{suits_shown}
+
+no_folder_shown : (d e : Disk) (z y : Value) → seen e y ≡ seen d z → Suits NoFolder z → Suits NoFolder y
+no_folder_shown d e z value.Absent same suits = tt
+no_folder_shown d e z (value.Link m t) same suits = tt
+no_folder_shown d e z (value.File n) same suits = tt
+no_folder_shown d e value.Absent (value.Folder m) same suits = let n : Directory m ≡ Vacant = same in cc
+no_folder_shown d e (value.Folder k) (value.Folder m) same suits = suits
+no_folder_shown d e (value.Link k r) (value.Folder m) same suits = let n : Directory m ≡ Symlink k r = same in cc
+no_folder_shown d e (value.File k) (value.Folder m) same suits = let n : Directory m ≡ Leaf k (d.meta k) (d.bytes k) = same in cc
+
+suits_same : (rule : Rule) (d e : Disk) (z y : Value) → seen e y ≡ seen d z → Suits rule z → Suits rule y
+suits_same FolderOrNothing d e z y same suits = suits_shown d e z y same suits
+suits_same NoFolder d e z y same suits = no_folder_shown d e z y same suits
+
+-- no folder that is laid out lies where there is to be none
+other : (f : Folder) → place (folder_path f) ≡ Other (folder_path f)
+other f = fixed_other f (folder_path f) (is_below-self (folder_path f))
+
+no_link : (version : ℕ) (f : Folder) (p : Path) → version < 10 → p ≡ folder_path f → place p ≡ BootLink version → ⊥
+no_link version f p small e is = let n : Other (folder_path f) ≡ BootLink version = sym (other f) ∙ ap place (sym e) ∙ is in cc
+
+no_laid : (spot : Spot) (f : Folder) → rule_of spot ≡ NoFolder → spot_path spot ≡ folder_path f → ⊥
+no_laid (Laid g) f r e = let n : FolderOrNothing ≡ NoFolder = r in cc
+no_laid (Known (fixed.LoaderFolder version)) f r e = let n : FolderOrNothing ≡ NoFolder = r in cc
+no_laid (Known (fixed.Entries version)) f r e = let n : FolderOrNothing ≡ NoFolder = r in cc
+no_laid (Known (fixed.BootFolder version sub)) f r e = let n : FolderOrNothing ≡ NoFolder = r in cc
+no_laid (Known (fixed.BootLink Zero)) f r e = no_link 0 f _ (omega arith) e (place-boot_link 0 (omega arith))
+no_laid (Known (fixed.BootLink One)) f r e = no_link 1 f _ (omega arith) e (place-boot_link 1 (omega arith))
+no_laid (Known fixed.Summary) f r e = let n : Other (folder_path f) ≡ Summary = sym (other f) ∙ ap place (sym e) ∙ place-summary in cc
+
+laid_path : (f : Folder) → IsPath (folder_path f)
+laid_path f = let k = folder-known f in record { names = k.names; few = omega (arith, k.few); short = omega (arith, k.short) }
+
+module _ (d e : Disk) (sane : IsSane d) (keeps : Keeps d e) where
+  reached_kept : (p : Path) → IsReached d p → IsReached e p
+  reached_kept p reached x there = by (keeps (under p x))
+    where
+      by : (shows e (under p x) ≡ shows d (under p x)) ⊎ Changes d (under p x) (shows e (under p x)) → IsPath (under p x)
+      by (inl same) = reached x (λ none. there (vacant_absent e (under p x) (same ∙ ap (seen d) none)))
+      by (inr (inl lays)) = subst IsPath (sym lays.0.1) (laid_path lays.0.0)
+      by (inr (inr clears)) = absurd (there (vacant_absent e (under p x) clears.2.1))
+
+  kind_kept : (rule : Rule) (p : Path) → IsFor rule p → Suits rule (d.at p) → (shows e p ≡ shows d p) ⊎ Changes d p (shows e p) → Suits rule (e.at p)
+  kind_kept rule p w suits (inl same) = suits_same rule d e (d.at p) (e.at p) same suits
+  kind_kept FolderOrNothing p w suits (inr (inl lays)) = folder_suits e (e.at p) (subst IsDirectory (sym lays.1) tt)
+  kind_kept FolderOrNothing p w suits (inr (inr clears)) = absent_suits (e.at p) (vacant_absent e p clears.2.1)
+  kind_kept NoFolder p w suits (inr (inl lays)) = absurd (no_laid w.0 lays.0.0 w.1 (sym w.2 ∙ lays.0.1))
+  kind_kept NoFolder p w suits (inr (inr clears)) = absent_no_folder (e.at p) (vacant_absent e p clears.2.1)
+
+  holds_kept : (p : Path) → is_below heads p ≡ true → HoldsRefs e p
+  holds_kept p below = record {
+    leaf = λ leaf. let was = leaf_was d e sane keeps p below leaf in let at = was.1 in
+        (at.0, at.1, at.2, (at.3.0, record { sum = at.3.1.sum; file = reads_shows e p ∙ ap bytes_in was.0 ∙ sym (reads_shows d p) ∙ at.3.1.file }));
+    reached = reached_kept p (sane RefFiles p below).reached;
+  }
+
+  pub still_sane : IsSane e
+  still_sane Kinds p = λ rule w. kind_kept rule p w (sane Kinds p rule w) (keeps p)
+  still_sane RefFiles p = λ below. holds_kept p below
+  still_sane Staging p = λ actor small below. reached_kept p (sane Staging p actor small below)

@@ -1,0 +1,32 @@
+ghost use Rattle.std.specs.Prelude.{◌≡◌, Some, IfOk, IfErr};
+ghost use Rattle.fs_trait.specs.View.{View};
+ghost use Rattle.sys_open.specs.Checks.{IsSane};
+ghost use Rattle.sys_open.specs.Opening.{AreAscending, IsToldOf};
+
+use fs_trait::Fs;
+use ost_types::{Csum, Limits};
+use repo_layout::RefName;
+use std::alloc::Global;
+use sys_open::{OpenFault, adopt};
+
+/// What an opening tells of a file system.
+#[derive(Drop)]
+pub struct Found<F> {
+    pub fs: F,
+    /// Ascending by the bytes of the names.
+    pub refs: Vec<(RefName, Csum)>,
+}
+
+/// Opens the repository of a file system, and gives the file system back, with the refs or the fault.
+pub fn open_again<F: Fs>(alloc: Global, fs: F, limits: Limits) -> Result<Found<F>, (F, OpenFault)>
+    ensures sane { (v : View) → F.view fs ≡ Some v → IfOk result (λ f. IsSane v.now) }
+    ensures told { (v : View) → F.view fs ≡ Some v → IfErr result (λ e. IsToldOf v.now e.1) }
+    ensures ascending { IfOk result (λ f. AreAscending f.refs.items) }
+{
+    let opened = adopt(alloc, fs, limits)?;
+    let parts = opened.into_parts();
+    Ok(Found {
+        fs: parts.fs,
+        refs: parts.refs,
+    })
+}

@@ -1,0 +1,63 @@
+//! Disks to open.
+use fs_memory::MemFs;
+use fs_trait::Fs;
+use ost_types::{FsPath, Meta, Text, Xattrs};
+use std::alloc::Global;
+use std::test::Fail;
+
+/// A ref's file that names the commit of 64 digits 1.
+pub const ONES: &[u8] = b"1111111111111111111111111111111111111111111111111111111111111111\n";
+
+fn meta(alloc: Global, mode: u32) -> Meta
+    ensures { result.mode ≡ mode }
+{
+    Meta {
+        uid: 0,
+        gid: 0,
+        mode,
+        xattrs: Xattrs::new(alloc),
+    }
+}
+
+pub fn add_folder(fs: &mut MemFs, alloc: Global, at: &[u8]) -> Result<(), Fail> {
+    Ok(fs.mkdir(&FsPath::parse(alloc, at)?, &meta(alloc, 0o040755))?)
+}
+
+pub fn add_file(fs: &mut MemFs, alloc: Global, at: &[u8], bytes: &[u8]) -> Result<(), Fail> {
+    let at = FsPath::parse(alloc, at)?;
+    fs.create(&at, &meta(alloc, 0o100644))?;
+    Ok(fs.append(&at, bytes)?)
+}
+
+pub fn add_link(fs: &mut MemFs, alloc: Global, at: &[u8]) -> Result<(), Fail> {
+    let at = FsPath::parse(alloc, at)?;
+    let Some(target) = Text::parse(alloc, b"x")? else {
+        return Err("no text")?;
+    };
+    Ok(fs.symlink(&at, &target, &meta(alloc, 0o120777))?)
+}
+
+/// A disk with these folders.
+pub fn with_folders(alloc: Global, folders: &[&[u8]]) -> Result<MemFs, Fail> {
+    let mut fs = MemFs::new(alloc)?;
+    for folder in folders {
+        add_folder(&mut fs, alloc, folder)?;
+    }
+    Ok(fs)
+}
+
+/// A disk with the folder of refs, and files in it.
+pub fn with_refs(alloc: Global, files: &[(&[u8], &[u8])]) -> Result<MemFs, Fail> {
+    let folders: [&[u8]; 5] = [
+        b"/ostree",
+        b"/ostree/repo",
+        b"/ostree/repo/refs",
+        b"/ostree/repo/refs/heads",
+        b"/ostree/repo/refs/heads/a",
+    ];
+    let mut fs = with_folders(alloc, &folders)?;
+    for (at, bytes) in files {
+        add_file(&mut fs, alloc, at, bytes)?;
+    }
+    Ok(fs)
+}
