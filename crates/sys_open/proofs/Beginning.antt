@@ -1,6 +1,7 @@
 -- What a system can begin with, where a sane disk was arranged.
-use Rattle.std.proofs.Common.{◌≡◌, ◌⊎◌, inl, inr, ℕ, true, false, refl, sym, ◌∙◌, ap, subst, List, ◌++◌, Some, None, Err}
-use Rattle.ost_types.specs.Path.{Path, is_below}
+use Rattle.std.proofs.Common.{◌≡◌, ◌≢◌, ◌⊎◌, inl, inr, ⊎_elim, ℕ, arith, true, false, refl, sym, ◌∙◌, ap, subst, List, [], ◌++◌, Some, None, Err}
+use Rattle.ost_types.specs.Path.{Path, IsPath, is_below}
+use Rattle.ost_types.proofs.Paths.{root_or_under, under-is_below}
 use Rattle.fs_trait.specs.declared.types.Value.{Value}
 use Rattle.fs_trait.specs.declared.types.Value.TheVariants.{Absent, Folder, Link, File}
 use Rattle.fs_trait.specs.View.{Disk, View}
@@ -8,14 +9,18 @@ use Rattle.fs_trait.specs.Image.{IsTree}
 use Rattle.fs_trait.specs.Seen.{Vacant, Directory, IsDirectory, seen, shows, Always, bytes_in}
 use Rattle.fs_trait.proofs.Claims.{reads_shows, is_below-before}
 use Rattle.fs_trait.proofs.Facts.{vacant_absent}
+use Rattle.repo_layout.specs.declared.folder.Folder as layout
+use Rattle.repo_layout.specs.declared.folder.Folder.TheVariants.{Heads}
 use Rattle.repo_layout.specs.Paths.{folder_path, heads, ref_path, stage_path}
 use Rattle.repo_layout.specs.RefName.{IsRefName, parts_of}
 use Rattle.repo_layout.specs.Refs.{Names, is_leaf}
 use Rattle.repo_layout.specs.RefFile.{ref_text}
+use Rattle.repo_layout.proofs.KnownPaths.{folder-known}
 use Rattle.ref_room.specs.Way.{folder_meta}
 use Rattle.ref_room.proofs.Names.{ref_path-one}
 use Rattle.rely.specs.State.{RefOf, Said, first}
 use Rattle.rely.specs.Disks.{IsLeaf, Says, Logical, IsGood}
+use Rattle.rely.specs.Sound.{IsReached}
 use Rattle.rely.proofs.Layouts.{below_split}
 use Rattle.sys_open.specs.declared.fault.OpenFault.{OpenFault}
 use Rattle.sys_open.specs.declared.fault.OpenFault.TheVariants as fault
@@ -75,6 +80,13 @@ suits_no_leaf Absent suits = refl
 suits_no_leaf (Link m t) suits = absurd suits
 suits_no_leaf (File k) suits = absurd suits
 
+not_root : is_below heads [] ≡ false
+unfolding is_below
+not_root = refl
+
+pub folder_is_path : (f : layout.Folder) → IsPath (folder_path f)
+folder_is_path f = let k = folder-known f in record { names = k.names; few = omega (arith, k.few); short = omega (arith, k.short) }
+
 module _ (d e : Disk) (sane : IsSane d) (keeps : Keeps d e) where
   -- what shows below the folder of refs is what showed there, or a folder
   ref_shown : (p : Path) → is_below heads p ≡ true → IsLeaf (shows e p) → shows e p ≡ shows d p
@@ -116,6 +128,23 @@ module _ (d e : Disk) (sane : IsSane d) (keeps : Keeps d e) where
     others = λ p below none leaf. let at = (leaf_was p below leaf).1 in none at.0 (sym at.2);
   }
 
+  was_reached : (p : Path) → is_below heads p ≡ true → d.at p ≢ Absent → IsPath p
+  was_reached p below there = ⊎_elim
+      (λ root. let n : false ≡ true = sym not_root ∙ subst (λ q. is_below heads q ≡ true) root below in cc)
+      (λ u. ⊎_elim
+      (λ in_. subst IsPath (sym u.2) ((sane RefFiles u.0 in_).reached u.1 (subst (λ q. d.at q ≢ Absent) u.2 there)))
+      (λ is. subst IsPath (is ∙ sym u.2) (folder_is_path Heads))
+      (under-is_below heads u.0 u.1 (subst (λ q. is_below heads q ≡ true) u.2 below)))
+      (root_or_under p)
+
+  pub reached : (p : Path) → IsReached p (shows e p)
+  reached p below there = by (keeps p)
+    where
+      by : (shows e p ≡ shows d p) ⊎ Changes d p (shows e p) → IsPath p
+      by (inl same) = was_reached p below (λ absent. there (same ∙ ap (seen d) absent))
+      by (inr (inl lays)) = subst IsPath (sym lays.0.1) (folder_is_path lays.0.0)
+      by (inr (inr clears)) = absurd (there clears.2.1)
+
   says_still : (said : Said) (name : List ℕ) → Says (RefOf name) said (shows d (ref_path name)) → Says (RefOf name) said (shows e (ref_path name))
   says_still said name says = by said says (keeps (ref_path name))
     where
@@ -130,7 +159,7 @@ module _ (d e : Disk) (sane : IsSane d) (keeps : Keeps d e) where
 
 pub begins : (v w : View) → IsSane v.now → Keeps v.now w.now → IsTree w.now → IsArranged w.now → ((p : Path) → Always w p (shows w.now p)) → (refs : List (List ℕ × List ℕ)) → Logical v.now (first refs) → Begins refs v w
 begins v w sane keeps tree arranged settled refs logical = record {
-  opening = record { settled = settled; folders = arranged.folders; good = good_disk v.now w.now sane keeps; state = logical_kept v.now w.now sane keeps refs logical };
+  opening = record { settled = settled; folders = arranged.folders; good = good_disk v.now w.now sane keeps; reached = reached v.now w.now sane keeps; state = logical_kept v.now w.now sane keeps refs logical };
   same = logical;
   keeps = keeps;
   staging = λ actor small p below. let s = below_split (stage_path actor) p below in ap (seen w.now) (subst (λ q. w.now.at q ≡ Absent) (sym s.1) (absent_below w.now tree (stage_path actor) s.0 (vacant_absent w.now (stage_path actor) (arranged.staging actor small))));
