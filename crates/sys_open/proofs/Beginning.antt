@@ -74,18 +74,18 @@ not_staged : (actor : ℕ) (rest : Path) → is_below (stage_path actor) (heads 
 unfolding is_below stage_path
 not_staged actor rest = refl
 
-not_root : is_below heads [] ≡ false
-unfolding is_below
-not_root = refl
-
-folder_is_path : (f : layout.Folder) → IsPath (folder_path f)
-folder_is_path f = let k = folder-known f in record { names = k.names; few = omega (arith, k.few); short = omega (arith, k.short) }
-
 suits_no_leaf : (z : Value) → Suits FolderOrNothing z → is_leaf z ≡ false
 suits_no_leaf (Folder m) suits = refl
 suits_no_leaf Absent suits = refl
 suits_no_leaf (Link m t) suits = absurd suits
 suits_no_leaf (File k) suits = absurd suits
+
+not_root : is_below heads [] ≡ false
+unfolding is_below
+not_root = refl
+
+pub folder_is_path : (f : layout.Folder) → IsPath (folder_path f)
+folder_is_path f = let k = folder-known f in record { names = k.names; few = omega (arith, k.few); short = omega (arith, k.short) }
 
 module _ (d e : Disk) (sane : IsSane d) (keeps : Keeps d e) where
   -- what shows below the folder of refs is what showed there, or a folder
@@ -137,7 +137,7 @@ module _ (d e : Disk) (sane : IsSane d) (keeps : Keeps d e) where
       (under-is_below heads u.0 u.1 (subst (λ q. is_below heads q ≡ true) u.2 below)))
       (root_or_under p)
 
-  reached : (p : Path) → IsReached p (shows e p)
+  pub reached : (p : Path) → IsReached p (shows e p)
   reached p below there = by (keeps p)
     where
       by : (shows e p ≡ shows d p) ⊎ Changes d p (shows e p) → IsPath p

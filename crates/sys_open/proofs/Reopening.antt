@@ -13,7 +13,6 @@ use Rattle.repo_layout.specs.declared.fixed.Version.TheVariants.{Zero, One}
 use Rattle.repo_layout.specs.declared.folder.Folder.{Folder}
 use Rattle.repo_layout.specs.Paths.{folder_path, heads}
 use Rattle.repo_layout.specs.Place.{BootLink, Other, Place, Summary, place}
-use Rattle.repo_layout.proofs.KnownPaths.{folder-known}
 use Rattle.repo_layout.proofs.Places.{place-boot_link, place-summary}
 use Rattle.repo_layout.specs.Refs.{is_leaf}
 use Rattle.rely.proofs.Layouts.{fixed_other}
@@ -24,7 +23,7 @@ use Rattle.sys_open.specs.declared.spots.Spot.TheVariants.{Laid, Known}
 use Rattle.sys_open.specs.Changes.{Changes, Keeps}
 use Rattle.sys_open.specs.Checks.{Asks, HoldsRefs, IsFor, IsReached, IsSane, Kinds, RefFiles, Staging, Suits}
 use Rattle.sys_open.specs.Spots.{rule_of, spot_path}
-use Rattle.sys_open.proofs.Beginning.{leaf_was}
+use Rattle.sys_open.proofs.Beginning.{folder_is_path, leaf_was}
 use Rattle.sys_open.proofs.FolderLemmas.{absent_no_folder, absent_suits, folder_suits}
 use Rattle.sys_open.proofs.Laying.{suits_shown}
 
@@ -57,16 +56,13 @@ no_laid (Known (fixed.BootLink Zero)) f r e = no_link 0 f _ (omega arith) e (pla
 no_laid (Known (fixed.BootLink One)) f r e = no_link 1 f _ (omega arith) e (place-boot_link 1 (omega arith))
 no_laid (Known fixed.Summary) f r e = let n : Other (folder_path f) ≡ Summary = sym (other f) ∙ ap place (sym e) ∙ place-summary in cc
 
-laid_path : (f : Folder) → IsPath (folder_path f)
-laid_path f = let k = folder-known f in record { names = k.names; few = omega (arith, k.few); short = omega (arith, k.short) }
-
 module _ (d e : Disk) (sane : IsSane d) (keeps : Keeps d e) where
   reached_kept : (p : Path) → IsReached d p → IsReached e p
   reached_kept p reached x there = by (keeps (under p x))
     where
       by : (shows e (under p x) ≡ shows d (under p x)) ⊎ Changes d (under p x) (shows e (under p x)) → IsPath (under p x)
       by (inl same) = reached x (λ none. there (vacant_absent e (under p x) (same ∙ ap (seen d) none)))
-      by (inr (inl lays)) = subst IsPath (sym lays.0.1) (laid_path lays.0.0)
+      by (inr (inl lays)) = subst IsPath (sym lays.0.1) (folder_is_path lays.0.0)
       by (inr (inr clears)) = absurd (there (vacant_absent e (under p x) clears.2.1))
 
   kind_kept : (rule : Rule) (p : Path) → IsFor rule p → Suits rule (d.at p) → (shows e p ≡ shows d p) ⊎ Changes d p (shows e p) → Suits rule (e.at p)

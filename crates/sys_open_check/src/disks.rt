@@ -1,4 +1,6 @@
 //! Disks to open.
+ghost use Rattle.std.specs.Prelude.{◌≡◌};
+
 use fs_memory::MemFs;
 use fs_trait::Fs;
 use ost_types::{FsPath, Meta, Text, Xattrs};
