@@ -1,11 +1,15 @@
 -- Fewer steps are left; and what the look tells.
-use Rattle.std.proofs.Common.{◌≡◌, ◌≢◌, ℕ, ◌+◌, ◌≤◌, ◌<◌, arith, Bool, true, false, refl, sym, ap, subst, List, Option, Some, None, if◌then◌else◌}
+use Rattle.std.proofs.Common.{◌≡◌, ◌≢◌, ◌==◌, ◌∙◌, ℕ, ◌+◌, ◌*◌, ◌≤◌, ◌<◌, arith, Bool, true, false, refl, sym, ap, subst, List, length, Option, Some, None, if◌then◌else◌}
+use Rattle.std.specs.Prelude.{count_by}
+use Rattle.std.proofs.lemmas.List.Splits.{length-slice_split}
 use Rattle.fs_trait.specs.declared.types.Value.{Value}
 use Rattle.fs_trait.specs.declared.types.Value.TheVariants.{Absent, Folder, Link, File}
 use Rattle.fs_trait.specs.View.{Disk, View}
 use Rattle.fs_trait.specs.Image.{is_folder}
+use Rattle.repo_layout.specs.RefName.{IsRefName, parts_of}
 use Rattle.repo_layout.specs.Paths.{ref_path}
 use Rattle.repo_layout.specs.Refs.{is_leaf}
+use Rattle.ref_room.proofs.Names.{length-ref_path}
 use Rattle.ref_room.specs.Clearing as clearing
 use Rattle.ref_room.specs.Way as way
 use Rattle.ref_store.specs.declared.phase.Phase.{Phase}
@@ -16,6 +20,16 @@ use Rattle.ref_store.specs.Lookup.{IsThere}
 use Rattle.ref_store.specs.Change.{Change, begun, commit_of, left, left_in, left_way}
 use Rattle.ref_store.specs.Steps.{HasValue, goes_on}
 use Rattle.ref_store.proofs.RoomLemmas.{left_small}
+
+-- the parts of a name by its slashes
+pub parts_counted : (text name : List ℕ) → text ≡ name → (count : ℕ) → count ≡ count_by (λ b. b == 47) text → count + 1 ≡ length (parts_of name)
+parts_counted text name e count is = ap (λ n. n + 1) (is ∙ ap (count_by (λ b. b == 47)) e) ∙ sym (length-slice_split (λ b. b == 47) name)
+
+pub parts_few : (text : List ℕ) → IsRefName text → (count : ℕ) → count ≡ count_by (λ b. b == 47) text → count + 1 ≤ 12
+parts_few text named count is = omega (arith, parts_counted text text refl count is, named.few)
+
+pub way_counted : (name : List ℕ) (parts : ℕ) → parts ≡ length (parts_of name) → 2 * (4 + parts) + 9 ≡ left_way name
+way_counted name parts is = omega (arith, is, length-ref_path name)
 
 walk_left : (w : way.Walked) (name : List ℕ) → w.name ≡ name → (t : Change) → left_in (phase.Walk w) t ≤ left_way name
 walk_left w name e t = by (way.is_over w.leg)

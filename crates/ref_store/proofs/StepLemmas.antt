@@ -1,5 +1,5 @@
 -- What each step writes and leaves.
-use Rattle.std.proofs.Common.{◌≡◌, ◌≢◌, ℕ, ◌<◌, arith, true, false, refl, sym, ◌∙◌, subst, List, [], ◌∷◌, ◌++◌, append-nil, Option, None}
+use Rattle.std.proofs.Common.{◌≡◌, ◌≢◌, ℕ, ◌<◌, arith, true, false, refl, sym, ◌∙◌, subst, List, [], ◌∷◌, ◌++◌, append-nil, Option, Some, None}
 use Rattle.std.specs.Prelude.{codes}
 use Rattle.std.specs.Fmt.{decimal}
 use Rattle.ost_types.specs.Path.{Name, Path, under, is_below}
@@ -28,7 +28,7 @@ use Rattle.ref_room.proofs.Answering.{Step}
 use Rattle.staged_file.specs.Steps.{IsPlaced}
 use Rattle.ref_store.specs.declared.phase.Phase.{Phase}
 use Rattle.ref_store.specs.declared.phase.Phase.TheVariants as phase
-use Rattle.ref_store.specs.Change.{Change, made_in, IsUnlink, IsSyncFolder}
+use Rattle.ref_store.specs.Change.{Change, made_in, keeps_folder, IsUnlink, IsSyncFolder}
 use Rattle.ref_store.specs.Steps.{Needs, needs_in, writes_in, WritesOf, refuses_in, ShowsValue, leads}
 
 pub is_unlink : (ph : Phase) → IsUnlink ph → ph ≡ phase.Unlink
@@ -48,6 +48,11 @@ is_sync_folder (phase.Walk w) is = absurd is
 is_sync_folder (phase.Put s) is = absurd is
 is_sync_folder phase.Unlink is = absurd is
 is_sync_folder phase.Ended is = absurd is
+
+pub kept_folder : (ph : Phase) → ph ≡ phase.SyncFolder → (name : List ℕ) (folder : Option Path) (f : Path) → keeps_folder ph name folder → folder ≡ Some f → f ≡ ref_folder name
+kept_folder ph is name folder f keeps e =
+    let k : folder ≡ Some (ref_folder name) = subst (λ x. keeps_folder x name folder) is keeps in
+    let same : Some f ≡ Some (ref_folder name) = sym e ∙ k in cc
 
 leaf_free : (d : Disk) (z : Value) → IsLeaf (seen d z) → unless_leaf z ≡ None
 leaf_free d Absent leaf = absurd leaf

@@ -1,5 +1,6 @@
 -- A change of a ref, and which step comes next.
 use Rattle.std.specs.Prelude.{◌≡◌, ◌⊎◌, ◌≤◌, ◌<◌, ◌+◌, ◌*◌, ℕ, Bool, true, false, List, length, Option, Some, None, IsSome, Result, Ok, Err, IsErrOf, OnOk, if◌then◌else◌}
+use Rattle.ost_types.specs.Path.{Path}
 use Rattle.fs_trait.specs.declared.types.FsErr.{FsErr}
 use Rattle.fs_trait.specs.declared.types.FsErr.TheVariants as fs
 use Rattle.fs_trait.specs.declared.task.Turn.{Turn}
@@ -62,6 +63,11 @@ made_in Ended t = Unit {0}
 
 abbrev pub IsMade : Change → Type 0
 IsMade t = made_in t.phase t
+
+-- What is to be synced is the folder of the ref.
+abbrev pub keeps_folder : Phase → List ℕ → Option Path → Type 0
+keeps_folder SyncFolder name folder = folder ≡ Some (ref_folder name)
+keeps_folder ph name folder = Unit {0}
 
 -- the phase behind the look
 abbrev pub begun : Option (List ℕ) → There → List ℕ → Phase

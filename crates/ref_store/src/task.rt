@@ -1,4 +1,5 @@
-ghost use Rattle.std.specs.Prelude.{◌≡◌, ◌<◌, ◌≤◌, ℕ, Option, Some, None, Ok, IfOk, IfErr, IsSome, OnOk};
+ghost use Rattle.std.specs.Prelude.{◌≡◌, ◌<◌, ◌≤◌, ◌==◌, ℕ, Option, Some, None, Ok, IfOk, IfErr, OnOk, count_by, length};
+ghost use Rattle.repo_layout.specs.RefName.{parts_of};
 ghost use Rattle.fs_trait.specs.View.{View};
 ghost use Rattle.fs_trait.specs.Image.{EachImage, Told};
 ghost use Rattle.fs_trait.specs.Effect.{Elapses, HasCause, LeavesEach};
@@ -15,12 +16,14 @@ mod tells;
 use crate::RefRefusal;
 use crate::phase::Phase;
 use fs_trait::{Fs, FsErr, Need, Turn};
-use ost_types::{Csum, FsPath, NoMemory};
-use ref_room::ref_folder;
-use repo_layout::{RefName, ref_path};
+use ost_types::{Csum, FsPath};
+use repo_layout::RefName;
 use staged_file::Phase as FilePhase;
 use std::alloc::Global;
 use std::marker::Model;
+
+// how many names the path of the folder of all refs has
+const HEADS: usize = 4;
 
 /// The task that changes one ref, a step at a time. It compares the ref's value with the one that it was to have, and tells a
 /// ref that can't stand beside it. Then it makes room for the ref's file, puts it there in one call, and makes sure that it
@@ -33,70 +36,53 @@ pub struct RefTask {
     seen: Option<Csum>,
     // None: the ref is removed
     value: Option<Csum>,
-    at: FsPath,
-    folder: FsPath,
+    // that of the ref's file, once it was taken away
+    folder: Option<FsPath>,
     phase: Phase,
 }
 
 impl Model for RefTask {
-    ghost use Rattle.std.specs.Prelude.{◌≡◌, ◌<◌};
-    ghost use Rattle.repo_layout.specs.Paths.{ref_path};
-    ghost use Rattle.ref_room.specs.Clash.{ref_folder};
-    ghost use Rattle.ref_store.specs.Change.{Change, IsMade};
+    ghost use Rattle.std.specs.Prelude.{◌<◌};
+    ghost use Rattle.ref_store.specs.Change.{Change, IsMade, keeps_folder};
 
     ghost Value = { Change };
 
     ghost view = { λ a. record { actor = a.actor; name = a.name; seen = a.seen; value = a.value; phase = a.phase } };
 
-    ghost invariant = { λ a. (a.actor < 16) × (a.at ≡ ref_path a.name) × (a.folder ≡ ref_folder a.name) × IsMade (record { actor = a.actor; name = a.name; seen = a.seen; value = a.value; phase = a.phase }) };
+    ghost invariant = { λ a. (a.actor < 16) × keeps_folder a.phase a.name a.folder × IsMade (record { actor = a.actor; name = a.name; seen = a.seen; value = a.value; phase = a.phase }) };
 }
 
 impl RefTask {
     /// Lets the ref name a commit. It must have the value `seen` so far, None where there is no such ref.
-    pub fn set(
-        alloc: Global,
-        actor: u8,
-        name: RefName,
-        seen: Option<Csum>,
-        commit: Csum,
-    ) -> Result<RefTask, NoMemory>
+    pub fn set(alloc: Global, actor: u8, name: RefName, seen: Option<Csum>, commit: Csum) -> RefTask
         requires { actor < 16 }
-        ensures { IfOk result (λ t. t ≡ record { actor = actor; name = name; seen = seen; value = Some commit; phase = phase.Look }) }
+        ensures { result ≡ record { actor = actor; name = name; seen = seen; value = Some commit; phase = phase.Look } }
     {
-        RefTask::new(alloc, actor, name, seen, Some(commit))
-    }
-
-    /// Removes the ref. It must name the commit `seen` so far.
-    pub fn remove(alloc: Global, actor: u8, name: RefName, seen: Csum) -> Result<RefTask, NoMemory>
-        requires { actor < 16 }
-        ensures { IfOk result (λ t. t ≡ record { actor = actor; name = name; seen = Some seen; value = None; phase = phase.Look }) }
-    {
-        RefTask::new(alloc, actor, name, Some(seen), None)
-    }
-
-    fn new(
-        alloc: Global,
-        actor: u8,
-        name: RefName,
-        seen: Option<Csum>,
-        value: Option<Csum>,
-    ) -> Result<RefTask, NoMemory>
-        requires actor { actor < 16 }
-        requires removed { value ≡ None → IsSome seen }
-        ensures { IfOk result (λ t. t ≡ record { actor = actor; name = name; seen = seen; value = value; phase = phase.Look }) }
-    {
-        let at = ref_path(alloc, &name)?;
-        let folder = ref_folder(alloc, &name)?;
-        Ok(RefTask {
+        RefTask {
             alloc,
             actor,
             name,
             seen,
-            value,
-            at,
-            folder,
+            value: Some(commit),
+            folder: None,
             phase: Phase::Look,
-        })
+        }
+    }
+
+    /// Removes the ref. It must name the commit `seen` so far.
+    pub fn remove(alloc: Global, actor: u8, name: RefName, seen: Csum) -> RefTask
+        requires { actor < 16 }
+        ensures { result ≡ record { actor = actor; name = name; seen = Some seen; value = None; phase = phase.Look } }
+    {
+        RefTask {
+            alloc,
+            actor,
+            name,
+            seen: Some(seen),
+            value: None,
+            folder: None,
+            phase: Phase::Look,
+        }
     }
 
     /// The lock under which the next step must stand.
@@ -113,7 +99,7 @@ impl RefTask {
     pub fn left(&self) -> u128
         ensures { result ≡ left self.now }
     {
-        let left_way = self.left_way();
+        let left_way = left_way(&self.name);
         match &self.phase {
             Phase::Look => (1 << 127) + 2 + left_way,
             Phase::Clear(clearing) => clearing.left() + left_way,
@@ -124,13 +110,26 @@ impl RefTask {
             Phase::Ended => 0,
         }
     }
+}
 
-    fn left_way(&self) -> u128
-        ensures value { result ≡ left_way self.now.name }
-        ensures small { result < 1000 }
-    {
-        2 * self.at.names().len() as u128 + 9
-    }
+fn left_way(name: &RefName) -> u128
+    ensures value { result ≡ left_way name.now }
+    ensures small { result < 1000 }
+{
+    2 * (HEADS + count_parts(name)) as u128 + 9
+}
+
+fn count_parts(name: &RefName) -> usize
+    ensures value { result ≡ length (parts_of name.now) }
+    ensures few { result ≤ 12 }
+{
+    count_slashes(name.as_slice()) + 1
+}
+
+fn count_slashes(text: &[u8]) -> usize
+    ensures { result ≡ count_by (λ b. b == 47) text.now }
+{
+    text.iter().filter(|byte| **byte == b'/').count()
 }
 
 fn left_put(phase: FilePhase) -> u128

@@ -76,7 +76,7 @@ pub fn set<F: Fs>(
 {
     // that it is a ref's name
     let _bytes = name.as_slice();
-    let task = RefTask::set(alloc, ACTOR, name, seen, commit)?;
+    let task = RefTask::set(alloc, ACTOR, name, seen, commit);
     change(fs, alloc, task)
 }
 
@@ -95,6 +95,6 @@ pub fn remove<F: Fs>(
 {
     // that it is a ref's name
     let _bytes = name.as_slice();
-    let task = RefTask::remove(alloc, ACTOR, name, seen)?;
+    let task = RefTask::remove(alloc, ACTOR, name, seen);
     change(fs, alloc, task)
 }

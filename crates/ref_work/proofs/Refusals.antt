@@ -1,11 +1,13 @@
 -- Where the view is told, and stands as the system keeps it, nothing that stands there refuses a change.
-use Rattle.std.proofs.Common.{◌≡◌, ◌⊎◌, inl, inr, ⊎_elim, ◌<◌, ◌+◌, ℕ, true, refl, sym, ◌∙◌, ap, subst, arith, List, ◌++◌, append_assoc, length, Option}
-use Rattle.ost_types.specs.Path.{Path}
+use Rattle.std.proofs.Common.{◌≡◌, ⊎_elim, ◌<◌, ◌+◌, ℕ, true, refl, sym, ◌∙◌, ap, subst, arith, List, ◌++◌, append_assoc, length, Option}
+use Rattle.ost_types.specs.Path.{Path, is_below}
 use Rattle.fs_trait.specs.declared.types.FsErr.{FsErr}
 use Rattle.fs_trait.specs.declared.types.FsErr.TheVariants.{Failed, NoMemory, Exists, Missing, NotFolder, NotEmpty}
 use Rattle.fs_trait.specs.View.{Disk, View}
 use Rattle.fs_trait.specs.Image.{IsTree}
 use Rattle.fs_trait.specs.Effect.{OfNone}
+use Rattle.fs_trait.specs.Seen.{shows}
+use Rattle.fs_trait.proofs.Effects.{may_now}
 use Rattle.fs_trait.proofs.Images.{Image-now}
 use Rattle.fs_trait.proofs.Claims.{is_below-before}
 use Rattle.repo_layout.specs.RefName.{IsRefName, parts_of}
@@ -28,14 +30,17 @@ use Rattle.rely.specs.declared.books.Pending.{Pending}
 use Rattle.rely.specs.State.{State}
 use Rattle.rely.specs.Books.{Books}
 use Rattle.rely.specs.Disks.{IsGood}
-use Rattle.rely.specs.Sound.{Stands}
+use Rattle.rely.specs.Sound.{IsReached, Stands}
 use Rattle.rely.proofs.Goods.{fits_now}
 use Rattle.rely.proofs.Layouts.{in_heads}
 use Rattle.ref_work.specs.declared.command.RefCommand.{RefCommand}
 use Rattle.ref_work.specs.declared.command.RefCommand.TheVariants.{Parse, Reset, Change}
 use Rattle.ref_work.specs.Places.{placed_way}
 use Rattle.ref_work.specs.Commands.{command_facts, command_refuses}
-use Rattle.ref_work.specs.Answers.{IsBeyond, BeyondRef}
+
+below_heads : (name : List ℕ) (p : Path) → IsUnder name p → is_below heads p ≡ true
+unfolding ref_path
+below_heads name p under = subst (λ q. is_below heads q ≡ true) (sym (under.1 ∙ append_assoc heads (parts_of name) under.0)) (is_below-before heads (parts_of name ++ under.0))
 
 module _ (d : Disk) (good : IsGood d) where
   -- a leaf that stands where a ref can is a ref
@@ -56,7 +61,7 @@ module _ (d : Disk) (good : IsGood d) where
       let e : p ≡ heads ++ (parts_of name ++ under.0) = under.1 ∙ append_assoc heads (parts_of name) under.0 in
       no_leaf_below (parts_of name ++ under.0) (subst (λ q. is_leaf (d.at q) ≡ true) e leaf) (subst IsNoRef e none)
 
-module _ (t : store.Change) (v : View) (needs : Needs t v) (good : IsGood v.now) where
+module _ (t : store.Change) (v : View) (needs : Needs t v) (good : IsGood v.now) (reached : (p : Path) → IsReached p (shows v.now p)) where
   look_none : ShowsNoCommit v.now (ref_path t.name) → ⊥
   look_none why = let r = good.refs t.name why.leaf in why.none r.1 r.2
 
@@ -68,62 +73,62 @@ module _ (t : store.Change) (v : View) (needs : Needs t v) (good : IsGood v.now)
       let other = placed_way y.name (y.reached + 1) named (omega arith) few in
       no_leaf_at v.now good (way_to (y.reached + 1) y.name) other.0 other.1 why.1 why.2
 
-  clear_beyond : (c : clearing.Cleared) → t.phase ≡ phase.Clear c → clearing.Refuses c v NotEmpty → BeyondRef t.name v
-  clear_beyond c is why =
+  clear_none : (c : clearing.Cleared) → t.phase ≡ phase.Clear c → clearing.Refuses c v NotEmpty → ⊥
+  clear_none c is why =
       let name : c.name ≡ t.name = (made t v needs (phase.Clear c) is).0 in
       let under : IsUnder t.name why.1.0 = subst (λ n. IsUnder n why.1.0) name why.1.1 in
       ⊎_elim
-      (λ leaf. absurd (no_leaf_under v.now good t.name why.1.0 under (seen_leaf v.now (v.now.at why.1.0) leaf.0) leaf.1))
-      (λ long. (why.1.0, under, why.1.2, long))
+      (λ leaf. no_leaf_under v.now good t.name why.1.0 under (seen_leaf v.now (v.now.at why.1.0) leaf.0) leaf.1)
+      (λ long. long (reached why.1.0 (below_heads t.name why.1.0 under) why.1.2))
       why.1.3
 
-  refused : (ph : Phase) → t.phase ≡ ph → (e : FsErr) → refuses_in ph t v e → OfNone e ⊎ BeyondRef t.name v
-  refused phase.Look is Failed why = inl tt
-  refused phase.Look is NoMemory why = inl tt
+  refused : (ph : Phase) → t.phase ≡ ph → (e : FsErr) → refuses_in ph t v e → OfNone e
+  refused phase.Look is Failed why = tt
+  refused phase.Look is NoMemory why = tt
   refused phase.Look is Exists why = absurd (look_none why)
   refused phase.Look is Missing why = absurd why
   refused phase.Look is NotFolder why = absurd why
   refused phase.Look is NotEmpty why = absurd why
-  refused (phase.Clear c) is Failed why = inl tt
-  refused (phase.Clear c) is NoMemory why = inl tt
+  refused (phase.Clear c) is Failed why = tt
+  refused (phase.Clear c) is NoMemory why = tt
   refused (phase.Clear c) is Exists why = absurd why
   refused (phase.Clear c) is Missing why = absurd why
   refused (phase.Clear c) is NotFolder why = absurd why
-  refused (phase.Clear c) is NotEmpty why = inr (clear_beyond c is why)
-  refused (phase.Walk y) is Failed why = inl tt
-  refused (phase.Walk y) is NoMemory why = inl tt
+  refused (phase.Clear c) is NotEmpty why = absurd (clear_none c is why)
+  refused (phase.Walk y) is Failed why = tt
+  refused (phase.Walk y) is NoMemory why = tt
   refused (phase.Walk y) is Exists why = absurd (walk_none y is why)
   refused (phase.Walk y) is Missing why = absurd why
   refused (phase.Walk y) is NotFolder why = absurd why
   refused (phase.Walk y) is NotEmpty why = absurd why
-  refused (phase.Put g) is Failed why = inl tt
-  refused (phase.Put g) is NoMemory why = inl tt
+  refused (phase.Put g) is Failed why = tt
+  refused (phase.Put g) is NoMemory why = tt
   refused (phase.Put g) is Exists why = absurd why
   refused (phase.Put g) is Missing why = absurd why
   refused (phase.Put g) is NotFolder why = absurd why
   refused (phase.Put g) is NotEmpty why = absurd why
-  refused phase.Unlink is Failed why = inl tt
-  refused phase.Unlink is NoMemory why = inl tt
+  refused phase.Unlink is Failed why = tt
+  refused phase.Unlink is NoMemory why = tt
   refused phase.Unlink is Exists why = absurd why
   refused phase.Unlink is Missing why = absurd why
   refused phase.Unlink is NotFolder why = absurd why
   refused phase.Unlink is NotEmpty why = absurd why
-  refused phase.SyncFolder is Failed why = inl tt
-  refused phase.SyncFolder is NoMemory why = inl tt
+  refused phase.SyncFolder is Failed why = tt
+  refused phase.SyncFolder is NoMemory why = tt
   refused phase.SyncFolder is Exists why = absurd why
   refused phase.SyncFolder is Missing why = absurd why
   refused phase.SyncFolder is NotFolder why = absurd why
   refused phase.SyncFolder is NotEmpty why = absurd why
-  refused phase.Ended is Failed why = inl tt
-  refused phase.Ended is NoMemory why = inl tt
+  refused phase.Ended is Failed why = tt
+  refused phase.Ended is NoMemory why = tt
   refused phase.Ended is Exists why = absurd why
   refused phase.Ended is Missing why = absurd why
   refused phase.Ended is NotFolder why = absurd why
   refused phase.Ended is NotEmpty why = absurd why
 
 pub refused_of : (start : State) (entries : List Entry) (pending : Option Pending) (lane : ℕ) (v : View) (b : Books) (t : RefCommand) (e : FsErr) → IsTree v.now → Stands start entries pending v → command_facts lane t v b → command_refuses t v e
-    → OfNone e ⊎ IsBeyond t v
-refused_of start entries pending lane v b (Parse look) e tree stands f why = inl why
-refused_of start entries pending lane v b (Reset look plan) e tree stands f why = inl why
+    → OfNone e
+refused_of start entries pending lane v b (Parse look) e tree stands f why = why
+refused_of start entries pending lane v b (Reset look plan) e tree stands f why = why
 refused_of start entries pending lane v b (Change work) e tree stands f why =
-    refused work.task v f.needs (fits_now start entries pending v stands 0 v.now (Image-now v tree)).good work.task.phase refl e why
+    refused work.task v f.needs (fits_now start entries pending v stands 0 v.now (Image-now v tree)).good (λ p. stands.reached p (shows v.now p) (may_now v p)) work.task.phase refl e why

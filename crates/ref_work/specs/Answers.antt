@@ -1,11 +1,8 @@
 -- What the answers of commands say.
 use Rattle.std.specs.Prelude.{◌≡◌, ◌≢◌, ◌<◌, ℕ, List, Option, None, IsSome}
-use Rattle.ost_types.specs.Path.{Path, IsPath}
 use Rattle.fs_trait.specs.View.{View}
-use Rattle.fs_trait.specs.Seen.{Vacant, shows}
 use Rattle.repo_layout.specs.RefName.{IsRefName}
 use Rattle.ref_room.specs.Clash.{IsLeastClash}
-use Rattle.ref_room.specs.Clearing.{IsUnder}
 use Rattle.ref_store.specs.declared.phase.Phase.TheVariants as phase
 use Rattle.ref_store.specs.Steps.{HasValue}
 use Rattle.script.specs.declared.answer.Answer.{Answer}
@@ -44,11 +41,3 @@ Says (answer.RefMoved seen now) t v w = (name : List ℕ) × IsOf t name seen ×
 Says (answer.RefClash other) t v w = (name : List ℕ) × (seen : Option (List ℕ)) × IsOf t name seen × IsLeastClash v.now name other
 Says answer.Nothing t v w = Settles t
 Says a t v w = ⊥
-
--- Something stands at or below the ref's path whose own path is beyond the bounds of paths, so that it can't be removed.
-abbrev pub BeyondRef : List ℕ → View → Type 0
-BeyondRef name v = (p : Path) × IsUnder name p × (shows v.now p ≢ Vacant) × (¬ (IsPath p))
-
-abbrev pub IsBeyond : RefCommand → View → Type 0
-IsBeyond (Change work) v = BeyondRef work.task.name v
-IsBeyond t v = ⊥

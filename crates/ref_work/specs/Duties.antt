@@ -1,5 +1,5 @@
 -- What a change of a ref writes is what its lane may write, and each kind of step keeps its duty.
-use Rattle.std.proofs.Common.{◌≡◌, ◌⊎◌, inl, inr, ⊎_elim, ℕ, true, refl, sym, ◌∙◌, ap, subst, arith, List, [], ◌++◌, append_assoc, length-append, Option, Some, None}
+use Rattle.std.proofs.Common.{◌≡◌, ◌≢◌, ◌⊎◌, inl, inr, ⊎_elim, ℕ, true, refl, sym, ◌∙◌, ap, subst, arith, List, [], ◌++◌, append_assoc, length-append, Option, Some, None}
 use Rattle.ost_types.specs.declared.meta.Meta.{Meta}
 use Rattle.ost_types.specs.Path.{Path, IsPath}
 use Rattle.ost_types.proofs.Paths.{under-folder}
@@ -11,12 +11,12 @@ use Rattle.fs_trait.specs.Seen.{Seen, Vacant, Directory, Symlink, Leaf, shows, M
 use Rattle.repo_layout.specs.RefName.{parts_of}
 use Rattle.repo_layout.specs.RefFile.{IsSum, ref_text}
 use Rattle.repo_layout.specs.Paths.{heads, ref_path, stage_path}
-use Rattle.repo_layout.specs.Place.{Ref, Stage, place}
-use Rattle.repo_layout.proofs.Places.{place-ref}
+use Rattle.repo_layout.specs.Place.{Ref, Stage, IsAt, place}
+use Rattle.repo_layout.proofs.Places.{place-ref, place-back}
 use Rattle.ref_room.specs.Clash.{ref_folder}
 use Rattle.ref_room.specs.Clearing as clearing
 use Rattle.ref_room.specs.Clearing.{IsUnder}
-use Rattle.ref_room.proofs.Names.{ref_folder-under, some_parts}
+use Rattle.ref_room.proofs.Names.{ref_folder-under, some_parts, way_to-path}
 use Rattle.ref_room.proofs.Stable.{way_lies, clearing_lies}
 use Rattle.staged_file.specs.declared.phase.Phase as staged
 use Rattle.staged_file.specs.declared.phase.Phase.TheVariants as file
@@ -38,7 +38,7 @@ use Rattle.rely.specs.Sound.{Leads}
 use Rattle.rely.specs.Change.{Still, Shows, Final}
 use Rattle.rely.specs.Laws.{IsSettle, Duty, Stood, Within}
 use Rattle.rely.proofs.Calls.{own_file, stage_still, folder_still, set_shows, drop_shows, set_final, drop_final}
-use Rattle.ref_work.specs.Places.{placed_below, placed_way}
+use Rattle.ref_work.specs.Places.{path_of_ref, placed_below, placed_way}
 use Rattle.ref_work.specs.Kinds.{event_of, event, put_kind, kind_in}
 use Rattle.ref_work.specs.Facts.{turn_in, Facts}
 use Rattle.ref_work.specs.Kept.{stage_is}
@@ -84,17 +84,19 @@ module _ (b : Books) (v : View) (lane : ℕ) (t : Change) (needs : Needs t v) (m
   folders p s l = ⊎_elim (λ is. inl is) (λ more. ⊎_elim (λ leaf. inr (inl leaf)) (λ goes. inr (inr (inr (inl goes.empty)))) more) l.folders
 
   module _ (turn : Free b.turn lane) (alone : Free b.exclusive lane) where
-    at_ref : (p : Path) (s : Seen) (other : List ℕ) → place p ≡ Ref other → may_at b lane lane (place p) s
-    at_ref p s other e = subst (λ x. may_at b lane lane x s) (sym e) (turn, alone)
+    at_ref : (p : Path) (s : Seen) (other : List ℕ) → place p ≡ Ref other → (s ≢ Vacant → IsPath p) → may_at b lane lane (place p) s
+    at_ref p s other e reached =
+        let same : p ≡ ref_path other = subst (λ x. IsAt x p) e (place-back p) in
+        subst (λ x. may_at b lane lane x s) (sym e) (turn, alone, λ there. subst IsPath same (reached there))
 
     at : (p : Path) (s : Seen) → Lies t v p s → may_at b lane lane (place p) s
     at p s l = ⊎_elim
         (λ e. subst (λ x. may_at b lane lane x s) (sym (ap place e ∙ stage)) refl)
         (λ more. ⊎_elim
-        (λ here. at_ref p s t.name (ap place here.0 ∙ place-ref t.name))
+        (λ here. at_ref p s t.name (ap place here.0 ∙ place-ref t.name) (λ there. subst IsPath (sym here.0) (path_of_ref t.name needs.named)))
         (λ rest. ⊎_elim
-        (λ way. let o = placed_way t.name way.parts needs.named way.some way.few in at_ref p s o.0 (ap place way.place ∙ o.1))
-        (λ goes. let o = placed_under t.name p goes.path goes.place in at_ref p s o.0 o.1)
+        (λ way. let o = placed_way t.name way.parts needs.named way.some way.few in at_ref p s o.0 (ap place way.place ∙ o.1) (λ there. subst IsPath (sym way.place) (way_to-path way.parts t.name (path_of_ref t.name needs.named))))
+        (λ goes. let o = placed_under t.name p goes.path goes.place in at_ref p s o.0 o.1 (λ there. goes.path))
         rest)
         more)
         l.place

@@ -42,7 +42,7 @@ pub placed_below : (rest : Path) → 0 < length rest → AreNames (heads ++ rest
 placed_below [] some names = absurd (omega (arith, some))
 placed_below (part ∷ rest) some names = (part ++ joined rest, ap place (sym (ref_of part rest names.1.1.1.1)) ∙ place-ref (part ++ joined rest))
 
-path_of_ref : (name : List ℕ) → IsRefName name → IsPath (ref_path name)
+pub path_of_ref : (name : List ℕ) → IsRefName name → IsPath (ref_path name)
 path_of_ref name named = let k = ref-known name named in record { names = k.names; few = omega (arith, k.few); short = omega (arith, k.short) }
 
 -- a folder on the way to a ref

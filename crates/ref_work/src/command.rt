@@ -58,13 +58,13 @@ impl RefCommand {
     }
 
     /// `drop`, which removes the ref. So far it must name the commit `seen`.
-    pub fn drop(alloc: Global, lane: u8, name: RefName, seen: Csum) -> Result<RefCommand, NoMemory>
+    pub fn drop(alloc: Global, lane: u8, name: RefName, seen: Csum) -> RefCommand
         requires { lane < 16 }
-        ensures drop { IfOk result (IsDrop lane name seen) }
-        ensures begins { IfOk result (Begins lane) }
+        ensures drop { IsDrop lane name seen result }
+        ensures begins { Begins lane result }
     {
         let _text = name.as_slice();
-        Ok(RefCommand::Change(RefWork::remove(alloc, lane, name, seen)?))
+        RefCommand::Change(RefWork::remove(alloc, lane, name, seen))
     }
 
     /// What it answers, once it is done.

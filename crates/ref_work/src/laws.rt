@@ -1,5 +1,5 @@
 //! What others may rest on, beside the contracts of the steps.
-ghost use Rattle.std.specs.Prelude.{◌≡◌, ◌≢◌, ◌⊎◌, ◌<◌, ℕ, List, Option, Some, None, IsSome};
+ghost use Rattle.std.specs.Prelude.{◌≡◌, ◌≢◌, ◌<◌, ℕ, List, Option, Some, None, IsSome};
 ghost use Rattle.fs_trait.specs.declared.types.FsErr.{FsErr};
 ghost use Rattle.fs_trait.specs.Effect.{OfNone};
 ghost use Rattle.fs_trait.specs.Image.{IsTree};
@@ -17,7 +17,7 @@ ghost use Rattle.rely.specs.Sound.{Stands};
 ghost use Rattle.ref_work.specs.declared.command.RefCommand.{RefCommand};
 ghost use Rattle.ref_work.specs.Facts.{Home};
 ghost use Rattle.ref_work.specs.Commands.{answer_of, command_facts, command_leaves, command_left, command_refuses, command_stepped, command_writes};
-ghost use Rattle.ref_work.specs.Answers.{Begins, IsBeyond, Says};
+ghost use Rattle.ref_work.specs.Answers.{Begins, Says};
 
 /// Of a lane without a task it is known that no folder stands where it stages. Nothing that others do changes that, nor a step
 /// of its own tasks, whatever the step answers; and with it a new task has its facts.
@@ -37,8 +37,7 @@ pub fn steps_fall()
     ensures { (lane : ℕ) (t new : RefCommand) (v : View) (b : Books) → command_facts lane t v b → command_stepped t turn.More new → command_left new < command_left t }
 {}
 
-/// Where the view is told, a command is refused only by a call that failed or for want of memory; or since something stands at
-/// or below the ref's path whose own path is beyond the bounds of paths.
+/// Where the view is told, a command is refused only by a call that failed or for want of memory.
 pub fn told_refusals()
-    ensures { (start : State) (entries : List Entry) (pending : Option Pending) (lane : ℕ) (v : View) (b : Books) (t : RefCommand) (e : FsErr) → IsTree v.now → Stands start entries pending v → command_facts lane t v b → command_refuses t v e → OfNone e ⊎ IsBeyond t v }
+    ensures { (start : State) (entries : List Entry) (pending : Option Pending) (lane : ℕ) (v : View) (b : Books) (t : RefCommand) (e : FsErr) → IsTree v.now → Stands start entries pending v → command_facts lane t v b → command_refuses t v e → OfNone e }
 {}

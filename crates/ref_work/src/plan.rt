@@ -45,6 +45,6 @@ impl Plan {
         ensures { IfOk result (λ w. w ≡ record { task = record { actor = self.now.lane; name = self.now.name; seen = self.now.seen; value = Some self.now.commit; phase = phase.Look }; answer = None }) }
     {
         let name = self.name.copy()?;
-        RefWork::set(self.alloc, self.lane, name, self.seen, self.commit)
+        Ok(RefWork::set(self.alloc, self.lane, name, self.seen, self.commit))
     }
 }

@@ -24,27 +24,25 @@ pub struct RefWork {
 
 impl RefWork {
     /// Lets the ref name a commit. It must have the value `seen` so far, None where there is no such ref.
-    pub fn set(
-        alloc: Global,
-        lane: u8,
-        name: RefName,
-        seen: Option<Csum>,
-        commit: Csum,
-    ) -> Result<RefWork, NoMemory>
+    pub fn set(alloc: Global, lane: u8, name: RefName, seen: Option<Csum>, commit: Csum) -> RefWork
         requires { lane < 16 }
-        ensures { IfOk result (λ t. t ≡ record { task = record { actor = lane; name = name; seen = seen; value = Some commit; phase = phase.Look }; answer = None }) }
+        ensures { result ≡ record { task = record { actor = lane; name = name; seen = seen; value = Some commit; phase = phase.Look }; answer = None } }
     {
-        let task = RefTask::set(alloc, lane, name, seen, commit)?;
-        Ok(RefWork { task, answer: None })
+        RefWork {
+            task: RefTask::set(alloc, lane, name, seen, commit),
+            answer: None,
+        }
     }
 
     /// Removes the ref. It must name the commit `seen` so far.
-    pub fn remove(alloc: Global, lane: u8, name: RefName, seen: Csum) -> Result<RefWork, NoMemory>
+    pub fn remove(alloc: Global, lane: u8, name: RefName, seen: Csum) -> RefWork
         requires { lane < 16 }
-        ensures { IfOk result (λ t. t ≡ record { task = record { actor = lane; name = name; seen = Some seen; value = None; phase = phase.Look }; answer = None }) }
+        ensures { result ≡ record { task = record { actor = lane; name = name; seen = Some seen; value = None; phase = phase.Look }; answer = None } }
     {
-        let task = RefTask::remove(alloc, lane, name, seen)?;
-        Ok(RefWork { task, answer: None })
+        RefWork {
+            task: RefTask::remove(alloc, lane, name, seen),
+            answer: None,
+        }
     }
 
     /// What it came to, once it is done.

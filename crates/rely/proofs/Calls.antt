@@ -1,7 +1,7 @@
 -- What single calls owe: each kind of call once, for the tasks of all commands.
-use Rattle.std.proofs.Common.{◌≡◌, ◌⊎◌, inl, inr, ⊎_elim, ℕ, refl, sym, ◌∙◌, ap, subst, List, Option, Some, None}
+use Rattle.std.proofs.Common.{◌≡◌, ◌≢◌, ◌⊎◌, inl, inr, ⊎_elim, ℕ, refl, sym, ◌∙◌, ap, subst, List, Option, Some, None}
 use Rattle.ost_types.specs.declared.meta.Meta.{Meta}
-use Rattle.ost_types.specs.Path.{Path, under}
+use Rattle.ost_types.specs.Path.{Path, IsPath, under}
 use Rattle.fs_trait.specs.declared.types.Value.TheVariants.{File}
 use Rattle.fs_trait.specs.View.{View}
 use Rattle.fs_trait.specs.Image.{Holds}
@@ -54,11 +54,11 @@ pub stage_away : (W : Path → Seen → Type 0) (actor : ℕ) → ((p : Path) (s
 stage_away W actor at t s wrote = stage_no_ref t (path_of t) actor (at (path_of t) s wrote) refl
 
 -- A write at a ref's path, or at a folder above refs, under the Turn.
-pub ref_within : (b : Books) (v : View) (actor lane : ℕ) (name : List ℕ) (p : Path) (s : Seen) → p ≡ ref_path name → Free b.turn lane → Free b.exclusive lane
+pub ref_within : (b : Books) (v : View) (actor lane : ℕ) (name : List ℕ) (p : Path) (s : Seen) → p ≡ ref_path name → Free b.turn lane → Free b.exclusive lane → (s ≢ Vacant → IsPath (ref_path name))
     → ((n : ℕ) (m : Meta) (bytes : List ℕ) → s ≡ Leaf n m bytes → IsFresh n v ⊎ ((q : Path) × Holds v q (File n) × NotOthers actor (place q)))
     → IsDirectory s ⊎ NotDirectory (shows v.now p) ⊎ HasNoRefs v p → May b v actor lane p s
-ref_within b v actor lane name p s e turn alone comes folders = record {
-  at = subst (λ x. may_at b actor lane x s) (sym (ap place e ∙ place-ref name)) (turn, alone);
+ref_within b v actor lane name p s e turn alone reached comes folders = record {
+  at = subst (λ x. may_at b actor lane x s) (sym (ap place e ∙ place-ref name)) (turn, alone, reached);
   comes = comes;
   folders = ⊎_elim (λ k. inl k) (λ rest. ⊎_elim (λ k. inr (inl k)) (λ k. inr (inr (inr (inr k)))) rest) folders;
 }

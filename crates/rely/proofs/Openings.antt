@@ -17,7 +17,7 @@ use Rattle.rely.specs.declared.books.Base.{Base}
 use Rattle.rely.specs.declared.books.Books.{Books}
 use Rattle.rely.specs.State.{Topic, RefOf, Said, State, first, IsNamed}
 use Rattle.rely.specs.Disks.{path_of, IsLeaf, Says, IsOther}
-use Rattle.rely.specs.Sound.{Leads, NoStray, Stands, Sound}
+use Rattle.rely.specs.Sound.{IsReached, Leads, NoStray, Stands, Sound}
 use Rattle.rely.specs.Opening.{IsOpening, HasSince}
 use Rattle.rely.proofs.States.{says_leaf}
 use Rattle.rely.proofs.Layouts.{below_split}
@@ -75,6 +75,7 @@ module _ (start : State) (v : View) (tree : IsTree v.now) (begins : IsOpening st
     };
     folders = λ f. leads_there (folder_path f) (begins.folders f);
     strays = no_stray;
+    reached = λ p s may. subst (IsReached p) (sym (only p s may)) (begins.reached p);
   }
 
 pub sound_begins : {F : Type 0} (view : F → Option View) (clock spare : F → ℕ) (was : F → ℕ → View → Type 0) → ((fs : F) (v : View) → view fs ≡ Some v → IsTree v.now) → (base : Base F)

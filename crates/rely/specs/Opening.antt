@@ -8,12 +8,15 @@ use Rattle.repo_layout.specs.declared.folder.Folder.{Folder}
 use Rattle.repo_layout.specs.Paths.{folder_path}
 use Rattle.rely.specs.State.{State}
 use Rattle.rely.specs.Disks.{Logical, IsGood}
+use Rattle.rely.specs.Sound.{IsReached}
 
--- After a sync of all each crash leaves what is there: a good disk with all folders of the layout, and with this state.
+-- After a sync of all each crash leaves what is there: a good disk with all folders of the layout, on which all that stands at
+-- and below the folder of refs is within the bounds of paths, and with this state.
 pub record IsOpening (start : State) (v : View) : Type 0 where
   pub settled : (p : Path) → Always v p (shows v.now p)
   pub folders : (f : Folder) → is_folder (v.now.at (folder_path f)) ≡ true
   pub good : IsGood v.now
+  pub reached : (p : Path) → IsReached p (shows v.now p)
   pub state : Logical v.now start
 
 -- Each disk that a crash left since this moment is good, and has this state.

@@ -1,8 +1,8 @@
 -- What an actor may write, as far as what the others hold goes, and what an act keeps for them.
-use Rattle.std.specs.Prelude.{◌≡◌, ◌⊎◌, ℕ, List, Contains, IsTrue}
+use Rattle.std.specs.Prelude.{◌≡◌, ◌≢◌, ◌⊎◌, ℕ, List, Contains, IsTrue}
 use Rattle.ost_types.specs.declared.meta.Meta.{Meta}
 use Rattle.ost_types.specs.declared.object.Kind as object
-use Rattle.ost_types.specs.Path.{Name, Path, under, is_below}
+use Rattle.ost_types.specs.Path.{Name, Path, IsPath, under, is_below}
 use Rattle.fs_trait.specs.declared.types.Value.TheVariants.{Absent, File}
 use Rattle.fs_trait.specs.View.{View}
 use Rattle.fs_trait.specs.Image.{Holds}
@@ -22,7 +22,7 @@ NotPinned pins lane kind sum = (p : Pin) → Contains pins p → p.object.kind �
 -- What this actor, for this lane, may write at a place. Where no command of those that there are writes, nobody may.
 abbrev pub may_at : Books → ℕ → ℕ → Place → Seen → Type 0
 may_at b actor lane (Stage a) s = a ≡ actor
-may_at b actor lane (Ref name) s = Free b.turn lane × Free b.exclusive lane
+may_at b actor lane (Ref name) s = Free b.turn lane × Free b.exclusive lane × (s ≢ Vacant → IsPath (ref_path name))
 may_at b actor lane (ObjectsFolder digits) s = IsDirectory s
 may_at b actor lane (Object kind sum) s = Free b.exclusive lane × NotDirectory s × (s ≡ Vacant → NotPinned b.pins lane kind sum)
 may_at b actor lane (Mark commit) s = NotDirectory s

@@ -1,9 +1,9 @@
 -- What every value of the system keeps.
-use Rattle.std.specs.Prelude.{◌≡◌, ◌⊎◌, ◌<◌, ◌≤◌, ℕ, IsTrue, List, ◌++◌, length, Option, Some, None}
+use Rattle.std.specs.Prelude.{◌≡◌, ◌≢◌, ◌⊎◌, ◌<◌, ◌≤◌, ℕ, IsTrue, List, ◌++◌, length, Option, Some, None}
 use Rattle.std.specs.Vec.{vec_len, vec_capacity}
-use Rattle.ost_types.specs.Path.{Path, is_below, under}
+use Rattle.ost_types.specs.Path.{Path, IsPath, is_below, under}
 use Rattle.fs_trait.specs.View.{Disk, View}
-use Rattle.fs_trait.specs.Seen.{Seen, MayBe}
+use Rattle.fs_trait.specs.Seen.{Seen, Vacant, MayBe}
 use Rattle.fs_trait.specs.Change.{LeadsTo, Left}
 use Rattle.repo_layout.specs.declared.folder.Folder.{Folder}
 use Rattle.repo_layout.specs.Paths.{folder_path, heads}
@@ -33,6 +33,10 @@ Leads v folder = (p : Path) (s : Seen) → MayBe v p s → LeadsTo folder p s
 abbrev pub NoStray : Path → Seen → Type 0
 NoStray p s = IsTrue (is_below heads p) → IsOther (place p) → IsLeaf s → ⊥
 
+-- what stands at or below the folder of refs is within the bounds of paths
+abbrev pub IsReached : Path → Seen → Type 0
+IsReached p s = IsTrue (is_below heads p) → s ≢ Vacant → IsPath p
+
 -- All that a path of the state may show is the state's value, or the one that is shown. What has a value has folders above it
 -- after each crash.
 pub record Known (shown : Topic → Seen → Type 0) (value : State) (v : View) : Type 0 where
@@ -46,6 +50,7 @@ pub record Stands (start : State) (entries : List Entry) (pending : Option Pendi
   pub known : Known (Shown pending) (after (events_of entries) start) v
   pub folders : (f : Folder) → Leads v (folder_path f)
   pub strays : (p : Path) (s : Seen) → MayBe v p s → NoStray p s
+  pub reached : (p : Path) (s : Seen) → MayBe v p s → IsReached p s
 
 -- The disk is good, and its state is that after a prefix of the stored history that has all that was acknowledged by then.
 pub record Fits (start : State) (entries : List Entry) (all : List Event) (t : ℕ) (d : Disk) : Type 0 where

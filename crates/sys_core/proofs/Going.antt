@@ -1,6 +1,7 @@
 -- What an act of a lane came to.
-use Rattle.std.proofs.Common.{◌≡◌, ◌≢◌, ◌⊎◌, inl, inr, ◌<◌, ℕ, true, false, refl, sym, ◌∙◌, ap, subst, List, [], ◌∷◌, ◌++◌, length, Option, Some, None, Ok, Err, IsSome}
+use Rattle.std.proofs.Common.{◌≡◌, ◌≢◌, ◌⊎◌, inl, inr, ⊎_elim, ◌<◌, ℕ, true, false, refl, sym, ◌∙◌, ap, subst, List, [], ◌∷◌, ◌++◌, length, Option, Some, None, Ok, Err, IsSome}
 use Rattle.fs_trait.specs.View.{View}
+use Rattle.fs_trait.specs.Effect.{OfNone}
 use Rattle.fs_trait.specs.Image.{IsTree, Told}
 use Rattle.fs_trait.specs.declared.task.Turn.TheVariants as turn
 use Rattle.fs_trait.specs.declared.types.FsErr.{FsErr}
@@ -9,6 +10,7 @@ use Rattle.ref_store.specs.declared.refusal.RefRefusal.{RefRefusal}
 use Rattle.ref_work.specs.declared.command.RefCommand.{RefCommand}
 use Rattle.ref_work.specs.declared.command.RefCommand.TheVariants.{Parse, Reset, Change}
 use Rattle.ref_work.specs.Commands.{answer_of, command_facts, command_kind, command_leaves, command_refuses, command_stepped}
+use Rattle.ref_work.proofs.Refusals.{refused_of}
 use Rattle.rely.specs.declared.books.Base.{Base}
 use Rattle.rely.specs.declared.books.Books as rust
 use Rattle.rely.specs.declared.books.Entry.{Entry}
@@ -41,36 +43,36 @@ module _ (told : Type 0) (lane number : ℕ) (s p : State) (entries : List Entry
   Plain a c = Answers told lane number s p entries a c × (a ≢ answer.Nothing)
 
   -- want of something outside says nothing of the states
-  stray_answers : (a : Answer) (c : Command) → IsStray a → Plain a c × (IsHalted a → ⊥)
-  stray_answers answer.NoMemory c is = ((tt, λ n. cc), λ n. n)
-  stray_answers (answer.Outside path) c is = ((tt, λ n. cc), λ n. n)
-  stray_answers answer.DiskFault c is = absurd is
-  stray_answers (answer.Halted count) c is = absurd is
-  stray_answers answer.Nothing c is = absurd is
-  stray_answers (answer.Refs rows) c is = absurd is
-  stray_answers (answer.Commit commit) c is = absurd is
-  stray_answers answer.NoRef c is = absurd is
-  stray_answers (answer.NoCommit commit) c is = absurd is
-  stray_answers (answer.Partial commit) c is = absurd is
-  stray_answers (answer.RefMoved seen now) c is = absurd is
-  stray_answers (answer.RefClash other) c is = absurd is
+  stray_answers : (a : Answer) (c : Command) → (told → ⊥) → IsStray a → Plain a c × (IsHalted a → ⊥)
+  stray_answers answer.NoMemory c out is = ((tt, λ n. cc), λ n. n)
+  stray_answers (answer.Outside path) c out is = ((out, λ n. cc), λ n. n)
+  stray_answers answer.DiskFault c out is = absurd is
+  stray_answers (answer.Halted count) c out is = absurd is
+  stray_answers answer.Nothing c out is = absurd is
+  stray_answers (answer.Refs rows) c out is = absurd is
+  stray_answers (answer.Commit commit) c out is = absurd is
+  stray_answers answer.NoRef c out is = absurd is
+  stray_answers (answer.NoCommit commit) c out is = absurd is
+  stray_answers (answer.Partial commit) c out is = absurd is
+  stray_answers (answer.RefMoved seen now) c out is = absurd is
+  stray_answers (answer.RefClash other) c out is = absurd is
 
   disk_answers : (a : Answer) (c : Command) → a ≡ answer.DiskFault → Plain a c × (IsHalted a → ⊥)
   disk_answers a c is = subst (λ x. Plain x c × (IsHalted x → ⊥)) (sym is) ((tt, λ n. cc), λ n. n)
 
-  outside_answers : (c : Command) (a : Answer) → IsOutside c a → Plain a c × (IsHalted a → ⊥)
-  outside_answers (command.Reset branch commit) a is = stray_answers a (command.Reset branch commit) is
-  outside_answers (command.DropRef branch) a is = stray_answers a (command.DropRef branch) is
-  outside_answers (command.RevParse rev) a is = disk_answers a (command.RevParse rev) is
-  outside_answers command.Refs a is = disk_answers a command.Refs is
+  outside_answers : (c : Command) (a : Answer) → (told → ⊥) → IsOutside c a → Plain a c × (IsHalted a → ⊥)
+  outside_answers (command.Reset branch commit) a out is = stray_answers a (command.Reset branch commit) out is
+  outside_answers (command.DropRef branch) a out is = stray_answers a (command.DropRef branch) out is
+  outside_answers (command.RevParse rev) a out is = disk_answers a (command.RevParse rev) is
+  outside_answers command.Refs a out is = disk_answers a command.Refs is
 
-  pub refused_answers : (e : FsErr) (c : Command) (a : Answer) → IsRefusedAs e c a → (Answers told lane number s p entries a c × (a ≢ answer.Nothing)) × (IsHalted a → ⊥)
-  refused_answers err.NoMemory c a is = subst (λ x. Plain x c × (IsHalted x → ⊥)) (sym is) ((tt, λ n. cc), λ n. n)
-  refused_answers err.Failed c a is = disk_answers a c is
-  refused_answers err.Exists c a is = outside_answers c a is
-  refused_answers err.Missing c a is = outside_answers c a is
-  refused_answers err.NotFolder c a is = outside_answers c a is
-  refused_answers err.NotEmpty c a is = outside_answers c a is
+  pub refused_answers : (e : FsErr) (c : Command) (a : Answer) → (told → OfNone e) → IsRefusedAs e c a → (Answers told lane number s p entries a c × (a ≢ answer.Nothing)) × (IsHalted a → ⊥)
+  refused_answers err.NoMemory c a named is = subst (λ x. Plain x c × (IsHalted x → ⊥)) (sym is) ((tt, λ n. cc), λ n. n)
+  refused_answers err.Failed c a named is = disk_answers a c is
+  refused_answers err.Exists c a named is = outside_answers c a named is
+  refused_answers err.Missing c a named is = outside_answers c a named is
+  refused_answers err.NotFolder c a named is = outside_answers c a named is
+  refused_answers err.NotEmpty c a named is = outside_answers c a named is
 
   pub halted_answers : (c : Command) (a : Answer) (count : ℕ) → a ≡ answer.Halted count → Answers told lane number s p entries a c × (a ≢ answer.Nothing)
   halted_answers c a count is = subst (λ x. Plain x c) (sym is) (tt, λ n. cc)
@@ -174,6 +176,15 @@ module _ {F : Type 0} (view : F → Option View) (clock spare : F → ℕ) (was 
   says tells opens (Parse look) y is then = tt
   says tells opens (Reset look plan) y is then = tt
 
+  -- a step is refused for nothing else
+  none_told : (f : FsErr) → Tells command_leaves command_refuses t (came.Refused f) t' (view old.fs) (view new.fs) → IsTold view → OfNone f
+  none_told f tells told =
+      let v = tells_always told.0 old.fs told.1 told.2 in
+      ⊎_elim
+      (λ k. subst OfNone (sym k) tt)
+      (λ why. refused_of from h old.books.pending lane v.0 (books_of old.books) t f (trees old.fs v.0 v.1) (ready.sound.stands v.0 v.1) (ready.task.facts v.0 v.1) why)
+      (tells v.0 v.1)
+
   pub goes_ended : (outcome : Outcome) → Steps command_stepped t outcome t' → Tells command_leaves command_refuses t outcome t' (view old.fs) (view new.fs) → (outcome ≢ came.Blocked → Opens (command_kind t) lane (books_of old.books))
       → IsBooked (command_kind t) lane number moment outcome old.books new.books → (IsOver outcome → NotPending lane (books_of new.books)) → Pursues s c t → ((p : Pending) → old.books.pending ≡ Some p → p.lane ≡ lane → p.command ≡ number)
       → (faults : ℕ) (a : Answer) → IsEndedAs outcome c t' faults a → (task task' : Option Running) → start ≡ start_of h task → task' ≡ None → Goes (IsTold view) from lane number c old.books new.books task task' (Answered a start)
@@ -184,7 +195,7 @@ module _ {F : Type 0} (view : F → Option View) (clock spare : F → ℕ) (was 
       let e = halted_answers (IsTold view) lane number s after_new new.books.history.items c a faults is in
       (idle, at, e.0, inl (history_same lane number moment old.books new.books (command_kind t) came.Halted (λ z. cc) booked, e.1), step_shown lane number moment old.books new.books s c t came.Halted after booked, λ p shown l. subst IsHalted (sym is) tt)
   goes_ended (came.Refused f) steps tells opens booked over after mine faults a is task task' at idle =
-      let e = refused_answers (IsTold view) lane number s after_new new.books.history.items f c a is in
+      let e = refused_answers (IsTold view) lane number s after_new new.books.history.items f c a (none_told f tells) is in
       (idle, at, e.0.0, inl (history_same lane number moment old.books new.books (command_kind t) (came.Refused f) (λ z. cc) booked, e.0.1), step_shown lane number moment old.books new.books s c t (came.Refused f) after booked, λ p shown l. absurd (over tt p shown l))
   goes_ended came.Blocked steps tells opens booked over after mine faults a is task task' at idle = absurd is
   goes_ended came.More steps tells opens booked over after mine faults a is task task' at idle = absurd is
@@ -195,6 +206,6 @@ module _ {F : Type 0} (view : F → Option View) (clock spare : F → ℕ) (was 
   ended_halts came.Done steps tells opens booked after mine halts faults a is halted =
       absurd ((done_gives (IsTold view) from lane number moment s old.books new.books mine c t t' a after steps ready.task.holds booked (says tells (opens (λ e. cc)) t t' refl refl) is).2 halted)
   ended_halts came.Halted steps tells opens booked after mine halts faults a is halted = (halts, is)
-  ended_halts (came.Refused f) steps tells opens booked after mine halts faults a is halted = absurd ((refused_answers (IsTold view) lane number s after_new new.books.history.items f c a is).1 halted)
+  ended_halts (came.Refused f) steps tells opens booked after mine halts faults a is halted = absurd ((refused_answers (IsTold view) lane number s after_new new.books.history.items f c a (none_told f tells) is).1 halted)
   ended_halts came.Blocked steps tells opens booked after mine halts faults a is halted = absurd is
   ended_halts came.More steps tells opens booked after mine halts faults a is halted = absurd is

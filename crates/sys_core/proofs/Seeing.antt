@@ -13,6 +13,11 @@ use Rattle.ref_work.specs.Found.{IsFound}
 use Rattle.ref_work.specs.Answers.{Says}
 use Rattle.ref_work.specs.Commands.{command_facts, command_kind, command_leaves, command_refuses}
 use Rattle.ref_work.proofs.Ends.{says_of}
+use Rattle.ref_work.proofs.Refusals.{refused_of}
+use Rattle.rely.specs.declared.books.Entry.{Entry}
+use Rattle.rely.specs.declared.books.Pending.{Pending}
+use Rattle.rely.specs.Sound.{Stands}
+use Rattle.fs_trait.specs.Image.{IsTree}
 use Rattle.rely.specs.declared.kind.Outcome.{Outcome}
 use Rattle.rely.specs.declared.kind.Outcome.TheVariants as came
 use Rattle.rely.specs.Books.{Books}
@@ -25,7 +30,7 @@ use Rattle.script.specs.declared.command.Command.TheVariants as command
 use Rattle.sys_core.specs.declared.lane.Came.TheVariants.{Answered}
 use Rattle.sys_core.specs.Answers.{IsCaused, IsSeen}
 use Rattle.sys_core.specs.Begins.{AnswersBy}
-use Rattle.sys_core.specs.Pursues.{IsEndedAs, IsOutside, IsRefusedAs, IsStray, Pursues}
+use Rattle.sys_core.specs.Pursues.{IsEndedAs, IsRefusedAs}
 
 module _ (d : Disk) (halted : Bool) (before now : ℕ) where
   abbrev pub Says_so : Answer → Type 0
@@ -45,20 +50,6 @@ module _ (d : Disk) (halted : Bool) (before now : ℕ) where
   said_shown (answer.Halted count) t v w is says = absurd says
   said_shown (answer.Outside path) t v w is says = absurd says
 
-  stray_shown : (a : Answer) → IsStray a → Says_so a
-  stray_shown answer.NoMemory is = (tt, tt)
-  stray_shown (answer.Outside path) is = (tt, tt)
-  stray_shown answer.DiskFault is = absurd is
-  stray_shown (answer.Halted count) is = absurd is
-  stray_shown answer.Nothing is = absurd is
-  stray_shown (answer.Refs rows) is = absurd is
-  stray_shown (answer.Commit commit) is = absurd is
-  stray_shown answer.NoRef is = absurd is
-  stray_shown (answer.NoCommit commit) is = absurd is
-  stray_shown (answer.Partial commit) is = absurd is
-  stray_shown (answer.RefMoved seen there) is = absurd is
-  stray_shown (answer.RefClash other) is = absurd is
-
   pub by_shown : (s : State) (a : Answer) (c : Command) → AnswersBy s a c → IsSeen d a × IsCaused halted before now a
   by_shown s (answer.Refs rows) c by = (tt, tt)
   by_shown s answer.NoRef c by = (tt, tt)
@@ -76,41 +67,29 @@ module _ (d : Disk) (halted : Bool) (before now : ℕ) where
   disk_shown : (a : Answer) → a ≡ answer.DiskFault → Rose before now → Says_so a
   disk_shown a is rose = subst Says_so (sym is) (tt, rose)
 
-  not_named : (e : FsErr) → (e ≡ err.NoMemory → ⊥) → (e ≡ err.Failed → ⊥) → OfNone e → ⊥
-  not_named err.NoMemory nm nf k = nm refl
-  not_named err.Failed nm nf k = nf refl
-  not_named err.Exists nm nf k = k
-  not_named err.Missing nm nf k = k
-  not_named err.NotFolder nm nf k = k
-  not_named err.NotEmpty nm nf k = k
-
   -- the call failed, or there was no memory
-  named_shown : (c : Command) (t : RefCommand) (v : View) (s : State) (a : Answer) (e : FsErr) → (e ≡ err.NoMemory → ⊥) → (e ≡ err.Failed → ⊥) → Pursues s c t → (e ≡ err.NoMemory) ⊎ command_refuses t v e → IsOutside c a → Says_so a
-  named_shown (command.Reset branch commit) t v s a e nm nf after why is = stray_shown a is
-  named_shown (command.DropRef branch) t v s a e nm nf after why is = stray_shown a is
-  named_shown command.Refs t v s a e nm nf after why is = absurd after
-  named_shown (command.RevParse rev) (Parse look) v s a e nm nf after why is = ⊎_elim (λ k. absurd (nm k)) (λ k. absurd (not_named e nm nf k)) why
-  named_shown (command.RevParse rev) (Reset look plan) v s a e nm nf after why is = absurd after
-  named_shown (command.RevParse rev) (Change work) v s a e nm nf after why is = absurd after
-
-  refused_shown : (c : Command) (t : RefCommand) (v : View) (s : State) (a : Answer) (e : FsErr) → Pursues s c t → (e ≡ err.NoMemory) ⊎ command_refuses t v e → Causes before now (came.Refused e) → IsRefusedAs e c a → Says_so a
-  refused_shown c t v s a err.NoMemory after why cause is = subst Says_so (sym is) (tt, tt)
-  refused_shown c t v s a err.Failed after why cause is = disk_shown a is cause
-  refused_shown c t v s a err.Exists after why cause is = named_shown c t v s a err.Exists (λ k. cc) (λ k. cc) after why is
-  refused_shown c t v s a err.Missing after why cause is = named_shown c t v s a err.Missing (λ k. cc) (λ k. cc) after why is
-  refused_shown c t v s a err.NotFolder after why cause is = named_shown c t v s a err.NotFolder (λ k. cc) (λ k. cc) after why is
-  refused_shown c t v s a err.NotEmpty after why cause is = named_shown c t v s a err.NotEmpty (λ k. cc) (λ k. cc) after why is
+  refused_shown : (c : Command) (a : Answer) (e : FsErr) → OfNone e → Causes before now (came.Refused e) → IsRefusedAs e c a → Says_so a
+  refused_shown c a err.NoMemory named cause is = subst Says_so (sym is) (tt, tt)
+  refused_shown c a err.Failed named cause is = disk_shown a is cause
+  refused_shown c a err.Exists named cause is = absurd named
+  refused_shown c a err.Missing named cause is = absurd named
+  refused_shown c a err.NotFolder named cause is = absurd named
+  refused_shown c a err.NotEmpty named cause is = absurd named
 
 -- of a command that ends
-pub ended_shown : (view after_view : Option View) (lane : ℕ) (b : Books) (s : State) (c : Command) (t t' : RefCommand) (outcome : Outcome) (halted : Bool) (before now count : ℕ) (a : Answer) (v : View) → view ≡ Some v → ((w : View) → view ≡ Some w → command_facts lane t w b)
-    → Pursues s c t → Tells command_leaves command_refuses t outcome t' view after_view → Causes before now outcome → IsEndedAs outcome c t' count a → IsSeen v.now a × IsCaused halted before now a
-ended_shown view after_view lane b s c t t' came.Done halted before now count a v is facts after tells cause ends =
-    let w = tells v is in
-    said_shown v.now halted before now a t v w.0 refl (says_of lane t t' v w.0 b a (facts v is) w.2 ends)
-ended_shown view after_view lane b s c t t' came.Halted halted before now count a v is facts after tells cause ends = subst (λ x. IsSeen v.now x × IsCaused halted before now x) (sym ends) (tt, λ live. cause)
-ended_shown view after_view lane b s c t t' (came.Refused e) halted before now count a v is facts after tells cause ends = refused_shown v.now halted before now c t v s a e after (tells v is) cause ends
-ended_shown view after_view lane b s c t t' came.Blocked halted before now count a v is facts after tells cause ends = absurd ends
-ended_shown view after_view lane b s c t t' came.More halted before now count a v is facts after tells cause ends = absurd ends
+module _ (start : State) (entries : List Entry) (pending : Option Pending) (view after_view : Option View) (lane : ℕ) (b : Books) (c : Command) (t t' : RefCommand) (halted : Bool) (before now count : ℕ) (a : Answer) (v : View) (is : view ≡ Some v) (facts : (w : View) → view ≡ Some w → command_facts lane t w b)
+    (tree : IsTree v.now) (stands : Stands start entries pending v) where
+  none_refused : (e : FsErr) → (e ≡ err.NoMemory) ⊎ command_refuses t v e → OfNone e
+  none_refused e why = ⊎_elim (λ k. subst OfNone (sym k) tt) (λ w. refused_of start entries pending lane v b t e tree stands (facts v is) w) why
+
+  pub ended_shown : (outcome : Outcome) → Tells command_leaves command_refuses t outcome t' view after_view → Causes before now outcome → IsEndedAs outcome c t' count a → IsSeen v.now a × IsCaused halted before now a
+  ended_shown came.Done tells cause ends =
+      let w = tells v is in
+      said_shown v.now halted before now a t v w.0 refl (says_of lane t t' v w.0 b a (facts v is) w.2 ends)
+  ended_shown came.Halted tells cause ends = subst (λ x. IsSeen v.now x × IsCaused halted before now x) (sym ends) (tt, λ live. cause)
+  ended_shown (came.Refused e) tells cause ends = refused_shown v.now halted before now c a e (none_refused e (tells v is)) cause ends
+  ended_shown came.Blocked tells cause ends = absurd ends
+  ended_shown came.More tells cause ends = absurd ends
 
 -- a command that ends for a call that failed before
 pub halted_shown : (d : Disk) (halted : Bool) (before now count n : ℕ) (a : Answer) (start : ℕ) → Answered (answer.Halted count) n ≡ Answered a start → halted ≡ true → IsSeen d a × IsCaused halted before now a

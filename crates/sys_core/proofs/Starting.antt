@@ -1,16 +1,20 @@
 -- What is so at the beginning.
-use Rattle.std.proofs.Common.{◌≡◌, ◌≢◌, ◌⊎◌, inl, inr, ⊎_elim, ◌<◌, ◌≤◌, ◌+◌, ℕ, Bool, true, false, nat_lt, refl, sym, ◌∙◌, ap, subst, arith, List, [], ◌∷◌, ◌++◌, length, length-append, get_or, Option, Some, None}
+use Rattle.std.proofs.Common.{◌≡◌, ◌⊎◌, inl, inr, ⊎_elim, ◌<◌, ◌≤◌, ◌+◌, ℕ, Bool, true, false, nat_lt, refl, sym, ◌∙◌, ap, subst, arith, List, [], ◌∷◌, ◌++◌, length, length-append, get_or, Option, Some, None}
 use Rattle.std.proofs.lemmas.Bool.Decides.{nat_tests}
 use Rattle.std.proofs.Math.Seq.{get_or-append_seam}
 use Rattle.std.proofs.lemmas.List.{get_or_append_left}
-use Rattle.fs_trait.specs.View.{Disk, View}
-use Rattle.fs_trait.specs.Image.{IsTree}
-use Rattle.fs_trait.specs.Change.{Left}
-use Rattle.rely.specs.Disks.{IsGood, Logical}
-use Rattle.rely.specs.Opening.{IsOpening, HasSince}
-use Rattle.rely.specs.State.{State, first}
-use Rattle.rely.proofs.Goods.{fits_all}
-use Rattle.rely.proofs.Openings.{stands_begins}
+use Rattle.fs_trait.specs.View.{View}
+use Rattle.fs_trait.specs.Seen.{NotDirectory}
+use Rattle.ost_types.proofs.Paths.{is_below-self}
+use Rattle.repo_layout.specs.Paths.{stage_path}
+use Rattle.rely.specs.declared.books.Base.{Base}
+use Rattle.rely.specs.Books.{books_of}
+use Rattle.rely.specs.Sound.{Sound}
+use Rattle.ref_book.specs.declared.book.RefBook.{RefBook}
+use Rattle.ref_book.specs.Tracks.{Tracks}
+use Rattle.ref_work.specs.Facts.{Home}
+use Rattle.sys_open.specs.Opened.{IsOpened}
+use Rattle.sys_core.specs.declared.run.Running.{Running}
 use Rattle.std.proofs.lemmas.List.{get_or_default}
 use Rattle.std.specs.Vec.{vec_capacity}
 use Rattle.std.specs.Global.{Vec}
@@ -19,7 +23,7 @@ use Rattle.script.specs.declared.command.Lane.{Lane}
 use Rattle.sys_core.specs.Booked.{Booked, HasRoomFor}
 use Rattle.sys_core.proofs.Booking.{some_of}
 use Rattle.sys_core.specs.declared.run.Run.{Run}
-use Rattle.sys_core.specs.Lanes.{AreIdle, IsNew}
+use Rattle.sys_core.specs.Lanes.{AreIdle, IsNew, Kept, RunsIn, now_of}
 
 -- one more lane that hasn't begun
 pub idle_push : (runs : List Run) (r : Run) → AreIdle runs → IsNew r → AreIdle (runs ++ r ∷ [])
@@ -35,12 +39,24 @@ idle_push runs r idle none lane d lt = ⊎_elim
 pub idle_none : AreIdle []
 idle_none lane d lt = absurd (omega (arith, lt))
 
--- each crash since now leaves what reads see
-pub since_now : {F : Type 0} (view : F → Option View) (clock : F → ℕ) (was : F → ℕ → View → Type 0) → ((fs : F) (t : ℕ) (v : View) → clock fs ≤ t → was fs t v → view fs ≡ Some v) → ((fs : F) (v : View) → view fs ≡ Some v → IsTree v.now)
-    → (fs : F) (start : State) → ((v : View) → view fs ≡ Some v → IsOpening start v) → HasSince (Left (was fs)) (clock fs) start
-since_now view clock was only_now trees fs start begins t d from left =
-    let now = only_now fs t left.0 from left.1 in
-    fits_all start [] left.0 (stands_begins start left.0 (trees fs left.0 now) (begins left.0 now)) d left.2
+-- no folder stands where a lane stages
+pub home_of : {F : Type 0} (view : F → Option View) (clock : F → ℕ) (was : F → ℕ → View → Type 0) (fs : F) (opened : ℕ) (refs : List (List ℕ × List ℕ)) → IsOpened view clock was fs opened refs
+    → (w : View) (lane : ℕ) → view fs ≡ Some w → lane < 8 → Home lane w
+home_of view clock was fs opened refs is w lane told few = subst NotDirectory (sym (is.staging w told lane (omega (arith, few)) (stage_path lane) (is_below-self (stage_path lane)))) tt
+
+-- where nothing is pending, lanes that haven't begun have their facts
+pub kept_new : {F : Type 0} (view : F → Option View) (clock spare : F → ℕ) (was : F → ℕ → View → Type 0) (base : Base F) (book : RefBook) (runs : List Run)
+    → Sound view clock spare was base → Tracks book (now_of base.books) → length runs ≤ 8 → AreIdle runs → base.books.pending ≡ None → ((w : View) (lane : ℕ) → view base.fs ≡ Some w → lane < 8 → Home lane w)
+    → Kept view clock spare was base book runs
+kept_new view clock spare was base book runs sound tracks few idle none home = record {
+  sound = sound;
+  tracks = tracks;
+  few = few;
+  facts = λ live lane d less. record {
+    home = λ w told. home w lane told (omega (arith, less, few));
+    runs = subst (λ (t : Option Running). RunsIn lane book t (view base.fs) (books_of base.books)) (sym (idle lane d less).0) (λ p is. absurd (let z : None ≡ Some p = sym none ∙ is in cc));
+  };
+}
 
 -- room for the replies of one more lane
 pub room_push : (lanes : List Lane) (n : ℕ) (replies : List (Vec Reply)) (v : Vec Reply) (x : Lane) → n < length lanes → length replies ≡ n → HasRoomFor lanes n replies → v.items ≡ [] → get_or lanes n x ≡ x → length x.commands.items ≤ vec_capacity v → HasRoomFor lanes (n + 1) (replies ++ v ∷ [])

@@ -53,7 +53,7 @@ abbrev pub HasMoved : State → State → List ℕ → Option (List ℕ) → Opt
 HasMoved s p name seen now = (seen ≡ s (RefOf name)) × (now ≡ p (RefOf name)) × (now ≢ seen)
 
 -- What an answer says of the state s in which the command began, the changes up to the answer, and the state p that they make.
--- What was seen on the disk is known where the file system tells its view.
+-- What was seen on the disk is known where the file system tells its view; there nothing else changes it.
 abbrev pub Answers : Type 0 → ℕ → ℕ → State → State → List Entry → Answer → Command → Type 0
 Answers told lane number s p entries answer.Nothing (Reset branch commit) = HasMade lane number (IsChangeOf s (Reset branch commit)) entries
 Answers told lane number s p entries answer.Nothing (DropRef branch) = HasMade lane number (IsChangeOf s (DropRef branch)) entries
@@ -73,14 +73,15 @@ Answers told lane number s p entries (answer.RefClash other) (DropRef branch) = 
 Answers told lane number s p entries answer.NoMemory command = Unit {0}
 Answers told lane number s p entries answer.DiskFault command = Unit {0}
 Answers told lane number s p entries (answer.Halted count) command = Unit {0}
-Answers told lane number s p entries (answer.Outside path) command = Unit {0}
+Answers told lane number s p entries (answer.Outside path) command = told → ⊥
 Answers told lane number s p entries a command = ⊥
 
--- what stands on the disk where an answer tells of a commit
+-- what stands on the disk where an answer tells of a commit; that something else changed it is never told
 abbrev pub IsSeen : Disk → Answer → Type 0
 IsSeen d (answer.Commit commit) = IsFound d commit Whole
 IsSeen d (answer.NoCommit commit) = IsFound d commit Missing
 IsSeen d (answer.Partial commit) = IsFound d commit Partial
+IsSeen d (answer.Outside path) = ⊥
 IsSeen d a = Unit {0}
 
 -- a call failed in the act that says so, if none that changes something failed before

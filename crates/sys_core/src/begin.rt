@@ -56,7 +56,7 @@ fn task_of(
             None => Ok(Begun::Answered(Answer::NoRef)),
             Some(seen) => {
                 refs.make_room(branch)?;
-                Ok(Begun::Runs(RefCommand::drop(alloc, lane, branch.copy()?, seen)?))
+                Ok(Begun::Runs(RefCommand::drop(alloc, lane, branch.copy()?, seen)))
             }
         },
     }

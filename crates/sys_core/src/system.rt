@@ -1,8 +1,6 @@
 ghost use Rattle.std.specs.Prelude.{◌≡◌, ◌<◌, ◌≤◌, ℕ, length, slice_index_or, Some, IfOk, IfErr};
 ghost use Rattle.fs_trait.specs.View.{View};
-ghost use Rattle.ref_work.specs.Facts.{Home};
 ghost use Rattle.rely.specs.Headline.{Headline};
-ghost use Rattle.rely.specs.Opening.{IsOpening};
 ghost use Rattle.rely.specs.State.{first};
 ghost use Rattle.ref_book.specs.Tracks.{Tracks};
 ghost use Rattle.script.specs.declared.command.Lane.{Lane};
@@ -23,12 +21,12 @@ use rely::{Base, Entry, Pending, certify};
 use script::{Lane, Reply};
 use std::alloc::Global;
 use std::marker::Model;
-use sys_open::Opened;
+use sys_open::{Opened, OpenedParts};
 
 /// A repository on a file system, and the lanes of commands that work on it. At most one step of one lane is taken at a
 /// time, by `act`.
 ///
-/// Each value keeps, for any file system that tells its view: a crash at any moment since the opening leaves a good disk
+/// Each value keeps, for any file system that tells its view: a crash at any moment since the opening's first barrier leaves a good disk
 /// whose refs are those after a prefix of the stored history that has each change acknowledged by then.
 #[derive(Drop)]
 pub struct System<F: Fs> {
@@ -73,13 +71,13 @@ impl<F: Fs> System<F> {
     ) -> Result<System<F>, (Opened<F>, NoMemory)>
         requires few { length lanes.items ≤ 8 }
         requires short { (l : ℕ) (d : Lane) → l < length lanes.items → length (slice_index_or lanes.items l d).commands.items ≤ 64 }
-        requires begins { (w : View) → F.view opened.fs ≡ Some w → IsOpening (first opened.refs.items) w }
-        requires homes { (w : View) (lane : ℕ) → F.view opened.fs ≡ Some w → lane < 8 → Home lane w }
-        ensures start { IfOk result (λ s. s.base.books.start ≡ opened.refs) }
+        ensures fs { IfOk result (λ s. s.base.fs ≡ opened.fs) }
+        ensures start { IfOk result (λ s. s.base.books.start.items ≡ opened.refs) }
+        ensures opened { IfOk result (λ s. s.base.books.opened ≡ opened.clock) }
         ensures lanes { IfOk result (λ s. s.lanes ≡ lanes.items) }
         ensures back { IfErr result (λ e. e.0 ≡ opened) }
     {
-        match prepare(alloc, &opened.refs, &lanes) {
+        match prepare(alloc, opened.refs(), &lanes) {
             Ok(prepared) => Ok(System::begun(alloc, opened, lanes, prepared)),
             Err(NoMemory) => Err((opened, NoMemory)),
         }
@@ -88,26 +86,25 @@ impl<F: Fs> System<F> {
     fn begun(alloc: Global, opened: Opened<F>, lanes: Vec<Lane>, prepared: Prepared) -> System<F>
         requires few { length prepared.runs.items ≤ 8 }
         requires booked { Booked lanes.items prepared.runs.items prepared.replies.items }
-        requires begins { (w : View) → F.view opened.fs ≡ Some w → IsOpening (first opened.refs.items) w }
-        requires homes { (w : View) (lane : ℕ) → F.view opened.fs ≡ Some w → lane < 8 → Home lane w }
-        requires refs { Tracks prepared.refs (first opened.refs.items) }
+        requires refs { Tracks prepared.refs (first opened.refs) }
         requires idle { AreIdle prepared.runs.items }
-        ensures start { result.base.books.start ≡ opened.refs }
+        ensures fs { result.base.fs ≡ opened.fs }
+        ensures start { result.base.books.start.items ≡ opened.refs }
+        ensures opened { result.base.books.opened ≡ opened.clock }
         ensures lanes { result.lanes ≡ lanes.items }
     {
-        let Opened {
+        let OpenedParts {
             fs,
             refs: start,
-            clock: _,
+            clock,
             faults: _,
             limits: _,
-        } = opened;
+        } = opened.into_parts();
         let Prepared {
             refs,
             runs,
             replies,
         } = prepared;
-        let clock = fs.clock();
         System {
             alloc,
             base: Base::new(alloc, fs, clock, start),

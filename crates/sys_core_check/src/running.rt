@@ -1,9 +1,6 @@
 //! All commands of some lanes, on the repository of a file system.
 ghost use Rattle.std.specs.Prelude.{◌≡◌, ◌≤◌, ◌<◌, ℕ, Some, IsNone, IfSome, IfOk, IfErr, length, slice_index_or};
 ghost use Rattle.fs_trait.specs.View.{View};
-ghost use Rattle.ref_work.specs.Facts.{Home};
-ghost use Rattle.rely.specs.Opening.{IsOpening};
-ghost use Rattle.rely.specs.State.{first};
 ghost use Rattle.sys_open.specs.Checks.{IsSane};
 ghost use Rattle.sys_open.specs.Changes.{Changes, Works};
 ghost use Rattle.sys_core_check.specs.declared.running.NotRun.TheVariants as not_run;
@@ -57,8 +54,6 @@ fn run_opened<F: Fs>(
 ) -> Result<Parts<F>, (F, NotRun)>
     requires few { length lanes.items ≤ 8 }
     requires short { (l : ℕ) (d : Lane) → l < length lanes.items → length (slice_index_or lanes.items l d).commands.items ≤ 64 }
-    requires begins { (w : View) → F.view opened.fs ≡ Some w → IsOpening (first opened.refs.items) w }
-    requires homes { (w : View) (lane : ℕ) → F.view opened.fs ≡ Some w → lane < 8 → Home lane w }
     ensures ran { IfOk result (Ran F.view F.clock F.was) }
     ensures back { IfErr result (λ e. (e.0 ≡ opened.fs) × (e.1 ≡ not_run.NoMemory)) }
 {
@@ -68,7 +63,7 @@ fn run_opened<F: Fs>(
             run_all(&mut system);
             Ok(system.into_parts())
         }
-        Err((opened, NoMemory)) => Err((opened.fs, NotRun::NoMemory)),
+        Err((opened, NoMemory)) => Err((opened.into_fs(), NotRun::NoMemory)),
     }
 }
 

@@ -41,7 +41,7 @@ free_new d tree at free =
 pub folder_kept : (v u : View) → Writes (Lays v.now) v u → (p : Path) → is_folder (v.now.at p) ≡ true → is_folder (u.now.at p) ≡ true
 folder_kept v u writes p folder = ⊎_elim (λ same. folder_still v.now u.now p same folder) (λ wrote. folder_shows u.now p (subst IsDirectory (sym wrote.1) tt)) (writes.now p)
 
-suits_shown : (d e : Disk) (z y : Value) → seen e y ≡ seen d z → Suits FolderOrNothing z → Suits FolderOrNothing y
+pub suits_shown : (d e : Disk) (z y : Value) → seen e y ≡ seen d z → Suits FolderOrNothing z → Suits FolderOrNothing y
 suits_shown d e z value.Absent same suits = tt
 suits_shown d e z (value.Folder m) same suits = tt
 suits_shown d e value.Absent (value.Link m t) same suits = let n : seen e (value.Link m t) ≡ Vacant = same in cc

@@ -13,3 +13,5 @@ mod Laying
 mod StageClearing
 mod Arranging
 mod Beginning
+mod Crashing
+mod Opens

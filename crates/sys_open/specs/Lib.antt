@@ -4,5 +4,6 @@ pub mod Walk
 pub mod Changes
 pub mod Gathered
 pub mod Opening
+pub mod Opened
 pub mod Folders
 pub mod Stages

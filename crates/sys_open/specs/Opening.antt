@@ -1,5 +1,5 @@
 -- What the opening of a repository answers and leaves.
-use Rattle.std.specs.Prelude.{◌≡◌, ◌<◌, ℕ, IsTrue, List, map, Result, Ok, Err}
+use Rattle.std.specs.Prelude.{◌≡◌, ◌≤◌, ◌<◌, ℕ, IsTrue, List, map, Result, Ok, Err}
 use Rattle.std.specs.Cmp.Lexicographic.{slice_cmp}
 use Rattle.std.specs.List.Sorted.{IsStrictlySortedBy}
 use Rattle.std.specs.Ordering.{nat_cmp}
@@ -29,12 +29,20 @@ Answers d (Err e) = IsToldOf d e
 abbrev pub AreAscending : List (List ℕ × List ℕ) → Type 0
 AreAscending refs = IsStrictlySortedBy (slice_cmp nat_cmp) (map (λ r. r.0) refs)
 
+-- nothing stands at a staging path or below it
+abbrev pub HasNoStages : Disk → Type 0
+HasNoStages d = (actor : ℕ) → actor < 16 → (p : Path) → IsTrue (is_below (stage_path actor) p) → shows d p ≡ Vacant
+
+-- Each disk that a crash left since that moment shows what this one shows, but where a folder came or a staging path was cleared.
+abbrev pub KeepsSince : (ℕ → Disk → Type 0) → ℕ → Disk → Type 0
+KeepsSince left opened d = (t : ℕ) (e : Disk) → opened ≤ t → left t e → Keeps d e
+
 -- What it leaves: a system can begin with these refs, which are those of the beginning, and nothing stands at a staging path.
 pub record Begins (refs : List (List ℕ × List ℕ)) (v w : View) : Type 0 where
   pub opening : IsOpening (first refs) w
   pub same : Logical v.now (first refs)
   pub keeps : Keeps v.now w.now
-  pub staging : (actor : ℕ) → actor < 16 → (p : Path) → IsTrue (is_below (stage_path actor) p) → shows w.now p ≡ Vacant
+  pub staging : HasNoStages w.now
 
 -- after damage was told all is as it was, and outlasts a crash
 abbrev pub StaysOnDamage : OpenFault → Type 0 → Type 0

@@ -3,10 +3,14 @@ ghost use Rattle.fs_trait.specs.View.{View, all_synced};
 ghost use Rattle.fs_trait.specs.Image.{Told};
 ghost use Rattle.fs_trait.specs.Count.{Rose};
 ghost use Rattle.fs_trait.specs.Effect.{Next};
+ghost use Rattle.fs_trait.specs.Change.{Left};
+ghost use Rattle.rely.specs.Opening.{HasSince};
+ghost use Rattle.rely.specs.State.{first};
 ghost use Rattle.sys_open.specs.declared.fault.OpenFault.TheVariants as fault;
 ghost use Rattle.sys_open.specs.Checks.{IsSane};
 ghost use Rattle.sys_open.specs.Changes.{Changes, Works};
-ghost use Rattle.sys_open.specs.Opening.{AreAscending, Begins, IsToldOf, StaysOnDamage};
+ghost use Rattle.sys_open.specs.Opened.{IsOpened};
+ghost use Rattle.sys_open.specs.Opening.{AreAscending, Begins, IsToldOf, KeepsSince, StaysOnDamage};
 
 use crate::fault::OpenFault;
 use crate::opening::open;
@@ -14,29 +18,110 @@ use fs_trait::Fs;
 use ost_types::{Csum, Limits};
 use repo_layout::RefName;
 use std::alloc::Global;
+use std::marker::Model;
 
-/// An open repository, as what a system begins with.
+/// An open repository, on which a system can begin.
+///
+/// Each value keeps, for any file system that tells its view: all is synced, the folders of the layout are there, nothing
+/// stands at a staging path, and each crash since the first barrier left a good disk with these refs.
 #[derive(Drop)]
 pub struct Opened<F: Fs> {
+    fs: F,
+    refs: Vec<(RefName, Csum)>,
+    clock: u64,
+    faults: u64,
+    limits: Limits,
+}
+
+impl<F: Fs> Model for Opened<F> {
+    ghost use Rattle.sys_open.specs.Opened.{IsOpened, Opened};
+
+    ghost Value = { Opened F };
+
+    ghost view = { λ o. record { fs = o.fs; refs = o.refs.items; clock = o.clock; faults = o.faults; limits = o.limits } };
+
+    ghost invariant = { λ o. IsOpened F.view F.clock F.was o.fs o.clock o.refs.items };
+}
+
+/// What an open repository is taken apart into, for a system that begins on it.
+#[derive(Drop)]
+pub struct OpenedParts<F> {
     pub fs: F,
     /// Ascending by the bytes of the names.
     pub refs: Vec<(RefName, Csum)>,
     /// The file system's clock after the first barrier.
     pub clock: u64,
-    /// The file system's count of faults at the beginning.
+    /// The file system's count of faults before the opening.
     pub faults: u64,
     pub limits: Limits,
+}
+
+impl<F: Fs> Opened<F> {
+    /// The refs, ascending by the bytes of their names.
+    pub fn refs(&self) -> &[(RefName, Csum)]
+        ensures refs { result.now ≡ self.now.refs }
+        ensures ascending { AreAscending self.now.refs }
+    {
+        &self.refs
+    }
+
+    /// The file system's count of faults.
+    pub fn faults(&self) -> u64
+        ensures { result ≡ F.faults self.now.fs }
+    {
+        self.fs.faults()
+    }
+
+    pub fn into_fs(self) -> F
+        ensures { result ≡ self.fs }
+    {
+        let Opened {
+            fs,
+            refs: _,
+            clock: _,
+            faults: _,
+            limits: _,
+        } = self;
+        fs
+    }
+
+    /// All that a system begins with.
+    pub fn into_parts(self) -> OpenedParts<F>
+        ensures fs { result.fs ≡ self.fs }
+        ensures refs { result.refs.items ≡ self.refs }
+        ensures clock { result.clock ≡ self.clock }
+        ensures faults { result.faults ≡ self.faults }
+        ensures limits { result.limits ≡ self.limits }
+        ensures opened { IsOpened F.view F.clock F.was result.fs result.clock result.refs.items }
+    {
+        let Opened {
+            fs,
+            refs,
+            clock,
+            faults,
+            limits,
+        } = self;
+        OpenedParts {
+            fs,
+            refs,
+            clock,
+            faults,
+            limits,
+        }
+    }
 }
 
 /// Opens the repository of a file system; where it isn't opened the file system comes back.
 pub fn adopt<F: Fs>(alloc: Global, fs: F, limits: Limits) -> Result<Opened<F>, (F, OpenFault)>
     ensures sane { (v : View) → F.view fs ≡ Some v → IfOk result (λ o. IsSane v.now) }
-    ensures begins { (v : View) → F.view fs ≡ Some v → IfOk result (λ o. Told (F.view o.fs) (Begins o.refs.items v)) }
+    ensures begins { (v : View) → F.view fs ≡ Some v → IfOk result (λ o. Told (F.view o.fs) (Begins o.refs v)) }
+    ensures keeps { (v : View) → F.view fs ≡ Some v → IfOk result (λ o. KeepsSince (Left (F.was o.fs)) o.clock v.now) }
+    ensures since { (v : View) → F.view fs ≡ Some v → IfOk result (λ o. HasSince (Left (F.was o.fs)) o.clock (first o.refs)) }
     ensures told { (v : View) → F.view fs ≡ Some v → IfErr result (λ e. IsToldOf v.now e.1) }
     ensures still { (v : View) → F.view fs ≡ Some v → IfErr result (λ e. StaysOnDamage e.1 (F.view e.0 ≡ Some (all_synced v))) }
     ensures works { (v : View) → F.view fs ≡ Some v → IfOk result (λ o. Works (Changes v.now) v (F.clock fs) (F.clock o.fs) (F.was fs) (F.was o.fs) (F.view o.fs)) }
     ensures undone { (v : View) → F.view fs ≡ Some v → IfErr result (λ e. Works (Changes v.now) v (F.clock fs) (F.clock e.0) (F.was fs) (F.was e.0) (F.view e.0)) }
-    ensures ascending { IfOk result (λ o. AreAscending o.refs.items) }
+    ensures ascending { IfOk result (λ o. AreAscending o.refs) }
     ensures opened { IfOk result (λ o. Next (F.clock fs) o.clock) }
     ensures begun { IfOk result (λ o. (o.faults ≡ F.faults fs) × (o.limits ≡ limits)) }
     ensures disk { IfErr result (λ e. e.1 ≡ fault.Disk → Rose (F.faults fs) (F.faults e.0)) }

@@ -1,5 +1,5 @@
 //! What an opening changes, once the checks are made.
-ghost use Rattle.std.specs.Prelude.{◌≡◌, ◌≢◌, Some, OnOk, IfErr};
+ghost use Rattle.std.specs.Prelude.{◌≡◌, ◌≢◌, ◌≤◌, Some, OnOk, IfErr};
 ghost use Rattle.fs_trait.specs.View.{View, all_synced};
 ghost use Rattle.fs_trait.specs.Image.{Told};
 ghost use Rattle.fs_trait.specs.Effect.{Next};
@@ -21,6 +21,7 @@ pub fn arrange<F: Fs>(alloc: Global, fs: &mut F) -> Result<(), OpenFault>
     ensures works { (v : View) → F.view fs.old ≡ Some v → Works (Changes v.now) v (F.clock fs.old) (F.clock fs.new) (F.was fs.old) (F.was fs.new) (F.view fs.new) }
     ensures arranged { (v : View) → F.view fs.old ≡ Some v → OnOk result (Told (F.view fs.new) (λ w. IsArranged w.now)) }
     ensures fails { (v : View) → F.view fs.old ≡ Some v → IfErr result IsInterruption }
+    ensures later { F.clock fs.old ≤ F.clock fs.new }
     ensures reason { HasReason (F.faults fs.old) (F.faults fs.new) result }
 {
     lay_out(alloc, fs)?;
@@ -33,6 +34,7 @@ pub fn barrier<F: Fs>(alloc: Global, fs: &mut F) -> Result<(), OpenFault>
     ensures synced { (v : View) → F.view fs.old ≡ Some v → OnOk result (F.view fs.new ≡ Some (all_synced v)) }
     ensures ticks { OnOk result (Next (F.clock fs.old) (F.clock fs.new)) }
     ensures fails { IfErr result IsInterruption }
+    ensures later { F.clock fs.old ≤ F.clock fs.new }
     ensures reason { HasReason (F.faults fs.old) (F.faults fs.new) result }
 {
     match fs.sync_all() {

@@ -1,5 +1,5 @@
 //! What stands at a staging path is removed.
-ghost use Rattle.std.specs.Prelude.{◌≡◌, ◌≢◌, [], Some, OnOk, IfErr, true};
+ghost use Rattle.std.specs.Prelude.{◌≡◌, ◌≢◌, ◌≤◌, [], Some, OnOk, IfErr, true};
 ghost use Rattle.fs_trait.specs.View.{View};
 ghost use Rattle.fs_trait.specs.Image.{is_folder, Told};
 ghost use Rattle.fs_trait.specs.Seen.{Vacant, shows};
@@ -23,6 +23,7 @@ pub fn clear<F: Fs>(alloc: Global, fs: &mut F, at: &FsPath) -> Result<(), OpenFa
     ensures works { (v : View) → F.view fs.old ≡ Some v → Works (Clears at.now) v (F.clock fs.old) (F.clock fs.new) (F.was fs.old) (F.was fs.new) (F.view fs.new) }
     ensures cleared { (v : View) → F.view fs.old ≡ Some v → OnOk result (Told (F.view fs.new) (λ w. shows w.now at.now ≡ Vacant)) }
     ensures fails { (v : View) → F.view fs.old ≡ Some v → IsSoBelow (IsReached v.now) at.now → IfErr result IsInterruption }
+    ensures later { F.clock fs.old ≤ F.clock fs.new }
     ensures reason { HasReason (F.faults fs.old) (F.faults fs.new) result }
 {
     match look_at(fs, at) {
@@ -40,6 +41,7 @@ fn clear_folder<F: Fs>(alloc: Global, fs: &mut F, at: &FsPath) -> Result<(), Ope
     ensures works { (v : View) → F.view fs.old ≡ Some v → Works (Clears at.now) v (F.clock fs.old) (F.clock fs.new) (F.was fs.old) (F.was fs.new) (F.view fs.new) }
     ensures cleared { (v : View) → F.view fs.old ≡ Some v → OnOk result (Told (F.view fs.new) (λ w. shows w.now at.now ≡ Vacant)) }
     ensures fails { (v : View) → F.view fs.old ≡ Some v → IsSoBelow (IsReached v.now) at.now → IfErr result IsInterruption }
+    ensures later { F.clock fs.old ≤ F.clock fs.new }
     ensures reason { HasReason (F.faults fs.old) (F.faults fs.new) result }
 {
     clear_inside(alloc, fs, at)?;
@@ -53,6 +55,7 @@ fn clear_inside<F: Fs>(alloc: Global, fs: &mut F, at: &FsPath) -> Result<(), Ope
     ensures works { (v : View) → F.view fs.old ≡ Some v → Works (ClearsInside at.now) v (F.clock fs.old) (F.clock fs.new) (F.was fs.old) (F.was fs.new) (F.view fs.new) }
     ensures emptied { (v : View) → F.view fs.old ≡ Some v → OnOk result (Told (F.view fs.new) (λ w. IsEmptied w.now at.now)) }
     ensures fails { (v : View) → F.view fs.old ≡ Some v → IsSoBelow (IsReached v.now) at.now → IfErr result IsInterruption }
+    ensures later { F.clock fs.old ≤ F.clock fs.new }
     ensures reason { HasReason (F.faults fs.old) (F.faults fs.new) result }
 {
     let inside = children(alloc, fs, at, Why::WrongKind)?;
@@ -68,6 +71,7 @@ fn remove<F: Fs>(fs: &mut F, at: &FsPath) -> Result<(), OpenFault>
     ensures works { (v : View) → F.view fs.old ≡ Some v → Works (Clears at.now) v (F.clock fs.old) (F.clock fs.new) (F.was fs.old) (F.was fs.new) (F.view fs.new) }
     ensures cleared { (v : View) → F.view fs.old ≡ Some v → OnOk result (Told (F.view fs.new) (λ w. shows w.now at.now ≡ Vacant)) }
     ensures fails { (v : View) → F.view fs.old ≡ Some v → IfErr result IsInterruption }
+    ensures later { F.clock fs.old ≤ F.clock fs.new }
     ensures reason { HasReason (F.faults fs.old) (F.faults fs.new) result }
 {
     match fs.rmdir(at) {
@@ -82,6 +86,7 @@ fn unlink<F: Fs>(fs: &mut F, at: &FsPath) -> Result<(), OpenFault>
     ensures works { (v : View) → F.view fs.old ≡ Some v → Works (Clears at.now) v (F.clock fs.old) (F.clock fs.new) (F.was fs.old) (F.was fs.new) (F.view fs.new) }
     ensures cleared { (v : View) → F.view fs.old ≡ Some v → OnOk result (Told (F.view fs.new) (λ w. shows w.now at.now ≡ Vacant)) }
     ensures fails { (v : View) → F.view fs.old ≡ Some v → IfErr result IsInterruption }
+    ensures later { F.clock fs.old ≤ F.clock fs.new }
     ensures reason { HasReason (F.faults fs.old) (F.faults fs.new) result }
 {
     match fs.unlink(at) {

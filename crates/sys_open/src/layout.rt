@@ -23,6 +23,7 @@ pub fn lay_out<F: Fs>(alloc: Global, fs: &mut F) -> Result<(), OpenFault>
     ensures works { (v : View) → F.view fs.old ≡ Some v → Works (Lays v.now) v (F.clock fs.old) (F.clock fs.new) (F.was fs.old) (F.was fs.new) (F.view fs.new) }
     ensures laid { (v : View) → F.view fs.old ≡ Some v → OnOk result (Told (F.view fs.new) (λ w. (f : layout.Folder) → is_folder (w.now.at (folder_path f)) ≡ true)) }
     ensures fails { (v : View) → F.view fs.old ≡ Some v → IfErr result IsInterruption }
+    ensures later { F.clock fs.old ≤ F.clock fs.new }
     ensures reason { HasReason (F.faults fs.old) (F.faults fs.new) result }
 {
     for folder in folders() {
@@ -37,6 +38,7 @@ fn lay<F: Fs>(alloc: Global, fs: &mut F, folder: Folder) -> Result<(), OpenFault
     ensures works { (v : View) → F.view fs.old ≡ Some v → Works (Lays v.now) v (F.clock fs.old) (F.clock fs.new) (F.was fs.old) (F.was fs.new) (F.view fs.new) }
     ensures laid { (v : View) → F.view fs.old ≡ Some v → OnOk result (Told (F.view fs.new) (λ w. is_folder (w.now.at (folder_path folder)) ≡ true)) }
     ensures fails { (v : View) → F.view fs.old ≡ Some v → IfErr result IsInterruption }
+    ensures later { F.clock fs.old ≤ F.clock fs.new }
     ensures reason { HasReason (F.faults fs.old) (F.faults fs.new) result }
 {
     let at = folder_path(alloc, folder)?;
@@ -54,6 +56,7 @@ fn make<F: Fs>(alloc: Global, fs: &mut F, at: &FsPath) -> Result<(), OpenFault>
     ensures works { (v : View) → F.view fs.old ≡ Some v → Works (Lays v.now) v (F.clock fs.old) (F.clock fs.new) (F.was fs.old) (F.was fs.new) (F.view fs.new) }
     ensures laid { (v : View) → F.view fs.old ≡ Some v → OnOk result (Told (F.view fs.new) (λ w. is_folder (w.now.at at.now) ≡ true)) }
     ensures fails { (v : View) → F.view fs.old ≡ Some v → IfErr result IsInterruption }
+    ensures later { F.clock fs.old ≤ F.clock fs.new }
     ensures reason { HasReason (F.faults fs.old) (F.faults fs.new) result }
 {
     let meta = folder_meta(alloc);

@@ -15,5 +15,5 @@ mod reach;
 mod refs;
 mod stages;
 
-pub use adopting::{Opened, adopt};
+pub use adopting::{Opened, OpenedParts, adopt};
 pub use fault::{OpenFault, Why};

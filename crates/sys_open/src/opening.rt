@@ -1,13 +1,14 @@
-ghost use Rattle.std.specs.Prelude.{◌≡◌, Some, OnOk, IfOk, IfErr};
+ghost use Rattle.std.specs.Prelude.{◌≡◌, ◌≤◌, Some, OnOk, IfOk, IfErr};
 ghost use Rattle.ost_types.specs.Path.{Path};
 ghost use Rattle.fs_trait.specs.View.{View, all_synced};
 ghost use Rattle.fs_trait.specs.Image.{Told};
 ghost use Rattle.fs_trait.specs.Seen.{Always, shows};
 ghost use Rattle.fs_trait.specs.Effect.{Next};
+ghost use Rattle.fs_trait.specs.Change.{Left};
 ghost use Rattle.sys_open.specs.Faults.{HasReason, IsInterruption};
 ghost use Rattle.sys_open.specs.Checks.{IsSane};
 ghost use Rattle.sys_open.specs.Changes.{Changes, IsArranged, Works};
-ghost use Rattle.sys_open.specs.Opening.{Answers, AreAscending, Begins, OnDamage};
+ghost use Rattle.sys_open.specs.Opening.{Answers, AreAscending, Begins, KeepsSince, OnDamage};
 
 use crate::arrange::{arrange, barrier};
 use crate::check::check;
@@ -25,6 +26,7 @@ fn settle<F: Fs>(alloc: Global, fs: &mut F) -> Result<(), OpenFault>
     ensures arranged { (v : View) → F.view fs.old ≡ Some v → OnOk result (Told (F.view fs.new) (λ w. IsArranged w.now)) }
     ensures settled { (v : View) → F.view fs.old ≡ Some v → OnOk result (Told (F.view fs.new) (λ w. (p : Path) → Always w p (shows w.now p))) }
     ensures fails { (v : View) → F.view fs.old ≡ Some v → IfErr result IsInterruption }
+    ensures later { F.clock fs.old ≤ F.clock fs.new }
     ensures reason { HasReason (F.faults fs.old) (F.faults fs.new) result }
 {
     let before = fs.clock();
@@ -43,8 +45,11 @@ pub fn open<F: Fs>(alloc: Global, fs: &mut F) -> Result<(Vec<(RefName, Csum)>, u
     ensures begins { (v : View) → F.view fs.old ≡ Some v → IfOk result (λ o. Told (F.view fs.new) (λ w. Begins o.0.items v w)) }
     ensures still { (v : View) → F.view fs.old ≡ Some v → OnDamage result (F.view fs.new ≡ Some (all_synced v)) }
     ensures works { (v : View) → F.view fs.old ≡ Some v → Works (Changes v.now) v (F.clock fs.old) (F.clock fs.new) (F.was fs.old) (F.was fs.new) (F.view fs.new) }
+    ensures keeps { (v : View) → F.view fs.old ≡ Some v → IfOk result (λ o. KeepsSince (Left (F.was fs.new)) o.1 v.now) }
     ensures ascending { IfOk result (λ o. AreAscending o.0.items) }
+    ensures past { IfOk result (λ o. o.1 ≤ F.clock fs.new) }
     ensures opened { IfOk result (λ o. Next (F.clock fs.old) o.1) }
+    ensures later { F.clock fs.old ≤ F.clock fs.new }
     ensures reason { HasReason (F.faults fs.old) (F.faults fs.new) result }
 {
     barrier(alloc, fs)?;

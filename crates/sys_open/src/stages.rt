@@ -1,5 +1,5 @@
 //! The staging paths.
-ghost use Rattle.std.specs.Prelude.{◌≡◌, ◌<◌, ℕ, [], Some, All, OnOk, IfErr};
+ghost use Rattle.std.specs.Prelude.{◌≡◌, ◌≤◌, ◌<◌, ℕ, [], Some, All, OnOk, IfErr};
 ghost use Rattle.ost_types.specs.Path.{Path};
 ghost use Rattle.fs_trait.specs.View.{View};
 ghost use Rattle.fs_trait.specs.Image.{Told};
@@ -55,6 +55,7 @@ pub fn clear_stages<F: Fs>(alloc: Global, fs: &mut F) -> Result<(), OpenFault>
     ensures works { (v : View) → F.view fs.old ≡ Some v → Works ClearsStages v (F.clock fs.old) (F.clock fs.new) (F.was fs.old) (F.was fs.new) (F.view fs.new) }
     ensures cleared { (v : View) → F.view fs.old ≡ Some v → OnOk result (Told (F.view fs.new) (λ w. (actor : ℕ) → actor < 16 → shows w.now (stage_path actor) ≡ Vacant)) }
     ensures fails { (v : View) → F.view fs.old ≡ Some v → ((p : Path) → Asks Staging v.now p) → IfErr result IsInterruption }
+    ensures later { F.clock fs.old ≤ F.clock fs.new }
     ensures reason { HasReason (F.faults fs.old) (F.faults fs.new) result }
 {
     for actor in actors() {
@@ -68,6 +69,7 @@ fn clear_stage<F: Fs>(alloc: Global, fs: &mut F, actor: u8) -> Result<(), OpenFa
     ensures works { (v : View) → F.view fs.old ≡ Some v → Works (Clears (stage_path actor)) v (F.clock fs.old) (F.clock fs.new) (F.was fs.old) (F.was fs.new) (F.view fs.new) }
     ensures cleared { (v : View) → F.view fs.old ≡ Some v → OnOk result (Told (F.view fs.new) (λ w. shows w.now (stage_path actor) ≡ Vacant)) }
     ensures fails { (v : View) → F.view fs.old ≡ Some v → IsSoBelow (IsReached v.now) (stage_path actor) → IfErr result IsInterruption }
+    ensures later { F.clock fs.old ≤ F.clock fs.new }
     ensures reason { HasReason (F.faults fs.old) (F.faults fs.new) result }
 {
     let at = stage_path(alloc, actor)?;

@@ -17,8 +17,8 @@ use crate::lookup::{There, look};
 use crate::phase::Phase;
 use fs_trait::{Fs, FsErr, Need, Turn};
 use ost_types::{Bytes, Csum, Meta, NoMemory, TryCopy, Xattrs};
-use ref_room::{Clearing, Way};
-use repo_layout::{ref_text, stage_path};
+use ref_room::{Clearing, Way, ref_folder};
+use repo_layout::{ref_path, ref_text, stage_path};
 use staged_file::{Plan, Show, StagedFile};
 use std::alloc::Global;
 
@@ -68,7 +68,8 @@ impl RefTask {
         ensures room { KeepsRoom self.old.phase (F.spare fs.old) (F.spare fs.new) result }
         ensures unchanged { (v : View) → F.view fs.old ≡ Some v → IsErrOf result err.NoMemory → F.view fs.new ≡ Some v }
     {
-        let there = look(fs, &self.at)?;
+        let at = ref_path(self.alloc, &self.name)?;
+        let there = look(fs, &at)?;
         if there == There::OtherLeaf {
             return Err(FsErr::Exists);
         }
@@ -167,8 +168,8 @@ impl RefTask {
         };
         Ok(StagedFile::new(Plan {
             stage: stage_path(self.alloc, self.actor)?,
-            folder: self.folder.copy()?,
-            at: self.at.copy()?,
+            folder: ref_folder(self.alloc, &self.name)?,
+            at: ref_path(self.alloc, &self.name)?,
             meta: file_meta(self.alloc),
             bytes: file_bytes(self.alloc, commit)?,
             show: Show::Rename,
@@ -222,8 +223,11 @@ impl RefTask {
         ensures room { KeepsRoom self.old.phase (F.spare fs.old) (F.spare fs.new) result }
         ensures unchanged { (v : View) → F.view fs.old ≡ Some v → IsErrOf result err.NoMemory → F.view fs.new ≡ Some v }
     {
+        let at = ref_path(self.alloc, &self.name)?;
+        let folder = ref_folder(self.alloc, &self.name)?;
         fs.reserve(2)?;
-        fs.unlink(&self.at)?;
+        fs.unlink(&at)?;
+        self.folder = Some(folder);
         self.phase = Phase::SyncFolder;
         Ok(Turn::More)
     }
@@ -245,7 +249,10 @@ impl RefTask {
         ensures room { KeepsRoom self.old.phase (F.spare fs.old) (F.spare fs.new) result }
         ensures unchanged { (v : View) → F.view fs.old ≡ Some v → IsErrOf result err.NoMemory → F.view fs.new ≡ Some v }
     {
-        fs.sync_dir(&self.folder)?;
+        let Some(folder) = &self.folder else {
+            unreachable!()
+        };
+        fs.sync_dir(folder)?;
         self.phase = Phase::Ended;
         Ok(Turn::Done(Ok(())))
     }

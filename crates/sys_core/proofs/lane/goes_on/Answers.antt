@@ -71,5 +71,5 @@ returns-in_default-clause-shown g c = λ a start is.
     let one : Answered k.0 c.args.running.start ≡ Answered a start = sym k.1 ∙ is in
     let same : k.0 ≡ a = cc in
     subst (Shown (g.F.Fs.view c.args.base.now.fs) b.halted (g.F.Fs.faults c.args.base.now.fs) (g.F.Fs.faults c.running_act.new.base.fs)) same
-    (λ v told. ended_shown (g.F.Fs.view c.args.base.now.fs) (g.F.Fs.view c.running_act.new.base.fs) c.args.lane (books_of b) _ c.args.command.now c.args.running.work c.running_act.new.work c.running_act.result b.halted _ _ _ k.0 v told
-    c.requires.facts.runs.0.facts c.requires.after e.tells (e.cause v told) k.2)
+    (λ v told. ended_shown (first b.start.items) b.history.items b.pending (g.F.Fs.view c.args.base.now.fs) (g.F.Fs.view c.running_act.new.base.fs) c.args.lane (books_of b) c.args.command.now c.args.running.work c.running_act.new.work b.halted _ _ _ k.0 v told
+    c.requires.facts.runs.0.facts (g.met.F.Fs.tree c.args.base.now.fs v told) (c.requires.sound.stands v told) c.running_act.result e.tells (e.cause v told) k.2)

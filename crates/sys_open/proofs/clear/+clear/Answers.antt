@@ -67,6 +67,7 @@ clear_inside-loop-path-preserved g t c =
           (subst (λ x. Writes (Clears c.path-item.result) u x) (one_view _ works.left.0 w works.left.1 now) works.left.2)
           (subst (λ (x : View). shows x.now c.path-item.result ≡ Vacant) (one_view _ here.0 w here.1 now) here.2)
           (c.loop-path.invariant.2 v told u first.left.1),
+      omega (arith, c.loop-path.invariant.3, c.clear.ensures.later),
     )
 
 pub clear_inside-returns-clause-emptied : goal.clear_inside-returns-clause-emptied

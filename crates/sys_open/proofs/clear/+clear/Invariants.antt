@@ -18,3 +18,4 @@ invariant-clear_inside-loop-path g l =
     (g.F.Fs.faults l.fn.fs ≤ g.F.Fs.faults l.fs)
     × ((v : View) → g.F.Fs.view l.fn.fs ≡ Some v → Works (ClearsInside l.at) v (g.F.Fs.clock l.fn.fs) (g.F.Fs.clock l.fs) (g.F.Fs.was l.fn.fs) (g.F.Fs.was l.fs) (g.F.Fs.view l.fs))
     × ((v : View) → g.F.Fs.view l.fn.fs ≡ Some v → (w : View) → g.F.Fs.view l.fs ≡ Some w → (k : ℕ) → k < l.path-index → shows w.now (get_or l.path-items k []) ≡ Vacant)
+    × (g.F.Fs.clock l.fn.fs ≤ g.F.Fs.clock l.fs)

@@ -47,4 +47,5 @@ loop-folder-preserved g c =
           (subst (λ x. Writes (Lays b.0.now) b.0 x) (one_view _ works.left.0 w works.left.1 now) works.left.2)
           (subst (λ (x : View). is_folder (x.now.at (folder_path (get_or items i Ostree))) ≡ true) (one_view _ laid.0 w laid.1 now) laid.2)
           (c.loop-folder.invariant.2 b.0 b.1),
+      omega (arith, c.loop-folder.invariant.3, c.lay.ensures.later),
     )

@@ -9,3 +9,4 @@ invariant-loop-folder g l =
     (g.F.Fs.faults l.fn.fs ≤ g.F.Fs.faults l.fs)
     × ((v : View) → g.F.Fs.view l.fn.fs ≡ Some v → Works (Lays v.now) v (g.F.Fs.clock l.fn.fs) (g.F.Fs.clock l.fs) (g.F.Fs.was l.fn.fs) (g.F.Fs.was l.fs) (g.F.Fs.view l.fs))
     × ((w : View) → g.F.Fs.view l.fs ≡ Some w → LaidFirst w.now l.folder-items l.folder-index)
+    × (g.F.Fs.clock l.fn.fs ≤ g.F.Fs.clock l.fs)

@@ -1,17 +1,18 @@
-use Rattle.std.proofs.Common.{◌∙◌, subst, List, ℕ, Err}
+use Rattle.std.proofs.Common.{◌∙◌, sym, subst, List, ℕ, Err}
 use Rattle.std.proofs.lemmas.Result.{err_from_is_err_and}
 use Rattle.std.specs.Global.{Vec}
 use Rattle.ost_types.specs.Path.{Path}
 use Rattle.fs_trait.specs.View.{View, all_synced}
 use Rattle.fs_trait.specs.Seen.{Always, shows}
-use Rattle.fs_trait.specs.Change.{Nothing, Writes}
+use Rattle.fs_trait.specs.Change.{Left, Nothing, Writes}
 use Rattle.rely.specs.State.{first}
 use Rattle.rely.specs.Disks.{Logical}
 use Rattle.sys_open.specs.Checks.{IsSane}
-use Rattle.sys_open.specs.Opening.{Answers}
+use Rattle.sys_open.specs.Opening.{Answers, KeepsSince}
 use Rattle.sys_open.specs.Changes.{Changes, Keeps}
 use Rattle.sys_open.proofs.Arranging.{synced_now, synced_always}
 use Rattle.sys_open.proofs.Beginning.{interrupted_answer, still_answers, interrupted_damage, begins}
+use Rattle.sys_open.proofs.Crashing.{since_keeps}
 use Rattle.sys_open.proofs.Working.{one_view, works_quiet, works_then, works_weaker}
 use Rattle.sys_open.proofs.opening.open.Goals as goal
 
@@ -80,3 +81,11 @@ returns-clause-begins g c = λ v told.
           (subst (λ (x : View). (p : Path) → Always x p (shows x.now p)) (one_view _ settled.0 w settled.1 arranged.1) settled.2)
           c.in_ok-refs.refs.items (subst (λ d. Logical d (first c.in_ok-refs.refs.items)) (synced_now v) (c.in_ok-refs.ensures.refs (all_synced v) synced)),
     )
+
+pub returns-clause-keeps : goal.returns-clause-keeps
+returns-clause-keeps g c = λ v told.
+    let synced = c.in_ok-barrier.ensures.synced v told in
+    let now = c.check.ensures.quiet.view ∙ synced in
+    subst (λ d. KeepsSince (Left (g.F.Fs.was c.settle.new.fs)) c.clock-opened.result d) (synced_now v)
+    (subst (λ t. KeepsSince (Left (g.F.Fs.was c.settle.new.fs)) t (all_synced v).now) (c.check.ensures.quiet.clock ∙ sym c.clock-opened.ensures)
+    (since_keeps (all_synced v) (g.met.F.Fs.tree c.check.new.fs (all_synced v) now) (synced_always v) _ _ _ _ _ _ (g.met.F.Fs.only_now c.check.new.fs) now (c.settle.ensures.works (all_synced v) now)))

@@ -49,4 +49,5 @@ loop-actor-preserved g c =
           (subst (λ x. Writes (Clears (stage_path a)) b.0 x) (one_view _ works.left.0 w works.left.1 now) works.left.2)
           (subst (λ (x : View). shows x.now (stage_path a) ≡ Vacant) (one_view _ clear.0 w clear.1 now) clear.2)
           (c.loop-actor.invariant.2 b.0 b.1),
+      omega (arith, c.loop-actor.invariant.3, c.clear_stage.ensures.later),
     )

@@ -9,3 +9,4 @@ invariant-loop-actor g l =
     (g.F.Fs.faults l.fn.fs ≤ g.F.Fs.faults l.fs)
     × ((v : View) → g.F.Fs.view l.fn.fs ≡ Some v → Works ClearsStages v (g.F.Fs.clock l.fn.fs) (g.F.Fs.clock l.fs) (g.F.Fs.was l.fn.fs) (g.F.Fs.was l.fs) (g.F.Fs.view l.fs))
     × ((w : View) → g.F.Fs.view l.fs ≡ Some w → ClearFirst w.now l.actor-items l.actor-index)
+    × (g.F.Fs.clock l.fn.fs ≤ g.F.Fs.clock l.fs)

@@ -16,7 +16,7 @@ returns-clause-after g c = λ v told.
     let there = c.in_ok-there.ensures.told v told in
     let same : c.commit_of-now.result ≡ c.self.inside.seen = search rules in
     let next = c.in_ok-self-inside.ensures ∙ sym (ap (λ (t : Change). begun t.value c.in_ok-there.there t.name) c.self.view_is) in
-    (v, c.look.ensures.quiet.view ∙ told, look_over _ v needs phase _ c.self.invariant.1 c.in_ok-there.there there (sym c.commit_of-now.ensures ∙ same) _ next)
+    (v, c.look.ensures.quiet.view ∙ told, look_over _ v needs phase _ c.in_ok-at.ensures c.in_ok-there.there there (sym c.commit_of-now.ensures ∙ same) _ next)
 
 pub returns-clause-falls : goal.returns-clause-falls
 returns-clause-falls g c =
@@ -29,4 +29,4 @@ returns-clause-tells g c = λ v told.
     let phase = ap (λ (t : Change). t.phase) c.self.view_is ∙ is_look _ c.requires.phase in
     let same : c.commit_of-now.result ≡ c.self.inside.seen = search rules in
     let other : c.in_ok-there.there ≢ there.OtherLeaf = search rules in
-    look_tells _ _ c.self.view_is phase v c.self.inside.at c.self.invariant.1 c.in_ok-there.there other (c.in_ok-there.ensures.told v told) (sym c.commit_of-now.ensures ∙ same) _
+    look_tells _ _ c.self.view_is phase v c.in_ok-at.at c.in_ok-at.ensures c.in_ok-there.there other (c.in_ok-there.ensures.told v told) (sym c.commit_of-now.ensures ∙ same) _

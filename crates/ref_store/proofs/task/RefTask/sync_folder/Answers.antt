@@ -3,14 +3,14 @@ use Rattle.std.proofs.lemmas.Result.{err_from_is_err_and}
 use Rattle.ref_room.proofs.Answering.{ok_writes, ok_after, err_writes, err_fails}
 use Rattle.ref_store.specs.Change.{Change}
 use Rattle.ref_store.specs.Steps.{Needs, Refuses}
-use Rattle.ref_store.proofs.StepLemmas.{is_sync_folder, sync_folder, as_is, failed, no_memory}
+use Rattle.ref_store.proofs.StepLemmas.{is_sync_folder, kept_folder, sync_folder, as_is, failed, no_memory}
 use Rattle.ref_store.proofs.task.RefTask.sync_folder.Goals as goal
 
 pub returns-in_err-sync_dir-clause-writes : goal.returns-in_err-sync_dir-clause-writes
 returns-in_err-sync_dir-clause-writes g c = λ v told.
     let needs = subst (λ t. Needs t v) (sym c.self.view_is) (c.requires.needs v told) in
     let phase = ap (λ (t : Change). t.phase) c.self.view_is ∙ is_sync_folder _ c.requires.phase in
-    err_writes _ _ v _ _ (as_is _ _ c.self.view_is v _ _ _ (sync_folder _ v (g.met.F.Fs.tree c.args.fs.now v told) needs _ c.self.invariant.2 phase)) _ _
+    err_writes _ _ v _ _ (as_is _ _ c.self.view_is v _ _ _ (sync_folder _ v (g.met.F.Fs.tree c.args.fs.now v told) needs _ (kept_folder _ phase _ _ _ c.self.invariant.1 c.in-Some.is) phase)) _ _
     (c.in_err-sync_dir.ensures.effect v told)
 
 pub returns-in_err-sync_dir-clause-fails : goal.returns-in_err-sync_dir-clause-fails
@@ -18,19 +18,19 @@ returns-in_err-sync_dir-clause-fails g c = λ v told.
     let needs = subst (λ t. Needs t v) (sym c.self.view_is) (c.requires.needs v told) in
     let phase = ap (λ (t : Change). t.phase) c.self.view_is ∙ is_sync_folder _ c.requires.phase in
     let error = err_from_is_err_and c.from_residual.result c.from_residual.ensures.1 in
-    rw (error.1, error.2) (err_fails _ _ v _ _ (sync_folder _ v (g.met.F.Fs.tree c.args.fs.now v told) needs _ c.self.invariant.2 phase) (Refuses c.args.self.now v)
+    rw (error.1, error.2) (err_fails _ _ v _ _ (sync_folder _ v (g.met.F.Fs.tree c.args.fs.now v told) needs _ (kept_folder _ phase _ _ _ c.self.invariant.1 c.in-Some.is) phase) (Refuses c.args.self.now v)
     (failed c.args.self.now.phase c.args.self.now v) (no_memory c.args.self.now.phase c.args.self.now v) _ _ (c.in_err-sync_dir.ensures.effect v told))
 
 pub returns-clause-writes : goal.returns-clause-writes
 returns-clause-writes g c = λ v told.
     let needs = subst (λ t. Needs t v) (sym c.self.view_is) (c.requires.needs v told) in
     let phase = ap (λ (t : Change). t.phase) c.self.view_is ∙ is_sync_folder _ c.requires.phase in
-    ok_writes _ _ v _ _ (as_is _ _ c.self.view_is v _ _ _ (sync_folder _ v (g.met.F.Fs.tree c.args.fs.now v told) needs _ c.self.invariant.2 phase)) _
+    ok_writes _ _ v _ _ (as_is _ _ c.self.view_is v _ _ _ (sync_folder _ v (g.met.F.Fs.tree c.args.fs.now v told) needs _ (kept_folder _ phase _ _ _ c.self.invariant.1 c.in-Some.is) phase)) _
     (c.in_ok-sync_dir.ensures.effect v told)
 
 pub returns-clause-after : goal.returns-clause-after
 returns-clause-after g c = λ v told.
     let needs = subst (λ t. Needs t v) (sym c.self.view_is) (c.requires.needs v told) in
     let phase = ap (λ (t : Change). t.phase) c.self.view_is ∙ is_sync_folder _ c.requires.phase in
-    ok_after _ _ v _ _ (sync_folder _ v (g.met.F.Fs.tree c.args.fs.now v told) needs _ c.self.invariant.2 phase) _
+    ok_after _ _ v _ _ (sync_folder _ v (g.met.F.Fs.tree c.args.fs.now v told) needs _ (kept_folder _ phase _ _ _ c.self.invariant.1 c.in-Some.is) phase) _
     (c.in_ok-sync_dir.ensures.effect v told)

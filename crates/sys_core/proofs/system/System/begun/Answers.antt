@@ -1,17 +1,31 @@
-use Rattle.std.proofs.Common.{rules, subst, sym}
-use Rattle.fs_trait.specs.Change.{Left}
-use Rattle.rely.specs.Opening.{HasSince}
-use Rattle.rely.specs.State.{first}
+use Rattle.std.proofs.Common.{◌≡◌, ◌∙◌, ℕ, List, ap, sym, subst, Some}
+use Rattle.rely.specs.declared.books.Entry.{Entry}
+use Rattle.rely.specs.State.{State, after, events_of, first}
+use Rattle.ref_book.specs.Tracks.{Tracks}
+use Rattle.sys_core.specs.Lanes.{now_of}
 use Rattle.sys_core.proofs.Accounting.{new_accounted}
-use Rattle.sys_core.proofs.Starting.{since_now}
+use Rattle.sys_core.proofs.Starting.{home_of, kept_new}
 use Rattle.sys_core.proofs.system.System.begun.Goals as goal
 
+pub new-requires-clause-opening : goal.new-requires-clause-opening
+new-requires-clause-opening g c = c.into_parts-fs.ensures.opened.opening
+
 pub new-requires-clause-since : goal.new-requires-clause-since
-new-requires-clause-since g c = λ v told. subst (λ n. HasSince (Left (g.F.Fs.was c.args.opened.fs)) n (first c.args.opened.refs.items)) (sym c.clock-clock.ensures)
-    (since_now g.F.Fs.view g.F.Fs.clock g.F.Fs.was g.met.F.Fs.only_now g.met.F.Fs.tree c.args.opened.fs (first c.args.opened.refs.items) c.requires.begins)
+new-requires-clause-since g c = c.into_parts-fs.ensures.opened.since
+
+pub new-requires-clause-past : goal.new-requires-clause-past
+new-requires-clause-past g c = c.into_parts-fs.ensures.opened.past
 
 pub invariant_of-result : goal.invariant_of-result
 invariant_of-result g c =
     let e = c.new.ensures in
-    let r = c.requires in
-    (search rules, r.booked, new_accounted g.F.Fs.view c.new.result c.args.lanes.items c.args.prepared.runs.items c.args.prepared.replies.items (g.F.Fs.faults c.new.result.fs) e.history e.pending r.booked r.idle)
+    let base = c.new.result in
+    let opened = c.into_parts-fs.ensures in
+    let no_events = ap (λ (l : List Entry). after (events_of l) (first base.books.start.items)) e.history in
+    let start = ap (λ (l : List (List ℕ × List ℕ)). first l) (ap (λ s. s.items) e.start ∙ opened.refs) in
+    let tracks : Tracks c.args.prepared.refs (now_of base.books) = subst (λ (s : State). Tracks c.args.prepared.refs s) (sym (no_events ∙ start)) c.requires.refs in (
+      kept_new g.F.Fs.view g.F.Fs.clock g.F.Fs.spare g.F.Fs.was base c.args.prepared.refs c.args.prepared.runs.items e.sound tracks c.requires.few c.requires.idle e.pending
+          (λ w lane told few. home_of g.F.Fs.view g.F.Fs.clock g.F.Fs.was c.into_parts-fs.result.fs c.into_parts-fs.result.clock c.into_parts-fs.result.refs.items opened.opened w lane (subst (λ f. g.F.Fs.view f ≡ Some w) e.fs told) few),
+      c.requires.booked,
+      new_accounted g.F.Fs.view base c.args.lanes.items c.args.prepared.runs.items c.args.prepared.replies.items (g.F.Fs.faults base.fs) e.history e.pending c.requires.booked c.requires.idle,
+    )

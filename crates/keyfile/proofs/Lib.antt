@@ -1,0 +1,7 @@
+mod Splits
+mod Behind
+mod Taken
+mod Whole
+mod Written
+pub mod Entered
+pub mod OneReading

@@ -1,0 +1,33 @@
+-- What an open repository keeps, from what the opening leaves.
+use Rattle.std.proofs.Common.{◌≡◌, ◌≤◌, ℕ, subst, List, Option, Some}
+use Rattle.fs_trait.specs.View.{View}
+use Rattle.fs_trait.specs.Image.{Told}
+use Rattle.fs_trait.specs.Change.{Left}
+use Rattle.rely.specs.Opening.{HasSince}
+use Rattle.rely.specs.State.{first}
+use Rattle.rely.specs.Disks.{Logical}
+use Rattle.fs_trait.specs.View.{Disk}
+use Rattle.sys_open.specs.Checks.{IsSane}
+use Rattle.sys_open.specs.Opened.{IsOpened}
+use Rattle.sys_open.specs.Opening.{AreAscending, Begins, KeepsSince}
+use Rattle.sys_open.proofs.Beginning.{good_disk, logical_kept}
+use Rattle.sys_open.proofs.Working.{one_view}
+
+-- each disk that a crash left is good, and has the refs
+pub good_since : (left : ℕ → Disk → Type 0) (opened : ℕ) (d : Disk) (refs : List (List ℕ × List ℕ)) → IsSane d → Logical d (first refs) → KeepsSince left opened d → HasSince left opened (first refs)
+good_since left opened d refs sane logical keeps t e from is = let k = keeps t e from is in (good_disk d e sane k, logical_kept d e sane k refs logical)
+
+module _ {F : Type 0} (view : F → Option View) (clock : F → ℕ) (was : F → ℕ → View → Type 0) (told : (fs gs : F) (v : View) → view fs ≡ Some v → Told (view gs) (λ w. Unit {0})) where
+  pub is_opened : (old new : F) (opened : ℕ) (refs : List (List ℕ × List ℕ)) → AreAscending refs → opened ≤ clock new
+      → ((v : View) → view old ≡ Some v → IsSane v.now) → ((v : View) → view old ≡ Some v → Told (view new) (Begins refs v)) → ((v : View) → view old ≡ Some v → KeepsSince (Left (was new)) opened v.now)
+      → IsOpened view clock was new opened refs
+  is_opened old new opened refs ascending past sane begins keeps = record {
+    ascending = ascending;
+    past = past;
+    opening = λ w now. (here w now).1.opening;
+    staging = λ w now. (here w now).1.staging;
+    since = λ w now. let b = told new old w now in good_since (Left (was new)) opened b.0.now refs (sane b.0 b.1) (begins b.0 b.1).2.same (keeps b.0 b.1);
+  }
+    where
+      here : (w : View) → view new ≡ Some w → (v : View) × Begins refs v w
+      here w now = let b = told new old w now in let x = begins b.0 b.1 in (b.0, subst (Begins refs b.0) (one_view (view new) x.0 w x.1 now) x.2)

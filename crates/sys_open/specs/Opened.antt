@@ -1,0 +1,26 @@
+-- What an opening gives.
+use Rattle.std.specs.Prelude.{◌≡◌, ◌≤◌, ℕ, List, Option, Some}
+use Rattle.ost_types.specs.declared.limits.Limits.{Limits}
+use Rattle.fs_trait.specs.View.{View}
+use Rattle.fs_trait.specs.Change.{Left}
+use Rattle.rely.specs.State.{first}
+use Rattle.rely.specs.Opening.{IsOpening, HasSince}
+use Rattle.sys_open.specs.Opening.{AreAscending, HasNoStages}
+
+-- An open repository as plain data: the file system, the refs, the clock after the first barrier, the count of failed calls at
+-- the beginning, and the limits.
+pub record Opened (F : Type 0) : Type 0 where
+  pub fs : F
+  pub refs : List (List ℕ × List ℕ)
+  pub clock : ℕ
+  pub faults : ℕ
+  pub limits : Limits
+
+-- What every open repository keeps: a system can begin on it with these refs, and each crash since that moment left a good disk
+-- with them.
+pub record IsOpened {F : Type 0} (view : F → Option View) (clock : F → ℕ) (was : F → ℕ → View → Type 0) (fs : F) (opened : ℕ) (refs : List (List ℕ × List ℕ)) : Type 0 where
+  pub ascending : AreAscending refs
+  pub past : opened ≤ clock fs
+  pub opening : (w : View) → view fs ≡ Some w → IsOpening (first refs) w
+  pub staging : (w : View) → view fs ≡ Some w → HasNoStages w.now
+  pub since : (w : View) → view fs ≡ Some w → HasSince (Left (was fs)) opened (first refs)
