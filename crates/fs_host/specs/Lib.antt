@@ -1,4 +1,5 @@
 pub mod Changed
+pub mod Counts
 pub mod Front
 pub mod Header
 pub mod HostPath

@@ -24,10 +24,12 @@ pub struct HostFs<R: Files + AllocGlobal + Clone + Drop> {
 }
 
 impl<R: Files + AllocGlobal + Clone + Drop> HostFs<R> {
+    ghost use Rattle.fs_host.specs.Counts.{clock_of, faults_of};
+
     /// The file system, with room for the texts of paths.
     pub fn new(rt: R) -> Result<HostFs<R>, NoMemory>
-        ensures clock { IfOk result (λ fs. fs.clock ≡ 0) }
-        ensures faults { IfOk result (λ fs. fs.faults ≡ 0) }
+        ensures clock { IfOk result (λ fs. clock_of fs ≡ 0) }
+        ensures faults { IfOk result (λ fs. faults_of fs ≡ 0) }
     {
         Ok(HostFs {
             folder: CurrentFolder::new(rt)?,

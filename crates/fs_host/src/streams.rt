@@ -12,8 +12,10 @@ pub struct StdSource<S: Read> {
 }
 
 impl<S: Read> StdSource<S> {
+    ghost use Rattle.fs_host.specs.Counts.{failed_takes};
+
     pub fn new(input: S) -> StdSource<S>
-        ensures { result.faults ≡ 0 }
+        ensures { failed_takes result ≡ 0 }
     {
         StdSource { input, faults: 0 }
     }
@@ -49,8 +51,10 @@ pub struct StdSink<R: Print> {
 }
 
 impl<R: Print> StdSink<R> {
+    ghost use Rattle.fs_host.specs.Counts.{failed_puts};
+
     pub fn new(rt: R) -> StdSink<R>
-        ensures { result.faults ≡ 0 }
+        ensures { failed_puts result ≡ 0 }
     {
         StdSink { rt, faults: 0 }
     }

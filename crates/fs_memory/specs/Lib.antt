@@ -5,3 +5,4 @@ pub mod Changes
 pub mod Calls
 pub mod Recorded
 pub mod Memory
+pub mod Streams

@@ -5,6 +5,7 @@ use Rattle.fs_trait.specs.View.{View}
 use Rattle.memory_record.specs.declared.change.Change.{Change}
 use Rattle.memory_record.specs.Changes.{view_of, Was}
 use Rattle.fs_memory.specs.declared.mem_fs.MemFs.{MemFs}
+use Rattle.fs_memory.specs.declared.plan.FailAt.{FailAt}
 use Rattle.fs_memory.specs.Calls.{IsNext}
 use Rattle.fs_memory.specs.Recorded.{planned}
 
@@ -40,18 +41,30 @@ KeepsRecord old new = (new.past.changes ≡ old.past.changes) × (new.base ≡ o
 abbrev pub KeepsPools : MemFs → MemFs → Type 0
 KeepsPools old new = (new.places ≡ old.places) × (new.targets ≡ old.targets)
 
+-- how many calls it counted
+abbrev pub calls_of : MemFs → ℕ
+calls_of m = m.calls
+
+-- how many of them failed
+abbrev pub faults_of : MemFs → ℕ
+faults_of m = m.faults
+
+-- the calls that are to fail
+abbrev pub plan_in : MemFs → List FailAt
+plan_in m = m.plan.items
+
 -- it counted no call yet, and none is to fail
 abbrev pub HasNoPlan : MemFs → Type 0
-HasNoPlan m = (m.plan.items ≡ []) × (m.calls ≡ 0)
+HasNoPlan m = (plan_in m ≡ []) × (calls_of m ≡ 0)
 
 -- it counted none, and has the same plan
 abbrev pub CountsNone : MemFs → MemFs → Type 0
-CountsNone old new = (new.plan ≡ old.plan) × (new.calls ≡ old.calls)
+CountsNone old new = (plan_in new ≡ plan_in old) × (calls_of new ≡ calls_of old)
 
 -- it counted one call more, by the same plan
 abbrev pub CountsCall : MemFs → MemFs → Type 0
-CountsCall old new = (new.plan ≡ old.plan) × IsNext old.calls new.calls
+CountsCall old new = (plan_in new ≡ plan_in old) × IsNext (calls_of old) (calls_of new)
 
 -- what the plan says of the call that it counted
 abbrev pub planned_call : MemFs → MemFs → Option Bool
-planned_call old new = planned old.plan.items new.calls
+planned_call old new = planned (plan_in old) (calls_of new)

@@ -11,7 +11,7 @@ ghost use Rattle.fs_trait.specs.declared.types.FsErr.TheVariants as error;
 ghost use Rattle.memory_record.specs.declared.change.Change.{Change};
 ghost use Rattle.memory_record.specs.Changes.{empty_view, IsSound};
 ghost use Rattle.memory_record.specs.Crash.{IsCrashOf};
-ghost use Rattle.fs_memory.specs.Memory.{record_of, view_now, view_at, clock_of, was_since, room_of, KeepsRecord, KeepsPools, HasNoPlan, CountsNone, CountsCall, planned_call};
+ghost use Rattle.fs_memory.specs.Memory.{record_of, view_now, view_at, clock_of, was_since, room_of, KeepsRecord, KeepsPools, HasNoPlan, CountsNone, CountsCall, planned_call, plan_in, calls_of, faults_of};
 ghost use Rattle.fs_memory.specs.Recorded.{IsRecorded, Settles, Obeys, ObeysReading, IsTurn};
 ghost use Rattle.memory_record.specs.Laws.{was_now, was_only_now, was_bound, told_tree, told_always};
 
@@ -86,7 +86,7 @@ impl MemFs {
     pub fn new(alloc: Global) -> Result<MemFs, NoMemory>
         ensures view { IfOk result (λ m. view_now m ≡ empty_view) }
         ensures clock { IfOk result (λ m. clock_of m ≡ 0) }
-        ensures faults { IfOk result (λ m. m.faults ≡ 0) }
+        ensures faults { IfOk result (λ m. faults_of m ≡ 0) }
         ensures plan { IfOk result HasNoPlan }
     {
         Ok(MemFs {
@@ -104,10 +104,10 @@ impl MemFs {
     /// From now on these calls fail. Calls of all kinds but `reserve`, `clock` and `faults` are numbered from 1, since
     /// the file system was made.
     pub fn fail_at(&mut self, plan: Vec<FailAt>)
-        ensures plan { self.new.plan ≡ plan }
+        ensures plan { plan_in self.new ≡ plan.items }
         ensures changes { KeepsRecord self.old self.new }
         ensures pools { KeepsPools self.old self.new }
-        ensures counts { (self.new.calls ≡ self.old.calls) × (self.new.faults ≡ self.old.faults) }
+        ensures counts { (calls_of self.new ≡ calls_of self.old) × (faults_of self.new ≡ faults_of self.old) }
     {
         self.plan = plan;
     }
@@ -125,7 +125,7 @@ impl MemFs {
         ensures crash { IfOk result (λ m. IsCrashOf (view_at self.now moment) choice.now.picks.items choice.now.fill (view_now m)) }
         ensures image { IfOk result (λ m. Image (view_at self.now moment) (view_now m).now) }
         ensures clock { IfOk result (λ m. clock_of m ≡ 0) }
-        ensures faults { IfOk result (λ m. m.faults ≡ 0) }
+        ensures faults { IfOk result (λ m. faults_of m ≡ 0) }
         ensures plan { IfOk result HasNoPlan }
     {
         let end = self.base + moment as usize;
@@ -196,7 +196,7 @@ impl Fs for MemFs {
 
     ghost was = { λ m. was_since m };
 
-    ghost faults = { λ m. m.faults };
+    ghost faults = { λ m. faults_of m };
 
     ghost spare = { λ m. room_of m };
 
@@ -207,7 +207,7 @@ impl Fs for MemFs {
         ensures time { Elapses (clock_of self.old) (clock_of self.new) (was_since self.old) (was_since self.new) (Some (view_now self.new)) }
         ensures ticks { Ticks (clock_of self.old) (clock_of self.new) result }
         ensures stops { clock_of self.old ≡ last → Some (view_now self.new) ≡ Some (view_now self.old) }
-        ensures cause { HasCause self.old.faults self.new.faults result }
+        ensures cause { HasCause (faults_of self.old) (faults_of self.new) result }
         ensures room { TakesRoom false (room_of self.old) (room_of self.new) result }
         ensures number { CountsCall self.old self.new }
         ensures plan { Obeys (planned_call self.old self.new) (no_new at.now (view_now self.old).now) (view_now self.old) (named at.now (Folder meta.now) (view_now self.old)) result (view_now self.new) }
@@ -223,7 +223,7 @@ impl Fs for MemFs {
         ensures time { Elapses (clock_of self.old) (clock_of self.new) (was_since self.old) (was_since self.new) (Some (view_now self.new)) }
         ensures ticks { Ticks (clock_of self.old) (clock_of self.new) result }
         ensures stops { clock_of self.old ≡ last → Some (view_now self.new) ≡ Some (view_now self.old) }
-        ensures cause { HasCause self.old.faults self.new.faults result }
+        ensures cause { HasCause (faults_of self.old) (faults_of self.new) result }
         ensures room { TakesRoom false (room_of self.old) (room_of self.new) result }
         ensures number { CountsCall self.old self.new }
         ensures plan { (n : ℕ) × IsFresh n (view_now self.old) × Obeys (planned_call self.old self.new) (no_new at.now (view_now self.old).now) (view_now self.old) (created at.now meta.now n (view_now self.old)) result (view_now self.new) }
@@ -238,7 +238,7 @@ impl Fs for MemFs {
         ensures time { Elapses (clock_of self.old) (clock_of self.new) (was_since self.old) (was_since self.new) (Some (view_now self.new)) }
         ensures ticks { Ticks (clock_of self.old) (clock_of self.new) result }
         ensures stops { clock_of self.old ≡ last → Some (view_now self.new) ≡ Some (view_now self.old) }
-        ensures cause { HasCause self.old.faults self.new.faults result }
+        ensures cause { HasCause (faults_of self.old) (faults_of self.new) result }
         ensures room { TakesRoom false (room_of self.old) (room_of self.new) result }
         ensures number { CountsCall self.old self.new }
         ensures plan { Obeys (planned_call self.old self.new) (no_file at.now (view_now self.old).now) (view_now self.old) (extended (inode_of ((view_now self.old).now.at at.now)) bytes.now (view_now self.old)) result (view_now self.new) }
@@ -255,7 +255,7 @@ impl Fs for MemFs {
         ensures time { Elapses (clock_of self.old) (clock_of self.new) (was_since self.old) (was_since self.new) (Some (view_now self.new)) }
         ensures ticks { Ticks (clock_of self.old) (clock_of self.new) result }
         ensures stops { clock_of self.old ≡ last → Some (view_now self.new) ≡ Some (view_now self.old) }
-        ensures cause { HasCause self.old.faults self.new.faults result }
+        ensures cause { HasCause (faults_of self.old) (faults_of self.new) result }
         ensures room { TakesRoom false (room_of self.old) (room_of self.new) result }
         ensures number { CountsCall self.old self.new }
         ensures plan { Obeys (planned_call self.old self.new) (no_new at.now (view_now self.old).now) (view_now self.old) (named at.now (Link meta.now target.now) (view_now self.old)) result (view_now self.new) }
@@ -270,7 +270,7 @@ impl Fs for MemFs {
         ensures time { Elapses (clock_of self.old) (clock_of self.new) (was_since self.old) (was_since self.new) (Some (view_now self.new)) }
         ensures ticks { Ticks (clock_of self.old) (clock_of self.new) result }
         ensures stops { clock_of self.old ≡ last → Some (view_now self.new) ≡ Some (view_now self.old) }
-        ensures cause { HasCause self.old.faults self.new.faults result }
+        ensures cause { HasCause (faults_of self.old) (faults_of self.new) result }
         ensures room { TakesRoom false (room_of self.old) (room_of self.new) result }
         ensures number { CountsCall self.old self.new }
         ensures plan { Obeys (planned_call self.old self.new) (no_link from.now to.now (view_now self.old).now) (view_now self.old) (named to.now ((view_now self.old).now.at from.now) (view_now self.old)) result (view_now self.new) }
@@ -292,7 +292,7 @@ impl Fs for MemFs {
         ensures time { Elapses (clock_of self.old) (clock_of self.new) (was_since self.old) (was_since self.new) (Some (view_now self.new)) }
         ensures ticks { Ticks (clock_of self.old) (clock_of self.new) result }
         ensures stops { clock_of self.old ≡ last → Some (view_now self.new) ≡ Some (view_now self.old) }
-        ensures cause { HasCause self.old.faults self.new.faults result }
+        ensures cause { HasCause (faults_of self.old) (faults_of self.new) result }
         ensures room { TakesRoom true (room_of self.old) (room_of self.new) result }
         ensures number { CountsCall self.old self.new }
         ensures plan { Obeys (planned_call self.old self.new) (no_leaf at.now (view_now self.old).now) (view_now self.old) (named at.now Absent (view_now self.old)) result (view_now self.new) }
@@ -307,7 +307,7 @@ impl Fs for MemFs {
         ensures time { Elapses (clock_of self.old) (clock_of self.new) (was_since self.old) (was_since self.new) (Some (view_now self.new)) }
         ensures ticks { Ticks (clock_of self.old) (clock_of self.new) result }
         ensures stops { clock_of self.old ≡ last → Some (view_now self.new) ≡ Some (view_now self.old) }
-        ensures cause { HasCause self.old.faults self.new.faults result }
+        ensures cause { HasCause (faults_of self.old) (faults_of self.new) result }
         ensures room { TakesRoom true (room_of self.old) (room_of self.new) result }
         ensures number { CountsCall self.old self.new }
         ensures plan { (b : Bool) × HasNames b at.now (view_now self.old).now × Obeys (planned_call self.old self.new) (no_rmdir b at.now (view_now self.old).now) (view_now self.old) (named at.now Absent (view_now self.old)) result (view_now self.new) }
@@ -323,7 +323,7 @@ impl Fs for MemFs {
         ensures time { Elapses (clock_of self.old) (clock_of self.new) (was_since self.old) (was_since self.new) (Some (view_now self.new)) }
         ensures ticks { Ticks (clock_of self.old) (clock_of self.new) result }
         ensures stops { clock_of self.old ≡ last → Some (view_now self.new) ≡ Some (view_now self.old) }
-        ensures cause { HasCause self.old.faults self.new.faults result }
+        ensures cause { HasCause (faults_of self.old) (faults_of self.new) result }
         ensures room { TakesRoom true (room_of self.old) (room_of self.new) result }
         ensures number { CountsCall self.old self.new }
         ensures plan { Obeys (planned_call self.old self.new) (no_move from.now to.now (view_now self.old).now) (view_now self.old) (moved from.now to.now (view_now self.old)) result (view_now self.new) }
@@ -338,7 +338,7 @@ impl Fs for MemFs {
         ensures time { Elapses (clock_of self.old) (clock_of self.new) (was_since self.old) (was_since self.new) (Some (view_now self.new)) }
         ensures ticks { Ticks (clock_of self.old) (clock_of self.new) result }
         ensures stops { clock_of self.old ≡ last → Some (view_now self.new) ≡ Some (view_now self.old) }
-        ensures cause { HasCause self.old.faults self.new.faults result }
+        ensures cause { HasCause (faults_of self.old) (faults_of self.new) result }
         ensures room { TakesRoom true (room_of self.old) (room_of self.new) result }
         ensures number { CountsCall self.old self.new }
         ensures plan { Obeys (planned_call self.old self.new) (no_file at.now (view_now self.old).now) (view_now self.old) (file_synced (inode_of ((view_now self.old).now.at at.now)) (view_now self.old)) result (view_now self.new) }
@@ -353,7 +353,7 @@ impl Fs for MemFs {
         ensures time { Elapses (clock_of self.old) (clock_of self.new) (was_since self.old) (was_since self.new) (Some (view_now self.new)) }
         ensures ticks { Ticks (clock_of self.old) (clock_of self.new) result }
         ensures stops { clock_of self.old ≡ last → Some (view_now self.new) ≡ Some (view_now self.old) }
-        ensures cause { HasCause self.old.faults self.new.faults result }
+        ensures cause { HasCause (faults_of self.old) (faults_of self.new) result }
         ensures room { TakesRoom true (room_of self.old) (room_of self.new) result }
         ensures number { CountsCall self.old self.new }
         ensures plan { Obeys (planned_call self.old self.new) (no_folder at.now (view_now self.old).now) (view_now self.old) (folder_synced at.now (view_now self.old)) result (view_now self.new) }
@@ -368,7 +368,7 @@ impl Fs for MemFs {
         ensures time { Elapses (clock_of self.old) (clock_of self.new) (was_since self.old) (was_since self.new) (Some (view_now self.new)) }
         ensures ticks { Ticks (clock_of self.old) (clock_of self.new) result }
         ensures stops { clock_of self.old ≡ last → Some (view_now self.new) ≡ Some (view_now self.old) }
-        ensures cause { HasCause self.old.faults self.new.faults result }
+        ensures cause { HasCause (faults_of self.old) (faults_of self.new) result }
         ensures room { TakesRoom true (room_of self.old) (room_of self.new) result }
         ensures number { CountsCall self.old self.new }
         ensures plan { Obeys (planned_call self.old self.new) None (view_now self.old) (all_synced (view_now self.old)) result (view_now self.new) }
@@ -380,7 +380,7 @@ impl Fs for MemFs {
         ensures ok { OnOk result (calls ≤ room_of self.new) }
         ensures keeps_room { room_of self.old ≤ room_of self.new }
         ensures err { IfErr result (λ e. e ≡ error.NoMemory) }
-        ensures faults { self.new.faults ≡ self.old.faults }
+        ensures faults { faults_of self.new ≡ faults_of self.old }
         ensures quiet { IsQuiet (clock_of self.old) (clock_of self.new) (was_since self.old) (was_since self.new) (Some (view_now self.old)) (Some (view_now self.new)) }
         ensures plan { CountsNone self.old self.new }
     {
@@ -395,7 +395,7 @@ impl Fs for MemFs {
         ensures named { IfErr result OfNone }
         ensures quiet { IsQuiet (clock_of self.old) (clock_of self.new) (was_since self.old) (was_since self.new) (Some (view_now self.old)) (Some (view_now self.new)) }
         ensures keeps_room { (room_of self.old) ≤ (room_of self.new) }
-        ensures cause { HasCause self.old.faults self.new.faults result }
+        ensures cause { HasCause (faults_of self.old) (faults_of self.new) result }
         ensures number { CountsCall self.old self.new }
         ensures plan { ObeysReading (planned_call self.old self.new) result }
     {
@@ -408,7 +408,7 @@ impl Fs for MemFs {
         ensures named { IfErr result OfFinding }
         ensures quiet { IsQuiet (clock_of self.old) (clock_of self.new) (was_since self.old) (was_since self.new) (Some (view_now self.old)) (Some (view_now self.new)) }
         ensures keeps_room { (room_of self.old) ≤ (room_of self.new) }
-        ensures cause { HasCause self.old.faults self.new.faults result }
+        ensures cause { HasCause (faults_of self.old) (faults_of self.new) result }
         ensures number { CountsCall self.old self.new }
         ensures plan { ObeysReading (planned_call self.old self.new) result }
     {
@@ -422,7 +422,7 @@ impl Fs for MemFs {
         ensures named { IfErr result OfFinding }
         ensures quiet { IsQuiet (clock_of self.old) (clock_of self.new) (was_since self.old) (was_since self.new) (Some (view_now self.old)) (Some (view_now self.new)) }
         ensures keeps_room { (room_of self.old) ≤ (room_of self.new) }
-        ensures cause { HasCause self.old.faults self.new.faults result }
+        ensures cause { HasCause (faults_of self.old) (faults_of self.new) result }
         ensures number { CountsCall self.old self.new }
         ensures plan { ObeysReading (planned_call self.old self.new) result }
     {
@@ -435,7 +435,7 @@ impl Fs for MemFs {
         ensures named { IfErr result OfFinding }
         ensures quiet { IsQuiet (clock_of self.old) (clock_of self.new) (was_since self.old) (was_since self.new) (Some (view_now self.old)) (Some (view_now self.new)) }
         ensures keeps_room { (room_of self.old) ≤ (room_of self.new) }
-        ensures cause { HasCause self.old.faults self.new.faults result }
+        ensures cause { HasCause (faults_of self.old) (faults_of self.new) result }
         ensures number { CountsCall self.old self.new }
         ensures plan { ObeysReading (planned_call self.old self.new) result }
     {
@@ -448,7 +448,7 @@ impl Fs for MemFs {
         ensures named { IfErr result OfNone }
         ensures quiet { IsQuiet (clock_of self.old) (clock_of self.new) (was_since self.old) (was_since self.new) (Some (view_now self.old)) (Some (view_now self.new)) }
         ensures keeps_room { (room_of self.old) ≤ (room_of self.new) }
-        ensures cause { HasCause self.old.faults self.new.faults result }
+        ensures cause { HasCause (faults_of self.old) (faults_of self.new) result }
         ensures number { CountsCall self.old self.new }
         ensures plan { ObeysReading (planned_call self.old self.new) result }
     {

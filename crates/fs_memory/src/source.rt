@@ -1,4 +1,4 @@
-ghost use Rattle.std.specs.Prelude.{◌≡◌, ◌≤◌, ◌-◌, ◌↔◌, List, ℕ, Some, Contains, length, min, take, drop, IfOk, IsErr, OnOk, OnErr};
+ghost use Rattle.std.specs.Prelude.{◌≡◌, ◌≤◌, ◌↔◌, List, ℕ, Some, Contains, length, min, drop, IfOk, IsErr, OnOk, OnErr};
 ghost use Rattle.fs_trait.specs.Count.{Rose};
 ghost use Rattle.fs_trait.specs.Streams.{Takes};
 ghost use Rattle.fs_memory.specs.Calls.{IsNext};
@@ -19,12 +19,14 @@ pub struct MemSource {
 }
 
 impl MemSource {
+    ghost use Rattle.fs_memory.specs.Streams.{left_in, takes_of, failing_takes, failed_takes};
+
     /// A source that gives these bytes. The calls of `take` with these numbers fail and give nothing;
     /// they are numbered from 1.
     pub fn new(bytes: Bytes, fail: Vec<u64>) -> MemSource
-        ensures left { drop result.given result.bytes ≡ bytes }
-        ensures fail { result.fail.items ≡ fail.items }
-        ensures counts { (result.calls ≡ 0) × (result.faults ≡ 0) }
+        ensures left { left_in result ≡ bytes }
+        ensures fail { failing_takes result ≡ fail.items }
+        ensures counts { (takes_of result ≡ 0) × (failed_takes result ≡ 0) }
     {
         MemSource {
             bytes,
@@ -37,23 +39,25 @@ impl MemSource {
 }
 
 impl Source for MemSource {
-    ghost left = { λ s. Some (drop s.given s.bytes) };
+    ghost use Rattle.fs_memory.specs.Streams.{left_in, takes_of, failing_takes, failed_takes};
 
-    ghost faults = { λ s. s.faults };
+    ghost left = { λ s. Some (left_in s) };
+
+    ghost faults = { λ s. failed_takes s };
 
     /// Gives as many bytes as are left and find room.
     fn take(&mut self, into: &mut [u8]) -> Result<usize, SourceErr>
         ensures bound { IfOk result (λ n. n ≤ length into.new) }
-        ensures effect { (b : List ℕ) → Some (drop self.old.given self.old.bytes) ≡ Some b → Takes b into.new result (Some (drop self.new.given self.new.bytes)) }
-        ensures later { self.old.faults ≤ self.new.faults }
-        ensures failed { OnErr result (Rose self.old.faults self.new.faults) }
-        ensures planned { IsErr result ↔ Contains self.old.fail.items self.new.calls }
-        ensures count { IfOk result (λ n. n ≡ min (length into.old) (length (drop self.old.given self.old.bytes))) }
+        ensures effect { (b : List ℕ) → Some (left_in self.old) ≡ Some b → Takes b into.new result (Some (left_in self.new)) }
+        ensures later { failed_takes self.old ≤ failed_takes self.new }
+        ensures failed { OnErr result (Rose (failed_takes self.old) (failed_takes self.new)) }
+        ensures planned { IsErr result ↔ Contains (failing_takes self.old) (takes_of self.new) }
+        ensures count { IfOk result (λ n. n ≡ min (length into.old) (length (left_in self.old))) }
         ensures rest { IfOk result (λ n. drop n into.new ≡ drop n into.old) }
         ensures err { OnErr result (into.new ≡ into.old) }
-        ensures number { IsNext self.old.calls self.new.calls }
-        ensures same_faults { OnOk result (self.new.faults ≡ self.old.faults) }
-        ensures keeps { self.new.fail ≡ self.old.fail }
+        ensures number { IsNext (takes_of self.old) (takes_of self.new) }
+        ensures same_faults { OnOk result (failed_takes self.new ≡ failed_takes self.old) }
+        ensures keeps { failing_takes self.new ≡ failing_takes self.old }
     {
         self.calls = next_call(self.calls);
         if is_listed(&self.fail, self.calls) {

@@ -57,7 +57,7 @@ put_settles file.Replace e last runs = let n : false ≡ true = last in cc
 put_settles file.Add e last runs = let n : false ≡ true = last in cc
 put_settles file.Unlink e last runs = let n : false ≡ true = last in cc
 
-settles_in : (ph : Phase) (e : Event) → IsLast ph → IsRunning (progress_in ph) → kind_in ph e ≡ Settle e
+pub settles_in : (ph : Phase) (e : Event) → IsLast ph → IsRunning (progress_in ph) → kind_in ph e ≡ Settle e
 settles_in phase.Look e last runs = absurd last
 settles_in (phase.Clear c) e last runs = absurd last
 settles_in (phase.Walk y) e last runs = absurd last

@@ -101,7 +101,7 @@ put_runs file.SyncFolder s more = let n : true ≡ false = more in cc
 put_runs file.Ended s more = let n : true ≡ false = more in cc
 
 -- a change that goes on hasn't ended
-runs_in : (t : Change) (old new : Phase) → Follows old new t → IsRunning (progress_in new)
+pub runs_in : (t : Change) (old new : Phase) → Follows old new t → IsRunning (progress_in new)
 runs_in t phase.Look new f = ⊎_elim (λ is. subst IsRunning (sym is) tt) (λ is. subst IsRunning (sym is) tt) (after_look t new f)
 runs_in t (phase.Clear c) phase.Look f = absurd f
 runs_in t (phase.Clear c) (phase.Clear d) f = tt

@@ -9,10 +9,11 @@ use Rattle.rely.specs.declared.books.Base.{Base}
 use Rattle.sys_core.specs.declared.run.Run.{Run}
 use Rattle.sys_core.specs.System.{System}
 use Rattle.sys_core.specs.Booked.{Booked, HasCommand, given, replies_of}
+use Rattle.sys_core.specs.Pursues.{started_of}
 use Rattle.sys_core.proofs.Booking.{some_of}
 
-abbrev pub system_of : {F : Type 0} → Base F → List Lane → List (Vec Reply) → System F
-system_of base lanes replies = record { base = base; lanes = lanes; replies = replies_of replies }
+abbrev pub system_of : {F : Type 0} → Base F → List Lane → List Run → List (Vec Reply) → System F
+system_of base lanes runs replies = record { base = base; lanes = lanes; started = started_of runs; replies = replies_of replies }
 
 pub fewer : (a b : ℕ) → true ≡ nat_lt a b → a < b
 fewer a b is = grind (arith, nat_tests)
@@ -22,7 +23,7 @@ not_fewer a b is = grind (arith, nat_tests)
 
 module _ {F : Type 0} (base : Base F) (lanes : List Lane) (runs : List Run) (replies : List (Vec Reply)) (l : ℕ) (b : Booked lanes runs replies) (within : l < length lanes) where
   abbrev pub s : System F
-  s = system_of base lanes replies
+  s = system_of base lanes runs replies
 
   pub given_here : (v : Vec Reply) → given s l ≡ (get_or replies l v).items
   given_here v = get_or-map (λ (x : Vec Reply). x.items) replies l v [] (omega (arith, b.each_replied, within))
@@ -38,7 +39,3 @@ module _ {F : Type 0} (base : Base F) (lanes : List Lane) (runs : List Run) (rep
 
   pub no_command : (r : Run) (d : Lane) → length (get_or lanes l d).commands.items ≤ (get_or runs l r).command → HasCommand s l → ⊥
   no_command r d most has = omega (arith, given_length r, most, has.1 d)
-
--- one more reply of a lane, whichever way the system is written
-pub one_reply : {F : Type 0} (a b : System F) (l : ℕ) (reply : Reply) (new : List (List Reply)) → b ≡ a → new ≡ set a.replies l (given a l ++ reply ∷ []) → (r : Reply) × (new ≡ set b.replies l (given b l ++ r ∷ []))
-one_reply a b l reply new same is = (reply, is ∙ sym (ap (λ s. set s.replies l (given s l ++ reply ∷ [])) same))

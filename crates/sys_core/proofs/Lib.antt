@@ -6,3 +6,13 @@ pub mod Starting
 pub mod Booking
 pub mod Acting
 pub mod Beginning
+pub mod Places
+pub mod Prefixes
+pub mod Replying
+pub mod Pursuing
+pub mod Telling
+pub mod Answering
+pub mod Going
+pub mod Accounting
+pub mod Seeing
+pub mod Acts

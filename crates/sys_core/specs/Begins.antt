@@ -33,12 +33,12 @@ IsNoRev (rev.Ref name) s = s (RefOf name) ≡ None
 IsNoRev (rev.Commit named) s = ⊥
 
 -- What a command answers by the refs of a state alone.
-abbrev pub AnswersBy : State → Command → Answer → Type 0
-AnswersBy s Refs (answer.Refs rows) = Lists rows.items s
-AnswersBy s (RevParse r) answer.NoRef = IsNoRev r s
-AnswersBy s (DropRef branch) answer.NoRef = s (RefOf branch) ≡ None
-AnswersBy s c answer.NoMemory = Unit {0}
-AnswersBy s c a = ⊥
+abbrev pub AnswersBy : State → Answer → Command → Type 0
+AnswersBy s (answer.Refs rows) Refs = Lists rows.items s
+AnswersBy s answer.NoRef (RevParse r) = IsNoRev r s
+AnswersBy s answer.NoRef (DropRef branch) = s (RefOf branch) ≡ None
+AnswersBy s answer.NoMemory c = Unit {0}
+AnswersBy s a c = ⊥
 
 -- What a command does in a state: it looks up the commit that is named there; a reset gives the ref that commit, and a drop
 -- removes it, each where it has the value that it has there.
@@ -49,5 +49,5 @@ RunsBy lane s (DropRef branch) (task.Change work) = (seen : List ℕ) × (s (Ref
 RunsBy lane s c t = ⊥
 
 abbrev pub IsBy : ℕ → State → Command → Begun → Type 0
-IsBy lane s c (Answered answer) = AnswersBy s c answer
+IsBy lane s c (Answered answer) = AnswersBy s answer c
 IsBy lane s c (Runs t) = RunsBy lane s c t

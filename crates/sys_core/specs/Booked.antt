@@ -1,5 +1,5 @@
 -- How far the lanes are, and what they have been answered.
-use Rattle.std.specs.Prelude.{◌≡◌, ◌<◌, ◌≤◌, ◌++◌, ◌∷◌, [], ℕ, List, length, map, slice_index_or, slice_set}
+use Rattle.std.specs.Prelude.{◌≡◌, ◌<◌, ◌≤◌, ◌++◌, ◌∷◌, [], ℕ, List, length, map, slice_index_or, slice_set, Option, Some, None, unwrap_or}
 use Rattle.std.specs.Vec.{vec_capacity}
 use Rattle.std.specs.Global.{Vec}
 use Rattle.script.specs.declared.answer.Reply.{Reply}
@@ -8,6 +8,12 @@ use Rattle.sys_core.specs.declared.ask.Ask.{Ask}
 use Rattle.sys_core.specs.declared.ask.Ask.TheVariants.{More, Blocked, Done, Ended}
 use Rattle.sys_core.specs.declared.run.Run.{Run}
 use Rattle.sys_core.specs.System.{System}
+use Rattle.sys_core.specs.Answers.{IsTold}
+use Rattle.sys_core.specs.Replied.{Replied, count_of}
+use Rattle.script.specs.declared.answer.Answer.{Answer}
+use Rattle.rely.specs.declared.books.Entry.{Entry}
+use Rattle.rely.specs.State.{first}
+use Rattle.fs_trait.specs.View.{View}
 
 -- Each lane has at most 64 commands, one reply to each that has ended, and room for those to come.
 pub record Booked (lanes : List Lane) (runs : List Run) (replies : List (Vec Reply)) : Type 0 where
@@ -30,14 +36,29 @@ given s l = slice_index_or s.replies l []
 abbrev pub HasCommand : {F : Type 0} → System F → ℕ → Type 0
 HasCommand s l = (l < length s.lanes) × ((d : Lane) → length (given s l) < length (slice_index_or s.lanes l d).commands.items)
 
+-- how many changes lasted at the first act of the lane's next command
+abbrev pub start_of : {F : Type 0} → System F → ℕ → ℕ
+start_of s l = unwrap_or (slice_index_or s.started l None) (length s.base.books.history.items)
+
+-- what the beginning was stays, and the history only grows
+abbrev pub IsLater : {F : Type 0} → System F → System F → Type 0
+IsLater old new = (new.base.books.start.items ≡ old.base.books.start.items) × (new.base.books.opened ≡ old.base.books.opened)
+    × (more : List Entry) × (new.base.books.history.items ≡ old.base.books.history.items ++ more)
+
 -- Which act it was: one that goes on gives no reply; one that is held off, or has no command, changes nothing; and one that is
--- done gives the reply of the lane's next command, whose place is how many changes last then.
-abbrev pub Acted : {F : Type 0} → System F → System F → ℕ → Ask → Type 0
-Acted old new actor More = HasCommand old actor × (new.replies ≡ old.replies)
-Acted old new actor Blocked = HasCommand old actor × (new ≡ old)
-Acted old new actor Ended = ¬ (HasCommand old actor) × (new ≡ old)
-Acted old new actor (Done lane command) = HasCommand old actor × (lane ≡ actor) × (command ≡ length (given old actor))
-    × (r : Reply) × (new.replies ≡ slice_set old.replies actor (given old actor ++ r ∷ []))
+-- done gives the reply of the lane's next command, with how many changes lasted at its beginning and do now, and how many replies
+-- were given before it.
+abbrev pub Acted : {F : Type 0} → (Answer → Type 0) → System F → System F → ℕ → Ask → Type 0
+Acted Tells old new actor More = HasCommand old actor × (new.replies ≡ old.replies) × (new.started ≡ slice_set old.started actor (Some (start_of old actor))) × IsLater old new
+Acted Tells old new actor Blocked = HasCommand old actor × (new ≡ old)
+Acted Tells old new actor Ended = ¬ (HasCommand old actor) × (new ≡ old)
+Acted Tells old new actor (Done lane command) = HasCommand old actor × (lane ≡ actor) × (command ≡ length (given old actor))
+    × (r : Reply) × (new.replies ≡ slice_set old.replies actor (given old actor ++ r ∷ [])) × (new.started ≡ slice_set old.started actor None)
+    × (r.start ≡ start_of old actor) × (r.place ≡ length new.base.books.history.items) × (r.order ≡ count_of old.replies) × Tells r.answer × IsLater old new
+
+-- what the replies say of the history
+abbrev pub IsReplied : {F : Type 0} → (F → Option View) → System F → Type 0
+IsReplied view s = Replied (IsTold view) (first s.base.books.start.items) s.base.books.history.items s.base.books.pending s.lanes s.started s.replies
 
 -- no replies so far, with room for one to each command
 abbrev pub HasRoomFor : List Lane → ℕ → List (Vec Reply) → Type 0

@@ -1,5 +1,6 @@
--- A system as plain data: the file system with the books, the commands of its lanes, and their replies so far.
-use Rattle.std.specs.Prelude.{List}
+-- A system as plain data: the file system with the books, the commands of its lanes, how many changes lasted when each one that runs
+-- began, and their replies so far.
+use Rattle.std.specs.Prelude.{ℕ, List, Option}
 use Rattle.script.specs.declared.answer.Reply.{Reply}
 use Rattle.script.specs.declared.command.Lane.{Lane}
 use Rattle.rely.specs.declared.books.Base.{Base}
@@ -7,4 +8,5 @@ use Rattle.rely.specs.declared.books.Base.{Base}
 pub record System (F : Type 0) : Type 0 where
   pub base : Base F
   pub lanes : List Lane
+  pub started : List (Option ℕ)
   pub replies : List (List Reply)

@@ -1,6 +1,7 @@
 ghost use Rattle.std.specs.Prelude.{◌≡◌};
 ghost use Rattle.fs_trait.specs.declared.types.FsErr.TheVariants as err;
 ghost use Rattle.script.specs.declared.answer.Answer.TheVariants as answer;
+ghost use Rattle.sys_core.specs.Pursues.{IsOutside, IsRefusedAs};
 
 use fs_trait::FsErr;
 use ost_types::NoMemory;
@@ -10,8 +11,7 @@ use std::alloc::Global;
 
 /// The answer of a command whose step was refused before it changed anything.
 pub(crate) fn answer_of(alloc: Global, command: &Command, e: FsErr) -> Answer
-    ensures memory { e ≡ err.NoMemory → result ≡ answer.NoMemory }
-    ensures disk { e ≡ err.Failed → result ≡ answer.DiskFault }
+    ensures { IsRefusedAs e command.now result }
 {
     match e {
         FsErr::NoMemory => Answer::NoMemory,
@@ -21,7 +21,9 @@ pub(crate) fn answer_of(alloc: Global, command: &Command, e: FsErr) -> Answer
 }
 
 // something else than this program changed what stands at the ref's path, or on the way there
-fn outside(alloc: Global, command: &Command) -> Answer {
+fn outside(alloc: Global, command: &Command) -> Answer
+    ensures { IsOutside command.now result }
+{
     match command {
         Command::Reset { branch, commit: _ } | Command::DropRef { branch } => {
             match ref_path(alloc, branch) {

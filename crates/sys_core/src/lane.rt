@@ -1,5 +1,5 @@
 ghost use Rattle.sys_core.specs.declared.lane.Came.TheVariants as Came;
-ghost use Rattle.std.specs.Prelude.{◌≡◌, ◌≢◌, ◌<◌, ◌≤◌, ◌+◌, ℕ, List, Option, Some, None, false, drop, length, slice_index_or};
+ghost use Rattle.std.specs.Prelude.{true, ◌≡◌, ◌≢◌, ◌<◌, ◌≤◌, ◌+◌, ℕ, List, Option, Some, None, false, drop, length, slice_index_or};
 ghost use Rattle.fs_trait.specs.View.{View};
 ghost use Rattle.ref_book.specs.Tracks.{Tracks, HasRoom, name_of};
 ghost use Rattle.ref_work.specs.Commands.{command_kind, command_facts};
@@ -9,7 +9,15 @@ ghost use Rattle.rely.specs.Books.{books_of};
 ghost use Rattle.rely.specs.Laws.{NotPending, Ready, Runs, Acts};
 ghost use Rattle.rely.specs.State.{State, after, events_of};
 ghost use Rattle.rely.specs.Sound.{Sound};
+ghost use Rattle.rely.specs.State.{first};
+ghost use Rattle.rely.specs.declared.books.Pending.{Pending};
+ghost use Rattle.rely.specs.Exact.{Causes, IsBooked, Opens, Steps, Tells};
+ghost use Rattle.ref_work.specs.Commands.{command_leaves, command_refuses, command_stepped};
+ghost use Rattle.script.specs.declared.answer.Answer.{Answer};
+ghost use Rattle.script.specs.declared.answer.Answer.TheVariants as answer;
+ghost use Rattle.sys_core.specs.Answers.{IsHalted, IsTold, Shown};
 ghost use Rattle.sys_core.specs.Lanes.{Facts, HasRoomFor, IsHome, IsOver, LaneActs, now_of};
+ghost use Rattle.sys_core.specs.Pursues.{Goes, HasAnswer, IsAfter, IsEndedAs};
 
 use crate::answer::answer_of;
 use crate::begin::{Begun, begin};
@@ -43,9 +51,14 @@ pub(crate) fn lane_act<F: Fs>(
     requires sound { Sound F.view F.clock F.spare F.was base.old }
     requires tracks { Tracks refs.old (now_of base.old.books) }
     requires facts { Facts lane refs.old run.old.task (F.view base.old.fs) (books_of base.old.books) }
+    requires mine { (p : Pending) → base.old.books.pending ≡ Some p → p.lane ≡ lane → p.command ≡ run.old.command }
+    requires after { IsAfter (first base.old.books.start.items) base.old.books.history.items command.now run.old.task }
     ensures acts { LaneActs F.view F.clock F.spare F.was lane refs.old refs.new run.new.task base.old base.new }
     ensures number { run.new.command ≡ run.old.command }
     ensures blocked { result ≡ Came.Blocked → base.new ≡ base.old }
+    ensures goes { Goes (IsTold F.view) (first base.old.books.start.items) lane run.old.command command.now base.old.books base.new.books run.old.task run.new.task result }
+    ensures halts { (a : Answer) (start : ℕ) → result ≡ Came.Answered a start → IsHalted a → (base.new.books.halted ≡ true) × (a ≡ answer.Halted (F.faults base.new.fs)) }
+    ensures shown { (a : Answer) (start : ℕ) → result ≡ Came.Answered a start → Shown (F.view base.old.fs) base.old.books.halted (F.faults base.old.fs) (F.faults base.new.fs) a }
 {
     match run.task.take() {
         Some(running) => goes_on(alloc, base, refs, lane, command, run, running),
@@ -71,6 +84,9 @@ fn begins<F: Fs>(
     ensures acts { LaneActs F.view F.clock F.spare F.was lane refs.old refs.new run.new.task base.old base.new }
     ensures number { run.new.command ≡ run.old.command }
     ensures blocked { result ≡ Came.Blocked → base.new ≡ base.old }
+    ensures goes { Goes (IsTold F.view) (first base.old.books.start.items) lane run.old.command command.now base.old.books base.new.books None run.new.task result }
+    ensures halts { (a : Answer) (start : ℕ) → result ≡ Came.Answered a start → IsHalted a → (base.new.books.halted ≡ true) × (a ≡ answer.Halted (F.faults base.new.fs)) }
+    ensures shown { (a : Answer) (start : ℕ) → result ≡ Came.Answered a start → Shown (F.view base.old.fs) base.old.books.halted (F.faults base.old.fs) (F.faults base.new.fs) a }
 {
     let start = base.books.history.len();
     match begin(alloc, refs, lane, command) {
@@ -104,9 +120,14 @@ fn goes_on<F: Fs>(
     requires tracks { Tracks refs.old (now_of base.old.books) }
     requires facts { Facts lane refs.old (Some running) (F.view base.old.fs) (books_of base.old.books) }
     requires idle { run.old.task ≡ None }
+    requires mine { (p : Pending) → base.old.books.pending ≡ Some p → p.lane ≡ lane → p.command ≡ run.old.command }
+    requires after { IsAfter (first base.old.books.start.items) base.old.books.history.items command.now (Some running) }
     ensures acts { LaneActs F.view F.clock F.spare F.was lane refs.old refs.new run.new.task base.old base.new }
     ensures number { run.new.command ≡ run.old.command }
     ensures blocked { result ≡ Came.Blocked → base.new ≡ base.old }
+    ensures goes { Goes (IsTold F.view) (first base.old.books.start.items) lane run.old.command command.now base.old.books base.new.books (Some running) run.new.task result }
+    ensures halts { (a : Answer) (start : ℕ) → result ≡ Came.Answered a start → IsHalted a → (base.new.books.halted ≡ true) × (a ≡ answer.Halted (F.faults base.new.fs)) }
+    ensures shown { (a : Answer) (start : ℕ) → result ≡ Came.Answered a start → Shown (F.view base.old.fs) base.old.books.halted (F.faults base.old.fs) (F.faults base.new.fs) a }
 {
     let mut running = running;
     match running_act(base, refs, lane, run.command, &mut running.work) {
@@ -122,7 +143,7 @@ fn goes_on<F: Fs>(
     }
 }
 
-/// What a command answers that has ended.
+/// The reply of a command that has ended.
 fn ends<F: Fs>(
     alloc: Global,
     base: &Base<F>,
@@ -130,15 +151,31 @@ fn ends<F: Fs>(
     running: Running,
     outcome: Outcome,
 ) -> Came
-    ensures { result ≢ Came.Blocked }
+    requires { HasAnswer outcome running.work }
+    ensures { (a : Answer) × (result ≡ Came.Answered a running.start) × IsEndedAs outcome command.now running.work (F.faults base.now.fs) a }
 {
     let Running { work, start } = running;
-    let answer = match outcome {
+    let answer = answer_at_end(alloc, base, command, work, outcome);
+    Came::Answered { answer, start }
+}
+
+/// What a command answers that has ended.
+fn answer_at_end<F: Fs>(
+    alloc: Global,
+    base: &Base<F>,
+    command: &Command,
+    work: RefCommand,
+    outcome: Outcome,
+) -> Answer
+    requires { HasAnswer outcome work }
+    ensures { IsEndedAs outcome command.now work (F.faults base.now.fs) result }
+{
+    match outcome {
         Outcome::Refused(e) => answer_of(alloc, command, e),
         Outcome::Halted => Answer::Halted(base.fs.faults()),
-        _ => work.into_answer().unwrap_or(Answer::NoMemory),
-    };
-    Came::Answered { answer, start }
+        Outcome::Done => work.into_answer().unwrap(),
+        Outcome::Blocked | Outcome::More => unreachable!(),
+    }
 }
 
 /// One step of a command's task. A change that lasts from then on is noted among the refs.
@@ -158,6 +195,11 @@ fn running_act<F: Fs>(
     ensures rooms { (name : List ℕ) → HasRoom refs.old name → HasRoom refs.new name }
     ensures room { result ≡ came.More → HasRoomFor refs.new work.new }
     ensures blocked { result ≡ came.Blocked → (base.new ≡ base.old) × (work.new ≡ work.old) }
+    ensures steps { Steps command_stepped work.old result work.new }
+    ensures tells { Tells command_leaves command_refuses work.old result work.new (F.view base.old.fs) (F.view base.new.fs) }
+    ensures opens { result ≢ came.Blocked → Opens (command_kind work.old) lane (books_of base.old.books) }
+    ensures booked { IsBooked (command_kind work.old) lane number (F.clock base.new.fs) result base.old.books base.new.books }
+    ensures cause { (v : View) → F.view base.old.fs ≡ Some v → Causes (F.faults base.old.fs) (F.faults base.new.fs) result }
     ensures home { IsHome lane (F.view base.new.fs) }
     ensures over { IsOver result → NotPending lane (books_of base.new.books) }
 {

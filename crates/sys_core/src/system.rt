@@ -5,7 +5,8 @@ ghost use Rattle.rely.specs.State.{first};
 ghost use Rattle.ref_book.specs.Tracks.{Tracks};
 ghost use Rattle.script.specs.declared.command.Lane.{Lane};
 ghost use Rattle.sys_core.specs.Lanes.{AreIdle};
-ghost use Rattle.sys_core.specs.Booked.{Acted, Booked, replies_of};
+ghost use Rattle.sys_core.specs.Answers.{Shown};
+ghost use Rattle.sys_core.specs.Booked.{Acted, Booked, IsReplied, replies_of};
 
 use crate::Ask;
 use crate::book::book;
@@ -42,12 +43,13 @@ impl<F: Fs> Model for System<F> {
     ghost use Rattle.sys_core.specs.Lanes.{Kept};
     ghost use Rattle.sys_core.specs.System.{System};
     ghost use Rattle.sys_core.specs.Booked.{Booked, replies_of};
+    ghost use Rattle.sys_core.specs.Pursues.{Accounted, started_of};
 
     ghost Value = { System F };
 
-    ghost view = { λ s. record { base = s.base; lanes = s.lanes.items; replies = replies_of s.replies.items } };
+    ghost view = { λ s. record { base = s.base; lanes = s.lanes.items; started = started_of s.runs.items; replies = replies_of s.replies.items } };
 
-    ghost invariant = { λ s. Kept F.view F.clock F.spare F.was s.base s.refs s.runs.items × Booked s.lanes.items s.runs.items s.replies.items };
+    ghost invariant = { λ s. Kept F.view F.clock F.spare F.was s.base s.refs s.runs.items × Booked s.lanes.items s.runs.items s.replies.items × Accounted F.view s.base s.lanes.items s.runs.items (replies_of s.replies.items) s.given (F.faults s.base.fs) };
 }
 
 /// What a system is taken apart into.
@@ -116,7 +118,7 @@ impl<F: Fs> System<F> {
 
     /// The next step of an actor. The actor of a lane has its number.
     pub fn act(&mut self, actor: u8) -> Ask
-        ensures acted { Acted self.old self.new actor result }
+        ensures acted { Acted (Shown (F.view self.old.base.fs) self.old.base.books.halted (F.faults self.old.base.fs) (F.faults self.new.base.fs)) self.old self.new actor result }
         ensures lanes { self.new.lanes ≡ self.old.lanes }
     {
         let number = actor as usize;
@@ -146,7 +148,7 @@ impl<F: Fs> System<F> {
                     order: self.given,
                     taken: None,
                 };
-                self.given = self.given.saturating_add(1);
+                self.given += 1;
                 book(
                     &self.lanes,
                     &mut self.runs,
@@ -191,16 +193,18 @@ impl<F: Fs> System<F> {
 
     /// A crash at any moment since the opening left a good disk whose refs are those after a prefix of the stored history
     /// that has each change acknowledged by that moment; and reads see the refs after the history, but for a change that
-    /// is pending.
+    /// is pending. Each reply says what the states at its start and at its place show.
     pub fn certify(&self)
-        ensures { (v : View) → F.view self.now.base.fs ≡ Some v → Headline F.clock F.was self.now.base v }
+        ensures headline { (v : View) → F.view self.now.base.fs ≡ Some v → Headline F.clock F.was self.now.base v }
+        ensures replied { IsReplied F.view self.now }
     {
         certify(&self.base);
     }
 
     /// Acts once for each actor of the schedule.
     pub fn drive(&mut self, schedule: &[u8])
-        ensures { (v : View) → F.view self.new.base.fs ≡ Some v → Headline F.clock F.was self.new.base v }
+        ensures replied { IsReplied F.view self.new }
+        ensures headline { (v : View) → F.view self.new.base.fs ≡ Some v → Headline F.clock F.was self.new.base v }
     {
         for actor in schedule {
             let _ = self.act(*actor);
@@ -214,6 +218,8 @@ impl<F: Fs> System<F> {
         ensures pending { result.pending ≡ self.base.books.pending }
         ensures lanes { result.lanes.items ≡ self.lanes }
         ensures headline { (v : View) → F.view self.base.fs ≡ Some v → Headline F.clock F.was self.base v }
+        ensures replies { replies_of result.replies.items ≡ self.replies }
+        ensures replied { IsReplied F.view self }
     {
         self.certify();
         let System {
@@ -238,12 +244,10 @@ impl<F: Fs> System<F> {
     }
 }
 
-/// A length as a number of a reply. There are far fewer changes than that.
+/// A length as a number of a reply.
 fn number_of(length: usize) -> u32
-    ensures { length < 4294967296 → result ≡ length }
+    requires { length < 4294967296 }
+    ensures { result ≡ length }
 {
-    match u32::try_from(length) {
-        Ok(number) => number,
-        Err(_) => u32::MAX,
-    }
+    length as u32
 }

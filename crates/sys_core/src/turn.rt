@@ -1,10 +1,17 @@
-ghost use Rattle.std.specs.Prelude.{◌≡◌, ◌<◌, ℕ, List, length, slice_index_or};
+ghost use Rattle.std.specs.Prelude.{true, false, ◌≡◌, ◌<◌, ◌++◌, ℕ, List, Some, None, length, slice_index_or, slice_set};
+ghost use Rattle.rely.specs.State.{first};
+ghost use Rattle.rely.specs.declared.books.Entry.{Entry};
+ghost use Rattle.rely.specs.declared.books.Pending.{Pending};
+ghost use Rattle.script.specs.declared.answer.Answer.TheVariants as answer;
 ghost use Rattle.std.specs.Global.{Vec};
 ghost use Rattle.script.specs.declared.answer.Reply.{Reply};
 ghost use Rattle.script.specs.declared.command.Lane.{Lane};
 ghost use Rattle.sys_core.specs.declared.lane.Came.TheVariants as Came;
 ghost use Rattle.sys_core.specs.Booked.{Booked};
+ghost use Rattle.script.specs.declared.answer.Answer.{Answer};
+ghost use Rattle.sys_core.specs.Answers.{IsHalted, IsTold, Shown};
 ghost use Rattle.sys_core.specs.Lanes.{Kept};
+ghost use Rattle.sys_core.specs.Pursues.{Goes, IsAfter, start_of};
 
 use crate::lane::{Came, lane_act};
 use crate::run::Run;
@@ -25,16 +32,43 @@ pub(crate) fn turn<F: Fs>(
 ) -> Came
     requires kept { Kept F.view F.clock F.spare F.was base.old refs.old runs.old.items }
     requires lane { lane < length runs.old.items }
+    requires mine { (p : Pending) (r : Run) → base.old.books.halted ≡ false → base.old.books.pending ≡ Some p → p.lane ≡ lane → p.command ≡ (slice_index_or runs.old.items lane r).command }
+    requires after { (r : Run) → IsAfter (first base.old.books.start.items) base.old.books.history.items command.now (slice_index_or runs.old.items lane r).task }
     ensures kept { Kept F.view F.clock F.spare F.was base.new refs.new runs.new.items }
     ensures booked { (lanes : List Lane) (replies : List (Vec Reply)) → lane < length lanes → Booked lanes runs.old.items replies → Booked lanes runs.new.items replies }
     ensures number { (r : Run) → (slice_index_or runs.new.items lane r).command ≡ (slice_index_or runs.old.items lane r).command }
     ensures blocked { result ≡ Came.Blocked → base.new ≡ base.old }
+    ensures run { (r : Run) → runs.new.items ≡ slice_set runs.old.items lane (slice_index_or runs.new.items lane r) }
+    ensures goes { (r : Run) → Goes (IsTold F.view) (first base.old.books.start.items) lane (slice_index_or runs.old.items lane r).command command.now base.old.books base.new.books (slice_index_or runs.old.items lane r).task (slice_index_or runs.new.items lane r).task result }
+    ensures halts { (a : Answer) (start : ℕ) → result ≡ Came.Answered a start → IsHalted a → (base.new.books.halted ≡ true) × (a ≡ answer.Halted (F.faults base.new.fs)) }
+    ensures shown { (a : Answer) (start : ℕ) → result ≡ Came.Answered a start → Shown (F.view base.old.fs) base.old.books.halted (F.faults base.old.fs) (F.faults base.new.fs) a }
+    ensures live { result ≡ Came.More → base.old.books.halted ≡ false }
+    ensures stays { base.old.books.halted ≡ true → base.new ≡ base.old }
+    ensures opened { base.new.books.opened ≡ base.old.books.opened }
+    ensures start { base.new.books.start.items ≡ base.old.books.start.items }
+    ensures grows { (more : List Entry) × (base.new.books.history.items ≡ base.old.books.history.items ++ more) }
 {
+    let run = &mut runs[lane as usize];
     if base.books.halted {
-        return Came::Answered {
-            answer: Answer::Halted(base.fs.faults()),
-            start: base.books.history.len(),
-        };
+        return halted(base, run);
     }
-    lane_act(alloc, base, refs, lane, command, &mut runs[lane as usize])
+    lane_act(alloc, base, refs, lane, command, run)
+}
+
+/// The end of a command after a changing call failed.
+fn halted<F: Fs>(base: &Base<F>, run: &mut Run) -> Came
+    requires { base.now.books.halted ≡ true }
+    ensures shown { (a : Answer) (start : ℕ) → result ≡ Came.Answered a start → Shown (F.view base.now.fs) base.now.books.halted (F.faults base.now.fs) (F.faults base.now.fs) a }
+    ensures number { run.new.command ≡ run.old.command }
+    ensures task { run.new.task ≡ None }
+    ensures answer { result ≡ Came.Answered (answer.Halted (F.faults base.now.fs)) (start_of base.now.books.history.items run.old.task) }
+{
+    let start = match run.task.take() {
+        Some(running) => running.start,
+        None => base.books.history.len(),
+    };
+    Came::Answered {
+        answer: Answer::Halted(base.fs.faults()),
+        start,
+    }
 }

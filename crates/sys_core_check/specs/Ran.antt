@@ -3,19 +3,26 @@ use Rattle.std.specs.Prelude.{◌≡◌, ◌<◌, ℕ, List, length, slice_index
 use Rattle.fs_trait.specs.View.{Disk, View}
 use Rattle.rely.specs.declared.books.Base.{Base}
 use Rattle.rely.specs.Headline.{Headline}
+use Rattle.rely.specs.State.{first}
 use Rattle.script.specs.declared.command.Lane.{Lane}
+use Rattle.sys_core.specs.Answers.{IsTold}
+use Rattle.sys_core.specs.Booked.{replies_of}
+use Rattle.sys_core.specs.Replied.{Replied}
 use Rattle.sys_core.specs.declared.system.Parts.{Parts}
 use Rattle.sys_core_check.specs.declared.running.NotRun.{NotRun}
 use Rattle.sys_core_check.specs.declared.running.NotRun.TheVariants.{NotOpened, TooManyLanes, TooManyCommands, NoMemory}
 use Rattle.sys_open.specs.Opening.{IsToldOf}
 
--- The file system, with the changes that last and the one that is pending, is that of books of which the headline is so.
+-- The file system, with the changes that last and the one that is pending, is that of books of which the headline is so; and
+-- each reply says what the states at its start and at its place show.
 pub record Ran {F : Type 0} (view : F → Option View) (clock : F → ℕ) (was : F → ℕ → View → Type 0) (parts : Parts F) : Type 0 where
   pub base : Base F
   pub fs : parts.fs ≡ base.fs
   pub history : parts.history ≡ base.books.history
   pub pending : parts.pending ≡ base.books.pending
   pub headline : (w : View) → view parts.fs ≡ Some w → Headline clock was base w
+  pub started : List (Option ℕ)
+  pub replied : Replied (IsTold view) (first base.books.start.items) base.books.history.items base.books.pending parts.lanes.items started (replies_of parts.replies.items)
 
 -- why no lane was run, by what reads see at the beginning
 abbrev pub IsReason : List Lane → Disk → NotRun → Type 0

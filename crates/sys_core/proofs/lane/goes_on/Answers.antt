@@ -1,4 +1,13 @@
-use Rattle.std.proofs.Common.{rules, ◌≡◌, sym, subst, ap, Option, None, Some}
+use Rattle.std.proofs.Common.{rules, ◌≡◌, ◌∙◌, sym, subst, ap, refl, Option, None, Some}
+use Rattle.rely.specs.Laws.{Ready}
+use Rattle.rely.specs.State.{first}
+use Rattle.ref_work.specs.Commands.{command_facts, command_kind}
+use Rattle.sys_core.specs.declared.lane.Came.{Came}
+use Rattle.sys_core.specs.declared.lane.Came.TheVariants.{Answered}
+use Rattle.sys_core.specs.Answers.{IsHalted, IsTold, Shown}
+use Rattle.sys_core.proofs.Seeing.{ended_shown}
+use Rattle.sys_core.specs.Pursues.{Goes}
+use Rattle.sys_core.proofs.Going.{ended_halts, goes_ended, goes_more, has_answer}
 use Rattle.rely.specs.Books.{books_of}
 use Rattle.rely.specs.Laws.{Runs}
 use Rattle.ref_work.specs.declared.command.RefCommand.{RefCommand}
@@ -17,3 +26,50 @@ returns-in-Blocked-clause-acts g c =
       tells_blocked g.F.Fs.view g.F.Fs.clock g.F.Fs.spare g.F.Fs.was c.args.lane c.args.base.now c.running_act.new.base c.running_act.result c.running_act.new.work c.in-Blocked.is e.acts,
       room_more c.args.refs.now c.running_act.new.refs c.running_act.new.work e.rooms (subst (λ (w : RefCommand). HasRoomFor c.args.refs.now w) (sym (e.blocked c.in-Blocked.is).1) c.requires.facts.runs.1),
     ))
+
+pub returns-in-Blocked-clause-goes : goal.returns-in-Blocked-clause-goes
+returns-in-Blocked-clause-goes g c =
+    let e = c.running_act.ensures.blocked c.in-Blocked.is in
+    (ap (λ (w : RefCommand). Some (record { work = w; start = c.args.running.start })) e.1, ap (λ b. b.books) e.0)
+
+pub returns-in-More-clause-goes : goal.returns-in-More-clause-goes
+returns-in-More-clause-goes g c =
+    let e = c.running_act.ensures in
+    let ready : Ready g.F.Fs.view g.F.Fs.clock g.F.Fs.spare g.F.Fs.was (Runs command_kind command_facts c.args.lane c.args.running.work) c.args.base.now = record { sound = c.requires.sound; live = c.requires.live; task = c.requires.facts.runs.0 } in
+    goes_more g.F.Fs.view g.F.Fs.clock g.F.Fs.spare g.F.Fs.was g.met.F.Fs.told g.met.F.Fs.tree c.args.lane c.args.run.now.command _ c.args.command.now c.args.base.now c.running_act.new.base c.args.running.work c.running_act.new.work ready c.args.running.start
+    c.running_act.result c.in-More.is e.steps e.booked c.requires.after (Some c.args.running) _ refl refl
+
+pub ends-requires : goal.ends-requires
+ends-requires g c = has_answer c.args.running.work c.running_act.new.work c.running_act.result c.running_act.ensures.steps (λ is. c.in_default.not-Blocked is) (λ is. c.in_default.not-More is)
+
+pub returns-in_default-clause-goes : goal.returns-in_default-clause-goes
+returns-in_default-clause-goes g c =
+    let e = c.running_act.ensures in
+    let k = c.ends.ensures in
+    let b = c.args.base.now.books in
+    let ready : Ready g.F.Fs.view g.F.Fs.clock g.F.Fs.spare g.F.Fs.was (Runs command_kind command_facts c.args.lane c.args.running.work) c.args.base.now = record { sound = c.requires.sound; live = c.requires.live; task = c.requires.facts.runs.0 } in
+    subst (λ (came : Came). Goes (IsTold g.F.Fs.view) (first b.start.items) c.args.lane c.args.run.now.command c.args.command.now b c.running_act.new.base.books (Some c.args.running) c.args.run.now.task came) (sym k.1)
+    (goes_ended g.F.Fs.view g.F.Fs.clock g.F.Fs.spare g.F.Fs.was g.met.F.Fs.told g.met.F.Fs.tree c.args.lane c.args.run.now.command _ c.args.command.now c.args.base.now c.running_act.new.base c.args.running.work c.running_act.new.work ready c.args.running.start
+    c.running_act.result e.steps e.tells e.opens e.booked e.over c.requires.after c.requires.mine _ k.0 k.2 (Some c.args.running) c.args.run.now.task refl c.requires.idle)
+
+pub returns-in_default-clause-halts : goal.returns-in_default-clause-halts
+returns-in_default-clause-halts g c = λ a start is halted.
+    let e = c.running_act.ensures in
+    let k = c.ends.ensures in
+    let ready : Ready g.F.Fs.view g.F.Fs.clock g.F.Fs.spare g.F.Fs.was (Runs command_kind command_facts c.args.lane c.args.running.work) c.args.base.now = record { sound = c.requires.sound; live = c.requires.live; task = c.requires.facts.runs.0 } in
+    let one : Answered k.0 c.args.running.start ≡ Answered a start = sym k.1 ∙ is in
+    let same : k.0 ≡ a = cc in
+    let h = ended_halts g.F.Fs.view g.F.Fs.clock g.F.Fs.spare g.F.Fs.was g.met.F.Fs.told g.met.F.Fs.tree c.args.lane c.args.run.now.command _ c.args.command.now c.args.base.now c.running_act.new.base c.args.running.work c.running_act.new.work ready c.args.running.start
+    c.running_act.result e.steps e.tells e.opens e.booked c.requires.after c.requires.mine e.acts.tells _ k.0 k.2 (subst IsHalted (sym same) halted) in
+    (h.0, sym same ∙ h.1)
+
+pub returns-in_default-clause-shown : goal.returns-in_default-clause-shown
+returns-in_default-clause-shown g c = λ a start is.
+    let e = c.running_act.ensures in
+    let k = c.ends.ensures in
+    let b = c.args.base.now.books in
+    let one : Answered k.0 c.args.running.start ≡ Answered a start = sym k.1 ∙ is in
+    let same : k.0 ≡ a = cc in
+    subst (Shown (g.F.Fs.view c.args.base.now.fs) b.halted (g.F.Fs.faults c.args.base.now.fs) (g.F.Fs.faults c.running_act.new.base.fs)) same
+    (λ v told. ended_shown (first b.start.items) b.history.items b.pending (g.F.Fs.view c.args.base.now.fs) (g.F.Fs.view c.running_act.new.base.fs) c.args.lane (books_of b) c.args.command.now c.args.running.work c.running_act.new.work b.halted _ _ _ k.0 v told
+    c.requires.facts.runs.0.facts (g.met.F.Fs.tree c.args.base.now.fs v told) (c.requires.sound.stands v told) c.running_act.result e.tells (e.cause v told) k.2)

@@ -1,13 +1,23 @@
-use Rattle.std.proofs.Common.{◌≡◌, Some, subst}
+use Rattle.std.proofs.Common.{◌≡◌, List, Some, subst, sym}
+use Rattle.rely.specs.State.{first}
+use Rattle.script.specs.declared.answer.Reply.{Reply}
+use Rattle.script.specs.declared.command.Lane.{Lane}
+use Rattle.sys_core.specs.Answers.{IsTold}
+use Rattle.sys_core.specs.Booked.{replies_of}
+use Rattle.sys_core.specs.Replied.{Replied}
 use Rattle.sys_core_check.proofs.running.run_opened.Goals as goal
 
 pub returns-in-Ok-clause-ran : goal.returns-in-Ok-clause-ran
 returns-in-Ok-clause-ran g c =
     let e = c.into_parts.ensures in
+    let s = c.run_all.new.system in
     record {
-      base = c.run_all.new.system.base;
+      base = s.base;
       fs = e.fs;
       history = e.history;
       pending = e.pending;
       headline = λ w is. e.headline w (subst (λ fs. g.F.Fs.view fs ≡ Some w) e.fs is);
+      started = s.started;
+      replied = subst (λ (l : List Lane). Replied (IsTold g.F.Fs.view) (first s.base.books.start.items) s.base.books.history.items s.base.books.pending l s.started (replies_of c.into_parts.result.replies.items)) (sym e.lanes)
+          (subst (λ (l : List (List Reply)). Replied (IsTold g.F.Fs.view) (first s.base.books.start.items) s.base.books.history.items s.base.books.pending s.lanes s.started l) (sym e.replies) e.replied);
     }

@@ -1,63 +1,232 @@
-use Rattle.std.proofs.Common.{rules, ◌≡◌, ◌<◌, ◌≤◌, ◌∙◌, ap, sym, subst, refl, arith, List, [], ◌∷◌, ◌++◌, length, get_or, set}
+use Rattle.std.proofs.Common.{rules, ◌≡◌, ◌<◌, ◌≤◌, ◌∙◌, ◌+◌, true, false, ap, sym, subst, refl, arith, List, [], ◌∷◌, ◌++◌, length, get_or, set, Some, None}
+use Rattle.std.proofs.lemmas.List.{set-set}
+use Rattle.script.specs.declared.answer.Reply.{Reply}
+use Rattle.script.specs.declared.command.Command.{Command}
 use Rattle.script.specs.declared.command.Lane.{Lane}
+use Rattle.sys_core.specs.declared.ask.Ask.TheVariants.{More, Done}
 use Rattle.sys_core.specs.declared.run.Run.{Run}
+use Rattle.sys_core.specs.Answers.{Shown}
 use Rattle.sys_core.specs.Lanes.{Kept}
-use Rattle.sys_core.specs.System.{System}
-use Rattle.sys_core.specs.Booked.{Booked, HasCommand, given, replies_of}
-use Rattle.sys_core.proofs.Acting.{system_of, fewer, not_fewer, given_length, has_command, no_command, one_reply}
+use Rattle.sys_core.specs.Booked.{Acted, Booked, HasCommand, replies_of}
+use Rattle.sys_core.specs.Pursues.{Accounted, started_of}
+use Rattle.sys_core.proofs.Acting.{system_of, fewer, not_fewer, given_length, has_command, no_command}
+use Rattle.sys_core.proofs.Acts.{act_command, accounted_held, after_of, held_runs, mine_of, next_of, to_replies}
+use Rattle.sys_core.proofs.Accounting.{accounted_given, accounted_more, count_bound, given_place, given_start, given_started, more_started, start_said}
 use Rattle.sys_core.proofs.Keeping.{kept_number}
 use Rattle.sys_core.proofs.system.System.act.Goals as goal
 
 pub returns-in_default-clause-acted : goal.returns-in_default-clause-acted
 returns-in_default-clause-acted g c =
     let i = c.self.inside in
-    let view : c.args.self.now ≡ system_of i.base i.lanes.items i.replies.items = search rules in
+    let view : c.args.self.now ≡ system_of i.base i.lanes.items i.runs.items i.replies.items = search rules in
     let within : c.args.actor < length i.lanes.items = search rules in
     let none : length c.deref.result.now ≤ c.index.result.now.command = not_fewer _ _ c.in_default.ensures.lookup.0 in
     let most : length (get_or i.lanes.items c.args.actor c.index-2.result.now).commands.items ≤ (get_or i.runs.items c.args.actor c.index.result.now).command =
     omega (arith, none, ap length c.deref.ensures.value, ap (λ (x : Lane). length x.commands.items) c.index-2.ensures, ap (λ (x : Run). x.command) c.index.ensures) in
     ((λ has. no_command i.base i.lanes.items i.runs.items i.replies.items c.args.actor c.self.invariant.1 within c.index.result.now c.index-2.result.now most (subst (λ s. HasCommand s c.args.actor) view has)), refl)
 
+pub turn-came-requires-clause-mine : goal.turn-came-requires-clause-mine
+turn-came-requires-clause-mine g c = λ p x live.
+    let i = c.self.inside in
+    let within : c.args.actor < length i.lanes.items = search rules in
+    mine_of g.F.Fs.view g.F.Fs.faults i.base i.lanes.items i.runs.items i.replies.items i.given c.self.invariant.1 c.self.invariant.2 c.args.actor within live p x
+
+pub turn-came-requires-clause-after : goal.turn-came-requires-clause-after
+turn-came-requires-clause-after g c = λ x.
+    let i = c.self.inside in
+    let r = c.index.result.now in
+    let within : c.args.actor < length i.lanes.items = search rules in
+    let few : c.index.result.now.command < length c.deref.result.now = fewer _ _ c.in-Some.ensures.lookup.0 in
+    let at : get_or c.deref.result.now c.index.result.now.command c.in-Some.command.now ≡ c.in-Some.command.now = search rules in
+    let command = act_command i.lanes.items c.args.actor i.runs.items r c.index-2.result.now c.deref.result.now c.in-Some.command.now within c.index.ensures c.index-2.ensures c.deref.ensures.value few at in
+    let booked = c.self.invariant.1 in
+    let acc = c.self.invariant.2 in
+    after_of g.F.Fs.view g.F.Fs.faults i.base i.lanes.items i.runs.items i.replies.items i.given booked acc c.args.actor within c.in-Some.command.now r command x
+
+pub invariant_of-self : goal.invariant_of-self
+invariant_of-self g c =
+    let i = c.self.inside in
+    let r = c.index.result.now in
+    let within : c.args.actor < length i.lanes.items = search rules in
+    let e = c.in-Blocked.ensures in (
+      e.kept,
+      e.booked i.lanes.items i.replies.items within c.self.invariant.1,
+      accounted_held g.F.Fs.view g.F.Fs.faults i.base c.turn-came.new.base i.lanes.items i.runs.items c.turn-came.new.runs.items (replies_of i.replies.items) i.given c.args.actor r c.self.invariant.2 (e.blocked refl) (e.run r) (e.number r) (e.goes r).0,
+    )
+
+pub invariant_of-self-in-More : goal.invariant_of-self-in-More
+invariant_of-self-in-More g c =
+    let i = c.self.inside in
+    let r = c.index.result.now in
+    let within : c.args.actor < length i.lanes.items = search rules in
+    let few : c.index.result.now.command < length c.deref.result.now = fewer _ _ c.in-Some.ensures.lookup.0 in
+    let at : get_or c.deref.result.now c.index.result.now.command c.in-Some.command.now ≡ c.in-Some.command.now = search rules in
+    let command = act_command i.lanes.items c.args.actor i.runs.items r c.index-2.result.now c.deref.result.now c.in-Some.command.now within c.index.ensures c.index-2.ensures c.deref.ensures.value few at in
+    let booked = c.self.invariant.1 in
+    let acc = c.self.invariant.2 in
+    let in_runs : c.args.actor < length i.runs.items = omega (arith, booked.each_runs, within) in
+    let next = next_of g.F.Fs.view g.F.Fs.faults i.base i.lanes.items i.runs.items i.replies.items i.given booked acc c.args.actor within r in
+    let new = c.turn-came.new.base in
+    let now = c.turn-came.new.runs.items in
+    let run = get_or now c.args.actor r in
+    let e = c.in-More.ensures in (
+      e.kept,
+      e.booked i.lanes.items i.replies.items within booked,
+      subst (λ (l : List Run). Accounted g.F.Fs.view new i.lanes.items l (replies_of i.replies.items) i.given (g.F.Fs.faults new.fs)) (sym (e.run r))
+          (accounted_more g.F.Fs.view g.F.Fs.faults i.base new i.lanes.items i.runs.items (replies_of i.replies.items) i.given acc c.args.actor in_runs run r c.in-Some.command.now command next c.turn-came.ensures.start (e.goes r) (e.number r) (e.live refl)),
+    )
+
+pub number_of-requires : goal.number_of-requires
+number_of-requires g c =
+    let i = c.self.inside in
+    let r = c.index.result.now in
+    let within : c.args.actor < length i.lanes.items = search rules in
+    let few : c.index.result.now.command < length c.deref.result.now = fewer _ _ c.in-Some.ensures.lookup.0 in
+    let at : get_or c.deref.result.now c.index.result.now.command c.in-Some.command.now ≡ c.in-Some.command.now = search rules in
+    let command = act_command i.lanes.items c.args.actor i.runs.items r c.index-2.result.now c.deref.result.now c.in-Some.command.now within c.index.ensures c.index-2.ensures c.deref.ensures.value few at in
+    let booked = c.self.invariant.1 in
+    let acc = c.self.invariant.2 in
+    let in_runs : c.args.actor < length i.runs.items = omega (arith, booked.each_runs, within) in
+    let next = next_of g.F.Fs.view g.F.Fs.faults i.base i.lanes.items i.runs.items i.replies.items i.given booked acc c.args.actor within r in
+    let new = c.turn-came.new.base in
+    let now = c.turn-came.new.runs.items in
+    let run = get_or now c.args.actor r in
+    let e = c.in-Answered.ensures in
+    omega (arith, given_start g.F.Fs.view g.F.Fs.faults i.base new i.lanes.items i.runs.items (replies_of i.replies.items) i.given acc c.args.actor in_runs run r c.in-Some.command.now command next c.turn-came.ensures.start c.in-Answered.answer c.in-Answered.start (e.goes r), count_bound i.lanes.items i.runs.items i.replies.items booked c.self.invariant.0.few)
+
+pub number_of-requires-in-Answered : goal.number_of-requires-in-Answered
+number_of-requires-in-Answered g c =
+    let i = c.self.inside in
+    let r = c.index.result.now in
+    let within : c.args.actor < length i.lanes.items = search rules in
+    let few : c.index.result.now.command < length c.deref.result.now = fewer _ _ c.in-Some.ensures.lookup.0 in
+    let at : get_or c.deref.result.now c.index.result.now.command c.in-Some.command.now ≡ c.in-Some.command.now = search rules in
+    let command = act_command i.lanes.items c.args.actor i.runs.items r c.index-2.result.now c.deref.result.now c.in-Some.command.now within c.index.ensures c.index-2.ensures c.deref.ensures.value few at in
+    let booked = c.self.invariant.1 in
+    let acc = c.self.invariant.2 in
+    let in_runs : c.args.actor < length i.runs.items = omega (arith, booked.each_runs, within) in
+    let next = next_of g.F.Fs.view g.F.Fs.faults i.base i.lanes.items i.runs.items i.replies.items i.given booked acc c.args.actor within r in
+    let new = c.turn-came.new.base in
+    let now = c.turn-came.new.runs.items in
+    let run = get_or now c.args.actor r in
+    let e = c.in-Answered.ensures in
+    let long : c.len-in-Answered.result ≡ length new.books.history.items = search rules in
+    omega (arith, long, given_place g.F.Fs.view g.F.Fs.faults i.base new i.lanes.items i.runs.items (replies_of i.replies.items) i.given acc c.args.actor in_runs run r c.in-Some.command.now command next c.turn-came.ensures.start c.in-Answered.answer c.in-Answered.start (e.goes r), count_bound i.lanes.items i.runs.items i.replies.items booked c.self.invariant.0.few)
+
+pub overflow_add-self : goal.overflow_add-self
+overflow_add-self g c =
+    let i = c.self.inside in
+    omega (arith, c.self.invariant.2.count, count_bound i.lanes.items i.runs.items i.replies.items c.self.invariant.1 c.self.invariant.0.few)
+
 pub invariant_of-self-in-Answered : goal.invariant_of-self-in-Answered
 invariant_of-self-in-Answered g c =
+    let i = c.self.inside in
     let r = c.index.result.now in
-    let runs = c.turn-came.new.runs.items in
-    let within : c.args.actor < length runs = search rules in (
-      subst (λ l. Kept g.F.Fs.view g.F.Fs.clock g.F.Fs.spare g.F.Fs.was c.turn-came.new.base c.turn-came.new.refs l) (sym (c.book.ensures.tasks r))
-          (kept_number g.F.Fs.view g.F.Fs.clock g.F.Fs.spare g.F.Fs.was c.turn-came.new.base c.turn-came.new.refs runs c.args.actor _ r c.turn-came.ensures.kept within refl),
+    let within : c.args.actor < length i.lanes.items = search rules in
+    let few : c.index.result.now.command < length c.deref.result.now = fewer _ _ c.in-Some.ensures.lookup.0 in
+    let at : get_or c.deref.result.now c.index.result.now.command c.in-Some.command.now ≡ c.in-Some.command.now = search rules in
+    let command = act_command i.lanes.items c.args.actor i.runs.items r c.index-2.result.now c.deref.result.now c.in-Some.command.now within c.index.ensures c.index-2.ensures c.deref.ensures.value few at in
+    let booked = c.self.invariant.1 in
+    let acc = c.self.invariant.2 in
+    let in_runs : c.args.actor < length i.runs.items = omega (arith, booked.each_runs, within) in
+    let next = next_of g.F.Fs.view g.F.Fs.faults i.base i.lanes.items i.runs.items i.replies.items i.given booked acc c.args.actor within r in
+    let new = c.turn-came.new.base in
+    let now = c.turn-came.new.runs.items in
+    let run = get_or now c.args.actor r in
+    let e = c.in-Answered.ensures in
+    let after : Run = record { command = run.command + 1; task = run.task } in
+    let in_now : c.args.actor < length now = search rules in
+    let long : c.len-in-Answered.result ≡ length new.books.history.items = search rules in
+    let in_replies : c.args.actor < length (replies_of i.replies.items) = to_replies i.lanes.items i.runs.items i.replies.items c.args.actor booked within in
+    let all : c.book.new.runs.items ≡ set i.runs.items c.args.actor after =
+    c.book.ensures.tasks r ∙ ap (λ (l : List Run). set l c.args.actor after) (e.run r) ∙ set-set i.runs.items c.args.actor run after in
+    let reply : Reply = record { answer = c.in-Answered.answer; start = c.number_of.result; place = c.number_of-in-Answered.result; order = i.given; taken = None } in (
+      subst (λ l. Kept g.F.Fs.view g.F.Fs.clock g.F.Fs.spare g.F.Fs.was new c.turn-came.new.refs l) (sym (c.book.ensures.tasks r)) (kept_number g.F.Fs.view g.F.Fs.clock g.F.Fs.spare g.F.Fs.was new c.turn-came.new.refs now c.args.actor _ r e.kept in_now refl),
       subst (λ (l : List Lane). Booked l c.book.new.runs.items c.book.new.replies.items) (search rules) c.book.ensures.booked,
+      subst (λ (l : List Run). Accounted g.F.Fs.view new i.lanes.items l (replies_of c.book.new.replies.items) (i.given + 1) (g.F.Fs.faults new.fs)) (sym all)
+          (subst (λ (l : List (List Reply)). Accounted g.F.Fs.view new i.lanes.items (set i.runs.items c.args.actor after) l (i.given + 1) (g.F.Fs.faults new.fs)) (sym c.book.ensures.replies)
+          (accounted_given g.F.Fs.view g.F.Fs.faults i.base new i.lanes.items i.runs.items (replies_of i.replies.items) i.given acc c.args.actor in_runs after r c.in-Some.command.now command next e.start
+          c.in-Answered.answer c.in-Answered.start reply e.grows.0 (e.goes r) (ap (λ n. n + 1) (e.number r)) in_replies e.grows.1 refl c.number_of.ensures (c.number_of-in-Answered.ensures ∙ long) refl e.stays
+          (e.halts c.in-Answered.answer c.in-Answered.start refl))),
     )
 
 pub returns-in-Blocked-clause-acted : goal.returns-in-Blocked-clause-acted
 returns-in-Blocked-clause-acted g c =
     let i = c.self.inside in
-    let view : c.args.self.now ≡ system_of i.base i.lanes.items i.replies.items = search rules in
+    let r = c.index.result.now in
     let within : c.args.actor < length i.lanes.items = search rules in
-    let few : (get_or i.runs.items c.args.actor c.index.result.now).command < length (get_or i.lanes.items c.args.actor c.index-2.result.now).commands.items =
-    omega (arith, fewer _ _ c.in-Some.ensures.lookup.0, ap length c.deref.ensures.value, ap (λ (x : Lane). length x.commands.items) c.index-2.ensures, ap (λ (x : Run). x.command) c.index.ensures) in (
-      subst (λ s. HasCommand s c.args.actor) (sym view) (has_command i.base i.lanes.items i.runs.items i.replies.items c.args.actor c.self.invariant.1 within c.index.result.now c.index-2.result.now few),
-      ap (λ b. system_of b i.lanes.items i.replies.items) (c.turn-came.ensures.blocked c.in-Blocked.is) ∙ sym view,
+    let few : c.index.result.now.command < length c.deref.result.now = fewer _ _ c.in-Some.ensures.lookup.0 in
+    let at : get_or c.deref.result.now c.index.result.now.command c.in-Some.command.now ≡ c.in-Some.command.now = search rules in
+    let command = act_command i.lanes.items c.args.actor i.runs.items r c.index-2.result.now c.deref.result.now c.in-Some.command.now within c.index.ensures c.index-2.ensures c.deref.ensures.value few at in
+    let booked = c.self.invariant.1 in
+    let acc = c.self.invariant.2 in
+    let view : c.args.self.now ≡ system_of i.base i.lanes.items i.runs.items i.replies.items = search rules in
+    let has = has_command i.base i.lanes.items i.runs.items i.replies.items c.args.actor booked within r c.index-2.result.now
+    (omega (arith, few, ap length c.deref.ensures.value, ap (λ (x : Lane). length x.commands.items) c.index-2.ensures, ap (λ (x : Run). x.command) c.index.ensures)) in
+    let e = c.in-Blocked.ensures in
+    let in_runs : c.args.actor < length i.runs.items = omega (arith, booked.each_runs, within) in
+    let same = held_runs i.runs.items c.turn-came.new.runs.items c.args.actor r (e.run r) (e.number r) (e.goes r).0 in (
+      subst (λ s. HasCommand s c.args.actor) (sym view) has,
+      ap (λ b. system_of b i.lanes.items c.turn-came.new.runs.items i.replies.items) (e.blocked refl) ∙ ap (λ l. system_of i.base i.lanes.items l i.replies.items) same ∙ sym view,
     )
 
 pub returns-in-More-clause-acted : goal.returns-in-More-clause-acted
 returns-in-More-clause-acted g c =
     let i = c.self.inside in
-    let view : c.args.self.now ≡ system_of i.base i.lanes.items i.replies.items = search rules in
+    let r = c.index.result.now in
     let within : c.args.actor < length i.lanes.items = search rules in
-    let few : (get_or i.runs.items c.args.actor c.index.result.now).command < length (get_or i.lanes.items c.args.actor c.index-2.result.now).commands.items =
-    omega (arith, fewer _ _ c.in-Some.ensures.lookup.0, ap length c.deref.ensures.value, ap (λ (x : Lane). length x.commands.items) c.index-2.ensures, ap (λ (x : Run). x.command) c.index.ensures) in (
-      subst (λ s. HasCommand s c.args.actor) (sym view) (has_command i.base i.lanes.items i.runs.items i.replies.items c.args.actor c.self.invariant.1 within c.index.result.now c.index-2.result.now few),
-      sym (ap (λ s. s.replies) view),
-    )
+    let few : c.index.result.now.command < length c.deref.result.now = fewer _ _ c.in-Some.ensures.lookup.0 in
+    let at : get_or c.deref.result.now c.index.result.now.command c.in-Some.command.now ≡ c.in-Some.command.now = search rules in
+    let command = act_command i.lanes.items c.args.actor i.runs.items r c.index-2.result.now c.deref.result.now c.in-Some.command.now within c.index.ensures c.index-2.ensures c.deref.ensures.value few at in
+    let booked = c.self.invariant.1 in
+    let acc = c.self.invariant.2 in
+    let in_runs : c.args.actor < length i.runs.items = omega (arith, booked.each_runs, within) in
+    let next = next_of g.F.Fs.view g.F.Fs.faults i.base i.lanes.items i.runs.items i.replies.items i.given booked acc c.args.actor within r in
+    let new = c.turn-came.new.base in
+    let now = c.turn-came.new.runs.items in
+    let run = get_or now c.args.actor r in
+    let view : c.args.self.now ≡ system_of i.base i.lanes.items i.runs.items i.replies.items = search rules in
+    let has = has_command i.base i.lanes.items i.runs.items i.replies.items c.args.actor booked within r c.index-2.result.now
+    (omega (arith, few, ap length c.deref.ensures.value, ap (λ (x : Lane). length x.commands.items) c.index-2.ensures, ap (λ (x : Run). x.command) c.index.ensures)) in
+    let e = c.in-More.ensures in
+    subst (λ s. Acted (Shown (g.F.Fs.view s.base.fs) s.base.books.halted (g.F.Fs.faults s.base.fs) (g.F.Fs.faults new.fs)) s (system_of new i.lanes.items now i.replies.items) c.args.actor More) (sym view)
+    (has, refl, more_started g.F.Fs.view g.F.Fs.faults i.base new i.lanes.items i.runs.items (replies_of i.replies.items) i.given acc c.args.actor in_runs run r c.in-Some.command.now command next c.turn-came.ensures.start (e.goes r) now (e.run r), (e.start, e.opened, e.grows.0, e.grows.1))
 
 pub returns-in-Answered-clause-acted : goal.returns-in-Answered-clause-acted
 returns-in-Answered-clause-acted g c =
     let i = c.self.inside in
-    let view : c.args.self.now ≡ system_of i.base i.lanes.items i.replies.items = search rules in
+    let r = c.index.result.now in
     let within : c.args.actor < length i.lanes.items = search rules in
-    let few : (get_or i.runs.items c.args.actor c.index.result.now).command < length (get_or i.lanes.items c.args.actor c.index-2.result.now).commands.items =
-    omega (arith, fewer _ _ c.in-Some.ensures.lookup.0, ap length c.deref.ensures.value, ap (λ (x : Lane). length x.commands.items) c.index-2.ensures, ap (λ (x : Run). x.command) c.index.ensures) in
-    let has = has_command i.base i.lanes.items i.runs.items i.replies.items c.args.actor c.self.invariant.1 within c.index.result.now c.index-2.result.now few in
-    let number = ap (λ (x : Run). x.command) c.index.ensures ∙ sym (given_length i.base i.lanes.items i.runs.items i.replies.items c.args.actor c.self.invariant.1 within c.index.result.now) in
-    let reply = one_reply (system_of i.base i.lanes.items i.replies.items) c.args.self.now c.args.actor _ (replies_of c.book.new.replies.items) view c.book.ensures.replies in
-    (subst (λ s. HasCommand s c.args.actor) (sym view) has, refl, number ∙ ap (λ s. length (given s c.args.actor)) (sym view), reply.0, reply.1)
+    let few : c.index.result.now.command < length c.deref.result.now = fewer _ _ c.in-Some.ensures.lookup.0 in
+    let at : get_or c.deref.result.now c.index.result.now.command c.in-Some.command.now ≡ c.in-Some.command.now = search rules in
+    let command = act_command i.lanes.items c.args.actor i.runs.items r c.index-2.result.now c.deref.result.now c.in-Some.command.now within c.index.ensures c.index-2.ensures c.deref.ensures.value few at in
+    let booked = c.self.invariant.1 in
+    let acc = c.self.invariant.2 in
+    let in_runs : c.args.actor < length i.runs.items = omega (arith, booked.each_runs, within) in
+    let next = next_of g.F.Fs.view g.F.Fs.faults i.base i.lanes.items i.runs.items i.replies.items i.given booked acc c.args.actor within r in
+    let new = c.turn-came.new.base in
+    let now = c.turn-came.new.runs.items in
+    let run = get_or now c.args.actor r in
+    let view : c.args.self.now ≡ system_of i.base i.lanes.items i.runs.items i.replies.items = search rules in
+    let has = has_command i.base i.lanes.items i.runs.items i.replies.items c.args.actor booked within r c.index-2.result.now
+    (omega (arith, few, ap length c.deref.ensures.value, ap (λ (x : Lane). length x.commands.items) c.index-2.ensures, ap (λ (x : Run). x.command) c.index.ensures)) in
+    let e = c.in-Answered.ensures in
+    let after : Run = record { command = run.command + 1; task = run.task } in
+    let long : c.len-in-Answered.result ≡ length new.books.history.items = search rules in
+    let all : c.book.new.runs.items ≡ set i.runs.items c.args.actor after =
+    c.book.ensures.tasks r ∙ ap (λ (l : List Run). set l c.args.actor after) (e.run r) ∙ set-set i.runs.items c.args.actor run after in
+    let number = ap (λ (x : Run). x.command) c.index.ensures ∙ sym (given_length i.base i.lanes.items i.runs.items i.replies.items c.args.actor booked within r) in
+    let reply : Reply = record { answer = c.in-Answered.answer; start = c.number_of.result; place = c.number_of-in-Answered.result; order = i.given; taken = None } in
+    subst (λ s. Acted (Shown (g.F.Fs.view s.base.fs) s.base.books.halted (g.F.Fs.faults s.base.fs) (g.F.Fs.faults new.fs)) s (system_of new i.lanes.items c.book.new.runs.items c.book.new.replies.items) c.args.actor (Done c.args.actor c.index.result.now.command)) (sym view) (
+      has,
+      refl,
+      number,
+      reply,
+      c.book.ensures.replies,
+      given_started g.F.Fs.view g.F.Fs.faults i.base new i.lanes.items i.runs.items (replies_of i.replies.items) i.given acc c.args.actor in_runs after r c.in-Some.command.now command next e.start c.in-Answered.answer c.in-Answered.start (e.goes r) c.book.new.runs.items all,
+      c.number_of.ensures ∙ start_said g.F.Fs.view g.F.Fs.faults i.base new i.lanes.items i.runs.items (replies_of i.replies.items) i.given acc c.args.actor in_runs run r c.in-Some.command.now command next c.turn-came.ensures.start c.in-Answered.answer c.in-Answered.start (e.goes r),
+      c.number_of-in-Answered.ensures ∙ long,
+      acc.count,
+      e.shown c.in-Answered.answer c.in-Answered.start refl,
+      (e.start, e.opened, e.grows.0, e.grows.1),
+    )

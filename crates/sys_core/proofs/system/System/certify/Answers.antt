@@ -1,8 +1,16 @@
-use Rattle.std.proofs.Common.{rules, ◌≡◌, subst, Some}
+use Rattle.std.proofs.Common.{rules, ◌≡◌, subst, sym, Some}
 use Rattle.fs_trait.specs.View.{View}
 use Rattle.rely.specs.declared.books.Base.{Base}
 use Rattle.rely.specs.Headline.{Headline}
+use Rattle.sys_core.specs.Booked.{IsReplied}
+use Rattle.sys_core.proofs.Acting.{system_of}
 use Rattle.sys_core.proofs.system.System.certify.Goals as goal
 
-pub returns : goal.returns
-returns g c = subst (λ (b : Base g.row.F.Denot). (v : View) → g.F.Fs.view b.fs ≡ Some v → Headline g.F.Fs.clock g.F.Fs.was b v) (search rules) c.certify.ensures
+pub returns-clause-headline : goal.returns-clause-headline
+returns-clause-headline g c = subst (λ (b : Base g.row.F.Denot). (v : View) → g.F.Fs.view b.fs ≡ Some v → Headline g.F.Fs.clock g.F.Fs.was b v) (search rules) c.certify.ensures
+
+pub returns-clause-replied : goal.returns-clause-replied
+returns-clause-replied g c =
+    let i = c.self.inside in
+    let view : c.args.self.now ≡ system_of i.base i.lanes.items i.runs.items i.replies.items = search rules in
+    subst (IsReplied g.F.Fs.view) (sym view) c.self.invariant.2.replied

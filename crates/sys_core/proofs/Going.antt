@@ -1,0 +1,211 @@
+-- What an act of a lane came to.
+use Rattle.std.proofs.Common.{◌≡◌, ◌≢◌, ◌⊎◌, inl, inr, ⊎_elim, ◌<◌, ℕ, true, false, refl, sym, ◌∙◌, ap, subst, List, [], ◌∷◌, ◌++◌, length, Option, Some, None, Ok, Err, IsSome}
+use Rattle.fs_trait.specs.View.{View}
+use Rattle.fs_trait.specs.Effect.{OfNone}
+use Rattle.fs_trait.specs.Image.{IsTree, Told}
+use Rattle.fs_trait.specs.declared.task.Turn.TheVariants as turn
+use Rattle.fs_trait.specs.declared.types.FsErr.{FsErr}
+use Rattle.fs_trait.specs.declared.types.FsErr.TheVariants as err
+use Rattle.ref_store.specs.declared.refusal.RefRefusal.{RefRefusal}
+use Rattle.ref_work.specs.declared.command.RefCommand.{RefCommand}
+use Rattle.ref_work.specs.declared.command.RefCommand.TheVariants.{Parse, Reset, Change}
+use Rattle.ref_work.specs.Commands.{answer_of, command_facts, command_kind, command_leaves, command_refuses, command_stepped}
+use Rattle.ref_work.proofs.Refusals.{refused_of}
+use Rattle.rely.specs.declared.books.Base.{Base}
+use Rattle.rely.specs.declared.books.Books as rust
+use Rattle.rely.specs.declared.books.Entry.{Entry}
+use Rattle.rely.specs.declared.books.Pending.{Pending}
+use Rattle.rely.specs.declared.kind.Outcome.{Outcome}
+use Rattle.rely.specs.declared.kind.Outcome.TheVariants as came
+use Rattle.rely.specs.Books.{books_of}
+use Rattle.rely.specs.Exact.{IsBooked, Opens, Steps, Tells}
+use Rattle.rely.specs.Laws as laws
+use Rattle.rely.specs.Laws.{NotPending, Ready, Runs}
+use Rattle.rely.specs.State.{State, first, after, events_of}
+use Rattle.script.specs.declared.answer.Answer.{Answer}
+use Rattle.script.specs.declared.answer.Answer.TheVariants as answer
+use Rattle.script.specs.declared.command.Command.{Command}
+use Rattle.script.specs.declared.command.Command.TheVariants as command
+use Rattle.sys_core.specs.declared.lane.Came.TheVariants.{More, Answered}
+use Rattle.sys_core.specs.declared.run.Running.{Running}
+use Rattle.sys_core.specs.Answers.{Answers, IsHalted, IsTold, state_after}
+use Rattle.sys_core.specs.Begins.{AnswersBy}
+use Rattle.sys_core.specs.Lanes.{IsOver, now_of}
+use Rattle.sys_core.specs.Pursues.{Goes, Grows, HasAnswer, IsEndedAs, IsOutside, IsStray, IsRefusedAs, IsShownAs, IsShownBy, Pursues, start_of}
+use Rattle.sys_core.proofs.Answering as done
+use Rattle.sys_core.proofs.Answering.{done_gives, done_has}
+use Rattle.sys_core.proofs.Prefixes.{state_all}
+use Rattle.sys_core.proofs.Pursuing.{history_same, pursues_step, step_shown}
+use Rattle.sys_core.proofs.Telling.{RefusedBy, refused_told}
+
+module _ (told : Type 0) (lane number : ℕ) (s p : State) (entries : List Entry) where
+  abbrev pub Plain : Answer → Command → Type 0
+  Plain a c = Answers told lane number s p entries a c × (a ≢ answer.Nothing)
+
+  -- want of something outside says nothing of the states
+  stray_answers : (a : Answer) (c : Command) → (told → ⊥) → IsStray a → Plain a c × (IsHalted a → ⊥)
+  stray_answers answer.NoMemory c out is = ((tt, λ n. cc), λ n. n)
+  stray_answers (answer.Outside path) c out is = ((out, λ n. cc), λ n. n)
+  stray_answers answer.DiskFault c out is = absurd is
+  stray_answers (answer.Halted count) c out is = absurd is
+  stray_answers answer.Nothing c out is = absurd is
+  stray_answers (answer.Refs rows) c out is = absurd is
+  stray_answers (answer.Commit commit) c out is = absurd is
+  stray_answers answer.NoRef c out is = absurd is
+  stray_answers (answer.NoCommit commit) c out is = absurd is
+  stray_answers (answer.Partial commit) c out is = absurd is
+  stray_answers (answer.RefMoved seen now) c out is = absurd is
+  stray_answers (answer.RefClash other) c out is = absurd is
+
+  disk_answers : (a : Answer) (c : Command) → a ≡ answer.DiskFault → Plain a c × (IsHalted a → ⊥)
+  disk_answers a c is = subst (λ x. Plain x c × (IsHalted x → ⊥)) (sym is) ((tt, λ n. cc), λ n. n)
+
+  outside_answers : (c : Command) (a : Answer) → (told → ⊥) → IsOutside c a → Plain a c × (IsHalted a → ⊥)
+  outside_answers (command.Reset branch commit) a out is = stray_answers a (command.Reset branch commit) out is
+  outside_answers (command.DropRef branch) a out is = stray_answers a (command.DropRef branch) out is
+  outside_answers (command.RevParse rev) a out is = disk_answers a (command.RevParse rev) is
+  outside_answers command.Refs a out is = disk_answers a command.Refs is
+
+  pub refused_answers : (e : FsErr) (c : Command) (a : Answer) → (told → OfNone e) → IsRefusedAs e c a → (Answers told lane number s p entries a c × (a ≢ answer.Nothing)) × (IsHalted a → ⊥)
+  refused_answers err.NoMemory c a named is = subst (λ x. Plain x c × (IsHalted x → ⊥)) (sym is) ((tt, λ n. cc), λ n. n)
+  refused_answers err.Failed c a named is = disk_answers a c is
+  refused_answers err.Exists c a named is = outside_answers c a named is
+  refused_answers err.Missing c a named is = outside_answers c a named is
+  refused_answers err.NotFolder c a named is = outside_answers c a named is
+  refused_answers err.NotEmpty c a named is = outside_answers c a named is
+
+  pub halted_answers : (c : Command) (a : Answer) (count : ℕ) → a ≡ answer.Halted count → Answers told lane number s p entries a c × (a ≢ answer.Nothing)
+  halted_answers c a count is = subst (λ x. Plain x c) (sym is) (tt, λ n. cc)
+
+-- an answer by the books alone
+module _ (told : Type 0) (lane number : ℕ) (s : State) (entries : List Entry) where
+  abbrev pub At : Answer → Command → Type 0
+  At a c = Answers told lane number s s entries a c × (a ≢ answer.Nothing) × (IsHalted a → ⊥)
+
+  refs_by : (rows : _) (c : Command) → AnswersBy s (answer.Refs rows) c → At (answer.Refs rows) c
+  refs_by rows command.Refs by = (by, λ n. cc, λ n. n)
+  refs_by rows (command.RevParse rev) by = absurd by
+  refs_by rows (command.Reset branch commit) by = absurd by
+  refs_by rows (command.DropRef branch) by = absurd by
+
+  none_by : (c : Command) → AnswersBy s answer.NoRef c → At answer.NoRef c
+  none_by (command.RevParse rev) by = (by, λ n. cc, λ n. n)
+  none_by (command.DropRef branch) by = (λ t. by, λ n. cc, λ n. n)
+  none_by command.Refs by = absurd by
+  none_by (command.Reset branch commit) by = absurd by
+
+  pub answers_by : (a : Answer) (c : Command) → AnswersBy s a c → Answers told lane number s s entries a c × (a ≢ answer.Nothing) × (IsHalted a → ⊥)
+  answers_by (answer.Refs rows) c by = refs_by rows c by
+  answers_by answer.NoRef c by = none_by c by
+  answers_by answer.NoMemory c by = (tt, λ n. cc, λ n. n)
+  answers_by answer.DiskFault c by = absurd by
+  answers_by (answer.Halted count) c by = absurd by
+  answers_by (answer.Outside path) c by = absurd by
+  answers_by answer.Nothing c by = absurd by
+  answers_by (answer.Commit commit) c by = absurd by
+  answers_by (answer.NoCommit commit) c by = absurd by
+  answers_by (answer.Partial commit) c by = absurd by
+  answers_by (answer.RefMoved seen now) c by = absurd by
+  answers_by (answer.RefClash other) c by = absurd by
+
+pub begun_goes : (told : Type 0) (lane number : ℕ) (c : Command) (b : rust.Books) (task : Option Running) (a : Answer) (start : ℕ) → task ≡ None → start ≡ length b.history.items → AnswersBy (now_of b) a c → NotPending lane (books_of b)
+    → Goes told (first b.start.items) lane number c b b None task (Answered a start)
+begun_goes told lane number c b task a start idle from by none =
+    let at : state_after (first b.start.items) b.history.items start ≡ now_of b = ap (state_after (first b.start.items) b.history.items) from ∙ state_all (first b.start.items) b.history.items in
+    let says = answers_by told lane number (now_of b) b.history.items a c by in (
+      idle,
+      from,
+      subst (λ (s : State). Answers told lane number s (now_of b) b.history.items a c) (sym at) says.0,
+      inl (refl, says.1),
+      λ p is. inl is,
+      λ p is mine. absurd (none p is mine),
+    )
+
+-- a command that ends for a call that failed before
+pub halted_goes : (told : Type 0) (lane number : ℕ) (c : Command) (b : rust.Books) (task task' : Option Running) (count : ℕ) → task' ≡ None → Goes told (first b.start.items) lane number c b b task task' (Answered (answer.Halted count) (start_of b.history.items task))
+halted_goes told lane number c b task task' count idle = (idle, refl, tt, inl (refl, λ n. cc), (λ p is. inl is), λ p is mine. tt)
+
+-- a command that has ended has an answer
+pub has_answer : (t new : RefCommand) (outcome : Outcome) → Steps command_stepped t outcome new → (outcome ≡ came.Blocked → ⊥) → (outcome ≡ came.More → ⊥) → HasAnswer outcome new
+has_answer t new came.Done steps nb nm = done_has t new steps
+has_answer t new came.Halted steps nb nm = tt
+has_answer t new (came.Refused e) steps nb nm = tt
+has_answer t new came.Blocked steps nb nm = absurd (nb refl)
+has_answer t new came.More steps nb nm = absurd (nm refl)
+
+module _ {F : Type 0} (view : F → Option View) (clock spare : F → ℕ) (was : F → ℕ → View → Type 0) (tells_always : (fs gs : F) (v : View) → view fs ≡ Some v → Told (view gs) (λ w. Unit {0})) (trees : (fs : F) (v : View) → view fs ≡ Some v → IsTree v.now)
+    (lane number moment : ℕ) (c : Command) (old new : Base F) (t t' : RefCommand) (ready : Ready view clock spare was (Runs command_kind command_facts lane t) old) (start : ℕ) where
+  abbrev pub h : List Entry
+  h = old.books.history.items
+
+  abbrev pub from : State
+  from = first old.books.start.items
+
+  abbrev pub s : State
+  s = state_after from h start
+
+  abbrev pub after_new : State
+  after_new = after (events_of new.books.history.items) from
+
+  pub goes_more : (outcome : Outcome) → outcome ≡ came.More → Steps command_stepped t outcome t' → IsBooked (command_kind t) lane number moment outcome old.books new.books → Pursues s c t
+      → (task task' : Option Running) → start ≡ start_of h task → task' ≡ Some (record { work = t'; start = start }) → Goes (IsTold view) from lane number c old.books new.books task task' More
+  goes_more outcome is steps booked after task task' at now =
+      let b : IsBooked (command_kind t) lane number moment came.More old.books new.books = subst (λ o. IsBooked (command_kind t) lane number moment o old.books new.books) is booked in (
+        record { work = t'; start = start },
+        now,
+        at,
+        pursues_step s c t t' (subst (λ (o : Outcome). Steps command_stepped t o t') is steps) after,
+        history_same lane number moment old.books new.books (command_kind t) came.More (λ e. cc) b,
+        step_shown lane number moment old.books new.books s c t came.More after b,
+      )
+
+  says : Tells command_leaves command_refuses t came.Done t' (view old.fs) (view new.fs) → Opens (command_kind t) lane (books_of old.books) → (x : RefCommand) (y : RefCommand) → t ≡ x → t' ≡ y → done.Tells (IsTold view) (now_of old.books) x y
+  says tells opens (Change work) (Change next) is then = λ told r err_is.
+      let v = tells_always told.0 old.fs told.1 told.2 in
+      let w = tells v.0 v.1 in
+      let leaves : command_leaves (Change work) (turn.Done tt) (Change next) v.0 w.0 = subst (λ x. command_leaves x (turn.Done tt) (Change next) v.0 w.0) is (subst (λ y. command_leaves t (turn.Done tt) y v.0 w.0) then w.2) in
+      refused_told from h old.books.pending lane work next v.0 w.0 (books_of old.books) r (ready.sound.stands v.0 v.1) (trees old.fs v.0 v.1)
+      (subst (λ x. command_facts lane x v.0 (books_of old.books)) is (ready.task.facts v.0 v.1))
+      leaves err_is
+      (subst (λ x. Opens (command_kind x) lane (books_of old.books)) is opens)
+      (subst (λ x. Runs command_kind command_facts lane x (view old.fs) (books_of old.books)) is ready.task).holds
+      refl
+      ready.sound.ordered.owner
+  says tells opens (Change work) (Parse look) is then = tt
+  says tells opens (Change work) (Reset look plan) is then = tt
+  says tells opens (Parse look) y is then = tt
+  says tells opens (Reset look plan) y is then = tt
+
+  -- a step is refused for nothing else
+  none_told : (f : FsErr) → Tells command_leaves command_refuses t (came.Refused f) t' (view old.fs) (view new.fs) → IsTold view → OfNone f
+  none_told f tells told =
+      let v = tells_always told.0 old.fs told.1 told.2 in
+      ⊎_elim
+      (λ k. subst OfNone (sym k) tt)
+      (λ why. refused_of from h old.books.pending lane v.0 (books_of old.books) t f (trees old.fs v.0 v.1) (ready.sound.stands v.0 v.1) (ready.task.facts v.0 v.1) why)
+      (tells v.0 v.1)
+
+  pub goes_ended : (outcome : Outcome) → Steps command_stepped t outcome t' → Tells command_leaves command_refuses t outcome t' (view old.fs) (view new.fs) → (outcome ≢ came.Blocked → Opens (command_kind t) lane (books_of old.books))
+      → IsBooked (command_kind t) lane number moment outcome old.books new.books → (IsOver outcome → NotPending lane (books_of new.books)) → Pursues s c t → ((p : Pending) → old.books.pending ≡ Some p → p.lane ≡ lane → p.command ≡ number)
+      → (faults : ℕ) (a : Answer) → IsEndedAs outcome c t' faults a → (task task' : Option Running) → start ≡ start_of h task → task' ≡ None → Goes (IsTold view) from lane number c old.books new.books task task' (Answered a start)
+  goes_ended came.Done steps tells opens booked over after mine faults a is task task' at idle =
+      let g = done_gives (IsTold view) from lane number moment s old.books new.books mine c t t' a after steps ready.task.holds booked (says tells (opens (λ e. cc)) t t' refl refl) is in
+      (idle, at, g.0, g.1, step_shown lane number moment old.books new.books s c t came.Done after booked, λ p shown l. absurd (over tt p shown l))
+  goes_ended came.Halted steps tells opens booked over after mine faults a is task task' at idle =
+      let e = halted_answers (IsTold view) lane number s after_new new.books.history.items c a faults is in
+      (idle, at, e.0, inl (history_same lane number moment old.books new.books (command_kind t) came.Halted (λ z. cc) booked, e.1), step_shown lane number moment old.books new.books s c t came.Halted after booked, λ p shown l. subst IsHalted (sym is) tt)
+  goes_ended (came.Refused f) steps tells opens booked over after mine faults a is task task' at idle =
+      let e = refused_answers (IsTold view) lane number s after_new new.books.history.items f c a (none_told f tells) is in
+      (idle, at, e.0.0, inl (history_same lane number moment old.books new.books (command_kind t) (came.Refused f) (λ z. cc) booked, e.0.1), step_shown lane number moment old.books new.books s c t (came.Refused f) after booked, λ p shown l. absurd (over tt p shown l))
+  goes_ended came.Blocked steps tells opens booked over after mine faults a is task task' at idle = absurd is
+  goes_ended came.More steps tells opens booked over after mine faults a is task task' at idle = absurd is
+
+  pub ended_halts : (outcome : Outcome) → Steps command_stepped t outcome t' → Tells command_leaves command_refuses t outcome t' (view old.fs) (view new.fs) → (outcome ≢ came.Blocked → Opens (command_kind t) lane (books_of old.books))
+      → IsBooked (command_kind t) lane number moment outcome old.books new.books → Pursues s c t → ((p : Pending) → old.books.pending ≡ Some p → p.lane ≡ lane → p.command ≡ number) → laws.Tells view (Runs command_kind command_facts lane t') outcome new
+      → (faults : ℕ) (a : Answer) → IsEndedAs outcome c t' faults a → IsHalted a → (new.books.halted ≡ true) × (a ≡ answer.Halted faults)
+  ended_halts came.Done steps tells opens booked after mine halts faults a is halted =
+      absurd ((done_gives (IsTold view) from lane number moment s old.books new.books mine c t t' a after steps ready.task.holds booked (says tells (opens (λ e. cc)) t t' refl refl) is).2 halted)
+  ended_halts came.Halted steps tells opens booked after mine halts faults a is halted = (halts, is)
+  ended_halts (came.Refused f) steps tells opens booked after mine halts faults a is halted = absurd ((refused_answers (IsTold view) lane number s after_new new.books.history.items f c a (none_told f tells) is).1 halted)
+  ended_halts came.Blocked steps tells opens booked after mine halts faults a is halted = absurd is
+  ended_halts came.More steps tells opens booked after mine halts faults a is halted = absurd is

@@ -1,0 +1,129 @@
+-- What a refused change tells of the state, where the view is told.
+use Rattle.std.proofs.Common.{◌≡◌, ◌≢◌, ◌<◌, ℕ, true, false, refl, sym, ◌∙◌, ap, subst, List, Option, Some, None, Ok, Err, IsSome}
+use Rattle.fs_trait.specs.declared.task.Turn.TheVariants as turn
+use Rattle.fs_trait.specs.declared.types.Value.{Value}
+use Rattle.fs_trait.specs.declared.types.Value.TheVariants.{Absent, Folder, Link, File}
+use Rattle.fs_trait.specs.View.{Disk, View}
+use Rattle.fs_trait.specs.Image.{IsTree}
+use Rattle.fs_trait.specs.Seen.{seen, shows}
+use Rattle.fs_trait.proofs.Claims.{reads_shows}
+use Rattle.fs_trait.proofs.Images.{Image-now}
+use Rattle.repo_layout.specs.Paths.{ref_path}
+use Rattle.repo_layout.specs.Refs.{is_leaf}
+use Rattle.ref_room.specs.Clash.{IsClash, IsLeastClash}
+use Rattle.ref_store.specs.declared.phase.Phase.{Phase}
+use Rattle.ref_store.specs.declared.phase.Phase.TheVariants as phase
+use Rattle.ref_store.specs.declared.refusal.RefRefusal.{RefRefusal}
+use Rattle.ref_store.specs.declared.refusal.RefRefusal.TheVariants as refusal
+use Rattle.ref_store.specs.Change.{Change as Changing, IsRefusing, made_in}
+use Rattle.ref_store.specs.Steps.{HasValue, MakesRoom}
+use Rattle.ref_work.specs.declared.work.RefWork.{RefWork}
+use Rattle.ref_work.specs.Facts.{Facts, turn_in}
+use Rattle.ref_work.specs.Kinds.{Answer, event, kind_in, leaves_in, Leaves}
+use Rattle.rely.specs.declared.books.Entry.{Entry}
+use Rattle.rely.specs.declared.books.Pending.{Pending}
+use Rattle.rely.specs.declared.event.Event.{Event}
+use Rattle.rely.specs.Books.{Books}
+use Rattle.rely.specs.Disks.{IsGood, IsLeaf, Logical, Says}
+use Rattle.rely.specs.Exact.{Opens}
+use Rattle.rely.specs.Laws.{Holds, NotPending}
+use Rattle.rely.specs.Sound.{Stands}
+use Rattle.rely.specs.State.{State, RefOf, Said, after, events_of}
+use Rattle.rely.proofs.Goods.{fits_all}
+use Rattle.rely.proofs.States.{says_one}
+use Rattle.sys_core.specs.Answers.{ClashIn, LeastClashIn}
+
+-- what a refusal says of the state in which it came
+abbrev pub RefusedBy : State → Changing → RefRefusal → Type 0
+RefusedBy p t (refusal.RefMoved seen now) = (seen ≡ t.seen) × (now ≡ p (RefOf t.name)) × (now ≢ seen)
+RefusedBy p t (refusal.RefClash other) = LeastClashIn p t.name other × IsSome t.value
+RefusedBy p t refusal.NoRef = ⊥
+
+leaf_none : (d : Disk) (z : Value) → is_leaf z ≡ false → IsLeaf (seen d z) → ⊥
+leaf_none d Absent e leaf = leaf
+leaf_none d (Folder m) e leaf = leaf
+leaf_none d (Link m t) e leaf = let n : true ≡ false = e in cc
+leaf_none d (File n) e leaf = let n : true ≡ false = e in cc
+
+none_leaf : {P : Type 0} (d : Disk) (z : Value) → is_leaf z ≡ true → (IsLeaf (seen d z) → ⊥) → P
+none_leaf d Absent e none = let n : false ≡ true = e in cc
+none_leaf d (Folder m) e none = let n : false ≡ true = e in cc
+none_leaf d (Link m t) e none = absurd (none tt)
+none_leaf d (File n) e none = absurd (none tt)
+
+bytes_leaf : (d : Disk) (z : Value) (name commit : List ℕ) → Says (RefOf name) (Some commit) (seen d z) → is_leaf z ≡ true
+bytes_leaf d Absent name commit says = cc
+bytes_leaf d (Folder m) name commit says = cc
+bytes_leaf d (Link m t) name commit says = refl
+bytes_leaf d (File n) name commit says = refl
+
+module _ (d : Disk) (state : State) (good : IsGood d) (logical : Logical d state) where
+  value_says : (name : List ℕ) (said : Said) → HasValue d name said → Says (RefOf name) said (shows d (ref_path name))
+  value_says name None has = leaf_none d (d.at (ref_path name)) has
+  value_says name (Some commit) has = (has.sum, sym (reads_shows d (ref_path name)) ∙ has.file)
+
+  value_is : (name : List ℕ) (now : Said) → HasValue d name now → now ≡ state (RefOf name)
+  value_is name now has = says_one (RefOf name) now (state (RefOf name)) (shows d (ref_path name)) (value_says name now has) (logical (RefOf name))
+
+  leaf_there : (name : List ℕ) (said : Said) → is_leaf (d.at (ref_path name)) ≡ true → Says (RefOf name) said (shows d (ref_path name)) → IsSome said
+  leaf_there name None leaf says = none_leaf d (d.at (ref_path name)) leaf says
+  leaf_there name (Some commit) leaf says = refl
+
+  there_leaf : (name : List ℕ) (said : Said) → IsSome said → Says (RefOf name) said (shows d (ref_path name)) → is_leaf (d.at (ref_path name)) ≡ true
+  there_leaf name None some says = let z : false ≡ true = some in cc
+  there_leaf name (Some commit) some says = bytes_leaf d (d.at (ref_path name)) name commit says
+
+  clash_in : (name other : List ℕ) → IsClash d name other → ClashIn state name other
+  clash_in name other is = record { there = leaf_there other (state (RefOf other)) is.leaf (logical (RefOf other)); clashes = is.clashes }
+
+  clash_of : (name other : List ℕ) → ClashIn state name other → IsClash d name other
+  clash_of name other is =
+      let leaf = there_leaf other (state (RefOf other)) is.there (logical (RefOf other)) in
+      record { named = (good.refs other leaf).0; leaf = leaf; clashes = is.clashes }
+
+  least_in : (name other : List ℕ) → IsLeastClash d name other → LeastClashIn state name other
+  least_in name other is = record { clash = clash_in name other is.clash; least = λ third c. is.least third (clash_of name third c) }
+
+makes_value : (ph : Phase) (t : Changing) → MakesRoom ph → made_in ph t → IsSome t.value
+makes_value (phase.Clear c) t makes made = made.1
+makes_value (phase.Walk w) t makes made = made.1
+makes_value phase.Look t makes made = absurd makes
+makes_value (phase.Put f) t makes made = absurd makes
+makes_value phase.Unlink t makes made = absurd makes
+makes_value phase.SyncFolder t makes made = absurd makes
+makes_value phase.Ended t makes made = absurd makes
+
+one_lane : (turn : Option ℕ) (a b : ℕ) → turn ≡ Some a → turn ≡ Some b → a ≡ b
+one_lane turn a b x y = let e : Some a ≡ Some b = sym x ∙ y in cc
+
+-- nothing is pending while a change is looked at, or room is made for it
+none_pending : (ph : Phase) (e : Event) (lane : ℕ) (b : Books) → IsRefusing ph → turn_in (kind_in ph e) lane b → Opens (kind_in ph e) lane b → Holds (kind_in ph e) lane b → (p : Pending) → b.pending ≡ Some p → b.turn ≡ Some p.lane → ⊥
+none_pending phase.Look e lane b may turn opens holds p is owner = holds p is ((opens.turn refl).1 p.lane owner)
+none_pending (phase.Clear c) e lane b may turn opens holds p is owner = holds p is (one_lane b.turn p.lane lane owner turn)
+none_pending (phase.Walk w) e lane b may turn opens holds p is owner = holds p is (one_lane b.turn p.lane lane owner turn)
+none_pending (phase.Put f) e lane b may turn opens holds p is owner = may
+none_pending phase.Unlink e lane b may turn opens holds p is owner = may
+none_pending phase.SyncFolder e lane b may turn opens holds p is owner = may
+none_pending phase.Ended e lane b may turn opens holds p is owner = may
+
+none_of : {X : Type 0} (o : Option X) → ((x : X) → o ≡ Some x → ⊥) → o ≡ None
+none_of None not = refl
+none_of (Some x) not = absurd (not x refl)
+
+module _ (first : State) (entries : List Entry) (lane : ℕ) (v w : View) (stands : Stands first entries None v) (tree : IsTree v.now) where
+  refusal_says : (t new : Changing) (r : RefRefusal) → made_in t.phase t → Leaves t new (turn.Done (Err r)) v w → RefusedBy (after (events_of entries) first) t r
+  refusal_says t new (refusal.RefMoved seen now) made l =
+      let f = fits_all first entries v stands v.now (Image-now v tree) in
+      (l.tells.1, value_is v.now (after (events_of entries) first) f.0 f.1 t.name now l.tells.2, l.tells.3)
+  refusal_says t new (refusal.RefClash other) made l =
+      let f = fits_all first entries v stands v.now (Image-now v tree) in
+      (least_in v.now (after (events_of entries) first) f.0 f.1 t.name other l.tells.1, makes_value t.phase t l.tells.0 made)
+  refusal_says t new refusal.NoRef made l = absurd l.tells
+
+pub refused_told : (first : State) (entries : List Entry) (pending : Option Pending) (lane : ℕ) (t new : RefWork) (v w : View) (b : Books) (r : RefRefusal) → Stands first entries pending v → IsTree v.now → Facts lane t.task v b
+    → leaves_in (turn.Done tt) new.answer t.task new.task v w → new.answer ≡ Some (Err r) → Opens (kind_in t.task.phase (event t.task)) lane b → Holds (kind_in t.task.phase (event t.task)) lane b
+    → b.pending ≡ pending → ((p : Pending) → b.pending ≡ Some p → b.turn ≡ Some p.lane) → RefusedBy (after (events_of entries) first) t.task r
+refused_told first entries pending lane t new v w b r stands tree f leaves is opens holds same owner =
+    let l : Leaves t.task new.task (turn.Done (Err r)) v w = subst (λ (a : Answer). leaves_in (turn.Done tt) a t.task new.task v w) is leaves in
+    let none : b.pending ≡ None = none_of b.pending (λ p e. none_pending t.task.phase (event t.task) lane b l.may f.turn opens holds p e (owner p e)) in
+    refusal_says first entries lane v w (subst (λ o. Stands first entries o v) (sym same ∙ none) stands) tree t.task new.task r f.needs.made l

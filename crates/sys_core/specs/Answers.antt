@@ -1,0 +1,105 @@
+-- What each reply says, by the states that the changes so far make.
+use Rattle.std.specs.Prelude.{Bool, false, ◌≡◌, ◌≢◌, ◌≤◌, ◌++◌, ◌∷◌, [], ℕ, List, length, take, Option, Some, None, IsSome}
+use Rattle.std.specs.Cmp.Lexicographic.{slice_cmp}
+use Rattle.std.specs.Ordering.{nat_cmp}
+use Rattle.std.specs.declared.cmp.Ordering.TheVariants.{Less}
+use Rattle.fs_trait.specs.View.{Disk, View}
+use Rattle.fs_trait.specs.Count.{Rose}
+use Rattle.ref_work.specs.declared.look_up.Found.TheVariants.{Missing, Partial, Whole}
+use Rattle.ref_work.specs.Found.{IsFound}
+use Rattle.ref_room.specs.Clash.{Clashes}
+use Rattle.ref_book.specs.Tracks.{Lists}
+use Rattle.rely.specs.declared.books.Entry.{Entry}
+use Rattle.rely.specs.declared.event.Event.{Event}
+use Rattle.rely.specs.declared.event.Event.TheVariants as event
+use Rattle.rely.specs.State.{State, RefOf, after, events_of}
+use Rattle.script.specs.declared.answer.Answer.{Answer}
+use Rattle.script.specs.declared.answer.Answer.TheVariants as answer
+use Rattle.script.specs.declared.answer.Reply.{Reply}
+use Rattle.script.specs.declared.command.Command.{Command}
+use Rattle.script.specs.declared.command.Command.TheVariants.{Refs, RevParse, Reset, DropRef}
+use Rattle.sys_core.specs.Begins.{IsRev, IsNoRev}
+
+-- file systems of this kind tell their view; they do it always or never
+abbrev pub IsTold : {F : Type 0} → (F → Option View) → Type 0
+IsTold {F} view = (fs : F) × (v : View) × (view fs ≡ Some v)
+
+-- the state after the first k changes
+abbrev pub state_after : State → List Entry → ℕ → State
+state_after first entries k = after (events_of (take k entries)) first
+
+-- A ref of the state can't stand beside this one.
+pub record ClashIn (s : State) (name other : List ℕ) : Type 0 where
+  pub there : IsSome (s (RefOf other))
+  pub clashes : Clashes name other
+
+-- The first of them by the bytes of the names.
+pub record LeastClashIn (s : State) (name other : List ℕ) : Type 0 where
+  pub clash : ClashIn s name other
+  pub least : (third : List ℕ) → ClashIn s name third → slice_cmp nat_cmp third other ≢ Less
+
+-- the change that a command makes, which begins in this state
+abbrev pub IsChangeOf : State → Command → Event → Type 0
+IsChangeOf s (Reset branch commit) e = e ≡ event.SetRef branch (s (RefOf branch)) commit
+IsChangeOf s (DropRef branch) e = (seen : List ℕ) × (s (RefOf branch) ≡ Some seen) × (e ≡ event.DropRef branch seen)
+IsChangeOf s command e = ⊥
+
+-- the last of these changes is this one, made by this command of the lane
+abbrev pub HasMade : ℕ → ℕ → (Event → Type 0) → List Entry → Type 0
+HasMade lane number IsIt entries = (before : List Entry) × (last : Entry) × (entries ≡ before ++ last ∷ []) × (last.lane ≡ lane) × (last.command ≡ number) × IsIt last.event
+
+-- the ref's values in both states, which differ
+abbrev pub HasMoved : State → State → List ℕ → Option (List ℕ) → Option (List ℕ) → Type 0
+HasMoved s p name seen now = (seen ≡ s (RefOf name)) × (now ≡ p (RefOf name)) × (now ≢ seen)
+
+-- What an answer says of the state s in which the command began, the changes up to the answer, and the state p that they make.
+-- What was seen on the disk is known where the file system tells its view; there nothing else changes it.
+abbrev pub Answers : Type 0 → ℕ → ℕ → State → State → List Entry → Answer → Command → Type 0
+Answers told lane number s p entries answer.Nothing (Reset branch commit) = HasMade lane number (IsChangeOf s (Reset branch commit)) entries
+Answers told lane number s p entries answer.Nothing (DropRef branch) = HasMade lane number (IsChangeOf s (DropRef branch)) entries
+Answers told lane number s p entries (answer.Refs rows) Refs = Lists rows.items p
+Answers told lane number s p entries (answer.Commit commit) (RevParse rev) = IsRev rev s commit
+Answers told lane number s p entries answer.NoRef (RevParse rev) = IsNoRev rev s
+Answers told lane number s p entries answer.NoRef (DropRef branch) = told → s (RefOf branch) ≡ None
+Answers told lane number s p entries answer.NoRef (Reset branch commit) = told → ⊥
+Answers told lane number s p entries (answer.NoCommit commit) (RevParse rev) = IsRev rev s commit
+Answers told lane number s p entries (answer.NoCommit named) (Reset branch commit) = named ≡ commit
+Answers told lane number s p entries (answer.Partial commit) (RevParse rev) = IsRev rev s commit
+Answers told lane number s p entries (answer.Partial named) (Reset branch commit) = named ≡ commit
+Answers told lane number s p entries (answer.RefMoved seen now) (Reset branch commit) = told → HasMoved s p branch seen now
+Answers told lane number s p entries (answer.RefMoved seen now) (DropRef branch) = told → HasMoved s p branch seen now × IsSome seen
+Answers told lane number s p entries (answer.RefClash other) (Reset branch commit) = told → LeastClashIn p branch other
+Answers told lane number s p entries (answer.RefClash other) (DropRef branch) = told → ⊥
+Answers told lane number s p entries answer.NoMemory command = Unit {0}
+Answers told lane number s p entries answer.DiskFault command = Unit {0}
+Answers told lane number s p entries (answer.Halted count) command = Unit {0}
+Answers told lane number s p entries (answer.Outside path) command = told → ⊥
+Answers told lane number s p entries a command = ⊥
+
+-- what stands on the disk where an answer tells of a commit; that something else changed it is never told
+abbrev pub IsSeen : Disk → Answer → Type 0
+IsSeen d (answer.Commit commit) = IsFound d commit Whole
+IsSeen d (answer.NoCommit commit) = IsFound d commit Missing
+IsSeen d (answer.Partial commit) = IsFound d commit Partial
+IsSeen d (answer.Outside path) = ⊥
+IsSeen d a = Unit {0}
+
+-- a call failed in the act that says so, if none that changes something failed before
+abbrev pub IsCaused : Bool → ℕ → ℕ → Answer → Type 0
+IsCaused halted before now answer.DiskFault = Rose before now
+IsCaused halted before now (answer.Halted count) = halted ≡ false → Rose before now
+IsCaused halted before now a = Unit {0}
+
+-- what an answer tells of the disk before its act and of calls that failed in it, where the view is told
+abbrev pub Shown : Option View → Bool → ℕ → ℕ → Answer → Type 0
+Shown view halted before now a = (v : View) → view ≡ Some v → IsSeen v.now a × IsCaused halted before now a
+
+-- A reply to a command of a lane: by the state at its start and the one at its place, which come in this order.
+pub record IsReply (told : Type 0) (first : State) (entries : List Entry) (lane number : ℕ) (command : Command) (r : Reply) : Type 0 where
+  pub begun : r.start ≤ r.place
+  pub within : r.place ≤ length entries
+  pub answer : Answers told lane number (state_after first entries r.start) (state_after first entries r.place) (take r.place entries) r.answer command
+
+abbrev pub IsHalted : Answer → Type 0
+IsHalted (answer.Halted count) = Unit {0}
+IsHalted a = ⊥

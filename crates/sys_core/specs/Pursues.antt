@@ -1,0 +1,123 @@
+-- What a running command is after, and what an act of it came to.
+use Rattle.std.specs.Prelude.{◌≡◌, ◌≢◌, ◌⊎◌, ◌<◌, ◌≤◌, ◌++◌, ◌∷◌, [], ℕ, List, length, map, slice_index_or, Option, Some, None, IsSome, true}
+use Rattle.fs_trait.specs.declared.types.FsErr.{FsErr}
+use Rattle.fs_trait.specs.declared.types.FsErr.TheVariants as err
+use Rattle.ref_store.specs.Change.{Change, progress_in}
+use Rattle.ref_work.specs.declared.command.RefCommand.{RefCommand}
+use Rattle.ref_work.specs.declared.command.RefCommand.TheVariants as task
+use Rattle.ref_work.specs.Commands.{answer_of}
+use Rattle.ref_work.specs.Facts.{IsRunning}
+use Rattle.rely.specs.declared.books.Books as rust
+use Rattle.rely.specs.declared.books.Entry.{Entry}
+use Rattle.rely.specs.declared.books.Pending.{Pending}
+use Rattle.rely.specs.declared.kind.Outcome.{Outcome}
+use Rattle.rely.specs.declared.kind.Outcome.TheVariants as came
+use Rattle.rely.specs.declared.books.Base.{Base}
+use Rattle.rely.specs.State.{State, RefOf, first, after, events_of}
+use Rattle.fs_trait.specs.View.{View}
+use Rattle.script.specs.declared.answer.Reply.{Reply}
+use Rattle.script.specs.declared.command.Lane.{Lane}
+use Rattle.sys_core.specs.Replied.{IsCommand, IsTo, Replied, count_of}
+use Rattle.script.specs.declared.answer.Answer.{Answer}
+use Rattle.script.specs.declared.answer.Answer.TheVariants as answer
+use Rattle.script.specs.declared.command.Command.{Command}
+use Rattle.script.specs.declared.command.Command.TheVariants.{Refs, RevParse, Reset, DropRef}
+use Rattle.sys_core.specs.Answers.{Answers, IsChangeOf, IsHalted, IsTold, state_after}
+use Rattle.sys_core.specs.Begins.{IsRev}
+use Rattle.sys_core.specs.declared.lane.Came.{Came}
+use Rattle.sys_core.specs.declared.lane.Came.TheVariants.{Blocked, More, Answered}
+use Rattle.sys_core.specs.declared.run.Run.{Run}
+use Rattle.sys_core.specs.declared.run.Running.{Running}
+
+-- a change of this ref from one value to another, which hasn't ended
+abbrev pub IsChanging : List ℕ → Option (List ℕ) → Option (List ℕ) → Change → Type 0
+IsChanging name seen value t = (t.name ≡ name) × (t.seen ≡ seen) × (t.value ≡ value) × IsRunning (progress_in t.phase)
+
+-- What a command is after, which begins in this state, at each of its steps.
+abbrev pub Pursues : State → Command → RefCommand → Type 0
+Pursues s (RevParse rev) (task.Parse look) = IsRev rev s look.commit
+Pursues s (Reset branch commit) (task.Reset look plan) = (look.commit ≡ commit) × (plan.name ≡ branch) × (plan.seen ≡ s (RefOf branch)) × (plan.commit ≡ commit)
+Pursues s (Reset branch commit) (task.Change work) = IsChanging branch (s (RefOf branch)) (Some commit) work.task
+Pursues s (DropRef branch) (task.Change work) = IsChanging branch (s (RefOf branch)) None work.task × IsSome (s (RefOf branch))
+Pursues s c t = ⊥
+
+-- how many changes lasted when the command began, or do now where it hasn't begun
+abbrev pub start_of : List Entry → Option Running → ℕ
+start_of entries None = length entries
+start_of entries (Some r) = r.start
+
+-- when the commands of the lanes began
+abbrev pub start_in : Option Running → Option ℕ
+start_in None = None
+start_in (Some r) = Some r.start
+
+abbrev pub started_of : List Run → List (Option ℕ)
+started_of = map (λ r. start_in r.task)
+
+-- the command that runs is after what it is to do
+abbrev pub IsAfter : State → List Entry → Command → Option Running → Type 0
+IsAfter first entries c None = Unit {0}
+IsAfter first entries c (Some r) = Pursues (state_after first entries r.start) c r.work
+
+-- What every value keeps of the replies, and of what the commands that run are after.
+pub record Accounted {F : Type 0} (view : F → Option View) (base : Base F) (lanes : List Lane) (runs : List Run) (replies : List (List Reply)) (given : ℕ) (faults : ℕ) : Type 0 where
+  pub replied : Replied (IsTold view) (first base.books.start.items) base.books.history.items base.books.pending lanes (started_of runs) replies
+  pub after : (lane : ℕ) (d : Run) (c : Command) → lane < length runs → IsCommand lanes lane (slice_index_or runs lane d).command c → IsAfter (first base.books.start.items) base.books.history.items c (slice_index_or runs lane d).task
+  pub halts : (lane number : ℕ) (r : Reply) → IsTo replies lane number r → IsHalted r.answer → (base.books.halted ≡ true) × (r.answer ≡ answer.Halted faults)
+  pub count : given ≡ count_of replies
+  pub fewer : length base.books.history.items ≤ count_of replies
+
+-- the change that a command made is the last one, and no other answer says so
+abbrev pub Grows : ℕ → ℕ → Answer → List Entry → List Entry → Type 0
+Grows lane number a old new = ((new ≡ old) × (a ≢ answer.Nothing))
+    ⊎ ((e : Entry) × (new ≡ old ++ e ∷ []) × (e.lane ≡ lane) × (e.command ≡ number) × (a ≡ answer.Nothing))
+
+-- what is pending was so before, or is the command's change
+abbrev pub IsShownBy : ℕ → ℕ → (Pending → Type 0) → rust.Books → rust.Books → Type 0
+IsShownBy lane number IsIts old new = (p : Pending) → new.pending ≡ Some p → (old.pending ≡ Some p) ⊎ ((p.lane ≡ lane) × (p.command ≡ number) × IsIts p)
+
+-- nothing of the lane is pending, where no call failed
+abbrev pub IsShownAs : ℕ → Answer → rust.Books → Type 0
+IsShownAs lane a new = (p : Pending) → new.pending ≡ Some p → p.lane ≡ lane → IsHalted a
+
+-- What an act of the lane came to: by the state in which its command began, with what it was after so far, and what it goes on to be after.
+abbrev pub Goes : Type 0 → State → ℕ → ℕ → Command → rust.Books → rust.Books → Option Running → Option Running → Came → Type 0
+Goes told first lane number c old new task task' Blocked = (task' ≡ task) × (new ≡ old)
+Goes told first lane number c old new task task' More = (r : Running) × (task' ≡ Some r) × (r.start ≡ start_of old.history.items task)
+    × Pursues (state_after first old.history.items r.start) c r.work × (new.history.items ≡ old.history.items)
+    × IsShownBy lane number (λ p. IsChangeOf (state_after first old.history.items r.start) c p.event) old new
+Goes told first lane number c old new task task' (Answered a start) = (task' ≡ None) × (start ≡ start_of old.history.items task)
+    × Answers told lane number (state_after first old.history.items start) (after (events_of new.history.items) first) new.history.items a c
+    × Grows lane number a old.history.items new.history.items
+    × IsShownBy lane number (λ p. IsChangeOf (state_after first old.history.items start) c p.event) old new × IsShownAs lane a new
+
+-- it has ended, and has an answer
+abbrev pub HasAnswer : Outcome → RefCommand → Type 0
+HasAnswer came.Done t = IsSome (answer_of t)
+HasAnswer came.Halted t = Unit {0}
+HasAnswer (came.Refused e) t = Unit {0}
+HasAnswer outcome t = ⊥
+
+-- what a command answers where something else than this program changed what stands at its paths
+abbrev pub IsStray : Answer → Type 0
+IsStray (answer.Outside path) = Unit {0}
+IsStray answer.NoMemory = Unit {0}
+IsStray a = ⊥
+
+abbrev pub IsOutside : Command → Answer → Type 0
+IsOutside (Reset branch commit) a = IsStray a
+IsOutside (DropRef branch) a = IsStray a
+IsOutside c a = a ≡ answer.DiskFault
+
+-- what a command answers that was refused so
+abbrev pub IsRefusedAs : FsErr → Command → Answer → Type 0
+IsRefusedAs err.NoMemory c a = a ≡ answer.NoMemory
+IsRefusedAs err.Failed c a = a ≡ answer.DiskFault
+IsRefusedAs e c a = IsOutside c a
+
+-- what a command answers that ended so
+abbrev pub IsEndedAs : Outcome → Command → RefCommand → ℕ → Answer → Type 0
+IsEndedAs came.Done c t faults a = answer_of t ≡ Some a
+IsEndedAs came.Halted c t faults a = a ≡ answer.Halted faults
+IsEndedAs (came.Refused e) c t faults a = IsRefusedAs e c a
+IsEndedAs outcome c t faults a = ⊥
