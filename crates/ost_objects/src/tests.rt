@@ -242,9 +242,15 @@ fn faults_of_names(rt: HostRuntime) -> Result<(), Fail> {
     Ok(())
 }
 
-/// What the check finds wrong with so many zero bytes.
-fn fault_of_zeros(alloc: Global, kind: Kind, len: usize) -> Result<Option<ObjFault>, Fail> {
+/// What the check finds wrong with these bytes and zeros behind them, so many in all.
+fn fault_of_long(
+    alloc: Global,
+    kind: Kind,
+    front: &[u8],
+    len: usize,
+) -> Result<Option<ObjFault>, Fail> {
     let mut bytes = Vec::with_capacity(alloc, len)?;
+    bytes.extend_from_slice(front)?;
     bytes.resize(len, 0)?;
     let csum = sum_of(&bytes);
     let name = ObjName { csum, kind };
@@ -257,11 +263,22 @@ fn fault_of_zeros(alloc: Global, kind: Kind, len: usize) -> Result<Option<ObjFau
 #[test]
 fn objects_above_64_mebibytes(rt: HostRuntime) -> Result<(), Fail> {
     for kind in [Kind::Commit, Kind::DirTree, Kind::DirMeta] {
-        let fault = fault_of_zeros(rt.alloc(), kind, 67_108_865)?;
+        let fault = fault_of_long(rt.alloc(), kind, b"", 67_108_865)?;
         assert!(&rt; fault == Some(ObjFault::TooLarge(67_108_865)));
-        let fault = fault_of_zeros(rt.alloc(), kind, 64)?;
+        let fault = fault_of_long(rt.alloc(), kind, b"", 64)?;
         assert!(&rt; fault != Some(ObjFault::TooLarge(64)));
     }
+    Ok(())
+}
+
+/// The header's length, and so many bytes of it.
+#[test]
+fn headers_above_64_mebibytes(rt: HostRuntime) -> Result<(), Fail> {
+    let front = b"\x04\0\0\x01\0\0\0\0";
+    let fault = fault_of_long(rt.alloc(), Kind::File, front.as_slice(), 67_108_873)?;
+    assert!(&rt; fault == Some(ObjFault::TooLarge(67_108_865)));
+    let fault = fault_of_long(rt.alloc(), Kind::File, front.as_slice(), 67_108_872)?;
+    assert!(&rt; fault == Some(ObjFault::NotNormal));
     Ok(())
 }
 
