@@ -20,11 +20,7 @@ use sys_core::{Ask, Parts, System};
 use sys_open::{OpenFault, Opened, adopt};
 
 /// Opens the repository, and runs all commands of the lanes. Where no lane is run the file system comes back.
-pub fn run_lanes<F: Fs>(
-    alloc: Global,
-    fs: F,
-    lanes: Vec<Lane>,
-) -> Result<Parts<F>, (F, TopFault)>
+pub fn run_lanes<F: Fs>(alloc: Global, fs: F, lanes: Vec<Lane>) -> Result<Parts<F>, (F, TopFault)>
     requires few { length lanes.items ≤ 8 }
     requires short { (l : ℕ) (d : Lane) → l < length lanes.items → length (slice_index_or lanes.items l d).commands.items ≤ 64 }
     ensures ran { (v : View) → F.view fs ≡ Some v → IfOk result (λ p. Told (F.view p.fs) (Ran F.clock F.was v (F.clock fs) p.fs p.history.items (event_of p.pending))) }

@@ -68,11 +68,13 @@ fn event_of(pending: Option<Pending>) -> Option<Event>
     ensures { result ≡ event_of pending }
 {
     match pending {
-        Some(Pending {
-            lane: _,
-            command: _,
-            event,
-        }) => Some(event),
+        Some(
+            Pending {
+                lane: _,
+                command: _,
+                event,
+            },
+        ) => Some(event),
         None => None,
     }
 }

@@ -9,7 +9,7 @@ pub loop-replies-preserved : goal.loop-replies-preserved
 loop-replies-preserved c =
     c.max-status.ensures
     ∙ step (λ lane. lane_status lane.items) c.args.lanes.now c.loop-replies.replies-index c.replies-item.result _ _ (search rules) c.replies-item.is c.loop-replies.invariant
-        (c.lane_status.ensures ∙ ap lane_status c.deref.ensures.value)
+    (c.lane_status.ensures ∙ ap lane_status c.deref.ensures.value)
 
 pub returns : goal.returns
 returns c =

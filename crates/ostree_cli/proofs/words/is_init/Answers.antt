@@ -18,11 +18,11 @@ alone a b same = cc
 tested : {X : Type 0} (bytes : X → List ℕ) (words : List X) (word : X) (text : List ℕ) (b : Bool) → words ≡ word ∷ [] → text ≡ bytes word → b ≡ bytes_eq text (codes "init")
     → (IsTrue b → map bytes words ≡ init) × (map bytes words ≡ init → IsTrue b)
 tested bytes words word text b is value test = (
-    (λ yes. ap (map bytes) is ∙ ap (λ t. t ∷ []) (sym value ∙ (bytes_eq-Decides text (codes "init")).0 (sym test ∙ yes))),
-    (λ same. test ∙ (bytes_eq-Decides text (codes "init")).1 (value ∙ alone (bytes word) (codes "init") (sym (ap (map bytes) is) ∙ same))),
-  )
+  (λ yes. ap (map bytes) is ∙ ap (λ t. t ∷ []) (sym value ∙ (bytes_eq-Decides text (codes "init")).0 (sym test ∙ yes))),
+  (λ same. test ∙ (bytes_eq-Decides text (codes "init")).1 (value ∙ alone (bytes word) (codes "init") (sym (ap (map bytes) is) ∙ same))),
+)
 
 pub returns-in-len1 : goal.returns-in-len1
 returns-in-len1 c =
     tested (λ word. string_bytes word) c.args.words.now c.word-item.result c.as_str.result.now c.eq.result
-        (one c.args.words.now c.word-item.result (omega (arith, c.in-len1.len_at_least, c.in-len1.len_below)) c.word-item.is) c.as_str.ensures.value c.eq.ensures
+    (one c.args.words.now c.word-item.result (omega (arith, c.in-len1.len_at_least, c.in-len1.len_below)) c.word-item.is) c.as_str.ensures.value c.eq.ensures

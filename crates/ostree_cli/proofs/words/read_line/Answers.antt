@@ -16,10 +16,13 @@ none_text : {X : Type 0} (N : Type 0) (P : X → Type 0) (o : Option X) → Matc
 none_text N P o match is = subst (λ p. MatchOption p N P) is match
 
 pub returns-in_default : goal.returns-in_default
-returns-in_default c = inr (refl, (
+returns-in_default c = inr (
+  refl,
+  (
     (λ is. denied c.is_init.result c.if-is_init.false c.is_init.ensures is),
     (λ command is. none_text _ _ c.in_ok-texts.field-0 c.in_ok-texts.ensures c.in_default.is (line_texts _ command is)),
-  ))
+  ),
+)
 
 some_text : {X : Type 0} (N : Type 0) (P : X → Type 0) (o : Option X) (x : X) → MatchOption o N P → o ≡ Some x → P x
 some_text N P o x match is = subst (λ p. MatchOption p N P) is match
@@ -30,7 +33,10 @@ bad_line words e n reads is = (subst (λ f. ReadsWords words (Err f)) is reads).
 pub returns-in-Err-BadLine : goal.returns-in-Err-BadLine
 returns-in-Err-BadLine c =
     let same : c.deref.result.now ≡ map (λ word. string_bytes word) c.args.words.now = c.deref.ensures.value ∙ some_text _ _ c.in_ok-texts.field-0 c.in-Some.texts c.in_ok-texts.ensures c.in-Some.is in
-    inr (refl, (
-      (λ is. denied c.is_init.result c.if-is_init.false c.is_init.ensures is),
-      subst AreNoCommand same (bad_line c.deref.result.now c.in-Err-BadLine.field-0 c.in-Err-BadLine.field-0-0 c.in-Err-BadLine.ensures c.in-Err-BadLine.field-0-is),
-    ))
+    inr (
+      refl,
+      (
+        (λ is. denied c.is_init.result c.if-is_init.false c.is_init.ensures is),
+        subst AreNoCommand same (bad_line c.deref.result.now c.in-Err-BadLine.field-0 c.in-Err-BadLine.field-0-0 c.in-Err-BadLine.ensures c.in-Err-BadLine.field-0-is),
+      ),
+    )
