@@ -3,3 +3,5 @@ pub mod Greatest
 pub mod Texts
 pub mod Laters
 pub mod Plain
+pub mod Rans
+pub mod Outcomes

@@ -20,10 +20,10 @@ none_shown None is = refl
 none_shown (Some p) is = cc
 
 module _ {F : Type 0} (clock : F → ℕ) (was : F → ℕ → View → Type 0) (base : Base F) (v : View) where
-  start : State
+  abbrev start : State
   start = first base.books.start.items
 
-  events : List Event
+  abbrev events : List Event
   events = events_of base.books.history.items ++ pending_of base.books.pending
 
   same : stored base.books.history.items (event_of base.books.pending) ≡ events

@@ -6,7 +6,7 @@ use Rattle.script.specs.Lines.{replies_text}
 use Rattle.script.specs.declared.answer.Reply.{Reply}
 use Rattle.sys_open.specs.declared.fault.Why.{Why}
 use Rattle.sys_open.specs.declared.fault.Why.TheVariants.{BadRef, WrongKind}
-use Rattle.ostree_cli.specs.declared.answer.OpenFault.{OpenFault}
+use Rattle.sys_open.specs.declared.fault.OpenFault.{OpenFault}
 use Rattle.sys_open.specs.declared.fault.OpenFault.TheVariants.{Damaged, Disk, Outside}
 use Rattle.sys_open.specs.declared.fault.OpenFault.TheVariants as opening
 use Rattle.ostree_cli.specs.declared.fault.TopFault.{TopFault}

@@ -1,5 +1,5 @@
 //! The lanes of a call, on the repository of a file system.
-ghost use Rattle.std.specs.Prelude.{◌≡◌, ◌≤◌, ◌<◌, ℕ, Some, IfOk, IfErr, length, slice_index_or};
+ghost use Rattle.std.specs.Prelude.{◌≡◌, ◌≢◌, ◌≤◌, ◌<◌, ℕ, Some, IfOk, IfErr, length, slice_index_or};
 ghost use Rattle.fs_trait.specs.View.{View, all_synced};
 ghost use Rattle.fs_trait.specs.Image.{Told};
 ghost use Rattle.fs_trait.specs.Count.{Rose};
@@ -26,6 +26,7 @@ pub fn run_lanes<F: Fs>(alloc: Global, fs: F, lanes: Vec<Lane>) -> Result<Parts<
     ensures ran { (v : View) → F.view fs ≡ Some v → IfOk result (λ p. Told (F.view p.fs) (Ran F.clock F.was v (F.clock fs) p.fs p.history.items (event_of p.pending))) }
     ensures told { (v : View) → F.view fs ≡ Some v → IfErr result (λ e. IsStop v.now e.1) }
     ensures still { (v : View) → F.view fs ≡ Some v → IfErr result (λ e. StaysOn e.1 (F.view e.0 ≡ Some (all_synced v))) }
+    ensures words { IfErr result (λ e. e.1 ≢ fault.Usage) }
     ensures disk { IfErr result (λ e. e.1 ≡ fault.Open opening.Disk → Rose (F.faults fs) (F.faults e.0)) }
 {
     match adopt(alloc, fs, Limits::standard()) {

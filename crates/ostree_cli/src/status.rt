@@ -1,6 +1,6 @@
 ghost use Rattle.std.specs.Prelude.{◌≡◌, map, if◌then◌else◌};
 ghost use Rattle.std.specs.List.{list_any};
-ghost use Rattle.ostree_cli.specs.Status.{answer_status, fault_status, has_risen, replies_status, status_of};
+ghost use Rattle.ostree_cli.specs.Status.{answer_status, fault_status, has_risen, lane_status, replies_status, status_of};
 
 use crate::fault::TopFault;
 use script::{Answer, Reply};

@@ -1,11 +1,10 @@
-use Rattle.std.proofs.Common.{refl, ◌∙◌, ap, map}
-use Rattle.ostree_cli.specs.Text.{output_of}
+use Rattle.std.proofs.Common.{refl, ◌∙◌}
 use Rattle.ostree_cli.proofs.Printing.{prints_from}
 use Rattle.ostree_cli.proofs.top.print.Goals as goal
 
 pub returns-in-Ok-clause-prints : goal.returns-in-Ok-clause-prints
 returns-in-Ok-clause-prints g c = λ had told.
-    prints_from c.write_all.result had _ _ _ _ _ (c.as_slice.ensures ∙ c.in-Ok.ensures ∙ ap (λ l. output_of c.args.outcome.fault (map (λ lane. lane.items) l)) c.deref.ensures.value) (c.write_all.ensures.whole had told) (c.write_all.ensures.front had told) c.write_all.ensures.cause
+    prints_from c.write_all.result had _ _ _ _ _ (c.as_slice.ensures ∙ c.in-Ok.ensures) (c.write_all.ensures.whole had told) (c.write_all.ensures.front had told) c.write_all.ensures.cause
 
 pub returns-in-Err-clause-prints : goal.returns-in-Err-clause-prints
 returns-in-Err-clause-prints g c = λ had told.

@@ -1,0 +1,5 @@
+pub mod Printing
+pub mod Greatest
+pub mod Texts
+pub mod Laters
+pub mod Plain

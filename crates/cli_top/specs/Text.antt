@@ -1,0 +1,31 @@
+-- What the program prints.
+use Rattle.std.specs.Prelude.{ℕ, List, [], ◌∷◌, ◌++◌, codes, Option, Some, None}
+use Rattle.ost_types.specs.Path.{text_of}
+use Rattle.script.specs.Field.{escaped}
+use Rattle.script.specs.Lines.{replies_text}
+use Rattle.script.specs.declared.answer.Reply.{Reply}
+use Rattle.sys_open.specs.declared.fault.Why.{Why}
+use Rattle.sys_open.specs.declared.fault.Why.TheVariants.{BadRef, WrongKind}
+use Rattle.cli_top.specs.declared.answer.OpenFault.{OpenFault}
+use Rattle.sys_open.specs.declared.fault.OpenFault.TheVariants.{Damaged, Disk, Outside}
+use Rattle.sys_open.specs.declared.fault.OpenFault.TheVariants as opening
+use Rattle.cli_top.specs.declared.fault.TopFault.{TopFault}
+use Rattle.cli_top.specs.declared.fault.TopFault.TheVariants.{Usage, Open, NoMemory}
+
+abbrev pub why_text : Why → List ℕ
+why_text BadRef = codes "BadRef"
+why_text WrongKind = codes "WrongKind"
+
+-- the one line of a fault before the lanes
+abbrev pub fault_line : TopFault → List ℕ
+fault_line Usage = codes "fault usage\n"
+fault_line NoMemory = codes "fault memory\n"
+fault_line (Open opening.NoMemory) = codes "fault memory\n"
+fault_line (Open Disk) = codes "fault open Disk\n"
+fault_line (Open (Damaged path why)) = codes "fault open Damaged " ++ (escaped (text_of path) ++ (32 ∷ (why_text why ++ 10 ∷ [])))
+fault_line (Open (Outside path)) = codes "fault open Outside " ++ (escaped (text_of path) ++ 10 ∷ [])
+
+-- all that is printed
+abbrev pub output_of : Option TopFault → List (List Reply) → List ℕ
+output_of (Some fault) lanes = fault_line fault
+output_of None lanes = replies_text lanes

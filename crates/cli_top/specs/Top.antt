@@ -1,0 +1,52 @@
+-- What the whole call comes to.
+use Rattle.std.specs.Prelude.{◌≡◌, ◌≢◌, ◌⊎◌, ◌+◌, ℕ, List, [], Option, Some, None}
+use Rattle.fs_trait.specs.Count.{Rose}
+use Rattle.fs_trait.specs.View.{Disk, View, all_synced}
+use Rattle.rely.specs.declared.books.Entry.{Entry}
+use Rattle.rely.specs.declared.books.Pending.{Pending}
+use Rattle.rely.specs.declared.event.Event.{Event}
+use Rattle.rely.specs.Disks.{Logical}
+use Rattle.rely.specs.State.{State}
+use Rattle.script.specs.declared.answer.Reply.{Reply}
+use Rattle.sys_open.specs.declared.fault.OpenFault.{OpenFault}
+use Rattle.sys_open.specs.declared.fault.OpenFault.TheVariants as opening
+use Rattle.sys_open.specs.Checks.{IsSane}
+use Rattle.sys_open.specs.Opening.{IsToldOf, StaysOnDamage}
+use Rattle.cli_top.specs.declared.fault.TopFault.{TopFault}
+use Rattle.cli_top.specs.declared.fault.TopFault.TheVariants.{Usage, Open, NoMemory}
+use Rattle.cli_top.specs.Headline.{Headline}
+use Rattle.cli_top.specs.Output.{Wrote, WroteFront}
+
+-- why no lane was run, by what reads see at the beginning
+abbrev pub IsStop : Disk → TopFault → Type 0
+IsStop d Usage = Unit {0}
+IsStop d (Open opening.NoMemory) = ⊥
+IsStop d (Open fault) = IsToldOf d fault
+IsStop d NoMemory = Unit {0}
+
+-- after damage was told all is as it was, and outlasts a crash
+abbrev pub StaysOn : TopFault → Type 0 → Type 0
+StaysOn (Open fault) P = StaysOnDamage fault P
+StaysOn fault P = Unit {0}
+
+-- the change that is shown
+abbrev pub event_of : Option Pending → Option Event
+event_of None = None
+event_of (Some p) = Some p.event
+
+-- What a run of lanes leaves: the repository was sane, and from the refs that it had then all is as the headline says.
+pub record Ran {F : Type 0} (clock : F → ℕ) (was : F → ℕ → View → Type 0) (v : View) (before : ℕ) (fs : F) (history : List Entry) (pending : Option Event) (w : View) : Type 0 where
+  pub sane : IsSane v.now
+  pub start : State
+  pub state : Logical v.now start
+  pub headline : Headline clock was (before + 1) start fs history pending w
+
+-- no lane was run
+pub record IsUnused (history : List Entry) (pending : Option Event) (replies : List (List Reply)) : Type 0 where
+  pub history_is : history ≡ []
+  pub pending_is : pending ≡ None
+  pub replies_are : replies ≡ []
+
+-- The text stands behind what the sink had, or a front of it where the sink's count has risen.
+abbrev pub Prints : List ℕ → List ℕ → ℕ → ℕ → Option (List ℕ) → Type 0
+Prints had text before now taken = Wrote had text taken ⊎ (WroteFront had text taken × Rose before now)

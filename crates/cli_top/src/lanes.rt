@@ -1,0 +1,91 @@
+//! The lanes of a call, on the repository of a file system.
+ghost use Rattle.std.specs.Prelude.{◌≡◌, ◌≤◌, ◌<◌, ℕ, Some, IfOk, IfErr, length, slice_index_or};
+ghost use Rattle.fs_trait.specs.View.{View, all_synced};
+ghost use Rattle.fs_trait.specs.Image.{Told};
+ghost use Rattle.fs_trait.specs.Count.{Rose};
+ghost use Rattle.script.specs.declared.command.Lane.{Lane};
+ghost use Rattle.sys_open.specs.declared.fault.OpenFault.TheVariants as opening;
+ghost use Rattle.cli_top.specs.declared.fault.TopFault.TheVariants as fault;
+ghost use Rattle.rely.specs.State.{first};
+ghost use Rattle.sys_core.specs.Booked.{IsLater};
+ghost use Rattle.cli_top.specs.Headline.{Headline};
+ghost use Rattle.cli_top.specs.Top.{IsStop, Ran, StaysOn, event_of};
+
+use crate::fault::TopFault;
+use fs_trait::Fs;
+use ost_types::{Limits, NoMemory};
+use script::Lane;
+use std::alloc::Global;
+use sys_core::{Ask, Parts, System};
+use sys_open::{OpenFault, Opened, adopt};
+
+/// Opens the repository, and runs all commands of the lanes. Where no lane is run the file system comes back.
+pub fn run_lanes<F: Fs>(alloc: Global, fs: F, lanes: Vec<Lane>) -> Result<Parts<F>, (F, TopFault)>
+    requires few { length lanes.items ≤ 8 }
+    requires short { (l : ℕ) (d : Lane) → l < length lanes.items → length (slice_index_or lanes.items l d).commands.items ≤ 64 }
+    ensures ran { (v : View) → F.view fs ≡ Some v → IfOk result (λ p. Told (F.view p.fs) (Ran F.clock F.was v (F.clock fs) p.fs p.history.items (event_of p.pending))) }
+    ensures told { (v : View) → F.view fs ≡ Some v → IfErr result (λ e. IsStop v.now e.1) }
+    ensures still { (v : View) → F.view fs ≡ Some v → IfErr result (λ e. StaysOn e.1 (F.view e.0 ≡ Some (all_synced v))) }
+    ensures disk { IfErr result (λ e. e.1 ≡ fault.Open opening.Disk → Rose (F.faults fs) (F.faults e.0)) }
+{
+    match adopt(alloc, fs, Limits::standard()) {
+        Ok(opened) => run_opened(alloc, opened, lanes),
+        Err((fs, OpenFault::NoMemory)) => Err((fs, TopFault::NoMemory)),
+        Err((fs, fault)) => Err((fs, TopFault::Open(fault))),
+    }
+}
+
+// Runs all commands of the lanes on a repository that was opened.
+fn run_opened<F: Fs>(
+    alloc: Global,
+    opened: Opened<F>,
+    lanes: Vec<Lane>,
+) -> Result<Parts<F>, (F, TopFault)>
+    requires few { length lanes.items ≤ 8 }
+    requires short { (l : ℕ) (d : Lane) → l < length lanes.items → length (slice_index_or lanes.items l d).commands.items ≤ 64 }
+    ensures ran { (w : View) → IfOk result (λ p. F.view p.fs ≡ Some w → Headline F.clock F.was opened.clock (first opened.refs) p.fs p.history.items (event_of p.pending) w) }
+    ensures back { IfErr result (λ e. (e.0 ≡ opened.fs) × (e.1 ≡ fault.NoMemory)) }
+{
+    match System::new(alloc, opened, lanes) {
+        Ok(system) => {
+            let mut system = system;
+            run_all(&mut system);
+            Ok(system.into_parts())
+        }
+        Err((opened, NoMemory)) => Err((opened.into_fs(), TopFault::NoMemory)),
+    }
+}
+
+// Acts of the lanes in turn, till none of them does work.
+fn run_all<F: Fs>(system: &mut System<F>)
+    ensures { IsLater system.old system.new }
+{
+    for _ in 0..u64::MAX {
+        if !round(system) {
+            break;
+        }
+    }
+}
+
+// One act of each lane. Whether any of them did work.
+fn round<F: Fs>(system: &mut System<F>) -> bool
+    ensures { IsLater system.old system.new }
+{
+    let mut worked = false;
+    for lane in 0..8 {
+        if act(system, lane) {
+            worked = true;
+        }
+    }
+    worked
+}
+
+// One act of a lane. Whether it did work.
+fn act<F: Fs>(system: &mut System<F>, lane: u8) -> bool
+    ensures { IsLater system.old system.new }
+{
+    match system.act(lane) {
+        Ask::More | Ask::Done { .. } => true,
+        Ask::Blocked | Ask::Ended => false,
+    }
+}

@@ -1,0 +1,190 @@
+ghost use Rattle.std.specs.Prelude.{◌≡◌, ◌≢◌, ◌⊎◌, ◌≤◌, ℕ, List, [], Option, Some, None, IfSome, map};
+ghost use Rattle.std.specs.String.{string_bytes};
+ghost use Rattle.fs_trait.specs.View.{View, all_synced};
+ghost use Rattle.fs_trait.specs.Image.{Told};
+ghost use Rattle.fs_trait.specs.Count.{Rose};
+ghost use Rattle.sys_open.specs.declared.fault.OpenFault.TheVariants as opening;
+ghost use Rattle.cli_top.specs.Words.{AreNoLine};
+ghost use Rattle.cli_top.specs.Status.{has_risen, status_of};
+ghost use Rattle.cli_top.specs.Text.{output_of};
+ghost use Rattle.cli_top.specs.Top.{IsStop, IsUnused, Prints, Ran, StaysOn, event_of};
+
+use crate::fault::TopFault;
+use crate::lanes::run_lanes;
+use crate::output::write_all;
+use crate::status::{has_risen, status_of};
+use crate::text::{MEMORY_LINE, output_of};
+use crate::words::read_line;
+use fs_trait::{Fs, Sink};
+use ost_types::NoMemory;
+use rely::{Entry, Event, Pending};
+use script::Reply;
+use std::alloc::Global;
+use sys_core::Parts;
+
+/// What a call of the program came to.
+#[derive(Drop)]
+pub struct Ended<F> {
+    /// The exit status.
+    pub status: u8,
+    /// The file system that was handed in.
+    pub fs: F,
+    /// Why there are no replies, or why they weren't printed.
+    pub fault: Option<TopFault>,
+    /// The changes that last, in the order in which they came.
+    pub history: Vec<Entry>,
+    /// The change that is shown, or may be, and doesn't last yet.
+    pub pending: Option<Event>,
+    /// The replies of each lane.
+    pub replies: Vec<Vec<Reply>>,
+}
+
+// What came of the lanes, before it is printed.
+#[derive(Drop)]
+struct Outcome<F> {
+    fs: F,
+    fault: Option<TopFault>,
+    history: Vec<Entry>,
+    pending: Option<Event>,
+    replies: Vec<Vec<Reply>>,
+}
+
+// No lane was run.
+fn stopped<F>(alloc: Global, fs: F, fault: TopFault) -> Outcome<F>
+    ensures fs { result.fs ≡ fs }
+    ensures fault { result.fault ≡ Some fault }
+    ensures unused { IsUnused result.history.items result.pending (map (λ lane. lane.items) result.replies.items) }
+{
+    Outcome {
+        fs,
+        fault: Some(fault),
+        history: Vec::new(alloc),
+        pending: None,
+        replies: Vec::new(alloc),
+    }
+}
+
+fn event_of(pending: Option<Pending>) -> Option<Event>
+    ensures { result ≡ event_of pending }
+{
+    match pending {
+        Some(
+            Pending {
+                lane: _,
+                command: _,
+                event,
+            },
+        ) => Some(event),
+        None => None,
+    }
+}
+
+fn outcome_of<F: Fs>(parts: Parts<F>) -> Outcome<F>
+    ensures fs { result.fs ≡ parts.fs }
+    ensures fault { result.fault ≡ None }
+    ensures history { result.history.items ≡ parts.history.items }
+    ensures pending { result.pending ≡ event_of parts.pending }
+    ensures replies { result.replies.items ≡ parts.replies.items }
+{
+    let Parts {
+        fs,
+        history,
+        pending,
+        replies,
+        lanes: _,
+    } = parts;
+    Outcome {
+        fs,
+        fault: None,
+        history,
+        pending: event_of(pending),
+        replies,
+    }
+}
+
+// Reads the words, opens the repository and runs the lanes.
+fn run<F: Fs>(alloc: Global, words: &[String], fs: F) -> Outcome<F>
+    ensures usage { result.fault ≡ Some TopFault.Usage → AreNoLine (map (λ word. string_bytes word) words.now) }
+    ensures words { AreNoLine (map (λ word. string_bytes word) words.now) → (result.fault ≡ Some TopFault.Usage) ⊎ (result.fault ≡ Some TopFault.NoMemory) }
+    ensures untouched { result.fault ≡ Some TopFault.Usage → result.fs ≡ fs }
+    ensures unused { result.fault ≢ None → IsUnused result.history.items result.pending (map (λ lane. lane.items) result.replies.items) }
+    ensures disk { result.fault ≡ Some (TopFault.Open opening.Disk) → Rose (F.faults fs) (F.faults result.fs) }
+    ensures stop { (v : View) → F.view fs ≡ Some v → IfSome result.fault (IsStop v.now) }
+    ensures still { (v : View) → F.view fs ≡ Some v → IfSome result.fault (λ f. StaysOn f (F.view result.fs ≡ Some (all_synced v))) }
+    ensures ran { (v : View) → F.view fs ≡ Some v → result.fault ≡ None → Told (F.view result.fs) (Ran F.clock F.was v (F.clock fs) result.fs result.history.items result.pending) }
+{
+    match read_line(alloc, words) {
+        Ok(lanes) => match run_lanes(alloc, fs, lanes) {
+            Ok(parts) => outcome_of(parts),
+            Err((fs, fault)) => stopped(alloc, fs, fault),
+        },
+        Err(fault) => stopped(alloc, fs, fault),
+    }
+}
+
+// Prints the output. Whether all of it was taken, the sink's count tells.
+fn print<K: Sink>(
+    alloc: Global,
+    out: &mut K,
+    fault: Option<TopFault>,
+    replies: &[Vec<Reply>],
+) -> Option<TopFault>
+    ensures fault { (result ≡ fault) ⊎ (result ≡ Some TopFault.NoMemory) }
+    ensures prints { (had : List ℕ) → K.taken out.old ≡ Some had → Prints had (output_of result (map (λ lane. lane.items) replies.now)) (K.faults out.old) (K.faults out.new) (K.taken out.new) }
+    ensures later { K.faults out.old ≤ K.faults out.new }
+{
+    match output_of(alloc, &fault, replies) {
+        Ok(text) => {
+            let _ = write_all(out, text.as_slice());
+            fault
+        }
+        Err(NoMemory) => {
+            let _ = write_all(out, MEMORY_LINE);
+            Some(TopFault::NoMemory)
+        }
+    }
+}
+
+/// Does all that the program does: reads the words, opens the repository, runs the command, prints its reply or the line of the
+/// fault, and tells the exit status.
+///
+/// The words are those behind the program's name: `init`, or a command and its fields.
+pub fn ostree<F: Fs, K: Sink>(alloc: Global, words: &[String], fs: F, out: &mut K) -> Ended<F>
+    // The fault, where there is one. Each yields to want of memory.
+    ensures usage { result.fault ≡ Some TopFault.Usage → AreNoLine (map (λ word. string_bytes word) words.now) }
+    ensures words { AreNoLine (map (λ word. string_bytes word) words.now) → (result.fault ≡ Some TopFault.Usage) ⊎ (result.fault ≡ Some TopFault.NoMemory) }
+    ensures untouched { result.fault ≡ Some TopFault.Usage → result.fs ≡ fs }
+    ensures disk { result.fault ≡ Some (TopFault.Open opening.Disk) → Rose (F.faults fs) (F.faults result.fs) }
+    ensures stop { (v : View) → F.view fs ≡ Some v → IfSome result.fault (IsStop v.now) }
+    ensures still { (v : View) → F.view fs ≡ Some v → IfSome result.fault (λ f. StaysOn f (F.view result.fs ≡ Some (all_synced v))) }
+    ensures unused { (result.fault ≡ None) ⊎ (result.fault ≡ Some TopFault.NoMemory) ⊎ IsUnused result.history.items result.pending (map (λ lane. lane.items) result.replies.items) }
+
+    // What a crash may leave, and what is left at the end.
+    ensures ran { (v : View) → F.view fs ≡ Some v → (result.fault ≡ None) ⊎ (result.replies.items ≢ []) → Told (F.view result.fs) (Ran F.clock F.was v (F.clock fs) result.fs result.history.items result.pending) }
+
+    // What is printed, and the exit status.
+    ensures output { (had : List ℕ) → K.taken out.old ≡ Some had → Prints had (output_of result.fault (map (λ lane. lane.items) result.replies.items)) (K.faults out.old) (K.faults out.new) (K.taken out.new) }
+    ensures status { result.status ≡ status_of result.fault (map (λ lane. lane.items) result.replies.items) (has_risen (F.faults fs) (F.faults result.fs)) (has_risen (K.faults out.old) (K.faults out.new)) }
+    ensures sink_count { K.faults out.old ≤ K.faults out.new }
+{
+    let disk_before = fs.faults();
+    let sink_before = out.faults();
+    let Outcome {
+        fs,
+        fault,
+        history,
+        pending,
+        replies,
+    } = run(alloc, words, fs);
+    let fault = print(alloc, out, fault, &replies);
+    let disk = has_risen(disk_before, fs.faults());
+    let sink = has_risen(sink_before, out.faults());
+    Ended {
+        status: status_of(&fault, &replies, disk, sink),
+        fs,
+        fault,
+        history,
+        pending,
+        replies,
+    }
+}
