@@ -1,0 +1,17 @@
+pub mod Orders
+pub mod Lists
+pub mod Names
+pub mod Suffixes
+pub mod Pendings
+pub mod Works
+pub mod Bads
+pub mod Children
+pub mod Smalls
+pub mod Places
+pub mod Steps
+pub mod Looks
+pub mod Dones
+pub mod Cuts
+pub mod Folders
+pub mod Counts
+pub mod Shown

@@ -1,0 +1,5 @@
+pub mod Items
+pub mod Objects
+pub mod Makeable
+pub mod Building
+pub mod Commits

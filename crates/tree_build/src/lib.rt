@@ -1,0 +1,16 @@
+//! The objects of a tree that is to be committed, one at a time, what lies in a folder before the folder; and the commit.
+#![tactic(auto)]
+
+mod build;
+mod commit;
+mod entries;
+mod file;
+mod folder;
+mod laws;
+mod paths;
+mod progress;
+mod sums;
+
+pub use build::TreeBuild;
+pub use commit::commit_object;
+pub use laws::tree_is_whole;
