@@ -1,0 +1,5 @@
+mod Told
+mod Lasts
+pub mod Merged
+mod Shorts
+pub mod Walk

@@ -1,0 +1,6 @@
+pub mod Looks
+pub mod Items
+pub mod Children
+pub mod Merging
+pub mod Order
+pub mod Whole
