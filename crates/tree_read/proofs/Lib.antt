@@ -3,3 +3,4 @@ mod Lasts
 pub mod Merged
 mod Shorts
 pub mod Walk
+pub mod Lines

@@ -23,6 +23,7 @@ use Rattle.tree_read.specs.declared.item.Item.{Item}
 use Rattle.tree_read.specs.Children.{Child, IsChild, AreChildren, item_of}
 use Rattle.tree_read.specs.Items.{ShowsFrom, NamesFrom, ItemShows, ItemNames}
 use Rattle.tree_read.specs.Order.{IsKept}
+use Rattle.tree_read.specs.Walked as walk
 
 mapped : {X Y : Type 0} (f : X → Y) (xs : List X) (x : X) → Contains xs x → Contains (map f xs) (f x)
 mapped f [] x h = absurd (omega (arith, h.1))
@@ -33,23 +34,14 @@ unmapped f [] y h = absurd (omega (arith, h.1))
 unmapped f (x ∷ xs) y h = elim (head_or_tail (f x) (map f xs) y h) [ inl same ↦ (x, head_in x xs, sym same) | inr t ↦ (let u = unmapped f xs y t in (u.0, tail_in x u.0 xs u.1, u.2)) ]
 
 module _ (S : Store) (content : ℕ) where
-  -- some item shows the node there, or names the object
-  pub record Left (items : List Item) (p : Path) (n : NodeName) : Type 0 where
-    pub item : Item
-    pub among : Contains items item
-    pub shows : ItemShows S item p n
+  abbrev Left : List Item → Path → NodeName → Type 0
+  Left = walk.Left S content
 
-  pub record Waits (items : List Item) (p : Path) (o : ObjName) : Type 0 where
-    pub item : Item
-    pub among : Contains items item
-    pub names : ItemNames S item p o
+  abbrev Waits : List Item → Path → ObjName → Type 0
+  Waits = walk.Waits S content
 
-  -- These pairs and what the items show make up what the two objects show; what they name is kept, or waits.
-  pub record Walked (tree meta : List ℕ) (found : Nodes) (items : List Item) : Type 0 where
-    pub all : (p : Path) (n : NodeName) → Shows S tree meta p n → Contains found (p, n) ⊎ Left items p n
-    pub sound : (p : Path) (n : NodeName) → Contains found (p, n) → Shows S tree meta p n
-    pub lies : (p : Path) (n : NodeName) → Left items p n → Shows S tree meta p n
-    pub kept : (p : Path) (o : ObjName) → Names S tree meta p o → IsKept S content p o ⊎ Waits items p o
+  abbrev Walked : List ℕ → List ℕ → Nodes → List Item → Type 0
+  Walked = walk.Walked S content
 
   -- An item is replaced by others, and by pairs that were found.
   pub record Replaces (next : Item) (new : Nodes) (more : List Item) : Type 0 where

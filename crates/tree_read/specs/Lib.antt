@@ -3,4 +3,6 @@ pub mod Items
 pub mod Children
 pub mod Merging
 pub mod Order
+pub mod Line
+pub mod Walked
 pub mod Whole
