@@ -1,7 +1,7 @@
 pub mod Lookups
 pub mod Streaming
 pub mod PutLemmas
-mod PlaceLemmas
+pub mod PlaceLemmas
 pub mod Runs
 pub mod Begins
 pub mod Stable

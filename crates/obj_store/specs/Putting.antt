@@ -1,5 +1,5 @@
 -- An object that is being put at its path, and which step comes next.
-use Rattle.std.specs.Prelude.{◌≡◌, ◌≢◌, ◌⊎◌, ◌<◌, ◌+◌, ℕ, Bool, true, false, [], List, Some, Result, Ok, Err}
+use Rattle.std.specs.Prelude.{◌≡◌, ◌≢◌, ◌⊎◌, ◌<◌, ◌+◌, ℕ, Bool, true, false, [], List, Option, Some, None, Result, Ok, Err}
 use Rattle.ost_types.specs.declared.meta.Meta.{Meta}
 use Rattle.ost_types.specs.declared.object.ObjName.{ObjName}
 use Rattle.ost_types.specs.Mode.{IsFileMode, IsLinkMode}
@@ -16,6 +16,9 @@ use Rattle.repo_model.specs.Objects.{object_in}
 use Rattle.staging.specs.declared.phase.Phase as staged
 use Rattle.staging.specs.declared.phase.Phase.TheVariants as stage
 use Rattle.staging.specs.Draft as draft
+use Rattle.ost_types.specs.declared.object.Kind.TheVariants as kind
+use Rattle.obj_store.specs.declared.task.Shape.{Shape}
+use Rattle.obj_store.specs.declared.task.Shape.TheVariants.{Plain, Read}
 use Rattle.obj_store.specs.declared.source.Source.{Source}
 use Rattle.obj_store.specs.declared.source.Source.TheVariants.{File, Link}
 use Rattle.obj_store.specs.declared.phase.Put.{Put}
@@ -84,6 +87,11 @@ pub record IsSourceOf (actor : ℕ) (name : ObjName) (bytes : List ℕ) (source 
   pub ready : IsReady actor source
   pub staged : IsStaged phase.Look source
 
+-- the same as far as it takes memory: the file's content stream is read, of another object the staging path is had
+abbrev pub IsShapeOf : ℕ → ObjName → List ℕ → Shape → Type 0
+IsShapeOf actor name bytes (Read source) = IsSourceOf actor name bytes source
+IsShapeOf actor name bytes (Plain stage) = (name.kind ≢ kind.File) × (stage ≡ stage_path actor)
+
 -- a task at its beginning
 pub record IsNew (actor : ℕ) (name : ObjName) (bytes : List ℕ) (t : Putting) : Type 0 where
   pub source : IsSourceOf actor name bytes t.source
@@ -149,6 +157,12 @@ abbrev pub need_in : Phase → Need
 need_in (phase.Unlink put) = need.Nothing
 need_in (phase.Ended put) = need.Nothing
 need_in ph = need.Shared
+
+-- what came of the object, once its path is seen to
+abbrev pub put_in : Phase → Option Put
+put_in (phase.Unlink put) = Some put
+put_in (phase.Ended put) = Some put
+put_in ph = None
 
 -- how a step moves the clock
 abbrev pub Takes : Phase → ℕ → ℕ → Type 0

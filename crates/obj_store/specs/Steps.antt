@@ -1,8 +1,9 @@
 -- What each step of putting an object needs, writes, tells and is refused for.
-use Rattle.std.specs.Prelude.{◌≡◌, ◌≢◌, ℕ, List}
+use Rattle.std.specs.Prelude.{◌≡◌, ◌≢◌, ℕ, Bool, true, false, List}
 use Rattle.ost_types.specs.Path.{Path}
 use Rattle.fs_trait.specs.declared.types.FsErr.{FsErr}
 use Rattle.fs_trait.specs.declared.types.FsErr.TheVariants.{Failed, NoMemory, NotFolder}
+use Rattle.fs_trait.specs.declared.types.Value.{Value}
 use Rattle.fs_trait.specs.declared.types.Value.TheVariants.{Absent}
 use Rattle.fs_trait.specs.declared.task.Turn.{Turn}
 use Rattle.fs_trait.specs.declared.task.Turn.TheVariants.{More, Done}
@@ -70,6 +71,19 @@ needs_in (phase.Ended put) t v = Unit {0}
 pub record Needs (t : Putting) (v : View) : Type 0 where
   pub made : IsMade t
   pub meets : needs_in t.phase t v
+
+-- whether the next step puts the object at its path: it is the one that links, and nothing stands there
+abbrev pub would_store_in : Phase → Value → Bool
+would_store_in phase.Link Absent = true
+would_store_in ph x = false
+
+abbrev pub WouldStore : Putting → View → Bool → Type 0
+WouldStore t v b = b ≡ would_store_in t.phase (v.now.at (path_of t.name))
+
+-- only the step that links does
+abbrev pub MayStore : Phase → Bool → Type 0
+MayStore phase.Link b = Unit {0}
+MayStore ph b = b ≡ false
 
 -- What came of the object: it was put where nothing stood, or something stood there and nothing changed.
 abbrev pub Came : Put → Putting → View → View → Type 0

@@ -1,9 +1,12 @@
-ghost use Rattle.std.specs.Prelude.{◌≡◌, ◌≢◌, ◌<◌, ◌^◌, Some, IfOk};
+ghost use Rattle.std.specs.Prelude.{◌≡◌, ◌≢◌, ◌<◌, ◌+◌, ◌^◌, Some, IfOk, MatchResult};
 ghost use Rattle.ost_types.specs.declared.object.Kind.TheVariants as kinds;
 ghost use Rattle.ost_forms.specs.declared.fault.ObjFault.TheVariants as faults;
 ghost use Rattle.ost_forms.specs.Stream.{content_form, FitsMode};
-ghost use Rattle.obj_store.specs.Putting.{Putting, IsNew, IsSourceOf, left, left_of, need_in, plain_meta};
+ghost use Rattle.repo_layout.specs.Paths.{objects_folder_path, stage_path};
+ghost use Rattle.repo_model.specs.Objects.{path_of};
+ghost use Rattle.obj_store.specs.Putting.{Putting, IsNew, IsSourceOf, IsShapeOf, left, left_of, need_in, plain_meta};
 
+mod looks;
 mod steps;
 
 use crate::phase::Phase;
@@ -55,19 +58,27 @@ impl PutTask {
         requires limit { object.limit ≡ limits.now.content }
         ensures { IfOk result (IsNew actor object.name object.bytes) }
     {
-        let name = object.name;
-        let at = object_path(alloc, &name)?;
-        let folder = objects_folder_path(alloc, &name.csum)?;
-        let source = source_of(alloc, actor, object, limits)?;
-        Ok(PutTask {
-            alloc,
-            actor,
-            name,
-            at,
-            folder,
-            source,
-            phase: Phase::Look,
-        })
+        match PutTask::new_or_back(alloc, actor, object, limits) {
+            Ok(task) => Ok(task),
+            Err(_back) => Err(NoMemory),
+        }
+    }
+
+    /// The same, and where memory lacks the object comes back.
+    pub fn new_or_back(
+        alloc: Global,
+        actor: u8,
+        object: Checked,
+        limits: &Limits,
+    ) -> Result<PutTask, Checked>
+        requires actor { actor < 16 }
+        requires limit { object.limit ≡ limits.now.content }
+        ensures { MatchResult result (IsNew actor object.name object.bytes) (λ back. back ≡ object) }
+    {
+        match made_ready(alloc, actor, &object, limits) {
+            Ok(ready) => Ok(filled(alloc, actor, ready, object)),
+            Err(NoMemory) => Err(object),
+        }
     }
 
     /// The lock under which the next step must stand.
@@ -82,7 +93,8 @@ impl PutTask {
 
     /// At most so many steps are left; each byte of a file that isn't staged counts as one.
     pub fn left(&self) -> u128
-        ensures { result ≡ left self.now }
+        ensures value { result ≡ left self.now }
+        ensures small { result < 2 ^ 63 + 8 }
     {
         match self.phase {
             Phase::Look | Phase::Stage => self.source.left() + 3,
@@ -97,7 +109,7 @@ impl PutTask {
 impl Source {
     fn left(&self) -> u128
         ensures value { result ≡ left_of self.now }
-        ensures small { result < 2 ^ 65 }
+        ensures small { result < 2 ^ 63 + 5 }
     {
         match self {
             Source::File(staging) => staging.left(),
@@ -106,43 +118,106 @@ impl Source {
     }
 }
 
-/// What stands at the object's path once the object is there.
-fn source_of(alloc: Global, actor: u8, object: Checked, limits: &Limits) -> Result<Source, NoMemory>
+/// What takes memory of a new task.
+#[derive(Drop)]
+struct Ready {
+    at: FsPath,
+    folder: FsPath,
+    shape: Shape,
+}
+
+#[derive(Drop)]
+enum Shape {
+    /// A file whose bytes are the object's, at this staging path.
+    Plain(FsPath),
+    Read(Source),
+}
+
+fn made_ready(
+    alloc: Global,
+    actor: u8,
+    object: &Checked,
+    limits: &Limits,
+) -> Result<Ready, NoMemory>
     requires actor { actor < 16 }
-    requires limit { object.limit ≡ limits.now.content }
-    ensures { IfOk result (IsSourceOf actor object.name object.bytes) }
+    requires limit { object.now.limit ≡ limits.now.content }
+    ensures at { IfOk result (λ r. r.at ≡ path_of object.now.name) }
+    ensures folder { IfOk result (λ r. r.folder ≡ objects_folder_path object.now.name.csum) }
+    ensures shape { IfOk result (λ r. IsShapeOf actor object.now.name object.now.bytes r.shape) }
+{
+    let at = object_path(alloc, &object.name)?;
+    let folder = objects_folder_path(alloc, &object.name.csum)?;
+    let shape = shape_of(alloc, actor, object, limits)?;
+    Ok(Ready { at, folder, shape })
+}
+
+/// What is to stand at the object's path, as far as it takes memory.
+fn shape_of(alloc: Global, actor: u8, object: &Checked, limits: &Limits) -> Result<Shape, NoMemory>
+    requires actor { actor < 16 }
+    requires limit { object.now.limit ≡ limits.now.content }
+    ensures { IfOk result (IsShapeOf actor object.now.name object.now.bytes) }
 {
     if object.name.kind == Kind::File {
-        file_source(alloc, actor, object, limits)
+        Ok(Shape::Read(file_source(alloc, actor, object, limits)?))
     } else {
-        plain_source(alloc, actor, object)
+        Ok(Shape::Plain(stage_path(alloc, actor)?))
     }
 }
 
-fn plain_source(alloc: Global, actor: u8, object: Checked) -> Result<Source, NoMemory>
+fn filled(alloc: Global, actor: u8, ready: Ready, object: Checked) -> PutTask
     requires actor { actor < 16 }
-    requires kind { object.name.kind ≢ kinds.File }
-    ensures { IfOk result (IsSourceOf actor object.name object.bytes) }
+    requires at { ready.at ≡ path_of object.name }
+    requires folder { ready.folder ≡ objects_folder_path object.name.csum }
+    requires shape { IsShapeOf actor object.name object.bytes ready.shape }
+    ensures { IsNew actor object.name object.bytes result }
 {
-    let stage = stage_path(alloc, actor)?;
+    let name = object.name;
+    let source = source_of(alloc, actor, ready.shape, object);
+    PutTask {
+        alloc,
+        actor,
+        name,
+        at: ready.at,
+        folder: ready.folder,
+        source,
+        phase: Phase::Look,
+    }
+}
+
+/// What stands at the object's path once the object is there.
+fn source_of(alloc: Global, _actor: u8, shape: Shape, object: Checked) -> Source
+    requires shape { IsShapeOf _actor object.name object.bytes shape }
+    ensures { IsSourceOf _actor object.name object.bytes result }
+{
+    match shape {
+        Shape::Read(source) => source,
+        Shape::Plain(stage) => plain_source(alloc, _actor, stage, object),
+    }
+}
+
+fn plain_source(alloc: Global, _actor: u8, stage: FsPath, object: Checked) -> Source
+    requires kind { object.name.kind ≢ kinds.File }
+    requires stage { stage ≡ stage_path _actor }
+    ensures { IsSourceOf _actor object.name object.bytes result }
+{
     let meta = plain_meta(alloc);
     let bytes = object.bytes;
-    Ok(Source::File(Staging::new(Plan { stage, meta, bytes })))
+    Source::File(Staging::new(Plan { stage, meta, bytes }))
 }
 
 fn file_source(
     alloc: Global,
     actor: u8,
-    object: Checked,
+    object: &Checked,
     limits: &Limits,
 ) -> Result<Source, NoMemory>
     requires actor { actor < 16 }
-    requires kind { object.name.kind ≡ kinds.File }
-    requires limit { object.limit ≡ limits.now.content }
-    ensures { IfOk result (IsSourceOf actor object.name object.bytes) }
+    requires kind { object.now.name.kind ≡ kinds.File }
+    requires limit { object.now.limit ≡ limits.now.content }
+    ensures { IfOk result (IsSourceOf actor object.now.name object.now.bytes) }
 {
     let stage = stage_path(alloc, actor)?;
-    let Content { meta, body } = content_of(alloc, &object, limits)?;
+    let Content { meta, body } = content_of(alloc, object, limits)?;
     Ok(match body {
         Body::Regular(bytes) => Source::File(Staging::new(Plan { stage, meta, bytes })),
         Body::Symlink(target) => Source::Link { meta, target },

@@ -1,3 +1,4 @@
 mod LineLemmas
 pub mod Spelling
 mod Fields
+pub mod Numbers

@@ -73,7 +73,7 @@ stuck text value rest more none so v s = let found = so.on v s in by found.0 fou
     by (b ∷ w) s = none b s.1 s.0 s.2
 
 -- a text stands for one run of bytes
-spelled_one : (text v w : List ℕ) → Spells text v → Spells text w → v ≡ w
+pub spelled_one : (text v w : List ℕ) → Spells text v → Spells text w → v ≡ w
 spelled_one text [] [] end also = refl
 spelled_one text [] (c ∷ w) end s = absurd (not_end text c s.1 s.2 end)
 spelled_one text (b ∷ v) [] s end = absurd (not_end text b s.1 s.2 end)

@@ -1,7 +1,9 @@
 -- Fields: runs of bytes from `!` to `~`, in which `%` and two digits stand for any byte.
 use Rattle.std.specs.Prelude.{◌≡◌, ◌≢◌, ◌⊎◌, ◌<◌, ◌==◌, ◌&&◌, not, nat_le, ℕ, Bool, IsTrue, if◌then◌else◌, List, [], ◌∷◌, ◌++◌, codes}
 use Rattle.std.specs.List.{flat_map}
+use Rattle.std.specs.Fmt.{decimal}
 use Rattle.ost_types.specs.Csum.{hex_of}
+use Rattle.ost_types.specs.Text.{IsText}
 
 -- a byte that stands for itself: from `!` to `~`, but for `%`
 abbrev pub is_plain : ℕ → Bool
@@ -33,3 +35,13 @@ IsField field value = ((field ≡ codes "~") × (value ≡ [])) ⊎ ((field ≢ 
 
 abbrev pub IsNoField : List ℕ → Type 0
 IsNoField field = (value : List ℕ) → ¬ (IsField field value)
+
+-- the field of a number below the bound: its decimal digits, so without leading zeros
+pub record IsNumber (bound : ℕ) (field : List ℕ) (n : ℕ) : Type 0 where
+  pub spelled : IsField field (decimal n)
+  pub below : n < bound
+
+-- the field of a text
+pub record IsTextField (field value : List ℕ) : Type 0 where
+  pub spelled : IsField field value
+  pub text : IsText value

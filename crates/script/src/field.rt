@@ -22,7 +22,8 @@ pub fn read_field(alloc: Global, field: &[u8]) -> Result<Option<Bytes>, NoMemory
     unescape(alloc, field)
 }
 
-fn unescape(alloc: Global, text: &[u8]) -> Result<Option<Bytes>, NoMemory>
+/// The bytes that the text stands for; it may be empty.
+pub fn unescape(alloc: Global, text: &[u8]) -> Result<Option<Bytes>, NoMemory>
     ensures { IfOk result (λ v. MatchOption v (NotSpelled text.now) (Spells text.now)) }
 {
     let mut value = Bytes::new(alloc);
@@ -81,7 +82,7 @@ fn split_digits(text: &[u8]) -> Option<(u8, &[u8])>
 }
 
 /// The byte whose two digits these are.
-fn byte_of(digits: &[u8]) -> Option<u8>
+pub fn byte_of(digits: &[u8]) -> Option<u8>
     ensures some { IfSome result (λ b. digits.now ≡ hex_of (b ∷ [])) }
     ensures none { IsNone result → (b : ℕ) → b < 256 → digits.now ≢ hex_of (b ∷ []) }
 {

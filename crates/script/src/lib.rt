@@ -7,6 +7,7 @@ mod escape;
 mod fault;
 mod field;
 mod lines;
+mod number;
 mod read;
 mod value;
 mod words;
@@ -15,7 +16,9 @@ pub use answer::{Answer, Reply};
 pub use command::{Command, Lane, Rev};
 pub use escape::append_field;
 pub use fault::ScriptFault;
+pub use field::{byte_of, read_field, unescape};
 pub use lines::write_replies;
+pub use number::{number_of, read_text, read_u32, read_u64};
 pub use words::read_words;
 
 #[cfg(test)]

@@ -1,4 +1,4 @@
-ghost use Rattle.std.specs.Prelude.{◌≡◌, ◌≤◌, ◌<◌, ◌^◌, length};
+ghost use Rattle.std.specs.Prelude.{◌≡◌, ◌≤◌, ◌<◌, ◌+◌, ◌^◌, length};
 ghost use Rattle.ost_types.specs.Mode.{IsFileMode};
 ghost use Rattle.staging.specs.declared.phase.Phase.TheVariants as phase;
 ghost use Rattle.staging.specs.Draft.{Draft, left};
@@ -66,7 +66,7 @@ impl Staging {
     /// At most so many steps are left; each byte that isn't staged counts as one.
     pub fn left(&self) -> u128
         ensures value { result ≡ left self.now }
-        ensures small { result < 2 ^ 65 }
+        ensures small { result < 2 ^ 63 + 4 }
     {
         let len = self.plan.bytes.as_slice().len();
         match self.phase {

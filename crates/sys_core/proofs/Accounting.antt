@@ -1,10 +1,9 @@
 -- An act keeps what the system keeps of the replies, and of what the commands that run are after.
-use Rattle.std.proofs.Common.{◌≡◌, ◌≢◌, ◌⊎◌, inl, inr, ⊎_elim, ◌<◌, ◌≤◌, ◌+◌, ◌*◌, ℕ, suc, true, false, refl, sym, ◌∙◌, ap, subst, arith, List, [], ◌∷◌, ◌++◌, map, length, length-append, append-nil, get_or, set, length-set, get_or-set_same, get_or-set_other, Option, Some, None}
+use Rattle.std.proofs.Common.{◌≡◌, ◌≢◌, ◌⊎◌, inl, inr, ⊎_elim, ◌<◌, ◌≤◌, ◌+◌, ◌*◌, ℕ, suc, true, false, refl, sym, ◌∙◌, ap, subst, arith, List, [], ◌∷◌, ◌++◌, length, length-append, append-nil, get_or, set, length-set, get_or-set_same, get_or-set_other, Option, Some, None}
 use Rattle.std.specs.Prelude.{unwrap_or}
 use Rattle.std.proofs.lemmas.List.{map-set, get_or-map, length-map}
 use Rattle.fs_trait.specs.View.{View}
 use Rattle.rely.specs.declared.books.Base.{Base}
-use Rattle.rely.specs.declared.books.Books as rust
 use Rattle.rely.specs.declared.books.Entry.{Entry}
 use Rattle.rely.specs.declared.books.Pending.{Pending}
 use Rattle.rely.specs.State.{State, first, after, events_of}

@@ -1,15 +1,14 @@
 -- What an act of a lane came to.
-use Rattle.std.proofs.Common.{◌≡◌, ◌≢◌, ◌⊎◌, inl, inr, ⊎_elim, ◌<◌, ℕ, true, false, refl, sym, ◌∙◌, ap, subst, List, [], ◌∷◌, ◌++◌, length, Option, Some, None, Ok, Err, IsSome}
+use Rattle.std.proofs.Common.{◌≡◌, ◌≢◌, inl, ⊎_elim, ℕ, true, refl, sym, ◌∙◌, ap, subst, List, length, Option, Some, None}
 use Rattle.fs_trait.specs.View.{View}
 use Rattle.fs_trait.specs.Effect.{OfNone}
 use Rattle.fs_trait.specs.Image.{IsTree, Told}
 use Rattle.fs_trait.specs.declared.task.Turn.TheVariants as turn
 use Rattle.fs_trait.specs.declared.types.FsErr.{FsErr}
 use Rattle.fs_trait.specs.declared.types.FsErr.TheVariants as err
-use Rattle.ref_store.specs.declared.refusal.RefRefusal.{RefRefusal}
 use Rattle.ref_work.specs.declared.command.RefCommand.{RefCommand}
 use Rattle.ref_work.specs.declared.command.RefCommand.TheVariants.{Parse, Reset, Change}
-use Rattle.ref_work.specs.Commands.{answer_of, command_facts, command_kind, command_leaves, command_refuses, command_stepped}
+use Rattle.ref_work.specs.Commands.{command_facts, command_kind, command_leaves, command_refuses, command_stepped}
 use Rattle.ref_work.proofs.Refusals.{refused_of}
 use Rattle.rely.specs.declared.books.Base.{Base}
 use Rattle.rely.specs.declared.books.Books as rust
@@ -31,12 +30,12 @@ use Rattle.sys_core.specs.declared.run.Running.{Running}
 use Rattle.sys_core.specs.Answers.{Answers, IsHalted, IsTold, state_after}
 use Rattle.sys_core.specs.Begins.{AnswersBy}
 use Rattle.sys_core.specs.Lanes.{IsOver, now_of}
-use Rattle.sys_core.specs.Pursues.{Goes, Grows, HasAnswer, IsEndedAs, IsOutside, IsStray, IsRefusedAs, IsShownAs, IsShownBy, Pursues, start_of}
+use Rattle.sys_core.specs.Pursues.{Goes, HasAnswer, IsEndedAs, IsOutside, IsStray, IsRefusedAs, Pursues, start_of}
 use Rattle.sys_core.proofs.Answering as done
 use Rattle.sys_core.proofs.Answering.{done_gives, done_has}
 use Rattle.sys_core.proofs.Prefixes.{state_all}
 use Rattle.sys_core.proofs.Pursuing.{history_same, pursues_step, step_shown}
-use Rattle.sys_core.proofs.Telling.{RefusedBy, refused_told}
+use Rattle.sys_core.proofs.Telling.{refused_told}
 
 module _ (told : Type 0) (lane number : ℕ) (s p : State) (entries : List Entry) where
   abbrev pub Plain : Answer → Command → Type 0

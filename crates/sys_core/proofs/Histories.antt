@@ -1,17 +1,15 @@
 -- How the history and what is pending go on in a step of a task.
-use Rattle.std.proofs.Common.{◌≡◌, ◌⊎◌, inl, inr, ◌<◌, ◌≤◌, ◌+◌, ℕ, refl, sym, ◌∙◌, ap, subst, arith, List, [], ◌∷◌, ◌++◌, drop, length, length-append, slice_index_or, Option, Some, None}
+use Rattle.std.proofs.Common.{◌≡◌, ◌⊎◌, inl, inr, ◌<◌, ◌≤◌, ◌+◌, ℕ, refl, sym, ◌∙◌, ap, subst, arith, List, [], ◌∷◌, ◌++◌, drop, length, length-append, slice_index_or, Some, None}
 use Rattle.std.proofs.lemmas.List.{drop_at, drop_all}
-use Rattle.fs_trait.specs.declared.types.FsErr.{FsErr}
 use Rattle.rely.specs.declared.books.Books as rust
 use Rattle.rely.specs.declared.books.Entry.{Entry}
-use Rattle.rely.specs.declared.books.Pending.{Pending}
 use Rattle.rely.specs.declared.event.Event.{Event}
 use Rattle.rely.specs.declared.kind.Outcome.{Outcome}
 use Rattle.rely.specs.declared.kind.Outcome.TheVariants as came
 use Rattle.rely.specs.Books.{books_of}
 use Rattle.rely.specs.Exact.{IsBooked}
 use Rattle.rely.specs.Laws.{Kind, Quiet, Store, Take, Show, Shown, Settle, Holds, NotPending}
-use Rattle.rely.specs.State.{State, first, after, events_of, next}
+use Rattle.rely.specs.State.{first, after, events_of}
 use Rattle.rely.proofs.States.{after_push, events_push}
 use Rattle.sys_core.specs.Lanes.{IsOver, now_of}
 

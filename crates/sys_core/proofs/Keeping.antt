@@ -1,15 +1,12 @@
 -- One act of one lane keeps what the system keeps.
-use Rattle.std.proofs.Common.{◌≡◌, ◌≢◌, ◌⊎◌, ⊎_elim, ◌<◌, ◌≤◌, ℕ, Bool, nat_eq, true, false, List, length, get_or, set, length-set, get_or-set_same, get_or-set_other, sym, ◌∙◌, ap, subst, refl, arith, Option, Some, None}
+use Rattle.std.proofs.Common.{◌≡◌, ◌≢◌, ⊎_elim, ◌<◌, ℕ, Bool, nat_eq, true, false, List, length, get_or, set, length-set, get_or-set_same, get_or-set_other, sym, ◌∙◌, subst, refl, arith, Option, Some, None}
 use Rattle.std.proofs.lemmas.Bool.Decides.{nat_tests}
 use Rattle.fs_trait.specs.View.{View}
 use Rattle.fs_trait.specs.Image.{Told}
 use Rattle.ref_book.specs.declared.book.RefBook.{RefBook}
-use Rattle.ref_book.specs.Tracks.{HasRoom}
 use Rattle.rely.specs.declared.books.Base.{Base}
-use Rattle.rely.specs.declared.books.Pending.{Pending}
 use Rattle.rely.specs.Books.{Books, books_of, Spared}
-use Rattle.rely.specs.Laws.{NotPending, Runs}
-use Rattle.rely.specs.Rely.{Does}
+use Rattle.rely.specs.Laws.{NotPending}
 use Rattle.rely.proofs.Acting.{runs_kept}
 use Rattle.ref_work.specs.CommandLaws.{command_laws}
 use Rattle.ref_work.specs.Facts.{Home}

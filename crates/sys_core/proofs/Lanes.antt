@@ -1,13 +1,12 @@
 -- From a step of a command's task to the act of its lane.
-use Rattle.std.proofs.Common.{◌≡◌, ◌⊎◌, inl, inr, ◌<◌, ℕ, true, false, refl, sym, ◌∙◌, ap, subst, List, Option, Some, None}
+use Rattle.std.proofs.Common.{◌≡◌, inl, ℕ, true, false, refl, sym, ◌∙◌, subst, List, Option, Some, None}
 use Rattle.fs_trait.specs.View.{View}
-use Rattle.ref_store.specs.declared.phase.Phase.TheVariants as phase
-use Rattle.ref_store.specs.Change.{Change as Changing, progress_in}
+use Rattle.ref_store.specs.Change.{Change as Changing}
 use Rattle.rely.specs.declared.books.Base.{Base}
 use Rattle.rely.specs.declared.kind.Outcome.{Outcome}
 use Rattle.rely.specs.declared.kind.Outcome.TheVariants as came
 use Rattle.rely.specs.Books.{Books, books_of}
-use Rattle.rely.specs.Laws.{Kind, Quiet, Take, Holds, NotPending, Ready, Runs, Acts}
+use Rattle.rely.specs.Laws.{Holds, NotPending, Ready, Runs, Acts}
 use Rattle.rely.specs.Sound.{Sound}
 use Rattle.rely.proofs.Acting.{ends_refl}
 use Rattle.ref_book.specs.declared.book.RefBook.{RefBook}
@@ -20,8 +19,7 @@ use Rattle.ref_work.specs.Kinds.{event, kind_in}
 use Rattle.ref_work.specs.Commands.{command_kind, command_facts, found_kind}
 use Rattle.ref_work.proofs.Ends.{begins_of}
 use Rattle.sys_core.specs.declared.run.Running.{Running}
-use Rattle.sys_core.specs.Lanes.{Facts, HasRoomFor, IsHome, IsOver, LaneActs, RunsIn, now_of}
-use Rattle.sys_core.proofs.Steps.{room_more}
+use Rattle.sys_core.specs.Lanes.{Facts, IsHome, IsOver, LaneActs, RunsIn, now_of}
 
 found_holds : (found : Option Found) (commit : List ℕ) (lane : ℕ) (b : Books) → NotPending lane b → Holds (found_kind found commit) lane b
 found_holds None commit lane b none = none

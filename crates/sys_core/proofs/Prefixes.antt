@@ -1,5 +1,5 @@
 -- The states after a front of the history don't change while it grows.
-use Rattle.std.proofs.Common.{◌≡◌, ◌<◌, ◌≤◌, ◌+◌, ℕ, refl, sym, ◌∙◌, ap, subst, arith, List, [], ◌∷◌, ◌++◌, take, length, length-append, Option, Some, None}
+use Rattle.std.proofs.Common.{◌≡◌, ◌≤◌, ℕ, sym, ◌∙◌, ap, subst, arith, List, ◌++◌, take, length, length-append}
 use Rattle.std.proofs.Math.Seq.{take-length, take-append-le}
 use Rattle.rely.specs.declared.books.Entry.{Entry}
 use Rattle.rely.specs.State.{State, after, events_of}

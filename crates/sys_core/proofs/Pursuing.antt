@@ -1,5 +1,5 @@
 -- A command's task goes on to be after what it was after, and what it makes pending.
-use Rattle.std.proofs.Common.{◌≡◌, ◌≢◌, ◌⊎◌, inl, inr, ◌<◌, ℕ, refl, sym, ◌∙◌, ap, subst, List, [], ◌∷◌, ◌++◌, length, Option, Some, None, Ok, Err, IsSome, true, false}
+use Rattle.std.proofs.Common.{◌≡◌, inl, inr, ℕ, refl, sym, ◌∙◌, ap, subst, List, Option, Some, None, Ok, IsSome, true, false}
 use Rattle.fs_trait.specs.declared.task.Turn.TheVariants as turn
 use Rattle.ref_store.specs.Change.{Change as Changing, IsStepped, progress_in}
 use Rattle.ref_work.specs.declared.work.RefWork.{RefWork}
@@ -8,8 +8,8 @@ use Rattle.ref_work.specs.declared.look_up.Found.{Found}
 use Rattle.ref_work.specs.declared.plan.Plan.{Plan}
 use Rattle.ref_work.specs.declared.command.RefCommand.{RefCommand}
 use Rattle.ref_work.specs.declared.command.RefCommand.TheVariants.{Parse, Reset, Change}
-use Rattle.ref_work.specs.Commands.{command_kind, command_stepped, found_kind, planned, reset_stepped, removal}
-use Rattle.ref_work.specs.Kinds.{event, event_of, kind_at}
+use Rattle.ref_work.specs.Commands.{command_kind, command_stepped, found_kind, reset_stepped}
+use Rattle.ref_work.specs.Kinds.{event, event_of}
 use Rattle.ref_work.specs.Laws.{runs_in}
 use Rattle.ref_work.proofs.Steps.{kind_shows}
 use Rattle.rely.specs.declared.books.Books as rust

@@ -1,7 +1,5 @@
 -- An act keeps what is so of all replies.
-use Rattle.std.proofs.Common.{◌≡◌, ◌≢◌, ◌⊎◌, inl, inr, ⊎_elim, ◌<◌, ◌≤◌, ◌+◌, ℕ, refl, sym, ◌∙◌, ap, subst, arith, List, [], ◌∷◌, ◌++◌, map, length, length-append, get_or, set, Option, Some, None}
-use Rattle.std.proofs.lemmas.List.{map-set, get_or-map}
-use Rattle.rely.specs.declared.books.Books as rust
+use Rattle.std.proofs.Common.{◌≡◌, ◌⊎◌, inl, inr, ⊎_elim, ◌<◌, ◌≤◌, ◌+◌, ℕ, sym, ◌∙◌, ap, subst, arith, List, [], ◌∷◌, ◌++◌, length, length-append, set, Option, Some, None}
 use Rattle.rely.specs.declared.books.Entry.{Entry}
 use Rattle.rely.specs.declared.books.Pending.{Pending}
 use Rattle.rely.specs.State.{State, after, events_of}
@@ -11,9 +9,9 @@ use Rattle.script.specs.declared.answer.Reply.{Reply}
 use Rattle.script.specs.declared.command.Command.{Command}
 use Rattle.script.specs.declared.command.Lane.{Lane}
 use Rattle.sys_core.specs.Answers.{Answers, IsReply, IsHalted, IsChangeOf, state_after}
-use Rattle.sys_core.specs.Replied.{IsAt, IsTo, IsCommand, IsPendingOf, Replied, row, count_of, Numbered}
-use Rattle.sys_core.specs.Pursues.{Grows, IsShownBy, IsShownAs}
-use Rattle.sys_core.proofs.Places.{at_front, at_split, at_one, at_set, at_set_is, at_set_back, at_set_stays, here_or_apart, with_reply, row_apart, to_stays, to_new, to_split, numbered_more}
+use Rattle.sys_core.specs.Replied.{IsAt, IsTo, IsCommand, IsPendingOf, Replied, row, count_of}
+use Rattle.sys_core.specs.Pursues.{Grows}
+use Rattle.sys_core.proofs.Places.{at_split, at_one, at_set, at_set_is, at_set_back, at_set_stays, here_or_apart, with_reply, row_apart, to_stays, to_new, to_split, numbered_more}
 use Rattle.sys_core.proofs.Prefixes.{state_stays, reply_stays, reply_here}
 
 -- when the command of a lane began: so it is noted, or it begins now

@@ -1,17 +1,15 @@
 -- What an answer tells of the disk and of calls that failed, where the view is told.
-use Rattle.std.proofs.Common.{◌≡◌, ◌≢◌, ◌⊎◌, inl, inr, ⊎_elim, ℕ, Bool, true, false, refl, sym, ◌∙◌, ap, subst, List, Option, Some, None}
+use Rattle.std.proofs.Common.{◌≡◌, ◌⊎◌, ⊎_elim, ℕ, Bool, true, false, refl, sym, ◌∙◌, subst, List, Option, Some}
 use Rattle.fs_trait.specs.View.{Disk, View}
 use Rattle.fs_trait.specs.Count.{Rose}
 use Rattle.fs_trait.specs.Effect.{OfNone}
-use Rattle.fs_trait.specs.declared.task.Turn.TheVariants as turn
 use Rattle.fs_trait.specs.declared.types.FsErr.{FsErr}
 use Rattle.fs_trait.specs.declared.types.FsErr.TheVariants as err
 use Rattle.ref_work.specs.declared.command.RefCommand.{RefCommand}
-use Rattle.ref_work.specs.declared.command.RefCommand.TheVariants.{Parse, Reset, Change}
 use Rattle.ref_work.specs.declared.look_up.Found.TheVariants.{Missing, Partial, Whole}
 use Rattle.ref_work.specs.Found.{IsFound}
 use Rattle.ref_work.specs.Answers.{Says}
-use Rattle.ref_work.specs.Commands.{command_facts, command_kind, command_leaves, command_refuses}
+use Rattle.ref_work.specs.Commands.{command_facts, command_leaves, command_refuses}
 use Rattle.ref_work.proofs.Ends.{says_of}
 use Rattle.ref_work.proofs.Refusals.{refused_of}
 use Rattle.rely.specs.declared.books.Entry.{Entry}
@@ -26,7 +24,6 @@ use Rattle.rely.specs.State.{State}
 use Rattle.script.specs.declared.answer.Answer.{Answer}
 use Rattle.script.specs.declared.answer.Answer.TheVariants as answer
 use Rattle.script.specs.declared.command.Command.{Command}
-use Rattle.script.specs.declared.command.Command.TheVariants as command
 use Rattle.sys_core.specs.declared.lane.Came.TheVariants.{Answered}
 use Rattle.sys_core.specs.Answers.{IsCaused, IsSeen}
 use Rattle.sys_core.specs.Begins.{AnswersBy}

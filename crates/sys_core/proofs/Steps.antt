@@ -1,12 +1,11 @@
 -- What a step of a command keeps of the room for its ref, and what of its lane.
-use Rattle.std.proofs.Common.{◌≡◌, ◌≢◌, ℕ, refl, sym, ◌∙◌, ap, subst, List, [], Option, Some, None}
-use Rattle.fs_trait.specs.declared.task.Turn.{Turn}
+use Rattle.std.proofs.Common.{◌≡◌, ℕ, refl, sym, ◌∙◌, ap, subst, List, Option, Some, None}
 use Rattle.fs_trait.specs.declared.task.Turn.TheVariants as turn
 use Rattle.ref_store.specs.declared.progress.Progress.{Progress}
 use Rattle.ref_store.specs.declared.progress.Progress.TheVariants as progress
 use Rattle.ref_store.specs.Change.{Change, progress_in}
 use Rattle.rely.specs.declared.event.Event.{Event}
-use Rattle.rely.specs.Laws.{Kind, Quiet, Take, Show, Shown, Settle}
+use Rattle.rely.specs.Laws.{Settle}
 use Rattle.ref_book.specs.declared.book.RefBook.{RefBook}
 use Rattle.ref_book.specs.Tracks.{HasRoom, name_of}
 use Rattle.ref_work.specs.declared.work.RefWork.{RefWork}

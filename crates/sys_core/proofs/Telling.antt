@@ -1,5 +1,5 @@
 -- What a refused change tells of the state, where the view is told.
-use Rattle.std.proofs.Common.{◌≡◌, ◌≢◌, ◌<◌, ℕ, true, false, refl, sym, ◌∙◌, ap, subst, List, Option, Some, None, Ok, Err, IsSome}
+use Rattle.std.proofs.Common.{◌≡◌, ◌≢◌, ℕ, true, false, refl, sym, ◌∙◌, subst, List, Option, Some, None, Err, IsSome}
 use Rattle.fs_trait.specs.declared.task.Turn.TheVariants as turn
 use Rattle.fs_trait.specs.declared.types.Value.{Value}
 use Rattle.fs_trait.specs.declared.types.Value.TheVariants.{Absent, Folder, Link, File}
@@ -26,7 +26,7 @@ use Rattle.rely.specs.declared.event.Event.{Event}
 use Rattle.rely.specs.Books.{Books}
 use Rattle.rely.specs.Disks.{IsGood, IsLeaf, Logical, Says}
 use Rattle.rely.specs.Exact.{Opens}
-use Rattle.rely.specs.Laws.{Holds, NotPending}
+use Rattle.rely.specs.Laws.{Holds}
 use Rattle.rely.specs.Sound.{Stands}
 use Rattle.rely.specs.State.{State, RefOf, Said, after, events_of}
 use Rattle.rely.proofs.Goods.{fits_all}

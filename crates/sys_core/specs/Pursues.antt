@@ -21,7 +21,7 @@ use Rattle.sys_core.specs.Replied.{IsCommand, IsTo, Replied, count_of}
 use Rattle.script.specs.declared.answer.Answer.{Answer}
 use Rattle.script.specs.declared.answer.Answer.TheVariants as answer
 use Rattle.script.specs.declared.command.Command.{Command}
-use Rattle.script.specs.declared.command.Command.TheVariants.{Refs, RevParse, Reset, DropRef}
+use Rattle.script.specs.declared.command.Command.TheVariants.{RevParse, Reset, DropRef}
 use Rattle.sys_core.specs.Answers.{Answers, IsChangeOf, IsHalted, IsTold, state_after}
 use Rattle.sys_core.specs.Begins.{IsRev}
 use Rattle.sys_core.specs.declared.lane.Came.{Came}

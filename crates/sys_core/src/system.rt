@@ -1,11 +1,14 @@
-ghost use Rattle.std.specs.Prelude.{◌≡◌, ◌<◌, ◌≤◌, ℕ, length, slice_index_or, Some, IfOk, IfErr};
+ghost use Rattle.std.specs.Prelude.{true, ◌≡◌, ◌<◌, ◌≤◌, ℕ, length, slice_index_or, Some, IfOk, IfErr};
 ghost use Rattle.fs_trait.specs.View.{View};
 ghost use Rattle.rely.specs.Headline.{Headline};
 ghost use Rattle.rely.specs.State.{first};
 ghost use Rattle.ref_book.specs.Tracks.{Tracks};
 ghost use Rattle.script.specs.declared.command.Lane.{Lane};
 ghost use Rattle.sys_core.specs.Lanes.{AreIdle};
-ghost use Rattle.sys_core.specs.Answers.{Shown};
+ghost use Rattle.script.specs.declared.answer.Answer.TheVariants as answer;
+ghost use Rattle.script.specs.declared.answer.Reply.{Reply};
+ghost use Rattle.sys_core.specs.Answers.{IsHalted, Shown};
+ghost use Rattle.sys_core.specs.Replied.{IsTo};
 ghost use Rattle.sys_core.specs.Booked.{Acted, Booked, IsReplied, replies_of};
 
 use crate::Ask;
@@ -197,6 +200,7 @@ impl<F: Fs> System<F> {
     pub fn certify(&self)
         ensures headline { (v : View) → F.view self.now.base.fs ≡ Some v → Headline F.clock F.was self.now.base v }
         ensures replied { IsReplied F.view self.now }
+        ensures halted { (lane number : ℕ) (r : Reply) → IsTo self.now.replies lane number r → IsHalted r.answer → (self.now.base.books.halted ≡ true) × (r.answer ≡ answer.Halted (F.faults self.now.base.fs)) }
     {
         certify(&self.base);
     }

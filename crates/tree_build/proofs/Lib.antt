@@ -15,3 +15,4 @@ pub mod Cuts
 pub mod Folders
 pub mod Counts
 pub mod Shown
+pub mod Nothing

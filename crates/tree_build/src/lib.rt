@@ -14,3 +14,6 @@ mod sums;
 pub use build::TreeBuild;
 pub use commit::commit_object;
 pub use laws::tree_is_whole;
+
+#[cfg(test)]
+mod tests;

@@ -1,12 +1,11 @@
-use Rattle.std.proofs.Common.{rules, ◌≡◌, ◌∙◌, ◌++◌, ◌∷◌, [], ap, sym, subst, arith, get_or, set, length}
+use Rattle.std.proofs.Common.{◌≡◌, ◌∙◌, ◌++◌, ◌∷◌, [], ap, sym, arith, get_or, set, length}
 use Rattle.std.proofs.lemmas.List.{map-set, get_or-map}
 use Rattle.std.specs.Vec.{vec_capacity, vec_len}
 use Rattle.std.specs.Global.{Vec}
 use Rattle.script.specs.declared.answer.Reply.{Reply}
-use Rattle.script.specs.declared.command.Lane.{Lane}
 use Rattle.sys_core.specs.declared.run.Run.{Run}
 use Rattle.sys_core.specs.Booked.{replies_of}
-use Rattle.sys_core.proofs.Booking.{booked_more, some_of}
+use Rattle.sys_core.proofs.Booking.{some_of}
 use Rattle.sys_core.proofs.book.book.Goals as goal
 
 pub push_reserved-requires : goal.push_reserved-requires

@@ -1,4 +1,4 @@
-use Rattle.std.proofs.Common.{rules, ◌≡◌, ◌∙◌, ℕ, false, sym, subst, ap, refl, length, [], Option, None, Some}
+use Rattle.std.proofs.Common.{rules, ◌≡◌, ◌∙◌, ℕ, sym, subst, ap, refl, length, [], Option, None}
 use Rattle.rely.specs.declared.books.Books as rust
 use Rattle.rely.specs.State.{State, first}
 use Rattle.sys_core.specs.declared.lane.Came.{Came}
@@ -10,8 +10,6 @@ use Rattle.sys_core.specs.Pursues.{Goes, Pursues}
 use Rattle.sys_core.proofs.Going.{answers_by, begun_goes, ended_halts, goes_ended, goes_more, has_answer}
 use Rattle.sys_core.proofs.Prefixes.{state_all}
 use Rattle.sys_core.proofs.Pursuing.{pursues_begins}
-use Rattle.rely.specs.declared.kind.Outcome.{Outcome}
-use Rattle.rely.specs.declared.kind.Outcome.TheVariants as came
 use Rattle.rely.specs.Books.{books_of}
 use Rattle.rely.specs.Laws.{NotPending}
 use Rattle.sys_core.specs.declared.run.Running.{Running}

@@ -1,4 +1,4 @@
-use Rattle.std.proofs.Common.{rules, ◌≡◌, ◌∙◌, sym, subst, ap, refl, Option, None, Some}
+use Rattle.std.proofs.Common.{◌≡◌, ◌∙◌, sym, subst, ap, refl, Some}
 use Rattle.rely.specs.Laws.{Ready}
 use Rattle.rely.specs.State.{first}
 use Rattle.ref_work.specs.Commands.{command_facts, command_kind}
@@ -11,9 +11,8 @@ use Rattle.sys_core.proofs.Going.{ended_halts, goes_ended, goes_more, has_answer
 use Rattle.rely.specs.Books.{books_of}
 use Rattle.rely.specs.Laws.{Runs}
 use Rattle.ref_work.specs.declared.command.RefCommand.{RefCommand}
-use Rattle.sys_core.specs.declared.run.Running.{Running}
-use Rattle.sys_core.specs.Lanes.{LaneActs, RunsIn, HasRoomFor, now_of}
-use Rattle.sys_core.proofs.Lanes.{step_acts, ended_runs, tells_more, tells_blocked}
+use Rattle.sys_core.specs.Lanes.{HasRoomFor}
+use Rattle.sys_core.proofs.Lanes.{step_acts, tells_blocked}
 use Rattle.sys_core.proofs.Steps.{room_more}
 use Rattle.sys_core.proofs.lane.goes_on.Goals as goal
 

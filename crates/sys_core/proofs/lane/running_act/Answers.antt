@@ -1,9 +1,8 @@
-use Rattle.std.proofs.Common.{rules, ◌≡◌, ◌⊎◌, ◌<◌, ◌≤◌, ◌+◌, sym, ◌∙◌, ap, subst, arith, List, Some, drop, length, slice_index_or}
-use Rattle.fs_trait.specs.View.{View}
+use Rattle.std.proofs.Common.{rules, ◌≡◌, ◌⊎◌, ◌<◌, sym, ◌∙◌, ap, subst, arith, List, Some, drop, length, slice_index_or}
 use Rattle.rely.specs.declared.books.Entry.{Entry}
 use Rattle.rely.specs.declared.kind.Outcome.{Outcome}
 use Rattle.rely.specs.Exact.{Steps}
-use Rattle.rely.specs.State.{State, after, events_of}
+use Rattle.rely.specs.State.{after, events_of}
 use Rattle.ref_book.specs.Tracks.{Tracks, HasRoom, name_of}
 use Rattle.ref_work.specs.Commands.{command_kind, command_stepped}
 use Rattle.ref_work.specs.Facts.{Home}

@@ -1,4 +1,4 @@
-use Rattle.std.proofs.Common.{◌≡◌, ◌≤◌, length}
+use Rattle.std.proofs.Common.{◌≡◌, length}
 use Rattle.sys_core.specs.Lanes.{AreIdle}
 use Rattle.sys_core.proofs.prepare.idle.Given as goal
 

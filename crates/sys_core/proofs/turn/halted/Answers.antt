@@ -1,4 +1,3 @@
-use Rattle.std.proofs.Common.{◌≡◌}
 use Rattle.sys_core.proofs.Seeing.{halted_shown}
 use Rattle.sys_core.proofs.turn.halted.Goals as goal
 

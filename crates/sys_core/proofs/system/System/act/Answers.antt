@@ -1,14 +1,13 @@
-use Rattle.std.proofs.Common.{rules, ◌≡◌, ◌<◌, ◌≤◌, ◌∙◌, ◌+◌, true, false, ap, sym, subst, refl, arith, List, [], ◌∷◌, ◌++◌, length, get_or, set, Some, None}
+use Rattle.std.proofs.Common.{rules, ◌≡◌, ◌<◌, ◌≤◌, ◌∙◌, ◌+◌, ap, sym, subst, refl, arith, List, length, get_or, set, None}
 use Rattle.std.proofs.lemmas.List.{set-set}
 use Rattle.script.specs.declared.answer.Reply.{Reply}
-use Rattle.script.specs.declared.command.Command.{Command}
 use Rattle.script.specs.declared.command.Lane.{Lane}
 use Rattle.sys_core.specs.declared.ask.Ask.TheVariants.{More, Done}
 use Rattle.sys_core.specs.declared.run.Run.{Run}
 use Rattle.sys_core.specs.Answers.{Shown}
 use Rattle.sys_core.specs.Lanes.{Kept}
 use Rattle.sys_core.specs.Booked.{Acted, Booked, HasCommand, replies_of}
-use Rattle.sys_core.specs.Pursues.{Accounted, started_of}
+use Rattle.sys_core.specs.Pursues.{Accounted}
 use Rattle.sys_core.proofs.Acting.{system_of, fewer, not_fewer, given_length, has_command, no_command}
 use Rattle.sys_core.proofs.Acts.{act_command, accounted_held, after_of, held_runs, mine_of, next_of, to_replies}
 use Rattle.sys_core.proofs.Accounting.{accounted_given, accounted_more, count_bound, given_place, given_start, given_started, more_started, start_said}

@@ -1,8 +1,10 @@
-use Rattle.std.proofs.Common.{rules, ◌≡◌, subst, sym, Some}
+use Rattle.std.proofs.Common.{rules, ◌≡◌, subst, sym, Some, true}
 use Rattle.fs_trait.specs.View.{View}
 use Rattle.rely.specs.declared.books.Base.{Base}
 use Rattle.rely.specs.Headline.{Headline}
+use Rattle.script.specs.declared.answer.Answer.TheVariants as answer
 use Rattle.sys_core.specs.Booked.{IsReplied}
+use Rattle.sys_core.specs.Replied.{IsTo}
 use Rattle.sys_core.proofs.Acting.{system_of}
 use Rattle.sys_core.proofs.system.System.certify.Goals as goal
 
@@ -14,3 +16,10 @@ returns-clause-replied g c =
     let i = c.self.inside in
     let view : c.args.self.now ≡ system_of i.base i.lanes.items i.runs.items i.replies.items = search rules in
     subst (IsReplied g.F.Fs.view) (sym view) c.self.invariant.2.replied
+
+pub returns-clause-halted : goal.returns-clause-halted
+returns-clause-halted g c = λ lane number r to is.
+    let i = c.self.inside in
+    let view : c.args.self.now ≡ system_of i.base i.lanes.items i.runs.items i.replies.items = search rules in
+    let h = c.self.invariant.2.halts lane number r (subst (λ s. IsTo s.replies lane number r) view to) is in
+    subst (λ s. (s.base.books.halted ≡ true) × (r.answer ≡ answer.Halted (g.F.Fs.faults s.base.fs))) (sym view) h

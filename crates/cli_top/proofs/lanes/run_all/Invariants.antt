@@ -1,5 +1,0 @@
-use Rattle.sys_core.specs.Booked.{IsLater}
-use Rattle.cli_top.proofs.lanes.run_all.Given as goal
-
-abbrev pub invariant-loop : goal.invariant-loop
-invariant-loop g l = IsLater l.fn.system l.system

@@ -1,6 +1,0 @@
-pub mod Text
-pub mod Output
-pub mod Status
-pub mod Words
-pub mod Headline
-pub mod Top

@@ -1,0 +1,9 @@
+pub mod Named
+pub mod Mild
+pub mod Synced
+pub mod Advances
+pub mod PutSteps
+pub mod Answering
+pub mod PhaseSteps
+pub mod WorkSteps
+pub mod PutTells

@@ -1,0 +1,4 @@
+pub mod Advancing
+pub mod Committing
+pub mod Nexts
+pub mod Steps

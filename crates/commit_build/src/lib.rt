@@ -1,0 +1,12 @@
+//! The task that commits a tree.
+#![tactic(auto)]
+
+mod advance;
+mod message;
+mod phase;
+mod refusal;
+mod task;
+
+pub use message::Message;
+pub use refusal::BuildRefusal;
+pub use task::CommitTask;

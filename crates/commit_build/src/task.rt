@@ -1,0 +1,136 @@
+ghost use Rattle.std.specs.Prelude.{◌≡◌, ◌<◌, ◌+◌, ◌-◌, ℕ, None, IfOk};
+ghost use Rattle.ost_forms.specs.Commit.{commit_form};
+ghost use Rattle.tree_build.specs.Items.{AreItems};
+ghost use Rattle.tree_build.specs.Makeable.{AreMakeable, IsSmall};
+ghost use Rattle.commit_build.specs.declared.phase.Phase.TheVariants as phase;
+ghost use Rattle.commit_build.specs.Committing.{Committing, IsLate, parts_of, left, left_in, later, need_in};
+
+mod steps;
+mod work;
+
+use crate::message::Message;
+use crate::phase::Phase;
+use fs_trait::Need;
+use obj_store::Put;
+use ost_objects::TreeItem;
+use ost_types::{Csum, Limits, NoMemory, ObjName, Text};
+use std::alloc::Global;
+use std::marker::Model;
+use tree_build::TreeBuild;
+
+/// The task that commits a tree, a step at a time. The objects of the tree are put, each after those that it names, and made to
+/// outlast a crash; only then is the commit put, and only when it outlasts a crash too is its mark taken away. So wherever a
+/// crash leaves the commit, all objects of its tree are there.
+#[derive(Drop, Debug)]
+pub struct CommitTask {
+    alloc: Global,
+    actor: u8,
+    build: TreeBuild,
+    limits: Limits,
+    message: Message,
+    phase: Phase,
+    met: Option<(ObjName, Put)>,
+}
+
+impl Model for CommitTask {
+    ghost use Rattle.std.specs.Prelude.{◌≡◌};
+    ghost use Rattle.commit_build.specs.Committing.{Committing, IsMade};
+
+    ghost Value = { Committing };
+
+    ghost view = { λ a. record { actor = a.actor; items = a.build.items; limits = a.limits; message = a.message; made = a.build.done; phase = a.phase; met = a.met } };
+
+    ghost invariant = { λ a. (a.build.limits ≡ a.limits) × IsMade (record { actor = a.actor; items = a.build.items; limits = a.limits; message = a.message; made = a.build.done; phase = a.phase; met = a.met }) };
+}
+
+impl CommitTask {
+    /// Commits the tree of these items, with this parent, subject and body, and a time in seconds since 1970.
+    pub fn new(
+        alloc: Global,
+        actor: u8,
+        items: Vec<TreeItem>,
+        parent: Option<Csum>,
+        subject: Text,
+        body: Text,
+        time: u64,
+        limits: Limits,
+    ) -> Result<CommitTask, NoMemory>
+        requires actor { actor < 16 }
+        requires items { AreItems items.items }
+        requires makeable { AreMakeable limits items.items }
+        requires small { IsSmall (commit_form (parts_of items.items (record { parent = parent; subject = subject; body = body; time = time }))) }
+        ensures { IfOk result (λ t. t ≡ record { actor = actor; items = items.items; limits = limits; message = record { parent = parent; subject = subject; body = body; time = time }; made = 0; phase = phase.Check; met = None }) }
+    {
+        Ok(CommitTask {
+            alloc,
+            actor,
+            build: TreeBuild::new(alloc, items, limits),
+            limits,
+            message: Message {
+                parent,
+                subject,
+                body,
+                time,
+            },
+            phase: Phase::Check,
+            met: None,
+        })
+    }
+
+    /// What the last step stored or found.
+    pub fn met(&self) -> Option<(ObjName, Put)>
+        ensures { result ≡ self.now.met }
+    {
+        self.met
+    }
+
+    /// The lock under which the next step must stand.
+    pub fn needs(&self) -> Need
+        ensures { result ≡ need_in self.now.phase }
+    {
+        match &self.phase {
+            Phase::Put(put) | Phase::PutCommit(put) => put.needs(),
+            _ => Need::Nothing,
+        }
+    }
+
+    /// At most so many steps are left; each object counts as a file of the greatest length.
+    pub fn left(&self) -> u128
+        ensures { result ≡ left self.now }
+    {
+        match &self.phase {
+            Phase::Check => later(self.build.left()) + 1,
+            Phase::Make => later(self.build.left()),
+            Phase::Made(_) => later(self.build.left()) + (EACH - 1),
+            Phase::Put(put) => later(self.build.left()) + put.left() + 1,
+            late => left_late(late),
+        }
+    }
+}
+
+/// More than the steps of any object: 2 to the 63, and 16.
+const EACH: u128 = 9_223_372_036_854_775_824;
+
+// for so many objects, and all that comes behind them
+fn later(objects: u64) -> u128
+    ensures value { result ≡ later objects }
+    ensures small { result < 340282366920938463463374607431768211456 - 18446744073709551616 }
+{
+    objects as u128 * EACH + EACH + 6
+}
+
+// once all objects of the tree are there
+fn left_late(phase: &Phase) -> u128
+    requires { IsLate phase.now }
+    ensures { (n : ℕ) → result ≡ left_in phase.now n }
+{
+    match phase {
+        Phase::SyncObjects => EACH + 5,
+        Phase::MakeCommit => EACH + 4,
+        Phase::PutCommit(put) => put.left() + 4,
+        Phase::SyncCommit(_) => 3,
+        Phase::Unmark(_) => 2,
+        Phase::SyncState(_) => 1,
+        _ => 0,
+    }
+}

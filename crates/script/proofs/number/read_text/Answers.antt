@@ -1,0 +1,15 @@
+use Rattle.std.proofs.Common.{◌≡◌, ℕ, List, Option, Some, IfOk, MatchOption, subst, sym, ap}
+use Rattle.script.specs.Field.{IsField, IsNoField}
+use Rattle.script.proofs.Fields.{both_ok}
+use Rattle.script.proofs.Numbers.{text_from}
+use Rattle.script.proofs.number.read_text.Goals as goal
+
+pub returns-in-Some : goal.returns-in-Some
+returns-in-Some c =
+    let field = subst (λ o. MatchOption o (IsNoField c.args.field.now) (IsField c.args.field.now)) c.in-Some.is c.in_ok-value.ensures in
+    both_ok _ _ _ _ (λ o exact value. text_from c.args.field.now c.as_slice.result.now o (subst (IsField c.args.field.now) (sym c.as_slice.ensures) field) exact value) c.parse.ensures.exact c.parse.ensures.value
+
+pub returns-in-None : goal.returns-in-None
+returns-in-None c =
+    let none = subst (λ o. MatchOption o (IsNoField c.args.field.now) (IsField c.args.field.now)) c.in-None.is c.in_ok-value.ensures in
+    λ text x. none text x.spelled

@@ -1,0 +1,12 @@
+use Rattle.script_reader.proofs.Values.{gives_some, gives_none, gives_other}
+use Rattle.std.proofs.Common.{refl}
+use Rattle.script_reader.proofs.node.folder_of.Goals as goal
+
+pub returns-in_default : goal.returns-in_default
+returns-in_default c = λ m is. gives_other _ _ c.in_ok-path.ensures c.in_default.not-Some _ is.path
+
+pub returns-in-None : goal.returns-in-None
+returns-in-None c = λ m is. gives_none _ _ c.in_ok-meta.ensures c.in-None.is _ is.meta
+
+pub returns-in-Some-2 : goal.returns-in-Some-2
+returns-in-Some-2 c = record { path = gives_some _ _ _ c.in_ok-path.ensures c.in-Some.is; meta = gives_some _ _ _ c.in_ok-meta.ensures c.in-Some-2.is; body = refl }

@@ -1,0 +1,10 @@
+use Rattle.std.proofs.lemmas.Result.{IfOk-weaker}
+use Rattle.script_reader.specs.Values.{HasXattrs}
+use Rattle.script_reader.proofs.Values.{text_read, no_text, field_gives}
+use Rattle.script_reader.proofs.xattrs.read_xattrs.Goals as goal
+
+pub returns-in-Some : goal.returns-in-Some
+returns-in-Some c = IfOk-weaker _ _ _ (λ o. field_gives HasXattrs _ _ o (text_read _ _ _ _ c.in_ok-text.ensures c.in-Some.is c.as_slice.ensures)) c.parse_xattrs.ensures
+
+pub returns-in-None : goal.returns-in-None
+returns-in-None c = no_text HasXattrs _ _ c.in_ok-text.ensures c.in-None.is

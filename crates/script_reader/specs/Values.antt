@@ -1,0 +1,90 @@
+-- What the fields of a node stand for.
+use Rattle.std.specs.Prelude.{◌≡◌, ◌≢◌, ◌<◌, ◌≤◌, ◌==◌, ◌^◌, ◌⊎◌, ℕ, List, [], ◌∷◌, ◌++◌, length, slice_index, Option, Some, None, MatchOption, Ok}
+use Rattle.std.specs.List.{slice_split}
+use Rattle.std.specs.Fmt.{decimal}
+use Rattle.std.specs.Str.Parse.{AllDigits, digits_value}
+use Rattle.hex.specs.Hex.{IsBytes}
+use Rattle.ost_types.specs.Csum.{hex_of}
+use Rattle.ost_types.specs.Path.{Path}
+use Rattle.ost_types.specs.Parse.{IsParsed}
+use Rattle.ost_types.specs.Text.{IsText}
+use Rattle.ost_types.specs.declared.meta.Xattr.{Xattr}
+use Rattle.ost_forms.specs.declared.tree_item.BodySpec.{BodySpec}
+use Rattle.ost_forms.specs.declared.tree_item.BodySpec.TheVariants.{Given, Fill, Target}
+use Rattle.script.specs.Field.{IsField, Spells, IsTextField}
+
+-- the value, where there is one, and None only where there is none
+abbrev pub Gives : {X : Type 0} → (X → Type 0) → Option X → Type 0
+Gives P o = MatchOption o ((x : _) → ¬ (P x)) P
+
+-- what stands between the bytes at which a text is cut
+abbrev pub pieces : ℕ → List ℕ → List (List ℕ)
+pieces byte text = slice_split (λ b. b == byte) text
+
+-- the field of a text that is written so for the value
+pub record IsFieldOf {X : Type 0} (IsWritten : List ℕ → X → Type 0) (field : List ℕ) (x : X) : Type 0 where
+  pub text : List ℕ
+  pub spelled : IsField field text
+  pub written : IsWritten text x
+
+abbrev pub IsPathText : List ℕ → Path → Type 0
+IsPathText text path = IsParsed text (Ok path)
+
+-- the field of a path
+abbrev pub IsPathField : List ℕ → Path → Type 0
+IsPathField = IsFieldOf IsPathText
+
+-- 1 to 4 octal digits of this value, and no zero in front of others
+pub record IsOctal (digits : List ℕ) (bits : ℕ) : Type 0 where
+  pub some : 0 < length digits
+  pub few : length digits ≤ 4
+  pub octal : AllDigits 8 digits
+  pub front : slice_index digits 0 ≡ 48 → length digits ≡ 1
+  pub value : digits_value 8 digits ≡ bits
+
+-- the field of a node's permissions
+abbrev pub IsMode : List ℕ → ℕ → Type 0
+IsMode = IsFieldOf IsOctal
+
+-- the name and the value of an attribute in hexadecimal digits, with `:` between them
+pub record IsPair (pair : List ℕ) (xattr : Xattr) : Type 0 where
+  pub parts : pieces 58 pair ≡ hex_of xattr.name ∷ hex_of xattr.value ∷ []
+  pub name : IsBytes xattr.name
+  pub value : IsBytes xattr.value
+
+-- each is the pair of the attribute at its place
+abbrev pub ArePairs : List (List ℕ) → List Xattr → Type 0
+ArePairs [] [] = Unit {0}
+ArePairs [] (x ∷ xattrs) = ⊥
+ArePairs (pair ∷ pairs) [] = ⊥
+ArePairs (pair ∷ pairs) (x ∷ xattrs) = IsPair pair x × ArePairs pairs xattrs
+
+-- pairs with `,` between them; no attributes are the empty text
+abbrev pub HasXattrs : List ℕ → List Xattr → Type 0
+HasXattrs text xattrs = ((text ≡ []) × (xattrs ≡ [])) ⊎ ((text ≢ []) × ArePairs (pieces 44 text) xattrs)
+
+-- the field of a node's attributes
+abbrev pub IsXattrs : List ℕ → List Xattr → Type 0
+IsXattrs = IsFieldOf HasXattrs
+
+-- `*n:hh`: n bytes of the value hh
+pub record IsFillText (text : List ℕ) (len : ℕ) (byte : ℕ) : Type 0 where
+  pub written : text ≡ 42 ∷ (decimal len ++ (58 ∷ hex_of (byte ∷ [])))
+  pub few : len ≤ 268435456
+  pub small : byte < 256
+
+abbrev pub IsFillBody : List ℕ → BodySpec → Type 0
+IsFillBody text (Given bytes) = ⊥
+IsFillBody text (Fill len byte) = IsFillText text len byte
+IsFillBody text (Target target) = ⊥
+
+-- the field of a file's content: `=` and the bytes themselves, or one byte many times
+abbrev pub IsContent : List ℕ → BodySpec → Type 0
+IsContent field (Given bytes) = (text : List ℕ) × (field ≡ 61 ∷ text) × Spells text bytes
+IsContent field (Fill len byte) = IsFieldOf IsFillBody field (Fill len byte)
+IsContent field (Target target) = ⊥
+
+-- the field of a link's target, which isn't empty
+pub record IsTarget (field : List ℕ) (target : List ℕ) : Type 0 where
+  pub text : IsTextField field target
+  pub some : target ≢ []

@@ -1,0 +1,33 @@
+-- What the tree of a commit is read as.
+use Rattle.std.specs.Prelude.{◌≡◌, ◌⊎◌, ◌↔◌, ℕ, List, Contains, Result, Ok, Err}
+use Rattle.ost_types.specs.declared.limits.Limits.{Limits}
+use Rattle.ost_types.specs.declared.node.NodeName.{NodeName}
+use Rattle.ost_types.specs.declared.object.Kind.TheVariants as kind
+use Rattle.ost_types.specs.Path.{Path}
+use Rattle.ost_types.specs.PathMap.{Nodes}
+use Rattle.ost_forms.specs.Commit.{CommitParts}
+use Rattle.fs_trait.specs.Effect.{OfNone}
+use Rattle.fs_trait.specs.View.{Disk}
+use Rattle.repo_model.specs.Objects.{Store, Stores}
+use Rattle.repo_model.specs.Trees.{HasCommit, TreeShows, name_of}
+use Rattle.repo_model.specs.Whole.{Complete}
+use Rattle.tree_read.specs.Looks.{IsAbsent, IsDamaged}
+use Rattle.tree_read.specs.Order.{FirstAbsent, FirstDamaged}
+use Rattle.tree_read.specs.declared.fault.TreeFault.{TreeFault}
+use Rattle.tree_read.specs.declared.fault.TreeFault.TheVariants as fault
+
+-- the pairs of the map are what the commit shows
+abbrev pub IsTree : Store → List ℕ → Nodes → Type 0
+IsTree S commit map = (p : Path) (n : NodeName) → Contains map (p, n) ↔ TreeShows S commit p n
+
+-- the commit itself is so, or it is there and its tree is so
+abbrev pub AtCommitOr : Disk → List ℕ → Type 0 → (List ℕ → List ℕ → Type 0) → Type 0
+AtCommitOr d commit Itself Below = Itself ⊎ ((c : CommitParts) × HasCommit (Stores d) commit c × Below c.tree c.meta)
+
+-- The map is the tree, and the commit is whole within the limits; else the first object is told that is missing, or damaged.
+abbrev pub ReadsTree : Disk → Limits → List ℕ → Result Nodes TreeFault → Type 0
+ReadsTree d limits commit (Ok map) = Complete (Stores d) limits commit × IsTree (Stores d) commit map
+ReadsTree d limits commit (Err (fault.Absent o)) = AtCommitOr d commit ((o ≡ name_of kind.Commit commit) × IsAbsent d o) (λ tree meta. FirstAbsent d limits tree meta o)
+ReadsTree d limits commit (Err (fault.Damaged o)) = AtCommitOr d commit ((o ≡ name_of kind.Commit commit) × IsDamaged d limits.content o) (λ tree meta. FirstDamaged d limits tree meta o)
+ReadsTree d limits commit (Err (fault.Fs e)) = OfNone e
+ReadsTree d limits commit (Err fault.NoMemory) = Unit {0}

@@ -1,0 +1,10 @@
+//! The tree of a commit, read object by object.
+#![tactic(auto)]
+
+mod children;
+mod fault;
+mod item;
+mod looked;
+mod objects;
+
+pub use fault::TreeFault;
