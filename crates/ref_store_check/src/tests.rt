@@ -2,7 +2,7 @@ ghost use Rattle.ost_types.specs.Mode.{IsFolderMode};
 
 use crate::{remove, set};
 use fs_memory::{Choice, FailAt, MemFs};
-use fs_trait::Fs;
+use fs_trait::{Fs, FsErr};
 use ost_types::{Csum, FsPath, Meta, Xattrs};
 use ref_store::{GetRef, RefRefusal, get};
 use repo_layout::RefName;
@@ -153,24 +153,49 @@ fn removes_refs(rt: HostRuntime) -> Result<(), Fail> {
     assert!(rt; matches!(moved, Err(RefRefusal::RefMoved { .. })));
     let done = remove(&mut fs, alloc, name_of(alloc, b"a/b/c")?, sum(1))?;
     assert!(rt; done.is_ok());
+    let again = remove(&mut fs, alloc, name_of(alloc, b"a/b/c")?, sum(1))?;
+    assert!(rt; has_moved(&again, &Some(sum(1)), &None));
     // its folders are empty, and go
     check_set(&rt, alloc, &mut fs, b"a", None, None)?;
     Ok(())
 }
 
-fn check_left(
+fn value_of(alloc: Global, fs: &mut MemFs, name: &[u8]) -> Result<Option<Csum>, Fail> {
+    match get(alloc, fs, &name_of(alloc, name)?)? {
+        GetRef::Absent => Ok(None),
+        GetRef::Names(commit) => Ok(Some(commit)),
+        GetRef::Unreadable => Err("unreadable")?,
+    }
+}
+
+// A crash leaves no value or the new one, which is there for sure once the change is done; and the ref can be set again.
+fn check_left(rt: &impl Abort, alloc: Global, mut left: MemFs, is_done: bool) -> Result<(), Fail> {
+    let found = value_of(alloc, &mut left, b"a/b")?;
+    assert!(rt; found == Some(sum(1)) || (!is_done && found.is_none()));
+    let again = set_named(&mut left, alloc, b"a/b", found, sum(2))?;
+    assert!(rt; again.is_ok());
+    assert!(rt; value_of(alloc, &mut left, b"a/b")? == Some(sum(2)));
+    Ok(())
+}
+
+fn crash(alloc: Global, fs: &MemFs, moment: u64, picks: Vec<u32>) -> Result<MemFs, Fail> {
+    if moment > fs.moments() {
+        return Err("no such moment")?;
+    }
+    Ok(fs.image(moment, &Choice { picks, fill: 1 })?)
+}
+
+fn check_moment(
     rt: &impl Abort,
     alloc: Global,
     fs: &MemFs,
-    picks: Vec<u32>,
+    moment: u64,
     is_done: bool,
 ) -> Result<(), Fail> {
-    let mut left = fs.image(fs.moments(), &Choice { picks, fill: 1 })?;
-    match get(alloc, &mut left, &name_of(alloc, b"a/b")?)? {
-        GetRef::Absent => assert!(rt; !is_done),
-        GetRef::Names(commit) => assert!(rt; commit == sum(1)),
-        GetRef::Unreadable => return Err("unreadable")?,
-    }
+    let oldest = crash(alloc, fs, moment, vec![in alloc; 0]?)?;
+    check_left(rt, alloc, oldest, is_done)?;
+    let newest = crash(alloc, fs, moment, Vec::new(alloc))?;
+    check_left(rt, alloc, newest, is_done)?;
     Ok(())
 }
 
@@ -183,11 +208,14 @@ fn laid_out_failing(alloc: Global, call: u64, done: bool) -> Result<MemFs, Fail>
 // The calls of the change are the 7th to the 21st.
 fn check_failing(rt: &impl Abort, alloc: Global, call: u64, done: bool) -> Result<(), Fail> {
     let mut fs = laid_out_failing(alloc, call, done)?;
+    let begun = fs.moments();
     let answer = set(&mut fs, alloc, name_of(alloc, b"a/b")?, None, sum(1));
     let is_done = matches!(answer, Ok(Ok(())));
     assert_eq!(rt; is_done, call > 21);
-    check_left(rt, alloc, &fs, vec![in alloc; 0]?, is_done)?;
-    check_left(rt, alloc, &fs, Vec::new(alloc), is_done)?;
+    for moment in begun..fs.moments() {
+        check_moment(rt, alloc, &fs, moment, false)?;
+    }
+    check_moment(rt, alloc, &fs, fs.moments(), is_done)?;
     Ok(())
 }
 
@@ -201,18 +229,19 @@ fn fails_at_each_call(rt: HostRuntime) -> Result<(), Fail> {
     Ok(())
 }
 
-fn value_left(
-    alloc: Global,
-    fs: &MemFs,
-    picks: Vec<u32>,
-    name: &[u8],
-) -> Result<Option<Csum>, Fail> {
-    let mut left = fs.image(fs.moments(), &Choice { picks, fill: 1 })?;
-    match get(alloc, &mut left, &name_of(alloc, name)?)? {
-        GetRef::Absent => Ok(None),
-        GetRef::Names(commit) => Ok(Some(commit)),
-        GetRef::Unreadable => Err("unreadable")?,
-    }
+// The 18th call is the sync of the folder of refs, behind the rename.
+#[test]
+fn a_failed_sync_leaves_either_value(rt: HostRuntime) -> Result<(), Fail> {
+    let alloc = rt.alloc();
+    let mut fs = laid_out_failing(alloc, 18, false)?;
+    let answer = set(&mut fs, alloc, name_of(alloc, b"main")?, None, sum(0x11));
+    assert!(rt; matches!(answer, Err(FsErr::Failed)));
+    let between = fs.moments().saturating_sub(1);
+    let mut oldest = crash(alloc, &fs, between, vec![in alloc; 0]?)?;
+    assert!(rt; value_of(alloc, &mut oldest, b"main")?.is_none());
+    let mut newest = crash(alloc, &fs, between, Vec::new(alloc))?;
+    assert!(rt; value_of(alloc, &mut newest, b"main")? == Some(sum(0x11)));
+    Ok(())
 }
 
 // A ref is there or gone, and the one beside it stays.
@@ -220,13 +249,14 @@ fn check_one_gone(
     rt: &impl Abort,
     alloc: Global,
     fs: &MemFs,
+    moment: u64,
     pick: u32,
     is_done: bool,
 ) -> Result<(), Fail> {
-    let left = value_left(alloc, fs, vec![in alloc; pick]?, b"a/b")?;
-    assert!(rt; left.is_none() || (!is_done && left == Some(sum(1))));
-    let beside = value_left(alloc, fs, vec![in alloc; pick]?, b"a/c")?;
-    assert!(rt; beside == Some(sum(1)));
+    let mut left = crash(alloc, fs, moment, vec![in alloc; pick]?)?;
+    let value = value_of(alloc, &mut left, b"a/b")?;
+    assert!(rt; value.is_none() || (!is_done && value == Some(sum(1))));
+    assert!(rt; value_of(alloc, &mut left, b"a/c")? == Some(sum(1)));
     Ok(())
 }
 
@@ -245,12 +275,17 @@ fn check_failing_removal(
     done: bool,
 ) -> Result<(), Fail> {
     let mut fs = with_two_refs(rt, alloc)?;
+    let begun = fs.moments();
     fs.fail_at(vec![in alloc; FailAt { call, done }]?);
     let answer = remove(&mut fs, alloc, name_of(alloc, b"a/b")?, sum(1));
     let is_done = matches!(answer, Ok(Ok(())));
     assert_eq!(rt; is_done, call > 43);
-    check_one_gone(rt, alloc, &fs, 0, is_done)?;
-    check_one_gone(rt, alloc, &fs, 1, is_done)?;
+    for moment in begun..fs.moments() {
+        check_one_gone(rt, alloc, &fs, moment, 0, false)?;
+        check_one_gone(rt, alloc, &fs, moment, 1, false)?;
+    }
+    check_one_gone(rt, alloc, &fs, fs.moments(), 0, is_done)?;
+    check_one_gone(rt, alloc, &fs, fs.moments(), 1, is_done)?;
     Ok(())
 }
 

@@ -4,3 +4,8 @@
 mod again;
 
 pub use again::{Found, open_again};
+
+#[cfg(test)]
+mod disks;
+#[cfg(test)]
+mod tests;
