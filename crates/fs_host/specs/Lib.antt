@@ -5,3 +5,4 @@ pub mod Header
 pub mod HostPath
 pub mod Laws
 pub mod Refusal
+pub mod Reserved

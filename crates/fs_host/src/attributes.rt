@@ -1,5 +1,5 @@
 //! The attributes of a folder: the bytes of the file `.ost-folder` inside it, or its absence.
-ghost use Rattle.std.specs.Prelude.{◌≡◌, [], Some, IfOk, IsTrue};
+ghost use Rattle.std.specs.Prelude.{◌≡◌, ◌↔◌, [], Some, IfOk, IsTrue};
 ghost use Rattle.ost_types.specs.Mode.{IsFolderMode};
 ghost use Rattle.ost_forms.specs.DirMeta.{dirmeta_form, ReadsDirMeta};
 
@@ -24,7 +24,7 @@ pub fn plain_attributes(alloc: Global) -> Meta
 
 /// Whether a folder with these attributes needs no such file.
 pub fn is_plain(meta: &Meta) -> bool
-    ensures { IsTrue result → meta.now ≡ record { uid = 0; gid = 0; mode = 16877; xattrs = [] } }
+    ensures { IsTrue result ↔ (meta.now ≡ record { uid = 0; gid = 0; mode = 16877; xattrs = [] }) }
 {
     meta.uid == 0 && meta.gid == 0 && meta.mode == PLAIN_MODE && meta.xattrs.as_slice().is_empty()
 }

@@ -1,5 +1,5 @@
 //! What isn't sure to be on the disk yet.
-ghost use Rattle.std.specs.Prelude.{◌≡◌, [], OnOk, OnErr};
+ghost use Rattle.std.specs.Prelude.{◌≡◌, [], IsTrue, IsFalse, IsErr, OnOk, OnErr};
 ghost use Rattle.std.specs.BTreeSet.{contains_text};
 ghost use Rattle.fs_host.specs.Changed.{IsNoted, KeepsNotes, ForgetsOnly};
 
@@ -20,7 +20,8 @@ pub struct Changed {
 
 impl Changed {
     pub fn new(alloc: Global) -> Changed
-        ensures { result.texts.keys ≡ [] }
+        ensures none { result.texts.keys ≡ [] }
+        ensures found { IsFalse result.is_lost }
     {
         Changed {
             alloc,
@@ -39,6 +40,7 @@ impl Changed {
     /// later `sync_all` succeeds.
     pub fn note<R: Files>(&mut self, rt: &R, text: &str)
         ensures keeps { KeepsNotes self.old self.new }
+        ensures lost { IsTrue self.old.is_lost → IsTrue self.new.is_lost }
     {
         if self.keep(text).is_err() && sync(rt, text).is_err() {
             self.is_lost = true;
@@ -48,6 +50,7 @@ impl Changed {
     fn keep(&mut self, text: &str) -> Result<(), AllocError>
         ensures ok { OnOk result (IsNoted text.now self.new) }
         ensures keeps { KeepsNotes self.old self.new }
+        ensures lost { self.new.is_lost ≡ self.old.is_lost }
     {
         if !self.texts.contains(text) {
             self.texts.insert(String::from_str(self.alloc, text)?)?;
@@ -57,7 +60,8 @@ impl Changed {
 
     /// Forgets a file or a folder that was synced or is gone.
     pub fn forget(&mut self, text: &str)
-        ensures { ForgetsOnly text.now self.old self.new }
+        ensures only { ForgetsOnly text.now self.old self.new }
+        ensures lost { self.new.is_lost ≡ self.old.is_lost }
     {
         self.texts.remove(text);
     }
@@ -66,6 +70,7 @@ impl Changed {
     pub fn sync_all<R: Files>(&mut self, rt: &R) -> Result<(), Fault>
         ensures ok { OnOk result (self.new.texts.keys ≡ []) }
         ensures err { OnErr result (self.new ≡ self.old) }
+        ensures lost { IsTrue self.old.is_lost → IsErr result }
     {
         if self.is_lost {
             return Err(Fault);

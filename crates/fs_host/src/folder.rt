@@ -1,10 +1,13 @@
 //! The current folder of the machine: what each call does there. Nothing is counted here.
-ghost use Rattle.std.specs.Prelude.{◌≡◌, ◌≢◌, ◌≤◌, [], length, OnOk, IfErr};
+ghost use Rattle.std.specs.Prelude.{◌≡◌, ◌≢◌, ◌≤◌, [], length, Err, IsTrue, IsErr, OnOk, IfOk, IfErr};
 ghost use Rattle.std.specs.Cmp.Lexicographic.{slice_cmp};
 ghost use Rattle.std.specs.List.Sorted.{IsStrictlySortedBy};
 ghost use Rattle.std.specs.Ordering.{nat_cmp};
 ghost use Rattle.fs_trait.specs.Effect.{OfPlacing, OfFinding, OfEmptying, OfNone};
 ghost use Rattle.fs_host.specs.Refusal.{answered};
+ghost use Rattle.fs_host.specs.Reserved.{HasReserved};
+ghost use Rattle.fs_host.specs.declared.refusal.Refusal.TheVariants.{Failed};
+ghost use Rattle.fs_trait.specs.declared.types.FsErr.TheVariants as error;
 ghost use Rattle.ost_types.specs.Mode.{IsFolderMode, IsFileMode, IsLinkMode};
 ghost use Rattle.ost_types.specs.Path.{Name, Path, under};
 ghost use Rattle.fs_host.specs.HostPath.{host_text};
@@ -50,7 +53,8 @@ impl<R: Files + AllocGlobal + Clone + Drop> CurrentFolder<R> {
 
     pub fn mkdir(&mut self, at: &FsPath, meta: &Meta) -> Result<(), FsErr>
         requires { IsFolderMode meta.now.mode }
-        ensures { IfErr result OfPlacing }
+        ensures reserved { HasReserved at.now → result ≡ Err error.Failed }
+        ensures named { IfErr result OfPlacing }
     {
         self.walk_to_nothing(at)?;
         let made = if is_plain(meta) {
@@ -65,7 +69,8 @@ impl<R: Files + AllocGlobal + Clone + Drop> CurrentFolder<R> {
 
     pub fn create(&mut self, at: &FsPath, meta: &Meta) -> Result<(), FsErr>
         requires { IsFileMode meta.now.mode }
-        ensures { IfErr result OfPlacing }
+        ensures reserved { HasReserved at.now → result ≡ Err error.Failed }
+        ensures named { IfErr result OfPlacing }
     {
         self.walk_to_nothing(at)?;
         let shown = if meta.xattrs.as_slice().is_empty() {
@@ -84,7 +89,8 @@ impl<R: Files + AllocGlobal + Clone + Drop> CurrentFolder<R> {
     }
 
     pub fn append(&mut self, at: &FsPath, bytes: &[u8]) -> Result<(), Refusal>
-        ensures { IfErr (answered result) OfFinding }
+        ensures reserved { HasReserved at.now → result ≡ Err Failed }
+        ensures named { IfErr (answered result) OfFinding }
     {
         let leaf = self.walk_to_file(at)?;
         let added = extend_leaf(&self.rt, self.path.as_str(), leaf.size(), bytes);
@@ -96,7 +102,8 @@ impl<R: Files + AllocGlobal + Clone + Drop> CurrentFolder<R> {
     pub fn symlink(&mut self, at: &FsPath, target: &Text, meta: &Meta) -> Result<(), FsErr>
         requires mode { IsLinkMode meta.now.mode }
         requires target { target.now ≢ [] }
-        ensures { IfErr result OfPlacing }
+        ensures reserved { HasReserved at.now → result ≡ Err error.Failed }
+        ensures named { IfErr result OfPlacing }
     {
         self.walk_to_nothing(at)?;
         let front = link_front(self.rt.alloc(), meta, target)?;
@@ -106,7 +113,9 @@ impl<R: Files + AllocGlobal + Clone + Drop> CurrentFolder<R> {
     }
 
     pub fn link(&mut self, from: &FsPath, to: &FsPath) -> Result<(), Refusal>
-        ensures { IfErr (answered result) OfPlacing }
+        ensures reserved { HasReserved from.now → result ≡ Err Failed }
+        ensures reserved_target { HasReserved to.now → IsErr result }
+        ensures named { IfErr (answered result) OfPlacing }
     {
         let alloc = self.rt.alloc();
         let Standing::Leaf(leaf) = walk(&self.rt, alloc, from, &mut self.path)? else {
@@ -128,7 +137,8 @@ impl<R: Files + AllocGlobal + Clone + Drop> CurrentFolder<R> {
     }
 
     pub fn unlink(&mut self, at: &FsPath) -> Result<(), Refusal>
-        ensures { IfErr (answered result) OfFinding }
+        ensures reserved { HasReserved at.now → result ≡ Err Failed }
+        ensures named { IfErr (answered result) OfFinding }
     {
         let Standing::Leaf(leaf) = walk(&self.rt, self.rt.alloc(), at, &mut self.path)? else {
             return Err(Refusal::Missing);
@@ -140,7 +150,9 @@ impl<R: Files + AllocGlobal + Clone + Drop> CurrentFolder<R> {
     }
 
     pub fn rmdir(&mut self, at: &FsPath) -> Result<(), Refusal>
-        ensures { IfErr (answered result) OfEmptying }
+        ensures reserved { HasReserved at.now → result ≡ Err Failed }
+        ensures root { at.now ≡ [] → IsErr result }
+        ensures named { IfErr (answered result) OfEmptying }
     {
         walk_to_folder(&self.rt, self.rt.alloc(), at, &mut self.path)?;
         if at.names().is_empty() || has_names(&self.rt, self.path.as_str())? {
@@ -154,7 +166,9 @@ impl<R: Files + AllocGlobal + Clone + Drop> CurrentFolder<R> {
     }
 
     pub fn rename(&mut self, from: &FsPath, to: &FsPath) -> Result<(), Refusal>
-        ensures { IfErr (answered result) OfPlacing }
+        ensures reserved { HasReserved from.now → result ≡ Err Failed }
+        ensures reserved_target { HasReserved to.now → IsErr result }
+        ensures named { IfErr (answered result) OfPlacing }
     {
         let alloc = self.rt.alloc();
         let Standing::Leaf(_) = walk(&self.rt, alloc, from, &mut self.path)? else {
@@ -177,7 +191,8 @@ impl<R: Files + AllocGlobal + Clone + Drop> CurrentFolder<R> {
     }
 
     pub fn sync_file(&mut self, at: &FsPath) -> Result<(), Refusal>
-        ensures { IfErr (answered result) OfFinding }
+        ensures reserved { HasReserved at.now → result ≡ Err Failed }
+        ensures named { IfErr (answered result) OfFinding }
     {
         let leaf = self.walk_to_file(at)?;
         leaf.file.sync_all()?;
@@ -186,7 +201,8 @@ impl<R: Files + AllocGlobal + Clone + Drop> CurrentFolder<R> {
     }
 
     pub fn sync_dir(&mut self, at: &FsPath) -> Result<(), Refusal>
-        ensures { IfErr (answered result) OfFinding }
+        ensures reserved { HasReserved at.now → result ≡ Err Failed }
+        ensures named { IfErr (answered result) OfFinding }
     {
         walk_to_folder(&self.rt, self.rt.alloc(), at, &mut self.path)?;
         sync(&self.rt, self.path.as_str())?;
@@ -194,12 +210,16 @@ impl<R: Files + AllocGlobal + Clone + Drop> CurrentFolder<R> {
         Ok(())
     }
 
-    pub fn sync_all(&mut self) -> Result<(), Fault> {
+    pub fn sync_all(&mut self) -> Result<(), Fault>
+        ensures ok { OnOk result (self.new.changed.texts.keys ≡ []) }
+        ensures lost { IsTrue self.old.changed.is_lost → IsErr result }
+    {
         self.changed.sync_all(&self.rt)
     }
 
     pub fn stat(&mut self, at: &FsPath) -> Result<Option<Node>, FsErr>
-        ensures { IfErr result OfNone }
+        ensures reserved { HasReserved at.now → result ≡ Err error.Failed }
+        ensures named { IfErr result OfNone }
     {
         let alloc = self.rt.alloc();
         match walk(&self.rt, alloc, at, &mut self.path) {
@@ -218,28 +238,35 @@ impl<R: Files + AllocGlobal + Clone + Drop> CurrentFolder<R> {
     }
 
     pub fn read(&mut self, at: &FsPath) -> Result<Bytes, FsErr>
-        ensures { IfErr result OfFinding }
+        ensures reserved { HasReserved at.now → result ≡ Err error.Failed }
+        ensures named { IfErr result OfFinding }
     {
         let leaf = self.walk_to_file(at)?;
         leaf.whole_content(self.rt.alloc())
     }
 
     pub fn read_part(&mut self, at: &FsPath, from: u64, max: u32) -> Result<Bytes, FsErr>
-        ensures { IfErr result OfFinding }
+        ensures reserved { HasReserved at.now → result ≡ Err error.Failed }
+        ensures most { IfOk result (λ b. length b ≤ max) }
+        ensures named { IfErr result OfFinding }
     {
         let leaf = self.walk_to_file(at)?;
         leaf.content(self.rt.alloc(), from, u64::from(max))
     }
 
     pub fn list(&mut self, at: &FsPath) -> Result<Names, FsErr>
-        ensures { IfErr result OfFinding }
+        ensures reserved { HasReserved at.now → result ≡ Err error.Failed }
+        ensures ascending { IfOk result (IsStrictlySortedBy (slice_cmp nat_cmp)) }
+        ensures named { IfErr result OfFinding }
     {
         walk_to_folder(&self.rt, self.rt.alloc(), at, &mut self.path)?;
         names_in(&self.rt, self.path.as_str())
     }
 
     pub fn same(&mut self, a: &FsPath, b: &FsPath) -> Result<bool, FsErr>
-        ensures { IfErr result OfNone }
+        ensures reserved { HasReserved a.now → result ≡ Err error.Failed }
+        ensures reserved_other { HasReserved b.now → IsErr result }
+        ensures named { IfErr result OfNone }
     {
         let alloc = self.rt.alloc();
         let one = file_at(&self.rt, alloc, a, &mut self.path)?;
@@ -251,7 +278,8 @@ impl<R: Files + AllocGlobal + Clone + Drop> CurrentFolder<R> {
     }
 
     fn walk_to_nothing(&mut self, at: &FsPath) -> Result<(), Refusal>
-        ensures { IfErr (answered result) OfPlacing }
+        ensures reserved { HasReserved at.now → result ≡ Err Failed }
+        ensures named { IfErr (answered result) OfPlacing }
     {
         match walk(&self.rt, self.rt.alloc(), at, &mut self.path)? {
             Standing::Absent => Ok(()),
@@ -260,7 +288,8 @@ impl<R: Files + AllocGlobal + Clone + Drop> CurrentFolder<R> {
     }
 
     fn walk_to_file(&mut self, at: &FsPath) -> Result<Leaf<R::File>, Refusal>
-        ensures { IfErr (answered result) OfFinding }
+        ensures reserved { HasReserved at.now → result ≡ Err Failed }
+        ensures named { IfErr (answered result) OfFinding }
     {
         match walk(&self.rt, self.rt.alloc(), at, &mut self.path)? {
             Standing::Leaf(leaf) if !leaf.is_link => Ok(leaf),
@@ -383,6 +412,7 @@ fn walk_to_folder<R: Files>(
     at: &FsPath,
     text: &mut HostPath,
 ) -> Result<(), Refusal>
+    ensures reserved { HasReserved at.now → result ≡ Err Failed }
     ensures short { OnOk result (length text.new ≤ 2049) }
     ensures finding { IfErr (answered result) OfFinding }
     ensures emptying { IfErr (answered result) OfEmptying }
@@ -401,7 +431,8 @@ fn file_at<R: Files>(
     at: &FsPath,
     text: &mut HostPath,
 ) -> Result<Option<Leaf<R::File>>, FsErr>
-    ensures { IfErr result OfNone }
+    ensures reserved { HasReserved at.now → result ≡ Err error.Failed }
+    ensures named { IfErr result OfNone }
 {
     match walk(rt, alloc, at, text) {
         Ok(Standing::Leaf(leaf)) if !leaf.is_read() => Err(FsErr::NoMemory),
@@ -422,7 +453,8 @@ fn has_names<R: Files + AllocGlobal + Clone + Drop>(rt: &R, text: &str) -> Resul
 
 // The names of a folder, each once, ascending by their bytes.
 fn names_in<R: Files + AllocGlobal + Clone + Drop>(rt: &R, text: &str) -> Result<Names, FsErr>
-    ensures { IfErr result OfFinding }
+    ensures ascending { IfOk result (IsStrictlySortedBy (slice_cmp nat_cmp)) }
+    ensures named { IfErr result OfFinding }
 {
     let alloc = rt.alloc();
     let mut names = Vec::new(alloc);

@@ -1,5 +1,5 @@
 //! A leaf of the host: a file that holds a content stream.
-ghost use Rattle.std.specs.Prelude.{◌≡◌, ◌-◌, ◌+◌, ◌≤◌, ◌<◌, ◌^◌, IfOk, IfErr, length, min, option_map};
+ghost use Rattle.std.specs.Prelude.{◌≡◌, ◌≢◌, ◌-◌, ◌+◌, ◌≤◌, ◌<◌, ◌^◌, Ok, IfOk, IfErr, false, length, min, option_map};
 ghost use Rattle.std.specs.Option.{is_some};
 ghost use Rattle.fs_trait.specs.Effect.{OfFinding};
 ghost use Rattle.fs_host.specs.Front.{node_of};
@@ -93,7 +93,9 @@ impl<F: Read + Seek + Drop> Leaf<F> {
     }
 
     /// Whether two leaves have the same bytes, and so the same attributes and content.
-    pub fn is_equal(self, other: Leaf<F>) -> Result<bool, Fault> {
+    pub fn is_equal(self, other: Leaf<F>) -> Result<bool, Fault>
+        ensures { self.start + self.len ≢ other.start + other.len → result ≡ Ok false }
+    {
         let size = self.size();
         if other.size() != size {
             return Ok(false);

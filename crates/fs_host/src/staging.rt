@@ -1,5 +1,5 @@
 //! Nodes that are made under a reserved name first, so that none has its own name before it is whole on the disk.
-ghost use Rattle.std.specs.Prelude.{◌≤◌, length};
+ghost use Rattle.std.specs.Prelude.{◌≡◌, ◌≤◌, ◌++◌, ◌∷◌, codes, length};
 
 use crate::changed::sync;
 use crate::standing::ATTRIBUTES;
@@ -33,6 +33,8 @@ impl Staging {
     /// Goes to the folder of this text.
     pub fn go_to(&mut self, folder: &str)
         requires { length folder.now ≤ 2049 }
+        ensures name { self.new.name ≡ folder.now ++ 47 ∷ codes ".ost-new" }
+        ensures inside { self.new.inside ≡ (folder.now ++ 47 ∷ codes ".ost-new") ++ 47 ∷ codes ".ost-folder" }
     {
         self.name.set(folder);
         self.name.push(STAGED);

@@ -1,7 +1,9 @@
 //! What stands at a path of the host, by looks that follow no link.
-ghost use Rattle.std.specs.Prelude.{◌≡◌, ◌≤◌, ◌⊎◌, ◌↔◌, codes, length, IsTrue, OnOk, IfErr};
+ghost use Rattle.std.specs.Prelude.{◌≡◌, ◌≤◌, ◌↔◌, length, Err, IsTrue, OnOk, IfErr};
 ghost use Rattle.fs_trait.specs.Effect.{OfPlacing, OfFinding, OfEmptying};
 ghost use Rattle.fs_host.specs.Refusal.{answered};
+ghost use Rattle.fs_host.specs.Reserved.{IsReserved, HasReserved};
+ghost use Rattle.fs_host.specs.declared.refusal.Refusal.TheVariants.{Failed};
 ghost use Rattle.fs_host.specs.HostPath.{host_text};
 
 use crate::leaf::open_leaf;
@@ -16,9 +18,16 @@ pub const ATTRIBUTES: &str = ".ost-folder";
 
 /// Whether a name of the host is this crate's own.
 pub fn is_reserved(name: &str) -> bool
-    ensures { IsTrue result ↔ (name.now ≡ codes ".ost-folder") ⊎ (name.now ≡ codes ".ost-new") }
+    ensures { IsTrue result ↔ IsReserved name.now }
 {
     name == ATTRIBUTES || name == STAGED
+}
+
+// Whether a name of a path is this crate's own.
+fn has_reserved(at: &FsPath) -> bool
+    ensures { IsTrue result ↔ HasReserved at.now }
+{
+    at.names().iter().any(|name| is_reserved(name.as_str()))
 }
 
 /// What stands at a path.
@@ -38,6 +47,7 @@ pub fn walk<R: Files>(
     at: &FsPath,
     text: &mut HostPath,
 ) -> Result<Standing<R::File>, Refusal>
+    ensures reserved { HasReserved at.now → result ≡ Err Failed }
     ensures spelled { OnOk result (text.new ≡ host_text at.now) }
     ensures short { OnOk result (length text.new ≤ 2049) }
     ensures placing { IfErr (answered result) OfPlacing }
@@ -45,7 +55,7 @@ pub fn walk<R: Files>(
     ensures emptying { IfErr (answered result) OfEmptying }
 {
     let names = at.names();
-    if names.iter().any(|name| is_reserved(name.as_str())) {
+    if has_reserved(at) {
         return Err(Refusal::Failed);
     }
     text.restart();

@@ -1,4 +1,4 @@
-ghost use Rattle.std.specs.Prelude.{◌≡◌, ◌≢◌, ◌≤◌, ◌<◌, ◌++◌, ◌∷◌, ◌+◌, ◌-◌, ◌⊎◌, [], ℕ, Bool, Option, length, Some, None, IfOk, IfErr, OnOk, OnErr, IfSome, IfNone, IsErrOf, true, false};
+ghost use Rattle.std.specs.Prelude.{◌≡◌, ◌≢◌, ◌≤◌, ◌<◌, ◌++◌, ◌∷◌, ◌+◌, ◌-◌, ◌⊎◌, [], ℕ, Bool, Option, length, Some, None, IfOk, IfErr, OnOk, OnErr, IfSome, IfNone, IsOk, IsErrOf, true, false};
 ghost use Rattle.std.specs.Vec.{vec_capacity, vec_len};
 ghost use Rattle.fs_trait.specs.Count.{last};
 ghost use Rattle.fs_trait.specs.Image.{Image};
@@ -84,6 +84,7 @@ fn raised(faults: u64, answer: &Result<(), FsErr>) -> u64
 impl MemFs {
     /// The root folder alone, with owner 0, group 0 and mode 0o040755. No call fails.
     pub fn new(alloc: Global) -> Result<MemFs, NoMemory>
+        ensures ok { IsOk result }
         ensures view { IfOk result (λ m. view_now m ≡ empty_view) }
         ensures clock { IfOk result (λ m. clock_of m ≡ 0) }
         ensures faults { IfOk result (λ m. faults_of m ≡ 0) }

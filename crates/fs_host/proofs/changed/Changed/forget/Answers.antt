@@ -9,8 +9,8 @@ taken : (b x n : Bool) → n ≡ cond b false x → x ≡ true → n ≡ false �
 taken true x n e t f = refl
 taken false x n e t f = let never : false ≡ true = sym f ∙ e ∙ t in cc
 
-pub returns : goal.returns
-returns c = record {
+pub returns-clause-only : goal.returns-clause-only
+returns-clause-only c = record {
   gone = c.remove.ensures.updates.1;
   others = λ other was now.
       sym (tells_apart (slice_cmp-IsAntisymmetric nat_cmp-IsAntisymmetric) c.args.text.now (string_bytes other) (taken _ _ _ (c.remove.ensures.updates.0 other) was now));
