@@ -1,0 +1,7 @@
+//! One table of calls with what they answer, run over the file system in memory and over the machine's.
+#![tactic(auto)]
+
+#[cfg(test)]
+mod table;
+#[cfg(test)]
+mod tests;
