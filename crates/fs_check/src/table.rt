@@ -57,6 +57,7 @@ missing link,rename /table/x /table/d
 missing link,rename /table/x /table/f/y
 not_folder link,rename /table/f/y /table/d
 not_folder link,rename /table/f/y /table/x/y
+yes holds /table/f bytes
 none stat /table/x
 none stat /table/x/y
 none stat /table/f/y
@@ -80,6 +81,7 @@ yes same /table/n /table/f
 ok link /table/l /table/m
 link stat /table/m
 ok rename /table/n /table/d/g
+yes holds /table/d/g bytes
 file stat /table/d/g
 none stat /table/n
 ok rename /table/m /table/f

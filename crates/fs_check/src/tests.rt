@@ -113,6 +113,15 @@ fn same_told<F: Fs>(fs: &mut F, at: &FsPath, other: &FsPath) -> Result<&'static 
     }
 }
 
+fn holds_told<F: Fs>(fs: &mut F, at: &FsPath, wanted: &str) -> Result<&'static str, Fail> {
+    let bytes = fs.read(at)?;
+    if bytes.as_slice() == wanted.as_bytes() {
+        Ok("yes")
+    } else {
+        Ok("no")
+    }
+}
+
 // What a call answers. The second is a path, or bytes.
 fn answer<F: Fs>(
     rt: &impl Abort,
@@ -130,6 +139,7 @@ fn answer<F: Fs>(
         "read" | "read_part" | "list" => Ok(told(look(fs, name, at))),
         "stat" => node_told(fs, at),
         "same" => same_told(fs, at, &path(alloc, second)?),
+        "holds" => holds_told(fs, at, second),
         _ => Ok(told(change(fs, name, at))),
     }
 }
