@@ -1,15 +1,24 @@
 -- What a run of lanes leaves, where the file system tells its view.
-use Rattle.std.proofs.Common.{◌≡◌, ◌+◌, ℕ, List, Option, Some, None, Result, Ok, Err, IfOk, refl, sym, subst}
+use Rattle.std.proofs.Common.{◌≡◌, ◌+◌, ℕ, List, Option, Some, Result, Ok, Err, IfOk, map, refl, sym, subst}
 use Rattle.fs_trait.specs.View.{View}
 use Rattle.fs_trait.specs.Image.{Told}
 use Rattle.rely.specs.State.{first}
 use Rattle.rely.specs.Disks.{Logical}
+use Rattle.rely.specs.declared.books.Entry.{Entry}
+use Rattle.rely.specs.declared.books.Pending.{Pending}
+use Rattle.rely.specs.declared.event.Event.{Event}
+use Rattle.script.specs.declared.answer.Reply.{Reply}
+use Rattle.script.specs.declared.command.Command.{Command}
+use Rattle.script.specs.declared.command.Lane.{Lane}
 use Rattle.sys_core.specs.declared.system.Parts.{Parts}
+use Rattle.sys_core.specs.Answers.{IsTold}
+use Rattle.sys_core.specs.Replied.{Replied}
 use Rattle.sys_open.specs.Checks.{IsSane}
 use Rattle.sys_open.specs.Opening.{Begins}
 use Rattle.ostree_cli.specs.declared.fault.TopFault.{TopFault}
 use Rattle.ostree_cli.specs.Headline.{Headline}
-use Rattle.ostree_cli.specs.Top.{Ran, event_of}
+use Rattle.ostree_cli.specs.Top.{Ran, RanBy, event_of}
+use Rattle.ostree_cli.specs.Words.{IsLine}
 
 -- a view that is told has what each told view has
 told_all : (o : Option View) (R : View → Type 0) → Told o (λ w. Unit {0}) → ((w : View) → o ≡ Some w → R w) → Told o R
@@ -18,14 +27,40 @@ told_all o R told all = (told.0, told.1, all told.0 told.1)
 pub same_refs : (o : Option View) (refs : List (List ℕ × List ℕ)) (v : View) → Told o (Begins refs v) → Logical v.now (first refs)
 same_refs o refs v told = told.2.same
 
-pub ran : {F : Type 0} (view : F → Option View) (clock : F → ℕ) (was : F → ℕ → View → Type 0) (v : View) (before barrier : ℕ) (refs : List (List ℕ × List ℕ)) (r : Result (Parts F) (F × TopFault))
+pub ran : {F : Type 0} (view : F → Option View) (clock : F → ℕ) (was : F → ℕ → View → Type 0) (v : View) (before barrier : ℕ) (refs : List (List ℕ × List ℕ)) (lanes : List Lane) (r : Result (Parts F) (F × TopFault))
     → IsSane v.now → Logical v.now (first refs) → barrier ≡ before + 1 → ((fs : F) → Told (view fs) (λ w. Unit {0}))
     → ((w : View) → IfOk r (λ p. view p.fs ≡ Some w → Headline clock was barrier (first refs) p.fs p.history.items (event_of p.pending) w))
-    → IfOk r (λ p. Told (view p.fs) (Ran clock was v before p.fs p.history.items (event_of p.pending)))
-ran view clock was v before barrier refs (Err e) sane state at told lines = tt
-ran view clock was v before barrier refs (Ok p) sane state at told lines = told_all (view p.fs) (Ran clock was v before p.fs p.history.items (event_of p.pending)) (told p.fs) (λ w is. record {
+    → IfOk r (λ p. (started : List (Option ℕ)) × Replied (IsTold view) (first refs) p.history.items p.pending lanes started (map (λ replies. replies.items) p.replies.items))
+    → IfOk r (λ p. Told (view p.fs) (Ran view clock was v before (map (λ lane. lane.commands.items) lanes) p.fs p.history.items (event_of p.pending) (map (λ replies. replies.items) p.replies.items)))
+ran view clock was v before barrier refs lanes (Err e) sane state at told lines replied = tt
+ran view clock was v before barrier refs lanes (Ok p) sane state at told lines replied = told_all (view p.fs) (Ran view clock was v before (map (λ lane. lane.commands.items) lanes) p.fs p.history.items (event_of p.pending) (map (λ replies. replies.items) p.replies.items)) (told p.fs) (λ w is. record {
   sane = sane;
   start = first refs;
   state = state;
   headline = subst (λ n. Headline clock was n (first refs) p.fs p.history.items (event_of p.pending) w) at (lines w is);
+  lanes = lanes;
+  each = refl;
+  started = replied.0;
+  by = p.pending;
+  shown = refl;
+  replied = replied.1;
 })
+
+-- what is said of the replies of a system is said of what it was taken apart into
+pub replied_parts : (told : Type 0) (refs refs' : List (List ℕ × List ℕ)) (h h' : List Entry) (p p' : Option Pending) (l l' : List Lane) (started : List (Option ℕ)) (r r' : List (List Reply))
+    → refs ≡ refs' → h' ≡ h → p' ≡ p → l ≡ l' → r' ≡ r → Replied told (first refs) h p l started r → Replied told (first refs') h' p' l' started r'
+replied_parts told refs refs' h h' p p' l l' started r r' refs-is h-is p-is l-is r-is replied =
+    subst (λ x. Replied told (first x) h' p' l' started r') refs-is
+    (subst (λ x. Replied told (first refs) x p' l' started r') (sym h-is)
+    (subst (λ x. Replied told (first refs) h x l' started r') (sym p-is)
+    (subst (λ x. Replied told (first refs) h p x started r') l-is
+    (subst (λ x. Replied told (first refs) h p l started x) (sym r-is) replied))))
+
+-- the same by the words that the lanes are of
+pub by_words : {F : Type 0} (words : List (List ℕ)) (view : F → Option View) (clock : F → ℕ) (was : F → ℕ → View → Type 0) (v : View) (before : ℕ) (commands : List (List Command)) (fs fs' : F) (h h' : List Entry) (p p' : Option Event) (r r' : List (List Reply))
+    → IsLine words commands → fs' ≡ fs → h' ≡ h → p' ≡ p → r' ≡ r → Told (view fs) (Ran view clock was v before commands fs h p r) → Told (view fs') (RanBy words view clock was v before fs' h' p' r')
+by_words words view clock was v before commands fs fs' h h' p p' r r' line fs-is h-is p-is r-is told =
+    subst (λ x. Told (view x) (RanBy words view clock was v before x h' p' r')) (sym fs-is)
+    (subst (λ x. Told (view fs) (RanBy words view clock was v before fs x p' r')) (sym h-is)
+    (subst (λ x. Told (view fs) (RanBy words view clock was v before fs h x r')) (sym p-is)
+    (subst (λ x. Told (view fs) (RanBy words view clock was v before fs h p x)) (sym r-is) (told.0, told.1, (commands, line, told.2)))))

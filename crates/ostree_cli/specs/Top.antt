@@ -1,5 +1,5 @@
 -- What the whole call comes to.
-use Rattle.std.specs.Prelude.{◌≡◌, ◌≢◌, ◌⊎◌, ◌+◌, ℕ, List, [], Option, Some, None}
+use Rattle.std.specs.Prelude.{◌≡◌, ◌⊎◌, ◌+◌, ℕ, List, [], map, Option, Some, None}
 use Rattle.fs_trait.specs.Count.{Rose}
 use Rattle.fs_trait.specs.View.{Disk, View, all_synced}
 use Rattle.rely.specs.declared.books.Entry.{Entry}
@@ -8,6 +8,10 @@ use Rattle.rely.specs.declared.event.Event.{Event}
 use Rattle.rely.specs.Disks.{Logical}
 use Rattle.rely.specs.State.{State}
 use Rattle.script.specs.declared.answer.Reply.{Reply}
+use Rattle.script.specs.declared.command.Command.{Command}
+use Rattle.script.specs.declared.command.Lane.{Lane}
+use Rattle.sys_core.specs.Answers.{IsTold}
+use Rattle.sys_core.specs.Replied.{Replied}
 use Rattle.sys_open.specs.declared.fault.OpenFault.{OpenFault}
 use Rattle.sys_open.specs.declared.fault.OpenFault.TheVariants as opening
 use Rattle.sys_open.specs.Checks.{IsSane}
@@ -16,6 +20,7 @@ use Rattle.ostree_cli.specs.declared.fault.TopFault.{TopFault}
 use Rattle.ostree_cli.specs.declared.fault.TopFault.TheVariants.{Usage, Open, NoMemory}
 use Rattle.ostree_cli.specs.Headline.{Headline}
 use Rattle.ostree_cli.specs.Output.{Wrote, WroteFront}
+use Rattle.ostree_cli.specs.Words.{IsLine}
 
 -- why no lane was run, by what reads see at the beginning
 abbrev pub IsStop : Disk → TopFault → Type 0
@@ -34,12 +39,24 @@ abbrev pub event_of : Option Pending → Option Event
 event_of None = None
 event_of (Some p) = Some p.event
 
--- What a run of lanes leaves: the repository was sane, and from the refs that it had then all is as the headline says.
-pub record Ran {F : Type 0} (clock : F → ℕ) (was : F → ℕ → View → Type 0) (v : View) (before : ℕ) (fs : F) (history : List Entry) (pending : Option Event) (w : View) : Type 0 where
+-- What a run of lanes with these commands leaves: the repository was sane, and from the refs that it had then all is as the
+-- headline says. Each reply is by its command and by the states that the changes make of these refs; and each change is one
+-- command's, which was answered so, or which was cut off where the change is pending.
+pub record Ran {F : Type 0} (view : F → Option View) (clock : F → ℕ) (was : F → ℕ → View → Type 0) (v : View) (before : ℕ) (commands : List (List Command)) (fs : F) (history : List Entry) (pending : Option Event) (replies : List (List Reply)) (w : View) : Type 0 where
   pub sane : IsSane v.now
   pub start : State
   pub state : Logical v.now start
   pub headline : Headline clock was (before + 1) start fs history pending w
+  pub lanes : List Lane
+  pub each : map (λ lane. lane.commands.items) lanes ≡ commands
+  pub started : List (Option ℕ)
+  pub by : Option Pending
+  pub shown : pending ≡ event_of by
+  pub replied : Replied (IsTold view) start history by lanes started replies
+
+-- so, of lanes that these words ask for
+abbrev pub RanBy : {F : Type 0} → List (List ℕ) → (F → Option View) → (F → ℕ) → (F → ℕ → View → Type 0) → View → ℕ → F → List Entry → Option Event → List (List Reply) → View → Type 0
+RanBy words view clock was v before fs history pending replies w = (commands : List (List Command)) × IsLine words commands × Ran view clock was v before commands fs history pending replies w
 
 -- no lane was run
 pub record IsUnused (history : List Entry) (pending : Option Event) (replies : List (List Reply)) : Type 0 where

@@ -1,5 +1,5 @@
 //! The lanes of a call, on the repository of a file system.
-ghost use Rattle.std.specs.Prelude.{◌≡◌, ◌≢◌, ◌≤◌, ◌<◌, ℕ, Some, IfOk, IfErr, length, slice_index_or};
+ghost use Rattle.std.specs.Prelude.{◌≡◌, ◌≢◌, ◌≤◌, ◌<◌, ℕ, List, Option, Some, IfOk, IfErr, length, map, slice_index_or};
 ghost use Rattle.fs_trait.specs.View.{View, all_synced};
 ghost use Rattle.fs_trait.specs.Image.{Told};
 ghost use Rattle.fs_trait.specs.Count.{Rose};
@@ -7,7 +7,9 @@ ghost use Rattle.script.specs.declared.command.Lane.{Lane};
 ghost use Rattle.sys_open.specs.declared.fault.OpenFault.TheVariants as opening;
 ghost use Rattle.ostree_cli.specs.declared.fault.TopFault.TheVariants as fault;
 ghost use Rattle.rely.specs.State.{first};
+ghost use Rattle.sys_core.specs.Answers.{IsTold};
 ghost use Rattle.sys_core.specs.Booked.{IsLater};
+ghost use Rattle.sys_core.specs.Replied.{Replied};
 ghost use Rattle.ostree_cli.specs.Headline.{Headline};
 ghost use Rattle.ostree_cli.specs.Top.{IsStop, Ran, StaysOn, event_of};
 
@@ -23,7 +25,7 @@ use sys_open::{OpenFault, Opened, adopt};
 pub fn run_lanes<F: Fs>(alloc: Global, fs: F, lanes: Vec<Lane>) -> Result<Parts<F>, (F, TopFault)>
     requires few { length lanes.items ≤ 8 }
     requires short { (l : ℕ) (d : Lane) → l < length lanes.items → length (slice_index_or lanes.items l d).commands.items ≤ 64 }
-    ensures ran { (v : View) → F.view fs ≡ Some v → IfOk result (λ p. Told (F.view p.fs) (Ran F.clock F.was v (F.clock fs) p.fs p.history.items (event_of p.pending))) }
+    ensures ran { (v : View) → F.view fs ≡ Some v → IfOk result (λ p. Told (F.view p.fs) (Ran F.view F.clock F.was v (F.clock fs) (map (λ lane. lane.commands.items) lanes.items) p.fs p.history.items (event_of p.pending) (map (λ replies. replies.items) p.replies.items))) }
     ensures told { (v : View) → F.view fs ≡ Some v → IfErr result (λ e. IsStop v.now e.1) }
     ensures still { (v : View) → F.view fs ≡ Some v → IfErr result (λ e. StaysOn e.1 (F.view e.0 ≡ Some (all_synced v))) }
     ensures words { IfErr result (λ e. e.1 ≢ fault.Usage) }
@@ -45,6 +47,7 @@ fn run_opened<F: Fs>(
     requires few { length lanes.items ≤ 8 }
     requires short { (l : ℕ) (d : Lane) → l < length lanes.items → length (slice_index_or lanes.items l d).commands.items ≤ 64 }
     ensures ran { (w : View) → IfOk result (λ p. F.view p.fs ≡ Some w → Headline F.clock F.was opened.clock (first opened.refs) p.fs p.history.items (event_of p.pending) w) }
+    ensures replied { IfOk result (λ p. (started : List (Option ℕ)) × Replied (IsTold F.view) (first opened.refs) p.history.items p.pending lanes.items started (map (λ replies. replies.items) p.replies.items)) }
     ensures back { IfErr result (λ e. (e.0 ≡ opened.fs) × (e.1 ≡ fault.NoMemory)) }
 {
     match System::new(alloc, opened, lanes) {
@@ -59,7 +62,8 @@ fn run_opened<F: Fs>(
 
 // Acts of the lanes in turn, till none of them does work.
 fn run_all<F: Fs>(system: &mut System<F>)
-    ensures { IsLater system.old system.new }
+    ensures later { IsLater system.old system.new }
+    ensures lanes { system.new.lanes ≡ system.old.lanes }
 {
     for _ in 0..u64::MAX {
         if !round(system) {
@@ -70,7 +74,8 @@ fn run_all<F: Fs>(system: &mut System<F>)
 
 // One act of each lane. Whether any of them did work.
 fn round<F: Fs>(system: &mut System<F>) -> bool
-    ensures { IsLater system.old system.new }
+    ensures later { IsLater system.old system.new }
+    ensures lanes { system.new.lanes ≡ system.old.lanes }
 {
     let mut worked = false;
     for lane in 0..8 {
@@ -83,7 +88,8 @@ fn round<F: Fs>(system: &mut System<F>) -> bool
 
 // One act of a lane. Whether it did work.
 fn act<F: Fs>(system: &mut System<F>, lane: u8) -> bool
-    ensures { IsLater system.old system.new }
+    ensures later { IsLater system.old system.new }
+    ensures lanes { system.new.lanes ≡ system.old.lanes }
 {
     match system.act(lane) {
         Ask::More | Ask::Done { .. } => true,

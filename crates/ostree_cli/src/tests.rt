@@ -1,3 +1,5 @@
+ghost use Rattle.ost_types.specs.Mode.{IsFolderMode, IsFileMode};
+
 use crate::top::ostree;
 use fs_host::HostFs;
 use fs_memory::{Choice, FailAt, MemFs, MemSink};
@@ -78,24 +80,35 @@ fn answers<F: Fs>(
     Ok((ended.fs, same))
 }
 
-fn meta(alloc: Global, mode: u32) -> Meta
-    ensures { result.mode ≡ mode }
+fn folder_meta(alloc: Global) -> Meta
+    ensures { IsFolderMode result.mode }
 {
     Meta {
         uid: 0,
         gid: 0,
-        mode,
+        mode: 0o040755,
+        xattrs: Xattrs::new(alloc),
+    }
+}
+
+fn file_meta(alloc: Global) -> Meta
+    ensures { IsFileMode result.mode }
+{
+    Meta {
+        uid: 0,
+        gid: 0,
+        mode: 0o100644,
         xattrs: Xattrs::new(alloc),
     }
 }
 
 fn add_folder(fs: &mut MemFs, alloc: Global, at: &[u8]) -> Result<(), Fail> {
-    Ok(fs.mkdir(&FsPath::parse(alloc, at)?, &meta(alloc, 0o040755))?)
+    Ok(fs.mkdir(&FsPath::parse(alloc, at)?, &folder_meta(alloc))?)
 }
 
 fn add_file(fs: &mut MemFs, alloc: Global, at: &[u8], bytes: &[u8]) -> Result<(), Fail> {
     let at = FsPath::parse(alloc, at)?;
-    fs.create(&at, &meta(alloc, 0o100644))?;
+    fs.create(&at, &file_meta(alloc))?;
     Ok(fs.append(&at, bytes)?)
 }
 

@@ -7,7 +7,7 @@ ghost use Rattle.sys_open.specs.declared.fault.OpenFault.TheVariants as opening;
 ghost use Rattle.ostree_cli.specs.Words.{AreNoLine};
 ghost use Rattle.ostree_cli.specs.Status.{has_risen, status_of};
 ghost use Rattle.ostree_cli.specs.Text.{output_of};
-ghost use Rattle.ostree_cli.specs.Top.{IsStop, IsUnused, Prints, Ran, StaysOn, event_of};
+ghost use Rattle.ostree_cli.specs.Top.{IsStop, IsUnused, Prints, RanBy, StaysOn, event_of};
 
 use crate::fault::TopFault;
 use crate::lanes::run_lanes;
@@ -111,7 +111,7 @@ fn run<F: Fs>(alloc: Global, words: &[String], fs: F) -> Outcome<F>
     ensures disk { result.fault ≡ Some (TopFault.Open opening.Disk) → Rose (F.faults fs) (F.faults result.fs) }
     ensures stop { (v : View) → F.view fs ≡ Some v → IfSome result.fault (IsStop v.now) }
     ensures still { (v : View) → F.view fs ≡ Some v → IfSome result.fault (λ f. StaysOn f (F.view result.fs ≡ Some (all_synced v))) }
-    ensures ran { (v : View) → F.view fs ≡ Some v → result.fault ≡ None → Told (F.view result.fs) (Ran F.clock F.was v (F.clock fs) result.fs result.history.items result.pending) }
+    ensures ran { (v : View) → F.view fs ≡ Some v → result.fault ≡ None → Told (F.view result.fs) (RanBy (map (λ word. string_bytes word) words.now) F.view F.clock F.was v (F.clock fs) result.fs result.history.items result.pending (map (λ lane. lane.items) result.replies.items)) }
 {
     match read_line(alloc, words) {
         Ok(lanes) => match run_lanes(alloc, fs, lanes) {
@@ -160,7 +160,7 @@ pub fn ostree<F: Fs, K: Sink>(alloc: Global, words: &[String], fs: F, out: &mut 
     ensures unused { (result.fault ≡ None) ⊎ (result.fault ≡ Some TopFault.NoMemory) ⊎ IsUnused result.history.items result.pending (map (λ lane. lane.items) result.replies.items) }
 
     // What a crash may leave, and what is left at the end.
-    ensures ran { (v : View) → F.view fs ≡ Some v → (result.fault ≡ None) ⊎ (result.replies.items ≢ []) → Told (F.view result.fs) (Ran F.clock F.was v (F.clock fs) result.fs result.history.items result.pending) }
+    ensures ran { (v : View) → F.view fs ≡ Some v → (result.fault ≡ None) ⊎ (result.replies.items ≢ []) → Told (F.view result.fs) (RanBy (map (λ word. string_bytes word) words.now) F.view F.clock F.was v (F.clock fs) result.fs result.history.items result.pending (map (λ lane. lane.items) result.replies.items)) }
 
     // What is printed, and the exit status.
     ensures output { (had : List ℕ) → K.taken out.old ≡ Some had → Prints had (output_of result.fault (map (λ lane. lane.items) result.replies.items)) (K.faults out.old) (K.faults out.new) (K.taken out.new) }
