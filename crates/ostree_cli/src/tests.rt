@@ -195,6 +195,7 @@ fn halts_where_a_sync_fails(rt: HostRuntime) -> Result<(), Fail> {
     let (fs, _) = answers(alloc, with_commit(alloc)?, "init", "", 0)?;
     let (fs, _) = answers(alloc, fs, "reset main X", "0 0 ok\n", 0)?;
     let calls = fs.moments();
+    let before_last = calls.saturating_sub(1);
     let mut halted = false;
     for call in 1..200 {
         let (mut fs, _) = answers(alloc, with_commit(alloc)?, "init", "", 0)?;
@@ -212,14 +213,14 @@ fn halts_where_a_sync_fails(rt: HostRuntime) -> Result<(), Fail> {
                 picks: vec![in alloc; 0]?,
                 fill: 0,
             };
-            let image = ended.fs.image(calls - 1, &old)?;
+            let image = ended.fs.image(before_last, &old)?;
             let (_, same) = answers(alloc, image, "rev-parse main", "0 0 refused NoRef\n", 1)?;
             assert!(rt; same);
             let new = Choice {
                 picks: Vec::new(alloc),
                 fill: 0,
             };
-            let image = ended.fs.image(calls - 1, &new)?;
+            let image = ended.fs.image(before_last, &new)?;
             let (_, same) = answers(alloc, image, "rev-parse main", "0 0 ok X\n", 0)?;
             assert!(rt; same);
         }
