@@ -22,4 +22,4 @@ pub returns-in-Ok-run_lanes-clause-ran : goal.returns-in-Ok-run_lanes-clause-ran
 returns-in-Ok-run_lanes-clause-ran g c = λ v told fault.
     let o = c.outcome_of.ensures in
     by_words _ g.F.Fs.view g.F.Fs.clock g.F.Fs.was v (g.F.Fs.clock c.args.fs) _ c.in-Ok-run_lanes.parts.fs c.outcome_of.result.fs _ _ _ _ _ _
-        c.in-Ok.ensures o.fs o.history o.pending (ap (map (λ replies. replies.items)) o.replies) (c.in-Ok-run_lanes.ensures.ran v told)
+    c.in-Ok.ensures o.fs o.history o.pending (ap (map (λ replies. replies.items)) o.replies) (c.in-Ok-run_lanes.ensures.ran v told)
