@@ -332,13 +332,10 @@ fn make_forms<R: Abort + Files + AllocGlobal + Clone + Drop>(rt: &R) {
     symlink(rt, &mut fs, "/forms/folder/link", "usr/bin", &link).expect(rt, "symlink");
 }
 
-#[test]
-fn writes_what_ostree_writes(rt: HostRuntime) {
-    make_forms(&rt);
-    check_stored(&rt, "forms/folder/file", WITH_ATTRIBUTES, b"hello\n");
-    check_stored(&rt, "forms/folder/link", LINK, b"");
-    check_stored(&rt, "forms/folder/.ost-folder", FOLDER, b"");
-    clear(&rt, "forms");
+fn check_written<R: Abort + Files + AllocGlobal + Clone + Drop>(rt: &R) {
+    check_stored(rt, "forms/folder/file", WITH_ATTRIBUTES, b"hello\n");
+    check_stored(rt, "forms/folder/link", LINK, b"");
+    check_stored(rt, "forms/folder/.ost-folder", FOLDER, b"");
 }
 
 fn node<R: Abort + Files + AllocGlobal + Clone + Drop>(rt: &R, at: &str) -> Node {
@@ -351,49 +348,44 @@ fn check_xattr(rt: &impl Abort, found: Option<&Xattr>, name: &str, value: &str) 
     assert!(rt; xattr.value.as_slice() == value.as_bytes());
 }
 
-#[test]
-fn reads_a_folder(rt: HostRuntime) {
-    make_forms(&rt);
-    let Node::Folder(meta) = node(&rt, "/forms/folder") else {
+fn check_folder<R: Abort + Files + AllocGlobal + Clone + Drop>(rt: &R) {
+    let Node::Folder(meta) = node(rt, "/forms/folder") else {
         panic!(rt; "no folder");
     };
-    check_owner(&rt, &meta, 1, 258, 0o041777);
+    check_owner(rt, &meta, 1, 258, 0o041777);
     assert_eq!(rt; meta.xattrs.as_slice().len(), 1);
-    check_xattr(&rt, meta.xattrs.as_slice().first(), "user.dir\0", "v");
-    clear(&rt, "forms");
+    check_xattr(rt, meta.xattrs.as_slice().first(), "user.dir\0", "v");
 }
 
-#[test]
-fn reads_a_file(rt: HostRuntime) {
-    make_forms(&rt);
-    let Node::File { meta, len } = node(&rt, "/forms/folder/file") else {
+fn check_file<R: Abort + Files + AllocGlobal + Clone + Drop>(rt: &R) {
+    let Node::File { meta, len } = node(rt, "/forms/folder/file") else {
         panic!(rt; "no file");
     };
     assert_eq!(rt; len, 6);
-    check_owner(&rt, &meta, 1, 258, 0o104755);
+    check_owner(rt, &meta, 1, 258, 0o104755);
     assert_eq!(rt; meta.xattrs.as_slice().len(), 2);
-    check_xattr(&rt, meta.xattrs.as_slice().first(), "user.a\0", "x");
-    check_xattr(&rt, meta.xattrs.as_slice().last(), "user.b\0", "yz");
-    check_read(&rt, &mut open(&rt), "/forms/folder/file", "hello\n");
-    clear(&rt, "forms");
+    check_xattr(rt, meta.xattrs.as_slice().first(), "user.a\0", "x");
+    check_xattr(rt, meta.xattrs.as_slice().last(), "user.b\0", "yz");
+    check_read(rt, &mut open(rt), "/forms/folder/file", "hello\n");
 }
 
-#[test]
-fn reads_a_link(rt: HostRuntime) {
-    make_forms(&rt);
-    let Node::Link { meta, target } = node(&rt, "/forms/folder/link") else {
+fn check_link<R: Abort + Files + AllocGlobal + Clone + Drop>(rt: &R) {
+    let Node::Link { meta, target } = node(rt, "/forms/folder/link") else {
         panic!(rt; "no link");
     };
-    check_owner(&rt, &meta, 1, 258, 0o120777);
+    check_owner(rt, &meta, 1, 258, 0o120777);
     assert!(rt; meta.xattrs.as_slice().is_empty());
     assert_eq!(rt; target.as_str(), "usr/bin");
-    clear(&rt, "forms");
 }
 
-// A link is a leaf, and no regular file.
+// Each form as ostree writes it, and read by another `HostFs`. A link is a leaf, and no regular file.
 #[test]
-fn moves_and_removes_a_link(rt: HostRuntime) {
+fn keeps_all_forms(rt: HostRuntime) {
     make_forms(&rt);
+    check_written(&rt);
+    check_folder(&rt);
+    check_file(&rt);
+    check_link(&rt);
     calls(
         &rt,
         &mut open(&rt),
@@ -436,57 +428,6 @@ fn links_moves_and_removes(rt: HostRuntime) {
         &mut fs,
         "ok unlink /moved/three;ok read /moved/two;ok unlink /moved/two;ok rmdir /moved;ok sync_all;missing list /moved",
     );
-}
-
-#[test]
-fn refuses(rt: HostRuntime) {
-    fresh(&rt, "table");
-    put(&rt, "table/leaf", PLAIN.as_slice());
-    folder(&rt, "table/full");
-    folder(&rt, "table/full/x");
-    let mut fs = open(&rt);
-    for line in "/ exists;/table/full exists;/table/leaf exists;/table/no/x missing;/table/leaf/x not_folder".split(
-        ';',
-    ) {
-        let (at, wanted) = line.split_once(' ').unwrap_or((line, ""));
-        each(&rt, &mut fs, "mkdir;create;symlink", (at, "/"), wanted);
-        each(&rt, &mut fs, "link", ("/table/leaf", at), wanted);
-    }
-    for line in "/ missing;/table/full missing;/table/no missing;/table/no/x missing;/table/leaf/x not_folder".split(
-        ';',
-    ) {
-        let (at, wanted) = line.split_once(' ').unwrap_or((line, ""));
-        each(
-            &rt,
-            &mut fs,
-            "append;unlink;sync_file;read;read_part;link;rename",
-            (at, "/table/new"),
-            wanted,
-        );
-    }
-    clear(&rt, "table");
-}
-
-#[test]
-fn refuses_folders(rt: HostRuntime) {
-    fresh(&rt, "folders");
-    put(&rt, "folders/leaf", PLAIN.as_slice());
-    folder(&rt, "folders/full");
-    folder(&rt, "folders/full/x");
-    let mut fs = open(&rt);
-    for line in "/folders/no missing;/folders/leaf not_folder;/folders/no/x missing;/folders/leaf/x not_folder".split(
-        ';',
-    ) {
-        let (at, wanted) = line.split_once(' ').unwrap_or((line, ""));
-        each(&rt, &mut fs, "sync_dir;list;rmdir", (at, "/"), wanted);
-    }
-    calls(
-        &rt,
-        &mut fs,
-        "not_empty rmdir /;not_empty rmdir /folders/full;exists rename /folders/leaf /;exists rename /folders/leaf /folders/full;missing rename /folders/leaf /folders/no/x;not_folder rename /folders/leaf /folders/leaf/x",
-    );
-    check_stored(&rt, "folders/leaf", PLAIN, b"");
-    clear(&rt, "folders");
 }
 
 // What isn't a node here answers `Failed` to each call.

@@ -1,4 +1,4 @@
-//! The names and paths of an OSTree bare repository, and the text of a ref's file.
+//! The names and paths of an OSTree bare repository, the text of a ref's file, and keyfiles.
 #![tactic(auto)]
 
 mod fixed;
@@ -10,6 +10,8 @@ mod part;
 mod paths;
 mod ref_file;
 mod ref_name;
+
+pub use keyfile::{KeyFault, KeyLine, read_keyfile, write_keyfile};
 
 pub use fixed::{Fixed, Version, fixed_path};
 pub use folder::{Folder, folder_path};
