@@ -11,10 +11,9 @@ mod paths;
 mod ref_file;
 mod ref_name;
 
-pub use keyfile::{KeyFault, KeyLine, read_keyfile, write_keyfile};
-
 pub use fixed::{Fixed, Version, fixed_path};
 pub use folder::{Folder, folder_path};
+pub use keyfile::{KeyFault, KeyLine, read_keyfile, write_keyfile};
 pub use laws::{names_of_paths, places_of_boots, places_of_things};
 pub use os_name::OsName;
 pub use paths::{
