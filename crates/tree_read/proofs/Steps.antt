@@ -247,6 +247,11 @@ weight_last [] next = refl
 weight_last (x ∷ []) next = refl
 weight_last (x ∷ y ∷ items) next = weight_last (y ∷ items) next
 
+pub weight_other : (x : Named) → ((meta : List ℕ) → x ≡ Attributes meta → ⊥) → weight_of x ≡ 1
+weight_other (Folder tree meta) other = refl
+weight_other (Attributes meta) other = absurd (other meta refl)
+weight_other (File sum) other = refl
+
 weighs_little : (x : Named) → weight_of x ≤ 1
 weighs_little (Folder tree meta) = omega arith
 weighs_little (Attributes meta) = omega arith

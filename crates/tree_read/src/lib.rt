@@ -6,7 +6,9 @@ mod fault;
 mod item;
 mod looked;
 mod objects;
+mod run;
 mod task;
 
 pub use fault::TreeFault;
+pub use run::tree_of;
 pub use task::TreeTask;

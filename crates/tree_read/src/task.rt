@@ -8,7 +8,7 @@ ghost use Rattle.ost_types.specs.PathMap.{IsNode};
 ghost use Rattle.repo_model.specs.Trees.{name_of};
 ghost use Rattle.tree_read.specs.declared.fault.TreeFault.TheVariants as faults;
 ghost use Rattle.tree_read.specs.declared.item.Named.TheVariants as named;
-ghost use Rattle.tree_read.specs.Reading.{AreShort, Fits, IsFarBelow, IsNext, IsOpened, IsSoFar, IsStepped, ListsBelow, Opens, Reading, StepTells, Takes, begun_at};
+ghost use Rattle.tree_read.specs.Reading.{AreShort, Fits, IsFarBelow, IsNext, IsOpened, IsSoFar, IsStepped, ListsBelow, Opens, Reading, StepTells, Takes, begun_at, left_of, weight};
 
 use crate::children::{children, is_short};
 use crate::fault::TreeFault;
@@ -82,6 +82,32 @@ impl TreeTask {
         ensures { result ≡ need.Nothing }
     {
         Need::Nothing
+    }
+
+    /// At most so many steps go on.
+    pub fn left(&self) -> u128
+        ensures { result ≡ left_of self.now }
+    {
+        let paths = self.limits.paths as u128;
+        if self.begun {
+            2 * paths.saturating_sub(self.found.len() as u128) + self.next_weight()
+        } else {
+            2 * paths + 2
+        }
+    }
+
+    /// How many objects are left at the next path.
+    fn next_weight(&self) -> u128
+        ensures value { result ≡ weight self.now.pending }
+        ensures small { result ≤ 1 }
+    {
+        let Some((next, _)) = self.pending.split_last() else {
+            return 0;
+        };
+        match next.named {
+            Named::Attributes(_) => 0,
+            _ => 1,
+        }
     }
 
     /// Reads the next object. It is done when all was read, or with the first object that is missing or damaged. After an
