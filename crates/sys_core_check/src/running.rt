@@ -47,7 +47,7 @@ fn run_opened<F: Fs>(
 }
 
 /// The first lane with more than 64 commands.
-fn long_lane(lanes: &[Lane]) -> Option<usize>
+pub fn long_lane(lanes: &[Lane]) -> Option<usize>
     ensures short { IsNone result → (l : ℕ) (d : Lane) → l < length lanes.now → length (slice_index_or lanes.now l d).commands.items ≤ 64 }
     ensures long { IfSome result (λ l. (l < length lanes.now) × ((d : Lane) → 64 < length (slice_index_or lanes.now l d).commands.items)) }
 {
