@@ -1,5 +1,5 @@
 -- What each answer of an act says, exactly.
-use Rattle.std.specs.Prelude.{◌≡◌, ◌⊎◌, ℕ, ◌++◌, ◌∷◌, [], Option, Some, None}
+use Rattle.std.specs.Prelude.{◌≡◌, ◌≢◌, ◌⊎◌, ℕ, ◌++◌, ◌∷◌, [], Bool, true, false, Option, Some, None}
 use Rattle.fs_trait.specs.Count.{Rose}
 use Rattle.fs_trait.specs.declared.task.Turn.{Turn}
 use Rattle.fs_trait.specs.declared.task.Turn.TheVariants as turn
@@ -83,3 +83,33 @@ abbrev pub Causes : ℕ → ℕ → Outcome → Type 0
 Causes before now (came.Refused err.Failed) = Rose before now
 Causes before now came.Halted = Rose before now
 Causes before now outcome = Unit {0}
+
+-- a lock that is asked for is the lane's; another is as it was
+abbrev pub lock_taken : Bool → ℕ → Option ℕ → Option ℕ
+lock_taken true lane lock = Some lane
+lock_taken false lane lock = lock
+
+-- whose a lock is in such a step
+abbrev pub turn_in : Kind → ℕ → Option ℕ → Option ℕ
+turn_in (Take wants) lane lock = lock_taken wants.turn lane lock
+turn_in (Show e) lane lock = Some lane
+turn_in kind lane lock = lock
+
+abbrev pub exclusive_in : Kind → ℕ → Option ℕ → Option ℕ
+exclusive_in (Take wants) lane lock = lock_taken wants.exclusive lane lock
+exclusive_in kind lane lock = lock
+
+-- the lane hasn't the lock, and who has it had it before
+abbrev pub IsGivenUp : ℕ → Option ℕ → Option ℕ → Type 0
+IsGivenUp lane old new = (x : ℕ) → new ≡ Some x → (x ≢ lane) × (old ≡ Some x)
+
+-- a command keeps its locks while it runs, and gives them up at its end
+abbrev pub IsLeft : ℕ → Outcome → Option ℕ → Option ℕ → Type 0
+IsLeft lane came.More old new = new ≡ old
+IsLeft lane came.Done old new = IsGivenUp lane old new
+IsLeft lane (came.Refused e) old new = IsGivenUp lane old new
+IsLeft lane outcome old new = Unit {0}
+
+-- Whose the Turn is after an act that wasn't held off, and whose the lock of those that remove objects, unless no command goes on.
+abbrev pub Locks : Kind → ℕ → Outcome → rust.Books → rust.Books → Type 0
+Locks kind lane outcome old new = IsLeft lane outcome (turn_in kind lane old.turn) new.turn × IsLeft lane outcome (exclusive_in kind lane old.exclusive) new.exclusive

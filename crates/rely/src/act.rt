@@ -9,7 +9,7 @@ ghost use Rattle.rely.specs.declared.event.Event.{Event};
 ghost use Rattle.rely.specs.declared.kind.Outcome.TheVariants as Outcome;
 ghost use Rattle.fs_trait.specs.declared.types.FsErr.TheVariants as FsErr;
 ghost use Rattle.rely.specs.Books.{books_of, Free, Frees};
-ghost use Rattle.rely.specs.Exact.{Opens, Steps, Tells, IsUnbooked, IsHeldBy, IsShownBy, IsSettledBy, IsBooked, Causes};
+ghost use Rattle.rely.specs.Exact.{Opens, Steps, Tells, IsUnbooked, IsHeldBy, IsShownBy, IsSettledBy, IsBooked, Causes, IsGivenUp, IsLeft, Locks};
 ghost use Rattle.rely.specs.Laws.{IsShow, IsShown, IsOwing, IsSettle, IsQuiet, IsStore, IsTake, KeepsRoom, owed_by, Ready, Runs, IsBy, Stood, Acts, Ends, IsEnd, Show, Shown, Settle};
 
 use crate::{Base, Event, Outcome, Step, Wants, Work, is_free};
@@ -44,7 +44,8 @@ fn advance_with_room<T: Work, F: Fs>(
 
 /// A command ends, and its lane holds nothing any more.
 fn end<F>(base: &mut Base<F>, actor: u8, lane: u8)
-    ensures { Ends actor lane base.old base.new }
+    ensures ends { Ends actor lane base.old base.new }
+    ensures given_up { IsGivenUp lane base.old.books.turn base.new.books.turn × IsGivenUp lane base.old.books.exclusive base.new.books.exclusive }
 {
     base.books.release(actor, lane);
 }
@@ -55,6 +56,7 @@ fn refuse<F: Fs>(base: &mut Base<F>, actor: u8, lane: u8, before: u64, e: FsErr)
     ensures ends { Ends actor lane base.old base.new }
     ensures told { IsEnd result base.new }
     ensures answer { ((result ≡ Outcome.Halted) × (e ≡ FsErr.Failed)) ⊎ (result ≡ Outcome.Refused e) }
+    ensures given_up { IsLeft lane result base.old.books.turn base.new.books.turn × IsLeft lane result base.old.books.exclusive base.new.books.exclusive }
 {
     if e == FsErr::Failed && base.fs.clock() != before {
         base.books.halted = true;
@@ -75,6 +77,7 @@ fn quiet<T: Work, F: Fs>(base: &mut Base<F>, actor: u8, lane: u8, task: &mut T) 
     ensures wrote { (v : View) → F.view base.old.fs ≡ Some v → Told (F.view base.new.fs) (λ w. Writes (T.writes_of actor task.old v) v w) }
     ensures tells { Tells T.leaves T.refuses task.old result task.new (F.view base.old.fs) (F.view base.new.fs) }
     ensures goes { result ≢ Outcome.Blocked }
+    ensures left { IsLeft lane result base.old.books.turn base.new.books.turn × IsLeft lane result base.old.books.exclusive base.new.books.exclusive }
     ensures booked { IsUnbooked base.old.books base.new.books }
     ensures cause { Causes (F.faults base.old.fs) (F.faults base.new.fs) result }
 {
@@ -99,6 +102,7 @@ fn show<T: Work, F: Fs>(base: &mut Base<F>, lane: u8, command: u32, task: &mut T
     ensures tells { Tells T.leaves T.refuses task.old result task.new (F.view base.old.fs) (F.view base.new.fs) }
     ensures blocked { result ≡ Outcome.Blocked → (base.new ≡ base.old) × ((Free base.old.books.exclusive lane × Free base.old.books.turn lane) → ⊥) }
     ensures opens { result ≢ Outcome.Blocked → (Free base.old.books.exclusive lane × Free base.old.books.turn lane) }
+    ensures locks { Locks (T.kind_of task.old) lane result base.old.books base.new.books }
     ensures booked { (e : Event) → T.kind_of task.old ≡ Show e → IsShownBy lane command e result base.old.books base.new.books }
     ensures cause { (v : View) → F.view base.old.fs ≡ Some v → Causes (F.faults base.old.fs) (F.faults base.new.fs) result }
 {
@@ -133,6 +137,7 @@ fn show_event<T: Work, F: Fs>(
     ensures wrote { (v : View) → F.view base.old.fs ≡ Some v → Told (F.view base.new.fs) (λ w. Writes (T.writes_of lane task.old v) v w) }
     ensures tells { Tells T.leaves T.refuses task.old result task.new (F.view base.old.fs) (F.view base.new.fs) }
     ensures goes { result ≢ Outcome.Blocked }
+    ensures locks { Locks (T.kind_of task.old) lane result base.old.books base.new.books }
     ensures booked { IsShownBy lane command event result base.old.books base.new.books }
     ensures cause { (v : View) → F.view base.old.fs ≡ Some v → Causes (F.faults base.old.fs) (F.faults base.new.fs) result }
 {
@@ -162,6 +167,7 @@ fn shown<T: Work, F: Fs>(base: &mut Base<F>, lane: u8, task: &mut T) -> Outcome
     ensures wrote { (v : View) → F.view base.old.fs ≡ Some v → Told (F.view base.new.fs) (λ w. Writes (T.writes_of lane task.old v) v w) }
     ensures tells { Tells T.leaves T.refuses task.old result task.new (F.view base.old.fs) (F.view base.new.fs) }
     ensures goes { result ≢ Outcome.Blocked }
+    ensures locks { Locks (T.kind_of task.old) lane result base.old.books base.new.books }
     ensures booked { IsHeldBy result base.old.books base.new.books }
     ensures cause { (v : View) → F.view base.old.fs ≡ Some v → Causes (F.faults base.old.fs) (F.faults base.new.fs) result }
 {
@@ -184,6 +190,7 @@ fn settle<T: Work, F: Fs>(base: &mut Base<F>, lane: u8, task: &mut T) -> Outcome
     ensures wrote { (v : View) → F.view base.old.fs ≡ Some v → Told (F.view base.new.fs) (λ w. Writes (T.writes_of lane task.old v) v w) }
     ensures tells { Tells T.leaves T.refuses task.old result task.new (F.view base.old.fs) (F.view base.new.fs) }
     ensures goes { result ≢ Outcome.Blocked }
+    ensures locks { Locks (T.kind_of task.old) lane result base.old.books base.new.books }
     ensures booked { IsSettledBy (F.clock base.new.fs) result base.old.books base.new.books }
     ensures cause { (v : View) → F.view base.old.fs ≡ Some v → Causes (F.faults base.old.fs) (F.faults base.new.fs) result }
 {
@@ -216,6 +223,7 @@ fn store<T: Work, F: Fs>(base: &mut Base<F>, actor: u8, lane: u8, task: &mut T) 
     ensures tells { Tells T.leaves T.refuses task.old result task.new (F.view base.old.fs) (F.view base.new.fs) }
     ensures blocked { result ≡ Outcome.Blocked → (base.new ≡ base.old) × (Free base.old.books.exclusive lane → ⊥) }
     ensures opens { result ≢ Outcome.Blocked → Free base.old.books.exclusive lane }
+    ensures locks { Locks (T.kind_of task.old) lane result base.old.books base.new.books }
     ensures booked { IsUnbooked base.old.books base.new.books }
     ensures cause { Causes (F.faults base.old.fs) (F.faults base.new.fs) result }
 {
@@ -235,6 +243,7 @@ fn take<T: Work, F: Fs>(base: &mut Base<F>, lane: u8, wants: Wants, task: &mut T
     ensures tells { Tells T.leaves T.refuses task.old result task.new (F.view base.old.fs) (F.view base.new.fs) }
     ensures blocked { result ≡ Outcome.Blocked → (base.new ≡ base.old) × (Frees wants lane (books_of base.old.books) → ⊥) }
     ensures opens { result ≢ Outcome.Blocked → Frees wants lane (books_of base.old.books) }
+    ensures locks { Locks (T.kind_of task.old) lane result base.old.books base.new.books }
     ensures booked { IsUnbooked base.old.books base.new.books }
     ensures cause { Causes (F.faults base.old.fs) (F.faults base.new.fs) result }
 {
@@ -265,6 +274,7 @@ pub fn task_act<T: Work, F: Fs>(
     ensures tells { Tells T.leaves T.refuses task.old result task.new (F.view base.old.fs) (F.view base.new.fs) }
     ensures blocked { result ≡ Outcome.Blocked → (base.new ≡ base.old) × (Opens (T.kind_of task.old) lane (books_of base.old.books) → ⊥) }
     ensures opens { result ≢ Outcome.Blocked → Opens (T.kind_of task.old) lane (books_of base.old.books) }
+    ensures locks { Locks (T.kind_of task.old) lane result base.old.books base.new.books }
     ensures booked { IsBooked (T.kind_of task.old) lane command (F.clock base.new.fs) result base.old.books base.new.books }
     ensures cause { (v : View) → F.view base.old.fs ≡ Some v → Causes (F.faults base.old.fs) (F.faults base.new.fs) result }
 {

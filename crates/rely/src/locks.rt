@@ -7,6 +7,7 @@ ghost use Rattle.std.specs.Vec.{vec_len, vec_capacity};
 ghost use Rattle.rely.specs.declared.books.Share.{Share};
 ghost use Rattle.rely.specs.declared.books.Want.{Want};
 ghost use Rattle.rely.specs.Books.{books_of, Free, Frees, Granted, Agrees, Spared, Keeps};
+ghost use Rattle.rely.specs.Exact.{IsGivenUp, lock_taken};
 
 use crate::{Books, Entry, Event, Hold, Pending, Pin, Share, Want, Wants};
 use ost_types::{NoMemory, ObjName};
@@ -31,6 +32,7 @@ fn only_of(shares: &[Share], lane: u8) -> bool
 fn given_up(lock: Option<u8>, lane: u8) -> Option<u8>
     ensures others { (x : ℕ) → x ≢ lane → lock ≡ Some x → result ≡ Some x }
     ensures no_more { (x : ℕ) → result ≡ Some x → lock ≡ Some x }
+    ensures given_up { IsGivenUp lane lock result }
 {
     match lock {
         Some(holder) => if holder == lane { None } else { Some(holder) },
@@ -68,6 +70,7 @@ fn taken(lock: Option<u8>, wanted: bool, lane: u8) -> Option<u8>
     ensures wanted { IsTrue wanted → result ≡ Some lane }
     ensures kept { (IsTrue wanted → Free lock lane) → (x : ℕ) → lock ≡ Some x → result ≡ Some x }
     ensures no_more { (x : ℕ) → result ≡ Some x → (lock ≡ Some x) ⊎ (IsTrue wanted × (x ≡ lane)) }
+    ensures value { result ≡ lock_taken wanted lane lock }
 {
     if wanted { Some(lane) } else { lock }
 }
@@ -134,6 +137,7 @@ impl Books {
         ensures granted { OnOk result (Granted wants.now actor lane (books_of self.new)) }
         ensures spared { Spared actor lane (books_of self.old) (books_of self.new) }
         ensures keeps { Keeps lane (books_of self.old) (books_of self.new) }
+        ensures taken { (self.new.turn ≡ lock_taken wants.now.turn lane self.old.turn) × (self.new.exclusive ≡ lock_taken wants.now.exclusive lane self.old.exclusive) }
         ensures agrees { Agrees (books_of self.old) → Agrees (books_of self.new) }
     {
         self.exclusive = taken(self.exclusive, wants.exclusive, lane);
@@ -148,6 +152,7 @@ impl Books {
     pub(crate) fn release(&mut self, actor: u8, lane: u8)
         ensures same { self.new ≡ record self.old { shared = self.new.shared; exclusive = self.new.exclusive; turn = self.new.turn; sysroot = self.new.sysroot; holds = self.new.holds; wants = self.new.wants; pins = self.new.pins } }
         ensures turn { (x : ℕ) → self.new.turn ≡ Some x → self.old.turn ≡ Some x }
+        ensures given_up { IsGivenUp lane self.old.turn self.new.turn × IsGivenUp lane self.old.exclusive self.new.exclusive }
         ensures spared { Spared actor lane (books_of self.old) (books_of self.new) }
         ensures agrees { Agrees (books_of self.old) → Agrees (books_of self.new) }
     {

@@ -49,6 +49,7 @@ impl<F: Fs> Base<F> {
         ensures history { result.books.history.items ≡ [] }
         ensures pending { result.books.pending ≡ None }
         ensures live { result.books.halted ≡ false }
+        ensures free { (result.books.turn ≡ None) × (result.books.exclusive ≡ None) }
         ensures opened { result.books.opened ≡ opened }
         ensures sound { Sound F.view F.clock F.spare F.was result }
     {

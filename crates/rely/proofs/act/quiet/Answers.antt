@@ -25,7 +25,7 @@ returns-in-Ok-Done-clause-acts g c =
     let e = c.in-Ok-Done.ensures in
     let r = c.requires in
     quiet_acts g.F.Fs.view g.F.Fs.clock g.F.Fs.spare g.F.Fs.was (fs g) g.met.T.Work.laws c.args.base.now c.advance_with_room.new.base c.end.new.base c.args.actor c.args.lane c.args.task.now c.advance_with_room.new.task _
-    e.books c.end.ensures r.by r.unseen r.stood r.ready e.writes e.time e.room tt
+    e.books c.end.ensures.ends r.by r.unseen r.stood r.ready e.writes e.time e.room tt
 
 pub returns-in-Err-clause-acts : goal.returns-in-Err-clause-acts
 returns-in-Err-clause-acts g c =

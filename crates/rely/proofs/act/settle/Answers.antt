@@ -23,7 +23,7 @@ returns-else-not-acknowledge-clause-acts g c =
     settle_acts g.F.Fs.view g.F.Fs.clock g.F.Fs.spare g.F.Fs.was (fs g) g.met.T.Work.laws old (record { fs = c.advance.new.fs; books = c.acknowledge.new.self }) c.end.new.base c.args.lane t c.advance.new.self c.in-Ok-Done.field-0 k.0 (Runs g.T.Work.kind_of g.T.Work.facts c.args.lane c.advance.new.self) k.1
     c.acknowledge.ensures.same
     (λ p is. c.acknowledge.ensures.entry c.if-not-acknowledge.false p is ∙ ap (λ (m : ℕ). old.books.history.items ++ record { lane = p.lane; command = p.command; event = p.event; moment = m } ∷ []) c.clock-moment.ensures)
-    c.end.ensures r.ready e.writes e.time (e.ticks r.kind) c.in-Ok-Done.field-0-is e.after
+    c.end.ensures.ends r.ready e.writes e.time (e.ticks r.kind) c.in-Ok-Done.field-0-is e.after
 
 pub returns-in-Err-clause-acts : goal.returns-in-Err-clause-acts
 returns-in-Err-clause-acts g c =

@@ -18,7 +18,7 @@ returns-in_default-clause-acts g c =
     let old = c.args.base.now in
     let t = c.args.task.now in
     still_acts g.F.Fs.view g.F.Fs.clock g.F.Fs.spare g.F.Fs.was (fs g) g.met.T.Work.laws old old c.end.new.base c.args.lane c.args.lane (Runs g.T.Work.kind_of g.T.Work.facts c.args.lane t) (Runs g.T.Work.kind_of g.T.Work.facts c.args.lane t) _
-    refl (λ v told. told) (no_time g.F.Fs.view g.F.Fs.clock g.F.Fs.spare g.F.Fs.was (fs g) g.met.T.Work.laws old.fs) r.ready.sound.ordered.room c.end.ensures
+    refl (λ v told. told) (no_time g.F.Fs.view g.F.Fs.clock g.F.Fs.spare g.F.Fs.was (fs g) g.met.T.Work.laws old.fs) r.ready.sound.ordered.room c.end.ensures.ends
     (show_not g.F.Fs.view g.F.Fs.clock g.F.Fs.spare g.F.Fs.was (fs g) g.met.T.Work.laws old c.args.lane t r.kind r.ready) r.ready
 
 pub returns-then-is_err-clause-acts : goal.returns-then-is_err-clause-acts
@@ -33,5 +33,5 @@ returns-then-is_err-clause-acts g c =
     let ready = room_ready g.F.Fs.view g.F.Fs.clock g.F.Fs.spare g.F.Fs.was (fs g) g.met.T.Work.laws old made runs m.same m.items m.more r.ready in
     room_acts g.F.Fs.view g.F.Fs.clock g.F.Fs.spare g.F.Fs.was (fs g) g.met.T.Work.laws old c.end-then-is_err.new.base made c.args.lane c.args.lane _ runs m.same m.items
     (still_acts g.F.Fs.view g.F.Fs.clock g.F.Fs.spare g.F.Fs.was (fs g) g.met.T.Work.laws mid mid c.end-then-is_err.new.base c.args.lane c.args.lane runs runs _
-    refl (λ v told. told) (no_time g.F.Fs.view g.F.Fs.clock g.F.Fs.spare g.F.Fs.was (fs g) g.met.T.Work.laws old.fs) ready.sound.ordered.room c.end-then-is_err.ensures
+    refl (λ v told. told) (no_time g.F.Fs.view g.F.Fs.clock g.F.Fs.spare g.F.Fs.was (fs g) g.met.T.Work.laws old.fs) ready.sound.ordered.room c.end-then-is_err.ensures.ends
     (show_not g.F.Fs.view g.F.Fs.clock g.F.Fs.spare g.F.Fs.was (fs g) g.met.T.Work.laws mid c.args.lane t r.kind ready) ready)

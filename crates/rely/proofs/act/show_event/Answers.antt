@@ -34,7 +34,7 @@ returns-in-Err-NoMemory-clause-acts g c =
     let old = c.args.base.now in
     let is : IsShow (g.T.Work.kind_of c.args.task.now) = subst IsShow (sym r.kind) tt in
     still_acts g.F.Fs.view g.F.Fs.clock g.F.Fs.spare g.F.Fs.was (fs g) g.met.T.Work.laws old mid c.end.new.base c.args.lane c.args.lane (Runs g.T.Work.kind_of g.T.Work.facts c.args.lane c.args.task.now) (Runs g.T.Work.kind_of g.T.Work.facts c.args.lane c.advance_with_room.new.task) _
-    e.books (λ v told. e.unchanged v told (ap Err c.in-Err-NoMemory.field-0-is)) e.time e.room c.end.ensures (show_not g.F.Fs.view g.F.Fs.clock g.F.Fs.spare g.F.Fs.was (fs g) g.met.T.Work.laws old c.args.lane c.args.task.now is r.ready) r.ready
+    e.books (λ v told. e.unchanged v told (ap Err c.in-Err-NoMemory.field-0-is)) e.time e.room c.end.ensures.ends (show_not g.F.Fs.view g.F.Fs.clock g.F.Fs.spare g.F.Fs.was (fs g) g.met.T.Work.laws old c.args.lane c.args.task.now is r.ready) r.ready
 
 pub returns-in-Err-clause-acts : goal.returns-in-Err-clause-acts
 returns-in-Err-clause-acts g c =

@@ -28,7 +28,7 @@ returns-then-is_err-clause-acts g c =
     let none : NotPending c.args.lane (books_of b) = subst (λ (k : Kind). Holds k c.args.lane (books_of b)) is ready.task.holds in
     take_acts g.F.Fs.view g.F.Fs.clock g.F.Fs.spare g.F.Fs.was g.met.T.Work.laws old c.end.new.base b c.args.lane _ runs e.spared e.keeps
     (still_acts g.F.Fs.view g.F.Fs.clock g.F.Fs.spare g.F.Fs.was (fs g) g.met.T.Work.laws mid mid c.end.new.base c.args.lane c.args.lane runs runs _
-    refl (λ v told. told) (no_time g.F.Fs.view g.F.Fs.clock g.F.Fs.spare g.F.Fs.was (fs g) g.met.T.Work.laws old.fs) ready.sound.ordered.room c.end.ensures none ready)
+    refl (λ v told. told) (no_time g.F.Fs.view g.F.Fs.clock g.F.Fs.spare g.F.Fs.was (fs g) g.met.T.Work.laws old.fs) ready.sound.ordered.room c.end.ensures.ends none ready)
 
 pub returns-clause-acts : goal.returns-clause-acts
 returns-clause-acts g c = take_acts g.F.Fs.view g.F.Fs.clock g.F.Fs.spare g.F.Fs.was g.met.T.Work.laws c.args.base.now c.quiet.new.base c.grant.new.self c.args.lane c.quiet.result _ c.grant.ensures.spared c.grant.ensures.keeps c.quiet.ensures.acts
