@@ -87,7 +87,7 @@ returns-in_default-clause-goes g c =
     let ready = begin_ready g.F.Fs.view g.F.Fs.clock g.F.Fs.spare g.F.Fs.was c.args.lane c.args.base.now c.args.refs.now c.in-Runs.work c.requires.sound c.requires.live c.requires.facts c.in-Runs.ensures.begun.0 in
     let after = subst (λ (s : State). Pursues s c.args.command.now c.in-Runs.work) (sym (start_is b c.len-start.result from)) (pursues_begins c.args.lane (now_of b) c.args.command.now c.in-Runs.work (c.in-Runs.ensures.by (now_of b) c.requires.tracks)) in
     subst (λ (came : Came). Goes (IsTold g.F.Fs.view) (first b.start.items) c.args.lane c.args.run.now.command c.args.command.now b c.running_act.new.base.books None c.args.run.now.task came) (sym k.1)
-    (goes_ended g.F.Fs.view g.F.Fs.clock g.F.Fs.spare g.F.Fs.was g.met.F.Fs.told g.met.F.Fs.tree c.args.lane c.args.run.now.command _ c.args.command.now c.args.base.now c.running_act.new.base c.in-Runs.work c.running_act.new.work ready c.len-start.result
+    (goes_ended g.F.Fs.view g.F.Fs.clock g.F.Fs.spare g.F.Fs.was g.met.F.Fs.told g.met.F.Fs.tree c.args.lane c.args.run.now.command _ c.args.command.now c.args.base.now c.running_act.new.base c.in-Runs.work c.running_act.new.work ready c.len-start.result e.acts.sound e.acts.books.start
     c.running_act.result e.steps e.tells e.opens e.booked e.over after (λ p is mine. absurd (c.requires.facts.runs p is mine)) _ k.0 k.2 None c.args.run.now.task from c.requires.idle)
 
 pub returns-in_default-clause-halts : goal.returns-in_default-clause-halts
@@ -100,7 +100,7 @@ returns-in_default-clause-halts g c = λ a start is halted.
     let after = subst (λ (s : State). Pursues s c.args.command.now c.in-Runs.work) (sym (start_is b c.len-start.result from)) (pursues_begins c.args.lane (now_of b) c.args.command.now c.in-Runs.work (c.in-Runs.ensures.by (now_of b) c.requires.tracks)) in
     let one : Answered k.0 c.len-start.result ≡ Answered a start = sym k.1 ∙ is in
     let same : k.0 ≡ a = cc in
-    let h = ended_halts g.F.Fs.view g.F.Fs.clock g.F.Fs.spare g.F.Fs.was g.met.F.Fs.told g.met.F.Fs.tree c.args.lane c.args.run.now.command _ c.args.command.now c.args.base.now c.running_act.new.base c.in-Runs.work c.running_act.new.work ready c.len-start.result
+    let h = ended_halts g.F.Fs.view g.F.Fs.clock g.F.Fs.spare g.F.Fs.was g.met.F.Fs.told g.met.F.Fs.tree c.args.lane c.args.run.now.command _ c.args.command.now c.args.base.now c.running_act.new.base c.in-Runs.work c.running_act.new.work ready c.len-start.result e.acts.sound e.acts.books.start
     c.running_act.result e.steps e.tells e.opens e.booked after (λ p shown mine. absurd (c.requires.facts.runs p shown mine)) e.acts.tells _ k.0 k.2 (subst IsHalted (sym same) halted) in
     (h.0, sym same ∙ h.1)
 

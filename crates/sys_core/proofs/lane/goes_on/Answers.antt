@@ -51,7 +51,7 @@ returns-in_default-clause-goes g c =
     let b = c.args.base.now.books in
     let ready : Ready g.F.Fs.view g.F.Fs.clock g.F.Fs.spare g.F.Fs.was (Runs command_kind command_facts c.args.lane c.args.running.work) c.args.base.now = record { sound = c.requires.sound; live = c.requires.live; task = c.requires.facts.runs.0 } in
     subst (λ (x : Came). Goes (IsTold g.F.Fs.view) (first b.start.items) c.args.lane c.args.run.now.command c.args.command.now b c.running_act.new.base.books (Some c.args.running) c.args.run.now.task x) (sym k.1)
-    (goes_ended g.F.Fs.view g.F.Fs.clock g.F.Fs.spare g.F.Fs.was g.met.F.Fs.told g.met.F.Fs.tree c.args.lane c.args.run.now.command _ c.args.command.now c.args.base.now c.running_act.new.base c.args.running.work c.running_act.new.work ready c.args.running.start
+    (goes_ended g.F.Fs.view g.F.Fs.clock g.F.Fs.spare g.F.Fs.was g.met.F.Fs.told g.met.F.Fs.tree c.args.lane c.args.run.now.command _ c.args.command.now c.args.base.now c.running_act.new.base c.args.running.work c.running_act.new.work ready c.args.running.start e.acts.sound e.acts.books.start
     c.running_act.result e.steps e.tells e.opens e.booked e.over c.requires.after c.requires.mine _ k.0 k.2 (Some c.args.running) c.args.run.now.task refl c.requires.idle)
 
 pub returns-in_default-clause-halts : goal.returns-in_default-clause-halts
@@ -61,7 +61,7 @@ returns-in_default-clause-halts g c = λ a start is halted.
     let ready : Ready g.F.Fs.view g.F.Fs.clock g.F.Fs.spare g.F.Fs.was (Runs command_kind command_facts c.args.lane c.args.running.work) c.args.base.now = record { sound = c.requires.sound; live = c.requires.live; task = c.requires.facts.runs.0 } in
     let one : Answered k.0 c.args.running.start ≡ Answered a start = sym k.1 ∙ is in
     let same : k.0 ≡ a = cc in
-    let h = ended_halts g.F.Fs.view g.F.Fs.clock g.F.Fs.spare g.F.Fs.was g.met.F.Fs.told g.met.F.Fs.tree c.args.lane c.args.run.now.command _ c.args.command.now c.args.base.now c.running_act.new.base c.args.running.work c.running_act.new.work ready c.args.running.start
+    let h = ended_halts g.F.Fs.view g.F.Fs.clock g.F.Fs.spare g.F.Fs.was g.met.F.Fs.told g.met.F.Fs.tree c.args.lane c.args.run.now.command _ c.args.command.now c.args.base.now c.running_act.new.base c.args.running.work c.running_act.new.work ready c.args.running.start e.acts.sound e.acts.books.start
     c.running_act.result e.steps e.tells e.opens e.booked c.requires.after c.requires.mine e.acts.tells _ k.0 k.2 (subst IsHalted (sym same) halted) in
     (h.0, sym same ∙ h.1)
 
