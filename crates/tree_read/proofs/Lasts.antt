@@ -126,7 +126,7 @@ file_taken files rest files' folders folders' i name x cut is_name is_named is_f
     (subst (λ f. IsLast files folders (record { name = name; named = x }) rest f) (sym is_folders)
     (file_last files rest folders i (record { name = name; named = x }) cut (child_is name x (file_child i) is_name is_named) ascending less))
 
-last_same : {X : Type 0} (xs ys : List X) (x y : X) → xs ++ x ∷ [] ≡ ys ++ y ∷ [] → x ≡ y
+pub last_same : {X : Type 0} (xs ys : List X) (x y : X) → xs ++ x ∷ [] ≡ ys ++ y ∷ [] → x ≡ y
 last_same [] [] x y e = cc
 last_same [] (z ∷ ys) x y e = absurd (omega (arith, ap length e, length-append ys (y ∷ [])))
 last_same (z ∷ xs) [] x y e = absurd (omega (arith, ap length e, length-append xs (x ∷ [])))

@@ -4,3 +4,8 @@ pub mod Merged
 mod Shorts
 pub mod Walk
 pub mod Lines
+pub mod Stops
+pub mod Steps
+mod Openings
+mod Telling
+mod Running

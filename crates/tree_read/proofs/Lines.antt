@@ -1,5 +1,6 @@
 -- The order of the items is kept.
-use Rattle.std.proofs.Common.{◌≡◌, ◌⊎◌, inl, inr, List, [], ◌∷◌, ◌++◌, map, refl, sym, ◌∙◌, ap, subst, append-nil, append_assoc}
+use Rattle.std.proofs.Common.{◌≡◌, ◌-◌, arith, List, [], ◌∷◌, ◌++◌, length, take, map, refl, sym, ◌∙◌, ap, subst, append-nil, append_assoc, length-append}
+use Rattle.std.proofs.lemmas.List.{take_at}
 use Rattle.std.specs.List.{AllByRecursion}
 use Rattle.std.specs.List.Sorted.{IsStrictlySortedBy}
 use Rattle.std.specs.Cmp.{IsTotalOrder}
@@ -21,7 +22,7 @@ use Rattle.tree_read.specs.Order.{IsShort}
 
 -- ---- the order of paths
 
-path_order : IsTotalOrder path_cmp
+pub path_order : IsTotalOrder path_cmp
 path_order = lists_total nat_list_cmp_total
 
 equal : (o : Ordering) → is_eq o ≡ true → o ≡ Equal
@@ -33,11 +34,11 @@ name_itself : (x : Name) → slice_cmp nat_cmp x x ≡ Equal
 name_itself x = equal (slice_cmp nat_cmp x x) ((eq_by_cmp_equiv nat_list_cmp_total).refl x)
 
 -- a common front decides nothing
-common : (f p q : Path) → path_cmp (f ++ p) (f ++ q) ≡ path_cmp p q
+pub common : (f p q : Path) → path_cmp (f ++ p) (f ++ q) ≡ path_cmp p q
 common [] p q = refl
 common (x ∷ f) p q = rw (name_itself x) (common f p q)
 
-less_below : (at : Path) (x : Name) → path_cmp at (under at x) ≡ Less
+pub less_below : (at : Path) (x : Name) → path_cmp at (under at x) ≡ Less
 less_below at x = ap (λ p. path_cmp p (under at x)) (sym (append-nil at)) ∙ common at [] (x ∷ [])
 
 less_by_name : (at : Path) (x y : Name) (r : Path) → IsBefore x y → path_cmp (under at x ++ r) (under at y) ≡ Less
@@ -49,15 +50,15 @@ each : {X : Type 0} (P Q : X → Type 0) → ((x : X) → P x → Q x) → (xs :
 each P Q f [] h = tt
 each P Q f (x ∷ xs) h = (f x h.0, each P Q f xs h.1)
 
-front : {X : Type 0} (P : X → Type 0) (xs ys : List X) → AllByRecursion P (xs ++ ys) → AllByRecursion P xs
+pub front : {X : Type 0} (P : X → Type 0) (xs ys : List X) → AllByRecursion P (xs ++ ys) → AllByRecursion P xs
 front P [] ys h = tt
 front P (x ∷ xs) ys h = (h.0, front P xs ys h.1)
 
-back : {X : Type 0} (P : X → Type 0) (xs ys : List X) → AllByRecursion P (xs ++ ys) → AllByRecursion P ys
+pub back : {X : Type 0} (P : X → Type 0) (xs ys : List X) → AllByRecursion P (xs ++ ys) → AllByRecursion P ys
 back P [] ys h = h
 back P (x ∷ xs) ys h = back P xs ys h.1
 
-both : {X : Type 0} (P : X → Type 0) (xs ys : List X) → AllByRecursion P xs → AllByRecursion P ys → AllByRecursion P (xs ++ ys)
+pub both : {X : Type 0} (P : X → Type 0) (xs ys : List X) → AllByRecursion P xs → AllByRecursion P ys → AllByRecursion P (xs ++ ys)
 both P [] ys h g = g
 both P (x ∷ xs) ys h g = (h.0, both P xs ys h.1 g)
 
@@ -71,7 +72,7 @@ line_front [] ys h = tt
 line_front (x ∷ xs) ys h = (front (λ i. ComesBefore i x) xs ys h.0, line_front xs ys h.1)
 
 -- the next item comes before all others
-next_first : (items : List Item) (next : Item) → AreInLine (items ++ next ∷ []) → AllByRecursion (ComesBefore next) items
+pub next_first : (items : List Item) (next : Item) → AreInLine (items ++ next ∷ []) → AllByRecursion (ComesBefore next) items
 next_first [] next h = tt
 next_first (x ∷ items) next h = ((back (λ i. ComesBefore i x) items (next ∷ []) h.0).0, next_first items next h.1)
 
@@ -79,7 +80,7 @@ line_both : (xs ys : List Item) → AreInLine xs → AreInLine ys → AllByRecur
 line_both [] ys h g over = g
 line_both (x ∷ xs) ys h g over = (both (λ i. ComesBefore i x) xs ys h.0 over.0, line_both xs ys h.1 g over.1)
 
-paths_push : (found : Nodes) (p : Path) (n : NodeName) → paths_of (found ++ (p, n) ∷ []) ≡ paths_of found ++ p ∷ []
+pub paths_push : (found : Nodes) (p : Path) (n : NodeName) → paths_of (found ++ (p, n) ∷ []) ≡ paths_of found ++ p ∷ []
 paths_push [] p n = refl
 paths_push (x ∷ found) p n = ap (λ l. x.0 ∷ l) (paths_push found p n)
 
@@ -88,7 +89,7 @@ paths_push (x ∷ found) p n = ap (λ l. x.0 ∷ l) (paths_push found p n)
 pub may_push : (found : Nodes) (items : List Item) (next : Item) → IsAscending (paths_of found) → InLine found (items ++ next ∷ []) → IsAscending (paths_of found ++ next.path ∷ [])
 may_push found items next a h = ascending_more (paths_of found) next.path a (back (AreAfter found) items (next ∷ []) h.after).0
 
-reaches_nothing : (x : Named) → Reaches x []
+pub reaches_nothing : (x : Named) → Reaches x []
 reaches_nothing (Folder tree meta) = tt
 reaches_nothing (Attributes meta) = refl
 reaches_nothing (File sum) = refl
@@ -166,3 +167,24 @@ module _ (found : Nodes) (items : List Item) (next : Item) (tree meta : List ℕ
         short = both (λ i. IsShort i.path) items new (front (λ i. IsShort i.path) items (next ∷ []) h.short)
             (both (λ i. IsShort i.path) (map (item_of next.path tree) cs) (itself ∷ []) short (subst IsShort (sym at_it) next_short, tt));
       }
+
+-- a path below another doesn't come before it
+pub not_above : (p rest : Path) → path_cmp (p ++ rest) p ≡ Less → ⊥
+not_above p [] less = absurd (let n : Equal ≡ Less = sym (common p [] []) ∙ ap (path_cmp (p ++ [])) (append-nil p) ∙ less in cc)
+not_above p (x ∷ rest) less = absurd (let n : Greater ≡ Less = sym (common p (x ∷ rest) []) ∙ ap (path_cmp (p ++ x ∷ rest)) (append-nil p) ∙ less in cc)
+
+-- the root alone
+pub line_begins : (root : Item) → root.path ≡ [] → InLine [] (root ∷ [])
+line_begins root top = record {
+  line = (tt, tt);
+  after = (tt, tt);
+  short = (subst IsShort (sym top) (omega arith, omega arith), tt);
+}
+
+-- the list without its last one
+pub without_last : {X : Type 0} (old new rest : List X) (x : X) (n : ℕ) → n ≡ length old → new ≡ take (n - 1) old → old ≡ rest ++ x ∷ [] → new ≡ rest
+without_last old new rest x n count is cut =
+    is ∙ ap (take (n - 1)) cut ∙ take_at rest (x ∷ []) (n - 1) (omega (arith, count, ap length cut, length-append rest (x ∷ [])))
+
+pub some_last : {X : Type 0} (xs : List X) (x : X) → xs ++ x ∷ [] ≡ [] → ⊥
+some_last xs x e = omega (arith, ap length e, length-append xs (x ∷ []))

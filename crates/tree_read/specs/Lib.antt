@@ -6,3 +6,4 @@ pub mod Order
 pub mod Line
 pub mod Walked
 pub mod Whole
+pub mod Reading

@@ -1,6 +1,8 @@
 -- What is told of one object of a tree.
 use Rattle.std.specs.Prelude.{◌≡◌, ◌≢◌, ℕ, List, Result, Ok, Err}
+use Rattle.ost_types.specs.declared.meta.Meta.{Meta}
 use Rattle.ost_types.specs.declared.object.Kind.{Kind}
+use Rattle.ost_types.specs.Mode.{IsFolderMode}
 use Rattle.ost_types.specs.declared.object.ObjName.{ObjName}
 use Rattle.ost_forms.specs.declared.fault.ObjFault.{ObjFault}
 use Rattle.ost_forms.specs.declared.fault.ObjFault.TheVariants as read
@@ -39,3 +41,8 @@ Reads kind bytes P (Ok Absent) = ⊥
 Reads kind bytes P (Ok Damaged) = (e : ObjFault) × Misreads kind 0 bytes e × (e ≢ read.NoMemory)
 Reads kind bytes P (Err fs.NoMemory) = Unit {0}
 Reads kind bytes P (Err e) = ⊥
+
+-- the attributes that are there are a folder's
+abbrev pub OfFolder : Result (Looked Meta) FsErr → Type 0
+OfFolder (Ok (Here m)) = IsFolderMode m.mode
+OfFolder r = Unit {0}

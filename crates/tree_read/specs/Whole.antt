@@ -1,11 +1,13 @@
 -- What the tree of a commit is read as.
-use Rattle.std.specs.Prelude.{◌≡◌, ◌⊎◌, ◌↔◌, ℕ, List, Contains, Result, Ok, Err}
+use Rattle.std.specs.Prelude.{◌≡◌, ◌⊎◌, ◌↔◌, ◌≤◌, ℕ, List, Contains, Result, Ok, Err}
 use Rattle.ost_types.specs.declared.limits.Limits.{Limits}
 use Rattle.ost_types.specs.declared.node.NodeName.{NodeName}
 use Rattle.ost_types.specs.declared.object.Kind.TheVariants as kind
 use Rattle.ost_types.specs.Path.{Path}
 use Rattle.ost_types.specs.PathMap.{Nodes}
 use Rattle.ost_forms.specs.Commit.{CommitParts}
+use Rattle.fs_trait.specs.declared.types.FsErr.TheVariants as fs
+use Rattle.fs_trait.specs.Count.{Rose}
 use Rattle.fs_trait.specs.Effect.{OfNone}
 use Rattle.fs_trait.specs.View.{Disk}
 use Rattle.repo_model.specs.Objects.{Store, Stores}
@@ -31,3 +33,12 @@ ReadsTree d limits commit (Err (fault.Absent o)) = AtCommitOr d commit ((o ≡ n
 ReadsTree d limits commit (Err (fault.Damaged o)) = AtCommitOr d commit ((o ≡ name_of kind.Commit commit) × IsDamaged d limits.content o) (λ tree meta. FirstDamaged d limits tree meta o)
 ReadsTree d limits commit (Err (fault.Fs e)) = OfNone e
 ReadsTree d limits commit (Err fault.NoMemory) = Unit {0}
+
+-- `Failed` comes only where the count of faults rose, or stands at its last value
+abbrev pub IsFailed : {T : Type 0} → Result T TreeFault → Type 0
+IsFailed (Err (fault.Fs fs.Failed)) = Unit {0}
+IsFailed r = ⊥
+
+pub record HasCauseOf {T : Type 0} (before now : ℕ) (result : Result T TreeFault) : Type 0 where
+  pub later : before ≤ now
+  pub failed : IsFailed result → Rose before now

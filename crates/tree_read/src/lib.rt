@@ -6,5 +6,7 @@ mod fault;
 mod item;
 mod looked;
 mod objects;
+mod task;
 
 pub use fault::TreeFault;
+pub use task::TreeTask;

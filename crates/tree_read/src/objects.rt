@@ -10,7 +10,7 @@ ghost use Rattle.ost_objects.specs.Object.{HasForm};
 ghost use Rattle.repo_model.specs.Objects.{Has, Stores};
 ghost use Rattle.repo_model.specs.Trees.{HasCommit, HasEntries, HasMeta, name_of};
 ghost use Rattle.tree_read.specs.declared.looked.Looked.TheVariants.{Here};
-ghost use Rattle.tree_read.specs.Looks.{Looks, Reads};
+ghost use Rattle.tree_read.specs.Looks.{Looks, OfFolder, Reads};
 
 use crate::looked::Looked;
 use fs_trait::{Fs, FsErr};
@@ -95,6 +95,7 @@ pub fn look_at_attributes<F: Fs>(
     limits: &Limits,
 ) -> Result<Looked<Meta>, FsErr>
     ensures told { (v : View) → F.view fs.old ≡ Some v → Looks v.now limits.now.content (name_of kinds.DirMeta meta.now) (HasMeta (Stores v.now) meta.now) result }
+    ensures folder { OfFolder result }
     ensures quiet { IsQuiet (F.clock fs.old) (F.clock fs.new) (F.was fs.old) (F.was fs.new) (F.view fs.old) (F.view fs.new) }
     ensures keeps_room { F.spare fs.old ≤ F.spare fs.new }
     ensures cause { HasCause (F.faults fs.old) (F.faults fs.new) result }

@@ -1,0 +1,158 @@
+-- What a step tells, from what was told of its object.
+use Rattle.std.proofs.Common.{◌≡◌, ◌<◌, ◌≤◌, ◌+◌, inl, inr, ℕ, true, false, List, [], ◌∷◌, ◌++◌, Result, Ok, Err, length, take, refl, sym, ◌∙◌, ap, subst, get_or}
+use Rattle.std.proofs.lemmas.List.{take_more}
+use Rattle.std.specs.List.{AllByRecursion}
+use Rattle.ost_types.specs.declared.limits.Limits.{Limits}
+use Rattle.ost_types.specs.declared.meta.Meta.{Meta}
+use Rattle.ost_types.specs.declared.node.NodeName.{NodeName}
+use Rattle.ost_types.specs.declared.node.NodeName.TheVariants as node
+use Rattle.ost_types.specs.declared.object.Kind.TheVariants as kind
+use Rattle.ost_types.specs.declared.object.ObjName.{ObjName}
+use Rattle.ost_types.specs.Mode.{IsFolderMode}
+use Rattle.ost_forms.specs.Commit.{CommitParts}
+use Rattle.ost_forms.specs.DirMeta.{ReadsDirMeta}
+use Rattle.ost_forms.specs.DirTree.{Entries}
+use Rattle.fs_trait.specs.declared.types.FsErr.{FsErr}
+use Rattle.fs_trait.specs.declared.task.Turn.{Turn}
+use Rattle.fs_trait.specs.declared.task.Turn.TheVariants as turn
+use Rattle.fs_trait.specs.View.{Disk}
+use Rattle.repo_model.specs.Objects.{Stores, Has}
+use Rattle.repo_model.specs.Trees.{HasCommit, HasEntries, HasMeta, name_of}
+use Rattle.tree_read.specs.declared.fault.TreeFault.{TreeFault}
+use Rattle.tree_read.specs.declared.fault.TreeFault.TheVariants as fault
+use Rattle.tree_read.specs.declared.item.Named.{Named}
+use Rattle.tree_read.specs.declared.item.Named.TheVariants.{Folder, Attributes, File}
+use Rattle.tree_read.specs.declared.item.Item.{Item}
+use Rattle.tree_read.specs.declared.looked.Looked.{Looked}
+use Rattle.tree_read.specs.declared.looked.Looked.TheVariants.{Here, Absent, Damaged}
+use Rattle.tree_read.specs.Looks.{IsAbsent, IsDamaged, Looks, OfFolder, Reads}
+use Rattle.tree_read.specs.Order.{IsShort, FirstDamaged}
+use Rattle.tree_read.specs.Reading.{Reading, IsNext, IsSoFar, IsStepped, Knows, StepTells, Takes, IsOpened, OpensAt, begun_at, left_of}
+use Rattle.tree_read.proofs.Lines.{both}
+use Rattle.tree_read.proofs.Steps.{at_item, absent_here, damaged_here, full_here, far_here, takes_file, takes_folder, opened_on, begun_on, falls_taken, falls_opened, falls_begun}
+use Rattle.tree_read.proofs.Stops.{first_of}
+
+abbrev Turned : Type 0
+Turned = Turn (Result (Unit {0}) TreeFault)
+
+module _ {T : Type 0} (d : Disk) (content : ℕ) (name : ObjName) (P : T → Type 0) (looked : Looked T) where
+  pub is_here : (x : T) → looked ≡ Here x → Looks d content name P (Ok looked) → P x
+  is_here x is told = subst (λ l. Looks d content name P (Ok l)) is told
+
+  pub is_absent : looked ≡ Absent → Looks d content name P (Ok looked) → IsAbsent d name
+  is_absent is told = subst (λ l. Looks d content name P (Ok l)) is told
+
+  pub is_damaged : looked ≡ Damaged → Looks d content name P (Ok looked) → IsDamaged d content name
+  is_damaged is told = subst (λ l. Looks d content name P (Ok l)) is told
+
+pub of_reads : (bytes : List ℕ) (r : Result (Looked Meta) FsErr) → Reads kind.DirMeta bytes (λ m. ReadsDirMeta (λ x. x) bytes (Ok m)) r → OfFolder r
+of_reads bytes (Ok (Here m)) reads = reads.1
+of_reads bytes (Ok Absent) reads = tt
+of_reads bytes (Ok Damaged) reads = tt
+of_reads bytes (Err e) reads = tt
+
+pub of_folder : (looked : Looked Meta) (m : Meta) → looked ≡ Here m → OfFolder (Ok looked) → IsFolderMode m.mode
+of_folder looked m is of = subst (λ l. OfFolder (Ok l)) is of
+
+module _ (d : Disk) (old : Reading) (named : Named) (owner : List ℕ) (n : IsNext old named owner) (so : IsSoFar d old) where
+  next : Item
+  next = at_item n.path named owner
+
+  pub stop_absent : (r : Turned) (o : ObjName) → r ≡ turn.Done (Err (fault.Absent o)) → o ≡ first_of named → IsAbsent d o → StepTells d old (Ok r) old
+  stop_absent r o is first absent =
+      let k = so n.begun in
+      subst (λ r. StepTells d old (Ok r) old) (sym is) (inr (k.parts, k.has, absent_here d old n.items (at_item n.path named owner) n.cut k o first n.room absent))
+
+  pub stop_damaged : (r : Turned) (o : ObjName) (limits : Limits) → r ≡ turn.Done (Err (fault.Damaged o)) → o ≡ first_of named → limits ≡ old.limits → IsDamaged d limits.content o → StepTells d old (Ok r) old
+  stop_damaged r o limits is first same damaged =
+      let k = so n.begun in
+      subst (λ r. StepTells d old (Ok r) old) (sym is)
+      (inr (k.parts, k.has, damaged_here d old n.items (at_item n.path named owner) n.cut k o first n.room (subst (λ (l : Limits). IsDamaged d l.content o) same damaged)))
+
+pub more_file : (d : Disk) (old new : Reading) (limits : Limits) (file owner : List ℕ) → IsNext old (File file) owner → IsSoFar d old → limits ≡ old.limits
+    → Has (Stores d) limits.content (name_of kind.File file) → Takes old (node.Leaf file) new → Knows d new
+more_file d old new limits file owner n so same has takes =
+    let next = at_item n.path (File file) owner in
+    subst (Knows d) (sym (takes n.items next n.cut))
+    (takes_file d old n.items next n.cut (so n.begun) file refl n.room (subst (λ (l : Limits). Has (Stores d) l.content (name_of kind.File file)) same has))
+
+pub more_folder : (d : Disk) (old new : Reading) (meta owner : List ℕ) (m : Meta) → IsNext old (Attributes meta) owner → IsSoFar d old → HasMeta (Stores d) meta m → Takes old (node.Folder m) new → Knows d new
+more_folder d old new meta owner m n so has takes =
+    let next = at_item n.path (Attributes meta) owner in
+    subst (Knows d) (sym (takes n.items next n.cut)) (takes_folder d old n.items next n.cut (so n.begun) meta m refl n.room has)
+
+abbrev Steps : Reading → Reading → Type 0
+Steps old new = (new.commit ≡ old.commit) × (new.limits ≡ old.limits) × (left_of new < left_of old)
+
+pub stepped_taken : (old new : Reading) (named : Named) (owner : List ℕ) (x : NodeName) → IsNext old named owner → Takes old x new → Steps old new
+stepped_taken old new named owner x n takes =
+    let e = takes n.items (at_item n.path named owner) n.cut in
+    (ap (λ t. t.commit) e, ap (λ t. t.limits) e, subst (λ t. left_of t < left_of old) (sym e) (falls_taken old n.items n.path x n.begun n.room))
+
+pub more_opened : (d : Disk) (old new : Reading) (tree meta owner : List ℕ) (e : Entries) → IsNext old (Folder tree meta) owner → IsSoFar d old → HasEntries (Stores d) tree e → OpensAt old owner tree meta e new → Knows d new
+more_opened d old new tree meta owner e n so has o =
+    let next = at_item n.path (Folder tree meta) owner in
+    subst (Knows d) (sym (o.opens n.items next n.cut)) (opened_on d old n.items next n.cut (so n.begun) tree meta refl e has owner refl o.below (o.lists n.items next n.cut))
+
+pub stepped_opened : (old new : Reading) (tree meta owner : List ℕ) (e : Entries) → IsNext old (Folder tree meta) owner → OpensAt old owner tree meta e new → Steps old new
+stepped_opened old new tree meta owner e n o =
+    let next = at_item n.path (Folder tree meta) owner in
+    let s = o.opens n.items next n.cut in
+    (ap (λ t. t.commit) s, ap (λ t. t.limits) s, subst (λ t. left_of t < left_of old) (sym s) (falls_opened old n.items o.below n.path tree meta owner e n.begun n.cut (o.lists n.items next n.cut)))
+
+pub stepped_begun : (old new : Reading) (tree meta : List ℕ) → old.begun ≡ false → new ≡ begun_at old tree meta → Steps old new
+stepped_begun old new tree meta begun e = (ap (λ t. t.commit) e, ap (λ t. t.limits) e, subst (λ t. left_of t < left_of old) (sym e) (falls_begun old tree meta begun))
+
+-- a list that is looked through for long paths
+pub short_more : (items : List Item) (i : ℕ) (x : Item) → i < length items → x ≡ get_or items i x → AllByRecursion (λ (i : Item). IsShort i.path) (take i items) → IsShort x.path → AllByRecursion (λ (i : Item). IsShort i.path) (take (i + 1) items)
+short_more items i x less is all s =
+    subst (AllByRecursion (λ (i : Item). IsShort i.path)) (sym (take_more items i x less ∙ ap (λ y. take i items ++ y ∷ []) (sym is))) (both (λ (i : Item). IsShort i.path) (take i items) (x ∷ []) all (s, tt))
+
+-- ---- the commit
+
+pub more_commit : (d : Disk) (old new : Reading) (commit tree meta : List ℕ) → commit ≡ old.commit → (c : CommitParts) → HasCommit (Stores d) commit c → tree ≡ c.tree → meta ≡ c.meta → new ≡ begun_at old tree meta → Knows d new
+more_commit d old new commit tree meta same c has is_tree is_meta e = subst (Knows d) (sym e) (begun_on d old c tree meta (subst (λ s. HasCommit (Stores d) s c) same has) is_tree is_meta)
+
+pub commit_absent : (d : Disk) (old : Reading) (r : Turned) (commit : List ℕ) → r ≡ turn.Done (Err (fault.Absent (name_of kind.Commit commit))) → commit ≡ old.commit → IsAbsent d (name_of kind.Commit commit) → StepTells d old (Ok r) old
+commit_absent d old r commit is same absent = subst (λ r. StepTells d old (Ok r) old) (sym is) (inl (ap (name_of kind.Commit) same, absent))
+
+pub commit_damaged : (d : Disk) (old : Reading) (r : Turned) (commit : List ℕ) (limits : Limits) → r ≡ turn.Done (Err (fault.Damaged (name_of kind.Commit commit))) → commit ≡ old.commit → limits ≡ old.limits
+    → IsDamaged d limits.content (name_of kind.Commit commit) → StepTells d old (Ok r) old
+commit_damaged d old r commit limits is same same_limits damaged =
+    subst (λ r. StepTells d old (Ok r) old) (sym is) (inl (ap (name_of kind.Commit) same, subst (λ (l : Limits). IsDamaged d l.content (name_of kind.Commit commit)) same_limits damaged))
+
+-- ---- a folder's entries
+
+pub opened_told : (d : Disk) (old new : Reading) (tree meta owner : List ℕ) (e : Entries) → IsNext old (Folder tree meta) owner → IsSoFar d old → HasEntries (Stores d) tree e
+    → (r : Turned) → IsOpened old owner tree meta e (Ok r) new → StepTells d old (Ok r) new
+opened_told d old new tree meta owner e n so has turn.More o = more_opened d old new tree meta owner e n so has o
+opened_told d old new tree meta owner e n so has (turn.Done (Ok x)) o = absurd o
+opened_told d old new tree meta owner e n so has (turn.Done (Err (fault.Absent x))) o = absurd o
+opened_told d old new tree meta owner e n so has (turn.Done (Err (fault.Damaged x))) o =
+    let k = so n.begun in
+    let next = at_item n.path (Folder tree meta) owner in
+    inr (k.parts, k.has, subst (FirstDamaged d old.limits k.parts.tree k.parts.meta) (sym o.1) (far_here d old n.items next n.cut k tree meta refl e has (o.2 n.items next n.cut) n.room))
+opened_told d old new tree meta owner e n so has (turn.Done (Err (fault.Fs x))) o = absurd o
+opened_told d old new tree meta owner e n so has (turn.Done (Err fault.NoMemory)) o = absurd o
+
+pub opened_stepped : (old new : Reading) (tree meta owner : List ℕ) (e : Entries) → IsNext old (Folder tree meta) owner → (r : Turned) → IsOpened old owner tree meta e (Ok r) new → IsStepped old (Ok r) new
+opened_stepped old new tree meta owner e n turn.More o = stepped_opened old new tree meta owner e n o
+opened_stepped old new tree meta owner e n (turn.Done (Ok x)) o = absurd o
+opened_stepped old new tree meta owner e n (turn.Done (Err (fault.Absent x))) o = absurd o
+opened_stepped old new tree meta owner e n (turn.Done (Err (fault.Damaged x))) o = o.0
+opened_stepped old new tree meta owner e n (turn.Done (Err (fault.Fs x))) o = absurd o
+opened_stepped old new tree meta owner e n (turn.Done (Err fault.NoMemory)) o = absurd o
+
+-- ---- the next item
+
+pub next_of : (t : Reading) (rest : List Item) (last : Item) (named : Named) → t.pending ≡ rest ++ last ∷ [] → last.named ≡ named → t.begun ≡ true → length t.found < t.limits.paths → IsNext t named last.owner
+next_of t rest last named cut is begun room = record {
+  items = rest;
+  path = last.path;
+  cut = cut ∙ ap (λ x. rest ++ at_item last.path x last.owner ∷ []) is;
+  begun = begun;
+  room = room;
+}
+
+pub stop_full : (d : Disk) (t : Reading) (rest : List Item) (last : Item) (r : Turned) → t.pending ≡ rest ++ last ∷ [] → Knows d t → r ≡ turn.Done (Err (fault.Damaged (name_of kind.DirTree last.owner))) → t.limits.paths ≤ length t.found → StepTells d t (Ok r) t
+stop_full d t rest last r cut k is full = subst (λ r. StepTells d t (Ok r) t) (sym is) (inr (k.parts, k.has, full_here d t rest last cut k full))
