@@ -1,7 +1,6 @@
 pub mod Printing
 pub mod Greatest
 pub mod Texts
-pub mod Laters
 pub mod Plain
 pub mod Rans
 pub mod Outcomes

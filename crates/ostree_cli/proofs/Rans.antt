@@ -1,5 +1,5 @@
 -- What a run of lanes leaves, where the file system tells its view.
-use Rattle.std.proofs.Common.{◌≡◌, ◌+◌, ℕ, List, Option, Some, Result, Ok, Err, IfOk, map, refl, sym, subst}
+use Rattle.std.proofs.Common.{◌≡◌, ◌∙◌, ◌+◌, ℕ, List, [], ◌∷◌, length, ap, Option, Some, Result, Ok, Err, IfOk, map, refl, sym, subst}
 use Rattle.fs_trait.specs.View.{View}
 use Rattle.fs_trait.specs.Image.{Told}
 use Rattle.rely.specs.State.{first}
@@ -27,13 +27,18 @@ told_all o R told all = (told.0, told.1, all told.0 told.1)
 pub same_refs : (o : Option View) (refs : List (List ℕ × List ℕ)) (v : View) → Told o (Begins refs v) → Logical v.now (first refs)
 same_refs o refs v told = told.2.same
 
+lengths : (lanes : List Lane) → map (λ lane. length lane.commands.items) lanes ≡ map (λ row. length row) (map (λ lane. lane.commands.items) lanes)
+lengths [] = refl
+lengths (lane ∷ rest) = ap (λ l. length lane.commands.items ∷ l) (lengths rest)
+
 pub ran : {F : Type 0} (view : F → Option View) (clock : F → ℕ) (was : F → ℕ → View → Type 0) (v : View) (before barrier : ℕ) (refs : List (List ℕ × List ℕ)) (lanes : List Lane) (r : Result (Parts F) (F × TopFault))
     → IsSane v.now → Logical v.now (first refs) → barrier ≡ before + 1 → ((fs : F) → Told (view fs) (λ w. Unit {0}))
     → ((w : View) → IfOk r (λ p. view p.fs ≡ Some w → Headline clock was barrier (first refs) p.fs p.history.items (event_of p.pending) w))
     → IfOk r (λ p. (started : List (Option ℕ)) × Replied (IsTold view) (first refs) p.history.items p.pending lanes started (map (λ replies. replies.items) p.replies.items))
+    → IfOk r (λ p. map (λ row. length row) (map (λ replies. replies.items) p.replies.items) ≡ map (λ lane. length lane.commands.items) lanes)
     → IfOk r (λ p. Told (view p.fs) (Ran view clock was v before (map (λ lane. lane.commands.items) lanes) p.fs p.history.items (event_of p.pending) (map (λ replies. replies.items) p.replies.items)))
-ran view clock was v before barrier refs lanes (Err e) sane state at told lines replied = tt
-ran view clock was v before barrier refs lanes (Ok p) sane state at told lines replied = told_all (view p.fs) (Ran view clock was v before (map (λ lane. lane.commands.items) lanes) p.fs p.history.items (event_of p.pending) (map (λ replies. replies.items) p.replies.items)) (told p.fs) (λ w is. record {
+ran view clock was v before barrier refs lanes (Err e) sane state at told lines replied ended = tt
+ran view clock was v before barrier refs lanes (Ok p) sane state at told lines replied ended = told_all (view p.fs) (Ran view clock was v before (map (λ lane. lane.commands.items) lanes) p.fs p.history.items (event_of p.pending) (map (λ replies. replies.items) p.replies.items)) (told p.fs) (λ w is. record {
   sane = sane;
   start = first refs;
   state = state;
@@ -44,6 +49,7 @@ ran view clock was v before barrier refs lanes (Ok p) sane state at told lines r
   by = p.pending;
   shown = refl;
   replied = replied.1;
+  ended = ended ∙ lengths lanes;
 })
 
 -- what is said of the replies of a system is said of what it was taken apart into

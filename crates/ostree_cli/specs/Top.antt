@@ -1,5 +1,5 @@
 -- What the whole call comes to.
-use Rattle.std.specs.Prelude.{◌≡◌, ◌⊎◌, ◌+◌, ℕ, List, [], map, Option, Some, None}
+use Rattle.std.specs.Prelude.{◌≡◌, ◌⊎◌, ◌+◌, ℕ, List, [], length, map, Option, Some, None}
 use Rattle.fs_trait.specs.Count.{Rose}
 use Rattle.fs_trait.specs.View.{Disk, View, all_synced}
 use Rattle.rely.specs.declared.books.Entry.{Entry}
@@ -41,7 +41,7 @@ event_of (Some p) = Some p.event
 
 -- What a run of lanes with these commands leaves: the repository was sane, and from the refs that it had then all is as the
 -- headline says. Each reply is by its command and by the states that the changes make of these refs; and each change is one
--- command's, which was answered so, or which was cut off where the change is pending.
+-- command's, which was answered so, or which was cut off where the change is pending. Each command of each lane has its reply.
 pub record Ran {F : Type 0} (view : F → Option View) (clock : F → ℕ) (was : F → ℕ → View → Type 0) (v : View) (before : ℕ) (commands : List (List Command)) (fs : F) (history : List Entry) (pending : Option Event) (replies : List (List Reply)) (w : View) : Type 0 where
   pub sane : IsSane v.now
   pub start : State
@@ -53,6 +53,7 @@ pub record Ran {F : Type 0} (view : F → Option View) (clock : F → ℕ) (was 
   pub by : Option Pending
   pub shown : pending ≡ event_of by
   pub replied : Replied (IsTold view) start history by lanes started replies
+  pub ended : map (λ row. length row) replies ≡ map (λ row. length row) commands
 
 -- so, of lanes that these words ask for
 abbrev pub RanBy : {F : Type 0} → List (List ℕ) → (F → Option View) → (F → ℕ) → (F → ℕ → View → Type 0) → View → ℕ → F → List Entry → Option Event → List (List Reply) → View → Type 0

@@ -8,7 +8,6 @@ ghost use Rattle.sys_open.specs.declared.fault.OpenFault.TheVariants as opening;
 ghost use Rattle.ostree_cli.specs.declared.fault.TopFault.TheVariants as fault;
 ghost use Rattle.rely.specs.State.{first};
 ghost use Rattle.sys_core.specs.Answers.{IsTold};
-ghost use Rattle.sys_core.specs.Booked.{IsLater};
 ghost use Rattle.sys_core.specs.Replied.{Replied};
 ghost use Rattle.ostree_cli.specs.Headline.{Headline};
 ghost use Rattle.ostree_cli.specs.Top.{IsStop, Ran, StaysOn, event_of};
@@ -18,7 +17,7 @@ use fs_trait::Fs;
 use ost_types::{Limits, NoMemory};
 use script::Lane;
 use std::alloc::Global;
-use sys_core::{Ask, Parts, System};
+use sys_core::{Parts, System};
 use sys_open::{OpenFault, Opened, adopt};
 
 /// Opens the repository, and runs all commands of the lanes. Where no lane is run the file system comes back.
@@ -48,51 +47,15 @@ fn run_opened<F: Fs>(
     requires short { (l : ℕ) (d : Lane) → l < length lanes.items → length (slice_index_or lanes.items l d).commands.items ≤ 64 }
     ensures ran { (w : View) → IfOk result (λ p. F.view p.fs ≡ Some w → Headline F.clock F.was opened.clock (first opened.refs) p.fs p.history.items (event_of p.pending) w) }
     ensures replied { IfOk result (λ p. (started : List (Option ℕ)) × Replied (IsTold F.view) (first opened.refs) p.history.items p.pending lanes.items started (map (λ replies. replies.items) p.replies.items)) }
+    ensures ended { IfOk result (λ p. map (λ row. length row) (map (λ replies. replies.items) p.replies.items) ≡ map (λ lane. length lane.commands.items) lanes.items) }
     ensures back { IfErr result (λ e. (e.0 ≡ opened.fs) × (e.1 ≡ fault.NoMemory)) }
 {
     match System::new(alloc, opened, lanes) {
         Ok(system) => {
             let mut system = system;
-            run_all(&mut system);
+            system.drive(&[]);
             Ok(system.into_parts())
         }
         Err((opened, NoMemory)) => Err((opened.into_fs(), TopFault::NoMemory)),
-    }
-}
-
-// Acts of the lanes in turn, till none of them does work.
-fn run_all<F: Fs>(system: &mut System<F>)
-    ensures later { IsLater system.old system.new }
-    ensures lanes { system.new.lanes ≡ system.old.lanes }
-{
-    for _ in 0..u64::MAX {
-        if !round(system) {
-            break;
-        }
-    }
-}
-
-// One act of each lane. Whether any of them did work.
-fn round<F: Fs>(system: &mut System<F>) -> bool
-    ensures later { IsLater system.old system.new }
-    ensures lanes { system.new.lanes ≡ system.old.lanes }
-{
-    let mut worked = false;
-    for lane in 0..8 {
-        if act(system, lane) {
-            worked = true;
-        }
-    }
-    worked
-}
-
-// One act of a lane. Whether it did work.
-fn act<F: Fs>(system: &mut System<F>, lane: u8) -> bool
-    ensures later { IsLater system.old system.new }
-    ensures lanes { system.new.lanes ≡ system.old.lanes }
-{
-    match system.act(lane) {
-        Ask::More | Ask::Done { .. } => true,
-        Ask::Blocked | Ask::Ended => false,
     }
 }

@@ -42,6 +42,14 @@ const TABLE: &[(&str, &str, u8)] = &[
     ("", "fault usage\n", 2),
 ];
 
+// The same, where a mark then says that the commit is partial.
+const PARTIAL: &[(&str, &str, u8)] = &[
+    ("drop a/b/c", "0 0 ok\n", 0),
+    ("reset main X", "0 0 refused Partial X\n", 1),
+    ("rev-parse X", "0 0 refused Partial X\n", 1),
+    ("refs", "0 0 ok 0\n", 0),
+];
+
 // The text with the digits in the places of X and Y.
 fn digits(alloc: Global, text: &str) -> Result<String, Fail> {
     let mut whole = String::new(alloc);
@@ -138,22 +146,17 @@ fn answers_over_memory(rt: HostRuntime) -> Result<(), Fail> {
         assert!(rt; same, "{line}");
         fs = back;
     }
-    Ok(())
-}
-
-#[test]
-fn refuses_a_partial_commit(rt: HostRuntime) -> Result<(), Fail> {
-    let alloc = rt.alloc();
-    let mut fs = with_commit(alloc)?;
-    add_folder(&mut fs, alloc, b"/ostree/repo/state")?;
     add_file(
         &mut fs,
         alloc,
         b"/ostree/repo/state/1111111111111111111111111111111111111111111111111111111111111111.commitpartial",
         b"",
     )?;
-    let (_, same) = answers(alloc, fs, "reset main X", "0 0 refused Partial X\n", 1)?;
-    assert!(rt; same);
+    for (line, output, status) in PARTIAL {
+        let (back, same) = answers(alloc, fs, line, output, *status)?;
+        assert!(rt; same, "{line}");
+        fs = back;
+    }
     Ok(())
 }
 
@@ -188,6 +191,30 @@ fn tells_damage(rt: HostRuntime) -> Result<(), Fail> {
     Ok(())
 }
 
+// What a crash leaves so many changes before the end.
+fn check_left(
+    rt: &impl Abort,
+    alloc: Global,
+    fs: &MemFs,
+    back: u64,
+    picks: Vec<u32>,
+    output: &str,
+    status: u8,
+) -> Result<(), Fail> {
+    let moment = fs.moments().saturating_sub(back);
+    let left = fs.image(moment, &Choice { picks, fill: 0 })?;
+    let (_, same) = answers(alloc, left, "rev-parse main", output, status)?;
+    assert!(rt; same);
+    Ok(())
+}
+
+// It has the ref or lacks it, by the choice.
+fn check_either(rt: &impl Abort, alloc: Global, fs: &MemFs, back: u64) -> Result<(), Fail> {
+    let old = vec![in alloc; 0]?;
+    check_left(rt, alloc, fs, back, old, "0 0 refused NoRef\n", 1)?;
+    check_left(rt, alloc, fs, back, Vec::new(alloc), "0 0 ok X\n", 0)
+}
+
 // Its last sync fails, as the first call that does: what was shown may last or not.
 #[test]
 fn halts_where_a_sync_fails(rt: HostRuntime) -> Result<(), Fail> {
@@ -195,7 +222,6 @@ fn halts_where_a_sync_fails(rt: HostRuntime) -> Result<(), Fail> {
     let (fs, _) = answers(alloc, with_commit(alloc)?, "init", "", 0)?;
     let (fs, _) = answers(alloc, fs, "reset main X", "0 0 ok\n", 0)?;
     let calls = fs.moments();
-    let before_last = calls.saturating_sub(1);
     let mut halted = false;
     for call in 1..200 {
         let (mut fs, _) = answers(alloc, with_commit(alloc)?, "init", "", 0)?;
@@ -209,20 +235,9 @@ fn halts_where_a_sync_fails(rt: HostRuntime) -> Result<(), Fail> {
         assert_eq!(rt; ended.status, 4);
         if ended.pending.is_some() && ended.fs.moments() == calls {
             halted = true;
-            let old = Choice {
-                picks: vec![in alloc; 0]?,
-                fill: 0,
-            };
-            let image = ended.fs.image(before_last, &old)?;
-            let (_, same) = answers(alloc, image, "rev-parse main", "0 0 refused NoRef\n", 1)?;
-            assert!(rt; same);
-            let new = Choice {
-                picks: Vec::new(alloc),
-                fill: 0,
-            };
-            let image = ended.fs.image(before_last, &new)?;
-            let (_, same) = answers(alloc, image, "rev-parse main", "0 0 ok X\n", 0)?;
-            assert!(rt; same);
+            // after the sync that failed, and between the rename and it
+            check_either(&rt, alloc, &ended.fs, 0)?;
+            check_either(&rt, alloc, &ended.fs, 1)?;
         }
     }
     assert!(rt; halted);
@@ -261,6 +276,16 @@ fn answers_over_the_host(rt: HostRuntime) -> Result<(), Fail> {
         HEADER,
     )?;
     for (line, output, status) in TABLE {
+        let host = HostFs::new(rt.clone()?)?;
+        let (_, same) = answers(alloc, host, line, output, *status)?;
+        assert!(rt; same, "{line}");
+    }
+    fs::write(
+        &rt,
+        "ostree/repo/state/1111111111111111111111111111111111111111111111111111111111111111.commitpartial",
+        HEADER,
+    )?;
+    for (line, output, status) in PARTIAL {
         let host = HostFs::new(rt.clone()?)?;
         let (_, same) = answers(alloc, host, line, output, *status)?;
         assert!(rt; same, "{line}");

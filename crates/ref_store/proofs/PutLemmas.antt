@@ -1,10 +1,10 @@
 -- The ref's file is put at its path.
-use Rattle.std.proofs.Common.{◌≡◌, ⊎_elim, ℕ, true, false, refl, sym, ◌∙◌, ap, subst, List, length, Some, None, Ok}
+use Rattle.std.proofs.Common.{◌≡◌, ⊎_elim, true, false, refl, sym, ◌∙◌, ap, subst, length, Ok}
 use Rattle.fs_trait.specs.declared.types.FsErr.{FsErr}
 use Rattle.fs_trait.specs.declared.types.FsErr.TheVariants.{Failed, NoMemory, Exists, Missing, NotFolder, NotEmpty}
 use Rattle.fs_trait.specs.declared.task.Turn.TheVariants.{More, Done}
 use Rattle.fs_trait.specs.View.{View}
-use Rattle.fs_trait.specs.Seen.{Seen, Vacant, Directory, Symlink, Leaf, shows, MayBe, IsDirectory, NotDirectory, bytes_in}
+use Rattle.fs_trait.specs.Seen.{Seen, Vacant, Directory, Symlink, Leaf, shows, MayBe, IsDirectory, NotDirectory}
 use Rattle.fs_trait.specs.Change.{Writes, LeadsTo}
 use Rattle.fs_trait.proofs.Kept.{same_view}
 use Rattle.repo_layout.specs.Paths.{ref_path}
@@ -18,8 +18,8 @@ use Rattle.staged_file.proofs.Wholes.{IsSame, IsSame-refl, same_stepped, written
 use Rattle.staged_file.proofs.Stable.{ended_lasts}
 use Rattle.ref_store.specs.declared.phase.Phase.{Phase}
 use Rattle.ref_store.specs.declared.phase.Phase.TheVariants as phase
-use Rattle.ref_store.specs.Change.{Change, IsRefFile}
-use Rattle.ref_store.specs.Steps.{Needs, needs_in, Refuses, refuses_in, ShowsValue, leads}
+use Rattle.ref_store.specs.Change.{Change, IsRefFile, file_meta}
+use Rattle.ref_store.specs.Steps.{Needs, needs_in, Refuses, refuses_in, ShowsNew, leads}
 use Rattle.ref_store.proofs.StepLemmas.{meets_in, made}
 
 both_not : (s : Seen) → IsDirectory s → NotDirectory s → ⊥
@@ -27,12 +27,6 @@ both_not (Directory m) is no_ = no_
 both_not Vacant is no_ = is
 both_not (Symlink m l) is no_ = is
 both_not (Leaf n m b) is no_ = is
-
-bytes_not : (s : Seen) (b : List ℕ) → bytes_in s ≡ Some b → NotDirectory s
-bytes_not (Directory m) b e = let n : None ≡ Some b = e in cc
-bytes_not Vacant b e = tt
-bytes_not (Symlink m l) b e = tt
-bytes_not (Leaf n m c) b e = tt
 
 -- no folder stands at the target, so that it is never refused for one
 put_refuses : (t : Change) (v : View) (s : Staged) → s.at ≡ ref_path t.name → NotDirectory (shows v.now (ref_path t.name)) → (e : FsErr) → steps.Refuses s v e → refuses_in (phase.Put s) t v e
@@ -55,6 +49,7 @@ same_file t s u same is = record {
   stage = same.stage ∙ is.stage;
   folder = same.folder ∙ is.folder;
   at = same.at ∙ is.at;
+  meta = same.meta ∙ is.meta;
   bytes = same.bytes ∙ is.bytes;
   long = ap length same.bytes ∙ is.long;
   show = same.show ∙ is.show;
@@ -62,13 +57,17 @@ same_file t s u same is = record {
 
 -- the same file, of a change in another phase
 pub file_in : (t : Change) (ph : Phase) (s : Staged) → IsRefFile t s → IsRefFile (record t { phase = ph }) s
-file_in t ph s is = record { commit = is.commit; value = is.value; sum = is.sum; stage = is.stage; folder = is.folder; at = is.at; bytes = is.bytes; long = is.long; show = is.show }
+file_in t ph s is = record { commit = is.commit; value = is.value; sum = is.sum; stage = is.stage; folder = is.folder; at = is.at; meta = is.meta; bytes = is.bytes; long = is.long; show = is.show }
+
+-- where the whole file stands, the ref has its new value
+pub shows_new : (t : Change) (f : Staged) → IsRefFile t f → (s : Seen) → steps.IsFileWith f.meta f.bytes s → ShowsNew t.value s
+shows_new t f is s file = subst (λ o. ShowsNew o s) (sym is.value) (is.sum, (file.0, file.1 ∙ ap (λ m. Leaf file.0 m f.bytes) is.meta ∙ ap (Leaf file.0 file_meta) is.bytes))
 
 -- no folder comes to the target
 still_no_folder : (s : Staged) (v w : View) → Writes (steps.WritesOf s v) v w → NotDirectory (shows v.now s.at) → NotDirectory (shows w.now s.at)
 still_no_folder s v w writes leaf =
     let all : Writes (Written s) v w = written_on s s (IsSame-refl s) v v w (same_view (Written s) v) writes in
-    ⊎_elim (λ same. subst NotDirectory (sym same) leaf) (λ a. ⊎_elim (λ a. a.1) (λ a. bytes_not _ s.bytes a.1) a) (all.now s.at)
+    ⊎_elim (λ same. subst NotDirectory (sym same) leaf) (λ a. ⊎_elim (λ a. a.1) (λ a. subst NotDirectory (sym a.1.1) tt) a) (all.now s.at)
 
 module _ (t : Change) (v : View) (needs : Needs t v) (s : Staged) (is : t.phase ≡ phase.Put s) where
   the_file : IsRefFile t s
@@ -101,12 +100,9 @@ module _ (t : Change) (v : View) (needs : Needs t v) (s : Staged) (is : t.phase 
   last_phase file.Unlink x e last = let n : false ≡ true = last in cc
 
   settled : (u : Staged) → IsRefFile t u → u.phase ≡ file.Ended → (w : View) → steps.Needs u w → needs_in phase.Ended (record t { phase = phase.Ended }) w
-  settled u f ended w after = subst (λ o. ((s : Seen) → MayBe w (ref_path t.name) s → ShowsValue o s) × leads o t.name w) (sym f.value) (
-    λ x may.
-        let last = ended_lasts u w after ended x (subst (λ p. MayBe w p x) (sym f.at) may) in
-        let b : bytes_in x ≡ Some u.bytes = subst (λ how. steps.lasts how u.bytes x) f.show last in
-        (f.sum, b ∙ ap Some f.bytes),
-    λ p x may. subst (λ g. LeadsTo g p x) f.folder (needs_leads u w after p x may),
+  settled u f ended w after = (
+    λ x may. shows_new t u f x (subst (λ how. steps.lasts how u.meta u.bytes x) f.show (ended_lasts u w after ended x (subst (λ p. MayBe w p x) (sym f.at) may))),
+    subst (λ o. leads o t.name w) (sym f.value) (λ p x may. subst (λ g. LeadsTo g p x) f.folder (needs_leads u w after p x may)),
   )
 
   pub put_done : (u : Staged) (x : Unit {0}) → staging.IsStepped {T = Unit {0}} s (Ok (Done x)) u → (w : View) → steps.Needs u w → Needs (record t { phase = phase.Ended }) w

@@ -6,7 +6,7 @@ use Rattle.ost_types.proofs.Paths.{is_below-self}
 use Rattle.fs_trait.specs.declared.types.Value.TheVariants.{Absent}
 use Rattle.fs_trait.specs.View.{View}
 use Rattle.fs_trait.specs.Image.{IsTree}
-use Rattle.fs_trait.specs.Seen.{Seen, Vacant, seen, shows, IsDirectory, NotDirectory, bytes_in}
+use Rattle.fs_trait.specs.Seen.{Seen, Vacant, seen, shows, IsDirectory, NotDirectory}
 use Rattle.fs_trait.specs.Change.{Writes, LeadsTo}
 use Rattle.fs_trait.proofs.Images.{not_both}
 use Rattle.fs_trait.proofs.Effects.{may_now}
@@ -22,16 +22,18 @@ use Rattle.ref_room.specs.Clearing.{IsLeaf, IsUnder}
 use Rattle.ref_room.proofs.Names.{IsPath-front}
 use Rattle.ref_room.proofs.Disks.{below_absent}
 use Rattle.staged_file.specs.Staged.{lock_in}
+use Rattle.staged_file.specs.Steps.{IsFileWith}
 use Rattle.staged_file.proofs.Stable.{staged_lies}
 use Rattle.ref_store.specs.declared.phase.Phase.{Phase}
 use Rattle.ref_store.specs.declared.phase.Phase.TheVariants as phase
 use Rattle.ref_store.specs.Change.{Change}
-use Rattle.ref_store.specs.Steps.{Needs, writes_in, ShowsValue}
+use Rattle.ref_store.specs.Steps.{Needs, writes_in, ShowsNew}
 use Rattle.ref_store.specs.Whole.{IsSure}
 use Rattle.ref_store.proofs.StepLemmas.{stage-not_ref, stage-aside}
+use Rattle.ref_store.proofs.PutLemmas.{shows_new}
 use Rattle.ref_store.proofs.RoomLemmas.{clear_lies, walk_lies, way_to-short}
 use Rattle.ref_store.proofs.LookLemmas.{leaf_not_folder}
-use Rattle.ref_store.proofs.Wholes.{Kept, directory_leaf, vacant_leaf, folder_not, value_leaf, off_folder, under_ref, removes}
+use Rattle.ref_store.proofs.Wholes.{Kept, directory_leaf, vacant_leaf, file_leaf, folder_not, new_leaf, off_folder, under_ref, removes}
 
 -- the change in a phase
 abbrev pub at_phase : Change → Phase → Change
@@ -83,7 +85,7 @@ module _ (c : clearing.Cleared) (w : View) (tree : IsTree w.now) (needs : cleari
 
 module _ (t : Change) (w : View) where
   -- what is written at the ref's path
-  at_ref : (ph : Phase) → Needs (at_phase t ph) w → (s : Seen) → writes_in ph (at_phase t ph) w (ref_path t.name) s → (IsSome t.value × IsRoom w (ref_path t.name) s) ⊎ ShowsValue t.value s
+  at_ref : (ph : Phase) → Needs (at_phase t ph) w → (s : Seen) → writes_in ph (at_phase t ph) w (ref_path t.name) s → (IsSome t.value × IsRoom w (ref_path t.name) s) ⊎ ShowsNew t.value s
   at_ref phase.Look needs s a = absurd a
   at_ref (phase.Clear c) needs s a =
       let l = clear_lies (at_phase t (phase.Clear c)) w needs c refl (ref_path t.name) s a in
@@ -91,10 +93,10 @@ module _ (t : Change) (w : View) where
   at_ref (phase.Walk y) needs s a = let l = walk_lies (at_phase t (phase.Walk y)) w needs y refl (ref_path t.name) s a in absurd (way_to-short l.0 t.name l.2 (sym l.1))
   at_ref (phase.Put f) needs s a = by (staged_lies f w needs.meets.0 (ref_path t.name) s a).place
     where
-      by : (ref_path t.name ≡ f.stage) ⊎ ((ref_path t.name ≡ f.at) × (bytes_in s ≡ Some f.bytes) × (lock_in f.phase f ≡ f.lock)) → (IsSome t.value × IsRoom w (ref_path t.name) s) ⊎ ShowsValue t.value s
+      by : (ref_path t.name ≡ f.stage) ⊎ ((ref_path t.name ≡ f.at) × IsFileWith f.meta f.bytes s × (lock_in f.phase f ≡ f.lock)) → (IsSome t.value × IsRoom w (ref_path t.name) s) ⊎ ShowsNew t.value s
       by (inl e) = absurd (stage-not_ref t.actor t.name needs.actor (sym needs.made.stage ∙ sym e))
-      by (inr x) = inr (subst (λ o. ShowsValue o s) (sym needs.made.value) (needs.made.sum, x.1 ∙ ap Some needs.made.bytes))
-  at_ref phase.Unlink needs s a = inr (subst (λ o. ShowsValue o s) (sym needs.made) a.1)
+      by (inr x) = inr (shows_new (at_phase t (phase.Put f)) f needs.made s x.1)
+  at_ref phase.Unlink needs s a = inr (subst (λ o. ShowsNew o s) (sym needs.made) a.1)
   at_ref phase.SyncFolder needs s a = absurd a
   at_ref phase.Ended needs s a = absurd a
 
@@ -117,7 +119,7 @@ module _ (t : Change) (w : View) where
   kept_on (Some commit) ph needs kept x writes = (
     λ s may. ⊎_elim (kept.0 s)
         (λ a. ⊎_elim
-        (λ r. absurd (r.1.old (⊎_elim (λ old. value_leaf (Some commit) _ refl old) (λ new. value_leaf t.value _ r.0 new) (kept.0 _ (may_now w (ref_path t.name))))))
+        (λ r. absurd (r.1.old (⊎_elim (λ old. file_leaf _ _ old.1) (λ new. new_leaf t.value _ r.0 new) (kept.0 _ (may_now w (ref_path t.name))))))
         (λ new. inr new) (at_ref ph needs s a))
         (writes.only (ref_path t.name) s may),
     λ p s may. ⊎_elim (kept.1 p s) (leads_on ph needs p s) (writes.only p s may),
@@ -145,7 +147,7 @@ module _ (t : Change) (w : View) where
   other_leads phase.Look needs tree other commit named sure p s a below = absurd a
   other_leads (phase.Clear c) needs tree other commit named sure p s a below =
       let l = clear_lies (at_phase t (phase.Clear c)) w needs c refl p s a in
-      absurd (no_ref_below c w tree needs.meets.1 a.0.0 other named (value_leaf (Some commit) _ refl (sure.0 _ (may_now w (ref_path other))))
+      absurd (no_ref_below c w tree needs.meets.1 a.0.0 other named (file_leaf _ _ (sure.0 _ (may_now w (ref_path other))).1)
       (subst (λ n. IsUnder n (ref_path other)) (sym needs.made.0) (under_ref t.name other p l.place below)))
   other_leads (phase.Walk y) needs tree other commit named sure p s a below = subst IsDirectory (sym (walk_lies (at_phase t (phase.Walk y)) w needs y refl p s a).3) tt
   other_leads (phase.Put f) needs tree other commit named sure p s a below = ⊎_elim
@@ -161,7 +163,7 @@ module _ (t : Change) (w : View) where
   sure_on None ph needs tree other named apart sure x writes = λ s may. ⊎_elim (sure s) (λ a. (at_other ph needs other apart s a).new) (writes.only (ref_path other) s may)
   sure_on (Some commit) ph needs tree other named apart sure x writes = (
     λ s may. ⊎_elim (sure.0 s)
-        (λ a. absurd ((at_other ph needs other apart s a).old (value_leaf (Some commit) _ refl (sure.0 _ (may_now w (ref_path other))))))
+        (λ a. absurd ((at_other ph needs other apart s a).old (file_leaf _ _ (sure.0 _ (may_now w (ref_path other))).1)))
         (writes.only (ref_path other) s may),
     λ p s may. ⊎_elim (sure.1 p s) (other_leads ph needs tree other commit named sure p s) (writes.only p s may),
   )

@@ -28,10 +28,10 @@ use Rattle.ref_store.specs.declared.lookup.There.TheVariants as there
 use Rattle.ref_store.specs.declared.refusal.RefRefusal.{RefRefusal}
 use Rattle.ref_store.specs.declared.refusal.RefRefusal.TheVariants.{RefClash, RefMoved, NoRef}
 use Rattle.ref_store.specs.Change.{Change, IsStepped, Follows, IsLast, begun}
-use Rattle.ref_store.specs.Steps.{Needs, needs_in, writes_in, WritesOf, HasValue, ShowsValue, leads, Tells, goes_on, MakesRoom, Refuses, refuses_in}
+use Rattle.ref_store.specs.Steps.{Needs, needs_in, writes_in, WritesOf, HasNew, HasValue, Tells, goes_on, MakesRoom, Refuses, refuses_in}
 use Rattle.ref_store.specs.Whole.{IsSure, Written, Leaves, SameLeaves, SparesLeaves, Answers, Lasts, Stops}
 use Rattle.ref_store.proofs.RoomLemmas.{clear_lies, walk_lies}
-use Rattle.ref_store.proofs.Wholes.{Kept, kept_sure, kept_each, sure_each, directory_leaf, vacant_leaf, file_leaf, leaf_is, is_a_leaf, no_leaf}
+use Rattle.ref_store.proofs.Wholes.{Kept, kept_sure, kept_each, new_each, sure_each, directory_leaf, vacant_leaf, file_leaf, leaf_is, is_a_leaf, no_leaf}
 use Rattle.ref_store.proofs.RunLemmas.{IsRoom, at_phase, kept_on, sure_on}
 use Rattle.ref_store.proofs.Writings.{written_in, written_on, sure_still}
 
@@ -363,12 +363,10 @@ module _ (t : Change) (v : View) (u : Change) (same : u ≡ at_phase t u.phase) 
   answers new (Err r) stepped tells = refuses new r tells
 
   -- after a change that is done
-  ended_each : (new : Change) → new ≡ at_phase u phase.Ended → Needs new x → EachImage x (λ d. HasValue d t.name t.value)
-  ended_each new e after = last t.value refl (subst (λ y. needs_in phase.Ended y x) same (subst (λ (y : Change). Needs y x) e after).meets)
-    where
-      last : (o : Option (List ℕ)) → t.value ≡ o → needs_in phase.Ended (at_phase t u.phase) x → EachImage x (λ d. HasValue d t.name t.value)
-      last None is m = subst (λ o. EachImage x (λ d. HasValue d t.name o)) (sym is) (sure_each None t.name x (λ s may. vacant_leaf s (subst (λ o. ShowsValue o s) is (m.0 s may))))
-      last (Some commit) is m = subst (λ o. EachImage x (λ d. HasValue d t.name o)) (sym is) (sure_each (Some commit) t.name x ((λ s may. subst (λ o. ShowsValue o s) is (m.0 s may)), subst (λ o. leads o t.name x) is m.1))
+  ended_each : (new : Change) → new ≡ at_phase u phase.Ended → Needs new x → EachImage x (λ d. HasNew d t.name t.value)
+  ended_each new e after =
+      let m : needs_in phase.Ended (at_phase t u.phase) x = subst (λ y. needs_in phase.Ended y x) same (subst (λ (y : Change). Needs y x) e after).meets in
+      new_each t.value t.name x m.0 m.1
 
   pub lasts : (new : Change) (r : Result (Unit {0}) RefRefusal) → IsStepped u (Ok (Done r)) new → Needs new x → EachImage x (Lasts t r)
   lasts new (Ok y) stepped after = ended_each new stepped.0 after

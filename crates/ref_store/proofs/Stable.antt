@@ -23,14 +23,15 @@ use Rattle.staged_file.proofs.Stable as staged
 use Rattle.ref_store.specs.declared.phase.Phase.{Phase}
 use Rattle.ref_store.specs.declared.phase.Phase.TheVariants as phase
 use Rattle.ref_store.specs.Change.{Change}
-use Rattle.ref_store.specs.Steps.{Needs, needs_in, writes_in, WritesOf, ShowsValue, HereOfStage, begins, leads}
+use Rattle.ref_store.specs.Steps.{Needs, needs_in, writes_in, WritesOf, ShowsNew, HereOfStage, begins, leads}
 use Rattle.ref_store.proofs.StepLemmas.{meets_in, made}
 use Rattle.ref_store.proofs.LookLemmas.{leaf_not_folder}
+use Rattle.ref_store.proofs.PutLemmas.{shows_new}
 use Rattle.ref_store.proofs.RoomLemmas.{clear_lies}
 
--- a write that the change makes among the refs: the ref's new value, a new folder on the way, or a folder that goes
+-- a write that the change makes among the refs: the ref's new value in its file, a new folder on the way, or a folder that goes
 abbrev pub OfRef : Change → View → Path → Seen → Type 0
-OfRef t v p s = ((p ≡ ref_path t.name) × ShowsValue t.value s) ⊎ OnWay t.name v p s ⊎ Goes t.name v p s
+OfRef t v p s = ((p ≡ ref_path t.name) × ShowsNew t.value s) ⊎ OnWay t.name v p s ⊎ Goes t.name v p s
 
 -- Where a write of the next step lies: at the staging path, or among the refs. A file that is written is a new one or the staged
 -- one; and a folder goes at and below the ref's path alone.
@@ -53,7 +54,7 @@ module _ (t : Change) (v : View) (needs : Needs t v) where
   put_lies f is p s l =
       let m = made t v needs (phase.Put f) is in
       record {
-        place = ⊎_elim (λ e. inl (e ∙ m.stage)) (λ x. inr (inl (x.0 ∙ m.at, subst (λ o. ShowsValue o s) (sym m.value) (m.sum, x.1 ∙ ap Some m.bytes)))) l.place;
+        place = ⊎_elim (λ e. inl (e ∙ m.stage)) (λ x. inr (inl (x.0 ∙ m.at, shows_new t f m s x.1))) l.place;
         comes = λ n k b e. subst (λ q. IsFresh n v ⊎ (v.now.at q ≡ File n)) m.stage (l.comes n k b e);
         folders = inr (inl l.folders);
       }
@@ -68,7 +69,7 @@ module _ (t : Change) (v : View) (needs : Needs t v) where
       record { place = inr (inr (inl o)); comes = no_leaf_comes t v s (directory_leaf s o.folder); folders = inl o.folder }
   lies (phase.Put f) is p s a = put_lies f is p s (staged.staged_lies f v (meets_in t v needs (phase.Put f) is).0 p s a)
   lies phase.Unlink is p s a = record {
-    place = inr (inl (a.0, subst (λ o. ShowsValue o s) (sym (made t v needs phase.Unlink is)) a.1));
+    place = inr (inl (a.0, subst (λ o. ShowsNew o s) (sym (made t v needs phase.Unlink is)) a.1));
     comes = no_leaf_comes t v s (λ l. subst IsLeaf a.1 l);
     folders = inr (inl (subst (λ q. NotDirectory (shows v.now q)) (sym a.0) (leaf_not_folder _ (meets_in t v needs phase.Unlink is))));
   }

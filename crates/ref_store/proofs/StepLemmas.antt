@@ -29,7 +29,7 @@ use Rattle.staged_file.specs.Steps.{IsPlaced}
 use Rattle.ref_store.specs.declared.phase.Phase.{Phase}
 use Rattle.ref_store.specs.declared.phase.Phase.TheVariants as phase
 use Rattle.ref_store.specs.Change.{Change, made_in, keeps_folder, IsUnlink, IsSyncFolder}
-use Rattle.ref_store.specs.Steps.{Needs, needs_in, writes_in, WritesOf, refuses_in, ShowsValue, leads}
+use Rattle.ref_store.specs.Steps.{Needs, needs_in, writes_in, WritesOf, refuses_in, ShowsNew, leads}
 
 pub is_unlink : (ph : Phase) → IsUnlink ph → ph ≡ phase.Unlink
 is_unlink phase.Unlink is = refl
@@ -170,7 +170,7 @@ module _ (t : Change) (v : View) (tree : IsTree v.now) (needs : Needs t v) where
   gone s vacant may = subst (λ z. MayShow v z s) (vacant_absent v.now (ref_path t.name) vacant) may
 
   removed : t.value ≡ None → (w : View) → ((s : Seen) → MayBe w (ref_path t.name) s → s ≡ Vacant) → needs_in phase.Ended (record t { phase = phase.Ended }) w
-  removed none w vacant = subst (λ o. ((s : Seen) → MayBe w (ref_path t.name) s → ShowsValue o s) × leads o t.name w) (sym none) (vacant, tt)
+  removed none w vacant = subst (λ o. ((s : Seen) → MayBe w (ref_path t.name) s → ShowsNew o s) × leads o t.name w) (sym none) (vacant, tt)
 
   -- its folder is synced
   pub sync_folder : (folder : Path) → folder ≡ ref_folder t.name → t.phase ≡ phase.SyncFolder

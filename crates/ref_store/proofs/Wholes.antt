@@ -15,7 +15,7 @@ use Rattle.ref_room.specs.Clash.{ref_folder}
 use Rattle.ref_room.specs.Clearing as clearing
 use Rattle.ref_room.specs.Clearing.{IsLeaf, IsUnder}
 use Rattle.ref_room.proofs.Names.{ref_folder-under, below-rest}
-use Rattle.ref_store.specs.Steps.{HasValue, ShowsValue}
+use Rattle.ref_store.specs.Steps.{HasNew, HasValue, ShowsHad, ShowsNew, leads}
 use Rattle.ref_store.specs.Whole.{IsSure}
 use Rattle.ref_store.proofs.RoomLemmas.{below-length}
 
@@ -60,13 +60,17 @@ file_leaf (Directory m) b e = let n : None ≡ Some b = e in cc
 file_leaf (Symlink m l) b e = let n : None ≡ Some b = e in cc
 
 -- the value that a ref has where its path shows that
-pub shows_value : (d : Disk) (name : List ℕ) (o : Option (List ℕ)) → ShowsValue o (shows d (ref_path name)) → HasValue d name o
-shows_value d name None s = no_leaf d (d.at (ref_path name)) (vacant_leaf _ s)
-shows_value d name (Some commit) s = record { sum = s.0; file = reads_shows d (ref_path name) ∙ s.1 }
+shows_commit : (d : Disk) (name : List ℕ) (commit : List ℕ) → ShowsHad (Some commit) (shows d (ref_path name)) → HasValue d name (Some commit)
+shows_commit d name commit s = record { sum = s.0; file = reads_shows d (ref_path name) ∙ s.1 }
 
-pub value_leaf : (o : Option (List ℕ)) (s : Seen) → IsSome o → ShowsValue o s → IsLeaf s
-value_leaf None s some v = let n : false ≡ true = some in cc
-value_leaf (Some commit) s some v = file_leaf s _ v.1
+-- a ref whose file has its attributes and bytes has that value
+pub new_value : (d : Disk) (name : List ℕ) (o : Option (List ℕ)) → HasNew d name o → HasValue d name o
+new_value d name None s = no_leaf d (d.at (ref_path name)) (vacant_leaf _ s)
+new_value d name (Some commit) s = shows_commit d name commit (s.0, ap bytes_in s.1.1)
+
+pub new_leaf : (o : Option (List ℕ)) (s : Seen) → IsSome o → ShowsNew o s → IsLeaf s
+new_leaf None s some v = let n : false ≡ true = some in cc
+new_leaf (Some commit) s some v = subst IsLeaf (sym v.1.1) tt
 
 -- what is sure of a ref is so in each image
 pub sure_each : (o : Option (List ℕ)) (name : List ℕ) (w : View) → IsSure o name w → EachImage w (λ d. HasValue d name o)
@@ -74,26 +78,33 @@ sure_each None name w sure d i = no_leaf d (d.at (ref_path name)) (⊎_elim (λ 
 sure_each (Some commit) name w sure d i =
     let u = ref_folder-under name in
     let may : MayBe w (ref_path name) (shows d (ref_path name)) = subst (λ q. MayBe w q (shows d q)) (sym u.1) (Image-under w d i (ref_folder name) u.0 (Image-folder w d i (ref_folder name) sure.1)) in
-    shows_value d name (Some commit) (sure.0 _ may)
+    shows_commit d name commit (sure.0 _ may)
+
+-- and so is the new value, once the change is done
+pub new_each : (o : Option (List ℕ)) (name : List ℕ) (w : View) → ((s : Seen) → MayBe w (ref_path name) s → ShowsNew o s) → leads o name w → EachImage w (λ d. HasNew d name o)
+new_each None name w only lead d i = ⊎_elim (λ may. only _ may) (λ none. none) (Image-may w d i (ref_path name))
+new_each (Some commit) name w only lead d i =
+    let u = ref_folder-under name in
+    only _ (subst (λ q. MayBe w q (shows d q)) (sym u.1) (Image-under w d i (ref_folder name) u.0 (Image-folder w d i (ref_folder name) lead)))
 
 -- what the path of the ref may show while it is changed
 abbrev pub Kept : Option (List ℕ) → List ℕ → Option (List ℕ) → View → Type 0
-Kept None name value w = (s : Seen) → MayBe w (ref_path name) s → (¬ (IsLeaf s)) ⊎ ShowsValue value s
-Kept (Some commit) name value w = ((s : Seen) → MayBe w (ref_path name) s → ShowsValue (Some commit) s ⊎ ShowsValue value s) × ((p : Path) (s : Seen) → MayBe w p s → LeadsTo (ref_folder name) p s)
+Kept None name value w = (s : Seen) → MayBe w (ref_path name) s → (¬ (IsLeaf s)) ⊎ ShowsNew value s
+Kept (Some commit) name value w = ((s : Seen) → MayBe w (ref_path name) s → ShowsHad (Some commit) s ⊎ ShowsNew value s) × ((p : Path) (s : Seen) → MayBe w p s → LeadsTo (ref_folder name) p s)
 
 pub kept_sure : (o : Option (List ℕ)) (name : List ℕ) (value : Option (List ℕ)) (w : View) → IsSure o name w → Kept o name value w
 kept_sure None name value w sure = λ s may. inl (sure s may)
 kept_sure (Some commit) name value w sure = (λ s may. inl (sure.0 s may), sure.1)
 
-pub kept_each : (o : Option (List ℕ)) (name : List ℕ) (value : Option (List ℕ)) (w : View) → Kept o name value w → EachImage w (λ d. HasValue d name o ⊎ HasValue d name value)
+pub kept_each : (o : Option (List ℕ)) (name : List ℕ) (value : Option (List ℕ)) (w : View) → Kept o name value w → EachImage w (λ d. HasValue d name o ⊎ HasNew d name value)
 kept_each None name value w kept d i = ⊎_elim
-    (λ may. ⊎_elim (λ none. inl (no_leaf d (d.at (ref_path name)) none)) (λ new. inr (shows_value d name value new)) (kept _ may))
+    (λ may. ⊎_elim (λ none. inl (no_leaf d (d.at (ref_path name)) none)) (λ new. inr new) (kept _ may))
     (λ none. inl (no_leaf d (d.at (ref_path name)) (vacant_leaf _ none)))
     (Image-may w d i (ref_path name))
 kept_each (Some commit) name value w kept d i =
     let u = ref_folder-under name in
     let may : MayBe w (ref_path name) (shows d (ref_path name)) = subst (λ q. MayBe w q (shows d q)) (sym u.1) (Image-under w d i (ref_folder name) u.0 (Image-folder w d i (ref_folder name) kept.1)) in
-    ⊎_elim (λ old. inl (shows_value d name (Some commit) old)) (λ new. inr (shows_value d name value new)) (kept.0 _ may)
+    ⊎_elim (λ old. inl (shows_commit d name commit old)) (λ new. inr new) (kept.0 _ may)
 
 -- nothing at or below a ref's path leads to it
 pub off_folder : (name : List ℕ) (p : Path) → is_below (ref_path name) p ≡ true → is_below p (ref_folder name) ≡ true → ⊥

@@ -1,5 +1,5 @@
 -- What each step writes is what all of them may write.
-use Rattle.std.proofs.Common.{◌≡◌, inl, inr, ⊎_elim, ℕ, sym, ◌∙◌, ap, subst, refl, List, Option, Some, None}
+use Rattle.std.proofs.Common.{◌≡◌, inl, inr, ⊎_elim, ℕ, sym, ◌∙◌, subst, refl, List, Option, Some, None}
 use Rattle.std.specs.Prelude.{IsSome}
 use Rattle.ost_types.specs.Path.{Path}
 use Rattle.fs_trait.specs.View.{Disk, View}
@@ -15,8 +15,9 @@ use Rattle.staged_file.proofs.Wholes as files
 use Rattle.ref_store.specs.declared.phase.Phase.{Phase}
 use Rattle.ref_store.specs.declared.phase.Phase.TheVariants as phase
 use Rattle.ref_store.specs.Change.{Change, IsRefFile}
-use Rattle.ref_store.specs.Steps.{Needs, ShowsValue, writes_in}
+use Rattle.ref_store.specs.Steps.{Needs, ShowsNew, writes_in}
 use Rattle.ref_store.specs.Whole.{IsSure, Written}
+use Rattle.ref_store.proofs.PutLemmas.{shows_new}
 use Rattle.ref_store.proofs.RoomLemmas.{clear_lies}
 use Rattle.ref_store.proofs.RunLemmas.{at_phase}
 
@@ -26,7 +27,7 @@ module _ (t : Change) (w : View) where
 
   file_written : (d : Disk) (f : Staged) → IsRefFile (at_phase t (phase.Put f)) f → (p : Path) (s : Seen) → staged.Written f p s → Written t d p s
   file_written d f m p s (inl a) = inr (some_value f m, inl (a.0 ∙ m.stage, a.1))
-  file_written d f m p s (inr a) = inl (a.0 ∙ m.at, subst (λ o. ShowsValue o s) (sym m.value) (m.sum, a.1 ∙ ap Some m.bytes))
+  file_written d f m p s (inr a) = inl (a.0 ∙ m.at, shows_new (at_phase t (phase.Put f)) f m s a.1)
 
   -- what goes stood there at the beginning
   pub written_in : (d : Disk) (ph : Phase) → Needs (at_phase t ph) w → ((c : clearing.Cleared) → ph ≡ phase.Clear c → (p : Path) → IsUnder t.name p → IsDirectory (shows w.now p) → IsDirectory (shows d p))
@@ -39,7 +40,7 @@ module _ (t : Change) (w : View) where
       let l = subst (λ n. OnWay n w p s) needs.made.0 (way_lies y w needs.meets.1 p s a) in
       inr (needs.made.1, inr (inl (l.parts, l.some, l.few, l.place, l.folder)))
   written_in d (phase.Put f) needs stood p s a = file_written d f needs.made p s (files.written_in f.phase f w p s a)
-  written_in d phase.Unlink needs stood p s a = inl (a.0, subst (λ o. ShowsValue o s) (sym needs.made) a.1)
+  written_in d phase.Unlink needs stood p s a = inl (a.0, subst (λ o. ShowsNew o s) (sym needs.made) a.1)
   written_in d phase.SyncFolder needs stood p s a = absurd a
   written_in d phase.Ended needs stood p s a = absurd a
 

@@ -1,5 +1,6 @@
 -- A change of a ref, and which step comes next.
-use Rattle.std.specs.Prelude.{◌≡◌, ◌⊎◌, ◌≤◌, ◌<◌, ◌+◌, ◌*◌, ℕ, Bool, true, false, List, length, Option, Some, None, IsSome, Result, Ok, Err, IsErrOf, OnOk, if◌then◌else◌}
+use Rattle.std.specs.Prelude.{◌≡◌, ◌⊎◌, ◌≤◌, ◌<◌, ◌+◌, ◌*◌, ℕ, Bool, true, false, [], List, length, Option, Some, None, IsSome, Result, Ok, Err, IsErrOf, OnOk, if◌then◌else◌}
+use Rattle.ost_types.specs.declared.meta.Meta.{Meta}
 use Rattle.ost_types.specs.Path.{Path}
 use Rattle.fs_trait.specs.declared.types.FsErr.{FsErr}
 use Rattle.fs_trait.specs.declared.types.FsErr.TheVariants as fs
@@ -39,6 +40,10 @@ abbrev pub commit_of : There → Option (List ℕ)
 commit_of (there.Commit commit) = Some commit
 commit_of x = None
 
+-- the attributes of a ref's file: owner 0, group 0, mode 0100644, no extended ones
+abbrev pub file_meta : Meta
+file_meta = record { uid = 0; gid = 0; mode = 33188; xattrs = [] }
+
 -- The staged file is the ref's.
 pub record IsRefFile (t : Change) (s : staging.Staged) : Type 0 where
   pub commit : List ℕ
@@ -47,6 +52,7 @@ pub record IsRefFile (t : Change) (s : staging.Staged) : Type 0 where
   pub stage : s.stage ≡ stage_path t.actor
   pub folder : s.folder ≡ ref_folder t.name
   pub at : s.at ≡ ref_path t.name
+  pub meta : s.meta ≡ file_meta
   pub bytes : s.bytes ≡ ref_text commit
   pub long : length s.bytes ≡ 65
   pub show : s.show ≡ Rename

@@ -20,21 +20,25 @@ use Rattle.ref_room.specs.Way as way
 use Rattle.staged_file.specs.declared.phase.Phase as staged
 use Rattle.staged_file.specs.declared.phase.Phase.TheVariants as file
 use Rattle.staged_file.specs.Steps as staging
+use Rattle.staged_file.specs.Steps.{IsFileWith}
 use Rattle.ref_store.specs.declared.phase.Phase.{Phase}
 use Rattle.ref_store.specs.declared.phase.Phase.TheVariants.{Look, Clear, Walk, Put, Unlink, SyncFolder, Ended}
 use Rattle.ref_store.specs.declared.refusal.RefRefusal.{RefRefusal}
 use Rattle.ref_store.specs.declared.refusal.RefRefusal.TheVariants.{RefClash, RefMoved, NoRef}
-use Rattle.ref_store.specs.Change.{Change, IsMade}
+use Rattle.ref_store.specs.Change.{Change, IsMade, file_meta}
 
 -- the ref's value on a disk: the commit that its file names, or none where no leaf stands at its path
 abbrev pub HasValue : Disk → List ℕ → Option (List ℕ) → Type 0
 HasValue d name None = Lacks d name
 HasValue d name (Some commit) = Names d name commit
 
--- what the ref's path shows then, once the change is done
-abbrev pub ShowsValue : Option (List ℕ) → Seen → Type 0
-ShowsValue None s = s ≡ Vacant
-ShowsValue (Some commit) s = IsSum commit × (bytes_in s ≡ Some (ref_text commit))
+-- what the ref's path shows once the change is done: nothing, or the ref's file with its attributes and bytes
+abbrev pub ShowsNew : Option (List ℕ) → Seen → Type 0
+ShowsNew None s = s ≡ Vacant
+ShowsNew (Some commit) s = IsSum commit × IsFileWith file_meta (ref_text commit) s
+
+abbrev pub HasNew : Disk → List ℕ → Option (List ℕ) → Type 0
+HasNew d name value = ShowsNew value (shows d (ref_path name))
 
 -- what the ref's path shows while it has a value
 abbrev pub ShowsHad : Option (List ℕ) → Seen → Type 0
@@ -94,7 +98,7 @@ needs_in (Walk w) t v = begins t.value t.actor v × way.Needs w v × NotDirector
 needs_in (Put f) t v = staging.Needs f v × NotDirectory (shows v.now (ref_path t.name))
 needs_in Unlink t v = IsLeaf (shows v.now (ref_path t.name))
 needs_in SyncFolder t v = (shows v.now (ref_path t.name) ≡ Vacant) × IsDirectory (shows v.now (ref_folder t.name))
-needs_in Ended t v = ((s : Seen) → MayBe v (ref_path t.name) s → ShowsValue t.value s) × leads t.value t.name v
+needs_in Ended t v = ((s : Seen) → MayBe v (ref_path t.name) s → ShowsNew t.value s) × leads t.value t.name v
 
 pub record Needs (t : Change) (v : View) : Type 0 where
   pub named : IsRefName t.name

@@ -18,12 +18,12 @@ use Rattle.ref_room.specs.Clearing.{IsLeaf, IsUnder, IsAside}
 use Rattle.ref_store.specs.declared.refusal.RefRefusal.{RefRefusal}
 use Rattle.ref_store.specs.declared.refusal.RefRefusal.TheVariants.{RefClash, RefMoved, NoRef}
 use Rattle.ref_store.specs.Change.{Change}
-use Rattle.ref_store.specs.Steps.{HasValue, ShowsValue}
+use Rattle.ref_store.specs.Steps.{HasNew, HasValue, ShowsHad, ShowsNew}
 
 -- a crash leaves the ref with this value: all that its path may show says so, and where it has one, folders lead there
 abbrev pub IsSure : Option (List ℕ) → List ℕ → View → Type 0
 IsSure None name v = (s : Seen) → MayBe v (ref_path name) s → ¬ (IsLeaf s)
-IsSure (Some commit) name v = ((s : Seen) → MayBe v (ref_path name) s → ShowsValue (Some commit) s) × ((p : Path) (s : Seen) → MayBe v p s → LeadsTo (ref_folder name) p s)
+IsSure (Some commit) name v = ((s : Seen) → MayBe v (ref_path name) s → ShowsHad (Some commit) s) × ((p : Path) (s : Seen) → MayBe v p s → LeadsTo (ref_folder name) p s)
 
 -- What the steps that make room and stage the file may write over a disk: no folder at the staging path; a folder on the way to
 -- the ref; and where a folder stood at the ref's path or below it may go.
@@ -32,14 +32,15 @@ Prepares t d p s = ((p ≡ stage_path t.actor) × NotDirectory s)
     ⊎ ((k : ℕ) × (0 < k) × (k < length (parts_of t.name)) × (p ≡ way_to k t.name) × IsDirectory s)
     ⊎ (IsUnder t.name p × (s ≡ Vacant) × IsDirectory (shows d p))
 
--- What all steps together may write: the new value at the ref's path and, for a ref that is set, what prepares it.
+-- What all steps together may write: at the ref's path the ref's file with its attributes, or nothing, as the new value is; and, for a
+-- ref that is set, what prepares it.
 abbrev pub Written : Change → Disk → Path → Seen → Type 0
-Written t d p s = ((p ≡ ref_path t.name) × ShowsValue t.value s) ⊎ (IsSome t.value × Prepares t d p s)
+Written t d p s = ((p ≡ ref_path t.name) × ShowsNew t.value s) ⊎ (IsSome t.value × Prepares t d p s)
 
--- A crash left this disk: the ref has the value that it had, or the new one, and each other ref has the value that it had. At each
+-- A crash left this disk: the ref has the value that it had, or the new one, in a file with its attributes, and each other ref has the value that it had. At each
 -- path in a folder is what might have been there, or what the change writes.
 pub record Leaves (t : Change) (v : View) (d : Disk) : Type 0 where
-  pub this : (old : Option (List ℕ)) → IsSure old t.name v → HasValue d t.name old ⊎ HasValue d t.name t.value
+  pub this : (old : Option (List ℕ)) → IsSure old t.name v → HasValue d t.name old ⊎ HasNew d t.name t.value
   pub others : (other : List ℕ) (value : Option (List ℕ)) → IsRefName other → other ≢ t.name → IsSure value other v → HasValue d other value
   pub elsewhere : (f : Path) (x : Name) → is_folder (d.at f) ≡ true → MayBe v (under f x) (shows d (under f x)) ⊎ Written t v.now (under f x) (shows d (under f x))
   pub gone : (f : Path) (x : Name) → is_folder (d.at f) ≡ false → d.at (under f x) ≡ Absent
@@ -61,9 +62,9 @@ abbrev pub SparesLeaves : Result (Unit {0}) RefRefusal → Disk → Disk → Typ
 SparesLeaves (Ok x) d e = Unit {0}
 SparesLeaves (Err refusal) d e = SameLeaves d e
 
--- a change that was done leaves the ref with the new value
+-- a change that was done leaves the ref with the new value, in a file with its attributes
 abbrev pub Lasts : Change → Result (Unit {0}) RefRefusal → Disk → Type 0
-Lasts t (Ok x) d = HasValue d t.name t.value
+Lasts t (Ok x) d = HasNew d t.name t.value
 Lasts t (Err refusal) d = Unit {0}
 
 -- Why the change ended early, by what reads see at its beginning: a call failed or wanted for memory; a leaf that is no ref file

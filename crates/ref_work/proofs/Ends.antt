@@ -1,5 +1,5 @@
 -- What the last step's answer says, and that each other step leaves fewer.
-use Rattle.std.proofs.Common.{◌≡◌, ◌<◌, ◌≤◌, ℕ, true, false, refl, sym, ◌∙◌, ap, subst, arith, List, length, Option, Some, None, Ok, Err}
+use Rattle.std.proofs.Common.{◌≡◌, ◌<◌, ◌≤◌, ◌^◌, ℕ, true, false, refl, sym, ◌∙◌, ap, subst, arith, List, length, Option, Some, None, Ok, Err}
 use Rattle.fs_trait.specs.declared.task.Turn.TheVariants as turn
 use Rattle.fs_trait.specs.View.{View}
 use Rattle.repo_layout.specs.RefName.{parts_of}
@@ -31,7 +31,7 @@ use Rattle.ref_work.specs.declared.look_up.Found.TheVariants.{Missing, Partial, 
 use Rattle.ref_work.specs.Found.{IsFound}
 use Rattle.ref_work.specs.Kinds.{Answer, event, kind_in, put_kind, leaves_in}
 use Rattle.ref_work.specs.Facts.{Facts, IsRunning, Home}
-use Rattle.ref_work.specs.Commands.{planned, IsStop, parse_answer, reset_answer, change_answer, answer_of, reset_stepped, reset_leaves, reset_left, command_facts, command_leaves, command_stepped, command_left}
+use Rattle.ref_work.specs.Commands.{planned, IsStop, parse_answer, reset_answer, change_answer, answer_of, reset_stepped, reset_leaves, reset_left, command_facts, command_leaves, command_stepped, command_left, removal}
 use Rattle.ref_work.specs.Answers.{Begins, Says}
 use Rattle.ref_work.proofs.Homes.{begins_change}
 
@@ -102,20 +102,23 @@ says_of lane (Change work) (Reset look plan) v w b a f l e = absurd l
 planned_left : (plan : Plan) (found : Found) → length (parts_of plan.name) ≤ 12 → store.left (planned plan).task < reset_left (Some found)
 planned_left plan found few = omega (arith, length-ref_path plan.name, few)
 
-reset_falls : (o : Option Found) (lane : ℕ) (look : LookUp) (plan : Plan) (new : RefCommand) (v : View) (b : Books) → Facts lane (planned plan).task v b → reset_stepped o look plan turn.More new → command_left new < reset_left o
-reset_falls None lane look plan (Reset next p) v b f step = subst (λ (x : LookUp). reset_left x.found < reset_left None) (sym step.0) (omega arith)
-reset_falls None lane look plan (Parse next) v b f step = absurd step
-reset_falls None lane look plan (Change work) v b f step = absurd step
-reset_falls (Some found) lane look plan (Change work) v b f step = subst (λ (x : RefWork). store.left x.task < reset_left (Some found)) (sym step) (planned_left plan found f.needs.named.few)
-reset_falls (Some found) lane look plan (Parse next) v b f step = absurd step
-reset_falls (Some found) lane look plan (Reset next p) v b f step = absurd step
+reset_falls : (o : Option Found) (look : LookUp) (plan : Plan) (new : RefCommand) → reset_stepped o look plan turn.More new → command_left new < reset_left o
+reset_falls None look plan (Reset next p) step = subst (λ (x : LookUp). reset_left x.found < reset_left None) (sym step.0) (omega arith)
+reset_falls None look plan (Parse next) step = absurd step
+reset_falls None look plan (Change work) step = absurd step
+reset_falls (Some found) look plan (Change work) step = subst (λ (x : RefWork). store.left x.task < reset_left (Some found)) (sym step) (planned_left plan found plan.parts)
+reset_falls (Some found) look plan (Parse next) step = absurd step
+reset_falls (Some found) look plan (Reset next p) step = absurd step
+
+pub falls_always : (t new : RefCommand) → command_stepped t turn.More new → command_left new < command_left t
+falls_always (Parse look) new step = absurd step
+falls_always (Reset look plan) new step = reset_falls look.found look plan new step
+falls_always (Change work) (Change new) step = step.1
+falls_always (Change work) (Parse look) step = absurd step
+falls_always (Change work) (Reset look plan) step = absurd step
 
 pub falls_of : (lane : ℕ) (t new : RefCommand) (v : View) (b : Books) → command_facts lane t v b → command_stepped t turn.More new → command_left new < command_left t
-falls_of lane (Parse look) new v b f step = absurd step
-falls_of lane (Reset look plan) new v b f step = reset_falls look.found lane look plan new v b f step
-falls_of lane (Change work) (Change new) v b f step = step.1
-falls_of lane (Change work) (Parse look) v b f step = absurd step
-falls_of lane (Change work) (Reset look plan) v b f step = absurd step
+falls_of lane t new v b f step = falls_always t new step
 
 -- the facts at the beginning
 pub begins_of : (start : State) (entries : List Entry) (pending : Option Pending) (lane : ℕ) (v : View) (b : Books) (t : RefCommand) → Stands start entries pending v → Home lane v → Begins lane t → command_facts lane t v b
@@ -126,3 +129,7 @@ begins_of start entries pending lane v b (Reset look plan) stands home begins =
 begins_of start entries pending lane v b (Change work) stands home begins =
     subst (λ (t : store.Change). Facts lane t v b) (sym begins.3)
     (begins_change start entries pending lane v b stands home begins.4 begins.0 begins.1 begins.2 begins.5 begins.6)
+
+-- a removal that hasn't begun has fewer steps before it than a number has bits for
+pub removal_left : (t : RefCommand) (lane : ℕ) (name seen : List ℕ) → t ≡ Change (removal lane name seen) → length (parts_of name) ≤ 12 → command_left t < 2 ^ 128
+removal_left t lane name seen is few = subst (λ (x : RefCommand). command_left x < 2 ^ 128) (sym is) (omega (arith, length-ref_path name, few))

@@ -4,7 +4,7 @@ use Rattle.std.specs.Prelude.{IsSome}
 use Rattle.ost_types.specs.declared.meta.Meta.{Meta}
 use Rattle.fs_trait.specs.View.{View}
 use Rattle.fs_trait.specs.Seen.{Seen, Vacant, Leaf, shows, NotDirectory}
-use Rattle.fs_trait.specs.Change.{Writes, IsNewFile, IsFileOf}
+use Rattle.fs_trait.specs.Change.{Writes}
 use Rattle.fs_trait.proofs.Effects.{may_now}
 use Rattle.repo_layout.specs.RefName.{IsRefName}
 use Rattle.repo_layout.specs.declared.folder.Folder.TheVariants as folder
@@ -39,21 +39,15 @@ vacant_no s e = subst NotDirectory (sym e) tt
 leaf_no : (s : Seen) (n : ℕ) (m : Meta) (b : List ℕ) → s ≡ Leaf n m b → NotDirectory s
 leaf_no s n m b e = subst NotDirectory (sym e) tt
 
-new_no : (v : View) (s : Seen) → IsNewFile v s → NotDirectory s
-new_no v s is = leaf_no s is.0 is.1 is.2 is.3
-
-file_no : (v : View) (p : _) (s : Seen) → IsFileOf v p s → NotDirectory s
-file_no v p s is = leaf_no s is.0 is.1 is.2 is.3
-
 put_no : (ph : staged.Phase) (g : Staged) (v : View) (p : _) (s : Seen) → staging.writes_in ph g v p s → NotDirectory s
 put_no file.Clear g v p s a = vacant_no s a.1
-put_no file.Create g v p s a = new_no v s a.1
-put_no file.Append g v p s a = file_no v g.stage s a.1
+put_no file.Create g v p s a = leaf_no s a.1.0 g.meta a.1.1.0 a.1.1.1
+put_no file.Append g v p s a = leaf_no s a.1.0 g.meta a.1.1.0 a.1.1.1
 put_no file.SyncFile g v p s a = absurd a
 put_no file.Look g v p s a = absurd a
-put_no file.Replace g v p s (inl a) = file_no v g.stage s a.1.0
+put_no file.Replace g v p s (inl a) = leaf_no s a.1.0 g.meta g.bytes a.1.1
 put_no file.Replace g v p s (inr a) = vacant_no s a.1
-put_no file.Add g v p s a = file_no v g.stage s a.1.0
+put_no file.Add g v p s a = leaf_no s a.1.0 g.meta g.bytes a.1.1
 put_no file.Unlink g v p s a = vacant_no s a.1
 put_no file.SyncFolder g v p s a = absurd a
 put_no file.Ended g v p s a = absurd a

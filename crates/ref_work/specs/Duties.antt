@@ -26,7 +26,7 @@ use Rattle.staged_file.specs.Steps as staging
 use Rattle.ref_store.specs.declared.phase.Phase.{Phase}
 use Rattle.ref_store.specs.declared.phase.Phase.TheVariants as phase
 use Rattle.ref_store.specs.Change.{Change, IsRefFile}
-use Rattle.ref_store.specs.Steps.{Needs, writes_in, WritesOf, ShowsHad, ShowsValue, awaits, awaits_file, leads}
+use Rattle.ref_store.specs.Steps.{Needs, writes_in, WritesOf, ShowsHad, ShowsNew, awaits, awaits_file, leads}
 use Rattle.ref_store.proofs.StepLemmas.{meets_in, made}
 use Rattle.ref_store.proofs.Stable.{Lies, ref_lies}
 use Rattle.rely.specs.State.{RefOf}
@@ -106,15 +106,15 @@ module _ (b : Books) (v : View) (lane : ℕ) (t : Change) (needs : Needs t v) (m
         let l = ref_lies t v needs p s (subst (λ f. writes_in f t v p s) (sym is) a) in
         record { at = at p s l; comes = comes p s l; folders = folders p s l }
 
--- the change is done: the ref's path may show only its value, and folders lead there
+-- the change is done: the ref's path may show only its new file, or nothing, and folders lead there
 abbrev pub IsDone : Change → View → Type 0
-IsDone t w = ((s : Seen) → MayBe w (ref_path t.name) s → ShowsValue t.value s) × leads t.value t.name w
+IsDone t w = ((s : Seen) → MayBe w (ref_path t.name) s → ShowsNew t.value s) × leads t.value t.name w
 
 no_leaf : (s : Seen) → s ≡ Vacant → disks.IsLeaf s → ⊥
 no_leaf s e leaf = let k : disks.IsLeaf Vacant = subst disks.IsLeaf e leaf in k
 
-final_in : (o : Option (List ℕ)) (seen : Option (List ℕ)) (name : List ℕ) (w : View) → ((s : Seen) → MayBe w (ref_path name) s → ShowsValue o s) → leads o name w → IsSomeSum o → Final (event_of o name seen) w
-final_in (Some commit) seen name w only lead sum = set_final w name commit seen sum (λ s may. (only s may).1)
+final_in : (o : Option (List ℕ)) (seen : Option (List ℕ)) (name : List ℕ) (w : View) → ((s : Seen) → MayBe w (ref_path name) s → ShowsNew o s) → leads o name w → IsSomeSum o → Final (event_of o name seen) w
+final_in (Some commit) seen name w only lead sum = set_final w name commit seen sum (λ s may. ap bytes_in (only s may).1.1)
     (λ g x e. let u = ref_folder-under name in subst (λ h. Leads w h) (under-folder (ref_folder name) g u.0 x (sym u.1 ∙ e)) lead)
 final_in None (Some seen) name w only lead sum = drop_final w name seen (λ s may. no_leaf s (only s may))
 final_in None None name w only lead sum = drop_final w name [] (λ s may. no_leaf s (only s may))
@@ -156,7 +156,7 @@ module _ (b : Books) (v : View) (actor lane : ℕ) (t : Change) (f : Facts lane 
     at_stage p e = stage_at p (e ∙ file_of.stage)
 
     moved : (p : Path) (s : Seen) → staging.writes_in file.Replace g v p s → (place p ≡ Stage lane) ⊎ ((p ≡ ref_path t.name) × (bytes_in s ≡ Some (ref_text file_of.commit)))
-    moved p s (inl a) = inr (a.0 ∙ file_of.at, a.1.1 ∙ ap Some file_of.bytes)
+    moved p s (inl a) = inr (a.0 ∙ file_of.at, ap bytes_in a.1.1 ∙ ap Some file_of.bytes)
     moved p s (inr a) = inl (at_stage p a.0)
 
     shown : g.phase ≡ file.Replace → Shows (staging.writes_in file.Replace g v) v (event t)

@@ -1,4 +1,4 @@
-ghost use Rattle.std.specs.Prelude.{◌≡◌, ◌<◌, ◌≤◌, ◌+◌, ℕ, Some, None, IfOk, IfErr, IsErrOf};
+ghost use Rattle.std.specs.Prelude.{◌≡◌, ◌<◌, ◌≤◌, ◌+◌, ◌^◌, ℕ, Some, None, IfOk, IfErr, IsErrOf};
 ghost use Rattle.fs_trait.specs.declared.types.FsErr.TheVariants as err;
 ghost use Rattle.fs_trait.specs.View.{View, all_synced};
 ghost use Rattle.fs_trait.specs.Image.{Told};
@@ -35,7 +35,8 @@ pub enum RefCommand {
 impl RefCommand {
     /// `rev-parse` of a commit.
     pub fn parse(alloc: Global, commit: Csum) -> RefCommand
-        ensures { result ≡ command.Parse (record { alloc = alloc; commit = commit; found = None }) }
+        ensures parse { result ≡ command.Parse (record { alloc = alloc; commit = commit; found = None }) }
+        ensures left { command_left result < 2 ^ 128 }
     {
         RefCommand::Parse(LookUp::new(alloc, commit))
     }
@@ -51,6 +52,7 @@ impl RefCommand {
         requires { lane < 16 }
         ensures reset { IsReset lane name seen commit result }
         ensures begins { Begins lane result }
+        ensures left { command_left result < 2 ^ 128 }
     {
         let _text = name.as_slice();
         let look = LookUp::new(alloc, commit);
@@ -62,6 +64,7 @@ impl RefCommand {
         requires { lane < 16 }
         ensures drop { IsDrop lane name seen result }
         ensures begins { Begins lane result }
+        ensures left { command_left result < 2 ^ 128 }
     {
         let _text = name.as_slice();
         RefCommand::Change(RefWork::remove(alloc, lane, name, seen))

@@ -32,9 +32,10 @@ pub fn answers_of_commands()
     ensures { (lane : ℕ) (t new : RefCommand) (v w : View) (b : Books) (a : Answer) → command_facts lane t v b → command_leaves t (turn.Done tt) new v w → answer_of new ≡ Some a → Says a t v w }
 {}
 
-/// Each step but the last leaves fewer steps.
+/// Each step but the last leaves fewer steps, whether the view is told or not.
 pub fn steps_fall()
-    ensures { (lane : ℕ) (t new : RefCommand) (v : View) (b : Books) → command_facts lane t v b → command_stepped t turn.More new → command_left new < command_left t }
+    ensures always { (t new : RefCommand) → command_stepped t turn.More new → command_left new < command_left t }
+    ensures told { (lane : ℕ) (t new : RefCommand) (v : View) (b : Books) → command_facts lane t v b → command_stepped t turn.More new → command_left new < command_left t }
 {}
 
 /// Where the view is told, a command is refused only by a call that failed or for want of memory.

@@ -1,4 +1,5 @@
-ghost use Rattle.std.specs.Prelude.{◌≡◌, ◌<◌, Some, None, IfOk};
+ghost use Rattle.std.specs.Prelude.{◌≡◌, ◌<◌, ◌≤◌, Some, None, IfOk, length};
+ghost use Rattle.repo_layout.specs.RefName.{parts_of};
 ghost use Rattle.ref_store.specs.declared.phase.Phase.TheVariants as phase;
 
 use crate::RefWork;
@@ -15,6 +16,7 @@ pub struct Plan {
     seen: Option<Csum>,
     commit: Csum,
     ghost few: { lane < 16 },
+    ghost parts: { length (parts_of name) ≤ 12 },
 }
 
 impl Plan {
@@ -31,6 +33,7 @@ impl Plan {
         ensures seen { result.seen ≡ seen }
         ensures commit { result.commit ≡ commit }
     {
+        let _text = name.as_slice();
         Plan {
             alloc,
             lane,

@@ -1,12 +1,12 @@
 -- What a task writes, for all others; and its facts stay true under what others may write.
-use Rattle.std.proofs.Common.{◌≡◌, ◌⊎◌, inl, inr, ℕ, true, refl, sym, ◌∙◌, ap, subst, List, Some}
+use Rattle.std.proofs.Common.{◌≡◌, ◌⊎◌, inl, inr, ℕ, true, refl, sym, ◌∙◌, ap, subst, List}
 use Rattle.ost_types.specs.declared.meta.Meta.{Meta}
 use Rattle.ost_types.specs.Path.{Path, is_in}
 use Rattle.fs_trait.specs.declared.types.Value.TheVariants.{File}
 use Rattle.fs_trait.specs.View.{View}
 use Rattle.fs_trait.specs.Effect.{IsFresh}
-use Rattle.fs_trait.specs.Seen.{Seen, Vacant, Leaf, shows, MayBe, IsDirectory, NotDirectory, bytes_in, IsFile}
-use Rattle.fs_trait.specs.Change.{Writes, Meets, Harmless, LeadsTo, Own, IsNewFile, IsFileOf}
+use Rattle.fs_trait.specs.Seen.{Seen, Vacant, Leaf, shows, MayBe, IsDirectory, NotDirectory}
+use Rattle.fs_trait.specs.Change.{Writes, Meets, Harmless, LeadsTo, Own}
 use Rattle.fs_trait.proofs.Kept.{meets_kept}
 use Rattle.fs_trait.proofs.Facts.{leaf_file, leaf_not_directory}
 use Rattle.staged_file.specs.declared.phase.Show.{Show}
@@ -14,27 +14,30 @@ use Rattle.staged_file.specs.declared.phase.Show.TheVariants.{Rename, Link}
 use Rattle.staged_file.specs.declared.phase.Phase.{Phase}
 use Rattle.staged_file.specs.declared.phase.Phase.TheVariants.{Clear, Create, Append, SyncFile, Look, Replace, Add, Unlink, SyncFolder, Ended}
 use Rattle.staged_file.specs.Staged.{Staged, lock_in}
-use Rattle.staged_file.specs.Steps.{NotVacant, writes_in, WritesOf, firm_shown, here_shown, firm_in, FirmOf, here_in, HereOf, lasts, Needs}
+use Rattle.staged_file.specs.Steps.{NotVacant, IsBegun, IsFileWith, IsPart, IsWhole, writes_in, WritesOf, firm_shown, here_shown, firm_in, FirmOf, here_in, HereOf, lasts, Needs}
 
 -- Where a write of the next step lies: at the staging path, or, under the task's lock, at the target, where it is the whole
--- file. A file that is written is a new one or the staged one, and takes no folder's place.
+-- file with its attributes. A file that is written is a new one or the staged one, and takes no folder's place.
 pub record Lies (t : Staged) (v : View) (p : Path) (s : Seen) : Type 0 where
-  pub place : (p ≡ t.stage) ⊎ ((p ≡ t.at) × (bytes_in s ≡ Some t.bytes) × (lock_in t.phase t ≡ t.lock))
+  pub place : (p ≡ t.stage) ⊎ ((p ≡ t.at) × IsFileWith t.meta t.bytes s × (lock_in t.phase t ≡ t.lock))
   pub comes : (n : ℕ) (m : Meta) (b : List ℕ) → s ≡ Leaf n m b → IsFresh n v ⊎ (v.now.at t.stage ≡ File n)
   pub folders : NotDirectory (shows v.now p)
 
 module _ (t : Staged) (v : View) (needs : Needs t v) where
-  from_new : (s : Seen) → IsNewFile v s → (n : ℕ) (m : Meta) (b : List ℕ) → s ≡ Leaf n m b → IsFresh n v ⊎ (v.now.at t.stage ≡ File n)
+  from_new : (s : Seen) → IsBegun t v s → (n : ℕ) (m : Meta) (b : List ℕ) → s ≡ Leaf n m b → IsFresh n v ⊎ (v.now.at t.stage ≡ File n)
   from_new s file n m b e =
-      let l : Leaf file.0 file.1 file.2 ≡ Leaf n m b = sym file.3 ∙ e in
+      let l : Leaf file.0 t.meta file.1.0 ≡ Leaf n m b = sym file.1.1 ∙ e in
       let i : file.0 ≡ n = cc in
-      inl (subst (λ k. IsFresh k v) i file.4)
+      inl (subst (λ k. IsFresh k v) i file.2)
 
-  from_stage : (s : Seen) → IsFileOf v t.stage s → (n : ℕ) (m : Meta) (b : List ℕ) → s ≡ Leaf n m b → IsFresh n v ⊎ (v.now.at t.stage ≡ File n)
+  from_stage : (s : Seen) → IsPart t v s → (n : ℕ) (m : Meta) (b : List ℕ) → s ≡ Leaf n m b → IsFresh n v ⊎ (v.now.at t.stage ≡ File n)
   from_stage s file n m b e =
-      let l : Leaf file.0 file.1 file.2 ≡ Leaf n m b = sym file.3 ∙ e in
+      let l : Leaf file.0 t.meta file.1.0 ≡ Leaf n m b = sym file.1.1 ∙ e in
       let i : file.0 ≡ n = cc in
-      inr (file.4 ∙ ap File i)
+      inr (file.2 ∙ ap File i)
+
+  whole_part : (s : Seen) → IsWhole t v s → IsPart t v s
+  whole_part s file = (file.0, (t.bytes, file.1), file.2)
 
   from_none : (s : Seen) → s ≡ Vacant → (n : ℕ) (m : Meta) (b : List ℕ) → s ≡ Leaf n m b → IsFresh n v ⊎ (v.now.at t.stage ≡ File n)
   from_none s none n m b e = let l : Vacant ≡ Leaf n m b = sym none ∙ e in cc
@@ -42,8 +45,8 @@ module _ (t : Staged) (v : View) (needs : Needs t v) where
   no_folder : (p q : Path) → p ≡ q → NotDirectory (shows v.now q) → NotDirectory (shows v.now p)
   no_folder p q e is = subst (λ r. NotDirectory (shows v.now r)) (sym e) is
 
-  file_there : (c : List ℕ) → IsFile needs.inode c (shows v.now t.stage) → NotDirectory (shows v.now t.stage)
-  file_there c is = leaf_not_directory _ needs.inode is.0 c is.1
+  file_there : (c : List ℕ) → shows v.now t.stage ≡ Leaf needs.inode t.meta c → NotDirectory (shows v.now t.stage)
+  file_there c is = leaf_not_directory _ needs.inode t.meta c is
 
   lies : (ph : Phase) → t.phase ≡ ph → Meets (firm_in ph t needs.inode) (here_in ph t needs.inode) v → (p : Path) (s : Seen) → writes_in ph t v p s → Lies t v p s
   lies Clear is now p s a = record { place = inl a.0; comes = from_none s a.1; folders = no_folder p t.stage a.0 ((now.here t.stage).0 refl) }
@@ -51,9 +54,9 @@ module _ (t : Staged) (v : View) (needs : Needs t v) where
   lies Append is now p s a = record { place = inl a.0; comes = from_stage s a.1; folders = no_folder p t.stage a.0 (file_there _ (now.here t.stage refl)) }
   lies SyncFile is now p s a = absurd a
   lies Look is now p s a = absurd a
-  lies Replace is now p s (inl a) = record { place = inr (a.0, a.1.1, ap (λ ph. lock_in ph t) is); comes = from_stage s a.1.0; folders = no_folder p t.at a.0 ((now.here t.at).1 refl) }
+  lies Replace is now p s (inl a) = record { place = inr (a.0, (a.1.0, a.1.1), ap (λ ph. lock_in ph t) is); comes = from_stage s (whole_part s a.1); folders = no_folder p t.at a.0 ((now.here t.at).1 refl) }
   lies Replace is now p s (inr a) = record { place = inl a.0; comes = from_none s a.1; folders = no_folder p t.stage a.0 (file_there _ ((now.here t.stage).0 refl)) }
-  lies Add is now p s a = record { place = inr (a.0, a.1.1, ap (λ ph. lock_in ph t) is); comes = from_stage s a.1.0; folders = no_folder p t.at a.0 (subst NotDirectory (sym a.2) tt) }
+  lies Add is now p s a = record { place = inr (a.0, (a.1.0, a.1.1), ap (λ ph. lock_in ph t) is); comes = from_stage s (whole_part s a.1); folders = no_folder p t.at a.0 (subst NotDirectory (sym a.2) tt) }
   lies Unlink is now p s a = record { place = inl a.0; comes = from_none s a.1; folders = no_folder p t.stage a.0 (file_there _ ((now.here t.stage).0 refl)) }
   lies SyncFolder is now p s a = absurd a
   lies Ended is now p s a = absurd a
@@ -89,18 +92,18 @@ module _ (W : Path → Seen → Type 0) (t : Staged) (v : View) (spares : Spares
   at_target : (ph : Phase) → t.phase ≡ ph → (p : Path) (s : Seen) → W p s → p ≡ t.at → shared_in ph t.show s
   at_target ph is p s wrote e = subst (λ ph. shared_in ph t.show s) is (spares.target s (subst (λ q. W q s) e wrote))
 
-  own_out : (c : List ℕ) → IsFile needs.inode c (shows v.now t.stage) → ((p : Path) (s : Seen) → MayBe v p s → Own needs.inode t.stage p s) → Harmless W (Own needs.inode t.stage)
-  own_out c is own = spares.own needs.inode (leaf_file v.now t.stage needs.inode is.0 c is.1).0 own
+  own_out : (c : List ℕ) → shows v.now t.stage ≡ Leaf needs.inode t.meta c → ((p : Path) (s : Seen) → MayBe v p s → Own needs.inode t.stage p s) → Harmless W (Own needs.inode t.stage)
+  own_out c is own = spares.own needs.inode (leaf_file v.now t.stage needs.inode t.meta c is).0 own
 
-  fixed_out : (how : Show) → ((s : Seen) → W t.at s → shared how s) → (p : Path) (s : Seen) → W p s → firm_shown how t.at needs.inode t.bytes p s
+  fixed_out : (how : Show) → ((s : Seen) → W t.at s → shared how s) → (p : Path) (s : Seen) → W p s → firm_shown how t.at needs.inode t.meta t.bytes p s
   fixed_out Rename none p s wrote = λ m b e is. absurd (none s (subst (λ q. W q s) e wrote))
   fixed_out Link there p s wrote = tt
 
-  lasts_out : (how : Show) → ((s : Seen) → W t.at s → shared how s) → (p : Path) (s : Seen) → W p s → p ≡ t.at → lasts how t.bytes s
+  lasts_out : (how : Show) → ((s : Seen) → W t.at s → shared how s) → (p : Path) (s : Seen) → W p s → p ≡ t.at → lasts how t.meta t.bytes s
   lasts_out Rename none p s wrote e = absurd (none s (subst (λ q. W q s) e wrote))
   lasts_out Link there p s wrote e = there s (subst (λ q. W q s) e wrote)
 
-  here_shown_out : (how : Show) → ((s : Seen) → W t.at s → shared how s) → (p : Path) (s : Seen) → W p s → here_shown how t.at needs.inode t.bytes p s
+  here_shown_out : (how : Show) → ((s : Seen) → W t.at s → shared how s) → (p : Path) (s : Seen) → W p s → here_shown how t.at needs.inode t.meta t.bytes p s
   here_shown_out Rename none p s wrote = λ e. absurd (none s (subst (λ q. W q s) e wrote))
   here_shown_out Link there p s wrote = λ e. there s (subst (λ q. W q s) e wrote)
 
@@ -153,5 +156,5 @@ module _ (W : Path → Seen → Type 0) (t : Staged) (v : View) (spares : Spares
   }
 
 -- what the target may show once the task is done
-pub ended_lasts : (t : Staged) (v : View) → Needs t v → t.phase ≡ Ended → (s : Seen) → MayBe v t.at s → lasts t.show t.bytes s
+pub ended_lasts : (t : Staged) (v : View) → Needs t v → t.phase ≡ Ended → (s : Seen) → MayBe v t.at s → lasts t.show t.meta t.bytes s
 ended_lasts t v needs is s may = (subst (λ ph. firm_in ph t needs.inode t.at s) is (needs.meets.firm t.at s may)).1 refl

@@ -1,5 +1,5 @@
 -- What each step writes and leaves.
-use Rattle.std.proofs.Common.{ltb-false, ◌≡◌, ◌≢◌, ◌⊎◌, inl, inr, ⊎_elim, ℕ, ◌≤◌, ◌+◌, ◌-◌, arith, Bool, true, false, refl, sym, ◌∙◌, ap, subst, List, ◌++◌, length, take, drop, Option, Some, None, if◌then◌else◌}
+use Rattle.std.proofs.Common.{ltb-false, ◌≡◌, ◌≢◌, ◌⊎◌, inl, inr, ⊎_elim, ℕ, ◌≤◌, ◌+◌, ◌-◌, arith, Bool, true, false, refl, sym, ◌∙◌, ap, subst, List, ◌++◌, length, take, drop, Option, None, if◌then◌else◌}
 use Rattle.std.specs.Prelude.{nat_lt, ◌==◌}
 use Rattle.std.specs.Bool.{Decides}
 use Rattle.std.specs.Option.{is_some}
@@ -16,14 +16,14 @@ use Rattle.fs_trait.specs.declared.types.FsErr.{FsErr}
 use Rattle.fs_trait.specs.View.{Disk, View, named, created, moved, extended, file_synced, folder_synced}
 use Rattle.fs_trait.specs.Image.{is_folder, Holds, IsTree}
 use Rattle.fs_trait.specs.Effect.{IsFresh, inode_of, no_new, no_file, no_leaf, no_link, no_move, no_folder, IsNode, one_inode, unless_leaf}
-use Rattle.fs_trait.specs.Seen.{Seen, Vacant, Leaf, seen, shows, MayShow, MayBe, IsDirectory, NotDirectory, bytes_in, IsFile}
-use Rattle.fs_trait.specs.Change.{Writes, Meets, Nothing, At, Moves, OfInode, LeadsTo, Own, Fixed}
+use Rattle.fs_trait.specs.Seen.{Seen, Vacant, Leaf, seen, shows, MayShow, MayBe, IsDirectory, NotDirectory}
+use Rattle.fs_trait.specs.Change.{Writes, Meets, Nothing, At, Moves, OfInode, LeadsTo, Own}
 use Rattle.fs_trait.proofs.Puts.{same_inode}
 use Rattle.fs_trait.proofs.Images.{not_both}
 use Rattle.fs_trait.proofs.Ways.{way-there}
 use Rattle.fs_trait.proofs.Refusals.{no_file-there, no_leaf-there, no_move-there, no_folder-there}
 use Rattle.fs_trait.proofs.Kept.{meets_kept, firm_kept, weaker}
-use Rattle.fs_trait.proofs.Effects.{may_now, leaf_held, named-writes, created-writes, moved-writes, extended-writes_own, file_synced-writes, folder_synced-writes, shows_named, shows_named_apart, shows_created, shows_extended, shows_moved, file_synced-firm, folder_synced-firm}
+use Rattle.fs_trait.proofs.Effects.{may_now, leaf_from, leaf_held, named-writes, created-writes, moved-writes, extended-writes_own, file_synced-writes, folder_synced-writes, shows_named, shows_named_apart, shows_created, shows_extended, shows_moved, file_synced-firm, folder_synced-firm}
 use Rattle.fs_trait.proofs.Claims.{folder_shows}
 use Rattle.fs_trait.proofs.Facts.{vacant_absent, leaf_file, no_folder_shown, may_held, under-not_below, no_new-free, shows_kept}
 use Rattle.staged_file.specs.declared.phase.Show.{Show}
@@ -31,7 +31,7 @@ use Rattle.staged_file.specs.declared.phase.Show.TheVariants as show
 use Rattle.staged_file.specs.declared.phase.Phase.{Phase}
 use Rattle.staged_file.specs.declared.phase.Phase.TheVariants.{Clear, Create, Append, SyncFile, Look, Replace, Add, Unlink, SyncFolder}
 use Rattle.staged_file.specs.Staged.{Staged, is_directory, filled, first_show, next_in}
-use Rattle.staged_file.specs.Steps.{IsPlaced, NotVacant, IsWhole, writes_in, WritesOf, firm_shown, lasts, firm_in, here_shown, here_in, shown_by, Needs}
+use Rattle.staged_file.specs.Steps.{IsPlaced, NotVacant, IsWhole, FixedFile, writes_in, WritesOf, firm_shown, lasts, firm_in, here_shown, here_in, shown_by, Needs}
 
 -- a step whose call isn't refused
 pub record Step (t new : Staged) (v : View) (refusal : Option FsErr) (w : View) : Type 0 where
@@ -99,6 +99,18 @@ may_there v (File n) s there (b, e, is) = subst NotVacant (sym e) tt
 piece_on : (xs : List ℕ) (k end : ℕ) → k ≤ end → take k xs ++ take (end - k) (drop k xs) ≡ take end xs
 piece_on xs k end le = let e : k + (end - k) ≡ end = omega (arith, le) in sym (take-add k (end - k) xs) ∙ ap (λ n. take n xs) e
 
+-- the attributes of the file that is shown
+meta_shown : (d : Disk) (p : Path) (n : ℕ) (m : Meta) (b : List ℕ) → shows d p ≡ Leaf n m b → d.meta n ≡ m
+meta_shown d p n m b is =
+    let e : Leaf n (d.meta n) (d.bytes n) ≡ Leaf n m b = sym (ap (seen d) (leaf_file d p n m b is).0) ∙ is in cc
+
+-- one leaf has one inode, one set of attributes and one content
+same_leaf : (n : ℕ) (m : Meta) (b : List ℕ) (k : ℕ) (l : Meta) (c : List ℕ) → Leaf n m b ≡ Leaf k l c → (m ≡ l) × (b ≡ c)
+same_leaf n m b k l c e =
+    let i : m ≡ l = cc in
+    let j : b ≡ c = cc in
+    (i, j)
+
 module _ (t : Staged) (placed : IsPlaced t.stage t.folder t.at) where
   pub off_stage : (p : Path) → p ≡ t.stage → is_below p t.folder ≡ true → ⊥
   off_stage p e below = not_both (subst (λ q. is_below q t.folder ≡ true) e below) placed.aside
@@ -111,15 +123,15 @@ module _ (t : Staged) (placed : IsPlaced t.stage t.folder t.at) where
 
 -- so many bytes are staged
 filled_needs : (t : Staged) (k n : ℕ) (w : View) → IsPlaced t.stage t.folder t.at
-    → ((p : Path) (s : Seen) → MayBe w p s → LeadsTo t.folder p s × Own n t.stage p s) → IsFile n (take k t.bytes) (shows w.now t.stage) → Needs (filled k t) w
+    → ((p : Path) (s : Seen) → MayBe w p s → LeadsTo t.folder p s × Own n t.stage p s) → shows w.now t.stage ≡ Leaf n t.meta (take k t.bytes) → Needs (filled k t) w
 filled_needs t k n w placed firm here = by (nat_lt k (length t.bytes)) refl
   where
-    at_stage : (b : List ℕ) → IsFile n b (shows w.now t.stage) → (p : Path) → p ≡ t.stage → IsFile n b (shows w.now p)
-    at_stage b is p e = subst (λ q. IsFile n b (shows w.now q)) (sym e) is
+    at_stage : (b : List ℕ) → shows w.now t.stage ≡ Leaf n t.meta b → (p : Path) → p ≡ t.stage → shows w.now p ≡ Leaf n t.meta b
+    at_stage b is p e = ap (shows w.now) e ∙ is
 
     by : (b : Bool) → nat_lt k (length t.bytes) ≡ b → Needs (record t { written = k; phase = if b then Append else SyncFile }) w
     by true e = record { placed = placed; way = tt; inode = n; meets = record { firm = firm; here = at_stage (take k t.bytes) here } }
-    by false e = record { placed = placed; way = tt; inode = n; meets = record { firm = firm; here = at_stage t.bytes (subst (λ b. IsFile n b (shows w.now t.stage)) (take_all k t.bytes (ltb-false k (length t.bytes) e)) here) } }
+    by false e = record { placed = placed; way = tt; inode = n; meets = record { firm = firm; here = at_stage t.bytes (subst (λ b. shows w.now t.stage ≡ Leaf n t.meta b) (take_all k t.bytes (ltb-false k (length t.bytes) e)) here) } }
 
 module _ (t : Staged) (v : View) (tree : IsTree v.now) (needs : Needs t v) where
   meets_in : (ph : Phase) → t.phase ≡ ph → Meets (firm_in ph t needs.inode) (here_in ph t needs.inode) v
@@ -170,21 +182,22 @@ module _ (t : Staged) (v : View) (tree : IsTree v.now) (needs : Needs t v) where
       }
 
   -- 2. the empty file
-  pub create : (n : ℕ) (m : Meta) → IsFresh n v → t.phase ≡ Create → Step t (next_in Create t) v (no_new t.stage v.now) (created t.stage m n v)
-  create n m fresh is =
+  pub create : (n : ℕ) → IsFresh n v → t.phase ≡ Create → Step t (next_in Create t) v (no_new t.stage v.now) (created t.stage t.meta n v)
+  create n fresh is =
+      let m = t.meta in
       let w = created t.stage m n v in
       let now = meets_in Create is in
       let s = needs.placed.staging in
       let folder : is_folder (v.now.at s.0) ≡ true = folder_shows v.now s.0 ((now.here s.0).1 (subst (λ q. is_in s.0 q ≡ true) (sym s.2) (is_in-under s.0 s.1))) in
       let absent : v.now.at t.stage ≡ Absent = vacant_absent v.now t.stage ((now.here t.stage).0 refl) in
-      let writes : Writes (writes_in Create t v) v w = weaker (At t.stage (OfInode n m)) (writes_in Create t v) v w (λ p s a. (a.0, (n, m, a.1.0, a.1.1, fresh))) (created-writes v t.stage m n fresh) in
+      let writes : Writes (writes_in Create t v) v w = weaker (At t.stage (OfInode n m)) (writes_in Create t v) v w (λ p s a. (a.0, (n, a.1, fresh))) (created-writes v t.stage m n fresh) in
       let leads = leads_kept (writes_in Create t v) w writes (λ p s a. inl a.0) now.firm in
       record {
         free = subst (λ q. v.now.at q ≡ Absent → no_new q v.now ≡ None) (sym s.2) (no_new-free v.now s.0 s.1 tree folder) absent;
         writes = written Create w is writes;
         after = filled_needs t 0 n w needs.placed
             (λ p s may. (leads p s may, λ k b e. ⊎_elim (λ old. absurd (fresh p (leaf_held v p n k b (subst (MayBe v p) e old)))) (λ wrote. wrote.0) (writes.only p s may)))
-            (m, shows_created v t.stage m n);
+            (shows_created v t.stage m n);
       }
 
   -- 3. a piece of its bytes
@@ -194,19 +207,20 @@ module _ (t : Staged) (v : View) (tree : IsTree v.now) (needs : Needs t v) where
       let w = extended n b v in
       let now = meets_in Append is in
       let here = now.here t.stage refl in
-      let file = leaf_file v.now t.stage n here.0 (take t.written t.bytes) here.1 in
+      let file = leaf_file v.now t.stage n t.meta (take t.written t.bytes) here in
+      let meta = meta_shown v.now t.stage n t.meta (take t.written t.bytes) here in
       let own : (q : Path) → Holds v q (File n) → q ≡ t.stage = λ q held. (now.firm q _ (may_held v q n held)).1 (v.now.meta n) (v.now.bytes n) refl in
-      let writes : Writes (writes_in Append t v) v w = weaker (At t.stage (OfInode n (v.now.meta n))) (writes_in Append t v) v w (λ p s a. (a.0, (n, v.now.meta n, a.1.0, a.1.1, file.0))) (extended-writes_own v n b t.stage own) in
+      let writes : Writes (writes_in Append t v) v w = weaker (At t.stage (OfInode n (v.now.meta n))) (writes_in Append t v) v w (λ p s a. (a.0, (n, subst (λ m. OfInode n m s) meta a.1, file.0))) (extended-writes_own v n b t.stage own) in
       record {
         free = no_file-there v.now tree t.stage n file.0;
         writes = written Append w is writes;
         after = filled_needs t end n w needs.placed
             (firm_kept (writes_in Append t v) (firm_in Append t n) v w writes (λ p s a. ((λ below. absurd (off_stage t needs.placed p a.0 below)), (λ m b e. a.0))) now.firm)
-            (v.now.meta n, shows_extended v n b t.stage file.0 ∙ ap (λ c. Leaf n (v.now.meta n) (c ++ b)) file.1 ∙ ap (Leaf n (v.now.meta n)) same);
+            (shows_extended v n b t.stage file.0 ∙ ap (λ c. Leaf n (v.now.meta n) (c ++ b)) file.1 ∙ ap (Leaf n (v.now.meta n)) same ∙ ap (λ m. Leaf n m (take end t.bytes)) meta);
       }
 
-  stage_inode : (b : List ℕ) → IsFile needs.inode b (shows v.now t.stage) → needs.inode ≡ inode_of (v.now.at t.stage)
-  stage_inode b here = sym (ap inode_of (leaf_file v.now t.stage needs.inode here.0 b here.1).0)
+  stage_inode : (b : List ℕ) → shows v.now t.stage ≡ Leaf needs.inode t.meta b → needs.inode ≡ inode_of (v.now.at t.stage)
+  stage_inode b here = sym (ap inode_of (leaf_file v.now t.stage needs.inode t.meta b here).0)
 
   pub append : (bytes : List ℕ) → bytes ≡ t.bytes → (end : ℕ) → t.written ≤ end → t.phase ≡ Append
       → Step t (filled end t) v (no_file t.stage v.now) (extended (inode_of (v.now.at t.stage)) (take (end - t.written) (drop t.written bytes)) v)
@@ -217,8 +231,8 @@ module _ (t : Staged) (v : View) (tree : IsTree v.now) (needs : Needs t v) where
       (stage_inode (take t.written t.bytes) ((meets_in Append is).here t.stage refl)) (append_inode b end on is)
 
   -- 4. its sync
-  show_needs : (how : Show) (w : View) → t.show ≡ how → ((p : Path) (s : Seen) → MayBe w p s → LeadsTo t.folder p s × Own needs.inode t.stage p s × Fixed t.stage needs.inode t.bytes p s)
-      → ((p : Path) → p ≡ t.stage → IsFile needs.inode t.bytes (shows w.now p)) → Needs (record t { phase = first_show how }) w
+  show_needs : (how : Show) (w : View) → t.show ≡ how → ((p : Path) (s : Seen) → MayBe w p s → LeadsTo t.folder p s × Own needs.inode t.stage p s × FixedFile t.stage needs.inode t.meta t.bytes p s)
+      → ((p : Path) → p ≡ t.stage → shows w.now p ≡ Leaf needs.inode t.meta t.bytes) → Needs (record t { phase = first_show how }) w
   show_needs show.Rename w is firm here = record { placed = needs.placed; way = is; inode = needs.inode; meets = record { firm = firm; here = here } }
   show_needs show.Link w is firm here = record { placed = needs.placed; way = is; inode = needs.inode; meets = record { firm = firm; here = here } }
 
@@ -228,12 +242,20 @@ module _ (t : Staged) (v : View) (tree : IsTree v.now) (needs : Needs t v) where
       let w = file_synced n v in
       let now = meets_in SyncFile is in
       let here = now.here t.stage refl in
-      let file = leaf_file v.now t.stage n here.0 t.bytes here.1 in
+      let file = leaf_file v.now t.stage n t.meta t.bytes here in
       let kept = meets_kept Nothing (firm_in SyncFile t n) (here_in SyncFile t n) v w (file_synced-writes v n) (λ p s none. absurd none) (λ p s none. absurd none) now in
       record {
         free = no_file-there v.now tree t.stage n file.0;
         writes = written SyncFile w is (file_synced-writes v n);
-        after = show_needs t.show w refl (λ p s may. ((kept.firm p s may).0, (kept.firm p s may).1, λ m b here e. file_synced-firm v n p m b (subst (MayBe w p) e may) ∙ file.1)) kept.here;
+        after = show_needs t.show w refl
+            (λ p s may. (
+              (kept.firm p s may).0,
+              (kept.firm p s may).1,
+              λ m b here e.
+                  let leaf : MayBe w p (Leaf n m b) = subst (MayBe w p) e may in
+                  ((leaf_from w leaf.value n m b leaf.shown).1 ∙ meta_shown w.now t.stage n t.meta t.bytes (kept.here t.stage refl), file_synced-firm v n p m b leaf ∙ file.1),
+            ))
+            kept.here;
       }
 
   pub sync_file : t.phase ≡ SyncFile → Step t (next_in SyncFile t) v (no_file t.stage v.now) (file_synced (inode_of (v.now.at t.stage)) v)
@@ -251,18 +273,19 @@ module _ (t : Staged) (v : View) (tree : IsTree v.now) (needs : Needs t v) where
       }
 
   -- the staged file may be shown in no other way
-  whole : ((p : Path) (s : Seen) → MayBe v p s → Fixed t.stage needs.inode t.bytes p s) → v.now.at t.stage ≡ File needs.inode → (s : Seen) → MayShow v (v.now.at t.stage) s → IsWhole t v s
+  whole : ((p : Path) (s : Seen) → MayBe v p s → FixedFile t.stage needs.inode t.meta t.bytes p s) → v.now.at t.stage ≡ File needs.inode → (s : Seen) → MayShow v (v.now.at t.stage) s → IsWhole t v s
   whole fixed file s shown =
-      let a : MayShow v (File needs.inode) s = subst (λ z. MayShow v z s) file shown in
-      let b : a.0 ≡ t.bytes = fixed t.stage s (record { value = v.now.at t.stage; held = inl refl; shown = shown }) (v.now.meta needs.inode) a.0 refl a.1 in
-      ((needs.inode, v.now.meta needs.inode, a.0, a.1, file), ap bytes_in a.1 ∙ ap Some b)
+      let n = needs.inode in
+      let a : MayShow v (File n) s = subst (λ z. MayShow v z s) file shown in
+      let b = fixed t.stage s (record { value = v.now.at t.stage; held = inl refl; shown = shown }) (v.now.meta n) a.0 refl a.1 in
+      (n, a.1 ∙ ap (λ m. Leaf n m a.0) b.0 ∙ ap (Leaf n t.meta) b.1, file)
 
   -- 6. the rename
   pub two_inodes : t.phase ≡ Replace → one_inode (v.now.at t.stage) (v.now.at t.at) ≡ false
   two_inodes is =
       let now = meets_in Replace is in
       let here = (now.here t.stage).0 refl in
-      let file = leaf_file v.now t.stage needs.inode here.0 t.bytes here.1 in
+      let file = leaf_file v.now t.stage needs.inode t.meta t.bytes here in
       subst (λ z. one_inode z (v.now.at t.at) ≡ false) (sym file.0) (by (v.now.at t.at) refl (λ p s may. (now.firm p s may).1))
     where
       by : (z : Value) → v.now.at t.at ≡ z → ((p : Path) (s : Seen) → MayBe v p s → Own needs.inode t.stage p s) → one_inode (File needs.inode) z ≡ false
@@ -275,13 +298,13 @@ module _ (t : Staged) (v : View) (tree : IsTree v.now) (needs : Needs t v) where
           differs (inl e) = absurd (needs.placed.apart (sym (own t.at _ (may_held v t.at needs.inode (inl (sym (is ∙ ap File (sym e))))) (v.now.meta needs.inode) (v.now.bytes needs.inode) refl)))
           differs (inr apart) = apart_inodes needs.inode k apart
 
-  replaced : ((p : Path) (s : Seen) → MayBe (moved t.stage t.at v) p s → LeadsTo t.folder p s × Fixed t.at needs.inode t.bytes p s) → ((p : Path) → p ≡ t.at → IsFile needs.inode t.bytes (shows (moved t.stage t.at v).now p))
+  replaced : ((p : Path) (s : Seen) → MayBe (moved t.stage t.at v) p s → LeadsTo t.folder p s × FixedFile t.at needs.inode t.meta t.bytes p s) → ((p : Path) → p ≡ t.at → shows (moved t.stage t.at v).now p ≡ Leaf needs.inode t.meta t.bytes)
       → show.Rename ≡ t.show → Needs (record t { phase = SyncFolder }) (moved t.stage t.at v)
   replaced firm here is = record {
     placed = needs.placed;
     way = tt;
     inode = needs.inode;
-    meets = subst (λ how. Meets (λ p s. LeadsTo t.folder p s × firm_shown how t.at needs.inode t.bytes p s) (here_shown how t.at needs.inode t.bytes) (moved t.stage t.at v)) is (record { firm = firm; here = here });
+    meets = subst (λ how. Meets (λ p s. LeadsTo t.folder p s × firm_shown how t.at needs.inode t.meta t.bytes p s) (here_shown how t.at needs.inode t.meta t.bytes) (moved t.stage t.at v)) is (record { firm = firm; here = here });
   }
 
   pub replace : t.phase ≡ Replace → Step t (next_in Replace t) v (no_move t.stage t.at v.now) (moved t.stage t.at v)
@@ -290,7 +313,7 @@ module _ (t : Staged) (v : View) (tree : IsTree v.now) (needs : Needs t v) where
       let w = moved t.stage t.at v in
       let now = meets_in Replace is in
       let here = (now.here t.stage).0 refl in
-      let file = leaf_file v.now t.stage n here.0 t.bytes here.1 in
+      let file = leaf_file v.now t.stage n t.meta t.bytes here in
       let inside = needs.placed.inside in
       let writes : Writes (writes_in Replace t v) v w =
       weaker (Moves t.stage t.at (MayShow v (v.now.at t.stage))) (writes_in Replace t v) v w (λ p s a. ⊎_elim (λ a. inl (a.0, whole (λ p s may. (now.firm p s may).2) file.0 s a.1)) (λ a. inr a) a) (moved-writes v t.stage t.at) in
@@ -305,20 +328,20 @@ module _ (t : Staged) (v : View) (tree : IsTree v.now) (needs : Needs t v) where
               leads p s may,
               λ m b e is. ⊎_elim
                   (λ old. absurd (needs.placed.apart (sym ((now.firm p s old).1 m b is) ∙ e)))
-                  (λ wrote. ⊎_elim (λ a. let c : Some b ≡ Some t.bytes = sym (ap bytes_in is) ∙ a.1.1 in cc) (λ a. let c : Vacant ≡ Leaf n m b = sym a.1 ∙ is in cc) wrote)
+                  (λ wrote. ⊎_elim (λ a. same_leaf n m b a.1.0 t.meta t.bytes (sym is ∙ a.1.1)) (λ a. let c : Vacant ≡ Leaf n m b = sym a.1 ∙ is in cc) wrote)
                   (writes.only p s may),
             ))
-            (λ p e. (here.0, ap (shows w.now) e ∙ shows_moved v t.stage t.at needs.placed.apart ∙ here.1))
+            (λ p e. ap (shows w.now) e ∙ shows_moved v t.stage t.at needs.placed.apart ∙ here)
             (sym (way_in Replace is));
       }
 
   -- 7. the link
-  linked : (w : View) → ((p : Path) (s : Seen) → MayBe w p s → LeadsTo t.folder p s) → IsFile needs.inode t.bytes (shows w.now t.stage) → NotVacant (shows w.now t.at) → t.show ≡ show.Link → Needs (next_in Add t) w
+  linked : (w : View) → ((p : Path) (s : Seen) → MayBe w p s → LeadsTo t.folder p s) → shows w.now t.stage ≡ Leaf needs.inode t.meta t.bytes → NotVacant (shows w.now t.at) → t.show ≡ show.Link → Needs (next_in Add t) w
   linked w leads stage there way = record {
     placed = needs.placed;
     way = way;
     inode = needs.inode;
-    meets = record { firm = leads; here = λ p. ((λ e. subst (λ q. IsFile needs.inode t.bytes (shows w.now q)) (sym e) stage), (λ e. subst (λ q. NotVacant (shows w.now q)) (sym e) there)) };
+    meets = record { firm = leads; here = λ p. ((λ e. ap (shows w.now) e ∙ stage), (λ e. subst (λ q. NotVacant (shows w.now q)) (sym e) there)) };
   }
 
   -- something stands there already
@@ -333,7 +356,7 @@ module _ (t : Staged) (v : View) (tree : IsTree v.now) (needs : Needs t v) where
       let w = named t.at (v.now.at t.stage) v in
       let now = meets_in Add is in
       let here = now.here t.stage refl in
-      let file = leaf_file v.now t.stage n here.0 t.bytes here.1 in
+      let file = leaf_file v.now t.stage n t.meta t.bytes here in
       let inside = needs.placed.inside in
       let vacant : shows v.now t.at ≡ Vacant = ap (seen v.now) absent in
       let writes : Writes (writes_in Add t v) v w =
@@ -343,8 +366,8 @@ module _ (t : Staged) (v : View) (tree : IsTree v.now) (needs : Needs t v) where
             (no_link-free v.now t.stage t.folder inside.0 tree (no_leaf-there v.now tree t.stage n file.0) (folder_now (λ p s may. (now.firm p s may).0))) absent;
         writes = written Add w is writes;
         after = linked w (leads_kept (writes_in Add t v) w writes (λ p s a. inr a.0) (λ p s may. (now.firm p s may).0))
-            (here.0, shows_named_apart v t.at (v.now.at t.stage) t.stage (λ e. needs.placed.apart (sym e)) ∙ here.1)
-            (subst NotVacant (sym (shows_named v t.at (v.now.at t.stage) ∙ here.1)) tt)
+            (shows_named_apart v t.at (v.now.at t.stage) t.stage (λ e. needs.placed.apart (sym e)) ∙ here)
+            (subst NotVacant (sym (shows_named v t.at (v.now.at t.stage) ∙ here)) tt)
             (way_in Add is);
       }
 
@@ -354,7 +377,7 @@ module _ (t : Staged) (v : View) (tree : IsTree v.now) (needs : Needs t v) where
     placed = needs.placed;
     way = tt;
     inode = needs.inode;
-    meets = subst (λ how. Meets (λ p s. LeadsTo t.folder p s × firm_shown how t.at needs.inode t.bytes p s) (here_shown how t.at needs.inode t.bytes) w) is
+    meets = subst (λ how. Meets (λ p s. LeadsTo t.folder p s × firm_shown how t.at needs.inode t.meta t.bytes p s) (here_shown how t.at needs.inode t.meta t.bytes) w) is
         (record { firm = λ p s may. (leads p s may, tt); here = λ p e. subst (λ q. NotVacant (shows w.now q)) (sym e) there });
   }
 
@@ -363,7 +386,7 @@ module _ (t : Staged) (v : View) (tree : IsTree v.now) (needs : Needs t v) where
       let w = named t.stage Absent v in
       let now = meets_in Unlink is in
       let here = (now.here t.stage).0 refl in
-      let file = leaf_file v.now t.stage needs.inode here.0 t.bytes here.1 in
+      let file = leaf_file v.now t.stage needs.inode t.meta t.bytes here in
       let writes : Writes (writes_in Unlink t v) v w = named-writes v t.stage Absent in
       record {
         free = no_leaf-there v.now tree t.stage needs.inode file.0;
@@ -373,13 +396,13 @@ module _ (t : Staged) (v : View) (tree : IsTree v.now) (needs : Needs t v) where
       }
 
   -- 9. the folder's sync
-  settled : (how : Show) → ((p : Path) (s : Seen) → MayBe v p s → LeadsTo t.folder p s × firm_shown how t.at needs.inode t.bytes p s) → ((p : Path) → here_shown how t.at needs.inode t.bytes p (shows v.now p)) → (s : Seen) → MayShow v (v.now.at t.at) s → lasts how t.bytes s
+  settled : (how : Show) → ((p : Path) (s : Seen) → MayBe v p s → LeadsTo t.folder p s × firm_shown how t.at needs.inode t.meta t.bytes p s) → ((p : Path) → here_shown how t.at needs.inode t.meta t.bytes p (shows v.now p)) → (s : Seen) → MayShow v (v.now.at t.at) s → lasts how t.meta t.bytes s
   settled show.Rename firm here s shown =
-      let is = here t.at refl in
-      let file = leaf_file v.now t.at needs.inode is.0 t.bytes is.1 in
-      let a : MayShow v (File needs.inode) s = subst (λ z. MayShow v z s) file.0 shown in
-      let b : a.0 ≡ t.bytes = (firm t.at s (record { value = v.now.at t.at; held = inl refl; shown = shown })).1 (v.now.meta needs.inode) a.0 refl a.1 in
-      ap bytes_in a.1 ∙ ap Some b
+      let n = needs.inode in
+      let file = leaf_file v.now t.at n t.meta t.bytes (here t.at refl) in
+      let a : MayShow v (File n) s = subst (λ z. MayShow v z s) file.0 shown in
+      let b = (firm t.at s (record { value = v.now.at t.at; held = inl refl; shown = shown })).1 (v.now.meta n) a.0 refl a.1 in
+      (n, a.1 ∙ ap (λ m. Leaf n m a.0) b.0 ∙ ap (Leaf n t.meta) b.1)
   settled show.Link firm here s shown = may_there v (v.now.at t.at) s (here t.at refl) shown
 
   pub sync_folder : t.phase ≡ SyncFolder → Step t (next_in SyncFolder t) v (no_folder t.folder v.now) (folder_synced t.folder v)

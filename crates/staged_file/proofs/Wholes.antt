@@ -1,5 +1,6 @@
 -- A task alone, from its first step to any later moment.
-use Rattle.std.proofs.Common.{◌≡◌, inl, inr, ⊎_elim, ℕ, refl, sym, ◌∙◌, ap, subst, Option, Some, None, Result, Ok, Err}
+use Rattle.std.proofs.Common.{◌≡◌, inl, inr, ⊎_elim, ℕ, refl, sym, ◌∙◌, ap, subst, List, Option, Some, Result, Ok, Err}
+use Rattle.ost_types.specs.declared.meta.Meta.{Meta}
 use Rattle.ost_types.specs.Path.{Path}
 use Rattle.fs_trait.specs.declared.types.FsErr.{FsErr}
 use Rattle.fs_trait.specs.declared.types.FsErr.TheVariants.{Failed, Exists, Missing, NotFolder, NotEmpty, NoMemory}
@@ -7,7 +8,7 @@ use Rattle.fs_trait.specs.declared.task.Turn.{Turn}
 use Rattle.fs_trait.specs.declared.task.Turn.TheVariants.{More, Done}
 use Rattle.fs_trait.specs.View.{Disk, View}
 use Rattle.fs_trait.specs.Image.{Image, EachImage, Told, reads}
-use Rattle.fs_trait.specs.Seen.{Seen, Vacant, Directory, Symlink, Leaf, shows, MayBe, IsDirectory, NotDirectory, bytes_in}
+use Rattle.fs_trait.specs.Seen.{Seen, shows, MayBe, IsDirectory, NotDirectory, bytes_in}
 use Rattle.fs_trait.specs.Change.{Writes, LeadsTo}
 use Rattle.fs_trait.proofs.Kept.{firm_kept, then_writes, weaker}
 use Rattle.fs_trait.proofs.Facts.{leaf_not_directory}
@@ -17,7 +18,7 @@ use Rattle.staged_file.specs.declared.phase.Show.TheVariants.{Rename, Link}
 use Rattle.staged_file.specs.declared.phase.Phase.{Phase}
 use Rattle.staged_file.specs.declared.phase.Phase.TheVariants.{Clear, Create, Append, SyncFile, Look, Replace, Add, Unlink, SyncFolder, Ended}
 use Rattle.staged_file.specs.Staged.{Staged, next_in, IsStepped}
-use Rattle.staged_file.specs.Steps.{writes_in, WritesOf, lasts, firm_in, shown_by, Needs, Refuses}
+use Rattle.staged_file.specs.Steps.{IsFileWith, writes_in, WritesOf, lasts, firm_in, shown_by, Needs, Refuses}
 use Rattle.staged_file.specs.Whole.{Written, Leaves, IsThere, Stops}
 use Rattle.staged_file.proofs.StepLemmas.{off_stage, off_at}
 
@@ -30,26 +31,27 @@ pub record IsSame (t u : Staged) : Type 0 where
   pub stage : u.stage ≡ t.stage
   pub folder : u.folder ≡ t.folder
   pub at : u.at ≡ t.at
+  pub meta : u.meta ≡ t.meta
   pub bytes : u.bytes ≡ t.bytes
   pub show : u.show ≡ t.show
 
 pub IsSame-refl : (t : Staged) → IsSame t t
-IsSame-refl t = record { stage = refl; folder = refl; at = refl; bytes = refl; show = refl }
+IsSame-refl t = record { stage = refl; folder = refl; at = refl; meta = refl; bytes = refl; show = refl }
 
 pub IsSame-trans : (t u x : Staged) → IsSame t u → IsSame u x → IsSame t x
-IsSame-trans t u x a b = record { stage = b.stage ∙ a.stage; folder = b.folder ∙ a.folder; at = b.at ∙ a.at; bytes = b.bytes ∙ a.bytes; show = b.show ∙ a.show }
+IsSame-trans t u x a b = record { stage = b.stage ∙ a.stage; folder = b.folder ∙ a.folder; at = b.at ∙ a.at; meta = b.meta ∙ a.meta; bytes = b.bytes ∙ a.bytes; show = b.show ∙ a.show }
 
 same_next : (ph : Phase) (t : Staged) → IsSame t (next_in ph t)
-same_next Clear t = record { stage = refl; folder = refl; at = refl; bytes = refl; show = refl }
-same_next Create t = record { stage = refl; folder = refl; at = refl; bytes = refl; show = refl }
-same_next Append t = record { stage = refl; folder = refl; at = refl; bytes = refl; show = refl }
-same_next SyncFile t = record { stage = refl; folder = refl; at = refl; bytes = refl; show = refl }
-same_next Look t = record { stage = refl; folder = refl; at = refl; bytes = refl; show = refl }
-same_next Replace t = record { stage = refl; folder = refl; at = refl; bytes = refl; show = refl }
-same_next Add t = record { stage = refl; folder = refl; at = refl; bytes = refl; show = refl }
-same_next Unlink t = record { stage = refl; folder = refl; at = refl; bytes = refl; show = refl }
-same_next SyncFolder t = record { stage = refl; folder = refl; at = refl; bytes = refl; show = refl }
-same_next Ended t = record { stage = refl; folder = refl; at = refl; bytes = refl; show = refl }
+same_next Clear t = record { stage = refl; folder = refl; at = refl; meta = refl; bytes = refl; show = refl }
+same_next Create t = record { stage = refl; folder = refl; at = refl; meta = refl; bytes = refl; show = refl }
+same_next Append t = record { stage = refl; folder = refl; at = refl; meta = refl; bytes = refl; show = refl }
+same_next SyncFile t = record { stage = refl; folder = refl; at = refl; meta = refl; bytes = refl; show = refl }
+same_next Look t = record { stage = refl; folder = refl; at = refl; meta = refl; bytes = refl; show = refl }
+same_next Replace t = record { stage = refl; folder = refl; at = refl; meta = refl; bytes = refl; show = refl }
+same_next Add t = record { stage = refl; folder = refl; at = refl; meta = refl; bytes = refl; show = refl }
+same_next Unlink t = record { stage = refl; folder = refl; at = refl; meta = refl; bytes = refl; show = refl }
+same_next SyncFolder t = record { stage = refl; folder = refl; at = refl; meta = refl; bytes = refl; show = refl }
+same_next Ended t = record { stage = refl; folder = refl; at = refl; meta = refl; bytes = refl; show = refl }
 
 pub same_stepped : {T : Type 0} (old : Staged) (result : Result (Turn T) FsErr) (new : Staged) → IsStepped old result new → IsSame old new
 same_stepped old (Ok More) new s = subst (IsSame old) (sym s.0) (same_next old.phase old)
@@ -59,19 +61,22 @@ same_stepped old (Err e) new s = subst (IsSame old) (sym s) (IsSame-refl old)
 -- what each step writes is what all may write
 pub written_in : (ph : Phase) (u : Staged) (v : View) (p : Path) (s : Seen) → writes_in ph u v p s → Written u p s
 written_in Clear u v p s a = inl (a.0, subst NotDirectory (sym a.1) tt)
-written_in Create u v p s a = inl (a.0, leaf_not_directory s a.1.0 a.1.1 a.1.2 a.1.3)
-written_in Append u v p s a = inl (a.0, leaf_not_directory s a.1.0 a.1.1 a.1.2 a.1.3)
+written_in Create u v p s a = inl (a.0, leaf_not_directory s a.1.0 u.meta a.1.1.0 a.1.1.1)
+written_in Append u v p s a = inl (a.0, leaf_not_directory s a.1.0 u.meta a.1.1.0 a.1.1.1)
 written_in SyncFile u v p s a = absurd a
 written_in Look u v p s a = absurd a
-written_in Replace u v p s (inl a) = inr (a.0, a.1.1)
+written_in Replace u v p s (inl a) = inr (a.0, (a.1.0, a.1.1))
 written_in Replace u v p s (inr a) = inl (a.0, subst NotDirectory (sym a.1) tt)
-written_in Add u v p s a = inr (a.0, a.1.1)
+written_in Add u v p s a = inr (a.0, (a.1.0, a.1.1))
 written_in Unlink u v p s a = inl (a.0, subst NotDirectory (sym a.1) tt)
 written_in SyncFolder u v p s a = absurd a
 written_in Ended u v p s a = absurd a
 
+same_with : (t u : Staged) → IsSame t u → (s : Seen) → IsFileWith u.meta u.bytes s → IsFileWith t.meta t.bytes s
+same_with t u same s file = subst (λ m. IsFileWith m t.bytes s) same.meta (subst (λ b. IsFileWith u.meta b s) same.bytes file)
+
 written_same : (t u : Staged) → IsSame t u → (p : Path) (s : Seen) → Written u p s → Written t p s
-written_same t u same p s a = ⊎_elim (λ a. inl (a.0 ∙ same.stage, a.1)) (λ a. inr (a.0 ∙ same.at, a.1 ∙ ap Some same.bytes)) a
+written_same t u same p s a = ⊎_elim (λ a. inl (a.0 ∙ same.stage, a.1)) (λ a. inr (a.0 ∙ same.at, same_with t u same s a.1)) a
 
 pub written_on : (t u : Staged) → IsSame t u → (v w x : View) → Writes (Written t) v w → Writes (WritesOf u w) w x → Writes (Written t) v x
 written_on t u same v w x before step = weaker _ (Written t) v x (λ p s a. ⊎_elim (λ was. was) (λ a. written_same t u same p s (written_in u.phase u w p s a)) a) (then_writes (Written t) (WritesOf u w) v w x before step)
@@ -91,6 +96,10 @@ leads_in Ended t n p s f = f.0
 pub needs_leads : (t : Staged) (v : View) → Needs t v → (p : Path) (s : Seen) → MayBe v p s → LeadsTo t.folder p s
 needs_leads t v needs p s may = leads_in t.phase t needs.inode p s (needs.meets.firm p s may)
 
+-- the file is read with its bytes
+pub file_reads : (d : Disk) (p : Path) (m : Meta) (b : List ℕ) → IsFileWith m b (shows d p) → reads d p ≡ Some b
+file_reads d p m b file = reads_shows d p ∙ ap bytes_in file.1
+
 module _ (t : Staged) (v : View) (needs : Needs t v) (w : View) (writes : Writes (Written t) v w) where
   leads : (p : Path) (s : Seen) → MayBe w p s → LeadsTo t.folder p s
   leads = firm_kept (Written t) (LeadsTo t.folder) v w writes
@@ -102,8 +111,8 @@ module _ (t : Staged) (v : View) (needs : Needs t v) (w : View) (writes : Writes
       subst (λ q. MayBe w q (shows d q)) (sym x.1) (Image-under w d i t.folder x.0 (Image-folder w d i t.folder leads))
 
   -- what stands at the target, if it is new
-  new_target : (d : Disk) → Written t t.at (shows d t.at) → reads d t.at ≡ Some t.bytes
-  new_target d a = ⊎_elim (λ a. absurd (needs.placed.apart (sym a.0))) (λ a. reads_shows d t.at ∙ a.1) a
+  new_target : (d : Disk) → Written t t.at (shows d t.at) → IsFileWith t.meta t.bytes (shows d t.at)
+  new_target d a = ⊎_elim (λ a. absurd (needs.placed.apart (sym a.0))) (λ a. a.1) a
 
   pub leaves_each : EachImage w (Leaves t v)
   leaves_each d i = record {
@@ -112,21 +121,19 @@ module _ (t : Staged) (v : View) (needs : Needs t v) (w : View) (writes : Writes
     gone = i.gone;
   }
 
-  there : (how : Show) (d : Disk) → Image w d → t.show ≡ how → lasts how t.bytes (shows d t.at) → IsThere t v d
-  there Rename d i is last = inl (reads_shows d t.at ∙ last)
+  there : (how : Show) (d : Disk) → Image w d → t.show ≡ how → lasts how t.meta t.bytes (shows d t.at) → IsThere t v d
+  there Rename d i is last = inl last
   there Link d i is last = ⊎_elim (λ old. inr (is, old, last)) (λ a. inl (new_target d a)) (writes.only t.at (shows d t.at) (may_target d i))
 
   pub there_each : (u : Staged) → IsSame t u → u.phase ≡ Ended → Needs u w → EachImage w (IsThere t v)
   there_each u same ended now d i =
       let firm = subst (λ ph. firm_in ph u now.inode t.at (shows d t.at)) ended (now.meets.firm t.at (shows d t.at) (may_target d i)) in
-      let last : lasts u.show u.bytes (shows d t.at) = firm.1 (sym same.at) in
-      there t.show d i refl (subst (λ how. lasts how t.bytes (shows d t.at)) same.show (subst (λ b. lasts u.show b (shows d t.at)) same.bytes last))
+      let last : lasts u.show u.meta u.bytes (shows d t.at) = firm.1 (sym same.at) in
+      there t.show d i refl (subst (λ how. lasts how t.meta t.bytes (shows d t.at)) same.show
+      (subst (λ m. lasts u.show m t.bytes (shows d t.at)) same.meta (subst (λ b. lasts u.show u.meta b (shows d t.at)) same.bytes last)))
 
-  directory_bytes : (s : Seen) → IsDirectory s → bytes_in s ≡ Some t.bytes → ⊥
-  directory_bytes (Directory m) is e = let n : None ≡ Some t.bytes = e in cc
-  directory_bytes Vacant is e = is
-  directory_bytes (Symlink m l) is e = is
-  directory_bytes (Leaf n m b) is e = is
+  directory_file : (s : Seen) → IsDirectory s → IsFileWith t.meta t.bytes s → ⊥
+  directory_file s is file = subst IsDirectory file.1 is
 
   pub stops : (u : Staged) → IsSame t u → Needs u w → (e : FsErr) → Refuses u w e → Stops t v e
   stops u same now Failed r = tt
@@ -136,7 +143,7 @@ module _ (t : Staged) (v : View) (needs : Needs t v) (w : View) (writes : Writes
       let is : IsDirectory (shows w.now t.at) = subst (λ q. IsDirectory (shows w.now q)) same.at r.1 in (
         sym same.show ∙ way,
         ⊎_elim (λ e. subst IsDirectory e is)
-            (λ a. absurd (⊎_elim (λ a. needs.placed.apart (sym a.0)) (λ a. directory_bytes (shows w.now t.at) is a.1) a)) (writes.now t.at),
+            (λ a. absurd (⊎_elim (λ a. needs.placed.apart (sym a.0)) (λ a. directory_file (shows w.now t.at) is a.1) a)) (writes.now t.at),
       )
   stops u same now Missing r = absurd r
   stops u same now NotFolder r = absurd r

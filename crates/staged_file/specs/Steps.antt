@@ -1,11 +1,14 @@
 -- What each step of a staged file needs, writes and is refused for.
-use Rattle.std.specs.Prelude.{◌≡◌, ◌≢◌, ℕ, true, false, List, take, Some}
+use Rattle.std.specs.Prelude.{◌≡◌, ◌≢◌, ℕ, true, false, List, take}
+use Rattle.ost_types.specs.declared.meta.Meta.{Meta}
 use Rattle.ost_types.specs.Path.{Name, Path, under, is_in, is_below}
 use Rattle.fs_trait.specs.declared.types.FsErr.{FsErr}
 use Rattle.fs_trait.specs.declared.types.FsErr.TheVariants.{Failed, NoMemory, Exists}
+use Rattle.fs_trait.specs.declared.types.Value.TheVariants.{File}
 use Rattle.fs_trait.specs.View.{View}
-use Rattle.fs_trait.specs.Seen.{Seen, Vacant, shows, IsDirectory, NotDirectory, bytes_in, IsFile}
-use Rattle.fs_trait.specs.Change.{Meets, Moves, LeadsTo, Own, Fixed, IsNewFile, IsFileOf}
+use Rattle.fs_trait.specs.Effect.{IsFresh}
+use Rattle.fs_trait.specs.Seen.{Seen, Vacant, Leaf, shows, IsDirectory, NotDirectory}
+use Rattle.fs_trait.specs.Change.{Meets, Moves, OfInode, LeadsTo, Own}
 use Rattle.staged_file.specs.declared.phase.Show.{Show}
 use Rattle.staged_file.specs.declared.phase.Show.TheVariants.{Rename, Link}
 use Rattle.staged_file.specs.declared.phase.Phase.{Phase}
@@ -23,15 +26,27 @@ abbrev pub NotVacant : Seen → Type 0
 NotVacant Vacant = ⊥
 NotVacant s = Unit {0}
 
+-- a regular file with these attributes and bytes
+abbrev pub IsFileWith : Meta → List ℕ → Seen → Type 0
+IsFileWith m b s = (n : ℕ) × (s ≡ Leaf n m b)
+
+-- a new file with the task's attributes
+abbrev pub IsBegun : Staged → View → Seen → Type 0
+IsBegun t v s = (n : ℕ) × OfInode n t.meta s × IsFresh n v
+
+-- the staged file, with any bytes
+abbrev pub IsPart : Staged → View → Seen → Type 0
+IsPart t v s = (n : ℕ) × OfInode n t.meta s × (v.now.at t.stage ≡ File n)
+
 -- the staged file, with all its bytes
 abbrev pub IsWhole : Staged → View → Seen → Type 0
-IsWhole t v s = IsFileOf v t.stage s × (bytes_in s ≡ Some t.bytes)
+IsWhole t v s = (n : ℕ) × (s ≡ Leaf n t.meta t.bytes) × (v.now.at t.stage ≡ File n)
 
 -- what the next step may write
 abbrev pub writes_in : Phase → Staged → View → Path → Seen → Type 0
 writes_in Clear t v p s = (p ≡ t.stage) × (s ≡ Vacant)
-writes_in Create t v p s = (p ≡ t.stage) × IsNewFile v s
-writes_in Append t v p s = (p ≡ t.stage) × IsFileOf v t.stage s
+writes_in Create t v p s = (p ≡ t.stage) × IsBegun t v s
+writes_in Append t v p s = (p ≡ t.stage) × IsPart t v s
 writes_in SyncFile t v p s = ⊥
 writes_in Look t v p s = ⊥
 writes_in Replace t v p s = Moves t.stage t.at (IsWhole t v) p s
@@ -43,47 +58,51 @@ writes_in Ended t v p s = ⊥
 abbrev pub WritesOf : Staged → View → Path → Seen → Type 0
 WritesOf t v = writes_in t.phase t v
 
+-- at the path an inode has these attributes and bytes
+abbrev pub FixedFile : Path → ℕ → Meta → List ℕ → Path → Seen → Type 0
+FixedFile at n m b p s = (k : Meta) (c : List ℕ) → p ≡ at → s ≡ Leaf n k c → (k ≡ m) × (c ≡ b)
+
 -- what it needs of all that a crash may leave of the target once the file is there,
-abbrev pub firm_shown : Show → Path → ℕ → List ℕ → Path → Seen → Type 0
-firm_shown Rename at n b p s = Fixed at n b p s
-firm_shown Link at n b p s = Unit {0}
+abbrev pub firm_shown : Show → Path → ℕ → Meta → List ℕ → Path → Seen → Type 0
+firm_shown Rename at n m b p s = FixedFile at n m b p s
+firm_shown Link at n m b p s = Unit {0}
 
 -- and once that is sure to last;
-abbrev pub lasts : Show → List ℕ → Seen → Type 0
-lasts Rename b s = bytes_in s ≡ Some b
-lasts Link b s = NotVacant s
+abbrev pub lasts : Show → Meta → List ℕ → Seen → Type 0
+lasts Rename m b s = IsFileWith m b s
+lasts Link m b s = NotVacant s
 
--- of all paths: that folders lead to the target, that the staged file stands nowhere else, that its bytes are synced
+-- of all paths: that folders lead to the target, that the staged file stands nowhere else, that its attributes and bytes are sure
 abbrev pub firm_in : Phase → Staged → ℕ → Path → Seen → Type 0
 firm_in Clear t n p s = LeadsTo t.folder p s
 firm_in Create t n p s = LeadsTo t.folder p s
 firm_in Append t n p s = LeadsTo t.folder p s × Own n t.stage p s
 firm_in SyncFile t n p s = LeadsTo t.folder p s × Own n t.stage p s
-firm_in Look t n p s = LeadsTo t.folder p s × Own n t.stage p s × Fixed t.stage n t.bytes p s
-firm_in Replace t n p s = LeadsTo t.folder p s × Own n t.stage p s × Fixed t.stage n t.bytes p s
-firm_in Add t n p s = LeadsTo t.folder p s × Own n t.stage p s × Fixed t.stage n t.bytes p s
+firm_in Look t n p s = LeadsTo t.folder p s × Own n t.stage p s × FixedFile t.stage n t.meta t.bytes p s
+firm_in Replace t n p s = LeadsTo t.folder p s × Own n t.stage p s × FixedFile t.stage n t.meta t.bytes p s
+firm_in Add t n p s = LeadsTo t.folder p s × Own n t.stage p s × FixedFile t.stage n t.meta t.bytes p s
 firm_in Unlink t n p s = LeadsTo t.folder p s
-firm_in SyncFolder t n p s = LeadsTo t.folder p s × firm_shown t.show t.at n t.bytes p s
-firm_in Ended t n p s = LeadsTo t.folder p s × (p ≡ t.at → lasts t.show t.bytes s)
+firm_in SyncFolder t n p s = LeadsTo t.folder p s × firm_shown t.show t.at n t.meta t.bytes p s
+firm_in Ended t n p s = LeadsTo t.folder p s × (p ≡ t.at → lasts t.show t.meta t.bytes s)
 
 abbrev pub FirmOf : Staged → ℕ → Path → Seen → Type 0
 FirmOf t n = firm_in t.phase t n
 
 -- and of what is there now
-abbrev pub here_shown : Show → Path → ℕ → List ℕ → Path → Seen → Type 0
-here_shown Rename at n b p s = p ≡ at → IsFile n b s
-here_shown Link at n b p s = p ≡ at → NotVacant s
+abbrev pub here_shown : Show → Path → ℕ → Meta → List ℕ → Path → Seen → Type 0
+here_shown Rename at n m b p s = p ≡ at → s ≡ Leaf n m b
+here_shown Link at n m b p s = p ≡ at → NotVacant s
 
 abbrev pub here_in : Phase → Staged → ℕ → Path → Seen → Type 0
 here_in Clear t n p s = (p ≡ t.stage → NotDirectory s) × (is_in p t.stage ≡ true → IsDirectory s)
 here_in Create t n p s = (p ≡ t.stage → s ≡ Vacant) × (is_in p t.stage ≡ true → IsDirectory s)
-here_in Append t n p s = p ≡ t.stage → IsFile n (take t.written t.bytes) s
-here_in SyncFile t n p s = p ≡ t.stage → IsFile n t.bytes s
-here_in Look t n p s = p ≡ t.stage → IsFile n t.bytes s
-here_in Replace t n p s = (p ≡ t.stage → IsFile n t.bytes s) × (p ≡ t.at → NotDirectory s)
-here_in Add t n p s = p ≡ t.stage → IsFile n t.bytes s
-here_in Unlink t n p s = (p ≡ t.stage → IsFile n t.bytes s) × (p ≡ t.at → NotVacant s)
-here_in SyncFolder t n p s = here_shown t.show t.at n t.bytes p s
+here_in Append t n p s = p ≡ t.stage → s ≡ Leaf n t.meta (take t.written t.bytes)
+here_in SyncFile t n p s = p ≡ t.stage → s ≡ Leaf n t.meta t.bytes
+here_in Look t n p s = p ≡ t.stage → s ≡ Leaf n t.meta t.bytes
+here_in Replace t n p s = (p ≡ t.stage → s ≡ Leaf n t.meta t.bytes) × (p ≡ t.at → NotDirectory s)
+here_in Add t n p s = p ≡ t.stage → s ≡ Leaf n t.meta t.bytes
+here_in Unlink t n p s = (p ≡ t.stage → s ≡ Leaf n t.meta t.bytes) × (p ≡ t.at → NotVacant s)
+here_in SyncFolder t n p s = here_shown t.show t.at n t.meta t.bytes p s
 here_in Ended t n p s = Unit {0}
 
 abbrev pub HereOf : Staged → ℕ → Path → Seen → Type 0

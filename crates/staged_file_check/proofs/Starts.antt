@@ -19,6 +19,7 @@ use Rattle.staged_file.specs.declared.phase.Show.TheVariants.{Link}
 use Rattle.staged_file.specs.declared.staged.Plan.{Plan}
 use Rattle.staged_file.specs.Staged.{Staged}
 use Rattle.staged_file.specs.Whole.{MayBegin, Written, IsThere}
+use Rattle.staged_file.proofs.Wholes.{file_reads}
 
 abbrev pub stage_path : Path
 stage_path = under [] (115 ∷ [])
@@ -73,7 +74,7 @@ still_leaf t v w stage at writes leaf = no_folder_shown w.now stage_path (⊎_el
 
 pub put_there : (t : Staged) (v : View) (bytes : List ℕ) (show : Show) → t.at ≡ target_path → t.bytes ≡ bytes → t.show ≡ show → (d : Disk) → IsThere t v d → (reads d target_path ≡ Some bytes) ⊎ (show ≡ Link)
 put_there t v bytes show at is how d there = ⊎_elim
-    (λ r. inl (subst (λ p. reads d p ≡ Some bytes) at (r ∙ ap (λ b. Some b) is)))
+    (λ file. inl (subst (λ p. reads d p ≡ Some bytes) at (file_reads d t.at t.meta t.bytes file ∙ ap (λ b. Some b) is)))
     (λ l. inr (sym how ∙ l.0))
     there
 

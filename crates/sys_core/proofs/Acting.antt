@@ -10,10 +10,11 @@ use Rattle.sys_core.specs.declared.run.Run.{Run}
 use Rattle.sys_core.specs.System.{System}
 use Rattle.sys_core.specs.Booked.{Booked, HasCommand, given, replies_of}
 use Rattle.sys_core.specs.Pursues.{started_of}
+use Rattle.sys_core.specs.Turns.{works_of}
 use Rattle.sys_core.proofs.Booking.{some_of}
 
 abbrev pub system_of : {F : Type 0} → Base F → List Lane → List Run → List (Vec Reply) → System F
-system_of base lanes runs replies = record { base = base; lanes = lanes; started = started_of runs; replies = replies_of replies }
+system_of base lanes runs replies = record { base = base; lanes = lanes; started = started_of runs; works = works_of runs; replies = replies_of replies }
 
 pub fewer : (a b : ℕ) → true ≡ nat_lt a b → a < b
 fewer a b is = grind (arith, nat_tests)

@@ -20,18 +20,20 @@ use Rattle.rely.specs.declared.books.Books as rust
 use Rattle.rely.specs.declared.books.Entry.{Entry}
 use Rattle.rely.specs.declared.books.Pending.{Pending}
 use Rattle.rely.specs.declared.event.Event.{Event}
+use Rattle.rely.specs.declared.event.Event.TheVariants as made
 use Rattle.rely.specs.declared.kind.Outcome.TheVariants as came
 use Rattle.rely.specs.Books.{books_of}
 use Rattle.rely.specs.Exact.{IsBooked}
 use Rattle.rely.specs.Laws.{Kind, Settle, Holds}
-use Rattle.rely.specs.State.{State, RefOf, after, events_of}
+use Rattle.rely.specs.State.{State, RefOf, next, after, events_of}
+use Rattle.rely.proofs.States.{after_push, events_push, next_here, topic_self}
 use Rattle.script.specs.declared.answer.Answer.{Answer}
 use Rattle.script.specs.declared.answer.Answer.TheVariants as answer
 use Rattle.script.specs.declared.command.Command.{Command}
 use Rattle.script.specs.declared.command.Command.TheVariants as command
 use Rattle.script.specs.declared.command.Rev.{Rev}
 use Rattle.sys_core.specs.Begins.{IsRev}
-use Rattle.sys_core.specs.Answers.{Answers, HasMade, HasMoved, IsChangeOf, IsHalted, LeastClashIn}
+use Rattle.sys_core.specs.Answers.{Answers, HasMade, HasMoved, IsChangeOf, IsFreeIn, IsHalted, LeastClashIn}
 use Rattle.sys_core.specs.Pursues.{Grows, IsChanging, Pursues}
 use Rattle.sys_core.proofs.Pursuing.{change_is}
 use Rattle.sys_core.proofs.Telling.{RefusedBy}
@@ -53,6 +55,14 @@ refusing_same (phase.Put f) e lane number moment old new may b = absurd may
 refusing_same phase.Unlink e lane number moment old new may b = absurd may
 refusing_same phase.SyncFolder e lane number moment old new may b = absurd may
 refusing_same phase.Ended e lane number moment old new may b = absurd may
+
+-- a ref that the last change sets is there
+set_there : (first : State) (entries : List Entry) (last : Entry) (branch : List ℕ) (seen : Option (List ℕ)) (commit : List ℕ) → last.event ≡ made.SetRef branch seen commit → IsSome (after (events_of (entries ++ last ∷ [])) first (RefOf branch))
+set_there first entries last branch seen commit is =
+    let before : State = after (events_of entries) first in
+    let then : after (events_of (entries ++ last ∷ [])) first ≡ next last.event before = ap (λ (l : List Event). after l first) (events_push entries last) ∙ after_push (events_of entries) last.event first in
+    let set : next last.event before (RefOf branch) ≡ Some commit = subst (λ (e : Event). next e before (RefOf branch) ≡ Some commit) (sym is) (next_here (made.SetRef branch seen commit) (RefOf branch) before (topic_self (RefOf branch))) in
+    subst IsSome (sym (ap (λ (st : State). st (RefOf branch)) then ∙ set)) refl
 
 module _ (told : Type 0) (first : State) (lane number moment : ℕ) (s : State) (old new : rust.Books) where
   abbrev pub p : State
@@ -82,8 +92,8 @@ module _ (told : Type 0) (first : State) (lane number moment : ℕ) (s : State) 
   stopped_gives branch commit None look plan (Change work) a same is step e = absurd step
   stopped_gives branch commit (Some found) look plan t a same is step e = absurd step
 
-  -- the change is the last entry
-  module _ (mine : (x : Pending) → old.pending ≡ Some x → x.lane ≡ lane → x.command ≡ number) where
+  -- The change is the last entry. Where nothing is pending, no ref of the state clashes with another.
+  module _ (mine : (x : Pending) → old.pending ≡ Some x → x.lane ≡ lane → x.command ≡ number) (apart : told → new.pending ≡ None → (name : List ℕ) → IsSome (q (RefOf name)) → IsFreeIn q name) where
     made_by : (k : Kind) (e : Event) (P : Event → Type 0) → k ≡ Settle e → P e → Holds k lane (books_of old) → IsBooked k lane number moment came.Done old new
         → (last : Entry) × (new.history.items ≡ old.history.items ++ last ∷ []) × (last.lane ≡ lane) × (last.command ≡ number) × P last.event
     made_by k e P is its holds booked =
@@ -134,7 +144,12 @@ module _ (told : Type 0) (first : State) (lane number moment : ℕ) (s : State) 
     reset_done branch commit work None t a is step holds booked says e = absurd step
     reset_done branch commit work (Some (Ok x)) t a is step holds booked says e =
         let k : answer.Nothing ≡ a = cc in
-        change_gives (command.Reset branch commit) work a k is (λ b has. has) (settles_in work.task.phase (event work.task) step.0.1 is.3) holds booked
+        let kind = kind_in work.task.phase (event work.task) in
+        let settles : kind ≡ Settle (event work.task) = settles_in work.task.phase (event work.task) step.0.1 is.3 in
+        let does = made_by kind (event work.task) (IsChangeOf s (command.Reset branch commit)) settles (change_is s (command.Reset branch commit) work is) holds booked in
+        let settled : IsBooked (Settle (event work.task)) lane number moment came.Done old new = subst (λ x. IsBooked x lane number moment came.Done old new) settles booked in
+        let there : IsSome (q (RefOf branch)) = subst (λ (l : List Entry). IsSome (after (events_of l) first (RefOf branch))) (sym does.1) (set_there first old.history.items does.0 branch (s (RefOf branch)) commit does.4) in
+        change_gives (command.Reset branch commit) work a k is (λ b has. (has, λ t. apart t settled.0 branch there)) settles holds booked
     reset_done branch commit work (Some (Err r)) t a is step holds booked says e =
         reset_refused branch commit work r a (refusing_same work.task.phase (event work.task) lane number moment old new step.1 booked) is (λ k. says k r refl) e
 

@@ -1,8 +1,9 @@
 -- What an act of a lane came to.
-use Rattle.std.proofs.Common.{◌≡◌, ◌≢◌, inl, ⊎_elim, ℕ, true, refl, sym, ◌∙◌, ap, subst, List, length, Option, Some, None}
+use Rattle.std.proofs.Common.{◌≡◌, ◌≢◌, inl, ⊎_elim, ℕ, true, refl, sym, ◌∙◌, ap, subst, List, length, Option, Some, None, IsSome}
 use Rattle.fs_trait.specs.View.{View}
 use Rattle.fs_trait.specs.Effect.{OfNone}
 use Rattle.fs_trait.specs.Image.{IsTree, Told}
+use Rattle.fs_trait.proofs.Images.{Image-now}
 use Rattle.fs_trait.specs.declared.task.Turn.TheVariants as turn
 use Rattle.fs_trait.specs.declared.types.FsErr.{FsErr}
 use Rattle.fs_trait.specs.declared.types.FsErr.TheVariants as err
@@ -20,14 +21,16 @@ use Rattle.rely.specs.Books.{books_of}
 use Rattle.rely.specs.Exact.{IsBooked, Opens, Steps, Tells}
 use Rattle.rely.specs.Laws as laws
 use Rattle.rely.specs.Laws.{NotPending, Ready, Runs}
-use Rattle.rely.specs.State.{State, first, after, events_of}
+use Rattle.rely.specs.Sound.{Sound, Stands}
+use Rattle.rely.specs.State.{State, RefOf, first, after, events_of}
+use Rattle.rely.proofs.Goods.{fits_all}
 use Rattle.script.specs.declared.answer.Answer.{Answer}
 use Rattle.script.specs.declared.answer.Answer.TheVariants as answer
 use Rattle.script.specs.declared.command.Command.{Command}
 use Rattle.script.specs.declared.command.Command.TheVariants as command
 use Rattle.sys_core.specs.declared.lane.Came.TheVariants.{More, Answered}
 use Rattle.sys_core.specs.declared.run.Running.{Running}
-use Rattle.sys_core.specs.Answers.{Answers, IsHalted, IsTold, state_after}
+use Rattle.sys_core.specs.Answers.{Answers, IsFreeIn, IsHalted, IsTold, state_after}
 use Rattle.sys_core.specs.Begins.{AnswersBy}
 use Rattle.sys_core.specs.Lanes.{IsOver, now_of}
 use Rattle.sys_core.specs.Pursues.{Goes, HasAnswer, IsEndedAs, IsOutside, IsStray, IsRefusedAs, Pursues, start_of}
@@ -35,7 +38,7 @@ use Rattle.sys_core.proofs.Answering as done
 use Rattle.sys_core.proofs.Answering.{done_gives, done_has}
 use Rattle.sys_core.proofs.Prefixes.{state_all}
 use Rattle.sys_core.proofs.Pursuing.{history_same, pursues_step, step_shown}
-use Rattle.sys_core.proofs.Telling.{refused_told}
+use Rattle.sys_core.proofs.Telling.{apart, refused_told}
 
 module _ (told : Type 0) (lane number : ℕ) (s p : State) (entries : List Entry) where
   abbrev pub Plain : Answer → Command → Type 0
@@ -184,27 +187,37 @@ module _ {F : Type 0} (view : F → Option View) (clock spare : F → ℕ) (was 
       (λ why. refused_of from h old.books.pending lane v.0 (books_of old.books) t f (trees old.fs v.0 v.1) (ready.sound.stands v.0 v.1) (ready.task.facts v.0 v.1) why)
       (tells v.0 v.1)
 
-  pub goes_ended : (outcome : Outcome) → Steps command_stepped t outcome t' → Tells command_leaves command_refuses t outcome t' (view old.fs) (view new.fs) → (outcome ≢ came.Blocked → Opens (command_kind t) lane (books_of old.books))
-      → IsBooked (command_kind t) lane number moment outcome old.books new.books → (IsOver outcome → NotPending lane (books_of new.books)) → Pursues s c t → ((p : Pending) → old.books.pending ≡ Some p → p.lane ≡ lane → p.command ≡ number)
-      → (faults : ℕ) (a : Answer) → IsEndedAs outcome c t' faults a → (task task' : Option Running) → start ≡ start_of h task → task' ≡ None → Goes (IsTold view) from lane number c old.books new.books task task' (Answered a start)
-  goes_ended came.Done steps tells opens booked over after mine faults a is task task' at idle =
-      let g = done_gives (IsTold view) from lane number moment s old.books new.books mine c t t' a after steps ready.task.holds booked (says tells (opens (λ e. cc)) t t' refl refl) is in
-      (idle, at, g.0, g.1, step_shown lane number moment old.books new.books s c t came.Done after booked, λ p shown l. absurd (over tt p shown l))
-  goes_ended came.Halted steps tells opens booked over after mine faults a is task task' at idle =
-      let e = halted_answers (IsTold view) lane number s after_new new.books.history.items c a faults is in
-      (idle, at, e.0, inl (history_same lane number moment old.books new.books (command_kind t) came.Halted (λ z. cc) booked, e.1), step_shown lane number moment old.books new.books s c t came.Halted after booked, λ p shown l. subst IsHalted (sym is) tt)
-  goes_ended (came.Refused f) steps tells opens booked over after mine faults a is task task' at idle =
-      let e = refused_answers (IsTold view) lane number s after_new new.books.history.items f c a (none_told f tells) is in
-      (idle, at, e.0.0, inl (history_same lane number moment old.books new.books (command_kind t) (came.Refused f) (λ z. cc) booked, e.0.1), step_shown lane number moment old.books new.books s c t (came.Refused f) after booked, λ p shown l. absurd (over tt p shown l))
-  goes_ended came.Blocked steps tells opens booked over after mine faults a is task task' at idle = absurd is
-  goes_ended came.More steps tells opens booked over after mine faults a is task task' at idle = absurd is
+  module _ (sound : Sound view clock spare was new) (same_start : new.books.start.items ≡ old.books.start.items) where
+    -- where nothing is pending, the disk shows that no ref clashes with another
+    apart_new : IsTold view → new.books.pending ≡ None → (name : List ℕ) → IsSome (after_new (RefOf name)) → IsFreeIn after_new name
+    apart_new told none name some =
+        let v = tells_always told.0 new.fs told.1 told.2 in
+        let tree = trees new.fs v.0 v.1 in
+        let stands : Stands from new.books.history.items new.books.pending v.0 = subst (λ (l : List (List ℕ × List ℕ)). Stands (first l) new.books.history.items new.books.pending v.0) same_start (sound.stands v.0 v.1) in
+        let f = fits_all from new.books.history.items v.0 (subst (λ o. Stands from new.books.history.items o v.0) none stands) v.0.now (Image-now v.0 tree) in
+        apart v.0.now after_new f.0 f.1 tree name some
 
-  pub ended_halts : (outcome : Outcome) → Steps command_stepped t outcome t' → Tells command_leaves command_refuses t outcome t' (view old.fs) (view new.fs) → (outcome ≢ came.Blocked → Opens (command_kind t) lane (books_of old.books))
-      → IsBooked (command_kind t) lane number moment outcome old.books new.books → Pursues s c t → ((p : Pending) → old.books.pending ≡ Some p → p.lane ≡ lane → p.command ≡ number) → laws.Tells view (Runs command_kind command_facts lane t') outcome new
-      → (faults : ℕ) (a : Answer) → IsEndedAs outcome c t' faults a → IsHalted a → (new.books.halted ≡ true) × (a ≡ answer.Halted faults)
-  ended_halts came.Done steps tells opens booked after mine halts faults a is halted =
-      absurd ((done_gives (IsTold view) from lane number moment s old.books new.books mine c t t' a after steps ready.task.holds booked (says tells (opens (λ e. cc)) t t' refl refl) is).2 halted)
-  ended_halts came.Halted steps tells opens booked after mine halts faults a is halted = (halts, is)
-  ended_halts (came.Refused f) steps tells opens booked after mine halts faults a is halted = absurd ((refused_answers (IsTold view) lane number s after_new new.books.history.items f c a (none_told f tells) is).1 halted)
-  ended_halts came.Blocked steps tells opens booked after mine halts faults a is halted = absurd is
-  ended_halts came.More steps tells opens booked after mine halts faults a is halted = absurd is
+    pub goes_ended : (outcome : Outcome) → Steps command_stepped t outcome t' → Tells command_leaves command_refuses t outcome t' (view old.fs) (view new.fs) → (outcome ≢ came.Blocked → Opens (command_kind t) lane (books_of old.books))
+        → IsBooked (command_kind t) lane number moment outcome old.books new.books → (IsOver outcome → NotPending lane (books_of new.books)) → Pursues s c t → ((p : Pending) → old.books.pending ≡ Some p → p.lane ≡ lane → p.command ≡ number)
+        → (faults : ℕ) (a : Answer) → IsEndedAs outcome c t' faults a → (task task' : Option Running) → start ≡ start_of h task → task' ≡ None → Goes (IsTold view) from lane number c old.books new.books task task' (Answered a start)
+    goes_ended came.Done steps tells opens booked over after mine faults a is task task' at idle =
+        let g = done_gives (IsTold view) from lane number moment s old.books new.books mine apart_new c t t' a after steps ready.task.holds booked (says tells (opens (λ e. cc)) t t' refl refl) is in
+        (idle, at, g.0, g.1, step_shown lane number moment old.books new.books s c t came.Done after booked, λ p shown l. absurd (over tt p shown l))
+    goes_ended came.Halted steps tells opens booked over after mine faults a is task task' at idle =
+        let e = halted_answers (IsTold view) lane number s after_new new.books.history.items c a faults is in
+        (idle, at, e.0, inl (history_same lane number moment old.books new.books (command_kind t) came.Halted (λ z. cc) booked, e.1), step_shown lane number moment old.books new.books s c t came.Halted after booked, λ p shown l. subst IsHalted (sym is) tt)
+    goes_ended (came.Refused f) steps tells opens booked over after mine faults a is task task' at idle =
+        let e = refused_answers (IsTold view) lane number s after_new new.books.history.items f c a (none_told f tells) is in
+        (idle, at, e.0.0, inl (history_same lane number moment old.books new.books (command_kind t) (came.Refused f) (λ z. cc) booked, e.0.1), step_shown lane number moment old.books new.books s c t (came.Refused f) after booked, λ p shown l. absurd (over tt p shown l))
+    goes_ended came.Blocked steps tells opens booked over after mine faults a is task task' at idle = absurd is
+    goes_ended came.More steps tells opens booked over after mine faults a is task task' at idle = absurd is
+
+    pub ended_halts : (outcome : Outcome) → Steps command_stepped t outcome t' → Tells command_leaves command_refuses t outcome t' (view old.fs) (view new.fs) → (outcome ≢ came.Blocked → Opens (command_kind t) lane (books_of old.books))
+        → IsBooked (command_kind t) lane number moment outcome old.books new.books → Pursues s c t → ((p : Pending) → old.books.pending ≡ Some p → p.lane ≡ lane → p.command ≡ number) → laws.Tells view (Runs command_kind command_facts lane t') outcome new
+        → (faults : ℕ) (a : Answer) → IsEndedAs outcome c t' faults a → IsHalted a → (new.books.halted ≡ true) × (a ≡ answer.Halted faults)
+    ended_halts came.Done steps tells opens booked after mine halts faults a is halted =
+        absurd ((done_gives (IsTold view) from lane number moment s old.books new.books mine apart_new c t t' a after steps ready.task.holds booked (says tells (opens (λ e. cc)) t t' refl refl) is).2 halted)
+    ended_halts came.Halted steps tells opens booked after mine halts faults a is halted = (halts, is)
+    ended_halts (came.Refused f) steps tells opens booked after mine halts faults a is halted = absurd ((refused_answers (IsTold view) lane number s after_new new.books.history.items f c a (none_told f tells) is).1 halted)
+    ended_halts came.Blocked steps tells opens booked after mine halts faults a is halted = absurd is
+    ended_halts came.More steps tells opens booked after mine halts faults a is halted = absurd is

@@ -16,3 +16,7 @@ pub mod Going
 pub mod Accounting
 pub mod Seeing
 pub mod Acts
+pub mod Turning
+pub mod Ordering
+pub mod Ranking
+pub mod Laters

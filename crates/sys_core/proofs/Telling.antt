@@ -1,6 +1,7 @@
 -- What a refused change tells of the state, where the view is told.
-use Rattle.std.proofs.Common.{◌≡◌, ◌≢◌, ℕ, true, false, refl, sym, ◌∙◌, subst, List, Option, Some, None, Err, IsSome}
+use Rattle.std.proofs.Common.{◌≡◌, ◌≢◌, ⊎_elim, ℕ, true, false, refl, sym, ◌∙◌, ap, subst, List, ◌∷◌, ◌++◌, append_assoc, Option, Some, None, Err, IsSome}
 use Rattle.fs_trait.specs.declared.task.Turn.TheVariants as turn
+use Rattle.ost_types.specs.Path.{Name, Path}
 use Rattle.fs_trait.specs.declared.types.Value.{Value}
 use Rattle.fs_trait.specs.declared.types.Value.TheVariants.{Absent, Folder, Link, File}
 use Rattle.fs_trait.specs.View.{Disk, View}
@@ -8,9 +9,11 @@ use Rattle.fs_trait.specs.Image.{IsTree}
 use Rattle.fs_trait.specs.Seen.{seen, shows}
 use Rattle.fs_trait.proofs.Claims.{reads_shows}
 use Rattle.fs_trait.proofs.Images.{Image-now}
-use Rattle.repo_layout.specs.Paths.{ref_path}
+use Rattle.repo_layout.specs.Paths.{heads, ref_path}
+use Rattle.repo_layout.specs.RefName.{parts_of}
 use Rattle.repo_layout.specs.Refs.{is_leaf}
-use Rattle.ref_room.specs.Clash.{IsClash, IsLeastClash}
+use Rattle.ref_room.specs.Clash.{IsAbove, IsClash, IsLeastClash}
+use Rattle.ref_room.proofs.Disks.{below_absent, leaf_no_folder}
 use Rattle.ref_store.specs.declared.phase.Phase.{Phase}
 use Rattle.ref_store.specs.declared.phase.Phase.TheVariants as phase
 use Rattle.ref_store.specs.declared.refusal.RefRefusal.{RefRefusal}
@@ -31,7 +34,7 @@ use Rattle.rely.specs.Sound.{Stands}
 use Rattle.rely.specs.State.{State, RefOf, Said, after, events_of}
 use Rattle.rely.proofs.Goods.{fits_all}
 use Rattle.rely.proofs.States.{says_one}
-use Rattle.sys_core.specs.Answers.{ClashIn, LeastClashIn}
+use Rattle.sys_core.specs.Answers.{ClashIn, IsFreeIn, LeastClashIn}
 
 -- what a refusal says of the state in which it came
 abbrev pub RefusedBy : State → Changing → RefRefusal → Type 0
@@ -56,6 +59,17 @@ bytes_leaf d Absent name commit says = cc
 bytes_leaf d (Folder m) name commit says = cc
 bytes_leaf d (Link m t) name commit says = refl
 bytes_leaf d (File n) name commit says = refl
+
+path_above : (a b : List ℕ) (x : Name) (rest : Path) → parts_of b ≡ parts_of a ++ x ∷ rest → ref_path b ≡ ref_path a ++ x ∷ rest
+unfolding ref_path
+path_above a b x rest e = ap (λ q. heads ++ q) e ∙ sym (append_assoc heads (parts_of a) (x ∷ rest))
+
+-- no leaf stands below a leaf
+leaf_alone : (d : Disk) → IsTree d → (a b : List ℕ) → IsAbove a b → is_leaf (d.at (ref_path a)) ≡ true → is_leaf (d.at (ref_path b)) ≡ true → ⊥
+leaf_alone d tree a b above up low =
+    let none : d.at (ref_path b) ≡ Absent = subst (λ q. d.at q ≡ Absent) (sym (path_above a b above.0 above.1 above.2)) (below_absent d tree (ref_path a) above.0 above.1 (leaf_no_folder (d.at (ref_path a)) up)) in
+    let n : false ≡ true = sym (ap is_leaf none) ∙ low in
+    cc
 
 module _ (d : Disk) (state : State) (good : IsGood d) (logical : Logical d state) where
   value_says : (name : List ℕ) (said : Said) → HasValue d name said → Says (RefOf name) said (shows d (ref_path name))
@@ -83,6 +97,13 @@ module _ (d : Disk) (state : State) (good : IsGood d) (logical : Logical d state
 
   least_in : (name other : List ℕ) → IsLeastClash d name other → LeastClashIn state name other
   least_in name other is = record { clash = clash_in name other is.clash; least = λ third c. is.least third (clash_of name third c) }
+
+  -- a leaf stands at a ref's path, so none stands below it or above it
+  pub apart : IsTree d → (name : List ℕ) → IsSome (state (RefOf name)) → IsFreeIn state name
+  apart tree name some other clash =
+      let here : is_leaf (d.at (ref_path name)) ≡ true = there_leaf name (state (RefOf name)) some (logical (RefOf name)) in
+      let there : is_leaf (d.at (ref_path other)) ≡ true = there_leaf other (state (RefOf other)) clash.there (logical (RefOf other)) in
+      ⊎_elim (λ above. leaf_alone d tree name other above here there) (λ below. leaf_alone d tree other name below there here) clash.clashes
 
 makes_value : (ph : Phase) (t : Changing) → MakesRoom ph → made_in ph t → IsSome t.value
 makes_value (phase.Clear c) t makes made = made.1

@@ -38,6 +38,10 @@ pub record LeastClashIn (s : State) (name other : List ℕ) : Type 0 where
   pub clash : ClashIn s name other
   pub least : (third : List ℕ) → ClashIn s name third → slice_cmp nat_cmp third other ≢ Less
 
+-- No ref of the state is such.
+abbrev pub IsFreeIn : State → List ℕ → Type 0
+IsFreeIn s name = (other : List ℕ) → ClashIn s name other → ⊥
+
 -- the change that a command makes, which begins in this state
 abbrev pub IsChangeOf : State → Command → Event → Type 0
 IsChangeOf s (Reset branch commit) e = e ≡ event.SetRef branch (s (RefOf branch)) commit
@@ -55,7 +59,7 @@ HasMoved s p name seen now = (seen ≡ s (RefOf name)) × (now ≡ p (RefOf name
 -- What an answer says of the state s in which the command began, the changes up to the answer, and the state p that they make.
 -- What was seen on the disk is known where the file system tells its view; there nothing else changes it.
 abbrev pub Answers : Type 0 → ℕ → ℕ → State → State → List Entry → Answer → Command → Type 0
-Answers told lane number s p entries answer.Nothing (Reset branch commit) = HasMade lane number (IsChangeOf s (Reset branch commit)) entries
+Answers told lane number s p entries answer.Nothing (Reset branch commit) = HasMade lane number (IsChangeOf s (Reset branch commit)) entries × (told → IsFreeIn p branch)
 Answers told lane number s p entries answer.Nothing (DropRef branch) = HasMade lane number (IsChangeOf s (DropRef branch)) entries
 Answers told lane number s p entries (answer.Refs rows) Refs = Lists rows.items p
 Answers told lane number s p entries (answer.Commit commit) (RevParse rev) = IsRev rev s commit

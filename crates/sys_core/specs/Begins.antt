@@ -1,5 +1,5 @@
 -- What a command's first act comes to by the books alone.
-use Rattle.std.specs.Prelude.{◌≡◌, ℕ, List, Some, None}
+use Rattle.std.specs.Prelude.{◌≡◌, ◌≤◌, ℕ, List, Some, None}
 use Rattle.script.specs.declared.answer.Answer.{Answer}
 use Rattle.script.specs.declared.answer.Answer.TheVariants as answer
 use Rattle.script.specs.declared.command.Command.{Command}
@@ -10,12 +10,13 @@ use Rattle.rely.specs.State.{State, RefOf}
 use Rattle.ref_book.specs.Tracks.{Lists}
 use Rattle.ref_work.specs.declared.command.RefCommand.{RefCommand}
 use Rattle.ref_work.specs.declared.command.RefCommand.TheVariants as task
-use Rattle.ref_work.specs.Commands.{removal}
+use Rattle.ref_work.specs.Commands.{command_left, removal}
 use Rattle.ref_book.specs.declared.book.RefBook.{RefBook}
 use Rattle.ref_work.specs.Answers as work
 use Rattle.sys_core.specs.declared.begin.Begun.{Begun}
 use Rattle.sys_core.specs.declared.begin.Begun.TheVariants.{Answered, Runs}
 use Rattle.sys_core.specs.Lanes.{HasRoomFor}
+use Rattle.sys_core.specs.Left.{most}
 
 -- a task at its beginning, with room for its ref, or an answer
 abbrev pub IsBegun : ℕ → RefBook → Begun → Type 0
@@ -51,3 +52,8 @@ RunsBy lane s c t = ⊥
 abbrev pub IsBy : ℕ → State → Command → Begun → Type 0
 IsBy lane s c (Answered answer) = AnswersBy s answer c
 IsBy lane s c (Runs t) = RunsBy lane s c t
+
+-- a task has no more acts before it than a command that hasn't begun
+abbrev pub IsFew : Begun → Type 0
+IsFew (Answered answer) = Unit {0}
+IsFew (Runs t) = command_left t ≤ most

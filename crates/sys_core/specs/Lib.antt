@@ -5,3 +5,6 @@ pub mod Booked
 pub mod Answers
 pub mod Replied
 pub mod Pursues
+pub mod Left
+pub mod Ranks
+pub mod Turns

@@ -3,7 +3,7 @@ ghost use Rattle.fs_trait.specs.View.{View};
 ghost use Rattle.ref_book.specs.Tracks.{Tracks, HasRoom};
 ghost use Rattle.rely.specs.State.{State};
 ghost use Rattle.sys_core.specs.Lanes.{HasRoomFor};
-ghost use Rattle.sys_core.specs.Begins.{IsBegun, IsBy};
+ghost use Rattle.sys_core.specs.Begins.{IsBegun, IsBy, IsFew};
 ghost use Rattle.script.specs.declared.command.Command.TheVariants as Command;
 
 use ost_types::{Csum, NoMemory, TryCopy};
@@ -24,6 +24,7 @@ pub(crate) fn begin(alloc: Global, refs: &mut RefBook, lane: u8, command: &Comma
     ensures refs { (s : State) → Tracks refs.old s → Tracks refs.new s }
     ensures rooms { (name : List ℕ) → HasRoom refs.old name → HasRoom refs.new name }
     ensures begun { IsBegun lane refs.new result }
+    ensures left { IsFew result }
     ensures by { (s : State) → Tracks refs.old s → IsBy lane s command.now result }
 {
     match task_of(alloc, refs, lane, command) {
@@ -42,6 +43,7 @@ fn task_of(
     ensures refs { (s : State) → Tracks refs.old s → Tracks refs.new s }
     ensures rooms { (name : List ℕ) → HasRoom refs.old name → HasRoom refs.new name }
     ensures begun { IfOk result (IsBegun lane refs.new) }
+    ensures left { IfOk result IsFew }
     ensures by { (s : State) → Tracks refs.old s → IfOk result (IsBy lane s command.now) }
 {
     match command {
@@ -65,6 +67,7 @@ fn task_of(
 // a ref must be there; its commit, or the one that was named, is looked up
 fn parse(alloc: Global, refs: &RefBook, rev: &Rev) -> Begun
     ensures begun { (lane : ℕ) → IsBegun lane refs.now result }
+    ensures left { IsFew result }
     ensures by { (lane : ℕ) (s : State) → Tracks refs.now s → IsBy lane s (Command.RevParse rev.now) result }
 {
     match rev {

@@ -11,13 +11,14 @@ ghost use Rattle.rely.specs.State.{State, after, events_of};
 ghost use Rattle.rely.specs.Sound.{Sound};
 ghost use Rattle.rely.specs.State.{first};
 ghost use Rattle.rely.specs.declared.books.Pending.{Pending};
-ghost use Rattle.rely.specs.Exact.{Causes, IsBooked, Opens, Steps, Tells};
+ghost use Rattle.rely.specs.Exact.{Causes, IsBooked, Locks, Opens, Steps, Tells};
 ghost use Rattle.ref_work.specs.Commands.{command_leaves, command_refuses, command_stepped};
 ghost use Rattle.script.specs.declared.answer.Answer.{Answer};
 ghost use Rattle.script.specs.declared.answer.Answer.TheVariants as answer;
 ghost use Rattle.sys_core.specs.Answers.{IsHalted, IsTold, Shown};
 ghost use Rattle.sys_core.specs.Lanes.{Facts, HasRoomFor, IsHome, IsOver, LaneActs, now_of};
 ghost use Rattle.sys_core.specs.Pursues.{Goes, HasAnswer, IsAfter, IsEndedAs};
+ghost use Rattle.sys_core.specs.Turns.{HasTurn, RunsBehind, Turns};
 
 use crate::answer::answer_of;
 use crate::begin::{Begun, begin};
@@ -53,10 +54,12 @@ pub(crate) fn lane_act<F: Fs>(
     requires facts { Facts lane refs.old run.old.task (F.view base.old.fs) (books_of base.old.books) }
     requires mine { (p : Pending) → base.old.books.pending ≡ Some p → p.lane ≡ lane → p.command ≡ run.old.command }
     requires after { IsAfter (first base.old.books.start.items) base.old.books.history.items command.now run.old.task }
+    requires turn { HasTurn lane base.old.books (RunsBehind run.old.task) }
     ensures acts { LaneActs F.view F.clock F.spare F.was lane refs.old refs.new run.new.task base.old base.new }
     ensures number { run.new.command ≡ run.old.command }
     ensures blocked { result ≡ Came.Blocked → base.new ≡ base.old }
     ensures goes { Goes (IsTold F.view) (first base.old.books.start.items) lane run.old.command command.now base.old.books base.new.books run.old.task run.new.task result }
+    ensures turns { Turns lane base.old.books base.new.books run.old.task run.new.task result }
     ensures halts { (a : Answer) (start : ℕ) → result ≡ Came.Answered a start → IsHalted a → (base.new.books.halted ≡ true) × (a ≡ answer.Halted (F.faults base.new.fs)) }
     ensures shown { (a : Answer) (start : ℕ) → result ≡ Came.Answered a start → Shown (F.view base.old.fs) base.old.books.halted (F.faults base.old.fs) (F.faults base.new.fs) a }
 {
@@ -81,10 +84,12 @@ fn begins<F: Fs>(
     requires tracks { Tracks refs.old (now_of base.old.books) }
     requires facts { Facts lane refs.old None (F.view base.old.fs) (books_of base.old.books) }
     requires idle { run.old.task ≡ None }
+    requires turn { HasTurn lane base.old.books (RunsBehind None) }
     ensures acts { LaneActs F.view F.clock F.spare F.was lane refs.old refs.new run.new.task base.old base.new }
     ensures number { run.new.command ≡ run.old.command }
     ensures blocked { result ≡ Came.Blocked → base.new ≡ base.old }
     ensures goes { Goes (IsTold F.view) (first base.old.books.start.items) lane run.old.command command.now base.old.books base.new.books None run.new.task result }
+    ensures turns { Turns lane base.old.books base.new.books None run.new.task result }
     ensures halts { (a : Answer) (start : ℕ) → result ≡ Came.Answered a start → IsHalted a → (base.new.books.halted ≡ true) × (a ≡ answer.Halted (F.faults base.new.fs)) }
     ensures shown { (a : Answer) (start : ℕ) → result ≡ Came.Answered a start → Shown (F.view base.old.fs) base.old.books.halted (F.faults base.old.fs) (F.faults base.new.fs) a }
 {
@@ -122,10 +127,12 @@ fn goes_on<F: Fs>(
     requires idle { run.old.task ≡ None }
     requires mine { (p : Pending) → base.old.books.pending ≡ Some p → p.lane ≡ lane → p.command ≡ run.old.command }
     requires after { IsAfter (first base.old.books.start.items) base.old.books.history.items command.now (Some running) }
+    requires turn { HasTurn lane base.old.books (RunsBehind (Some running)) }
     ensures acts { LaneActs F.view F.clock F.spare F.was lane refs.old refs.new run.new.task base.old base.new }
     ensures number { run.new.command ≡ run.old.command }
     ensures blocked { result ≡ Came.Blocked → base.new ≡ base.old }
     ensures goes { Goes (IsTold F.view) (first base.old.books.start.items) lane run.old.command command.now base.old.books base.new.books (Some running) run.new.task result }
+    ensures turns { Turns lane base.old.books base.new.books (Some running) run.new.task result }
     ensures halts { (a : Answer) (start : ℕ) → result ≡ Came.Answered a start → IsHalted a → (base.new.books.halted ≡ true) × (a ≡ answer.Halted (F.faults base.new.fs)) }
     ensures shown { (a : Answer) (start : ℕ) → result ≡ Came.Answered a start → Shown (F.view base.old.fs) base.old.books.halted (F.faults base.old.fs) (F.faults base.new.fs) a }
 {
@@ -198,6 +205,8 @@ fn running_act<F: Fs>(
     ensures steps { Steps command_stepped work.old result work.new }
     ensures tells { Tells command_leaves command_refuses work.old result work.new (F.view base.old.fs) (F.view base.new.fs) }
     ensures opens { result ≢ came.Blocked → Opens (command_kind work.old) lane (books_of base.old.books) }
+    ensures held { result ≡ came.Blocked → Opens (command_kind work.old) lane (books_of base.old.books) → ⊥ }
+    ensures locks { Locks (command_kind work.old) lane result base.old.books base.new.books }
     ensures booked { IsBooked (command_kind work.old) lane number (F.clock base.new.fs) result base.old.books base.new.books }
     ensures cause { (v : View) → F.view base.old.fs ≡ Some v → Causes (F.faults base.old.fs) (F.faults base.new.fs) result }
     ensures home { IsHome lane (F.view base.new.fs) }

@@ -1,3 +1,7 @@
+ghost use Rattle.std.specs.Prelude.{◌≡◌};
+ghost use Rattle.sys_core.specs.Left.{left_of};
+ghost use Rattle.sys_core.specs.Turns.{work_in};
+
 use ref_work::RefCommand;
 
 /// How far a lane is.
@@ -14,4 +18,16 @@ pub(crate) struct Running {
     pub work: RefCommand,
     /// How many changes the history had when it began.
     pub start: usize,
+}
+
+impl Run {
+    /// At most so many acts are left of its command.
+    pub fn left(&self) -> u128
+        ensures { result ≡ left_of (work_in self.now.task) }
+    {
+        match &self.task {
+            None => u128::MAX,
+            Some(running) => running.work.left(),
+        }
+    }
 }

@@ -1,4 +1,4 @@
-ghost use Rattle.std.specs.Prelude.{true, ◌≡◌, ◌<◌, ◌≤◌, ℕ, length, slice_index_or, Some, IfOk, IfErr};
+ghost use Rattle.std.specs.Prelude.{true, false, ◌≡◌, ◌<◌, ◌≤◌, ℕ, length, slice_index_or, Some, None, IfOk, IfErr};
 ghost use Rattle.fs_trait.specs.View.{View};
 ghost use Rattle.rely.specs.Headline.{Headline};
 ghost use Rattle.rely.specs.State.{first};
@@ -9,7 +9,10 @@ ghost use Rattle.script.specs.declared.answer.Answer.TheVariants as answer;
 ghost use Rattle.script.specs.declared.answer.Reply.{Reply};
 ghost use Rattle.sys_core.specs.Answers.{IsHalted, Shown};
 ghost use Rattle.sys_core.specs.Replied.{IsTo};
-ghost use Rattle.sys_core.specs.Booked.{Acted, Booked, IsReplied, replies_of};
+ghost use Rattle.sys_core.specs.Booked.{Acted, Booked, HasCommand, IsLater, IsReplied, replies_of};
+ghost use Rattle.sys_core.specs.Ranks.{AreWithin, HasEnded, IsHeldOff, IsOver, Ranked, left_in_all, rank};
+ghost use Rattle.sys_core.specs.Turns.{AsksTurn};
+ghost use Rattle.sys_core.specs.declared.ask.Ask.TheVariants as Ask;
 
 use crate::Ask;
 use crate::book::book;
@@ -46,13 +49,15 @@ impl<F: Fs> Model for System<F> {
     ghost use Rattle.sys_core.specs.Lanes.{Kept};
     ghost use Rattle.sys_core.specs.System.{System};
     ghost use Rattle.sys_core.specs.Booked.{Booked, replies_of};
+    ghost use Rattle.std.specs.Prelude.{◌≡◌, false};
     ghost use Rattle.sys_core.specs.Pursues.{Accounted, started_of};
+    ghost use Rattle.sys_core.specs.Turns.{Ordered, works_of};
 
     ghost Value = { System F };
 
-    ghost view = { λ s. record { base = s.base; lanes = s.lanes.items; started = started_of s.runs.items; replies = replies_of s.replies.items } };
+    ghost view = { λ s. record { base = s.base; lanes = s.lanes.items; started = started_of s.runs.items; works = works_of s.runs.items; replies = replies_of s.replies.items } };
 
-    ghost invariant = { λ s. Kept F.view F.clock F.spare F.was s.base s.refs s.runs.items × Booked s.lanes.items s.runs.items s.replies.items × Accounted F.view s.base s.lanes.items s.runs.items (replies_of s.replies.items) s.given (F.faults s.base.fs) };
+    ghost invariant = { λ s. Kept F.view F.clock F.spare F.was s.base s.refs s.runs.items × Booked s.lanes.items s.runs.items s.replies.items × Accounted F.view s.base s.lanes.items s.runs.items (replies_of s.replies.items) s.given (F.faults s.base.fs) × (s.base.books.halted ≡ false → Ordered s.base.books s.lanes.items s.runs.items) };
 }
 
 /// What a system is taken apart into.
@@ -123,6 +128,9 @@ impl<F: Fs> System<F> {
     pub fn act(&mut self, actor: u8) -> Ask
         ensures acted { Acted (Shown (F.view self.old.base.fs) self.old.base.books.halted (F.faults self.old.base.fs) (F.faults self.new.base.fs)) self.old self.new actor result }
         ensures lanes { self.new.lanes ≡ self.old.lanes }
+        ensures ranks { Ranked self.old self.new actor result }
+        ensures held { result ≡ Ask.Blocked → IsHeldOff self.old actor }
+        ensures waits { HasCommand self.old actor → self.old.base.books.halted ≡ false → AsksTurn (slice_index_or self.old.works actor None) → IsHeldOff self.old actor → result ≡ Ask.Blocked }
     {
         let number = actor as usize;
         if number >= self.lanes.len() {
@@ -167,6 +175,22 @@ impl<F: Fs> System<F> {
         }
     }
 
+    /// How many acts the next command of this lane may still need at most: none where the lane has no more commands, or there is
+    /// no such lane.
+    pub fn rank(&self, actor: u8) -> u128
+        ensures { result ≡ rank self.now actor }
+    {
+        let number = actor as usize;
+        if number >= self.lanes.len() {
+            return 0;
+        }
+        let run = &self.runs[number];
+        if run.command as usize >= self.lanes[number].commands.len() {
+            return 0;
+        }
+        run.left()
+    }
+
     /// The changes that last, in the order in which they came.
     pub fn history(&self) -> &[Entry]
         ensures { result.now ≡ self.now.base.books.history.items }
@@ -189,7 +213,8 @@ impl<F: Fs> System<F> {
     }
 
     pub fn lanes(&self) -> &[Lane]
-        ensures { result.now ≡ self.now.lanes }
+        ensures lanes { result.now ≡ self.now.lanes }
+        ensures few { length result.now ≤ 8 }
     {
         &self.lanes
     }
@@ -200,20 +225,44 @@ impl<F: Fs> System<F> {
     pub fn certify(&self)
         ensures headline { (v : View) → F.view self.now.base.fs ≡ Some v → Headline F.clock F.was self.now.base v }
         ensures replied { IsReplied F.view self.now }
+        ensures within { AreWithin self.now }
         ensures halted { (lane number : ℕ) (r : Reply) → IsTo self.now.replies lane number r → IsHalted r.answer → (self.now.base.books.halted ≡ true) × (r.answer ≡ answer.Halted (F.faults self.now.base.fs)) }
     {
         certify(&self.base);
     }
 
-    /// Acts once for each actor of the schedule.
+    /// Acts once for each actor of the schedule, and then, round after round, until every lane has ended: each of their commands
+    /// has its reply.
     pub fn drive(&mut self, schedule: &[u8])
         ensures replied { IsReplied F.view self.new }
         ensures headline { (v : View) → F.view self.new.base.fs ≡ Some v → Headline F.clock F.was self.new.base v }
+        ensures ended { HasEnded self.new }
+        ensures lanes { self.new.lanes ≡ self.old.lanes }
+        ensures later { IsLater self.old self.new }
     {
         for actor in schedule {
             let _ = self.act(*actor);
         }
+        'rounds: while self.round() {}
         self.certify();
+    }
+
+    /// One act of each lane, in rising order. Whether any lane had a command to act for.
+    fn round(&mut self) -> bool
+        ensures over { result ≡ false → IsOver self.new }
+        ensures falls { result ≡ true → left_in_all self.new < left_in_all self.old }
+        ensures lanes { self.new.lanes ≡ self.old.lanes }
+        ensures later { IsLater self.old self.new }
+    {
+        let _few = self.lanes();
+        let mut unfinished = false;
+        'lanes: for lane in 0..8 {
+            match self.act(lane) {
+                Ask::Ended => {}
+                _ => unfinished = true,
+            }
+        }
+        unfinished
     }
 
     pub fn into_parts(self) -> Parts<F>

@@ -1,4 +1,4 @@
-ghost use Rattle.std.specs.Prelude.{true, false, ◌≡◌, ◌<◌, ◌++◌, ℕ, List, Some, None, length, slice_index_or, slice_set};
+ghost use Rattle.std.specs.Prelude.{true, false, ◌≡◌, ◌≢◌, ◌<◌, ◌++◌, ℕ, List, Some, None, length, slice_index_or, slice_set};
 ghost use Rattle.rely.specs.State.{first};
 ghost use Rattle.rely.specs.declared.books.Entry.{Entry};
 ghost use Rattle.rely.specs.declared.books.Pending.{Pending};
@@ -12,6 +12,7 @@ ghost use Rattle.script.specs.declared.answer.Answer.{Answer};
 ghost use Rattle.sys_core.specs.Answers.{IsHalted, IsTold, Shown};
 ghost use Rattle.sys_core.specs.Lanes.{Kept};
 ghost use Rattle.sys_core.specs.Pursues.{Goes, IsAfter, start_of};
+ghost use Rattle.sys_core.specs.Turns.{HasTurn, RunsBehind, Turns};
 
 use crate::lane::{Came, lane_act};
 use crate::run::Run;
@@ -34,6 +35,7 @@ pub(crate) fn turn<F: Fs>(
     requires lane { lane < length runs.old.items }
     requires mine { (p : Pending) (r : Run) → base.old.books.halted ≡ false → base.old.books.pending ≡ Some p → p.lane ≡ lane → p.command ≡ (slice_index_or runs.old.items lane r).command }
     requires after { (r : Run) → IsAfter (first base.old.books.start.items) base.old.books.history.items command.now (slice_index_or runs.old.items lane r).task }
+    requires turn { (r : Run) → base.old.books.halted ≡ false → HasTurn lane base.old.books (RunsBehind (slice_index_or runs.old.items lane r).task) }
     ensures kept { Kept F.view F.clock F.spare F.was base.new refs.new runs.new.items }
     ensures booked { (lanes : List Lane) (replies : List (Vec Reply)) → lane < length lanes → Booked lanes runs.old.items replies → Booked lanes runs.new.items replies }
     ensures number { (r : Run) → (slice_index_or runs.new.items lane r).command ≡ (slice_index_or runs.old.items lane r).command }
@@ -43,6 +45,9 @@ pub(crate) fn turn<F: Fs>(
     ensures halts { (a : Answer) (start : ℕ) → result ≡ Came.Answered a start → IsHalted a → (base.new.books.halted ≡ true) × (a ≡ answer.Halted (F.faults base.new.fs)) }
     ensures shown { (a : Answer) (start : ℕ) → result ≡ Came.Answered a start → Shown (F.view base.old.fs) base.old.books.halted (F.faults base.old.fs) (F.faults base.new.fs) a }
     ensures live { result ≡ Came.More → base.old.books.halted ≡ false }
+    ensures turns { (r : Run) → base.old.books.halted ≡ false → Turns lane base.old.books base.new.books (slice_index_or runs.old.items lane r).task (slice_index_or runs.new.items lane r).task result }
+    ensures waits { result ≡ Came.Blocked → base.old.books.halted ≡ false }
+    ensures others { base.old.books.halted ≡ false → (x : ℕ) → x ≢ lane → base.old.books.turn ≡ Some x → base.new.books.turn ≡ Some x }
     ensures stays { base.old.books.halted ≡ true → base.new ≡ base.old }
     ensures opened { base.new.books.opened ≡ base.old.books.opened }
     ensures start { base.new.books.start.items ≡ base.old.books.start.items }

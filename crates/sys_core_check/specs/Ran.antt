@@ -1,5 +1,5 @@
 -- What a run of lanes gives back, and why none was run.
-use Rattle.std.specs.Prelude.{◌≡◌, ◌<◌, ℕ, List, length, slice_index_or, Option, Some}
+use Rattle.std.specs.Prelude.{◌≡◌, ◌<◌, ℕ, List, length, map, slice_index_or, Option, Some}
 use Rattle.fs_trait.specs.View.{Disk, View}
 use Rattle.rely.specs.declared.books.Base.{Base}
 use Rattle.rely.specs.Headline.{Headline}
@@ -14,7 +14,7 @@ use Rattle.sys_core_check.specs.declared.running.NotRun.TheVariants.{NotOpened, 
 use Rattle.sys_open.specs.Opening.{IsToldOf}
 
 -- The file system, with the changes that last and the one that is pending, is that of books of which the headline is so; and
--- each reply says what the states at its start and at its place show.
+-- each reply says what the states at its start and at its place show. Each command of each lane has its reply.
 pub record Ran {F : Type 0} (view : F → Option View) (clock : F → ℕ) (was : F → ℕ → View → Type 0) (parts : Parts F) : Type 0 where
   pub base : Base F
   pub fs : parts.fs ≡ base.fs
@@ -23,6 +23,7 @@ pub record Ran {F : Type 0} (view : F → Option View) (clock : F → ℕ) (was 
   pub headline : (w : View) → view parts.fs ≡ Some w → Headline clock was base w
   pub started : List (Option ℕ)
   pub replied : Replied (IsTold view) (first base.books.start.items) base.books.history.items base.books.pending parts.lanes.items started (replies_of parts.replies.items)
+  pub ended : map (λ row. length row) (replies_of parts.replies.items) ≡ map (λ lane. length lane.commands.items) parts.lanes.items
 
 -- why no lane was run, by what reads see at the beginning
 abbrev pub IsReason : List Lane → Disk → NotRun → Type 0

@@ -4,3 +4,12 @@
 mod running;
 
 pub use running::{NotRun, run};
+
+#[cfg(test)]
+mod crash_tests;
+#[cfg(test)]
+mod disks;
+#[cfg(test)]
+mod tests;
+#[cfg(test)]
+mod turn_tests;

@@ -11,7 +11,7 @@ use fs_trait::Fs;
 use ost_types::{Limits, NoMemory};
 use script::Lane;
 use std::alloc::Global;
-use sys_core::{Ask, Parts, System};
+use sys_core::{Parts, System};
 use sys_open::{OpenFault, Opened, adopt};
 
 /// Why no lane was run.
@@ -24,27 +24,6 @@ pub enum NotRun {
     /// This lane has more than 64 commands.
     TooManyCommands(usize),
     NoMemory,
-}
-
-/// One act of each lane. Whether any of them did work.
-fn round<F: Fs>(system: &mut System<F>) -> bool {
-    let mut worked = false;
-    for lane in 0..8 {
-        worked = match system.act(lane) {
-            Ask::More | Ask::Done { .. } => true,
-            Ask::Blocked | Ask::Ended => worked,
-        };
-    }
-    worked
-}
-
-/// Acts of the lanes in turn, till none of them does work.
-fn run_all<F: Fs>(system: &mut System<F>) {
-    for _ in 0..u64::MAX {
-        if !round(system) {
-            break;
-        }
-    }
 }
 
 fn run_opened<F: Fs>(
@@ -60,7 +39,7 @@ fn run_opened<F: Fs>(
     match System::new(alloc, opened, lanes) {
         Ok(system) => {
             let mut system = system;
-            run_all(&mut system);
+            system.drive(&[]);
             Ok(system.into_parts())
         }
         Err((opened, NoMemory)) => Err((opened.into_fs(), NotRun::NoMemory)),
@@ -68,7 +47,7 @@ fn run_opened<F: Fs>(
 }
 
 /// The first lane with more than 64 commands.
-fn long_lane(lanes: &[Lane]) -> Option<usize>
+pub fn long_lane(lanes: &[Lane]) -> Option<usize>
     ensures short { IsNone result → (l : ℕ) (d : Lane) → l < length lanes.now → length (slice_index_or lanes.now l d).commands.items ≤ 64 }
     ensures long { IfSome result (λ l. (l < length lanes.now) × ((d : Lane) → 64 < length (slice_index_or lanes.now l d).commands.items)) }
 {

@@ -1,5 +1,5 @@
 -- What is left where the folders were laid out and the staging paths cleared.
-use Rattle.std.proofs.Common.{◌≡◌, ⊎_elim, ◌<◌, ℕ, true, false, refl, sym, ◌∙◌, ap, subst, Option, Some, Result, Ok, Err}
+use Rattle.std.proofs.Common.{◌≡◌, inl, ⊎_elim, ◌<◌, ℕ, true, false, refl, sym, ◌∙◌, ap, subst, Option, Some, Result, Ok, Err}
 use Rattle.std.specs.Prelude.{OnOk}
 use Rattle.ost_types.specs.Path.{Name, Path, is_below, under}
 use Rattle.ost_types.proofs.Paths.{is_below-under}
@@ -59,7 +59,7 @@ pub asks_kept : (v u : View) → IsTree u.now → Writes (Lays v.now) v u → Is
 asks_kept v u tree writes sane = laid_reached v u tree writes (sane Staging)
 
 pub kinds_suit_all : (d : Disk) → IsSane d → (f : Folder) → Suits FolderOrNothing (d.at (folder_path f))
-kinds_suit_all d sane f = sane Kinds (folder_path f) FolderOrNothing (Laid f, refl, refl)
+kinds_suit_all d sane f = sane Kinds (folder_path f) FolderOrNothing (inl (Laid f, refl, refl))
 
 pub sync_interrupted : (at : Path) (e : FsErr) (f : OpenFault) → OfNone e → IsRefusal at e f → IsInterruption f
 sync_interrupted at err.Failed f named is = subst IsInterruption (sym is) tt

@@ -8,6 +8,10 @@ mod Clearings
 mod Holding
 mod FolderLemmas
 mod SpotLemmas
+mod NameTests
+mod ManyPaths
+mod ManyWalks
+mod Firsts
 mod StageLemmas
 mod Checking
 mod Laying

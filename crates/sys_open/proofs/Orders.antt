@@ -1,8 +1,8 @@
 -- The order of paths, of which one is above another.
-use Rattle.std.proofs.Common.{◌≡◌, true, false, refl, sym, ◌∙◌, ap, subst, [], ◌∷◌, ◌++◌, append-nil, append_assoc}
+use Rattle.std.proofs.Common.{◌≡◌, ◌≢◌, true, false, refl, sym, ◌∙◌, ap, subst, [], ◌∷◌, ◌++◌, append-nil, append_assoc}
 use Rattle.std.specs.Cmp.Lexicographic.{slice_cmp}
 use Rattle.std.specs.Cmp.{IsTotalOrder}
-use Rattle.std.specs.Ordering.{nat_cmp, is_eq}
+use Rattle.std.specs.Ordering.{nat_cmp, is_eq, ordering_reverse}
 use Rattle.std.specs.declared.cmp.Ordering.{Ordering}
 use Rattle.std.specs.declared.cmp.Ordering.TheVariants.{Less, Equal, Greater}
 use Rattle.std.proofs.lemmas.Cmp.{nat_list_cmp_total, lists_total, eq_by_cmp_equiv}
@@ -24,6 +24,18 @@ not_both_less p q a b = let c : path_cmp p q ≡ Greater = path_order.antisymm p
 
 pub not_less_itself : (p : Path) → path_cmp p p ≡ Less → ⊥
 not_less_itself p e = not_both_less p p e e
+
+pub less_trans : (p q r : Path) → path_cmp p q ≡ Less → path_cmp q r ≡ Less → path_cmp p r ≡ Less
+less_trans p q r a b = path_order.trans p q r a b
+
+-- what is before one path is before another that isn't
+pub less_before : (r p q : Path) → path_cmp r p ≡ Less → path_cmp q p ≢ Less → path_cmp r q ≡ Less
+less_before r p q before after = by (path_cmp p q) refl
+  where
+    by : (o : Ordering) → path_cmp p q ≡ o → path_cmp r q ≡ Less
+    by Less e = path_order.trans r p q before e
+    by Equal e = path_order.antisymm r q ∙ ap ordering_reverse (sym (path_order.congr p q r e)) ∙ sym (path_order.antisymm r p) ∙ before
+    by Greater e = absurd (after (path_order.antisymm q p ∙ ap ordering_reverse e))
 
 -- a common front decides nothing
 common : (f p q : Path) → path_cmp (f ++ p) (f ++ q) ≡ path_cmp p q

@@ -1,5 +1,5 @@
 -- What keeps a sane disk is sane.
-use Rattle.std.proofs.Common.{◌≡◌, ◌⊎◌, inl, inr, ◌≤◌, ◌<◌, ℕ, true, refl, sym, ◌∙◌, ap, subst, arith}
+use Rattle.std.proofs.Common.{◌≡◌, ◌⊎◌, inl, inr, ◌≤◌, ◌<◌, ℕ, true, refl, sym, ◌∙◌, ap, subst, arith, List, [], ◌∷◌}
 use Rattle.ost_types.specs.Path.{Name, Path, IsPath, is_below, under}
 use Rattle.ost_types.proofs.Paths.{is_below-self}
 use Rattle.fs_trait.specs.declared.types.Value.{Value}
@@ -12,17 +12,22 @@ use Rattle.repo_layout.specs.declared.fixed.Fixed.TheVariants as fixed
 use Rattle.repo_layout.specs.declared.fixed.Version.TheVariants.{Zero, One}
 use Rattle.repo_layout.specs.declared.folder.Folder.{Folder}
 use Rattle.repo_layout.specs.Paths.{folder_path, heads}
-use Rattle.repo_layout.specs.Place.{BootLink, Other, Place, Summary, place}
-use Rattle.repo_layout.proofs.Places.{place-boot_link, place-summary}
+use Rattle.repo_layout.specs.Place.{BootLink, KernelCopy, Mark, Other, Place, Summary, place}
+use Rattle.repo_layout.proofs.Places.{place-boot_link, place-kernel, place-mark, place-summary}
+use Rattle.repo_layout.specs.BootPaths.{kernel_path}
+use Rattle.repo_layout.specs.RefFile.{IsSum}
 use Rattle.repo_layout.specs.Refs.{is_leaf}
 use Rattle.rely.proofs.Layouts.{fixed_other}
 use Rattle.sys_open.specs.declared.spots.Rule.{Rule}
-use Rattle.sys_open.specs.declared.spots.Rule.TheVariants.{FolderOrNothing, NoFolder}
+use Rattle.sys_open.specs.declared.spots.Rule.TheVariants.{FileOrNothing, FolderOrNothing, NoFolder}
 use Rattle.sys_open.specs.declared.spots.Spot.{Spot}
 use Rattle.sys_open.specs.declared.spots.Spot.TheVariants.{Laid, Known}
 use Rattle.sys_open.specs.Changes.{Changes, Keeps}
 use Rattle.sys_open.specs.Checks.{Asks, HoldsRefs, IsFor, IsReached, IsSane, Kinds, RefFiles, Staging, Suits}
 use Rattle.sys_open.specs.Spots.{rule_of, spot_path}
+use Rattle.sys_open.specs.declared.many.Many.{Many}
+use Rattle.sys_open.specs.declared.many.Many.TheVariants.{Kernels, Stateroots, Objects, Marks}
+use Rattle.sys_open.specs.Many.{IsIn, IsOfKernel}
 use Rattle.sys_open.proofs.Beginning.{folder_is_path, leaf_was}
 use Rattle.sys_open.proofs.FolderLemmas.{absent_no_folder, absent_suits, folder_suits}
 use Rattle.sys_open.proofs.Laying.{suits_shown}
@@ -36,9 +41,20 @@ no_folder_shown d e (value.Folder k) (value.Folder m) same suits = suits
 no_folder_shown d e (value.Link k r) (value.Folder m) same suits = let n : Directory m ≡ Symlink k r = same in cc
 no_folder_shown d e (value.File k) (value.Folder m) same suits = let n : Directory m ≡ Leaf k (d.meta k) (d.bytes k) = same in cc
 
+file_shown : (d e : Disk) (z y : Value) → seen e y ≡ seen d z → Suits FileOrNothing z → Suits FileOrNothing y
+file_shown d e z value.Absent same suits = tt
+file_shown d e z (value.File n) same suits = tt
+file_shown d e value.Absent (value.Folder k) same suits = let n : Directory k ≡ Vacant = same in cc
+file_shown d e value.Absent (value.Link k r) same suits = let n : Symlink k r ≡ Vacant = same in cc
+file_shown d e (value.File n) (value.Folder k) same suits = let n : Directory k ≡ Leaf n (d.meta n) (d.bytes n) = same in cc
+file_shown d e (value.File n) (value.Link k r) same suits = let n : Symlink k r ≡ Leaf n (d.meta n) (d.bytes n) = same in cc
+file_shown d e (value.Folder m) y same suits = absurd suits
+file_shown d e (value.Link m t) y same suits = absurd suits
+
 suits_same : (rule : Rule) (d e : Disk) (z y : Value) → seen e y ≡ seen d z → Suits rule z → Suits rule y
 suits_same FolderOrNothing d e z y same suits = suits_shown d e z y same suits
 suits_same NoFolder d e z y same suits = no_folder_shown d e z y same suits
+suits_same FileOrNothing d e z y same suits = file_shown d e z y same suits
 
 -- no folder that is laid out lies where there is to be none
 other : (f : Folder) → place (folder_path f) ≡ Other (folder_path f)
@@ -56,6 +72,38 @@ no_laid (Known (fixed.BootLink Zero)) f r e = no_link 0 f _ (omega arith) e (pla
 no_laid (Known (fixed.BootLink One)) f r e = no_link 1 f _ (omega arith) e (place-boot_link 1 (omega arith))
 no_laid (Known fixed.Summary) f r e = let n : Other (folder_path f) ≡ Summary = sym (other f) ∙ ap place (sym e) ∙ place-summary in cc
 
+-- nor where there is to be a file, which no place with one path asks for
+no_file_asked : (spot : Spot) → rule_of spot ≡ FileOrNothing → ⊥
+no_file_asked (Laid g) r = let n : FolderOrNothing ≡ FileOrNothing = r in cc
+no_file_asked (Known (fixed.LoaderFolder version)) r = let n : FolderOrNothing ≡ FileOrNothing = r in cc
+no_file_asked (Known (fixed.Entries version)) r = let n : FolderOrNothing ≡ FileOrNothing = r in cc
+no_file_asked (Known (fixed.BootFolder version sub)) r = let n : FolderOrNothing ≡ FileOrNothing = r in cc
+no_file_asked (Known (fixed.BootLink version)) r = let n : NoFolder ≡ FileOrNothing = r in cc
+no_file_asked (Known fixed.Summary) r = let n : NoFolder ≡ FileOrNothing = r in cc
+
+-- and at a place of many names only where there is to be a folder
+no_copy : (os : List ℕ) (bootcsum : List ℕ) (rule : Rule) (f : Folder) (p : Path) → IsSum bootcsum → p ≡ folder_path f → IsOfKernel (kernel_path os bootcsum) rule p → rule ≡ FolderOrNothing
+no_copy os bootcsum rule f p sum e (inl is) = is.0
+no_copy os bootcsum rule f p sum e (inr is) = let n : Other (folder_path f) ≡ KernelCopy os bootcsum (is.1.0 ∷ []) = sym (other f) ∙ ap place (sym e ∙ is.1.2) ∙ place-kernel os bootcsum (is.1.0 ∷ []) sum in cc
+
+laid_in : (many : Many) (rule : Rule) (f : Folder) (p : Path) → IsIn many rule p → p ≡ folder_path f → rule ≡ FolderOrNothing
+laid_in Kernels rule f p is e = no_copy is.0 is.2.0 rule f p is.2.1 e is.2.2
+laid_in Stateroots rule f p is e = is.0
+laid_in Objects rule f p is e = is.0
+laid_in Marks rule f p is e = let n : Other (folder_path f) ≡ Mark is.1.0 = sym (other f) ∙ ap place (sym e ∙ is.1.2) ∙ place-mark is.1.0 is.1.1 in cc
+
+laid_rule : (rule : Rule) (f : Folder) (p : Path) → IsFor rule p → p ≡ folder_path f → rule ≡ FolderOrNothing
+laid_rule FolderOrNothing f p w e = refl
+laid_rule NoFolder f p (inl w) e = absurd (no_laid w.0 f w.1 (sym w.2 ∙ e))
+laid_rule FileOrNothing f p (inl w) e = absurd (no_file_asked w.0 w.1)
+laid_rule NoFolder f p (inr w) e = laid_in w.0 NoFolder f p w.1 e
+laid_rule FileOrNothing f p (inr w) e = laid_in w.0 FileOrNothing f p w.1 e
+
+absent_all : (rule : Rule) (z : Value) → z ≡ value.Absent → Suits rule z
+absent_all FolderOrNothing z e = absent_suits z e
+absent_all NoFolder z e = absent_no_folder z e
+absent_all FileOrNothing z e = subst (Suits FileOrNothing) (sym e) tt
+
 module _ (d e : Disk) (sane : IsSane d) (keeps : Keeps d e) where
   reached_kept : (p : Path) → IsReached d p → IsReached e p
   reached_kept p reached x there = by (keeps (under p x))
@@ -67,10 +115,8 @@ module _ (d e : Disk) (sane : IsSane d) (keeps : Keeps d e) where
 
   kind_kept : (rule : Rule) (p : Path) → IsFor rule p → Suits rule (d.at p) → (shows e p ≡ shows d p) ⊎ Changes d p (shows e p) → Suits rule (e.at p)
   kind_kept rule p w suits (inl same) = suits_same rule d e (d.at p) (e.at p) same suits
-  kind_kept FolderOrNothing p w suits (inr (inl lays)) = folder_suits e (e.at p) (subst IsDirectory (sym lays.1) tt)
-  kind_kept FolderOrNothing p w suits (inr (inr clears)) = absent_suits (e.at p) (vacant_absent e p clears.2.1)
-  kind_kept NoFolder p w suits (inr (inl lays)) = absurd (no_laid w.0 lays.0.0 w.1 (sym w.2 ∙ lays.0.1))
-  kind_kept NoFolder p w suits (inr (inr clears)) = absent_no_folder (e.at p) (vacant_absent e p clears.2.1)
+  kind_kept rule p w suits (inr (inl lays)) = subst (λ r. Suits r (e.at p)) (sym (laid_rule rule lays.0.0 p w lays.0.1)) (folder_suits e (e.at p) (subst IsDirectory (sym lays.1) tt))
+  kind_kept rule p w suits (inr (inr clears)) = absent_all rule (e.at p) (vacant_absent e p clears.2.1)
 
   holds_kept : (p : Path) → is_below heads p ≡ true → HoldsRefs e p
   holds_kept p below = record {

@@ -16,7 +16,7 @@ use Rattle.sys_open.specs.declared.fault.OpenFault.TheVariants as fault
 use Rattle.sys_open.specs.declared.fault.Why.TheVariants.{WrongKind}
 use Rattle.sys_open.specs.declared.spots.Spot.{Spot}
 use Rattle.sys_open.specs.declared.spots.Spot.TheVariants.{Laid, Known}
-use Rattle.sys_open.specs.Checks.{Suits, Asks, Kinds}
+use Rattle.sys_open.specs.Checks.{AsksFixed, Suits}
 use Rattle.sys_open.specs.Spots.{all_spots, rule_of, spot_path}
 use Rattle.sys_open.specs.Walk.{IsSoBelow, IsFirstBelow, Looked, Walked}
 use Rattle.sys_open.proofs.Orders.{not_both_less, not_less_itself}
@@ -70,7 +70,7 @@ more_suit d spots i f less is here before k h within is_h = by (order k i within
     by (inl earlier) = before k h earlier is_h
     by (inr same) = subst (λ x. Suits (rule_of x) (d.at (spot_path x))) (is ∙ get_or_default spots i f h less ∙ ap (λ j. get_or spots j h) (sym same) ∙ is_h) here
 
-pub kinds_suit : (d : Disk) (spots : List Spot) (i : ℕ) → spots ≡ all_spots → length spots ≤ i → SuitFirst d spots i → IsSoBelow (Asks Kinds d) []
+pub kinds_suit : (d : Disk) (spots : List Spot) (i : ℕ) → spots ≡ all_spots → length spots ≤ i → SuitFirst d spots i → IsSoBelow (AsksFixed d) []
 kinds_suit d spots i are le suit q below rule w =
     let one = is_spot w.0 in
     let here : Suits (rule_of w.0) (d.at (spot_path w.0)) = suit one.0 w.0 (let n : length spots ≡ 22 = ap length are in omega (arith, n, le, one.1)) (ap (λ l. get_or l one.0 w.0) are ∙ one.2) in
@@ -81,7 +81,7 @@ unfolding is_below
 root q = refl
 
 pub kinds_first : (T : Type 0) (d : Disk) (spots : List Spot) (i : ℕ) (f : Spot) → spots ≡ all_spots → i < length spots → f ≡ get_or spots i f → SuitFirst d spots i → (x : OpenFault)
-    → Looked {T = T} (Suits (rule_of f) (d.at (spot_path f))) WrongKind (spot_path f) (Err x) → Walked {T = T} (Asks Kinds d) WrongKind [] (Err x)
+    → Looked {T = T} (Suits (rule_of f) (d.at (spot_path f))) WrongKind (spot_path f) (Err x) → Walked {T = T} (AsksFixed d) WrongKind [] (Err x)
 kinds_first T d spots i f are less is suit fault.Disk looked = tt
 kinds_first T d spots i f are less is suit fault.NoMemory looked = tt
 kinds_first T d spots i f are less is suit (fault.Outside p) looked = looked
@@ -96,7 +96,7 @@ kinds_first T d spots i f are less is suit (fault.Damaged p y) looked = (looked.
     order : (k i : ℕ) → (k < i) ⊎ (k ≡ i) ⊎ (i < k)
     order k i = grind arith
 
-    first : IsFirstBelow (Asks Kinds d) [] p
+    first : IsFirstBelow (AsksFixed d) [] p
     first = record {
       below = root p;
       wrong = λ asks. looked.2 (subst (λ q. Suits (rule_of f) (d.at q)) looked.1 (asks (rule_of f) (f, refl, looked.1)));

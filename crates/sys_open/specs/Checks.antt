@@ -1,17 +1,19 @@
 -- What a disk has to be like where a repository is opened on it.
-use Rattle.std.specs.Prelude.{◌≡◌, ◌≢◌, ◌<◌, ℕ, true, IsTrue, List}
+use Rattle.std.specs.Prelude.{◌≡◌, ◌≢◌, ◌⊎◌, ◌<◌, ℕ, true, IsTrue, List}
 use Rattle.std.specs.declared.cmp.Ordering.TheVariants.{Less}
 use Rattle.ost_types.specs.Path.{Name, Path, IsPath, is_below, path_cmp, under}
 use Rattle.fs_trait.specs.declared.types.Value.{Value}
-use Rattle.fs_trait.specs.declared.types.Value.TheVariants.{Absent, Folder}
+use Rattle.fs_trait.specs.declared.types.Value.TheVariants.{Absent, File, Folder}
 use Rattle.fs_trait.specs.View.{Disk}
 use Rattle.repo_layout.specs.Paths.{heads, ref_path, stage_path}
 use Rattle.repo_layout.specs.RefName.{IsRefName}
 use Rattle.repo_layout.specs.Refs.{ShowsCommit, is_leaf}
 use Rattle.sys_open.specs.declared.spots.Rule.{Rule}
-use Rattle.sys_open.specs.declared.spots.Rule.TheVariants.{FolderOrNothing, NoFolder}
+use Rattle.sys_open.specs.declared.spots.Rule.TheVariants.{FileOrNothing, FolderOrNothing, NoFolder}
 use Rattle.sys_open.specs.declared.spots.Spot.{Spot}
 use Rattle.sys_open.specs.Spots.{rule_of, spot_path}
+use Rattle.sys_open.specs.declared.many.Many.{Many}
+use Rattle.sys_open.specs.Many.{IsIn}
 use Rattle.sys_open.specs.declared.fault.Why.{Why}
 use Rattle.sys_open.specs.declared.fault.Why.TheVariants.{BadRef, WrongKind}
 
@@ -22,10 +24,17 @@ Suits FolderOrNothing (Folder m) = Unit {0}
 Suits FolderOrNothing x = ⊥
 Suits NoFolder (Folder m) = ⊥
 Suits NoFolder x = Unit {0}
+Suits FileOrNothing Absent = Unit {0}
+Suits FileOrNothing (File n) = Unit {0}
+Suits FileOrNothing x = ⊥
 
--- the paths that the rule is for
+-- the paths that the rule is for: of places that have one path each,
+abbrev pub IsFixed : Rule → Path → Type 0
+IsFixed rule p = (spot : Spot) × (rule_of spot ≡ rule) × (p ≡ spot_path spot)
+
+-- and of those that have many names
 abbrev pub IsFor : Rule → Path → Type 0
-IsFor rule p = (spot : Spot) × (rule_of spot ≡ rule) × (p ≡ spot_path spot)
+IsFor rule p = IsFixed rule p ⊎ ((many : Many) × IsIn many rule p)
 
 -- A ref file stands there, under the path of a good name.
 abbrev pub IsRefAt : Disk → Path → Type 0
@@ -56,6 +65,16 @@ abbrev pub Asks : Check → Disk → Path → Type 0
 Asks Kinds d p = (rule : Rule) → IsFor rule p → Suits rule (d.at p)
 Asks RefFiles d p = IsTrue (is_below heads p) → HoldsRefs d p
 Asks Staging d p = (actor : ℕ) → actor < 16 → IsTrue (is_below (stage_path actor) p) → IsReached d p
+
+-- What the first check asks of the places that have one path each, and of those that have many names.
+abbrev pub AsksFixed : Disk → Path → Type 0
+AsksFixed d p = (rule : Rule) → IsFixed rule p → Suits rule (d.at p)
+
+abbrev pub AsksIn : Many → Disk → Path → Type 0
+AsksIn many d p = (rule : Rule) → IsIn many rule p → Suits rule (d.at p)
+
+abbrev pub AsksInside : Disk → Path → Type 0
+AsksInside d p = (many : Many) → AsksIn many d p
 
 -- Each path is as each check asks.
 abbrev pub IsSane : Disk → Type 0

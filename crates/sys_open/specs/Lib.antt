@@ -1,5 +1,6 @@
 pub mod Faults
 pub mod Spots
+pub mod Many
 pub mod Checks
 pub mod Walk
 pub mod Changes

@@ -1,5 +1,5 @@
 -- What is found at a path and below it.
-use Rattle.std.specs.Prelude.{◌≡◌, ℕ, true, IsTrue, List, map, Contains, Result, Ok, Err}
+use Rattle.std.specs.Prelude.{◌≡◌, ◌≢◌, ◌⊎◌, ℕ, true, IsTrue, List, [], map, Contains, Option, Some, None, Result, Ok, Err}
 use Rattle.std.specs.declared.cmp.Ordering.TheVariants.{Less}
 use Rattle.ost_types.specs.Path.{Name, Path, IsPath, is_below, path_cmp, under}
 use Rattle.fs_trait.specs.declared.types.Value.TheVariants.{File}
@@ -35,6 +35,23 @@ Walked So why at (Err (fault.Damaged p y)) = (y ≡ why) × IsFirstBelow So at p
 Walked So why at (Err fault.Disk) = Unit {0}
 Walked So why at (Err fault.NoMemory) = Unit {0}
 Walked So why at (Err (fault.Outside p)) = ⊥
+
+-- The least path of which it isn't so, if there is one.
+abbrev pub IsLeastWrong : (Path → Type 0) → Option Path → Type 0
+IsLeastWrong So None = IsSoBelow So []
+IsLeastWrong So (Some p) = IsFirstBelow So [] p
+
+-- the path of a damage that was told
+abbrev pub IsDamage : {T : Type 0} → Result T OpenFault → Result (Option Path) OpenFault → Type 0
+IsDamage (Ok x) path = path ≡ Ok None
+IsDamage (Err (fault.Damaged p y)) path = path ≡ Ok (Some p)
+IsDamage (Err e) path = path ≡ Err e
+
+-- the lesser of two paths, or the one that there is
+abbrev pub IsLesser : Option Path → Option Path → Option Path → Type 0
+IsLesser None second one = one ≡ second
+IsLesser (Some p) None one = one ≡ Some p
+IsLesser (Some p) (Some q) one = ((path_cmp q p ≡ Less) × (one ≡ Some q)) ⊎ ((path_cmp q p ≢ Less) × (one ≡ Some p))
 
 -- What a look at one path, or into one folder, tells.
 abbrev pub Looked : {T : Type 0} → Type 0 → Why → Path → Result T OpenFault → Type 0

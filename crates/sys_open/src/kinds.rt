@@ -3,22 +3,23 @@ ghost use Rattle.std.specs.Prelude.{◌≡◌, [], Some};
 ghost use Rattle.fs_trait.specs.View.{View};
 ghost use Rattle.fs_trait.specs.Effect.{IsQuiet};
 ghost use Rattle.sys_open.specs.declared.fault.Why.TheVariants.{WrongKind};
-ghost use Rattle.sys_open.specs.declared.spots.Rule.TheVariants.{FolderOrNothing, NoFolder};
+ghost use Rattle.sys_open.specs.declared.spots.Rule.TheVariants.{FileOrNothing, FolderOrNothing, NoFolder};
 ghost use Rattle.sys_open.specs.Faults.{HasReason};
-ghost use Rattle.sys_open.specs.Checks.{Asks, Kinds, Suits};
+ghost use Rattle.sys_open.specs.Checks.{AsksFixed, Suits};
 ghost use Rattle.sys_open.specs.Spots.{rule_of, spot_path};
 ghost use Rattle.sys_open.specs.Walk.{Looked, Walked};
 
 use crate::fault::{OpenFault, Why, damaged, refused};
+use crate::refs::node_at;
 use crate::spots::{Rule, Spot, rule_of, spot_path, spots};
-use fs_trait::Fs;
+use fs_trait::{Fs, Node};
 use ost_types::FsPath;
 use ref_room::{Stands, look_at};
 use std::alloc::Global;
 
 /// Looks at each of these places. The least one is told at which something stands that it doesn't allow.
 pub fn check_kinds<F: Fs>(alloc: Global, fs: &mut F) -> Result<(), OpenFault>
-    ensures told { (v : View) → F.view fs.old ≡ Some v → Walked (Asks Kinds v.now) WrongKind [] result }
+    ensures told { (v : View) → F.view fs.old ≡ Some v → Walked (AsksFixed v.now) WrongKind [] result }
     ensures quiet { IsQuiet (F.clock fs.old) (F.clock fs.new) (F.was fs.old) (F.was fs.new) (F.view fs.old) (F.view fs.new) }
     ensures reason { HasReason (F.faults fs.old) (F.faults fs.new) result }
 {
@@ -46,6 +47,7 @@ pub fn check_rule<F: Fs>(fs: &mut F, at: &FsPath, rule: Rule) -> Result<(), Open
     match rule {
         Rule::FolderOrNothing => check_folder(fs, at),
         Rule::NoFolder => check_no_folder(fs, at),
+        Rule::FileOrNothing => check_file(fs, at),
     }
 }
 
@@ -72,5 +74,18 @@ fn check_no_folder<F: Fs>(fs: &mut F, at: &FsPath) -> Result<(), OpenFault>
         Ok(Stands::Folder) => Err(damaged(at, Why::WrongKind)),
         Ok(Stands::Leaf) => Ok(()),
         Err(error) => Err(refused(at, error)),
+    }
+}
+
+fn check_file<F: Fs>(fs: &mut F, at: &FsPath) -> Result<(), OpenFault>
+    ensures told { (v : View) → F.view fs.old ≡ Some v → Looked (Suits FileOrNothing (v.now.at at.now)) WrongKind at.now result }
+    ensures quiet { IsQuiet (F.clock fs.old) (F.clock fs.new) (F.was fs.old) (F.was fs.new) (F.view fs.old) (F.view fs.new) }
+    ensures reason { HasReason (F.faults fs.old) (F.faults fs.new) result }
+{
+    match node_at(fs, at)? {
+        None => Ok(()),
+        Some(Node::File { .. }) => Ok(()),
+        Some(Node::Folder(_)) => Err(damaged(at, Why::WrongKind)),
+        Some(Node::Link { .. }) => Err(damaged(at, Why::WrongKind)),
     }
 }

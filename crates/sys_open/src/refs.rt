@@ -98,7 +98,8 @@ fn visit<F: Fs>(
     }
 }
 
-fn node_at<F: Fs>(fs: &mut F, at: &FsPath) -> Result<Option<Node>, OpenFault>
+/// What stands at the path.
+pub fn node_at<F: Fs>(fs: &mut F, at: &FsPath) -> Result<Option<Node>, OpenFault>
     ensures told { (v : View) → F.view fs.old ≡ Some v → Finds (IsNode v.now (v.now.at at.now)) result }
     ensures quiet { IsQuiet (F.clock fs.old) (F.clock fs.new) (F.was fs.old) (F.was fs.new) (F.view fs.old) (F.view fs.new) }
     ensures reason { HasReason (F.faults fs.old) (F.faults fs.new) result }

@@ -11,6 +11,8 @@ use std::alloc::Global;
 pub enum Rule {
     FolderOrNothing,
     NoFolder,
+    /// A regular file or nothing.
+    FileOrNothing,
 }
 
 /// A place that has one path: that of a folder which is there from the beginning, or that of another thing which is known.

@@ -30,14 +30,25 @@ fn check_told(
     Ok(())
 }
 
+// These folders and links are there; the least path is told at which the layout doesn't allow them.
+fn check_places(
+    rt: &impl Abort,
+    alloc: Global,
+    folders: &[&[u8]],
+    links: &[&[u8]],
+    told: &[u8],
+) -> Result<(), Fail> {
+    let mut fs = with_folders(alloc, folders)?;
+    for link in links {
+        add_link(&mut fs, alloc, link)?;
+    }
+    check_told(rt, alloc, fs, told, Why::WrongKind)
+}
+
 // Something else than a folder stands at these places; the least is told.
 fn check_kind(rt: &impl Abort, alloc: Global, leaves: &[&[u8]], told: &[u8]) -> Result<(), Fail> {
     let folders: [&[u8]; 2] = [b"/ostree", b"/ostree/repo"];
-    let mut fs = with_folders(alloc, &folders)?;
-    for leaf in leaves {
-        add_link(&mut fs, alloc, leaf)?;
-    }
-    check_told(rt, alloc, fs, told, Why::WrongKind)
+    check_places(rt, alloc, &folders, leaves, told)
 }
 
 #[test]
@@ -50,6 +61,98 @@ fn tells_what_is_no_folder(rt: HostRuntime) -> Result<(), Fail> {
     let mut fs = MemFs::new(alloc)?;
     add_file(&mut fs, alloc, b"/ostree", b"")?;
     check_told(&rt, alloc, fs, b"/ostree", Why::WrongKind)
+}
+
+const OBJECTS: [&[u8]; 3] = [b"/ostree", b"/ostree/repo", b"/ostree/repo/objects"];
+
+const MARKS: [&[u8]; 3] = [b"/ostree", b"/ostree/repo", b"/ostree/repo/state"];
+
+const KERNELS: [&[u8]; 2] = [b"/boot", b"/boot/ostree"];
+
+const STATEROOTS: [&[u8]; 2] = [b"/ostree", b"/ostree/deploy"];
+
+const MARK: &[u8] =
+    b"/ostree/repo/state/1111111111111111111111111111111111111111111111111111111111111111.commitpartial";
+
+const KERNEL: &[u8] =
+    b"/boot/ostree/os-1111111111111111111111111111111111111111111111111111111111111111";
+
+const VMLINUZ: &[u8] =
+    b"/boot/ostree/os-1111111111111111111111111111111111111111111111111111111111111111/vmlinuz-6.1+x~1";
+
+const INITRAMFS: &[u8] =
+    b"/boot/ostree/os-1111111111111111111111111111111111111111111111111111111111111111/initramfs-6.1.img";
+
+#[test]
+fn tells_wrong_kinds_in_the_repository(rt: HostRuntime) -> Result<(), Fail> {
+    let alloc = rt.alloc();
+    let links: [&[u8]; 1] = [b"/ostree/repo/objects/0f"];
+    check_places(&rt, alloc, &OBJECTS, &links, b"/ostree/repo/objects/0f")?;
+    let links: [&[u8]; 1] = [MARK];
+    check_places(&rt, alloc, &MARKS, &links, MARK)?;
+    let folders: [&[u8]; 4] = [b"/ostree", b"/ostree/repo", b"/ostree/repo/state", MARK];
+    check_places(&rt, alloc, &folders, &[], MARK)
+}
+
+#[test]
+fn tells_wrong_kinds_of_stateroots(rt: HostRuntime) -> Result<(), Fail> {
+    let alloc = rt.alloc();
+    let links: [&[u8]; 1] = [b"/ostree/deploy/os"];
+    check_places(&rt, alloc, &STATEROOTS, &links, b"/ostree/deploy/os")?;
+    let folders: [&[u8]; 3] = [b"/ostree", b"/ostree/deploy", b"/ostree/deploy/os"];
+    let links: [&[u8]; 1] = [b"/ostree/deploy/os/deploy"];
+    check_places(&rt, alloc, &folders, &links, b"/ostree/deploy/os/deploy")
+}
+
+#[test]
+fn tells_wrong_kinds_of_kernels(rt: HostRuntime) -> Result<(), Fail> {
+    let alloc = rt.alloc();
+    let links: [&[u8]; 1] = [KERNEL];
+    check_places(&rt, alloc, &KERNELS, &links, KERNEL)?;
+    let folders: [&[u8]; 4] = [b"/boot", b"/boot/ostree", KERNEL, VMLINUZ];
+    check_places(&rt, alloc, &folders, &[], VMLINUZ)?;
+    let folders: [&[u8]; 5] = [b"/boot", b"/boot/ostree", KERNEL, VMLINUZ, INITRAMFS];
+    check_places(&rt, alloc, &folders, &[], INITRAMFS)
+}
+
+// Of wrong places of one path and of many names the least is told.
+#[test]
+fn tells_the_least_wrong_kind(rt: HostRuntime) -> Result<(), Fail> {
+    let alloc = rt.alloc();
+    let links: [&[u8]; 2] = [b"/ostree/repo/objects/0f", b"/ostree/repo/tmp"];
+    check_places(&rt, alloc, &OBJECTS, &links, b"/ostree/repo/objects/0f")?;
+    let links: [&[u8]; 2] = [KERNEL, b"/ostree"];
+    check_places(&rt, alloc, &KERNELS, &links, KERNEL)?;
+    let links: [&[u8]; 2] = [KERNEL, b"/boot/loader.0"];
+    check_places(&rt, alloc, &KERNELS, &links, b"/boot/loader.0")
+}
+
+#[test]
+fn passes_over_other_names(rt: HostRuntime) -> Result<(), Fail> {
+    let alloc = rt.alloc();
+    let folders: [&[u8]; 7] = [
+        b"/boot",
+        b"/boot/ostree",
+        b"/ostree",
+        b"/ostree/deploy",
+        b"/ostree/repo",
+        b"/ostree/repo/objects",
+        b"/ostree/repo/state",
+    ];
+    let mut fs = with_folders(alloc, &folders)?;
+    let links: [&[u8]; 5] = [
+        b"/boot/ostree/os-11",
+        b"/ostree/deploy/.os",
+        b"/ostree/repo/objects/0F",
+        b"/ostree/repo/objects/0f0",
+        b"/ostree/repo/state/1.commitpartial",
+    ];
+    for link in links {
+        add_link(&mut fs, alloc, link)?;
+    }
+    let found = opened(alloc, fs)?;
+    assert!(&rt; found.refs.is_empty());
+    Ok(())
 }
 
 fn check_refs(

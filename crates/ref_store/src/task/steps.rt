@@ -5,10 +5,9 @@ ghost use Rattle.fs_trait.specs.Image.{Told};
 ghost use Rattle.fs_trait.specs.declared.types.FsErr.TheVariants as err;
 ghost use Rattle.fs_trait.specs.Effect.{Elapses, HasCause};
 ghost use Rattle.fs_trait.specs.Change.{Writes};
-ghost use Rattle.ost_types.specs.Mode.{IsFileMode};
 ghost use Rattle.repo_layout.specs.RefFile.{IsSum, ref_text};
 ghost use Rattle.ref_room.specs.Turns.{OnMore};
-ghost use Rattle.ref_store.specs.Change.{Change, IsLook, IsClear, IsWalk, IsPut, IsUnlink, IsSyncFolder, IsAccepted, IsStepped, MayCome, KeepsRoom, IsNew, Takes, begun, commit_of, left};
+ghost use Rattle.ref_store.specs.Change.{Change, IsLook, IsClear, IsWalk, IsPut, IsUnlink, IsSyncFolder, IsAccepted, IsStepped, MayCome, KeepsRoom, IsNew, Takes, begun, commit_of, file_meta, left};
 ghost use Rattle.ref_store.specs.Steps.{Needs, WritesOf, Refuses, Tells, OfPhase};
 
 use super::RefTask;
@@ -269,7 +268,7 @@ fn commit_of(there: There) -> Option<Csum>
 
 // owner 0, group 0, mode 0o100644
 fn file_meta(alloc: Global) -> Meta
-    ensures { IsFileMode result.mode }
+    ensures { result ≡ file_meta }
 {
     Meta {
         uid: 0,

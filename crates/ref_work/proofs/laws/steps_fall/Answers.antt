@@ -1,5 +1,8 @@
-use Rattle.ref_work.proofs.Ends.{falls_of}
+use Rattle.ref_work.proofs.Ends.{falls_always, falls_of}
 use Rattle.ref_work.proofs.laws.steps_fall.Goals as goal
 
-pub returns : goal.returns
-returns c = falls_of
+pub returns-clause-always : goal.returns-clause-always
+returns-clause-always c = falls_always
+
+pub returns-clause-told : goal.returns-clause-told
+returns-clause-told c = falls_of

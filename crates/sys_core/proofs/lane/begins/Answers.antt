@@ -2,7 +2,7 @@ use Rattle.std.proofs.Common.{rules, ◌≡◌, ◌∙◌, ℕ, sym, subst, ap, 
 use Rattle.rely.specs.declared.books.Books as rust
 use Rattle.rely.specs.State.{State, first}
 use Rattle.sys_core.specs.declared.lane.Came.{Came}
-use Rattle.sys_core.specs.declared.lane.Came.TheVariants.{Answered}
+use Rattle.sys_core.specs.declared.lane.Came.TheVariants.{Answered, Blocked, More}
 use Rattle.sys_core.specs.Answers.{IsHalted, IsTold, Shown, state_after}
 use Rattle.sys_core.specs.Begins.{AnswersBy}
 use Rattle.sys_core.proofs.Seeing.{by_shown, ended_shown}
@@ -11,10 +11,13 @@ use Rattle.sys_core.proofs.Going.{answers_by, begun_goes, ended_halts, goes_ende
 use Rattle.sys_core.proofs.Prefixes.{state_all}
 use Rattle.sys_core.proofs.Pursuing.{pursues_begins}
 use Rattle.rely.specs.Books.{books_of}
-use Rattle.rely.specs.Laws.{NotPending}
+use Rattle.rely.specs.Laws.{NotPending, Runs}
+use Rattle.ref_work.specs.Commands.{command_facts, command_kind}
 use Rattle.sys_core.specs.declared.run.Running.{Running}
 use Rattle.sys_core.specs.Lanes.{LaneActs, RunsIn, now_of}
 use Rattle.sys_core.proofs.Lanes.{begin_ready, nothing_acts, step_acts, ended_runs, tells_more}
+use Rattle.sys_core.specs.Turns.{HasTurn, RunsBehind}
+use Rattle.sys_core.proofs.Turning.{begins_turn, halts_of, turns_answered, turns_held, turns_more, turns_over}
 use Rattle.sys_core.proofs.lane.begins.Goals as goal
 
 pub running_act-requires-clause-ready : goal.running_act-requires-clause-ready
@@ -84,7 +87,7 @@ returns-in_default-clause-goes g c =
     let ready = begin_ready g.F.Fs.view g.F.Fs.clock g.F.Fs.spare g.F.Fs.was c.args.lane c.args.base.now c.args.refs.now c.in-Runs.work c.requires.sound c.requires.live c.requires.facts c.in-Runs.ensures.begun.0 in
     let after = subst (λ (s : State). Pursues s c.args.command.now c.in-Runs.work) (sym (start_is b c.len-start.result from)) (pursues_begins c.args.lane (now_of b) c.args.command.now c.in-Runs.work (c.in-Runs.ensures.by (now_of b) c.requires.tracks)) in
     subst (λ (came : Came). Goes (IsTold g.F.Fs.view) (first b.start.items) c.args.lane c.args.run.now.command c.args.command.now b c.running_act.new.base.books None c.args.run.now.task came) (sym k.1)
-    (goes_ended g.F.Fs.view g.F.Fs.clock g.F.Fs.spare g.F.Fs.was g.met.F.Fs.told g.met.F.Fs.tree c.args.lane c.args.run.now.command _ c.args.command.now c.args.base.now c.running_act.new.base c.in-Runs.work c.running_act.new.work ready c.len-start.result
+    (goes_ended g.F.Fs.view g.F.Fs.clock g.F.Fs.spare g.F.Fs.was g.met.F.Fs.told g.met.F.Fs.tree c.args.lane c.args.run.now.command _ c.args.command.now c.args.base.now c.running_act.new.base c.in-Runs.work c.running_act.new.work ready c.len-start.result e.acts.sound e.acts.books.start
     c.running_act.result e.steps e.tells e.opens e.booked e.over after (λ p is mine. absurd (c.requires.facts.runs p is mine)) _ k.0 k.2 None c.args.run.now.task from c.requires.idle)
 
 pub returns-in_default-clause-halts : goal.returns-in_default-clause-halts
@@ -97,7 +100,7 @@ returns-in_default-clause-halts g c = λ a start is halted.
     let after = subst (λ (s : State). Pursues s c.args.command.now c.in-Runs.work) (sym (start_is b c.len-start.result from)) (pursues_begins c.args.lane (now_of b) c.args.command.now c.in-Runs.work (c.in-Runs.ensures.by (now_of b) c.requires.tracks)) in
     let one : Answered k.0 c.len-start.result ≡ Answered a start = sym k.1 ∙ is in
     let same : k.0 ≡ a = cc in
-    let h = ended_halts g.F.Fs.view g.F.Fs.clock g.F.Fs.spare g.F.Fs.was g.met.F.Fs.told g.met.F.Fs.tree c.args.lane c.args.run.now.command _ c.args.command.now c.args.base.now c.running_act.new.base c.in-Runs.work c.running_act.new.work ready c.len-start.result
+    let h = ended_halts g.F.Fs.view g.F.Fs.clock g.F.Fs.spare g.F.Fs.was g.met.F.Fs.told g.met.F.Fs.tree c.args.lane c.args.run.now.command _ c.args.command.now c.args.base.now c.running_act.new.base c.in-Runs.work c.running_act.new.work ready c.len-start.result e.acts.sound e.acts.books.start
     c.running_act.result e.steps e.tells e.opens e.booked after (λ p shown mine. absurd (c.requires.facts.runs p shown mine)) e.acts.tells _ k.0 k.2 (subst IsHalted (sym same) halted) in
     (h.0, sym same ∙ h.1)
 
@@ -126,3 +129,27 @@ returns-in-Answered-clause-shown g c = λ a start is v told.
     let one : Answered c.in-Answered.answer c.len-start.result ≡ Answered a start = is in
     let same : c.in-Answered.answer ≡ a = cc in
     by_shown v.now b.halted _ _ (now_of b) a c.args.command.now (subst (λ x. AnswersBy (now_of b) x c.args.command.now) same (c.in-Answered.ensures.by (now_of b) c.requires.tracks))
+
+pub returns-in-Answered-clause-turns : goal.returns-in-Answered-clause-turns
+returns-in-Answered-clause-turns g c = turns_answered c.args.lane c.args.base.now.books c.args.run.now.task _ c.requires.turn c.requires.idle (λ z. cc) (λ z. cc)
+
+pub returns-in-Blocked-clause-turns : goal.returns-in-Blocked-clause-turns
+returns-in-Blocked-clause-turns g c =
+    let e = c.running_act.ensures in
+    turns_held c.args.lane c.in-Runs.work c.args.base.now.books c.running_act.new.base.books None c.args.run.now.task (ap (λ b. b.books) (e.blocked c.in-Blocked.is).0) (e.held c.in-Blocked.is)
+    (subst (λ (t : Option Running). HasTurn c.args.lane c.args.base.now.books (RunsBehind t)) (sym c.requires.idle) c.requires.turn)
+
+pub returns-in-More-clause-turns : goal.returns-in-More-clause-turns
+returns-in-More-clause-turns g c =
+    let e = c.running_act.ensures in
+    let b = c.args.base.now.books in
+    turns_more c.args.lane c.in-Runs.work c.running_act.new.work _ b c.running_act.new.base.books None c.running_act.result c.in-More.is e.steps e.locks (begins_turn c.args.lane c.in-Runs.work b c.in-Runs.ensures.begun.0 c.requires.turn) c.in-Runs.ensures.left (λ asks off. asks)
+
+pub returns-in_default-clause-turns : goal.returns-in_default-clause-turns
+returns-in_default-clause-turns g c =
+    let e = c.running_act.ensures in
+    let k = c.ends.ensures in
+    let b = c.args.base.now.books in
+    turns_over c.args.lane c.in-Runs.work b c.running_act.new.base.books None c.args.run.now.task c.running_act.result c.ends.result e.locks (begins_turn c.args.lane c.in-Runs.work b c.in-Runs.ensures.begun.0 c.requires.turn) c.requires.idle
+    (halts_of g.F.Fs.view (Runs command_kind command_facts c.args.lane c.running_act.new.work) c.running_act.result c.running_act.new.base e.acts.tells) (λ is. c.in_default.not-Blocked is) (λ is. c.in_default.not-More is)
+    (λ z. let one : Answered k.0 c.len-start.result ≡ More = sym k.1 ∙ z in cc) (λ z. let one : Answered k.0 c.len-start.result ≡ Blocked = sym k.1 ∙ z in cc) (λ asks off. asks)

@@ -1,4 +1,4 @@
-use Rattle.std.proofs.Common.{◌≡◌, List, Some, subst, sym}
+use Rattle.std.proofs.Common.{◌≡◌, List, Some, length, map, subst, sym}
 use Rattle.rely.specs.State.{first}
 use Rattle.script.specs.declared.answer.Reply.{Reply}
 use Rattle.script.specs.declared.command.Lane.{Lane}
@@ -10,7 +10,7 @@ use Rattle.sys_core_check.proofs.running.run_opened.Goals as goal
 pub returns-in-Ok-clause-ran : goal.returns-in-Ok-clause-ran
 returns-in-Ok-clause-ran g c =
     let e = c.into_parts.ensures in
-    let s = c.run_all.new.system in
+    let s = c.drive.new.self in
     record {
       base = s.base;
       fs = e.fs;
@@ -20,4 +20,6 @@ returns-in-Ok-clause-ran g c =
       started = s.started;
       replied = subst (λ (l : List Lane). Replied (IsTold g.F.Fs.view) (first s.base.books.start.items) s.base.books.history.items s.base.books.pending l s.started (replies_of c.into_parts.result.replies.items)) (sym e.lanes)
           (subst (λ (l : List (List Reply)). Replied (IsTold g.F.Fs.view) (first s.base.books.start.items) s.base.books.history.items s.base.books.pending s.lanes s.started l) (sym e.replies) e.replied);
+      ended = subst (λ (l : List Lane). map (λ row. length row) (replies_of c.into_parts.result.replies.items) ≡ map (λ lane. length lane.commands.items) l) (sym e.lanes)
+          (subst (λ (l : List (List Reply)). map (λ row. length row) l ≡ map (λ lane. length lane.commands.items) s.lanes) (sym e.replies) c.drive.ensures.ended);
     }

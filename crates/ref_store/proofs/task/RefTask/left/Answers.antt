@@ -1,5 +1,5 @@
-use Rattle.std.proofs.Common.{◌∙◌, ap, subst, arith}
-use Rattle.ref_store.specs.Change.{Change, made_in}
+use Rattle.std.proofs.Common.{subst, arith}
+use Rattle.ref_store.specs.Change.{made_in}
 use Rattle.ref_store.proofs.RoomLemmas.{left_small}
 use Rattle.ref_store.proofs.task.RefTask.left.Goals as goal
 

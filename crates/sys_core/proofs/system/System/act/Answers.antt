@@ -1,13 +1,18 @@
-use Rattle.std.proofs.Common.{rules, ◌≡◌, ◌<◌, ◌≤◌, ◌∙◌, ◌+◌, ap, sym, subst, refl, arith, List, length, get_or, set, None}
-use Rattle.std.proofs.lemmas.List.{set-set}
+use Rattle.std.proofs.Common.{rules, ◌≡◌, ◌<◌, ◌≤◌, ◌∙◌, ◌+◌, ap, sym, subst, refl, arith, List, length, get_or, set, false, None}
+use Rattle.std.proofs.lemmas.List.{length-map, map-set, set-set}
 use Rattle.script.specs.declared.answer.Reply.{Reply}
 use Rattle.script.specs.declared.command.Lane.{Lane}
-use Rattle.sys_core.specs.declared.ask.Ask.TheVariants.{More, Done}
+use Rattle.sys_core.specs.declared.ask.Ask.TheVariants.{More, Blocked, Done, Ended}
 use Rattle.sys_core.specs.declared.run.Run.{Run}
 use Rattle.sys_core.specs.Answers.{Shown}
 use Rattle.sys_core.specs.Lanes.{Kept}
 use Rattle.sys_core.specs.Booked.{Acted, Booked, HasCommand, replies_of}
 use Rattle.sys_core.specs.Pursues.{Accounted}
+use Rattle.sys_core.specs.Left.{left_of}
+use Rattle.sys_core.specs.Ranks.{IsHeldOff, Ranked}
+use Rattle.sys_core.specs.Turns.{AsksTurn, Ordered, RunsBehind, work_in, works_of}
+use Rattle.sys_core.proofs.Ordering.{holder_has, ordered_act, ordered_held, turn_of, was_live}
+use Rattle.sys_core.proofs.Ranking.{ranked_done, ranked_more, ranked_same, work_at}
 use Rattle.sys_core.proofs.Acting.{system_of, fewer, not_fewer, given_length, has_command, no_command}
 use Rattle.sys_core.proofs.Acts.{act_command, accounted_held, after_of, held_runs, mine_of, next_of, to_replies}
 use Rattle.sys_core.proofs.Accounting.{accounted_given, accounted_more, count_bound, given_place, given_start, given_started, more_started, start_said}
@@ -42,6 +47,12 @@ turn-came-requires-clause-after g c = λ x.
     let acc = c.self.invariant.2 in
     after_of g.F.Fs.view g.F.Fs.faults i.base i.lanes.items i.runs.items i.replies.items i.given booked acc c.args.actor within c.in-Some.command.now r command x
 
+pub turn-came-requires-clause-turn : goal.turn-came-requires-clause-turn
+turn-came-requires-clause-turn g c = λ x live.
+    let i = c.self.inside in
+    let within : c.args.actor < length i.lanes.items = search rules in
+    turn_of i.base.books i.lanes.items i.runs.items (c.self.invariant.3 live) c.args.actor (omega (arith, c.self.invariant.1.each_runs, within)) x
+
 pub invariant_of-self : goal.invariant_of-self
 invariant_of-self g c =
     let i = c.self.inside in
@@ -51,6 +62,7 @@ invariant_of-self g c =
       e.kept,
       e.booked i.lanes.items i.replies.items within c.self.invariant.1,
       accounted_held g.F.Fs.view g.F.Fs.faults i.base c.turn-came.new.base i.lanes.items i.runs.items c.turn-came.new.runs.items (replies_of i.replies.items) i.given c.args.actor r c.self.invariant.2 (e.blocked refl) (e.run r) (e.number r) (e.goes r).0,
+      (λ live. ordered_held i.base.books c.turn-came.new.base.books i.lanes.items i.runs.items c.turn-came.new.runs.items (ap (λ b. b.books) (e.blocked refl)) (held_runs i.runs.items c.turn-came.new.runs.items c.args.actor r (e.run r) (e.number r) (e.goes r).0) (c.self.invariant.3 (e.waits refl))),
     )
 
 pub invariant_of-self-in-More : goal.invariant_of-self-in-More
@@ -73,6 +85,12 @@ invariant_of-self-in-More g c =
       e.booked i.lanes.items i.replies.items within booked,
       subst (λ (l : List Run). Accounted g.F.Fs.view new i.lanes.items l (replies_of i.replies.items) i.given (g.F.Fs.faults new.fs)) (sym (e.run r))
           (accounted_more g.F.Fs.view g.F.Fs.faults i.base new i.lanes.items i.runs.items (replies_of i.replies.items) i.given acc c.args.actor in_runs run r c.in-Some.command.now command next c.turn-came.ensures.start (e.goes r) (e.number r) (e.live refl)),
+      (λ live. let t = e.turns r (e.live refl) in
+          let has = has_command i.base i.lanes.items i.runs.items i.replies.items c.args.actor booked within r c.index-2.result.now
+          (omega (arith, few, ap length c.deref.ensures.value, ap (λ (x : Lane). length x.commands.items) c.index-2.ensures, ap (λ (x : Run). x.command) c.index.ensures)) in
+          subst (λ (l : List Run). Ordered new.books i.lanes.items l) (sym (e.run r))
+          (ordered_act i.base.books new.books i.lanes.items i.runs.items (c.self.invariant.3 (e.live refl)) c.args.actor in_runs run (t.mine live) (t.others live) (e.others (e.live refl))
+          (λ looked d. omega (arith, has.1 d, given_length i.base i.lanes.items i.runs.items i.replies.items c.args.actor booked within r, e.number r)))),
     )
 
 pub number_of-requires : goal.number_of-requires
@@ -147,6 +165,11 @@ invariant_of-self-in-Answered g c =
           (accounted_given g.F.Fs.view g.F.Fs.faults i.base new i.lanes.items i.runs.items (replies_of i.replies.items) i.given acc c.args.actor in_runs after r c.in-Some.command.now command next e.start
           c.in-Answered.answer c.in-Answered.start reply e.grows.0 (e.goes r) (ap (λ n. n + 1) (e.number r)) in_replies e.grows.1 refl c.number_of.ensures (c.number_of-in-Answered.ensures ∙ long) refl e.stays
           (e.halts c.in-Answered.answer c.in-Answered.start refl))),
+      (λ live. let was = was_live i.base.books new.books (λ over. ap (λ b. b.books) (e.stays over)) live in
+          let t = e.turns r was in
+          subst (λ (l : List Run). Ordered new.books i.lanes.items l) (sym all)
+          (ordered_act i.base.books new.books i.lanes.items i.runs.items (c.self.invariant.3 was) c.args.actor in_runs after (t.mine live) (t.others live) (e.others was)
+          (λ looked d. absurd (subst RunsBehind (e.goes r).0 looked)))),
     )
 
 pub returns-in-Blocked-clause-acted : goal.returns-in-Blocked-clause-acted
@@ -229,3 +252,90 @@ returns-in-Answered-clause-acted g c =
       e.shown c.in-Answered.answer c.in-Answered.start refl,
       (e.start, e.opened, e.grows.0, e.grows.1),
     )
+
+pub returns-in_default-clause-ranks : goal.returns-in_default-clause-ranks
+returns-in_default-clause-ranks g c = ranked_same _ _ c.args.actor Ended refl (λ z. cc) (λ l n z. cc)
+
+pub returns-in-Blocked-clause-ranks : goal.returns-in-Blocked-clause-ranks
+returns-in-Blocked-clause-ranks g c = ranked_same _ _ c.args.actor Blocked (returns-in-Blocked-clause-acted g c).1 (λ z. cc) (λ l n z. cc)
+
+pub returns-in-Blocked-clause-held : goal.returns-in-Blocked-clause-held
+returns-in-Blocked-clause-held g c = λ z.
+    let i = c.self.inside in
+    let r = c.index.result.now in
+    let e = c.in-Blocked.ensures in
+    let view : c.args.self.now ≡ system_of i.base i.lanes.items i.runs.items i.replies.items = search rules in
+    let off = (e.turns r (e.waits refl)).held refl in
+    subst (λ s. IsHeldOff s c.args.actor) (sym view)
+    (off.0, off.1, off.2, holder_has i.base i.lanes.items i.runs.items i.replies.items c.self.invariant.1 (c.self.invariant.3 (e.waits refl)) off.0 off.2)
+
+pub returns-in-More-clause-ranks : goal.returns-in-More-clause-ranks
+returns-in-More-clause-ranks g c =
+    let i = c.self.inside in
+    let r = c.index.result.now in
+    let within : c.args.actor < length i.lanes.items = search rules in
+    let few : c.index.result.now.command < length c.deref.result.now = fewer _ _ c.in-Some.ensures.lookup.0 in
+    let booked = c.self.invariant.1 in
+    let in_runs : c.args.actor < length i.runs.items = omega (arith, booked.each_runs, within) in
+    let in_works : c.args.actor < length (works_of i.runs.items) = omega (arith, length-map i.runs.items (λ (x : Run). work_in x.task), in_runs) in
+    let new = c.turn-came.new.base in
+    let now = c.turn-came.new.runs.items in
+    let run = get_or now c.args.actor r in
+    let view : c.args.self.now ≡ system_of i.base i.lanes.items i.runs.items i.replies.items = search rules in
+    let has = has_command i.base i.lanes.items i.runs.items i.replies.items c.args.actor booked within r c.index-2.result.now
+    (omega (arith, few, ap length c.deref.ensures.value, ap (λ (x : Lane). length x.commands.items) c.index-2.ensures, ap (λ (x : Run). x.command) c.index.ensures)) in
+    let e = c.in-More.ensures in
+    let less = (e.turns r (e.live refl)).falls refl in
+    subst (λ s. Ranked s (system_of new i.lanes.items now i.replies.items) c.args.actor More) (sym view)
+    (ranked_more (system_of i.base i.lanes.items i.runs.items i.replies.items) (system_of new i.lanes.items now i.replies.items) c.args.actor (work_in run.task) refl (ap works_of (e.run r) ∙ map-set (λ (x : Run). work_in x.task) i.runs.items c.args.actor run) refl in_works has
+    (subst (λ w. left_of (work_in run.task) < left_of w) (sym (work_at i.runs.items c.args.actor r in_runs)) less))
+
+pub returns-in-Answered-clause-ranks : goal.returns-in-Answered-clause-ranks
+returns-in-Answered-clause-ranks g c =
+    let i = c.self.inside in
+    let r = c.index.result.now in
+    let within : c.args.actor < length i.lanes.items = search rules in
+    let few : c.index.result.now.command < length c.deref.result.now = fewer _ _ c.in-Some.ensures.lookup.0 in
+    let booked = c.self.invariant.1 in
+    let in_runs : c.args.actor < length i.runs.items = omega (arith, booked.each_runs, within) in
+    let in_works : c.args.actor < length (works_of i.runs.items) = omega (arith, length-map i.runs.items (λ (x : Run). work_in x.task), in_runs) in
+    let new = c.turn-came.new.base in
+    let now = c.turn-came.new.runs.items in
+    let run = get_or now c.args.actor r in
+    let view : c.args.self.now ≡ system_of i.base i.lanes.items i.runs.items i.replies.items = search rules in
+    let has = has_command i.base i.lanes.items i.runs.items i.replies.items c.args.actor booked within r c.index-2.result.now
+    (omega (arith, few, ap length c.deref.ensures.value, ap (λ (x : Lane). length x.commands.items) c.index-2.ensures, ap (λ (x : Run). x.command) c.index.ensures)) in
+    let e = c.in-Answered.ensures in
+    let after : Run = record { command = run.command + 1; task = run.task } in
+    let in_replies : c.args.actor < length (replies_of i.replies.items) = to_replies i.lanes.items i.runs.items i.replies.items c.args.actor booked within in
+    let all : c.book.new.runs.items ≡ set i.runs.items c.args.actor after =
+    c.book.ensures.tasks r ∙ ap (λ (l : List Run). set l c.args.actor after) (e.run r) ∙ set-set i.runs.items c.args.actor run after in
+    let reply : Reply = record { answer = c.in-Answered.answer; start = c.number_of.result; place = c.number_of-in-Answered.result; order = i.given; taken = None } in
+    subst (λ s. Ranked s (system_of new i.lanes.items c.book.new.runs.items c.book.new.replies.items) c.args.actor (Done c.args.actor c.index.result.now.command)) (sym view)
+    (ranked_done (system_of i.base i.lanes.items i.runs.items i.replies.items) (system_of new i.lanes.items c.book.new.runs.items c.book.new.replies.items) c.args.actor c.args.actor c.index.result.now.command reply refl
+    (ap works_of all ∙ map-set (λ (x : Run). work_in x.task) i.runs.items c.args.actor after ∙ ap (λ t. set (works_of i.runs.items) c.args.actor (work_in t)) (e.goes r).0) c.book.ensures.replies in_works in_replies has)
+
+pub returns-in_default-clause-waits : goal.returns-in_default-clause-waits
+returns-in_default-clause-waits g c = λ has live asks off. absurd ((returns-in_default-clause-acted g c).0 has)
+
+pub returns-in-More-clause-waits : goal.returns-in-More-clause-waits
+returns-in-More-clause-waits g c = λ has live asks off.
+    let i = c.self.inside in
+    let r = c.index.result.now in
+    let within : c.args.actor < length i.lanes.items = search rules in
+    let in_runs : c.args.actor < length i.runs.items = omega (arith, c.self.invariant.1.each_runs, within) in
+    let e = c.in-More.ensures in
+    let view : c.args.self.now ≡ system_of i.base i.lanes.items i.runs.items i.replies.items = search rules in
+    let here : IsHeldOff (system_of i.base i.lanes.items i.runs.items i.replies.items) c.args.actor = subst (λ s. IsHeldOff s c.args.actor) view off in
+    absurd ((e.turns r (e.live refl)).waits (λ z. cc) (subst (λ w. AsksTurn w) (work_at i.runs.items c.args.actor r in_runs) (subst (λ s. AsksTurn (get_or s.works c.args.actor None)) view asks)) (here.0, here.1, here.2))
+
+pub returns-in-Answered-clause-waits : goal.returns-in-Answered-clause-waits
+returns-in-Answered-clause-waits g c = λ has live asks off.
+    let i = c.self.inside in
+    let r = c.index.result.now in
+    let within : c.args.actor < length i.lanes.items = search rules in
+    let in_runs : c.args.actor < length i.runs.items = omega (arith, c.self.invariant.1.each_runs, within) in
+    let e = c.in-Answered.ensures in
+    let view : c.args.self.now ≡ system_of i.base i.lanes.items i.runs.items i.replies.items = search rules in
+    let here : IsHeldOff (system_of i.base i.lanes.items i.runs.items i.replies.items) c.args.actor = subst (λ s. IsHeldOff s c.args.actor) view off in
+    absurd ((e.turns r (subst (λ s. s.base.books.halted ≡ false) view live)).waits (λ z. cc) (subst (λ w. AsksTurn w) (work_at i.runs.items c.args.actor r in_runs) (subst (λ s. AsksTurn (get_or s.works c.args.actor None)) view asks)) (here.0, here.1, here.2))

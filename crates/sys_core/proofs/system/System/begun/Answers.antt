@@ -4,6 +4,7 @@ use Rattle.rely.specs.State.{State, after, events_of, first}
 use Rattle.ref_book.specs.Tracks.{Tracks}
 use Rattle.sys_core.specs.Lanes.{now_of}
 use Rattle.sys_core.proofs.Accounting.{new_accounted}
+use Rattle.sys_core.proofs.Ordering.{ordered_new}
 use Rattle.sys_core.proofs.Starting.{home_of, kept_new}
 use Rattle.sys_core.proofs.system.System.begun.Goals as goal
 
@@ -28,4 +29,5 @@ invariant_of-result g c =
           (λ w lane told few. home_of g.F.Fs.view g.F.Fs.clock g.F.Fs.was c.into_parts-fs.result.fs c.into_parts-fs.result.clock c.into_parts-fs.result.refs.items opened.opened w lane (subst (λ f. g.F.Fs.view f ≡ Some w) e.fs told) few),
       c.requires.booked,
       new_accounted g.F.Fs.view base c.args.lanes.items c.args.prepared.runs.items c.args.prepared.replies.items (g.F.Fs.faults base.fs) e.history e.pending c.requires.booked c.requires.idle,
+      (λ live. ordered_new base.books c.args.lanes.items c.args.prepared.runs.items e.free.0 e.free.1 c.requires.idle),
     )

@@ -1,11 +1,16 @@
-use Rattle.std.proofs.Common.{rules, ◌≡◌, subst, sym, Some, true}
+use Rattle.std.proofs.Common.{rules, ◌≡◌, ◌∙◌, arith, subst, sym, Some, true}
+use Rattle.std.proofs.lemmas.List.{length-map}
+use Rattle.std.specs.Global.{Vec}
 use Rattle.fs_trait.specs.View.{View}
 use Rattle.rely.specs.declared.books.Base.{Base}
 use Rattle.rely.specs.Headline.{Headline}
 use Rattle.script.specs.declared.answer.Answer.TheVariants as answer
 use Rattle.sys_core.specs.Booked.{IsReplied}
+use Rattle.script.specs.declared.answer.Reply.{Reply}
+use Rattle.sys_core.specs.Ranks.{AreWithin}
 use Rattle.sys_core.specs.Replied.{IsTo}
-use Rattle.sys_core.proofs.Acting.{system_of}
+use Rattle.sys_core.proofs.Acting.{given_length, system_of}
+use Rattle.sys_core.proofs.Booking.{some_of}
 use Rattle.sys_core.proofs.system.System.certify.Goals as goal
 
 pub returns-clause-headline : goal.returns-clause-headline
@@ -23,3 +28,13 @@ returns-clause-halted g c = λ lane number r to is.
     let view : c.args.self.now ≡ system_of i.base i.lanes.items i.runs.items i.replies.items = search rules in
     let h = c.self.invariant.2.halts lane number r (subst (λ s. IsTo s.replies lane number r) view to) is in
     subst (λ s. (s.base.books.halted ≡ true) × (r.answer ≡ answer.Halted (g.F.Fs.faults s.base.fs))) (sym view) h
+
+pub returns-clause-within : goal.returns-clause-within
+returns-clause-within g c =
+    let i = c.self.inside in
+    let b = c.self.invariant.1 in
+    let view : c.args.self.now ≡ system_of i.base i.lanes.items i.runs.items i.replies.items = search rules in
+    subst (λ s. AreWithin s) (sym view) (
+      length-map i.replies.items (λ (v : Vec Reply). v.items) ∙ b.each_replied,
+      (λ l d lt. let r = some_of i.runs.items l (omega (arith, b.each_runs, lt)) in omega (arith, given_length i.base i.lanes.items i.runs.items i.replies.items l b lt r, b.within l d r lt)),
+    )

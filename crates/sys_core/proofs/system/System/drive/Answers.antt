@@ -1,0 +1,17 @@
+use Rattle.std.proofs.Common.{rules, ◌∙◌}
+use Rattle.sys_core.proofs.Laters.{acted_later, later_trans}
+use Rattle.sys_core.proofs.Ranking.{ended_of}
+use Rattle.sys_core.proofs.system.System.drive.Goals as goal
+
+pub loop-actor-preserved : goal.loop-actor-preserved
+loop-actor-preserved g c =
+    let i = c.loop-actor.invariant in
+    record { lanes = c.act.ensures.lanes ∙ i.lanes; later = later_trans c.args.self.now c.loop-actor.self c.act.new.self i.later (acted_later _ c.loop-actor.self c.act.new.self _ c.act.result c.act.ensures.acted) }
+
+pub rounds-preserved : goal.rounds-preserved
+rounds-preserved g c =
+    let i = c.rounds.invariant in
+    record { lanes = c.round.ensures.lanes ∙ i.lanes; later = later_trans c.args.self.now c.rounds.self c.round.new.self i.later c.round.ensures.later }
+
+pub returns-clause-ended : goal.returns-clause-ended
+returns-clause-ended g c = ended_of c.round.new.self (c.round.ensures.over (search rules)) c.certify.ensures.within

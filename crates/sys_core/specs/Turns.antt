@@ -1,0 +1,70 @@
+-- Which lane holds the Turn.
+use Rattle.std.specs.Prelude.{◌≡◌, ◌≢◌, ◌<◌, ℕ, List, length, map, slice_index_or, Option, Some, None, false}
+use Rattle.ref_store.specs.declared.phase.Phase.{Phase}
+use Rattle.ref_store.specs.declared.phase.Phase.TheVariants as phase
+use Rattle.ref_work.specs.declared.command.RefCommand.{RefCommand}
+use Rattle.ref_work.specs.declared.command.RefCommand.TheVariants.{Parse, Reset, Change}
+use Rattle.rely.specs.declared.books.Books as rust
+use Rattle.script.specs.declared.command.Lane.{Lane}
+use Rattle.sys_core.specs.declared.lane.Came.{Came}
+use Rattle.sys_core.specs.declared.lane.Came.TheVariants as came
+use Rattle.sys_core.specs.declared.run.Run.{Run}
+use Rattle.sys_core.specs.declared.run.Running.{Running}
+use Rattle.sys_core.specs.Left.{left_of}
+
+-- the task of a command that runs
+abbrev pub work_in : Option Running → Option RefCommand
+work_in None = None
+work_in (Some r) = Some r.work
+
+abbrev pub works_of : List Run → List (Option RefCommand)
+works_of = map (λ r. work_in r.task)
+
+-- a change that has looked at its ref
+abbrev pub IsBehind : Phase → Type 0
+IsBehind phase.Look = ⊥
+IsBehind ph = Unit {0}
+
+abbrev pub HasLooked : RefCommand → Type 0
+HasLooked (Parse look) = ⊥
+HasLooked (Reset look plan) = ⊥
+HasLooked (Change work) = IsBehind work.task.phase
+
+abbrev pub RunsBehind : Option Running → Type 0
+RunsBehind None = ⊥
+RunsBehind (Some r) = HasLooked r.work
+
+-- one that has yet to look, and so asks for the Turn
+abbrev pub IsLook : Phase → Type 0
+IsLook phase.Look = Unit {0}
+IsLook ph = ⊥
+
+abbrev pub AsksTurn : Option RefCommand → Type 0
+AsksTurn (Some (Change work)) = IsLook work.task.phase
+AsksTurn work = ⊥
+
+-- A lane has the Turn exactly where its command has looked. Nobody removes objects.
+pub record HasTurn (lane : ℕ) (b : rust.Books) (Looked : Type 0) : Type 0 where
+  pub nobody : b.exclusive ≡ None
+  pub has : Looked → b.turn ≡ Some lane
+  pub only : b.turn ≡ Some lane → Looked
+
+-- somebody else has it
+abbrev pub IsOthers : ℕ → Option ℕ → Type 0
+IsOthers lane lock = (other : ℕ) × (other ≢ lane) × (lock ≡ Some other)
+
+-- What an act of the lane leaves of the Turn, and of the acts that its command may need. It is held off only where another lane has the
+-- Turn, and wherever the command asks for it then.
+pub record Turns (lane : ℕ) (old new : rust.Books) (task task' : Option Running) (result : Came) : Type 0 where
+  pub mine : new.halted ≡ false → HasTurn lane new (RunsBehind task')
+  pub others : new.halted ≡ false → (x : ℕ) → x ≢ lane → new.turn ≡ Some x → old.turn ≡ Some x
+  pub falls : result ≡ came.More → left_of (work_in task') < left_of (work_in task)
+  pub held : result ≡ came.Blocked → IsOthers lane old.turn
+  pub waits : result ≢ came.Blocked → AsksTurn (work_in task) → IsOthers lane old.turn → ⊥
+
+-- The Turn is held by a lane whose command has looked, and each such lane holds it; its command has no reply. Nobody removes objects.
+pub record Ordered (b : rust.Books) (lanes : List Lane) (runs : List Run) : Type 0 where
+  pub nobody : b.exclusive ≡ None
+  pub has : (l : ℕ) (r : Run) → l < length runs → RunsBehind (slice_index_or runs l r).task → b.turn ≡ Some l
+  pub only : (l : ℕ) → b.turn ≡ Some l → (l < length runs) × ((r : Run) → RunsBehind (slice_index_or runs l r).task)
+  pub busy : (l : ℕ) (r : Run) (d : Lane) → l < length runs → RunsBehind (slice_index_or runs l r).task → (slice_index_or runs l r).command < length (slice_index_or lanes l d).commands.items

@@ -1,0 +1,12 @@
+use Rattle.std.proofs.Common.{◌≡◌, ◌≤◌, Some}
+use Rattle.fs_trait.specs.View.{View}
+use Rattle.fs_trait.specs.Effect.{IsQuiet}
+use Rattle.sys_open.specs.Checks.{AsksIn}
+use Rattle.sys_open.proofs.ManyWalks.{SoFirst}
+use Rattle.sys_open.proofs.inside.check_names.Given as goal
+
+abbrev pub invariant-loop-name : goal.invariant-loop-name
+invariant-loop-name g l =
+    IsQuiet (g.F.Fs.clock l.fn.fs) (g.F.Fs.clock l.fs) (g.F.Fs.was l.fn.fs) (g.F.Fs.was l.fs) (g.F.Fs.view l.fn.fs) (g.F.Fs.view l.fs)
+    × (g.F.Fs.faults l.fn.fs ≤ g.F.Fs.faults l.fs)
+    × ((v : View) → g.F.Fs.view l.fn.fs ≡ Some v → SoFirst (AsksIn l.many v.now) l.folder l.name-items l.name-index)
