@@ -82,12 +82,12 @@ fn check_goes_on(rt: &impl Abort, alloc: Global, fs: &MemFs) -> Result<(), Fail>
     Ok(())
 }
 
-// The calls of the opening are the 8th to the 83rd, and those of the reset follow.
-const RESET: u64 = 84;
+// The calls of the opening are the 8th to the 89th, and those of the reset follow.
+const RESET: u64 = 90;
 
-const RESET_RENAME: u64 = 93;
+const RESET_RENAME: u64 = 99;
 
-const RESET_SYNC: u64 = 94;
+const RESET_SYNC: u64 = 100;
 
 fn check_failing_reset(rt: &impl Abort, alloc: Global, call: u64, done: bool) -> Result<(), Fail> {
     let ran = run_failing(alloc, b"reset main X", call, done)?;
@@ -108,7 +108,7 @@ fn check_failing_reset(rt: &impl Abort, alloc: Global, call: u64, done: bool) ->
 #[test]
 fn fails_at_each_call_of_a_reset(rt: HostRuntime) -> Result<(), Fail> {
     let alloc = rt.alloc();
-    for call in 8..=95 {
+    for call in 8..=101 {
         check_failing_reset(&rt, alloc, call, false)?;
         check_failing_reset(&rt, alloc, call, true)?;
     }
@@ -136,11 +136,11 @@ fn halts_where_the_last_sync_fails(rt: HostRuntime) -> Result<(), Fail> {
     Ok(())
 }
 
-const DROP: u64 = 95;
+const DROP: u64 = 101;
 
-const DROP_UNLINK: u64 = 97;
+const DROP_UNLINK: u64 = 103;
 
-const DROP_SYNC: u64 = 98;
+const DROP_SYNC: u64 = 104;
 
 fn check_failing_drop(rt: &impl Abort, alloc: Global, call: u64, done: bool) -> Result<(), Fail> {
     let ran = run_failing(alloc, b"reset main X|drop main", call, done)?;
@@ -160,7 +160,7 @@ fn check_failing_drop(rt: &impl Abort, alloc: Global, call: u64, done: bool) -> 
 #[test]
 fn fails_at_each_call_of_a_drop(rt: HostRuntime) -> Result<(), Fail> {
     let alloc = rt.alloc();
-    for call in DROP..=99 {
+    for call in DROP..=105 {
         check_failing_drop(&rt, alloc, call, false)?;
         check_failing_drop(&rt, alloc, call, true)?;
     }
