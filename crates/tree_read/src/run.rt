@@ -1,5 +1,5 @@
 //! The tree of a commit as a whole.
-ghost use Rattle.std.specs.Prelude.{◌≡◌, ◌≤◌, Some, Ok, Err, MatchResult};
+ghost use Rattle.std.specs.Prelude.{◌≡◌, ◌≤◌, Some};
 ghost use Rattle.fs_trait.specs.View.{View};
 ghost use Rattle.fs_trait.specs.Effect.{IsQuiet};
 ghost use Rattle.tree_read.specs.Whole.{HasCauseOf, ReadsTree};
@@ -17,7 +17,7 @@ pub fn tree_of<F: Fs>(
     commit: &Csum,
     limits: &Limits,
 ) -> Result<PathMap, TreeFault>
-    ensures told { (v : View) → F.view fs.old ≡ Some v → MatchResult result (λ map. ReadsTree v.now limits.now commit.now (Ok map)) (λ fault. ReadsTree v.now limits.now commit.now (Err fault)) }
+    ensures told { (v : View) → F.view fs.old ≡ Some v → ReadsTree v.now limits.now commit.now result }
     ensures quiet { IsQuiet (F.clock fs.old) (F.clock fs.new) (F.was fs.old) (F.was fs.new) (F.view fs.old) (F.view fs.new) }
     ensures keeps_room { F.spare fs.old ≤ F.spare fs.new }
     ensures cause { HasCauseOf (F.faults fs.old) (F.faults fs.new) result }
