@@ -1,5 +1,5 @@
 -- What came of an object in a step.
-use Rattle.std.proofs.Common.{◌≡◌, ◌≢◌, ◌⊎◌, inl, inr, ℕ, Bool, true, false, refl, sym, ◌∙◌, ap, subst, List, Option, Some, None, Ok}
+use Rattle.std.proofs.Common.{◌≡◌, Bool, true, false, refl, sym, ◌∙◌, ap, subst, Some, None, Ok}
 use Rattle.fs_trait.specs.declared.types.FsErr.{FsErr}
 use Rattle.fs_trait.specs.declared.types.FsErr.TheVariants.{Failed, Exists, Missing, NotFolder, NotEmpty, NoMemory}
 use Rattle.fs_trait.specs.declared.types.Value.{Value}
@@ -15,7 +15,7 @@ use Rattle.obj_store.specs.declared.phase.Put.TheVariants.{Stored, Present}
 use Rattle.obj_store.specs.declared.phase.Phase.{Phase}
 use Rattle.obj_store.specs.declared.phase.Phase.TheVariants.{Look, Stage, Folder, Link, Unlink, Ended}
 use Rattle.obj_store.specs.Putting.{Putting, IsMade, IsStepped, Follows, IsLast, put_in}
-use Rattle.obj_store.specs.Steps.{Came, Tells, Refuses, refuses_in, goes_on, ends, would_store_in, MayStore}
+use Rattle.obj_store.specs.Steps.{Came, Tells, Refuses, goes_on, ends, would_store_in, MayStore}
 use Rattle.commit_build.specs.Advancing.{newly, CameOf, HasRoom}
 use Rattle.commit_build.specs.Steps.{IsThere}
 

@@ -7,3 +7,8 @@ pub mod Answering
 pub mod PhaseSteps
 pub mod WorkSteps
 pub mod PutTells
+pub mod Wholes
+pub mod MetSteps
+pub mod Counted
+pub mod Endings
+pub mod Stable

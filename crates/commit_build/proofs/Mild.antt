@@ -1,13 +1,12 @@
 -- Writes that spare what is known of the objects of a tree.
-use Rattle.std.proofs.Common.{◌≡◌, ◌≢◌, ◌⊎◌, inl, inr, ⊎_elim, ℕ, ◌<◌, ◌≤◌, suc, arith, Bool, true, false, refl, sym, ◌∙◌, ap, subst, List, [], ◌∷◌, ◌++◌, length, Option, Some, None}
+use Rattle.std.proofs.Common.{◌≡◌, ◌≢◌, ⊎_elim, ℕ, ◌<◌, ◌≤◌, arith, Bool, true, false, refl, sym, ◌∙◌, ap, subst, List, [], ◌∷◌, length, Some, None}
 use Rattle.std.specs.Prelude.{◌&&◌, codes, take}
 use Rattle.ost_types.specs.Csum.{hex_of}
 use Rattle.ost_types.specs.declared.object.ObjName.{ObjName}
 use Rattle.ost_types.specs.Path.{Name, Path, under, is_below, same_name}
 use Rattle.ost_types.proofs.Paths.{under-is_below}
-use Rattle.fs_trait.specs.declared.types.Value.TheVariants.{Absent}
 use Rattle.fs_trait.specs.View.{Disk, View}
-use Rattle.fs_trait.specs.Seen.{Seen, Vacant, seen, shows, MayBe, IsDirectory, NotDirectory}
+use Rattle.fs_trait.specs.Seen.{Seen, Vacant, seen, shows, IsDirectory, NotDirectory}
 use Rattle.fs_trait.specs.Change.{Writes, Nothing}
 use Rattle.fs_trait.proofs.Facts.{shows_kept, vacant_absent}
 use Rattle.repo_layout.specs.Paths.{folder_path, objects_folder_path, object_path, stage_path, mark_path}

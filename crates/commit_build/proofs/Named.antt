@@ -1,5 +1,5 @@
 -- Each object of a tree has its name.
-use Rattle.std.proofs.Common.{◌≡◌, ◌<◌, ℕ, refl, subst, List, [], ◌∷◌, ◌++◌, length, Option, Some, None}
+use Rattle.std.proofs.Common.{◌≡◌, ℕ, refl, subst, List, [], ◌∷◌, Option, Some, None}
 use Rattle.std.specs.Prelude.{All}
 use Rattle.std.proofs.lemmas.List.Elements.{All-nil, All-cons, All-append, All-get_or}
 use Rattle.ost_types.specs.declared.meta.Meta.{Meta}

@@ -2,10 +2,9 @@
 use Rattle.std.specs.Prelude.{Result, IsErrOf}
 use Rattle.fs_trait.specs.declared.types.FsErr.TheVariants.{Failed, Exists, Missing, NotFolder, NotEmpty, NoMemory}
 use Rattle.fs_trait.proofs.Kept.{same_view}
-use Rattle.std.proofs.Common.{◌≡◌, ◌≢◌, Err, inl, inr, ⊎_elim, ℕ, ◌<◌, suc, pred, arith, Bool, true, false, refl, sym, ◌∙◌, ap, subst, List, length, Option, Some, None, Ok}
+use Rattle.std.proofs.Common.{◌≡◌, Err, inl, inr, ⊎_elim, ℕ, ◌<◌, true, false, refl, sym, ◌∙◌, ap, subst, List, Option, Some, None, Ok}
 use Rattle.ost_types.specs.declared.object.ObjName.{ObjName}
 use Rattle.ost_types.specs.Path.{Path}
-use Rattle.ost_objects.specs.declared.checked.Checked.{Checked}
 use Rattle.fs_trait.specs.declared.types.Value.{Value}
 use Rattle.fs_trait.specs.declared.types.Value.TheVariants.{Absent, Folder, Link, File}
 use Rattle.fs_trait.specs.declared.types.Node.{Node}
@@ -13,7 +12,7 @@ use Rattle.fs_trait.specs.View.{Disk, View, all_synced, folder_synced, named}
 use Rattle.fs_trait.specs.Image.{IsTree, Told}
 use Rattle.fs_trait.specs.declared.types.FsErr.{FsErr}
 use Rattle.fs_trait.specs.Effect.{Changed, IsNode, OfNone, no_leaf, no_folder, unless_leaf}
-use Rattle.fs_trait.specs.Seen.{Seen, Vacant, MayShow, shows}
+use Rattle.fs_trait.specs.Seen.{Seen, NotDirectory, MayShow, seen, shows}
 use Rattle.fs_trait.specs.Change.{Writes, Nothing, At}
 use Rattle.fs_trait.proofs.Kept.{weaker}
 use Rattle.fs_trait.proofs.Claims.{folder_shows}
@@ -22,23 +21,13 @@ use Rattle.fs_trait.proofs.Refusals.{no_folder-there}
 use Rattle.fs_trait.proofs.Effects.{all_synced-writes, folder_synced-writes, named-writes}
 use Rattle.repo_layout.specs.Paths.{folder_path, mark_path}
 use Rattle.repo_layout.specs.declared.folder.Folder.TheVariants.{State}
-use Rattle.tree_build.specs.Items.{IsTree as AreTree}
-use Rattle.tree_build.specs.Objects.{Object, work}
-use Rattle.tree_build.specs.Building.{IsNumber, object_of}
 use Rattle.obj_store.specs.declared.phase.Put.{Put}
-use Rattle.obj_store.specs.declared.phase.Phase as putting
-use Rattle.obj_store.specs.declared.phase.Phase.TheVariants as at
-use Rattle.obj_store.specs.Putting.{Putting, IsNew}
-use Rattle.obj_store.specs.Steps as put
-use Rattle.obj_store.specs.Whole.{MayBegin}
-use Rattle.obj_store.proofs.Begins as begins
 use Rattle.commit_build.specs.declared.phase.Phase.{Phase}
 use Rattle.commit_build.specs.declared.phase.Phase.TheVariants as phase
-use Rattle.commit_build.specs.Committing.{Committing, IsPut, IsPutCommit, IsMade, kept_in, Puts, PutsLast, IsMadeLast, IsCommit, commit_of, named_commit}
-use Rattle.fs_trait.specs.declared.task.Turn.TheVariants.{More}
-use Rattle.commit_build.specs.Steps.{Needs, needs_in, came_in, refuses_in, Tells, WritesOf, writes_in, HasHomes, IsThere, IsSure, AreThere, AreSure, IsUnmarked, NeverMarked, NotLeaf, TakesLeaf, is_leaf_node}
+use Rattle.commit_build.specs.Committing.{Committing, IsPut, IsPutCommit, IsMade, kept_in, named_commit}
+use Rattle.commit_build.specs.Steps.{Needs, needs_in, came_in, refuses_in, WritesOf, writes_in, HasHomes, NotLeaf, TakesLeaf, is_leaf_node}
 use Rattle.commit_build.proofs.Answering.{Step}
-use Rattle.commit_build.proofs.Mild.{Mild, mild_mark, no_write, homes_kept, there_kept, sure_kept}
+use Rattle.commit_build.proofs.Mild.{Mild, mild_mark, no_write, homes_kept, sure_kept}
 use Rattle.commit_build.proofs.Synced.{synced_sure, unmarked, leaf_there, never_marked}
 use Rattle.commit_build.proofs.PutSteps.{needs_as, kept_as}
 
@@ -61,6 +50,8 @@ module _ (t : Committing) (v : View) (tree : IsTree v.now) (needs : Needs t v) w
           made = record {
             actor = needs.made.actor;
             items = needs.made.items;
+            typed = needs.made.typed;
+            bound = needs.made.bound;
             makeable = needs.made.makeable;
             small = needs.made.small;
             made = needs.made.made;
@@ -82,6 +73,8 @@ module _ (t : Committing) (v : View) (tree : IsTree v.now) (needs : Needs t v) w
           made = record {
             actor = needs.made.actor;
             items = needs.made.items;
+            typed = needs.made.typed;
+            bound = needs.made.bound;
             makeable = needs.made.makeable;
             small = needs.made.small;
             made = needs.made.made;
@@ -109,11 +102,17 @@ leaf_free d p n tree is leaf = rw (way-there d tree p (leaf_there d (d.at p) n i
 not_refused : (e : FsErr) (refusal : Option FsErr) → refusal ≡ Some e → refusal ≡ None → ⊥
 not_refused e refusal is free = let n : Some e ≡ None = sym is ∙ free in cc
 
+leaf_seen : (d : Disk) (z : Value) (n : Option Node) → IsNode d z n → is_leaf_node n ≡ true → NotDirectory (seen d z)
+leaf_seen d Absent n is leaf = tt
+leaf_seen d (Folder m) n is leaf = let e : false ≡ true = sym (ap is_leaf_node is) ∙ leaf in cc
+leaf_seen d (Link m t) n is leaf = tt
+leaf_seen d (File k) n is leaf = tt
+
 -- what was seen, and what the call did
 pub leaf_taken : (p : Path) (v : View) (n : Option Node) → IsTree v.now → IsNode v.now (v.now.at p) n → is_leaf_node n ≡ true → (r : Result (Unit {0}) FsErr) (view : Option View)
     → Changed (no_leaf p v.now) v (named p Absent v) r view → TakesLeaf p v r view
-leaf_taken p v n tree is leaf (Ok x) view changed = inr changed.1
-leaf_taken p v n tree is leaf (Err Failed) view changed = ⊎_elim (λ a. inl a) (λ a. inr a.1) changed
+leaf_taken p v n tree is leaf (Ok x) view changed = inr (changed.1, leaf_seen v.now (v.now.at p) n is leaf)
+leaf_taken p v n tree is leaf (Err Failed) view changed = ⊎_elim (λ a. inl a) (λ a. inr (a.1, leaf_seen v.now (v.now.at p) n is leaf)) changed
 leaf_taken p v n tree is leaf (Err NoMemory) view changed = changed
 leaf_taken p v n tree is leaf (Err Exists) view changed = not_refused Exists _ changed.0 (leaf_free v.now p n tree is leaf)
 leaf_taken p v n tree is leaf (Err Missing) view changed = not_refused Missing _ changed.0 (leaf_free v.now p n tree is leaf)
@@ -152,6 +151,8 @@ module _ (t : Committing) (v : View) (tree : IsTree v.now) (needs : Needs t v) (
     made_next = record {
       actor = needs.made.actor;
       items = needs.made.items;
+      typed = needs.made.typed;
+      bound = needs.made.bound;
       makeable = needs.made.makeable;
       small = needs.made.small;
       made = needs.made.made;
@@ -178,10 +179,10 @@ module _ (t : Committing) (v : View) (tree : IsTree v.now) (needs : Needs t v) (
           );
         }
 
-    unmark_writes : Writes (WritesOf t v) v (named (mark_path sum) Absent v)
-    unmark_writes =
+    unmark_writes : NotDirectory (shows v.now (mark_path sum)) → Writes (WritesOf t v) v (named (mark_path sum) Absent v)
+    unmark_writes file =
         let w = named (mark_path sum) Absent v in
-        subst (λ f. Writes (writes_in f v) v w) (sym is) (weaker W (writes_in (phase.Unmark sum) v) v w (λ p s a. a) (named-writes v (mark_path sum) Absent))
+        subst (λ f. Writes (writes_in f v) v w) (sym is) (weaker W (writes_in (phase.Unmark sum) v) v w (λ p s a. (a.0, a.1, subst (λ q. NotDirectory (shows v.now q)) (sym a.0) file)) (named-writes v (mark_path sum) Absent))
 
     no_mark_after : NotLeaf (shows v.now (mark_path sum)) → Needs (record t { phase = phase.SyncState sum; met = None }) v
     no_mark_after none = record { made = made_next; homes = needs.homes; meets = (has.0, has.1, none) }
@@ -192,8 +193,8 @@ module _ (t : Committing) (v : View) (tree : IsTree v.now) (needs : Needs t v) (
         same : view ≡ Some v → Told view (λ w. Writes (WritesOf t v) v w)
         same told = (v, told, same_view (WritesOf t v) v)
 
-        gone : view ≡ Some (named (mark_path sum) Absent v) → Told view (λ w. Writes (WritesOf t v) v w)
-        gone told = (named (mark_path sum) Absent v, told, unmark_writes)
+        gone : (view ≡ Some (named (mark_path sum) Absent v)) × NotDirectory (shows v.now (mark_path sum)) → Told view (λ w. Writes (WritesOf t v) v w)
+        gone a = (named (mark_path sum) Absent v, a.0, unmark_writes a.1)
 
         by : (r : Result (Unit {0}) FsErr) → TakesLeaf (mark_path sum) v r view → Told view (λ w. Writes (WritesOf t v) v w)
         by (Ok x) takes = ⊎_elim (λ a. same a.0) gone takes
@@ -207,7 +208,7 @@ module _ (t : Committing) (v : View) (tree : IsTree v.now) (needs : Needs t v) (
     pub taken_after : (p : Path) → p ≡ mark_path sum → (x : Unit {0}) (view : Option View) → TakesLeaf p v (Ok x) view → Told view (Needs (record t { phase = phase.SyncState sum; met = None }))
     taken_after p e x view takes = ⊎_elim
         (λ a. (v, a.0, no_mark_after a.1))
-        (λ a. (named (mark_path sum) Absent v, a, unmark_after))
+        (λ a. (named (mark_path sum) Absent v, a.0, unmark_after))
         (subst (λ q. TakesLeaf q v (Ok x) view) e takes)
 
   -- That outlasts a crash.
@@ -225,6 +226,8 @@ module _ (t : Committing) (v : View) (tree : IsTree v.now) (needs : Needs t v) (
           made = record {
             actor = needs.made.actor;
             items = needs.made.items;
+            typed = needs.made.typed;
+            bound = needs.made.bound;
             makeable = needs.made.makeable;
             small = needs.made.small;
             made = needs.made.made;

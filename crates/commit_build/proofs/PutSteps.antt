@@ -1,13 +1,13 @@
 -- The steps in which an object of the tree, or the commit, is put.
-use Rattle.std.proofs.Common.{◌≡◌, ◌≢◌, ◌⊎◌, inl, inr, ⊎_elim, ℕ, ◌<◌, ◌≤◌, ◌+◌, suc, zero, pred, arith, Bool, true, false, refl, sym, ◌∙◌, ap, subst, List, [], ◌∷◌, length, Option, Some, None, Ok}
+use Rattle.std.proofs.Common.{◌≡◌, ◌⊎◌, inl, inr, ⊎_elim, ℕ, ◌<◌, ◌+◌, suc, zero, pred, arith, Bool, refl, sym, ◌∙◌, ap, subst, List, [], ◌∷◌, length, Option, Some, Ok}
 use Rattle.std.specs.Prelude.{slice_index_or}
 use Rattle.ost_types.specs.declared.object.ObjName.{ObjName}
 use Rattle.ost_types.specs.Path.{Path}
-use Rattle.fs_trait.specs.declared.task.Turn.TheVariants.{More, Done}
+use Rattle.fs_trait.specs.declared.task.Turn.TheVariants.{More}
 use Rattle.fs_trait.specs.View.{View}
 use Rattle.fs_trait.specs.Seen.{Seen}
 use Rattle.fs_trait.specs.Change.{Writes}
-use Rattle.repo_model.specs.Objects.{object_in, path_of}
+use Rattle.repo_model.specs.Objects.{object_in}
 use Rattle.tree_build.specs.Objects.{Object, work}
 use Rattle.tree_build.specs.Building.{IsNumber}
 use Rattle.obj_store.specs.declared.source.Source.{Source}
@@ -17,11 +17,11 @@ use Rattle.obj_store.specs.declared.phase.Phase.TheVariants as at
 use Rattle.obj_store.specs.Putting as put
 use Rattle.obj_store.specs.Putting.{Putting, IsObject, IsLast, Follows, shown, put_in}
 use Rattle.obj_store.specs.Steps as putting_steps
-use Rattle.obj_store.proofs.Runs.{same_more, IsSame}
+use Rattle.obj_store.proofs.Runs.{same_more}
 use Rattle.commit_build.specs.declared.phase.Phase.{Phase}
 use Rattle.commit_build.specs.declared.phase.Phase.TheVariants as phase
 use Rattle.commit_build.specs.Advancing.{CameOf, newly}
-use Rattle.commit_build.specs.Committing.{Committing, IsMade, kept_in, Puts, PutsLast, IsMadeLast, IsCommit, commit_of, named_commit}
+use Rattle.commit_build.specs.Committing.{Committing, IsMade, kept_in, Puts, commit_of, named_commit}
 use Rattle.commit_build.specs.Steps.{Needs, needs_in, HasHomes, IsThere, IsSure, AreThere, AreSure, count_in, once_seen_to}
 use Rattle.commit_build.proofs.Mild.{Mild, mild_put, homes_kept, there_kept, sure_kept}
 use Rattle.commit_build.proofs.Advances.{came_there}
@@ -38,6 +38,8 @@ pub made_at : (t u : Committing) → IsMade t → u.actor ≡ t.actor → u.item
 made_at t u made actor items limits message count kept = record {
   actor = rw actor made.actor;
   items = rw items made.items;
+  typed = rw items made.typed;
+  bound = rw limits made.bound;
   makeable = rw (limits, items) made.makeable;
   small = rw (items, message) made.small;
   made = rw (items, count) made.made;
@@ -213,6 +215,8 @@ module _ (t : Committing) (v w : View) (needs : Needs t v) (p : Putting) (is : t
     made = record {
       actor = needs.made.actor;
       items = needs.made.items;
+      typed = needs.made.typed;
+      bound = needs.made.bound;
       makeable = needs.made.makeable;
       small = needs.made.small;
       made = needs.made.made;
@@ -228,6 +232,8 @@ module _ (t : Committing) (v w : View) (needs : Needs t v) (p : Putting) (is : t
     made = record {
       actor = needs.made.actor;
       items = needs.made.items;
+      typed = needs.made.typed;
+      bound = needs.made.bound;
       makeable = needs.made.makeable;
       small = needs.made.small;
       made = needs.made.made;
@@ -257,10 +263,12 @@ module _ (t : Committing) (v w : View) (needs : Needs t v) (p : Putting) (is : t
     made = record {
       actor = needs.made.actor;
       items = needs.made.items;
+      typed = needs.made.typed;
+      bound = needs.made.bound;
       makeable = needs.made.makeable;
       small = needs.made.small;
       made = needs.made.made;
-      kept = (commit_kept.0, commit_kept.1, puts_on t.actor (commit_of t.items t.message) p q stepped commit_kept.2);
+      kept = (commit_kept.0, commit_kept.1, puts_on t.actor (commit_of t.items t.message) p q stepped commit_kept.2, commit_kept.3);
     };
     homes = commit_homes;
     meets =
@@ -278,10 +286,12 @@ module _ (t : Committing) (v w : View) (needs : Needs t v) (p : Putting) (is : t
         made = record {
           actor = needs.made.actor;
           items = needs.made.items;
+          typed = needs.made.typed;
+          bound = needs.made.bound;
           makeable = needs.made.makeable;
           small = needs.made.small;
           made = needs.made.made;
-          kept = (commit_kept.0, record { all = commit_kept.1; name = name });
+          kept = (commit_kept.0, record { all = commit_kept.1; name = name; reads = commit_kept.3 });
         };
         homes = commit_homes;
         meets = (still_sure, subst (IsThere w.now) (commit_kept.2.name ∙ sym name) there);

@@ -1,10 +1,9 @@
 -- What syncs make of what is known.
-use Rattle.std.proofs.Common.{◌≡◌, ◌≢◌, inl, inr, ⊎_elim, ℕ, Bool, true, false, refl, sym, ◌∙◌, ap, subst, List, [], ◌∷◌, ◌++◌, Option, Some, None}
+use Rattle.std.proofs.Common.{◌≡◌, ◌≢◌, ℕ, Bool, true, false, refl, sym, ◌∙◌, ap, subst, List, [], ◌∷◌, ◌++◌, Option, None}
 use Rattle.std.specs.Prelude.{◌&&◌, codes, drop}
 use Rattle.ost_types.specs.Csum.{hex_of}
-use Rattle.ost_types.specs.declared.meta.Meta.{Meta}
 use Rattle.ost_types.specs.declared.object.ObjName.{ObjName}
-use Rattle.ost_types.specs.Path.{Name, Path, under, is_below, same_name}
+use Rattle.ost_types.specs.Path.{Path, under, is_below, same_name}
 use Rattle.ost_types.proofs.Paths.{same_name-Decides}
 use Rattle.fs_trait.specs.declared.types.Value.{Value}
 use Rattle.fs_trait.specs.declared.types.Value.TheVariants.{Absent, Folder, Link, File}
@@ -12,7 +11,7 @@ use Rattle.fs_trait.specs.declared.types.Node.{Node}
 use Rattle.fs_trait.specs.View.{Disk, View, all_synced, folder_synced, named}
 use Rattle.fs_trait.specs.Image.{IsTree, is_folder}
 use Rattle.fs_trait.specs.Effect.{IsNode}
-use Rattle.fs_trait.specs.Seen.{Seen, Vacant, Directory, Symlink, Leaf, seen, shows, MayShow, MayBe, IsDirectory}
+use Rattle.fs_trait.specs.Seen.{Seen, seen, MayShow, MayBe, IsDirectory}
 use Rattle.fs_trait.proofs.Effects.{all_synced-firm, folder_synced-firm, shows_named}
 use Rattle.fs_trait.proofs.Facts.{vacant_absent}
 use Rattle.fs_trait.proofs.Ways.{folder_of, above}

@@ -1,12 +1,11 @@
 -- The steps of a commit that make no call.
-use Rattle.std.proofs.Common.{◌≡◌, Ok, ℕ, ◌<◌, ◌+◌, suc, zero, pred, arith, true, false, refl, sym, ◌∙◌, ap, subst, List, length, Option, Some, None}
+use Rattle.std.proofs.Common.{◌≡◌, Ok, ℕ, ◌<◌, ◌+◌, suc, pred, arith, refl, sym, ◌∙◌, ap, subst, List, length, Option, None}
 use Rattle.sha2.specs.Sha256.{sha256}
 use Rattle.ost_types.specs.declared.object.Kind.TheVariants as kinds
 use Rattle.ost_types.specs.declared.object.Kind.{Kind}
 use Rattle.ost_types.specs.declared.object.ObjName.{ObjName}
 use Rattle.ost_objects.specs.declared.checked.Checked.{Checked}
 use Rattle.fs_trait.specs.View.{View}
-use Rattle.fs_trait.specs.Image.{is_folder}
 use Rattle.fs_trait.specs.Seen.{shows, NotDirectory}
 use Rattle.fs_trait.proofs.Claims.{folder_shows}
 use Rattle.fs_trait.proofs.Facts.{no_folder_shown}
@@ -18,17 +17,16 @@ use Rattle.tree_build.specs.Building.{Building, IsNumber, object_of}
 use Rattle.ost_types.specs.declared.limits.Limits.{Limits}
 use Rattle.commit_build.specs.Nexts.{Nexts}
 use Rattle.tree_build.specs.Commits.{commit_bytes, commit_parts}
+use Rattle.ost_forms.specs.Commit.{ReadsCommit}
 use Rattle.obj_store.specs.declared.phase.Put.{Put}
 use Rattle.obj_store.specs.declared.phase.Phase as putting
-use Rattle.obj_store.specs.declared.phase.Phase.TheVariants as at
 use Rattle.obj_store.specs.Putting.{Putting, IsNew}
 use Rattle.obj_store.specs.Steps as put
-use Rattle.obj_store.specs.Whole.{MayBegin}
 use Rattle.obj_store.proofs.Begins as begins
 use Rattle.commit_build.specs.declared.phase.Phase.{Phase}
 use Rattle.commit_build.specs.declared.phase.Phase.TheVariants as phase
-use Rattle.commit_build.specs.Committing.{Committing, Follows, IsMade, kept_in, Puts, PutsLast, IsMadeLast, commit_of, parts_of, named_commit}
-use Rattle.commit_build.specs.Steps.{Needs, needs_in, HasHomes, AreThere, AreSure, IsThere, count_in, once_seen_to}
+use Rattle.commit_build.specs.Committing.{Committing, Follows, IsMade, kept_in, Puts, ReadsBack, commit_of, parts_of}
+use Rattle.commit_build.specs.Steps.{Needs, needs_in, HasHomes, AreThere, IsThere, count_in, once_seen_to}
 use Rattle.commit_build.proofs.PutSteps.{needs_as, kept_as}
 
 one_less : (n : ℕ) → pred (n + 1) ≡ n
@@ -56,12 +54,14 @@ puts_new actor o p new = record {
 -- the plain facts alone
 module _ (t : Committing) (made : IsMade t) where
   pub made_checked : t.phase ≡ phase.Check → IsTree t.items → IsMade (record t { phase = phase.Make; met = None })
-  made_checked is tree = record { actor = made.actor; items = made.items; makeable = made.makeable; small = made.small; made = made.made; kept = tree }
+  made_checked is tree = record { actor = made.actor; items = made.items; typed = made.typed; bound = made.bound; makeable = made.makeable; small = made.small; made = made.made; kept = tree }
 
   pub made_object : t.phase ≡ phase.Make → (c : Checked) → IsNumber (work t.items) t.made (object_of c) → c.limit ≡ t.limits.content → IsMade (record t { made = t.made + 1; phase = phase.Made c; met = None })
   made_object is c number limit = record {
     actor = made.actor;
     items = made.items;
+    typed = made.typed;
+    bound = made.bound;
     makeable = made.makeable;
     small = made.small;
     made = (let less = number.0 in omega (arith, less));
@@ -69,7 +69,7 @@ module _ (t : Committing) (made : IsMade t) where
   }
 
   pub made_all : t.phase ≡ phase.Make → t.made ≡ length (work t.items) → IsMade (record t { phase = phase.SyncObjects; met = None })
-  made_all is all = record { actor = made.actor; items = made.items; makeable = made.makeable; small = made.small; made = made.made; kept = (kept_as t made phase.Make is, all) }
+  made_all is all = record { actor = made.actor; items = made.items; typed = made.typed; bound = made.bound; makeable = made.makeable; small = made.small; made = made.made; kept = (kept_as t made phase.Make is, all) }
 
   pub made_begun : (c : Checked) → t.phase ≡ phase.Made c → (p : Putting) → IsNew t.actor c.name c.bytes p → IsMade (record t { phase = phase.Put p; met = None })
   made_begun c is p new =
@@ -77,26 +77,31 @@ module _ (t : Committing) (made : IsMade t) where
       record {
         actor = made.actor;
         items = made.items;
+        typed = made.typed;
+        bound = made.bound;
         makeable = made.makeable;
         small = made.small;
         made = made.made;
         kept = (kept.0, record { object = object_of c; last = kept.1; puts = puts_new t.actor (object_of c) p new });
       }
 
-  pub made_commit : t.phase ≡ phase.MakeCommit → (p : Putting) → IsNew t.actor (commit_of t.items t.message).name (commit_of t.items t.message).bytes p → IsMade (record t { phase = phase.PutCommit p; met = None })
-  made_commit is p new =
+  pub made_commit : t.phase ≡ phase.MakeCommit → (p : Putting) → IsNew t.actor (commit_of t.items t.message).name (commit_of t.items t.message).bytes p → ReadsBack t.items t.message
+      → IsMade (record t { phase = phase.PutCommit p; met = None })
+  made_commit is p new reads =
       let kept = kept_as t made phase.MakeCommit is in
       record {
         actor = made.actor;
         items = made.items;
+        typed = made.typed;
+        bound = made.bound;
         makeable = made.makeable;
         small = made.small;
         made = made.made;
-        kept = (kept.0, kept.1, puts_new t.actor (commit_of t.items t.message) p new);
+        kept = (kept.0, kept.1, puts_new t.actor (commit_of t.items t.message) p new, reads);
       }
 
   pub made_again : (m : Option (ObjName × Put)) → IsMade (record t { met = m })
-  made_again m = record { actor = made.actor; items = made.items; makeable = made.makeable; small = made.small; made = made.made; kept = again t.phase made.kept }
+  made_again m = record { actor = made.actor; items = made.items; typed = made.typed; bound = made.bound; makeable = made.makeable; small = made.small; made = made.made; kept = again t.phase made.kept }
     where
       again : (ph : Phase) → kept_in ph t → kept_in ph (record t { met = m })
       again phase.Check kept = kept
@@ -177,9 +182,10 @@ module _ (t : Committing) (v : View) (needs : Needs t v) where
     );
   }
 
-  pub commit_begun : t.phase ≡ phase.MakeCommit → (p : Putting) → IsNew t.actor (commit_of t.items t.message).name (commit_of t.items t.message).bytes p → Needs (record t { phase = phase.PutCommit p; met = None }) v
-  commit_begun is p new = record {
-    made = made_commit t needs.made is p new;
+  pub commit_begun : t.phase ≡ phase.MakeCommit → (p : Putting) → IsNew t.actor (commit_of t.items t.message).name (commit_of t.items t.message).bytes p → ReadsBack t.items t.message
+      → Needs (record t { phase = phase.PutCommit p; met = None }) v
+  commit_begun is p new reads = record {
+    made = made_commit t needs.made is p new reads;
     homes = needs.homes;
     meets = (
       put_begins t.actor (commit_of t.items t.message).name (commit_of t.items t.message).bytes p v needs.made.actor needs.homes new,
@@ -253,3 +259,12 @@ pub commit_new_as : (t : Committing) (x y : List ℕ) (c : Checked) (p : Putting
     → IsNew t.actor (commit_of t.items t.message).name (commit_of t.items t.message).bytes p
 commit_new_as t x y c p kind sum bytes new tree meta same left right =
     commit_new t x y (ap (λ l. (l, y)) left ∙ ap (λ r. (tree, r)) right ∙ same) c p kind sum bytes new
+
+-- and its bytes read as it
+pub commit_reads : (t : Committing) (x y : List ℕ) (c : Checked) → c.bytes ≡ commit_bytes (commit_parts x y t.message.parent t.message.subject t.message.body t.message.time)
+    → ReadsCommit (λ p. p) c.bytes (Ok (commit_parts x y t.message.parent t.message.subject t.message.body t.message.time))
+    → (tree meta : List ℕ) → (tree, meta) ≡ root_of t.items → x ≡ tree → y ≡ meta → ReadsBack t.items t.message
+commit_reads t x y c bytes reads tree meta same left right =
+    let root : (x, y) ≡ root_of t.items = ap (λ l. (l, y)) left ∙ ap (λ r. (tree, r)) right ∙ same in
+    subst (λ (r : List ℕ × List ℕ). ReadsCommit (λ p. p) (commit_bytes (commit_parts r.0 r.1 t.message.parent t.message.subject t.message.body t.message.time)) (Ok (commit_parts r.0 r.1 t.message.parent t.message.subject t.message.body t.message.time))) root
+    (subst (λ b. ReadsCommit (λ p. p) b (Ok (commit_parts x y t.message.parent t.message.subject t.message.body t.message.time))) bytes reads)

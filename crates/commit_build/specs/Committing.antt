@@ -1,17 +1,17 @@
 -- A tree that is being committed, and which step comes next.
-use Rattle.std.specs.Prelude.{◌≡◌, ◌⊎◌, ◌<◌, ◌≤◌, ◌+◌, ◌-◌, ◌*◌, ℕ, List, length, Option, Some, None, Result, Ok, Err}
+use Rattle.std.specs.Prelude.{◌≡◌, ◌⊎◌, ◌<◌, ◌≤◌, ◌+◌, ◌-◌, ◌*◌, ◌^◌, ℕ, List, length, Option, Some, None, Result, Ok, Err}
 use Rattle.sha2.specs.Sha256.{sha256}
 use Rattle.ost_types.specs.declared.limits.Limits.{Limits}
 use Rattle.ost_types.specs.declared.object.Kind.TheVariants as kinds
 use Rattle.ost_types.specs.declared.object.ObjName.{ObjName}
 use Rattle.ost_forms.specs.declared.tree_item.TreeItem.{TreeItem}
-use Rattle.ost_forms.specs.Commit.{CommitParts, commit_form}
+use Rattle.ost_forms.specs.Commit.{CommitParts, ReadsCommit, commit_form}
 use Rattle.fs_trait.specs.declared.task.Turn.{Turn}
 use Rattle.fs_trait.specs.declared.task.Turn.TheVariants.{More, Done}
 use Rattle.fs_trait.specs.declared.task.Need.{Need}
 use Rattle.fs_trait.specs.declared.task.Need.TheVariants as need
 use Rattle.fs_trait.specs.Effect.{Next}
-use Rattle.tree_build.specs.Items.{AreItems, IsTree, IsLeastBad}
+use Rattle.tree_build.specs.Items.{AreItems, AreTyped, IsTree, IsLeastBad}
 use Rattle.tree_build.specs.Makeable.{AreMakeable, IsSmall}
 use Rattle.tree_build.specs.Objects.{Object, work, root_of}
 use Rattle.tree_build.specs.Building.{IsNumber, object_of}
@@ -47,6 +47,10 @@ named_commit sum = record { csum = sum; kind = kinds.Commit }
 abbrev pub commit_of : List TreeItem → Message → Object
 commit_of items m = record { name = named_commit (sha256 (commit_bytes (parts_of items m))); bytes = commit_bytes (parts_of items m) }
 
+-- its bytes read as this commit
+abbrev pub ReadsBack : List TreeItem → Message → Type 0
+ReadsBack items m = ReadsCommit (λ p. p) (commit_bytes (parts_of items m)) (Ok (parts_of items m))
+
 -- the object that was made last
 pub record IsMadeLast (items : List TreeItem) (made : ℕ) (o : Object) : Type 0 where
   pub number : ℕ
@@ -68,6 +72,7 @@ pub record PutsLast (actor : ℕ) (items : List TreeItem) (made : ℕ) (p : Putt
 pub record IsCommit (items : List TreeItem) (message : Message) (made : ℕ) (sum : List ℕ) : Type 0 where
   pub all : made ≡ length (work items)
   pub name : named_commit sum ≡ (commit_of items message).name
+  pub reads : ReadsBack items message
 
 abbrev pub kept_in : Phase → Committing → Type 0
 kept_in phase.Check t = t.made ≡ 0
@@ -76,7 +81,7 @@ kept_in (phase.Made c) t = IsTree t.items × IsMadeLast t.items t.made (object_o
 kept_in (phase.Put p) t = IsTree t.items × PutsLast t.actor t.items t.made p
 kept_in phase.SyncObjects t = IsTree t.items × (t.made ≡ length (work t.items))
 kept_in phase.MakeCommit t = IsTree t.items × (t.made ≡ length (work t.items))
-kept_in (phase.PutCommit p) t = IsTree t.items × (t.made ≡ length (work t.items)) × Puts t.actor (commit_of t.items t.message) p
+kept_in (phase.PutCommit p) t = IsTree t.items × (t.made ≡ length (work t.items)) × Puts t.actor (commit_of t.items t.message) p × ReadsBack t.items t.message
 kept_in (phase.SyncCommit sum) t = IsTree t.items × IsCommit t.items t.message t.made sum
 kept_in (phase.Unmark sum) t = IsTree t.items × IsCommit t.items t.message t.made sum
 kept_in (phase.SyncState sum) t = IsTree t.items × IsCommit t.items t.message t.made sum
@@ -86,6 +91,8 @@ kept_in (phase.Ended sum) t = IsTree t.items × IsCommit t.items t.message t.mad
 pub record IsMade (t : Committing) : Type 0 where
   pub actor : t.actor < 16
   pub items : AreItems t.items
+  pub typed : AreTyped t.items
+  pub bound : t.limits.objects < 2 ^ 32
   pub makeable : AreMakeable t.limits t.items
   pub small : IsSmall (commit_form (parts_of t.items t.message))
   pub made : t.made ≤ length (work t.items)

@@ -2,3 +2,4 @@ pub mod Advancing
 pub mod Committing
 pub mod Nexts
 pub mod Steps
+pub mod Whole

@@ -35,7 +35,7 @@ use Rattle.commit_build.specs.Committing.{Committing, IsMade, named_commit}
 abbrev pub writes_in : Phase → View → Path → Seen → Type 0
 writes_in (phase.Put t) v p s = put.WritesOf t v p s
 writes_in (phase.PutCommit t) v p s = put.WritesOf t v p s
-writes_in (phase.Unmark commit) v p s = (p ≡ mark_path commit) × (s ≡ Vacant)
+writes_in (phase.Unmark commit) v p s = (p ≡ mark_path commit) × (s ≡ Vacant) × NotDirectory (shows v.now p)
 writes_in ph v p s = ⊥
 
 abbrev pub WritesOf : Committing → View → Path → Seen → Type 0
@@ -78,8 +78,8 @@ NotLeaf s = Unit {0}
 
 -- The leaf at a path goes, or none was there. Only a failed call leaves it open which.
 abbrev pub TakesLeaf : Path → View → Result (Unit {0}) FsErr → Option View → Type 0
-TakesLeaf p v (Ok x) new = ((new ≡ Some v) × NotLeaf (shows v.now p)) ⊎ (new ≡ Some (named p Absent v))
-TakesLeaf p v (Err Failed) new = (new ≡ Some v) ⊎ (new ≡ Some (named p Absent v))
+TakesLeaf p v (Ok x) new = ((new ≡ Some v) × NotLeaf (shows v.now p)) ⊎ ((new ≡ Some (named p Absent v)) × NotDirectory (shows v.now p))
+TakesLeaf p v (Err Failed) new = (new ≡ Some v) ⊎ ((new ≡ Some (named p Absent v)) × NotDirectory (shows v.now p))
 TakesLeaf p v (Err NoMemory) new = new ≡ Some v
 TakesLeaf p v (Err e) new = ⊥
 

@@ -3,7 +3,7 @@ ghost use Rattle.ost_forms.specs.Commit.{commit_form};
 ghost use Rattle.tree_build.specs.Items.{AreItems};
 ghost use Rattle.tree_build.specs.Makeable.{AreMakeable, IsSmall};
 ghost use Rattle.commit_build.specs.declared.phase.Phase.TheVariants as phase;
-ghost use Rattle.commit_build.specs.Committing.{Committing, IsLate, parts_of, left, left_in, later, need_in};
+ghost use Rattle.commit_build.specs.Committing.{Committing, IsLate, IsMade, parts_of, left, left_in, later, need_in};
 
 mod steps;
 mod work;
@@ -59,7 +59,8 @@ impl CommitTask {
         requires items { AreItems items.items }
         requires makeable { AreMakeable limits items.items }
         requires small { IsSmall (commit_form (parts_of items.items (record { parent = parent; subject = subject; body = body; time = time }))) }
-        ensures { IfOk result (λ t. t ≡ record { actor = actor; items = items.items; limits = limits; message = record { parent = parent; subject = subject; body = body; time = time }; made = 0; phase = phase.Check; met = None }) }
+        ensures value { IfOk result (λ t. t ≡ record { actor = actor; items = items.items; limits = limits; message = record { parent = parent; subject = subject; body = body; time = time }; made = 0; phase = phase.Check; met = None }) }
+        ensures made { IfOk result IsMade }
     {
         Ok(CommitTask {
             alloc,

@@ -1,10 +1,11 @@
 use Rattle.std.proofs.Common.{◌≡◌, ◌<◌, false, Ok, sym, subst, ap, ◌∙◌}
 use Rattle.ost_types.specs.declared.object.ObjName.{ObjName}
 use Rattle.fs_trait.specs.Image.{Told}
+use Rattle.fs_trait.specs.Change.{Writes}
 use Rattle.commit_build.specs.declared.phase.Phase.TheVariants as phases
 use Rattle.commit_build.specs.Advancing as advancing
 use Rattle.commit_build.specs.Committing.{Committing}
-use Rattle.commit_build.specs.Steps.{Needs}
+use Rattle.commit_build.specs.Steps.{Needs, writes_in}
 use Rattle.commit_build.proofs.PutSteps.{needs_as}
 use Rattle.commit_build.proofs.PhaseSteps.{told_three, told_two}
 use Rattle.commit_build.proofs.PutTells.{full_after, commit_further, commit_ended, commit_tells}
@@ -21,6 +22,11 @@ returns-in-Full-clause-after g c = λ v told.
     let tells = subst (λ r. Told (g.F.Fs.view c.advance.new.fs) (λ w. advancing.Tells c.at_bound-full.result c.in-PutCommit.put v w r)) c.in-Full.is (c.in_ok-advance.ensures.tells v told) in
     let advanced = subst (λ r. advancing.IsAdvanced c.at_bound-full.result c.in-PutCommit.put (Ok r) c.advance.new.task) c.in-Full.is c.in_ok-advance.ensures.advanced in
     (tells.0, tells.1, subst (λ u. Needs u tells.0) (sym c.full.ensures.task) (full_after _ v tells.0 needs (phases.PutCommit c.advance.new.task) (c.in-PutCommit.is ∙ ap phases.PutCommit (sym advanced.0)) tells.2.1))
+
+pub returns-in-Further-clause-writes : goal.returns-in-Further-clause-writes
+returns-in-Further-clause-writes g c = λ v told.
+    let phase = sym (ap (λ (t : Committing). t.phase) c.self.view_is) ∙ c.in-PutCommit.is in
+    subst (λ f. Told (g.F.Fs.view c.advance.new.fs) (λ w. Writes (writes_in f v) v w)) (sym phase) (c.advance.ensures.writes v told)
 
 pub returns-in-Further-clause-after : goal.returns-in-Further-clause-after
 returns-in-Further-clause-after g c = λ v told.

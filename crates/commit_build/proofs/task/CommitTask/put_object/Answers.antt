@@ -1,5 +1,4 @@
 use Rattle.std.proofs.Common.{◌≡◌, ◌<◌, false, Ok, sym, subst, ap, ◌∙◌}
-use Rattle.ost_types.specs.declared.object.ObjName.{ObjName}
 use Rattle.fs_trait.specs.Image.{Told}
 use Rattle.commit_build.specs.declared.phase.Phase.TheVariants as phases
 use Rattle.commit_build.specs.Advancing as advancing

@@ -1,4 +1,3 @@
-use Rattle.std.proofs.Common.{sym, subst, ap, ◌∙◌}
 use Rattle.commit_build.proofs.task.CommitTask.step.Goals as goal
 
 pub returns-in-SyncObjects-clause-tells : goal.returns-in-SyncObjects-clause-tells

@@ -1,10 +1,9 @@
-use Rattle.std.proofs.Common.{None, Ok, Err, sym, subst, ap, ◌∙◌}
-use Rattle.std.proofs.lemmas.Result.{err_from_is_err_and}
+use Rattle.std.proofs.Common.{None, sym, subst, ap, ◌∙◌}
 use Rattle.commit_build.specs.declared.phase.Phase.TheVariants as phases
 use Rattle.commit_build.specs.Committing.{Committing}
-use Rattle.commit_build.specs.Steps.{Needs, Refuses}
-use Rattle.commit_build.proofs.Answering.{ok_writes, ok_after, err_writes, err_fails, err_unchanged}
-use Rattle.commit_build.proofs.PhaseSteps.{as_is, calm_tells, sync_objects}
+use Rattle.commit_build.specs.Steps.{Needs}
+use Rattle.commit_build.proofs.Answering.{ok_writes, ok_after, err_writes}
+use Rattle.commit_build.proofs.PhaseSteps.{calm_tells, sync_objects}
 use Rattle.commit_build.proofs.task.CommitTask.sync_objects.Goals as goal
 
 pub returns-in_err-sync_all-clause-writes : goal.returns-in_err-sync_all-clause-writes
