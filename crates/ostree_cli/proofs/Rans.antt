@@ -13,7 +13,7 @@ use Rattle.script.specs.declared.command.Lane.{Lane}
 use Rattle.sys_core.specs.declared.system.Parts.{Parts}
 use Rattle.sys_core.specs.Answers.{IsTold}
 use Rattle.sys_core.specs.Replied.{Replied}
-use Rattle.sys_open.specs.Checks.{IsSane}
+use Rattle.layout_rules.specs.Checks.{IsSane}
 use Rattle.sys_open.specs.Opening.{Begins}
 use Rattle.ostree_cli.specs.declared.fault.TopFault.{TopFault}
 use Rattle.ostree_cli.specs.Headline.{Headline}

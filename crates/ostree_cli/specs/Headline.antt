@@ -16,7 +16,7 @@ shown (Some e) = e ∷ []
 abbrev pub stored : List Entry → Option Event → List Event
 stored history pending = events_of history ++ shown pending
 
--- A crash since this moment left this disk: it is good, and its refs are those after a prefix of the stored history that has
+-- A crash since this moment left this disk: it is sane, and its refs are those after a prefix of the stored history that has
 -- each change that was acknowledged by then.
 pub record Fits (start : State) (history : List Entry) (pending : Option Event) (t : ℕ) (d : Disk) : Type 0 where
   pub count : ℕ

@@ -14,7 +14,7 @@ use Rattle.sys_core.specs.Answers.{IsTold}
 use Rattle.sys_core.specs.Replied.{Replied}
 use Rattle.sys_open.specs.declared.fault.OpenFault.{OpenFault}
 use Rattle.sys_open.specs.declared.fault.OpenFault.TheVariants as opening
-use Rattle.sys_open.specs.Checks.{IsSane}
+use Rattle.layout_rules.specs.Checks.{IsSane}
 use Rattle.sys_open.specs.Opening.{IsToldOf, StaysOnDamage}
 use Rattle.ostree_cli.specs.declared.fault.TopFault.{TopFault}
 use Rattle.ostree_cli.specs.declared.fault.TopFault.TheVariants.{Usage, Open, NoMemory}

@@ -1,5 +1,5 @@
 -- Where the view is told, and stands as the system keeps it, nothing that stands there refuses a change.
-use Rattle.std.proofs.Common.{◌≡◌, ⊎_elim, ◌<◌, ◌+◌, ℕ, true, refl, sym, ◌∙◌, ap, subst, arith, List, ◌++◌, append_assoc, length, Option}
+use Rattle.std.proofs.Common.{◌≡◌, inl, ⊎_elim, ◌+◌, ℕ, true, refl, sym, ◌∙◌, subst, List, ◌++◌, append_assoc, Option}
 use Rattle.ost_types.specs.Path.{Path, is_below}
 use Rattle.fs_trait.specs.declared.types.FsErr.{FsErr}
 use Rattle.fs_trait.specs.declared.types.FsErr.TheVariants.{Failed, NoMemory, Exists, Missing, NotFolder, NotEmpty}
@@ -10,76 +10,55 @@ use Rattle.fs_trait.specs.Seen.{shows}
 use Rattle.fs_trait.proofs.Effects.{may_now}
 use Rattle.fs_trait.proofs.Images.{Image-now}
 use Rattle.fs_trait.proofs.Claims.{is_below-before}
-use Rattle.repo_layout.specs.RefName.{IsRefName, parts_of}
+use Rattle.repo_layout.specs.RefName.{parts_of}
 use Rattle.repo_layout.specs.Paths.{heads, ref_path}
-use Rattle.repo_layout.specs.Place.{Ref, Other, IsAt, place}
 use Rattle.repo_layout.specs.Refs.{is_leaf, ShowsNoCommit}
-use Rattle.repo_layout.proofs.Places.{place-ref, place-back}
+use Rattle.layout_rules.specs.Checks.{IsRefAt, IsSane, RefFiles}
+use Rattle.layout_rules.specs.InLayout.{IsBounded}
+use Rattle.layout_rules.proofs.Sanes.{ref_of}
 use Rattle.ref_room.specs.Clash.{way_to, IsNoRef}
 use Rattle.ref_room.specs.Clearing as clearing
 use Rattle.ref_room.specs.Clearing.{IsUnder}
 use Rattle.ref_room.specs.Way as way
 use Rattle.ref_room.proofs.ClearingSteps.{seen_leaf}
+use Rattle.ref_room.proofs.Names.{heads-above}
 use Rattle.ref_store.specs.declared.phase.Phase.{Phase}
 use Rattle.ref_store.specs.declared.phase.Phase.TheVariants as phase
 use Rattle.ref_store.specs.Change as store
 use Rattle.ref_store.specs.Steps.{Needs, refuses_in}
-use Rattle.ref_store.proofs.StepLemmas.{meets_in, made}
+use Rattle.ref_store.proofs.StepLemmas.{made}
 use Rattle.rely.specs.declared.books.Entry.{Entry}
 use Rattle.rely.specs.declared.books.Pending.{Pending}
 use Rattle.rely.specs.State.{State}
 use Rattle.rely.specs.Books.{Books}
-use Rattle.rely.specs.Disks.{IsGood}
-use Rattle.rely.specs.Sound.{IsReached, Stands}
+use Rattle.rely.specs.Sound.{Stands}
 use Rattle.rely.proofs.Goods.{fits_now}
-use Rattle.rely.proofs.Layouts.{in_heads}
 use Rattle.ref_work.specs.declared.command.RefCommand.{RefCommand}
 use Rattle.ref_work.specs.declared.command.RefCommand.TheVariants.{Parse, Reset, Change}
-use Rattle.ref_work.specs.Places.{placed_way}
 use Rattle.ref_work.specs.Commands.{command_facts, command_refuses}
 
 below_heads : (name : List ℕ) (p : Path) → IsUnder name p → is_below heads p ≡ true
 unfolding ref_path
 below_heads name p under = subst (λ q. is_below heads q ≡ true) (sym (under.1 ∙ append_assoc heads (parts_of name) under.0)) (is_below-before heads (parts_of name ++ under.0))
 
-module _ (d : Disk) (good : IsGood d) where
-  -- a leaf that stands where a ref can is a ref
-  no_leaf_at : (p : Path) (other : List ℕ) → place p ≡ Ref other → is_leaf (d.at p) ≡ true → IsNoRef p → ⊥
-  no_leaf_at p other at leaf none =
-      let e : p ≡ ref_path other = subst (λ x. IsAt x p) at (place-back p) in
-      none other (good.refs other (subst (λ q. is_leaf (d.at q) ≡ true) e leaf)).0 (sym e)
+-- a leaf that stands at or below the folder of refs is a ref
+no_leaf : (d : Disk) → IsSane d → (p : Path) → is_below heads p ≡ true → is_leaf (d.at p) ≡ true → IsNoRef p → ⊥
+no_leaf d sane p below leaf none = let at : IsRefAt d p = (sane RefFiles p below).leaf leaf in none at.0 at.1 at.2
 
-  no_leaf_below : (rest : Path) → is_leaf (d.at (heads ++ rest)) ≡ true → IsNoRef (heads ++ rest) → ⊥
-  no_leaf_below rest leaf none = ⊎_elim
-      (λ other. good.others (heads ++ rest) (is_below-before heads rest) (λ name e. let n : Other (heads ++ rest) ≡ Ref name = sym other ∙ ap place e ∙ place-ref name in cc) leaf)
-      (λ r. no_leaf_at (heads ++ rest) r.0 r.1 leaf none)
-      (in_heads rest)
-
-  no_leaf_under : (name : List ℕ) (p : Path) → IsUnder name p → is_leaf (d.at p) ≡ true → IsNoRef p → ⊥
-  unfolding ref_path
-  no_leaf_under name p under leaf none =
-      let e : p ≡ heads ++ (parts_of name ++ under.0) = under.1 ∙ append_assoc heads (parts_of name) under.0 in
-      no_leaf_below (parts_of name ++ under.0) (subst (λ q. is_leaf (d.at q) ≡ true) e leaf) (subst IsNoRef e none)
-
-module _ (t : store.Change) (v : View) (needs : Needs t v) (good : IsGood v.now) (reached : (p : Path) → IsReached p (shows v.now p)) where
+module _ (t : store.Change) (v : View) (needs : Needs t v) (sane : IsSane v.now) (reached : (p : Path) → IsBounded p (shows v.now p)) where
   look_none : ShowsNoCommit v.now (ref_path t.name) → ⊥
-  look_none why = let r = good.refs t.name why.leaf in why.none r.1 r.2
+  look_none why = let r = ref_of v.now sane t.name why.leaf in why.none r.1 r.2
 
   walk_none : (y : way.Walked) → t.phase ≡ phase.Walk y → way.Refuses y v Exists → ⊥
-  walk_none y is why =
-      let m = meets_in t v needs (phase.Walk y) is in
-      let few : y.reached + 1 < length (parts_of y.name) = subst (λ l. way.leg_of l y.reached y.name) why.0 m.1.place in
-      let named : IsRefName y.name = m.1.named in
-      let other = placed_way y.name (y.reached + 1) named (omega arith) few in
-      no_leaf_at v.now good (way_to (y.reached + 1) y.name) other.0 other.1 why.1 why.2
+  walk_none y is why = no_leaf v.now sane (way_to (y.reached + 1) y.name) (heads-above (y.reached + 1) y.name) why.1 why.2
 
   clear_none : (c : clearing.Cleared) → t.phase ≡ phase.Clear c → clearing.Refuses c v NotEmpty → ⊥
   clear_none c is why =
       let name : c.name ≡ t.name = (made t v needs (phase.Clear c) is).0 in
       let under : IsUnder t.name why.1.0 = subst (λ n. IsUnder n why.1.0) name why.1.1 in
       ⊎_elim
-      (λ leaf. no_leaf_under v.now good t.name why.1.0 under (seen_leaf v.now (v.now.at why.1.0) leaf.0) leaf.1)
-      (λ long. long (reached why.1.0 (below_heads t.name why.1.0 under) why.1.2))
+      (λ leaf. no_leaf v.now sane why.1.0 (below_heads t.name why.1.0 under) (seen_leaf v.now (v.now.at why.1.0) leaf.0) leaf.1)
+      (λ long. long (reached why.1.0 (inl (below_heads t.name why.1.0 under)) why.1.2))
       why.1.3
 
   refused : (ph : Phase) → t.phase ≡ ph → (e : FsErr) → refuses_in ph t v e → OfNone e
@@ -131,4 +110,4 @@ pub refused_of : (start : State) (entries : List Entry) (pending : Option Pendin
 refused_of start entries pending lane v b (Parse look) e tree stands f why = why
 refused_of start entries pending lane v b (Reset look plan) e tree stands f why = why
 refused_of start entries pending lane v b (Change work) e tree stands f why =
-    refused work.task v f.needs (fits_now start entries pending v stands 0 v.now (Image-now v tree)).good (λ p. stands.reached p (shows v.now p) (may_now v p)) work.task.phase refl e why
+    refused work.task v f.needs (fits_now start entries pending v stands 0 v.now (Image-now v tree)).sane (λ p. stands.reached p (shows v.now p) (may_now v p)) work.task.phase refl e why

@@ -1,6 +1,7 @@
 -- What a change of a ref writes is what its lane may write, and each kind of step keeps its duty.
 use Rattle.std.proofs.Common.{◌≡◌, ◌≢◌, ◌⊎◌, inl, inr, ⊎_elim, ℕ, true, refl, sym, ◌∙◌, ap, subst, arith, List, [], ◌++◌, append_assoc, length-append, Option, Some, None}
 use Rattle.ost_types.specs.declared.meta.Meta.{Meta}
+use Rattle.ost_types.specs.declared.object.Kind.TheVariants.{Commit}
 use Rattle.ost_types.specs.Path.{Path, IsPath}
 use Rattle.ost_types.proofs.Paths.{under-folder}
 use Rattle.fs_trait.specs.declared.types.Value.TheVariants.{File}
@@ -10,9 +11,11 @@ use Rattle.fs_trait.specs.Effect.{IsFresh}
 use Rattle.fs_trait.specs.Seen.{Seen, Vacant, Directory, Symlink, Leaf, shows, MayBe, IsDirectory, NotDirectory, bytes_in}
 use Rattle.repo_layout.specs.RefName.{parts_of}
 use Rattle.repo_layout.specs.RefFile.{IsSum, ref_text}
-use Rattle.repo_layout.specs.Paths.{heads, ref_path, stage_path}
-use Rattle.repo_layout.specs.Place.{Ref, Stage, IsAt, place}
-use Rattle.repo_layout.proofs.Places.{place-ref, place-back}
+use Rattle.repo_layout.specs.Paths.{heads, object_path, ref_path, stage_path}
+use Rattle.repo_layout.specs.Place.{Mark, Ref, Stage, place}
+use Rattle.repo_layout.proofs.Places.{place-ref}
+use Rattle.layout_rules.specs.InLayout.{InLayout}
+use Rattle.layout_rules.proofs.Sanes.{stage_is_path}
 use Rattle.ref_room.specs.Clash.{ref_folder}
 use Rattle.ref_room.specs.Clearing as clearing
 use Rattle.ref_room.specs.Clearing.{IsUnder}
@@ -37,7 +40,7 @@ use Rattle.rely.specs.Rely.{May, may_at, NotOthers, OwnTree, IsEmpty, HasNoRefs}
 use Rattle.rely.specs.Sound.{Leads}
 use Rattle.rely.specs.Change.{Still, Shows, Final}
 use Rattle.rely.specs.Laws.{IsSettle, Duty, Stood, Within}
-use Rattle.rely.proofs.Calls.{own_file, stage_still, folder_still, set_shows, drop_shows, set_final, drop_final}
+use Rattle.rely.proofs.Calls.{own_file, ref_fits, stage_fits, stage_still, folder_still, set_shows, drop_shows, set_final, drop_final}
 use Rattle.ref_work.specs.Places.{path_of_ref, placed_below, placed_way}
 use Rattle.ref_work.specs.Kinds.{event_of, event, put_kind, kind_in}
 use Rattle.ref_work.specs.Facts.{turn_in, Facts}
@@ -72,10 +75,37 @@ pub says_had : (name : List ℕ) (o : Option (List ℕ)) (s : Seen) → ShowsHad
 says_had name None s had = λ leaf. had (is_leaf s leaf)
 says_had name (Some commit) s had = had
 
+-- A path where the lane stages, or among the refs, within the bounds of paths.
+record IsPlaced (lane : ℕ) (p : Path) (s : Seen) : Type 0 where
+  lies : (place p ≡ Stage lane) ⊎ ((other : List ℕ) × (place p ≡ Ref other))
+  bounds : s ≢ Vacant → IsPath p
+
 -- what may be written under the Turn
 module _ (b : Books) (v : View) (lane : ℕ) (t : Change) (needs : Needs t v) (mine : t.actor ≡ lane) where
   stage : place (stage_path t.actor) ≡ Stage lane
   stage = stage_is t lane needs.actor mine
+
+  placed : (p : Path) (s : Seen) → Lies t v p s → IsPlaced lane p s
+  placed p s l = ⊎_elim
+      (λ e. record { lies = inl (ap place e ∙ stage); bounds = λ there. subst IsPath (sym e) (stage_is_path t.actor needs.actor) })
+      (λ more. ⊎_elim
+      (λ here. record { lies = inr (t.name, ap place here.0 ∙ place-ref t.name); bounds = λ there. subst IsPath (sym here.0) (path_of_ref t.name needs.named) })
+      (λ rest. ⊎_elim
+      (λ way. let o = placed_way t.name way.parts needs.named way.some way.few in record { lies = inr (o.0, ap place way.place ∙ o.1); bounds = λ there. subst IsPath (sym way.place) (way_to-path way.parts t.name (path_of_ref t.name needs.named)) })
+      (λ goes. record { lies = inr (placed_under t.name p goes.path goes.place); bounds = λ there. goes.path })
+      rest)
+      more)
+      l.place
+
+  fits : (p : Path) (s : Seen) → Lies t v p s → InLayout p s
+  fits p s l = ⊎_elim (λ e. stage_fits lane p s e (placed p s l).bounds) (λ r. ref_fits r.0 p s r.1 (placed p s l).bounds) (placed p s l).lies
+
+  -- and no mark is
+  marks : (p : Path) (s : Seen) → Lies t v p s → (commit : List ℕ) → place p ≡ Mark commit → s ≢ Vacant → shows v.now (object_path Commit commit) ≡ Vacant
+  marks p s l commit at there = ⊎_elim
+      (λ e. (let k : Stage lane ≡ Mark commit = sym e ∙ at in cc))
+      (λ r. (let k : Ref r.0 ≡ Mark commit = sym r.1 ∙ at in cc))
+      (placed p s l).lies
 
   comes : (p : Path) (s : Seen) → Lies t v p s → (n : ℕ) (m : Meta) (bytes : List ℕ) → s ≡ Leaf n m bytes → IsFresh n v ⊎ ((q : Path) × Holds v q (File n) × NotOthers lane (place q))
   comes p s l n m bytes e = ⊎_elim (λ fresh. inl fresh) (λ at. inr (own_file v lane (stage_path t.actor) n stage at)) (l.comes n m bytes e)
@@ -84,27 +114,16 @@ module _ (b : Books) (v : View) (lane : ℕ) (t : Change) (needs : Needs t v) (m
   folders p s l = ⊎_elim (λ is. inl is) (λ more. ⊎_elim (λ leaf. inr (inl leaf)) (λ goes. inr (inr (inr (inl goes.empty)))) more) l.folders
 
   module _ (turn : Free b.turn lane) (alone : Free b.exclusive lane) where
-    at_ref : (p : Path) (s : Seen) (other : List ℕ) → place p ≡ Ref other → (s ≢ Vacant → IsPath p) → may_at b lane lane (place p) s
-    at_ref p s other e reached =
-        let same : p ≡ ref_path other = subst (λ x. IsAt x p) e (place-back p) in
-        subst (λ x. may_at b lane lane x s) (sym e) (turn, alone, λ there. subst IsPath same (reached there))
-
     at : (p : Path) (s : Seen) → Lies t v p s → may_at b lane lane (place p) s
     at p s l = ⊎_elim
-        (λ e. subst (λ x. may_at b lane lane x s) (sym (ap place e ∙ stage)) refl)
-        (λ more. ⊎_elim
-        (λ here. at_ref p s t.name (ap place here.0 ∙ place-ref t.name) (λ there. subst IsPath (sym here.0) (path_of_ref t.name needs.named)))
-        (λ rest. ⊎_elim
-        (λ way. let o = placed_way t.name way.parts needs.named way.some way.few in at_ref p s o.0 (ap place way.place ∙ o.1) (λ there. subst IsPath (sym way.place) (way_to-path way.parts t.name (path_of_ref t.name needs.named))))
-        (λ goes. let o = placed_under t.name p goes.path goes.place in at_ref p s o.0 o.1 (λ there. goes.path))
-        rest)
-        more)
-        l.place
+        (λ e. subst (λ x. may_at b lane lane x s) (sym e) refl)
+        (λ r. subst (λ x. may_at b lane lane x s) (sym r.1) (turn, alone))
+        (placed p s l).lies
 
     within : (ph : Phase) → t.phase ≡ ph → Within (writes_in ph t v) (May b v lane lane)
     within ph is p s a =
         let l = ref_lies t v needs p s (subst (λ f. writes_in f t v p s) (sym is) a) in
-        record { at = at p s l; comes = comes p s l; folders = folders p s l }
+        record { at = at p s l; fits = fits p s l; marks = marks p s l; comes = comes p s l; folders = folders p s l }
 
 -- the change is done: the ref's path may show only its new file, or nothing, and folders lead there
 abbrev pub IsDone : Change → View → Type 0

@@ -29,7 +29,7 @@ use Rattle.rely.specs.declared.event.Event.{Event}
 use Rattle.rely.specs.Books.{Books, Keeps}
 use Rattle.rely.specs.Rely.{May, Does}
 use Rattle.rely.specs.Laws.{Kind, Quiet, Store, Take, Show, Shown, Settle}
-use Rattle.rely.proofs.Layouts.{above_ref, fixed_other, in_heads}
+use Rattle.layout_rules.proofs.Layouts.{above_ref, fixed_other, in_heads}
 use Rattle.rely.proofs.Mays.{folders_harmless, not_other, own_harmless, ref_leads_harmless, at_place, stage_apart}
 use Rattle.ref_work.specs.Kinds.{event, kind_in, put_kind}
 use Rattle.ref_work.specs.Facts.{turn_in, Facts, Home}

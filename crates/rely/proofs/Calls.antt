@@ -11,8 +11,10 @@ use Rattle.fs_trait.specs.Change.{Nothing}
 use Rattle.repo_layout.specs.RefName.{IsRefName}
 use Rattle.repo_layout.specs.RefFile.{IsSum, ref_text}
 use Rattle.repo_layout.specs.Paths.{ref_path}
-use Rattle.repo_layout.specs.Place.{Stage, Ref, place}
+use Rattle.repo_layout.specs.Place.{Mark, Stage, Ref, place}
 use Rattle.repo_layout.proofs.Places.{place-ref, ref_path-injective}
+use Rattle.layout_rules.specs.InLayout.{InLayout}
+use Rattle.layout_rules.proofs.RulePlaces.{no_ref, no_stage}
 use Rattle.rely.specs.declared.event.Event.TheVariants.{SetRef, DropRef}
 use Rattle.rely.specs.State.{Topic, RefOf}
 use Rattle.rely.specs.Disks.{path_of, IsLeaf, Says}
@@ -34,11 +36,20 @@ sync_within b v actor lane p s wrote = absurd wrote
 pub sync_still : (v : View) → Still Nothing v
 sync_still v t s wrote = absurd wrote
 
+-- no rule of the layout is for a staging path, or for a ref's
+pub stage_fits : (actor : ℕ) (p : Path) (s : Seen) → place p ≡ Stage actor → (s ≢ Vacant → IsPath p) → InLayout p s
+stage_fits actor p s at bounds = record { suits = λ rule is. absurd (no_stage rule p actor is at); bounds = bounds }
+
+pub ref_fits : (name : List ℕ) (p : Path) (s : Seen) → place p ≡ Ref name → (s ≢ Vacant → IsPath p) → InLayout p s
+ref_fits name p s at bounds = record { suits = λ rule is. absurd (no_ref rule p name is at); bounds = bounds }
+
 -- A write at the actor's own staging path.
-pub stage_within : (b : Books) (v : View) (actor lane : ℕ) (p : Path) (s : Seen) → place p ≡ Stage actor
+pub stage_within : (b : Books) (v : View) (actor lane : ℕ) (p : Path) (s : Seen) → place p ≡ Stage actor → (s ≢ Vacant → IsPath p)
     → ((n : ℕ) (m : Meta) (bytes : List ℕ) → s ≡ Leaf n m bytes → IsFresh n v ⊎ ((q : Path) × Holds v q (File n) × NotOthers actor (place q))) → May b v actor lane p s
-stage_within b v actor lane p s at comes = record {
+stage_within b v actor lane p s at bounds comes = record {
   at = subst (λ x. may_at b actor lane x s) (sym at) refl;
+  fits = stage_fits actor p s at bounds;
+  marks = λ c e there. (let k : Stage actor ≡ Mark c = sym at ∙ e in cc);
   comes = comes;
   folders = inr (inr (inl (subst (OwnTree actor) (sym at) refl)));
 }
@@ -57,8 +68,10 @@ stage_away W actor at t s wrote = stage_no_ref t (path_of t) actor (at (path_of 
 pub ref_within : (b : Books) (v : View) (actor lane : ℕ) (name : List ℕ) (p : Path) (s : Seen) → p ≡ ref_path name → Free b.turn lane → Free b.exclusive lane → (s ≢ Vacant → IsPath (ref_path name))
     → ((n : ℕ) (m : Meta) (bytes : List ℕ) → s ≡ Leaf n m bytes → IsFresh n v ⊎ ((q : Path) × Holds v q (File n) × NotOthers actor (place q)))
     → IsDirectory s ⊎ NotDirectory (shows v.now p) ⊎ HasNoRefs v p → May b v actor lane p s
-ref_within b v actor lane name p s e turn alone reached comes folders = record {
-  at = subst (λ x. may_at b actor lane x s) (sym (ap place e ∙ place-ref name)) (turn, alone, reached);
+ref_within b v actor lane name p s e turn alone bounds comes folders = record {
+  at = subst (λ x. may_at b actor lane x s) (sym (ap place e ∙ place-ref name)) (turn, alone);
+  fits = ref_fits name p s (ap place e ∙ place-ref name) (λ there. subst IsPath (sym e) (bounds there));
+  marks = λ c k there. (let n : Ref name ≡ Mark c = sym (ap place e ∙ place-ref name) ∙ k in cc);
   comes = comes;
   folders = ⊎_elim (λ k. inl k) (λ rest. ⊎_elim (λ k. inr (inl k)) (λ k. inr (inr (inr (inr k)))) rest) folders;
 }

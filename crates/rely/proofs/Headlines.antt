@@ -25,11 +25,11 @@ headline view clock spare was base sound v told tree = record { crash = crash; n
           count = length f.past;
           has_acked = f.has_acked;
           within = rw (← f.split) (omega (arith, length-append f.past f.rest));
-          has = record { good = f.good; logical = logical; refs = λ name. has_ref d name _ (logical (RefOf name)) };
+          has = record { sane = f.sane; logical = logical; refs = λ name. has_ref d name _ (logical (RefOf name)) };
         }
 
     now : base.books.pending ≡ None → Has v.now (after (events_of base.books.history.items) (first base.books.start.items))
     now none =
         let stands : Stands (first base.books.start.items) base.books.history.items None v = subst (λ (o : Option Pending). Stands (first base.books.start.items) base.books.history.items o v) none (sound.stands v told) in
         let f = fits_all (first base.books.start.items) base.books.history.items v stands v.now (Image-now v tree) in
-        record { good = f.0; logical = f.1; refs = λ name. has_ref v.now name _ (f.1 (RefOf name)) }
+        record { sane = f.0; logical = f.1; refs = λ name. has_ref v.now name _ (f.1 (RefOf name)) }

@@ -15,12 +15,13 @@ use Rattle.rely.specs.State.{Topic, RefOf, Said, State, same_topic, target, befo
 use Rattle.rely.specs.Disks.{path_of, IsLeaf, Says}
 use Rattle.rely.specs.Books.{Books}
 use Rattle.rely.specs.Rely.{May}
-use Rattle.rely.specs.Sound.{Shown, IsReached, Leads, NoStray, Known, Stands}
+use Rattle.rely.specs.Sound.{Shown, Leads, NoStray, Known, Stands}
 use Rattle.rely.specs.Change.{Still, Away, Shows, Final}
 use Rattle.rely.specs.Laws.{Within, NotPending}
 use Rattle.rely.proofs.States.{topic_same, topic_not, next_here, next_apart, after_push, events_push, run_push, says_leaf, says_one}
-use Rattle.rely.proofs.Layouts.{above_ref}
-use Rattle.rely.proofs.Mays.{not_other, ref_turn, leads_stay, folders_harmless, reached_harmless, strays_harmless}
+use Rattle.layout_rules.specs.InLayout.{IsBounded, IsSuited}
+use Rattle.layout_rules.proofs.Layouts.{above_ref}
+use Rattle.rely.proofs.Mays.{not_other, ref_turn, leads_stay, folders_harmless, kinds_harmless, reached_harmless, strays_harmless}
 
 -- what has a value shows it now, where nothing is shown
 leaf_now : (value : State) (v : View) → Known (Shown None) value v → (name commit : List ℕ) → value (RefOf name) ≡ Some commit → IsLeaf (shows v.now (ref_path name))
@@ -97,8 +98,11 @@ module _ (W : Path → Seen → Type 0) (v w : View) (writes : Writes W v w) whe
   pub strays_kept : (b : Books) (actor lane : ℕ) → Within W (May b v actor lane) → ((p : Path) (s : Seen) → MayBe v p s → NoStray p s) → (p : Path) (s : Seen) → MayBe w p s → NoStray p s
   strays_kept b actor lane within was = firm_kept W NoStray v w writes (λ p s wrote. strays_harmless b v actor lane p s (within p s wrote)) was
 
-  pub reached_kept : (b : Books) (actor lane : ℕ) → Within W (May b v actor lane) → ((p : Path) (s : Seen) → MayBe v p s → IsReached p s) → (p : Path) (s : Seen) → MayBe w p s → IsReached p s
-  reached_kept b actor lane within was = firm_kept W IsReached v w writes (λ p s wrote. reached_harmless b v actor lane p s (within p s wrote)) was
+  pub kinds_kept : (b : Books) (actor lane : ℕ) → Within W (May b v actor lane) → ((p : Path) (s : Seen) → MayBe v p s → IsSuited p s) → (p : Path) (s : Seen) → MayBe w p s → IsSuited p s
+  kinds_kept b actor lane within was = firm_kept W IsSuited v w writes (λ p s wrote. kinds_harmless b v actor lane p s (within p s wrote)) was
+
+  pub reached_kept : (b : Books) (actor lane : ℕ) → Within W (May b v actor lane) → ((p : Path) (s : Seen) → MayBe v p s → IsBounded p s) → (p : Path) (s : Seen) → MayBe w p s → IsBounded p s
+  reached_kept b actor lane within was = firm_kept W IsBounded v w writes (λ p s wrote. reached_harmless b v actor lane p s (within p s wrote)) was
 
 -- the sync that makes it last
 pub known_settle : (value : State) (v w : View) (p : Pending) → Writes Nothing v w → Final p.event w → Known (Shown (Some p)) value v → Known (Shown None) (next p.event value) w
@@ -139,6 +143,7 @@ stands_quiet start entries b actor lane W v w writes within still owner not was 
   known = known_quiet W v w writes b actor lane (after (events_of entries) start) within still owner not was.known;
   folders = folders_kept W v w writes b actor lane within was.folders;
   strays = strays_kept W v w writes b actor lane within was.strays;
+  kinds = kinds_kept W v w writes b actor lane within was.kinds;
   reached = reached_kept W v w writes b actor lane within was.reached;
 }
 
@@ -150,6 +155,7 @@ stands_away start entries b actor lane W v w writes within away was = record {
   known = known_away W v w writes b actor lane (Shown b.pending) (after (events_of entries) start) within away was.known;
   folders = folders_kept W v w writes b actor lane within was.folders;
   strays = strays_kept W v w writes b actor lane within was.strays;
+  kinds = kinds_kept W v w writes b actor lane within was.kinds;
   reached = reached_kept W v w writes b actor lane within was.reached;
 }
 
@@ -161,6 +167,7 @@ stands_show start entries b actor lane p W v w writes within change was = record
   known = known_show W v w writes b actor lane (after (events_of entries) start) p within change was.known;
   folders = folders_kept W v w writes b actor lane within was.folders;
   strays = strays_kept W v w writes b actor lane within was.strays;
+  kinds = kinds_kept W v w writes b actor lane within was.kinds;
   reached = reached_kept W v w writes b actor lane within was.reached;
 }
   where
@@ -181,6 +188,7 @@ stands_settle start entries p e v w same writes final was = record {
   known = subst (λ (s : State). Known (Shown None) s w) (sym state) (known_settle (after (events_of entries) start) v w p writes final was.known);
   folders = λ f q s may. was.folders f q s (kept q s may);
   strays = λ q s may. was.strays q s (kept q s may);
+  kinds = λ q s may. was.kinds q s (kept q s may);
   reached = λ q s may. was.reached q s (kept q s may);
 }
   where

@@ -1,7 +1,7 @@
 -- What an actor may write is harmless to what others claim: each form of claim once.
 use Rattle.std.proofs.Common.{◌≡◌, ◌≢◌, inl, ⊎_elim, ℕ, true, refl, sym, ◌∙◌, ap, subst, List, [], ◌∷◌, ◌++◌, append-nil, append_assoc, Contains, Some}
 use Rattle.ost_types.specs.declared.object.Kind as object
-use Rattle.ost_types.specs.Path.{Name, Path, IsPath, under, is_below}
+use Rattle.ost_types.specs.Path.{Name, Path, under, is_below}
 use Rattle.ost_types.proofs.Paths.{is_below-under}
 use Rattle.fs_trait.specs.declared.types.Value.{Value}
 use Rattle.fs_trait.specs.declared.types.Value.TheVariants.{Absent, File}
@@ -18,8 +18,9 @@ use Rattle.rely.specs.declared.books.Pin.{Pin}
 use Rattle.rely.specs.Books.{Books, Free}
 use Rattle.rely.specs.Disks.{IsLeaf, IsOther}
 use Rattle.rely.specs.Rely.{May, may_at, OwnTree, IsEmpty}
-use Rattle.rely.specs.Sound.{IsReached, Leads, NoStray}
-use Rattle.rely.proofs.Layouts.{fixed_other, above_ref, below_heads, below_split, split_below}
+use Rattle.rely.specs.Sound.{Leads, NoStray}
+use Rattle.layout_rules.specs.InLayout.{IsBounded, IsSuited}
+use Rattle.layout_rules.proofs.Layouts.{fixed_other, above_ref, below_split, split_below}
 
 -- nobody writes where nothing of the layout is
 other_none : (b : Books) (actor lane : ℕ) (x : Place) (s : Seen) → IsOther x → may_at b actor lane x s → ⊥
@@ -100,11 +101,12 @@ module _ (b : Books) (v : View) (actor lane : ℕ) where
   pub strays_harmless : Harmless M NoStray
   strays_harmless p s m below other leaf = other_none b actor lane (place p) s other m.at
 
-  pub reached_harmless : Harmless M IsReached
-  reached_harmless p s m below there = ⊎_elim
-      (λ o. absurd (not_other p s o m))
-      (λ r. subst IsPath (sym r.2) ((at_place p s (Ref r.0) r.1 m).2 there))
-      (below_heads p below)
+  -- all that is written suits the layout, and is within the bounds of paths
+  pub kinds_harmless : Harmless M IsSuited
+  kinds_harmless p s m = m.fits.suits
+
+  pub reached_harmless : Harmless M IsBounded
+  reached_harmless p s m searched there = m.fits.bounds there
 
   -- Claims of a lane or an actor that isn't the one that writes.
   -- folders to a ref, under the Turn

@@ -17,10 +17,14 @@ use Rattle.rely.specs.declared.books.Base.{Base}
 use Rattle.rely.specs.declared.books.Books.{Books}
 use Rattle.rely.specs.State.{Topic, RefOf, Said, State, first, IsNamed}
 use Rattle.rely.specs.Disks.{path_of, IsLeaf, Says, IsOther}
-use Rattle.rely.specs.Sound.{IsReached, Leads, NoStray, Stands, Sound}
+use Rattle.rely.specs.Sound.{Leads, NoStray, Stands, Sound}
 use Rattle.rely.specs.Opening.{IsOpening, HasSince}
 use Rattle.rely.proofs.States.{says_leaf}
-use Rattle.rely.proofs.Layouts.{below_split}
+use Rattle.layout_rules.specs.Checks.{IsRefAt, Kinds, RefFiles}
+use Rattle.layout_rules.specs.InLayout.{IsBounded, IsSuited, SuitsSeen}
+use Rattle.layout_rules.proofs.Layouts.{below_split}
+use Rattle.layout_rules.proofs.Sanes.{bounded, ref_of}
+use Rattle.layout_rules.proofs.Suiting.{to_seen}
 
 shows_directory : (d : Disk) (z : Value) → is_folder z ≡ true → IsDirectory (seen d z)
 shows_directory d (Folder m) e = tt
@@ -51,7 +55,7 @@ module _ (start : State) (v : View) (tree : IsTree v.now) (begins : IsOpening st
       (folder_or_not (v.now.at f))
 
   named : IsNamed start
-  named name commit is = (begins.good.refs name (leaf_value v.now (v.now.at (ref_path name)) (says_leaf name commit _ (subst (λ y. Says (RefOf name) y (shows v.now (ref_path name))) is (begins.state (RefOf name)))))).0
+  named name commit is = (ref_of v.now begins.sane name (leaf_value v.now (v.now.at (ref_path name)) (says_leaf name commit _ (subst (λ y. Says (RefOf name) y (shows v.now (ref_path name))) is (begins.state (RefOf name)))))).0
 
   leads_value : (t : Topic) (f : Path) (x : List ℕ) → path_of t ≡ under f x → (said : Said) → start t ≡ said → (start t ≡ None) ⊎ Leads v f
   leads_value (RefOf name) f x e None is = inl is
@@ -61,9 +65,15 @@ module _ (start : State) (v : View) (tree : IsTree v.now) (begins : IsOpening st
 
   no_stray : (p : Path) (s : Seen) → MayBe v p s → NoStray p s
   no_stray p s may below other leaf =
-      begins.good.others p below
-      (λ name e. let k : place p ≡ Ref name = ap place e ∙ place-ref name in let bad : IsOther (Ref name) = subst IsOther k other in bad)
-      (leaf_value v.now (v.now.at p) (subst IsLeaf (only p s may) leaf))
+      let at : IsRefAt v.now p = (begins.sane RefFiles p below).leaf (leaf_value v.now (v.now.at p) (subst IsLeaf (only p s may) leaf)) in
+      let bad : IsOther (Ref at.0) = subst IsOther (ap place (sym at.2) ∙ place-ref at.0) other in
+      bad
+
+  suited : (p : Path) (s : Seen) → MayBe v p s → IsSuited p s
+  suited p s may rule is = subst (SuitsSeen rule) (sym (only p s may)) (to_seen rule v.now (v.now.at p) (begins.sane Kinds p rule is))
+
+  within_bounds : (p : Path) (s : Seen) → MayBe v p s → IsBounded p s
+  within_bounds p s may searched there = bounded v.now begins.sane p searched (λ none. there (only p s may ∙ ap (seen v.now) none))
 
   pub stands_begins : Stands start [] None v
   stands_begins = record {
@@ -75,7 +85,8 @@ module _ (start : State) (v : View) (tree : IsTree v.now) (begins : IsOpening st
     };
     folders = λ f. leads_there (folder_path f) (begins.folders f);
     strays = no_stray;
-    reached = λ p s may. subst (IsReached p) (sym (only p s may)) (begins.reached p);
+    kinds = suited;
+    reached = within_bounds;
   }
 
 pub sound_begins : {F : Type 0} (view : F → Option View) (clock spare : F → ℕ) (was : F → ℕ → View → Type 0) → ((fs : F) (v : View) → view fs ≡ Some v → IsTree v.now) → (base : Base F)
@@ -95,7 +106,7 @@ sound_begins view clock spare was trees base alone turn empty none nothing opene
   crash = λ v told. rw (empty, none) (record {
     each = λ t d from left.
         let has = since v told t d from left in
-        record { past = []; rest = []; split = refl; has_acked = omega arith; shows = has.1; good = has.0 };
+        record { past = []; rest = []; split = refl; has_acked = omega arith; shows = has.1; sane = has.0 };
   });
 }
 

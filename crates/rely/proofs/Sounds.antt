@@ -34,7 +34,7 @@ crash_goes past since before now opened view start entries more_entries pending 
       split = sym (append_assoc fits.past fits.rest more) ∙ ap (λ (l : List Event). l ++ more) fits.split ∙ sym grows;
       has_acked = subst (λ n. n ≤ length fits.past) (sym (same t le)) fits.has_acked;
       shows = fits.shows;
-      good = fits.good;
+      sane = fits.sane;
     }
 
 -- the laws of a file system, as they are used here

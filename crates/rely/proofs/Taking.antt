@@ -28,7 +28,7 @@ other_or_own a b h = by (nat_eq a b) refl
 may_before : (b b' : Books) (actor lane : ℕ) → Spared actor lane b b' → Keeps lane b b' → (x : Place) (s : Seen) → may_at b' actor lane x s → may_at b actor lane x s
 may_before b b' actor lane sp ke Config s m = m
 may_before b b' actor lane sp ke (Stage a) s m = m
-may_before b b' actor lane sp ke (Ref n) s m = (free_before b.turn b'.turn lane sp.turn m.0, free_before b.exclusive b'.exclusive lane sp.exclusive m.1, m.2)
+may_before b b' actor lane sp ke (Ref n) s m = (free_before b.turn b'.turn lane sp.turn m.0, free_before b.exclusive b'.exclusive lane sp.exclusive m.1)
 may_before b b' actor lane sp ke (ObjectsFolder d) s m = m
 may_before b b' actor lane sp ke (Object k c) s m = (free_before b.exclusive b'.exclusive lane sp.exclusive m.0, m.1, λ none p has k e. pinned p (m.2 none) has k e)
   where
@@ -51,7 +51,7 @@ may_before b b' actor lane sp ke (Checkout n r) s m = m
 may_before b b' actor lane sp ke (Other p) s m = m
 
 pub may_less : (b b' : Books) (v : View) (actor lane : ℕ) → Spared actor lane b b' → Keeps lane b b' → (p : Path) (s : Seen) → May b' v actor lane p s → May b v actor lane p s
-may_less b b' v actor lane sp ke p s m = record { at = may_before b b' actor lane sp ke (place p) s m.at; comes = m.comes; folders = m.folders }
+may_less b b' v actor lane sp ke p s m = record { at = may_before b b' actor lane sp ke (place p) s m.at; fits = m.fits; marks = m.marks; comes = m.comes; folders = m.folders }
 
 pub store_is : (k : Kind) → IsStore k → k ≡ Store
 store_is Quiet is = absurd is

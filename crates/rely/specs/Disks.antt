@@ -1,14 +1,12 @@
 -- What a disk shows of the state.
-use Rattle.std.specs.Prelude.{◌≡◌, ◌≢◌, ℕ, true, false, IsTrue, List, Option, Some, None}
-use Rattle.ost_types.specs.Path.{Path, is_below}
+use Rattle.std.specs.Prelude.{◌≡◌, ℕ, List, Option, Some, None}
+use Rattle.ost_types.specs.Path.{Path}
 use Rattle.fs_trait.specs.View.{Disk}
 use Rattle.fs_trait.specs.Seen.{Seen, Symlink, Leaf, shows, bytes_in}
-use Rattle.repo_layout.specs.declared.folder.Folder.{Folder}
-use Rattle.repo_layout.specs.Paths.{folder_path, heads, ref_path}
+use Rattle.repo_layout.specs.Paths.{ref_path}
 use Rattle.repo_layout.specs.Place.{Place, Other}
 use Rattle.repo_layout.specs.RefFile.{IsSum, ref_text}
-use Rattle.repo_layout.specs.RefName.{IsRefName}
-use Rattle.repo_layout.specs.Refs.{Names, Lacks, is_leaf}
+use Rattle.repo_layout.specs.Refs.{Names, Lacks}
 use Rattle.rely.specs.State.{Topic, RefOf, Said, State}
 
 -- where the state's topics stand
@@ -38,10 +36,3 @@ HasRef d name (Some commit) = Names d name commit
 abbrev pub IsOther : Place → Type 0
 IsOther (Other p) = Unit {0}
 IsOther x = ⊥
-
--- A disk on which the system can begin, as far as refs go: no leaf stands in the place of a folder of the layout, and each leaf
--- below the folder of refs is a ref file under the name of a ref.
-pub record IsGood (d : Disk) : Type 0 where
-  pub folders : (f : Folder) → is_leaf (d.at (folder_path f)) ≡ false
-  pub refs : (name : List ℕ) → is_leaf (d.at (ref_path name)) ≡ true → IsRefName name × (commit : List ℕ) × Names d name commit
-  pub others : (p : Path) → IsTrue (is_below heads p) → ((name : List ℕ) → p ≢ ref_path name) → is_leaf (d.at p) ≢ true

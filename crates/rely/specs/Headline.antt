@@ -2,13 +2,14 @@
 use Rattle.std.specs.Prelude.{◌≡◌, ◌≤◌, ℕ, List, length, take, None}
 use Rattle.fs_trait.specs.View.{Disk, View}
 use Rattle.fs_trait.specs.Change.{Left}
+use Rattle.layout_rules.specs.Checks.{IsSane}
 use Rattle.rely.specs.declared.books.Base.{Base}
 use Rattle.rely.specs.State.{RefOf, State, first, after, events_of, stored, acked, IsRun, Ascends}
-use Rattle.rely.specs.Disks.{HasRef, Logical, IsGood}
+use Rattle.rely.specs.Disks.{HasRef, Logical}
 
--- The disk is good, and its refs are those of this state.
+-- The disk is sane, and its refs are those of this state.
 pub record Has (d : Disk) (state : State) : Type 0 where
-  pub good : IsGood d
+  pub sane : IsSane d
   pub logical : Logical d state
   pub refs : (name : List ℕ) → HasRef d name (state (RefOf name))
 

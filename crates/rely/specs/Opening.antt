@@ -6,19 +6,17 @@ use Rattle.fs_trait.specs.Image.{is_folder}
 use Rattle.fs_trait.specs.Seen.{shows, Always}
 use Rattle.repo_layout.specs.declared.folder.Folder.{Folder}
 use Rattle.repo_layout.specs.Paths.{folder_path}
+use Rattle.layout_rules.specs.Checks.{IsSane}
 use Rattle.rely.specs.State.{State}
-use Rattle.rely.specs.Disks.{Logical, IsGood}
-use Rattle.rely.specs.Sound.{IsReached}
+use Rattle.rely.specs.Disks.{Logical}
 
--- After a sync of all each crash leaves what is there: a good disk with all folders of the layout, on which all that stands at
--- and below the folder of refs is within the bounds of paths, and with this state.
+-- After a sync of all each crash leaves what is there: a sane disk with all folders of the layout, and with this state.
 pub record IsOpening (start : State) (v : View) : Type 0 where
   pub settled : (p : Path) → Always v p (shows v.now p)
   pub folders : (f : Folder) → is_folder (v.now.at (folder_path f)) ≡ true
-  pub good : IsGood v.now
-  pub reached : (p : Path) → IsReached p (shows v.now p)
+  pub sane : IsSane v.now
   pub state : Logical v.now start
 
--- Each disk that a crash left since this moment is good, and has this state.
+-- Each disk that a crash left since this moment is sane, and has this state.
 abbrev pub HasSince : (ℕ → Disk → Type 0) → ℕ → State → Type 0
-HasSince left opened start = (t : ℕ) (d : Disk) → opened ≤ t → left t d → IsGood d × Logical d start
+HasSince left opened start = (t : ℕ) (d : Disk) → opened ≤ t → left t d → IsSane d × Logical d start

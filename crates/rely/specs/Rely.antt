@@ -2,15 +2,17 @@
 use Rattle.std.specs.Prelude.{◌≡◌, ◌≢◌, ◌⊎◌, ℕ, List, Contains, IsTrue}
 use Rattle.ost_types.specs.declared.meta.Meta.{Meta}
 use Rattle.ost_types.specs.declared.object.Kind as object
-use Rattle.ost_types.specs.Path.{Name, Path, IsPath, under, is_below}
+use Rattle.ost_types.specs.declared.object.Kind.TheVariants.{Commit}
+use Rattle.ost_types.specs.Path.{Name, Path, under, is_below}
 use Rattle.fs_trait.specs.declared.types.Value.TheVariants.{Absent, File}
 use Rattle.fs_trait.specs.View.{View}
 use Rattle.fs_trait.specs.Image.{Holds}
 use Rattle.fs_trait.specs.Effect.{IsFresh}
 use Rattle.fs_trait.specs.Seen.{Seen, Vacant, Leaf, shows, IsDirectory, NotDirectory}
 use Rattle.fs_trait.specs.Change.{Writes}
-use Rattle.repo_layout.specs.Paths.{ref_path}
+use Rattle.repo_layout.specs.Paths.{object_path, ref_path}
 use Rattle.repo_layout.specs.Place.{Place, Config, Stage, Ref, ObjectsFolder, Object, Mark, Summary, Deployment, Etc, Origin, Staged, BootLink, BootLinkStage, BootFolder, Loader, LoaderStage, LoaderFolder, KernelCopy, Checkout, Other, place}
+use Rattle.layout_rules.specs.InLayout.{InLayout}
 use Rattle.rely.specs.declared.books.Pin.{Pin}
 use Rattle.rely.specs.Disks.{IsLeaf}
 use Rattle.rely.specs.Books.{Books, Free, Spared}
@@ -22,7 +24,7 @@ NotPinned pins lane kind sum = (p : Pin) → Contains pins p → p.object.kind �
 -- What this actor, for this lane, may write at a place. Where no command of those that there are writes, nobody may.
 abbrev pub may_at : Books → ℕ → ℕ → Place → Seen → Type 0
 may_at b actor lane (Stage a) s = a ≡ actor
-may_at b actor lane (Ref name) s = Free b.turn lane × Free b.exclusive lane × (s ≢ Vacant → IsPath (ref_path name))
+may_at b actor lane (Ref name) s = Free b.turn lane × Free b.exclusive lane
 may_at b actor lane (ObjectsFolder digits) s = IsDirectory s
 may_at b actor lane (Object kind sum) s = Free b.exclusive lane × NotDirectory s × (s ≡ Vacant → NotPinned b.pins lane kind sum)
 may_at b actor lane (Mark commit) s = NotDirectory s
@@ -59,11 +61,13 @@ IsEmpty v p = (x : Name) → v.now.at (under p x) ≡ Absent
 abbrev pub HasNoRefs : View → Path → Type 0
 HasNoRefs v p = (name : List ℕ) → IsTrue (is_below p (ref_path name)) → IsLeaf (shows v.now (ref_path name)) → ⊥
 
--- What this actor, for this lane, may write over this view: something that may be at such a place; no file but a new one, or
--- one that stands at a path that is no other's staging path; and nothing in a folder's place, but where nothing, or no ref, is in
--- the folder.
+-- What this actor, for this lane, may write over this view: something that may be at such a place, and suits the layout; a mark
+-- only where its commit isn't; no file but a new one, or one that stands at a path that is no other's staging path; and nothing in
+-- a folder's place, but where nothing, or no ref, is in the folder.
 pub record May (b : Books) (v : View) (actor lane : ℕ) (p : Path) (s : Seen) : Type 0 where
   pub at : may_at b actor lane (place p) s
+  pub fits : InLayout p s
+  pub marks : (commit : List ℕ) → place p ≡ Mark commit → s ≢ Vacant → shows v.now (object_path Commit commit) ≡ Vacant
   pub comes : (n : ℕ) (m : Meta) (bytes : List ℕ) → s ≡ Leaf n m bytes → IsFresh n v ⊎ ((q : Path) × Holds v q (File n) × NotOthers actor (place q))
   pub folders : IsDirectory s ⊎ NotDirectory (shows v.now p) ⊎ OwnTree actor (place p) ⊎ IsEmpty v p ⊎ HasNoRefs v p
 

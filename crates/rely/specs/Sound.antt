@@ -1,19 +1,21 @@
 -- What every value of the system keeps.
-use Rattle.std.specs.Prelude.{◌≡◌, ◌≢◌, ◌⊎◌, ◌<◌, ◌≤◌, ℕ, IsTrue, List, ◌++◌, length, Option, Some, None}
+use Rattle.std.specs.Prelude.{◌≡◌, ◌⊎◌, ◌<◌, ◌≤◌, ℕ, IsTrue, List, ◌++◌, length, Option, Some, None}
 use Rattle.std.specs.Vec.{vec_len, vec_capacity}
-use Rattle.ost_types.specs.Path.{Path, IsPath, is_below, under}
+use Rattle.ost_types.specs.Path.{Path, is_below, under}
 use Rattle.fs_trait.specs.View.{Disk, View}
-use Rattle.fs_trait.specs.Seen.{Seen, Vacant, MayBe}
+use Rattle.fs_trait.specs.Seen.{Seen, MayBe}
 use Rattle.fs_trait.specs.Change.{LeadsTo, Left}
 use Rattle.repo_layout.specs.declared.folder.Folder.{Folder}
 use Rattle.repo_layout.specs.Paths.{folder_path, heads}
 use Rattle.repo_layout.specs.Place.{place}
+use Rattle.layout_rules.specs.Checks.{IsSane}
+use Rattle.layout_rules.specs.InLayout.{IsBounded, IsSuited}
 use Rattle.rely.specs.declared.books.Base.{Base}
 use Rattle.rely.specs.declared.books.Entry.{Entry}
 use Rattle.rely.specs.declared.books.Pending.{Pending}
 use Rattle.rely.specs.declared.event.Event.{Event}
 use Rattle.rely.specs.State.{Topic, State, first, target, gives, after, IsRun, IsNamed, events_of, stored, acked, Ascends}
-use Rattle.rely.specs.Disks.{path_of, IsLeaf, Says, Logical, IsOther, IsGood}
+use Rattle.rely.specs.Disks.{path_of, IsLeaf, Says, Logical, IsOther}
 use Rattle.rely.specs.Books.{books_of, Agrees}
 
 -- what is shown is the event's value
@@ -33,10 +35,6 @@ Leads v folder = (p : Path) (s : Seen) → MayBe v p s → LeadsTo folder p s
 abbrev pub NoStray : Path → Seen → Type 0
 NoStray p s = IsTrue (is_below heads p) → IsOther (place p) → IsLeaf s → ⊥
 
--- what stands at or below the folder of refs is within the bounds of paths
-abbrev pub IsReached : Path → Seen → Type 0
-IsReached p s = IsTrue (is_below heads p) → s ≢ Vacant → IsPath p
-
 -- All that a path of the state may show is the state's value, or the one that is shown. What has a value has folders above it
 -- after each crash.
 pub record Known (shown : Topic → Seen → Type 0) (value : State) (v : View) : Type 0 where
@@ -50,16 +48,17 @@ pub record Stands (start : State) (entries : List Entry) (pending : Option Pendi
   pub known : Known (Shown pending) (after (events_of entries) start) v
   pub folders : (f : Folder) → Leads v (folder_path f)
   pub strays : (p : Path) (s : Seen) → MayBe v p s → NoStray p s
-  pub reached : (p : Path) (s : Seen) → MayBe v p s → IsReached p s
+  pub kinds : (p : Path) (s : Seen) → MayBe v p s → IsSuited p s
+  pub reached : (p : Path) (s : Seen) → MayBe v p s → IsBounded p s
 
--- The disk is good, and its state is that after a prefix of the stored history that has all that was acknowledged by then.
+-- The disk is sane, and its state is that after a prefix of the stored history that has all that was acknowledged by then.
 pub record Fits (start : State) (entries : List Entry) (all : List Event) (t : ℕ) (d : Disk) : Type 0 where
   pub past : List Event
   pub rest : List Event
   pub split : past ++ rest ≡ all
   pub has_acked : acked t entries ≤ length past
   pub shows : Logical d (after past start)
-  pub good : IsGood d
+  pub sane : IsSane d
 
 -- so it is of each disk that a crash left since the opening
 pub record Crash (left : ℕ → Disk → Type 0) (opened : ℕ) (start : State) (entries : List Entry) (pending : Option Pending) : Type 0 where

@@ -6,7 +6,7 @@ ghost use Rattle.rely.specs.Headline.{Headline};
 use crate::Base;
 use fs_trait::Fs;
 
-/// What is so of each value that the acts leave: a crash at any moment since the opening leaves a good disk whose refs are
+/// What is so of each value that the acts leave: a crash at any moment since the opening leaves a sane disk whose refs are
 /// those after a prefix of the stored history that has every change that was acknowledged by that moment; and reads see the
 /// refs after the whole history, but for a change that is pending.
 pub fn certify<F: Fs>(_base: &Base<F>)

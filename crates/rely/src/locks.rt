@@ -75,13 +75,20 @@ fn taken(lock: Option<u8>, wanted: bool, lane: u8) -> Option<u8>
     if wanted { Some(lane) } else { lock }
 }
 
+fn has_share(shares: &[Share], share: &Share) -> bool
+    ensures { IsTrue result → Contains shares.now share.now }
+{
+    shares.contains(share)
+}
+
 fn add_share(shares: &mut Vec<Share>, wanted: bool, actor: u8, lane: u8) -> Result<(), NoMemory>
     ensures wanted { OnOk result (IsTrue wanted → Contains shares.new.items (record { actor = actor; lane = lane })) }
     ensures kept { (x : Share) → Contains shares.old.items x → Contains shares.new.items x }
     ensures no_more { (x : Share) → Contains shares.new.items x → Contains shares.old.items x ⊎ (IsTrue wanted × (x.lane ≡ lane)) }
 {
-    if wanted {
-        shares.push(Share { actor, lane })?;
+    let share = Share { actor, lane };
+    if wanted && !has_share(shares, &share) {
+        shares.push(share)?;
     }
     Ok(())
 }

@@ -39,7 +39,7 @@ impl Books {
 
 impl<F: Fs> Base<F> {
     /// The file system at the opening, on which everything is synced, with these refs. `opened` is a moment since which each
-    /// crash left a good disk with them.
+    /// crash left a sane disk with them.
     pub fn new(alloc: Global, fs: F, opened: u64, start: Vec<(RefName, Csum)>) -> Base<F>
         requires opening { (v : View) → F.view fs ≡ Some v → IsOpening (first start.items) v }
         requires since { (v : View) → F.view fs ≡ Some v → HasSince (Left (F.was fs)) opened (first start.items) }

@@ -12,6 +12,8 @@ use Rattle.fs_trait.proofs.Images.{Image-now}
 use Rattle.repo_layout.specs.Paths.{heads, ref_path}
 use Rattle.repo_layout.specs.RefName.{parts_of}
 use Rattle.repo_layout.specs.Refs.{is_leaf}
+use Rattle.layout_rules.specs.Checks.{IsSane}
+use Rattle.layout_rules.proofs.Sanes.{ref_of}
 use Rattle.ref_room.specs.Clash.{IsAbove, IsClash, IsLeastClash}
 use Rattle.ref_room.proofs.Disks.{below_absent, leaf_no_folder}
 use Rattle.ref_store.specs.declared.phase.Phase.{Phase}
@@ -27,7 +29,7 @@ use Rattle.rely.specs.declared.books.Entry.{Entry}
 use Rattle.rely.specs.declared.books.Pending.{Pending}
 use Rattle.rely.specs.declared.event.Event.{Event}
 use Rattle.rely.specs.Books.{Books}
-use Rattle.rely.specs.Disks.{IsGood, IsLeaf, Logical, Says}
+use Rattle.rely.specs.Disks.{IsLeaf, Logical, Says}
 use Rattle.rely.specs.Exact.{Opens}
 use Rattle.rely.specs.Laws.{Holds}
 use Rattle.rely.specs.Sound.{Stands}
@@ -71,7 +73,7 @@ leaf_alone d tree a b above up low =
     let n : false ≡ true = sym (ap is_leaf none) ∙ low in
     cc
 
-module _ (d : Disk) (state : State) (good : IsGood d) (logical : Logical d state) where
+module _ (d : Disk) (state : State) (sane : IsSane d) (logical : Logical d state) where
   value_says : (name : List ℕ) (said : Said) → HasValue d name said → Says (RefOf name) said (shows d (ref_path name))
   value_says name None has = leaf_none d (d.at (ref_path name)) has
   value_says name (Some commit) has = (has.sum, sym (reads_shows d (ref_path name)) ∙ has.file)
@@ -93,7 +95,7 @@ module _ (d : Disk) (state : State) (good : IsGood d) (logical : Logical d state
   clash_of : (name other : List ℕ) → ClashIn state name other → IsClash d name other
   clash_of name other is =
       let leaf = there_leaf other (state (RefOf other)) is.there (logical (RefOf other)) in
-      record { named = (good.refs other leaf).0; leaf = leaf; clashes = is.clashes }
+      record { named = (ref_of d sane other leaf).0; leaf = leaf; clashes = is.clashes }
 
   least_in : (name other : List ℕ) → IsLeastClash d name other → LeastClashIn state name other
   least_in name other is = record { clash = clash_in name other is.clash; least = λ third c. is.least third (clash_of name third c) }

@@ -32,8 +32,9 @@ use sys_open::{Opened, OpenedParts};
 /// A repository on a file system, and the lanes of commands that work on it. At most one step of one lane is taken at a
 /// time, by `act`.
 ///
-/// Each value keeps, for any file system that tells its view: a crash at any moment since the opening's first barrier leaves a good disk
-/// whose refs are those after a prefix of the stored history that has each change acknowledged by then.
+/// Each value keeps, for any file system that tells its view: a crash at any moment since the opening's first barrier leaves a sane disk
+/// whose refs are those after a prefix of the stored history that has each change acknowledged by then. So what a crash left
+/// opens again with these refs: `adopt` tells no damage of a sane disk, and begins with the refs that it has.
 #[derive(Drop)]
 pub struct System<F: Fs> {
     alloc: Global,
@@ -219,7 +220,7 @@ impl<F: Fs> System<F> {
         &self.lanes
     }
 
-    /// A crash at any moment since the opening left a good disk whose refs are those after a prefix of the stored history
+    /// A crash at any moment since the opening left a sane disk whose refs are those after a prefix of the stored history
     /// that has each change acknowledged by that moment; and reads see the refs after the history, but for a change that
     /// is pending. Each reply says what the states at its start and at its place show.
     pub fn certify(&self)

@@ -1,7 +1,7 @@
 //! All commands of some lanes, on the repository of a file system.
 ghost use Rattle.std.specs.Prelude.{◌≡◌, ◌≤◌, ◌<◌, ℕ, Some, IsNone, IfSome, IfOk, IfErr, length, slice_index_or};
 ghost use Rattle.fs_trait.specs.View.{View};
-ghost use Rattle.sys_open.specs.Checks.{IsSane};
+ghost use Rattle.layout_rules.specs.Checks.{IsSane};
 ghost use Rattle.sys_open.specs.Changes.{Changes, Works};
 ghost use Rattle.sys_core_check.specs.declared.running.NotRun.TheVariants as not_run;
 ghost use Rattle.script.specs.declared.command.Lane.{Lane};

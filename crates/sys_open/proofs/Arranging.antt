@@ -1,5 +1,5 @@
 -- What is left where the folders were laid out and the staging paths cleared.
-use Rattle.std.proofs.Common.{◌≡◌, inl, ⊎_elim, ◌<◌, ℕ, true, false, refl, sym, ◌∙◌, ap, subst, Option, Some, Result, Ok, Err}
+use Rattle.std.proofs.Common.{◌≡◌, ⊎_elim, ◌<◌, ℕ, true, false, refl, sym, ◌∙◌, ap, subst, Option, Some, Result, Ok, Err}
 use Rattle.std.specs.Prelude.{OnOk}
 use Rattle.ost_types.specs.Path.{Name, Path, is_below, under}
 use Rattle.ost_types.proofs.Paths.{is_below-under}
@@ -17,9 +17,7 @@ use Rattle.repo_layout.specs.declared.folder.Folder.TheVariants.{Ostree, Repo, O
 use Rattle.repo_layout.specs.Paths.{folder_path, stage_path}
 use Rattle.sys_open.specs.declared.fault.OpenFault.{OpenFault}
 use Rattle.sys_open.specs.Faults.{IsRefusal, IsInterruption}
-use Rattle.sys_open.specs.declared.spots.Rule.TheVariants.{FolderOrNothing}
-use Rattle.sys_open.specs.declared.spots.Spot.TheVariants.{Laid}
-use Rattle.sys_open.specs.Checks.{Asks, Staging, Kinds, Suits, IsSane}
+use Rattle.layout_rules.specs.Checks.{Asks, Staging, IsSane}
 use Rattle.sys_open.specs.Changes.{Lays, ClearsStages, IsArranged}
 use Rattle.sys_open.proofs.Clearings.{folder_still}
 use Rattle.sys_open.proofs.Working.{one_view}
@@ -57,9 +55,6 @@ laid_reached v u tree writes asks p actor small below x there = ⊎_elim
 
 pub asks_kept : (v u : View) → IsTree u.now → Writes (Lays v.now) v u → IsSane v.now → (p : Path) → Asks Staging u.now p
 asks_kept v u tree writes sane = laid_reached v u tree writes (sane Staging)
-
-pub kinds_suit_all : (d : Disk) → IsSane d → (f : Folder) → Suits FolderOrNothing (d.at (folder_path f))
-kinds_suit_all d sane f = sane Kinds (folder_path f) FolderOrNothing (inl (Laid f, refl, refl))
 
 pub sync_interrupted : (at : Path) (e : FsErr) (f : OpenFault) → OfNone e → IsRefusal at e f → IsInterruption f
 sync_interrupted at err.Failed f named is = subst IsInterruption (sym is) tt

@@ -19,7 +19,7 @@ use Rattle.rely.specs.Disks.{IsLeaf, Says, Logical}
 use Rattle.sys_open.specs.declared.fault.OpenFault.{OpenFault}
 use Rattle.sys_open.specs.declared.fault.OpenFault.TheVariants as fault
 use Rattle.sys_open.specs.declared.fault.Why.TheVariants.{BadRef, WrongKind}
-use Rattle.sys_open.specs.Checks.{Check, Kinds, RefFiles, Staging, turn, Asks, HoldsRefs, IsSane}
+use Rattle.layout_rules.specs.Checks.{Check, Kinds, RefFiles, Staging, turn, Asks, HoldsRefs, IsSane}
 use Rattle.sys_open.specs.Walk.{IsSoBelow, Walked}
 use Rattle.sys_open.specs.Gathered.{Refs, Has, AreOf, HasAllBelow}
 use Rattle.sys_open.specs.Opening.{Answers}

@@ -23,7 +23,7 @@ use Rattle.sys_open.specs.declared.fault.OpenFault.{OpenFault}
 use Rattle.sys_open.specs.declared.fault.OpenFault.TheVariants as fault
 use Rattle.sys_open.specs.declared.fault.Why.{Why}
 use Rattle.sys_open.specs.Faults.{IsInterruption}
-use Rattle.sys_open.specs.Checks.{IsReached}
+use Rattle.layout_rules.specs.Checks.{IsReached}
 use Rattle.sys_open.specs.Walk.{IsSoBelow, Looked, paths_in}
 use Rattle.sys_open.specs.Changes.{Clears, ClearsInside, IsEmptied}
 use Rattle.sys_open.proofs.Walks.{absent_or_not, below_under}

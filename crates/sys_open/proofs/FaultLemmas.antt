@@ -10,7 +10,7 @@ use Rattle.sys_open.specs.declared.fault.Why.{Why}
 use Rattle.sys_open.specs.declared.fault.OpenFault.{OpenFault}
 use Rattle.sys_open.specs.declared.fault.OpenFault.TheVariants as fault
 use Rattle.sys_open.specs.Faults.{IsRefusal, IsInterruption, HasReason}
-use Rattle.sys_open.specs.Checks.{IsReached}
+use Rattle.layout_rules.specs.Checks.{IsReached}
 use Rattle.sys_open.specs.Walk.{AreReached, Looked, Walked}
 
 not_refused : {A : Type 0} (e : FsErr) (refusal : Option FsErr) → refusal ≡ Some e → refusal ≡ None → A

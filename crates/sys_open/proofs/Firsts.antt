@@ -1,15 +1,14 @@
 -- The least of the paths that are wrong, by one question or by another.
-use Rattle.std.proofs.Common.{◌≡◌, ◌≢◌, inl, inr, refl, sym, subst, [], Option, Some, None, Result, Ok, Err}
-use Rattle.std.specs.declared.cmp.Ordering.TheVariants.{Less}
-use Rattle.ost_types.specs.Path.{Path, path_cmp}
+use Rattle.std.proofs.Common.{inl, inr, sym, subst, [], Option, Some, None, Result, Ok, Err}
+use Rattle.ost_types.specs.Path.{Path}
 use Rattle.fs_trait.specs.View.{Disk}
 use Rattle.sys_open.specs.declared.fault.OpenFault.{OpenFault}
 use Rattle.sys_open.specs.declared.fault.OpenFault.TheVariants as fault
 use Rattle.sys_open.specs.declared.fault.Why.TheVariants.{WrongKind}
-use Rattle.sys_open.specs.declared.many.Many.TheVariants.{Kernels, Stateroots, Objects, Marks}
-use Rattle.sys_open.specs.declared.spots.Rule.{Rule}
-use Rattle.sys_open.specs.Checks.{Asks, AsksFixed, AsksIn, AsksInside, IsFor, Kinds, Suits}
-use Rattle.sys_open.specs.Walk.{Finds, IsDamage, IsFirstBelow, IsLeastWrong, IsLesser, IsSoBelow, Walked}
+use Rattle.layout_rules.specs.declared.many.Many.TheVariants.{Kernels, Stateroots, Objects, Marks}
+use Rattle.layout_rules.specs.declared.rule.Rule.{Rule}
+use Rattle.layout_rules.specs.Checks.{Asks, AsksFixed, AsksIn, AsksInside, IsFor, Kinds, Suits}
+use Rattle.sys_open.specs.Walk.{Finds, IsDamage, IsLeastWrong, IsLesser, IsSoBelow, Walked}
 use Rattle.sys_open.proofs.Orders.{less_before, less_trans}
 
 pub damage_least : (T : Type 0) (So : Path → Type 0) (told : Result T OpenFault) (path : Result (Option Path) OpenFault) → IsDamage told path → Walked So WrongKind [] told → Finds (IsLeastWrong So) path

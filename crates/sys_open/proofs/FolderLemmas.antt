@@ -1,5 +1,5 @@
 -- What stands in the place of a folder, and the folders that are there from the beginning.
-use Rattle.std.proofs.Common.{◌≡◌, ◌⊎◌, inl, inr, ◌<◌, ℕ, true, false, refl, sym, subst, arith, get_or, Err}
+use Rattle.std.proofs.Common.{◌≡◌, ◌⊎◌, inl, inr, ◌<◌, ℕ, true, false, refl, arith, get_or, Err}
 use Rattle.ost_types.specs.Path.{Path}
 use Rattle.fs_trait.specs.declared.types.Value.{Value}
 use Rattle.fs_trait.specs.declared.types.Value.TheVariants as value
@@ -11,8 +11,8 @@ use Rattle.repo_layout.specs.Refs.{is_leaf}
 use Rattle.sys_open.specs.declared.fault.OpenFault.{OpenFault}
 use Rattle.sys_open.specs.declared.fault.OpenFault.TheVariants as fault
 use Rattle.sys_open.specs.declared.fault.Why.TheVariants.{WrongKind}
-use Rattle.sys_open.specs.declared.spots.Rule.TheVariants.{FolderOrNothing, NoFolder}
-use Rattle.sys_open.specs.Checks.{Suits}
+use Rattle.layout_rules.specs.declared.rule.Rule.TheVariants.{FolderOrNothing, NoFolder}
+use Rattle.layout_rules.specs.Checks.{Suits}
 use Rattle.sys_open.specs.Folders.{all_folders}
 use Rattle.sys_open.specs.Walk.{Looked}
 
@@ -30,15 +30,6 @@ is_one Heads = (8, omega arith, refl)
 is_one State = (9, omega arith, refl)
 is_one Tmp = (10, omega arith, refl)
 
-pub absent_suits : (z : Value) → z ≡ value.Absent → Suits FolderOrNothing z
-absent_suits z e = subst (Suits FolderOrNothing) (sym e) tt
-
-pub folder_suits : (d : Disk) (z : Value) → IsDirectory (seen d z) → Suits FolderOrNothing z
-folder_suits d (value.Folder m) is = tt
-folder_suits d value.Absent is = absurd is
-folder_suits d (value.Link m t) is = absurd is
-folder_suits d (value.File n) is = absurd is
-
 pub leaf_suits_not : (z : Value) → is_leaf z ≡ true → Suits FolderOrNothing z → ⊥
 leaf_suits_not (value.Folder m) e suits = let n : false ≡ true = e in cc
 leaf_suits_not value.Absent e suits = let n : false ≡ true = e in cc
@@ -54,9 +45,6 @@ folder_suits_not d (value.Folder m) is suits = suits
 folder_suits_not d value.Absent is suits = is
 folder_suits_not d (value.Link m t) is suits = is
 folder_suits_not d (value.File n) is suits = is
-
-pub absent_no_folder : (z : Value) → z ≡ value.Absent → Suits NoFolder z
-absent_no_folder z e = subst (Suits NoFolder) (sym e) tt
 
 pub leaf_no_folder_there : (z : Value) → is_leaf z ≡ true → Suits NoFolder z
 leaf_no_folder_there (value.Folder m) e = let n : false ≡ true = e in cc

@@ -20,7 +20,7 @@ use Rattle.sys_open.specs.declared.fault.OpenFault.{OpenFault}
 use Rattle.sys_open.specs.declared.fault.OpenFault.TheVariants as fault
 use Rattle.sys_open.specs.declared.fault.Why.{Why}
 use Rattle.sys_open.specs.declared.fault.Why.TheVariants.{BadRef}
-use Rattle.sys_open.specs.Checks.{HoldsRefs, IsRefAt, IsReached}
+use Rattle.layout_rules.specs.Checks.{HoldsRefs, IsRefAt, IsReached}
 use Rattle.sys_open.specs.Walk.{IsSoBelow, IsFirstBelow, Looked, Walked, paths_in}
 use Rattle.sys_open.specs.Gathered.{Refs, Has, HasAt, HasLeafAt, AreOf, HasAllBelow, Grows}
 use Rattle.sys_open.proofs.Walks.{leaf_walk, first_here}

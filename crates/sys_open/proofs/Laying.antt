@@ -3,12 +3,11 @@ use Rattle.std.proofs.Common.{◌≡◌, ◌⊎◌, inl, inr, ⊎_elim, ◌<◌,
 use Rattle.std.proofs.lemmas.List.{get_or_default}
 use Rattle.ost_types.specs.declared.meta.Meta.{Meta}
 use Rattle.ost_types.specs.Path.{Name, Path, under}
-use Rattle.fs_trait.specs.declared.types.Value.{Value}
 use Rattle.fs_trait.specs.declared.types.Value.TheVariants as value
 use Rattle.fs_trait.specs.View.{Disk, View, named}
 use Rattle.fs_trait.specs.Image.{is_folder, IsTree, Told}
 use Rattle.fs_trait.specs.Effect.{no_new}
-use Rattle.fs_trait.specs.Seen.{Seen, Vacant, Directory, seen, shows, IsDirectory}
+use Rattle.fs_trait.specs.Seen.{Seen, Directory, seen, shows, IsDirectory}
 use Rattle.fs_trait.specs.Change.{Writes}
 use Rattle.fs_trait.proofs.Kept.{weaker}
 use Rattle.fs_trait.proofs.Effects.{named-writes}
@@ -19,12 +18,13 @@ use Rattle.repo_layout.specs.declared.folder.Folder.{Folder}
 use Rattle.repo_layout.specs.declared.folder.Folder.TheVariants.{Ostree, Repo, Refs, Boot}
 use Rattle.repo_layout.specs.Paths.{folder_path}
 use Rattle.ref_room.specs.Way.{folder_meta}
-use Rattle.sys_open.specs.declared.spots.Rule.TheVariants.{FolderOrNothing}
-use Rattle.sys_open.specs.Checks.{Suits}
+use Rattle.layout_rules.specs.declared.rule.Rule.TheVariants.{FolderOrNothing}
+use Rattle.layout_rules.specs.Checks.{Suits}
 use Rattle.sys_open.specs.Changes.{Lays}
 use Rattle.sys_open.specs.Folders.{all_folders, HasParent, IsFree}
 use Rattle.sys_open.proofs.Clearings.{folder_still}
-use Rattle.sys_open.proofs.FolderLemmas.{is_one, folder_suits}
+use Rattle.layout_rules.proofs.Suiting.{folder_suits, suits_same}
+use Rattle.sys_open.proofs.FolderLemmas.{is_one}
 
 pub lays_name : (v : View) (at : Path) (m : Meta) → (f : Folder) × (at ≡ folder_path f) → v.now.at at ≡ value.Absent → m ≡ folder_meta → Writes (Lays v.now) v (named at (value.Folder m) v)
 lays_name v at m place absent is =
@@ -42,21 +42,9 @@ free_new d tree at free =
 pub folder_kept : (v u : View) → Writes (Lays v.now) v u → (p : Path) → is_folder (v.now.at p) ≡ true → is_folder (u.now.at p) ≡ true
 folder_kept v u writes p folder = ⊎_elim (λ same. folder_still v.now u.now p same folder) (λ wrote. folder_shows u.now p (subst IsDirectory (sym wrote.1) tt)) (writes.now p)
 
-pub suits_shown : (d e : Disk) (z y : Value) → seen e y ≡ seen d z → Suits FolderOrNothing z → Suits FolderOrNothing y
-suits_shown d e z value.Absent same suits = tt
-suits_shown d e z (value.Folder m) same suits = tt
-suits_shown d e value.Absent (value.Link m t) same suits = let n : seen e (value.Link m t) ≡ Vacant = same in cc
-suits_shown d e (value.Folder k) (value.Link m t) same suits = let n : seen e (value.Link m t) ≡ Directory k = same in cc
-suits_shown d e (value.Link k r) (value.Link m t) same suits = absurd suits
-suits_shown d e (value.File k) (value.Link m t) same suits = absurd suits
-suits_shown d e value.Absent (value.File n) same suits = let n : seen e (value.File n) ≡ Vacant = same in cc
-suits_shown d e (value.Folder k) (value.File n) same suits = let n : seen e (value.File n) ≡ Directory k = same in cc
-suits_shown d e (value.Link k r) (value.File n) same suits = absurd suits
-suits_shown d e (value.File k) (value.File n) same suits = absurd suits
-
 pub suits_kept : (v u : View) → Writes (Lays v.now) v u → (p : Path) → Suits FolderOrNothing (v.now.at p) → Suits FolderOrNothing (u.now.at p)
 suits_kept v u writes p suits = ⊎_elim
-    (λ same. suits_shown v.now u.now (v.now.at p) (u.now.at p) same suits)
+    (λ same. suits_same FolderOrNothing v.now u.now (v.now.at p) (u.now.at p) same suits)
     (λ wrote. folder_suits u.now (u.now.at p) (subst IsDirectory (sym wrote.1) tt))
     (writes.now p)
 

@@ -8,7 +8,6 @@ mod Clearings
 mod Holding
 mod FolderLemmas
 mod SpotLemmas
-mod NameTests
 mod ManyPaths
 mod ManyWalks
 mod Firsts

@@ -1,5 +1,5 @@
 -- Where the places are that have many names.
-use Rattle.std.proofs.Common.{◌≡◌, ◌⊎◌, inl, inr, ◌<◌, ◌≤◌, ◌+◌, ℕ, true, refl, sym, ◌∙◌, ap, subst, arith, List, [], ◌∷◌, ◌++◌, length, codes, append_assoc, length-append}
+use Rattle.std.proofs.Common.{◌≡◌, ◌⊎◌, inl, inr, ◌≤◌, ◌+◌, ℕ, true, refl, sym, ◌∙◌, ap, subst, arith, List, [], ◌∷◌, ◌++◌, length, codes, append_assoc, length-append}
 use Rattle.std.proofs.lemmas.List.{append_cancel_left}
 use Rattle.ost_types.specs.Path.{Name, Path, IsPath, is_below, joined, text_of, under}
 use Rattle.ost_types.specs.Text.{IsName}
@@ -9,12 +9,12 @@ use Rattle.repo_layout.specs.declared.folder.Folder.TheVariants as layout
 use Rattle.repo_layout.specs.BootPaths.{kernel_folder, kernel_path}
 use Rattle.repo_layout.specs.Paths.{folder_path, mark_path}
 use Rattle.repo_layout.proofs.KnownPaths.{folder-known}
-use Rattle.rely.proofs.Layouts.{below_split, split_below}
-use Rattle.sys_open.specs.declared.many.Many.{Many}
-use Rattle.sys_open.specs.declared.many.Many.TheVariants.{Kernels, Stateroots, Objects, Marks}
-use Rattle.sys_open.specs.declared.spots.Rule.{Rule}
-use Rattle.sys_open.specs.declared.spots.Rule.TheVariants.{FileOrNothing, FolderOrNothing, NoFolder}
-use Rattle.sys_open.specs.Many.{IsCopyName, IsIn, IsKernelName, IsMarkName, IsNameOf, IsOfKernel, IsTwoDigits, folder_of}
+use Rattle.layout_rules.proofs.Layouts.{below_split, split_below}
+use Rattle.layout_rules.specs.declared.many.Many.{Many}
+use Rattle.layout_rules.specs.declared.many.Many.TheVariants.{Kernels, Stateroots, Objects, Marks}
+use Rattle.layout_rules.specs.declared.rule.Rule.{Rule}
+use Rattle.layout_rules.specs.declared.rule.Rule.TheVariants.{FileOrNothing, FolderOrNothing, NoFolder}
+use Rattle.layout_rules.specs.Many.{IsCopyName, IsIn, IsKernelName, IsMarkName, IsNameOf, IsOfKernel, folder_of}
 
 pub same_under : (f : Path) (x y : Name) (r s : Path) → under f x ++ r ≡ under f y ++ s → (x ≡ y) × (r ≡ s)
 same_under f x y r s e =

@@ -1,13 +1,11 @@
 -- What walks over the places of many names tell.
-use Rattle.std.proofs.Common.{◌≡◌, ◌⊎◌, inl, inr, ◌<◌, ◌≤◌, ◌+◌, ℕ, true, false, refl, sym, ◌∙◌, ap, subst, arith, List, [], ◌∷◌, ◌++◌, length, map, get_or, codes, append-nil, Result, Ok, Err}
+use Rattle.std.proofs.Common.{◌≡◌, ◌⊎◌, inl, inr, ◌<◌, ◌≤◌, ◌+◌, ℕ, true, false, refl, sym, ◌∙◌, ap, subst, arith, List, [], ◌∷◌, ◌++◌, length, get_or, codes, append-nil, Result, Ok, Err}
 use Rattle.std.proofs.lemmas.List.{get_or-map, length-map}
-use Rattle.std.specs.Prelude.{Contains}
 use Rattle.std.specs.Cmp.Lexicographic.{slice_cmp}
 use Rattle.std.specs.Ordering.{nat_cmp}
 use Rattle.std.specs.List.Sorted.{IsStrictlySortedBy}
 use Rattle.std.specs.declared.cmp.Ordering.TheVariants.{Less}
 use Rattle.ost_types.specs.Path.{Name, Path, is_below, path_cmp, under}
-use Rattle.fs_trait.specs.declared.types.Value.{Value}
 use Rattle.fs_trait.specs.declared.types.Value.TheVariants.{Absent}
 use Rattle.fs_trait.specs.View.{Disk}
 use Rattle.fs_trait.specs.Image.{is_folder, IsTree}
@@ -15,29 +13,24 @@ use Rattle.fs_trait.specs.Effect.{IsListing}
 use Rattle.repo_layout.specs.declared.folder.Folder.TheVariants as layout
 use Rattle.repo_layout.specs.OsName.{IsOsName}
 use Rattle.repo_layout.specs.Paths.{folder_path}
-use Rattle.rely.proofs.Layouts.{below_split, split_below}
+use Rattle.layout_rules.proofs.Layouts.{below_split, split_below}
 use Rattle.sys_open.specs.declared.fault.OpenFault.{OpenFault}
 use Rattle.sys_open.specs.declared.fault.OpenFault.TheVariants as fault
 use Rattle.sys_open.specs.declared.fault.Why.TheVariants.{WrongKind}
-use Rattle.sys_open.specs.declared.many.Many.{Many}
-use Rattle.sys_open.specs.declared.many.Many.TheVariants.{Kernels, Stateroots, Objects, Marks}
-use Rattle.sys_open.specs.declared.spots.Rule.{Rule}
-use Rattle.sys_open.specs.declared.spots.Rule.TheVariants.{FileOrNothing, FolderOrNothing, NoFolder}
-use Rattle.sys_open.specs.Checks.{AsksIn, Suits}
-use Rattle.sys_open.specs.Many.{IsCopyName, IsIn, IsKernelName, IsMarkName, IsNameOf, IsTwoDigits, folder_of}
-use Rattle.sys_open.specs.Walk.{IsSoBelow, IsFirstBelow, Looked, Walked, paths_in}
+use Rattle.layout_rules.specs.declared.many.Many.{Many}
+use Rattle.layout_rules.specs.declared.many.Many.TheVariants.{Kernels, Stateroots, Objects, Marks}
+use Rattle.layout_rules.specs.declared.rule.Rule.TheVariants.{FileOrNothing, FolderOrNothing, NoFolder}
+use Rattle.layout_rules.specs.Checks.{AsksIn, Suits}
+use Rattle.layout_rules.specs.Many.{IsCopyName, IsKernelName, IsMarkName, IsNameOf, IsTwoDigits, folder_of}
+use Rattle.sys_open.specs.Walk.{IsSoBelow, Looked, Walked, paths_in}
+use Rattle.layout_rules.proofs.Suiting.{absent_suits}
 use Rattle.sys_open.proofs.FaultLemmas.{look_same}
 use Rattle.sys_open.proofs.ManyPaths.{OfKernel, copy_in, in_folder, kernel_in, mark_in, not_folder, not_named, rule_of_kernel, rule_of_mark, rule_of_object, rule_of_stateroot}
 use Rattle.sys_open.proofs.Orders.{not_less_itself}
 use Rattle.sys_open.proofs.Reaching.{walked_here, walked_later, walked_all}
 
-absent_any : (rule : Rule) (z : Value) → z ≡ Absent → Suits rule z
-absent_any FolderOrNothing z e = subst (Suits FolderOrNothing) (sym e) tt
-absent_any NoFolder z e = subst (Suits NoFolder) (sym e) tt
-absent_any FileOrNothing z e = subst (Suits FileOrNothing) (sym e) tt
-
 pub vacant : (d : Disk) (many : Many) (q : Path) → d.at q ≡ Absent → AsksIn many d q
-vacant d many q none = λ rule is. absent_any rule (d.at q) none
+vacant d many q none = λ rule is. absent_suits rule (d.at q) none
 
 pub folder_free : (d : Disk) (many : Many) → AsksIn many d (folder_path (folder_of many))
 folder_free d many = λ rule is. absurd (not_folder many rule is)

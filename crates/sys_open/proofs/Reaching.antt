@@ -12,7 +12,7 @@ use Rattle.repo_layout.specs.Refs.{is_leaf}
 use Rattle.sys_open.specs.declared.fault.OpenFault.{OpenFault}
 use Rattle.sys_open.specs.declared.fault.OpenFault.TheVariants as fault
 use Rattle.sys_open.specs.declared.fault.Why.{Why}
-use Rattle.sys_open.specs.Checks.{IsReached}
+use Rattle.layout_rules.specs.Checks.{IsReached}
 use Rattle.sys_open.specs.Walk.{IsSoBelow, IsFirstBelow, Looked, Walked, paths_in}
 use Rattle.sys_open.proofs.Walks.{leaf_walk, first_here, folder_walk, folder_first}
 

@@ -1,60 +1,33 @@
 -- What keeps a sane disk is sane.
-use Rattle.std.proofs.Common.{◌≡◌, ◌⊎◌, inl, inr, ◌≤◌, ◌<◌, ℕ, true, refl, sym, ◌∙◌, ap, subst, arith, List, [], ◌∷◌}
-use Rattle.ost_types.specs.Path.{Name, Path, IsPath, is_below, under}
+use Rattle.std.proofs.Common.{◌≡◌, ◌⊎◌, inl, inr, ◌<◌, ℕ, true, refl, sym, ◌∙◌, ap, subst, arith, List, [], ◌∷◌}
+use Rattle.ost_types.specs.Path.{Path, IsPath, is_below, under}
 use Rattle.ost_types.proofs.Paths.{is_below-self}
-use Rattle.fs_trait.specs.declared.types.Value.{Value}
-use Rattle.fs_trait.specs.declared.types.Value.TheVariants as value
 use Rattle.fs_trait.specs.View.{Disk}
-use Rattle.fs_trait.specs.Seen.{Vacant, Directory, Symlink, Leaf, IsDirectory, seen, shows, bytes_in}
+use Rattle.fs_trait.specs.Seen.{IsDirectory, seen, shows, bytes_in}
 use Rattle.fs_trait.proofs.Claims.{reads_shows}
 use Rattle.fs_trait.proofs.Facts.{vacant_absent}
 use Rattle.repo_layout.specs.declared.fixed.Fixed.TheVariants as fixed
 use Rattle.repo_layout.specs.declared.fixed.Version.TheVariants.{Zero, One}
 use Rattle.repo_layout.specs.declared.folder.Folder.{Folder}
 use Rattle.repo_layout.specs.Paths.{folder_path, heads}
-use Rattle.repo_layout.specs.Place.{BootLink, KernelCopy, Mark, Other, Place, Summary, place}
+use Rattle.repo_layout.specs.Place.{BootLink, KernelCopy, Mark, Other, Summary, place}
 use Rattle.repo_layout.proofs.Places.{place-boot_link, place-kernel, place-mark, place-summary}
 use Rattle.repo_layout.specs.BootPaths.{kernel_path}
 use Rattle.repo_layout.specs.RefFile.{IsSum}
-use Rattle.repo_layout.specs.Refs.{is_leaf}
-use Rattle.rely.proofs.Layouts.{fixed_other}
-use Rattle.sys_open.specs.declared.spots.Rule.{Rule}
-use Rattle.sys_open.specs.declared.spots.Rule.TheVariants.{FileOrNothing, FolderOrNothing, NoFolder}
-use Rattle.sys_open.specs.declared.spots.Spot.{Spot}
-use Rattle.sys_open.specs.declared.spots.Spot.TheVariants.{Laid, Known}
+use Rattle.layout_rules.proofs.Layouts.{fixed_other}
+use Rattle.layout_rules.specs.declared.rule.Rule.{Rule}
+use Rattle.layout_rules.specs.declared.rule.Rule.TheVariants.{FileOrNothing, FolderOrNothing, NoFolder}
+use Rattle.layout_rules.specs.declared.spot.Spot.{Spot}
+use Rattle.layout_rules.specs.declared.spot.Spot.TheVariants.{Laid, Known}
 use Rattle.sys_open.specs.Changes.{Changes, Keeps}
-use Rattle.sys_open.specs.Checks.{Asks, HoldsRefs, IsFor, IsReached, IsSane, Kinds, RefFiles, Staging, Suits}
-use Rattle.sys_open.specs.Spots.{rule_of, spot_path}
-use Rattle.sys_open.specs.declared.many.Many.{Many}
-use Rattle.sys_open.specs.declared.many.Many.TheVariants.{Kernels, Stateroots, Objects, Marks}
-use Rattle.sys_open.specs.Many.{IsIn, IsOfKernel}
-use Rattle.sys_open.proofs.Beginning.{folder_is_path, leaf_was}
-use Rattle.sys_open.proofs.FolderLemmas.{absent_no_folder, absent_suits, folder_suits}
-use Rattle.sys_open.proofs.Laying.{suits_shown}
-
-no_folder_shown : (d e : Disk) (z y : Value) → seen e y ≡ seen d z → Suits NoFolder z → Suits NoFolder y
-no_folder_shown d e z value.Absent same suits = tt
-no_folder_shown d e z (value.Link m t) same suits = tt
-no_folder_shown d e z (value.File n) same suits = tt
-no_folder_shown d e value.Absent (value.Folder m) same suits = let n : Directory m ≡ Vacant = same in cc
-no_folder_shown d e (value.Folder k) (value.Folder m) same suits = suits
-no_folder_shown d e (value.Link k r) (value.Folder m) same suits = let n : Directory m ≡ Symlink k r = same in cc
-no_folder_shown d e (value.File k) (value.Folder m) same suits = let n : Directory m ≡ Leaf k (d.meta k) (d.bytes k) = same in cc
-
-file_shown : (d e : Disk) (z y : Value) → seen e y ≡ seen d z → Suits FileOrNothing z → Suits FileOrNothing y
-file_shown d e z value.Absent same suits = tt
-file_shown d e z (value.File n) same suits = tt
-file_shown d e value.Absent (value.Folder k) same suits = let n : Directory k ≡ Vacant = same in cc
-file_shown d e value.Absent (value.Link k r) same suits = let n : Symlink k r ≡ Vacant = same in cc
-file_shown d e (value.File n) (value.Folder k) same suits = let n : Directory k ≡ Leaf n (d.meta n) (d.bytes n) = same in cc
-file_shown d e (value.File n) (value.Link k r) same suits = let n : Symlink k r ≡ Leaf n (d.meta n) (d.bytes n) = same in cc
-file_shown d e (value.Folder m) y same suits = absurd suits
-file_shown d e (value.Link m t) y same suits = absurd suits
-
-suits_same : (rule : Rule) (d e : Disk) (z y : Value) → seen e y ≡ seen d z → Suits rule z → Suits rule y
-suits_same FolderOrNothing d e z y same suits = suits_shown d e z y same suits
-suits_same NoFolder d e z y same suits = no_folder_shown d e z y same suits
-suits_same FileOrNothing d e z y same suits = file_shown d e z y same suits
+use Rattle.layout_rules.specs.Checks.{HoldsRefs, IsFor, IsReached, IsSane, Kinds, RefFiles, Staging, Suits}
+use Rattle.layout_rules.specs.Spots.{rule_of, spot_path}
+use Rattle.layout_rules.specs.declared.many.Many.{Many}
+use Rattle.layout_rules.specs.declared.many.Many.TheVariants.{Kernels, Stateroots, Objects, Marks}
+use Rattle.layout_rules.specs.Many.{IsIn, IsOfKernel}
+use Rattle.layout_rules.proofs.Sanes.{folder_is_path}
+use Rattle.layout_rules.proofs.Suiting.{absent_suits, folder_suits, suits_same}
+use Rattle.sys_open.proofs.Beginning.{leaf_was}
 
 -- no folder that is laid out lies where there is to be none
 other : (f : Folder) → place (folder_path f) ≡ Other (folder_path f)
@@ -99,11 +72,6 @@ laid_rule FileOrNothing f p (inl w) e = absurd (no_file_asked w.0 w.1)
 laid_rule NoFolder f p (inr w) e = laid_in w.0 NoFolder f p w.1 e
 laid_rule FileOrNothing f p (inr w) e = laid_in w.0 FileOrNothing f p w.1 e
 
-absent_all : (rule : Rule) (z : Value) → z ≡ value.Absent → Suits rule z
-absent_all FolderOrNothing z e = absent_suits z e
-absent_all NoFolder z e = absent_no_folder z e
-absent_all FileOrNothing z e = subst (Suits FileOrNothing) (sym e) tt
-
 module _ (d e : Disk) (sane : IsSane d) (keeps : Keeps d e) where
   reached_kept : (p : Path) → IsReached d p → IsReached e p
   reached_kept p reached x there = by (keeps (under p x))
@@ -116,7 +84,7 @@ module _ (d e : Disk) (sane : IsSane d) (keeps : Keeps d e) where
   kind_kept : (rule : Rule) (p : Path) → IsFor rule p → Suits rule (d.at p) → (shows e p ≡ shows d p) ⊎ Changes d p (shows e p) → Suits rule (e.at p)
   kind_kept rule p w suits (inl same) = suits_same rule d e (d.at p) (e.at p) same suits
   kind_kept rule p w suits (inr (inl lays)) = subst (λ r. Suits r (e.at p)) (sym (laid_rule rule lays.0.0 p w lays.0.1)) (folder_suits e (e.at p) (subst IsDirectory (sym lays.1) tt))
-  kind_kept rule p w suits (inr (inr clears)) = absent_all rule (e.at p) (vacant_absent e p clears.2.1)
+  kind_kept rule p w suits (inr (inr clears)) = absent_suits rule (e.at p) (vacant_absent e p clears.2.1)
 
   holds_kept : (p : Path) → is_below heads p ≡ true → HoldsRefs e p
   holds_kept p below = record {

@@ -14,10 +14,10 @@ use Rattle.repo_layout.specs.declared.folder.Folder.TheVariants.{Ostree, Repo, O
 use Rattle.sys_open.specs.declared.fault.OpenFault.{OpenFault}
 use Rattle.sys_open.specs.declared.fault.OpenFault.TheVariants as fault
 use Rattle.sys_open.specs.declared.fault.Why.TheVariants.{WrongKind}
-use Rattle.sys_open.specs.declared.spots.Spot.{Spot}
-use Rattle.sys_open.specs.declared.spots.Spot.TheVariants.{Laid, Known}
-use Rattle.sys_open.specs.Checks.{AsksFixed, Suits}
-use Rattle.sys_open.specs.Spots.{all_spots, rule_of, spot_path}
+use Rattle.layout_rules.specs.declared.spot.Spot.{Spot}
+use Rattle.layout_rules.specs.declared.spot.Spot.TheVariants.{Laid, Known}
+use Rattle.layout_rules.specs.Checks.{AsksFixed, Suits}
+use Rattle.layout_rules.specs.Spots.{all_spots, rule_of, spot_path}
 use Rattle.sys_open.specs.Walk.{IsSoBelow, IsFirstBelow, Looked, Walked}
 use Rattle.sys_open.proofs.Orders.{not_both_less, not_less_itself}
 

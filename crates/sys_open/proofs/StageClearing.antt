@@ -7,7 +7,7 @@ use Rattle.fs_trait.specs.Seen.{Seen, Vacant, seen, shows}
 use Rattle.fs_trait.specs.Change.{Writes}
 use Rattle.fs_trait.proofs.Facts.{vacant_absent}
 use Rattle.repo_layout.specs.Paths.{stage_path}
-use Rattle.sys_open.specs.Checks.{IsReached, Asks, Staging}
+use Rattle.layout_rules.specs.Checks.{IsReached, Asks, Staging}
 use Rattle.sys_open.specs.Changes.{Clears, ClearsStages}
 use Rattle.sys_open.specs.Stages.{stage_order}
 use Rattle.sys_open.specs.Walk.{IsSoBelow}

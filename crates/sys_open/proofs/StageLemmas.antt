@@ -12,11 +12,11 @@ use Rattle.ost_types.specs.Path.{Name, Path, is_below, path_cmp, under}
 use Rattle.fs_trait.specs.View.{Disk}
 use Rattle.repo_layout.specs.declared.folder.Folder.TheVariants.{Tmp}
 use Rattle.repo_layout.specs.Paths.{folder_path, stage_path}
-use Rattle.rely.proofs.Layouts.{below_split}
+use Rattle.layout_rules.proofs.Layouts.{below_split}
 use Rattle.sys_open.specs.declared.fault.OpenFault.{OpenFault}
 use Rattle.sys_open.specs.declared.fault.OpenFault.TheVariants as fault
 use Rattle.sys_open.specs.declared.fault.Why.TheVariants.{WrongKind}
-use Rattle.sys_open.specs.Checks.{Asks, IsReached, Staging}
+use Rattle.layout_rules.specs.Checks.{Asks, IsReached, Staging}
 use Rattle.sys_open.specs.Stages.{stage_order}
 use Rattle.sys_open.specs.Walk.{IsSoBelow, IsFirstBelow, Walked}
 use Rattle.sys_open.proofs.Orders.{not_both_less, less_by_name}

@@ -11,7 +11,7 @@ use Rattle.fs_trait.specs.declared.types.Value.TheVariants.{Absent, Folder, Link
 use Rattle.fs_trait.specs.View.{Disk}
 use Rattle.fs_trait.specs.Image.{is_folder, IsTree}
 use Rattle.fs_trait.specs.Effect.{IsListing}
-use Rattle.rely.proofs.Layouts.{below_split, split_below}
+use Rattle.layout_rules.proofs.Layouts.{below_split, split_below}
 use Rattle.sys_open.specs.Walk.{IsSoBelow, IsFirstBelow, paths_in}
 use Rattle.sys_open.proofs.Orders.{not_both_less, not_less_below, less_by_name}
 

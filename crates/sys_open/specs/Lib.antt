@@ -1,7 +1,5 @@
 pub mod Faults
-pub mod Spots
-pub mod Many
-pub mod Checks
+pub mod Damages
 pub mod Walk
 pub mod Changes
 pub mod Gathered

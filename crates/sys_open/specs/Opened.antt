@@ -16,7 +16,7 @@ pub record Opened (F : Type 0) : Type 0 where
   pub faults : ℕ
   pub limits : Limits
 
--- What every open repository keeps: a system can begin on it with these refs, and each crash since that moment left a good disk
+-- What every open repository keeps: a system can begin on it with these refs, and each crash since that moment left a sane disk
 -- with them.
 pub record IsOpened {F : Type 0} (view : F → Option View) (clock : F → ℕ) (was : F → ℕ → View → Type 0) (fs : F) (opened : ℕ) (refs : List (List ℕ × List ℕ)) : Type 0 where
   pub ascending : AreAscending refs

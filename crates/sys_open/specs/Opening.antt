@@ -12,8 +12,9 @@ use Rattle.rely.specs.Disks.{Logical}
 use Rattle.rely.specs.Opening.{IsOpening}
 use Rattle.sys_open.specs.declared.fault.OpenFault.{OpenFault}
 use Rattle.sys_open.specs.declared.fault.OpenFault.TheVariants as fault
-use Rattle.sys_open.specs.Checks.{IsFault, IsSane}
+use Rattle.layout_rules.specs.Checks.{IsSane}
 use Rattle.sys_open.specs.Changes.{Keeps}
+use Rattle.sys_open.specs.Damages.{IsFault}
 
 -- Whether it is opened, by what reads see at the beginning.
 abbrev pub IsToldOf : Disk → OpenFault → Type 0
@@ -36,10 +37,6 @@ HasNoStages d = (actor : ℕ) → actor < 16 → (p : Path) → IsTrue (is_below
 -- Each disk that a crash left since that moment shows what this one shows, but where a folder came or a staging path was cleared.
 abbrev pub KeepsSince : (ℕ → Disk → Type 0) → ℕ → Disk → Type 0
 KeepsSince left opened d = (t : ℕ) (e : Disk) → opened ≤ t → left t e → Keeps d e
-
--- Each disk that a crash left since that moment opens again.
-abbrev pub OpensSince : (ℕ → Disk → Type 0) → ℕ → Type 0
-OpensSince left opened = (t : ℕ) (d : Disk) → opened ≤ t → left t d → IsSane d
 
 -- What it leaves: a system can begin with these refs, which are those of the beginning, and nothing stands at a staging path.
 pub record Begins (refs : List (List ℕ × List ℕ)) (v w : View) : Type 0 where

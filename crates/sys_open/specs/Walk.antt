@@ -10,7 +10,7 @@ use Rattle.ref_room.specs.declared.stands.Stands.TheVariants as stand
 use Rattle.sys_open.specs.declared.fault.Why.{Why}
 use Rattle.sys_open.specs.declared.fault.Why.TheVariants.{BadRef}
 use Rattle.sys_open.specs.Faults.{IsInterruption}
-use Rattle.sys_open.specs.Checks.{HoldsRefs}
+use Rattle.layout_rules.specs.Checks.{HoldsRefs}
 use Rattle.sys_open.specs.declared.fault.OpenFault.{OpenFault}
 use Rattle.sys_open.specs.declared.fault.OpenFault.TheVariants as fault
 

@@ -7,10 +7,10 @@ ghost use Rattle.fs_trait.specs.Change.{Left};
 ghost use Rattle.rely.specs.Opening.{HasSince};
 ghost use Rattle.rely.specs.State.{first};
 ghost use Rattle.sys_open.specs.declared.fault.OpenFault.TheVariants as fault;
-ghost use Rattle.sys_open.specs.Checks.{IsSane};
+ghost use Rattle.layout_rules.specs.Checks.{IsSane};
 ghost use Rattle.sys_open.specs.Changes.{Changes, Works};
 ghost use Rattle.sys_open.specs.Opened.{IsOpened};
-ghost use Rattle.sys_open.specs.Opening.{AreAscending, Begins, IsToldOf, KeepsSince, OpensSince, StaysOnDamage};
+ghost use Rattle.sys_open.specs.Opening.{AreAscending, Begins, IsToldOf, KeepsSince, StaysOnDamage};
 
 use crate::fault::OpenFault;
 use crate::opening::open;
@@ -23,7 +23,7 @@ use std::marker::Model;
 /// An open repository, on which a system can begin.
 ///
 /// Each value keeps, for any file system that tells its view: all is synced, the folders of the layout are there, nothing
-/// stands at a staging path, and each crash since the first barrier left a good disk with these refs.
+/// stands at a staging path, and each crash since the first barrier left a sane disk with these refs, which opens again with them.
 #[derive(Drop)]
 pub struct Opened<F: Fs> {
     fs: F,
@@ -111,13 +111,13 @@ impl<F: Fs> Opened<F> {
     }
 }
 
-/// Opens the repository of a file system; where it isn't opened the file system comes back.
+/// Opens the repository of a file system; where it isn't opened the file system comes back. No damage is told of a sane disk,
+/// so what a crash left since the first barrier opens again, with the same refs.
 pub fn adopt<F: Fs>(alloc: Global, fs: F, limits: Limits) -> Result<Opened<F>, (F, OpenFault)>
     ensures sane { (v : View) → F.view fs ≡ Some v → IfOk result (λ o. IsSane v.now) }
     ensures begins { (v : View) → F.view fs ≡ Some v → IfOk result (λ o. Told (F.view o.fs) (Begins o.refs v)) }
     ensures keeps { (v : View) → F.view fs ≡ Some v → IfOk result (λ o. KeepsSince (Left (F.was o.fs)) o.clock v.now) }
     ensures since { (v : View) → F.view fs ≡ Some v → IfOk result (λ o. HasSince (Left (F.was o.fs)) o.clock (first o.refs)) }
-    ensures again { (v : View) → F.view fs ≡ Some v → IfOk result (λ o. OpensSince (Left (F.was o.fs)) o.clock) }
     ensures told { (v : View) → F.view fs ≡ Some v → IfErr result (λ e. IsToldOf v.now e.1) }
     ensures still { (v : View) → F.view fs ≡ Some v → IfErr result (λ e. StaysOnDamage e.1 (F.view e.0 ≡ Some (all_synced v))) }
     ensures works { (v : View) → F.view fs ≡ Some v → IfOk result (λ o. Works (Changes v.now) v (F.clock fs) (F.clock o.fs) (F.was fs) (F.was o.fs) (F.view o.fs)) }

@@ -5,7 +5,7 @@ ghost use Rattle.fs_trait.specs.Image.{Told};
 ghost use Rattle.fs_trait.specs.Effect.{Next};
 ghost use Rattle.fs_trait.specs.Change.{Nothing};
 ghost use Rattle.sys_open.specs.Faults.{HasReason, IsInterruption};
-ghost use Rattle.sys_open.specs.Checks.{IsSane};
+ghost use Rattle.layout_rules.specs.Checks.{IsSane};
 ghost use Rattle.sys_open.specs.Changes.{Changes, IsArranged, Works};
 
 use crate::fault::{OpenFault, refused};

@@ -6,7 +6,7 @@ ghost use Rattle.rely.specs.State.{first};
 ghost use Rattle.rely.specs.Disks.{Logical};
 ghost use Rattle.sys_open.specs.declared.fault.Why.TheVariants.{WrongKind};
 ghost use Rattle.sys_open.specs.Faults.{HasReason};
-ghost use Rattle.sys_open.specs.Checks.{Asks, Kinds};
+ghost use Rattle.layout_rules.specs.Checks.{Asks, Kinds};
 ghost use Rattle.sys_open.specs.Walk.{Walked};
 ghost use Rattle.sys_open.specs.Opening.{Answers, AreAscending};
 

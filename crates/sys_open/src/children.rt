@@ -5,7 +5,7 @@ ghost use Rattle.fs_trait.specs.Image.{is_folder};
 ghost use Rattle.fs_trait.specs.Effect.{IsListing, IsQuiet};
 ghost use Rattle.sys_open.specs.declared.fault.OpenFault.TheVariants as fault;
 ghost use Rattle.sys_open.specs.Faults.{HasReason};
-ghost use Rattle.sys_open.specs.Checks.{IsReached};
+ghost use Rattle.layout_rules.specs.Checks.{IsReached};
 ghost use Rattle.sys_open.specs.Walk.{AreReached, Looked, paths_in};
 
 use crate::fault::{OpenFault, Why, damaged, refused};

@@ -5,7 +5,7 @@ ghost use Rattle.fs_trait.specs.Image.{is_folder, Told};
 ghost use Rattle.fs_trait.specs.Seen.{Vacant, shows};
 ghost use Rattle.repo_layout.specs.Refs.{is_leaf};
 ghost use Rattle.sys_open.specs.Faults.{HasReason, IsInterruption};
-ghost use Rattle.sys_open.specs.Checks.{IsReached};
+ghost use Rattle.layout_rules.specs.Checks.{IsReached};
 ghost use Rattle.sys_open.specs.Walk.{IsSoBelow};
 ghost use Rattle.sys_open.specs.Changes.{Clears, ClearsInside, IsEmptied, Works};
 

@@ -12,8 +12,8 @@ pub enum Why {
     /// A leaf at or below the folder of refs isn't a ref file under the path of a good name, or a folder there has a name
     /// that is too long for a path.
     BadRef,
-    /// Something else than a folder stands in a folder's place, or a folder at a staging path has a name that is too long for
-    /// a path.
+    /// Something else than a folder stands in a folder's place, a folder where a leaf belongs, or something else than a
+    /// regular file at the path of a mark; or a folder at a staging path has a name that is too long for a path.
     WrongKind,
 }
 

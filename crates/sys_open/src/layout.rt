@@ -5,8 +5,8 @@ ghost use Rattle.fs_trait.specs.Image.{is_folder, Told};
 ghost use Rattle.repo_layout.specs.declared.folder.Folder as layout;
 ghost use Rattle.repo_layout.specs.Paths.{folder_path};
 ghost use Rattle.sys_open.specs.Faults.{HasReason, IsInterruption};
-ghost use Rattle.sys_open.specs.declared.spots.Rule.TheVariants.{FolderOrNothing};
-ghost use Rattle.sys_open.specs.Checks.{Suits};
+ghost use Rattle.layout_rules.specs.declared.rule.Rule.TheVariants.{FolderOrNothing};
+ghost use Rattle.layout_rules.specs.Checks.{Suits};
 ghost use Rattle.sys_open.specs.Folders.{HasParent, IsFree, all_folders};
 ghost use Rattle.sys_open.specs.Changes.{Lays, Works};
 

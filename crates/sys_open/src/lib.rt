@@ -12,11 +12,9 @@ mod inside;
 mod kinds;
 mod layout;
 mod least;
-mod many;
 mod opening;
 mod reach;
 mod refs;
-mod spots;
 mod stages;
 
 pub use adopting::{Opened, OpenedParts, adopt};

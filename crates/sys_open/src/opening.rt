@@ -6,7 +6,7 @@ ghost use Rattle.fs_trait.specs.Seen.{Always, shows};
 ghost use Rattle.fs_trait.specs.Effect.{Next};
 ghost use Rattle.fs_trait.specs.Change.{Left};
 ghost use Rattle.sys_open.specs.Faults.{HasReason, IsInterruption};
-ghost use Rattle.sys_open.specs.Checks.{IsSane};
+ghost use Rattle.layout_rules.specs.Checks.{IsSane};
 ghost use Rattle.sys_open.specs.Changes.{Changes, IsArranged, Works};
 ghost use Rattle.sys_open.specs.Opening.{Answers, AreAscending, Begins, KeepsSince, OnDamage};
 

@@ -5,7 +5,7 @@ ghost use Rattle.fs_trait.specs.Image.{is_folder};
 ghost use Rattle.fs_trait.specs.Effect.{IsQuiet};
 ghost use Rattle.sys_open.specs.declared.fault.Why.TheVariants.{WrongKind};
 ghost use Rattle.sys_open.specs.Faults.{HasReason};
-ghost use Rattle.sys_open.specs.Checks.{IsReached};
+ghost use Rattle.layout_rules.specs.Checks.{IsReached};
 ghost use Rattle.sys_open.specs.Walk.{Walked};
 
 use crate::children::children;

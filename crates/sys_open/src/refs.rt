@@ -8,7 +8,7 @@ ghost use Rattle.sys_open.specs.declared.fault.OpenFault.TheVariants as fault;
 ghost use Rattle.sys_open.specs.declared.fault.Why.TheVariants.{BadRef};
 ghost use Rattle.ref_room.specs.declared.stands.Stands.TheVariants as stand;
 ghost use Rattle.sys_open.specs.Faults.{HasReason};
-ghost use Rattle.sys_open.specs.Checks.{HoldsRefs, IsRefAt};
+ghost use Rattle.layout_rules.specs.Checks.{HoldsRefs, IsRefAt};
 ghost use Rattle.sys_open.specs.Walk.{Finds, IsFileAt, Looked, Visited, Walked};
 ghost use Rattle.sys_open.specs.Gathered.{AreOf, Grows, HasAllBelow, HasAt};
 

@@ -8,7 +8,7 @@ ghost use Rattle.fs_trait.specs.Effect.{IsQuiet};
 ghost use Rattle.repo_layout.specs.Paths.{stage_path};
 ghost use Rattle.sys_open.specs.declared.fault.Why.TheVariants.{WrongKind};
 ghost use Rattle.sys_open.specs.Faults.{HasReason, IsInterruption};
-ghost use Rattle.sys_open.specs.Checks.{Asks, IsReached, Staging};
+ghost use Rattle.layout_rules.specs.Checks.{Asks, IsReached, Staging};
 ghost use Rattle.sys_open.specs.Stages.{stage_order};
 ghost use Rattle.sys_open.specs.Walk.{IsSoBelow, Walked};
 ghost use Rattle.sys_open.specs.Changes.{Clears, ClearsStages, Works};

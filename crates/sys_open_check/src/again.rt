@@ -1,6 +1,6 @@
 ghost use Rattle.std.specs.Prelude.{◌≡◌, Some, IfOk, IfErr};
 ghost use Rattle.fs_trait.specs.View.{View};
-ghost use Rattle.sys_open.specs.Checks.{IsSane};
+ghost use Rattle.layout_rules.specs.Checks.{IsSane};
 ghost use Rattle.sys_open.specs.Opening.{AreAscending, IsToldOf};
 
 use fs_trait::Fs;

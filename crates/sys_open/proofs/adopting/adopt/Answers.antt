@@ -1,5 +1,5 @@
 use Rattle.fs_trait.specs.Change.{Left}
-use Rattle.sys_open.proofs.Opens.{good_since, is_opened, sane_since}
+use Rattle.sys_open.proofs.Opens.{is_opened, sane_since}
 use Rattle.sys_open.proofs.adopting.adopt.Goals as goal
 
 pub invariant_of-result : goal.invariant_of-result
@@ -10,9 +10,4 @@ invariant_of-result g c =
 pub returns-in-Ok-clause-since : goal.returns-in-Ok-clause-since
 returns-in-Ok-clause-since g c = λ v told.
     let e = c.in-Ok.ensures in
-    good_since (Left (g.F.Fs.was c.open.new.fs)) c.in-Ok.clock v.now c.in-Ok.refs.items (e.told v told) (e.begins v told).2.same (e.keeps v told)
-
-pub returns-in-Ok-clause-again : goal.returns-in-Ok-clause-again
-returns-in-Ok-clause-again g c = λ v told.
-    let e = c.in-Ok.ensures in
-    sane_since (Left (g.F.Fs.was c.open.new.fs)) c.in-Ok.clock v.now (e.told v told) (e.keeps v told)
+    sane_since (Left (g.F.Fs.was c.open.new.fs)) c.in-Ok.clock v.now c.in-Ok.refs.items (e.told v told) (e.begins v told).2.same (e.keeps v told)

@@ -1,11 +1,12 @@
 use Rattle.std.proofs.Common.{inl, inr}
 use Rattle.sys_open.specs.Changes.{Lays, ClearsStages, Changes}
-use Rattle.sys_open.proofs.Arranging.{arranged_of, asks_kept, kinds_suit_all}
+use Rattle.layout_rules.proofs.Sanes.{laid_suits}
+use Rattle.sys_open.proofs.Arranging.{arranged_of, asks_kept}
 use Rattle.sys_open.proofs.Working.{works_then, works_weaker}
 use Rattle.sys_open.proofs.arrange.arrange.Goals as goal
 
 pub lay_out-requires : goal.lay_out-requires
-lay_out-requires g c = λ v told. kinds_suit_all v.now (c.requires v told)
+lay_out-requires g c = λ v told. laid_suits v.now (c.requires v told)
 
 pub returns-in_err-lay_out-clause-works : goal.returns-in_err-lay_out-clause-works
 returns-in_err-lay_out-clause-works g c = λ v told.

@@ -2,7 +2,7 @@ use Rattle.std.proofs.Common.{◌∙◌, subst, List, ℕ, Err}
 use Rattle.std.proofs.lemmas.Result.{err_from_is_err_and}
 use Rattle.std.specs.Global.{Vec}
 use Rattle.sys_open.specs.declared.fault.Why.TheVariants.{BadRef}
-use Rattle.sys_open.specs.Checks.{HoldsRefs}
+use Rattle.layout_rules.specs.Checks.{HoldsRefs}
 use Rattle.sys_open.specs.Gathered.{HasAllBelow}
 use Rattle.sys_open.specs.Walk.{IsSoBelow, Walked}
 use Rattle.sys_open.proofs.Checking.{kinds_fault, refs_fault, stages_fault, all_sane, refs_say, none_of}

@@ -1,5 +1,5 @@
 use Rattle.std.proofs.Common.{◌∙◌, refl, subst, Ok}
-use Rattle.sys_open.specs.Checks.{Asks, AsksFixed, AsksInside, Kinds}
+use Rattle.layout_rules.specs.Checks.{Asks, AsksFixed, AsksInside, Kinds}
 use Rattle.sys_open.specs.Walk.{IsLeastWrong}
 use Rattle.sys_open.proofs.Firsts.{damage_least, kinds_least, lesser_least}
 use Rattle.sys_open.proofs.check.check_places.Goals as goal

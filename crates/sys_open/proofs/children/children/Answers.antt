@@ -3,7 +3,7 @@ use Rattle.std.specs.Global.{Vec}
 use Rattle.ost_types.specs.Path.{Path}
 use Rattle.fs_trait.specs.Effect.{IsListing}
 use Rattle.fs_trait.proofs.Refusals.{no_folder-there}
-use Rattle.sys_open.specs.Checks.{IsReached}
+use Rattle.layout_rules.specs.Checks.{IsReached}
 use Rattle.sys_open.proofs.FaultLemmas.{read_interrupted, interrupted_look, listed_look, no_reason}
 use Rattle.sys_open.proofs.children.children.Goals as goal
 

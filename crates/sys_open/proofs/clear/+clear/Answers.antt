@@ -7,7 +7,7 @@ use Rattle.fs_trait.specs.View.{View}
 use Rattle.fs_trait.specs.Seen.{Vacant, shows}
 use Rattle.fs_trait.specs.Change.{Writes}
 use Rattle.sys_open.specs.declared.fault.Why.TheVariants.{WrongKind}
-use Rattle.sys_open.specs.Checks.{IsReached}
+use Rattle.layout_rules.specs.Checks.{IsReached}
 use Rattle.sys_open.specs.Changes.{Clears, ClearsInside, IsEmptied}
 use Rattle.sys_open.proofs.Clearings.{inside_below, looked_fails, clears_path, reached_still, emptied, more_cleared}
 use Rattle.sys_open.proofs.Working.{one_view, works_then, works_weaker}

@@ -3,9 +3,9 @@ use Rattle.ost_types.specs.Path.{IsPath, Path, under}
 use Rattle.ost_types.specs.Text.{IsName}
 use Rattle.repo_layout.specs.declared.folder.Folder.TheVariants as layout
 use Rattle.sys_open.specs.declared.fault.Why.TheVariants.{WrongKind}
-use Rattle.sys_open.specs.declared.spots.Rule.TheVariants.{NoFolder}
-use Rattle.sys_open.specs.Checks.{Suits}
-use Rattle.sys_open.specs.Many.{IsCopyName}
+use Rattle.layout_rules.specs.declared.rule.Rule.TheVariants.{NoFolder}
+use Rattle.layout_rules.specs.Checks.{Suits}
+use Rattle.layout_rules.specs.Many.{IsCopyName}
 use Rattle.sys_open.specs.Walk.{Looked}
 use Rattle.sys_open.proofs.ManyPaths.{known_grandchild}
 use Rattle.sys_open.proofs.ManyWalks.{copy_passed_at, copy_walk_at}

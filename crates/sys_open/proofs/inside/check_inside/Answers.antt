@@ -1,6 +1,6 @@
 use Rattle.std.proofs.Common.{◌∙◌, Ok}
-use Rattle.sys_open.specs.declared.many.Many.TheVariants.{Kernels, Stateroots, Objects, Marks}
-use Rattle.sys_open.specs.Checks.{AsksIn}
+use Rattle.layout_rules.specs.declared.many.Many.TheVariants.{Kernels, Stateroots, Objects, Marks}
+use Rattle.layout_rules.specs.Checks.{AsksIn}
 use Rattle.sys_open.proofs.Firsts.{Both, damage_least, inside_least, lesser_least}
 use Rattle.sys_open.proofs.inside.check_inside.Goals as goal
 

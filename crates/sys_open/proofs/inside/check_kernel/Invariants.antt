@@ -1,8 +1,8 @@
 use Rattle.std.proofs.Common.{◌≡◌, ◌≤◌, Some}
 use Rattle.fs_trait.specs.View.{View}
 use Rattle.fs_trait.specs.Effect.{IsQuiet}
-use Rattle.sys_open.specs.declared.many.Many.TheVariants.{Kernels}
-use Rattle.sys_open.specs.Checks.{AsksIn}
+use Rattle.layout_rules.specs.declared.many.Many.TheVariants.{Kernels}
+use Rattle.layout_rules.specs.Checks.{AsksIn}
 use Rattle.sys_open.proofs.ManyWalks.{SoFirst}
 use Rattle.sys_open.proofs.inside.check_kernel.Given as goal
 

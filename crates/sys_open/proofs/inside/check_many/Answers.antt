@@ -2,7 +2,7 @@ use Rattle.std.proofs.Common.{◌∙◌, ap, subst}
 use Rattle.ost_types.specs.Path.{Path}
 use Rattle.repo_layout.specs.Paths.{folder_path}
 use Rattle.sys_open.specs.declared.fault.Why.TheVariants.{WrongKind}
-use Rattle.sys_open.specs.Checks.{AsksIn}
+use Rattle.layout_rules.specs.Checks.{AsksIn}
 use Rattle.sys_open.specs.Walk.{Walked}
 use Rattle.sys_open.proofs.ManyWalks.{widen}
 use Rattle.sys_open.proofs.inside.check_many.Goals as goal

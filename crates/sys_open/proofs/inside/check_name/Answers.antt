@@ -2,9 +2,9 @@ use Rattle.std.proofs.Common.{◌≡◌, true, false, sym, ◌∙◌, subst}
 use Rattle.ost_types.specs.Path.{IsPath, Path, under}
 use Rattle.ost_types.specs.Text.{IsName}
 use Rattle.sys_open.specs.declared.fault.Why.TheVariants.{WrongKind}
-use Rattle.sys_open.specs.declared.spots.Rule.TheVariants.{FileOrNothing, FolderOrNothing}
-use Rattle.sys_open.specs.Checks.{AsksIn, Suits}
-use Rattle.sys_open.specs.Many.{IsNameOf, folder_of}
+use Rattle.layout_rules.specs.declared.rule.Rule.TheVariants.{FileOrNothing, FolderOrNothing}
+use Rattle.layout_rules.specs.Checks.{AsksIn, Suits}
+use Rattle.layout_rules.specs.Many.{IsNameOf, folder_of}
 use Rattle.sys_open.specs.Walk.{IsSoBelow, Looked}
 use Rattle.sys_open.proofs.ManyPaths.{known_child}
 use Rattle.sys_open.proofs.ManyWalks.{mark_told, object_told, passed}

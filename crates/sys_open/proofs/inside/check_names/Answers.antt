@@ -2,7 +2,7 @@ use Rattle.std.proofs.Common.{sym, ◌∙◌, arith, subst}
 use Rattle.std.proofs.lemmas.Result.{err_from_is_err_and}
 use Rattle.fs_trait.specs.Effect.{IsListing}
 use Rattle.fs_trait.proofs.Quiet.{IsQuiet-trans}
-use Rattle.sys_open.specs.Checks.{AsksIn}
+use Rattle.layout_rules.specs.Checks.{AsksIn}
 use Rattle.sys_open.proofs.ManyWalks.{all_first, first_wrong, folder_free, more_first, vacant}
 use Rattle.sys_open.proofs.inside.check_names.Goals as goal
 

@@ -1,7 +1,7 @@
 use Rattle.std.proofs.Common.{◌≡◌, ◌≤◌, Some}
 use Rattle.fs_trait.specs.View.{View}
 use Rattle.fs_trait.specs.Effect.{IsQuiet}
-use Rattle.sys_open.specs.Checks.{AsksIn}
+use Rattle.layout_rules.specs.Checks.{AsksIn}
 use Rattle.sys_open.proofs.ManyWalks.{SoFirst}
 use Rattle.sys_open.proofs.inside.check_names.Given as goal
 

@@ -2,8 +2,8 @@ use Rattle.std.proofs.Common.{◌∙◌, subst}
 use Rattle.std.proofs.lemmas.Result.{err_from_is_err_and}
 use Rattle.ost_types.specs.Path.{Path}
 use Rattle.sys_open.specs.declared.fault.Why.TheVariants.{WrongKind}
-use Rattle.sys_open.specs.declared.spots.Rule.TheVariants.{FolderOrNothing}
-use Rattle.sys_open.specs.Checks.{Suits}
+use Rattle.layout_rules.specs.declared.rule.Rule.TheVariants.{FolderOrNothing}
+use Rattle.layout_rules.specs.Checks.{Suits}
 use Rattle.sys_open.specs.Walk.{Looked}
 use Rattle.sys_open.proofs.ManyWalks.{stateroot_err, stateroot_walk_at}
 use Rattle.sys_open.proofs.inside.check_stateroot.Goals as goal

@@ -1,11 +1,13 @@
 use Rattle.std.proofs.Common.{refl, sym, ◌∙◌}
 use Rattle.ref_room.proofs.Disks.{looked_nothing, looked_folder, looked_leaf}
-use Rattle.sys_open.proofs.FolderLemmas.{absent_suits, folder_suits, leaf_suits_not, damaged_kind}
+use Rattle.layout_rules.specs.declared.rule.Rule.TheVariants.{FolderOrNothing}
+use Rattle.layout_rules.proofs.Suiting.{absent_suits, folder_suits}
+use Rattle.sys_open.proofs.FolderLemmas.{leaf_suits_not, damaged_kind}
 use Rattle.sys_open.proofs.kinds.check_folder.Goals as goal
 
 pub returns-in-Ok-Nothing-clause-told : goal.returns-in-Ok-Nothing-clause-told
 returns-in-Ok-Nothing-clause-told g c = λ v told.
-    absent_suits (v.now.at c.args.at.now) (looked_nothing (v.now.at c.args.at.now) (sym c.in-Ok-Nothing.field-0-is ∙ c.in-Ok-Nothing.ensures.told v told))
+    absent_suits FolderOrNothing (v.now.at c.args.at.now) (looked_nothing (v.now.at c.args.at.now) (sym c.in-Ok-Nothing.field-0-is ∙ c.in-Ok-Nothing.ensures.told v told))
 
 pub returns-in-Ok-Folder-clause-told : goal.returns-in-Ok-Folder-clause-told
 returns-in-Ok-Folder-clause-told g c = λ v told.

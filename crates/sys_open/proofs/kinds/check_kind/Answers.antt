@@ -1,9 +1,9 @@
 use Rattle.std.proofs.Common.{subst}
 use Rattle.ost_types.specs.Path.{Path}
 use Rattle.sys_open.specs.declared.fault.Why.TheVariants.{WrongKind}
-use Rattle.sys_open.specs.declared.spots.Rule.{Rule}
-use Rattle.sys_open.specs.Checks.{Suits}
-use Rattle.sys_open.specs.Spots.{rule_of}
+use Rattle.layout_rules.specs.declared.rule.Rule.{Rule}
+use Rattle.layout_rules.specs.Checks.{Suits}
+use Rattle.layout_rules.specs.Spots.{rule_of}
 use Rattle.sys_open.specs.Walk.{Looked}
 use Rattle.sys_open.proofs.kinds.check_kind.Goals as goal
 

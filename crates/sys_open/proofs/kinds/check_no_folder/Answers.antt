@@ -1,11 +1,13 @@
 use Rattle.std.proofs.Common.{refl, sym, ◌∙◌}
 use Rattle.ref_room.proofs.Disks.{looked_nothing, looked_folder, looked_leaf}
-use Rattle.sys_open.proofs.FolderLemmas.{absent_no_folder, folder_suits_not, leaf_no_folder_there, damaged_kind}
+use Rattle.layout_rules.specs.declared.rule.Rule.TheVariants.{NoFolder}
+use Rattle.layout_rules.proofs.Suiting.{absent_suits}
+use Rattle.sys_open.proofs.FolderLemmas.{folder_suits_not, leaf_no_folder_there, damaged_kind}
 use Rattle.sys_open.proofs.kinds.check_no_folder.Goals as goal
 
 pub returns-in-Ok-Nothing-clause-told : goal.returns-in-Ok-Nothing-clause-told
 returns-in-Ok-Nothing-clause-told g c = λ v told.
-    absent_no_folder (v.now.at c.args.at.now) (looked_nothing (v.now.at c.args.at.now) (sym c.in-Ok-Nothing.field-0-is ∙ c.in-Ok-Nothing.ensures.told v told))
+    absent_suits NoFolder (v.now.at c.args.at.now) (looked_nothing (v.now.at c.args.at.now) (sym c.in-Ok-Nothing.field-0-is ∙ c.in-Ok-Nothing.ensures.told v told))
 
 pub returns-in-Ok-Folder-clause-told : goal.returns-in-Ok-Folder-clause-told
 returns-in-Ok-Folder-clause-told g c = λ v told.

@@ -7,12 +7,13 @@ use Rattle.fs_trait.specs.Seen.{Always, shows}
 use Rattle.fs_trait.specs.Change.{Left, Nothing, Writes}
 use Rattle.rely.specs.State.{first}
 use Rattle.rely.specs.Disks.{Logical}
-use Rattle.sys_open.specs.Checks.{IsSane}
+use Rattle.layout_rules.specs.Checks.{IsSane}
 use Rattle.sys_open.specs.Opening.{Answers, KeepsSince}
 use Rattle.sys_open.specs.Changes.{Changes, Keeps}
 use Rattle.sys_open.proofs.Arranging.{synced_now, synced_always}
-use Rattle.sys_open.proofs.Beginning.{interrupted_answer, still_answers, interrupted_damage, begins}
+use Rattle.sys_open.proofs.Beginning.{interrupted_answer, still_answers, interrupted_damage}
 use Rattle.sys_open.proofs.Crashing.{since_keeps}
+use Rattle.sys_open.proofs.Opens.{begins}
 use Rattle.sys_open.proofs.Working.{one_view, works_quiet, works_then, works_weaker}
 use Rattle.sys_open.proofs.opening.open.Goals as goal
 

@@ -4,7 +4,7 @@ use Rattle.std.specs.Global.{Vec}
 use Rattle.ost_types.specs.Path.{Path}
 use Rattle.fs_trait.specs.Image.{is_folder}
 use Rattle.sys_open.specs.declared.fault.Why.TheVariants.{WrongKind}
-use Rattle.sys_open.specs.Checks.{IsReached}
+use Rattle.layout_rules.specs.Checks.{IsReached}
 use Rattle.ref_room.proofs.Disks.{looked_nothing, looked_leaf}
 use Rattle.sys_open.proofs.Reaching.{leaf_no_folder, reached_vacant, reached_leaf, walked_here, walked_later, walked_all}
 use Rattle.sys_open.proofs.reach.+reach.Goals as goal

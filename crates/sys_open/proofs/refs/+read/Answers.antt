@@ -5,7 +5,7 @@ use Rattle.ost_types.specs.Path.{Path}
 use Rattle.fs_trait.proofs.Quiet.{IsQuiet-trans}
 use Rattle.ref_room.specs.declared.stands.Stands.{Stands}
 use Rattle.sys_open.specs.declared.fault.Why.TheVariants.{BadRef}
-use Rattle.sys_open.specs.Checks.{HoldsRefs, IsReached}
+use Rattle.layout_rules.specs.Checks.{HoldsRefs, IsReached}
 use Rattle.sys_open.specs.Gathered.{AreOf}
 use Rattle.sys_open.proofs.FaultLemmas.{look_same}
 use Rattle.sys_open.proofs.Reaching.{walked_here, walked_later, walked_all}

@@ -1,7 +1,7 @@
 use Rattle.std.proofs.Common.{◌≡◌, ◌≤◌, ◌<◌, ◌+◌, ◌-◌, ◌*◌, ℕ, [], length, get_or, Some}
 use Rattle.fs_trait.specs.View.{View}
 use Rattle.fs_trait.specs.Effect.{IsQuiet}
-use Rattle.sys_open.specs.Checks.{HoldsRefs}
+use Rattle.layout_rules.specs.Checks.{HoldsRefs}
 use Rattle.sys_open.specs.Walk.{IsSoBelow}
 use Rattle.sys_open.specs.Gathered.{AreOf, Grows, HasAllBelow}
 use Rattle.sys_open.proofs.refs.+read.Given as goal

@@ -3,7 +3,7 @@ use Rattle.std.proofs.lemmas.Result.{err_from_is_err_and}
 use Rattle.ref_room.specs.declared.stands.Stands.{Stands}
 use Rattle.ref_store.proofs.Lookups.{shows, shows_none}
 use Rattle.sys_open.specs.declared.fault.Why.TheVariants.{BadRef}
-use Rattle.sys_open.specs.Checks.{HoldsRefs}
+use Rattle.layout_rules.specs.Checks.{HoldsRefs}
 use Rattle.sys_open.proofs.FaultLemmas.{interrupted_walk}
 use Rattle.sys_open.proofs.Holding.{holds_leaf, one_below, commit_leaf, wrong_leaf, damaged_walk, entered_walk}
 use Rattle.sys_open.proofs.refs.read_file.Goals as goal

@@ -9,10 +9,10 @@ use Rattle.repo_layout.specs.OsName.{IsOsName}
 use Rattle.repo_layout.specs.Paths.{folder_path, mark_path}
 use Rattle.repo_layout.specs.RefFile.{IsSum}
 use Rattle.repo_layout.specs.RefName.{is_part_byte}
-use Rattle.sys_open.specs.declared.spots.Rule.{Rule}
-use Rattle.sys_open.specs.declared.spots.Rule.TheVariants.{FileOrNothing, FolderOrNothing, NoFolder}
-use Rattle.sys_open.specs.declared.many.Many.{Many}
-use Rattle.sys_open.specs.declared.many.Many.TheVariants.{Kernels, Stateroots, Objects, Marks}
+use Rattle.layout_rules.specs.declared.rule.Rule.{Rule}
+use Rattle.layout_rules.specs.declared.rule.Rule.TheVariants.{FileOrNothing, FolderOrNothing, NoFolder}
+use Rattle.layout_rules.specs.declared.many.Many.{Many}
+use Rattle.layout_rules.specs.declared.many.Many.TheVariants.{Kernels, Stateroots, Objects, Marks}
 
 -- the name of a folder of objects
 pub record IsTwoDigits (name : Name) : Type 0 where

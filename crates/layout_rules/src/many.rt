@@ -2,7 +2,7 @@
 ghost use Rattle.std.specs.Prelude.{◌≡◌, ◌≢◌, ◌↔◌, ◌++◌, List, ℕ, IfOk, IsTrue, MatchOption};
 ghost use Rattle.ost_types.specs.Csum.{IsHexDigit};
 ghost use Rattle.repo_layout.specs.OsName.{IsOsName};
-ghost use Rattle.sys_open.specs.Many.{IsCopyName, IsDashedSum, IsKernelName, IsMarkName, IsNameOf, IsSumText, IsTwoDigits, IsVersion, IsVersioned, folder_of, is_version_byte};
+ghost use Rattle.layout_rules.specs.Many.{IsCopyName, IsDashedSum, IsKernelName, IsMarkName, IsNameOf, IsSumText, IsTwoDigits, IsVersion, IsVersioned, folder_of, is_version_byte};
 
 use ost_types::{Csum, NoMemory};
 use repo_layout::{Folder, OsName};

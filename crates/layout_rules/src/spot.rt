@@ -1,19 +1,11 @@
 //! The places of the layout that have one path each, and what may stand there.
 ghost use Rattle.std.specs.Prelude.{◌≡◌, IfOk};
-ghost use Rattle.sys_open.specs.Spots.{all_spots, rule_of, spot_path};
+ghost use Rattle.layout_rules.specs.Spots.{all_spots, rule_of, spot_path};
 
+use crate::Rule;
 use ost_types::{FsPath, NoMemory};
 use repo_layout::{Fixed, Folder, Version, fixed_path, folder_path};
 use std::alloc::Global;
-
-/// What may stand at a place.
-#[derive(Clone, Copy, Debug, PartialEq, Eq)]
-pub enum Rule {
-    FolderOrNothing,
-    NoFolder,
-    /// A regular file or nothing.
-    FileOrNothing,
-}
 
 /// A place that has one path: that of a folder which is there from the beginning, or that of another thing which is known.
 #[derive(Clone, Copy, Debug, PartialEq, Eq)]
@@ -52,6 +44,7 @@ pub fn spots() -> &'static [Spot]
     ]
 }
 
+/// Its path.
 pub fn spot_path(alloc: Global, spot: Spot) -> Result<FsPath, NoMemory>
     ensures { IfOk result (λ p. p ≡ spot_path spot) }
 {
@@ -61,6 +54,7 @@ pub fn spot_path(alloc: Global, spot: Spot) -> Result<FsPath, NoMemory>
     }
 }
 
+/// What may stand there.
 pub fn rule_of(spot: Spot) -> Rule
     ensures { result ≡ rule_of spot }
 {

@@ -1,21 +1,18 @@
 -- What a disk has to be like where a repository is opened on it.
 use Rattle.std.specs.Prelude.{◌≡◌, ◌≢◌, ◌⊎◌, ◌<◌, ℕ, true, IsTrue, List}
-use Rattle.std.specs.declared.cmp.Ordering.TheVariants.{Less}
-use Rattle.ost_types.specs.Path.{Name, Path, IsPath, is_below, path_cmp, under}
+use Rattle.ost_types.specs.Path.{Name, Path, IsPath, is_below, under}
 use Rattle.fs_trait.specs.declared.types.Value.{Value}
 use Rattle.fs_trait.specs.declared.types.Value.TheVariants.{Absent, File, Folder}
 use Rattle.fs_trait.specs.View.{Disk}
 use Rattle.repo_layout.specs.Paths.{heads, ref_path, stage_path}
 use Rattle.repo_layout.specs.RefName.{IsRefName}
 use Rattle.repo_layout.specs.Refs.{ShowsCommit, is_leaf}
-use Rattle.sys_open.specs.declared.spots.Rule.{Rule}
-use Rattle.sys_open.specs.declared.spots.Rule.TheVariants.{FileOrNothing, FolderOrNothing, NoFolder}
-use Rattle.sys_open.specs.declared.spots.Spot.{Spot}
-use Rattle.sys_open.specs.Spots.{rule_of, spot_path}
-use Rattle.sys_open.specs.declared.many.Many.{Many}
-use Rattle.sys_open.specs.Many.{IsIn}
-use Rattle.sys_open.specs.declared.fault.Why.{Why}
-use Rattle.sys_open.specs.declared.fault.Why.TheVariants.{BadRef, WrongKind}
+use Rattle.layout_rules.specs.declared.rule.Rule.{Rule}
+use Rattle.layout_rules.specs.declared.rule.Rule.TheVariants.{FileOrNothing, FolderOrNothing, NoFolder}
+use Rattle.layout_rules.specs.declared.spot.Spot.{Spot}
+use Rattle.layout_rules.specs.Spots.{rule_of, spot_path}
+use Rattle.layout_rules.specs.declared.many.Many.{Many}
+use Rattle.layout_rules.specs.Many.{IsIn}
 
 -- What a rule asks of what stands at a place.
 abbrev pub Suits : Rule → Value → Type 0
@@ -79,24 +76,3 @@ AsksInside d p = (many : Many) → AsksIn many d p
 -- Each path is as each check asks.
 abbrev pub IsSane : Disk → Type 0
 IsSane d = (check : Check) (p : Path) → Asks check d p
-
--- What is told where a check fails.
-abbrev pub why_of : Check → Why
-why_of Kinds = WrongKind
-why_of RefFiles = BadRef
-why_of Staging = WrongKind
-
--- Wrong of kind there, and a bad ref there.
-abbrev pub IsWrongKind : Disk → Path → Type 0
-IsWrongKind d p = ¬ (Asks Kinds d p)
-
-abbrev pub IsBadRef : Disk → Path → Type 0
-IsBadRef d p = ¬ (Asks RefFiles d p)
-
--- The first check that fails, and the least path at which it does.
-pub record IsFault (d : Disk) (p : Path) (why : Why) : Type 0 where
-  pub check : Check
-  pub told : why ≡ why_of check
-  pub wrong : ¬ (Asks check d p)
-  pub first : (earlier : Check) → turn earlier < turn check → (q : Path) → Asks earlier d q
-  pub least : (q : Path) → path_cmp q p ≡ Less → Asks check d q

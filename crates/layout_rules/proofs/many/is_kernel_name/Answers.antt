@@ -1,9 +1,9 @@
 use Rattle.std.proofs.Common.{◌≡◌, ◌↔◌, ◌-◌, ℕ, Bool, true, false, IsTrue, refl, sym, ◌∙◌, subst, arith, List, length, take, drop, Result, Ok, Err}
 use Rattle.std.specs.Prelude.{IfOk}
 use Rattle.repo_layout.specs.OsName.{IsOsName}
-use Rattle.sys_open.specs.Many.{IsDashedSum, IsKernelName}
-use Rattle.sys_open.proofs.NameTests.{kernel_back, kernel_front, kernel_long, kernel_of}
-use Rattle.sys_open.proofs.many.is_kernel_name.Goals as goal
+use Rattle.layout_rules.specs.Many.{IsDashedSum, IsKernelName}
+use Rattle.layout_rules.proofs.NameTests.{kernel_back, kernel_front, kernel_long, kernel_of}
+use Rattle.layout_rules.proofs.many.is_kernel_name.Goals as goal
 
 never : {A : Type 0} → IsTrue false → A
 never t = let n : false ≡ true = t in cc

@@ -1,7 +1,7 @@
 use Rattle.std.proofs.Common.{◌↔◌, IsTrue, sym, subst}
 use Rattle.std.specs.Prelude.{IfOk}
-use Rattle.sys_open.specs.Many.{IsNameOf}
-use Rattle.sys_open.proofs.many.is_name_of.Goals as goal
+use Rattle.layout_rules.specs.Many.{IsNameOf}
+use Rattle.layout_rules.proofs.many.is_name_of.Goals as goal
 
 pub returns-in-Kernels : goal.returns-in-Kernels
 returns-in-Kernels c = subst (λ m. IfOk c.is_kernel_name.result (λ b. IsTrue b ↔ IsNameOf m c.args.name.now)) (sym c.in-Kernels.is) c.is_kernel_name.ensures

@@ -6,10 +6,10 @@ use Rattle.repo_layout.specs.declared.fixed.Version.TheVariants.{Zero, One}
 use Rattle.repo_layout.specs.declared.folder.Folder.TheVariants.{Ostree, Repo, Objects, Refs, Heads, State, Tmp, Deploy, Boot, Kernels, Checkouts}
 use Rattle.repo_layout.specs.Fixed.{fixed_path}
 use Rattle.repo_layout.specs.Paths.{folder_path}
-use Rattle.sys_open.specs.declared.spots.Rule.{Rule}
-use Rattle.sys_open.specs.declared.spots.Rule.TheVariants.{FolderOrNothing, NoFolder}
-use Rattle.sys_open.specs.declared.spots.Spot.{Spot}
-use Rattle.sys_open.specs.declared.spots.Spot.TheVariants.{Laid, Known}
+use Rattle.layout_rules.specs.declared.rule.Rule.{Rule}
+use Rattle.layout_rules.specs.declared.rule.Rule.TheVariants.{FolderOrNothing, NoFolder}
+use Rattle.layout_rules.specs.declared.spot.Spot.{Spot}
+use Rattle.layout_rules.specs.declared.spot.Spot.TheVariants.{Laid, Known}
 
 abbrev pub spot_path : Spot → Path
 spot_path (Laid folder) = folder_path folder

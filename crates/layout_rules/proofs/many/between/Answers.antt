@@ -1,8 +1,8 @@
 use Rattle.std.proofs.Common.{◌++◌, None, Some}
 use Rattle.std.proofs.lemmas.Bool.Decides.{Decides-eqb}
 use Rattle.std.proofs.lemmas.Slice.Eq.{strip_prefix_is, strip_suffix_is}
-use Rattle.sys_open.proofs.NameTests.{between_match}
-use Rattle.sys_open.proofs.many.between.Goals as goal
+use Rattle.layout_rules.proofs.NameTests.{between_match}
+use Rattle.layout_rules.proofs.many.between.Goals as goal
 
 pub returns-in-Some : goal.returns-in-Some
 returns-in-Some c =

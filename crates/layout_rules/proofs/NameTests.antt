@@ -1,5 +1,5 @@
 -- What the names of places of many names are made of.
-use Rattle.std.proofs.Common.{◌≡◌, ◌≢◌, ◌↔◌, ◌≤◌, ◌+◌, ◌-◌, ℕ, Bool, true, false, IsTrue, sym, ◌∙◌, ap, subst, arith, List, [], ◌∷◌, ◌++◌, length, take, drop, codes, Option, Some, None, MatchOption, length-append}
+use Rattle.std.proofs.Common.{◌≡◌, ◌≢◌, ◌↔◌, ◌≤◌, ◌+◌, ◌-◌, ℕ, Bool, IsTrue, sym, ◌∙◌, ap, subst, arith, List, [], ◌∷◌, ◌++◌, length, take, drop, codes, Option, Some, None, MatchOption, length-append}
 use Rattle.std.proofs.Math.Seq.{take-append_seam, drop-append_seam}
 use Rattle.std.proofs.lemmas.List.{append_cancel_left, append_cancel_right, take-append-drop}
 use Rattle.std.specs.Borrow.{Bor}
@@ -7,7 +7,7 @@ use Rattle.ost_types.specs.Csum.{hex_of}
 use Rattle.ost_types.proofs.HexSums.{IsHexSum-hex_of}
 use Rattle.repo_layout.specs.OsName.{IsOsName}
 use Rattle.repo_layout.specs.RefFile.{IsSum}
-use Rattle.sys_open.specs.Many.{IsDashedSum, IsKernelName, IsMarkName, IsSumText, IsVersion, IsVersioned}
+use Rattle.layout_rules.specs.Many.{IsDashedSum, IsKernelName, IsMarkName, IsSumText, IsVersion, IsVersioned}
 
 pub mark_test : (name digits : List ℕ) (r : Bool) → (IsTrue r ↔ IsSumText digits) → name ≡ digits ++ codes ".commitpartial" → IsTrue r ↔ IsMarkName name
 mark_test name digits r test e = (

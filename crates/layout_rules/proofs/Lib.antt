@@ -1,0 +1,5 @@
+pub mod Layouts
+mod NameTests
+pub mod Suiting
+pub mod RulePlaces
+pub mod Sanes

@@ -1,0 +1,4 @@
+pub mod Spots
+pub mod Many
+pub mod Checks
+pub mod InLayout
