@@ -13,7 +13,7 @@ use Rattle.ost_objects.specs.declared.checked.Checked.{Checked}
 use Rattle.tree_build.specs.declared.progress.Done.{Done}
 use Rattle.tree_build.specs.declared.progress.Progress.{Progress}
 use Rattle.tree_build.specs.Items.{AreItems, IsTree}
-use Rattle.tree_build.specs.Objects.{Object, Made, Child, child_in, made, work, children, entries_of, tree_bytes, meta_bytes, tree_object, meta_object}
+use Rattle.tree_build.specs.Objects.{Object, Made, child_in, made, work, children, entries_of, tree_bytes, meta_bytes, tree_object, meta_object}
 use Rattle.tree_build.specs.Objects as objects
 use Rattle.tree_build.specs.Makeable.{AreSmall, IsSmall}
 use Rattle.tree_build.specs.Building.{IsNumber, object_of, pending, outside, left_by, path_at, seen, all_seen, IsCut, last_place, IsProgress, Advances}

@@ -16,3 +16,11 @@ pub mod Folders
 pub mod Counts
 pub mod Shown
 pub mod Nothing
+pub mod Containers
+pub mod ObjectKinds
+pub mod RowLengths
+pub mod EntryLengths
+pub mod Briefs
+pub mod Streams
+pub mod Rooms
+pub mod Orderly

@@ -1,5 +1,5 @@
 -- The paths of a tree that is to be committed, and which path makes them no tree.
-use Rattle.std.specs.Prelude.{true, ◌≡◌, ◌⊎◌, ◌≤◌, ◌<◌, ◌^◌, ℕ, List, [], ◌∷◌, length, map, replicate, All, Contains, Option, Some, None}
+use Rattle.std.specs.Prelude.{true, ◌≡◌, ◌⊎◌, ◌≤◌, ◌<◌, ◌+◌, ◌^◌, ℕ, List, [], ◌∷◌, length, map, replicate, slice_index_or, All, Contains, Option, Some, None}
 use Rattle.std.specs.List.Sorted.{IsStrictlySortedBy}
 use Rattle.std.specs.declared.cmp.Ordering.TheVariants.{Less}
 use Rattle.ost_types.specs.declared.meta.Meta.{Meta}
@@ -90,3 +90,14 @@ pub record GoesOn (earlier : TreeItem) (p : Path) : Type 0 where
 abbrev pub StartsAtRoot : List TreeItem → Type 0
 StartsAtRoot [] = ⊥
 StartsAtRoot (i ∷ items) = (i.path ≡ []) × (i.body ≡ None)
+
+-- ---- how it is found that they are items
+
+pub record IsItem (i : TreeItem) : Type 0 where
+  pub few : length i.path ≤ 64
+  pub short : length (text_of i.path) ≤ 1024
+  pub mode : FitsBody i.meta.mode i.body
+
+-- The path comes before the next one, if there is one.
+abbrev pub IsBefore : List TreeItem → ℕ → Type 0
+IsBefore items n = n + 1 < length items → (i j : TreeItem) → path_cmp (slice_index_or items n i).path (slice_index_or items (n + 1) j).path ≡ Less

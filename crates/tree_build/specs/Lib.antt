@@ -3,3 +3,4 @@ pub mod Objects
 pub mod Makeable
 pub mod Building
 pub mod Commits
+pub mod Brief

@@ -149,7 +149,7 @@ fn count_of(item: &TreeItem) -> u64
 }
 
 /// The numbers of attributes have 32 bits.
-fn numbers_of(meta: &Meta)
+pub(crate) fn numbers_of(meta: &Meta)
     ensures { IsWide meta.now }
 {
     let _uid = meta.uid;

@@ -1,19 +1,22 @@
 //! The object of a file.
 
-ghost use Rattle.std.specs.Prelude.{◌≡◌, ◌≢◌, ◌<◌, ◌-◌, ◌^◌, Some, None, IfOk, All, drop, slice_index_or, replicate, length};
+ghost use Rattle.std.specs.Prelude.{◌≡◌, ◌≢◌, ◌<◌, ◌-◌, ◌^◌, ◌++◌, Some, None, IfOk, All, drop, slice_index_or, replicate, length};
 ghost use Rattle.ost_types.specs.declared.limits.Limits.{Limits};
+ghost use Rattle.ost_types.specs.declared.object.Kind.TheVariants as kinds;
 ghost use Rattle.ost_forms.specs.declared.tree_item.TreeItem.{TreeItem};
-ghost use Rattle.ost_forms.specs.Stream.{FitsMode};
+ghost use Rattle.ost_forms.specs.Stream.{FitsMode, bytes_of, content_form};
+ghost use Rattle.ost_objects.specs.Object.{HasForm};
 ghost use Rattle.tree_build.specs.Items.{AreItems, body_of};
 ghost use Rattle.tree_build.specs.Objects.{file_bytes, file_object};
 ghost use Rattle.tree_build.specs.Makeable.{AreMakeable, IsSmallFile};
 ghost use Rattle.tree_build.specs.Building.{IsBuildable, IsProgress, IsFileNext, Steps, object_of};
 
+use crate::build::numbers_of;
 use crate::progress::{Done, Progress};
 use crate::sums::Sums;
-use ost_forms::{Body, BodySpec, Content, TreeItem};
-use ost_objects::{Checked, MakeFault};
-use ost_types::{Bytes, Limits, Meta, NoMemory, TryCopy};
+use ost_forms::{Body, BodySpec, Content, ObjFault, TreeItem, sum_of, test_content, write_content};
+use ost_objects::Checked;
+use ost_types::{Bytes, Kind, Limits, Meta, NoMemory, ObjName, TryCopy};
 use std::alloc::Global;
 
 /// The object of the item before `at`.
@@ -54,31 +57,71 @@ fn file_object(
     ensures object { IfOk result (λ c. object_of c ≡ file_object (file_bytes meta.now body.now)) }
     ensures limit { IfOk result (λ c. c.limit ≡ limits.now.content) }
 {
-    let content = Content {
-        meta: meta.copy()?,
-        body: body_of(alloc, body)?,
-    };
-    match Checked::of_content(alloc, &content, limits) {
-        Ok(object) => Ok(object),
-        Err(MakeFault::TooLarge(_)) => unreachable!(),
-        Err(MakeFault::NoMemory) => Err(NoMemory),
+    numbers_of(meta);
+    let bytes = stream_of(alloc, meta, body)?;
+    match test_content(alloc, bytes.as_slice(), limits) {
+        Ok(()) => Ok(file_named(bytes, limits)),
+        Err(ObjFault::NoMemory) => Err(NoMemory),
+        Err(ObjFault::TooLarge(_)) => unreachable!(),
+        Err(ObjFault::NotNormal) => unreachable!(),
+        Err(ObjFault::BadMode) => unreachable!(),
+        Err(ObjFault::BadSumLength) => unreachable!(),
+        Err(ObjFault::BadName) => unreachable!(),
+        Err(ObjFault::NotSorted) => unreachable!(),
     }
 }
 
-fn body_of(alloc: Global, body: &BodySpec) -> Result<Body, NoMemory>
-    ensures { IfOk result (λ b. b ≡ body_of body.now) }
+fn file_named(bytes: Bytes, limits: &Limits) -> Checked
+    requires { HasForm kinds.File limits.now.content bytes }
+    ensures object { object_of result ≡ file_object bytes }
+    ensures limit { result.limit ≡ limits.now.content }
+{
+    let csum = sum_of(bytes.as_slice());
+    Checked {
+        name: ObjName {
+            csum,
+            kind: Kind::File,
+        },
+        bytes,
+        limit: limits.content,
+    }
+}
+
+/// The content stream of the file. The content is made at its end, so that no other copy of it is held.
+fn stream_of(alloc: Global, meta: &Meta, body: &BodySpec) -> Result<Bytes, NoMemory>
+    requires mode { FitsMode meta.now.mode (body_of body.now) }
+    requires few { length (bytes_of (body_of body.now)) < 2 ^ 62 }
+    ensures { IfOk result (λ b. content_form meta.now (body_of body.now) ≡ Some b) }
 {
     match body {
-        BodySpec::Given(bytes) => Ok(Body::Regular(bytes.copy()?)),
-        BodySpec::Fill { len, byte } => Ok(Body::Regular(filled(alloc, *len, *byte)?)),
-        BodySpec::Target(target) => Ok(Body::Symlink(target.copy()?)),
+        BodySpec::Given(given) => {
+            let mut bytes = written(alloc, meta, Body::Regular(Bytes::new(alloc)))?;
+            bytes.append(given.as_slice())?;
+            Ok(bytes)
+        }
+        BodySpec::Fill { len, byte } => {
+            let bytes = written(alloc, meta, Body::Regular(Bytes::new(alloc)))?;
+            filled(bytes, *len, *byte)
+        }
+        BodySpec::Target(target) => written(alloc, meta, Body::Symlink(target.copy()?)),
     }
 }
 
-fn filled(alloc: Global, len: u64, byte: u8) -> Result<Bytes, NoMemory>
-    ensures { IfOk result (λ b. b ≡ replicate len byte) }
+fn written(alloc: Global, meta: &Meta, body: Body) -> Result<Bytes, NoMemory>
+    requires { FitsMode meta.now.mode body }
+    ensures { IfOk result (λ b. content_form meta.now body ≡ Some b) }
 {
-    let mut bytes = Vec::with_capacity(alloc, len as usize)?;
-    bytes.resize(len as usize, byte)?;
+    let meta = meta.copy()?;
+    write_content(alloc, &Content { meta, body })
+}
+
+/// The byte so many times behind the others.
+fn filled(bytes: Bytes, len: u64, byte: u8) -> Result<Bytes, NoMemory>
+    requires { len < 2 ^ 62 }
+    ensures { IfOk result (λ b. b ≡ bytes ++ replicate len byte) }
+{
+    let mut bytes = bytes.into_vec();
+    let whole = bytes.len() + len as usize;
+    bytes.resize(whole, byte)?;
     Ok(Bytes::from_vec(bytes))
 }
