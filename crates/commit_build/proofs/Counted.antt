@@ -179,7 +179,7 @@ module _ (t : Committing) (v : View) (first : ℕ) where
       of_put q has sum only more (Some (name, Stored)) met came next counted =
           let bound : u.limits.objects < 2 ^ 32 = needs.made.bound in
           let room : count < u.limits.objects = came.1 in
-          stored q has (more came.0.0) (came_there q w x Stored has.made came.0) sum only next (counted (omega (arith, bound, room))) room
+          stored q has (more came.0.0) (came_there q w x Stored has.made came.0) sum only next (omega (arith, counted, bound, room)) room
 
       calm : (ph : Phase) → IsCalm ph → u.phase ≡ ph → (new : Committing) → IsStepped {E = Unit {0}} count u (Ok More) new → (next : ℕ) → IsCounted count new.met next → Counts t v first x next
       calm ph calm_ is new stepped next counted =

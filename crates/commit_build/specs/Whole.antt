@@ -1,5 +1,5 @@
 -- What committing a tree leaves, from its first step to any later moment, where nobody else changes its paths.
-use Rattle.std.specs.Prelude.{◌≡◌, ◌≢◌, ◌⊎◌, ◌↔◌, ◌≤◌, ◌<◌, ◌+◌, ℕ, List, [], length, All, AllPairs, Contains, Option, Some, Result, Ok, Err}
+use Rattle.std.specs.Prelude.{◌≡◌, ◌≢◌, ◌⊎◌, ◌↔◌, ◌≤◌, ◌<◌, ◌+◌, min, ℕ, List, [], length, All, AllPairs, Contains, Option, Some, Result, Ok, Err}
 use Rattle.ost_types.specs.declared.node.NodeName.{NodeName}
 use Rattle.ost_types.specs.declared.object.ObjName.{ObjName}
 use Rattle.ost_types.specs.Path.{Path}
@@ -108,7 +108,7 @@ pub record MayBegin (t : Committing) (d : Disk) : Type 0 where
   pub made : IsMade t
   pub homes : HasHomes t.actor d
 
--- one more is in the store after a step that stored an object
+-- one more is in the store after a step that stored an object, as far as 32 bits go
 abbrev pub IsCounted : ℕ → Option (ObjName × Put) → ℕ → Type 0
-IsCounted count (Some (name, Stored)) next = count < 4294967295 → next ≡ count + 1
+IsCounted count (Some (name, Stored)) next = next ≡ min (count + 1) 4294967295
 IsCounted count met next = next ≡ count
