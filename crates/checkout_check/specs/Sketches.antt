@@ -1,0 +1,45 @@
+-- A tree that is made pair by pair, to be checked out.
+use Rattle.std.specs.Prelude.{◌≡◌, ◌++◌, ◌∷◌, [], Option, Some, None}
+use Rattle.ost_types.specs.declared.meta.Meta.{Meta}
+use Rattle.ost_types.specs.declared.node.NodeName.{NodeName}
+use Rattle.ost_types.specs.declared.node.NodeName.TheVariants.{Folder, Leaf}
+use Rattle.ost_types.specs.Path.{Name, Path, IsPath, under}
+use Rattle.ost_types.specs.PathMap.{Nodes, IsAscending, paths_of, node_at}
+use Rattle.fs_trait.specs.View.{Disk, View}
+use Rattle.fs_trait.specs.Seen.{shows}
+use Rattle.checkout.specs.CheckoutFolder.{IsLeaf, leaf_path}
+use Rattle.checkout.specs.CheckoutWork.{Answer}
+use Rattle.checkout.specs.CheckoutRun.{Ends, MayBegin}
+
+-- the folder in which it is checked out, under which name, and the pairs so far
+pub record Sketched : Type 0 where
+  pub home : Path
+  pub name : Name
+  pub tree : Nodes
+
+abbrev pub into_of : Sketched → Path
+into_of s = under s.home s.name
+
+-- with one pair more
+abbrev pub with_pair : Path → NodeName → Sketched → Sketched
+with_pair path node s = record s { tree = s.tree ++ (path, node) ∷ [] }
+
+-- the path comes next, lies in a folder of the map, and fits below the folder
+pub record Takes (s : Sketched) (folder path : Path) : Type 0 where
+  pub fits : IsPath (into_of s ++ path)
+  pub next : IsAscending (paths_of s.tree ++ path ∷ [])
+  pub inside : (m : Meta) × (node_at s.tree folder ≡ Some (Folder m))
+
+-- a folder, or a leaf whose object is there
+abbrev pub IsThere : Disk → NodeName → Type 0
+IsThere d (Folder m) = Unit {0}
+IsThere d (Leaf sum) = IsLeaf (shows d (leaf_path sum))
+
+-- reads show all that a checkout of it begins with
+abbrev pub CanBegin : Sketched → Disk → Type 0
+CanBegin s d = MayBegin (into_of s) s.tree d
+
+-- it was checked out, or refused; or it can't begin, and nothing was changed
+abbrev pub Ended : Sketched → View → View → Option Answer → Type 0
+Ended s v w None = (CanBegin s v.now → ⊥) × (w ≡ v)
+Ended s v w (Some answer) = CanBegin s v.now × Ends (into_of s) s.tree answer v w
