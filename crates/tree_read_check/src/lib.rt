@@ -1,0 +1,13 @@
+//! What is wrong first with a tree, and trees read over a file system in memory.
+#![tactic(auto)]
+
+mod first;
+
+pub use first::{Wrong, first_wrong};
+
+#[cfg(test)]
+mod disk;
+#[cfg(test)]
+mod rows;
+#[cfg(test)]
+mod tests;
