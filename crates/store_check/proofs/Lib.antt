@@ -1,0 +1,5 @@
+mod Digits
+mod Orders
+mod Gathering
+mod Firsts
+mod Damages
