@@ -1,6 +1,7 @@
 ghost use Rattle.std.specs.Prelude.{◌≡◌};
 
 use crate::table::TABLE;
+use crate::word;
 use fs_host::HostFs;
 use fs_memory::MemFs;
 use fs_trait::{Fs, FsErr, Node};
@@ -84,18 +85,6 @@ fn look<F: Fs>(fs: &mut F, name: &str, at: &FsPath) -> Result<(), FsErr> {
     }
 }
 
-fn told(answer: Result<(), FsErr>) -> &'static str {
-    match answer {
-        Ok(()) => "ok",
-        Err(FsErr::Failed) => "failed",
-        Err(FsErr::Exists) => "exists",
-        Err(FsErr::Missing) => "missing",
-        Err(FsErr::NotFolder) => "not_folder",
-        Err(FsErr::NotEmpty) => "not_empty",
-        Err(FsErr::NoMemory) => "no_memory",
-    }
-}
-
 fn node_told<F: Fs>(fs: &mut F, at: &FsPath) -> Result<&'static str, Fail> {
     match fs.stat(at)? {
         None => Ok("none"),
@@ -132,15 +121,15 @@ fn answer<F: Fs>(
     second: &str,
 ) -> Result<&'static str, Fail> {
     match name {
-        "mkdir" | "create" | "symlink" => Ok(told(make(rt, alloc, fs, name, at))),
-        "append" => Ok(told(fs.append(at, second.as_bytes()))),
-        "link" => Ok(told(fs.link(at, &path(alloc, second)?))),
-        "rename" => Ok(told(rename(rt, fs, at, &path(alloc, second)?))),
-        "read" | "read_part" | "list" => Ok(told(look(fs, name, at))),
+        "mkdir" | "create" | "symlink" => Ok(word(make(rt, alloc, fs, name, at))),
+        "append" => Ok(word(fs.append(at, second.as_bytes()))),
+        "link" => Ok(word(fs.link(at, &path(alloc, second)?))),
+        "rename" => Ok(word(rename(rt, fs, at, &path(alloc, second)?))),
+        "read" | "read_part" | "list" => Ok(word(look(fs, name, at))),
         "stat" => node_told(fs, at),
         "same" => same_told(fs, at, &path(alloc, second)?),
         "holds" => holds_told(fs, at, second),
-        _ => Ok(told(change(fs, name, at))),
+        _ => Ok(word(change(fs, name, at))),
     }
 }
 

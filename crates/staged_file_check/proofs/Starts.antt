@@ -1,14 +1,13 @@
 -- Where the task may begin: at a root folder with no folder at the staging path.
 use Rattle.std.proofs.Common.{◌≡◌, ◌≢◌, ⊎_elim, ℕ, true, false, refl, sym, ◌∙◌, ap, subst, inl, inr, [], ◌∷◌, arith, Some, Option}
 use Rattle.std.specs.Prelude.{IfSome, List, ◌⊎◌, Result, Ok, Err, OnOk}
-use Rattle.ost_types.specs.Mode.{IsFileMode}
 use Rattle.ost_types.specs.Path.{Path, under, is_below}
 use Rattle.ost_types.proofs.Paths.{under-folder}
 use Rattle.fs_trait.specs.declared.types.Value.{Value}
 use Rattle.fs_trait.specs.declared.types.Value.TheVariants.{Absent, Folder, Link, File}
 use Rattle.fs_trait.specs.View.{Disk, View}
-use Rattle.fs_trait.specs.Image.{is_folder, reads, EachImage, Told, IsTree}
-use Rattle.fs_trait.specs.Seen.{seen, NotDirectory}
+use Rattle.fs_trait.specs.Image.{is_folder, EachImage, Told, IsTree}
+use Rattle.fs_trait.specs.Seen.{seen, shows, NotDirectory}
 use Rattle.fs_trait.specs.Change.{Writes}
 use Rattle.fs_trait.proofs.Puts.{put-apart}
 use Rattle.fs_trait.proofs.Facts.{no_folder_shown}
@@ -18,8 +17,9 @@ use Rattle.staged_file.specs.declared.phase.Show.{Show}
 use Rattle.staged_file.specs.declared.phase.Show.TheVariants.{Link}
 use Rattle.staged_file.specs.declared.staged.Plan.{Plan}
 use Rattle.staged_file.specs.Staged.{Staged}
+use Rattle.staged_file.specs.Steps.{IsFileWith}
 use Rattle.staged_file.specs.Whole.{MayBegin, Written, IsThere}
-use Rattle.staged_file.proofs.Wholes.{file_reads}
+use Rattle.staged_file_check.specs.Files.{file_meta}
 
 abbrev pub stage_path : Path
 stage_path = under [] (115 ∷ [])
@@ -40,7 +40,7 @@ not_below = refl
 
 -- the plan
 abbrev pub IsPlan : List ℕ → Show → Plan → Type 0
-IsPlan bytes show p = (p.stage ≡ stage_path) × (p.folder ≡ []) × (p.at ≡ target_path) × IsFileMode p.meta.mode × (p.bytes ≡ bytes) × (p.show ≡ show)
+IsPlan bytes show p = (p.stage ≡ stage_path) × (p.folder ≡ []) × (p.at ≡ target_path) × (p.meta ≡ file_meta) × (p.bytes ≡ bytes) × (p.show ≡ show)
 
 pub plan_of : (bytes : List ℕ) (show : Show) (o : Option Plan) (p : Plan) → o ≡ Some p → IfSome o (IsPlan bytes show) → IsPlan bytes show p
 plan_of bytes show o p is some = subst (λ o. IfSome o (IsPlan bytes show)) is some
@@ -72,9 +72,10 @@ still_leaf t v w stage at writes leaf = no_folder_shown w.now stage_path (⊎_el
     (λ a. ⊎_elim (λ a. a.1) (λ a. absurd (paths_apart (a.0 ∙ at))) a)
     (writes.now stage_path))
 
-pub put_there : (t : Staged) (v : View) (bytes : List ℕ) (show : Show) → t.at ≡ target_path → t.bytes ≡ bytes → t.show ≡ show → (d : Disk) → IsThere t v d → (reads d target_path ≡ Some bytes) ⊎ (show ≡ Link)
-put_there t v bytes show at is how d there = ⊎_elim
-    (λ file. inl (subst (λ p. reads d p ≡ Some bytes) at (file_reads d t.at t.meta t.bytes file ∙ ap (λ b. Some b) is)))
+pub put_there : (t : Staged) (v : View) (bytes : List ℕ) (show : Show) → t.at ≡ target_path → t.meta ≡ file_meta → t.bytes ≡ bytes → t.show ≡ show → (d : Disk) → IsThere t v d → IsFileWith file_meta bytes (shows d target_path) ⊎ (show ≡ Link)
+put_there t v bytes show at attributes is how d there = ⊎_elim
+    (λ file. inl (subst (λ p. IsFileWith file_meta bytes (shows d p)) at
+    (subst (λ m. IsFileWith m bytes (shows d t.at)) attributes (subst (λ b. IsFileWith t.meta b (shows d t.at)) is file))))
     (λ l. inr (sym how ∙ l.0))
     there
 

@@ -1,11 +1,13 @@
 //! One file of the root folder.
 
 ghost use Rattle.std.specs.Prelude.{◌≡◌, ◌⊎◌, ◌∷◌, [], false, Some, IfOk, IfSome, OnOk};
-ghost use Rattle.ost_types.specs.Mode.{IsFileMode};
 ghost use Rattle.ost_types.specs.Path.{under};
 ghost use Rattle.fs_trait.specs.View.{View};
+ghost use Rattle.fs_trait.specs.Image.{is_folder, EachImage, Told};
+ghost use Rattle.fs_trait.specs.Seen.{shows};
 ghost use Rattle.staged_file.specs.declared.phase.Show.TheVariants.{Link};
-ghost use Rattle.fs_trait.specs.Image.{is_folder, reads, EachImage, Told};
+ghost use Rattle.staged_file.specs.Steps.{IsFileWith};
+ghost use Rattle.staged_file_check.specs.Files.{file_meta};
 
 use fs_trait::{Fs, FsErr, Need};
 use ost_types::{Bytes, FsPath, Meta, Name, NoMemory, Xattrs};
@@ -13,7 +15,7 @@ use staged_file::{Plan, Show, StagedFile, sync_and_put_file};
 use std::alloc::Global;
 
 fn file_meta(alloc: Global) -> Meta
-    ensures { IsFileMode result.mode }
+    ensures { result ≡ file_meta }
 {
     Meta {
         uid: 0,
@@ -39,7 +41,7 @@ fn at_root(alloc: Global, name: &[u8]) -> Result<Option<FsPath>, NoMemory>
 
 /// The file at `/a`, staged at `/s`.
 fn plan(alloc: Global, bytes: &[u8], show: Show) -> Result<Option<Plan>, NoMemory>
-    ensures { IfOk result (λ p. IfSome p (λ p. (p.stage ≡ under [] (115 ∷ [])) × (p.folder ≡ []) × (p.at ≡ under [] (97 ∷ [])) × IsFileMode p.meta.mode × (p.bytes ≡ bytes.now) × (p.show ≡ show))) }
+    ensures { IfOk result (λ p. IfSome p (λ p. (p.stage ≡ under [] (115 ∷ [])) × (p.folder ≡ []) × (p.at ≡ under [] (97 ∷ [])) × (p.meta ≡ file_meta) × (p.bytes ≡ bytes.now) × (p.show ≡ show))) }
 {
     let (Some(stage), Some(at)) = (at_root(alloc, b"s")?, at_root(alloc, b"a")?) else {
         return Ok(None);
@@ -59,7 +61,7 @@ fn plan(alloc: Global, bytes: &[u8], show: Show) -> Result<Option<Plan>, NoMemor
 pub fn put<F: Fs>(fs: &mut F, alloc: Global, bytes: &[u8], show: Show) -> Result<(), FsErr>
     requires { (v : View) → F.view fs.old ≡ Some v → is_folder (v.now.at (under [] (115 ∷ []))) ≡ false }
     ensures leaf { (v : View) → F.view fs.new ≡ Some v → is_folder (v.now.at (under [] (115 ∷ []))) ≡ false }
-    ensures done { (v : View) → F.view fs.old ≡ Some v → OnOk result (Told (F.view fs.new) (λ w. EachImage w (λ d. (reads d (under [] (97 ∷ [])) ≡ Some bytes.now) ⊎ (show ≡ Link)))) }
+    ensures done { (v : View) → F.view fs.old ≡ Some v → OnOk result (Told (F.view fs.new) (λ w. EachImage w (λ d. IsFileWith file_meta bytes.now (shows d (under [] (97 ∷ []))) ⊎ (show ≡ Link)))) }
 {
     match plan(alloc, bytes, show)? {
         Some(plan) => sync_and_put_file(fs, StagedFile::new(plan)),

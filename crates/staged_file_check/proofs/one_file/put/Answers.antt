@@ -1,8 +1,14 @@
-use Rattle.std.proofs.Common.{◌≡◌, ◌∙◌, ap, subst, false}
+use Rattle.std.proofs.Common.{◌≡◌, ◌∙◌, ap, subst, lit<, false}
+use Rattle.ost_types.specs.declared.meta.Meta.{Meta}
 use Rattle.fs_trait.specs.Image.{is_folder}
 use Rattle.staged_file.specs.Staged.{Staged}
 use Rattle.staged_file_check.proofs.Starts.{begins, still_leaf, put_there, each_image, stage_path, plan_of}
 use Rattle.staged_file_check.proofs.one_file.put.Goals as goal
+
+pub new-requires : goal.new-requires
+new-requires g c =
+    let paths = plan_of c.args.bytes.now c.args.show _ _ c.in-Some.is c.in_ok-plan.ensures in
+    (420, lit< tt, ap (λ (m : Meta). m.mode) paths.3)
 
 pub sync_and_put_file-requires : goal.sync_and_put_file-requires
 sync_and_put_file-requires g c = λ v told.
@@ -24,5 +30,5 @@ pub returns-in-Some-clause-done : goal.returns-in-Some-clause-done
 returns-in-Some-clause-done g c = λ v told.
     let paths = plan_of c.args.bytes.now c.args.show _ _ c.in-Some.is c.in_ok-plan.ensures in
     each_image _ _ _ _
-    (put_there c.new.result _ c.args.bytes.now c.args.show (ap (λ (t : Staged). t.at) c.new.ensures ∙ paths.2) (ap (λ (t : Staged). t.bytes) c.new.ensures ∙ paths.4) (ap (λ (t : Staged). t.show) c.new.ensures ∙ paths.5))
+    (put_there c.new.result _ c.args.bytes.now c.args.show (ap (λ (t : Staged). t.at) c.new.ensures ∙ paths.2) (ap (λ (t : Staged). t.meta) c.new.ensures ∙ paths.3) (ap (λ (t : Staged). t.bytes) c.new.ensures ∙ paths.4) (ap (λ (t : Staged). t.show) c.new.ensures ∙ paths.5))
     (c.sync_and_put_file.ensures.done v told)
