@@ -12,3 +12,4 @@ pub mod MetSteps
 pub mod Counted
 pub mod Endings
 pub mod Stable
+pub mod Fewness

@@ -222,6 +222,21 @@ need_in (phase.Put p) = put.need_in p.phase
 need_in (phase.PutCommit p) = put.need_in p.phase
 need_in ph = need.Nothing
 
+-- the object of which such a step is one
+abbrev pub named_by : Need → ObjName → Option ObjName
+named_by need.Shared name = Some name
+named_by lock name = None
+
+abbrev pub storing_in : Phase → Option ObjName
+storing_in (phase.Put p) = named_by (put.need_in p.phase) p.name
+storing_in (phase.PutCommit p) = named_by (put.need_in p.phase) p.name
+storing_in ph = None
+
+-- the commit, once all is done
+abbrev pub commit_in : Phase → Option (List ℕ)
+commit_in (phase.Ended sum) = Some sum
+commit_in ph = None
+
 -- how a step moves the clock
 abbrev pub MayTick : ℕ → ℕ → Type 0
 MayTick before now = Next before now ⊎ (now ≡ before)

@@ -1,9 +1,11 @@
-ghost use Rattle.std.specs.Prelude.{◌≡◌, ◌<◌, ◌+◌, ◌-◌, ℕ, None, IfOk};
+ghost use Rattle.std.specs.Prelude.{◌≡◌, ◌<◌, ◌+◌, ◌-◌, ◌^◌, ℕ, None, IfOk, length};
 ghost use Rattle.ost_forms.specs.Commit.{commit_form};
 ghost use Rattle.tree_build.specs.Items.{AreItems};
 ghost use Rattle.tree_build.specs.Makeable.{AreMakeable, IsSmall};
+ghost use Rattle.tree_build.specs.Objects.{work};
+ghost use Rattle.obj_store.specs.Putting as putting;
 ghost use Rattle.commit_build.specs.declared.phase.Phase.TheVariants as phase;
-ghost use Rattle.commit_build.specs.Committing.{Committing, IsLate, IsMade, parts_of, left, left_in, later, need_in};
+ghost use Rattle.commit_build.specs.Committing.{Committing, IsLate, IsMade, parts_of, commit_in, left, left_in, later, named_by, need_in, storing_in};
 
 mod steps;
 mod work;
@@ -11,7 +13,7 @@ mod work;
 use crate::message::Message;
 use crate::phase::Phase;
 use fs_trait::Need;
-use obj_store::Put;
+use obj_store::{Put, PutTask};
 use ost_objects::TreeItem;
 use ost_types::{Csum, Limits, NoMemory, ObjName, Text};
 use std::alloc::Global;
@@ -80,9 +82,45 @@ impl CommitTask {
 
     /// What the last step stored or found.
     pub fn met(&self) -> Option<(ObjName, Put)>
-        ensures { result ≡ self.now.met }
+        ensures met { result ≡ self.now.met }
+        ensures made { IsMade self.now }
     {
         self.met
+    }
+
+    /// Who commits the tree.
+    pub fn actor(&self) -> u8
+        ensures actor { result ≡ self.now.actor }
+        ensures small { result < 16 }
+    {
+        self.actor
+    }
+
+    /// The parent of the commit.
+    pub fn parent(&self) -> Option<Csum>
+        ensures { result ≡ self.now.message.parent }
+    {
+        self.message.parent
+    }
+
+    /// The object that the next step looks for, stages or puts; None once its path is seen to, and in every other step.
+    pub fn storing(&self) -> Option<ObjName>
+        ensures { result ≡ storing_in self.now.phase }
+    {
+        match &self.phase {
+            Phase::Put(put) | Phase::PutCommit(put) => stored_by(put),
+            _ => None,
+        }
+    }
+
+    /// The commit, once all is done.
+    pub fn commit(&self) -> Option<Csum>
+        ensures { result ≡ commit_in self.now.phase }
+    {
+        match &self.phase {
+            Phase::Ended(commit) => Some(*commit),
+            _ => None,
+        }
     }
 
     /// The lock under which the next step must stand.
@@ -97,15 +135,34 @@ impl CommitTask {
 
     /// At most so many steps are left; each object counts as a file of the greatest length.
     pub fn left(&self) -> u128
-        ensures { result ≡ left self.now }
+        ensures value { result ≡ left self.now }
+        ensures small { result < 2 ^ 100 }
     {
         match &self.phase {
-            Phase::Check => later(self.build.left()) + 1,
-            Phase::Make => later(self.build.left()),
-            Phase::Made(_) => later(self.build.left()) + (EACH - 1),
-            Phase::Put(put) => later(self.build.left()) + put.left() + 1,
+            Phase::Check => later(self.to_come()) + 1,
+            Phase::Make => later(self.to_come()),
+            Phase::Made(_) => later(self.to_come()) + (EACH - 1),
+            Phase::Put(put) => later(self.to_come()) + put.left() + 1,
             late => left_late(late),
         }
+    }
+
+    // how many objects of the tree are still to be made; a path has at most two
+    fn to_come(&self) -> u64
+        ensures value { result ≡ length (work self.now.items) - self.now.made }
+        ensures few { result < 2 ^ 34 }
+    {
+        let _paths = self.limits.paths;
+        self.build.left()
+    }
+}
+
+fn stored_by(put: &PutTask) -> Option<ObjName>
+    ensures { result ≡ named_by (putting.need_in put.now.phase) put.now.name }
+{
+    match put.needs() {
+        Need::Shared => Some(*put.name()),
+        _ => None,
     }
 }
 
@@ -114,8 +171,9 @@ const EACH: u128 = 9_223_372_036_854_775_824;
 
 // for so many objects, and all that comes behind them
 fn later(objects: u64) -> u128
+    requires { objects < 2 ^ 34 }
     ensures value { result ≡ later objects }
-    ensures small { result < 340282366920938463463374607431768211456 - 18446744073709551616 }
+    ensures small { result < 2 ^ 99 }
 {
     objects as u128 * EACH + EACH + 6
 }
@@ -123,7 +181,8 @@ fn later(objects: u64) -> u128
 // once all objects of the tree are there
 fn left_late(phase: &Phase) -> u128
     requires { IsLate phase.now }
-    ensures { (n : ℕ) → result ≡ left_in phase.now n }
+    ensures value { (n : ℕ) → result ≡ left_in phase.now n }
+    ensures small { result < 2 ^ 99 }
 {
     match phase {
         Phase::SyncObjects => EACH + 5,

@@ -41,7 +41,7 @@ steps-preserved g c =
           let known = before.0.2 in
           let after = c.step.ensures.writes w e in
           let tells = subst (λ r. Tells c.steps.count c.steps.task c.step.new.self w after.0 r) c.in-More.is (told_once (λ x. Tells c.steps.count c.steps.task c.step.new.self w x _) _ (c.in_ok-step.ensures.tells w e) after.0 after.1) in
-          let counted = subst (λ m. IsCounted c.steps.count m c.counted-count.result) c.met.ensures c.counted-count.ensures in (
+          let counted = subst (λ m. IsCounted c.steps.count m c.counted-count.result) c.met.ensures.met c.counted-count.ensures in (
             (
               after.0,
               after.1,
