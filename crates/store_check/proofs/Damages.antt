@@ -1,5 +1,5 @@
 -- What is told of all objects, from what is told of one.
-use Rattle.std.proofs.Common.{◌≡◌, ◌≢◌, ◌⊎◌, inl, inr, ⊎_elim, ℕ, ◌<◌, ◌≤◌, ◌+◌, List, [], length, get_or, refl, sym, ◌∙◌, ap, subst, arith, Option, Some, None, Result, Ok, Err}
+use Rattle.std.proofs.Common.{◌≡◌, ◌≢◌, inl, inr, ℕ, ◌<◌, ◌≤◌, ◌+◌, List, length, get_or, refl, sym, ◌∙◌, ap, subst, arith, Option, Some, None, Ok, Err}
 use Rattle.std.specs.declared.cmp.Ordering.TheVariants.{Less}
 use Rattle.ost_types.specs.declared.limits.Limits.{Limits}
 use Rattle.ost_types.specs.declared.object.Kind.{Kind}
@@ -12,18 +12,16 @@ use Rattle.ost_objects.specs.declared.fault.CheckFault.TheVariants as check
 use Rattle.ost_objects.specs.Object.{HasForm}
 use Rattle.fs_trait.specs.declared.types.FsErr.{FsErr}
 use Rattle.fs_trait.specs.declared.types.FsErr.TheVariants as fs
-use Rattle.fs_trait.specs.declared.types.Value.{Value}
 use Rattle.fs_trait.specs.declared.types.Value.TheVariants.{Absent}
 use Rattle.fs_trait.specs.Effect.{OfNone}
-use Rattle.fs_trait.specs.Seen.{seen, shows, Seen, Vacant}
+use Rattle.fs_trait.specs.Seen.{seen, Vacant}
 use Rattle.fs_trait.specs.View.{Disk}
 use Rattle.repo_model.specs.Objects.{Has, Stores, object_at, object_in, path_of}
-use Rattle.repo_model.specs.Trees.{name_of}
 use Rattle.obj_store.specs.declared.fault.LoadFault.TheVariants as load
-use Rattle.obj_store.specs.Lookup.{IsMisfit, IsMisread, IsOther, Loads}
+use Rattle.obj_store.specs.Lookup.{IsMisfit, Loads}
 use Rattle.store_check.specs.declared.fault.ObjectsFault.{ObjectsFault}
 use Rattle.store_check.specs.declared.fault.ObjectsFault.TheVariants.{TooMany, Damaged, Fs, NoMemory}
-use Rattle.store_check.specs.Listing.{IsThere, AreAll, HasFew, Lists}
+use Rattle.store_check.specs.Listing.{IsThere, AreAll}
 use Rattle.store_check.specs.Objects.{AreSound, ChecksEach, ChecksObjects, Finds, IsBad, IsFirstBad, IsFirstOf, IsSound, attributes_of}
 use Rattle.store_check.proofs.Firsts.{SoFar, so_before}
 use Rattle.store_check.proofs.Orders.{attributes_before, less_trans, not_less_itself}
@@ -123,11 +121,8 @@ every_sound d content names are i whole before o there = at (are.all o there)
     at (k, within, here) = before k o (omega (arith, within, whole)) here there
 
 -- from the parts of the check to the whole
-pub lists_end : (d : Disk) (limits : Limits) (f : ObjectsFault) → Lists d limits.objects (Err f) → ChecksObjects d limits (Err f)
-lists_end d limits (TooMany n) told = told
-lists_end d limits (Damaged o found) told = absurd told
-lists_end d limits (Fs e) told = told
-lists_end d limits NoMemory told = tt
+pub number_end : (d : Disk) (limits : Limits) (names : List ObjName) → AreAll d names → (f : ObjectsFault) → (f ≡ TooMany (limits.objects + 1)) × (limits.objects < length names) → ChecksObjects d limits (Err f)
+number_end d limits names are f many = subst (λ e. ChecksObjects d limits (Err e)) (sym many.0) (refl, record { names = names; ascending = are.ascending; here = are.here; more = many.1 })
 
 module _ (d : Disk) (limits : Limits) (names : List ObjName) (are : AreAll d names) (few : length names ≤ limits.objects) where
   pub each_end : (f : ObjectsFault) → ChecksEach d limits.content (Err f) → ChecksObjects d limits (Err f)

@@ -1,5 +1,5 @@
 -- From the parts that are listed to the names of all objects.
-use Rattle.std.proofs.Common.{◌≡◌, ◌≢◌, ◌⊎◌, inl, inr, ⊎_elim, ℕ, zero, suc, ◌+◌, ◌<◌, ◌≤◌, List, [], ◌∷◌, ◌++◌, length, take, slice_index, refl, sym, ◌∙◌, ap, subst, arith, Err}
+use Rattle.std.proofs.Common.{◌≡◌, ◌⊎◌, inl, inr, ℕ, ◌+◌, ◌<◌, ◌≤◌, List, [], ◌∷◌, ◌++◌, take, slice_index, refl, sym, ◌∙◌, ap, subst, arith}
 use Rattle.std.specs.Prelude.{Contains}
 use Rattle.std.specs.List.{AllByRecursion}
 use Rattle.std.specs.List.Sorted.{IsStrictlySortedBy}
@@ -9,9 +9,8 @@ use Rattle.std.proofs.lemmas.List.Elements.{Contains-append_left, Contains-appen
 use Rattle.ost_types.specs.declared.object.ObjName.{ObjName}
 use Rattle.fs_trait.specs.View.{Disk}
 use Rattle.repo_layout.specs.RefFile.{IsSum}
-use Rattle.obj_store.specs.Listing.{IsHere, IsList, name_cmp}
-use Rattle.store_check.specs.declared.fault.ObjectsFault.{ObjectsFault}
-use Rattle.store_check.specs.Listing.{IsThere, AreAll, HasMore, IsPast, Lists}
+use Rattle.obj_store.specs.Listing.{IsList, name_cmp}
+use Rattle.store_check.specs.Listing.{IsThere, AreAll}
 use Rattle.store_check.proofs.Orders.{first_byte_less}
 
 -- the first byte of a sum
@@ -90,14 +89,6 @@ module _ (d : Disk) (n : ℕ) (names part : List ObjName) (so_far : AreBelow d n
       by : (o : ObjName) → IsThere d o → (head_of o.csum < n) ⊎ (head_of o.csum ≡ n) → Contains (names ++ part) o
       by o there (inl less) = Contains-append_left names part o (so_far.all o there less)
       by o there (inr same) = Contains-append_right names part o (list.all o (record { sum = there.sum; begins = takes_head o.csum there.sum ∙ ap (λ k. k ∷ []) same; there = there.there }))
-
-  pub more_than : (most : ℕ) → most < length (names ++ part) → HasMore d most
-  more_than most more = record { names = names ++ part; ascending = ascends; here = λ o has. (stands o has).0; more = more }
-
-  -- no more names are taken in
-  pub past_most : (most : ℕ) (taken : List ObjName) → taken ≡ part → (f : ObjectsFault) → IsPast most (length (names ++ taken)) f → Lists d most (Err f)
-  past_most most taken is f (inl past) = subst (λ e. Lists d most (Err e)) (sym past.0) (refl, more_than most (subst (λ l. most < length (names ++ l)) is past.1))
-  past_most most taken is f (inr none) = subst (λ e. Lists d most (Err e)) (sym none) tt
 
 pub all_names : (d : Disk) (n : ℕ) (names : List ObjName) → 256 ≤ n → AreBelow d n names → AreAll d names
 all_names d n names whole are = record {

@@ -3,3 +3,10 @@ mod Orders
 mod Gathering
 mod Firsts
 mod Damages
+mod Wholes
+mod FirstRefs
+mod Marking
+mod Ends
+mod Bounds
+mod Entering
+mod Folding

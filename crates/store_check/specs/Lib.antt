@@ -1,3 +1,7 @@
 pub mod Faults
 pub mod Listing
 pub mod Objects
+pub mod Commits
+pub mod Refs
+pub mod Extents
+pub mod Folders

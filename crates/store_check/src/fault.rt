@@ -1,10 +1,11 @@
-//! Why the objects of a repository don't pass.
+//! Why the objects of a repository, or its commits, don't pass.
 ghost use Rattle.std.specs.Prelude.{◌≡◌};
 ghost use Rattle.store_check.specs.declared.fault.ObjectsFault.TheVariants as objects;
+ghost use Rattle.store_check.specs.declared.fault.CommitsFault.TheVariants as commits;
 
 use fs_trait::FsErr;
 use ost_objects::CheckFault;
-use ost_types::ObjName;
+use ost_types::{FsPath, NoMemory, ObjName};
 use std::alloc::AllocError;
 
 #[derive(Clone, Copy, Debug, PartialEq, Eq)]
@@ -31,5 +32,31 @@ impl From<AllocError> for ObjectsFault {
 
     fn from(_e: AllocError) -> ObjectsFault {
         ObjectsFault::NoMemory
+    }
+}
+
+#[derive(Drop, Debug)]
+pub enum CommitsFault {
+    /// An object is missing or damaged, or names a path that is past the limits: of the commit whose object has this path, or
+    /// of the ref whose file has it. Of a ref it is the commit that the ref names.
+    Incomplete(FsPath, ObjName),
+    /// A call failed or wanted for memory.
+    Fs(FsErr),
+    NoMemory,
+}
+
+impl From<FsErr> for CommitsFault {
+    ghost from_gives = { λ e f. f ≡ commits.Fs e };
+
+    fn from(e: FsErr) -> CommitsFault {
+        CommitsFault::Fs(e)
+    }
+}
+
+impl From<NoMemory> for CommitsFault {
+    ghost from_gives = { λ _ f. f ≡ commits.NoMemory };
+
+    fn from(_e: NoMemory) -> CommitsFault {
+        CommitsFault::NoMemory
     }
 }

@@ -1,9 +1,18 @@
-//! Whether the objects of a repository are what their names say.
+//! The objects that a repository has, whether they are what their names say, and whether its commits have all their objects.
 #![tactic(auto)]
 
+mod commits;
+mod extending;
+mod extent;
 mod fault;
+mod folders;
+mod found;
 mod listing;
+mod marks;
 mod objects;
+mod refs;
 
-pub use fault::ObjectsFault;
+pub use commits::check_commits;
+pub use fault::{CommitsFault, ObjectsFault};
+pub use listing::list_objects;
 pub use objects::check_objects;

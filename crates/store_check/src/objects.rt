@@ -1,8 +1,9 @@
 //! Each object is what its name says.
-ghost use Rattle.std.specs.Prelude.{◌≡◌, ◌≤◌, Some, None};
+ghost use Rattle.std.specs.Prelude.{◌≡◌, ◌≤◌, ◌<◌, ◌+◌, Some, None, OnOk, IfErr};
 ghost use Rattle.fs_trait.specs.View.{View};
 ghost use Rattle.fs_trait.specs.Effect.{IsQuiet};
 ghost use Rattle.ost_objects.specs.Object.{HasForm};
+ghost use Rattle.store_check.specs.declared.fault.ObjectsFault.TheVariants as objects;
 ghost use Rattle.store_check.specs.Faults.{HasCauseOf, ObjectsFailed, FailedBy};
 ghost use Rattle.store_check.specs.Listing.{AreAll};
 ghost use Rattle.store_check.specs.Objects.{ChecksEach, ChecksObjects, Finds, IsFirstOf};
@@ -29,9 +30,21 @@ pub fn check_objects<F: Fs>(
     ensures keeps_room { F.spare fs.old ≤ F.spare fs.new }
     ensures cause { HasCauseOf (F.faults fs.old) (F.faults fs.new) (ObjectsFailed result) }
 {
-    let names = list_objects(alloc, fs, limits)?;
+    let names = list_objects(alloc, fs)?;
+    check_number(names.len(), limits)?;
     check_each(alloc, fs, names.as_slice(), limits)?;
     Ok(names)
+}
+
+/// Whether so many objects aren't more than the limit.
+fn check_number(number: usize, limits: &Limits) -> Result<(), ObjectsFault>
+    ensures few { OnOk result (number ≤ limits.now.objects) }
+    ensures many { IfErr result (λ f. (f ≡ objects.TooMany (limits.now.objects + 1)) × (limits.now.objects < number)) }
+{
+    if number > limits.objects as usize {
+        return Err(ObjectsFault::TooMany(limits.objects as u64 + 1));
+    }
+    Ok(())
 }
 
 fn check_each<F: Fs>(

@@ -1,4 +1,4 @@
-use Rattle.std.proofs.Common.{◌≡◌, ◌≤◌, Some, length}
+use Rattle.std.proofs.Common.{◌≡◌, ◌≤◌, Some}
 use Rattle.fs_trait.specs.View.{View}
 use Rattle.fs_trait.specs.Effect.{IsQuiet}
 use Rattle.store_check.proofs.Gathering.{AreBelow}
@@ -8,7 +8,6 @@ use Rattle.store_check.proofs.listing.list_objects.Given as goal
 abbrev pub invariant-loop-first : goal.invariant-loop-first
 invariant-loop-first g l = record {
   below : (v : View) → g.F.Fs.view l.fn.fs ≡ Some v → AreBelow v.now l.first l.names.items;
-  few : length l.names.items ≤ l.limits.objects;
   quiet : IsQuiet (g.F.Fs.clock l.fn.fs) (g.F.Fs.clock l.fs) (g.F.Fs.was l.fn.fs) (g.F.Fs.was l.fs) (g.F.Fs.view l.fn.fs) (g.F.Fs.view l.fs);
   room : g.F.Fs.spare l.fn.fs ≤ g.F.Fs.spare l.fs;
   faults : g.F.Fs.faults l.fn.fs ≤ g.F.Fs.faults l.fs;

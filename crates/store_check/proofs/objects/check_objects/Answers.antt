@@ -1,24 +1,22 @@
-use Rattle.std.proofs.Common.{◌∙◌, sym, subst, length, ◌≤◌}
+use Rattle.std.proofs.Common.{◌∙◌, sym, subst, arith}
 use Rattle.std.proofs.lemmas.Result.{err_from_is_err_and}
 use Rattle.store_check.specs.Listing.{AreAll}
-use Rattle.store_check.proofs.Damages.{lists_end, each_end, all_sound}
+use Rattle.store_check.proofs.Damages.{number_end, each_end, all_sound}
 use Rattle.store_check.proofs.objects.check_objects.Goals as goal
 
 pub check_each-requires : goal.check_each-requires
-check_each-requires g c = λ v told. subst (AreAll v.now) (sym c.as_slice.ensures.value) (c.in_ok-names.ensures.told v (sym c.list_objects.ensures.quiet.view ∙ told)).0
+check_each-requires g c = λ v told. subst (AreAll v.now) (sym c.as_slice.ensures.value) (c.in_ok-names.ensures.told v (sym c.list_objects.ensures.quiet.view ∙ told))
 
-pub returns-in_err-names-clause-told : goal.returns-in_err-names-clause-told
-returns-in_err-names-clause-told g c = λ v told.
-    let error = err_from_is_err_and c.from_residual.result c.from_residual.ensures.1 in
-    rw (error.1, error.2) (lists_end v.now c.args.limits.now _ (c.in_err-names.ensures.told v told))
+pub returns-in_err-check_number-clause-told : goal.returns-in_err-check_number-clause-told
+returns-in_err-check_number-clause-told g c = λ v told.
+    let error = err_from_is_err_and c.from_residual-in_err-check_number.result c.from_residual-in_err-check_number.ensures.1 in
+    rw (error.1, error.2) (number_end v.now c.args.limits.now c.in_ok-names.names.items (c.in_ok-names.ensures.told v told) _ (c.in_err-check_number.ensures.many.0, omega (arith, c.in_err-check_number.ensures.many.1, c.len.ensures)))
 
 pub returns-in_err-check_each-clause-told : goal.returns-in_err-check_each-clause-told
 returns-in_err-check_each-clause-told g c = λ v told.
     let error = err_from_is_err_and c.from_residual-in_err-check_each.result c.from_residual-in_err-check_each.ensures.1 in
-    let names = c.in_ok-names.ensures.told v told in
-    rw (error.1, error.2) (each_end v.now c.args.limits.now c.in_ok-names.names.items names.0 names.1 _ (c.in_err-check_each.ensures.told v (c.list_objects.ensures.quiet.view ∙ told)))
+    rw (error.1, error.2) (each_end v.now c.args.limits.now c.in_ok-names.names.items (c.in_ok-names.ensures.told v told) (omega (arith, c.in_ok-check_number.ensures.few, c.len.ensures)) _ (c.in_err-check_each.ensures.told v (c.list_objects.ensures.quiet.view ∙ told)))
 
 pub returns-clause-told : goal.returns-clause-told
 returns-clause-told g c = λ v told.
-    let names = c.in_ok-names.ensures.told v told in
-    all_sound v.now c.args.limits.now c.in_ok-names.names.items names.0 names.1 (c.in_ok-check_each.ensures.told v (c.list_objects.ensures.quiet.view ∙ told))
+    all_sound v.now c.args.limits.now c.in_ok-names.names.items (c.in_ok-names.ensures.told v told) (omega (arith, c.in_ok-check_number.ensures.few, c.len.ensures)) (c.in_ok-check_each.ensures.told v (c.list_objects.ensures.quiet.view ∙ told))

@@ -1,4 +1,4 @@
-use Rattle.std.proofs.Common.{inl, inr, refl}
+use Rattle.std.proofs.Common.{inl, refl}
 use Rattle.store_check.specs.Objects.{attributes_of}
 use Rattle.store_check.proofs.Damages.{ends_beside, found_sound}
 use Rattle.store_check.proofs.objects.first_damage.Goals as goal
