@@ -1,6 +1,7 @@
 -- What a change of a ref writes is what its lane may write, and each kind of step keeps its duty.
 use Rattle.std.proofs.Common.{◌≡◌, ◌≢◌, ◌⊎◌, inl, inr, ⊎_elim, ℕ, true, refl, sym, ◌∙◌, ap, subst, arith, List, [], ◌++◌, append_assoc, length-append, Option, Some, None}
 use Rattle.ost_types.specs.declared.meta.Meta.{Meta}
+use Rattle.ost_types.specs.declared.object.Kind.{Kind}
 use Rattle.ost_types.specs.declared.object.Kind.TheVariants.{Commit}
 use Rattle.ost_types.specs.Path.{Path, IsPath}
 use Rattle.ost_types.proofs.Paths.{under-folder}
@@ -12,7 +13,7 @@ use Rattle.fs_trait.specs.Seen.{Seen, Vacant, Directory, Symlink, Leaf, shows, M
 use Rattle.repo_layout.specs.RefName.{parts_of}
 use Rattle.repo_layout.specs.RefFile.{IsSum, ref_text}
 use Rattle.repo_layout.specs.Paths.{heads, object_path, ref_path, stage_path}
-use Rattle.repo_layout.specs.Place.{Mark, Ref, Stage, place}
+use Rattle.repo_layout.specs.Place.{Mark, Object, Ref, Stage, place}
 use Rattle.repo_layout.proofs.Places.{place-ref}
 use Rattle.layout_rules.specs.InLayout.{InLayout}
 use Rattle.layout_rules.proofs.Sanes.{stage_is_path}
@@ -36,6 +37,7 @@ use Rattle.rely.specs.State.{RefOf}
 use Rattle.rely.specs.Disks as disks
 use Rattle.rely.specs.Disks.{Says}
 use Rattle.rely.specs.Books.{Books, Free, Agrees}
+use Rattle.rely.specs.Objects.{IsObjectSeen}
 use Rattle.rely.specs.Rely.{May, may_at, NotOthers, OwnTree, IsEmpty, HasNoRefs}
 use Rattle.rely.specs.Sound.{Leads}
 use Rattle.rely.specs.Change.{Still, Shows, Final}
@@ -100,6 +102,13 @@ module _ (b : Books) (v : View) (lane : ℕ) (t : Change) (needs : Needs t v) (m
   fits : (p : Path) (s : Seen) → Lies t v p s → InLayout p s
   fits p s l = ⊎_elim (λ e. stage_fits lane p s e (placed p s l).bounds) (λ r. ref_fits r.0 p s r.1 (placed p s l).bounds) (placed p s l).lies
 
+  -- no object is
+  objects : (p : Path) (s : Seen) → Lies t v p s → (kind : Kind) (sum : List ℕ) → place p ≡ Object kind sum → (shows v.now p ≡ Vacant) × IsObjectSeen kind sum s
+  objects p s l kind sum at = absurd (⊎_elim
+      (λ e. (let k : Stage lane ≡ Object kind sum = sym e ∙ at in cc))
+      (λ r. (let k : Ref r.0 ≡ Object kind sum = sym r.1 ∙ at in cc))
+      (placed p s l).lies)
+
   -- and no mark is
   marks : (p : Path) (s : Seen) → Lies t v p s → (commit : List ℕ) → place p ≡ Mark commit → s ≢ Vacant → shows v.now (object_path Commit commit) ≡ Vacant
   marks p s l commit at there = ⊎_elim
@@ -123,7 +132,7 @@ module _ (b : Books) (v : View) (lane : ℕ) (t : Change) (needs : Needs t v) (m
     within : (ph : Phase) → t.phase ≡ ph → Within (writes_in ph t v) (May b v lane lane)
     within ph is p s a =
         let l = ref_lies t v needs p s (subst (λ f. writes_in f t v p s) (sym is) a) in
-        record { at = at p s l; fits = fits p s l; marks = marks p s l; comes = comes p s l; folders = folders p s l }
+        record { at = at p s l; fits = fits p s l; objects = objects p s l; marks = marks p s l; comes = comes p s l; folders = folders p s l }
 
 -- the change is done: the ref's path may show only its new file, or nothing, and folders lead there
 abbrev pub IsDone : Change → View → Type 0

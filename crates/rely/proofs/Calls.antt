@@ -11,7 +11,7 @@ use Rattle.fs_trait.specs.Change.{Nothing}
 use Rattle.repo_layout.specs.RefName.{IsRefName}
 use Rattle.repo_layout.specs.RefFile.{IsSum, ref_text}
 use Rattle.repo_layout.specs.Paths.{ref_path}
-use Rattle.repo_layout.specs.Place.{Mark, Stage, Ref, place}
+use Rattle.repo_layout.specs.Place.{Mark, Object, Stage, Ref, place}
 use Rattle.repo_layout.proofs.Places.{place-ref, ref_path-injective}
 use Rattle.layout_rules.specs.InLayout.{InLayout}
 use Rattle.layout_rules.proofs.RulePlaces.{no_ref, no_stage}
@@ -49,6 +49,7 @@ pub stage_within : (b : Books) (v : View) (actor lane : ℕ) (p : Path) (s : See
 stage_within b v actor lane p s at bounds comes = record {
   at = subst (λ x. may_at b actor lane x s) (sym at) refl;
   fits = stage_fits actor p s at bounds;
+  objects = λ kind sum e. (let k : Stage actor ≡ Object kind sum = sym at ∙ e in cc);
   marks = λ c e there. (let k : Stage actor ≡ Mark c = sym at ∙ e in cc);
   comes = comes;
   folders = inr (inr (inl (subst (OwnTree actor) (sym at) refl)));
@@ -71,6 +72,7 @@ pub ref_within : (b : Books) (v : View) (actor lane : ℕ) (name : List ℕ) (p 
 ref_within b v actor lane name p s e turn alone bounds comes folders = record {
   at = subst (λ x. may_at b actor lane x s) (sym (ap place e ∙ place-ref name)) (turn, alone);
   fits = ref_fits name p s (ap place e ∙ place-ref name) (λ there. subst IsPath (sym e) (bounds there));
+  objects = λ kind sum k. (let n : Ref name ≡ Object kind sum = sym (ap place e ∙ place-ref name) ∙ k in cc);
   marks = λ c k there. (let n : Ref name ≡ Mark c = sym (ap place e ∙ place-ref name) ∙ k in cc);
   comes = comes;
   folders = ⊎_elim (λ k. inl k) (λ rest. ⊎_elim (λ k. inr (inl k)) (λ k. inr (inr (inr (inr k)))) rest) folders;

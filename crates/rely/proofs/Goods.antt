@@ -41,7 +41,7 @@ known_at shown value v known d i t = by (root_or_under (path_of t))
         (⊎_elim (λ none. inl (inl (subst (λ y. Says t y Vacant) (sym none) (says_vacant t)))) (λ leads. inr leads) (known.leads t w.0 w.1 w.2)) d i)
 
 -- a leaf is shown
-leaf_seen : (d : Disk) (z : Value) → is_leaf z ≡ true → IsLeaf (seen d z)
+pub leaf_seen : (d : Disk) (z : Value) → is_leaf z ≡ true → IsLeaf (seen d z)
 leaf_seen d Absent e = let n : false ≡ true = e in cc
 leaf_seen d (Folder m) e = let n : false ≡ true = e in cc
 leaf_seen d (Link m t) e = tt

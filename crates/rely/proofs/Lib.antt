@@ -11,3 +11,5 @@ pub mod Taking
 pub mod Calls
 pub mod Headlines
 pub mod Openings
+pub mod Lasting
+pub mod Beginnings

@@ -32,7 +32,7 @@ shows_directory d Absent e = let n : false ≡ true = e in cc
 shows_directory d (Link m t) e = let n : false ≡ true = e in cc
 shows_directory d (File k) e = let n : false ≡ true = e in cc
 
-leaf_value : (d : Disk) (z : Value) → IsLeaf (seen d z) → is_leaf z ≡ true
+pub leaf_value : (d : Disk) (z : Value) → IsLeaf (seen d z) → is_leaf z ≡ true
 leaf_value d (Link m t) leaf = refl
 leaf_value d (File n) leaf = refl
 leaf_value d Absent leaf = absurd leaf
@@ -43,7 +43,7 @@ module _ (start : State) (v : View) (tree : IsTree v.now) (begins : IsOpening st
   only p s may = (begins.settled p).each s may
 
   -- the folders above a folder that is there
-  leads_there : (f : Path) → is_folder (v.now.at f) ≡ true → Leads v f
+  pub leads_there : (f : Path) → is_folder (v.now.at f) ≡ true → Leads v f
   leads_there f folder p s may below =
       let w = below_split p f below in
       let here : is_folder (v.now.at p) ≡ true = above v.now tree p w.0 (subst (λ q. is_folder (v.now.at q) ≡ true) w.1 folder) in

@@ -51,7 +51,7 @@ may_before b b' actor lane sp ke (Checkout n r) s m = m
 may_before b b' actor lane sp ke (Other p) s m = m
 
 pub may_less : (b b' : Books) (v : View) (actor lane : ℕ) → Spared actor lane b b' → Keeps lane b b' → (p : Path) (s : Seen) → May b' v actor lane p s → May b v actor lane p s
-may_less b b' v actor lane sp ke p s m = record { at = may_before b b' actor lane sp ke (place p) s m.at; fits = m.fits; marks = m.marks; comes = m.comes; folders = m.folders }
+may_less b b' v actor lane sp ke p s m = record { at = may_before b b' actor lane sp ke (place p) s m.at; fits = m.fits; objects = m.objects; marks = m.marks; comes = m.comes; folders = m.folders }
 
 pub store_is : (k : Kind) → IsStore k → k ≡ Store
 store_is Quiet is = absurd is

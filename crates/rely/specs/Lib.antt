@@ -1,6 +1,7 @@
 pub mod Books
 pub mod State
 pub mod Disks
+pub mod Objects
 pub mod Rely
 pub mod Sound
 pub mod Change
@@ -10,3 +11,4 @@ pub mod Opening
 pub mod Barrier
 pub mod Exact
 pub mod Part
+pub mod Lasting

@@ -10,6 +10,7 @@ ghost use Rattle.rely.specs.declared.kind.Outcome.TheVariants as Outcome;
 ghost use Rattle.fs_trait.specs.declared.types.FsErr.TheVariants as FsErr;
 ghost use Rattle.rely.specs.Books.{books_of, Free, Frees};
 ghost use Rattle.rely.specs.Exact.{Opens, Steps, Tells, IsUnbooked, IsHeldBy, IsShownBy, IsSettledBy, IsBooked, Causes, IsGivenUp, IsLeft, Locks};
+ghost use Rattle.rely.specs.Lasting.{Lasts};
 ghost use Rattle.rely.specs.Laws.{IsShow, IsShown, IsOwing, IsSettle, IsQuiet, IsStore, IsTake, KeepsRoom, owed_by, Ready, Runs, IsBy, Stood, Acts, Ends, IsEnd, Show, Shown, Settle};
 
 use crate::{Base, Event, Outcome, Step, Wants, Work, is_free};
@@ -79,6 +80,7 @@ fn quiet<T: Work, F: Fs>(base: &mut Base<F>, actor: u8, lane: u8, task: &mut T) 
     ensures goes { result ≢ Outcome.Blocked }
     ensures left { IsLeft lane result base.old.books.turn base.new.books.turn × IsLeft lane result base.old.books.exclusive base.new.books.exclusive }
     ensures booked { IsUnbooked base.old.books base.new.books }
+    ensures time { Elapses (F.clock base.old.fs) (F.clock base.new.fs) (F.was base.old.fs) (F.was base.new.fs) (F.view base.new.fs) }
     ensures cause { Causes (F.faults base.old.fs) (F.faults base.new.fs) result }
 {
     let before = base.fs.clock();
@@ -104,6 +106,7 @@ fn show<T: Work, F: Fs>(base: &mut Base<F>, lane: u8, command: u32, task: &mut T
     ensures opens { result ≢ Outcome.Blocked → (Free base.old.books.exclusive lane × Free base.old.books.turn lane) }
     ensures locks { Locks (T.kind_of task.old) lane result base.old.books base.new.books }
     ensures booked { (e : Event) → T.kind_of task.old ≡ Show e → IsShownBy lane command e result base.old.books base.new.books }
+    ensures time { Elapses (F.clock base.old.fs) (F.clock base.new.fs) (F.was base.old.fs) (F.was base.new.fs) (F.view base.new.fs) }
     ensures cause { (v : View) → F.view base.old.fs ≡ Some v → Causes (F.faults base.old.fs) (F.faults base.new.fs) result }
 {
     if !base.books.frees_turn(lane) {
@@ -139,6 +142,7 @@ fn show_event<T: Work, F: Fs>(
     ensures goes { result ≢ Outcome.Blocked }
     ensures locks { Locks (T.kind_of task.old) lane result base.old.books base.new.books }
     ensures booked { IsShownBy lane command event result base.old.books base.new.books }
+    ensures time { Elapses (F.clock base.old.fs) (F.clock base.new.fs) (F.was base.old.fs) (F.was base.new.fs) (F.view base.new.fs) }
     ensures cause { (v : View) → F.view base.old.fs ≡ Some v → Causes (F.faults base.old.fs) (F.faults base.new.fs) result }
 {
     match advance_with_room(base, lane, task) {
@@ -169,6 +173,7 @@ fn shown<T: Work, F: Fs>(base: &mut Base<F>, lane: u8, task: &mut T) -> Outcome
     ensures goes { result ≢ Outcome.Blocked }
     ensures locks { Locks (T.kind_of task.old) lane result base.old.books base.new.books }
     ensures booked { IsHeldBy result base.old.books base.new.books }
+    ensures time { Elapses (F.clock base.old.fs) (F.clock base.new.fs) (F.was base.old.fs) (F.was base.new.fs) (F.view base.new.fs) }
     ensures cause { (v : View) → F.view base.old.fs ≡ Some v → Causes (F.faults base.old.fs) (F.faults base.new.fs) result }
 {
     base.books.pay();
@@ -192,6 +197,7 @@ fn settle<T: Work, F: Fs>(base: &mut Base<F>, lane: u8, task: &mut T) -> Outcome
     ensures goes { result ≢ Outcome.Blocked }
     ensures locks { Locks (T.kind_of task.old) lane result base.old.books base.new.books }
     ensures booked { IsSettledBy (F.clock base.new.fs) result base.old.books base.new.books }
+    ensures time { Elapses (F.clock base.old.fs) (F.clock base.new.fs) (F.was base.old.fs) (F.was base.new.fs) (F.view base.new.fs) }
     ensures cause { (v : View) → F.view base.old.fs ≡ Some v → Causes (F.faults base.old.fs) (F.faults base.new.fs) result }
 {
     match task.advance(lane, &mut base.fs) {
@@ -225,6 +231,7 @@ fn store<T: Work, F: Fs>(base: &mut Base<F>, actor: u8, lane: u8, task: &mut T) 
     ensures opens { result ≢ Outcome.Blocked → Free base.old.books.exclusive lane }
     ensures locks { Locks (T.kind_of task.old) lane result base.old.books base.new.books }
     ensures booked { IsUnbooked base.old.books base.new.books }
+    ensures time { Elapses (F.clock base.old.fs) (F.clock base.new.fs) (F.was base.old.fs) (F.was base.new.fs) (F.view base.new.fs) }
     ensures cause { Causes (F.faults base.old.fs) (F.faults base.new.fs) result }
 {
     if !is_free(base.books.exclusive, lane) {
@@ -245,6 +252,7 @@ fn take<T: Work, F: Fs>(base: &mut Base<F>, lane: u8, wants: Wants, task: &mut T
     ensures opens { result ≢ Outcome.Blocked → Frees wants lane (books_of base.old.books) }
     ensures locks { Locks (T.kind_of task.old) lane result base.old.books base.new.books }
     ensures booked { IsUnbooked base.old.books base.new.books }
+    ensures time { Elapses (F.clock base.old.fs) (F.clock base.new.fs) (F.was base.old.fs) (F.was base.new.fs) (F.view base.new.fs) }
     ensures cause { Causes (F.faults base.old.fs) (F.faults base.new.fs) result }
 {
     if !base.books.frees(&wants, lane) {
@@ -276,6 +284,7 @@ pub fn task_act<T: Work, F: Fs>(
     ensures opens { result ≢ Outcome.Blocked → Opens (T.kind_of task.old) lane (books_of base.old.books) }
     ensures locks { Locks (T.kind_of task.old) lane result base.old.books base.new.books }
     ensures booked { IsBooked (T.kind_of task.old) lane command (F.clock base.new.fs) result base.old.books base.new.books }
+    ensures outlasts { Lasts F.view F.clock F.was base.old.fs base.new.fs }
     ensures cause { (v : View) → F.view base.old.fs ≡ Some v → Causes (F.faults base.old.fs) (F.faults base.new.fs) result }
 {
     match task.kind() {
@@ -298,6 +307,7 @@ pub fn help_act<T: Work, F: Fs>(base: &mut Base<F>, actor: u8, lane: u8, task: &
     ensures blocked { result ≡ Outcome.Blocked → (base.new ≡ base.old) × (IsStore (T.kind_of task.old) → Free base.old.books.exclusive lane → ⊥) }
     ensures opens { result ≢ Outcome.Blocked → IsStore (T.kind_of task.old) × Free base.old.books.exclusive lane }
     ensures booked { IsUnbooked base.old.books base.new.books }
+    ensures outlasts { Lasts F.view F.clock F.was base.old.fs base.new.fs }
     ensures cause { Causes (F.faults base.old.fs) (F.faults base.new.fs) result }
 {
     match task.kind() {
