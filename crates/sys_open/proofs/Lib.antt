@@ -1,4 +1,5 @@
 mod FaultLemmas
+mod Listed
 mod Lists
 mod Orders
 mod Walks

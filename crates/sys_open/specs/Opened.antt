@@ -1,20 +1,23 @@
 -- What an opening gives.
 use Rattle.std.specs.Prelude.{◌≡◌, ◌≤◌, ℕ, List, Option, Some}
 use Rattle.ost_types.specs.declared.limits.Limits.{Limits}
+use Rattle.ost_types.specs.declared.object.ObjName.{ObjName}
 use Rattle.fs_trait.specs.View.{View}
 use Rattle.fs_trait.specs.Change.{Left}
+use Rattle.store_check.specs.Listing.{AreAll}
 use Rattle.rely.specs.State.{first}
 use Rattle.rely.specs.Opening.{IsOpening, HasSince}
 use Rattle.sys_open.specs.Opening.{AreAscending, HasNoStages}
 
 -- An open repository as plain data: the file system, the refs, the clock after the first barrier, the count of failed calls at
--- the beginning, and the limits.
+-- the beginning, the limits, and the names of all objects.
 pub record Opened (F : Type 0) : Type 0 where
   pub fs : F
   pub refs : List (List ℕ × List ℕ)
   pub clock : ℕ
   pub faults : ℕ
   pub limits : Limits
+  pub objects : List ObjName
 
 -- What every open repository keeps: a system can begin on it with these refs, and each crash since that moment left a sane disk
 -- with them.
@@ -24,3 +27,7 @@ pub record IsOpened {F : Type 0} (view : F → Option View) (clock : F → ℕ) 
   pub opening : (w : View) → view fs ≡ Some w → IsOpening (first refs) w
   pub staging : (w : View) → view fs ≡ Some w → HasNoStages w.now
   pub since : (w : View) → view fs ≡ Some w → HasSince (Left (was fs)) opened (first refs)
+
+-- where the view is told, these are the names of all objects
+abbrev pub IsListed : {F : Type 0} → (F → Option View) → F → List ObjName → Type 0
+IsListed view fs objects = (w : View) → view fs ≡ Some w → AreAll w.now objects

@@ -8,14 +8,16 @@ ghost use Rattle.rely.specs.Opening.{HasSince};
 ghost use Rattle.rely.specs.State.{first};
 ghost use Rattle.sys_open.specs.declared.fault.OpenFault.TheVariants as fault;
 ghost use Rattle.layout_rules.specs.Checks.{IsSane};
+ghost use Rattle.store_check.specs.Listing.{AreAll};
 ghost use Rattle.sys_open.specs.Changes.{Changes, Works};
-ghost use Rattle.sys_open.specs.Opened.{IsOpened};
+ghost use Rattle.sys_open.specs.Opened.{IsListed, IsOpened};
 ghost use Rattle.sys_open.specs.Opening.{AreAscending, Begins, IsToldOf, KeepsSince, StaysOnDamage};
 
 use crate::fault::OpenFault;
+use crate::objects::names_of_all;
 use crate::opening::open;
 use fs_trait::Fs;
-use ost_types::{Csum, Limits};
+use ost_types::{Csum, Limits, ObjName};
 use repo_layout::RefName;
 use std::alloc::Global;
 use std::marker::Model;
@@ -23,7 +25,8 @@ use std::marker::Model;
 /// An open repository, on which a system can begin.
 ///
 /// Each value keeps, for any file system that tells its view: all is synced, the folders of the layout are there, nothing
-/// stands at a staging path, and each crash since the first barrier left a sane disk with these refs, which opens again with them.
+/// stands at a staging path, these are the names of all objects, and each crash since the first barrier left a sane disk with
+/// these refs, which opens again with them.
 #[derive(Drop)]
 pub struct Opened<F: Fs> {
     fs: F,
@@ -31,16 +34,17 @@ pub struct Opened<F: Fs> {
     clock: u64,
     faults: u64,
     limits: Limits,
+    objects: Vec<ObjName>,
 }
 
 impl<F: Fs> Model for Opened<F> {
-    ghost use Rattle.sys_open.specs.Opened.{IsOpened, Opened};
+    ghost use Rattle.sys_open.specs.Opened.{IsListed, IsOpened, Opened};
 
     ghost Value = { Opened F };
 
-    ghost view = { λ o. record { fs = o.fs; refs = o.refs.items; clock = o.clock; faults = o.faults; limits = o.limits } };
+    ghost view = { λ o. record { fs = o.fs; refs = o.refs.items; clock = o.clock; faults = o.faults; limits = o.limits; objects = o.objects.items } };
 
-    ghost invariant = { λ o. IsOpened F.view F.clock F.was o.fs o.clock o.refs.items };
+    ghost invariant = { λ o. IsOpened F.view F.clock F.was o.fs o.clock o.refs.items × IsListed F.view o.fs o.objects.items };
 }
 
 /// What an open repository is taken apart into, for a system that begins on it.
@@ -54,6 +58,8 @@ pub struct OpenedParts<F> {
     /// The file system's count of faults before the opening.
     pub faults: u64,
     pub limits: Limits,
+    /// The names of all objects, ascending.
+    pub objects: Vec<ObjName>,
 }
 
 impl<F: Fs> Opened<F> {
@@ -63,6 +69,14 @@ impl<F: Fs> Opened<F> {
         ensures ascending { AreAscending self.now.refs }
     {
         &self.refs
+    }
+
+    /// The names of all objects, ascending, each once.
+    pub fn objects(&self) -> &[ObjName]
+        ensures objects { result.now ≡ self.now.objects }
+        ensures listed { IsListed F.view self.now.fs self.now.objects }
+    {
+        &self.objects
     }
 
     /// The file system's count of faults.
@@ -81,6 +95,7 @@ impl<F: Fs> Opened<F> {
             clock: _,
             faults: _,
             limits: _,
+            objects: _,
         } = self;
         fs
     }
@@ -92,7 +107,9 @@ impl<F: Fs> Opened<F> {
         ensures clock { result.clock ≡ self.clock }
         ensures faults { result.faults ≡ self.faults }
         ensures limits { result.limits ≡ self.limits }
+        ensures objects { result.objects.items ≡ self.objects }
         ensures opened { IsOpened F.view F.clock F.was result.fs result.clock result.refs.items }
+        ensures listed { IsListed F.view result.fs result.objects.items }
     {
         let Opened {
             fs,
@@ -100,6 +117,7 @@ impl<F: Fs> Opened<F> {
             clock,
             faults,
             limits,
+            objects,
         } = self;
         OpenedParts {
             fs,
@@ -107,12 +125,13 @@ impl<F: Fs> Opened<F> {
             clock,
             faults,
             limits,
+            objects,
         }
     }
 }
 
-/// Opens the repository of a file system; where it isn't opened the file system comes back. No damage is told of a sane disk,
-/// so what a crash left since the first barrier opens again, with the same refs.
+/// Opens the repository of a file system, and lists its objects; where it isn't opened the file system comes back. No damage is
+/// told of a sane disk, so what a crash left since the first barrier opens again, with the same refs.
 pub fn adopt<F: Fs>(alloc: Global, fs: F, limits: Limits) -> Result<Opened<F>, (F, OpenFault)>
     ensures sane { (v : View) → F.view fs ≡ Some v → IfOk result (λ o. IsSane v.now) }
     ensures begins { (v : View) → F.view fs ≡ Some v → IfOk result (λ o. Told (F.view o.fs) (Begins o.refs v)) }
@@ -122,6 +141,7 @@ pub fn adopt<F: Fs>(alloc: Global, fs: F, limits: Limits) -> Result<Opened<F>, (
     ensures still { (v : View) → F.view fs ≡ Some v → IfErr result (λ e. StaysOnDamage e.1 (F.view e.0 ≡ Some (all_synced v))) }
     ensures works { (v : View) → F.view fs ≡ Some v → IfOk result (λ o. Works (Changes v.now) v (F.clock fs) (F.clock o.fs) (F.was fs) (F.was o.fs) (F.view o.fs)) }
     ensures undone { (v : View) → F.view fs ≡ Some v → IfErr result (λ e. Works (Changes v.now) v (F.clock fs) (F.clock e.0) (F.was fs) (F.was e.0) (F.view e.0)) }
+    ensures objects { (v : View) → F.view fs ≡ Some v → IfOk result (λ o. Told (F.view o.fs) (λ w. AreAll w.now o.objects)) }
     ensures ascending { IfOk result (λ o. AreAscending o.refs) }
     ensures opened { IfOk result (λ o. Next (F.clock fs) o.clock) }
     ensures begun { IfOk result (λ o. (o.faults ≡ F.faults fs) × (o.limits ≡ limits)) }
@@ -130,13 +150,17 @@ pub fn adopt<F: Fs>(alloc: Global, fs: F, limits: Limits) -> Result<Opened<F>, (
     let mut fs = fs;
     let faults = fs.faults();
     match open(alloc, &mut fs) {
-        Ok((refs, clock)) => Ok(Opened {
-            fs,
-            refs,
-            clock,
-            faults,
-            limits,
-        }),
+        Ok((refs, clock)) => match names_of_all(alloc, &mut fs) {
+            Ok(objects) => Ok(Opened {
+                fs,
+                refs,
+                clock,
+                faults,
+                limits,
+                objects,
+            }),
+            Err(fault) => Err((fs, fault)),
+        },
         Err(fault) => Err((fs, fault)),
     }
 }

@@ -1,4 +1,5 @@
-//! Opening the repository of a file system: it is checked, its folders are laid out, and what was staged is removed.
+//! Opening the repository of a file system: it is checked, its folders are laid out, what was staged is removed, and its objects
+//! are listed.
 #![tactic(auto)]
 
 mod adopting;
@@ -12,6 +13,7 @@ mod inside;
 mod kinds;
 mod layout;
 mod least;
+mod objects;
 mod opening;
 mod reach;
 mod refs;
