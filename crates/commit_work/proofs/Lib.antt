@@ -1,0 +1,4 @@
+pub mod Starts
+pub mod Ends
+pub mod Refusals
+pub mod Steps

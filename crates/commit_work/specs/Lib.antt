@@ -1,0 +1,9 @@
+pub mod Kinds
+pub mod Facts
+pub mod Lying
+pub mod Ruled
+pub mod Kept
+pub mod Relying
+pub mod Duties
+pub mod Laws
+pub mod Answers
