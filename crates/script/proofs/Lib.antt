@@ -2,3 +2,5 @@ mod LineLemmas
 pub mod Spelling
 mod Fields
 pub mod Numbers
+pub mod Slices
+pub mod Alone

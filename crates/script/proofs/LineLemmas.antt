@@ -1,5 +1,5 @@
 -- One line more, and the lines of one lane more.
-use Rattle.std.proofs.Common.{◌≡◌, ◌<◌, ◌+◌, ◌-◌, ℕ, suc, List, [], ◌∷◌, ◌++◌, length, take, get_or, refl, sym, ◌∙◌, ap, arith, append_assoc, append-nil, map}
+use Rattle.std.proofs.Common.{◌≡◌, ◌<◌, ◌+◌, ℕ, List, [], ◌∷◌, ◌++◌, length, take, get_or, refl, sym, ◌∙◌, ap, arith, append_assoc, append-nil, map}
 use Rattle.std.proofs.lemmas.List.{take_more, length-take, length-map, map-append}
 use Rattle.script.specs.declared.answer.Reply.{Reply}
 use Rattle.script.specs.Lines.{reply_line, lane_lines, lines_from}

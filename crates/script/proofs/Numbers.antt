@@ -1,5 +1,5 @@
 -- From what a field stands for to the number or the text that it has.
-use Rattle.std.proofs.Common.{◌≡◌, ◌≢◌, ◌<◌, ◌≤◌, ◌^◌, ℕ, zero, suc, ◌⊎◌, inl, inr, List, [], ◌∷◌, length, get_or, slice_index, Option, Some, None, IsSome, IfSome, MatchOption, Result, Ok, Err, IsUtf8, ◌↔◌, refl, sym, ◌∙◌, ap, subst, arith, rules}
+use Rattle.std.proofs.Common.{◌≡◌, ◌≢◌, ◌<◌, ◌≤◌, ◌^◌, ℕ, zero, suc, ◌⊎◌, inl, inr, List, length, slice_index, Option, Some, None, IsSome, IfSome, MatchOption, Result, Ok, Err, IsUtf8, ◌↔◌, sym, ◌∙◌, ap, subst, arith, rules}
 use Rattle.std.specs.Fmt.{decimal}
 use Rattle.std.specs.Result.{result_ok, OkIff}
 use Rattle.std.specs.Str.Parse.{AllDigits, digits_value, ParsesUnsigned}

@@ -1,12 +1,12 @@
 -- What is printed of replies.
-use Rattle.std.specs.Prelude.{◌≡◌, ◌+◌, ℕ, List, [], ◌∷◌, ◌++◌, length, codes, Option, Some, None}
+use Rattle.std.specs.Prelude.{◌+◌, ℕ, List, [], ◌∷◌, ◌++◌, length, codes, Option, Some, None}
 use Rattle.std.specs.List.{flat_map}
 use Rattle.std.specs.Fmt.{decimal}
 use Rattle.ost_types.specs.Path.{text_of}
 use Rattle.ost_types.specs.Csum.{hex_of}
 use Rattle.script.specs.Field.{escaped}
 use Rattle.script.specs.declared.answer.Answer.{Answer}
-use Rattle.script.specs.declared.answer.Answer.TheVariants.{Nothing, Refs, Commit, NoRef, NoCommit, Partial, RefMoved, RefClash, NoMemory, DiskFault, Halted, Outside}
+use Rattle.script.specs.declared.answer.Answer.TheVariants.{Nothing, Refs, Commit, NoRef, NoCommit, Partial, RefMoved, RefClash, BadTree, TooMany, NoMemory, DiskFault, Halted, Outside}
 use Rattle.script.specs.declared.answer.Reply.{Reply}
 
 -- a ref and its commit on a line of their own
@@ -27,6 +27,8 @@ answer_text (NoCommit sum) = codes "refused NoCommit " ++ hex_of sum
 answer_text (Partial sum) = codes "refused Partial " ++ hex_of sum
 answer_text (RefMoved seen now) = codes "refused RefMoved " ++ (value_text seen ++ (32 ∷ value_text now))
 answer_text (RefClash name) = codes "refused RefClash " ++ name
+answer_text (BadTree path) = codes "refused BadTree " ++ escaped (text_of path)
+answer_text (TooMany count) = codes "refused TooMany " ++ decimal count
 answer_text NoMemory = codes "fault NoMemory"
 answer_text DiskFault = codes "fault DiskFault"
 answer_text (Halted count) = codes "fault Halted " ++ decimal count

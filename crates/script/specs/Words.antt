@@ -1,18 +1,21 @@
 -- A command as words: its keyword, as it is written, and its fields.
-use Rattle.std.specs.Prelude.{◌≡◌, ℕ, List, [], ◌∷◌, codes, Option, Some, None, Result, Ok, Err, map}
+use Rattle.std.specs.Prelude.{◌≡◌, ◌≤◌, ◌^◌, ℕ, List, [], ◌∷◌, codes, Some, slice_get, Result, Ok, Err}
 use Rattle.ost_types.specs.Csum.{hex_of}
 use Rattle.repo_layout.specs.RefName.{IsRefName}
 use Rattle.repo_layout.specs.RefFile.{IsSum}
-use Rattle.script.specs.Field.{IsField}
+use Rattle.ost_forms.specs.declared.tree_item.TreeItem.{TreeItem}
+use Rattle.script.specs.Field.{IsField, IsNumber, IsTextField}
 use Rattle.script.specs.declared.command.Rev.{Rev}
 use Rattle.script.specs.declared.command.Rev.TheVariants.{Ref, Commit}
 use Rattle.script.specs.declared.command.Command.{Command}
-use Rattle.script.specs.declared.command.Command.TheVariants.{Refs, RevParse, Reset, DropRef}
-use Rattle.script.specs.declared.command.Lane.{Lane}
+use Rattle.script.specs.declared.command.Command.TheVariants.{Refs, RevParse, Reset, DropRef, Commit as CommitTree}
+use Rattle.script.specs.declared.command.CommitLine.{CommitLine}
+use Rattle.script.specs.declared.command.Written.{Written}
+use Rattle.script.specs.declared.command.Written.TheVariants as written
 use Rattle.script.specs.declared.words.Keyword.{Keyword}
 use Rattle.script.specs.declared.words.Keyword.TheVariants as word
 use Rattle.script.specs.declared.fault.ScriptFault.{ScriptFault}
-use Rattle.script.specs.declared.fault.ScriptFault.TheVariants.{BadLine, NoMemory}
+use Rattle.script.specs.declared.fault.ScriptFault.TheVariants.{BadLine, UnknownTree, NoMemory}
 
 -- the field of a ref's name
 pub record IsBranch (field : List ℕ) (name : List ℕ) : Type 0 where
@@ -34,30 +37,64 @@ spelled word.Refs = codes "refs"
 spelled word.RevParse = codes "rev-parse"
 spelled word.Reset = codes "reset"
 spelled word.DropRef = codes "drop"
+spelled word.Commit = codes "commit"
 
 abbrev pub keyword_of : Command → Keyword
 keyword_of Refs = word.Refs
 keyword_of (RevParse rev) = word.RevParse
 keyword_of (Reset branch commit) = word.Reset
 keyword_of (DropRef branch) = word.DropRef
+keyword_of (CommitTree branch tree subject body time) = word.Commit
 
 abbrev pub HasFields : Command → List (List ℕ) → Type 0
 HasFields Refs fields = fields ≡ []
 HasFields (RevParse rev) fields = (f : List ℕ) × (fields ≡ f ∷ []) × IsRev f rev
 HasFields (Reset branch commit) fields = (f g : List ℕ) × (fields ≡ f ∷ g ∷ []) × IsBranch f branch × IsCommit g commit
 HasFields (DropRef branch) fields = (f : List ℕ) × (fields ≡ f ∷ []) × IsBranch f branch
+HasFields (CommitTree branch tree subject body time) fields = ⊥
 
--- the words of a command
+-- BRANCH TREE SUBJECT BODY TIME
+pub record IsCommitLineAt (b n s m t : List ℕ) (line : CommitLine) : Type 0 where
+  pub branch : IsBranch b line.branch
+  pub tree : IsNumber (2 ^ 32) n line.tree
+  pub subject : IsTextField s line.subject
+  pub body : IsTextField m line.body
+  pub time : IsNumber (2 ^ 64) t line.time
+
+-- the fields of a commit
+abbrev pub IsCommitLine : List (List ℕ) → CommitLine → Type 0
+IsCommitLine fields line = (b n s m t : List ℕ) × (fields ≡ b ∷ n ∷ s ∷ m ∷ t ∷ []) × IsCommitLineAt b n s m t line
+
+-- the words of a command that stands for itself
 pub record IsCommand (words : List (List ℕ)) (command : Command) : Type 0 where
   pub fields : List (List ℕ)
   pub line : words ≡ spelled (keyword_of command) ∷ fields
   pub has : HasFields command fields
 
-abbrev pub AreNoCommand : List (List ℕ) → Type 0
-AreNoCommand words = (command : Command) → ¬ (IsCommand words command)
+-- the words of any command
+abbrev pub IsWritten : List (List ℕ) → Written → Type 0
+IsWritten words (written.Command command) = IsCommand words command
+IsWritten words (written.Commit line) = (fields : List (List ℕ)) × (words ≡ spelled word.Commit ∷ fields) × IsCommitLine fields line
 
--- A command is one lane; words that are none are a bad first line.
+-- the command that is written, where trees have numbers from 0
+abbrev pub Resolves : List (List TreeItem) → Written → Command → Type 0
+Resolves trees (written.Command command) c = c ≡ command
+Resolves trees (written.Commit line) (CommitTree branch tree subject body time) =
+    (branch ≡ line.branch) × (slice_get trees line.tree ≡ Some tree.items) × (subject ≡ line.subject) × (body ≡ line.body) × (time ≡ line.time)
+Resolves trees (written.Commit line) c = ⊥
+
+-- a commit of a tree whose number is none of so many
+abbrev pub IsUnknown : ℕ → Written → ℕ → Type 0
+IsUnknown count (written.Command command) n = ⊥
+IsUnknown count (written.Commit line) n = (n ≡ line.tree) × (count ≤ n)
+
+abbrev pub AreNoCommand : List (List ℕ) → Type 0
+AreNoCommand words = (w : Written) → ¬ (IsWritten words w)
+
+-- A command is one lane; words that are none are a bad first line, and there is no tree to commit.
 abbrev pub ReadsWords : List (List ℕ) → Result (List (List Command)) ScriptFault → Type 0
 ReadsWords words (Ok lanes) = (command : Command) × (lanes ≡ (command ∷ []) ∷ []) × IsCommand words command
 ReadsWords words (Err (BadLine n)) = (n ≡ 1) × AreNoCommand words
+ReadsWords words (Err (UnknownTree n)) = (w : Written) × IsWritten words w × IsUnknown 0 w n
 ReadsWords words (Err NoMemory) = Unit {0}
+ReadsWords words (Err e) = ⊥

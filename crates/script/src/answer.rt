@@ -1,7 +1,7 @@
 use ost_types::{Csum, FsPath};
 use repo_layout::RefName;
 
-/// What a command answered. The first three are those of a command that was done, the next five refuse it, and the
+/// What a command answered. The first three are those of a command that was done, the next seven refuse it, and the
 /// others end it for want of something outside.
 #[derive(Drop, Debug)]
 pub enum Answer {
@@ -24,6 +24,10 @@ pub enum Answer {
     },
     /// Another ref stands above or below this one: the least of these by the bytes of its name.
     RefClash(RefName),
+    /// The tree that is to be committed isn't one by this path, the least such.
+    BadTree(FsPath),
+    /// With what is to be stored there would be so many objects, and they may not be.
+    TooMany(u64),
     /// Memory was wanted and there was none.
     NoMemory,
     /// A call that reads failed.

@@ -1,4 +1,5 @@
-use ost_types::Csum;
+use ost_forms::TreeItem;
+use ost_types::{Csum, Text};
 use repo_layout::RefName;
 
 /// What names a commit: a ref, or the 64 digits of the commit itself.
@@ -14,11 +15,43 @@ pub enum Command {
     /// `refs` lists the refs.
     Refs,
     /// `rev-parse` tells the commit.
-    RevParse { rev: Rev },
+    RevParse {
+        rev: Rev,
+    },
     /// `reset` makes the ref name the commit.
-    Reset { branch: RefName, commit: Csum },
+    Reset {
+        branch: RefName,
+        commit: Csum,
+    },
     /// `drop` removes the ref.
-    DropRef { branch: RefName },
+    DropRef {
+        branch: RefName,
+    },
+    /// `commit` commits the tree, and makes the ref name the commit. Its time is in seconds since 1970.
+    Commit {
+        branch: RefName,
+        tree: Vec<TreeItem>,
+        subject: Text,
+        body: Text,
+        time: u64,
+    },
+}
+
+/// The fields of a commit as they are written: the tree by its number in the script.
+#[derive(Drop, Debug)]
+pub struct CommitLine {
+    pub branch: RefName,
+    pub tree: u32,
+    pub subject: Text,
+    pub body: Text,
+    pub time: u64,
+}
+
+/// A command as it is written.
+#[derive(Drop, Debug)]
+pub enum Written {
+    Command(Command),
+    Commit(CommitLine),
 }
 
 /// Commands that run one after the other.

@@ -13,13 +13,13 @@ mod value;
 mod words;
 
 pub use answer::{Answer, Reply};
-pub use command::{Command, Lane, Rev};
+pub use command::{Command, CommitLine, Lane, Rev, Written};
 pub use escape::append_field;
 pub use fault::ScriptFault;
 pub use field::{byte_of, read_field, unescape};
 pub use lines::write_replies;
 pub use number::{number_of, read_text, read_u32, read_u64};
-pub use words::read_words;
+pub use words::{read_words, read_written};
 
 #[cfg(test)]
 mod tests;

@@ -65,6 +65,8 @@ fn append_answer(alloc: Global, text: &mut Bytes, answer: &Answer) -> Result<(),
         Answer::Partial(commit) => append_sum(text, b"refused Partial ", commit),
         Answer::RefMoved { seen, now } => append_moved(text, seen, now),
         Answer::RefClash(name) => append_clash(text, name),
+        Answer::BadTree(path) => append_bad_tree(text, path),
+        Answer::TooMany(count) => append_too_many(alloc, text, *count),
         Answer::NoMemory => text.append(b"fault NoMemory"),
         Answer::DiskFault => text.append(b"fault DiskFault"),
         Answer::Halted(count) => append_halted(alloc, text, *count),
@@ -127,6 +129,19 @@ fn append_clash(text: &mut Bytes, name: &RefName) -> Result<(), NoMemory>
     ensures { OnOk result (text.new ≡ text.old ++ (codes "refused RefClash " ++ name.now)) }
 {
     append_both(text, b"refused RefClash ", name.as_slice())
+}
+
+fn append_bad_tree(text: &mut Bytes, path: &FsPath) -> Result<(), NoMemory>
+    ensures { OnOk result (text.new ≡ text.old ++ (codes "refused BadTree " ++ escaped (text_of path.now))) }
+{
+    let path = path.text()?;
+    append_escaped(text, b"refused BadTree ", path.as_slice())
+}
+
+fn append_too_many(alloc: Global, text: &mut Bytes, count: u64) -> Result<(), NoMemory>
+    ensures { OnOk result (text.new ≡ text.old ++ (codes "refused TooMany " ++ decimal count)) }
+{
+    text.append(format!(in alloc; "refused TooMany {count}")?.as_bytes())
 }
 
 fn append_halted(alloc: Global, text: &mut Bytes, count: u64) -> Result<(), NoMemory>

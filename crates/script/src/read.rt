@@ -1,58 +1,115 @@
 //! The fields of each command.
-ghost use Rattle.std.specs.Prelude.{◌≡◌, ℕ, List, IfOk, MatchOption};
-ghost use Rattle.script.specs.Words.{HasFields};
+ghost use Rattle.std.specs.Prelude.{◌≡◌, ℕ, List, IfOk, MatchOption, map};
+ghost use Rattle.script.specs.Words.{HasFields, IsCommitLine, IsCommitLineAt};
+ghost use Rattle.script.specs.declared.command.CommitLine.{CommitLine};
 ghost use Rattle.script.specs.declared.command.Rev.{Rev};
 ghost use Rattle.script.specs.declared.command.Command.TheVariants as command;
+ghost use Rattle.script.specs.declared.command.Written.TheVariants as written;
 
-use crate::command::Command;
+use crate::command::{Command, CommitLine, Written};
+use crate::number::{read_text, read_u32, read_u64};
 use crate::value::{read_branch, read_commit, read_rev};
-use ost_types::{NoMemory, Text};
+use ost_types::NoMemory;
 use std::alloc::Global;
 
-pub fn read_refs(fields: &[Text]) -> Option<Command>
-    ensures { MatchOption result (¬ (HasFields command.Refs fields.now)) (λ c. (c ≡ command.Refs) × HasFields command.Refs fields.now) }
+pub fn read_refs(fields: &[&[u8]]) -> Option<Written>
+    ensures { MatchOption result (¬ (HasFields command.Refs (map (λ f. f.now) fields.now))) (λ c. (c ≡ written.Command command.Refs) × HasFields command.Refs (map (λ f. f.now) fields.now)) }
 {
     match fields {
-        [] => Some(Command::Refs),
+        [] => Some(Written::Command(Command::Refs)),
         _ => None,
     }
 }
 
-pub fn read_rev_parse(alloc: Global, fields: &[Text]) -> Result<Option<Command>, NoMemory>
-    ensures { IfOk result (λ o. MatchOption o ((rev : Rev) → ¬ (HasFields (command.RevParse rev) fields.now)) (λ c. (rev : Rev) × (c ≡ command.RevParse rev) × HasFields (command.RevParse rev) fields.now)) }
+pub fn read_rev_parse(alloc: Global, fields: &[&[u8]]) -> Result<Option<Written>, NoMemory>
+    ensures { IfOk result (λ o. MatchOption o ((rev : Rev) → ¬ (HasFields (command.RevParse rev) (map (λ f. f.now) fields.now))) (λ c. (rev : Rev) × (c ≡ written.Command (command.RevParse rev)) × HasFields (command.RevParse rev) (map (λ f. f.now) fields.now))) }
 {
     let [rev] = fields else {
         return Ok(None);
     };
-    match read_rev(alloc, rev.as_slice())? {
-        Some(rev) => Ok(Some(Command::RevParse { rev })),
+    match read_rev(alloc, rev)? {
+        Some(rev) => Ok(Some(Written::Command(Command::RevParse { rev }))),
         None => Ok(None),
     }
 }
 
-pub fn read_reset(alloc: Global, fields: &[Text]) -> Result<Option<Command>, NoMemory>
-    ensures { IfOk result (λ o. MatchOption o ((branch commit : List ℕ) → ¬ (HasFields (command.Reset branch commit) fields.now)) (λ c. (branch commit : List ℕ) × (c ≡ command.Reset branch commit) × HasFields (command.Reset branch commit) fields.now)) }
+pub fn read_reset(alloc: Global, fields: &[&[u8]]) -> Result<Option<Written>, NoMemory>
+    ensures { IfOk result (λ o. MatchOption o ((branch commit : List ℕ) → ¬ (HasFields (command.Reset branch commit) (map (λ f. f.now) fields.now))) (λ c. (branch commit : List ℕ) × (c ≡ written.Command (command.Reset branch commit)) × HasFields (command.Reset branch commit) (map (λ f. f.now) fields.now))) }
 {
     let [branch, commit] = fields else {
         return Ok(None);
     };
-    let Some(branch) = read_branch(alloc, branch.as_slice())? else {
+    let Some(branch) = read_branch(alloc, branch)? else {
         return Ok(None);
     };
-    match read_commit(alloc, commit.as_slice())? {
-        Some(commit) => Ok(Some(Command::Reset { branch, commit })),
+    match read_commit(alloc, commit)? {
+        Some(commit) => Ok(Some(Written::Command(Command::Reset { branch, commit }))),
         None => Ok(None),
     }
 }
 
-pub fn read_drop(alloc: Global, fields: &[Text]) -> Result<Option<Command>, NoMemory>
-    ensures { IfOk result (λ o. MatchOption o ((branch : List ℕ) → ¬ (HasFields (command.DropRef branch) fields.now)) (λ c. (branch : List ℕ) × (c ≡ command.DropRef branch) × HasFields (command.DropRef branch) fields.now)) }
+pub fn read_drop(alloc: Global, fields: &[&[u8]]) -> Result<Option<Written>, NoMemory>
+    ensures { IfOk result (λ o. MatchOption o ((branch : List ℕ) → ¬ (HasFields (command.DropRef branch) (map (λ f. f.now) fields.now))) (λ c. (branch : List ℕ) × (c ≡ written.Command (command.DropRef branch)) × HasFields (command.DropRef branch) (map (λ f. f.now) fields.now))) }
 {
     let [branch] = fields else {
         return Ok(None);
     };
-    match read_branch(alloc, branch.as_slice())? {
-        Some(branch) => Ok(Some(Command::DropRef { branch })),
+    match read_branch(alloc, branch)? {
+        Some(branch) => Ok(Some(Written::Command(Command::DropRef { branch }))),
+        None => Ok(None),
+    }
+}
+
+pub fn read_commit_words(alloc: Global, fields: &[&[u8]]) -> Result<Option<Written>, NoMemory>
+    ensures { IfOk result (λ o. MatchOption o ((line : CommitLine) → ¬ (IsCommitLine (map (λ f. f.now) fields.now) line)) (λ c. (line : CommitLine) × (c ≡ written.Commit line) × IsCommitLine (map (λ f. f.now) fields.now) line)) }
+{
+    match read_commit_line(alloc, fields)? {
+        Some(line) => Ok(Some(Written::Commit(line))),
+        None => Ok(None),
+    }
+}
+
+fn read_commit_line(alloc: Global, fields: &[&[u8]]) -> Result<Option<CommitLine>, NoMemory>
+    ensures { IfOk result (λ o. MatchOption o ((line : CommitLine) → ¬ (IsCommitLine (map (λ f. f.now) fields.now) line)) (IsCommitLine (map (λ f. f.now) fields.now))) }
+{
+    match fields {
+        [branch, tree, subject, body, time] => {
+            commit_line_of(alloc, branch, tree, subject, body, time)
+        }
+        _ => Ok(None),
+    }
+}
+
+fn commit_line_of(
+    alloc: Global,
+    branch: &[u8],
+    tree: &[u8],
+    subject: &[u8],
+    body: &[u8],
+    time: &[u8],
+) -> Result<Option<CommitLine>, NoMemory>
+    ensures { IfOk result (λ o. MatchOption o ((line : CommitLine) → ¬ (IsCommitLineAt branch.now tree.now subject.now body.now time.now line)) (IsCommitLineAt branch.now tree.now subject.now body.now time.now)) }
+{
+    let Some(branch) = read_branch(alloc, branch)? else {
+        return Ok(None);
+    };
+    let Some(tree) = read_u32(alloc, tree)? else {
+        return Ok(None);
+    };
+    let Some(subject) = read_text(alloc, subject)? else {
+        return Ok(None);
+    };
+    let Some(body) = read_text(alloc, body)? else {
+        return Ok(None);
+    };
+    match read_u64(alloc, time)? {
+        Some(time) => Ok(Some(CommitLine {
+            branch,
+            tree,
+            subject,
+            body,
+            time,
+        })),
         None => Ok(None),
     }
 }

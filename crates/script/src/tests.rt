@@ -96,6 +96,18 @@ fn refuses_what_is_no_command(rt: HostRuntime) {
     }
 }
 
+#[test]
+fn knows_no_tree(rt: HostRuntime) {
+    let alloc = rt.alloc();
+    let commit = read(&rt, alloc, b"commit main 7 first ~ 18446744073709551615");
+    assert!(&rt; matches!(commit, Err(ScriptFault::UnknownTree(7))));
+    let lines =
+        b"commit main 07 first ~ 0|commit main 7 first ~ 18446744073709551616|commit main 4294967296 first ~ 0|commit main 7 first ~|commit main 7 %00 ~ 0";
+    for line in lines.split(|byte| *byte == b'|') {
+        assert!(&rt; matches!(read(&rt, alloc, line), Err(ScriptFault::BadLine(1))));
+    }
+}
+
 fn name(rt: &impl Abort, alloc: Global, text: &[u8]) -> Result<RefName, NoMemory> {
     Ok(RefName::parse(alloc, text)?.expect(rt, "the name of a ref"))
 }
@@ -172,6 +184,15 @@ fn prints_refusals(rt: HostRuntime) -> Result<(), Fail> {
         Answer::RefClash(name(&rt, alloc, b"main")?),
         b"refused RefClash main\n",
     )?;
+    check(&rt, alloc, Answer::TooMany(4), b"refused TooMany 4\n")?;
+    if let Ok(path) = FsPath::parse(alloc, b"/a b") {
+        check(
+            &rt,
+            alloc,
+            Answer::BadTree(path),
+            b"refused BadTree /a%20b\n",
+        )?;
+    }
     Ok(())
 }
 

@@ -1,21 +1,34 @@
-//! A command from the words of a command line.
+//! A command from the words of a command line, or from the fields of a line.
 ghost use Rattle.std.specs.Prelude.{◌≡◌, ◌≢◌, ◌∷◌, [], List, ℕ, map, IfOk, MatchOption, MatchResult, Ok, Err};
-ghost use Rattle.script.specs.Words.{AreNoCommand, IsCommand, ReadsWords, spelled};
+ghost use Rattle.script.specs.Words.{AreNoCommand, IsWritten, ReadsWords, spelled};
 
-use crate::command::{Command, Lane};
+use crate::command::{Command, Lane, Written};
 use crate::fault::ScriptFault;
-use crate::read::{read_drop, read_refs, read_reset, read_rev_parse};
+use crate::read::{read_commit_words, read_drop, read_refs, read_reset, read_rev_parse};
 use ost_types::{NoMemory, Text};
 use std::alloc::Global;
 
-/// The one lane with the one command that the words are. Words that are none are `BadLine(1)`.
+/// The one lane with the one command that the words are. Words that are none are `BadLine(1)`. There is no tree that a
+/// commit could be of, so it is `UnknownTree`.
 pub fn read_words(alloc: Global, words: &[Text]) -> Result<Vec<Lane>, ScriptFault>
     ensures { MatchResult result (λ lanes. ReadsWords words.now (Ok (map (λ lane. lane.commands.items) lanes.items))) (λ e. ReadsWords words.now (Err e)) }
 {
-    match read_command(alloc, words)? {
-        Some(command) => Ok(alone(alloc, command)?),
+    let fields = slices(alloc, words)?;
+    match read_written(alloc, &fields)? {
+        Some(Written::Command(command)) => Ok(alone(alloc, command)?),
+        Some(Written::Commit(line)) => Err(ScriptFault::UnknownTree(line.tree)),
         None => Err(ScriptFault::BadLine(1)),
     }
+}
+
+fn slices(alloc: Global, words: &[Text]) -> Result<Vec<&[u8]>, NoMemory>
+    ensures { IfOk result (λ v. map (λ x. x.now) v.items ≡ words.now) }
+{
+    let mut fields = Vec::with_capacity(alloc, words.len())?;
+    for word in words {
+        fields.push(word.as_slice())?;
+    }
+    Ok(fields)
 }
 
 fn alone(alloc: Global, command: Command) -> Result<Vec<Lane>, NoMemory>
@@ -28,17 +41,19 @@ fn alone(alloc: Global, command: Command) -> Result<Vec<Lane>, NoMemory>
     Ok(lanes)
 }
 
-fn read_command(alloc: Global, words: &[Text]) -> Result<Option<Command>, NoMemory>
-    ensures { IfOk result (λ o. MatchOption o (AreNoCommand words.now) (IsCommand words.now)) }
+/// The command whose keyword and fields these are, or None where they are no command's.
+pub fn read_written(alloc: Global, words: &[&[u8]]) -> Result<Option<Written>, NoMemory>
+    ensures { IfOk result (λ o. MatchOption o (AreNoCommand (map (λ w. w.now) words.now)) (IsWritten (map (λ w. w.now) words.now))) }
 {
     let [keyword, fields @ ..] = words else {
         return Ok(None);
     };
-    match keyword_of(keyword.as_slice()) {
+    match keyword_of(keyword) {
         Some(Keyword::Refs) => Ok(read_refs(fields)),
         Some(Keyword::RevParse) => read_rev_parse(alloc, fields),
         Some(Keyword::Reset) => read_reset(alloc, fields),
         Some(Keyword::DropRef) => read_drop(alloc, fields),
+        Some(Keyword::Commit) => read_commit_words(alloc, fields),
         None => Ok(None),
     }
 }
@@ -50,6 +65,7 @@ enum Keyword {
     RevParse,
     Reset,
     DropRef,
+    Commit,
 }
 
 fn keyword_of(word: &[u8]) -> Option<Keyword>
@@ -60,6 +76,7 @@ fn keyword_of(word: &[u8]) -> Option<Keyword>
         b"rev-parse" => Some(Keyword::RevParse),
         b"reset" => Some(Keyword::Reset),
         b"drop" => Some(Keyword::DropRef),
+        b"commit" => Some(Keyword::Commit),
         _ => None,
     }
 }

@@ -1,5 +1,5 @@
 -- From the text of a field to the content that it has.
-use Rattle.std.proofs.Common.{◌≡◌, ◌≢◌, ◌<◌, ◌≤◌, ◌+◌, ◌-◌, ◌^◌, ◌⊎◌, inl, inr, ℕ, suc, List, [], ◌∷◌, ◌++◌, length, take, drop, Option, Some, None, MatchOption, IfSome, IsNone, refl, sym, ◌∙◌, ap, subst, arith, rules}
+use Rattle.std.proofs.Common.{◌≡◌, ◌≢◌, ◌<◌, ◌≤◌, ◌^◌, ◌⊎◌, inl, inr, ℕ, suc, List, [], ◌∷◌, ◌++◌, length, take, drop, Option, Some, None, MatchOption, IfSome, IsNone, refl, sym, ◌∙◌, ap, subst, arith, rules}
 use Rattle.std.specs.Fmt.{decimal}
 use Rattle.std.proofs.Math.Seq.{take-append_seam, drop-append_seam}
 use Rattle.std.proofs.lemmas.List.{length-append}
@@ -9,9 +9,8 @@ use Rattle.ost_types.proofs.HexSums.{hex_of-injective}
 use Rattle.ost_forms.specs.declared.tree_item.BodySpec.{BodySpec}
 use Rattle.ost_forms.specs.declared.tree_item.BodySpec.TheVariants.{Given, Fill, Target}
 use Rattle.script.specs.Field.{IsField, Spells, Stands}
-use Rattle.script.proofs.Spelling.{one, two_digits, spelled_one}
+use Rattle.script.proofs.Spelling.{one, two_digits}
 use Rattle.script_reader.specs.Values.{Gives, IsFieldOf, IsFillText, IsFillBody, IsContent}
-use Rattle.script_reader.proofs.Values.{field_of_one}
 
 pub GivenBy : List ℕ → BodySpec → Type 0
 GivenBy text body = (bytes : List ℕ) × (body ≡ Given bytes) × Spells text bytes
@@ -35,7 +34,7 @@ other_first : (a b : ℕ) (text t : List ℕ) → a ≡ 61 → b ≡ 42 → IsFi
 other_first a b text t x y (inl tilde) = let n : b ∷ t ≡ [] = tilde.1 in cc
 other_first a b text t x y (inr spelled) = other_byte a b x y (spells_first a b text t spelled.2)
 
-filled_first : (field text : List ℕ) (len byte : ℕ) → field ≡ 61 ∷ text → IsFieldOf IsFillBody field (Fill len byte) → ⊥
+pub filled_first : (field text : List ℕ) (len byte : ℕ) → field ≡ 61 ∷ text → IsFieldOf IsFillBody field (Fill len byte) → ⊥
 filled_first field text len byte e of =
     let t : List ℕ = decimal len ++ (58 ∷ hex_of (byte ∷ [])) in
     other_first 61 42 text t refl refl (subst (λ f. IsField f (42 ∷ t)) e (subst (IsField field) of.written.written of.spelled))

@@ -1,8 +1,8 @@
--- So many fields, one by one.
-use Rattle.std.proofs.Common.{◌≡◌, ◌≢◌, ◌<◌, ◌≤◌, ◌-◌, ◌⊎◌, inl, inr, ℕ, true, false, List, [], ◌∷◌, length, get_or, map, take, drop, codes, Option, Some, None, MatchOption, refl, sym, ◌∙◌, ap, subst, arith}
-use Rattle.std.proofs.lemmas.List.{take_all}
+-- Six fields, one by one, and lines by their first field.
+use Rattle.std.proofs.Common.{◌≡◌, ◌≢◌, ◌≤◌, ◌-◌, inl, inr, ℕ, true, false, List, [], ◌∷◌, length, get_or, map, take, drop, codes, Option, Some, None, MatchOption, refl, sym, ◌∙◌, ap, subst, arith}
 use Rattle.ost_types.specs.Path.{same_name}
 use Rattle.ost_forms.specs.declared.tree_item.TreeItem.{TreeItem}
+use Rattle.script.proofs.Slices.{first_of}
 use Rattle.script_reader.specs.Values.{Gives}
 use Rattle.script_reader.specs.Nodes.{fields_of, node_word, IsFolder, IsFile, IsLink, IsNode}
 use Rattle.script_reader.specs.declared.node.NodeKind.{NodeKind}
@@ -13,16 +13,6 @@ two_of now [] a b e = absurd (omega (arith, e))
 two_of now (v ∷ []) a b e = absurd (omega (arith, e))
 two_of now (v ∷ w ∷ []) a b e = refl
 two_of now (v ∷ w ∷ x ∷ fs) a b e = absurd (omega (arith, e))
-
-pub five_of : {V : Type 0} (now : V → List ℕ) (fs : List V) (a b c d e : V) → length fs ≡ 5
-    → map now fs ≡ now (get_or fs 0 a) ∷ now (get_or fs 1 b) ∷ now (get_or fs 2 c) ∷ now (get_or fs 3 d) ∷ now (get_or fs 4 e) ∷ []
-five_of now (v ∷ w ∷ x ∷ y ∷ z ∷ []) a b c d e l = refl
-five_of now [] a b c d e l = absurd (omega (arith, l))
-five_of now (v ∷ []) a b c d e l = absurd (omega (arith, l))
-five_of now (v ∷ w ∷ []) a b c d e l = absurd (omega (arith, l))
-five_of now (v ∷ w ∷ x ∷ []) a b c d e l = absurd (omega (arith, l))
-five_of now (v ∷ w ∷ x ∷ y ∷ []) a b c d e l = absurd (omega (arith, l))
-five_of now (v ∷ w ∷ x ∷ y ∷ z ∷ u ∷ fs) a b c d e l = absurd (omega (arith, l))
 
 pub six_of : {V : Type 0} (now : V → List ℕ) (fs : List V) (a b c d e f : V) → length fs ≡ 6
     → map now fs ≡ now (get_or fs 0 a) ∷ now (get_or fs 1 b) ∷ now (get_or fs 2 c) ∷ now (get_or fs 3 d) ∷ now (get_or fs 4 e) ∷ now (get_or fs 5 f) ∷ []
@@ -35,17 +25,8 @@ six_of now (v ∷ w ∷ x ∷ y ∷ []) a b c d e f l = absurd (omega (arith, l)
 six_of now (v ∷ w ∷ x ∷ y ∷ z ∷ []) a b c d e f l = absurd (omega (arith, l))
 six_of now (v ∷ w ∷ x ∷ y ∷ z ∷ u ∷ t ∷ fs) a b c d e f l = absurd (omega (arith, l))
 
--- what is said of five fields, or of six, as of their list
-abbrev At5 : {X : Type 0} (R : List ℕ → List ℕ → List ℕ → List ℕ → List ℕ → X → Type 0) (y : X) → List (List ℕ) → Type 0
-At5 R y [] = ⊥
-At5 R y (a ∷ []) = ⊥
-At5 R y (a ∷ b ∷ []) = ⊥
-At5 R y (a ∷ b ∷ c ∷ []) = ⊥
-At5 R y (a ∷ b ∷ c ∷ d ∷ []) = ⊥
-At5 R y (a ∷ b ∷ c ∷ d ∷ e ∷ []) = R a b c d e y
-At5 R y (a ∷ b ∷ c ∷ d ∷ e ∷ f ∷ more) = ⊥
-
-abbrev At6 : {X : Type 0} (R : List ℕ → List ℕ → List ℕ → List ℕ → List ℕ → List ℕ → X → Type 0) (y : X) → List (List ℕ) → Type 0
+-- what is said of six fields, as of their list
+abbrev pub At6 : {X : Type 0} (R : List ℕ → List ℕ → List ℕ → List ℕ → List ℕ → List ℕ → X → Type 0) (y : X) → List (List ℕ) → Type 0
 At6 R y [] = ⊥
 At6 R y (a ∷ []) = ⊥
 At6 R y (a ∷ b ∷ []) = ⊥
@@ -55,34 +36,25 @@ At6 R y (a ∷ b ∷ c ∷ d ∷ e ∷ []) = ⊥
 At6 R y (a ∷ b ∷ c ∷ d ∷ e ∷ f ∷ []) = R a b c d e f y
 At6 R y (a ∷ b ∷ c ∷ d ∷ e ∷ f ∷ g ∷ more) = ⊥
 
-pub five_gives : {X : Type 0} (R : List ℕ → List ℕ → List ℕ → List ℕ → List ℕ → X → Type 0) (fields : List (List ℕ)) (p u g m x : List ℕ) (o : Option X) → fields ≡ p ∷ u ∷ g ∷ m ∷ x ∷ [] → Gives (R p u g m x) o
-    → Gives (λ y. (p u g m x : List ℕ) × (fields ≡ p ∷ u ∷ g ∷ m ∷ x ∷ []) × R p u g m x y) o
-five_gives R fields p u g m x None e none = λ y is. none y (subst (At5 R y) (sym is.5 ∙ e) is.6)
-five_gives R fields p u g m x (Some y) e found = (p, u, g, m, x, e, found)
-
 pub six_gives : {X : Type 0} (R : List ℕ → List ℕ → List ℕ → List ℕ → List ℕ → List ℕ → X → Type 0) (fields : List (List ℕ)) (p u g m x c : List ℕ) (o : Option X) → fields ≡ p ∷ u ∷ g ∷ m ∷ x ∷ c ∷ [] → Gives (R p u g m x c) o
     → Gives (λ y. (p u g m x c : List ℕ) × (fields ≡ p ∷ u ∷ g ∷ m ∷ x ∷ c ∷ []) × R p u g m x c y) o
 six_gives R fields p u g m x c None e none = λ y is. none y (subst (At6 R y) (sym is.6 ∙ e) is.7)
 six_gives R fields p u g m x c (Some y) e found = (p, u, g, m, x, c, e, found)
 
-pub first_of : {V : Type 0} (now : V → List ℕ) (fs : List V) (d : V) → 1 ≤ length fs → map now fs ≡ now (get_or fs 0 d) ∷ map now (take (length fs - 1) (drop 1 fs))
-first_of now [] d some = absurd (omega (arith, some))
-first_of now (v ∷ fs) d some = ap (λ t. now v ∷ map now t) (sym (take_all (length (v ∷ fs) - 1) fs (omega arith)))
-
 -- two lines with other first fields
-other_head : (a b : List ℕ) (f g l : List (List ℕ)) → (a ≡ b → ⊥) → l ≡ a ∷ f → l ≡ b ∷ g → ⊥
+pub other_head : (a b : List ℕ) (f g l : List (List ℕ)) → (a ≡ b → ⊥) → l ≡ a ∷ f → l ≡ b ∷ g → ⊥
 other_head a b f g l other p q = let e : a ∷ f ≡ b ∷ g = sym p ∙ q in let h : a ≡ b = cc in other h
 
-same_tail : (a b : List ℕ) (f g l : List (List ℕ)) → l ≡ a ∷ f → l ≡ b ∷ g → f ≡ g
+pub same_tail : (a b : List ℕ) (f g l : List (List ℕ)) → l ≡ a ∷ f → l ≡ b ∷ g → f ≡ g
 same_tail a b f g l p q = let e : a ∷ f ≡ b ∷ g = sym p ∙ q in cc
 
-folder_file : codes "folder" ≡ codes "file" → ⊥
+pub folder_file : codes "folder" ≡ codes "file" → ⊥
 folder_file e = let n : true ≡ false = ap (same_name (codes "folder")) e in cc
 
-folder_link : codes "folder" ≡ codes "link" → ⊥
+pub folder_link : codes "folder" ≡ codes "link" → ⊥
 folder_link e = let n : true ≡ false = ap (same_name (codes "folder")) e in cc
 
-file_link : codes "file" ≡ codes "link" → ⊥
+pub file_link : codes "file" ≡ codes "link" → ⊥
 file_link e = let n : true ≡ false = ap (same_name (codes "file")) e in cc
 
 module _ (line : List ℕ) (fields : List (List ℕ)) (o : Option TreeItem) where

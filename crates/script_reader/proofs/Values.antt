@@ -1,12 +1,12 @@
 -- From what a field stands for to the value that it has.
-use Rattle.std.proofs.Common.{◌≡◌, ◌≢◌, ◌<◌, ◌≤◌, ◌^◌, ◌*◌, ◌+◌, ◌⊎◌, inl, inr, ℕ, zero, suc, List, [], ◌∷◌, ◌++◌, length, get_or, slice_index, take, drop, Option, Some, None, IfSome, MatchOption, Result, Ok, Err, IsUtf8, refl, sym, ◌∙◌, ap, subst, arith, rules}
-use Rattle.std.specs.Result.{result_ok, OkIff}
-use Rattle.std.specs.Str.Parse.{AllDigits, digits_value, ParsesUnsigned, without_leading_plus, IsNumeral}
+use Rattle.std.proofs.Common.{◌≡◌, ◌≢◌, ◌<◌, ◌≤◌, ◌^◌, ℕ, List, [], ◌∷◌, length, slice_index, Option, Some, None, IfSome, MatchOption, Result, Ok, Err, IsUtf8, refl, sym, ◌∙◌, ap, subst, arith, rules}
+use Rattle.std.specs.Result.{result_ok}
+use Rattle.std.specs.Str.Parse.{AllDigits, digits_value, ParsesUnsigned, IsNumeral}
 use Rattle.std.proofs.lemmas.Fmt.{IsAscii-from_digits}
 use Rattle.std.proofs.lemmas.Int.Digits.{digits_value-lt}
 use Rattle.std.proofs.lemmas.Str.{IsUtf8-from_ascii}
 use Rattle.std.proofs.lemmas.Str.Parse.{digit_at, without_leading_plus_none}
-use Rattle.script.specs.Field.{IsField, IsNoField, Spells}
+use Rattle.script.specs.Field.{IsField, IsNoField}
 use Rattle.script.proofs.Spelling.{field_one}
 use Rattle.ost_types.specs.Path.{Path}
 use Rattle.ost_types.specs.Parse.{IsParsed}

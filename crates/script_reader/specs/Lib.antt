@@ -1,2 +1,4 @@
 pub mod Values
 pub mod Nodes
+pub mod Script
+pub mod Drafts

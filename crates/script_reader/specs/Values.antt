@@ -1,5 +1,5 @@
 -- What the fields of a node stand for.
-use Rattle.std.specs.Prelude.{◌≡◌, ◌≢◌, ◌<◌, ◌≤◌, ◌==◌, ◌^◌, ◌⊎◌, ℕ, List, [], ◌∷◌, ◌++◌, length, slice_index, Option, Some, None, MatchOption, Ok}
+use Rattle.std.specs.Prelude.{◌≡◌, ◌≢◌, ◌<◌, ◌≤◌, ◌==◌, ◌⊎◌, ℕ, List, [], ◌∷◌, ◌++◌, length, slice_index, Option, MatchOption, Ok}
 use Rattle.std.specs.List.{slice_split}
 use Rattle.std.specs.Fmt.{decimal}
 use Rattle.std.specs.Str.Parse.{AllDigits, digits_value}
@@ -7,7 +7,6 @@ use Rattle.hex.specs.Hex.{IsBytes}
 use Rattle.ost_types.specs.Csum.{hex_of}
 use Rattle.ost_types.specs.Path.{Path}
 use Rattle.ost_types.specs.Parse.{IsParsed}
-use Rattle.ost_types.specs.Text.{IsText}
 use Rattle.ost_types.specs.declared.meta.Xattr.{Xattr}
 use Rattle.ost_forms.specs.declared.tree_item.BodySpec.{BodySpec}
 use Rattle.ost_forms.specs.declared.tree_item.BodySpec.TheVariants.{Given, Fill, Target}

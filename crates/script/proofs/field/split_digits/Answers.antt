@@ -1,4 +1,4 @@
-use Rattle.std.proofs.Common.{◌≡◌, ◌<◌, ◌≤◌, ℕ, take, sym, ◌∙◌, ap, arith}
+use Rattle.std.proofs.Common.{◌∙◌, ap, arith}
 use Rattle.std.specs.Option.{is_some}
 use Rattle.script.proofs.Spelling.{digits_begin}
 use Rattle.script.proofs.field.split_digits.Goals as goal

@@ -1,5 +1,4 @@
-use Rattle.std.proofs.Common.{◌≡◌, ◌++◌, [], sym, ◌∙◌, ap, append-nil}
-use Rattle.script.specs.Lines.{lane_lines, reply_line}
+use Rattle.std.proofs.Common.{◌++◌, sym, ◌∙◌, ap, append-nil}
 use Rattle.script.proofs.LineLemmas.{lane_lines-nil, lane_step}
 use Rattle.script.proofs.lines.append_lane.Goals as goal
 

@@ -1,5 +1,5 @@
-use Rattle.std.proofs.Common.{◌≡◌, ◌++◌, [], sym, ◌∙◌, ap}
-use Rattle.script.specs.Lines.{lane_lines, lines_from}
+use Rattle.std.proofs.Common.{◌++◌, sym, ◌∙◌, ap}
+use Rattle.script.specs.Lines.{lane_lines}
 use Rattle.script.proofs.LineLemmas.{lines_from-nil, lines_step}
 use Rattle.script.proofs.lines.write_replies.Goals as goal
 

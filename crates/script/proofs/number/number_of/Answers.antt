@@ -1,4 +1,3 @@
-use Rattle.std.proofs.Common.{◌≡◌, sym, subst}
 use Rattle.script.proofs.Numbers.{parsed_text, no_decimal, other_front}
 use Rattle.script.proofs.number.number_of.Goals as goal
 

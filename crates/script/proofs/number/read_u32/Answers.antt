@@ -1,4 +1,4 @@
-use Rattle.std.proofs.Common.{◌≡◌, ◌^◌, ℕ, MatchOption, subst}
+use Rattle.std.proofs.Common.{◌^◌, ℕ, MatchOption, subst}
 use Rattle.script.specs.Field.{IsNumber}
 use Rattle.script.proofs.Numbers.{small_from}
 use Rattle.script.proofs.number.read_u32.Goals as goal

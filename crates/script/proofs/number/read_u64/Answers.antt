@@ -1,4 +1,4 @@
-use Rattle.std.proofs.Common.{◌≡◌, ℕ, List, Option, Some, None, MatchOption, subst, sym, ap}
+use Rattle.std.proofs.Common.{MatchOption, subst, sym}
 use Rattle.script.specs.Field.{IsField, IsNoField}
 use Rattle.script.proofs.Numbers.{number_from}
 use Rattle.script.proofs.number.read_u64.Goals as goal

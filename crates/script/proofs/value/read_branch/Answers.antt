@@ -1,4 +1,4 @@
-use Rattle.std.proofs.Common.{◌≡◌, ℕ, List, Option, Some, IfOk, MatchOption, subst, sym, ap}
+use Rattle.std.proofs.Common.{MatchOption, subst, sym}
 use Rattle.script.specs.Field.{IsField, IsNoField}
 use Rattle.script.proofs.Fields.{branch_from, both_ok}
 use Rattle.script.proofs.value.read_branch.Goals as goal

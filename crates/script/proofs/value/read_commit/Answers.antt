@@ -1,5 +1,4 @@
-use Rattle.std.proofs.Common.{◌≡◌, ℕ, List, length, Option, Some, None, IfSome, MatchOption, refl, sym, ◌∙◌, ap, subst}
-use Rattle.ost_types.specs.Csum.{hex_of}
+use Rattle.std.proofs.Common.{MatchOption, sym, subst}
 use Rattle.script.specs.Field.{IsField, IsNoField}
 use Rattle.script.proofs.Fields.{sum_from, no_sum}
 use Rattle.script.proofs.value.read_commit.Goals as goal

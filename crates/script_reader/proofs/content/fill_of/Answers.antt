@@ -1,4 +1,4 @@
-use Rattle.std.proofs.Common.{◌≡◌, refl, arith}
+use Rattle.std.proofs.Common.{refl, arith}
 use Rattle.script_reader.proofs.Contents.{no_fill, fill_long, no_number, no_value, too_many}
 use Rattle.script_reader.proofs.content.fill_of.Goals as goal
 

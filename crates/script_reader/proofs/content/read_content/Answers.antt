@@ -1,6 +1,6 @@
 use Rattle.std.proofs.Common.{◌∷◌, ◌∙◌, ap}
 use Rattle.std.proofs.lemmas.Result.{IfOk-weaker}
-use Rattle.script_reader.proofs.Contents.{given_from, fill_from}
+use Rattle.script_reader.proofs.Contents.{given_from}
 use Rattle.script_reader.proofs.content.read_content.Goals as goal
 
 pub returns-then-first-eq61 : goal.returns-then-first-eq61

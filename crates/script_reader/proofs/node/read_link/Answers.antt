@@ -1,7 +1,7 @@
 use Rattle.std.proofs.Common.{arith}
 use Rattle.std.proofs.lemmas.Result.{IfOk-weaker}
 use Rattle.script_reader.specs.Nodes.{IsLinkAt}
-use Rattle.script_reader.proofs.Fields.{five_of, five_gives}
+use Rattle.script.proofs.Slices.{five_of, five_gives}
 use Rattle.script_reader.proofs.node.read_link.Goals as goal
 
 pub returns-in-len5 : goal.returns-in-len5

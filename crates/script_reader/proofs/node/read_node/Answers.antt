@@ -1,4 +1,4 @@
-use Rattle.std.proofs.Common.{Some, [], get_or, refl, ◌∙◌, ap, arith}
+use Rattle.std.proofs.Common.{Some, [], get_or, refl, ◌∙◌, ap}
 use Rattle.std.proofs.lemmas.Result.{IfOk-weaker}
 use Rattle.script_reader.proofs.Fields.{line_is, kind_read, no_kind_read, folder_gives, file_gives, link_gives}
 use Rattle.script_reader.proofs.node.read_node.Goals as goal

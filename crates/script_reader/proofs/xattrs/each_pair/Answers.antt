@@ -1,6 +1,6 @@
 use Rattle.script_reader.proofs.Values.{gives_some, gives_none}
 use Rattle.script_reader.proofs.Hex.{pairs_step, pairs_none}
-use Rattle.std.proofs.Common.{◌++◌, ◌∷◌, [], sym, subst, map, take, ◌+◌}
+use Rattle.std.proofs.Common.{sym, subst, map, take, ◌+◌}
 use Rattle.script_reader.specs.Values.{ArePairs}
 use Rattle.script_reader.proofs.xattrs.each_pair.Goals as goal
 

@@ -1,0 +1,8 @@
+use Rattle.std.proofs.Common.{arith}
+use Rattle.std.proofs.lemmas.Result.{IfOk-weaker}
+use Rattle.script.specs.Words.{IsCommitLineAt}
+use Rattle.script.proofs.Slices.{five_of, five_gives}
+use Rattle.script.proofs.read.read_commit_line.Goals as goal
+
+pub returns-in-len5 : goal.returns-in-len5
+returns-in-len5 c = IfOk-weaker _ _ _ (λ o. five_gives IsCommitLineAt _ _ _ _ _ _ o (five_of (λ f. f.now) c.args.fields.now _ _ _ _ _ (omega (arith, c.in-len5.len_at_least, c.in-len5.len_below)))) c.commit_line_of.ensures

@@ -1,0 +1,33 @@
+use Rattle.std.proofs.Common.{Some, ◌∙◌, ap}
+use Rattle.std.proofs.lemmas.Result.{IfOk-weaker}
+use Rattle.script.proofs.Slices.{first_of}
+use Rattle.script.proofs.Fields.{some_of, refs_from, rev_parse_from, reset_from, drop_from, commit_from, no_word}
+use Rattle.script.proofs.words.read_written.Goals as goal
+
+pub returns-in-Some-Refs : goal.returns-in-Some-Refs
+returns-in-Some-Refs c =
+    let word = some_of _ _ c.keyword_of.result _ c.keyword_of.ensures (c.in-Some-Refs.is ∙ ap Some c.in-Some-Refs.field-0-is) in
+    refs_from _ _ _ (first_of (λ w. w.now) c.args.words.now _ c.in-len1-up.len_at_least) word _ c.read_refs.ensures
+
+pub returns-in-Some-RevParse : goal.returns-in-Some-RevParse
+returns-in-Some-RevParse c =
+    let word = some_of _ _ c.keyword_of.result _ c.keyword_of.ensures (c.in-Some-RevParse.is ∙ ap Some c.in-Some-RevParse.field-0-is) in
+    IfOk-weaker _ _ _ (rev_parse_from _ _ _ (first_of (λ w. w.now) c.args.words.now _ c.in-len1-up.len_at_least) word) c.read_rev_parse.ensures
+
+pub returns-in-Some-Reset : goal.returns-in-Some-Reset
+returns-in-Some-Reset c =
+    let word = some_of _ _ c.keyword_of.result _ c.keyword_of.ensures (c.in-Some-Reset.is ∙ ap Some c.in-Some-Reset.field-0-is) in
+    IfOk-weaker _ _ _ (reset_from _ _ _ (first_of (λ w. w.now) c.args.words.now _ c.in-len1-up.len_at_least) word) c.read_reset.ensures
+
+pub returns-in-Some-DropRef : goal.returns-in-Some-DropRef
+returns-in-Some-DropRef c =
+    let word = some_of _ _ c.keyword_of.result _ c.keyword_of.ensures (c.in-Some-DropRef.is ∙ ap Some c.in-Some-DropRef.field-0-is) in
+    IfOk-weaker _ _ _ (drop_from _ _ _ (first_of (λ w. w.now) c.args.words.now _ c.in-len1-up.len_at_least) word) c.read_drop.ensures
+
+pub returns-in-Some-Commit : goal.returns-in-Some-Commit
+returns-in-Some-Commit c =
+    let word = some_of _ _ c.keyword_of.result _ c.keyword_of.ensures (c.in-Some-Commit.is ∙ ap Some c.in-Some-Commit.field-0-is) in
+    IfOk-weaker _ _ _ (commit_from _ _ _ (first_of (λ w. w.now) c.args.words.now _ c.in-len1-up.len_at_least) word) c.read_commit_words.ensures
+
+pub returns-in-None : goal.returns-in-None
+returns-in-None c = no_word _ _ _ (first_of (λ w. w.now) c.args.words.now _ c.in-len1-up.len_at_least) _ c.keyword_of.ensures c.in-None.is
