@@ -1,0 +1,86 @@
+-- What the commands know when they begin, leave, answer and are refused for, by cases; and that the count told is no matter.
+use Rattle.std.proofs.Common.{◌≡◌, ◌<◌, ℕ, refl, List, Option, Some, None}
+use Rattle.fs_trait.specs.declared.task.Turn.TheVariants as turn
+use Rattle.fs_trait.specs.declared.types.FsErr.{FsErr}
+use Rattle.fs_trait.specs.Change.{Writes}
+use Rattle.fs_trait.specs.Effect.{OfNone}
+use Rattle.fs_trait.specs.Image.{IsTree}
+use Rattle.fs_trait.specs.View.{View}
+use Rattle.rely.specs.declared.books.Entry.{Entry}
+use Rattle.rely.specs.declared.books.Pending.{Pending}
+use Rattle.rely.specs.Books.{Books}
+use Rattle.rely.specs.Sound.{Stands}
+use Rattle.rely.specs.State.{State}
+use Rattle.script.specs.declared.answer.Answer.{Answer}
+use Rattle.ref_work.specs.Facts.{Home}
+use Rattle.ref_work.proofs.Ends as ref_ends
+use Rattle.ref_work.proofs.Homes.{home_task}
+use Rattle.ref_work.proofs.Refusals as ref_refusals
+use Rattle.commit_work.specs.declared.answer.CommitAnswer.{CommitAnswer}
+use Rattle.commit_work.specs.declared.command.CommitCommand.{CommitCommand}
+use Rattle.commit_work.specs.Answers as commits
+use Rattle.commit_work.specs.Kinds.{commit_leaves}
+use Rattle.commit_work.specs.Facts.{commit_facts}
+use Rattle.commit_work.proofs.Ends as commit_ends
+use Rattle.commit_work.proofs.Refusals as commit_refusals
+use Rattle.commit_work.proofs.Starts as commit_starts
+use Rattle.lane_work.specs.declared.command.LaneCommand.{LaneCommand}
+use Rattle.lane_work.specs.declared.command.LaneCommand.TheVariants.{Ref, Commit}
+use Rattle.lane_work.specs.Answers.{Begins, Says}
+use Rattle.lane_work.specs.Commands.{answer_of, lane_facts, lane_kind, lane_leaves, lane_left, lane_refuses, lane_stepped, lane_writes, script_answer, told, told_in}
+
+pub begins_of : (start : State) (entries : List Entry) (pending : Option Pending) (lane : ℕ) (v : View) (b : Books) (t : LaneCommand) → Stands start entries pending v → Home lane v → Begins lane t → lane_facts lane t v b
+begins_of start entries pending lane v b (Ref t) stands home begins = ref_ends.begins_of start entries pending lane v b t stands home begins
+begins_of start entries pending lane v b (Commit t) stands home begins = commit_starts.begins_of start entries pending lane v b t stands home begins
+
+pub own_of : (actor lane : ℕ) (t : LaneCommand) (v w : View) (b : Books) → lane_facts lane t v b → Writes (lane_writes actor t v) v w → Home lane v → Home lane w
+own_of actor lane (Ref t) v w b f writes home = home_task actor lane t v w b f writes home
+own_of actor lane (Commit t) v w b f writes home = commit_starts.own_of actor lane t v w b f writes home
+
+pub falls_of : (t new : LaneCommand) → lane_stepped t turn.More new → lane_left new < lane_left t
+falls_of (Ref t) (Ref new) step = ref_ends.falls_always t new step
+falls_of (Commit t) (Commit new) step = commit_ends.falls_of t new step
+falls_of (Ref t) (Commit new) step = absurd step
+falls_of (Commit t) (Ref new) step = absurd step
+
+pub refused_of : (start : State) (entries : List Entry) (pending : Option Pending) (lane : ℕ) (v : View) (b : Books) (t : LaneCommand) (e : FsErr) → IsTree v.now → Stands start entries pending v → lane_facts lane t v b → lane_refuses t v e → OfNone e
+refused_of start entries pending lane v b (Ref t) e tree stands f why = ref_refusals.refused_of start entries pending lane v b t e tree stands f why
+refused_of start entries pending lane v b (Commit t) e tree stands f why = commit_refusals.refused_of start entries pending lane v b t e tree stands f why
+
+-- the answer of a commit behind the script's
+pub said_by : (o : Option CommitAnswer) (a : Answer) → script_answer o ≡ Some a → (said : CommitAnswer) × (o ≡ Some said) × (script_answer (Some said) ≡ Some a)
+said_by (Some said) a is = (said, refl, is)
+said_by None a is = (let n : None ≡ Some a = is in cc)
+
+commit_says : (lane : ℕ) (t new : CommitCommand) (v w : View) (b : Books) (a : Answer) → commit_facts lane t v b → commit_leaves t (turn.Done tt) new v w → script_answer (commits.answer_of new) ≡ Some a → Says a (Commit t) v w
+commit_says lane t new v w b a f l is =
+    let s = said_by (commits.answer_of new) a is in
+    (s.0, s.2, commit_ends.says_of lane t new v w b s.0 f l s.1)
+
+pub says_of : (lane : ℕ) (t new : LaneCommand) (v w : View) (b : Books) (a : Answer) → lane_facts lane t v b → lane_leaves t (turn.Done tt) new v w → answer_of new ≡ Some a → Says a t v w
+says_of lane (Ref t) (Ref new) v w b a f l is = ref_ends.says_of lane t new v w b a f l is
+says_of lane (Commit t) (Commit new) v w b a f l is = commit_says lane t new v w b a f l is
+says_of lane (Ref t) (Commit new) v w b a f l is = absurd l
+says_of lane (Commit t) (Ref new) v w b a f l is = absurd l
+
+-- nothing that others see depends on the count that a command was told
+pub told_facts : (lane objects : ℕ) (t : LaneCommand) (v : View) (b : Books) → lane_facts lane t v b → lane_facts lane (told objects t) v b
+told_facts lane objects (Ref t) v b f = f
+told_facts lane objects (Commit t) v b f = commit_ends.counted lane objects t v b f
+
+pub told_kind : (objects : ℕ) (t : LaneCommand) → lane_kind (told objects t) ≡ lane_kind t
+told_kind objects (Ref t) = refl
+told_kind objects (Commit t) = commit_ends.same_kind objects t
+
+pub told_left : (objects : ℕ) (t : LaneCommand) → lane_left (told objects t) ≡ lane_left t
+told_left objects (Ref t) = refl
+told_left objects (Commit t) = commit_ends.same_left objects t
+
+pub told_begins : (lane objects : ℕ) (t : LaneCommand) → Begins lane t → Begins lane (told objects t)
+told_begins lane objects (Ref t) begins = begins
+told_begins lane objects (Commit t) begins = record { made = begins.made; mine = begins.mine; named = begins.named; new = begins.new; pinned = begins.pinned; change = begins.change }
+
+-- and a command that is told again what it was told before is as it was
+pub told_back : (objects : ℕ) (t : LaneCommand) → told (told_in t) (told objects t) ≡ t
+told_back objects (Ref t) = refl
+told_back objects (Commit t) = refl

@@ -1,0 +1,15 @@
+use Rattle.std.proofs.Common.{subst}
+use Rattle.lane_work.specs.Commands.{lane_needs}
+use Rattle.lane_work.proofs.command.LaneCommandWork.advance.Goals as goal
+
+pub advance-requires : goal.advance-requires
+advance-requires g c = λ v told. subst (λ t. lane_needs c.args.actor t v) c.in-Ref.is (c.requires v told)
+
+pub returns-in-Ref-clause-after : goal.returns-in-Ref-clause-after
+returns-in-Ref-clause-after g c = λ v told. rw c.in-Ref.is (c.advance.ensures.after v told)
+
+pub advance-requires-in-Commit : goal.advance-requires-in-Commit
+advance-requires-in-Commit g c = λ v told. subst (λ t. lane_needs c.args.actor t v) c.in-Commit.is (c.requires v told)
+
+pub returns-in-Commit-clause-after : goal.returns-in-Commit-clause-after
+returns-in-Commit-clause-after g c = λ v told. rw c.in-Commit.is (c.advance-in-Commit.ensures.after v told)

@@ -1,0 +1,19 @@
+-- What is known of a command that begins, and what its answers say.
+use Rattle.std.specs.Prelude.{◌≡◌, ℕ, Some}
+use Rattle.fs_trait.specs.View.{View}
+use Rattle.script.specs.declared.answer.Answer.{Answer}
+use Rattle.ref_work.specs.Answers as refs
+use Rattle.commit_work.specs.declared.answer.CommitAnswer.{CommitAnswer}
+use Rattle.commit_work.specs.Answers as commits
+use Rattle.lane_work.specs.declared.command.LaneCommand.{LaneCommand}
+use Rattle.lane_work.specs.declared.command.LaneCommand.TheVariants.{Ref, Commit}
+use Rattle.lane_work.specs.Commands.{script_answer}
+
+abbrev pub Begins : ℕ → LaneCommand → Type 0
+Begins lane (Ref t) = refs.Begins lane t
+Begins lane (Commit t) = commits.Begins lane t
+
+-- over the views before and after the last step
+abbrev pub Says : Answer → LaneCommand → View → View → Type 0
+Says a (Ref t) v w = refs.Says a t v w
+Says a (Commit t) v w = (said : CommitAnswer) × (script_answer (Some said) ≡ Some a) × commits.Says said t v w

@@ -1,0 +1,51 @@
+//! What others may rest on, beside the contracts of the steps.
+ghost use Rattle.std.specs.Prelude.{◌≡◌, ◌≢◌, ◌<◌, ℕ, List, Option, Some};
+ghost use Rattle.fs_trait.specs.declared.types.FsErr.{FsErr};
+ghost use Rattle.fs_trait.specs.Effect.{OfNone};
+ghost use Rattle.fs_trait.specs.Image.{IsTree};
+ghost use Rattle.fs_trait.specs.View.{View};
+ghost use Rattle.fs_trait.specs.Change.{Writes};
+ghost use Rattle.fs_trait.specs.declared.task.Turn.TheVariants as turn;
+ghost use Rattle.script.specs.declared.answer.Answer.{Answer};
+ghost use Rattle.rely.specs.declared.books.Entry.{Entry};
+ghost use Rattle.rely.specs.declared.books.Pending.{Pending};
+ghost use Rattle.rely.specs.State.{State};
+ghost use Rattle.rely.specs.Books.{Books};
+ghost use Rattle.rely.specs.Rely.{Does};
+ghost use Rattle.rely.specs.Sound.{Stands};
+ghost use Rattle.ref_work.specs.Facts.{Home};
+ghost use Rattle.lane_work.specs.declared.command.LaneCommand.{LaneCommand};
+ghost use Rattle.lane_work.specs.Answers.{Begins, Says};
+ghost use Rattle.lane_work.specs.Commands.{answer_of, lane_facts, lane_kind, lane_leaves, lane_left, lane_refuses, lane_stepped, lane_writes, told, told_in};
+
+/// Of a lane without a task it is known that no folder stands where it stages. Nothing that others do changes that, nor a step
+/// of its own tasks, whatever the step answers; and with it a new task has its facts.
+pub fn lanes_that_idle()
+    ensures others { (actor lane mine : ℕ) (v w : View) (b b' : Books) → mine < 16 → mine ≢ actor → mine ≢ lane → Does actor lane v b w b' → Home mine v → Home mine w }
+    ensures own { (actor lane : ℕ) (t : LaneCommand) (v w : View) (b : Books) → lane_facts lane t v b → Writes (lane_writes actor t v) v w → Home lane v → Home lane w }
+    ensures begins { (start : State) (entries : List Entry) (pending : Option Pending) (lane : ℕ) (v : View) (b : Books) (t : LaneCommand) → Stands start entries pending v → Home lane v → Begins lane t → lane_facts lane t v b }
+{}
+
+/// What each answer says of the views before and after the step that gave it.
+pub fn answers_of_lanes()
+    ensures { (lane : ℕ) (t new : LaneCommand) (v w : View) (b : Books) (a : Answer) → lane_facts lane t v b → lane_leaves t (turn.Done tt) new v w → answer_of new ≡ Some a → Says a t v w }
+{}
+
+/// Each step but the last leaves fewer steps, whether the view is told or not.
+pub fn steps_of_lanes_fall()
+    ensures { (t new : LaneCommand) → lane_stepped t turn.More new → lane_left new < lane_left t }
+{}
+
+/// Where the view is told, a command is refused only by a call that failed or for want of memory.
+pub fn told_refusals_of_lanes()
+    ensures { (start : State) (entries : List Entry) (pending : Option Pending) (lane : ℕ) (v : View) (b : Books) (t : LaneCommand) (e : FsErr) → IsTree v.now → Stands start entries pending v → lane_facts lane t v b → lane_refuses t v e → OfNone e }
+{}
+
+/// Nothing that others see of a task depends on the number of objects that it was told; and one that is told again what it was
+/// told before is as it was.
+pub fn tasks_without_the_count()
+    ensures facts { (lane objects : ℕ) (t : LaneCommand) (v : View) (b : Books) → lane_facts lane t v b → lane_facts lane (told objects t) v b }
+    ensures kinds { (objects : ℕ) (t : LaneCommand) → lane_kind (told objects t) ≡ lane_kind t }
+    ensures left { (objects : ℕ) (t : LaneCommand) → lane_left (told objects t) ≡ lane_left t }
+    ensures back { (objects : ℕ) (t : LaneCommand) → told (told_in t) (told objects t) ≡ t }
+{}

@@ -1,0 +1,12 @@
+//! The commands of a lane, as one kind of task of the system.
+#![tactic(auto)]
+
+mod answer;
+mod command;
+mod laws;
+
+pub use command::LaneCommand;
+pub use laws::{
+    answers_of_lanes, lanes_that_idle, steps_of_lanes_fall, tasks_without_the_count,
+    told_refusals_of_lanes,
+};
