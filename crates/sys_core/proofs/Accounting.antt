@@ -3,6 +3,7 @@ use Rattle.std.proofs.Common.{◌≡◌, ◌≢◌, ◌⊎◌, inl, inr, ⊎_eli
 use Rattle.std.specs.Prelude.{unwrap_or}
 use Rattle.std.proofs.lemmas.List.{map-set, get_or-map, length-map}
 use Rattle.fs_trait.specs.View.{View}
+use Rattle.ost_types.specs.declared.limits.Limits.{Limits}
 use Rattle.rely.specs.declared.books.Base.{Base}
 use Rattle.rely.specs.declared.books.Entry.{Entry}
 use Rattle.rely.specs.declared.books.Pending.{Pending}
@@ -70,7 +71,7 @@ begins_in : (started : List (Option ℕ)) (lane : ℕ) (h : List Entry) (task : 
 begins_in started lane h None at = inr (at, refl)
 begins_in started lane h (Some r) at = inl at
 
-module _ {F : Type 0} (view : F → Option View) (faults : F → ℕ) (old new : Base F) (lanes : List Lane) (runs : List Run) (replies : List (List Reply)) (given : ℕ) (acc : Accounted view old lanes runs replies given (faults old.fs))
+module _ {F : Type 0} (view : F → Option View) (faults : F → ℕ) (limits : Limits) (old new : Base F) (lanes : List Lane) (runs : List Run) (replies : List (List Reply)) (given : ℕ) (acc : Accounted view limits old lanes runs replies given (faults old.fs))
     (lane : ℕ) (within : lane < length runs) (run x : Run) (c : Command) (command : IsCommand lanes lane (get_or runs lane x).command c) (next : (get_or runs lane x).command ≡ length (row replies lane)) (same_start : new.books.start.items ≡ old.books.start.items) where
   abbrev pub from : State
   from = first old.books.start.items
@@ -95,52 +96,52 @@ module _ {F : Type 0} (view : F → Option View) (faults : F → ℕ) (old new :
   s_within = ⊎_elim (λ at. acc.replied.starts lane s at) (λ fresh. omega (arith, fresh.1)) begins
 
   -- the numbers of the reply are small
-  pub given_start : (a : Answer) (start : ℕ) → Goes (IsTold view) from lane was.command c old.books new.books was.task run.task (Answered a start) → start ≤ count_of replies
+  pub given_start : (a : Answer) (start : ℕ) → Goes (IsTold view) limits from lane was.command c old.books new.books was.task run.task (Answered a start) → start ≤ count_of replies
   given_start a start g = omega (arith, g.1, s_within, acc.fewer)
 
-  pub given_place : (a : Answer) (start : ℕ) → Goes (IsTold view) from lane was.command c old.books new.books was.task run.task (Answered a start) → length new.books.history.items ≤ count_of replies + 1
+  pub given_place : (a : Answer) (start : ℕ) → Goes (IsTold view) limits from lane was.command c old.books new.books was.task run.task (Answered a start) → length new.books.history.items ≤ count_of replies + 1
   given_place a start g = ⊎_elim
       (λ same. omega (arith, ap length same.0, acc.fewer))
       (λ one. omega (arith, ap length one.1, length-append h (one.0 ∷ []), acc.fewer))
       g.3
 
   -- and so is noted when the commands began
-  pub more_started : Goes (IsTold view) from lane was.command c old.books new.books was.task run.task More → (now : List Run) → now ≡ set runs lane run → started_of now ≡ set (started_of runs) lane (Some (unwrap_or (get_or (started_of runs) lane None) (length h)))
+  pub more_started : Goes (IsTold view) limits from lane was.command c old.books new.books was.task run.task More → (now : List Run) → now ≡ set runs lane run → started_of now ≡ set (started_of runs) lane (Some (unwrap_or (get_or (started_of runs) lane None) (length h)))
   more_started g now is =
       ap started_of is ∙ sym (started_now (Some s) (ap start_in g.1 ∙ ap Some g.2)) ∙ ap (λ k. set (started_of runs) lane (Some k)) (sym (start_view runs lane x h within))
 
-  pub given_started : (a : Answer) (start : ℕ) → Goes (IsTold view) from lane was.command c old.books new.books was.task run.task (Answered a start) → (now : List Run) → now ≡ set runs lane run → started_of now ≡ set (started_of runs) lane None
+  pub given_started : (a : Answer) (start : ℕ) → Goes (IsTold view) limits from lane was.command c old.books new.books was.task run.task (Answered a start) → (now : List Run) → now ≡ set runs lane run → started_of now ≡ set (started_of runs) lane None
   given_started a start g now is = ap started_of is ∙ sym (started_now None (ap start_in g.0))
 
-  pub start_said : (a : Answer) (start : ℕ) → Goes (IsTold view) from lane was.command c old.books new.books was.task run.task (Answered a start) → start ≡ unwrap_or (get_or (started_of runs) lane None) (length h)
+  pub start_said : (a : Answer) (start : ℕ) → Goes (IsTold view) limits from lane was.command c old.books new.books was.task run.task (Answered a start) → start ≡ unwrap_or (get_or (started_of runs) lane None) (length h)
   start_said a start g = g.1 ∙ sym (start_view runs lane x h within)
 
   -- of the commands of other lanes nothing has changed
-  others_after : (tail : List Entry) (l : ℕ) (d : Run) (e : Command) → l ≢ lane → l < length (set runs lane run) → IsCommand lanes l (get_or (set runs lane run) l d).command e → IsAfter from (h ++ tail) e (get_or (set runs lane run) l d).task
+  others_after : (tail : List Entry) (l : ℕ) (d : Run) (e : Command) → l ≢ lane → l < length (set runs lane run) → IsCommand lanes l (get_or (set runs lane run) l d).command e → IsAfter limits from (h ++ tail) e (get_or (set runs lane run) l d).task
   others_after tail l d e ne lt is =
       let same : get_or (set runs lane run) l d ≡ get_or runs l d = get_or-set_other runs lane l run d ne in
       let in_runs : l < length runs = omega (arith, length-set runs lane run, lt) in
-      subst (λ (r : Run). IsAfter from (h ++ tail) e r.task) (sym same)
+      subst (λ (r : Run). IsAfter limits from (h ++ tail) e r.task) (sym same)
       (longer (get_or runs l d).task (start_at runs l d in_runs) (acc.after l d e in_runs (subst (λ (r : Run). IsCommand lanes l r.command e) same is)))
     where
-      longer : (task : Option Running) → IsAt (started_of runs) l (start_in task) → IsAfter from h e task → IsAfter from (h ++ tail) e task
+      longer : (task : Option Running) → IsAt (started_of runs) l (start_in task) → IsAfter limits from h e task → IsAfter limits from (h ++ tail) e task
       longer None at is = tt
-      longer (Some r) at is = subst (λ (y : State). Pursues y e r.work) (sym (state_stays from h tail r.start (acc.replied.starts l r.start at))) is
+      longer (Some r) at is = subst (λ (y : State). Pursues limits y e r.work) (sym (state_stays from h tail r.start (acc.replied.starts l r.start at))) is
 
-  pub accounted_more : Goes (IsTold view) from lane was.command c old.books new.books was.task run.task More → run.command ≡ was.command → old.books.halted ≡ false
-      → Accounted view new lanes (set runs lane run) replies given (faults new.fs)
+  pub accounted_more : Goes (IsTold view) limits from lane was.command c old.books new.books was.task run.task More → run.command ≡ was.command → old.books.halted ≡ false
+      → Accounted view limits new lanes (set runs lane run) replies given (faults new.fs)
   accounted_more g same live = record {
     replied =
-        subst (λ (l : List (Option ℕ)). Replied (IsTold view) (first new.books.start.items) new.books.history.items new.books.pending lanes l replies) (started_now (Some s) (ap start_in g.1 ∙ ap Some g.2))
-        (subst (λ y. Replied (IsTold view) (first y) new.books.history.items new.books.pending lanes (set (started_of runs) lane (Some s)) replies) (sym same_start)
-        (subst (λ (l : List Entry). Replied (IsTold view) from l new.books.pending lanes (set (started_of runs) lane (Some s)) replies) (sym g.4)
-        (replied_more (IsTold view) from h old.books.pending new.books.pending lanes (started_of runs) replies acc.replied lane was.command c command next s begins
+        subst (λ (l : List (Option ℕ)). Replied (IsTold view) limits (first new.books.start.items) new.books.history.items new.books.pending lanes l replies) (started_now (Some s) (ap start_in g.1 ∙ ap Some g.2))
+        (subst (λ y. Replied (IsTold view) limits (first y) new.books.history.items new.books.pending lanes (set (started_of runs) lane (Some s)) replies) (sym same_start)
+        (subst (λ (l : List Entry). Replied (IsTold view) limits from l new.books.pending lanes (set (started_of runs) lane (Some s)) replies) (sym g.4)
+        (replied_more (IsTold view) limits from h old.books.pending new.books.pending lanes (started_of runs) replies acc.replied lane was.command c command next s begins
         (subst (λ k. (q : Pending) → new.books.pending ≡ Some q → (old.books.pending ≡ Some q) ⊎ ((q.lane ≡ lane) × (q.command ≡ was.command) × changes k q)) g.2 g.5))));
     after = λ l d e lt is.
-        subst (λ y. IsAfter (first y) new.books.history.items e (get_or (set runs lane run) l d).task) (sym same_start)
-        (subst (λ (k : List Entry). IsAfter from k e (get_or (set runs lane run) l d).task) (sym g.4) (here_or_apart l lane
+        subst (λ y. IsAfter limits (first y) new.books.history.items e (get_or (set runs lane run) l d).task) (sym same_start)
+        (subst (λ (k : List Entry). IsAfter limits from k e (get_or (set runs lane run) l d).task) (sym g.4) (here_or_apart l lane
         (λ at. own l d e at is)
-        (λ ne. subst (λ (k : List Entry). IsAfter from k e (get_or (set runs lane run) l d).task) nil (others_after [] l d e ne lt is))));
+        (λ ne. subst (λ (k : List Entry). IsAfter limits from k e (get_or (set runs lane run) l d).task) nil (others_after [] l d e ne lt is))));
     halts = λ l n r to halted. let z : true ≡ false = sym (acc.halts l n r to halted).0 ∙ live in cc;
     count = acc.count;
     fewer = omega (arith, ap length g.4, acc.fewer);
@@ -152,32 +153,32 @@ module _ {F : Type 0} (view : F → Option View) (faults : F → ℕ) (old new :
       nil : h ++ [] ≡ h
       nil = append-nil h
 
-      own : (l : ℕ) (d : Run) (e : Command) → l ≡ lane → IsCommand lanes l (get_or (set runs lane run) l d).command e → IsAfter from h e (get_or (set runs lane run) l d).task
+      own : (l : ℕ) (d : Run) (e : Command) → l ≡ lane → IsCommand lanes l (get_or (set runs lane run) l d).command e → IsAfter limits from h e (get_or (set runs lane run) l d).task
       own l d e at is =
           let here : get_or (set runs lane run) l d ≡ run = ap (λ k. get_or (set runs lane run) k d) at ∙ get_or-set_same runs lane run d within in
           let is_c : IsCommand lanes lane was.command e = subst (λ k. IsCommand lanes k was.command e) at (subst (λ k. IsCommand lanes l k e) (ap (λ (r : Run). r.command) here ∙ same) is) in
-          subst (λ (r : Run). IsAfter from h e r.task) (sym here)
-          (subst (IsAfter from h e) (sym g.1) (subst (λ z. Pursues (state_after from h g.0.start) z g.0.work) (one_command lanes lane was.command c e command is_c) g.3))
+          subst (λ (r : Run). IsAfter limits from h e r.task) (sym here)
+          (subst (IsAfter limits from h e) (sym g.1) (subst (λ z. Pursues limits (state_after from h g.0.start) z g.0.work) (one_command lanes lane was.command c e command is_c) g.3))
 
-  pub accounted_given : (a : Answer) (start : ℕ) (r : Reply) (tail : List Entry) → Goes (IsTold view) from lane was.command c old.books new.books was.task run.task (Answered a start) → run.command ≡ was.command + 1 → lane < length replies → new.books.history.items ≡ h ++ tail
+  pub accounted_given : (a : Answer) (start : ℕ) (r : Reply) (tail : List Entry) → Goes (IsTold view) limits from lane was.command c old.books new.books was.task run.task (Answered a start) → run.command ≡ was.command + 1 → lane < length replies → new.books.history.items ≡ h ++ tail
       → r.answer ≡ a → r.start ≡ start → r.place ≡ length new.books.history.items → r.order ≡ given
       → (old.books.halted ≡ true → new ≡ old) → (IsHalted a → (new.books.halted ≡ true) × (a ≡ answer.Halted (faults new.fs)))
-      → Accounted view new lanes (set runs lane run) (with_reply replies lane r) (given + 1) (faults new.fs)
+      → Accounted view limits new lanes (set runs lane run) (with_reply replies lane r) (given + 1) (faults new.fs)
   accounted_given a start r tail g more lt longer answered begun place order stays halts = record {
     replied =
-        subst (λ (l : List (Option ℕ)). Replied (IsTold view) (first new.books.start.items) new.books.history.items new.books.pending lanes l (with_reply replies lane r)) (started_now None (ap start_in g.0))
-        (subst (λ y. Replied (IsTold view) (first y) new.books.history.items new.books.pending lanes (set (started_of runs) lane None) (with_reply replies lane r)) (sym same_start)
-        (subst (λ (l : List Entry). Replied (IsTold view) from l new.books.pending lanes (set (started_of runs) lane None) (with_reply replies lane r)) (sym longer)
-        (replied_given (IsTold view) from h old.books.pending new.books.pending lanes (started_of runs) replies acc.replied lane was.command c command next s begins
+        subst (λ (l : List (Option ℕ)). Replied (IsTold view) limits (first new.books.start.items) new.books.history.items new.books.pending lanes l (with_reply replies lane r)) (started_now None (ap start_in g.0))
+        (subst (λ y. Replied (IsTold view) limits (first y) new.books.history.items new.books.pending lanes (set (started_of runs) lane None) (with_reply replies lane r)) (sym same_start)
+        (subst (λ (l : List Entry). Replied (IsTold view) limits from l new.books.pending lanes (set (started_of runs) lane None) (with_reply replies lane r)) (sym longer)
+        (replied_given (IsTold view) limits from h old.books.pending new.books.pending lanes (started_of runs) replies acc.replied lane was.command c command next s begins
         tail a r lt answered (begun ∙ g.1) (place ∙ ap length longer) (order ∙ acc.count)
-        (subst (λ (l : List Entry). Answers (IsTold view) lane was.command (state_after from h s) (after (events_of l) from) l a c) longer (subst (λ k. Answers (IsTold view) lane was.command (state_after from h k) (after (events_of new.books.history.items) from) new.books.history.items a c) g.1 g.2))
-        (subst (Grows lane was.command a h) longer g.3)
+        (subst (λ (l : List Entry). Answers (IsTold view) limits lane was.command (state_after from h s) (after (events_of l) from) l a c) longer (subst (λ k. Answers (IsTold view) limits lane was.command (state_after from h k) (after (events_of new.books.history.items) from) new.books.history.items a c) g.1 g.2))
+        (subst (Grows lane was.command c a h) longer g.3)
         (subst (λ k. (q : Pending) → new.books.pending ≡ Some q → (old.books.pending ≡ Some q) ⊎ ((q.lane ≡ lane) × (q.command ≡ was.command) × IsChangeOf (state_after from h k) c q.event)) g.1 g.4)
         g.5)));
     after = λ l d e low is.
-        subst (λ y. IsAfter (first y) new.books.history.items e (get_or (set runs lane run) l d).task) (sym same_start)
-        (subst (λ (k : List Entry). IsAfter from k e (get_or (set runs lane run) l d).task) (sym longer) (here_or_apart l lane
-        (λ at. subst (IsAfter from (h ++ tail) e) (sym (ap (λ (y : Run). y.task) (ap (λ k. get_or (set runs lane run) k d) at ∙ get_or-set_same runs lane run d within) ∙ g.0)) tt)
+        subst (λ y. IsAfter limits (first y) new.books.history.items e (get_or (set runs lane run) l d).task) (sym same_start)
+        (subst (λ (k : List Entry). IsAfter limits from k e (get_or (set runs lane run) l d).task) (sym longer) (here_or_apart l lane
+        (λ at. subst (IsAfter limits from (h ++ tail) e) (sym (ap (λ (y : Run). y.task) (ap (λ k. get_or (set runs lane run) k d) at ∙ get_or-set_same runs lane run d within) ∙ g.0)) tt)
         (λ ne. others_after tail l d e ne low is)));
     halts = λ l n q to halted. ⊎_elim
         (λ was_so. let w = acc.halts l n q was_so halted in
@@ -199,9 +200,9 @@ count_none [] none = refl
 count_none (x ∷ rows) none = omega (arith, none 0 (omega arith), count_none rows (λ l lt. none (suc l) (omega (arith, lt))))
 
 -- the beginning
-pub new_accounted : {F : Type 0} (view : F → Option View) (base : Base F) (lanes : List Lane) (runs : List Run) (replies : List (Vec Reply)) (faults : ℕ) → base.books.history.items ≡ [] → base.books.pending ≡ None → Booked lanes runs replies → AreIdle runs
-    → Accounted view base lanes runs (replies_of replies) 0 faults
-new_accounted view base lanes runs replies faults empty none booked idle = record {
+pub new_accounted : {F : Type 0} (view : F → Option View) (limits : Limits) (base : Base F) (lanes : List Lane) (runs : List Run) (replies : List (Vec Reply)) (faults : ℕ) → base.books.history.items ≡ [] → base.books.pending ≡ None → Booked lanes runs replies → AreIdle runs
+    → Accounted view limits base lanes runs (replies_of replies) 0 faults
+new_accounted view limits base lanes runs replies faults empty none booked idle = record {
   replied = record {
     each = λ l n r to. absurd (no_reply l n r to);
     in_order = λ l n m r q to too lt. absurd (no_reply l n r to);
@@ -215,7 +216,7 @@ new_accounted view base lanes runs replies faults empty none booked idle = recor
     starts = λ l s at. absurd (no_start l s at);
     begun = λ l s n r at to. absurd (no_start l s at);
   };
-  after = λ l d c lt is. subst (IsAfter (first base.books.start.items) base.books.history.items c) (sym (idle l d lt).0) tt;
+  after = λ l d c lt is. subst (IsAfter limits (first base.books.start.items) base.books.history.items c) (sym (idle l d lt).0) tt;
   halts = λ l n r to halted. absurd (no_reply l n r to);
   count = sym nothing;
   fewer = omega (arith, ap length empty);

@@ -5,6 +5,7 @@ use Rattle.std.proofs.lemmas.List.{get_or-map, get_or_default}
 use Rattle.std.specs.Global.{Vec}
 use Rattle.script.specs.declared.answer.Reply.{Reply}
 use Rattle.script.specs.declared.command.Lane.{Lane}
+use Rattle.ost_types.specs.declared.limits.Limits.{Limits}
 use Rattle.rely.specs.declared.books.Base.{Base}
 use Rattle.sys_core.specs.declared.run.Run.{Run}
 use Rattle.sys_core.specs.System.{System}
@@ -13,8 +14,8 @@ use Rattle.sys_core.specs.Pursues.{started_of}
 use Rattle.sys_core.specs.Turns.{works_of}
 use Rattle.sys_core.proofs.Booking.{some_of}
 
-abbrev pub system_of : {F : Type 0} → Base F → List Lane → List Run → List (Vec Reply) → System F
-system_of base lanes runs replies = record { base = base; lanes = lanes; started = started_of runs; works = works_of runs; replies = replies_of replies }
+abbrev pub system_of : {F : Type 0} → Base F → List Lane → List Run → List (Vec Reply) → Limits → ℕ → System F
+system_of base lanes runs replies limits objects = record { base = base; lanes = lanes; started = started_of runs; works = works_of runs; replies = replies_of replies; limits = limits; objects = objects }
 
 pub fewer : (a b : ℕ) → true ≡ nat_lt a b → a < b
 fewer a b is = grind (arith, nat_tests)
@@ -22,9 +23,9 @@ fewer a b is = grind (arith, nat_tests)
 pub not_fewer : (a b : ℕ) → false ≡ nat_lt a b → b ≤ a
 not_fewer a b is = grind (arith, nat_tests)
 
-module _ {F : Type 0} (base : Base F) (lanes : List Lane) (runs : List Run) (replies : List (Vec Reply)) (l : ℕ) (b : Booked lanes runs replies) (within : l < length lanes) where
+module _ {F : Type 0} (base : Base F) (lanes : List Lane) (runs : List Run) (replies : List (Vec Reply)) (limits : Limits) (objects : ℕ) (l : ℕ) (b : Booked lanes runs replies) (within : l < length lanes) where
   abbrev pub s : System F
-  s = system_of base lanes runs replies
+  s = system_of base lanes runs replies limits objects
 
   pub given_here : (v : Vec Reply) → given s l ≡ (get_or replies l v).items
   given_here v = get_or-map (λ (x : Vec Reply). x.items) replies l v [] (omega (arith, b.each_replied, within))

@@ -3,6 +3,7 @@ use Rattle.std.proofs.Common.{◌≡◌, ⊎_elim, ◌<◌, ℕ, true, false, sy
 use Rattle.std.proofs.lemmas.List.{length-map, set-get_or}
 use Rattle.std.specs.Global.{Vec}
 use Rattle.fs_trait.specs.View.{View}
+use Rattle.ost_types.specs.declared.limits.Limits.{Limits}
 use Rattle.rely.specs.declared.books.Base.{Base}
 use Rattle.rely.specs.declared.books.Pending.{Pending}
 use Rattle.rely.specs.State.{first}
@@ -22,11 +23,11 @@ pub act_command : (lanes : List Lane) (lane : ℕ) (runs : List Run) (r : Run) (
 act_command lanes lane runs r d commands c lt run at same few is =
     (d, (lt, sym at), subst (λ n. IsAt d.commands.items n c) (ap (λ (x : Run). x.command) run) (subst (λ (l : List Command). IsAt l r.command c) same (few, is)))
 
-module _ {F : Type 0} (view : F → Option View) (faults : F → ℕ) (base : Base F) (lanes : List Lane) (runs : List Run) (replies : List (Vec Reply)) (given : ℕ) (booked : Booked lanes runs replies) (acc : Accounted view base lanes runs (replies_of replies) given (faults base.fs))
+module _ {F : Type 0} (view : F → Option View) (faults : F → ℕ) (limits : Limits) (base : Base F) (lanes : List Lane) (runs : List Run) (replies : List (Vec Reply)) (given : ℕ) (booked : Booked lanes runs replies) (acc : Accounted view limits base lanes runs (replies_of replies) given (faults base.fs))
     (lane : ℕ) (within : lane < length lanes) where
   -- its number is how many replies the lane was given
   pub next_of : (r : Run) → (get_or runs lane r).command ≡ length (row (replies_of replies) lane)
-  next_of r = sym (given_length base lanes runs replies lane booked within r)
+  next_of r = sym (given_length base lanes runs replies limits 0 lane booked within r)
 
   pub mine_of : base.books.halted ≡ false → (p : Pending) (r : Run) → base.books.pending ≡ Some p → p.lane ≡ lane → p.command ≡ (get_or runs lane r).command
   mine_of live p r is l =
@@ -36,7 +37,7 @@ module _ {F : Type 0} (view : F → Option View) (faults : F → ℕ) (base : Ba
       (λ over. let z : true ≡ false = sym (acc.halts p.lane p.command over.0 over.1 over.2).0 ∙ live in cc)
       w.2
 
-  pub after_of : (c : Command) (x : Run) → IsCommand lanes lane (get_or runs lane x).command c → (r : Run) → IsAfter (first base.books.start.items) base.books.history.items c (get_or runs lane r).task
+  pub after_of : (c : Command) (x : Run) → IsCommand lanes lane (get_or runs lane x).command c → (r : Run) → IsAfter limits (first base.books.start.items) base.books.history.items c (get_or runs lane r).task
   after_of c x is r =
       let lt : lane < length runs = omega (arith, booked.each_runs, within) in
       let same : (get_or runs lane x).command ≡ (get_or runs lane r).command = next_of x ∙ sym (next_of r) in
@@ -53,8 +54,8 @@ pub to_replies : (lanes : List Lane) (runs : List Run) (replies : List (Vec Repl
 to_replies lanes runs replies lane booked lt = omega (arith, length-map replies (λ (v : Vec Reply). v.items), booked.each_replied, lt)
 
 -- nothing was done
-pub accounted_held : {F : Type 0} (view : F → Option View) (faults : F → ℕ) (old new : Base F) (lanes : List Lane) (runs now : List Run) (replies : List (List Reply)) (given : ℕ) (lane : ℕ) (x : Run) → Accounted view old lanes runs replies given (faults old.fs)
-    → new ≡ old → now ≡ set runs lane (get_or now lane x) → (get_or now lane x).command ≡ (get_or runs lane x).command → (get_or now lane x).task ≡ (get_or runs lane x).task → Accounted view new lanes now replies given (faults new.fs)
-accounted_held view faults old new lanes runs now replies given lane x acc same is command task =
+pub accounted_held : {F : Type 0} (view : F → Option View) (faults : F → ℕ) (limits : Limits) (old new : Base F) (lanes : List Lane) (runs now : List Run) (replies : List (List Reply)) (given : ℕ) (lane : ℕ) (x : Run) → Accounted view limits old lanes runs replies given (faults old.fs)
+    → new ≡ old → now ≡ set runs lane (get_or now lane x) → (get_or now lane x).command ≡ (get_or runs lane x).command → (get_or now lane x).task ≡ (get_or runs lane x).task → Accounted view limits new lanes now replies given (faults new.fs)
+accounted_held view faults limits old new lanes runs now replies given lane x acc same is command task =
     let all = held_runs runs now lane x is command task in
-    subst (λ b. Accounted view b lanes now replies given (faults b.fs)) (sym same) (subst (λ l. Accounted view old lanes l replies given (faults old.fs)) (sym all) acc)
+    subst (λ b. Accounted view limits b lanes now replies given (faults b.fs)) (sym same) (subst (λ l. Accounted view limits old lanes l replies given (faults old.fs)) (sym all) acc)

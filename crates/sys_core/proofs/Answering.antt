@@ -1,5 +1,9 @@
 -- What a command answers that is done.
-use Rattle.std.proofs.Common.{◌≡◌, inl, inr, ℕ, refl, sym, ◌∙◌, ap, subst, List, [], ◌∷◌, ◌++◌, Option, Some, None, Ok, Err, IsSome, true, false}
+use Rattle.std.proofs.Common.{◌≡◌, inl, inr, ◌+◌, ℕ, Bool, refl, sym, ◌∙◌, ap, subst, List, [], ◌∷◌, ◌++◌, Option, Some, None, Ok, Err, IsSome, true, false}
+use Rattle.std.specs.Global.{Vec}
+use Rattle.ost_types.specs.declared.limits.Limits.{Limits}
+use Rattle.ost_types.specs.declared.object.ObjName.{ObjName}
+use Rattle.ost_forms.specs.declared.tree_item.TreeItem.{TreeItem}
 use Rattle.fs_trait.specs.declared.task.Turn.TheVariants as turn
 use Rattle.ref_store.specs.declared.phase.Phase.{Phase}
 use Rattle.ref_store.specs.declared.phase.Phase.TheVariants as phase
@@ -16,6 +20,22 @@ use Rattle.ref_work.specs.declared.command.RefCommand.TheVariants.{Parse, Reset,
 use Rattle.ref_work.specs.Commands.{IsStop, answer_of, change_answer, command_kind, command_stepped, found_kind, parse_answer, reset_answer, reset_stepped}
 use Rattle.ref_work.specs.Kinds.{Answer as Came, event, kind_in, stepped_in}
 use Rattle.ref_work.proofs.Ends.{settles_in}
+use Rattle.tree_build.specs.Items.{IsLeastBad}
+use Rattle.commit_build.specs.declared.refusal.BuildRefusal.{BuildRefusal}
+use Rattle.commit_build.specs.declared.refusal.BuildRefusal.TheVariants as built
+use Rattle.commit_build.specs.Committing.{Committing, commit_in, storing_in}
+use Rattle.commit_work.specs.declared.answer.CommitAnswer.{CommitAnswer}
+use Rattle.commit_work.specs.declared.answer.CommitAnswer.TheVariants as committed
+use Rattle.commit_work.specs.declared.naming.Naming.{Naming}
+use Rattle.commit_work.specs.declared.command.CommitCommand.{CommitCommand}
+use Rattle.commit_work.specs.Answers as commits
+use Rattle.commit_work.specs.Kinds as kinds
+use Rattle.commit_work.specs.Kinds.{BuildSteps, build_kind, commit_stepped, kind_by, stepped_at, stepped_by}
+use Rattle.commit_work.proofs.Ends.{answered}
+use Rattle.lane_work.specs.declared.command.LaneCommand.{LaneCommand}
+use Rattle.lane_work.specs.declared.command.LaneCommand.TheVariants as lane_work
+use Rattle.lane_work.specs.Commands as lanes
+use Rattle.lane_work.specs.Commands.{lane_kind, lane_stepped, script_answer}
 use Rattle.rely.specs.declared.books.Books as rust
 use Rattle.rely.specs.declared.books.Entry.{Entry}
 use Rattle.rely.specs.declared.books.Pending.{Pending}
@@ -33,14 +53,24 @@ use Rattle.script.specs.declared.command.Command.{Command}
 use Rattle.script.specs.declared.command.Command.TheVariants as command
 use Rattle.script.specs.declared.command.Rev.{Rev}
 use Rattle.sys_core.specs.Begins.{IsRev}
-use Rattle.sys_core.specs.Answers.{Answers, HasMade, HasMoved, IsChangeOf, IsFreeIn, IsHalted, LeastClashIn}
-use Rattle.sys_core.specs.Pursues.{Grows, IsChanging, Pursues}
-use Rattle.sys_core.proofs.Pursuing.{change_is}
+use Rattle.sys_core.specs.Answers.{Answers, HasMade, HasMoved, IsChangeOf, IsFreeIn, IsHalted, LeastClashIn, Makes}
+use Rattle.sys_core.specs.Commits.{message_in, sum_of}
+use Rattle.sys_core.specs.Pursues.{Commits, Grows, IsChanging, IsNaming, NamesIn, Pursues, RefPursues}
+use Rattle.sys_core.proofs.Pursuing.{change_is, naming_is}
 use Rattle.sys_core.proofs.Telling.{RefusedBy}
 
 -- what a change tells that is refused, where the view is told
-abbrev pub Tells : Type 0 → State → RefCommand → RefCommand → Type 0
-Tells told p (Change work) (Change new) = told → (r : RefRefusal) → new.answer ≡ Some (Err r) → RefusedBy p work.task r
+abbrev pub RefTells : Type 0 → State → RefCommand → RefCommand → Type 0
+RefTells told p (Change work) (Change new) = told → (r : RefRefusal) → new.answer ≡ Some (Err r) → RefusedBy p work.task r
+RefTells told p t new = Unit {0}
+
+abbrev pub NamingTells : Type 0 → State → Option Naming → Option Naming → Type 0
+NamingTells told p (Some n) (Some new) = told → (r : RefRefusal) → new.work.answer ≡ Some (Err r) → RefusedBy p n.work.task r
+NamingTells told p n new = Unit {0}
+
+abbrev pub Tells : Type 0 → State → LaneCommand → LaneCommand → Type 0
+Tells told p (lane_work.Ref t) (lane_work.Ref new) = RefTells told p t new
+Tells told p (lane_work.Commit t) (lane_work.Commit new) = NamingTells told p t.change new.change
 Tells told p t new = Unit {0}
 
 found_same : (found : Option Found) (commit : List ℕ) (lane number moment : ℕ) (old new : rust.Books) → IsBooked (found_kind found commit) lane number moment came.Done old new → new.history.items ≡ old.history.items
@@ -56,6 +86,10 @@ refusing_same phase.Unlink e lane number moment old new may b = absurd may
 refusing_same phase.SyncFolder e lane number moment old new may b = absurd may
 refusing_same phase.Ended e lane number moment old new may b = absurd may
 
+build_same : (pinned : Bool) (o : Option ObjName) (lane number moment : ℕ) (old new : rust.Books) → IsBooked (build_kind pinned o) lane number moment came.Done old new → new.history.items ≡ old.history.items
+build_same pinned None lane number moment old new b = b.0
+build_same pinned (Some name) lane number moment old new b = b.0
+
 -- a ref that the last change sets is there
 set_there : (first : State) (entries : List Entry) (last : Entry) (branch : List ℕ) (seen : Option (List ℕ)) (commit : List ℕ) → last.event ≡ made.SetRef branch seen commit → IsSome (after (events_of (entries ++ last ∷ [])) first (RefOf branch))
 set_there first entries last branch seen commit is =
@@ -64,7 +98,7 @@ set_there first entries last branch seen commit is =
     let set : next last.event before (RefOf branch) ≡ Some commit = subst (λ (e : Event). next e before (RefOf branch) ≡ Some commit) (sym is) (next_here (made.SetRef branch seen commit) (RefOf branch) before (topic_self (RefOf branch))) in
     subst IsSome (sym (ap (λ (st : State). st (RefOf branch)) then ∙ set)) refl
 
-module _ (told : Type 0) (first : State) (lane number moment : ℕ) (s : State) (old new : rust.Books) where
+module _ (told : Type 0) (limits : Limits) (first : State) (lane number moment : ℕ) (s : State) (old new : rust.Books) where
   abbrev pub p : State
   p = after (events_of old.history.items) first
 
@@ -72,16 +106,16 @@ module _ (told : Type 0) (first : State) (lane number moment : ℕ) (s : State) 
   q = after (events_of new.history.items) first
 
   abbrev pub Gives : Command → Answer → Type 0
-  Gives c a = Answers told lane number s q new.history.items a c × Grows lane number a old.history.items new.history.items × (IsHalted a → ⊥)
+  Gives c a = Answers told limits lane number s q new.history.items a c × Grows lane number c a old.history.items new.history.items × (IsHalted a → ⊥)
 
   parse_gives : (rev : Rev) (found : Found) (commit : List ℕ) (a : Answer) → new.history.items ≡ old.history.items → IsRev rev s commit → parse_answer (Some found) commit ≡ Some a → Gives (command.RevParse rev) a
-  parse_gives rev Missing commit a same is e = let k : answer.NoCommit commit ≡ a = cc in subst (Gives (command.RevParse rev)) k (is, inl (same, λ n. cc), λ n. n)
-  parse_gives rev Partial commit a same is e = let k : answer.Partial commit ≡ a = cc in subst (Gives (command.RevParse rev)) k (is, inl (same, λ n. cc), λ n. n)
-  parse_gives rev Whole commit a same is e = let k : answer.Commit commit ≡ a = cc in subst (Gives (command.RevParse rev)) k (is, inl (same, λ n. cc), λ n. n)
+  parse_gives rev Missing commit a same is e = let k : answer.NoCommit commit ≡ a = cc in subst (Gives (command.RevParse rev)) k (is, inl (same, λ n. n), λ n. n)
+  parse_gives rev Partial commit a same is e = let k : answer.Partial commit ≡ a = cc in subst (Gives (command.RevParse rev)) k (is, inl (same, λ n. n), λ n. n)
+  parse_gives rev Whole commit a same is e = let k : answer.Commit commit ≡ a = cc in subst (Gives (command.RevParse rev)) k (is, inl (same, λ n. n), λ n. n)
 
   reset_gives : (branch commit : List ℕ) (found : Found) (named : List ℕ) (a : Answer) → new.history.items ≡ old.history.items → IsStop found → named ≡ commit → reset_answer (Some found) named ≡ Some a → Gives (command.Reset branch commit) a
-  reset_gives branch commit Missing named a same stop is e = let k : answer.NoCommit named ≡ a = cc in subst (Gives (command.Reset branch commit)) k (is, inl (same, λ n. cc), λ n. n)
-  reset_gives branch commit Partial named a same stop is e = let k : answer.Partial named ≡ a = cc in subst (Gives (command.Reset branch commit)) k (is, inl (same, λ n. cc), λ n. n)
+  reset_gives branch commit Missing named a same stop is e = let k : answer.NoCommit named ≡ a = cc in subst (Gives (command.Reset branch commit)) k (is, inl (same, λ n. n), λ n. n)
+  reset_gives branch commit Partial named a same stop is e = let k : answer.Partial named ≡ a = cc in subst (Gives (command.Reset branch commit)) k (is, inl (same, λ n. n), λ n. n)
   reset_gives branch commit Whole named a same stop is e = absurd stop
 
   stopped_gives : (branch commit : List ℕ) (o : Option Found) (look : LookUp) (plan : Plan) (t : RefCommand) (a : Answer) → new.history.items ≡ old.history.items → look.commit ≡ commit → reset_stepped o look plan (turn.Done tt) t → answer_of t ≡ Some a → Gives (command.Reset branch commit) a
@@ -101,12 +135,22 @@ module _ (told : Type 0) (first : State) (lane number moment : ℕ) (s : State) 
         let b : IsBooked (Settle e) lane number moment came.Done old new = subst (λ x. IsBooked x lane number moment came.Done old new) is booked in
         (record { lane = lane; command = h.command; event = e; moment = moment }, b.1 _ h.pending, refl, mine _ h.pending refl, its)
 
-    change_gives : (c : Command) (work : RefWork) (a : Answer) → answer.Nothing ≡ a → Pursues s c (Change work)
-        → ((b : List Entry) → HasMade lane number (IsChangeOf s c) b → Answers told lane number s q b answer.Nothing c)
+    change_gives : (c : Command) (work : RefWork) (x a : Answer) → x ≡ a → Makes x c → (IsHalted x → ⊥) → IsChangeOf s c (event work.task)
+        → ((b : List Entry) → HasMade lane number (IsChangeOf s c) b → Answers told limits lane number s q b x c)
         → kind_in work.task.phase (event work.task) ≡ Settle (event work.task) → Holds (kind_in work.task.phase (event work.task)) lane (books_of old) → IsBooked (kind_in work.task.phase (event work.task)) lane number moment came.Done old new → Gives c a
-    change_gives c work a is after gives settles holds booked =
-        let m = made_by (kind_in work.task.phase (event work.task)) (event work.task) (IsChangeOf s c) settles (change_is s c work after) holds booked in
-        subst (Gives c) is (gives new.history.items (old.history.items, m.0, m.1, m.2, m.3, m.4), inr (m.0, m.1, m.2, m.3, refl), λ n. n)
+    change_gives c work x a is makes goes change gives settles holds booked =
+        let m = made_by (kind_in work.task.phase (event work.task)) (event work.task) (IsChangeOf s c) settles change holds booked in
+        subst (Gives c) is (gives new.history.items (old.history.items, m.0, m.1, m.2, m.3, m.4), inr (m.0, m.1, m.2, m.3, makes), goes)
+
+    -- the ref that was set is there, so that no other clashes with it
+    set_free : (branch : List ℕ) (seen : Option (List ℕ)) (sum : List ℕ) (work : RefWork) → event work.task ≡ made.SetRef branch seen sum → kind_in work.task.phase (event work.task) ≡ Settle (event work.task)
+        → Holds (kind_in work.task.phase (event work.task)) lane (books_of old) → IsBooked (kind_in work.task.phase (event work.task)) lane number moment came.Done old new → told → IsFreeIn q branch
+    set_free branch seen sum work is settles holds booked t =
+        let kind = kind_in work.task.phase (event work.task) in
+        let does = made_by kind (event work.task) (λ e. e ≡ made.SetRef branch seen sum) settles is holds booked in
+        let settled : IsBooked (Settle (event work.task)) lane number moment came.Done old new = subst (λ x. IsBooked x lane number moment came.Done old new) settles booked in
+        let there : IsSome (q (RefOf branch)) = subst (λ (l : List Entry). IsSome (after (events_of l) first (RefOf branch))) (sym does.1) (set_there first old.history.items does.0 branch seen sum does.4) in
+        apart t settled.0 branch there
 
     moved_by : (name : List ℕ) (value seen now : Option (List ℕ)) (t : Changing) → new.history.items ≡ old.history.items → IsChanging name (s (RefOf name)) value t → RefusedBy p t (refusal.RefMoved seen now) → HasMoved s q name seen now
     moved_by name value seen now t same is r =
@@ -119,37 +163,35 @@ module _ (told : Type 0) (first : State) (lane number moment : ℕ) (s : State) 
         → Gives (command.Reset branch commit) a
     reset_refused branch commit work (refusal.RefMoved seen now) a same is says e =
         let k : answer.RefMoved seen now ≡ a = cc in
-        subst (Gives (command.Reset branch commit)) k ((λ t. moved_by branch (Some commit) seen now work.task same is (says t)), inl (same, λ n. cc), λ n. n)
+        subst (Gives (command.Reset branch commit)) k ((λ t. moved_by branch (Some commit) seen now work.task same is (says t)), inl (same, λ n. n), λ n. n)
     reset_refused branch commit work (refusal.RefClash other) a same is says e =
         let k : answer.RefClash other ≡ a = cc in
-        subst (Gives (command.Reset branch commit)) k ((λ t. clash_by branch other work.task same is.0 (says t).0), inl (same, λ n. cc), λ n. n)
+        subst (Gives (command.Reset branch commit)) k ((λ t. clash_by branch other work.task same is.0 (says t).0), inl (same, λ n. n), λ n. n)
     reset_refused branch commit work refusal.NoRef a same is says e =
         let k : answer.NoRef ≡ a = cc in
-        subst (Gives (command.Reset branch commit)) k (says, inl (same, λ n. cc), λ n. n)
+        subst (Gives (command.Reset branch commit)) k (says, inl (same, λ n. n), λ n. n)
 
     drop_refused : (branch : List ℕ) (work : RefWork) (r : RefRefusal) (a : Answer) → new.history.items ≡ old.history.items → IsChanging branch (s (RefOf branch)) None work.task → IsSome (s (RefOf branch)) → (told → RefusedBy p work.task r) → change_answer (Some (Err r)) ≡ Some a
         → Gives (command.DropRef branch) a
     drop_refused branch work (refusal.RefMoved seen now) a same is had says e =
         let k : answer.RefMoved seen now ≡ a = cc in
-        subst (Gives (command.DropRef branch)) k ((λ t. let m = moved_by branch None seen now work.task same is (says t) in (m, subst IsSome (sym m.0) had)), inl (same, λ n. cc), λ n. n)
+        subst (Gives (command.DropRef branch)) k ((λ t. let m = moved_by branch None seen now work.task same is (says t) in (m, subst IsSome (sym m.0) had)), inl (same, λ n. n), λ n. n)
     drop_refused branch work (refusal.RefClash other) a same is had says e =
         let k : answer.RefClash other ≡ a = cc in
-        subst (Gives (command.DropRef branch)) k ((λ t. let z : false ≡ true = subst IsSome is.2 (says t).1 in cc), inl (same, λ n. cc), λ n. n)
+        subst (Gives (command.DropRef branch)) k ((λ t. let z : false ≡ true = subst IsSome is.2 (says t).1 in cc), inl (same, λ n. n), λ n. n)
     drop_refused branch work refusal.NoRef a same is had says e =
         let k : answer.NoRef ≡ a = cc in
-        subst (Gives (command.DropRef branch)) k ((λ t. absurd (says t)), inl (same, λ n. cc), λ n. n)
+        subst (Gives (command.DropRef branch)) k ((λ t. absurd (says t)), inl (same, λ n. n), λ n. n)
 
     reset_done : (branch commit : List ℕ) (work : RefWork) (r : Came) (t : Changing) (a : Answer) → IsChanging branch (s (RefOf branch)) (Some commit) work.task → stepped_in (turn.Done tt) r work.task t → Holds (kind_in work.task.phase (event work.task)) lane (books_of old)
         → IsBooked (kind_in work.task.phase (event work.task)) lane number moment came.Done old new → (told → (x : RefRefusal) → r ≡ Some (Err x) → RefusedBy p work.task x) → change_answer r ≡ Some a → Gives (command.Reset branch commit) a
     reset_done branch commit work None t a is step holds booked says e = absurd step
     reset_done branch commit work (Some (Ok x)) t a is step holds booked says e =
         let k : answer.Nothing ≡ a = cc in
-        let kind = kind_in work.task.phase (event work.task) in
-        let settles : kind ≡ Settle (event work.task) = settles_in work.task.phase (event work.task) step.0.1 is.3 in
-        let does = made_by kind (event work.task) (IsChangeOf s (command.Reset branch commit)) settles (change_is s (command.Reset branch commit) work is) holds booked in
-        let settled : IsBooked (Settle (event work.task)) lane number moment came.Done old new = subst (λ x. IsBooked x lane number moment came.Done old new) settles booked in
-        let there : IsSome (q (RefOf branch)) = subst (λ (l : List Entry). IsSome (after (events_of l) first (RefOf branch))) (sym does.1) (set_there first old.history.items does.0 branch (s (RefOf branch)) commit does.4) in
-        change_gives (command.Reset branch commit) work a k is (λ b has. (has, λ t. apart t settled.0 branch there)) settles holds booked
+        let c = command.Reset branch commit in
+        let settles : kind_in work.task.phase (event work.task) ≡ Settle (event work.task) = settles_in work.task.phase (event work.task) step.0.1 is.3 in
+        let change = change_is s c work is in
+        change_gives c work answer.Nothing a k tt (λ n. n) change (λ b has. (has, set_free branch (s (RefOf branch)) commit work change settles holds booked)) settles holds booked
     reset_done branch commit work (Some (Err r)) t a is step holds booked says e =
         reset_refused branch commit work r a (refusing_same work.task.phase (event work.task) lane number moment old new step.1 booked) is (λ k. says k r refl) e
 
@@ -158,29 +200,95 @@ module _ (told : Type 0) (first : State) (lane number moment : ℕ) (s : State) 
     drop_done branch work None t a is had step holds booked says e = absurd step
     drop_done branch work (Some (Ok x)) t a is had step holds booked says e =
         let k : answer.Nothing ≡ a = cc in
-        change_gives (command.DropRef branch) work a k (is, had) (λ b has. has) (settles_in work.task.phase (event work.task) step.0.1 is.3) holds booked
+        let c = command.DropRef branch in
+        change_gives c work answer.Nothing a k tt (λ n. n) (change_is s c work (is, had)) (λ b has. has) (settles_in work.task.phase (event work.task) step.0.1 is.3) holds booked
     drop_done branch work (Some (Err r)) t a is had step holds booked says e =
         drop_refused branch work r a (refusing_same work.task.phase (event work.task) lane number moment old new step.1 booked) is had (λ k. says k r refl) e
 
-    -- what the answer of a command that is done says, and whether its change is the last one
-    pub done_gives : (c : Command) (t next : RefCommand) (a : Answer) → Pursues s c t → command_stepped t (turn.Done tt) next → Holds (command_kind t) lane (books_of old) → IsBooked (command_kind t) lane number moment came.Done old new → Tells told p t next → answer_of next ≡ Some a → Gives c a
-    done_gives (command.RevParse rev) (Parse look) (Parse next) a is step holds booked says e =
+    ref_gives : (c : Command) (t next : RefCommand) (a : Answer) → RefPursues s c t → command_stepped t (turn.Done tt) next → Holds (command_kind t) lane (books_of old) → IsBooked (command_kind t) lane number moment came.Done old new → RefTells told p t next → answer_of next ≡ Some a → Gives c a
+    ref_gives (command.RevParse rev) (Parse look) (Parse next) a is step holds booked says e =
         let at : parse_answer (Some step.0) look.commit ≡ Some a = sym (ap (λ (x : LookUp). parse_answer x.found x.commit) step.1) ∙ e in
         parse_gives rev step.0 look.commit a booked.0 is at
-    done_gives c (Parse look) (Reset l k) a is step holds booked says e = absurd step
-    done_gives c (Parse look) (Change w) a is step holds booked says e = absurd step
-    done_gives (command.Reset branch commit) (Parse look) next a is step holds booked says e = absurd is
-    done_gives (command.DropRef branch) (Parse look) next a is step holds booked says e = absurd is
-    done_gives command.Refs t next a is step holds booked says e = absurd is
-    done_gives (command.Reset branch commit) (Reset look plan) next a is step holds booked says e =
+    ref_gives c (Parse look) (Reset l k) a is step holds booked says e = absurd step
+    ref_gives c (Parse look) (Change w) a is step holds booked says e = absurd step
+    ref_gives (command.Reset branch commit) (Parse look) next a is step holds booked says e = absurd is
+    ref_gives (command.DropRef branch) (Parse look) next a is step holds booked says e = absurd is
+    ref_gives (command.Commit branch tree subject body time) t next a is step holds booked says e = absurd is
+    ref_gives command.Refs t next a is step holds booked says e = absurd is
+    ref_gives (command.Reset branch commit) (Reset look plan) next a is step holds booked says e =
         stopped_gives branch commit look.found look plan next a (found_same look.found look.commit lane number moment old new booked) is.0 step e
-    done_gives (command.RevParse rev) (Reset look plan) next a is step holds booked says e = absurd is
-    done_gives (command.DropRef branch) (Reset look plan) next a is step holds booked says e = absurd is
-    done_gives c (Change work) (Parse look) a is step holds booked says e = absurd step
-    done_gives c (Change work) (Reset look plan) a is step holds booked says e = absurd step
-    done_gives (command.Reset branch commit) (Change work) (Change next) a is step holds booked says e = reset_done branch commit work next.answer next.task a is step holds booked says e
-    done_gives (command.DropRef branch) (Change work) (Change next) a is step holds booked says e = drop_done branch work next.answer next.task a is.0 is.1 step holds booked says e
-    done_gives (command.RevParse rev) (Change work) (Change next) a is step holds booked says e = absurd is
+    ref_gives (command.RevParse rev) (Reset look plan) next a is step holds booked says e = absurd is
+    ref_gives (command.DropRef branch) (Reset look plan) next a is step holds booked says e = absurd is
+    ref_gives c (Change work) (Parse look) a is step holds booked says e = absurd step
+    ref_gives c (Change work) (Reset look plan) a is step holds booked says e = absurd step
+    ref_gives (command.Reset branch commit) (Change work) (Change next) a is step holds booked says e = reset_done branch commit work next.answer next.task a is step holds booked says e
+    ref_gives (command.DropRef branch) (Change work) (Change next) a is step holds booked says e = drop_done branch work next.answer next.task a is.0 is.1 step holds booked says e
+    ref_gives (command.RevParse rev) (Change work) (Change next) a is step holds booked says e = absurd is
+
+    -- a commit
+    module _ (branch : List ℕ) (tree : Vec TreeItem) (subject body : List ℕ) (time : ℕ) (t : CommitCommand) (is : Commits limits branch tree.items (message_in s branch subject body time) t) where
+      abbrev pub c : Command
+      c = command.Commit branch tree subject body time
+
+      abbrev pub its : List ℕ
+      its = sum_of tree.items (message_in s branch subject body time)
+
+      built_gives : (r : BuildRefusal) (next : Committing) (a : Answer) → new.history.items ≡ old.history.items → BuildSteps t.objects t.build (Some r) next → script_answer (commits.built_answer (Some r)) ≡ Some a → Gives c a
+      built_gives (built.BadTree path) next a same step e =
+          let k : answer.BadTree path ≡ a = cc in
+          subst (Gives c) k (subst (λ i. IsLeastBad i path) is.items step.1.1, inl (same, λ n. n), λ n. n)
+      built_gives (built.TooMany many) next a same step e =
+          let k : answer.TooMany many ≡ a = cc in
+          subst (Gives c) k (step.1.2 ∙ ap (λ (l : Limits). l.objects + 1) is.bounds, inl (same, λ n. n), λ n. n)
+
+      gives_at : (o : Option (List ℕ)) (next : CommitCommand) (a : Answer) → t.change ≡ None → stepped_at o t (turn.Done tt) next → IsBooked (build_kind t.pinned (storing_in t.build.phase)) lane number moment came.Done old new → script_answer (commits.answer_of next) ≡ Some a → Gives c a
+      gives_at None next a none step booked e =
+          let at : script_answer (commits.built_answer (Some step.0)) ≡ Some a =
+          ap (λ o. script_answer (commits.answer_by o (kinds.built t next.build (Some step.0)))) (sym none) ∙ sym (ap (λ (x : CommitCommand). script_answer (commits.answer_of x)) step.1) ∙ e in
+          built_gives step.0 next.build a (build_same t.pinned (storing_in t.build.phase) lane number moment old new booked) step.2 at
+      gives_at (Some commit) next a none step booked e = absurd step
+
+      naming_refused : (n : Naming) (r : RefRefusal) (a : Answer) → IsNaming branch (s (RefOf branch)) tree.items its n → new.history.items ≡ old.history.items → (told → RefusedBy p n.work.task r) → script_answer (commits.change_answer n.commit (Some (Err r))) ≡ Some a → Gives c a
+      naming_refused n (refusal.RefMoved seen now) a naming same says e =
+          let k : answer.RefMoved seen now ≡ a = cc in
+          subst (Gives c) k ((λ t. moved_by branch (Some its) seen now n.work.task same naming.changing (says t)), inl (same, λ n. n), λ n. n)
+      naming_refused n (refusal.RefClash other) a naming same says e =
+          let k : answer.RefClash other ≡ a = cc in
+          subst (Gives c) k ((λ t. clash_by branch other n.work.task same naming.changing.0 (says t).0), inl (same, λ n. n), λ n. n)
+      naming_refused n refusal.NoRef a naming same says e =
+          let k : answer.NoRef ≡ a = cc in
+          subst (Gives c) k (says, inl (same, λ n. n), λ n. n)
+
+      naming_done : (n : Naming) (r : Came) (u : Changing) (a : Answer) → IsNaming branch (s (RefOf branch)) tree.items its n → stepped_in (turn.Done tt) r n.work.task u → Holds (kind_in n.work.task.phase (event n.work.task)) lane (books_of old)
+          → IsBooked (kind_in n.work.task.phase (event n.work.task)) lane number moment came.Done old new → (told → (x : RefRefusal) → r ≡ Some (Err x) → RefusedBy p n.work.task x) → script_answer (commits.change_answer n.commit r) ≡ Some a → Gives c a
+      naming_done n None u a naming step holds booked says e = absurd step
+      naming_done n (Some (Ok x)) u a naming step holds booked says e =
+          let k : answer.Commit n.commit ≡ a = cc in
+          let settles : kind_in n.work.task.phase (event n.work.task) ≡ Settle (event n.work.task) = settles_in n.work.task.phase (event n.work.task) step.0.1 naming.changing.3 in
+          let change = naming_is branch (s (RefOf branch)) tree.items its n naming in
+          change_gives c n.work (answer.Commit n.commit) a k tt (λ n. n) change (λ b has. (has, naming.commit, naming.whole, set_free branch (s (RefOf branch)) its n.work change settles holds booked)) settles holds booked
+      naming_done n (Some (Err r)) u a naming step holds booked says e =
+          naming_refused n r a naming (refusing_same n.work.task.phase (event n.work.task) lane number moment old new step.1 booked) (λ k. says k r refl) e
+
+      gives_by : (o : Option Naming) (next : CommitCommand) (a : Answer) → t.change ≡ o → NamesIn branch (s (RefOf branch)) tree.items its o → stepped_by o t (turn.Done tt) next → Holds (kind_by o t) lane (books_of old) → IsBooked (kind_by o t) lane number moment came.Done old new
+          → NamingTells told p o next.change → script_answer (commits.answer_of next) ≡ Some a → Gives c a
+      gives_by None next a at names step holds booked says e = gives_at (commit_in t.build.phase) next a at step booked e
+      gives_by (Some n) next a at names step holds booked says e =
+          naming_done n step.0.answer step.0.task a names step.2 holds booked
+          (subst (λ (x : CommitCommand). NamingTells told p (Some n) x.change) step.1 says)
+          (sym (ap (λ (x : CommitCommand). script_answer (commits.answer_of x)) step.1) ∙ e)
+
+    -- what the answer of a command that is done says, and whether its change is the last one
+    pub done_gives : (c : Command) (t next : LaneCommand) (a : Answer) → Pursues limits s c t → lane_stepped t (turn.Done tt) next → Holds (lane_kind t) lane (books_of old) → IsBooked (lane_kind t) lane number moment came.Done old new → Tells told p t next → lanes.answer_of next ≡ Some a → Gives c a
+    done_gives c (lane_work.Ref t) (lane_work.Ref next) a is step holds booked says e = ref_gives c t next a is step holds booked says e
+    done_gives c (lane_work.Ref t) (lane_work.Commit next) a is step holds booked says e = absurd step
+    done_gives c (lane_work.Commit t) (lane_work.Ref next) a is step holds booked says e = absurd step
+    done_gives (command.Commit branch tree subject body time) (lane_work.Commit t) (lane_work.Commit next) a is step holds booked says e =
+        gives_by branch tree subject body time t is t.change next a refl is.names step holds booked says e
+    done_gives (command.RevParse rev) (lane_work.Commit t) (lane_work.Commit next) a is step holds booked says e = absurd is
+    done_gives (command.Reset branch commit) (lane_work.Commit t) (lane_work.Commit next) a is step holds booked says e = absurd is
+    done_gives (command.DropRef branch) (lane_work.Commit t) (lane_work.Commit next) a is step holds booked says e = absurd is
+    done_gives command.Refs (lane_work.Commit t) (lane_work.Commit next) a is step holds booked says e = absurd is
 
 change_has : (r : Came) (old new : Changing) → stepped_in (turn.Done tt) r old new → IsSome (change_answer r)
 change_has None old new step = absurd step
@@ -205,12 +313,27 @@ reset_has None look plan (Parse next) step = absurd step
 reset_has None look plan (Change work) step = absurd step
 reset_has (Some found) look plan t step = absurd step
 
+ref_has : (t next : RefCommand) → command_stepped t (turn.Done tt) next → IsSome (answer_of next)
+ref_has (Parse look) (Parse next) step = subst (λ (x : LookUp). IsSome (parse_answer x.found x.commit)) (sym step.1) (parse_has step.0 look.commit)
+ref_has (Parse look) (Reset l k) step = absurd step
+ref_has (Parse look) (Change w) step = absurd step
+ref_has (Reset look plan) next step = reset_has look.found look plan next step
+ref_has (Change work) (Change next) step = change_has next.answer work.task next.task step
+ref_has (Change work) (Parse look) step = absurd step
+ref_has (Change work) (Reset look plan) step = absurd step
+
+script_has : (o : Option CommitAnswer) → IsSome o → IsSome (script_answer o)
+script_has None some = some
+script_has (Some (committed.Commit commit)) some = refl
+script_has (Some (committed.BadTree path)) some = refl
+script_has (Some (committed.TooMany many)) some = refl
+script_has (Some (committed.RefMoved seen now)) some = refl
+script_has (Some (committed.RefClash other)) some = refl
+script_has (Some committed.NoRef) some = refl
+
 -- a command that is done has an answer
-pub done_has : (t next : RefCommand) → command_stepped t (turn.Done tt) next → IsSome (answer_of next)
-done_has (Parse look) (Parse next) step = subst (λ (x : LookUp). IsSome (parse_answer x.found x.commit)) (sym step.1) (parse_has step.0 look.commit)
-done_has (Parse look) (Reset l k) step = absurd step
-done_has (Parse look) (Change w) step = absurd step
-done_has (Reset look plan) next step = reset_has look.found look plan next step
-done_has (Change work) (Change next) step = change_has next.answer work.task next.task step
-done_has (Change work) (Parse look) step = absurd step
-done_has (Change work) (Reset look plan) step = absurd step
+pub done_has : (t next : LaneCommand) → lane_stepped t (turn.Done tt) next → IsSome (lanes.answer_of next)
+done_has (lane_work.Ref t) (lane_work.Ref next) step = ref_has t next step
+done_has (lane_work.Commit t) (lane_work.Commit next) step = script_has (commits.answer_of next) (answered t next step)
+done_has (lane_work.Ref t) (lane_work.Commit next) step = absurd step
+done_has (lane_work.Commit t) (lane_work.Ref next) step = absurd step

@@ -8,7 +8,7 @@ use Rattle.rely.specs.declared.books.Base.{Base}
 use Rattle.rely.specs.Books.{Books, books_of, Spared}
 use Rattle.rely.specs.Laws.{NotPending}
 use Rattle.rely.proofs.Acting.{runs_kept}
-use Rattle.ref_work.specs.CommandLaws.{command_laws}
+use Rattle.lane_work.specs.Laws.{lane_laws}
 use Rattle.ref_work.specs.Facts.{Home}
 use Rattle.ref_work.specs.Kept.{home_kept}
 use Rattle.sys_core.specs.declared.run.Run.{Run}
@@ -32,7 +32,7 @@ module _ {F : Type 0} (view : F → Option View) (clock spare : F → ℕ) (was 
     others_run : (r : Option Running) → RunsIn mine refs r (view old.fs) (books_of old.books) → RunsIn mine refs' r (view new.fs) (books_of new.books)
     others_run None runs = others_idle lane mine (books_of old.books) (books_of new.books) other acts.books runs
     others_run (Some r) runs = (
-      runs_kept command_laws view told lane lane mine r.work old.fs new.fs (books_of old.books) (books_of new.books) other other acts.does acts.books runs.0,
+      runs_kept lane_laws view told lane lane mine r.work old.fs new.fs (books_of old.books) (books_of new.books) other other acts.does acts.books runs.0,
       room_more refs refs' r.work acts.rooms runs.1,
     )
 

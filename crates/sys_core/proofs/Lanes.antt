@@ -14,10 +14,18 @@ use Rattle.ref_book.specs.Tracks.{Tracks, HasRoom}
 use Rattle.ref_work.specs.declared.look_up.Found.{Found}
 use Rattle.ref_work.specs.declared.command.RefCommand.{RefCommand}
 use Rattle.ref_work.specs.declared.command.RefCommand.TheVariants.{Parse, Reset, Change}
-use Rattle.ref_work.specs.Answers.{Begins}
+use Rattle.ref_work.specs.Answers as refs
 use Rattle.ref_work.specs.Kinds.{event, kind_in}
-use Rattle.ref_work.specs.Commands.{command_kind, command_facts, found_kind}
-use Rattle.ref_work.proofs.Ends.{begins_of}
+use Rattle.ref_work.specs.Commands.{command_kind, found_kind}
+use Rattle.commit_build.specs.Committing.{storing_in}
+use Rattle.commit_work.specs.declared.command.CommitCommand.{CommitCommand}
+use Rattle.commit_work.specs.Answers as commits
+use Rattle.commit_work.specs.Kinds.{build_kind, commit_kind, kind_by}
+use Rattle.lane_work.specs.declared.command.LaneCommand.{LaneCommand}
+use Rattle.lane_work.specs.declared.command.LaneCommand.TheVariants as lane_work
+use Rattle.lane_work.specs.Answers.{Begins}
+use Rattle.lane_work.specs.Commands.{lane_facts, lane_kind, told}
+use Rattle.lane_work.proofs.Ends.{begins_of, told_facts, told_kind}
 use Rattle.sys_core.specs.declared.run.Running.{Running}
 use Rattle.sys_core.specs.Lanes.{Facts, IsHome, IsOver, LaneActs, RunsIn, now_of}
 
@@ -25,15 +33,31 @@ found_holds : (found : Option Found) (commit : List ℕ) (lane : ℕ) (b : Books
 found_holds None commit lane b none = none
 found_holds (Some f) commit lane b none = none
 
--- a task that begins asks for a lock, with nothing of its lane pending
-begin_holds : (lane : ℕ) (t : RefCommand) (b : Books) → Begins lane t → NotPending lane b → Holds (command_kind t) lane b
-begin_holds lane (Parse look) b begins none = none
-begin_holds lane (Reset look plan) b begins none = found_holds look.found look.commit lane b none
-begin_holds lane (Change work) b begins none = subst (λ (t : Changing). Holds (kind_in t.phase (event t)) lane b) (sym begins.3) none
+-- a task that begins asks for a lock at most, with nothing of its lane pending
+ref_holds : (lane : ℕ) (t : RefCommand) (b : Books) → refs.Begins lane t → NotPending lane b → Holds (command_kind t) lane b
+ref_holds lane (Parse look) b begins none = none
+ref_holds lane (Reset look plan) b begins none = found_holds look.found look.commit lane b none
+ref_holds lane (Change work) b begins none = subst (λ (t : Changing). Holds (kind_in t.phase (event t)) lane b) (sym begins.3) none
+
+commit_holds : (lane : ℕ) (t : CommitCommand) (b : Books) → commits.Begins lane t → NotPending lane b → Holds (commit_kind t) lane b
+commit_holds lane t b begins none =
+    subst (λ o. Holds (kind_by o t) lane b) (sym begins.change)
+    (subst (λ ph. Holds (build_kind t.pinned (storing_in ph)) lane b) (sym begins.new) none)
+
+begin_holds : (lane : ℕ) (t : LaneCommand) (b : Books) → Begins lane t → NotPending lane b → Holds (lane_kind t) lane b
+begin_holds lane (lane_work.Ref t) b begins none = ref_holds lane t b begins none
+begin_holds lane (lane_work.Commit t) b begins none = commit_holds lane t b begins none
+
+-- what a task is told is no matter to its facts
+pub runs_told : (lane objects : ℕ) (t : LaneCommand) (view : Option View) (b : Books) → Runs lane_kind lane_facts lane t view b → Runs lane_kind lane_facts lane (told objects t) view b
+runs_told lane objects t view b runs = record {
+  facts = λ v is. told_facts lane objects t v b (runs.facts v is);
+  holds = subst (λ k. Holds k lane b) (sym (told_kind objects t)) runs.holds;
+}
 
 module _ {F : Type 0} (view : F → Option View) (clock spare : F → ℕ) (was : F → ℕ → View → Type 0) where
-  pub begin_ready : (lane : ℕ) (base : Base F) (refs : RefBook) (t : RefCommand) → Sound view clock spare was base → base.books.halted ≡ false → Facts lane refs None (view base.fs) (books_of base.books) → Begins lane t
-      → Ready view clock spare was (Runs command_kind command_facts lane t) base
+  pub begin_ready : (lane : ℕ) (base : Base F) (refs : RefBook) (t : LaneCommand) → Sound view clock spare was base → base.books.halted ≡ false → Facts lane refs None (view base.fs) (books_of base.books) → Begins lane t
+      → Ready view clock spare was (Runs lane_kind lane_facts lane t) base
   begin_ready lane base refs t sound live facts begins = record {
     sound = sound;
     live = live;
@@ -56,8 +80,8 @@ module _ {F : Type 0} (view : F → Option View) (clock spare : F → ℕ) (was 
   }
 
   -- what a lane has of a step of its task
-  pub step_acts : (lane : ℕ) (old new : Base F) (refs refs' : RefBook) (outcome : Outcome) (task : Option Running) (work : RefCommand)
-      → Acts view clock spare was lane lane outcome (Runs command_kind command_facts lane work) old new → Tracks refs' (now_of new.books) → ((name : List ℕ) → HasRoom refs name → HasRoom refs' name)
+  pub step_acts : (lane : ℕ) (old new : Base F) (refs refs' : RefBook) (outcome : Outcome) (task : Option Running) (work : LaneCommand)
+      → Acts view clock spare was lane lane outcome (Runs lane_kind lane_facts lane work) old new → Tracks refs' (now_of new.books) → ((name : List ℕ) → HasRoom refs name → HasRoom refs' name)
       → IsHome lane (view new.fs) → (new.books.halted ≡ false → RunsIn lane refs' task (view new.fs) (books_of new.books)) → LaneActs view clock spare was lane refs refs' task old new
   step_acts lane old new refs refs' outcome task work acts tracks rooms home runs = record {
     sound = acts.sound;
@@ -69,7 +93,7 @@ module _ {F : Type 0} (view : F → Option View) (clock spare : F → ℕ) (was 
   }
 
   -- a command that ended
-  pub ended_runs : (lane : ℕ) (old new : Base F) (refs : RefBook) (outcome : Outcome) (work : RefCommand) → Acts view clock spare was lane lane outcome (Runs command_kind command_facts lane work) old new
+  pub ended_runs : (lane : ℕ) (old new : Base F) (refs : RefBook) (outcome : Outcome) (work : LaneCommand) → Acts view clock spare was lane lane outcome (Runs lane_kind lane_facts lane work) old new
       → (IsOver outcome → NotPending lane (books_of new.books)) → (outcome ≡ came.Blocked → ⊥) → (outcome ≡ came.More → ⊥) → new.books.halted ≡ false → RunsIn lane refs None (view new.fs) (books_of new.books)
   ended_runs lane old new refs came.Done work acts over nb nm live = over tt
   ended_runs lane old new refs (came.Refused e) work acts over nb nm live = over tt
@@ -77,10 +101,10 @@ module _ {F : Type 0} (view : F → Option View) (clock spare : F → ℕ) (was 
   ended_runs lane old new refs came.Blocked work acts over nb nm live = absurd (nb refl)
   ended_runs lane old new refs came.More work acts over nb nm live = absurd (nm refl)
 
-  pub tells_more : (lane : ℕ) (old new : Base F) (outcome : Outcome) (work : RefCommand) → outcome ≡ came.More → Acts view clock spare was lane lane outcome (Runs command_kind command_facts lane work) old new
-      → Runs command_kind command_facts lane work (view new.fs) (books_of new.books)
-  tells_more lane old new outcome work is acts = (subst (λ (o : Outcome). Acts view clock spare was lane lane o (Runs command_kind command_facts lane work) old new) is acts).tells
+  pub tells_more : (lane : ℕ) (old new : Base F) (outcome : Outcome) (work : LaneCommand) → outcome ≡ came.More → Acts view clock spare was lane lane outcome (Runs lane_kind lane_facts lane work) old new
+      → Runs lane_kind lane_facts lane work (view new.fs) (books_of new.books)
+  tells_more lane old new outcome work is acts = (subst (λ (o : Outcome). Acts view clock spare was lane lane o (Runs lane_kind lane_facts lane work) old new) is acts).tells
 
-  pub tells_blocked : (lane : ℕ) (old new : Base F) (outcome : Outcome) (work : RefCommand) → outcome ≡ came.Blocked → Acts view clock spare was lane lane outcome (Runs command_kind command_facts lane work) old new
-      → Runs command_kind command_facts lane work (view new.fs) (books_of new.books)
-  tells_blocked lane old new outcome work is acts = (subst (λ (o : Outcome). Acts view clock spare was lane lane o (Runs command_kind command_facts lane work) old new) is acts).tells
+  pub tells_blocked : (lane : ℕ) (old new : Base F) (outcome : Outcome) (work : LaneCommand) → outcome ≡ came.Blocked → Acts view clock spare was lane lane outcome (Runs lane_kind lane_facts lane work) old new
+      → Runs lane_kind lane_facts lane work (view new.fs) (books_of new.books)
+  tells_blocked lane old new outcome work is acts = (subst (λ (o : Outcome). Acts view clock spare was lane lane o (Runs lane_kind lane_facts lane work) old new) is acts).tells

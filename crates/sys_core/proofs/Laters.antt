@@ -7,10 +7,10 @@ use Rattle.sys_core.specs.System.{System}
 use Rattle.sys_core.specs.Booked.{Acted, IsLater}
 
 pub later_refl : {F : Type 0} (s : System F) → IsLater s s
-later_refl s = (refl, refl, [], sym (append-nil s.base.books.history.items))
+later_refl s = (refl, refl, [], sym (append-nil s.base.books.history.items), refl)
 
 pub later_trans : {F : Type 0} (a b c : System F) → IsLater a b → IsLater b c → IsLater a c
-later_trans a b c ab bc = (bc.0 ∙ ab.0, bc.1 ∙ ab.1, ab.2 ++ bc.2, bc.3 ∙ ap (λ h. h ++ bc.2) ab.3 ∙ append_assoc a.base.books.history.items ab.2 bc.2)
+later_trans a b c ab bc = (bc.0 ∙ ab.0, bc.1 ∙ ab.1, ab.2 ++ bc.2, bc.3 ∙ ap (λ h. h ++ bc.2) ab.3 ∙ append_assoc a.base.books.history.items ab.2 bc.2, bc.4 ∙ ab.4)
 
 same_later : {F : Type 0} (old new : System F) → new ≡ old → IsLater old new
 same_later old new same = subst (λ s. IsLater old s) (sym same) (later_refl old)

@@ -12,6 +12,8 @@ pub mod Replying
 pub mod Pursuing
 pub mod Telling
 pub mod Answering
+pub mod Filling
+pub mod Told
 pub mod Going
 pub mod Accounting
 pub mod Seeing
@@ -20,3 +22,5 @@ pub mod Turning
 pub mod Ordering
 pub mod Ranking
 pub mod Laters
+pub mod Lasting
+pub mod Carrying

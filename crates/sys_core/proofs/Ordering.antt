@@ -2,6 +2,7 @@
 use Rattle.std.proofs.Common.{◌≡◌, ◌≢◌, ◌<◌, ℕ, Bool, nat_eq, true, false, refl, sym, ◌∙◌, ap, subst, arith, List, length, get_or, set, length-set, get_or-set_same, get_or-set_other, Some, None}
 use Rattle.std.proofs.lemmas.Bool.Decides.{nat_tests}
 use Rattle.std.specs.Global.{Vec}
+use Rattle.ost_types.specs.declared.limits.Limits.{Limits}
 use Rattle.rely.specs.declared.books.Base.{Base}
 use Rattle.rely.specs.declared.books.Books as rust
 use Rattle.script.specs.declared.answer.Reply.{Reply}
@@ -66,12 +67,12 @@ was_live old new stays live = at old.halted refl
     at false is = refl
     at true is = let z : true ≡ false = sym is ∙ ap (λ (b : rust.Books). b.halted) (sym (stays is)) ∙ live in cc
 
-module _ {F : Type 0} (base : Base F) (lanes : List Lane) (runs : List Run) (replies : List (Vec Reply)) (booked : Booked lanes runs replies) (o : Ordered base.books lanes runs) where
+module _ {F : Type 0} (base : Base F) (lanes : List Lane) (runs : List Run) (replies : List (Vec Reply)) (limits : Limits) (objects : ℕ) (booked : Booked lanes runs replies) (o : Ordered base.books lanes runs) where
   -- the lane that holds the Turn has a command
-  pub holder_has : (x : ℕ) → base.books.turn ≡ Some x → HasCommand (system_of base lanes runs replies) x
+  pub holder_has : (x : ℕ) → base.books.turn ≡ Some x → HasCommand (system_of base lanes runs replies limits objects) x
   holder_has x is =
       let w = o.only x is in
       let lt : x < length lanes = omega (arith, booked.each_runs, w.0) in
       let r = some_of runs x w.0 in
       let d = some_of lanes x lt in
-      has_command base lanes runs replies x booked lt r d (o.busy x r d w.0 (w.1 r))
+      has_command base lanes runs replies limits objects x booked lt r d (o.busy x r d w.0 (w.1 r))

@@ -3,11 +3,12 @@ use Rattle.std.proofs.Common.{◌≡◌, ◌≢◌, ◌⊎◌, inl, inr, ⊎_eli
 use Rattle.std.proofs.lemmas.Bool.Decides.{nat_tests}
 use Rattle.std.proofs.lemmas.List.{ext_get_or, get_or-map, get_or_default, get_or_past, length-map, set-get_or}
 use Rattle.std.specs.Global.{Vec}
+use Rattle.ost_types.specs.declared.limits.Limits.{Limits}
 use Rattle.rely.specs.declared.books.Base.{Base}
 use Rattle.script.specs.declared.answer.Answer.{Answer}
 use Rattle.script.specs.declared.answer.Reply.{Reply}
 use Rattle.script.specs.declared.command.Lane.{Lane}
-use Rattle.ref_work.specs.declared.command.RefCommand.{RefCommand}
+use Rattle.lane_work.specs.declared.command.LaneCommand.{LaneCommand}
 use Rattle.sys_core.specs.declared.ask.Ask.{Ask}
 use Rattle.sys_core.specs.declared.ask.Ask.TheVariants.{More, Blocked, Done, Ended}
 use Rattle.sys_core.specs.declared.run.Run.{Run}
@@ -61,7 +62,7 @@ pub work_at : (runs : List Run) (l : ℕ) (r : Run) → l < length runs → get_
 work_at runs l r lt = get_or-map (λ (x : Run). work_in x.task) runs l r None lt
 
 -- the rank of a lane that has a command
-pub rank_some : (n : ℕ) (w : Option RefCommand) → 0 < n → rank_by n w ≡ left_of w
+pub rank_some : (n : ℕ) (w : Option LaneCommand) → 0 < n → rank_by n w ≡ left_of w
 rank_some zero w some = absurd (omega (arith, some))
 rank_some (suc n) w some = refl
 
@@ -76,14 +77,14 @@ module _ {F : Type 0} where
       let d = some_of s.lanes l has.0 in
       minus_some (commands_of s.lanes l) (length (given s l)) (length (get_or s.lanes l d).commands.items) (commands_at s.lanes l d has.0) (has.1 d)
 
-  pub as_far : (s new : System F) (actor : ℕ) (w : Option RefCommand) (row : List Reply) → new.lanes ≡ s.lanes → new.works ≡ set s.works actor w → new.replies ≡ set s.replies actor row → (l : ℕ) → l ≢ actor → IsAsFar s new l
+  pub as_far : (s new : System F) (actor : ℕ) (w : Option LaneCommand) (row : List Reply) → new.lanes ≡ s.lanes → new.works ≡ set s.works actor w → new.replies ≡ set s.replies actor row → (l : ℕ) → l ≢ actor → IsAsFar s new l
   as_far s new actor w row lanes works replies l other =
       let here : given new l ≡ given s l = ap (λ (x : List (List Reply)). get_or x l []) replies ∙ get_or-set_other s.replies actor l row [] other in
-      let work : get_or new.works l None ≡ get_or s.works l None = ap (λ (x : List (Option RefCommand)). get_or x l None) works ∙ get_or-set_other s.works actor l w None other in
+      let work : get_or new.works l None ≡ get_or s.works l None = ap (λ (x : List (Option LaneCommand)). get_or x l None) works ∙ get_or-set_other s.works actor l w None other in
       let come : to_come new l ≡ to_come s l = ap (λ (x : List Lane). commands_of x l - length (given new l)) lanes ∙ ap (λ (x : List Reply). commands_of s.lanes l - length x) here in
       (come, ap (λ n. rank_by n (get_or new.works l None)) come ∙ ap (rank_by (to_come s l)) work)
 
-  pub ranked_more : (s new : System F) (actor : ℕ) (w : Option RefCommand) → new.lanes ≡ s.lanes → new.works ≡ set s.works actor w → new.replies ≡ s.replies → actor < length s.works → HasCommand s actor → left_of w < left_of (get_or s.works actor None) → Ranked s new actor More
+  pub ranked_more : (s new : System F) (actor : ℕ) (w : Option LaneCommand) → new.lanes ≡ s.lanes → new.works ≡ set s.works actor w → new.replies ≡ s.replies → actor < length s.works → HasCommand s actor → left_of w < left_of (get_or s.works actor None) → Ranked s new actor More
   ranked_more s new actor w lanes works replies within has less = record {
     falls = λ z. (come, falls);
     done = λ l c z. absurd (let e : More ≡ Done l c = z in cc);
@@ -94,7 +95,7 @@ module _ {F : Type 0} where
       come = ap (λ (x : List Lane). commands_of x actor - length (given new actor)) lanes ∙ ap (λ (x : List (List Reply)). commands_of s.lanes actor - length (get_or x actor [])) replies
 
       work : get_or new.works actor None ≡ w
-      work = ap (λ (x : List (Option RefCommand)). get_or x actor None) works ∙ get_or-set_same s.works actor w None within
+      work = ap (λ (x : List (Option LaneCommand)). get_or x actor None) works ∙ get_or-set_same s.works actor w None within
 
       some : 0 < to_come s actor
       some = some_come s actor has
@@ -113,7 +114,7 @@ module _ {F : Type 0} where
   }
     where
       work : get_or new.works actor None ≡ None
-      work = ap (λ (x : List (Option RefCommand)). get_or x actor None) works ∙ get_or-set_same s.works actor None None within
+      work = ap (λ (x : List (Option LaneCommand)). get_or x actor None) works ∙ get_or-set_same s.works actor None None within
 
       long : length (given new actor) ≡ length (given s actor) + 1
       long = ap (λ (x : List (List Reply)). length (get_or x actor [])) replies ∙ ap length (get_or-set_same s.replies actor (given s actor ++ r ∷ []) [] in_replies) ∙ length-append (given s actor) (r ∷ [])
@@ -244,23 +245,23 @@ module _ {F : Type 0} where
           omega (arith, most, within.1 l d lt)
 
 -- the rank of a lane by its run
-module _ {F : Type 0} (base : Base F) (lanes : List Lane) (runs : List Run) (replies : List (Vec Reply)) (booked : Booked lanes runs replies) (l : ℕ) where
-  pub rank_beyond : length lanes ≤ l → rank (system_of base lanes runs replies) l ≡ 0
+module _ {F : Type 0} (base : Base F) (lanes : List Lane) (runs : List Run) (replies : List (Vec Reply)) (limits : Limits) (objects : ℕ) (booked : Booked lanes runs replies) (l : ℕ) where
+  pub rank_beyond : length lanes ≤ l → rank (system_of base lanes runs replies limits objects) l ≡ 0
   rank_beyond most =
       let none : commands_of lanes l ≡ 0 = get_or_past (map (λ (x : Lane). length x.commands.items) lanes) l 0 (omega (arith, length-map lanes (λ (x : Lane). length x.commands.items), most)) in
-      let gone : to_come (system_of base lanes runs replies) l ≡ 0 = ap (λ a. a - length (given (system_of base lanes runs replies) l)) none ∙ minus_none 0 (length (given (system_of base lanes runs replies) l)) (omega arith) in
+      let gone : to_come (system_of base lanes runs replies limits objects) l ≡ 0 = ap (λ a. a - length (given (system_of base lanes runs replies limits objects) l)) none ∙ minus_none 0 (length (given (system_of base lanes runs replies limits objects) l)) (omega arith) in
       ap (λ n. rank_by n (get_or (works_of runs) l None)) gone
 
-  come_at : l < length lanes → (r : Run) (d : Lane) → to_come (system_of base lanes runs replies) l ≡ length (get_or lanes l d).commands.items - (get_or runs l r).command
+  come_at : l < length lanes → (r : Run) (d : Lane) → to_come (system_of base lanes runs replies limits objects) l ≡ length (get_or lanes l d).commands.items - (get_or runs l r).command
   come_at lt r d =
-      ap (λ a. a - length (given (system_of base lanes runs replies) l)) (commands_at lanes l d lt)
-      ∙ ap (λ b. length (get_or lanes l d).commands.items - b) (given_length base lanes runs replies l booked lt r)
+      ap (λ a. a - length (given (system_of base lanes runs replies limits objects) l)) (commands_at lanes l d lt)
+      ∙ ap (λ b. length (get_or lanes l d).commands.items - b) (given_length base lanes runs replies limits objects l booked lt r)
 
-  pub rank_ended : l < length lanes → (r : Run) (d : Lane) → length (get_or lanes l d).commands.items ≤ (get_or runs l r).command → rank (system_of base lanes runs replies) l ≡ 0
+  pub rank_ended : l < length lanes → (r : Run) (d : Lane) → length (get_or lanes l d).commands.items ≤ (get_or runs l r).command → rank (system_of base lanes runs replies limits objects) l ≡ 0
   rank_ended lt r d most = ap (λ n. rank_by n (get_or (works_of runs) l None)) (come_at lt r d ∙ minus_none (length (get_or lanes l d).commands.items) (get_or runs l r).command most)
 
-  pub rank_runs : l < length lanes → (r : Run) (d : Lane) → (get_or runs l r).command < length (get_or lanes l d).commands.items → rank (system_of base lanes runs replies) l ≡ left_of (work_in (get_or runs l r).task)
+  pub rank_runs : l < length lanes → (r : Run) (d : Lane) → (get_or runs l r).command < length (get_or lanes l d).commands.items → rank (system_of base lanes runs replies limits objects) l ≡ left_of (work_in (get_or runs l r).task)
   rank_runs lt r d few =
-      rank_some (to_come (system_of base lanes runs replies) l) (get_or (works_of runs) l None)
+      rank_some (to_come (system_of base lanes runs replies limits objects) l) (get_or (works_of runs) l None)
       (subst (λ n. 0 < n) (sym (come_at lt r d)) (minus_some (length (get_or lanes l d).commands.items) (get_or runs l r).command (length (get_or lanes l d).commands.items) refl few))
       ∙ ap left_of (work_at runs l r (omega (arith, booked.each_runs, lt)))

@@ -1,14 +1,14 @@
 -- An act keeps what is so of all replies.
 use Rattle.std.proofs.Common.{◌≡◌, ◌⊎◌, inl, inr, ⊎_elim, ◌<◌, ◌≤◌, ◌+◌, ℕ, sym, ◌∙◌, ap, subst, arith, List, [], ◌∷◌, ◌++◌, length, length-append, set, Option, Some, None}
+use Rattle.ost_types.specs.declared.limits.Limits.{Limits}
 use Rattle.rely.specs.declared.books.Entry.{Entry}
 use Rattle.rely.specs.declared.books.Pending.{Pending}
 use Rattle.rely.specs.State.{State, after, events_of}
 use Rattle.script.specs.declared.answer.Answer.{Answer}
-use Rattle.script.specs.declared.answer.Answer.TheVariants as answer
 use Rattle.script.specs.declared.answer.Reply.{Reply}
 use Rattle.script.specs.declared.command.Command.{Command}
 use Rattle.script.specs.declared.command.Lane.{Lane}
-use Rattle.sys_core.specs.Answers.{Answers, IsReply, IsHalted, IsChangeOf, state_after}
+use Rattle.sys_core.specs.Answers.{Answers, IsReply, IsHalted, IsChangeOf, Makes, state_after}
 use Rattle.sys_core.specs.Replied.{IsAt, IsTo, IsCommand, IsPendingOf, Replied, row, count_of}
 use Rattle.sys_core.specs.Pursues.{Grows}
 use Rattle.sys_core.proofs.Places.{at_split, at_one, at_set, at_set_is, at_set_back, at_set_stays, here_or_apart, with_reply, row_apart, to_stays, to_new, to_split, numbered_more}
@@ -18,7 +18,7 @@ use Rattle.sys_core.proofs.Prefixes.{state_stays, reply_stays, reply_here}
 abbrev pub Begins : List (Option ℕ) → ℕ → ℕ → ℕ → Type 0
 Begins started lane now s = IsAt started lane (Some s) ⊎ (IsAt started lane None × (s ≡ now))
 
-module _ (told : Type 0) (first : State) (h : List Entry) (p p' : Option Pending) (lanes : List Lane) (started : List (Option ℕ)) (replies : List (List Reply)) (re : Replied told first h p lanes started replies)
+module _ (told : Type 0) (limits : Limits) (first : State) (h : List Entry) (p p' : Option Pending) (lanes : List Lane) (started : List (Option ℕ)) (replies : List (List Reply)) (re : Replied told limits first h p lanes started replies)
     (lane number : ℕ) (c : Command) (command : IsCommand lanes lane number c) (next : number ≡ length (row replies lane)) (s : ℕ) (begins : Begins started lane (length h) s) where
   s_within : s ≤ length h
   s_within = ⊎_elim (λ at. re.starts lane s at) (λ new. omega (arith, new.1)) begins
@@ -50,7 +50,7 @@ module _ (told : Type 0) (first : State) (h : List Entry) (p p' : Option Pending
 
   -- the act goes on
   pub replied_more : ((q : Pending) → p' ≡ Some q → (p ≡ Some q) ⊎ ((q.lane ≡ lane) × (q.command ≡ number) × IsChangeOf (state_after first h s) c q.event))
-      → Replied told first h p' lanes (set started lane (Some s)) replies
+      → Replied told limits first h p' lanes (set started lane (Some s)) replies
   replied_more shows = record {
     each = re.each;
     in_order = re.in_order;
@@ -90,22 +90,22 @@ module _ (told : Type 0) (first : State) (h : List Entry) (p p' : Option Pending
 
   -- and the act that gives a reply
   module _ (tail : List Entry) (a : Answer) (r : Reply) (given : lane < length replies) (answered : r.answer ≡ a) (start : r.start ≡ s) (place : r.place ≡ length (h ++ tail)) (order : r.order ≡ count_of replies)
-      (says : Answers told lane number (state_after first h s) (after (events_of (h ++ tail)) first) (h ++ tail) a c) (grows : Grows lane number a h (h ++ tail)) where
+      (says : Answers told limits lane number (state_after first h s) (after (events_of (h ++ tail)) first) (h ++ tail) a c) (grows : Grows lane number c a h (h ++ tail)) where
     abbrev pub all : List (List Reply)
     all = with_reply replies lane r
 
     abbrev pub none : List (Option ℕ)
     none = set started lane None
 
-    new_each : (l n : ℕ) (q : Reply) → IsTo all l n q → (d : Command) × IsCommand lanes l n d × IsReply told first (h ++ tail) l n d q
+    new_each : (l n : ℕ) (q : Reply) → IsTo all l n q → (d : Command) × IsCommand lanes l n d × IsReply told limits first (h ++ tail) l n d q
     new_each l n q at = ⊎_elim
-        (λ old. let e = re.each l n q old in (e.0, e.1, reply_stays first h told l n e.0 q tail e.2))
+        (λ old. let e = re.each l n q old in (e.0, e.1, reply_stays first h told limits l n e.0 q tail e.2))
         (λ new. let m : n ≡ number = new.1 ∙ sym next in (
           c,
           subst (λ k. IsCommand lanes k n c) (sym new.0) (subst (λ k. IsCommand lanes lane k c) (sym m) command),
-          subst (λ k. IsReply told first (h ++ tail) k n c q) (sym new.0)
-              (subst (λ k. IsReply told first (h ++ tail) lane k c q) (sym m)
-              (subst (λ (x : Reply). IsReply told first (h ++ tail) lane number c x) (sym new.2) (reply_here told first h tail lane number c r a s answered start place s_within says))),
+          subst (λ k. IsReply told limits first (h ++ tail) k n c q) (sym new.0)
+              (subst (λ k. IsReply told limits first (h ++ tail) lane k c q) (sym m)
+              (subst (λ (x : Reply). IsReply told limits first (h ++ tail) lane number c x) (sym new.2) (reply_here told limits first h tail lane number c r a s answered start place s_within says))),
         ))
         (to_split replies lane r given l n q at)
 
@@ -121,17 +121,20 @@ module _ (told : Type 0) (first : State) (h : List Entry) (p p' : Option Pending
         (to_split replies lane r given l m w bt))
         (to_split replies lane r given l n q at)
 
-    new_made : (k : ℕ) (e : Entry) → IsAt (h ++ tail) k e → (q : Reply) × IsTo all e.lane e.command q × (q.place ≡ k + 1) × (q.answer ≡ answer.Nothing)
+    new_made : (k : ℕ) (e : Entry) → IsAt (h ++ tail) k e → (q : Reply) × IsTo all e.lane e.command q × (q.place ≡ k + 1) × (d : Command) × IsCommand lanes e.lane e.command d × Makes q.answer d
     new_made k e at = ⊎_elim
-        (λ same. let m = re.made k e (subst (λ (l : List Entry). IsAt l k e) same.0 at) in (m.0, to_stays replies lane r given e.lane e.command m.0 m.1, m.2, m.3))
+        (λ same. let m = re.made k e (subst (λ (l : List Entry). IsAt l k e) same.0 at) in (m.0, to_stays replies lane r given e.lane e.command m.0 m.1, m.2, m.3, m.4, m.5))
         (λ longer. ⊎_elim
-        (λ old. let m = re.made k e old in (m.0, to_stays replies lane r given e.lane e.command m.0 m.1, m.2, m.3))
+        (λ old. let m = re.made k e old in (m.0, to_stays replies lane r given e.lane e.command m.0 m.1, m.2, m.3, m.4, m.5))
         (λ last. (
           r,
           subst (λ (x : Entry). IsTo all x.lane x.command r) (sym last.1)
               (subst (λ i. IsTo all i longer.0.command r) (sym longer.2) (subst (λ i. IsTo all lane i r) (sym (longer.3 ∙ next)) (to_new replies lane r given))),
           omega (arith, place, ap length longer.1, length-append h (longer.0 ∷ []), last.0),
-          answered ∙ longer.4,
+          c,
+          subst (λ (x : Entry). IsCommand lanes x.lane x.command c) (sym last.1)
+              (subst (λ i. IsCommand lanes i longer.0.command c) (sym longer.2) (subst (λ i. IsCommand lanes lane i c) (sym longer.3) command)),
+          subst (λ (x : Answer). Makes x c) (sym answered) longer.4,
         ))
         (at_split h longer.0 e k (subst (λ (l : List Entry). IsAt l k e) longer.1 at)))
         grows
@@ -180,7 +183,7 @@ module _ (told : Type 0) (first : State) (h : List Entry) (p p' : Option Pending
     no_start l t e at = let k : Some t ≡ None = at_set_is started lane None (Some t) lane_within (subst (λ m. IsAt none m (Some t)) e at) in cc
 
     pub replied_given : ((q : Pending) → p' ≡ Some q → (p ≡ Some q) ⊎ ((q.lane ≡ lane) × (q.command ≡ number) × IsChangeOf (state_after first h s) c q.event)) → ((q : Pending) → p' ≡ Some q → q.lane ≡ lane → IsHalted a)
-        → Replied told first (h ++ tail) p' lanes none all
+        → Replied told limits first (h ++ tail) p' lanes none all
     replied_given shows halts = record {
       each = new_each;
       in_order = new_order;

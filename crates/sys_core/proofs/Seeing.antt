@@ -1,17 +1,30 @@
 -- What an answer tells of the disk and of calls that failed, where the view is told.
-use Rattle.std.proofs.Common.{◌≡◌, ◌⊎◌, ⊎_elim, ℕ, Bool, true, false, refl, sym, ◌∙◌, subst, List, Option, Some}
-use Rattle.fs_trait.specs.View.{Disk, View}
+use Rattle.std.proofs.Common.{◌≡◌, ◌⊎◌, inl, inr, ⊎_elim, ℕ, Bool, true, false, sym, ◌∙◌, ap, subst, List, Option, Some, None}
+use Rattle.std.specs.Global.{Vec}
+use Rattle.ost_types.specs.declared.limits.Limits.{Limits}
+use Rattle.ost_forms.specs.declared.tree_item.TreeItem.{TreeItem}
+use Rattle.fs_trait.specs.View.{View}
 use Rattle.fs_trait.specs.Count.{Rose}
 use Rattle.fs_trait.specs.Effect.{OfNone}
 use Rattle.fs_trait.specs.declared.types.FsErr.{FsErr}
 use Rattle.fs_trait.specs.declared.types.FsErr.TheVariants as err
 use Rattle.ref_work.specs.declared.command.RefCommand.{RefCommand}
-use Rattle.ref_work.specs.declared.look_up.Found.TheVariants.{Missing, Partial, Whole}
+use Rattle.ref_work.specs.declared.look_up.Found.TheVariants.{Whole}
 use Rattle.ref_work.specs.Found.{IsFound}
-use Rattle.ref_work.specs.Answers.{Says}
-use Rattle.ref_work.specs.Commands.{command_facts, command_leaves, command_refuses}
-use Rattle.ref_work.proofs.Ends.{says_of}
-use Rattle.ref_work.proofs.Refusals.{refused_of}
+use Rattle.ref_work.specs.Answers as refs
+use Rattle.tree_build.specs.Building.{IsNumber}
+use Rattle.tree_build.specs.Objects.{work}
+use Rattle.commit_build.specs.Committing.{commit_of, named_commit, ReadsBack, storing_in}
+use Rattle.commit_build.specs.Steps.{AreSure, IsSure, NeverMarked}
+use Rattle.commit_work.specs.declared.answer.CommitAnswer.{CommitAnswer}
+use Rattle.commit_work.specs.declared.answer.CommitAnswer.TheVariants as committed
+use Rattle.commit_work.specs.declared.command.CommitCommand.{CommitCommand}
+use Rattle.commit_work.specs.Answers as commits
+use Rattle.lane_work.specs.declared.command.LaneCommand.{LaneCommand}
+use Rattle.lane_work.specs.declared.command.LaneCommand.TheVariants as lane_work
+use Rattle.lane_work.specs.Answers.{Says}
+use Rattle.lane_work.specs.Commands.{lane_facts, lane_leaves, lane_refuses, script_answer}
+use Rattle.lane_work.proofs.Ends.{refused_of, says_of}
 use Rattle.rely.specs.declared.books.Entry.{Entry}
 use Rattle.rely.specs.declared.books.Pending.{Pending}
 use Rattle.rely.specs.Sound.{Stands}
@@ -24,72 +37,143 @@ use Rattle.rely.specs.State.{State}
 use Rattle.script.specs.declared.answer.Answer.{Answer}
 use Rattle.script.specs.declared.answer.Answer.TheVariants as answer
 use Rattle.script.specs.declared.command.Command.{Command}
+use Rattle.script.specs.declared.command.Command.TheVariants as command
 use Rattle.sys_core.specs.declared.lane.Came.TheVariants.{Answered}
 use Rattle.sys_core.specs.Answers.{IsCaused, IsSeen}
+use Rattle.sys_core.specs.Commits.{IsLacking, message_in, IsFormed, LastsWith}
 use Rattle.sys_core.specs.Begins.{AnswersBy}
-use Rattle.sys_core.specs.Pursues.{IsEndedAs, IsRefusedAs}
+use Rattle.ost_types.specs.declared.object.ObjName.{ObjName}
+use Rattle.tree_build.specs.Items.{AreTyped}
+use Rattle.commit_work.specs.Kinds.{build_kind, commit_kind, kind_by}
+use Rattle.commit_work.specs.declared.naming.Naming.{Naming}
+use Rattle.rely.specs.Laws.{Settle}
+use Rattle.rely.specs.declared.event.Event.{Event}
+use Rattle.sys_core.specs.Pursues.{Commits, IsEndedAs, IsRefusedAs, Pursues, RefPursues, ReadsIn}
 
-module _ (d : Disk) (halted : Bool) (before now : ℕ) where
-  abbrev pub Says_so : Answer → Type 0
-  Says_so a = IsSeen d a × IsCaused halted before now a
+module _ (v : View) (s : State) (halted : Bool) (before now : ℕ) where
+  abbrev pub Says_so : Answer → Command → Type 0
+  Says_so a c = IsSeen v s a c × IsCaused halted before now a
 
-  said_shown : (a : Answer) (t : RefCommand) (v w : View) → d ≡ v.now → Says a t v w → Says_so a
-  said_shown (answer.Commit commit) t v w is says = (subst (λ x. IsFound x commit Whole) (sym is) says, tt)
-  said_shown (answer.NoCommit commit) t v w is says = (subst (λ x. IsFound x commit Missing) (sym is) says, tt)
-  said_shown (answer.Partial commit) t v w is says = (subst (λ x. IsFound x commit Partial) (sym is) says, tt)
-  said_shown (answer.RefMoved seen there) t v w is says = (tt, tt)
-  said_shown (answer.RefClash other) t v w is says = (tt, tt)
-  said_shown answer.Nothing t v w is says = (tt, tt)
-  said_shown (answer.Refs rows) t v w is says = absurd says
-  said_shown answer.NoRef t v w is says = absurd says
-  said_shown answer.NoMemory t v w is says = absurd says
-  said_shown answer.DiskFault t v w is says = absurd says
-  said_shown (answer.Halted count) t v w is says = absurd says
-  said_shown (answer.Outside path) t v w is says = absurd says
+  -- a commit that is looked up
+  found_shown : (commit : List ℕ) (c : Command) (t : RefCommand) → RefPursues s c t → IsFound v.now commit Whole → IsSeen v s (answer.Commit commit) c
+  found_shown commit (command.Commit branch tree subject body time) t is found = absurd is
+  found_shown commit (command.RevParse rev) t is found = found
+  found_shown commit (command.Reset branch named) t is found = found
+  found_shown commit (command.DropRef branch) t is found = found
+  found_shown commit command.Refs t is found = found
 
-  pub by_shown : (s : State) (a : Answer) (c : Command) → AnswersBy s a c → IsSeen d a × IsCaused halted before now a
-  by_shown s (answer.Refs rows) c by = (tt, tt)
-  by_shown s answer.NoRef c by = (tt, tt)
-  by_shown s answer.NoMemory c by = (tt, tt)
-  by_shown s answer.DiskFault c by = absurd by
-  by_shown s (answer.Halted count) c by = absurd by
-  by_shown s (answer.Outside path) c by = absurd by
-  by_shown s answer.Nothing c by = absurd by
-  by_shown s (answer.Commit commit) c by = absurd by
-  by_shown s (answer.NoCommit commit) c by = absurd by
-  by_shown s (answer.Partial commit) c by = absurd by
-  by_shown s (answer.RefMoved seen there) c by = absurd by
-  by_shown s (answer.RefClash other) c by = absurd by
+  ref_shown : (a : Answer) (c : Command) (t : RefCommand) (w : View) → RefPursues s c t → refs.Says a t v w → Says_so a c
+  ref_shown (answer.Commit commit) c t w is says = (found_shown commit c t is says, tt)
+  ref_shown (answer.NoCommit commit) c t w is says = (says, tt)
+  ref_shown (answer.Partial commit) c t w is says = (says, tt)
+  ref_shown (answer.RefMoved seen there) c t w is says = (tt, tt)
+  ref_shown (answer.RefClash other) c t w is says = (tt, tt)
+  ref_shown answer.Nothing c t w is says = (tt, tt)
+  ref_shown (answer.Refs rows) c t w is says = absurd says
+  ref_shown answer.NoRef c t w is says = absurd says
+  ref_shown answer.NoMemory c t w is says = absurd says
+  ref_shown answer.DiskFault c t w is says = absurd says
+  ref_shown (answer.Halted count) c t w is says = absurd says
+  ref_shown (answer.Outside path) c t w is says = absurd says
+  ref_shown (answer.BadTree path) c t w is says = absurd says
+  ref_shown (answer.TooMany many) c t w is says = absurd says
 
-  disk_shown : (a : Answer) → a ≡ answer.DiskFault → Rose before now → Says_so a
-  disk_shown a is rose = subst Says_so (sym is) (tt, rose)
+  -- a commit that was made, or for which there was no room
+  module _ (limits : Limits) (branch : List ℕ) (tree : Vec TreeItem) (subject body : List ℕ) (time : ℕ) (t : CommitCommand) (w : View) (is : Commits limits branch tree.items (message_in s branch subject body time) t) where
+    abbrev pub c : Command
+    c = command.Commit branch tree subject body time
+
+    lacking_shown : commits.IsLacking t.build v → IsLacking tree.items (message_in s branch subject body time) v.now
+    lacking_shown l = (
+      l.0,
+      ⊎_elim
+          (λ n. inl (n.0, subst (λ i. IsNumber (work i) n.0 l.0) is.items n.1))
+          (λ e. inr (e ∙ ap (λ i. commit_of i t.build.message) is.items ∙ ap (commit_of tree.items) is.says))
+          l.1,
+      l.2,
+    )
+
+    built_settles : (pinned : Bool) (o : Option ObjName) (e : Event) → build_kind pinned o ≡ Settle e → ⊥
+    built_settles pinned None e is = cc
+    built_settles pinned (Some name) e is = cc
+
+    -- the last step of a commit that was made is that of its change
+    reads_at : (o : Option Naming) (e : Event) → kind_by o t ≡ Settle e → ReadsIn tree.items (message_in s branch subject body time) o → ReadsBack tree.items (message_in s branch subject body time)
+    reads_at None e kind reads = absurd (built_settles t.pinned (storing_in t.build.phase) e kind)
+    reads_at (Some n) e kind reads = reads
+
+    formed : (e : Event) → commit_kind t ≡ Settle e → IsFormed tree.items (message_in s branch subject body time)
+    formed e kind = record { typed = subst AreTyped is.items is.made.typed; reads = reads_at t.change e kind is.reads }
+
+    made_shown : (said : CommitAnswer) (a : Answer) → script_answer (Some said) ≡ Some a → commits.Says said t v w → Says_so a c
+    made_shown (committed.Commit sum) a e says =
+        let k : answer.Commit sum ≡ a = cc in
+        let l = says.2 in
+        let lasts : LastsWith tree.items sum v = record {
+          objects = subst (λ i. AreSure i v) is.items l.tree;
+          itself = subst (λ x. IsSure v (named_commit x)) (sym says.0) l.commit;
+          unmarked = subst (λ x. NeverMarked x v) (sym says.0) l.unmarked;
+        } in
+        subst (λ x. Says_so x c) k ((lasts, formed _ says.3), tt)
+    made_shown (committed.BadTree path) a e says = let k : answer.BadTree path ≡ a = cc in subst (λ x. Says_so x c) k (tt, tt)
+    made_shown (committed.TooMany many) a e says = let k : answer.TooMany many ≡ a = cc in subst (λ x. Says_so x c) k (lacking_shown says.2, tt)
+    made_shown (committed.RefMoved seen there) a e says = let k : answer.RefMoved seen there ≡ a = cc in subst (λ x. Says_so x c) k (tt, tt)
+    made_shown (committed.RefClash other) a e says = let k : answer.RefClash other ≡ a = cc in subst (λ x. Says_so x c) k (tt, tt)
+    made_shown committed.NoRef a e says = absurd says
+
+  said_shown : (limits : Limits) (a : Answer) (c : Command) (t : LaneCommand) (w : View) → Pursues limits s c t → Says a t v w → Says_so a c
+  said_shown limits a c (lane_work.Ref t) w is says = ref_shown a c t w is says
+  said_shown limits a (command.Commit branch tree subject body time) (lane_work.Commit t) w is says = made_shown limits branch tree subject body time t w is says.0 a says.1 says.2
+  said_shown limits a (command.RevParse rev) (lane_work.Commit t) w is says = absurd is
+  said_shown limits a (command.Reset branch commit) (lane_work.Commit t) w is says = absurd is
+  said_shown limits a (command.DropRef branch) (lane_work.Commit t) w is says = absurd is
+  said_shown limits a command.Refs (lane_work.Commit t) w is says = absurd is
+
+  pub by_shown : (p : State) (a : Answer) (c : Command) → AnswersBy p a c → IsSeen v s a c × IsCaused halted before now a
+  by_shown p (answer.Refs rows) c by = (tt, tt)
+  by_shown p answer.NoRef c by = (tt, tt)
+  by_shown p answer.NoMemory c by = (tt, tt)
+  by_shown p answer.DiskFault c by = absurd by
+  by_shown p (answer.Halted count) c by = absurd by
+  by_shown p (answer.Outside path) c by = absurd by
+  by_shown p answer.Nothing c by = absurd by
+  by_shown p (answer.Commit commit) c by = absurd by
+  by_shown p (answer.NoCommit commit) c by = absurd by
+  by_shown p (answer.Partial commit) c by = absurd by
+  by_shown p (answer.RefMoved seen there) c by = absurd by
+  by_shown p (answer.RefClash other) c by = absurd by
+  by_shown p (answer.BadTree path) c by = absurd by
+  by_shown p (answer.TooMany many) c by = absurd by
+
+  disk_shown : (a : Answer) (c : Command) → a ≡ answer.DiskFault → Rose before now → Says_so a c
+  disk_shown a c is rose = subst (λ x. Says_so x c) (sym is) (tt, rose)
 
   -- the call failed, or there was no memory
-  refused_shown : (c : Command) (a : Answer) (e : FsErr) → OfNone e → Causes before now (came.Refused e) → IsRefusedAs e c a → Says_so a
-  refused_shown c a err.NoMemory named cause is = subst Says_so (sym is) (tt, tt)
-  refused_shown c a err.Failed named cause is = disk_shown a is cause
+  refused_shown : (c : Command) (a : Answer) (e : FsErr) → OfNone e → Causes before now (came.Refused e) → IsRefusedAs e c a → Says_so a c
+  refused_shown c a err.NoMemory named cause is = subst (λ x. Says_so x c) (sym is) (tt, tt)
+  refused_shown c a err.Failed named cause is = disk_shown a c is cause
   refused_shown c a err.Exists named cause is = absurd named
   refused_shown c a err.Missing named cause is = absurd named
   refused_shown c a err.NotFolder named cause is = absurd named
   refused_shown c a err.NotEmpty named cause is = absurd named
 
 -- of a command that ends
-module _ (start : State) (entries : List Entry) (pending : Option Pending) (view after_view : Option View) (lane : ℕ) (b : Books) (c : Command) (t t' : RefCommand) (halted : Bool) (before now count : ℕ) (a : Answer) (v : View) (is : view ≡ Some v) (facts : (w : View) → view ≡ Some w → command_facts lane t w b)
+module _ (start : State) (entries : List Entry) (pending : Option Pending) (view after_view : Option View) (lane : ℕ) (b : Books) (limits : Limits) (s : State) (c : Command) (t t' : LaneCommand) (after : Pursues limits s c t) (halted : Bool) (before now count : ℕ) (a : Answer) (v : View) (is : view ≡ Some v) (facts : (w : View) → view ≡ Some w → lane_facts lane t w b)
     (tree : IsTree v.now) (stands : Stands start entries pending v) where
-  none_refused : (e : FsErr) → (e ≡ err.NoMemory) ⊎ command_refuses t v e → OfNone e
+  none_refused : (e : FsErr) → (e ≡ err.NoMemory) ⊎ lane_refuses t v e → OfNone e
   none_refused e why = ⊎_elim (λ k. subst OfNone (sym k) tt) (λ w. refused_of start entries pending lane v b t e tree stands (facts v is) w) why
 
-  pub ended_shown : (outcome : Outcome) → Tells command_leaves command_refuses t outcome t' view after_view → Causes before now outcome → IsEndedAs outcome c t' count a → IsSeen v.now a × IsCaused halted before now a
+  pub ended_shown : (outcome : Outcome) → Tells lane_leaves lane_refuses t outcome t' view after_view → Causes before now outcome → IsEndedAs outcome c t' count a → IsSeen v s a c × IsCaused halted before now a
   ended_shown came.Done tells cause ends =
       let w = tells v is in
-      said_shown v.now halted before now a t v w.0 refl (says_of lane t t' v w.0 b a (facts v is) w.2 ends)
-  ended_shown came.Halted tells cause ends = subst (λ x. IsSeen v.now x × IsCaused halted before now x) (sym ends) (tt, λ live. cause)
-  ended_shown (came.Refused e) tells cause ends = refused_shown v.now halted before now c a e (none_refused e (tells v is)) cause ends
+      said_shown v s halted before now limits a c t w.0 after (says_of lane t t' v w.0 b a (facts v is) w.2 ends)
+  ended_shown came.Halted tells cause ends = subst (λ x. IsSeen v s x c × IsCaused halted before now x) (sym ends) (tt, λ live. cause)
+  ended_shown (came.Refused e) tells cause ends = refused_shown v s halted before now c a e (none_refused e (tells v is)) cause ends
   ended_shown came.Blocked tells cause ends = absurd ends
   ended_shown came.More tells cause ends = absurd ends
 
 -- a command that ends for a call that failed before
-pub halted_shown : (d : Disk) (halted : Bool) (before now count n : ℕ) (a : Answer) (start : ℕ) → Answered (answer.Halted count) n ≡ Answered a start → halted ≡ true → IsSeen d a × IsCaused halted before now a
-halted_shown d halted before now count n a start is was =
+pub halted_shown : (v : View) (s : State) (c : Command) (halted : Bool) (before now count n : ℕ) (a : Answer) (start : ℕ) → Answered (answer.Halted count) n ≡ Answered a start → halted ≡ true → IsSeen v s a c × IsCaused halted before now a
+halted_shown v s c halted before now count n a start is was =
     let same : answer.Halted count ≡ a = cc in
-    subst (λ x. IsSeen d x × IsCaused halted before now x) same (tt, λ live. let z : true ≡ false = sym was ∙ live in cc)
+    subst (λ x. IsSeen v s x c × IsCaused halted before now x) same (tt, λ live. let z : true ≡ false = sym was ∙ live in cc)

@@ -21,15 +21,25 @@ use Rattle.ref_work.specs.declared.look_up.Found.{Found}
 use Rattle.ref_work.specs.declared.plan.Plan.{Plan}
 use Rattle.ref_work.specs.declared.command.RefCommand.{RefCommand}
 use Rattle.ref_work.specs.declared.command.RefCommand.TheVariants.{Parse, Reset, Change}
-use Rattle.ref_work.specs.Answers.{Begins}
-use Rattle.ref_work.specs.Kinds.{event, kind_at, kind_in, turn_wants}
-use Rattle.ref_work.specs.Commands.{command_kind, command_left, command_stepped, found_kind, pin_wants, reset_stepped}
-use Rattle.ref_work.proofs.Ends.{falls_always}
+use Rattle.ost_types.specs.declared.object.ObjName.{ObjName}
+use Rattle.ref_work.specs.Answers as refs
+use Rattle.ref_work.specs.Kinds.{event, kind_at, kind_in, ref_stepped, turn_wants}
+use Rattle.ref_work.specs.Commands.{command_kind, command_stepped, found_kind, pin_wants, reset_stepped}
+use Rattle.commit_build.specs.Committing.{commit_in, storing_in}
+use Rattle.commit_work.specs.declared.naming.Naming.{Naming}
+use Rattle.commit_work.specs.declared.command.CommitCommand.{CommitCommand}
+use Rattle.commit_work.specs.Answers as commits
+use Rattle.commit_work.specs.Kinds.{build_kind, kind_by, put_wants, stepped_at, stepped_by}
+use Rattle.lane_work.specs.declared.command.LaneCommand.{LaneCommand}
+use Rattle.lane_work.specs.declared.command.LaneCommand.TheVariants as lane_work
+use Rattle.lane_work.specs.Answers.{Begins}
+use Rattle.lane_work.specs.Commands.{lane_kind, lane_left, lane_stepped, told}
+use Rattle.lane_work.proofs.Ends.{falls_of}
 use Rattle.sys_core.specs.declared.lane.Came.{Came}
 use Rattle.sys_core.specs.declared.lane.Came.TheVariants.{Blocked, More}
 use Rattle.sys_core.specs.declared.run.Running.{Running}
 use Rattle.sys_core.specs.Left.{left_of}
-use Rattle.sys_core.specs.Turns.{AsksTurn, HasLooked, HasTurn, IsBehind, IsLook, IsOthers, RunsBehind, Turns, work_in}
+use Rattle.sys_core.specs.Turns.{AsksTurn, HasLooked, HasTurn, IsBehind, IsLook, IsOthers, NamingAsksTurn, NamingHasLooked, RefAsksTurn, RefHasLooked, RunsBehind, Turns, work_in}
 
 -- a lock that is the lane's own stays so
 own_stays : (k : Kind) (lane : ℕ) → turn_in k lane (Some lane) ≡ Some lane
@@ -70,10 +80,22 @@ found_nobody : (o : Option Found) (commit : List ℕ) (lane : ℕ) → exclusive
 found_nobody None commit lane = refl
 found_nobody (Some f) commit lane = refl
 
-nobody_in : (t : RefCommand) (lane : ℕ) → exclusive_in (command_kind t) lane None ≡ None
-nobody_in (Parse look) lane = refl
-nobody_in (Reset look plan) lane = found_nobody look.found look.commit lane
-nobody_in (Change work) lane = at_nobody (progress_in work.task.phase) (event work.task) lane
+build_nobody : (pinned : Bool) (o : Option ObjName) (lane : ℕ) → exclusive_in (build_kind pinned o) lane None ≡ None
+build_nobody pinned None lane = refl
+build_nobody pinned (Some name) lane = refl
+
+ref_nobody : (t : RefCommand) (lane : ℕ) → exclusive_in (command_kind t) lane None ≡ None
+ref_nobody (Parse look) lane = refl
+ref_nobody (Reset look plan) lane = found_nobody look.found look.commit lane
+ref_nobody (Change work) lane = at_nobody (progress_in work.task.phase) (event work.task) lane
+
+commit_nobody : (o : Option Naming) (t : CommitCommand) (lane : ℕ) → exclusive_in (kind_by o t) lane None ≡ None
+commit_nobody None t lane = build_nobody t.pinned (storing_in t.build.phase) lane
+commit_nobody (Some n) t lane = at_nobody (progress_in n.work.task.phase) (event n.work.task) lane
+
+nobody_in : (t : LaneCommand) (lane : ℕ) → exclusive_in (lane_kind t) lane None ≡ None
+nobody_in (lane_work.Ref t) lane = ref_nobody t lane
+nobody_in (lane_work.Commit t) lane = commit_nobody t.change t lane
 
 -- behind the look
 look_left : (t u : Changing) → t.phase ≡ phase.Look → u ≡ record t { phase = u.phase } → u.phase ≡ phase.Look → left u < left t → ⊥
@@ -114,7 +136,7 @@ change_has phase.SyncFolder e lane lock has = kept (kind_in phase.SyncFolder e) 
 change_has phase.Ended e lane lock has = kept (kind_in phase.Ended e) lane lock (has tt)
 
 -- a reset hasn't looked so far
-reset_unlooked : (o : Option Found) (look : LookUp) (plan : Plan) (t : RefCommand) → reset_stepped o look plan turn.More t → HasLooked t → ⊥
+reset_unlooked : (o : Option Found) (look : LookUp) (plan : Plan) (t : RefCommand) → reset_stepped o look plan turn.More t → RefHasLooked t → ⊥
 reset_unlooked None look plan (Reset new next) step looked = looked
 reset_unlooked None look plan (Parse new) step looked = step
 reset_unlooked None look plan (Change work) step looked = step
@@ -126,36 +148,80 @@ reset_keeps : (o : Option Found) (commit : List ℕ) (lane : ℕ) (lock : Option
 reset_keeps None commit lane lock = refl
 reset_keeps (Some f) commit lane lock = refl
 
-step_has : (lane : ℕ) (t new : RefCommand) (lock : Option ℕ) → command_stepped t turn.More new → (HasLooked t → lock ≡ Some lane) → HasLooked new → turn_in (command_kind t) lane lock ≡ Some lane
-step_has lane (Parse look) new lock step has looked = absurd step
-step_has lane (Reset look plan) new lock step has looked = absurd (reset_unlooked look.found look plan new step looked)
-step_has lane (Change work) (Change next) lock step has looked = change_has work.task.phase (event work.task) lane lock has
-step_has lane (Change work) (Parse look) lock step has looked = absurd step
-step_has lane (Change work) (Reset look plan) lock step has looked = absurd step
+build_keeps : (pinned : Bool) (o : Option ObjName) (lane : ℕ) (lock : Option ℕ) → turn_in (build_kind pinned o) lane lock ≡ lock
+build_keeps pinned None lane lock = refl
+build_keeps pinned (Some name) lane lock = refl
 
-step_only : (lane : ℕ) (t new : RefCommand) (lock : Option ℕ) → command_stepped t turn.More new → (lock ≡ Some lane → HasLooked t) → turn_in (command_kind t) lane lock ≡ Some lane → HasLooked new
-step_only lane (Parse look) new lock step only is = absurd step
-step_only lane (Reset look plan) new lock step only is = absurd (only (sym (reset_keeps look.found look.commit lane lock) ∙ is))
-step_only lane (Change work) (Change next) lock step only is = next_behind work.task.phase next.task.phase work.task step.0.1 (λ was look. look_left work.task next.task was step.0.0 look step.1)
-step_only lane (Change work) (Parse look) lock step only is = absurd step
-step_only lane (Change work) (Reset look plan) lock step only is = absurd step
+ref_has : (lane : ℕ) (t new : RefCommand) (lock : Option ℕ) → command_stepped t turn.More new → (RefHasLooked t → lock ≡ Some lane) → RefHasLooked new → turn_in (command_kind t) lane lock ≡ Some lane
+ref_has lane (Parse look) new lock step has looked = absurd step
+ref_has lane (Reset look plan) new lock step has looked = absurd (reset_unlooked look.found look plan new step looked)
+ref_has lane (Change work) (Change next) lock step has looked = change_has work.task.phase (event work.task) lane lock has
+ref_has lane (Change work) (Parse look) lock step has looked = absurd step
+ref_has lane (Change work) (Reset look plan) lock step has looked = absurd step
+
+-- a commit that is built hasn't looked so far
+build_unlooked : (c : Option (List ℕ)) (t new : CommitCommand) → t.change ≡ None → stepped_at c t turn.More new → NamingHasLooked new.change → ⊥
+build_unlooked None t new none step looked = subst NamingHasLooked (ap (λ (x : CommitCommand). x.change) step.0 ∙ none) looked
+build_unlooked (Some commit) t new none step looked = subst NamingHasLooked (ap (λ (x : CommitCommand). x.change) step) looked
+
+commit_has : (lane : ℕ) (o : Option Naming) (t new : CommitCommand) (lock : Option ℕ) → t.change ≡ o → stepped_by o t turn.More new → (NamingHasLooked o → lock ≡ Some lane) → NamingHasLooked new.change → turn_in (kind_by o t) lane lock ≡ Some lane
+commit_has lane None t new lock is step has looked = absurd (build_unlooked (commit_in t.build.phase) t new is step looked)
+commit_has lane (Some n) t new lock is step has looked = change_has n.work.task.phase (event n.work.task) lane lock has
+
+step_has : (lane : ℕ) (t new : LaneCommand) (lock : Option ℕ) → lane_stepped t turn.More new → (HasLooked t → lock ≡ Some lane) → HasLooked new → turn_in (lane_kind t) lane lock ≡ Some lane
+step_has lane (lane_work.Ref t) (lane_work.Ref new) lock step has looked = ref_has lane t new lock step has looked
+step_has lane (lane_work.Commit t) (lane_work.Commit new) lock step has looked = commit_has lane t.change t new lock refl step has looked
+step_has lane (lane_work.Ref t) (lane_work.Commit new) lock step has looked = absurd step
+step_has lane (lane_work.Commit t) (lane_work.Ref new) lock step has looked = absurd step
+
+change_behind : (work next : RefWork) → ref_stepped work turn.More next → IsBehind next.task.phase
+change_behind work next step = next_behind work.task.phase next.task.phase work.task step.0.1 (λ was look. look_left work.task next.task was step.0.0 look step.1)
+
+ref_only : (lane : ℕ) (t new : RefCommand) (lock : Option ℕ) → command_stepped t turn.More new → (lock ≡ Some lane → RefHasLooked t) → turn_in (command_kind t) lane lock ≡ Some lane → RefHasLooked new
+ref_only lane (Parse look) new lock step only is = absurd step
+ref_only lane (Reset look plan) new lock step only is = absurd (only (sym (reset_keeps look.found look.commit lane lock) ∙ is))
+ref_only lane (Change work) (Change next) lock step only is = change_behind work next step
+ref_only lane (Change work) (Parse look) lock step only is = absurd step
+ref_only lane (Change work) (Reset look plan) lock step only is = absurd step
+
+commit_only : (lane : ℕ) (o : Option Naming) (t new : CommitCommand) (lock : Option ℕ) → stepped_by o t turn.More new → (lock ≡ Some lane → NamingHasLooked o) → turn_in (kind_by o t) lane lock ≡ Some lane → NamingHasLooked new.change
+commit_only lane None t new lock step only is = absurd (only (sym (build_keeps t.pinned (storing_in t.build.phase) lane lock) ∙ is))
+commit_only lane (Some n) t new lock step only is = subst NamingHasLooked (sym (ap (λ (x : CommitCommand). x.change) step.1)) (change_behind n.work step.0 step.2)
+
+step_only : (lane : ℕ) (t new : LaneCommand) (lock : Option ℕ) → lane_stepped t turn.More new → (lock ≡ Some lane → HasLooked t) → turn_in (lane_kind t) lane lock ≡ Some lane → HasLooked new
+step_only lane (lane_work.Ref t) (lane_work.Ref new) lock step only is = ref_only lane t new lock step only is
+step_only lane (lane_work.Commit t) (lane_work.Commit new) lock step only is = commit_only lane t.change t new lock step only is
+step_only lane (lane_work.Ref t) (lane_work.Commit new) lock step only is = absurd step
+step_only lane (lane_work.Commit t) (lane_work.Ref new) lock step only is = absurd step
+
+-- whatever the task is told
+pub turn_told : (lane objects : ℕ) (t : LaneCommand) (b : rust.Books) → HasTurn lane b (HasLooked t) → HasTurn lane b (HasLooked (told objects t))
+turn_told lane objects (lane_work.Ref t) b h = h
+turn_told lane objects (lane_work.Commit t) b h = h
 
 none_left : (lane : ℕ) (new : Option ℕ) → IsGivenUp lane None new → new ≡ None
 none_left lane None gone = refl
 none_left lane (Some x) gone = let e : None ≡ Some x = (gone x refl).1 in cc
 
 -- a task that begins hasn't looked
-pub begins_turn : (lane : ℕ) (t : RefCommand) (b : rust.Books) → Begins lane t → HasTurn lane b (RunsBehind None) → HasTurn lane b (HasLooked t)
+ref_unlooked : (lane : ℕ) (t : RefCommand) → refs.Begins lane t → RefHasLooked t → ⊥
+ref_unlooked lane (Parse look) begins looked = looked
+ref_unlooked lane (Reset look plan) begins looked = looked
+ref_unlooked lane (Change work) begins looked = subst (λ (x : Changing). IsBehind x.phase) begins.3 looked
+
+commit_unlooked : (lane : ℕ) (t : CommitCommand) → commits.Begins lane t → NamingHasLooked t.change → ⊥
+commit_unlooked lane t begins looked = subst NamingHasLooked begins.change looked
+
+pub begins_turn : (lane : ℕ) (t : LaneCommand) (b : rust.Books) → Begins lane t → HasTurn lane b (RunsBehind None) → HasTurn lane b (HasLooked t)
 begins_turn lane t b begins h = record {
   nobody = h.nobody;
   has = λ looked. absurd (unlooked t begins looked);
   only = λ is. absurd (h.only is);
 }
   where
-    unlooked : (t : RefCommand) → Begins lane t → HasLooked t → ⊥
-    unlooked (Parse look) begins looked = looked
-    unlooked (Reset look plan) begins looked = looked
-    unlooked (Change work) begins looked = subst (λ (x : Changing). IsBehind x.phase) begins.3 looked
+    unlooked : (t : LaneCommand) → Begins lane t → HasLooked t → ⊥
+    unlooked (lane_work.Ref t) begins looked = ref_unlooked lane t begins looked
+    unlooked (lane_work.Commit t) begins looked = commit_unlooked lane t begins looked
 
 free_none : (lock : Option ℕ) (lane : ℕ) → lock ≡ None → Free lock lane
 free_none lock lane is = λ x e. absurd (let z : None ≡ Some x = sym is ∙ e in cc)
@@ -168,6 +234,16 @@ pin_frees commit lane b nobody = record {
   exclusive = λ z. never z;
   turn = λ z. never z;
   shared = λ z. never z;
+  pin = λ z. free_none b.exclusive lane nobody;
+  sysroot = λ z. never z;
+  hold = λ z. never z;
+}
+
+put_frees : (pinned : Bool) (name : ObjName) (lane : ℕ) (b : rust.Books) → b.exclusive ≡ None → Frees (put_wants pinned name) lane (books_of b)
+put_frees pinned name lane b nobody = record {
+  exclusive = λ z. never z;
+  turn = λ z. never z;
+  shared = λ z. free_none b.exclusive lane nobody;
   pin = λ z. free_none b.exclusive lane nobody;
   sysroot = λ z. never z;
   hold = λ z. never z;
@@ -199,11 +275,26 @@ others_or : (lane : ℕ) (lock : Option ℕ) → (Free lock lane → ⊥) → Is
 others_or lane None shut = absurd (shut (λ x e. absurd (let z : None ≡ Some x = e in cc)))
 others_or lane (Some y) shut = (y, (λ e. shut (λ x is. let one : Some y ≡ Some x = is in let k : x ≡ y = cc in k ∙ e)), refl)
 
+change_held : (lane : ℕ) (work : RefWork) (b : rust.Books) → b.exclusive ≡ None → (Opens (kind_in work.task.phase (event work.task)) lane (books_of b) → ⊥) → IsOthers lane b.turn
+change_held lane work b nobody shut = others_or lane b.turn (λ free. shut (opens_at (progress_in work.task.phase) (event work.task) lane b nobody free))
+
+ref_held : (lane : ℕ) (t : RefCommand) (b : rust.Books) → b.exclusive ≡ None → (Opens (command_kind t) lane (books_of b) → ⊥) → IsOthers lane b.turn
+ref_held lane (Parse look) b nobody shut = absurd (shut (pin_frees look.commit lane b nobody))
+ref_held lane (Reset look plan) b nobody shut = absurd (shut (opens_found look.found look.commit lane b nobody))
+ref_held lane (Change work) b nobody shut = change_held lane work b nobody shut
+
+opens_build : (pinned : Bool) (o : Option ObjName) (lane : ℕ) (b : rust.Books) → b.exclusive ≡ None → Opens (build_kind pinned o) lane (books_of b)
+opens_build pinned None lane b nobody = tt
+opens_build pinned (Some name) lane b nobody = put_frees pinned name lane b nobody
+
+commit_held : (lane : ℕ) (o : Option Naming) (t : CommitCommand) (b : rust.Books) → b.exclusive ≡ None → (Opens (kind_by o t) lane (books_of b) → ⊥) → IsOthers lane b.turn
+commit_held lane None t b nobody shut = absurd (shut (opens_build t.pinned (storing_in t.build.phase) lane b nobody))
+commit_held lane (Some n) t b nobody shut = change_held lane n.work b nobody shut
+
 -- a step is held off only by another lane that has the Turn
-pub held_off : (lane : ℕ) (t : RefCommand) (b : rust.Books) → b.exclusive ≡ None → (Opens (command_kind t) lane (books_of b) → ⊥) → IsOthers lane b.turn
-held_off lane (Parse look) b nobody shut = absurd (shut (pin_frees look.commit lane b nobody))
-held_off lane (Reset look plan) b nobody shut = absurd (shut (opens_found look.found look.commit lane b nobody))
-held_off lane (Change work) b nobody shut = others_or lane b.turn (λ free. shut (opens_at (progress_in work.task.phase) (event work.task) lane b nobody free))
+pub held_off : (lane : ℕ) (t : LaneCommand) (b : rust.Books) → b.exclusive ≡ None → (Opens (lane_kind t) lane (books_of b) → ⊥) → IsOthers lane b.turn
+held_off lane (lane_work.Ref t) b nobody shut = ref_held lane t b nobody shut
+held_off lane (lane_work.Commit t) b nobody shut = commit_held lane t.change t b nobody shut
 
 -- a look that is taken found the Turn free
 look_waits : (ph : Phase) (e : Event) (lane : ℕ) (b : rust.Books) → IsLook ph → Opens (kind_in ph e) lane (books_of b) → IsOthers lane b.turn → ⊥
@@ -215,25 +306,33 @@ look_waits phase.Unlink e lane b look opens off = look
 look_waits phase.SyncFolder e lane b look opens off = look
 look_waits phase.Ended e lane b look opens off = look
 
-pub asks_waits : (lane : ℕ) (t : RefCommand) (b : rust.Books) → Opens (command_kind t) lane (books_of b) → AsksTurn (Some t) → IsOthers lane b.turn → ⊥
-asks_waits lane (Parse look) b opens asks off = asks
-asks_waits lane (Reset look plan) b opens asks off = asks
-asks_waits lane (Change work) b opens asks off = look_waits work.task.phase (event work.task) lane b asks opens off
+ref_waits : (lane : ℕ) (t : RefCommand) (b : rust.Books) → Opens (command_kind t) lane (books_of b) → RefAsksTurn t → IsOthers lane b.turn → ⊥
+ref_waits lane (Parse look) b opens asks off = asks
+ref_waits lane (Reset look plan) b opens asks off = asks
+ref_waits lane (Change work) b opens asks off = look_waits work.task.phase (event work.task) lane b asks opens off
+
+commit_waits : (lane : ℕ) (o : Option Naming) (t : CommitCommand) (b : rust.Books) → Opens (kind_by o t) lane (books_of b) → NamingAsksTurn o → IsOthers lane b.turn → ⊥
+commit_waits lane None t b opens asks off = asks
+commit_waits lane (Some n) t b opens asks off = look_waits n.work.task.phase (event n.work.task) lane b asks opens off
+
+pub asks_waits : (lane objects : ℕ) (t : LaneCommand) (b : rust.Books) → Opens (lane_kind (told objects t)) lane (books_of b) → AsksTurn (Some t) → IsOthers lane b.turn → ⊥
+asks_waits lane objects (lane_work.Ref t) b opens asks off = ref_waits lane t b opens asks off
+asks_waits lane objects (lane_work.Commit t) b opens asks off = commit_waits lane t.change (record t { objects = objects }) b opens asks off
 
 less_most : (a b c : ℕ) → a < b → b ≤ c → a < c
 less_most a b c less most = omega (arith, less, most)
 
 -- a step that isn't the last
-pub turns_more : (lane : ℕ) (t new : RefCommand) (start : ℕ) (before now : rust.Books) (task : Option Running) (outcome : Outcome) → outcome ≡ came.More → Steps command_stepped t outcome new → Locks (command_kind t) lane outcome before now
-    → HasTurn lane before (HasLooked t) → command_left t ≤ left_of (work_in task) → (AsksTurn (work_in task) → IsOthers lane before.turn → ⊥) → Turns lane before now task (Some (record { work = new; start = start })) More
+pub turns_more : (lane : ℕ) (t new : LaneCommand) (start : ℕ) (before now : rust.Books) (task : Option Running) (outcome : Outcome) → outcome ≡ came.More → Steps lane_stepped t outcome new → Locks (lane_kind t) lane outcome before now
+    → HasTurn lane before (HasLooked t) → lane_left t ≤ left_of (work_in task) → (AsksTurn (work_in task) → IsOthers lane before.turn → ⊥) → Turns lane before now task (Some (record { work = new; start = start })) More
 turns_more lane t new start before now task came.More is step locks h most waits = record {
   mine = λ live. record {
-    nobody = locks.1 ∙ ap (exclusive_in (command_kind t) lane) h.nobody ∙ nobody_in t lane;
+    nobody = locks.1 ∙ ap (exclusive_in (lane_kind t) lane) h.nobody ∙ nobody_in t lane;
     has = λ looked. locks.0 ∙ step_has lane t new before.turn step h.has looked;
     only = λ has. step_only lane t new before.turn step h.only (sym locks.0 ∙ has);
   };
-  others = λ live x other has. others_had (command_kind t) lane x before.turn other (sym locks.0 ∙ has);
-  falls = λ z. less_most (command_left new) (command_left t) (left_of (work_in task)) (falls_always t new step) most;
+  others = λ live x other has. others_had (lane_kind t) lane x before.turn other (sym locks.0 ∙ has);
+  falls = λ z. less_most (lane_left new) (lane_left t) (left_of (work_in task)) (falls_of t new step) most;
   held = λ z. absurd (let e : More ≡ Blocked = z in cc);
   waits = λ z. waits;
 }
@@ -243,7 +342,7 @@ turns_more lane t new start before now task came.Halted is step locks h most wai
 turns_more lane t new start before now task (came.Refused f) is step locks h most waits = absurd (let e : came.Refused f ≡ came.More = is in cc)
 
 -- one that is held off
-pub turns_held : (lane : ℕ) (t : RefCommand) (before now : rust.Books) (task next : Option Running) → now ≡ before → (Opens (command_kind t) lane (books_of before) → ⊥) → HasTurn lane before (RunsBehind next) → Turns lane before now task next Blocked
+pub turns_held : (lane : ℕ) (t : LaneCommand) (before now : rust.Books) (task next : Option Running) → now ≡ before → (Opens (lane_kind t) lane (books_of before) → ⊥) → HasTurn lane before (RunsBehind next) → Turns lane before now task next Blocked
 turns_held lane t before now task next same shut h = record {
   mine = λ live. subst (λ b. HasTurn lane b (RunsBehind next)) (sym same) h;
   others = λ live x other has. ap (λ b. b.turn) (sym same) ∙ has;
@@ -252,15 +351,15 @@ turns_held lane t before now task next same shut h = record {
   waits = λ z. absurd (z refl);
 }
 
-given_up : (lane : ℕ) (t : RefCommand) (before now : rust.Books) → IsGivenUp lane (turn_in (command_kind t) lane before.turn) now.turn × IsGivenUp lane (exclusive_in (command_kind t) lane before.exclusive) now.exclusive → HasTurn lane before (HasLooked t) → HasTurn lane now ⊥
+given_up : (lane : ℕ) (t : LaneCommand) (before now : rust.Books) → IsGivenUp lane (turn_in (lane_kind t) lane before.turn) now.turn × IsGivenUp lane (exclusive_in (lane_kind t) lane before.exclusive) now.exclusive → HasTurn lane before (HasLooked t) → HasTurn lane now ⊥
 given_up lane t before now locks h = record {
-  nobody = none_left lane now.exclusive (subst (λ o. IsGivenUp lane o now.exclusive) (ap (exclusive_in (command_kind t) lane) h.nobody ∙ nobody_in t lane) locks.1);
+  nobody = none_left lane now.exclusive (subst (λ o. IsGivenUp lane o now.exclusive) (ap (exclusive_in (lane_kind t) lane) h.nobody ∙ nobody_in t lane) locks.1);
   has = λ z. absurd z;
   only = λ has. (locks.0 lane has).0 refl;
 }
 
 -- the end of a command
-pub turns_over : (lane : ℕ) (t : RefCommand) (before now : rust.Books) (task next : Option Running) (outcome : Outcome) (result : Came) → Locks (command_kind t) lane outcome before now → HasTurn lane before (HasLooked t) → next ≡ None
+pub turns_over : (lane : ℕ) (t : LaneCommand) (before now : rust.Books) (task next : Option Running) (outcome : Outcome) (result : Came) → Locks (lane_kind t) lane outcome before now → HasTurn lane before (HasLooked t) → next ≡ None
     → (outcome ≡ came.Halted → now.halted ≡ true) → (outcome ≡ came.Blocked → ⊥) → (outcome ≡ came.More → ⊥) → result ≢ More → result ≢ Blocked → (AsksTurn (work_in task) → IsOthers lane before.turn → ⊥) → Turns lane before now task next result
 turns_over lane t before now task next outcome result locks h idle halts nb nm not_more not_held waits = record {
   mine = λ live. subst (λ o. HasTurn lane now (RunsBehind o)) (sym idle) (over outcome locks halts nb nm live);
@@ -270,16 +369,16 @@ turns_over lane t before now task next outcome result locks h idle halts nb nm n
   waits = λ z. waits;
 }
   where
-    over : (o : Outcome) → Locks (command_kind t) lane o before now → (o ≡ came.Halted → now.halted ≡ true) → (o ≡ came.Blocked → ⊥) → (o ≡ came.More → ⊥) → now.halted ≡ false → HasTurn lane now ⊥
+    over : (o : Outcome) → Locks (lane_kind t) lane o before now → (o ≡ came.Halted → now.halted ≡ true) → (o ≡ came.Blocked → ⊥) → (o ≡ came.More → ⊥) → now.halted ≡ false → HasTurn lane now ⊥
     over came.Done locks halts nb nm live = given_up lane t before now locks h
     over (came.Refused e) locks halts nb nm live = given_up lane t before now locks h
     over came.Halted locks halts nb nm live = let z : true ≡ false = sym (halts refl) ∙ live in cc
     over came.Blocked locks halts nb nm live = absurd (nb refl)
     over came.More locks halts nb nm live = absurd (nm refl)
 
-    had : (o : Outcome) → Locks (command_kind t) lane o before now → (o ≡ came.Halted → now.halted ≡ true) → (o ≡ came.Blocked → ⊥) → (o ≡ came.More → ⊥) → now.halted ≡ false → (x : ℕ) → x ≢ lane → now.turn ≡ Some x → before.turn ≡ Some x
-    had came.Done locks halts nb nm live x other has = others_had (command_kind t) lane x before.turn other (locks.0 x has).1
-    had (came.Refused e) locks halts nb nm live x other has = others_had (command_kind t) lane x before.turn other (locks.0 x has).1
+    had : (o : Outcome) → Locks (lane_kind t) lane o before now → (o ≡ came.Halted → now.halted ≡ true) → (o ≡ came.Blocked → ⊥) → (o ≡ came.More → ⊥) → now.halted ≡ false → (x : ℕ) → x ≢ lane → now.turn ≡ Some x → before.turn ≡ Some x
+    had came.Done locks halts nb nm live x other has = others_had (lane_kind t) lane x before.turn other (locks.0 x has).1
+    had (came.Refused e) locks halts nb nm live x other has = others_had (lane_kind t) lane x before.turn other (locks.0 x has).1
     had came.Halted locks halts nb nm live x other has = let z : true ≡ false = sym (halts refl) ∙ live in cc
     had came.Blocked locks halts nb nm live x other has = absurd (nb refl)
     had came.More locks halts nb nm live x other has = absurd (nm refl)

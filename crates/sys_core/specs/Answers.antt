@@ -1,13 +1,15 @@
 -- What each reply says, by the states that the changes so far make.
-use Rattle.std.specs.Prelude.{Bool, false, ◌≡◌, ◌≢◌, ◌≤◌, ◌++◌, ◌∷◌, [], ℕ, List, length, take, Option, Some, None, IsSome}
+use Rattle.std.specs.Prelude.{Bool, false, ◌≡◌, ◌≢◌, ◌≤◌, ◌+◌, ◌++◌, ◌∷◌, [], ℕ, List, length, take, Option, Some, None, IsSome}
 use Rattle.std.specs.Cmp.Lexicographic.{slice_cmp}
 use Rattle.std.specs.Ordering.{nat_cmp}
 use Rattle.std.specs.declared.cmp.Ordering.TheVariants.{Less}
-use Rattle.fs_trait.specs.View.{Disk, View}
+use Rattle.ost_types.specs.declared.limits.Limits.{Limits}
+use Rattle.fs_trait.specs.View.{View}
 use Rattle.fs_trait.specs.Count.{Rose}
 use Rattle.ref_work.specs.declared.look_up.Found.TheVariants.{Missing, Partial, Whole}
 use Rattle.ref_work.specs.Found.{IsFound}
 use Rattle.ref_room.specs.Clash.{Clashes}
+use Rattle.tree_build.specs.Items.{IsTree, IsLeastBad}
 use Rattle.ref_book.specs.Tracks.{Lists}
 use Rattle.rely.specs.declared.books.Entry.{Entry}
 use Rattle.rely.specs.declared.event.Event.{Event}
@@ -17,8 +19,9 @@ use Rattle.script.specs.declared.answer.Answer.{Answer}
 use Rattle.script.specs.declared.answer.Answer.TheVariants as answer
 use Rattle.script.specs.declared.answer.Reply.{Reply}
 use Rattle.script.specs.declared.command.Command.{Command}
-use Rattle.script.specs.declared.command.Command.TheVariants.{Refs, RevParse, Reset, DropRef}
+use Rattle.script.specs.declared.command.Command.TheVariants.{Refs, RevParse, Reset, DropRef, Commit}
 use Rattle.sys_core.specs.Begins.{IsRev, IsNoRev}
+use Rattle.sys_core.specs.Commits.{IsLacking, LastsWith, message_in, sum_of, IsFormed}
 
 -- file systems of this kind tell their view; they do it always or never
 abbrev pub IsTold : {F : Type 0} → (F → Option View) → Type 0
@@ -45,8 +48,16 @@ IsFreeIn s name = (other : List ℕ) → ClashIn s name other → ⊥
 -- the change that a command makes, which begins in this state
 abbrev pub IsChangeOf : State → Command → Event → Type 0
 IsChangeOf s (Reset branch commit) e = e ≡ event.SetRef branch (s (RefOf branch)) commit
+IsChangeOf s (Commit branch tree subject body time) e = e ≡ event.SetRef branch (s (RefOf branch)) (sum_of tree.items (message_in s branch subject body time))
 IsChangeOf s (DropRef branch) e = (seen : List ℕ) × (s (RefOf branch) ≡ Some seen) × (e ≡ event.DropRef branch seen)
 IsChangeOf s command e = ⊥
+
+-- the answer of a command that made its change
+abbrev pub Makes : Answer → Command → Type 0
+Makes answer.Nothing (Reset branch commit) = Unit {0}
+Makes answer.Nothing (DropRef branch) = Unit {0}
+Makes (answer.Commit sum) (Commit branch tree subject body time) = Unit {0}
+Makes a c = ⊥
 
 -- the last of these changes is this one, made by this command of the lane
 abbrev pub HasMade : ℕ → ℕ → (Event → Type 0) → List Entry → Type 0
@@ -57,36 +68,47 @@ abbrev pub HasMoved : State → State → List ℕ → Option (List ℕ) → Opt
 HasMoved s p name seen now = (seen ≡ s (RefOf name)) × (now ≡ p (RefOf name)) × (now ≢ seen)
 
 -- What an answer says of the state s in which the command began, the changes up to the answer, and the state p that they make.
--- What was seen on the disk is known where the file system tells its view; there nothing else changes it.
-abbrev pub Answers : Type 0 → ℕ → ℕ → State → State → List Entry → Answer → Command → Type 0
-Answers told lane number s p entries answer.Nothing (Reset branch commit) = HasMade lane number (IsChangeOf s (Reset branch commit)) entries × (told → IsFreeIn p branch)
-Answers told lane number s p entries answer.Nothing (DropRef branch) = HasMade lane number (IsChangeOf s (DropRef branch)) entries
-Answers told lane number s p entries (answer.Refs rows) Refs = Lists rows.items p
-Answers told lane number s p entries (answer.Commit commit) (RevParse rev) = IsRev rev s commit
-Answers told lane number s p entries answer.NoRef (RevParse rev) = IsNoRev rev s
-Answers told lane number s p entries answer.NoRef (DropRef branch) = told → s (RefOf branch) ≡ None
-Answers told lane number s p entries answer.NoRef (Reset branch commit) = told → ⊥
-Answers told lane number s p entries (answer.NoCommit commit) (RevParse rev) = IsRev rev s commit
-Answers told lane number s p entries (answer.NoCommit named) (Reset branch commit) = named ≡ commit
-Answers told lane number s p entries (answer.Partial commit) (RevParse rev) = IsRev rev s commit
-Answers told lane number s p entries (answer.Partial named) (Reset branch commit) = named ≡ commit
-Answers told lane number s p entries (answer.RefMoved seen now) (Reset branch commit) = told → HasMoved s p branch seen now
-Answers told lane number s p entries (answer.RefMoved seen now) (DropRef branch) = told → HasMoved s p branch seen now × IsSome seen
-Answers told lane number s p entries (answer.RefClash other) (Reset branch commit) = told → LeastClashIn p branch other
-Answers told lane number s p entries (answer.RefClash other) (DropRef branch) = told → ⊥
-Answers told lane number s p entries answer.NoMemory command = Unit {0}
-Answers told lane number s p entries answer.DiskFault command = Unit {0}
-Answers told lane number s p entries (answer.Halted count) command = Unit {0}
-Answers told lane number s p entries (answer.Outside path) command = told → ⊥
-Answers told lane number s p entries a command = ⊥
+-- What was seen on the disk is known where the file system tells its view; there nothing else changes it. A commit has the tree, and
+-- as its parent the ref's value at the beginning.
+abbrev pub Answers : Type 0 → Limits → ℕ → ℕ → State → State → List Entry → Answer → Command → Type 0
+Answers told limits lane number s p entries answer.Nothing (Reset branch commit) = HasMade lane number (IsChangeOf s (Reset branch commit)) entries × (told → IsFreeIn p branch)
+Answers told limits lane number s p entries answer.Nothing (DropRef branch) = HasMade lane number (IsChangeOf s (DropRef branch)) entries
+Answers told limits lane number s p entries (answer.Refs rows) Refs = Lists rows.items p
+Answers told limits lane number s p entries (answer.Commit commit) (RevParse rev) = IsRev rev s commit
+Answers told limits lane number s p entries (answer.Commit sum) (Commit branch tree subject body time) =
+    HasMade lane number (IsChangeOf s (Commit branch tree subject body time)) entries × (sum ≡ sum_of tree.items (message_in s branch subject body time)) × IsTree tree.items × (told → IsFreeIn p branch)
+Answers told limits lane number s p entries (answer.BadTree path) (Commit branch tree subject body time) = IsLeastBad tree.items path
+Answers told limits lane number s p entries (answer.TooMany many) (Commit branch tree subject body time) = many ≡ limits.objects + 1
+Answers told limits lane number s p entries answer.NoRef (RevParse rev) = IsNoRev rev s
+Answers told limits lane number s p entries answer.NoRef (DropRef branch) = told → s (RefOf branch) ≡ None
+Answers told limits lane number s p entries answer.NoRef (Reset branch commit) = told → ⊥
+Answers told limits lane number s p entries answer.NoRef (Commit branch tree subject body time) = told → ⊥
+Answers told limits lane number s p entries (answer.NoCommit commit) (RevParse rev) = IsRev rev s commit
+Answers told limits lane number s p entries (answer.NoCommit named) (Reset branch commit) = named ≡ commit
+Answers told limits lane number s p entries (answer.Partial commit) (RevParse rev) = IsRev rev s commit
+Answers told limits lane number s p entries (answer.Partial named) (Reset branch commit) = named ≡ commit
+Answers told limits lane number s p entries (answer.RefMoved seen now) (Reset branch commit) = told → HasMoved s p branch seen now
+Answers told limits lane number s p entries (answer.RefMoved seen now) (DropRef branch) = told → HasMoved s p branch seen now × IsSome seen
+Answers told limits lane number s p entries (answer.RefMoved seen now) (Commit branch tree subject body time) = told → HasMoved s p branch seen now
+Answers told limits lane number s p entries (answer.RefClash other) (Reset branch commit) = told → LeastClashIn p branch other
+Answers told limits lane number s p entries (answer.RefClash other) (DropRef branch) = told → ⊥
+Answers told limits lane number s p entries (answer.RefClash other) (Commit branch tree subject body time) = told → LeastClashIn p branch other
+Answers told limits lane number s p entries answer.NoMemory command = Unit {0}
+Answers told limits lane number s p entries answer.DiskFault command = Unit {0}
+Answers told limits lane number s p entries (answer.Halted count) command = Unit {0}
+Answers told limits lane number s p entries (answer.Outside path) command = told → ⊥
+Answers told limits lane number s p entries a command = ⊥
 
--- what stands on the disk where an answer tells of a commit; that something else changed it is never told
-abbrev pub IsSeen : Disk → Answer → Type 0
-IsSeen d (answer.Commit commit) = IsFound d commit Whole
-IsSeen d (answer.NoCommit commit) = IsFound d commit Missing
-IsSeen d (answer.Partial commit) = IsFound d commit Partial
-IsSeen d (answer.Outside path) = ⊥
-IsSeen d a = Unit {0}
+-- What stands on the disk where an answer tells of a commit: one that was made lasts, and one that there is no room for isn't
+-- there whole. That something else changed the disk is never told.
+abbrev pub IsSeen : View → State → Answer → Command → Type 0
+IsSeen v s (answer.Commit sum) (Commit branch tree subject body time) = LastsWith tree.items sum v × IsFormed tree.items (message_in s branch subject body time)
+IsSeen v s (answer.Commit commit) c = IsFound v.now commit Whole
+IsSeen v s (answer.TooMany many) (Commit branch tree subject body time) = IsLacking tree.items (message_in s branch subject body time) v.now
+IsSeen v s (answer.NoCommit commit) c = IsFound v.now commit Missing
+IsSeen v s (answer.Partial commit) c = IsFound v.now commit Partial
+IsSeen v s (answer.Outside path) c = ⊥
+IsSeen v s a c = Unit {0}
 
 -- a call failed in the act that says so, if none that changes something failed before
 abbrev pub IsCaused : Bool → ℕ → ℕ → Answer → Type 0
@@ -94,15 +116,16 @@ IsCaused halted before now answer.DiskFault = Rose before now
 IsCaused halted before now (answer.Halted count) = halted ≡ false → Rose before now
 IsCaused halted before now a = Unit {0}
 
--- what an answer tells of the disk before its act and of calls that failed in it, where the view is told
-abbrev pub Shown : Option View → Bool → ℕ → ℕ → Answer → Type 0
-Shown view halted before now a = (v : View) → view ≡ Some v → IsSeen v.now a × IsCaused halted before now a
+-- what the answer of a command that began in the state s tells of the disk before its act and of calls that failed in it, where the
+-- view is told
+abbrev pub Shown : Option View → State → Bool → ℕ → ℕ → Answer → Command → Type 0
+Shown view s halted before now a c = (v : View) → view ≡ Some v → IsSeen v s a c × IsCaused halted before now a
 
 -- A reply to a command of a lane: by the state at its start and the one at its place, which come in this order.
-pub record IsReply (told : Type 0) (first : State) (entries : List Entry) (lane number : ℕ) (command : Command) (r : Reply) : Type 0 where
+pub record IsReply (told : Type 0) (limits : Limits) (first : State) (entries : List Entry) (lane number : ℕ) (command : Command) (r : Reply) : Type 0 where
   pub begun : r.start ≤ r.place
   pub within : r.place ≤ length entries
-  pub answer : Answers told lane number (state_after first entries r.start) (state_after first entries r.place) (take r.place entries) r.answer command
+  pub answer : Answers told limits lane number (state_after first entries r.start) (state_after first entries r.place) (take r.place entries) r.answer command
 
 abbrev pub IsHalted : Answer → Type 0
 IsHalted (answer.Halted count) = Unit {0}

@@ -3,19 +3,27 @@ use Rattle.std.specs.Prelude.{◌≡◌, ◌≤◌, ℕ, List, Some, None}
 use Rattle.script.specs.declared.answer.Answer.{Answer}
 use Rattle.script.specs.declared.answer.Answer.TheVariants as answer
 use Rattle.script.specs.declared.command.Command.{Command}
-use Rattle.script.specs.declared.command.Command.TheVariants.{Refs, RevParse, Reset, DropRef}
+use Rattle.script.specs.declared.command.Command.TheVariants.{Refs, RevParse, Reset, DropRef, Commit}
 use Rattle.script.specs.declared.command.Rev.{Rev}
 use Rattle.script.specs.declared.command.Rev.TheVariants as rev
 use Rattle.rely.specs.State.{State, RefOf}
 use Rattle.ref_book.specs.Tracks.{Lists}
 use Rattle.ref_work.specs.declared.command.RefCommand.{RefCommand}
 use Rattle.ref_work.specs.declared.command.RefCommand.TheVariants as task
-use Rattle.ref_work.specs.Commands.{command_left, removal}
+use Rattle.ref_work.specs.Commands.{removal}
+use Rattle.ost_types.specs.declared.limits.Limits.{Limits}
+use Rattle.commit_build.specs.declared.phase.Phase.TheVariants as phase
+use Rattle.commit_build.specs.Committing.{IsMade}
+use Rattle.commit_work.specs.Answers.{IsCommitOf}
+use Rattle.lane_work.specs.declared.command.LaneCommand.{LaneCommand}
+use Rattle.lane_work.specs.declared.command.LaneCommand.TheVariants as lane_work
+use Rattle.lane_work.specs.Commands.{lane_left}
 use Rattle.ref_book.specs.declared.book.RefBook.{RefBook}
-use Rattle.ref_work.specs.Answers as work
+use Rattle.lane_work.specs.Answers as work
 use Rattle.sys_core.specs.declared.begin.Begun.{Begun}
 use Rattle.sys_core.specs.declared.begin.Begun.TheVariants.{Answered, Runs}
 use Rattle.sys_core.specs.Lanes.{HasRoomFor}
+use Rattle.sys_core.specs.Commits.{message_in}
 use Rattle.sys_core.specs.Left.{most}
 
 -- a task at its beginning, with room for its ref, or an answer
@@ -42,18 +50,24 @@ AnswersBy s answer.NoMemory c = Unit {0}
 AnswersBy s a c = ⊥
 
 -- What a command does in a state: it looks up the commit that is named there; a reset gives the ref that commit, and a drop
--- removes it, each where it has the value that it has there.
-abbrev pub RunsBy : ℕ → State → Command → RefCommand → Type 0
-RunsBy lane s (RevParse r) (task.Parse look) = IsRev r s look.commit
-RunsBy lane s (Reset branch commit) (task.Reset look plan) = (look.commit ≡ commit) × (plan.name ≡ branch) × (plan.seen ≡ s (RefOf branch)) × (plan.commit ≡ commit)
-RunsBy lane s (DropRef branch) (task.Change work) = (seen : List ℕ) × (s (RefOf branch) ≡ Some seen) × (work ≡ removal lane branch seen)
-RunsBy lane s c t = ⊥
+-- removes it, each where it has the value that it has there. A commit has that value as its parent, and is within the bounds.
+abbrev pub RunsRefBy : ℕ → State → Command → RefCommand → Type 0
+RunsRefBy lane s (RevParse r) (task.Parse look) = IsRev r s look.commit
+RunsRefBy lane s (Reset branch commit) (task.Reset look plan) = (look.commit ≡ commit) × (plan.name ≡ branch) × (plan.seen ≡ s (RefOf branch)) × (plan.commit ≡ commit)
+RunsRefBy lane s (DropRef branch) (task.Change work) = (seen : List ℕ) × (s (RefOf branch) ≡ Some seen) × (work ≡ removal lane branch seen)
+RunsRefBy lane s c t = ⊥
 
-abbrev pub IsBy : ℕ → State → Command → Begun → Type 0
-IsBy lane s c (Answered answer) = AnswersBy s answer c
-IsBy lane s c (Runs t) = RunsBy lane s c t
+abbrev pub RunsBy : Limits → ℕ → State → Command → LaneCommand → Type 0
+RunsBy limits lane s c (lane_work.Ref t) = RunsRefBy lane s c t
+RunsBy limits lane s (Commit branch tree subject body time) (lane_work.Commit t) =
+    IsCommitOf branch (record { actor = lane; items = tree.items; limits = limits; message = message_in s branch subject body time; made = 0; phase = phase.Check; met = None }) t × IsMade t.build
+RunsBy limits lane s c (lane_work.Commit t) = ⊥
+
+abbrev pub IsBy : Limits → ℕ → State → Command → Begun → Type 0
+IsBy limits lane s c (Answered answer) = AnswersBy s answer c
+IsBy limits lane s c (Runs t) = RunsBy limits lane s c t
 
 -- a task has no more acts before it than a command that hasn't begun
 abbrev pub IsFew : Begun → Type 0
 IsFew (Answered answer) = Unit {0}
-IsFew (Runs t) = command_left t ≤ most
+IsFew (Runs t) = lane_left t ≤ most

@@ -8,8 +8,10 @@ use Rattle.sys_core.specs.declared.ask.Ask.{Ask}
 use Rattle.sys_core.specs.declared.ask.Ask.TheVariants.{More, Blocked, Done, Ended}
 use Rattle.sys_core.specs.declared.run.Run.{Run}
 use Rattle.sys_core.specs.System.{System}
-use Rattle.sys_core.specs.Answers.{IsTold}
-use Rattle.sys_core.specs.Replied.{Replied, count_of}
+use Rattle.sys_core.specs.Answers.{IsTold, Shown, state_after}
+use Rattle.sys_core.specs.Counts.{IsFull}
+use Rattle.sys_core.specs.Replied.{IsCommand, Replied, count_of}
+use Rattle.script.specs.declared.command.Command.{Command}
 use Rattle.script.specs.declared.answer.Answer.{Answer}
 use Rattle.rely.specs.declared.books.Entry.{Entry}
 use Rattle.rely.specs.State.{first}
@@ -40,10 +42,17 @@ HasCommand s l = (l < length s.lanes) × ((d : Lane) → length (given s l) < le
 abbrev pub start_of : {F : Type 0} → System F → ℕ → ℕ
 start_of s l = unwrap_or (slice_index_or s.started l None) (length s.base.books.history.items)
 
--- what the beginning was stays, and the history only grows
+-- what the beginning was stays, as do the bounds, and the history only grows
 abbrev pub IsLater : {F : Type 0} → System F → System F → Type 0
 IsLater old new = (new.base.books.start.items ≡ old.base.books.start.items) × (new.base.books.opened ≡ old.base.books.opened)
-    × (more : List Entry) × (new.base.books.history.items ≡ old.base.books.history.items ++ more)
+    × (more : List Entry) × (new.base.books.history.items ≡ old.base.books.history.items ++ more) × (new.limits ≡ old.limits)
+
+-- What the answer to the lane's next command tells where its act began: of the disk and of calls that failed in it, and of the
+-- objects in the store.
+abbrev pub Tells : {F : Type 0} → (F → Option View) → ℕ → ℕ → System F → ℕ → Answer → Type 0
+Tells view before now s l a =
+    ((c : Command) → IsCommand s.lanes l (length (given s l)) c → Shown (view s.base.fs) (state_after (first s.base.books.start.items) s.base.books.history.items (start_of s l)) s.base.books.halted before now a c)
+    × IsFull s.limits s.objects a
 
 -- Which act it was: one that goes on gives no reply; one that is held off, or has no command, changes nothing; and one that is
 -- done gives the reply of the lane's next command, with how many changes lasted at its beginning and do now, and how many replies
@@ -58,7 +67,7 @@ Acted Tells old new actor (Done lane command) = HasCommand old actor × (lane �
 
 -- what the replies say of the history
 abbrev pub IsReplied : {F : Type 0} → (F → Option View) → System F → Type 0
-IsReplied view s = Replied (IsTold view) (first s.base.books.start.items) s.base.books.history.items s.base.books.pending s.lanes s.started s.replies
+IsReplied view s = Replied (IsTold view) s.limits (first s.base.books.start.items) s.base.books.history.items s.base.books.pending s.lanes s.started s.replies
 
 -- no replies so far, with room for one to each command
 abbrev pub HasRoomFor : List Lane → ℕ → List (Vec Reply) → Type 0

@@ -5,7 +5,11 @@ use Rattle.ref_book.specs.declared.book.RefBook.{RefBook}
 use Rattle.ref_book.specs.Tracks.{Tracks, HasRoom}
 use Rattle.ref_work.specs.declared.command.RefCommand.{RefCommand}
 use Rattle.ref_work.specs.declared.command.RefCommand.TheVariants.{Parse, Reset, Change}
-use Rattle.ref_work.specs.Commands.{command_kind, command_facts}
+use Rattle.commit_work.specs.declared.command.CommitCommand.{CommitCommand}
+use Rattle.commit_work.specs.declared.naming.Naming.{Naming}
+use Rattle.lane_work.specs.declared.command.LaneCommand.{LaneCommand}
+use Rattle.lane_work.specs.declared.command.LaneCommand.TheVariants.{Ref, Commit}
+use Rattle.lane_work.specs.Commands.{lane_kind, lane_facts}
 use Rattle.ref_work.specs.Facts.{Home}
 use Rattle.rely.specs.declared.books.Base.{Base}
 use Rattle.rely.specs.declared.books.Books as rust
@@ -24,15 +28,23 @@ abbrev pub now_of : rust.Books → State
 now_of b = after (events_of b.history.items) (first b.start.items)
 
 -- there is room for the ref that a command changes
-abbrev pub HasRoomFor : RefBook → RefCommand → Type 0
-HasRoomFor refs (Parse look) = Unit {0}
-HasRoomFor refs (Reset look plan) = HasRoom refs plan.name
-HasRoomFor refs (Change work) = HasRoom refs work.task.name
+abbrev pub HasRefRoom : RefBook → RefCommand → Type 0
+HasRefRoom refs (Parse look) = Unit {0}
+HasRefRoom refs (Reset look plan) = HasRoom refs plan.name
+HasRefRoom refs (Change work) = HasRoom refs work.task.name
+
+abbrev pub HasCommitRoom : Option Naming → RefBook → CommitCommand → Type 0
+HasCommitRoom None refs t = HasRoom refs t.name
+HasCommitRoom (Some n) refs t = HasRoom refs n.work.task.name
+
+abbrev pub HasRoomFor : RefBook → LaneCommand → Type 0
+HasRoomFor refs (Ref t) = HasRefRoom refs t
+HasRoomFor refs (Commit t) = HasCommitRoom t.change refs t
 
 -- a command that runs has its facts, and nothing is pending for a lane without one
 abbrev pub RunsIn : ℕ → RefBook → Option Running → Option View → Books → Type 0
 RunsIn lane refs None view b = NotPending lane b
-RunsIn lane refs (Some r) view b = Runs command_kind command_facts lane r.work view b × HasRoomFor refs r.work
+RunsIn lane refs (Some r) view b = Runs lane_kind lane_facts lane r.work view b × HasRoomFor refs r.work
 
 -- the lane's staging path shows no folder
 abbrev pub IsHome : ℕ → Option View → Type 0

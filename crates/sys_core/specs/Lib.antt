@@ -1,10 +1,15 @@
 pub mod Lanes
+pub mod Commits
 pub mod Begins
 pub mod System
 pub mod Booked
 pub mod Answers
 pub mod Replied
+pub mod Fit
 pub mod Pursues
 pub mod Left
 pub mod Ranks
 pub mod Turns
+pub mod Counts
+pub mod Did
+pub mod Lasting

@@ -1,11 +1,20 @@
 -- What a running command is after, and what an act of it came to.
-use Rattle.std.specs.Prelude.{◌≡◌, ◌≢◌, ◌⊎◌, ◌<◌, ◌≤◌, ◌++◌, ◌∷◌, [], ℕ, List, length, map, slice_index_or, Option, Some, None, IsSome, true}
+use Rattle.std.specs.Prelude.{◌≡◌, ◌⊎◌, ◌<◌, ◌≤◌, ◌++◌, ◌∷◌, [], ℕ, List, length, map, slice_index_or, Option, Some, None, IsSome, true}
+use Rattle.ost_types.specs.declared.limits.Limits.{Limits}
+use Rattle.ost_forms.specs.declared.tree_item.TreeItem.{TreeItem}
 use Rattle.fs_trait.specs.declared.types.FsErr.{FsErr}
 use Rattle.fs_trait.specs.declared.types.FsErr.TheVariants as err
 use Rattle.ref_store.specs.Change.{Change, progress_in}
 use Rattle.ref_work.specs.declared.command.RefCommand.{RefCommand}
 use Rattle.ref_work.specs.declared.command.RefCommand.TheVariants as task
-use Rattle.ref_work.specs.Commands.{answer_of}
+use Rattle.tree_build.specs.Items.{IsTree}
+use Rattle.commit_build.specs.declared.message.Message.{Message}
+use Rattle.commit_build.specs.Committing.{IsMade, ReadsBack}
+use Rattle.commit_work.specs.declared.command.CommitCommand.{CommitCommand}
+use Rattle.commit_work.specs.declared.naming.Naming.{Naming}
+use Rattle.lane_work.specs.declared.command.LaneCommand.{LaneCommand}
+use Rattle.lane_work.specs.declared.command.LaneCommand.TheVariants as lane_work
+use Rattle.lane_work.specs.Commands.{answer_of}
 use Rattle.ref_work.specs.Facts.{IsRunning}
 use Rattle.rely.specs.declared.books.Books as rust
 use Rattle.rely.specs.declared.books.Entry.{Entry}
@@ -21,9 +30,10 @@ use Rattle.sys_core.specs.Replied.{IsCommand, IsTo, Replied, count_of}
 use Rattle.script.specs.declared.answer.Answer.{Answer}
 use Rattle.script.specs.declared.answer.Answer.TheVariants as answer
 use Rattle.script.specs.declared.command.Command.{Command}
-use Rattle.script.specs.declared.command.Command.TheVariants.{RevParse, Reset, DropRef}
-use Rattle.sys_core.specs.Answers.{Answers, IsChangeOf, IsHalted, IsTold, state_after}
+use Rattle.script.specs.declared.command.Command.TheVariants.{RevParse, Reset, DropRef, Commit}
+use Rattle.sys_core.specs.Answers.{Answers, IsChangeOf, IsHalted, IsTold, Makes, state_after}
 use Rattle.sys_core.specs.Begins.{IsRev}
+use Rattle.sys_core.specs.Commits.{message_in, sum_of}
 use Rattle.sys_core.specs.declared.lane.Came.{Came}
 use Rattle.sys_core.specs.declared.lane.Came.TheVariants.{Blocked, More, Answered}
 use Rattle.sys_core.specs.declared.run.Run.{Run}
@@ -33,13 +43,44 @@ use Rattle.sys_core.specs.declared.run.Running.{Running}
 abbrev pub IsChanging : List ℕ → Option (List ℕ) → Option (List ℕ) → Change → Type 0
 IsChanging name seen value t = (t.name ≡ name) × (t.seen ≡ seen) × (t.value ≡ value) × IsRunning (progress_in t.phase)
 
+-- What a command on refs is after, which begins in this state, at each of its steps.
+abbrev pub RefPursues : State → Command → RefCommand → Type 0
+RefPursues s (RevParse rev) (task.Parse look) = IsRev rev s look.commit
+RefPursues s (Reset branch commit) (task.Reset look plan) = (look.commit ≡ commit) × (plan.name ≡ branch) × (plan.seen ≡ s (RefOf branch)) × (plan.commit ≡ commit)
+RefPursues s (Reset branch commit) (task.Change work) = IsChanging branch (s (RefOf branch)) (Some commit) work.task
+RefPursues s (DropRef branch) (task.Change work) = IsChanging branch (s (RefOf branch)) None work.task × IsSome (s (RefOf branch))
+RefPursues s c t = ⊥
+
+-- the ref is changed from this value to the commit with this sum, of this tree
+pub record IsNaming (branch : List ℕ) (seen : Option (List ℕ)) (tree : List TreeItem) (sum : List ℕ) (n : Naming) : Type 0 where
+  pub commit : n.commit ≡ sum
+  pub whole : IsTree tree
+  pub changing : IsChanging branch seen (Some sum) n.work.task
+
+abbrev pub NamesIn : List ℕ → Option (List ℕ) → List TreeItem → List ℕ → Option Naming → Type 0
+NamesIn branch seen tree sum None = Unit {0}
+NamesIn branch seen tree sum (Some n) = IsNaming branch seen tree sum n
+
+-- once the ref is changed, the commit's bytes read as it
+abbrev pub ReadsIn : List TreeItem → Message → Option Naming → Type 0
+ReadsIn tree message None = Unit {0}
+ReadsIn tree message (Some n) = ReadsBack tree message
+
+-- a commit of this tree with this message, and then the change of this ref from the message's parent to it
+pub record Commits (limits : Limits) (branch : List ℕ) (tree : List TreeItem) (message : Message) (t : CommitCommand) : Type 0 where
+  pub name : t.name ≡ branch
+  pub items : t.build.items ≡ tree
+  pub bounds : t.build.limits ≡ limits
+  pub says : t.build.message ≡ message
+  pub made : IsMade t.build
+  pub names : NamesIn branch message.parent tree (sum_of tree message) t.change
+  pub reads : ReadsIn tree message t.change
+
 -- What a command is after, which begins in this state, at each of its steps.
-abbrev pub Pursues : State → Command → RefCommand → Type 0
-Pursues s (RevParse rev) (task.Parse look) = IsRev rev s look.commit
-Pursues s (Reset branch commit) (task.Reset look plan) = (look.commit ≡ commit) × (plan.name ≡ branch) × (plan.seen ≡ s (RefOf branch)) × (plan.commit ≡ commit)
-Pursues s (Reset branch commit) (task.Change work) = IsChanging branch (s (RefOf branch)) (Some commit) work.task
-Pursues s (DropRef branch) (task.Change work) = IsChanging branch (s (RefOf branch)) None work.task × IsSome (s (RefOf branch))
-Pursues s c t = ⊥
+abbrev pub Pursues : Limits → State → Command → LaneCommand → Type 0
+Pursues limits s c (lane_work.Ref t) = RefPursues s c t
+Pursues limits s (Commit branch tree subject body time) (lane_work.Commit t) = Commits limits branch tree.items (message_in s branch subject body time) t
+Pursues limits s c (lane_work.Commit t) = ⊥
 
 -- how many changes lasted when the command began, or do now where it hasn't begun
 abbrev pub start_of : List Entry → Option Running → ℕ
@@ -55,22 +96,22 @@ abbrev pub started_of : List Run → List (Option ℕ)
 started_of = map (λ r. start_in r.task)
 
 -- the command that runs is after what it is to do
-abbrev pub IsAfter : State → List Entry → Command → Option Running → Type 0
-IsAfter first entries c None = Unit {0}
-IsAfter first entries c (Some r) = Pursues (state_after first entries r.start) c r.work
+abbrev pub IsAfter : Limits → State → List Entry → Command → Option Running → Type 0
+IsAfter limits first entries c None = Unit {0}
+IsAfter limits first entries c (Some r) = Pursues limits (state_after first entries r.start) c r.work
 
 -- What every value keeps of the replies, and of what the commands that run are after.
-pub record Accounted {F : Type 0} (view : F → Option View) (base : Base F) (lanes : List Lane) (runs : List Run) (replies : List (List Reply)) (given : ℕ) (faults : ℕ) : Type 0 where
-  pub replied : Replied (IsTold view) (first base.books.start.items) base.books.history.items base.books.pending lanes (started_of runs) replies
-  pub after : (lane : ℕ) (d : Run) (c : Command) → lane < length runs → IsCommand lanes lane (slice_index_or runs lane d).command c → IsAfter (first base.books.start.items) base.books.history.items c (slice_index_or runs lane d).task
+pub record Accounted {F : Type 0} (view : F → Option View) (limits : Limits) (base : Base F) (lanes : List Lane) (runs : List Run) (replies : List (List Reply)) (given : ℕ) (faults : ℕ) : Type 0 where
+  pub replied : Replied (IsTold view) limits (first base.books.start.items) base.books.history.items base.books.pending lanes (started_of runs) replies
+  pub after : (lane : ℕ) (d : Run) (c : Command) → lane < length runs → IsCommand lanes lane (slice_index_or runs lane d).command c → IsAfter limits (first base.books.start.items) base.books.history.items c (slice_index_or runs lane d).task
   pub halts : (lane number : ℕ) (r : Reply) → IsTo replies lane number r → IsHalted r.answer → (base.books.halted ≡ true) × (r.answer ≡ answer.Halted faults)
   pub count : given ≡ count_of replies
   pub fewer : length base.books.history.items ≤ count_of replies
 
 -- the change that a command made is the last one, and no other answer says so
-abbrev pub Grows : ℕ → ℕ → Answer → List Entry → List Entry → Type 0
-Grows lane number a old new = ((new ≡ old) × (a ≢ answer.Nothing))
-    ⊎ ((e : Entry) × (new ≡ old ++ e ∷ []) × (e.lane ≡ lane) × (e.command ≡ number) × (a ≡ answer.Nothing))
+abbrev pub Grows : ℕ → ℕ → Command → Answer → List Entry → List Entry → Type 0
+Grows lane number c a old new = ((new ≡ old) × (Makes a c → ⊥))
+    ⊎ ((e : Entry) × (new ≡ old ++ e ∷ []) × (e.lane ≡ lane) × (e.command ≡ number) × Makes a c)
 
 -- what is pending was so before, or is the command's change
 abbrev pub IsShownBy : ℕ → ℕ → (Pending → Type 0) → rust.Books → rust.Books → Type 0
@@ -81,18 +122,18 @@ abbrev pub IsShownAs : ℕ → Answer → rust.Books → Type 0
 IsShownAs lane a new = (p : Pending) → new.pending ≡ Some p → p.lane ≡ lane → IsHalted a
 
 -- What an act of the lane came to: by the state in which its command began, with what it was after so far, and what it goes on to be after.
-abbrev pub Goes : Type 0 → State → ℕ → ℕ → Command → rust.Books → rust.Books → Option Running → Option Running → Came → Type 0
-Goes told first lane number c old new task task' Blocked = (task' ≡ task) × (new ≡ old)
-Goes told first lane number c old new task task' More = (r : Running) × (task' ≡ Some r) × (r.start ≡ start_of old.history.items task)
-    × Pursues (state_after first old.history.items r.start) c r.work × (new.history.items ≡ old.history.items)
+abbrev pub Goes : Type 0 → Limits → State → ℕ → ℕ → Command → rust.Books → rust.Books → Option Running → Option Running → Came → Type 0
+Goes told limits first lane number c old new task task' Blocked = (task' ≡ task) × (new ≡ old)
+Goes told limits first lane number c old new task task' More = (r : Running) × (task' ≡ Some r) × (r.start ≡ start_of old.history.items task)
+    × Pursues limits (state_after first old.history.items r.start) c r.work × (new.history.items ≡ old.history.items)
     × IsShownBy lane number (λ p. IsChangeOf (state_after first old.history.items r.start) c p.event) old new
-Goes told first lane number c old new task task' (Answered a start) = (task' ≡ None) × (start ≡ start_of old.history.items task)
-    × Answers told lane number (state_after first old.history.items start) (after (events_of new.history.items) first) new.history.items a c
-    × Grows lane number a old.history.items new.history.items
+Goes told limits first lane number c old new task task' (Answered a start) = (task' ≡ None) × (start ≡ start_of old.history.items task)
+    × Answers told limits lane number (state_after first old.history.items start) (after (events_of new.history.items) first) new.history.items a c
+    × Grows lane number c a old.history.items new.history.items
     × IsShownBy lane number (λ p. IsChangeOf (state_after first old.history.items start) c p.event) old new × IsShownAs lane a new
 
 -- it has ended, and has an answer
-abbrev pub HasAnswer : Outcome → RefCommand → Type 0
+abbrev pub HasAnswer : Outcome → LaneCommand → Type 0
 HasAnswer came.Done t = IsSome (answer_of t)
 HasAnswer came.Halted t = Unit {0}
 HasAnswer (came.Refused e) t = Unit {0}
@@ -107,6 +148,7 @@ IsStray a = ⊥
 abbrev pub IsOutside : Command → Answer → Type 0
 IsOutside (Reset branch commit) a = IsStray a
 IsOutside (DropRef branch) a = IsStray a
+IsOutside (Commit branch tree subject body time) a = IsStray a
 IsOutside c a = a ≡ answer.DiskFault
 
 -- what a command answers that was refused so
@@ -116,7 +158,7 @@ IsRefusedAs err.Failed c a = a ≡ answer.DiskFault
 IsRefusedAs e c a = IsOutside c a
 
 -- what a command answers that ended so
-abbrev pub IsEndedAs : Outcome → Command → RefCommand → ℕ → Answer → Type 0
+abbrev pub IsEndedAs : Outcome → Command → LaneCommand → ℕ → Answer → Type 0
 IsEndedAs came.Done c t faults a = answer_of t ≡ Some a
 IsEndedAs came.Halted c t faults a = a ≡ answer.Halted faults
 IsEndedAs (came.Refused e) c t faults a = IsRefusedAs e c a

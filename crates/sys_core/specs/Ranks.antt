@@ -1,6 +1,6 @@
 -- How many acts a lane may still need, and which lane holds it off.
 use Rattle.std.specs.Prelude.{◌≡◌, ◌≢◌, ◌<◌, ◌≤◌, ◌+◌, ◌-◌, ◌*◌, ℕ, zero, suc, List, length, map, slice_index_or, Option, Some, None}
-use Rattle.ref_work.specs.declared.command.RefCommand.{RefCommand}
+use Rattle.lane_work.specs.declared.command.LaneCommand.{LaneCommand}
 use Rattle.script.specs.declared.command.Lane.{Lane}
 use Rattle.sys_core.specs.declared.ask.Ask.{Ask}
 use Rattle.sys_core.specs.declared.ask.Ask.TheVariants.{More, Done}
@@ -16,7 +16,7 @@ commands_of lanes l = slice_index_or (map (λ d. length d.commands.items) lanes)
 abbrev pub to_come : {F : Type 0} → System F → ℕ → ℕ
 to_come s l = commands_of s.lanes l - length (given s l)
 
-abbrev pub rank_by : ℕ → Option RefCommand → ℕ
+abbrev pub rank_by : ℕ → Option LaneCommand → ℕ
 rank_by zero work = 0
 rank_by (suc n) work = left_of work
 

@@ -1,13 +1,13 @@
 -- The replies of all lanes with the history.
 use Rattle.std.specs.Prelude.{◌≡◌, ◌⊎◌, ◌<◌, ◌≤◌, ◌+◌, [], ◌∷◌, ℕ, List, length, slice_index_or, Option, Some}
+use Rattle.ost_types.specs.declared.limits.Limits.{Limits}
 use Rattle.rely.specs.declared.books.Entry.{Entry}
 use Rattle.rely.specs.declared.books.Pending.{Pending}
 use Rattle.rely.specs.State.{State}
-use Rattle.script.specs.declared.answer.Answer.TheVariants as answer
 use Rattle.script.specs.declared.answer.Reply.{Reply}
 use Rattle.script.specs.declared.command.Command.{Command}
 use Rattle.script.specs.declared.command.Lane.{Lane}
-use Rattle.sys_core.specs.Answers.{IsReply, IsHalted, IsChangeOf, state_after}
+use Rattle.sys_core.specs.Answers.{IsReply, IsHalted, IsChangeOf, Makes, state_after}
 
 -- what stands in a list at a place
 abbrev pub IsAt : {X : Type 0} → List X → ℕ → X → Type 0
@@ -45,10 +45,10 @@ IsPendingOf first entries lanes started replies p = (c : Command) × IsCommand l
 -- Each reply is one to the command of its number, and begins where the one before it has its place, or later. Each change that
 -- lasts was made by a command that was answered so, when the change was the last one, and by no other. Each command that runs began
 -- where all replies of its lane had been given.
-pub record Replied (told : Type 0) (first : State) (entries : List Entry) (pending : Option Pending) (lanes : List Lane) (started : List (Option ℕ)) (replies : List (List Reply)) : Type 0 where
-  pub each : (lane number : ℕ) (r : Reply) → IsTo replies lane number r → (c : Command) × IsCommand lanes lane number c × IsReply told first entries lane number c r
+pub record Replied (told : Type 0) (limits : Limits) (first : State) (entries : List Entry) (pending : Option Pending) (lanes : List Lane) (started : List (Option ℕ)) (replies : List (List Reply)) : Type 0 where
+  pub each : (lane number : ℕ) (r : Reply) → IsTo replies lane number r → (c : Command) × IsCommand lanes lane number c × IsReply told limits first entries lane number c r
   pub in_order : (lane number next : ℕ) (r q : Reply) → IsTo replies lane number r → IsTo replies lane next q → number < next → r.place ≤ q.start
-  pub made : (k : ℕ) (e : Entry) → IsAt entries k e → (r : Reply) × IsTo replies e.lane e.command r × (r.place ≡ k + 1) × (r.answer ≡ answer.Nothing)
+  pub made : (k : ℕ) (e : Entry) → IsAt entries k e → (r : Reply) × IsTo replies e.lane e.command r × (r.place ≡ k + 1) × (c : Command) × IsCommand lanes e.lane e.command c × Makes r.answer c
   pub shown : (p : Pending) → pending ≡ Some p → IsPendingOf first entries lanes started replies p
   pub numbered : Numbered replies
   pub starts : (lane start : ℕ) → IsAt started lane (Some start) → start ≤ length entries

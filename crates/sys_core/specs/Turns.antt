@@ -4,6 +4,9 @@ use Rattle.ref_store.specs.declared.phase.Phase.{Phase}
 use Rattle.ref_store.specs.declared.phase.Phase.TheVariants as phase
 use Rattle.ref_work.specs.declared.command.RefCommand.{RefCommand}
 use Rattle.ref_work.specs.declared.command.RefCommand.TheVariants.{Parse, Reset, Change}
+use Rattle.commit_work.specs.declared.naming.Naming.{Naming}
+use Rattle.lane_work.specs.declared.command.LaneCommand.{LaneCommand}
+use Rattle.lane_work.specs.declared.command.LaneCommand.TheVariants.{Ref, Commit}
 use Rattle.rely.specs.declared.books.Books as rust
 use Rattle.script.specs.declared.command.Lane.{Lane}
 use Rattle.sys_core.specs.declared.lane.Came.{Came}
@@ -13,11 +16,11 @@ use Rattle.sys_core.specs.declared.run.Running.{Running}
 use Rattle.sys_core.specs.Left.{left_of}
 
 -- the task of a command that runs
-abbrev pub work_in : Option Running → Option RefCommand
+abbrev pub work_in : Option Running → Option LaneCommand
 work_in None = None
 work_in (Some r) = Some r.work
 
-abbrev pub works_of : List Run → List (Option RefCommand)
+abbrev pub works_of : List Run → List (Option LaneCommand)
 works_of = map (λ r. work_in r.task)
 
 -- a change that has looked at its ref
@@ -25,10 +28,19 @@ abbrev pub IsBehind : Phase → Type 0
 IsBehind phase.Look = ⊥
 IsBehind ph = Unit {0}
 
-abbrev pub HasLooked : RefCommand → Type 0
-HasLooked (Parse look) = ⊥
-HasLooked (Reset look plan) = ⊥
-HasLooked (Change work) = IsBehind work.task.phase
+abbrev pub RefHasLooked : RefCommand → Type 0
+RefHasLooked (Parse look) = ⊥
+RefHasLooked (Reset look plan) = ⊥
+RefHasLooked (Change work) = IsBehind work.task.phase
+
+-- a commit looks once it is built
+abbrev pub NamingHasLooked : Option Naming → Type 0
+NamingHasLooked None = ⊥
+NamingHasLooked (Some n) = IsBehind n.work.task.phase
+
+abbrev pub HasLooked : LaneCommand → Type 0
+HasLooked (Ref t) = RefHasLooked t
+HasLooked (Commit t) = NamingHasLooked t.change
 
 abbrev pub RunsBehind : Option Running → Type 0
 RunsBehind None = ⊥
@@ -39,9 +51,18 @@ abbrev pub IsLook : Phase → Type 0
 IsLook phase.Look = Unit {0}
 IsLook ph = ⊥
 
-abbrev pub AsksTurn : Option RefCommand → Type 0
-AsksTurn (Some (Change work)) = IsLook work.task.phase
-AsksTurn work = ⊥
+abbrev pub RefAsksTurn : RefCommand → Type 0
+RefAsksTurn (Change work) = IsLook work.task.phase
+RefAsksTurn t = ⊥
+
+abbrev pub NamingAsksTurn : Option Naming → Type 0
+NamingAsksTurn None = ⊥
+NamingAsksTurn (Some n) = IsLook n.work.task.phase
+
+abbrev pub AsksTurn : Option LaneCommand → Type 0
+AsksTurn None = ⊥
+AsksTurn (Some (Ref t)) = RefAsksTurn t
+AsksTurn (Some (Commit t)) = NamingAsksTurn t.change
 
 -- A lane has the Turn exactly where its command has looked. Nobody removes objects.
 pub record HasTurn (lane : ℕ) (b : rust.Books) (Looked : Type 0) : Type 0 where

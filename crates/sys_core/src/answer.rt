@@ -25,7 +25,9 @@ fn outside(alloc: Global, command: &Command) -> Answer
     ensures { IsOutside command.now result }
 {
     match command {
-        Command::Reset { branch, commit: _ } | Command::DropRef { branch } => {
+        Command::Reset { branch, commit: _ }
+        | Command::DropRef { branch }
+        | Command::Commit { branch, .. } => {
             match ref_path(alloc, branch) {
                 Ok(path) => Answer::Outside(path),
                 Err(NoMemory) => Answer::NoMemory,

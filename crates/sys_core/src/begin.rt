@@ -4,9 +4,13 @@ ghost use Rattle.ref_book.specs.Tracks.{Tracks, HasRoom};
 ghost use Rattle.rely.specs.State.{State};
 ghost use Rattle.sys_core.specs.Lanes.{HasRoomFor};
 ghost use Rattle.sys_core.specs.Begins.{IsBegun, IsBy, IsFew};
+ghost use Rattle.sys_core.specs.Commits.{IsFit};
+ghost use Rattle.ost_types.specs.declared.limits.Limits.{Limits};
 ghost use Rattle.script.specs.declared.command.Command.TheVariants as Command;
 
-use ost_types::{Csum, NoMemory, TryCopy};
+use commit_work::CommitCommand;
+use lane_work::LaneCommand;
+use ost_types::{Csum, Limits, NoMemory, TryCopy, copy_all};
 use ref_book::RefBook;
 use ref_work::RefCommand;
 use script::{Answer, Command, Rev};
@@ -15,19 +19,26 @@ use std::alloc::Global;
 /// What a command's first act comes to by the books alone: an answer, or the task that it runs.
 pub(crate) enum Begun {
     Answered(Answer),
-    Runs(RefCommand),
+    Runs(LaneCommand),
 }
 
 /// Begins a command.
-pub(crate) fn begin(alloc: Global, refs: &mut RefBook, lane: u8, command: &Command) -> Begun
-    requires { lane < 8 }
+pub(crate) fn begin(
+    alloc: Global,
+    refs: &mut RefBook,
+    limits: Limits,
+    lane: u8,
+    command: &Command,
+) -> Begun
+    requires few { lane < 8 }
+    requires fit { IsFit limits command.now }
     ensures refs { (s : State) → Tracks refs.old s → Tracks refs.new s }
     ensures rooms { (name : List ℕ) → HasRoom refs.old name → HasRoom refs.new name }
     ensures begun { IsBegun lane refs.new result }
     ensures left { IsFew result }
-    ensures by { (s : State) → Tracks refs.old s → IsBy lane s command.now result }
+    ensures by { (s : State) → Tracks refs.old s → IsBy limits lane s command.now result }
 {
-    match task_of(alloc, refs, lane, command) {
+    match task_of(alloc, refs, limits, lane, command) {
         Ok(begun) => begun,
         Err(NoMemory) => Begun::Answered(Answer::NoMemory),
     }
@@ -36,15 +47,17 @@ pub(crate) fn begin(alloc: Global, refs: &mut RefBook, lane: u8, command: &Comma
 fn task_of(
     alloc: Global,
     refs: &mut RefBook,
+    limits: Limits,
     lane: u8,
     command: &Command,
 ) -> Result<Begun, NoMemory>
-    requires { lane < 8 }
+    requires few { lane < 8 }
+    requires fit { IsFit limits command.now }
     ensures refs { (s : State) → Tracks refs.old s → Tracks refs.new s }
     ensures rooms { (name : List ℕ) → HasRoom refs.old name → HasRoom refs.new name }
     ensures begun { IfOk result (IsBegun lane refs.new) }
     ensures left { IfOk result IsFew }
-    ensures by { (s : State) → Tracks refs.old s → IfOk result (IsBy lane s command.now) }
+    ensures by { (s : State) → Tracks refs.old s → IfOk result (IsBy limits lane s command.now) }
 {
     match command {
         Command::Refs => Ok(Begun::Answered(Answer::Refs(refs.rows()?))),
@@ -52,15 +65,40 @@ fn task_of(
         Command::Reset { branch, commit } => {
             refs.make_room(branch)?;
             let seen = refs.get(branch);
-            Ok(Begun::Runs(RefCommand::reset(alloc, lane, branch.copy()?, seen, *commit)))
+            let work = RefCommand::reset(alloc, lane, branch.copy()?, seen, *commit);
+            Ok(Begun::Runs(LaneCommand::Ref(work)))
         }
         Command::DropRef { branch } => match refs.get(branch) {
             None => Ok(Begun::Answered(Answer::NoRef)),
             Some(seen) => {
                 refs.make_room(branch)?;
-                Ok(Begun::Runs(RefCommand::drop(alloc, lane, branch.copy()?, seen)))
+                let work = RefCommand::drop(alloc, lane, branch.copy()?, seen);
+                Ok(Begun::Runs(LaneCommand::Ref(work)))
             }
         },
+        Command::Commit {
+            branch,
+            tree,
+            subject,
+            body,
+            time,
+        } => {
+            refs.make_room(branch)?;
+            let seen = refs.get(branch);
+            let items = copy_all(alloc, tree)?;
+            let work = CommitCommand::new(
+                alloc,
+                lane,
+                branch.copy()?,
+                seen,
+                items,
+                subject.copy()?,
+                body.copy()?,
+                *time,
+                limits,
+            )?;
+            Ok(Begun::Runs(LaneCommand::Commit(work)))
+        }
     }
 }
 
@@ -68,13 +106,13 @@ fn task_of(
 fn parse(alloc: Global, refs: &RefBook, rev: &Rev) -> Begun
     ensures begun { (lane : ℕ) → IsBegun lane refs.now result }
     ensures left { IsFew result }
-    ensures by { (lane : ℕ) (s : State) → Tracks refs.now s → IsBy lane s (Command.RevParse rev.now) result }
+    ensures by { (limits : Limits) (lane : ℕ) (s : State) → Tracks refs.now s → IsBy limits lane s (Command.RevParse rev.now) result }
 {
     match rev {
-        Rev::Commit(commit) => Begun::Runs(RefCommand::parse(alloc, *commit)),
+        Rev::Commit(commit) => Begun::Runs(LaneCommand::Ref(RefCommand::parse(alloc, *commit))),
         Rev::Ref(name) => match refs.get(name) {
             None => Begun::Answered(Answer::NoRef),
-            Some(commit) => Begun::Runs(RefCommand::parse(alloc, commit)),
+            Some(commit) => Begun::Runs(LaneCommand::Ref(RefCommand::parse(alloc, commit))),
         },
     }
 }

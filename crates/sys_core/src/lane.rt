@@ -1,8 +1,10 @@
+ghost use Rattle.sys_core.specs.Lasting.{IsCarried};
 ghost use Rattle.sys_core.specs.declared.lane.Came.TheVariants as Came;
 ghost use Rattle.std.specs.Prelude.{true, ◌≡◌, ◌≢◌, ◌<◌, ◌≤◌, ◌+◌, ℕ, List, Option, Some, None, false, drop, length, slice_index_or};
 ghost use Rattle.fs_trait.specs.View.{View};
 ghost use Rattle.ref_book.specs.Tracks.{Tracks, HasRoom, name_of};
-ghost use Rattle.ref_work.specs.Commands.{command_kind, command_facts};
+ghost use Rattle.lane_work.specs.Commands.{IsMadeIn, lane_facts, lane_kind, lane_leaves, lane_refuses, lane_stepped, met_by, told};
+ghost use Rattle.commit_build.specs.Whole.{IsCounted};
 ghost use Rattle.rely.specs.declared.books.Entry.{Entry};
 ghost use Rattle.rely.specs.declared.kind.Outcome.TheVariants as came;
 ghost use Rattle.rely.specs.Books.{books_of};
@@ -12,10 +14,12 @@ ghost use Rattle.rely.specs.Sound.{Sound};
 ghost use Rattle.rely.specs.State.{first};
 ghost use Rattle.rely.specs.declared.books.Pending.{Pending};
 ghost use Rattle.rely.specs.Exact.{Causes, IsBooked, Locks, Opens, Steps, Tells};
-ghost use Rattle.ref_work.specs.Commands.{command_leaves, command_refuses, command_stepped};
 ghost use Rattle.script.specs.declared.answer.Answer.{Answer};
 ghost use Rattle.script.specs.declared.answer.Answer.TheVariants as answer;
-ghost use Rattle.sys_core.specs.Answers.{IsHalted, IsTold, Shown};
+ghost use Rattle.sys_core.specs.Answers.{IsHalted, IsTold, Shown, state_after};
+ghost use Rattle.sys_core.specs.Commits.{IsFit};
+ghost use Rattle.sys_core.specs.Counts.{CountsAt, CountsBy, IsFull};
+ghost use Rattle.sys_core.specs.Did.{Did};
 ghost use Rattle.sys_core.specs.Lanes.{Facts, HasRoomFor, IsHome, IsOver, LaneActs, now_of};
 ghost use Rattle.sys_core.specs.Pursues.{Goes, HasAnswer, IsAfter, IsEndedAs};
 ghost use Rattle.sys_core.specs.Turns.{HasTurn, RunsBehind, Turns};
@@ -24,8 +28,10 @@ use crate::answer::answer_of;
 use crate::begin::{Begun, begin};
 use crate::run::{Run, Running};
 use fs_trait::Fs;
+use lane_work::LaneCommand;
+use obj_store::Put;
+use ost_types::Limits;
 use ref_book::RefBook;
-use ref_work::RefCommand;
 use rely::{Base, Entry, Outcome, task_act};
 use script::{Answer, Command};
 use std::alloc::Global;
@@ -43,6 +49,8 @@ pub(crate) fn lane_act<F: Fs>(
     alloc: Global,
     base: &mut Base<F>,
     refs: &mut RefBook,
+    objects: &mut u32,
+    limits: Limits,
     lane: u8,
     command: &Command,
     run: &mut Run,
@@ -53,19 +61,25 @@ pub(crate) fn lane_act<F: Fs>(
     requires tracks { Tracks refs.old (now_of base.old.books) }
     requires facts { Facts lane refs.old run.old.task (F.view base.old.fs) (books_of base.old.books) }
     requires mine { (p : Pending) → base.old.books.pending ≡ Some p → p.lane ≡ lane → p.command ≡ run.old.command }
-    requires after { IsAfter (first base.old.books.start.items) base.old.books.history.items command.now run.old.task }
+    requires after { IsAfter limits (first base.old.books.start.items) base.old.books.history.items command.now run.old.task }
+    requires fit { IsFit limits command.now }
     requires turn { HasTurn lane base.old.books (RunsBehind run.old.task) }
     ensures acts { LaneActs F.view F.clock F.spare F.was lane refs.old refs.new run.new.task base.old base.new }
+    ensures carried { IsCarried F.view F.clock F.was base.old base.new }
     ensures number { run.new.command ≡ run.old.command }
     ensures blocked { result ≡ Came.Blocked → base.new ≡ base.old }
-    ensures goes { Goes (IsTold F.view) (first base.old.books.start.items) lane run.old.command command.now base.old.books base.new.books run.old.task run.new.task result }
+    ensures goes { Goes (IsTold F.view) limits (first base.old.books.start.items) lane run.old.command command.now base.old.books base.new.books run.old.task run.new.task result }
     ensures turns { Turns lane base.old.books base.new.books run.old.task run.new.task result }
     ensures halts { (a : Answer) (start : ℕ) → result ≡ Came.Answered a start → IsHalted a → (base.new.books.halted ≡ true) × (a ≡ answer.Halted (F.faults base.new.fs)) }
-    ensures shown { (a : Answer) (start : ℕ) → result ≡ Came.Answered a start → Shown (F.view base.old.fs) base.old.books.halted (F.faults base.old.fs) (F.faults base.new.fs) a }
+    ensures shown { (a : Answer) (start : ℕ) → result ≡ Came.Answered a start → Shown (F.view base.old.fs) (state_after (first base.old.books.start.items) base.old.books.history.items start) base.old.books.halted (F.faults base.old.fs) (F.faults base.new.fs) a command.now }
+    ensures counts { CountsBy objects.old run.new.task result objects.new }
+    ensures full { (a : Answer) (start : ℕ) → result ≡ Came.Answered a start → IsFull limits objects.old a }
 {
     match run.task.take() {
-        Some(running) => goes_on(alloc, base, refs, lane, command, run, running),
-        None => begins(alloc, base, refs, lane, command, run),
+        Some(running) => goes_on(
+            alloc, base, refs, objects, limits, lane, command, run, running,
+        ),
+        None => begins(alloc, base, refs, objects, limits, lane, command, run),
     }
 }
 
@@ -74,6 +88,8 @@ fn begins<F: Fs>(
     alloc: Global,
     base: &mut Base<F>,
     refs: &mut RefBook,
+    objects: &mut u32,
+    limits: Limits,
     lane: u8,
     command: &Command,
     run: &mut Run,
@@ -84,24 +100,31 @@ fn begins<F: Fs>(
     requires tracks { Tracks refs.old (now_of base.old.books) }
     requires facts { Facts lane refs.old None (F.view base.old.fs) (books_of base.old.books) }
     requires idle { run.old.task ≡ None }
+    requires fit { IsFit limits command.now }
     requires turn { HasTurn lane base.old.books (RunsBehind None) }
     ensures acts { LaneActs F.view F.clock F.spare F.was lane refs.old refs.new run.new.task base.old base.new }
+    ensures carried { IsCarried F.view F.clock F.was base.old base.new }
     ensures number { run.new.command ≡ run.old.command }
     ensures blocked { result ≡ Came.Blocked → base.new ≡ base.old }
-    ensures goes { Goes (IsTold F.view) (first base.old.books.start.items) lane run.old.command command.now base.old.books base.new.books None run.new.task result }
+    ensures goes { Goes (IsTold F.view) limits (first base.old.books.start.items) lane run.old.command command.now base.old.books base.new.books None run.new.task result }
     ensures turns { Turns lane base.old.books base.new.books None run.new.task result }
     ensures halts { (a : Answer) (start : ℕ) → result ≡ Came.Answered a start → IsHalted a → (base.new.books.halted ≡ true) × (a ≡ answer.Halted (F.faults base.new.fs)) }
-    ensures shown { (a : Answer) (start : ℕ) → result ≡ Came.Answered a start → Shown (F.view base.old.fs) base.old.books.halted (F.faults base.old.fs) (F.faults base.new.fs) a }
+    ensures shown { (a : Answer) (start : ℕ) → result ≡ Came.Answered a start → Shown (F.view base.old.fs) (state_after (first base.old.books.start.items) base.old.books.history.items start) base.old.books.halted (F.faults base.old.fs) (F.faults base.new.fs) a command.now }
+    ensures counts { CountsBy objects.old run.new.task result objects.new }
+    ensures full { (a : Answer) (start : ℕ) → result ≡ Came.Answered a start → IsFull limits objects.old a }
 {
     let start = base.books.history.len();
-    match begin(alloc, refs, lane, command) {
+    match begin(alloc, refs, limits, lane, command) {
         Begun::Answered(answer) => Came::Answered { answer, start },
         Begun::Runs(work) => {
             let mut running = Running { work, start };
-            match running_act(base, refs, lane, run.command, &mut running.work) {
-                Outcome::Blocked => Came::Blocked,
+            match told_act(base, refs, objects, lane, run.command, &mut running.work) {
+                Outcome::Blocked => {
+                    drop(running);
+                    Came::Blocked
+                }
                 Outcome::More => {
-                    run.task = Some(running);
+                    drop(run.task.replace(running));
                     Came::More
                 }
                 outcome => ends(alloc, base, command, running, outcome),
@@ -115,6 +138,8 @@ fn goes_on<F: Fs>(
     alloc: Global,
     base: &mut Base<F>,
     refs: &mut RefBook,
+    objects: &mut u32,
+    limits: Limits,
     lane: u8,
     command: &Command,
     run: &mut Run,
@@ -126,24 +151,27 @@ fn goes_on<F: Fs>(
     requires facts { Facts lane refs.old (Some running) (F.view base.old.fs) (books_of base.old.books) }
     requires idle { run.old.task ≡ None }
     requires mine { (p : Pending) → base.old.books.pending ≡ Some p → p.lane ≡ lane → p.command ≡ run.old.command }
-    requires after { IsAfter (first base.old.books.start.items) base.old.books.history.items command.now (Some running) }
+    requires after { IsAfter limits (first base.old.books.start.items) base.old.books.history.items command.now (Some running) }
     requires turn { HasTurn lane base.old.books (RunsBehind (Some running)) }
     ensures acts { LaneActs F.view F.clock F.spare F.was lane refs.old refs.new run.new.task base.old base.new }
+    ensures carried { IsCarried F.view F.clock F.was base.old base.new }
     ensures number { run.new.command ≡ run.old.command }
     ensures blocked { result ≡ Came.Blocked → base.new ≡ base.old }
-    ensures goes { Goes (IsTold F.view) (first base.old.books.start.items) lane run.old.command command.now base.old.books base.new.books (Some running) run.new.task result }
+    ensures goes { Goes (IsTold F.view) limits (first base.old.books.start.items) lane run.old.command command.now base.old.books base.new.books (Some running) run.new.task result }
     ensures turns { Turns lane base.old.books base.new.books (Some running) run.new.task result }
     ensures halts { (a : Answer) (start : ℕ) → result ≡ Came.Answered a start → IsHalted a → (base.new.books.halted ≡ true) × (a ≡ answer.Halted (F.faults base.new.fs)) }
-    ensures shown { (a : Answer) (start : ℕ) → result ≡ Came.Answered a start → Shown (F.view base.old.fs) base.old.books.halted (F.faults base.old.fs) (F.faults base.new.fs) a }
+    ensures shown { (a : Answer) (start : ℕ) → result ≡ Came.Answered a start → Shown (F.view base.old.fs) (state_after (first base.old.books.start.items) base.old.books.history.items start) base.old.books.halted (F.faults base.old.fs) (F.faults base.new.fs) a command.now }
+    ensures counts { CountsBy objects.old run.new.task result objects.new }
+    ensures full { (a : Answer) (start : ℕ) → result ≡ Came.Answered a start → IsFull limits objects.old a }
 {
     let mut running = running;
-    match running_act(base, refs, lane, run.command, &mut running.work) {
+    match told_act(base, refs, objects, lane, run.command, &mut running.work) {
         Outcome::Blocked => {
-            run.task = Some(running);
+            drop(run.task.replace(running));
             Came::Blocked
         }
         Outcome::More => {
-            run.task = Some(running);
+            drop(run.task.replace(running));
             Came::More
         }
         outcome => ends(alloc, base, command, running, outcome),
@@ -171,7 +199,7 @@ fn answer_at_end<F: Fs>(
     alloc: Global,
     base: &Base<F>,
     command: &Command,
-    work: RefCommand,
+    work: LaneCommand,
     outcome: Outcome,
 ) -> Answer
     requires { HasAnswer outcome work }
@@ -185,29 +213,71 @@ fn answer_at_end<F: Fs>(
     }
 }
 
+/// One step of a command's task, once it was told how many objects are in the store. One that is held off is left as it was.
+fn told_act<F: Fs>(
+    base: &mut Base<F>,
+    refs: &mut RefBook,
+    objects: &mut u32,
+    lane: u8,
+    number: u32,
+    work: &mut LaneCommand,
+) -> Outcome
+    requires ready { Ready F.view F.clock F.spare F.was (Runs lane_kind lane_facts lane work.old) base.old }
+    requires tracks { Tracks refs.old (now_of base.old.books) }
+    requires room { HasRoomFor refs.old work.old }
+    requires home { IsHome lane (F.view base.old.fs) }
+    ensures acts { Acts F.view F.clock F.spare F.was lane lane result (Runs lane_kind lane_facts lane work.new) base.old base.new }
+    ensures carried { IsCarried F.view F.clock F.was base.old base.new }
+    ensures tracks { Tracks refs.new (now_of base.new.books) }
+    ensures rooms { (name : List ℕ) → HasRoom refs.old name → HasRoom refs.new name }
+    ensures room { result ≡ came.More → HasRoomFor refs.new work.new }
+    ensures blocked { result ≡ came.Blocked → (base.new ≡ base.old) × (work.new ≡ work.old) }
+    ensures held { result ≡ came.Blocked → Opens (lane_kind work.old) lane (books_of base.old.books) → ⊥ }
+    ensures did { result ≢ came.Blocked → Did F.view lane number (F.clock base.new.fs) result (told objects.old work.old) work.new base.old base.new }
+    ensures cause { (v : View) → F.view base.old.fs ≡ Some v → Causes (F.faults base.old.fs) (F.faults base.new.fs) result }
+    ensures home { IsHome lane (F.view base.new.fs) }
+    ensures over { IsOver result → NotPending lane (books_of base.new.books) }
+    ensures counts { CountsAt objects.old work.new result objects.new }
+    ensures made { result ≡ came.More → IsMadeIn work.new }
+{
+    let former = work.tell(*objects);
+    match running_act(base, refs, lane, number, work) {
+        Outcome::Blocked => {
+            work.tell(former);
+            Outcome::Blocked
+        }
+        Outcome::More => {
+            count(objects, work);
+            Outcome::More
+        }
+        outcome => outcome,
+    }
+}
+
 /// One step of a command's task. A change that lasts from then on is noted among the refs.
 fn running_act<F: Fs>(
     base: &mut Base<F>,
     refs: &mut RefBook,
     lane: u8,
     number: u32,
-    work: &mut RefCommand,
+    work: &mut LaneCommand,
 ) -> Outcome
-    requires ready { Ready F.view F.clock F.spare F.was (Runs command_kind command_facts lane work.old) base.old }
+    requires ready { Ready F.view F.clock F.spare F.was (Runs lane_kind lane_facts lane work.old) base.old }
     requires tracks { Tracks refs.old (now_of base.old.books) }
     requires room { HasRoomFor refs.old work.old }
     requires home { IsHome lane (F.view base.old.fs) }
-    ensures acts { Acts F.view F.clock F.spare F.was lane lane result (Runs command_kind command_facts lane work.new) base.old base.new }
+    ensures acts { Acts F.view F.clock F.spare F.was lane lane result (Runs lane_kind lane_facts lane work.new) base.old base.new }
+    ensures carried { IsCarried F.view F.clock F.was base.old base.new }
     ensures tracks { Tracks refs.new (now_of base.new.books) }
     ensures rooms { (name : List ℕ) → HasRoom refs.old name → HasRoom refs.new name }
     ensures room { result ≡ came.More → HasRoomFor refs.new work.new }
     ensures blocked { result ≡ came.Blocked → (base.new ≡ base.old) × (work.new ≡ work.old) }
-    ensures steps { Steps command_stepped work.old result work.new }
-    ensures tells { Tells command_leaves command_refuses work.old result work.new (F.view base.old.fs) (F.view base.new.fs) }
-    ensures opens { result ≢ came.Blocked → Opens (command_kind work.old) lane (books_of base.old.books) }
-    ensures held { result ≡ came.Blocked → Opens (command_kind work.old) lane (books_of base.old.books) → ⊥ }
-    ensures locks { Locks (command_kind work.old) lane result base.old.books base.new.books }
-    ensures booked { IsBooked (command_kind work.old) lane number (F.clock base.new.fs) result base.old.books base.new.books }
+    ensures steps { Steps lane_stepped work.old result work.new }
+    ensures tells { Tells lane_leaves lane_refuses work.old result work.new (F.view base.old.fs) (F.view base.new.fs) }
+    ensures opens { result ≢ came.Blocked → Opens (lane_kind work.old) lane (books_of base.old.books) }
+    ensures held { result ≡ came.Blocked → Opens (lane_kind work.old) lane (books_of base.old.books) → ⊥ }
+    ensures locks { Locks (lane_kind work.old) lane result base.old.books base.new.books }
+    ensures booked { IsBooked (lane_kind work.old) lane number (F.clock base.new.fs) result base.old.books base.new.books }
     ensures cause { (v : View) → F.view base.old.fs ≡ Some v → Causes (F.faults base.old.fs) (F.faults base.new.fs) result }
     ensures home { IsHome lane (F.view base.new.fs) }
     ensures over { IsOver result → NotPending lane (books_of base.new.books) }
@@ -216,6 +286,16 @@ fn running_act<F: Fs>(
     let outcome = task_act(base, lane, lane, number, work);
     note(&base.books.history, refs, before);
     outcome
+}
+
+/// One more object is in the store, where the task's last step put one there.
+fn count(objects: &mut u32, work: &LaneCommand)
+    ensures counted { IsCounted objects.old (met_by work.now) objects.new }
+    ensures made { IsMadeIn work.now }
+{
+    if let Some((_, Put::Stored)) = work.met() {
+        *objects = objects.saturating_add(1);
+    }
 }
 
 /// A change that was made to last since the history had so many is one of the refs.

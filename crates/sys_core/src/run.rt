@@ -2,7 +2,7 @@ ghost use Rattle.std.specs.Prelude.{◌≡◌};
 ghost use Rattle.sys_core.specs.Left.{left_of};
 ghost use Rattle.sys_core.specs.Turns.{work_in};
 
-use ref_work::RefCommand;
+use lane_work::LaneCommand;
 
 /// How far a lane is.
 #[derive(Drop)]
@@ -15,7 +15,7 @@ pub(crate) struct Run {
 /// A command that has begun.
 #[derive(Drop)]
 pub(crate) struct Running {
-    pub work: RefCommand,
+    pub work: LaneCommand,
     /// How many changes the history had when it began.
     pub start: usize,
 }

@@ -1,4 +1,6 @@
-ghost use Rattle.std.specs.Prelude.{true, false, ◌≡◌, ◌<◌, ◌≤◌, ℕ, length, slice_index_or, Some, None, IfOk, IfErr};
+ghost use Rattle.fs_trait.specs.Image.{Told};
+ghost use Rattle.sys_core.specs.Lasting.{AreKept, AreKeptIn};
+ghost use Rattle.std.specs.Prelude.{true, false, ◌≡◌, ◌<◌, ◌≤◌, ℕ, length, min, slice_index_or, Some, None, IfOk, IfErr};
 ghost use Rattle.fs_trait.specs.View.{View};
 ghost use Rattle.rely.specs.Headline.{Headline};
 ghost use Rattle.rely.specs.State.{first};
@@ -7,9 +9,11 @@ ghost use Rattle.script.specs.declared.command.Lane.{Lane};
 ghost use Rattle.sys_core.specs.Lanes.{AreIdle};
 ghost use Rattle.script.specs.declared.answer.Answer.TheVariants as answer;
 ghost use Rattle.script.specs.declared.answer.Reply.{Reply};
-ghost use Rattle.sys_core.specs.Answers.{IsHalted, Shown};
+ghost use Rattle.sys_core.specs.Answers.{IsHalted};
+ghost use Rattle.sys_core.specs.Counts.{Counted};
+ghost use Rattle.sys_core.specs.Fit.{AreFit};
 ghost use Rattle.sys_core.specs.Replied.{IsTo};
-ghost use Rattle.sys_core.specs.Booked.{Acted, Booked, HasCommand, IsLater, IsReplied, replies_of};
+ghost use Rattle.sys_core.specs.Booked.{Acted, Booked, HasCommand, IsLater, IsReplied, Tells, replies_of};
 ghost use Rattle.sys_core.specs.Ranks.{AreWithin, HasEnded, IsHeldOff, IsOver, Ranked, left_in_all, rank};
 ghost use Rattle.sys_core.specs.Turns.{AsksTurn};
 ghost use Rattle.sys_core.specs.declared.ask.Ask.TheVariants as Ask;
@@ -21,7 +25,7 @@ use crate::prepare::{Prepared, prepare};
 use crate::run::Run;
 use crate::turn::turn;
 use fs_trait::Fs;
-use ost_types::NoMemory;
+use ost_types::{Limits, NoMemory};
 use ref_book::RefBook;
 use rely::{Base, Entry, Pending, certify};
 use script::{Lane, Reply};
@@ -44,6 +48,9 @@ pub struct System<F: Fs> {
     runs: Vec<Run>,
     replies: Vec<Vec<Reply>>,
     given: u32,
+    limits: Limits,
+    // how many objects are in the store
+    objects: u32,
 }
 
 impl<F: Fs> Model for System<F> {
@@ -53,12 +60,13 @@ impl<F: Fs> Model for System<F> {
     ghost use Rattle.std.specs.Prelude.{◌≡◌, false};
     ghost use Rattle.sys_core.specs.Pursues.{Accounted, started_of};
     ghost use Rattle.sys_core.specs.Turns.{Ordered, works_of};
+    ghost use Rattle.sys_core.specs.Fit.{AreFit};
 
     ghost Value = { System F };
 
-    ghost view = { λ s. record { base = s.base; lanes = s.lanes.items; started = started_of s.runs.items; works = works_of s.runs.items; replies = replies_of s.replies.items } };
+    ghost view = { λ s. record { base = s.base; lanes = s.lanes.items; started = started_of s.runs.items; works = works_of s.runs.items; replies = replies_of s.replies.items; limits = s.limits; objects = s.objects } };
 
-    ghost invariant = { λ s. Kept F.view F.clock F.spare F.was s.base s.refs s.runs.items × Booked s.lanes.items s.runs.items s.replies.items × Accounted F.view s.base s.lanes.items s.runs.items (replies_of s.replies.items) s.given (F.faults s.base.fs) × (s.base.books.halted ≡ false → Ordered s.base.books s.lanes.items s.runs.items) };
+    ghost invariant = { λ s. Kept F.view F.clock F.spare F.was s.base s.refs s.runs.items × Booked s.lanes.items s.runs.items s.replies.items × Accounted F.view s.limits s.base s.lanes.items s.runs.items (replies_of s.replies.items) s.given (F.faults s.base.fs) × (s.base.books.halted ≡ false → Ordered s.base.books s.lanes.items s.runs.items) × AreFit s.limits s.lanes.items };
 }
 
 /// What a system is taken apart into.
@@ -80,10 +88,14 @@ impl<F: Fs> System<F> {
     ) -> Result<System<F>, (Opened<F>, NoMemory)>
         requires few { length lanes.items ≤ 8 }
         requires short { (l : ℕ) (d : Lane) → l < length lanes.items → length (slice_index_or lanes.items l d).commands.items ≤ 64 }
+        requires fit { AreFit opened.limits lanes.items }
         ensures fs { IfOk result (λ s. s.base.fs ≡ opened.fs) }
         ensures start { IfOk result (λ s. s.base.books.start.items ≡ opened.refs) }
         ensures opened { IfOk result (λ s. s.base.books.opened ≡ opened.clock) }
         ensures lanes { IfOk result (λ s. s.lanes ≡ lanes.items) }
+        ensures limits { IfOk result (λ s. s.limits ≡ opened.limits) }
+        ensures objects { IfOk result (λ s. s.objects ≡ min (length opened.objects) 4294967295) }
+        ensures begins { IfOk result (λ s. (v : View) → AreKept F.was v s v) }
         ensures back { IfErr result (λ e. e.0 ≡ opened) }
     {
         match prepare(alloc, opened.refs(), &lanes) {
@@ -97,17 +109,22 @@ impl<F: Fs> System<F> {
         requires booked { Booked lanes.items prepared.runs.items prepared.replies.items }
         requires refs { Tracks prepared.refs (first opened.refs) }
         requires idle { AreIdle prepared.runs.items }
+        requires fit { AreFit opened.limits lanes.items }
         ensures fs { result.base.fs ≡ opened.fs }
         ensures start { result.base.books.start.items ≡ opened.refs }
         ensures opened { result.base.books.opened ≡ opened.clock }
         ensures lanes { result.lanes ≡ lanes.items }
+        ensures limits { result.limits ≡ opened.limits }
+        ensures objects { result.objects ≡ min (length opened.objects) 4294967295 }
+        ensures begins { (v : View) → AreKept F.was v result v }
     {
         let OpenedParts {
             fs,
             refs: start,
             clock,
             faults: _,
-            limits: _,
+            limits,
+            objects,
         } = opened.into_parts();
         let Prepared {
             refs,
@@ -122,13 +139,17 @@ impl<F: Fs> System<F> {
             runs,
             replies,
             given: 0,
+            limits,
+            objects: count_of(objects.len()),
         }
     }
 
     /// The next step of an actor. The actor of a lane has its number.
     pub fn act(&mut self, actor: u8) -> Ask
-        ensures acted { Acted (Shown (F.view self.old.base.fs) self.old.base.books.halted (F.faults self.old.base.fs) (F.faults self.new.base.fs)) self.old self.new actor result }
+        ensures acted { Acted (Tells F.view (F.faults self.old.base.fs) (F.faults self.new.base.fs) self.old actor) self.old self.new actor result }
+        ensures counts { Counted self.old self.new actor result }
         ensures lanes { self.new.lanes ≡ self.old.lanes }
+        ensures lasts { (start v : View) → F.view self.old.base.fs ≡ Some v → AreKept F.was start self.old v → Told (F.view self.new.base.fs) (λ w. AreKept F.was start self.new w) }
         ensures ranks { Ranked self.old self.new actor result }
         ensures held { result ≡ Ask.Blocked → IsHeldOff self.old actor }
         ensures waits { HasCommand self.old actor → self.old.base.books.halted ≡ false → AsksTurn (slice_index_or self.old.works actor None) → IsHeldOff self.old actor → result ≡ Ask.Blocked }
@@ -145,6 +166,8 @@ impl<F: Fs> System<F> {
             self.alloc,
             &mut self.base,
             &mut self.refs,
+            &mut self.objects,
+            self.limits,
             &mut self.runs,
             actor,
             command,
@@ -240,6 +263,7 @@ impl<F: Fs> System<F> {
         ensures ended { HasEnded self.new }
         ensures lanes { self.new.lanes ≡ self.old.lanes }
         ensures later { IsLater self.old self.new }
+        ensures lasts { (start v : View) → F.view self.old.base.fs ≡ Some v → AreKept F.was start self.old v → Told (F.view self.new.base.fs) (λ w. AreKept F.was start self.new w) }
     {
         for actor in schedule {
             let _ = self.act(*actor);
@@ -254,6 +278,7 @@ impl<F: Fs> System<F> {
         ensures falls { result ≡ true → left_in_all self.new < left_in_all self.old }
         ensures lanes { self.new.lanes ≡ self.old.lanes }
         ensures later { IsLater self.old self.new }
+        ensures lasts { (start v : View) → F.view self.old.base.fs ≡ Some v → AreKept F.was start self.old v → Told (F.view self.new.base.fs) (λ w. AreKept F.was start self.new w) }
     {
         let _few = self.lanes();
         let mut unfinished = false;
@@ -271,6 +296,7 @@ impl<F: Fs> System<F> {
         ensures history { result.history ≡ self.base.books.history }
         ensures pending { result.pending ≡ self.base.books.pending }
         ensures lanes { result.lanes.items ≡ self.lanes }
+        ensures lasts { (start v : View) → AreKept F.was start self v → AreKeptIn (F.was result.fs) start self.limits result.lanes.items result.history.items v }
         ensures headline { (v : View) → F.view self.base.fs ≡ Some v → Headline F.clock F.was self.base v }
         ensures replies { replies_of result.replies.items ≡ self.replies }
         ensures replied { IsReplied F.view self }
@@ -284,6 +310,8 @@ impl<F: Fs> System<F> {
             runs: _,
             replies,
             given: _,
+            limits: _,
+            objects: _,
         } = self;
         let Base { fs, books } = base;
         let history = books.history;
@@ -304,4 +332,15 @@ fn number_of(length: usize) -> u32
     ensures { result ≡ length }
 {
     length as u32
+}
+
+/// As many as that, as far as 32 bits go.
+fn count_of(length: usize) -> u32
+    ensures { result ≡ min length 4294967295 }
+{
+    if length > 4_294_967_295 {
+        u32::MAX
+    } else {
+        length as u32
+    }
 }

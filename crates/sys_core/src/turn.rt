@@ -1,5 +1,7 @@
+ghost use Rattle.sys_core.specs.Lasting.{IsCarried};
 ghost use Rattle.std.specs.Prelude.{true, false, ◌≡◌, ◌≢◌, ◌<◌, ◌++◌, ℕ, List, Some, None, length, slice_index_or, slice_set};
-ghost use Rattle.rely.specs.State.{first};
+ghost use Rattle.rely.specs.State.{State, first};
+ghost use Rattle.script.specs.declared.command.Command.{Command};
 ghost use Rattle.rely.specs.declared.books.Entry.{Entry};
 ghost use Rattle.rely.specs.declared.books.Pending.{Pending};
 ghost use Rattle.script.specs.declared.answer.Answer.TheVariants as answer;
@@ -9,7 +11,9 @@ ghost use Rattle.script.specs.declared.command.Lane.{Lane};
 ghost use Rattle.sys_core.specs.declared.lane.Came.TheVariants as Came;
 ghost use Rattle.sys_core.specs.Booked.{Booked};
 ghost use Rattle.script.specs.declared.answer.Answer.{Answer};
-ghost use Rattle.sys_core.specs.Answers.{IsHalted, IsTold, Shown};
+ghost use Rattle.sys_core.specs.Answers.{IsHalted, IsTold, Shown, state_after};
+ghost use Rattle.sys_core.specs.Commits.{IsFit};
+ghost use Rattle.sys_core.specs.Counts.{CountsBy, IsFull};
 ghost use Rattle.sys_core.specs.Lanes.{Kept};
 ghost use Rattle.sys_core.specs.Pursues.{Goes, IsAfter, start_of};
 ghost use Rattle.sys_core.specs.Turns.{HasTurn, RunsBehind, Turns};
@@ -17,6 +21,7 @@ ghost use Rattle.sys_core.specs.Turns.{HasTurn, RunsBehind, Turns};
 use crate::lane::{Came, lane_act};
 use crate::run::Run;
 use fs_trait::Fs;
+use ost_types::Limits;
 use ref_book::RefBook;
 use rely::Base;
 use script::{Answer, Command};
@@ -27,6 +32,8 @@ pub(crate) fn turn<F: Fs>(
     alloc: Global,
     base: &mut Base<F>,
     refs: &mut RefBook,
+    objects: &mut u32,
+    limits: Limits,
     runs: &mut Vec<Run>,
     lane: u8,
     command: &Command,
@@ -34,16 +41,20 @@ pub(crate) fn turn<F: Fs>(
     requires kept { Kept F.view F.clock F.spare F.was base.old refs.old runs.old.items }
     requires lane { lane < length runs.old.items }
     requires mine { (p : Pending) (r : Run) → base.old.books.halted ≡ false → base.old.books.pending ≡ Some p → p.lane ≡ lane → p.command ≡ (slice_index_or runs.old.items lane r).command }
-    requires after { (r : Run) → IsAfter (first base.old.books.start.items) base.old.books.history.items command.now (slice_index_or runs.old.items lane r).task }
+    requires after { (r : Run) → IsAfter limits (first base.old.books.start.items) base.old.books.history.items command.now (slice_index_or runs.old.items lane r).task }
+    requires fit { IsFit limits command.now }
     requires turn { (r : Run) → base.old.books.halted ≡ false → HasTurn lane base.old.books (RunsBehind (slice_index_or runs.old.items lane r).task) }
     ensures kept { Kept F.view F.clock F.spare F.was base.new refs.new runs.new.items }
+    ensures carried { IsCarried F.view F.clock F.was base.old base.new }
     ensures booked { (lanes : List Lane) (replies : List (Vec Reply)) → lane < length lanes → Booked lanes runs.old.items replies → Booked lanes runs.new.items replies }
     ensures number { (r : Run) → (slice_index_or runs.new.items lane r).command ≡ (slice_index_or runs.old.items lane r).command }
     ensures blocked { result ≡ Came.Blocked → base.new ≡ base.old }
     ensures run { (r : Run) → runs.new.items ≡ slice_set runs.old.items lane (slice_index_or runs.new.items lane r) }
-    ensures goes { (r : Run) → Goes (IsTold F.view) (first base.old.books.start.items) lane (slice_index_or runs.old.items lane r).command command.now base.old.books base.new.books (slice_index_or runs.old.items lane r).task (slice_index_or runs.new.items lane r).task result }
+    ensures goes { (r : Run) → Goes (IsTold F.view) limits (first base.old.books.start.items) lane (slice_index_or runs.old.items lane r).command command.now base.old.books base.new.books (slice_index_or runs.old.items lane r).task (slice_index_or runs.new.items lane r).task result }
     ensures halts { (a : Answer) (start : ℕ) → result ≡ Came.Answered a start → IsHalted a → (base.new.books.halted ≡ true) × (a ≡ answer.Halted (F.faults base.new.fs)) }
-    ensures shown { (a : Answer) (start : ℕ) → result ≡ Came.Answered a start → Shown (F.view base.old.fs) base.old.books.halted (F.faults base.old.fs) (F.faults base.new.fs) a }
+    ensures shown { (a : Answer) (start : ℕ) → result ≡ Came.Answered a start → Shown (F.view base.old.fs) (state_after (first base.old.books.start.items) base.old.books.history.items start) base.old.books.halted (F.faults base.old.fs) (F.faults base.new.fs) a command.now }
+    ensures counts { (r : Run) → CountsBy objects.old (slice_index_or runs.new.items lane r).task result objects.new }
+    ensures full { (a : Answer) (start : ℕ) → result ≡ Came.Answered a start → IsFull limits objects.old a }
     ensures live { result ≡ Came.More → base.old.books.halted ≡ false }
     ensures turns { (r : Run) → base.old.books.halted ≡ false → Turns lane base.old.books base.new.books (slice_index_or runs.old.items lane r).task (slice_index_or runs.new.items lane r).task result }
     ensures waits { result ≡ Came.Blocked → base.old.books.halted ≡ false }
@@ -57,19 +68,23 @@ pub(crate) fn turn<F: Fs>(
     if base.books.halted {
         return halted(base, run);
     }
-    lane_act(alloc, base, refs, lane, command, run)
+    lane_act(alloc, base, refs, objects, limits, lane, command, run)
 }
 
 /// The end of a command after a changing call failed.
 fn halted<F: Fs>(base: &Base<F>, run: &mut Run) -> Came
     requires { base.now.books.halted ≡ true }
-    ensures shown { (a : Answer) (start : ℕ) → result ≡ Came.Answered a start → Shown (F.view base.now.fs) base.now.books.halted (F.faults base.now.fs) (F.faults base.now.fs) a }
+    ensures shown { (s : State) (c : Command) (a : Answer) (start : ℕ) → result ≡ Came.Answered a start → Shown (F.view base.now.fs) s base.now.books.halted (F.faults base.now.fs) (F.faults base.now.fs) a c }
     ensures number { run.new.command ≡ run.old.command }
     ensures task { run.new.task ≡ None }
     ensures answer { result ≡ Came.Answered (answer.Halted (F.faults base.now.fs)) (start_of base.now.books.history.items run.old.task) }
 {
     let start = match run.task.take() {
-        Some(running) => running.start,
+        Some(running) => {
+            let start = running.start;
+            drop(running);
+            start
+        }
         None => base.books.history.len(),
     };
     Came::Answered {

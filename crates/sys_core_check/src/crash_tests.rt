@@ -82,12 +82,14 @@ fn check_goes_on(rt: &impl Abort, alloc: Global, fs: &MemFs) -> Result<(), Fail>
     Ok(())
 }
 
-// The calls of the opening are the 8th to the 89th, and those of the reset follow.
-const RESET: u64 = 90;
+// The calls of the opening are the 8th to the 345th, the last 256 of which list the folders of objects; those of the reset follow.
+const LISTING: u64 = 90;
 
-const RESET_RENAME: u64 = 99;
+const RESET: u64 = 346;
 
-const RESET_SYNC: u64 = 100;
+const RESET_RENAME: u64 = 355;
+
+const RESET_SYNC: u64 = 356;
 
 fn check_failing_reset(rt: &impl Abort, alloc: Global, call: u64, done: bool) -> Result<(), Fail> {
     let ran = run_failing(alloc, b"reset main X", call, done)?;
@@ -108,7 +110,12 @@ fn check_failing_reset(rt: &impl Abort, alloc: Global, call: u64, done: bool) ->
 #[test]
 fn fails_at_each_call_of_a_reset(rt: HostRuntime) -> Result<(), Fail> {
     let alloc = rt.alloc();
-    for call in 8..=101 {
+    // of the calls that list, the first and the last
+    for call in 8..=LISTING {
+        check_failing_reset(&rt, alloc, call, false)?;
+        check_failing_reset(&rt, alloc, call, true)?;
+    }
+    for call in 345..=357 {
         check_failing_reset(&rt, alloc, call, false)?;
         check_failing_reset(&rt, alloc, call, true)?;
     }
@@ -136,11 +143,11 @@ fn halts_where_the_last_sync_fails(rt: HostRuntime) -> Result<(), Fail> {
     Ok(())
 }
 
-const DROP: u64 = 101;
+const DROP: u64 = 357;
 
-const DROP_UNLINK: u64 = 103;
+const DROP_UNLINK: u64 = 359;
 
-const DROP_SYNC: u64 = 104;
+const DROP_SYNC: u64 = 360;
 
 fn check_failing_drop(rt: &impl Abort, alloc: Global, call: u64, done: bool) -> Result<(), Fail> {
     let ran = run_failing(alloc, b"reset main X|drop main", call, done)?;
@@ -160,7 +167,7 @@ fn check_failing_drop(rt: &impl Abort, alloc: Global, call: u64, done: bool) -> 
 #[test]
 fn fails_at_each_call_of_a_drop(rt: HostRuntime) -> Result<(), Fail> {
     let alloc = rt.alloc();
-    for call in DROP..=105 {
+    for call in DROP..=361 {
         check_failing_drop(&rt, alloc, call, false)?;
         check_failing_drop(&rt, alloc, call, true)?;
     }

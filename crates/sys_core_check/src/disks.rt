@@ -4,7 +4,9 @@ ghost use Rattle.ost_types.specs.Mode.{IsFileMode, IsFolderMode};
 use crate::run;
 use fs_memory::MemFs;
 use fs_trait::{Fs, Node};
+use ost_forms::{BodySpec, TreeItem};
 use ost_types::{FsPath, Meta, Text, Xattrs};
+use repo_layout::RefName;
 use script::{Command, Lane, Reply, read_words, write_replies};
 use std::alloc::Global;
 use std::test::Fail;
@@ -130,6 +132,45 @@ pub fn lane(alloc: Global, lines: &[u8]) -> Result<Lane, Fail> {
     let mut commands = Vec::new(alloc);
     for line in lines.split(|byte| *byte == b'|') {
         commands.push(command(alloc, line)?)?;
+    }
+    Ok(Lane { commands })
+}
+
+fn tree_item(
+    alloc: Global,
+    at: &[u8],
+    meta: Meta,
+    body: Option<BodySpec>,
+) -> Result<TreeItem, Fail> {
+    Ok(TreeItem {
+        path: FsPath::parse(alloc, at)?,
+        meta,
+        body,
+    })
+}
+
+/// A lane that commits a tree of a folder with one file to the ref, and then has these commands.
+pub fn tree_lane(alloc: Global, branch: &[u8], lines: &[u8]) -> Result<Lane, Fail> {
+    let fill = BodySpec::Fill { len: 5, byte: 7 };
+    let tree = vec![in alloc;
+        tree_item(alloc, b"/", folder_meta(alloc), None)?,
+        tree_item(alloc, b"/a", file_meta(alloc), Some(fill))?,
+    ]?;
+    let Some(branch) = RefName::parse(alloc, branch)? else {
+        return Err("no name")?;
+    };
+    let mut commands = vec![in alloc;
+        Command::Commit {
+            branch,
+            tree,
+            subject: word(alloc, b"subject")?,
+            body: word(alloc, b"body")?,
+            time: 0,
+        },
+    ]?;
+    let Lane { commands: more } = lane(alloc, lines)?;
+    for command in more {
+        commands.push(command)?;
     }
     Ok(Lane { commands })
 }

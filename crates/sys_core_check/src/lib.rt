@@ -1,6 +1,7 @@
 //! The system over a file system: all commands of some lanes, from the opening on.
 #![tactic(auto)]
 
+mod fit;
 mod running;
 
 pub use running::{NotRun, run};

@@ -6,7 +6,9 @@ ghost use Rattle.sys_open.specs.Changes.{Changes, Works};
 ghost use Rattle.sys_core_check.specs.declared.running.NotRun.TheVariants as not_run;
 ghost use Rattle.script.specs.declared.command.Lane.{Lane};
 ghost use Rattle.sys_core_check.specs.Ran.{IsReason, LeftBy, Ran};
+ghost use Rattle.sys_core.specs.Fit.{AreFit};
 
+use crate::fit::are_fit;
 use fs_trait::Fs;
 use ost_types::{Limits, NoMemory};
 use script::Lane;
@@ -23,6 +25,8 @@ pub enum NotRun {
     TooManyLanes,
     /// This lane has more than 64 commands.
     TooManyCommands(usize),
+    /// A commit's tree isn't in order, or it or its message is too large.
+    NotFit,
     NoMemory,
 }
 
@@ -33,6 +37,7 @@ fn run_opened<F: Fs>(
 ) -> Result<Parts<F>, (F, NotRun)>
     requires few { length lanes.items ≤ 8 }
     requires short { (l : ℕ) (d : Lane) → l < length lanes.items → length (slice_index_or lanes.items l d).commands.items ≤ 64 }
+    requires fit { AreFit opened.limits lanes.items }
     ensures ran { IfOk result (Ran F.view F.clock F.was) }
     ensures back { IfErr result (λ e. (e.0 ≡ opened.fs) × (e.1 ≡ not_run.NoMemory)) }
 {
@@ -67,7 +72,11 @@ pub fn run<F: Fs>(alloc: Global, fs: F, lanes: Vec<Lane>) -> Result<Parts<F>, (F
     if let Some(lane) = long_lane(&lanes) {
         return Err((fs, NotRun::TooManyCommands(lane)));
     }
-    match adopt(alloc, fs, Limits::standard()) {
+    let limits = Limits::standard();
+    if !are_fit(&lanes, &limits) {
+        return Err((fs, NotRun::NotFit));
+    }
+    match adopt(alloc, fs, limits) {
         Ok(opened) => run_opened(alloc, opened, lanes),
         Err((fs, fault)) => Err((fs, NotRun::NotOpened(fault))),
     }

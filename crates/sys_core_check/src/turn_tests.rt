@@ -1,30 +1,38 @@
 //! Lanes whose acts come one after the other.
-use crate::disks::{ONES, lane, says, with_commit};
+ghost use Rattle.std.specs.Prelude.{◌≡◌, IfOk};
+
+use crate::disks::{ONES, lane, says, tree_lane, with_commit};
+use crate::fit::are_fit;
 use crate::running::long_lane;
 use fs_memory::MemFs;
-use ost_types::Limits;
-use script::Lane;
+use ost_types::{Csum, Limits};
+use script::{Answer, Lane, Reply};
 use std::alloc::Global;
 use std::process::Abort;
 use std::test::Fail;
 use sys_core::{Ask, System};
 use sys_open::{Opened, adopt};
 
-fn open_disk(alloc: Global) -> Result<Opened<MemFs>, Fail> {
-    match adopt(alloc, with_commit(alloc)?, Limits::standard()) {
+fn open_disk(alloc: Global, limits: Limits) -> Result<Opened<MemFs>, Fail>
+    ensures { IfOk result (λ o. o.limits ≡ limits) }
+{
+    match adopt(alloc, with_commit(alloc)?, limits) {
         Ok(opened) => Ok(opened),
         Err(_) => Err("not opened")?,
     }
 }
 
-fn system_of(alloc: Global, lanes: Vec<Lane>) -> Result<System<MemFs>, Fail> {
+fn system_of(alloc: Global, lanes: Vec<Lane>, limits: Limits) -> Result<System<MemFs>, Fail> {
     if lanes.len() > 8 {
         return Err("too many lanes")?;
     }
     if let Some(_) = long_lane(&lanes) {
         return Err("too many commands")?;
     }
-    match System::new(alloc, open_disk(alloc)?, lanes) {
+    if !are_fit(&lanes, &limits) {
+        return Err("a commit that can't be made")?;
+    }
+    match System::new(alloc, open_disk(alloc, limits)?, lanes) {
         Ok(system) => Ok(system),
         Err(_) => Err("no memory")?,
     }
@@ -32,7 +40,7 @@ fn system_of(alloc: Global, lanes: Vec<Lane>) -> Result<System<MemFs>, Fail> {
 
 fn two_lanes(alloc: Global, first: &[u8], second: &[u8]) -> Result<System<MemFs>, Fail> {
     let lanes = vec![in alloc; lane(alloc, first)?, lane(alloc, second)?]?;
-    system_of(alloc, lanes)
+    system_of(alloc, lanes, Limits::standard())
 }
 
 // Whether another lane was in the way, in so many rounds of one act each.
@@ -126,5 +134,56 @@ fn acts_for_no_other_lane(rt: HostRuntime) -> Result<(), Fail> {
     assert!(rt; system.act(2) == Ask::Ended && system.act(255) == Ask::Ended);
     system.drive(&[1, 1, 0]);
     assert!(rt; says(alloc, system.replies(), "0 0 ok 0\n1 0 ok 0\n")?);
+    Ok(())
+}
+
+// The commit of a reply.
+fn commit_in(system: &System<MemFs>, lane: usize, number: usize) -> Option<Csum> {
+    match system.replies().get(lane).and_then(|row| row.get(number)) {
+        Some(
+            Reply {
+                answer: Answer::Commit(commit),
+                ..
+            },
+        ) => Some(*commit),
+        _ => None,
+    }
+}
+
+#[test]
+fn commits_a_tree(rt: HostRuntime) -> Result<(), Fail> {
+    let alloc = rt.alloc();
+    let lanes = vec![in alloc; tree_lane(alloc, b"main", b"rev-parse main|reset other X")?]?;
+    let mut system = system_of(alloc, lanes, Limits::standard())?;
+    system.drive(&[]);
+    let commit = commit_in(&system, 0, 0);
+    assert!(rt; commit.is_some() && commit_in(&system, 0, 1) == commit);
+    assert!(rt; system.history().len() == 2 && system.pending().is_none());
+    Ok(())
+}
+
+#[test]
+fn commits_one_of_two(rt: HostRuntime) -> Result<(), Fail> {
+    let alloc = rt.alloc();
+    let lanes = vec![in alloc;
+        tree_lane(alloc, b"main", b"refs")?,
+        tree_lane(alloc, b"main", b"refs")?,
+    ]?;
+    let mut system = system_of(alloc, lanes, Limits::standard())?;
+    system.drive(&[0, 1]);
+    assert!(rt; commit_in(&system, 0, 0).is_some() != commit_in(&system, 1, 0).is_some());
+    assert!(rt; system.history().len() == 1);
+    Ok(())
+}
+
+#[test]
+fn commits_no_more_than_may_be(rt: HostRuntime) -> Result<(), Fail> {
+    let alloc = rt.alloc();
+    let lanes = vec![in alloc; tree_lane(alloc, b"main", b"refs")?]?;
+    let mut limits = Limits::standard();
+    limits.objects = 3;
+    let mut system = system_of(alloc, lanes, limits)?;
+    system.drive(&[]);
+    assert!(rt; says(alloc, system.replies(), "0 0 refused TooMany 4\n0 1 ok 0\n")?);
     Ok(())
 }

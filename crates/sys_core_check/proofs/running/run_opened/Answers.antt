@@ -18,8 +18,9 @@ returns-in-Ok-clause-ran g c =
       pending = e.pending;
       headline = λ w is. e.headline w (subst (λ fs. g.F.Fs.view fs ≡ Some w) e.fs is);
       started = s.started;
-      replied = subst (λ (l : List Lane). Replied (IsTold g.F.Fs.view) (first s.base.books.start.items) s.base.books.history.items s.base.books.pending l s.started (replies_of c.into_parts.result.replies.items)) (sym e.lanes)
-          (subst (λ (l : List (List Reply)). Replied (IsTold g.F.Fs.view) (first s.base.books.start.items) s.base.books.history.items s.base.books.pending s.lanes s.started l) (sym e.replies) e.replied);
+      limits = s.limits;
+      replied = subst (λ (l : List Lane). Replied (IsTold g.F.Fs.view) s.limits (first s.base.books.start.items) s.base.books.history.items s.base.books.pending l s.started (replies_of c.into_parts.result.replies.items)) (sym e.lanes)
+          (subst (λ (l : List (List Reply)). Replied (IsTold g.F.Fs.view) s.limits (first s.base.books.start.items) s.base.books.history.items s.base.books.pending s.lanes s.started l) (sym e.replies) e.replied);
       ended = subst (λ (l : List Lane). map (λ row. length row) (replies_of c.into_parts.result.replies.items) ≡ map (λ lane. length lane.commands.items) l) (sym e.lanes)
           (subst (λ (l : List (List Reply)). map (λ row. length row) l ≡ map (λ lane. length lane.commands.items) s.lanes) (sym e.replies) c.drive.ensures.ended);
     }

@@ -4,9 +4,13 @@ use Rattle.script.specs.declared.answer.Reply.{Reply}
 use Rattle.script.specs.declared.command.Lane.{Lane}
 use Rattle.sys_core.specs.declared.ask.Ask.TheVariants.{More, Blocked, Done, Ended}
 use Rattle.sys_core.specs.declared.run.Run.{Run}
-use Rattle.sys_core.specs.Answers.{Shown}
+use Rattle.rely.specs.State.{first}
+use Rattle.commit_build.specs.Whole.{IsCounted}
+use Rattle.sys_core.specs.Answers.{Shown, state_after}
+use Rattle.sys_core.specs.Counts.{Counted, met_of}
+use Rattle.sys_core.specs.Replied.{IsCommand}
 use Rattle.sys_core.specs.Lanes.{Kept}
-use Rattle.sys_core.specs.Booked.{Acted, Booked, HasCommand, replies_of}
+use Rattle.sys_core.specs.Booked.{Acted, Booked, HasCommand, Tells, replies_of}
 use Rattle.sys_core.specs.Pursues.{Accounted}
 use Rattle.sys_core.specs.Left.{left_of}
 use Rattle.sys_core.specs.Ranks.{IsHeldOff, Ranked}
@@ -15,25 +19,26 @@ use Rattle.sys_core.proofs.Ordering.{holder_has, ordered_act, ordered_held, turn
 use Rattle.sys_core.proofs.Ranking.{ranked_done, ranked_more, ranked_same, work_at}
 use Rattle.sys_core.proofs.Acting.{system_of, fewer, not_fewer, given_length, has_command, no_command}
 use Rattle.sys_core.proofs.Acts.{act_command, accounted_held, after_of, held_runs, mine_of, next_of, to_replies}
-use Rattle.sys_core.proofs.Accounting.{accounted_given, accounted_more, count_bound, given_place, given_start, given_started, more_started, start_said}
+use Rattle.sys_core.proofs.Accounting.{accounted_given, accounted_more, count_bound, given_place, given_start, given_started, more_started, one_command, start_said}
 use Rattle.sys_core.proofs.Keeping.{kept_number}
+use Rattle.sys_core.proofs.Lasting.{act_keeps_of, each_row, held_keeps}
 use Rattle.sys_core.proofs.system.System.act.Goals as goal
 
 pub returns-in_default-clause-acted : goal.returns-in_default-clause-acted
 returns-in_default-clause-acted g c =
     let i = c.self.inside in
-    let view : c.args.self.now ≡ system_of i.base i.lanes.items i.runs.items i.replies.items = search rules in
+    let view : c.args.self.now ≡ system_of i.base i.lanes.items i.runs.items i.replies.items i.limits i.objects = search rules in
     let within : c.args.actor < length i.lanes.items = search rules in
     let none : length c.deref.result.now ≤ c.index.result.now.command = not_fewer _ _ c.in_default.ensures.lookup.0 in
     let most : length (get_or i.lanes.items c.args.actor c.index-2.result.now).commands.items ≤ (get_or i.runs.items c.args.actor c.index.result.now).command =
     omega (arith, none, ap length c.deref.ensures.value, ap (λ (x : Lane). length x.commands.items) c.index-2.ensures, ap (λ (x : Run). x.command) c.index.ensures) in
-    ((λ has. no_command i.base i.lanes.items i.runs.items i.replies.items c.args.actor c.self.invariant.1 within c.index.result.now c.index-2.result.now most (subst (λ s. HasCommand s c.args.actor) view has)), refl)
+    ((λ has. no_command i.base i.lanes.items i.runs.items i.replies.items i.limits i.objects c.args.actor c.self.invariant.1 within c.index.result.now c.index-2.result.now most (subst (λ s. HasCommand s c.args.actor) view has)), refl)
 
 pub turn-came-requires-clause-mine : goal.turn-came-requires-clause-mine
 turn-came-requires-clause-mine g c = λ p x live.
     let i = c.self.inside in
     let within : c.args.actor < length i.lanes.items = search rules in
-    mine_of g.F.Fs.view g.F.Fs.faults i.base i.lanes.items i.runs.items i.replies.items i.given c.self.invariant.1 c.self.invariant.2 c.args.actor within live p x
+    mine_of g.F.Fs.view g.F.Fs.faults i.limits i.base i.lanes.items i.runs.items i.replies.items i.given c.self.invariant.1 c.self.invariant.2 c.args.actor within live p x
 
 pub turn-came-requires-clause-after : goal.turn-came-requires-clause-after
 turn-came-requires-clause-after g c = λ x.
@@ -45,7 +50,17 @@ turn-came-requires-clause-after g c = λ x.
     let command = act_command i.lanes.items c.args.actor i.runs.items r c.index-2.result.now c.deref.result.now c.in-Some.command.now within c.index.ensures c.index-2.ensures c.deref.ensures.value few at in
     let booked = c.self.invariant.1 in
     let acc = c.self.invariant.2 in
-    after_of g.F.Fs.view g.F.Fs.faults i.base i.lanes.items i.runs.items i.replies.items i.given booked acc c.args.actor within c.in-Some.command.now r command x
+    after_of g.F.Fs.view g.F.Fs.faults i.limits i.base i.lanes.items i.runs.items i.replies.items i.given booked acc c.args.actor within c.in-Some.command.now r command x
+
+pub turn-came-requires-clause-fit : goal.turn-came-requires-clause-fit
+turn-came-requires-clause-fit g c =
+    let i = c.self.inside in
+    let r = c.index.result.now in
+    let within : c.args.actor < length i.lanes.items = search rules in
+    let few : c.index.result.now.command < length c.deref.result.now = fewer _ _ c.in-Some.ensures.lookup.0 in
+    let at : get_or c.deref.result.now c.index.result.now.command c.in-Some.command.now ≡ c.in-Some.command.now = search rules in
+    let command = act_command i.lanes.items c.args.actor i.runs.items r c.index-2.result.now c.deref.result.now c.in-Some.command.now within c.index.ensures c.index-2.ensures c.deref.ensures.value few at in
+    c.self.invariant.4 c.args.actor (get_or i.runs.items c.args.actor r).command c.in-Some.command.now command
 
 pub turn-came-requires-clause-turn : goal.turn-came-requires-clause-turn
 turn-came-requires-clause-turn g c = λ x live.
@@ -61,8 +76,9 @@ invariant_of-self g c =
     let e = c.in-Blocked.ensures in (
       e.kept,
       e.booked i.lanes.items i.replies.items within c.self.invariant.1,
-      accounted_held g.F.Fs.view g.F.Fs.faults i.base c.turn-came.new.base i.lanes.items i.runs.items c.turn-came.new.runs.items (replies_of i.replies.items) i.given c.args.actor r c.self.invariant.2 (e.blocked refl) (e.run r) (e.number r) (e.goes r).0,
+      accounted_held g.F.Fs.view g.F.Fs.faults i.limits i.base c.turn-came.new.base i.lanes.items i.runs.items c.turn-came.new.runs.items (replies_of i.replies.items) i.given c.args.actor r c.self.invariant.2 (e.blocked refl) (e.run r) (e.number r) (e.goes r).0,
       (λ live. ordered_held i.base.books c.turn-came.new.base.books i.lanes.items i.runs.items c.turn-came.new.runs.items (ap (λ b. b.books) (e.blocked refl)) (held_runs i.runs.items c.turn-came.new.runs.items c.args.actor r (e.run r) (e.number r) (e.goes r).0) (c.self.invariant.3 (e.waits refl))),
+      c.self.invariant.4,
     )
 
 pub invariant_of-self-in-More : goal.invariant_of-self-in-More
@@ -76,21 +92,22 @@ invariant_of-self-in-More g c =
     let booked = c.self.invariant.1 in
     let acc = c.self.invariant.2 in
     let in_runs : c.args.actor < length i.runs.items = omega (arith, booked.each_runs, within) in
-    let next = next_of g.F.Fs.view g.F.Fs.faults i.base i.lanes.items i.runs.items i.replies.items i.given booked acc c.args.actor within r in
+    let next = next_of g.F.Fs.view g.F.Fs.faults i.limits i.base i.lanes.items i.runs.items i.replies.items i.given booked acc c.args.actor within r in
     let new = c.turn-came.new.base in
     let now = c.turn-came.new.runs.items in
     let run = get_or now c.args.actor r in
     let e = c.in-More.ensures in (
       e.kept,
       e.booked i.lanes.items i.replies.items within booked,
-      subst (λ (l : List Run). Accounted g.F.Fs.view new i.lanes.items l (replies_of i.replies.items) i.given (g.F.Fs.faults new.fs)) (sym (e.run r))
-          (accounted_more g.F.Fs.view g.F.Fs.faults i.base new i.lanes.items i.runs.items (replies_of i.replies.items) i.given acc c.args.actor in_runs run r c.in-Some.command.now command next c.turn-came.ensures.start (e.goes r) (e.number r) (e.live refl)),
+      subst (λ (l : List Run). Accounted g.F.Fs.view i.limits new i.lanes.items l (replies_of i.replies.items) i.given (g.F.Fs.faults new.fs)) (sym (e.run r))
+          (accounted_more g.F.Fs.view g.F.Fs.faults i.limits i.base new i.lanes.items i.runs.items (replies_of i.replies.items) i.given acc c.args.actor in_runs run r c.in-Some.command.now command next c.turn-came.ensures.start (e.goes r) (e.number r) (e.live refl)),
       (λ live. let t = e.turns r (e.live refl) in
-          let has = has_command i.base i.lanes.items i.runs.items i.replies.items c.args.actor booked within r c.index-2.result.now
+          let has = has_command i.base i.lanes.items i.runs.items i.replies.items i.limits i.objects c.args.actor booked within r c.index-2.result.now
           (omega (arith, few, ap length c.deref.ensures.value, ap (λ (x : Lane). length x.commands.items) c.index-2.ensures, ap (λ (x : Run). x.command) c.index.ensures)) in
           subst (λ (l : List Run). Ordered new.books i.lanes.items l) (sym (e.run r))
           (ordered_act i.base.books new.books i.lanes.items i.runs.items (c.self.invariant.3 (e.live refl)) c.args.actor in_runs run (t.mine live) (t.others live) (e.others (e.live refl))
-          (λ looked d. omega (arith, has.1 d, given_length i.base i.lanes.items i.runs.items i.replies.items c.args.actor booked within r, e.number r)))),
+          (λ looked d. omega (arith, has.1 d, given_length i.base i.lanes.items i.runs.items i.replies.items i.limits i.objects c.args.actor booked within r, e.number r)))),
+      c.self.invariant.4,
     )
 
 pub number_of-requires : goal.number_of-requires
@@ -104,12 +121,12 @@ number_of-requires g c =
     let booked = c.self.invariant.1 in
     let acc = c.self.invariant.2 in
     let in_runs : c.args.actor < length i.runs.items = omega (arith, booked.each_runs, within) in
-    let next = next_of g.F.Fs.view g.F.Fs.faults i.base i.lanes.items i.runs.items i.replies.items i.given booked acc c.args.actor within r in
+    let next = next_of g.F.Fs.view g.F.Fs.faults i.limits i.base i.lanes.items i.runs.items i.replies.items i.given booked acc c.args.actor within r in
     let new = c.turn-came.new.base in
     let now = c.turn-came.new.runs.items in
     let run = get_or now c.args.actor r in
     let e = c.in-Answered.ensures in
-    omega (arith, given_start g.F.Fs.view g.F.Fs.faults i.base new i.lanes.items i.runs.items (replies_of i.replies.items) i.given acc c.args.actor in_runs run r c.in-Some.command.now command next c.turn-came.ensures.start c.in-Answered.answer c.in-Answered.start (e.goes r), count_bound i.lanes.items i.runs.items i.replies.items booked c.self.invariant.0.few)
+    omega (arith, given_start g.F.Fs.view g.F.Fs.faults i.limits i.base new i.lanes.items i.runs.items (replies_of i.replies.items) i.given acc c.args.actor in_runs run r c.in-Some.command.now command next c.turn-came.ensures.start c.in-Answered.answer c.in-Answered.start (e.goes r), count_bound i.lanes.items i.runs.items i.replies.items booked c.self.invariant.0.few)
 
 pub number_of-requires-in-Answered : goal.number_of-requires-in-Answered
 number_of-requires-in-Answered g c =
@@ -122,13 +139,13 @@ number_of-requires-in-Answered g c =
     let booked = c.self.invariant.1 in
     let acc = c.self.invariant.2 in
     let in_runs : c.args.actor < length i.runs.items = omega (arith, booked.each_runs, within) in
-    let next = next_of g.F.Fs.view g.F.Fs.faults i.base i.lanes.items i.runs.items i.replies.items i.given booked acc c.args.actor within r in
+    let next = next_of g.F.Fs.view g.F.Fs.faults i.limits i.base i.lanes.items i.runs.items i.replies.items i.given booked acc c.args.actor within r in
     let new = c.turn-came.new.base in
     let now = c.turn-came.new.runs.items in
     let run = get_or now c.args.actor r in
     let e = c.in-Answered.ensures in
     let long : c.len-in-Answered.result ≡ length new.books.history.items = search rules in
-    omega (arith, long, given_place g.F.Fs.view g.F.Fs.faults i.base new i.lanes.items i.runs.items (replies_of i.replies.items) i.given acc c.args.actor in_runs run r c.in-Some.command.now command next c.turn-came.ensures.start c.in-Answered.answer c.in-Answered.start (e.goes r), count_bound i.lanes.items i.runs.items i.replies.items booked c.self.invariant.0.few)
+    omega (arith, long, given_place g.F.Fs.view g.F.Fs.faults i.limits i.base new i.lanes.items i.runs.items (replies_of i.replies.items) i.given acc c.args.actor in_runs run r c.in-Some.command.now command next c.turn-came.ensures.start c.in-Answered.answer c.in-Answered.start (e.goes r), count_bound i.lanes.items i.runs.items i.replies.items booked c.self.invariant.0.few)
 
 pub overflow_add-self : goal.overflow_add-self
 overflow_add-self g c =
@@ -146,7 +163,7 @@ invariant_of-self-in-Answered g c =
     let booked = c.self.invariant.1 in
     let acc = c.self.invariant.2 in
     let in_runs : c.args.actor < length i.runs.items = omega (arith, booked.each_runs, within) in
-    let next = next_of g.F.Fs.view g.F.Fs.faults i.base i.lanes.items i.runs.items i.replies.items i.given booked acc c.args.actor within r in
+    let next = next_of g.F.Fs.view g.F.Fs.faults i.limits i.base i.lanes.items i.runs.items i.replies.items i.given booked acc c.args.actor within r in
     let new = c.turn-came.new.base in
     let now = c.turn-came.new.runs.items in
     let run = get_or now c.args.actor r in
@@ -160,9 +177,9 @@ invariant_of-self-in-Answered g c =
     let reply : Reply = record { answer = c.in-Answered.answer; start = c.number_of.result; place = c.number_of-in-Answered.result; order = i.given; taken = None } in (
       subst (λ l. Kept g.F.Fs.view g.F.Fs.clock g.F.Fs.spare g.F.Fs.was new c.turn-came.new.refs l) (sym (c.book.ensures.tasks r)) (kept_number g.F.Fs.view g.F.Fs.clock g.F.Fs.spare g.F.Fs.was new c.turn-came.new.refs now c.args.actor _ r e.kept in_now refl),
       subst (λ (l : List Lane). Booked l c.book.new.runs.items c.book.new.replies.items) (search rules) c.book.ensures.booked,
-      subst (λ (l : List Run). Accounted g.F.Fs.view new i.lanes.items l (replies_of c.book.new.replies.items) (i.given + 1) (g.F.Fs.faults new.fs)) (sym all)
-          (subst (λ (l : List (List Reply)). Accounted g.F.Fs.view new i.lanes.items (set i.runs.items c.args.actor after) l (i.given + 1) (g.F.Fs.faults new.fs)) (sym c.book.ensures.replies)
-          (accounted_given g.F.Fs.view g.F.Fs.faults i.base new i.lanes.items i.runs.items (replies_of i.replies.items) i.given acc c.args.actor in_runs after r c.in-Some.command.now command next e.start
+      subst (λ (l : List Run). Accounted g.F.Fs.view i.limits new i.lanes.items l (replies_of c.book.new.replies.items) (i.given + 1) (g.F.Fs.faults new.fs)) (sym all)
+          (subst (λ (l : List (List Reply)). Accounted g.F.Fs.view i.limits new i.lanes.items (set i.runs.items c.args.actor after) l (i.given + 1) (g.F.Fs.faults new.fs)) (sym c.book.ensures.replies)
+          (accounted_given g.F.Fs.view g.F.Fs.faults i.limits i.base new i.lanes.items i.runs.items (replies_of i.replies.items) i.given acc c.args.actor in_runs after r c.in-Some.command.now command next e.start
           c.in-Answered.answer c.in-Answered.start reply e.grows.0 (e.goes r) (ap (λ n. n + 1) (e.number r)) in_replies e.grows.1 refl c.number_of.ensures (c.number_of-in-Answered.ensures ∙ long) refl e.stays
           (e.halts c.in-Answered.answer c.in-Answered.start refl))),
       (λ live. let was = was_live i.base.books new.books (λ over. ap (λ b. b.books) (e.stays over)) live in
@@ -170,6 +187,7 @@ invariant_of-self-in-Answered g c =
           subst (λ (l : List Run). Ordered new.books i.lanes.items l) (sym all)
           (ordered_act i.base.books new.books i.lanes.items i.runs.items (c.self.invariant.3 was) c.args.actor in_runs after (t.mine live) (t.others live) (e.others was)
           (λ looked d. absurd (subst RunsBehind (e.goes r).0 looked)))),
+      c.self.invariant.4,
     )
 
 pub returns-in-Blocked-clause-acted : goal.returns-in-Blocked-clause-acted
@@ -182,14 +200,15 @@ returns-in-Blocked-clause-acted g c =
     let command = act_command i.lanes.items c.args.actor i.runs.items r c.index-2.result.now c.deref.result.now c.in-Some.command.now within c.index.ensures c.index-2.ensures c.deref.ensures.value few at in
     let booked = c.self.invariant.1 in
     let acc = c.self.invariant.2 in
-    let view : c.args.self.now ≡ system_of i.base i.lanes.items i.runs.items i.replies.items = search rules in
-    let has = has_command i.base i.lanes.items i.runs.items i.replies.items c.args.actor booked within r c.index-2.result.now
+    let view : c.args.self.now ≡ system_of i.base i.lanes.items i.runs.items i.replies.items i.limits i.objects = search rules in
+    let has = has_command i.base i.lanes.items i.runs.items i.replies.items i.limits i.objects c.args.actor booked within r c.index-2.result.now
     (omega (arith, few, ap length c.deref.ensures.value, ap (λ (x : Lane). length x.commands.items) c.index-2.ensures, ap (λ (x : Run). x.command) c.index.ensures)) in
     let e = c.in-Blocked.ensures in
     let in_runs : c.args.actor < length i.runs.items = omega (arith, booked.each_runs, within) in
     let same = held_runs i.runs.items c.turn-came.new.runs.items c.args.actor r (e.run r) (e.number r) (e.goes r).0 in (
       subst (λ s. HasCommand s c.args.actor) (sym view) has,
-      ap (λ b. system_of b i.lanes.items c.turn-came.new.runs.items i.replies.items) (e.blocked refl) ∙ ap (λ l. system_of i.base i.lanes.items l i.replies.items) same ∙ sym view,
+      ap (λ b. system_of b i.lanes.items c.turn-came.new.runs.items i.replies.items i.limits c.turn-came.new.objects) (e.blocked refl) ∙ ap (λ l. system_of i.base i.lanes.items l i.replies.items i.limits c.turn-came.new.objects) same
+          ∙ ap (system_of i.base i.lanes.items i.runs.items i.replies.items i.limits) (e.counts r) ∙ sym view,
     )
 
 pub returns-in-More-clause-acted : goal.returns-in-More-clause-acted
@@ -203,16 +222,16 @@ returns-in-More-clause-acted g c =
     let booked = c.self.invariant.1 in
     let acc = c.self.invariant.2 in
     let in_runs : c.args.actor < length i.runs.items = omega (arith, booked.each_runs, within) in
-    let next = next_of g.F.Fs.view g.F.Fs.faults i.base i.lanes.items i.runs.items i.replies.items i.given booked acc c.args.actor within r in
+    let next = next_of g.F.Fs.view g.F.Fs.faults i.limits i.base i.lanes.items i.runs.items i.replies.items i.given booked acc c.args.actor within r in
     let new = c.turn-came.new.base in
     let now = c.turn-came.new.runs.items in
     let run = get_or now c.args.actor r in
-    let view : c.args.self.now ≡ system_of i.base i.lanes.items i.runs.items i.replies.items = search rules in
-    let has = has_command i.base i.lanes.items i.runs.items i.replies.items c.args.actor booked within r c.index-2.result.now
+    let view : c.args.self.now ≡ system_of i.base i.lanes.items i.runs.items i.replies.items i.limits i.objects = search rules in
+    let has = has_command i.base i.lanes.items i.runs.items i.replies.items i.limits i.objects c.args.actor booked within r c.index-2.result.now
     (omega (arith, few, ap length c.deref.ensures.value, ap (λ (x : Lane). length x.commands.items) c.index-2.ensures, ap (λ (x : Run). x.command) c.index.ensures)) in
     let e = c.in-More.ensures in
-    subst (λ s. Acted (Shown (g.F.Fs.view s.base.fs) s.base.books.halted (g.F.Fs.faults s.base.fs) (g.F.Fs.faults new.fs)) s (system_of new i.lanes.items now i.replies.items) c.args.actor More) (sym view)
-    (has, refl, more_started g.F.Fs.view g.F.Fs.faults i.base new i.lanes.items i.runs.items (replies_of i.replies.items) i.given acc c.args.actor in_runs run r c.in-Some.command.now command next c.turn-came.ensures.start (e.goes r) now (e.run r), (e.start, e.opened, e.grows.0, e.grows.1))
+    subst (λ s. Acted (Tells g.F.Fs.view (g.F.Fs.faults s.base.fs) (g.F.Fs.faults new.fs) s c.args.actor) s (system_of new i.lanes.items now i.replies.items i.limits c.turn-came.new.objects) c.args.actor More) (sym view)
+    (has, refl, more_started g.F.Fs.view g.F.Fs.faults i.limits i.base new i.lanes.items i.runs.items (replies_of i.replies.items) i.given acc c.args.actor in_runs run r c.in-Some.command.now command next c.turn-came.ensures.start (e.goes r) now (e.run r), (e.start, e.opened, e.grows.0, e.grows.1, refl))
 
 pub returns-in-Answered-clause-acted : goal.returns-in-Answered-clause-acted
 returns-in-Answered-clause-acted g c =
@@ -225,32 +244,40 @@ returns-in-Answered-clause-acted g c =
     let booked = c.self.invariant.1 in
     let acc = c.self.invariant.2 in
     let in_runs : c.args.actor < length i.runs.items = omega (arith, booked.each_runs, within) in
-    let next = next_of g.F.Fs.view g.F.Fs.faults i.base i.lanes.items i.runs.items i.replies.items i.given booked acc c.args.actor within r in
+    let next = next_of g.F.Fs.view g.F.Fs.faults i.limits i.base i.lanes.items i.runs.items i.replies.items i.given booked acc c.args.actor within r in
     let new = c.turn-came.new.base in
     let now = c.turn-came.new.runs.items in
     let run = get_or now c.args.actor r in
-    let view : c.args.self.now ≡ system_of i.base i.lanes.items i.runs.items i.replies.items = search rules in
-    let has = has_command i.base i.lanes.items i.runs.items i.replies.items c.args.actor booked within r c.index-2.result.now
+    let view : c.args.self.now ≡ system_of i.base i.lanes.items i.runs.items i.replies.items i.limits i.objects = search rules in
+    let has = has_command i.base i.lanes.items i.runs.items i.replies.items i.limits i.objects c.args.actor booked within r c.index-2.result.now
     (omega (arith, few, ap length c.deref.ensures.value, ap (λ (x : Lane). length x.commands.items) c.index-2.ensures, ap (λ (x : Run). x.command) c.index.ensures)) in
     let e = c.in-Answered.ensures in
     let after : Run = record { command = run.command + 1; task = run.task } in
     let long : c.len-in-Answered.result ≡ length new.books.history.items = search rules in
     let all : c.book.new.runs.items ≡ set i.runs.items c.args.actor after =
     c.book.ensures.tasks r ∙ ap (λ (l : List Run). set l c.args.actor after) (e.run r) ∙ set-set i.runs.items c.args.actor run after in
-    let number = ap (λ (x : Run). x.command) c.index.ensures ∙ sym (given_length i.base i.lanes.items i.runs.items i.replies.items c.args.actor booked within r) in
+    let number = ap (λ (x : Run). x.command) c.index.ensures ∙ sym (given_length i.base i.lanes.items i.runs.items i.replies.items i.limits i.objects c.args.actor booked within r) in
+    let begun = start_said g.F.Fs.view g.F.Fs.faults i.limits i.base new i.lanes.items i.runs.items (replies_of i.replies.items) i.given acc c.args.actor in_runs run r c.in-Some.command.now command next c.turn-came.ensures.start c.in-Answered.answer c.in-Answered.start (e.goes r) in
     let reply : Reply = record { answer = c.in-Answered.answer; start = c.number_of.result; place = c.number_of-in-Answered.result; order = i.given; taken = None } in
-    subst (λ s. Acted (Shown (g.F.Fs.view s.base.fs) s.base.books.halted (g.F.Fs.faults s.base.fs) (g.F.Fs.faults new.fs)) s (system_of new i.lanes.items c.book.new.runs.items c.book.new.replies.items) c.args.actor (Done c.args.actor c.index.result.now.command)) (sym view) (
+    subst (λ s. Acted (Tells g.F.Fs.view (g.F.Fs.faults s.base.fs) (g.F.Fs.faults new.fs) s c.args.actor) s (system_of new i.lanes.items c.book.new.runs.items c.book.new.replies.items i.limits c.turn-came.new.objects) c.args.actor (Done c.args.actor c.index.result.now.command)) (sym view) (
       has,
       refl,
       number,
       reply,
       c.book.ensures.replies,
-      given_started g.F.Fs.view g.F.Fs.faults i.base new i.lanes.items i.runs.items (replies_of i.replies.items) i.given acc c.args.actor in_runs after r c.in-Some.command.now command next e.start c.in-Answered.answer c.in-Answered.start (e.goes r) c.book.new.runs.items all,
-      c.number_of.ensures ∙ start_said g.F.Fs.view g.F.Fs.faults i.base new i.lanes.items i.runs.items (replies_of i.replies.items) i.given acc c.args.actor in_runs run r c.in-Some.command.now command next c.turn-came.ensures.start c.in-Answered.answer c.in-Answered.start (e.goes r),
+      given_started g.F.Fs.view g.F.Fs.faults i.limits i.base new i.lanes.items i.runs.items (replies_of i.replies.items) i.given acc c.args.actor in_runs after r c.in-Some.command.now command next e.start c.in-Answered.answer c.in-Answered.start (e.goes r) c.book.new.runs.items all,
+      c.number_of.ensures ∙ begun,
       c.number_of-in-Answered.ensures ∙ long,
       acc.count,
-      e.shown c.in-Answered.answer c.in-Answered.start refl,
-      (e.start, e.opened, e.grows.0, e.grows.1),
+      (
+        (λ d is.
+            let there = subst (λ n. IsCommand i.lanes.items c.args.actor n d) (given_length i.base i.lanes.items i.runs.items i.replies.items i.limits i.objects c.args.actor booked within r) is in
+            subst (λ n. Shown (g.F.Fs.view i.base.fs) (state_after (first i.base.books.start.items) i.base.books.history.items n) i.base.books.halted (g.F.Fs.faults i.base.fs) (g.F.Fs.faults new.fs) c.in-Answered.answer d) begun
+            (subst (λ x. Shown (g.F.Fs.view i.base.fs) (state_after (first i.base.books.start.items) i.base.books.history.items c.in-Answered.start) i.base.books.halted (g.F.Fs.faults i.base.fs) (g.F.Fs.faults new.fs) c.in-Answered.answer x)
+            (one_command i.lanes.items c.args.actor (get_or i.runs.items c.args.actor r).command c.in-Some.command.now d command there) (e.shown c.in-Answered.answer c.in-Answered.start refl))),
+        e.full c.in-Answered.answer c.in-Answered.start refl,
+      ),
+      (e.start, e.opened, e.grows.0, e.grows.1, refl),
     )
 
 pub returns-in_default-clause-ranks : goal.returns-in_default-clause-ranks
@@ -264,10 +291,10 @@ returns-in-Blocked-clause-held g c = λ z.
     let i = c.self.inside in
     let r = c.index.result.now in
     let e = c.in-Blocked.ensures in
-    let view : c.args.self.now ≡ system_of i.base i.lanes.items i.runs.items i.replies.items = search rules in
+    let view : c.args.self.now ≡ system_of i.base i.lanes.items i.runs.items i.replies.items i.limits i.objects = search rules in
     let off = (e.turns r (e.waits refl)).held refl in
     subst (λ s. IsHeldOff s c.args.actor) (sym view)
-    (off.0, off.1, off.2, holder_has i.base i.lanes.items i.runs.items i.replies.items c.self.invariant.1 (c.self.invariant.3 (e.waits refl)) off.0 off.2)
+    (off.0, off.1, off.2, holder_has i.base i.lanes.items i.runs.items i.replies.items i.limits i.objects c.self.invariant.1 (c.self.invariant.3 (e.waits refl)) off.0 off.2)
 
 pub returns-in-More-clause-ranks : goal.returns-in-More-clause-ranks
 returns-in-More-clause-ranks g c =
@@ -281,13 +308,13 @@ returns-in-More-clause-ranks g c =
     let new = c.turn-came.new.base in
     let now = c.turn-came.new.runs.items in
     let run = get_or now c.args.actor r in
-    let view : c.args.self.now ≡ system_of i.base i.lanes.items i.runs.items i.replies.items = search rules in
-    let has = has_command i.base i.lanes.items i.runs.items i.replies.items c.args.actor booked within r c.index-2.result.now
+    let view : c.args.self.now ≡ system_of i.base i.lanes.items i.runs.items i.replies.items i.limits i.objects = search rules in
+    let has = has_command i.base i.lanes.items i.runs.items i.replies.items i.limits i.objects c.args.actor booked within r c.index-2.result.now
     (omega (arith, few, ap length c.deref.ensures.value, ap (λ (x : Lane). length x.commands.items) c.index-2.ensures, ap (λ (x : Run). x.command) c.index.ensures)) in
     let e = c.in-More.ensures in
     let less = (e.turns r (e.live refl)).falls refl in
-    subst (λ s. Ranked s (system_of new i.lanes.items now i.replies.items) c.args.actor More) (sym view)
-    (ranked_more (system_of i.base i.lanes.items i.runs.items i.replies.items) (system_of new i.lanes.items now i.replies.items) c.args.actor (work_in run.task) refl (ap works_of (e.run r) ∙ map-set (λ (x : Run). work_in x.task) i.runs.items c.args.actor run) refl in_works has
+    subst (λ s. Ranked s (system_of new i.lanes.items now i.replies.items i.limits c.turn-came.new.objects) c.args.actor More) (sym view)
+    (ranked_more (system_of i.base i.lanes.items i.runs.items i.replies.items i.limits i.objects) (system_of new i.lanes.items now i.replies.items i.limits c.turn-came.new.objects) c.args.actor (work_in run.task) refl (ap works_of (e.run r) ∙ map-set (λ (x : Run). work_in x.task) i.runs.items c.args.actor run) refl in_works has
     (subst (λ w. left_of (work_in run.task) < left_of w) (sym (work_at i.runs.items c.args.actor r in_runs)) less))
 
 pub returns-in-Answered-clause-ranks : goal.returns-in-Answered-clause-ranks
@@ -302,8 +329,8 @@ returns-in-Answered-clause-ranks g c =
     let new = c.turn-came.new.base in
     let now = c.turn-came.new.runs.items in
     let run = get_or now c.args.actor r in
-    let view : c.args.self.now ≡ system_of i.base i.lanes.items i.runs.items i.replies.items = search rules in
-    let has = has_command i.base i.lanes.items i.runs.items i.replies.items c.args.actor booked within r c.index-2.result.now
+    let view : c.args.self.now ≡ system_of i.base i.lanes.items i.runs.items i.replies.items i.limits i.objects = search rules in
+    let has = has_command i.base i.lanes.items i.runs.items i.replies.items i.limits i.objects c.args.actor booked within r c.index-2.result.now
     (omega (arith, few, ap length c.deref.ensures.value, ap (λ (x : Lane). length x.commands.items) c.index-2.ensures, ap (λ (x : Run). x.command) c.index.ensures)) in
     let e = c.in-Answered.ensures in
     let after : Run = record { command = run.command + 1; task = run.task } in
@@ -311,8 +338,8 @@ returns-in-Answered-clause-ranks g c =
     let all : c.book.new.runs.items ≡ set i.runs.items c.args.actor after =
     c.book.ensures.tasks r ∙ ap (λ (l : List Run). set l c.args.actor after) (e.run r) ∙ set-set i.runs.items c.args.actor run after in
     let reply : Reply = record { answer = c.in-Answered.answer; start = c.number_of.result; place = c.number_of-in-Answered.result; order = i.given; taken = None } in
-    subst (λ s. Ranked s (system_of new i.lanes.items c.book.new.runs.items c.book.new.replies.items) c.args.actor (Done c.args.actor c.index.result.now.command)) (sym view)
-    (ranked_done (system_of i.base i.lanes.items i.runs.items i.replies.items) (system_of new i.lanes.items c.book.new.runs.items c.book.new.replies.items) c.args.actor c.args.actor c.index.result.now.command reply refl
+    subst (λ s. Ranked s (system_of new i.lanes.items c.book.new.runs.items c.book.new.replies.items i.limits c.turn-came.new.objects) c.args.actor (Done c.args.actor c.index.result.now.command)) (sym view)
+    (ranked_done (system_of i.base i.lanes.items i.runs.items i.replies.items i.limits i.objects) (system_of new i.lanes.items c.book.new.runs.items c.book.new.replies.items i.limits c.turn-came.new.objects) c.args.actor c.args.actor c.index.result.now.command reply refl
     (ap works_of all ∙ map-set (λ (x : Run). work_in x.task) i.runs.items c.args.actor after ∙ ap (λ t. set (works_of i.runs.items) c.args.actor (work_in t)) (e.goes r).0) c.book.ensures.replies in_works in_replies has)
 
 pub returns-in_default-clause-waits : goal.returns-in_default-clause-waits
@@ -325,8 +352,8 @@ returns-in-More-clause-waits g c = λ has live asks off.
     let within : c.args.actor < length i.lanes.items = search rules in
     let in_runs : c.args.actor < length i.runs.items = omega (arith, c.self.invariant.1.each_runs, within) in
     let e = c.in-More.ensures in
-    let view : c.args.self.now ≡ system_of i.base i.lanes.items i.runs.items i.replies.items = search rules in
-    let here : IsHeldOff (system_of i.base i.lanes.items i.runs.items i.replies.items) c.args.actor = subst (λ s. IsHeldOff s c.args.actor) view off in
+    let view : c.args.self.now ≡ system_of i.base i.lanes.items i.runs.items i.replies.items i.limits i.objects = search rules in
+    let here : IsHeldOff (system_of i.base i.lanes.items i.runs.items i.replies.items i.limits i.objects) c.args.actor = subst (λ s. IsHeldOff s c.args.actor) view off in
     absurd ((e.turns r (e.live refl)).waits (λ z. cc) (subst (λ w. AsksTurn w) (work_at i.runs.items c.args.actor r in_runs) (subst (λ s. AsksTurn (get_or s.works c.args.actor None)) view asks)) (here.0, here.1, here.2))
 
 pub returns-in-Answered-clause-waits : goal.returns-in-Answered-clause-waits
@@ -336,6 +363,57 @@ returns-in-Answered-clause-waits g c = λ has live asks off.
     let within : c.args.actor < length i.lanes.items = search rules in
     let in_runs : c.args.actor < length i.runs.items = omega (arith, c.self.invariant.1.each_runs, within) in
     let e = c.in-Answered.ensures in
-    let view : c.args.self.now ≡ system_of i.base i.lanes.items i.runs.items i.replies.items = search rules in
-    let here : IsHeldOff (system_of i.base i.lanes.items i.runs.items i.replies.items) c.args.actor = subst (λ s. IsHeldOff s c.args.actor) view off in
+    let view : c.args.self.now ≡ system_of i.base i.lanes.items i.runs.items i.replies.items i.limits i.objects = search rules in
+    let here : IsHeldOff (system_of i.base i.lanes.items i.runs.items i.replies.items i.limits i.objects) c.args.actor = subst (λ s. IsHeldOff s c.args.actor) view off in
     absurd ((e.turns r (subst (λ s. s.base.books.halted ≡ false) view live)).waits (λ z. cc) (subst (λ w. AsksTurn w) (work_at i.runs.items c.args.actor r in_runs) (subst (λ s. AsksTurn (get_or s.works c.args.actor None)) view asks)) (here.0, here.1, here.2))
+
+pub returns-in-Blocked-clause-counts : goal.returns-in-Blocked-clause-counts
+returns-in-Blocked-clause-counts g c = ap (λ s. s.objects) (returns-in-Blocked-clause-acted g c).1
+
+pub returns-in-More-clause-counts : goal.returns-in-More-clause-counts
+returns-in-More-clause-counts g c =
+    let i = c.self.inside in
+    let r = c.index.result.now in
+    let within : c.args.actor < length i.lanes.items = search rules in
+    let in_runs : c.args.actor < length i.runs.items = omega (arith, c.self.invariant.1.each_runs, within) in
+    let new = c.turn-came.new.base in
+    let now = c.turn-came.new.runs.items in
+    let e = c.in-More.ensures in
+    let view : c.args.self.now ≡ system_of i.base i.lanes.items i.runs.items i.replies.items i.limits i.objects = search rules in
+    let in_now : c.args.actor < length now = search rules in
+    subst (λ s. Counted s (system_of new i.lanes.items now i.replies.items i.limits c.turn-came.new.objects) c.args.actor More) (sym view)
+    (subst (λ w. IsCounted i.objects (met_of w) c.turn-came.new.objects) (sym (work_at now c.args.actor r in_now)) (e.counts r))
+
+pub returns-in-Answered-clause-counts : goal.returns-in-Answered-clause-counts
+returns-in-Answered-clause-counts g c =
+    let i = c.self.inside in
+    let r = c.index.result.now in
+    let new = c.turn-came.new.base in
+    let e = c.in-Answered.ensures in
+    let view : c.args.self.now ≡ system_of i.base i.lanes.items i.runs.items i.replies.items i.limits i.objects = search rules in
+    subst (λ s. c.turn-came.new.objects ≡ s.objects) (sym view) (e.counts r)
+
+-- the commits that were made are kept
+pub returns-in_default-clause-lasts : goal.returns-in_default-clause-lasts
+returns-in_default-clause-lasts g c = λ start v told kept. (v, told, kept)
+
+pub returns-in-Blocked-clause-lasts : goal.returns-in-Blocked-clause-lasts
+returns-in-Blocked-clause-lasts g c = λ start v told kept. held_keeps g.F.Fs.view g.F.Fs.was _ _ (returns-in-Blocked-clause-acted g c).1 start v told kept
+
+pub returns-in-More-clause-lasts : goal.returns-in-More-clause-lasts
+returns-in-More-clause-lasts g c =
+    let i = c.self.inside in
+    let new = c.turn-came.new.base in
+    let view : c.args.self.now ≡ system_of i.base i.lanes.items i.runs.items i.replies.items i.limits i.objects = search rules in
+    let acc = (invariant_of-self-in-More g c).2 in
+    act_keeps_of g.F.Fs.view g.F.Fs.clock g.F.Fs.was c.args.self.now (system_of i.base i.lanes.items i.runs.items i.replies.items i.limits i.objects) (system_of new i.lanes.items c.turn-came.new.runs.items i.replies.items i.limits c.turn-came.new.objects) (g.F.Fs.faults c.args.self.now.base.fs) (g.F.Fs.faults new.fs) c.args.actor More view refl c.self.invariant.4 (each_row i.lanes.items i.runs.items i.replies.items c.self.invariant.1)
+    c.self.invariant.2.replied acc.replied c.in-More.ensures.carried (returns-in-More-clause-acted g c)
+
+pub returns-in-Answered-clause-lasts : goal.returns-in-Answered-clause-lasts
+returns-in-Answered-clause-lasts g c =
+    let i = c.self.inside in
+    let new = c.turn-came.new.base in
+    let view : c.args.self.now ≡ system_of i.base i.lanes.items i.runs.items i.replies.items i.limits i.objects = search rules in
+    let acc = (invariant_of-self-in-Answered g c).2 in
+    act_keeps_of g.F.Fs.view g.F.Fs.clock g.F.Fs.was c.args.self.now (system_of i.base i.lanes.items i.runs.items i.replies.items i.limits i.objects) (system_of new i.lanes.items c.book.new.runs.items c.book.new.replies.items i.limits c.turn-came.new.objects) (g.F.Fs.faults c.args.self.now.base.fs) (g.F.Fs.faults new.fs) c.args.actor (Done c.args.actor c.index.result.now.command) view refl c.self.invariant.4 (each_row i.lanes.items i.runs.items i.replies.items c.self.invariant.1)
+    c.self.invariant.2.replied acc.replied c.in-Answered.ensures.carried (returns-in-Answered-clause-acted g c)

@@ -1,11 +1,14 @@
 use Rattle.std.proofs.Common.{◌≡◌, ◌∙◌, ℕ, List, ap, sym, subst, Some}
+use Rattle.ost_types.specs.declared.limits.Limits.{Limits}
 use Rattle.rely.specs.declared.books.Entry.{Entry}
 use Rattle.rely.specs.State.{State, after, events_of, first}
 use Rattle.ref_book.specs.Tracks.{Tracks}
+use Rattle.sys_core.specs.Fit.{AreFit}
 use Rattle.sys_core.specs.Lanes.{now_of}
 use Rattle.sys_core.proofs.Accounting.{new_accounted}
 use Rattle.sys_core.proofs.Ordering.{ordered_new}
 use Rattle.sys_core.proofs.Starting.{home_of, kept_new}
+use Rattle.sys_core.proofs.Lasting.{none_kept}
 use Rattle.sys_core.proofs.system.System.begun.Goals as goal
 
 pub new-requires-clause-opening : goal.new-requires-clause-opening
@@ -28,6 +31,10 @@ invariant_of-result g c =
       kept_new g.F.Fs.view g.F.Fs.clock g.F.Fs.spare g.F.Fs.was base c.args.prepared.refs c.args.prepared.runs.items e.sound tracks c.requires.few c.requires.idle e.pending
           (λ w lane told few. home_of g.F.Fs.view g.F.Fs.clock g.F.Fs.was c.into_parts-fs.result.fs c.into_parts-fs.result.clock c.into_parts-fs.result.refs.items opened.opened w lane (subst (λ f. g.F.Fs.view f ≡ Some w) e.fs told) few),
       c.requires.booked,
-      new_accounted g.F.Fs.view base c.args.lanes.items c.args.prepared.runs.items c.args.prepared.replies.items (g.F.Fs.faults base.fs) e.history e.pending c.requires.booked c.requires.idle,
+      new_accounted g.F.Fs.view c.into_parts-fs.result.limits base c.args.lanes.items c.args.prepared.runs.items c.args.prepared.replies.items (g.F.Fs.faults base.fs) e.history e.pending c.requires.booked c.requires.idle,
       (λ live. ordered_new base.books c.args.lanes.items c.args.prepared.runs.items e.free.0 e.free.1 c.requires.idle),
+      subst (λ (l : Limits). AreFit l c.args.lanes.items) (sym opened.limits) c.requires.fit,
     )
+
+pub returns-clause-begins : goal.returns-clause-begins
+returns-clause-begins g c = none_kept _ _ _ _ c.new.ensures.history

@@ -19,13 +19,13 @@ returns-clause-headline g c = subst (λ (b : Base g.row.F.Denot). (v : View) →
 pub returns-clause-replied : goal.returns-clause-replied
 returns-clause-replied g c =
     let i = c.self.inside in
-    let view : c.args.self.now ≡ system_of i.base i.lanes.items i.runs.items i.replies.items = search rules in
+    let view : c.args.self.now ≡ system_of i.base i.lanes.items i.runs.items i.replies.items i.limits i.objects = search rules in
     subst (IsReplied g.F.Fs.view) (sym view) c.self.invariant.2.replied
 
 pub returns-clause-halted : goal.returns-clause-halted
 returns-clause-halted g c = λ lane number r to is.
     let i = c.self.inside in
-    let view : c.args.self.now ≡ system_of i.base i.lanes.items i.runs.items i.replies.items = search rules in
+    let view : c.args.self.now ≡ system_of i.base i.lanes.items i.runs.items i.replies.items i.limits i.objects = search rules in
     let h = c.self.invariant.2.halts lane number r (subst (λ s. IsTo s.replies lane number r) view to) is in
     subst (λ s. (s.base.books.halted ≡ true) × (r.answer ≡ answer.Halted (g.F.Fs.faults s.base.fs))) (sym view) h
 
@@ -33,8 +33,8 @@ pub returns-clause-within : goal.returns-clause-within
 returns-clause-within g c =
     let i = c.self.inside in
     let b = c.self.invariant.1 in
-    let view : c.args.self.now ≡ system_of i.base i.lanes.items i.runs.items i.replies.items = search rules in
+    let view : c.args.self.now ≡ system_of i.base i.lanes.items i.runs.items i.replies.items i.limits i.objects = search rules in
     subst (λ s. AreWithin s) (sym view) (
       length-map i.replies.items (λ (v : Vec Reply). v.items) ∙ b.each_replied,
-      (λ l d lt. let r = some_of i.runs.items l (omega (arith, b.each_runs, lt)) in omega (arith, given_length i.base i.lanes.items i.runs.items i.replies.items l b lt r, b.within l d r lt)),
+      (λ l d lt. let r = some_of i.runs.items l (omega (arith, b.each_runs, lt)) in omega (arith, given_length i.base i.lanes.items i.runs.items i.replies.items i.limits i.objects l b lt r, b.within l d r lt)),
     )

@@ -1,6 +1,9 @@
-use Rattle.std.proofs.Common.{◌≡◌}
+use Rattle.std.proofs.Common.{◌≡◌, Some}
 use Rattle.sys_core.specs.Booked.{IsLater}
 use Rattle.sys_core.proofs.Ranking.{Progress}
+use Rattle.fs_trait.specs.View.{View}
+use Rattle.fs_trait.specs.Image.{Told}
+use Rattle.sys_core.specs.Lasting.{AreKept}
 use Rattle.sys_core.proofs.system.System.round.Given as goal
 
 -- the lanes so far have acted
@@ -8,5 +11,6 @@ abbrev pub invariant-lanes : goal.invariant-lanes
 invariant-lanes g l = record {
   lanes : l.self.lanes ≡ l.fn.self.lanes;
   later : IsLater l.fn.self l.self;
+  lasts : (start v : View) → g.F.Fs.view l.fn.self.base.fs ≡ Some v → AreKept g.F.Fs.was start l.fn.self v → Told (g.F.Fs.view l.self.base.fs) (λ w. AreKept g.F.Fs.was start l.self w);
   progress : Progress l.fn.self l.self l.lane l.unfinished;
 }

@@ -1,0 +1,60 @@
+-- What a step of a command's task keeps of the objects, and the moment of the change that it made to last.
+use Rattle.std.proofs.Common.{◌≡◌, ◌⊎◌, inl, inr, ⊎_elim, ◌≤◌, ℕ, refl, sym, subst, arith, List, ◌∷◌, ◌++◌, [], length, Option}
+use Rattle.fs_trait.specs.View.{View}
+use Rattle.rely.specs.declared.books.Base.{Base}
+use Rattle.rely.specs.declared.books.Books as rust
+use Rattle.rely.specs.declared.books.Entry.{Entry}
+use Rattle.rely.specs.declared.event.Event.{Event}
+use Rattle.rely.specs.declared.kind.Outcome.{Outcome}
+use Rattle.rely.specs.declared.kind.Outcome.TheVariants as came
+use Rattle.rely.specs.Books.{books_of}
+use Rattle.rely.specs.Exact.{IsBooked}
+use Rattle.rely.specs.Lasting.{Lasts}
+use Rattle.rely.specs.Laws.{Kind, Quiet, Store, Take, Show, Shown, Settle, Holds}
+use Rattle.rely.proofs.Lasting.{lasts_refl}
+use Rattle.rely.proofs.Sounds.{IsFs}
+use Rattle.sys_core.specs.Lasting.{IsCarried}
+use Rattle.sys_core.specs.Replied.{IsAt}
+use Rattle.sys_core.proofs.Histories.{grown}
+use Rattle.sys_core.proofs.Places.{at_split}
+
+-- one more entry, of this moment
+abbrev IsLater : ℕ → List Entry → List Entry → Type 0
+IsLater moment old new = (new ≡ old) ⊎ ((e : Entry) × (e.moment ≡ moment) × (new ≡ old ++ e ∷ []))
+
+module _ (lane command moment : ℕ) (old new : rust.Books) where
+  unsettled : (k : Kind) (outcome : Outcome) → ((e : Event) → k ≡ Settle e → ⊥) → Holds k lane (books_of old) → IsBooked k lane command moment outcome old new → IsLater moment old.history.items new.history.items
+  unsettled k outcome never h b = ⊎_elim (λ same. inl same) (λ longer. absurd (never longer.entry.event longer.kind)) (grown lane command moment old new k outcome h b)
+
+  settled : (e : Event) (outcome : Outcome) → Holds (Settle e) lane (books_of old) → IsBooked (Settle e) lane command moment outcome old new → IsLater moment old.history.items new.history.items
+  settled e came.Done h b = inr (record { lane = lane; command = h.command; event = e; moment = moment }, refl, b.1 _ h.pending)
+  settled e came.Halted h b = inl b.0
+  settled e came.More h b = absurd b
+  settled e came.Blocked h b = absurd b
+  settled e (came.Refused f) h b = absurd b
+
+  moment_is : (k : Kind) (outcome : Outcome) → Holds k lane (books_of old) → IsBooked k lane command moment outcome old new → IsLater moment old.history.items new.history.items
+  moment_is Quiet outcome h b = unsettled Quiet outcome (λ e is. cc) h b
+  moment_is Store outcome h b = unsettled Store outcome (λ e is. cc) h b
+  moment_is (Take wants) outcome h b = unsettled (Take wants) outcome (λ e is. cc) h b
+  moment_is (Show d) outcome h b = unsettled (Show d) outcome (λ e is. cc) h b
+  moment_is (Shown d n) outcome h b = unsettled (Shown d n) outcome (λ e is. cc) h b
+  moment_is (Settle d) outcome h b = settled d outcome h b
+
+later_at : (moment : ℕ) (old new : List Entry) → IsLater moment old new → (k : ℕ) (e : Entry) → IsAt new k e → IsAt old k e ⊎ ((length old ≤ k) × (e.moment ≡ moment))
+later_at moment old new (inl same) k e at = inl (subst (λ (l : List Entry). IsAt l k e) same at)
+later_at moment old new (inr more) k e at = ⊎_elim
+    (λ before. inl before)
+    (λ here. inr (omega (arith, here.0), subst (λ (x : Entry). x.moment ≡ moment) (sym here.1) more.1))
+    (at_split old more.0 e k (subst (λ (l : List Entry). IsAt l k e) more.2 at))
+
+module _ {F : Type 0} (view : F → Option View) (clock : F → ℕ) (was : F → ℕ → View → Type 0) where
+  pub step_carried : (lane command : ℕ) (old new : Base F) (kind : Kind) (outcome : Outcome) → Lasts view clock was old.fs new.fs → Holds kind lane (books_of old.books) → IsBooked kind lane command (clock new.fs) outcome old.books new.books → IsCarried view clock was old new
+  step_carried lane command old new kind outcome lasts holds booked = record {
+    lasts = lasts;
+    moments = later_at (clock new.fs) old.books.history.items new.books.history.items (moment_is lane command (clock new.fs) old.books new.books kind outcome holds booked);
+  }
+
+  -- nothing was done
+  pub same_carried : IsFs view clock was → (base : Base F) → IsCarried view clock was base base
+  same_carried laws base = record { lasts = lasts_refl view clock was laws base.fs; moments = λ k e at. inl at }

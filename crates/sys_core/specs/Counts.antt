@@ -1,0 +1,42 @@
+-- How many objects are in the store.
+use Rattle.std.specs.Prelude.{◌≡◌, ◌≤◌, ℕ, slice_index_or, Option, Some, None}
+use Rattle.ost_types.specs.declared.limits.Limits.{Limits}
+use Rattle.ost_types.specs.declared.object.ObjName.{ObjName}
+use Rattle.obj_store.specs.declared.phase.Put.{Put}
+use Rattle.commit_build.specs.Whole.{IsCounted}
+use Rattle.lane_work.specs.declared.command.LaneCommand.{LaneCommand}
+use Rattle.lane_work.specs.Commands.{met_by}
+use Rattle.rely.specs.declared.kind.Outcome.{Outcome}
+use Rattle.rely.specs.declared.kind.Outcome.TheVariants as outcome
+use Rattle.script.specs.declared.answer.Answer.{Answer}
+use Rattle.script.specs.declared.answer.Answer.TheVariants as answer
+use Rattle.sys_core.specs.declared.ask.Ask.{Ask}
+use Rattle.sys_core.specs.declared.ask.Ask.TheVariants.{More}
+use Rattle.sys_core.specs.declared.lane.Came.{Came}
+use Rattle.sys_core.specs.declared.lane.Came.TheVariants as came
+use Rattle.sys_core.specs.declared.run.Running.{Running}
+use Rattle.sys_core.specs.System.{System}
+use Rattle.sys_core.specs.Turns.{work_in}
+
+-- what the last step of a task stored or found
+abbrev pub met_of : Option LaneCommand → Option (ObjName × Put)
+met_of None = None
+met_of (Some t) = met_by t
+
+-- one more after an act whose step stored an object
+abbrev pub CountsBy : ℕ → Option Running → Came → ℕ → Type 0
+CountsBy before task came.More now = IsCounted before (met_of (work_in task)) now
+CountsBy before task came now = now ≡ before
+
+abbrev pub CountsAt : ℕ → LaneCommand → Outcome → ℕ → Type 0
+CountsAt before t outcome.More now = IsCounted before (met_by t) now
+CountsAt before t came now = now ≡ before
+
+abbrev pub Counted : {F : Type 0} → System F → System F → ℕ → Ask → Type 0
+Counted old new actor More = IsCounted old.objects (met_of (slice_index_or new.works actor None)) new.objects
+Counted old new actor ask = new.objects ≡ old.objects
+
+-- too many objects are told of only where the store has as many as it may
+abbrev pub IsFull : Limits → ℕ → Answer → Type 0
+IsFull limits objects (answer.TooMany number) = limits.objects ≤ objects
+IsFull limits objects a = Unit {0}
