@@ -1,7 +1,5 @@
 #!/bin/sh
-# Runs the program in a fresh folder: opens a repository there, and sets, lists and removes refs.
-# Commands don't make commits so far, so the demo puts an empty file in the place of one. A regular file of the repository is
-# kept on the host as its content stream: a header of 26 bytes, which has the owner, the group and the mode, and its bytes.
+# Runs the program in a fresh folder: two trees are committed under one ref, and refs are set, listed and removed.
 set -eu
 cd "$(dirname "$0")/.."
 program=$PWD/build/ostree_cli
@@ -15,15 +13,33 @@ ask() {
 	"$program" "$@" || status=$?
 	echo "(status $status)"
 }
-commit=6e340b9cffb37a989ca544e6bb780a2c78901d3fb33738768511a30617afa01d
 ask init
-mkdir -p ostree/repo/objects/6e
-printf '\000\000\000\022\000\000\000\000\000\000\000\000\000\000\000\000\000\000\201\244\000\000\000\000\000\021' \
-	>"ostree/repo/objects/6e/${commit#6e}.commit"
-ask reset os/stable "$commit"
-ask reset main "$commit"
-ask reset main/next "$commit"
-ask rev-parse main
+cat >script <<'EOF'
+ostree-script 1
+tree 0
+folder / 0 0 755 ~
+folder /etc 0 0 755 ~
+file /etc/motd 0 0 644 ~ =hello%0a
+link /motd 0 0 ~ etc/motd
+end
+tree 1
+folder / 0 0 755 ~
+folder /etc 0 0 755 ~
+file /etc/motd 0 0 644 ~ =hello%20again%0a
+link /motd 0 0 ~ etc/motd
+end
+lane
+commit os/stable 0 first ~ 1700000000
+commit os/stable 1 second ~ 1700000060
+rev-parse os/stable
+end
+EOF
+cat script
+ask run <script
+ask refs
+commit=$("$program" rev-parse os/stable)
+ask reset main "${commit##* }"
+ask reset main/next "${commit##* }"
 ask refs
 ask drop main
 ask rev-parse main

@@ -1,6 +1,9 @@
+pub mod Reading
 pub mod Printing
 pub mod Greatest
 pub mod Texts
 pub mod Plain
 pub mod Rans
 pub mod Outcomes
+pub mod Asking
+pub mod Fits

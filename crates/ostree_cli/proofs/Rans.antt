@@ -7,22 +7,24 @@ use Rattle.rely.specs.Disks.{Logical}
 use Rattle.rely.specs.declared.books.Entry.{Entry}
 use Rattle.rely.specs.declared.books.Pending.{Pending}
 use Rattle.rely.specs.declared.event.Event.{Event}
+use Rattle.ost_types.specs.declared.limits.Limits.{Limits}
 use Rattle.script.specs.declared.answer.Reply.{Reply}
 use Rattle.script.specs.declared.command.Command.{Command}
 use Rattle.script.specs.declared.command.Lane.{Lane}
 use Rattle.sys_core.specs.declared.system.Parts.{Parts}
 use Rattle.sys_core.specs.Answers.{IsTold}
+use Rattle.sys_core.specs.Lasting.{AreKeptIn}
 use Rattle.sys_core.specs.Replied.{Replied}
 use Rattle.layout_rules.specs.Checks.{IsSane}
 use Rattle.sys_open.specs.Opening.{Begins}
 use Rattle.ostree_cli.specs.declared.fault.TopFault.{TopFault}
 use Rattle.ostree_cli.specs.Headline.{Headline}
-use Rattle.ostree_cli.specs.Top.{Ran, RanBy, event_of}
+use Rattle.ostree_cli.specs.Top.{AreStandard, Ran, RanBy, event_of}
 use Rattle.ostree_cli.specs.Words.{IsLine}
 
--- a view that is told has what each told view has
-told_all : (o : Option View) (R : View → Type 0) → Told o (λ w. Unit {0}) → ((w : View) → o ≡ Some w → R w) → Told o R
-told_all o R told all = (told.0, told.1, all told.0 told.1)
+-- a view that is told has what each told view has, beside what is told of it
+told_all : (o : Option View) (Q R : View → Type 0) → Told o Q → ((w : View) → o ≡ Some w → Q w → R w) → Told o R
+told_all o Q R told all = (told.0, told.1, all told.0 told.1 told.2)
 
 pub same_refs : (o : Option View) (refs : List (List ℕ × List ℕ)) (v : View) → Told o (Begins refs v) → Logical v.now (first refs)
 same_refs o refs v told = told.2.same
@@ -31,14 +33,15 @@ lengths : (lanes : List Lane) → map (λ lane. length lane.commands.items) lane
 lengths [] = refl
 lengths (lane ∷ rest) = ap (λ l. length lane.commands.items ∷ l) (lengths rest)
 
-pub ran : {F : Type 0} (view : F → Option View) (clock : F → ℕ) (was : F → ℕ → View → Type 0) (v : View) (before barrier : ℕ) (refs : List (List ℕ × List ℕ)) (lanes : List Lane) (r : Result (Parts F) (F × TopFault))
-    → IsSane v.now → Logical v.now (first refs) → barrier ≡ before + 1 → ((fs : F) → Told (view fs) (λ w. Unit {0}))
+pub ran : {F : Type 0} (limits opened : Limits) (view : F → Option View) (clock : F → ℕ) (was : F → ℕ → View → Type 0) (v : View) (before barrier : ℕ) (refs : List (List ℕ × List ℕ)) (lanes : List Lane) (r : Result (Parts F) (F × TopFault))
+    → opened ≡ limits → IsSane v.now → Logical v.now (first refs) → barrier ≡ before + 1 → (begun : View) → Begins refs v begun
     → ((w : View) → IfOk r (λ p. view p.fs ≡ Some w → Headline clock was barrier (first refs) p.fs p.history.items (event_of p.pending) w))
-    → IfOk r (λ p. (started : List (Option ℕ)) × Replied (IsTold view) (first refs) p.history.items p.pending lanes started (map (λ replies. replies.items) p.replies.items))
+    → IfOk r (λ p. (started : List (Option ℕ)) × Replied (IsTold view) opened (first refs) p.history.items p.pending lanes started (map (λ replies. replies.items) p.replies.items))
     → IfOk r (λ p. map (λ row. length row) (map (λ replies. replies.items) p.replies.items) ≡ map (λ lane. length lane.commands.items) lanes)
-    → IfOk r (λ p. Told (view p.fs) (Ran view clock was v before (map (λ lane. lane.commands.items) lanes) p.fs p.history.items (event_of p.pending) (map (λ replies. replies.items) p.replies.items)))
-ran view clock was v before barrier refs lanes (Err e) sane state at told lines replied ended = tt
-ran view clock was v before barrier refs lanes (Ok p) sane state at told lines replied ended = told_all (view p.fs) (Ran view clock was v before (map (λ lane. lane.commands.items) lanes) p.fs p.history.items (event_of p.pending) (map (λ replies. replies.items) p.replies.items)) (told p.fs) (λ w is. record {
+    → IfOk r (λ p. Told (view p.fs) (AreKeptIn (was p.fs) begun opened lanes p.history.items))
+    → IfOk r (λ p. Told (view p.fs) (Ran limits view clock was v before (map (λ lane. lane.commands.items) lanes) p.fs p.history.items (event_of p.pending) (map (λ replies. replies.items) p.replies.items)))
+ran limits opened view clock was v before barrier refs lanes (Err e) same sane state at begun begins lines replied ended kept = tt
+ran limits opened view clock was v before barrier refs lanes (Ok p) same sane state at begun begins lines replied ended kept = told_all (view p.fs) (AreKeptIn (was p.fs) begun opened lanes p.history.items) (Ran limits view clock was v before (map (λ lane. lane.commands.items) lanes) p.fs p.history.items (event_of p.pending) (map (λ replies. replies.items) p.replies.items)) kept (λ w is stays. record {
   sane = sane;
   start = first refs;
   state = state;
@@ -48,25 +51,39 @@ ran view clock was v before barrier refs lanes (Ok p) sane state at told lines r
   started = replied.0;
   by = p.pending;
   shown = refl;
-  replied = replied.1;
+  replied = subst (λ l. Replied (IsTold view) l (first refs) p.history.items p.pending lanes replied.0 (map (λ replies. replies.items) p.replies.items)) same replied.1;
   ended = ended ∙ lengths lanes;
+  begun = begun;
+  opens = begins.keeps;
+  opened = begins.opening;
+  kept = subst (λ l. AreKeptIn (was p.fs) begun l lanes p.history.items w) same stays;
 })
 
+-- what is said of the commits of a system is said of what it was taken apart into
+pub kept_parts : {F : Type 0} (view : F → Option View) (was : F → ℕ → View → Type 0) (begun : View) (fs fs' : F) (limits limits' : Limits) (lanes lanes' : List Lane) (h h' : List Entry)
+    → fs' ≡ fs → limits ≡ limits' → lanes ≡ lanes' → h' ≡ h → Told (view fs) (AreKeptIn (was fs) begun limits lanes h) → Told (view fs') (AreKeptIn (was fs') begun limits' lanes' h')
+kept_parts view was begun fs fs' limits limits' lanes lanes' h h' fs-is limits-is lanes-is h-is kept =
+    subst (λ x. Told (view x) (AreKeptIn (was x) begun limits' lanes' h')) (sym fs-is)
+    (subst (λ x. Told (view fs) (AreKeptIn (was fs) begun x lanes' h')) limits-is
+    (subst (λ x. Told (view fs) (AreKeptIn (was fs) begun limits x h')) lanes-is
+    (subst (λ x. Told (view fs) (AreKeptIn (was fs) begun limits lanes x)) (sym h-is) kept)))
+
 -- what is said of the replies of a system is said of what it was taken apart into
-pub replied_parts : (told : Type 0) (refs refs' : List (List ℕ × List ℕ)) (h h' : List Entry) (p p' : Option Pending) (l l' : List Lane) (started : List (Option ℕ)) (r r' : List (List Reply))
-    → refs ≡ refs' → h' ≡ h → p' ≡ p → l ≡ l' → r' ≡ r → Replied told (first refs) h p l started r → Replied told (first refs') h' p' l' started r'
-replied_parts told refs refs' h h' p p' l l' started r r' refs-is h-is p-is l-is r-is replied =
-    subst (λ x. Replied told (first x) h' p' l' started r') refs-is
-    (subst (λ x. Replied told (first refs) x p' l' started r') (sym h-is)
-    (subst (λ x. Replied told (first refs) h x l' started r') (sym p-is)
-    (subst (λ x. Replied told (first refs) h p x started r') l-is
-    (subst (λ x. Replied told (first refs) h p l started x) (sym r-is) replied))))
+pub replied_parts : (told : Type 0) (limits limits' : Limits) (refs refs' : List (List ℕ × List ℕ)) (h h' : List Entry) (p p' : Option Pending) (l l' : List Lane) (started : List (Option ℕ)) (r r' : List (List Reply))
+    → limits ≡ limits' → refs ≡ refs' → h' ≡ h → p' ≡ p → l ≡ l' → r' ≡ r → Replied told limits (first refs) h p l started r → Replied told limits' (first refs') h' p' l' started r'
+replied_parts told limits limits' refs refs' h h' p p' l l' started r r' limits-is refs-is h-is p-is l-is r-is replied =
+    subst (λ x. Replied told x (first refs') h' p' l' started r') limits-is
+    (subst (λ x. Replied told limits (first x) h' p' l' started r') refs-is
+    (subst (λ x. Replied told limits (first refs) x p' l' started r') (sym h-is)
+    (subst (λ x. Replied told limits (first refs) h x l' started r') (sym p-is)
+    (subst (λ x. Replied told limits (first refs) h p x started r') l-is
+    (subst (λ x. Replied told limits (first refs) h p l started x) (sym r-is) replied)))))
 
 -- the same by the words that the lanes are of
-pub by_words : {F : Type 0} (words : List (List ℕ)) (view : F → Option View) (clock : F → ℕ) (was : F → ℕ → View → Type 0) (v : View) (before : ℕ) (commands : List (List Command)) (fs fs' : F) (h h' : List Entry) (p p' : Option Event) (r r' : List (List Reply))
-    → IsLine words commands → fs' ≡ fs → h' ≡ h → p' ≡ p → r' ≡ r → Told (view fs) (Ran view clock was v before commands fs h p r) → Told (view fs') (RanBy words view clock was v before fs' h' p' r')
-by_words words view clock was v before commands fs fs' h h' p p' r r' line fs-is h-is p-is r-is told =
-    subst (λ x. Told (view x) (RanBy words view clock was v before x h' p' r')) (sym fs-is)
-    (subst (λ x. Told (view fs) (RanBy words view clock was v before fs x p' r')) (sym h-is)
-    (subst (λ x. Told (view fs) (RanBy words view clock was v before fs h x r')) (sym p-is)
-    (subst (λ x. Told (view fs) (RanBy words view clock was v before fs h p x)) (sym r-is) (told.0, told.1, (commands, line, told.2)))))
+pub by_words : {F : Type 0} (left : Option (List ℕ)) (words : List (List ℕ)) (limits : Limits) (view : F → Option View) (clock : F → ℕ) (was : F → ℕ → View → Type 0) (v : View) (before : ℕ) (commands : List (List Command)) (fs fs' : F) (h h' : List Entry) (p p' : Option Event) (r r' : List (List Reply))
+    → AreStandard limits → IsLine left words commands → fs' ≡ fs → h' ≡ h → p' ≡ p → r' ≡ r → Told (view fs) (Ran limits view clock was v before commands fs h p r) → Told (view fs') (RanBy left words view clock was v before fs' h' p' r')
+by_words left words limits view clock was v before commands fs fs' h h' p p' r r' standard line fs-is h-is p-is r-is told =
+    subst (λ x. Told (view x) (RanBy left words view clock was v before x h' p' r')) (sym fs-is)
+    (subst (λ x. Told (view fs) (RanBy left words view clock was v before fs x p' r')) (sym h-is)
+    (subst (λ x. Told (view fs) (RanBy left words view clock was v before fs h x r')) (sym p-is)
+    (subst (λ x. Told (view fs) (RanBy left words view clock was v before fs h p x)) (sym r-is) (told.0, told.1, (limits, commands, standard, line, told.2)))))

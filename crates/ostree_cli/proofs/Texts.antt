@@ -13,7 +13,7 @@ use Rattle.script.specs.Words.{IsCommand, HasFields, IsBranch, IsCommit, IsRev, 
 use Rattle.script.specs.declared.command.Rev.TheVariants.{Ref, Commit}
 use Rattle.script.specs.declared.command.Rev.{Rev}
 use Rattle.script.specs.declared.command.Command.{Command}
-use Rattle.script.specs.declared.command.Command.TheVariants.{Refs, RevParse, Reset, DropRef}
+use Rattle.script.specs.declared.command.Command.TheVariants.{Refs, RevParse, Reset, DropRef, Commit as CommitTree}
 
 -- from the space to `~`
 abbrev IsPrinted : ℕ → Type 0
@@ -92,6 +92,7 @@ fields_text (RevParse rev) fields has = subst (All IsText) (sym has.1) (alone ha
 fields_text (Reset branch commit) fields has =
     subst (All IsText) (sym has.2) (All-cons IsText has.0 (has.1 ∷ []) (branch_text has.0 branch has.3) (alone has.1 (commit_text has.1 commit has.4)))
 fields_text (DropRef branch) fields has = subst (All IsText) (sym has.1) (alone has.0 (branch_text has.0 branch has.2))
+fields_text (CommitTree branch tree subject body time) fields has = absurd has
 
 is_printed : ℕ → Bool
 is_printed b = nat_le 32 b && nat_le b 126
@@ -118,6 +119,7 @@ keyword_text Refs = text_from (codes "refs") (tested (codes "refs") refl)
 keyword_text (RevParse rev) = text_from (codes "rev-parse") (tested (codes "rev-parse") refl)
 keyword_text (Reset branch commit) = text_from (codes "reset") (tested (codes "reset") refl)
 keyword_text (DropRef branch) = text_from (codes "drop") (tested (codes "drop") refl)
+keyword_text (CommitTree branch tree subject body time) = text_from (codes "commit") (tested (codes "commit") refl)
 
 pub line_texts : (words : List (List ℕ)) (command : Command) → IsCommand words command → All IsText words
 line_texts words command is = subst (All IsText) (sym is.line) (All-cons IsText _ is.fields (keyword_text command) (fields_text command is.fields is.has))

@@ -7,7 +7,8 @@ use Rattle.script.specs.declared.answer.Reply.{Reply}
 use Rattle.sys_open.specs.declared.fault.OpenFault.TheVariants.{Damaged, Disk, Outside}
 use Rattle.sys_open.specs.declared.fault.OpenFault.TheVariants as opening
 use Rattle.ostree_cli.specs.declared.fault.TopFault.{TopFault}
-use Rattle.ostree_cli.specs.declared.fault.TopFault.TheVariants.{Usage, Open, NoMemory}
+use Rattle.script.specs.declared.fault.ScriptFault.TheVariants as script
+use Rattle.ostree_cli.specs.declared.fault.TopFault.TheVariants.{Usage, Script, Input, Open, NoMemory}
 
 -- a count rose, or stands at its last value
 abbrev pub has_risen : ℕ → ℕ → Bool
@@ -39,13 +40,16 @@ replies_status lanes = greatest (map lane_status lanes)
 abbrev pub fault_status : Option TopFault → ℕ
 fault_status None = 0
 fault_status (Some Usage) = 2
+fault_status (Some (Script script.NoMemory)) = 3
+fault_status (Some (Script e)) = 2
+fault_status (Some Input) = 7
 fault_status (Some NoMemory) = 3
 fault_status (Some (Open (Outside path))) = 4
 fault_status (Some (Open Disk)) = 0
 fault_status (Some (Open opening.NoMemory)) = 3
 fault_status (Some (Open (Damaged path why))) = 8
 
--- disk and sink tell whether the count of the file system, and of the sink, has risen
-unfoldable pub status_of : Option TopFault → List (List Reply) → Bool → Bool → ℕ
-status_of fault lanes disk sink =
-    max (max (if sink then 6 else 0) (if disk then 4 else 0)) (max (fault_status fault) (replies_status lanes))
+-- source, disk and sink tell whether the count of the source, of the file system and of the sink has risen
+unfoldable pub status_of : Option TopFault → List (List Reply) → Bool → Bool → Bool → ℕ
+status_of fault lanes source disk sink =
+    max (max (max (if source then 7 else 0) (if sink then 6 else 0)) (if disk then 4 else 0)) (max (fault_status fault) (replies_status lanes))

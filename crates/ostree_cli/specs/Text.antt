@@ -1,24 +1,39 @@
 -- What the program prints.
 use Rattle.std.specs.Prelude.{ℕ, List, [], ◌∷◌, ◌++◌, codes, Option, Some, None}
+use Rattle.std.specs.Fmt.{decimal}
 use Rattle.ost_types.specs.Path.{text_of}
 use Rattle.script.specs.Field.{escaped}
 use Rattle.script.specs.Lines.{replies_text}
 use Rattle.script.specs.declared.answer.Reply.{Reply}
+use Rattle.script.specs.declared.fault.ScriptFault.{ScriptFault}
+use Rattle.script.specs.declared.fault.ScriptFault.TheVariants.{BadLine, TooLong, TooManyLanes, TooManyCommands, UnknownTree}
+use Rattle.script.specs.declared.fault.ScriptFault.TheVariants as script
 use Rattle.sys_open.specs.declared.fault.Why.{Why}
 use Rattle.sys_open.specs.declared.fault.Why.TheVariants.{BadRef, WrongKind}
 use Rattle.sys_open.specs.declared.fault.OpenFault.{OpenFault}
 use Rattle.sys_open.specs.declared.fault.OpenFault.TheVariants.{Damaged, Disk, Outside}
 use Rattle.sys_open.specs.declared.fault.OpenFault.TheVariants as opening
 use Rattle.ostree_cli.specs.declared.fault.TopFault.{TopFault}
-use Rattle.ostree_cli.specs.declared.fault.TopFault.TheVariants.{Usage, Open, NoMemory}
+use Rattle.ostree_cli.specs.declared.fault.TopFault.TheVariants.{Usage, Script, Input, Open, NoMemory}
 
 abbrev pub why_text : Why → List ℕ
 why_text BadRef = codes "BadRef"
 why_text WrongKind = codes "WrongKind"
 
+-- the line of a fault of a script, with its number, where it has one
+abbrev pub script_line : ScriptFault → List ℕ
+script_line (BadLine n) = codes "fault script BadLine " ++ (decimal n ++ 10 ∷ [])
+script_line TooLong = codes "fault script TooLong\n"
+script_line TooManyLanes = codes "fault script TooManyLanes\n"
+script_line TooManyCommands = codes "fault script TooManyCommands\n"
+script_line (UnknownTree n) = codes "fault script UnknownTree " ++ (decimal n ++ 10 ∷ [])
+script_line script.NoMemory = codes "fault memory\n"
+
 -- the one line of a fault before the lanes
 abbrev pub fault_line : TopFault → List ℕ
 fault_line Usage = codes "fault usage\n"
+fault_line (Script e) = script_line e
+fault_line Input = codes "fault input\n"
 fault_line NoMemory = codes "fault memory\n"
 fault_line (Open opening.NoMemory) = codes "fault memory\n"
 fault_line (Open Disk) = codes "fault open Disk\n"

@@ -6,18 +6,22 @@ use Rattle.rely.specs.declared.books.Entry.{Entry}
 use Rattle.rely.specs.declared.books.Pending.{Pending}
 use Rattle.rely.specs.declared.event.Event.{Event}
 use Rattle.rely.specs.Disks.{Logical}
+use Rattle.rely.specs.Opening.{IsOpening}
 use Rattle.rely.specs.State.{State}
+use Rattle.ost_types.specs.declared.limits.Limits.{Limits}
 use Rattle.script.specs.declared.answer.Reply.{Reply}
 use Rattle.script.specs.declared.command.Command.{Command}
 use Rattle.script.specs.declared.command.Lane.{Lane}
 use Rattle.sys_core.specs.Answers.{IsTold}
+use Rattle.sys_core.specs.Lasting.{AreKeptIn}
 use Rattle.sys_core.specs.Replied.{Replied}
 use Rattle.sys_open.specs.declared.fault.OpenFault.{OpenFault}
 use Rattle.sys_open.specs.declared.fault.OpenFault.TheVariants as opening
 use Rattle.layout_rules.specs.Checks.{IsSane}
+use Rattle.sys_open.specs.Changes.{Keeps}
 use Rattle.sys_open.specs.Opening.{IsToldOf, StaysOnDamage}
 use Rattle.ostree_cli.specs.declared.fault.TopFault.{TopFault}
-use Rattle.ostree_cli.specs.declared.fault.TopFault.TheVariants.{Usage, Open, NoMemory}
+use Rattle.ostree_cli.specs.declared.fault.TopFault.TheVariants.{Usage, Script, Input, Open, NoMemory}
 use Rattle.ostree_cli.specs.Headline.{Headline}
 use Rattle.ostree_cli.specs.Output.{Wrote, WroteFront}
 use Rattle.ostree_cli.specs.Words.{IsLine}
@@ -25,6 +29,8 @@ use Rattle.ostree_cli.specs.Words.{IsLine}
 -- why no lane was run, by what reads see at the beginning
 abbrev pub IsStop : Disk → TopFault → Type 0
 IsStop d Usage = Unit {0}
+IsStop d (Script e) = Unit {0}
+IsStop d Input = Unit {0}
 IsStop d (Open opening.NoMemory) = ⊥
 IsStop d (Open fault) = IsToldOf d fault
 IsStop d NoMemory = Unit {0}
@@ -39,10 +45,17 @@ abbrev pub event_of : Option Pending → Option Event
 event_of None = None
 event_of (Some p) = Some p.event
 
+-- the limits of the program
+pub record AreStandard (limits : Limits) : Type 0 where
+  pub objects : limits.objects ≡ 1048576
+  pub paths : limits.paths ≡ 524288
+  pub content : limits.content ≡ 268435456
+
 -- What a run of lanes with these commands leaves: the repository was sane, and from the refs that it had then all is as the
 -- headline says. Each reply is by its command and by the states that the changes make of these refs; and each change is one
--- command's, which was answered so, or which was cut off where the change is pending. Each command of each lane has its reply.
-pub record Ran {F : Type 0} (view : F → Option View) (clock : F → ℕ) (was : F → ℕ → View → Type 0) (v : View) (before : ℕ) (commands : List (List Command)) (fs : F) (history : List Entry) (pending : Option Event) (replies : List (List Reply)) (w : View) : Type 0 where
+-- command's, which was answered so, or which was cut off where the change is pending. Each command of each lane has its reply. The
+-- opening changed nothing but what it laid out and cleared, and from there on each commit that a change made is kept.
+pub record Ran {F : Type 0} (limits : Limits) (view : F → Option View) (clock : F → ℕ) (was : F → ℕ → View → Type 0) (v : View) (before : ℕ) (commands : List (List Command)) (fs : F) (history : List Entry) (pending : Option Event) (replies : List (List Reply)) (w : View) : Type 0 where
   pub sane : IsSane v.now
   pub start : State
   pub state : Logical v.now start
@@ -52,12 +65,16 @@ pub record Ran {F : Type 0} (view : F → Option View) (clock : F → ℕ) (was 
   pub started : List (Option ℕ)
   pub by : Option Pending
   pub shown : pending ≡ event_of by
-  pub replied : Replied (IsTold view) start history by lanes started replies
+  pub replied : Replied (IsTold view) limits start history by lanes started replies
   pub ended : map (λ row. length row) replies ≡ map (λ row. length row) commands
+  pub begun : View
+  pub opens : Keeps v.now begun.now
+  pub opened : IsOpening start begun
+  pub kept : AreKeptIn (was fs) begun limits lanes history w
 
--- so, of lanes that these words ask for
-abbrev pub RanBy : {F : Type 0} → List (List ℕ) → (F → Option View) → (F → ℕ) → (F → ℕ → View → Type 0) → View → ℕ → F → List Entry → Option Event → List (List Reply) → View → Type 0
-RanBy words view clock was v before fs history pending replies w = (commands : List (List Command)) × IsLine words commands × Ran view clock was v before commands fs history pending replies w
+-- so, of lanes that these words ask for, where an input has this left
+abbrev pub RanBy : {F : Type 0} → Option (List ℕ) → List (List ℕ) → (F → Option View) → (F → ℕ) → (F → ℕ → View → Type 0) → View → ℕ → F → List Entry → Option Event → List (List Reply) → View → Type 0
+RanBy left words view clock was v before fs history pending replies w = (limits : Limits) × (commands : List (List Command)) × AreStandard limits × IsLine left words commands × Ran limits view clock was v before commands fs history pending replies w
 
 -- no lane was run
 pub record IsUnused (history : List Entry) (pending : Option Event) (replies : List (List Reply)) : Type 0 where

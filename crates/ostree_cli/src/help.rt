@@ -11,6 +11,7 @@ Works on the OSTree repository at ostree/repo below the current folder.
 
 Commands:
   init                  open the repository, and lay out what is missing
+  run                   read a script from the input, and run its lanes
   refs                  list the refs with their commits
   rev-parse REV         print the commit that REV names
   reset BRANCH COMMIT   make the ref name the commit
@@ -23,13 +24,28 @@ begin with a dot, joined by /, at most 255 bytes in all, and not 64 digits.
 COMMIT is 64 digits of 0-9 a-f. REV is a BRANCH or a COMMIT. A byte of a field
 may be written as % and two digits of 0-9 a-f.
 
+A script is lines that each end with a newline: ostree-script 1, then trees and
+lanes. The commands of a lane run one after the other.
+  tree N                                 trees are numbered from 0
+  folder PATH UID GID MODE XATTRS
+  file PATH UID GID MODE XATTRS CONTENT
+  link PATH UID GID XATTRS TARGET
+  end                                    the paths of a tree ascend
+  lane
+  commit BRANCH N SUBJECT BODY TIME      commit tree N, and let the ref name it
+  ...                                    or any other command with its fields
+  end
+MODE is octal, XATTRS is ~ or NAME:VALUE,.. in hexadecimal digits, CONTENT is =
+and the bytes, or *COUNT:BYTE. TIME is in seconds since 1970. An empty text is ~.
+
 Status:
-  0  the command was done
-  1  the command was refused
-  2  the words are no command line
+  0  the commands were done
+  1  a command was refused
+  2  the words are no command line, or the input is no script
   3  memory was wanting
   4  a call of the file system failed, or contradicted an earlier one
   6  the output wasn't taken
+  7  the input wasn't read
   8  the repository is damaged
 The greatest that applies is answered.
 ";

@@ -8,29 +8,38 @@ ghost use Rattle.sys_open.specs.declared.fault.OpenFault.TheVariants as opening;
 ghost use Rattle.ostree_cli.specs.declared.fault.TopFault.TheVariants as fault;
 ghost use Rattle.rely.specs.State.{first};
 ghost use Rattle.sys_core.specs.Answers.{IsTold};
+ghost use Rattle.sys_core.specs.Fit as within;
+ghost use Rattle.sys_core.specs.Lasting.{AreKeptIn};
 ghost use Rattle.sys_core.specs.Replied.{Replied};
 ghost use Rattle.ostree_cli.specs.Headline.{Headline};
 ghost use Rattle.ostree_cli.specs.Top.{IsStop, Ran, StaysOn, event_of};
+ghost use Rattle.ostree_cli.specs.Words.{IsEarly, commands_of};
+ghost use Rattle.script_trees.specs.Fit.{AreFit, IsWide};
 
 use crate::fault::TopFault;
 use fs_trait::Fs;
 use ost_types::{Limits, NoMemory};
-use script::Lane;
+use script_reader::Lane;
 use std::alloc::Global;
 use sys_core::{Parts, System};
 use sys_open::{OpenFault, Opened, adopt};
 
 /// Opens the repository, and runs all commands of the lanes. Where no lane is run the file system comes back.
-pub fn run_lanes<F: Fs>(alloc: Global, fs: F, lanes: Vec<Lane>) -> Result<Parts<F>, (F, TopFault)>
-    requires few { length lanes.items ≤ 8 }
-    requires short { (l : ℕ) (d : Lane) → l < length lanes.items → length (slice_index_or lanes.items l d).commands.items ≤ 64 }
-    ensures ran { (v : View) → F.view fs ≡ Some v → IfOk result (λ p. Told (F.view p.fs) (Ran F.view F.clock F.was v (F.clock fs) (map (λ lane. lane.commands.items) lanes.items) p.fs p.history.items (event_of p.pending) (map (λ replies. replies.items) p.replies.items))) }
+pub fn run_lanes<F: Fs>(
+    alloc: Global,
+    fs: F,
+    lanes: Vec<Lane>,
+    limits: Limits,
+) -> Result<Parts<F>, (F, TopFault)>
+    requires wide { IsWide limits }
+    requires fit { AreFit (commands_of lanes.items) }
+    ensures ran { (v : View) → F.view fs ≡ Some v → IfOk result (λ p. Told (F.view p.fs) (Ran limits F.view F.clock F.was v (F.clock fs) (commands_of lanes.items) p.fs p.history.items (event_of p.pending) (map (λ replies. replies.items) p.replies.items))) }
     ensures told { (v : View) → F.view fs ≡ Some v → IfErr result (λ e. IsStop v.now e.1) }
     ensures still { (v : View) → F.view fs ≡ Some v → IfErr result (λ e. StaysOn e.1 (F.view e.0 ≡ Some (all_synced v))) }
-    ensures words { IfErr result (λ e. e.1 ≢ fault.Usage) }
+    ensures late { IfErr result (λ e. IsEarly e.1 → ⊥) }
     ensures disk { IfErr result (λ e. e.1 ≡ fault.Open opening.Disk → Rose (F.faults fs) (F.faults e.0)) }
 {
-    match adopt(alloc, fs, Limits::standard()) {
+    match adopt(alloc, fs, limits) {
         Ok(opened) => run_opened(alloc, opened, lanes),
         Err((fs, OpenFault::NoMemory)) => Err((fs, TopFault::NoMemory)),
         Err((fs, fault)) => Err((fs, TopFault::Open(fault))),
@@ -45,9 +54,11 @@ fn run_opened<F: Fs>(
 ) -> Result<Parts<F>, (F, TopFault)>
     requires few { length lanes.items ≤ 8 }
     requires short { (l : ℕ) (d : Lane) → l < length lanes.items → length (slice_index_or lanes.items l d).commands.items ≤ 64 }
+    requires fit { within.AreFit opened.limits lanes.items }
     ensures ran { (w : View) → IfOk result (λ p. F.view p.fs ≡ Some w → Headline F.clock F.was opened.clock (first opened.refs) p.fs p.history.items (event_of p.pending) w) }
-    ensures replied { IfOk result (λ p. (started : List (Option ℕ)) × Replied (IsTold F.view) (first opened.refs) p.history.items p.pending lanes.items started (map (λ replies. replies.items) p.replies.items)) }
+    ensures replied { IfOk result (λ p. (started : List (Option ℕ)) × Replied (IsTold F.view) opened.limits (first opened.refs) p.history.items p.pending lanes.items started (map (λ replies. replies.items) p.replies.items)) }
     ensures ended { IfOk result (λ p. map (λ row. length row) (map (λ replies. replies.items) p.replies.items) ≡ map (λ lane. length lane.commands.items) lanes.items) }
+    ensures kept { (begun : View) → F.view opened.fs ≡ Some begun → IfOk result (λ p. Told (F.view p.fs) (AreKeptIn (F.was p.fs) begun opened.limits lanes.items p.history.items)) }
     ensures back { IfErr result (λ e. (e.0 ≡ opened.fs) × (e.1 ≡ fault.NoMemory)) }
 {
     match System::new(alloc, opened, lanes) {

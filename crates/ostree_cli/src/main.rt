@@ -1,10 +1,14 @@
 //! The program `ostree_cli`: an OSTree bare repository in the current folder.
 #![tactic(auto)]
 
+mod asked;
 mod fault;
 mod help;
+mod input;
 mod lanes;
 mod output;
+#[cfg(test)]
+mod script_tests;
 mod status;
 #[cfg(test)]
 mod tests;
@@ -12,7 +16,7 @@ mod text;
 mod top;
 mod words;
 
-use fs_host::{HostFs, StdSink};
+use fs_host::{HostFs, StdSink, StdSource};
 use help::{USAGE, VERSION};
 use output::write_all;
 use std::io::ErrorKind;
@@ -54,8 +58,9 @@ fn obey(rt: HostRuntime, words: &[String], out: &mut StdSink<HostRuntime>) -> u8
         Some("--version") => tell(out, VERSION, 0),
         _ => {
             let alloc = rt.alloc();
+            let mut input = StdSource::new(rt.reader());
             match HostFs::new(rt) {
-                Ok(fs) => ostree(alloc, words, fs, out).status,
+                Ok(fs) => ostree(alloc, words, fs, &mut input, out).status,
                 Err(_) => tell(out, MEMORY_LINE, 3),
             }
         }

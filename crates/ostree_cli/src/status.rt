@@ -3,16 +3,23 @@ ghost use Rattle.std.specs.List.{list_any};
 ghost use Rattle.ostree_cli.specs.Status.{answer_status, fault_status, has_risen, lane_status, replies_status, status_of};
 
 use crate::fault::TopFault;
-use script::{Answer, Reply};
+use script_reader::{Answer, Reply, ScriptFault};
 use sys_open::OpenFault;
 
-/// The exit status of a call, from what it came to and from whether the counts of the file system and of the sink
+/// The exit status of a call, from what it came to and from whether the counts of the source, of the file system and of the sink
 /// have risen in it: the greatest of those whose cause stands.
 #[tactic(auto, unfolding(crate::specs::Status::status_of))]
-pub fn status_of(fault: &Option<TopFault>, lanes: &[Vec<Reply>], disk: bool, sink: bool) -> u8
-    ensures { result ≡ status_of fault.now (map (λ lane. lane.items) lanes.now) disk sink }
+pub fn status_of(
+    fault: &Option<TopFault>,
+    lanes: &[Vec<Reply>],
+    source: bool,
+    disk: bool,
+    sink: bool,
+) -> u8
+    ensures { result ≡ status_of fault.now (map (λ lane. lane.items) lanes.now) source disk sink }
 {
-    let by_counts = status_where(sink, 6).max(status_where(disk, 4));
+    let by_streams = status_where(source, 7).max(status_where(sink, 6));
+    let by_counts = by_streams.max(status_where(disk, 4));
     let by_answers = fault_status(fault).max(replies_status(lanes));
     by_counts.max(by_answers)
 }
@@ -36,6 +43,9 @@ fn fault_status(fault: &Option<TopFault>) -> u8
     match fault {
         None => 0,
         Some(TopFault::Usage) => 2,
+        Some(TopFault::Script(ScriptFault::NoMemory)) => 3,
+        Some(TopFault::Script(_)) => 2,
+        Some(TopFault::Input) => 7,
         Some(TopFault::NoMemory) => 3,
         Some(TopFault::Open(OpenFault::Outside(_))) => 4,
         Some(TopFault::Open(OpenFault::Disk)) => 0,
@@ -74,7 +84,9 @@ fn answer_status(answer: &Answer) -> u8
         | Answer::NoCommit(_)
         | Answer::Partial(_)
         | Answer::RefMoved { .. }
-        | Answer::RefClash(_) => 1,
+        | Answer::RefClash(_)
+        | Answer::BadTree(_)
+        | Answer::TooMany(_) => 1,
         Answer::NoMemory => 3,
         Answer::Outside(_) => 4,
         // the disk's count shows these

@@ -1,10 +1,10 @@
 ghost use Rattle.ost_types.specs.Mode.{IsFolderMode, IsFileMode};
 
-use crate::top::ostree;
+use crate::top::{Ended, ostree};
 use fs_host::HostFs;
-use fs_memory::{Choice, FailAt, MemFs, MemSink};
+use fs_memory::{Choice, FailAt, MemFs, MemSink, MemSource};
 use fs_trait::Fs;
-use ost_types::{FsPath, Meta, Xattrs};
+use ost_types::{Bytes, FsPath, Meta, Xattrs};
 use std::alloc::Global;
 use std::fs;
 use std::process::Abort;
@@ -39,6 +39,9 @@ const TABLE: &[(&str, &str, u8)] = &[
     ("init now", "fault usage\n", 2),
     ("refs main", "fault usage\n", 2),
     ("commit main", "fault usage\n", 2),
+    ("commit main 0 first ~ 0", "fault usage\n", 2),
+    ("run now", "fault usage\n", 2),
+    ("run", "fault script BadLine 1\n", 2),
     ("", "fault usage\n", 2),
 ];
 
@@ -73,6 +76,10 @@ fn words_of(alloc: Global, line: &str) -> Result<Vec<String>, Fail> {
     Ok(words)
 }
 
+fn nothing(alloc: Global) -> MemSource {
+    MemSource::new(Bytes::new(alloc), Vec::new(alloc))
+}
+
 // Whether a call with these words prints this with this status. The file system comes back.
 fn answers<F: Fs>(
     alloc: Global,
@@ -82,7 +89,13 @@ fn answers<F: Fs>(
     status: u8,
 ) -> Result<(F, bool), Fail> {
     let mut out = MemSink::new(alloc, 1000, Vec::new(alloc))?;
-    let ended = ostree(alloc, &words_of(alloc, line)?, fs, &mut out);
+    let ended = ostree(
+        alloc,
+        &words_of(alloc, line)?,
+        fs,
+        &mut nothing(alloc),
+        &mut out,
+    );
     let wanted = digits(alloc, output)?;
     let same = out.bytes() == wanted.as_bytes() && ended.status == status;
     Ok((ended.fs, same))
@@ -215,25 +228,52 @@ fn check_either(rt: &impl Abort, alloc: Global, fs: &MemFs, back: u64) -> Result
     check_left(rt, alloc, fs, back, Vec::new(alloc), "0 0 ok X\n", 0)
 }
 
+// What a reset on a copy of this disk comes to whose call with this number fails.
+fn reset_failing(alloc: Global, disk: &MemFs, call: u64) -> Result<(Ended<MemFs>, MemSink), Fail> {
+    let choice = Choice {
+        picks: Vec::new(alloc),
+        fill: 0,
+    };
+    let mut fs = disk.image(disk.moments(), &choice)?;
+    fs.fail_at(vec![in alloc; FailAt { call, done: false }]?);
+    let mut out = MemSink::new(alloc, 1000, Vec::new(alloc))?;
+    let words = words_of(alloc, "reset main X")?;
+    let ended = ostree(alloc, &words, fs, &mut nothing(alloc), &mut out);
+    Ok((ended, out))
+}
+
+// The least number that no call of the reset has.
+fn calls_of_reset(alloc: Global, disk: &MemFs) -> Result<u64, Fail> {
+    let mut low: u64 = 0;
+    let mut high: u64 = 4_096;
+    for _ in 0..12 {
+        let middle = low.saturating_add(high.saturating_sub(low) / 2);
+        let (ended, _) = reset_failing(alloc, disk, middle)?;
+        if ended.fs.faults() == 0 {
+            high = middle;
+        } else {
+            low = middle;
+        }
+    }
+    Ok(high)
+}
+
 // Its last sync fails, as the first call that does: what was shown may last or not.
 #[test]
 fn halts_where_a_sync_fails(rt: HostRuntime) -> Result<(), Fail> {
     let alloc = rt.alloc();
-    let (fs, _) = answers(alloc, with_commit(alloc)?, "init", "", 0)?;
-    let (fs, _) = answers(alloc, fs, "reset main X", "0 0 ok\n", 0)?;
-    let calls = fs.moments();
+    let (disk, _) = answers(alloc, with_commit(alloc)?, "init", "", 0)?;
+    let calls = calls_of_reset(alloc, &disk)?;
+    let (done, _) = reset_failing(alloc, &disk, calls)?;
+    let changes = done.fs.moments();
     let mut halted = false;
-    for call in 1..200 {
-        let (mut fs, _) = answers(alloc, with_commit(alloc)?, "init", "", 0)?;
-        fs.fail_at(vec![in alloc; FailAt { call, done: false }]?);
-        let before = fs.faults();
-        let mut out = MemSink::new(alloc, 1000, Vec::new(alloc))?;
-        let ended = ostree(alloc, &words_of(alloc, "reset main X")?, fs, &mut out);
-        if ended.fs.faults() == before || out.bytes() != b"0 0 fault Halted 1\n".as_slice() {
+    for call in calls.saturating_sub(10)..calls {
+        let (ended, out) = reset_failing(alloc, &disk, call)?;
+        if out.bytes() != b"0 0 fault Halted 1\n".as_slice() {
             continue;
         }
         assert_eq!(rt; ended.status, 4);
-        if ended.pending.is_some() && ended.fs.moments() == calls {
+        if ended.pending.is_some() && ended.fs.moments() == changes {
             halted = true;
             // after the sync that failed, and between the rename and it
             check_either(&rt, alloc, &ended.fs, 0)?;
@@ -253,6 +293,7 @@ fn tells_a_sink_that_fails(rt: HostRuntime) -> Result<(), Fail> {
         alloc,
         &words_of(alloc, "refs")?,
         MemFs::new(alloc)?,
+        &mut nothing(alloc),
         &mut out,
     );
     assert_eq!(rt; out.bytes(), b"0 0".as_slice());

@@ -1,11 +1,12 @@
 ghost use Rattle.std.specs.Prelude.{◌≡◌, ◌++◌, [], map, codes, ◌∷◌, IfOk};
 ghost use Rattle.script.specs.Field.{escaped};
-ghost use Rattle.ostree_cli.specs.Text.{why_text, fault_line, output_of};
+ghost use Rattle.std.specs.Fmt.{decimal};
+ghost use Rattle.ostree_cli.specs.Text.{why_text, fault_line, output_of, script_line};
 ghost use Rattle.ost_types.specs.Path.{text_of};
 
 use crate::fault::TopFault;
 use ost_types::{Bytes, FsPath, NoMemory};
-use script::{Reply, append_field, write_replies};
+use script_reader::{Reply, ScriptFault, append_field, write_replies};
 use std::alloc::Global;
 use sys_open::{OpenFault, Why};
 
@@ -34,6 +35,8 @@ fn fault_line(alloc: Global, fault: &TopFault) -> Result<Bytes, NoMemory>
 {
     match fault {
         TopFault::Usage => Bytes::from_slice(alloc, USAGE_LINE),
+        TopFault::Script(fault) => script_line(alloc, *fault),
+        TopFault::Input => Bytes::from_slice(alloc, b"fault input\n"),
         TopFault::NoMemory | TopFault::Open(OpenFault::NoMemory) => {
             Bytes::from_slice(alloc, MEMORY_LINE)
         }
@@ -46,6 +49,30 @@ fn fault_line(alloc: Global, fault: &TopFault) -> Result<Bytes, NoMemory>
             b"\n",
         ),
     }
+}
+
+fn script_line(alloc: Global, fault: ScriptFault) -> Result<Bytes, NoMemory>
+    ensures { IfOk result (λ t. t ≡ script_line fault) }
+{
+    match fault {
+        ScriptFault::BadLine(n) => number_line(alloc, b"fault script BadLine ", n),
+        ScriptFault::TooLong => Bytes::from_slice(alloc, b"fault script TooLong\n"),
+        ScriptFault::TooManyLanes => Bytes::from_slice(alloc, b"fault script TooManyLanes\n"),
+        ScriptFault::TooManyCommands => {
+            Bytes::from_slice(alloc, b"fault script TooManyCommands\n")
+        }
+        ScriptFault::UnknownTree(n) => number_line(alloc, b"fault script UnknownTree ", n),
+        ScriptFault::NoMemory => Bytes::from_slice(alloc, MEMORY_LINE),
+    }
+}
+
+fn number_line(alloc: Global, before: &[u8], number: u32) -> Result<Bytes, NoMemory>
+    ensures { IfOk result (λ t. t ≡ before.now ++ (decimal number ++ 10 ∷ [])) }
+{
+    let mut line = Bytes::from_slice(alloc, before)?;
+    line.append(format!(in alloc; "{number}")?.as_bytes())?;
+    line.push(b'\n')?;
+    Ok(line)
 }
 
 fn damaged_line(alloc: Global, path: &FsPath, why: &Why) -> Result<Bytes, NoMemory>

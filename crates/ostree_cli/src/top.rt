@@ -1,24 +1,27 @@
-ghost use Rattle.std.specs.Prelude.{◌≡◌, ◌≢◌, ◌⊎◌, ◌≤◌, ℕ, List, [], Option, Some, None, IfSome, map};
+ghost use Rattle.std.specs.Prelude.{◌≡◌, ◌≢◌, ◌⊎◌, ◌≤◌, ℕ, List, [], Option, Some, None, IfSome, map, nat_lt};
 ghost use Rattle.std.specs.String.{string_bytes};
 ghost use Rattle.fs_trait.specs.View.{View, all_synced};
 ghost use Rattle.fs_trait.specs.Image.{Told};
 ghost use Rattle.fs_trait.specs.Count.{Rose};
 ghost use Rattle.sys_open.specs.declared.fault.OpenFault.TheVariants as opening;
-ghost use Rattle.ostree_cli.specs.Words.{AreNoLine};
+ghost use Rattle.script_reader.specs.Script.{Commands, IsScript};
+ghost use Rattle.script.specs.declared.fault.ScriptFault.{ScriptFault};
+ghost use Rattle.ostree_cli.specs.Input.{TookFront};
+ghost use Rattle.ostree_cli.specs.Words.{AreNoLine, IsEarly, IsRefused, run};
 ghost use Rattle.ostree_cli.specs.Status.{has_risen, status_of};
 ghost use Rattle.ostree_cli.specs.Text.{output_of};
 ghost use Rattle.ostree_cli.specs.Top.{IsStop, IsUnused, Prints, RanBy, StaysOn, event_of};
 
+use crate::asked::asked_lanes;
 use crate::fault::TopFault;
 use crate::lanes::run_lanes;
 use crate::output::write_all;
 use crate::status::{has_risen, status_of};
 use crate::text::{MEMORY_LINE, output_of};
-use crate::words::read_line;
-use fs_trait::{Fs, Sink};
-use ost_types::NoMemory;
+use fs_trait::{Fs, Sink, Source};
+use ost_types::{Limits, NoMemory};
 use rely::{Entry, Event, Pending};
-use script::Reply;
+use script_reader::Reply;
 use std::alloc::Global;
 use sys_core::Parts;
 
@@ -102,19 +105,23 @@ fn outcome_of<F: Fs>(parts: Parts<F>) -> Outcome<F>
     }
 }
 
-// Reads the words, opens the repository and runs the lanes.
-fn run<F: Fs>(alloc: Global, words: &[String], fs: F) -> Outcome<F>
-    ensures usage { result.fault ≡ Some TopFault.Usage → AreNoLine (map (λ word. string_bytes word) words.now) }
+// Reads the words and the script, opens the repository and runs the lanes.
+fn run<F: Fs, S: Source>(alloc: Global, words: &[String], fs: F, input: &mut S) -> Outcome<F>
+    ensures early { IfSome result.fault (λ f. IsEarly f → (result.fs ≡ fs) × IsRefused (S.left input.old) (map (λ word. string_bytes word) words.now) (S.faults input.old) (S.faults input.new) f) }
     ensures words { AreNoLine (map (λ word. string_bytes word) words.now) → (result.fault ≡ Some TopFault.Usage) ⊎ (result.fault ≡ Some TopFault.NoMemory) }
-    ensures untouched { result.fault ≡ Some TopFault.Usage → result.fs ≡ fs }
+    ensures script { (all : List ℕ) (lanes : List Commands) (e : ScriptFault) → S.left input.old ≡ Some all → IsScript all lanes → result.fault ≢ Some (TopFault.Script e) }
     ensures unused { result.fault ≢ None → IsUnused result.history.items result.pending (map (λ lane. lane.items) result.replies.items) }
     ensures disk { result.fault ≡ Some (TopFault.Open opening.Disk) → Rose (F.faults fs) (F.faults result.fs) }
     ensures stop { (v : View) → F.view fs ≡ Some v → IfSome result.fault (IsStop v.now) }
     ensures still { (v : View) → F.view fs ≡ Some v → IfSome result.fault (λ f. StaysOn f (F.view result.fs ≡ Some (all_synced v))) }
-    ensures ran { (v : View) → F.view fs ≡ Some v → result.fault ≡ None → Told (F.view result.fs) (RanBy (map (λ word. string_bytes word) words.now) F.view F.clock F.was v (F.clock fs) result.fs result.history.items result.pending (map (λ lane. lane.items) result.replies.items)) }
+    ensures ran { (v : View) → F.view fs ≡ Some v → result.fault ≡ None → Told (F.view result.fs) (RanBy (S.left input.old) (map (λ word. string_bytes word) words.now) F.view F.clock F.was v (F.clock fs) result.fs result.history.items result.pending (map (λ lane. lane.items) result.replies.items)) }
+    ensures read { (all : List ℕ) → S.left input.old ≡ Some all → TookFront all (S.left input.new) }
+    ensures unread { (map (λ word. string_bytes word) words.now) ≢ run → input.new ≡ input.old }
+    ensures later { S.faults input.old ≤ S.faults input.new }
+    ensures quiet { result.fault ≡ None → S.faults input.new ≡ S.faults input.old }
 {
-    match read_line(alloc, words) {
-        Ok(lanes) => match run_lanes(alloc, fs, lanes) {
+    match asked_lanes(alloc, words, input) {
+        Ok(lanes) => match run_lanes(alloc, fs, lanes, Limits::standard()) {
             Ok(parts) => outcome_of(parts),
             Err((fs, fault)) => stopped(alloc, fs, fault),
         },
@@ -145,28 +152,42 @@ fn print<K: Sink>(
     }
 }
 
-/// Does all that the program does: reads the words, opens the repository, runs the command, prints its reply or the line of the
-/// fault, and tells the exit status.
+/// Does all that the program does: reads the words, and the input where they are `run`, opens the repository, runs the commands,
+/// prints their replies or the line of the fault, and tells the exit status.
 ///
-/// The words are those behind the program's name: `init`, or a command and its fields.
-pub fn ostree<F: Fs, K: Sink>(alloc: Global, words: &[String], fs: F, out: &mut K) -> Ended<F>
+/// The words are those behind the program's name: `init`, `run`, or a command and its fields.
+pub fn ostree<F: Fs, S: Source, K: Sink>(
+    alloc: Global,
+    words: &[String],
+    fs: F,
+    input: &mut S,
+    out: &mut K,
+) -> Ended<F>
     // The fault, where there is one. Each yields to want of memory.
     ensures usage { result.fault ≡ Some TopFault.Usage → AreNoLine (map (λ word. string_bytes word) words.now) }
     ensures words { AreNoLine (map (λ word. string_bytes word) words.now) → (result.fault ≡ Some TopFault.Usage) ⊎ (result.fault ≡ Some TopFault.NoMemory) }
-    ensures untouched { result.fault ≡ Some TopFault.Usage → result.fs ≡ fs }
+    ensures early { IfSome result.fault (λ f. IsEarly f → (result.fs ≡ fs) × IsRefused (S.left input.old) (map (λ word. string_bytes word) words.now) (S.faults input.old) (S.faults input.new) f) }
+    ensures script { (all : List ℕ) (lanes : List Commands) (e : ScriptFault) → S.left input.old ≡ Some all → IsScript all lanes → result.fault ≢ Some (TopFault.Script e) }
     ensures disk { result.fault ≡ Some (TopFault.Open opening.Disk) → Rose (F.faults fs) (F.faults result.fs) }
     ensures stop { (v : View) → F.view fs ≡ Some v → IfSome result.fault (IsStop v.now) }
     ensures still { (v : View) → F.view fs ≡ Some v → IfSome result.fault (λ f. StaysOn f (F.view result.fs ≡ Some (all_synced v))) }
     ensures unused { (result.fault ≡ None) ⊎ (result.fault ≡ Some TopFault.NoMemory) ⊎ IsUnused result.history.items result.pending (map (λ lane. lane.items) result.replies.items) }
 
     // What a crash may leave, and what is left at the end.
-    ensures ran { (v : View) → F.view fs ≡ Some v → (result.fault ≡ None) ⊎ (result.replies.items ≢ []) → Told (F.view result.fs) (RanBy (map (λ word. string_bytes word) words.now) F.view F.clock F.was v (F.clock fs) result.fs result.history.items result.pending (map (λ lane. lane.items) result.replies.items)) }
+    ensures ran { (v : View) → F.view fs ≡ Some v → (result.fault ≡ None) ⊎ (result.replies.items ≢ []) → Told (F.view result.fs) (RanBy (S.left input.old) (map (λ word. string_bytes word) words.now) F.view F.clock F.was v (F.clock fs) result.fs result.history.items result.pending (map (λ lane. lane.items) result.replies.items)) }
+
+    // What is read. Only `run` reads, and no lane runs where a call of the source failed.
+    ensures read { (all : List ℕ) → S.left input.old ≡ Some all → TookFront all (S.left input.new) }
+    ensures unread { (map (λ word. string_bytes word) words.now) ≢ run → input.new ≡ input.old }
+    ensures source_count { S.faults input.old ≤ S.faults input.new }
+    ensures quiet { (result.fault ≡ None) ⊎ (result.replies.items ≢ []) → S.faults input.new ≡ S.faults input.old }
 
     // What is printed, and the exit status.
     ensures output { (had : List ℕ) → K.taken out.old ≡ Some had → Prints had (output_of result.fault (map (λ lane. lane.items) result.replies.items)) (K.faults out.old) (K.faults out.new) (K.taken out.new) }
-    ensures status { result.status ≡ status_of result.fault (map (λ lane. lane.items) result.replies.items) (has_risen (F.faults fs) (F.faults result.fs)) (has_risen (K.faults out.old) (K.faults out.new)) }
+    ensures status { result.status ≡ status_of result.fault (map (λ lane. lane.items) result.replies.items) (nat_lt (S.faults input.old) (S.faults input.new)) (has_risen (F.faults fs) (F.faults result.fs)) (has_risen (K.faults out.old) (K.faults out.new)) }
     ensures sink_count { K.faults out.old ≤ K.faults out.new }
 {
+    let source_before = input.faults();
     let disk_before = fs.faults();
     let sink_before = out.faults();
     let Outcome {
@@ -175,12 +196,13 @@ pub fn ostree<F: Fs, K: Sink>(alloc: Global, words: &[String], fs: F, out: &mut 
         history,
         pending,
         replies,
-    } = run(alloc, words, fs);
+    } = run(alloc, words, fs, input);
     let fault = print(alloc, out, fault, &replies);
+    let source = source_before < input.faults();
     let disk = has_risen(disk_before, fs.faults());
     let sink = has_risen(sink_before, out.faults());
     Ended {
-        status: status_of(&fault, &replies, disk, sink),
+        status: status_of(&fault, &replies, source, disk, sink),
         fs,
         fault,
         history,

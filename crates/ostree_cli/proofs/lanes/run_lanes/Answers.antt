@@ -1,8 +1,19 @@
+use Rattle.std.proofs.Common.{sym, subst}
+use Rattle.sys_core.specs.Fit.{AreFit}
+use Rattle.ostree_cli.proofs.Fits.{few_lanes, fit_within, short_lanes}
 use Rattle.ostree_cli.proofs.Rans.{ran, same_refs}
 use Rattle.ostree_cli.proofs.lanes.run_lanes.Goals as goal
+
+pub run_opened-requires : goal.run_opened-requires
+run_opened-requires g c = record {
+  few = few_lanes c.args.lanes.items c.requires.fit;
+  short = short_lanes c.args.lanes.items c.requires.fit;
+  fit = subst (λ limits. AreFit limits c.args.lanes.items) (sym c.in-Ok.ensures.begun.1) (fit_within c.args.limits c.args.lanes.items c.requires.wide c.requires.fit);
+}
 
 pub returns-in-Ok-clause-ran : goal.returns-in-Ok-clause-ran
 returns-in-Ok-clause-ran g c = λ v told.
     let o = c.in-Ok.ensures in
-    ran g.F.Fs.view g.F.Fs.clock g.F.Fs.was v (g.F.Fs.clock c.args.fs) c.in-Ok.opened.clock c.in-Ok.opened.refs c.args.lanes.items c.run_opened.result
-    (o.sane v told) (same_refs (g.F.Fs.view c.in-Ok.opened.fs) c.in-Ok.opened.refs v (o.begins v told)) o.opened.is (λ fs. g.met.F.Fs.told c.args.fs fs v told) c.run_opened.ensures.ran c.run_opened.ensures.replied c.run_opened.ensures.ended
+    let begins = o.begins v told in
+    ran c.args.limits c.in-Ok.opened.limits g.F.Fs.view g.F.Fs.clock g.F.Fs.was v (g.F.Fs.clock c.args.fs) c.in-Ok.opened.clock c.in-Ok.opened.refs c.args.lanes.items c.run_opened.result
+    o.begun.1 (o.sane v told) (same_refs (g.F.Fs.view c.in-Ok.opened.fs) c.in-Ok.opened.refs v begins) o.opened.is begins.0 begins.2 c.run_opened.ensures.ran c.run_opened.ensures.replied c.run_opened.ensures.ended (c.run_opened.ensures.kept begins.0 begins.1)

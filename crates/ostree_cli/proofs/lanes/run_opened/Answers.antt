@@ -4,7 +4,7 @@ use Rattle.script.specs.declared.command.Lane.{Lane}
 use Rattle.ostree_cli.specs.Top.{event_of}
 use Rattle.sys_core.specs.Answers.{IsTold}
 use Rattle.ostree_cli.proofs.Plain.{parted}
-use Rattle.ostree_cli.proofs.Rans.{replied_parts}
+use Rattle.ostree_cli.proofs.Rans.{kept_parts, replied_parts}
 use Rattle.ostree_cli.proofs.lanes.run_opened.Goals as goal
 
 pub returns-in-Ok-clause-ran : goal.returns-in-Ok-clause-ran
@@ -20,8 +20,8 @@ returns-in-Ok-clause-replied g c =
     let p = c.into_parts.result in
     let parts = c.into_parts.ensures in (
       s.started,
-      replied_parts (IsTold g.F.Fs.view) s.base.books.start.items c.args.opened.refs s.base.books.history.items p.history.items s.base.books.pending p.pending s.lanes c.args.lanes.items s.started s.replies (map (λ replies. replies.items) p.replies.items)
-          (c.drive.ensures.later.0 ∙ c.in-Ok.ensures.start) (ap (λ h. h.items) parts.history) parts.pending (c.drive.ensures.lanes ∙ c.in-Ok.ensures.lanes) parts.replies parts.replied,
+      replied_parts (IsTold g.F.Fs.view) s.limits c.args.opened.limits s.base.books.start.items c.args.opened.refs s.base.books.history.items p.history.items s.base.books.pending p.pending s.lanes c.args.lanes.items s.started s.replies (map (λ replies. replies.items) p.replies.items)
+          (c.drive.ensures.later.4 ∙ c.in-Ok.ensures.limits) (c.drive.ensures.later.0 ∙ c.in-Ok.ensures.start) (ap (λ h. h.items) parts.history) parts.pending (c.drive.ensures.lanes ∙ c.in-Ok.ensures.lanes) parts.replies parts.replied,
     )
 
 pub returns-in-Ok-clause-ended : goal.returns-in-Ok-clause-ended
@@ -29,3 +29,12 @@ returns-in-Ok-clause-ended g c =
     let parts = c.into_parts.ensures in
     let all = c.drive.ensures.lanes ∙ c.in-Ok.ensures.lanes in
     ap (λ (r : List (List Reply)). map (λ row. length row) r) parts.replies ∙ c.drive.ensures.ended ∙ ap (λ (l : List Lane). map (λ lane. length lane.commands.items) l) all
+
+pub returns-in-Ok-clause-kept : goal.returns-in-Ok-clause-kept
+returns-in-Ok-clause-kept g c = λ begun told.
+    let s = c.drive.new.self in
+    let p = c.into_parts.result in
+    let parts = c.into_parts.ensures in
+    kept_parts g.F.Fs.view g.F.Fs.was begun s.base.fs p.fs s.limits c.args.opened.limits s.lanes c.args.lanes.items s.base.books.history.items p.history.items
+    parts.fs (c.drive.ensures.later.4 ∙ c.in-Ok.ensures.limits) (c.drive.ensures.lanes ∙ c.in-Ok.ensures.lanes) (ap (λ h. h.items) parts.history)
+    (c.drive.ensures.lasts begun begun (ap g.F.Fs.view c.in-Ok.ensures.fs ∙ told) (c.in-Ok.ensures.begins begun))

@@ -1,5 +1,14 @@
-use Rattle.ostree_cli.proofs.Outcomes.{usage_printed}
+use Rattle.ostree_cli.proofs.Outcomes.{early_printed, no_fault, script_printed, usage_early, usage_printed}
 use Rattle.ostree_cli.proofs.top.ostree.Goals as goal
 
 pub returns-clause-usage : goal.returns-clause-usage
-returns-clause-usage g c = λ is. c.run-fs.ensures.usage (usage_printed _ _ c.print-fault.ensures.fault is)
+returns-clause-usage g c = λ is. usage_early _ _ _ _ _ _ c.run-fs.ensures.early (usage_printed _ _ c.print-fault.ensures.fault is)
+
+pub returns-clause-early : goal.returns-clause-early
+returns-clause-early g c = early_printed _ _ _ c.print-fault.ensures.fault c.run-fs.ensures.early
+
+pub returns-clause-script : goal.returns-clause-script
+returns-clause-script g c = λ all lanes e told script. script_printed e _ _ c.print-fault.ensures.fault (c.run-fs.ensures.script all lanes e told script)
+
+pub returns-clause-ran : goal.returns-clause-ran
+returns-clause-ran g c = λ v told printed. c.run-fs.ensures.ran v told (no_fault _ c.run-fs.result.fault c.run-fs.result.history.items c.run-fs.result.pending c.run-fs.result.replies.items c.print-fault.ensures.fault c.run-fs.ensures.unused printed)
