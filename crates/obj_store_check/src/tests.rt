@@ -160,7 +160,15 @@ fn a_leaf_in_the_folders_place(rt: HostRuntime) -> Result<(), Fail> {
     Ok(())
 }
 
-// What stands at the object's path in an image: nothing, or the whole object.
+fn count_all(alloc: Global, fs: &mut MemFs) -> Result<usize, Fail> {
+    let mut count: usize = 0;
+    for first in 0..=255u8 {
+        count = count.saturating_add(list_part(alloc, fs, first)?.len());
+    }
+    Ok(count)
+}
+
+// What an image has: nothing, or the whole object alone.
 fn check_left(
     rt: &impl Abort,
     alloc: Global,
@@ -169,10 +177,12 @@ fn check_left(
     line: &str,
 ) -> Result<(), Fail> {
     let mut left = fs.image(fs.moments(), &Choice { picks, fill: 1 })?;
-    if has(alloc, &mut left, &read_name(line)?)? {
-        check_loaded(rt, alloc, &mut left, line)?;
+    if !has(alloc, &mut left, &read_name(line)?)? {
+        assert_eq!(rt; count_all(alloc, &mut left)?, 0);
+        return Ok(());
     }
-    Ok(())
+    assert_eq!(rt; count_all(alloc, &mut left)?, 1);
+    check_loaded(rt, alloc, &mut left, line)
 }
 
 fn laid_out_failing(alloc: Global, call: u64, done: bool) -> Result<MemFs, Fail> {
