@@ -2,6 +2,9 @@
 use Rattle.std.proofs.Common.{◌≡◌, ◌<◌, ◌≤◌, ◌^◌, ℕ, true, false, refl, sym, ◌∙◌, ap, subst, arith, List, length, Option, Some, None, Ok, Err}
 use Rattle.fs_trait.specs.declared.task.Turn.TheVariants as turn
 use Rattle.fs_trait.specs.View.{View}
+use Rattle.fs_trait.specs.Seen.{shows}
+use Rattle.fs_trait.proofs.Effects.{may_now}
+use Rattle.repo_layout.specs.Paths.{mark_path}
 use Rattle.repo_layout.specs.RefName.{parts_of}
 use Rattle.ref_room.proofs.Names.{length-ref_path}
 use Rattle.staged_file.specs.declared.phase.Phase as staged
@@ -31,8 +34,9 @@ use Rattle.ref_work.specs.declared.look_up.Found.TheVariants.{Missing, Partial, 
 use Rattle.ref_work.specs.Found.{IsFound}
 use Rattle.ref_work.specs.Kinds.{Answer, event, kind_in, put_kind, leaves_in}
 use Rattle.ref_work.specs.Facts.{Facts, IsRunning, Home}
-use Rattle.ref_work.specs.Commands.{planned, IsStop, parse_answer, reset_answer, change_answer, answer_of, reset_stepped, reset_leaves, reset_left, command_facts, command_leaves, command_stepped, command_left, removal}
+use Rattle.ref_work.specs.Commands.{planned, IsStop, parse_answer, reset_answer, change_answer, answer_of, reset_stepped, reset_leaves, reset_left, Changing, command_facts, command_leaves, command_stepped, command_left, removal}
 use Rattle.ref_work.specs.Answers.{Begins, Says}
+use Rattle.ref_work.specs.Founded.{IsKnownBy}
 use Rattle.ref_work.proofs.Homes.{begins_change}
 
 parse_says : (found : Found) (commit : List ℕ) (a : script.Answer) (t : RefCommand) (v w : View) → parse_answer (Some found) commit ≡ Some a → IsFound v.now commit found → Says a t v w
@@ -94,7 +98,7 @@ says_of lane (Parse look) (Parse new) v w b a f l e =
 says_of lane (Parse look) (Reset new plan) v w b a f l e = absurd l
 says_of lane (Parse look) (Change work) v w b a f l e = absurd l
 says_of lane (Reset look plan) new v w b a f l e = stopped_says look.found look plan new v w a l e
-says_of lane (Change work) (Change new) v w b a f l e = change_says lane work new new.answer v w b a f l e
+says_of lane (Change work) (Change new) v w b a f l e = change_says lane work new new.answer v w b a f.ref l e
 says_of lane (Change work) (Parse look) v w b a f l e = absurd l
 says_of lane (Change work) (Reset look plan) v w b a f l e = absurd l
 
@@ -123,12 +127,15 @@ falls_of lane t new v b f step = falls_always t new step
 -- the facts at the beginning
 pub begins_of : (start : State) (entries : List Entry) (pending : Option Pending) (lane : ℕ) (v : View) (b : Books) (t : RefCommand) → Stands start entries pending v → Home lane v → Begins lane t → command_facts lane t v b
 begins_of start entries pending lane v b (Parse look) stands home begins = tt
-begins_of start entries pending lane v b (Reset look plan) stands home begins =
-    subst (λ l. Facts lane (record { actor = l; name = plan.name; seen = plan.seen; value = Some plan.commit; phase = phase.Look }) v b) (sym begins.0)
-    (begins_change start entries pending lane v b stands home begins.1 plan.name plan.seen (Some plan.commit) begins.2 (λ e. let n : Some plan.commit ≡ None = e in cc))
+begins_of start entries pending lane v b (Reset look plan) stands home begins = record {
+  change = subst (λ l. Facts lane (record { actor = l; name = plan.name; seen = plan.seen; value = Some plan.commit; phase = phase.Look }) v b) (sym begins.0)
+      (begins_change start entries pending lane v b stands home begins.1 plan.name plan.seen (Some plan.commit) begins.2 (λ e. let n : Some plan.commit ≡ None = e in cc));
+  same = begins.4;
+  commit = subst (λ o. IsKnownBy o plan.commit v) (sym begins.3) (stands.kinds (mark_path plan.commit) (shows v.now (mark_path plan.commit)) (may_now v (mark_path plan.commit)));
+}
 begins_of start entries pending lane v b (Change work) stands home begins =
-    subst (λ (t : store.Change). Facts lane t v b) (sym begins.3)
-    (begins_change start entries pending lane v b stands home begins.4 begins.0 begins.1 begins.2 begins.5 begins.6)
+    subst (λ (x : RefWork). Changing lane x v b) (sym begins.2)
+    (record { ref = begins_change start entries pending lane v b stands home begins.3 begins.0 (Some begins.1) None begins.4 (λ none. refl); founded = tt })
 
 -- a removal that hasn't begun has fewer steps before it than a number has bits for
 pub removal_left : (t : RefCommand) (lane : ℕ) (name seen : List ℕ) → t ≡ Change (removal lane name seen) → length (parts_of name) ≤ 12 → command_left t < 2 ^ 128

@@ -81,7 +81,7 @@ module _ (lane : ℕ) (t : store.Change) (v : View) (needs : Needs t v) (mine : 
 pub home_task : (actor lane : ℕ) (t : RefCommand) (v w : View) (b : Books) → command_facts lane t v b → Writes (command_writes actor t v) v w → Home lane v → Home lane w
 home_task actor lane (Parse look) v w b f writes home = ⊎_elim (λ same. subst NotDirectory (sym same) home) (λ bad. absurd bad) (writes.now (stage_path lane))
 home_task actor lane (Reset look plan) v w b f writes home = ⊎_elim (λ same. subst NotDirectory (sym same) home) (λ bad. absurd bad) (writes.now (stage_path lane))
-home_task actor lane (Change work) v w b f writes home = home_own lane work.task v f.needs f.mine w writes home
+home_task actor lane (Change work) v w b f writes home = home_own lane work.task v f.ref.needs f.ref.mine w writes home
 
 begins_there : (start : State) (entries : List Entry) (pending : Option Pending) (lane : ℕ) (v : View) → Stands start entries pending v → Home lane v → (o : Option (List ℕ)) → begins o lane v
 begins_there start entries pending lane v stands home None = tt

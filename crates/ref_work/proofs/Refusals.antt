@@ -105,9 +105,13 @@ module _ (t : store.Change) (v : View) (needs : Needs t v) (sane : IsSane v.now)
   refused phase.Ended is NotFolder why = absurd why
   refused phase.Ended is NotEmpty why = absurd why
 
+-- so it is of a change that any command makes
+pub change_refused : (start : State) (entries : List Entry) (pending : Option Pending) (v : View) (t : store.Change) (e : FsErr) → IsTree v.now → Stands start entries pending v → Needs t v → refuses_in t.phase t v e → OfNone e
+change_refused start entries pending v t e tree stands needs why =
+    refused t v needs (fits_now start entries pending v stands 0 v.now (Image-now v tree)).sane (λ p. stands.reached p (shows v.now p) (may_now v p)) t.phase refl e why
+
 pub refused_of : (start : State) (entries : List Entry) (pending : Option Pending) (lane : ℕ) (v : View) (b : Books) (t : RefCommand) (e : FsErr) → IsTree v.now → Stands start entries pending v → command_facts lane t v b → command_refuses t v e
     → OfNone e
 refused_of start entries pending lane v b (Parse look) e tree stands f why = why
 refused_of start entries pending lane v b (Reset look plan) e tree stands f why = why
-refused_of start entries pending lane v b (Change work) e tree stands f why =
-    refused work.task v f.needs (fits_now start entries pending v stands 0 v.now (Image-now v tree)).sane (λ p. stands.reached p (shows v.now p) (may_now v p)) work.task.phase refl e why
+refused_of start entries pending lane v b (Change work) e tree stands f why = change_refused start entries pending v work.task e tree stands f.ref.needs why

@@ -2,7 +2,7 @@
 use Rattle.std.proofs.Common.{◌≡◌, ◌≤◌, ◌<◌, ℕ, true, refl, sym, subst, arith, List, Option, Some, None, Result, ◌+◌}
 use Rattle.fs_trait.specs.declared.types.FsErr.{FsErr}
 use Rattle.fs_trait.specs.View.{View}
-use Rattle.fs_trait.specs.Effect.{Next, OfNone}
+use Rattle.fs_trait.specs.Effect.{Next}
 use Rattle.staged_file.specs.declared.phase.Phase as staged
 use Rattle.staged_file.specs.declared.phase.Phase.TheVariants as file
 use Rattle.staged_file.specs.Staged as staging
@@ -11,10 +11,8 @@ use Rattle.ref_store.specs.declared.phase.Phase.TheVariants as phase
 use Rattle.ref_store.specs.declared.progress.Progress.{Progress}
 use Rattle.ref_store.specs.declared.progress.Progress.TheVariants as progress
 use Rattle.ref_store.specs.Change.{Change, Follows, Takes, is_owed, owed_after}
-use Rattle.ref_store.specs.Steps.{IsPlacing, refuses_in}
-use Rattle.ref_store.proofs.Seen.{placing_fails}
 use Rattle.rely.specs.declared.event.Event.{Event}
-use Rattle.rely.specs.Laws.{Kind, Quiet, Store, Take, Show, Shown, Settle, IsShow, IsOwing, IsSettle, IsLastly, KeepsRoom, owed_by}
+use Rattle.rely.specs.Laws.{Kind, Quiet, Store, Take, Show, Shown, Settle, IsShow, IsSettle, IsLastly, KeepsRoom, owed_by}
 use Rattle.ref_work.specs.declared.look_up.Found.{Found}
 use Rattle.ref_work.specs.Commands.{found_kind}
 use Rattle.ref_work.specs.Kinds.{kind_at, kind_in, put_kind, turn_wants}
@@ -48,19 +46,6 @@ settle_ticks (phase.Put g) e a b settles takes = put_ticks g.phase e a b settles
 settle_ticks phase.Unlink e a b settles takes = absurd settles
 settle_ticks phase.SyncFolder e a b settles takes = takes
 settle_ticks phase.Ended e a b settles takes = absurd settles
-
-owing_placing : (ph : Phase) (e : Event) → IsOwing (kind_in ph e) → IsPlacing ph
-owing_placing phase.Look e owing = absurd owing
-owing_placing (phase.Clear c) e owing = absurd owing
-owing_placing (phase.Walk y) e owing = absurd owing
-owing_placing (phase.Put g) e owing = tt
-owing_placing phase.Unlink e owing = tt
-owing_placing phase.SyncFolder e owing = tt
-owing_placing phase.Ended e owing = absurd owing
-
--- a step that shows the change, or is owed, is refused for nothing but what it can't know
-pub owing_fails : (ph : Phase) (d : Event) (t : Change) (v : View) (e : FsErr) → IsOwing (kind_in ph d) → refuses_in ph t v e → OfNone e
-owing_fails ph d t v e owing why = placing_fails ph t v e (owing_placing ph d owing) why
 
 no_owed : {P : Type 0} → 0 < 0 → P
 no_owed less = absurd (omega (arith, less))

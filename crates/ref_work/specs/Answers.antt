@@ -1,9 +1,8 @@
 -- What the answers of commands say.
-use Rattle.std.specs.Prelude.{◌≡◌, ◌≢◌, ◌<◌, ℕ, List, Option, None, IsSome}
+use Rattle.std.specs.Prelude.{◌≡◌, ◌≢◌, ◌<◌, ℕ, List, Option, None}
 use Rattle.fs_trait.specs.View.{View}
 use Rattle.repo_layout.specs.RefName.{IsRefName}
 use Rattle.ref_room.specs.Clash.{IsLeastClash}
-use Rattle.ref_store.specs.declared.phase.Phase.TheVariants as phase
 use Rattle.ref_store.specs.Steps.{HasValue}
 use Rattle.script.specs.declared.answer.Answer.{Answer}
 use Rattle.script.specs.declared.answer.Answer.TheVariants as answer
@@ -13,6 +12,7 @@ use Rattle.ref_work.specs.declared.command.RefCommand.TheVariants.{Parse, Reset,
 use Rattle.ref_work.specs.declared.look_up.Found.TheVariants.{Missing, Partial, Whole}
 use Rattle.ref_work.specs.Found.{IsFound}
 use Rattle.ref_work.specs.Kinds.{event, ref_kind}
+use Rattle.ref_work.specs.Commands.{removal}
 
 -- the name and the value that the command's ref was to have
 abbrev pub IsOf : RefCommand → List ℕ → Option (List ℕ) → Type 0
@@ -27,9 +27,8 @@ Settles t = ⊥
 -- what is known of a command that begins
 abbrev pub Begins : ℕ → RefCommand → Type 0
 Begins lane (Parse look) = Unit {0}
-Begins lane (Reset look plan) = (plan.lane ≡ lane) × (lane < 16) × IsRefName plan.name
-Begins lane (Change work) = (name : List ℕ) × (seen : Option (List ℕ)) × (value : Option (List ℕ)) × (work.task ≡ record { actor = lane; name = name; seen = seen; value = value; phase = phase.Look })
-    × (lane < 16) × IsRefName name × (value ≡ None → IsSome seen)
+Begins lane (Reset look plan) = (plan.lane ≡ lane) × (lane < 16) × IsRefName plan.name × (look.found ≡ None) × (look.commit ≡ plan.commit)
+Begins lane (Change work) = (name : List ℕ) × (seen : List ℕ) × (work ≡ removal lane name seen) × (lane < 16) × IsRefName name
 
 -- Over the view before the last step: what was found of the commit; the ref's value, which isn't the one
 -- that it was to have; the least ref that can't stand beside it; or, at the end of a change, that the step settled it.

@@ -5,6 +5,7 @@ use Rattle.fs_trait.specs.declared.task.Turn.{Turn}
 use Rattle.fs_trait.specs.declared.task.Turn.TheVariants as turn
 use Rattle.fs_trait.specs.declared.types.FsErr.{FsErr}
 use Rattle.fs_trait.specs.Effect.{OfNone}
+use Rattle.fs_trait.specs.Image.{IsTree}
 use Rattle.fs_trait.specs.View.{View, all_synced}
 use Rattle.fs_trait.specs.Seen.{Seen}
 use Rattle.ref_store.specs.declared.phase.Phase.TheVariants as phase
@@ -23,6 +24,7 @@ use Rattle.ref_work.specs.declared.command.RefCommand.TheVariants.{Parse, Reset,
 use Rattle.ref_work.specs.declared.look_up.Found.{Found}
 use Rattle.ref_work.specs.declared.look_up.Found.TheVariants.{Missing, Partial, Whole}
 use Rattle.ref_work.specs.Found.{commit_name, IsFound}
+use Rattle.ref_work.specs.Founded.{IsFounded, IsKnownBy}
 use Rattle.ref_work.specs.Kinds.{Answer, ref_kind, ref_needs, ref_writes, ref_stepped, ref_leaves, ref_refuses}
 use Rattle.ref_work.specs.Facts.{ref_facts}
 
@@ -71,9 +73,9 @@ command_stepped (Reset look plan) u new = reset_stepped look.found look plan u n
 command_stepped (Change work) u (Change new) = ref_stepped work u new
 command_stepped old u new = ⊥
 
--- what a look-up found, and nothing is changed by it
+-- what a look-up found, on a disk that is a tree, and nothing is changed by it
 abbrev pub Finds : LookUp → LookUp → Found → View → View → Type 0
-Finds look new found v w = (w ≡ v) × (new ≡ record look { found = Some found }) × IsFound v.now look.commit found
+Finds look new found v w = (w ≡ v) × (new ≡ record look { found = Some found }) × IsFound v.now look.commit found × IsTree v.now
 
 abbrev pub reset_leaves : Option Found → LookUp → Plan → Turn (Unit {0}) → RefCommand → View → View → Type 0
 reset_leaves None look plan turn.More (Reset new next) v w = Finds look new Whole v w × (next ≡ plan)
@@ -92,10 +94,21 @@ command_refuses (Parse look) v e = OfNone e
 command_refuses (Reset look plan) v e = OfNone e
 command_refuses (Change work) v e = ref_refuses work v e
 
+-- Before a reset changes its ref: what the change will need; and what is known of its commit.
+pub record Resetting (lane : ℕ) (look : LookUp) (plan : Plan) (v : View) (b : Books) : Type 0 where
+  pub change : ref_facts lane (planned plan) v b
+  pub same : look.commit ≡ plan.commit
+  pub commit : IsKnownBy look.found plan.commit v
+
+-- While a ref is changed: what the change needs; and that the commit that it is to name lasts.
+pub record Changing (lane : ℕ) (work : RefWork) (v : View) (b : Books) : Type 0 where
+  pub ref : ref_facts lane work v b
+  pub founded : IsFounded work.task.value v
+
 abbrev pub command_facts : ℕ → RefCommand → View → Books → Type 0
 command_facts lane (Parse look) v b = Unit {0}
-command_facts lane (Reset look plan) v b = ref_facts lane (planned plan) v b
-command_facts lane (Change work) v b = ref_facts lane work v b
+command_facts lane (Reset look plan) v b = Resetting lane look plan v b
+command_facts lane (Change work) v b = Changing lane work v b
 
 -- a reset at its beginning, and a removal
 abbrev pub IsReset : ℕ → List ℕ → Option (List ℕ) → List ℕ → RefCommand → Type 0

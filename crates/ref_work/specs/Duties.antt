@@ -1,26 +1,22 @@
 -- What a change of a ref writes is what its lane may write, and each kind of step keeps its duty.
-use Rattle.std.proofs.Common.{◌≡◌, ◌≢◌, ◌⊎◌, inl, inr, ⊎_elim, ℕ, true, refl, sym, ◌∙◌, ap, subst, arith, List, [], ◌++◌, append_assoc, length-append, Option, Some, None}
+use Rattle.std.proofs.Common.{◌≡◌, ◌≢◌, ◌⊎◌, inl, inr, ⊎_elim, ℕ, true, refl, sym, ◌∙◌, ap, subst, List, [], Option, Some, None}
 use Rattle.ost_types.specs.declared.meta.Meta.{Meta}
 use Rattle.ost_types.specs.declared.object.Kind.{Kind}
 use Rattle.ost_types.specs.declared.object.Kind.TheVariants.{Commit}
-use Rattle.ost_types.specs.Path.{Path, IsPath}
+use Rattle.ost_types.specs.Path.{Path}
 use Rattle.ost_types.proofs.Paths.{under-folder}
 use Rattle.fs_trait.specs.declared.types.Value.TheVariants.{File}
 use Rattle.fs_trait.specs.View.{View}
 use Rattle.fs_trait.specs.Image.{Holds}
 use Rattle.fs_trait.specs.Effect.{IsFresh}
 use Rattle.fs_trait.specs.Seen.{Seen, Vacant, Directory, Symlink, Leaf, shows, MayBe, IsDirectory, NotDirectory, bytes_in}
-use Rattle.repo_layout.specs.RefName.{parts_of}
 use Rattle.repo_layout.specs.RefFile.{IsSum, ref_text}
-use Rattle.repo_layout.specs.Paths.{heads, object_path, ref_path, stage_path}
+use Rattle.repo_layout.specs.Paths.{object_path, ref_path, stage_path}
 use Rattle.repo_layout.specs.Place.{Mark, Object, Ref, Stage, place}
-use Rattle.repo_layout.proofs.Places.{place-ref}
 use Rattle.layout_rules.specs.InLayout.{InLayout}
-use Rattle.layout_rules.proofs.Sanes.{stage_is_path}
 use Rattle.ref_room.specs.Clash.{ref_folder}
 use Rattle.ref_room.specs.Clearing as clearing
-use Rattle.ref_room.specs.Clearing.{IsUnder}
-use Rattle.ref_room.proofs.Names.{ref_folder-under, some_parts, way_to-path}
+use Rattle.ref_room.proofs.Names.{ref_folder-under}
 use Rattle.ref_room.proofs.Stable.{way_lies, clearing_lies}
 use Rattle.staged_file.specs.declared.phase.Phase as staged
 use Rattle.staged_file.specs.declared.phase.Phase.TheVariants as file
@@ -43,19 +39,10 @@ use Rattle.rely.specs.Sound.{Leads}
 use Rattle.rely.specs.Change.{Still, Shows, Final}
 use Rattle.rely.specs.Laws.{IsSettle, Duty, Stood, Within}
 use Rattle.rely.proofs.Calls.{own_file, ref_fits, stage_fits, stage_still, folder_still, set_shows, drop_shows, set_final, drop_final}
-use Rattle.ref_work.specs.Places.{path_of_ref, placed_below, placed_way}
 use Rattle.ref_work.specs.Kinds.{event_of, event, put_kind, kind_in}
 use Rattle.ref_work.specs.Facts.{turn_in, Facts}
 use Rattle.ref_work.specs.Kept.{stage_is}
-
--- a folder at or below a ref's path
-placed_under : (name : List ℕ) (p : Path) → IsPath p → IsUnder name p → (other : List ℕ) × (place p ≡ Ref other)
-unfolding ref_path
-placed_under name p path is =
-    let rest = parts_of name ++ is.0 in
-    let at : p ≡ heads ++ rest = is.1 ∙ append_assoc heads (parts_of name) is.0 in
-    let below = placed_below rest (omega (arith, some_parts name, length-append (parts_of name) is.0)) (subst IsPath at path).names in
-    (below.0, ap place at ∙ below.1)
+use Rattle.ref_work.specs.Placed.{IsPlaced, is_placed}
 
 abbrev pub IsSomeSum : Option (List ℕ) → Type 0
 IsSomeSum None = Unit {0}
@@ -77,27 +64,13 @@ pub says_had : (name : List ℕ) (o : Option (List ℕ)) (s : Seen) → ShowsHad
 says_had name None s had = λ leaf. had (is_leaf s leaf)
 says_had name (Some commit) s had = had
 
--- A path where the lane stages, or among the refs, within the bounds of paths.
-record IsPlaced (lane : ℕ) (p : Path) (s : Seen) : Type 0 where
-  lies : (place p ≡ Stage lane) ⊎ ((other : List ℕ) × (place p ≡ Ref other))
-  bounds : s ≢ Vacant → IsPath p
-
 -- what may be written under the Turn
 module _ (b : Books) (v : View) (lane : ℕ) (t : Change) (needs : Needs t v) (mine : t.actor ≡ lane) where
   stage : place (stage_path t.actor) ≡ Stage lane
   stage = stage_is t lane needs.actor mine
 
   placed : (p : Path) (s : Seen) → Lies t v p s → IsPlaced lane p s
-  placed p s l = ⊎_elim
-      (λ e. record { lies = inl (ap place e ∙ stage); bounds = λ there. subst IsPath (sym e) (stage_is_path t.actor needs.actor) })
-      (λ more. ⊎_elim
-      (λ here. record { lies = inr (t.name, ap place here.0 ∙ place-ref t.name); bounds = λ there. subst IsPath (sym here.0) (path_of_ref t.name needs.named) })
-      (λ rest. ⊎_elim
-      (λ way. let o = placed_way t.name way.parts needs.named way.some way.few in record { lies = inr (o.0, ap place way.place ∙ o.1); bounds = λ there. subst IsPath (sym way.place) (way_to-path way.parts t.name (path_of_ref t.name needs.named)) })
-      (λ goes. record { lies = inr (placed_under t.name p goes.path goes.place); bounds = λ there. goes.path })
-      rest)
-      more)
-      l.place
+  placed = is_placed t v lane needs mine
 
   fits : (p : Path) (s : Seen) → Lies t v p s → InLayout p s
   fits p s l = ⊎_elim (λ e. stage_fits lane p s e (placed p s l).bounds) (λ r. ref_fits r.0 p s r.1 (placed p s l).bounds) (placed p s l).lies

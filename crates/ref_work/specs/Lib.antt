@@ -2,9 +2,12 @@ pub mod Places
 pub mod Kinds
 pub mod Facts
 pub mod Kept
+pub mod Placed
+pub mod Founding
 pub mod Duties
 pub mod Laws
 pub mod Found
+pub mod Founded
 pub mod Commands
 pub mod CommandLaws
 pub mod Answers

@@ -8,7 +8,9 @@ mod plan;
 mod work;
 
 pub use command::RefCommand;
-pub use laws::{answers_of_commands, lanes_without_a_task, steps_fall, told_refusals};
+pub use laws::{
+    answers_of_commands, lanes_without_a_task, resets_are_founded, steps_fall, told_refusals,
+};
 pub use look_up::{Found, LookUp};
 pub use plan::Plan;
 pub use work::RefWork;

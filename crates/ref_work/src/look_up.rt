@@ -1,6 +1,6 @@
 ghost use Rattle.std.specs.Prelude.{◌≡◌, ◌≤◌, Some, None, is_some, IfOk, IfErr};
 ghost use Rattle.fs_trait.specs.View.{View};
-ghost use Rattle.fs_trait.specs.Image.{reads};
+ghost use Rattle.fs_trait.specs.Image.{IsTree, reads};
 ghost use Rattle.fs_trait.specs.Effect.{HasCause, IsQuiet, OfNone};
 ghost use Rattle.ref_work.specs.Commands.{parse_answer, reset_answer};
 ghost use Rattle.ref_work.specs.Found.{IsFound, commit_name, is_regular};
@@ -81,6 +81,7 @@ impl LookUp {
     pub(crate) fn look<F: Fs>(&mut self, fs: &mut F) -> Result<Found, FsErr>
         ensures found { IfOk result (λ f. self.new ≡ record self.old { found = Some f }) }
         ensures told { (v : View) → F.view fs.old ≡ Some v → IfOk result (IsFound v.now self.old.commit) }
+        ensures tree { (v : View) → F.view fs.old ≡ Some v → IsTree v.now }
         ensures named { IfErr result OfNone }
         ensures quiet { IsQuiet (F.clock fs.old) (F.clock fs.new) (F.was fs.old) (F.was fs.new) (F.view fs.old) (F.view fs.new) }
         ensures keeps_room { F.spare fs.old ≤ F.spare fs.new }

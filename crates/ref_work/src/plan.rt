@@ -1,4 +1,5 @@
 ghost use Rattle.std.specs.Prelude.{◌≡◌, ◌<◌, ◌≤◌, Some, None, IfOk, length};
+ghost use Rattle.repo_layout.specs.RefFile.{IsSum};
 ghost use Rattle.repo_layout.specs.RefName.{parts_of};
 ghost use Rattle.ref_store.specs.declared.phase.Phase.TheVariants as phase;
 
@@ -17,6 +18,7 @@ pub struct Plan {
     commit: Csum,
     ghost few: { lane < 16 },
     ghost parts: { length (parts_of name) ≤ 12 },
+    ghost sum: { IsSum commit },
 }
 
 impl Plan {
@@ -34,6 +36,7 @@ impl Plan {
         ensures commit { result.commit ≡ commit }
     {
         let _text = name.as_slice();
+        let _bytes = commit.as_slice();
         Plan {
             alloc,
             lane,

@@ -21,8 +21,7 @@ use Rattle.rely.specs.Disks.{path_of, IsLeaf, Says}
 use Rattle.rely.specs.Books.{Books, Free}
 use Rattle.rely.specs.Rely.{May, may_at, NotOthers, OwnTree, HasNoRefs}
 use Rattle.rely.specs.Sound.{ShownBy, Leads}
-use Rattle.rely.specs.Change.{Still, Away, Shows, Final}
-use Rattle.rely.specs.Laws.{Within}
+use Rattle.rely.specs.Change.{Still, Shows, Final}
 use Rattle.rely.proofs.States.{says_vacant}
 
 -- a staging path is no ref's
@@ -30,9 +29,6 @@ pub stage_no_ref : (t : Topic) (p : Path) (a : ℕ) → place p ≡ Stage a → 
 stage_no_ref (RefOf name) p a at e = let k : Ref name ≡ Stage a = sym (place-ref name) ∙ ap place e ∙ at in cc
 
 -- A sync, or no call.
-pub sync_within : (b : Books) (v : View) (actor lane : ℕ) → Within Nothing (May b v actor lane)
-sync_within b v actor lane p s wrote = absurd wrote
-
 pub sync_still : (v : View) → Still Nothing v
 sync_still v t s wrote = absurd wrote
 
@@ -61,9 +57,6 @@ own_file v actor q n at is = (q, inl (sym is), λ a e. let k : Stage actor ≡ S
 -- Whatever is written at staging paths alone changes nothing that the state speaks of.
 pub stage_still : (W : Path → Seen → Type 0) (v : View) (actor : ℕ) → ((p : Path) (s : Seen) → W p s → place p ≡ Stage actor) → Still W v
 stage_still W v actor at t s wrote = absurd (stage_no_ref t (path_of t) actor (at (path_of t) s wrote) refl)
-
-pub stage_away : (W : Path → Seen → Type 0) (actor : ℕ) → ((p : Path) (s : Seen) → W p s → place p ≡ Stage actor) → Away W
-stage_away W actor at t s wrote = stage_no_ref t (path_of t) actor (at (path_of t) s wrote) refl
 
 -- A write at a ref's path, or at a folder above refs, under the Turn.
 pub ref_within : (b : Books) (v : View) (actor lane : ℕ) (name : List ℕ) (p : Path) (s : Seen) → p ≡ ref_path name → Free b.turn lane → Free b.exclusive lane → (s ≢ Vacant → IsPath (ref_path name))

@@ -44,17 +44,17 @@ pub object_under : (name : ObjName) → path_of name ≡ under (objects_folder_p
 unfolding object_path objects_folder_path tail_of
 object_under name = refl
 
-above_objects : (sum : List ℕ) (p : Path) → is_below p (objects_folder_path sum) ≡ true → (is_below p (folder_path Objects) ≡ true) ⊎ (p ≡ objects_folder_path sum)
+pub above_objects : (sum : List ℕ) (p : Path) → is_below p (objects_folder_path sum) ≡ true → (is_below p (folder_path Objects) ≡ true) ⊎ (p ≡ objects_folder_path sum)
 unfolding objects_folder_path
 above_objects sum p below = under-is_below p (folder_path Objects) (take 2 (hex_of sum)) below
 
-no_vacant_leaf : (s : Seen) → IsLeaf s → s ≡ Vacant → ⊥
+pub no_vacant_leaf : (s : Seen) → IsLeaf s → s ≡ Vacant → ⊥
 no_vacant_leaf s leaf e = let k : IsLeaf Vacant = subst IsLeaf e leaf in k
 
 -- One act.
 module _ (b : Books) (v w : View) (actor lane : ℕ) (writes : Writes (May b v actor lane) v w) where
   -- what leads to the objects stays
-  leads_harmless : (sum : List ℕ) → Harmless (May b v actor lane) (LeadsTo (objects_folder_path sum))
+  pub leads_harmless : (sum : List ℕ) → Harmless (May b v actor lane) (LeadsTo (objects_folder_path sum))
   leads_harmless sum p s m below = ⊎_elim
       (λ above. folders_harmless b v actor lane Objects p s m above)
       (λ is. at_place b v actor lane p s (ObjectsFolder (take 2 (hex_of sum))) (ap place is ∙ place-objects_folder sum) m)

@@ -8,8 +8,10 @@ pub mod Sounds
 pub mod Acting
 pub mod Showing
 pub mod Taking
+pub mod Pinning
 pub mod Calls
 pub mod Headlines
 pub mod Openings
 pub mod Lasting
+pub mod Finished
 pub mod Beginnings

@@ -18,7 +18,7 @@ module _ {X : Type 0} where
   contains_later : (xs : List X) (y x : X) → Contains xs x → Contains (y ∷ xs) x
   contains_later xs y x h = let lt = h.1 in (suc h.0, omega arith, h.2)
 
-  contains_cases : (xs : List X) (y x : X) → Contains (y ∷ xs) x → (y ≡ x) ⊎ Contains xs x
+  pub contains_cases : (xs : List X) (y x : X) → Contains (y ∷ xs) x → (y ≡ x) ⊎ Contains xs x
   contains_cases xs y x (zero, lt, e) = inl e
   contains_cases xs y x (suc k, lt, e) = inr (k, omega arith, e)
 

@@ -124,6 +124,10 @@ module _ {F : Type 0} (view : F → Option View) (clock spare : F → ℕ) (was 
   more_of t next turn.More not step = refl
   more_of t next (turn.Done x) not step = absurd (not (laws.last t next step))
 
+  -- what the views say of it
+  pub more_tells : (t next : T) (u : Turn (Unit {0})) → (IsLastly (kind t) → ⊥) → stepped t u next → (v : View) (now : Option View) → Told now (λ w. leaves t u next v w) → Told now (λ w. leaves t turn.More next v w)
+  more_tells t next u not step v now told = subst (λ x. Told now (λ w. leaves t x next v w)) (more_of t next u not step) told
+
   -- the books while the change is shown
   abbrev pub pending_books : rust.Books → ℕ → ℕ → Event → ℕ → Bool → rust.Books
   pending_books b lane command e owed halted = record b { turn = Some lane; pending = Some (record { lane = lane; command = command; event = e }); owed = owed; halted = halted }

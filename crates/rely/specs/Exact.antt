@@ -31,8 +31,9 @@ Steps stepped old came.Done new = stepped old (turn.Done tt) new
 Steps stepped old came.Blocked new = new ≡ old
 Steps stepped old outcome new = Unit {0}
 
--- what the views say of a step that was the last one, and of one that ended the command
+-- what the views say of a step that goes on, of the last one, and of one that ended the command
 abbrev pub Tells : {T : Type 0} → (T → Turn (Unit {0}) → T → View → View → Type 0) → (T → View → FsErr → Type 0) → T → Outcome → T → Option View → Option View → Type 0
+Tells leaves refuses old came.More new before now = (v : View) → before ≡ Some v → Told now (λ w. leaves old turn.More new v w)
 Tells leaves refuses old came.Done new before now = (v : View) → before ≡ Some v → Told now (λ w. leaves old (turn.Done tt) new v w)
 Tells leaves refuses old (came.Refused e) new before now = (v : View) → before ≡ Some v → (e ≡ err.NoMemory) ⊎ refuses old v e
 Tells leaves refuses old outcome new before now = Unit {0}

@@ -2,12 +2,13 @@
 use Rattle.std.specs.Prelude.{◌≡◌, ◌≢◌, ◌⊎◌, ◌≤◌, ℕ, List, Option, Some}
 use Rattle.ost_types.specs.declared.object.Kind.TheVariants.{Commit}
 use Rattle.ost_types.specs.declared.object.ObjName.{ObjName}
+use Rattle.ost_types.specs.Path.{Path}
 use Rattle.ost_objects.specs.Object.{IsNamed}
 use Rattle.fs_trait.specs.View.{Disk, View}
 use Rattle.fs_trait.specs.Image.{Told}
 use Rattle.fs_trait.specs.Seen.{Seen, Vacant, shows, MayBe}
-use Rattle.fs_trait.specs.Change.{Left}
-use Rattle.repo_layout.specs.Paths.{objects_folder_path, mark_path}
+use Rattle.fs_trait.specs.Change.{LeadsTo, Left}
+use Rattle.repo_layout.specs.Paths.{mark_path, object_path, objects_folder_path}
 use Rattle.repo_layout.specs.RefFile.{IsSum}
 use Rattle.repo_model.specs.Objects.{Marked, object_in, path_of}
 use Rattle.repo_model.specs.Trees.{name_of}
@@ -35,6 +36,18 @@ pub record IsRight (v : View) (name : ObjName) : Type 0 where
 -- No crash leaves a mark of the commit.
 pub record NeverMarked (commit : List ℕ) (v : View) : Type 0 where
   pub each : (s : Seen) → MayBe v (mark_path commit) s → IsLeaf s → ⊥
+
+-- The commit's object outlasts each crash, and no crash leaves a mark of it.
+pub record StaysFinished (v : View) (commit : List ℕ) : Type 0 where
+  pub there : IsSafe v (name_of Commit commit)
+  pub unmarked : NeverMarked commit v
+
+-- On the disk as it is now the commit's object stands, folders lead to it, and no mark of it is there.
+pub record IsFinishedNow (v : View) (commit : List ℕ) : Type 0 where
+  pub sum : IsSum commit
+  pub there : shows v.now (object_path Commit commit) ≢ Vacant
+  pub above : (p : Path) → LeadsTo (objects_folder_path commit) p (shows v.now p)
+  pub unmarked : IsLeaf (shows v.now (mark_path commit)) → ⊥
 
 -- From one view to a later one: an object that is safe goes on to be so, and nothing else comes to its path; what is right stays
 -- right; and a commit that is safe and that no mark is of goes on so.

@@ -10,5 +10,6 @@ pub mod Headline
 pub mod Opening
 pub mod Barrier
 pub mod Exact
+pub mod Pinning
 pub mod Part
 pub mod Lasting

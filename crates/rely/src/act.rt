@@ -11,6 +11,7 @@ ghost use Rattle.fs_trait.specs.declared.types.FsErr.TheVariants as FsErr;
 ghost use Rattle.rely.specs.Books.{books_of, Free, Frees};
 ghost use Rattle.rely.specs.Exact.{Opens, Steps, Tells, IsUnbooked, IsHeldBy, IsShownBy, IsSettledBy, IsBooked, Causes, IsGivenUp, IsLeft, Locks};
 ghost use Rattle.rely.specs.Lasting.{Lasts};
+ghost use Rattle.rely.specs.Pinning.{ArePinned, pin_in, without};
 ghost use Rattle.rely.specs.Laws.{IsShow, IsShown, IsOwing, IsSettle, IsQuiet, IsStore, IsTake, KeepsRoom, owed_by, Ready, Runs, IsBy, Stood, Acts, Ends, IsEnd, Show, Shown, Settle};
 
 use crate::{Base, Event, Outcome, Step, Wants, Work, is_free};
@@ -47,6 +48,7 @@ fn advance_with_room<T: Work, F: Fs>(
 fn end<F>(base: &mut Base<F>, actor: u8, lane: u8)
     ensures ends { Ends actor lane base.old base.new }
     ensures given_up { IsGivenUp lane base.old.books.turn base.new.books.turn × IsGivenUp lane base.old.books.exclusive base.new.books.exclusive }
+    ensures pins { base.new.books.pins.items ≡ without lane base.old.books.pins.items }
 {
     base.books.release(actor, lane);
 }
@@ -58,6 +60,7 @@ fn refuse<F: Fs>(base: &mut Base<F>, actor: u8, lane: u8, before: u64, e: FsErr)
     ensures told { IsEnd result base.new }
     ensures answer { ((result ≡ Outcome.Halted) × (e ≡ FsErr.Failed)) ⊎ (result ≡ Outcome.Refused e) }
     ensures given_up { IsLeft lane result base.old.books.turn base.new.books.turn × IsLeft lane result base.old.books.exclusive base.new.books.exclusive }
+    ensures pins { ArePinned None lane result base.old.books.pins.items base.new.books.pins.items }
 {
     if e == FsErr::Failed && base.fs.clock() != before {
         base.books.halted = true;
@@ -79,6 +82,7 @@ fn quiet<T: Work, F: Fs>(base: &mut Base<F>, actor: u8, lane: u8, task: &mut T) 
     ensures tells { Tells T.leaves T.refuses task.old result task.new (F.view base.old.fs) (F.view base.new.fs) }
     ensures goes { result ≢ Outcome.Blocked }
     ensures left { IsLeft lane result base.old.books.turn base.new.books.turn × IsLeft lane result base.old.books.exclusive base.new.books.exclusive }
+    ensures pins { ArePinned None lane result base.old.books.pins.items base.new.books.pins.items }
     ensures booked { IsUnbooked base.old.books base.new.books }
     ensures time { Elapses (F.clock base.old.fs) (F.clock base.new.fs) (F.was base.old.fs) (F.was base.new.fs) (F.view base.new.fs) }
     ensures cause { Causes (F.faults base.old.fs) (F.faults base.new.fs) result }
@@ -105,6 +109,7 @@ fn show<T: Work, F: Fs>(base: &mut Base<F>, lane: u8, command: u32, task: &mut T
     ensures blocked { result ≡ Outcome.Blocked → (base.new ≡ base.old) × ((Free base.old.books.exclusive lane × Free base.old.books.turn lane) → ⊥) }
     ensures opens { result ≢ Outcome.Blocked → (Free base.old.books.exclusive lane × Free base.old.books.turn lane) }
     ensures locks { Locks (T.kind_of task.old) lane result base.old.books base.new.books }
+    ensures pins { ArePinned None lane result base.old.books.pins.items base.new.books.pins.items }
     ensures booked { (e : Event) → T.kind_of task.old ≡ Show e → IsShownBy lane command e result base.old.books base.new.books }
     ensures time { Elapses (F.clock base.old.fs) (F.clock base.new.fs) (F.was base.old.fs) (F.was base.new.fs) (F.view base.new.fs) }
     ensures cause { (v : View) → F.view base.old.fs ≡ Some v → Causes (F.faults base.old.fs) (F.faults base.new.fs) result }
@@ -141,6 +146,7 @@ fn show_event<T: Work, F: Fs>(
     ensures tells { Tells T.leaves T.refuses task.old result task.new (F.view base.old.fs) (F.view base.new.fs) }
     ensures goes { result ≢ Outcome.Blocked }
     ensures locks { Locks (T.kind_of task.old) lane result base.old.books base.new.books }
+    ensures pins { ArePinned None lane result base.old.books.pins.items base.new.books.pins.items }
     ensures booked { IsShownBy lane command event result base.old.books base.new.books }
     ensures time { Elapses (F.clock base.old.fs) (F.clock base.new.fs) (F.was base.old.fs) (F.was base.new.fs) (F.view base.new.fs) }
     ensures cause { (v : View) → F.view base.old.fs ≡ Some v → Causes (F.faults base.old.fs) (F.faults base.new.fs) result }
@@ -172,6 +178,7 @@ fn shown<T: Work, F: Fs>(base: &mut Base<F>, lane: u8, task: &mut T) -> Outcome
     ensures tells { Tells T.leaves T.refuses task.old result task.new (F.view base.old.fs) (F.view base.new.fs) }
     ensures goes { result ≢ Outcome.Blocked }
     ensures locks { Locks (T.kind_of task.old) lane result base.old.books base.new.books }
+    ensures pins { ArePinned None lane result base.old.books.pins.items base.new.books.pins.items }
     ensures booked { IsHeldBy result base.old.books base.new.books }
     ensures time { Elapses (F.clock base.old.fs) (F.clock base.new.fs) (F.was base.old.fs) (F.was base.new.fs) (F.view base.new.fs) }
     ensures cause { (v : View) → F.view base.old.fs ≡ Some v → Causes (F.faults base.old.fs) (F.faults base.new.fs) result }
@@ -196,6 +203,7 @@ fn settle<T: Work, F: Fs>(base: &mut Base<F>, lane: u8, task: &mut T) -> Outcome
     ensures tells { Tells T.leaves T.refuses task.old result task.new (F.view base.old.fs) (F.view base.new.fs) }
     ensures goes { result ≢ Outcome.Blocked }
     ensures locks { Locks (T.kind_of task.old) lane result base.old.books base.new.books }
+    ensures pins { ArePinned None lane result base.old.books.pins.items base.new.books.pins.items }
     ensures booked { IsSettledBy (F.clock base.new.fs) result base.old.books base.new.books }
     ensures time { Elapses (F.clock base.old.fs) (F.clock base.new.fs) (F.was base.old.fs) (F.was base.new.fs) (F.view base.new.fs) }
     ensures cause { (v : View) → F.view base.old.fs ≡ Some v → Causes (F.faults base.old.fs) (F.faults base.new.fs) result }
@@ -230,6 +238,7 @@ fn store<T: Work, F: Fs>(base: &mut Base<F>, actor: u8, lane: u8, task: &mut T) 
     ensures blocked { result ≡ Outcome.Blocked → (base.new ≡ base.old) × (Free base.old.books.exclusive lane → ⊥) }
     ensures opens { result ≢ Outcome.Blocked → Free base.old.books.exclusive lane }
     ensures locks { Locks (T.kind_of task.old) lane result base.old.books base.new.books }
+    ensures pins { ArePinned None lane result base.old.books.pins.items base.new.books.pins.items }
     ensures booked { IsUnbooked base.old.books base.new.books }
     ensures time { Elapses (F.clock base.old.fs) (F.clock base.new.fs) (F.was base.old.fs) (F.was base.new.fs) (F.view base.new.fs) }
     ensures cause { Causes (F.faults base.old.fs) (F.faults base.new.fs) result }
@@ -251,6 +260,7 @@ fn take<T: Work, F: Fs>(base: &mut Base<F>, lane: u8, wants: Wants, task: &mut T
     ensures blocked { result ≡ Outcome.Blocked → (base.new ≡ base.old) × (Frees wants lane (books_of base.old.books) → ⊥) }
     ensures opens { result ≢ Outcome.Blocked → Frees wants lane (books_of base.old.books) }
     ensures locks { Locks (T.kind_of task.old) lane result base.old.books base.new.books }
+    ensures pins { ArePinned wants.pin lane result base.old.books.pins.items base.new.books.pins.items }
     ensures booked { IsUnbooked base.old.books base.new.books }
     ensures time { Elapses (F.clock base.old.fs) (F.clock base.new.fs) (F.was base.old.fs) (F.was base.new.fs) (F.view base.new.fs) }
     ensures cause { Causes (F.faults base.old.fs) (F.faults base.new.fs) result }
@@ -283,7 +293,9 @@ pub fn task_act<T: Work, F: Fs>(
     ensures blocked { result ≡ Outcome.Blocked → (base.new ≡ base.old) × (Opens (T.kind_of task.old) lane (books_of base.old.books) → ⊥) }
     ensures opens { result ≢ Outcome.Blocked → Opens (T.kind_of task.old) lane (books_of base.old.books) }
     ensures locks { Locks (T.kind_of task.old) lane result base.old.books base.new.books }
+    ensures pins { ArePinned (pin_in (T.kind_of task.old)) lane result base.old.books.pins.items base.new.books.pins.items }
     ensures booked { IsBooked (T.kind_of task.old) lane command (F.clock base.new.fs) result base.old.books base.new.books }
+    ensures time { Elapses (F.clock base.old.fs) (F.clock base.new.fs) (F.was base.old.fs) (F.was base.new.fs) (F.view base.new.fs) }
     ensures outlasts { Lasts F.view F.clock F.was base.old.fs base.new.fs }
     ensures cause { (v : View) → F.view base.old.fs ≡ Some v → Causes (F.faults base.old.fs) (F.faults base.new.fs) result }
 {
@@ -307,6 +319,8 @@ pub fn help_act<T: Work, F: Fs>(base: &mut Base<F>, actor: u8, lane: u8, task: &
     ensures blocked { result ≡ Outcome.Blocked → (base.new ≡ base.old) × (IsStore (T.kind_of task.old) → Free base.old.books.exclusive lane → ⊥) }
     ensures opens { result ≢ Outcome.Blocked → IsStore (T.kind_of task.old) × Free base.old.books.exclusive lane }
     ensures booked { IsUnbooked base.old.books base.new.books }
+    ensures pins { ArePinned None lane result base.old.books.pins.items base.new.books.pins.items }
+    ensures time { Elapses (F.clock base.old.fs) (F.clock base.new.fs) (F.was base.old.fs) (F.was base.new.fs) (F.view base.new.fs) }
     ensures outlasts { Lasts F.view F.clock F.was base.old.fs base.new.fs }
     ensures cause { Causes (F.faults base.old.fs) (F.faults base.new.fs) result }
 {

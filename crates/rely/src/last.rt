@@ -13,7 +13,7 @@ ghost use Rattle.rely.specs.Sound.{Leads};
 ghost use Rattle.rely.specs.State.{State};
 ghost use Rattle.rely.specs.Opening.{IsOpening};
 ghost use Rattle.rely.specs.Objects.{IsObjectSeen};
-ghost use Rattle.rely.specs.Lasting.{AlwaysStores, IsRight, IsSafe, Lasts, NeverMarked, Stays, StaysOn};
+ghost use Rattle.rely.specs.Lasting.{AlwaysStores, IsRight, IsSafe, Lasts, NeverMarked, Stays, StaysFinished, StaysOn};
 
 use fs_trait::Fs;
 
@@ -32,6 +32,7 @@ pub fn stores_that_last()
     ensures stored { (v w : View) (name : ObjName) (bytes : List ℕ) → Stays v w → AlwaysStores v name bytes → AlwaysStores w name bytes }
     ensures left { (v : View) (d : Disk) (name : ObjName) (bytes : List ℕ) → StaysOn v d → AlwaysStores v name bytes → Stores d name bytes }
     ensures whole { (v w : View) (limits : Limits) (commit : List ℕ) → Stays v w → Complete (AlwaysStores v) limits commit → Complete (AlwaysStores w) limits commit }
+    ensures finished { (v w : View) (commit : List ℕ) → Stays v w → StaysFinished v commit → StaysFinished w commit }
     ensures complete { (v : View) (d : Disk) (limits : Limits) (commit : List ℕ) → StaysOn v d → Complete (AlwaysStores v) limits commit → Complete (Stores d) limits commit }
 {}
 

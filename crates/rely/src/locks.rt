@@ -1,4 +1,4 @@
-ghost use Rattle.std.specs.Prelude.{◌≡◌, ◌↔◌, ◌≢◌, ◌⊎◌, ◌<◌, ◌-◌, ◌++◌, ◌∷◌, [], ℕ, List, Option, Some, None, IsTrue, All, Contains, OnOk};
+ghost use Rattle.std.specs.Prelude.{◌≡◌, ◌↔◌, ◌≢◌, ◌⊎◌, ◌<◌, ◌-◌, ◌++◌, ◌∷◌, [], ℕ, List, Option, Some, None, IsTrue, All, Contains, OnOk, OnErr};
 ghost use Rattle.ost_types.specs.declared.object.ObjName.{ObjName};
 ghost use Rattle.rely.specs.declared.books.Hold.{Hold};
 ghost use Rattle.rely.specs.declared.books.Pending.{Pending};
@@ -8,6 +8,7 @@ ghost use Rattle.rely.specs.declared.books.Share.{Share};
 ghost use Rattle.rely.specs.declared.books.Want.{Want};
 ghost use Rattle.rely.specs.Books.{books_of, Free, Frees, Granted, Agrees, Spared, Keeps};
 ghost use Rattle.rely.specs.Exact.{IsGivenUp, lock_taken};
+ghost use Rattle.rely.specs.Pinning.{with_pin, without};
 
 use crate::{Books, Entry, Event, Hold, Pending, Pin, Share, Want, Wants};
 use ost_types::{NoMemory, ObjName};
@@ -60,7 +61,8 @@ fn give_up_wants(wants: &mut Vec<Want>, lane: u8)
 }
 
 fn give_up_pins(pins: &mut Vec<Pin>, lane: u8)
-    ensures { (x : Pin) → x.lane ≢ lane → Contains pins.old.items x → Contains pins.new.items x }
+    ensures left { pins.new.items ≡ without lane pins.old.items }
+    ensures kept { (x : Pin) → x.lane ≢ lane → Contains pins.old.items x → Contains pins.new.items x }
 {
     pins.retain(|x| x.lane != lane);
 }
@@ -106,6 +108,8 @@ fn add_hold(holds: &mut Vec<Hold>, wanted: Option<u8>, lane: u8) -> Result<(), N
 fn add_pin(pins: &mut Vec<Pin>, wanted: Option<ObjName>, lane: u8) -> Result<(), NoMemory>
     ensures wanted { OnOk result ((o : ObjName) → wanted ≡ Some o → Contains pins.new.items (record { lane = lane; object = o })) }
     ensures kept { (x : Pin) → Contains pins.old.items x → Contains pins.new.items x }
+    ensures added { OnOk result (pins.new.items ≡ with_pin wanted lane pins.old.items) }
+    ensures refused { OnErr result (pins.new.items ≡ pins.old.items) }
 {
     if let Some(object) = wanted {
         pins.push(Pin { lane, object })?;
@@ -144,6 +148,8 @@ impl Books {
         ensures granted { OnOk result (Granted wants.now actor lane (books_of self.new)) }
         ensures spared { Spared actor lane (books_of self.old) (books_of self.new) }
         ensures keeps { Keeps lane (books_of self.old) (books_of self.new) }
+        ensures pinned { OnOk result (self.new.pins.items ≡ with_pin wants.now.pin lane self.old.pins.items) }
+        ensures unpinned { OnErr result (self.new.pins.items ≡ self.old.pins.items) }
         ensures taken { (self.new.turn ≡ lock_taken wants.now.turn lane self.old.turn) × (self.new.exclusive ≡ lock_taken wants.now.exclusive lane self.old.exclusive) }
         ensures agrees { Agrees (books_of self.old) → Agrees (books_of self.new) }
     {
@@ -160,6 +166,7 @@ impl Books {
         ensures same { self.new ≡ record self.old { shared = self.new.shared; exclusive = self.new.exclusive; turn = self.new.turn; sysroot = self.new.sysroot; holds = self.new.holds; wants = self.new.wants; pins = self.new.pins } }
         ensures turn { (x : ℕ) → self.new.turn ≡ Some x → self.old.turn ≡ Some x }
         ensures given_up { IsGivenUp lane self.old.turn self.new.turn × IsGivenUp lane self.old.exclusive self.new.exclusive }
+        ensures pins { self.new.pins.items ≡ without lane self.old.pins.items }
         ensures spared { Spared actor lane (books_of self.old) (books_of self.new) }
         ensures agrees { Agrees (books_of self.old) → Agrees (books_of self.new) }
     {

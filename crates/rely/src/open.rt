@@ -16,6 +16,7 @@ impl Books {
     fn new(alloc: Global, opened: u64, start: Vec<(RefName, Csum)>) -> Books
         ensures fresh { result ≡ record { shared = result.shared; exclusive = None; turn = None; sysroot = None; holds = result.holds; wants = result.wants; pins = result.pins; uses = result.uses; history = result.history; pending = None; replies = 0; owed = 0; halted = false; opened = opened; start = start } }
         ensures history { result.history.items ≡ [] }
+        ensures pins { result.pins.items ≡ [] }
     {
         Books {
             shared: Vec::new(alloc),
@@ -49,6 +50,7 @@ impl<F: Fs> Base<F> {
         ensures history { result.books.history.items ≡ [] }
         ensures pending { result.books.pending ≡ None }
         ensures live { result.books.halted ≡ false }
+        ensures pins { result.books.pins.items ≡ [] }
         ensures free { (result.books.turn ≡ None) × (result.books.exclusive ≡ None) }
         ensures opened { result.books.opened ≡ opened }
         ensures sound { Sound F.view F.clock F.spare F.was result }

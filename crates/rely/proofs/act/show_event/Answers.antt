@@ -1,8 +1,8 @@
 use Rattle.std.proofs.Common.{ap, Err, inl, refl, subst, sym, true, arith, ◌≤◌}
-use Rattle.rely.specs.Laws.{Runs, IsShow}
+use Rattle.rely.specs.Laws.{IsLastly, IsShow, Runs}
 use Rattle.rely.proofs.Sounds.{IsFs}
 use Rattle.rely.proofs.Acting.{asks}
-use Rattle.rely.proofs.Showing.{still_acts, show_done, show_tells, show_not}
+use Rattle.rely.proofs.Showing.{more_tells, still_acts, show_done, show_tells, show_not}
 use Rattle.rely.proofs.act.show_event.Given as given
 use Rattle.rely.proofs.act.show_event.Goals as goal
 
@@ -44,3 +44,8 @@ returns-in-Err-clause-acts g c =
     let next = c.advance_with_room.new.task in
     show_done g.F.Fs.view g.F.Fs.clock g.F.Fs.spare g.F.Fs.was (fs g) g.met.T.Work.laws c.args.base.now mid c.show-in-Err.new.self c.args.lane c.args.command c.args.task.now next c.args.event 0 true _
     e.books c.show-in-Err.ensures r.kind r.free r.entry r.ready e.writes e.time (omega arith) refl
+
+pub returns-in-Ok-clause-tells : goal.returns-in-Ok-clause-tells
+returns-in-Ok-clause-tells g c = λ v told.
+    let e = c.in-Ok.ensures in
+    more_tells g.F.Fs.view g.F.Fs.clock g.F.Fs.spare g.F.Fs.was (fs g) g.met.T.Work.laws c.args.task.now c.advance_with_room.new.task c.in-Ok.field-0 (λ last. subst IsLastly c.requires.kind last) e.stepped v _ (e.after v told)

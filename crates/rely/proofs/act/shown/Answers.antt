@@ -1,8 +1,8 @@
-use Rattle.std.proofs.Common.{inl, refl, true}
-use Rattle.rely.specs.Laws.{Runs}
+use Rattle.std.proofs.Common.{inl, refl, subst, true}
+use Rattle.rely.specs.Laws.{IsLastly, Runs}
 use Rattle.rely.proofs.Sounds.{IsFs}
 use Rattle.rely.proofs.Acting.{asks}
-use Rattle.rely.proofs.Showing.{shown_is, owed_acts, shown_parts, shown_pending, shown_runs}
+use Rattle.rely.proofs.Showing.{more_tells, shown_is, owed_acts, shown_parts, shown_pending, shown_runs}
 use Rattle.rely.proofs.act.shown.Given as given
 use Rattle.rely.proofs.act.shown.Goals as goal
 
@@ -37,3 +37,10 @@ returns-in-Err-clause-acts g c =
     c.pay.ensures (shown_pending g.F.Fs.view g.F.Fs.clock g.F.Fs.spare g.F.Fs.was (fs g) g.met.T.Work.laws old c.args.lane t k.0 k.1 k.2 r.ready)
     (shown_parts g.F.Fs.view g.F.Fs.clock g.F.Fs.spare g.F.Fs.was (fs g) g.met.T.Work.laws old c.args.lane t k.0 k.1 k.2 r.ready)
     r.ready.sound e.writes e.time e.room.at_most_one refl
+
+pub returns-in-Ok-clause-tells : goal.returns-in-Ok-clause-tells
+returns-in-Ok-clause-tells g c = λ v told.
+    let e = c.in-Ok.ensures in
+    let t = c.args.task.now in
+    let k = shown_is (g.T.Work.kind_of t) c.requires.kind in
+    more_tells g.F.Fs.view g.F.Fs.clock g.F.Fs.spare g.F.Fs.was (fs g) g.met.T.Work.laws t c.advance.new.self c.in-Ok.field-0 (λ last. subst IsLastly k.2 last) e.stepped v _ (e.after v told)

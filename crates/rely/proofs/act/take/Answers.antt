@@ -1,9 +1,10 @@
-use Rattle.std.proofs.Common.{refl, subst}
+use Rattle.std.proofs.Common.{rules, refl, subst}
 use Rattle.rely.specs.Laws.{Kind, Runs, Holds, NotPending}
 use Rattle.rely.specs.Books.{books_of}
 use Rattle.rely.proofs.Sounds.{IsFs}
 use Rattle.rely.proofs.Showing.{blocked_acts, still_acts, no_time}
 use Rattle.rely.proofs.Taking.{take_is, take_ready, take_acts}
+use Rattle.rely.proofs.Pinning.{pinned_then}
 use Rattle.rely.proofs.act.take.Given as given
 use Rattle.rely.proofs.act.take.Goals as goal
 
@@ -32,3 +33,6 @@ returns-then-is_err-clause-acts g c =
 
 pub returns-clause-acts : goal.returns-clause-acts
 returns-clause-acts g c = take_acts g.F.Fs.view g.F.Fs.clock g.F.Fs.spare g.F.Fs.was g.met.T.Work.laws c.args.base.now c.quiet.new.base c.grant.new.self c.args.lane c.quiet.result _ c.grant.ensures.spared c.grant.ensures.keeps c.quiet.ensures.acts
+
+pub returns-clause-pins : goal.returns-clause-pins
+returns-clause-pins g c = pinned_then c.args.wants.pin c.args.lane c.quiet.result c.args.base.now.books.pins.items c.grant.new.self.pins.items c.quiet.new.base.books.pins.items c.quiet.ensures.goes (search rules) c.quiet.ensures.pins

@@ -1,3 +1,4 @@
+use Rattle.rely.proofs.Finished.{finished_stays}
 use Rattle.rely.proofs.Lasting.{always_safe, always_from, always_named, always_stays, always_left, always_whole, always_complete}
 use Rattle.rely.proofs.last.stores_that_last.Goals as goal
 
@@ -21,3 +22,6 @@ returns-clause-whole c = always_whole
 
 pub returns-clause-complete : goal.returns-clause-complete
 returns-clause-complete c = always_complete
+
+pub returns-clause-finished : goal.returns-clause-finished
+returns-clause-finished c = finished_stays
