@@ -1,0 +1,2 @@
+mod Configs
+pub mod NewConfig
