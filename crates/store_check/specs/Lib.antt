@@ -3,5 +3,6 @@ pub mod Listing
 pub mod Objects
 pub mod Commits
 pub mod Refs
+pub mod Good
 pub mod Extents
 pub mod Folders

@@ -1,5 +1,5 @@
 -- What is left where the folders were laid out and the staging paths cleared.
-use Rattle.std.proofs.Common.{◌≡◌, ⊎_elim, ◌<◌, ℕ, true, false, refl, sym, ◌∙◌, ap, subst, Option, Some, Result, Ok, Err}
+use Rattle.std.proofs.Common.{◌≡◌, inl, inr, ⊎_elim, ◌<◌, ℕ, true, false, refl, sym, ◌∙◌, ap, subst, Option, Some, Result, Ok, Err}
 use Rattle.std.specs.Prelude.{OnOk}
 use Rattle.ost_types.specs.Path.{Name, Path, is_below, under}
 use Rattle.ost_types.proofs.Paths.{is_below-under}
@@ -8,17 +8,19 @@ use Rattle.fs_trait.specs.declared.types.FsErr.TheVariants as err
 use Rattle.fs_trait.specs.View.{Disk, View, all_synced}
 use Rattle.fs_trait.specs.Image.{is_folder, IsTree, Told}
 use Rattle.fs_trait.specs.Effect.{OfNone}
-use Rattle.fs_trait.specs.Seen.{Vacant, seen, shows, Always}
+use Rattle.fs_trait.specs.Seen.{Seen, Vacant, seen, shows, Always}
 use Rattle.fs_trait.specs.Change.{Writes}
 use Rattle.fs_trait.proofs.Facts.{vacant_absent}
 use Rattle.fs_trait.proofs.Effects.{all_synced-firm}
 use Rattle.repo_layout.specs.declared.folder.Folder.{Folder}
 use Rattle.repo_layout.specs.declared.folder.Folder.TheVariants.{Ostree, Repo, Objects, Refs, Heads, State, Tmp, Deploy, Boot, Kernels, Checkouts}
-use Rattle.repo_layout.specs.Paths.{folder_path, stage_path}
+use Rattle.repo_layout.specs.Paths.{config_path, folder_path, stage_path}
 use Rattle.sys_open.specs.declared.fault.OpenFault.{OpenFault}
 use Rattle.sys_open.specs.Faults.{IsRefusal, IsInterruption}
 use Rattle.layout_rules.specs.Checks.{Asks, Staging, IsSane}
-use Rattle.sys_open.specs.Changes.{Lays, ClearsStages, IsArranged}
+use Rattle.sys_open.specs.Changes.{Changes, Configures, Lays, ClearsStages, IsArranged}
+use Rattle.sys_open.specs.Damages.{HasConfig, ShowsConfig}
+use Rattle.sys_open.proofs.ChangedPlaces.{config_put, laid_not_put, put_is_path}
 use Rattle.sys_open.proofs.Clearings.{folder_still}
 use Rattle.sys_open.proofs.Working.{one_view}
 
@@ -56,6 +58,46 @@ laid_reached v u tree writes asks p actor small below x there = ⊎_elim
 pub asks_kept : (v u : View) → IsTree u.now → Writes (Lays v.now) v u → IsSane v.now → (p : Path) → Asks Staging u.now p
 asks_kept v u tree writes sane = laid_reached v u tree writes (sane Staging)
 
+-- The configuration is still one, and still there.
+pub config_laid : (v u : View) → Writes (Lays v.now) v u → HasConfig v.now → HasConfig u.now
+config_laid v u writes has = ⊎_elim
+    (λ same. ⊎_elim (λ none. inl (same ∙ none)) (λ is. inr (subst ShowsConfig (sym same) is)) has)
+    (λ lays. inr (config_put v.now (shows u.now config_path) (inl lays)))
+    (writes.now config_path)
+
+none_before : (v u : View) → Writes (Lays v.now) v u → shows u.now config_path ≡ Vacant → shows v.now config_path ≡ Vacant
+none_before v u writes none = ⊎_elim
+    (λ same. sym same ∙ none)
+    (λ lays. let bad : ShowsConfig Vacant = subst ShowsConfig none (config_put v.now (shows u.now config_path) (inl lays)) in absurd bad)
+    (writes.now config_path)
+
+-- what is written then was written from the beginning's view
+pub configures_from : (v u : View) → Writes (Lays v.now) v u → (p : Path) (s : Seen) → Configures u.now p s → Changes v.now p s
+configures_from v u writes p s (inl clears) = inr (inl clears)
+configures_from v u writes p s (inr puts) = inr (inr (record { none = none_before v u writes puts.none; puts = puts.puts }))
+
+pub folders_stand : (v u : View) → Writes (Configures v.now) v u → (f : Folder) → is_folder (v.now.at (folder_path f)) ≡ true → is_folder (u.now.at (folder_path f)) ≡ true
+folders_stand v u writes f folder = ⊎_elim
+    (λ same. folder_still v.now u.now (folder_path f) same folder)
+    (⊎_elim
+    (λ wrote. let n : false ≡ true = sym (apart f wrote.0) ∙ wrote.2.0 in cc)
+    (λ puts. absurd (laid_not_put v.now f (folder_path f) (shows u.now (folder_path f)) refl puts)))
+    (writes.now (folder_path f))
+
+pub asks_stand : (v u : View) → Writes (Configures v.now) v u → ((p : Path) → Asks Staging v.now p) → (p : Path) → Asks Staging u.now p
+asks_stand v u writes asks p actor small below x there = ⊎_elim
+    (λ same. asks p actor small below x (λ none. there (vacant_absent u.now (under p x) (same ∙ ap (seen v.now) none))))
+    (⊎_elim
+    (λ wrote. absurd (there (vacant_absent u.now (under p x) wrote.2.1)))
+    (λ puts. put_is_path v.now (under p x) (shows u.now (under p x)) puts))
+    (writes.now (under p x))
+
+pub config_stays : (v u : View) → Writes ClearsStages v u → ShowsConfig (shows v.now config_path) → ShowsConfig (shows u.now config_path)
+config_stays v u writes is = ⊎_elim
+    (λ same. subst ShowsConfig (sym same) is)
+    (λ wrote. config_put v.now (shows u.now config_path) (inr (inl wrote)))
+    (writes.now config_path)
+
 pub sync_interrupted : (at : Path) (e : FsErr) (f : OpenFault) → OfNone e → IsRefusal at e f → IsInterruption f
 sync_interrupted at err.Failed f named is = subst IsInterruption (sym is) tt
 sync_interrupted at err.NoMemory f named is = subst IsInterruption (sym is) tt
@@ -64,17 +106,18 @@ sync_interrupted at err.Missing f named is = absurd named
 sync_interrupted at err.NotFolder f named is = absurd named
 sync_interrupted at err.NotEmpty f named is = absurd named
 
-pub arranged_of : {T : Type 0} (u w : View) → Writes ClearsStages u w → ((f : Folder) → is_folder (u.now.at (folder_path f)) ≡ true) → (view : Option View) (r : Result T OpenFault) → view ≡ Some w
+pub arranged_of : {T : Type 0} (u w : View) → Writes ClearsStages u w → ((f : Folder) → is_folder (u.now.at (folder_path f)) ≡ true) → ShowsConfig (shows u.now config_path) → (view : Option View) (r : Result T OpenFault) → view ≡ Some w
     → OnOk r (Told view (λ x. (actor : ℕ) → actor < 16 → shows x.now (stage_path actor) ≡ Vacant)) → OnOk r (Told view (λ x. IsArranged x.now))
-arranged_of u w writes laid view (Ok x) told clear = (
+arranged_of u w writes laid config view (Ok x) told clear = (
   w,
   told,
   record {
     folders = λ f. folders_stay u w writes f (laid f);
+    config = config_stays u w writes config;
     staging = subst (λ (y : View). (actor : ℕ) → actor < 16 → shows y.now (stage_path actor) ≡ Vacant) (one_view view clear.0 w clear.1 told) clear.2;
   },
 )
-arranged_of u w writes laid view (Err e) told clear = tt
+arranged_of u w writes laid config view (Err e) told clear = tt
 
 -- a sync of all changes nothing that reads see, and makes it last
 pub synced_now : (v : View) → (all_synced v).now ≡ v.now

@@ -1,11 +1,13 @@
 -- What an interrupted opening answers; and the refs of a disk that keeps a sane one.
 use Rattle.std.proofs.Common.{◌≡◌, ◌⊎◌, inl, inr, ℕ, true, false, refl, sym, ◌∙◌, ap, subst, List, ◌++◌, Some, None, Err}
+use Rattle.ost_types.specs.declared.limits.Limits.{Limits}
 use Rattle.ost_types.specs.Path.{Path, is_below}
 use Rattle.fs_trait.specs.declared.types.Value.{Value}
 use Rattle.fs_trait.specs.declared.types.Value.TheVariants.{Absent, Folder, Link, File}
 use Rattle.fs_trait.specs.View.{Disk}
-use Rattle.fs_trait.specs.Seen.{Vacant, Directory, seen, shows, bytes_in}
-use Rattle.repo_layout.specs.Paths.{heads, ref_path, stage_path}
+use Rattle.fs_trait.specs.Seen.{Seen, Vacant, Directory, seen, shows, bytes_in}
+use Rattle.repo_config.specs.Config.{config_text}
+use Rattle.repo_layout.specs.Paths.{config_path, heads, ref_path, stage_path}
 use Rattle.repo_layout.specs.RefName.{parts_of}
 use Rattle.repo_layout.specs.Refs.{is_leaf}
 use Rattle.repo_layout.specs.RefFile.{ref_text}
@@ -16,20 +18,21 @@ use Rattle.sys_open.specs.declared.fault.OpenFault.{OpenFault}
 use Rattle.sys_open.specs.declared.fault.OpenFault.TheVariants as fault
 use Rattle.sys_open.specs.Faults.{IsInterruption}
 use Rattle.layout_rules.specs.Checks.{IsSane, IsRefAt, RefFiles}
-use Rattle.sys_open.specs.Changes.{Changes, Keeps}
+use Rattle.layout_rules.proofs.Sanes.{ref_below}
+use Rattle.sys_open.specs.Changes.{Changes, Keeps, Puts, PutsConfig, file_meta}
 use Rattle.sys_open.specs.Opening.{Answers, OnDamage}
 
-pub interrupted_answer : (T : Type 0) (d : Disk) (f : OpenFault) → IsInterruption f → Answers {T = T} d (Err f)
-interrupted_answer T d fault.Disk is = tt
-interrupted_answer T d fault.NoMemory is = tt
-interrupted_answer T d (fault.Damaged p y) is = absurd is
-interrupted_answer T d (fault.Outside p) is = absurd is
+pub interrupted_answer : (T : Type 0) (limits : Limits) (d : Disk) (f : OpenFault) → IsInterruption f → Answers {T = T} limits d (Err f)
+interrupted_answer T limits d fault.Disk is = tt
+interrupted_answer T limits d fault.NoMemory is = tt
+interrupted_answer T limits d (fault.Damaged p y) is = absurd is
+interrupted_answer T limits d (fault.Outside p) is = absurd is
 
-pub still_answers : (T U : Type 0) (d : Disk) (f : OpenFault) → Answers {T = T} d (Err f) → Answers {T = U} d (Err f)
-still_answers T U d fault.Disk answers = tt
-still_answers T U d fault.NoMemory answers = tt
-still_answers T U d (fault.Damaged p y) answers = answers
-still_answers T U d (fault.Outside p) answers = answers
+pub still_answers : (T U : Type 0) (limits : Limits) (d : Disk) (f : OpenFault) → Answers {T = T} limits d (Err f) → Answers {T = U} limits d (Err f)
+still_answers T U limits d fault.Disk answers = tt
+still_answers T U limits d fault.NoMemory answers = tt
+still_answers T U limits d (fault.Damaged p y) answers = answers
+still_answers T U limits d (fault.Outside p) answers = answers
 
 pub interrupted_damage : (T : Type 0) (P : Type 0) (f : OpenFault) → IsInterruption f → OnDamage {T = T} (Err f) P
 interrupted_damage T P fault.Disk is = tt
@@ -43,13 +46,13 @@ any_damage T P fault.NoMemory is = tt
 any_damage T P (fault.Damaged p y) is = is
 any_damage T P (fault.Outside p) is = tt
 
-leaf_shown : (d : Disk) (z : Value) → is_leaf z ≡ true → IsLeaf (seen d z)
+pub leaf_shown : (d : Disk) (z : Value) → is_leaf z ≡ true → IsLeaf (seen d z)
 leaf_shown d Absent e = let n : false ≡ true = e in cc
 leaf_shown d (Folder m) e = let n : false ≡ true = e in cc
 leaf_shown d (Link m t) e = tt
 leaf_shown d (File n) e = tt
 
-leaf_value : (d : Disk) (z : Value) → IsLeaf (seen d z) → is_leaf z ≡ true
+pub leaf_value : (d : Disk) (z : Value) → IsLeaf (seen d z) → is_leaf z ≡ true
 leaf_value d (Link m t) leaf = refl
 leaf_value d (File n) leaf = refl
 leaf_value d Absent leaf = absurd leaf
@@ -59,6 +62,22 @@ not_staged : (actor : ℕ) (rest : Path) → is_below (stage_path actor) (heads 
 unfolding is_below stage_path
 not_staged actor rest = refl
 
+stage_apart : is_below heads (stage_path 0) ≡ false
+unfolding is_below stage_path
+stage_apart = refl
+
+config_apart : is_below heads config_path ≡ false
+unfolding is_below
+config_apart = refl
+
+-- nothing is put below the folder of refs
+not_put : (d : Disk) (p : Path) (s : Seen) → is_below heads p ≡ true → PutsConfig d p s → ⊥
+not_put d p s below puts = by puts.puts
+  where
+    by : Puts (stage_path 0) config_path file_meta config_text p s → ⊥
+    by (inl staged) = let n : false ≡ true = sym stage_apart ∙ subst (λ q. is_below heads q ≡ true) staged.0 below in cc
+    by (inr put) = let n : false ≡ true = sym config_apart ∙ subst (λ q. is_below heads q ≡ true) put.0 below in cc
+
 module _ (d e : Disk) (sane : IsSane d) (keeps : Keeps d e) where
   -- what shows below the folder of refs is what showed there, or a folder
   ref_shown : (p : Path) → is_below heads p ≡ true → IsLeaf (shows e p) → shows e p ≡ shows d p
@@ -67,7 +86,8 @@ module _ (d e : Disk) (sane : IsSane d) (keeps : Keeps d e) where
       by : (shows e p ≡ shows d p) ⊎ Changes d p (shows e p) → shows e p ≡ shows d p
       by (inl same) = same
       by (inr (inl lays)) = let bad : IsLeaf (Directory folder_meta) = subst IsLeaf lays.1 leaf in absurd bad
-      by (inr (inr clears)) = let bad : IsLeaf Vacant = subst IsLeaf clears.2.1 leaf in absurd bad
+      by (inr (inr (inl clears))) = let bad : IsLeaf Vacant = subst IsLeaf clears.2.1 leaf in absurd bad
+      by (inr (inr (inr puts))) = absurd (not_put d p (shows e p) below puts)
 
   pub leaf_was : (p : Path) → is_below heads p ≡ true → is_leaf (e.at p) ≡ true → (shows e p ≡ shows d p) × IsRefAt d p
   leaf_was p below leaf =
@@ -85,7 +105,8 @@ module _ (d e : Disk) (sane : IsSane d) (keeps : Keeps d e) where
       by said says (inl same) = subst (Says (RefOf name) said) (sym same) says
       by None says (inr (inl lays)) = λ leaf. let bad : IsLeaf (Directory folder_meta) = subst IsLeaf lays.1 leaf in absurd bad
       by (Some commit) says (inr (inl lays)) = let n : None ≡ Some (ref_text commit) = sym (ap bytes_in lays.2) ∙ says.1 in cc
-      by said says (inr (inr clears)) = absurd (unstaged clears.0 name clears.2.0)
+      by said says (inr (inr (inl clears))) = absurd (unstaged clears.0 name clears.2.0)
+      by said says (inr (inr (inr puts))) = absurd (not_put d (ref_path name) (shows e (ref_path name)) (ref_below name) puts)
 
   pub logical_kept : (refs : List (List ℕ × List ℕ)) → Logical d (first refs) → Logical e (first refs)
   logical_kept refs logical (RefOf name) = says_still (first refs (RefOf name)) name (logical (RefOf name))

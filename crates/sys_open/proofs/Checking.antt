@@ -1,70 +1,146 @@
 -- From what each check found to what an opening tells.
-use Rattle.std.proofs.Common.{◌≡◌, ◌<◌, ℕ, true, false, refl, sym, ◌∙◌, ap, subst, arith, List, [], ◌∷◌, Some, None, Err, if◌then◌else◌}
+use Rattle.std.proofs.Common.{◌≡◌, ⊎_elim, ◌<◌, ℕ, true, false, refl, sym, ◌∙◌, ap, subst, arith, List, [], ◌∷◌, Some, None, Err, if◌then◌else◌}
 use Rattle.std.specs.Prelude.{IsSome}
 use Rattle.std.specs.BTreeMap.{get}
 use Rattle.std.specs.Map.{lookup}
 use Rattle.std.specs.Cmp.Lexicographic.{slice_cmp, texts_ties}
 use Rattle.std.specs.Ordering.{nat_cmp, is_eq}
+use Rattle.ost_types.specs.declared.limits.Limits.{Limits}
 use Rattle.ost_types.specs.Path.{Path, is_below}
 use Rattle.fs_trait.specs.declared.types.Value.{Value}
 use Rattle.fs_trait.specs.declared.types.Value.TheVariants.{Absent, Folder, Link, File}
 use Rattle.fs_trait.specs.View.{Disk}
 use Rattle.fs_trait.specs.Seen.{seen, shows}
 use Rattle.fs_trait.proofs.Claims.{reads_shows, is_below-before}
-use Rattle.repo_layout.specs.Paths.{heads, ref_path}
+use Rattle.repo_layout.specs.Paths.{config_path, heads, ref_path}
 use Rattle.repo_layout.specs.RefName.{parts_of}
 use Rattle.repo_layout.specs.Refs.{is_leaf}
 use Rattle.rely.specs.State.{RefOf, Said, first}
 use Rattle.rely.specs.Disks.{IsLeaf, Says, Logical}
 use Rattle.sys_open.specs.declared.fault.OpenFault.{OpenFault}
 use Rattle.sys_open.specs.declared.fault.OpenFault.TheVariants as fault
-use Rattle.sys_open.specs.declared.fault.Why.TheVariants.{BadRef, WrongKind}
-use Rattle.layout_rules.specs.Checks.{Check, Kinds, RefFiles, Staging, turn, Asks, HoldsRefs, IsSane}
-use Rattle.sys_open.specs.Walk.{IsSoBelow, Walked}
+use Rattle.sys_open.specs.declared.fault.Why.TheVariants.{BadConfig, BadRef, WrongKind}
+use Rattle.layout_rules.specs.Checks as rules
+use Rattle.layout_rules.specs.Checks.{HoldsRefs}
+use Rattle.sys_open.specs.Damages.{Check, Places, Config, RefFiles, Objects, Commits, Staging, turn, HasConfig, IsGood, Passes}
+use Rattle.sys_open.specs.Stored.{ToldOfStore}
+use Rattle.sys_open.specs.Walk.{IsSoBelow, Looked, Walked}
 use Rattle.sys_open.specs.Gathered.{Refs, Has, AreOf, HasAllBelow}
-use Rattle.sys_open.specs.Opening.{Answers}
+use Rattle.sys_open.specs.Opening.{Answers, ToldBy}
 
 root : (q : Path) → is_below [] q ≡ true
 unfolding is_below
 root q = refl
 
-pub kinds_fault : (T U : Type 0) (d : Disk) (f : OpenFault) → Walked {T = T} (Asks Kinds d) WrongKind [] (Err f) → Answers {T = U} d (Err f)
-kinds_fault T U d fault.Disk walked = tt
-kinds_fault T U d fault.NoMemory walked = tt
-kinds_fault T U d (fault.Outside p) walked = walked
-kinds_fault T U d (fault.Damaged p y) walked = record { check = Kinds; told = walked.0; wrong = walked.1.wrong; first = before; least = λ q less. walked.1.least q (root q) less }
-  where
-    before : (c : Check) → turn c < 1 → (q : Path) → Asks c d q
-    before Kinds less = absurd (omega (arith, less))
-    before RefFiles less = absurd (omega (arith, less))
-    before Staging less = absurd (omega (arith, less))
+-- what each walk and look tells of its check
+pub places_told : (T : Type 0) (limits : Limits) (d : Disk) (f : OpenFault) → Walked {T = T} (rules.Asks rules.Kinds d) WrongKind [] (Err f) → ToldBy {T = T} Places limits d (Err f)
+places_told T limits d fault.Disk walked = tt
+places_told T limits d fault.NoMemory walked = tt
+places_told T limits d (fault.Outside p) walked = walked
+places_told T limits d (fault.Damaged p y) walked = (walked.0, record { wrong = walked.1.wrong; least = λ q less. walked.1.least q (root q) less })
 
-pub refs_fault : (T U : Type 0) (d : Disk) (f : OpenFault) → IsSoBelow (Asks Kinds d) [] → Walked {T = T} (HoldsRefs d) BadRef heads (Err f) → Answers {T = U} d (Err f)
-refs_fault T U d fault.Disk kinds walked = tt
-refs_fault T U d fault.NoMemory kinds walked = tt
-refs_fault T U d (fault.Outside p) kinds walked = walked
-refs_fault T U d (fault.Damaged p y) kinds walked = record { check = RefFiles; told = walked.0; wrong = λ asks. walked.1.wrong (asks walked.1.below); first = before; least = λ q less below. walked.1.least q below less }
-  where
-    before : (c : Check) → turn c < 3 → (q : Path) → Asks c d q
-    before Kinds less = λ q. kinds q (root q)
-    before RefFiles less = absurd (omega (arith, less))
-    before Staging less = absurd (omega (arith, less))
+pub config_told : (T : Type 0) (limits : Limits) (d : Disk) (f : OpenFault) → Looked {T = T} (HasConfig d) BadConfig config_path (Err f) → ToldBy {T = T} Config limits d (Err f)
+config_told T limits d fault.Disk looked = tt
+config_told T limits d fault.NoMemory looked = tt
+config_told T limits d (fault.Outside p) looked = looked
+config_told T limits d (fault.Damaged p y) looked = looked
 
-pub stages_fault : (T U : Type 0) (d : Disk) (f : OpenFault) → IsSoBelow (Asks Kinds d) [] → IsSoBelow (HoldsRefs d) heads → Walked {T = T} (Asks Staging d) WrongKind [] (Err f) → Answers {T = U} d (Err f)
-stages_fault T U d fault.Disk kinds refs walked = tt
-stages_fault T U d fault.NoMemory kinds refs walked = tt
-stages_fault T U d (fault.Outside p) kinds refs walked = walked
-stages_fault T U d (fault.Damaged p y) kinds refs walked = record { check = Staging; told = walked.0; wrong = walked.1.wrong; first = before; least = λ q less. walked.1.least q (root q) less }
-  where
-    before : (c : Check) → turn c < 8 → (q : Path) → Asks c d q
-    before Kinds less = λ q. kinds q (root q)
-    before RefFiles less = λ q. refs q
-    before Staging less = absurd (omega (arith, less))
+pub refs_told : (T : Type 0) (limits : Limits) (d : Disk) (f : OpenFault) → Walked {T = T} (HoldsRefs d) BadRef heads (Err f) → ToldBy {T = T} RefFiles limits d (Err f)
+refs_told T limits d fault.Disk walked = tt
+refs_told T limits d fault.NoMemory walked = tt
+refs_told T limits d (fault.Outside p) walked = walked
+refs_told T limits d (fault.Damaged p y) walked = (walked.0, record { wrong = λ asks. walked.1.wrong (asks walked.1.below); least = λ q less below. walked.1.least q below less })
 
-pub all_sane : (d : Disk) → IsSoBelow (Asks Kinds d) [] → IsSoBelow (HoldsRefs d) heads → IsSoBelow (Asks Staging d) [] → IsSane d
-all_sane d kinds refs stages Kinds q = kinds q (root q)
-all_sane d kinds refs stages RefFiles q = refs q
-all_sane d kinds refs stages Staging q = stages q (root q)
+pub stages_told : (T : Type 0) (limits : Limits) (d : Disk) (f : OpenFault) → Walked {T = T} (rules.Asks rules.Staging d) WrongKind [] (Err f) → ToldBy {T = T} Staging limits d (Err f)
+stages_told T limits d fault.Disk walked = tt
+stages_told T limits d fault.NoMemory walked = tt
+stages_told T limits d (fault.Outside p) walked = walked
+stages_told T limits d (fault.Damaged p y) walked = (walked.0, record { wrong = walked.1.wrong; least = λ q less. walked.1.least q (root q) less })
+
+pub places_pass : (limits : Limits) (d : Disk) → IsSoBelow (rules.Asks rules.Kinds d) [] → Passes Places limits d
+places_pass limits d all p = all p (root p)
+
+pub refs_pass : (limits : Limits) (d : Disk) → IsSoBelow (HoldsRefs d) heads → Passes RefFiles limits d
+refs_pass limits d all p = all p
+
+pub stages_pass : (limits : Limits) (d : Disk) → IsSoBelow (rules.Asks rules.Staging d) [] → Passes Staging limits d
+stages_pass limits d all p = all p (root p)
+
+-- the first check that fails
+pub first_fault : (T U : Type 0) (check : Check) (limits : Limits) (d : Disk) (f : OpenFault) → ((c : Check) → turn c < turn check → Passes c limits d) → ToldBy {T = T} check limits d (Err f) → Answers {T = U} limits d (Err f)
+first_fault T U check limits d fault.Disk before told = tt
+first_fault T U check limits d fault.NoMemory before told = tt
+first_fault T U check limits d (fault.Outside p) before told = told
+first_fault T U check limits d (fault.Damaged p y) before told = record { check = check; fails = told; first = before }
+
+module _ (limits : Limits) (d : Disk) where
+  pub before_places : (c : Check) → turn c < 1 → Passes c limits d
+  before_places Places less = absurd (omega (arith, less))
+  before_places Config less = absurd (omega (arith, less))
+  before_places RefFiles less = absurd (omega (arith, less))
+  before_places Objects less = absurd (omega (arith, less))
+  before_places Commits less = absurd (omega (arith, less))
+  before_places Staging less = absurd (omega (arith, less))
+
+  module _ (places : Passes Places limits d) where
+    pub before_config : (c : Check) → turn c < 2 → Passes c limits d
+    before_config Places less = places
+    before_config Config less = absurd (omega (arith, less))
+    before_config RefFiles less = absurd (omega (arith, less))
+    before_config Objects less = absurd (omega (arith, less))
+    before_config Commits less = absurd (omega (arith, less))
+    before_config Staging less = absurd (omega (arith, less))
+
+    module _ (config : Passes Config limits d) where
+      pub before_refs : (c : Check) → turn c < 3 → Passes c limits d
+      before_refs Places less = places
+      before_refs Config less = config
+      before_refs RefFiles less = absurd (omega (arith, less))
+      before_refs Objects less = absurd (omega (arith, less))
+      before_refs Commits less = absurd (omega (arith, less))
+      before_refs Staging less = absurd (omega (arith, less))
+
+      module _ (refs : Passes RefFiles limits d) where
+        before_objects : (c : Check) → turn c < 4 → Passes c limits d
+        before_objects Places less = places
+        before_objects Config less = config
+        before_objects RefFiles less = refs
+        before_objects Objects less = absurd (omega (arith, less))
+        before_objects Commits less = absurd (omega (arith, less))
+        before_objects Staging less = absurd (omega (arith, less))
+
+        before_commits : Passes Objects limits d → (c : Check) → turn c < 5 → Passes c limits d
+        before_commits objects Places less = places
+        before_commits objects Config less = config
+        before_commits objects RefFiles less = refs
+        before_commits objects Objects less = objects
+        before_commits objects Commits less = absurd (omega (arith, less))
+        before_commits objects Staging less = absurd (omega (arith, less))
+
+        pub before_staging : Passes Objects limits d × Passes Commits limits d → (c : Check) → turn c < 8 → Passes c limits d
+        before_staging store Places less = places
+        before_staging store Config less = config
+        before_staging store RefFiles less = refs
+        before_staging store Objects less = store.0
+        before_staging store Commits less = store.1
+        before_staging store Staging less = absurd (omega (arith, less))
+
+        pub all_good : Passes Objects limits d × Passes Commits limits d → Passes Staging limits d → IsGood limits d
+        all_good store staging Places = places
+        all_good store staging Config = config
+        all_good store staging RefFiles = refs
+        all_good store staging Objects = store.0
+        all_good store staging Commits = store.1
+        all_good store staging Staging = staging
+
+        pub store_fault : (T U : Type 0) (f : OpenFault) → ToldOfStore {T = T} limits d (Err f) → Answers {T = U} limits d (Err f)
+        store_fault T U fault.Disk told = tt
+        store_fault T U fault.NoMemory told = tt
+        store_fault T U (fault.Outside p) told = told
+        store_fault T U (fault.Damaged p y) told = ⊎_elim
+            (λ objects. record { check = Objects; fails = objects; first = before_objects })
+            (λ commits. record { check = Commits; fails = commits.1; first = before_commits commits.0 })
+            told
 
 -- what the found refs say
 first_found : (name : List ℕ) (es : List (List ℕ × List ℕ)) → first es (RefOf name) ≡ lookup (λ k. is_eq (slice_cmp nat_cmp name k)) es

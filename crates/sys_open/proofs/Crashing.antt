@@ -1,16 +1,18 @@
 -- What each crash leaves while a repository is opened, from the first barrier on.
-use Rattle.std.proofs.Common.{◌≡◌, ◌⊎◌, inl, inr, ⊎_elim, ◌≤◌, ℕ, false, sym, ◌∙◌, ap, subst, [], ◌∷◌, ◌++◌, append-nil, append_assoc, Option, Some}
-use Rattle.ost_types.specs.Path.{Name, Path, under}
-use Rattle.ost_types.proofs.Paths.{is_below-under}
-use Rattle.repo_layout.specs.Paths.{stage_path}
+use Rattle.std.proofs.Common.{◌≡◌, ◌⊎◌, inl, inr, ⊎_elim, ◌≤◌, ℕ, true, false, arith, sym, ◌∙◌, ap, subst, [], ◌∷◌, ◌++◌, append-nil, append_assoc, Option, Some}
+use Rattle.ost_types.specs.Path.{Name, Path, is_below, under}
+use Rattle.ost_types.proofs.Paths.{is_below-self, is_below-under}
+use Rattle.repo_config.specs.Config.{config_text}
+use Rattle.repo_layout.specs.Paths.{config_path, stage_path}
 use Rattle.fs_trait.specs.View.{Disk, View}
 use Rattle.fs_trait.specs.Image.{Image, IsTree, is_folder}
 use Rattle.fs_trait.specs.Seen.{Seen, Vacant, seen, shows, MayBe, Always, IsDirectory}
 use Rattle.fs_trait.specs.Change.{Writes, Left}
 use Rattle.fs_trait.proofs.Claims.{Image-root, Image-under, folder_shows}
 use Rattle.fs_trait.proofs.Images.{folder_or_not, not_both}
+use Rattle.fs_trait.proofs.Facts.{vacant_absent}
 use Rattle.fs_trait.proofs.Kept.{same_view}
-use Rattle.sys_open.specs.Changes.{Changes, Keeps, Works}
+use Rattle.sys_open.specs.Changes.{Changes, Keeps, Puts, Works, file_meta}
 use Rattle.sys_open.specs.Opening.{KeepsSince}
 use Rattle.sys_open.proofs.Clearings.{folder_still}
 use Rattle.sys_open.proofs.Working.{one_view}
@@ -36,7 +38,15 @@ module _ (u w : View) (tree : IsTree u.now) (settled : (p : Path) → Always u p
       by : IsKept f → IsKept (under f x)
       by (inl same) = inl (vacant ∙ sym (ap (seen u.now) (tree.folders f x (was_none f none same))))
       by (inr (inl lays)) = absurd (not_both (folder_shows d f (subst IsDirectory (sym lays.1) tt)) none)
-      by (inr (inr clears)) = inr (inr (clears.0, clears.1, (is_below-under (stage_path clears.0) f x clears.2.0, vacant)))
+      by (inr (inr (inl clears))) = inr (inr (inl (clears.0, clears.1, (is_below-under (stage_path clears.0) f x clears.2.0, vacant))))
+      by (inr (inr (inr puts))) = below_put puts.puts
+        where
+          no_folder : f ≡ config_path → is_folder (u.now.at f) ≡ false
+          no_folder e = ap is_folder (vacant_absent u.now f (ap (shows u.now) e ∙ puts.none))
+
+          below_put : Puts (stage_path 0) config_path file_meta config_text f (shows d f) → IsKept (under f x)
+          below_put (inl staged) = inr (inr (inl (0, omega arith, (is_below-under (stage_path 0) f x (subst (λ q. is_below (stage_path 0) q ≡ true) (sym staged.0) (is_below-self (stage_path 0))), vacant))))
+          below_put (inr put) = inl (vacant ∙ sym (ap (seen u.now) (tree.folders f x (no_folder put.0))))
 
   step : (f : Path) (x : Name) → IsKept f → IsKept (under f x)
   step f x kept = ⊎_elim (λ folder. may (under f x) (shows d (under f x)) (Image-under w d i f x folder)) (λ none. gone f x none kept) (folder_or_not (d.at f))

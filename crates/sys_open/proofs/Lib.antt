@@ -14,10 +14,17 @@ mod ManyWalks
 mod Firsts
 mod StageLemmas
 mod Checking
+mod Configs
+mod RefLists
+mod Stores
 mod Laying
 mod StageClearing
+mod ChangedPlaces
+mod Configuring
 mod Arranging
 mod Beginning
 mod Crashing
+pub mod Goods
 mod Reopening
+mod StoreKept
 mod Opens

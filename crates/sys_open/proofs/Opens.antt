@@ -1,23 +1,29 @@
 -- What an open repository keeps, from what the opening leaves.
-use Rattle.std.proofs.Common.{◌≡◌, ◌≤◌, ℕ, sym, ap, subst, List, Option, Some}
+use Rattle.std.proofs.Common.{◌≡◌, ◌≤◌, ℕ, true, sym, ap, subst, List, Option, Some}
+use Rattle.ost_types.specs.declared.limits.Limits.{Limits}
+use Rattle.ost_types.specs.declared.object.ObjName.{ObjName}
 use Rattle.ost_types.specs.Path.{Path}
 use Rattle.fs_trait.specs.declared.types.Value.TheVariants.{Absent}
 use Rattle.fs_trait.specs.View.{Disk, View}
-use Rattle.fs_trait.specs.Image.{IsTree, Told}
+use Rattle.fs_trait.specs.Image.{IsTree, Told, is_folder}
 use Rattle.fs_trait.specs.Change.{Left}
-use Rattle.rely.specs.Opening.{HasSince}
+use Rattle.repo_layout.specs.declared.folder.Folder.{Folder}
 use Rattle.rely.specs.State.{first}
 use Rattle.rely.specs.Disks.{Logical}
 use Rattle.fs_trait.specs.Seen.{Always, seen, shows}
 use Rattle.fs_trait.proofs.Facts.{vacant_absent}
-use Rattle.repo_layout.specs.Paths.{stage_path}
+use Rattle.repo_layout.specs.Paths.{folder_path, stage_path}
+use Rattle.store_check.specs.Listing.{AreAll}
 use Rattle.layout_rules.specs.Checks.{IsSane}
 use Rattle.layout_rules.proofs.Layouts.{below_split}
 use Rattle.sys_open.specs.Changes.{IsArranged, Keeps}
-use Rattle.sys_open.specs.Opened.{IsOpened}
-use Rattle.sys_open.specs.Opening.{AreAscending, Begins, KeepsSince}
+use Rattle.sys_open.specs.Damages.{IsGood}
+use Rattle.sys_open.specs.Opened.{IsListed, IsOpened, KeepsGood}
+use Rattle.sys_open.specs.Opening.{AreAscending, Begins, IsGoodSince, KeepsSince}
 use Rattle.sys_open.proofs.Beginning.{logical_kept}
+use Rattle.sys_open.proofs.Goods.{sane_of, store_of}
 use Rattle.sys_open.proofs.Reopening.{still_sane}
+use Rattle.sys_open.proofs.StoreKept.{all_kept, still_good}
 use Rattle.sys_open.proofs.Walks.{absent_below}
 use Rattle.sys_open.proofs.Working.{one_view}
 
@@ -27,24 +33,41 @@ begins v w sane keeps tree arranged settled refs logical = record {
   opening = record { settled = settled; folders = arranged.folders; sane = still_sane v.now w.now sane keeps; state = logical_kept v.now w.now sane keeps refs logical };
   same = logical;
   keeps = keeps;
+  config = arranged.config;
   staging = λ actor small p below. let s = below_split (stage_path actor) p below in ap (seen w.now) (subst (λ q. w.now.at q ≡ Absent) (sym s.1) (absent_below w.now tree (stage_path actor) s.0 (vacant_absent w.now (stage_path actor) (arranged.staging actor small))));
 }
 
--- each disk that a crash left is sane, and has the refs
-pub sane_since : (left : ℕ → Disk → Type 0) (opened : ℕ) (d : Disk) (refs : List (List ℕ × List ℕ)) → IsSane d → Logical d (first refs) → KeepsSince left opened d → HasSince left opened (first refs)
-sane_since left opened d refs sane logical keeps t e from is = let k = keeps t e from is in (still_sane d e sane k, logical_kept d e sane k refs logical)
+-- each disk that a crash left is good, and has the refs
+pub good_since : (limits : Limits) (left : ℕ → Disk → Type 0) (opened : ℕ) (d : Disk) (refs : List (List ℕ × List ℕ)) → IsGood limits d → Logical d (first refs) → KeepsSince left opened d → IsGoodSince left opened limits (first refs)
+good_since limits left opened d refs good logical keeps t e from is = let k = keeps t e from is in (still_good d e k limits good, logical_kept d e (sane_of limits d good) k refs logical)
 
-module _ {F : Type 0} (view : F → Option View) (clock : F → ℕ) (was : F → ℕ → View → Type 0) (told : (fs gs : F) (v : View) → view fs ≡ Some v → Told (view gs) (λ w. Unit {0})) where
-  pub is_opened : (old new : F) (opened : ℕ) (refs : List (List ℕ × List ℕ)) → AreAscending refs → opened ≤ clock new
-      → ((v : View) → view old ≡ Some v → IsSane v.now) → ((v : View) → view old ≡ Some v → Told (view new) (Begins refs v)) → ((v : View) → view old ≡ Some v → KeepsSince (Left (was new)) opened v.now)
-      → IsOpened view clock was new opened refs
-  is_opened old new opened refs ascending past sane begins keeps = record {
+module _ {F : Type 0} (view : F → Option View) (clock : F → ℕ) (was : F → ℕ → View → Type 0) (told : (fs gs : F) (v : View) → view fs ≡ Some v → Told (view gs) (λ w. Unit {0})) (limits : Limits)
+    (old new : F) (opened : ℕ) (refs : List (List ℕ × List ℕ)) (good : (v : View) → view old ≡ Some v → IsGood limits v.now) (begin : (v : View) → view old ≡ Some v → Told (view new) (Begins refs v))
+    (keeps : (v : View) → view old ≡ Some v → KeepsSince (Left (was new)) opened v.now) where
+  here : (w : View) → view new ≡ Some w → (v : View) × (view old ≡ Some v) × Begins refs v w
+  here w now = let b = told new old w now in let x = begin b.0 b.1 in (b.0, b.1, subst (Begins refs b.0) (one_view (view new) x.0 w x.1 now) x.2)
+
+  since : (w : View) → view new ≡ Some w → IsGoodSince (Left (was new)) opened limits (first refs)
+  since w now = let h = here w now in good_since limits (Left (was new)) opened h.0.now refs (good h.0 h.1) h.2.same (keeps h.0 h.1)
+
+  pub is_opened : AreAscending refs → opened ≤ clock new → IsOpened view clock was new opened refs
+  is_opened ascending past = record {
     ascending = ascending;
     past = past;
-    opening = λ w now. (here w now).1.opening;
-    staging = λ w now. (here w now).1.staging;
-    since = λ w now. let b = told new old w now in sane_since (Left (was new)) opened b.0.now refs (sane b.0 b.1) (begins b.0 b.1).2.same (keeps b.0 b.1);
+    opening = λ w now. (here w now).2.opening;
+    staging = λ w now. (here w now).2.staging;
+    since = λ w now t e from left. let s = since w now t e from left in (sane_of limits e s.0, s.1);
   }
-    where
-      here : (w : View) → view new ≡ Some w → (v : View) × Begins refs v w
-      here w now = let b = told new old w now in let x = begins b.0 b.1 in (b.0, subst (Begins refs b.0) (one_view (view new) x.0 w x.1 now) x.2)
+
+  pub keeps_good : KeepsGood view was new opened limits refs
+  keeps_good = record {
+    store = λ w now. let h = here w now in store_of limits w.now (still_good h.0.now w.now h.2.keeps limits (good h.0 h.1));
+    config = λ w now. (here w now).2.config;
+    since = since;
+  }
+
+  pub is_listed : (names : List ObjName) → ((v : View) → view old ≡ Some v → AreAll v.now names) → IsListed view new names
+  is_listed names all w now = let h = here w now in all_kept h.0.now w.now h.2.keeps names (all h.0 h.1)
+
+  pub folders_there : (w : View) → view new ≡ Some w → (f : Folder) → is_folder (w.now.at (folder_path f)) ≡ true
+  folders_there w now = (here w now).2.opening.folders

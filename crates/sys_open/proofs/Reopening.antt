@@ -28,6 +28,7 @@ use Rattle.layout_rules.specs.Many.{IsIn, IsOfKernel}
 use Rattle.layout_rules.proofs.Sanes.{folder_is_path}
 use Rattle.layout_rules.proofs.Suiting.{absent_suits, folder_suits, suits_same}
 use Rattle.sys_open.proofs.Beginning.{leaf_was}
+use Rattle.sys_open.proofs.ChangedPlaces.{no_rule, put_is_path}
 
 -- no folder that is laid out lies where there is to be none
 other : (f : Folder) → place (folder_path f) ≡ Other (folder_path f)
@@ -79,12 +80,14 @@ module _ (d e : Disk) (sane : IsSane d) (keeps : Keeps d e) where
       by : (shows e (under p x) ≡ shows d (under p x)) ⊎ Changes d (under p x) (shows e (under p x)) → IsPath (under p x)
       by (inl same) = reached x (λ none. there (vacant_absent e (under p x) (same ∙ ap (seen d) none)))
       by (inr (inl lays)) = subst IsPath (sym lays.0.1) (folder_is_path lays.0.0)
-      by (inr (inr clears)) = absurd (there (vacant_absent e (under p x) clears.2.1))
+      by (inr (inr (inl clears))) = absurd (there (vacant_absent e (under p x) clears.2.1))
+      by (inr (inr (inr puts))) = put_is_path d (under p x) (shows e (under p x)) puts
 
   kind_kept : (rule : Rule) (p : Path) → IsFor rule p → Suits rule (d.at p) → (shows e p ≡ shows d p) ⊎ Changes d p (shows e p) → Suits rule (e.at p)
   kind_kept rule p w suits (inl same) = suits_same rule d e (d.at p) (e.at p) same suits
   kind_kept rule p w suits (inr (inl lays)) = subst (λ r. Suits r (e.at p)) (sym (laid_rule rule lays.0.0 p w lays.0.1)) (folder_suits e (e.at p) (subst IsDirectory (sym lays.1) tt))
-  kind_kept rule p w suits (inr (inr clears)) = absent_suits rule (e.at p) (vacant_absent e p clears.2.1)
+  kind_kept rule p w suits (inr (inr (inl clears))) = absent_suits rule (e.at p) (vacant_absent e p clears.2.1)
+  kind_kept rule p w suits (inr (inr (inr puts))) = absurd (no_rule rule d p (shows e p) w puts)
 
   holds_kept : (p : Path) → is_below heads p ≡ true → HoldsRefs e p
   holds_kept p below = record {

@@ -1,14 +1,23 @@
 -- What the opening changes.
-use Rattle.std.specs.Prelude.{◌≡◌, ◌≢◌, ◌⊎◌, ◌≤◌, ◌<◌, ℕ, true, IsTrue, [], Option}
+use Rattle.std.specs.Prelude.{◌≡◌, ◌≢◌, ◌⊎◌, ◌≤◌, ◌<◌, ℕ, true, IsTrue, List, [], Option}
+use Rattle.ost_types.specs.declared.meta.Meta.{Meta}
 use Rattle.ost_types.specs.Path.{Name, Path, is_below, under}
 use Rattle.fs_trait.specs.declared.types.Value.TheVariants.{Absent}
 use Rattle.fs_trait.specs.View.{Disk, View}
 use Rattle.fs_trait.specs.Image.{is_folder, Told}
 use Rattle.fs_trait.specs.Seen.{Seen, Vacant, Directory, shows}
-use Rattle.fs_trait.specs.Change.{Writes}
+use Rattle.fs_trait.specs.Change.{OfInode, Writes}
+use Rattle.fs_trait.specs.declared.task.Need.TheVariants as need
 use Rattle.repo_layout.specs.declared.folder.Folder.{Folder}
-use Rattle.repo_layout.specs.Paths.{folder_path, stage_path}
+use Rattle.repo_layout.specs.declared.folder.Folder.TheVariants.{Repo}
+use Rattle.repo_layout.specs.Paths.{config_path, folder_path, stage_path}
+use Rattle.repo_config.specs.Config.{config_text}
+use Rattle.staged_file.specs.declared.phase.Phase.TheVariants.{Clear}
+use Rattle.staged_file.specs.declared.phase.Show.TheVariants.{Rename}
+use Rattle.staged_file.specs.Staged.{Staged}
+use Rattle.staged_file.specs.Steps.{IsFileWith}
 use Rattle.ref_room.specs.Way.{folder_meta}
+use Rattle.sys_open.specs.Damages.{ShowsConfig}
 
 -- A folder that is there from the beginning comes where nothing stood.
 abbrev pub Lays : Disk → Path → Seen → Type 0
@@ -22,10 +31,31 @@ Clears at p s = IsTrue (is_below at p) × (s ≡ Vacant)
 abbrev pub ClearsStages : Path → Seen → Type 0
 ClearsStages p s = (actor : ℕ) × (actor < 16) × Clears (stage_path actor) p s
 
-abbrev pub Changes : Disk → Path → Seen → Type 0
-Changes d p s = Lays d p s ⊎ ClearsStages p s
+-- the attributes of the configuration: owner 0, group 0, mode 0100644, no extended ones
+abbrev pub file_meta : Meta
+file_meta = record { uid = 0; gid = 0; mode = 33188; xattrs = [] }
 
--- The other disk shows what this one shows, but where a folder came or a staging path was cleared.
+-- A file with these attributes is staged, and comes to its place whole.
+abbrev pub Puts : Path → Path → Meta → List ℕ → Path → Seen → Type 0
+Puts stage at meta bytes p s = ((p ≡ stage) × ((s ≡ Vacant) ⊎ ((n : ℕ) × OfInode n meta s))) ⊎ ((p ≡ at) × IsFileWith meta bytes s)
+
+-- The configuration comes where nothing stood.
+pub record PutsConfig (d : Disk) (p : Path) (s : Seen) : Type 0 where
+  pub none : shows d config_path ≡ Vacant
+  pub puts : Puts (stage_path 0) config_path file_meta config_text p s
+
+-- what is at the staging path goes, and then the configuration comes
+abbrev pub Configures : Disk → Path → Seen → Type 0
+Configures d p s = ClearsStages p s ⊎ PutsConfig d p s
+
+-- the task that puts it there
+abbrev pub of_config : Staged
+of_config = record { stage = stage_path 0; folder = folder_path Repo; at = config_path; meta = file_meta; bytes = config_text; show = Rename; lock = need.Nothing; phase = Clear; written = 0 }
+
+abbrev pub Changes : Disk → Path → Seen → Type 0
+Changes d p s = Lays d p s ⊎ ClearsStages p s ⊎ PutsConfig d p s
+
+-- The other disk shows what this one shows, but where a folder or the configuration came, or a staging path was cleared.
 abbrev pub Keeps : Disk → Disk → Type 0
 Keeps d e = (p : Path) → (shows e p ≡ shows d p) ⊎ Changes d p (shows e p)
 
@@ -46,7 +76,8 @@ pub record IsEmptied (d : Disk) (at : Path) : Type 0 where
   pub below_root : at ≢ []
   pub empty : (x : Name) → d.at (under at x) ≡ Absent
 
--- All folders that are there from the beginning are, and nothing stands at a staging path.
+-- All folders that are there from the beginning are, the configuration is, and nothing stands at a staging path.
 pub record IsArranged (d : Disk) : Type 0 where
   pub folders : (f : Folder) → is_folder (d.at (folder_path f)) ≡ true
   pub staging : (actor : ℕ) → actor < 16 → shows d (stage_path actor) ≡ Vacant
+  pub config : ShowsConfig (shows d config_path)

@@ -3,6 +3,7 @@ pub mod Damages
 pub mod Walk
 pub mod Changes
 pub mod Gathered
+pub mod Stored
 pub mod Opening
 pub mod Opened
 pub mod Folders

@@ -2,15 +2,22 @@
 use Rattle.std.specs.Prelude.{◌≡◌, ◌≤◌, ℕ, List, Option, Some}
 use Rattle.ost_types.specs.declared.limits.Limits.{Limits}
 use Rattle.ost_types.specs.declared.object.ObjName.{ObjName}
+use Rattle.ost_types.specs.Path.{Name}
 use Rattle.fs_trait.specs.View.{View}
 use Rattle.fs_trait.specs.Change.{Left}
+use Rattle.fs_trait.specs.Effect.{IsListing}
+use Rattle.fs_trait.specs.Seen.{shows}
+use Rattle.repo_layout.specs.declared.folder.Folder.TheVariants.{Checkouts}
+use Rattle.repo_layout.specs.Paths.{config_path, folder_path}
+use Rattle.store_check.specs.Good.{IsGoodStore}
 use Rattle.store_check.specs.Listing.{AreAll}
 use Rattle.rely.specs.State.{first}
 use Rattle.rely.specs.Opening.{IsOpening, HasSince}
-use Rattle.sys_open.specs.Opening.{AreAscending, HasNoStages}
+use Rattle.sys_open.specs.Damages.{ShowsConfig}
+use Rattle.sys_open.specs.Opening.{AreAscending, HasNoStages, IsGoodSince}
 
 -- An open repository as plain data: the file system, the refs, the clock after the first barrier, the count of failed calls at
--- the beginning, the limits, and the names of all objects.
+-- the beginning, the limits, the names of all objects, and those of the checkouts.
 pub record Opened (F : Type 0) : Type 0 where
   pub fs : F
   pub refs : List (List ℕ × List ℕ)
@@ -18,6 +25,7 @@ pub record Opened (F : Type 0) : Type 0 where
   pub faults : ℕ
   pub limits : Limits
   pub objects : List ObjName
+  pub checkouts : List Name
 
 -- What every open repository keeps: a system can begin on it with these refs, and each crash since that moment left a sane disk
 -- with them.
@@ -31,3 +39,14 @@ pub record IsOpened {F : Type 0} (view : F → Option View) (clock : F → ℕ) 
 -- where the view is told, these are the names of all objects
 abbrev pub IsListed : {F : Type 0} → (F → Option View) → F → List ObjName → Type 0
 IsListed view fs objects = (w : View) → view fs ≡ Some w → AreAll w.now objects
+
+-- Where the view is told: what it keeps of objects, commits and refs is good, the configuration is there, and each disk that a crash left since
+-- the first barrier is good, and opens again with these refs.
+pub record KeepsGood {F : Type 0} (view : F → Option View) (was : F → ℕ → View → Type 0) (fs : F) (opened : ℕ) (limits : Limits) (refs : List (List ℕ × List ℕ)) : Type 0 where
+  pub store : (w : View) → view fs ≡ Some w → IsGoodStore limits w.now
+  pub config : (w : View) → view fs ≡ Some w → ShowsConfig (shows w.now config_path)
+  pub since : (w : View) → view fs ≡ Some w → IsGoodSince (Left (was fs)) opened limits (first refs)
+
+-- where the view is told, these are the names in the folder of checkouts
+abbrev pub AreCheckouts : {F : Type 0} → (F → Option View) → F → List Name → Type 0
+AreCheckouts view fs names = (w : View) → view fs ≡ Some w → IsListing w.now (folder_path Checkouts) names

@@ -2,31 +2,33 @@ ghost use Rattle.std.specs.Prelude.{◌≡◌, Some, IfOk, IfErr};
 ghost use Rattle.fs_trait.specs.View.{View, all_synced};
 ghost use Rattle.fs_trait.specs.Image.{Told};
 ghost use Rattle.fs_trait.specs.Count.{Rose};
-ghost use Rattle.fs_trait.specs.Effect.{Next};
+ghost use Rattle.fs_trait.specs.Effect.{IsQuiet, Next};
+ghost use Rattle.obj_store.specs.Lookup.{HasCauseOf, Loads};
 ghost use Rattle.fs_trait.specs.Change.{Left};
-ghost use Rattle.rely.specs.Opening.{HasSince};
 ghost use Rattle.rely.specs.State.{first};
 ghost use Rattle.sys_open.specs.declared.fault.OpenFault.TheVariants as fault;
-ghost use Rattle.layout_rules.specs.Checks.{IsSane};
 ghost use Rattle.store_check.specs.Listing.{AreAll};
 ghost use Rattle.sys_open.specs.Changes.{Changes, Works};
-ghost use Rattle.sys_open.specs.Opened.{IsListed, IsOpened};
-ghost use Rattle.sys_open.specs.Opening.{AreAscending, Begins, IsToldOf, KeepsSince, StaysOnDamage};
+ghost use Rattle.sys_open.specs.Damages.{IsGood};
+ghost use Rattle.sys_open.specs.Opened.{AreCheckouts, IsListed, IsOpened, KeepsGood};
+ghost use Rattle.sys_open.specs.Opening.{AreAscending, Begins, IsGoodSince, IsToldOf, KeepsSince, StaysOnDamage};
 
+use crate::checkouts::checkouts;
 use crate::fault::OpenFault;
-use crate::objects::names_of_all;
 use crate::opening::open;
 use fs_trait::Fs;
-use ost_types::{Csum, Limits, ObjName};
+use obj_store::{LoadFault, load};
+use ost_objects::Checked;
+use ost_types::{Csum, Limits, Names, ObjName};
 use repo_layout::RefName;
 use std::alloc::Global;
 use std::marker::Model;
 
 /// An open repository, on which a system can begin.
 ///
-/// Each value keeps, for any file system that tells its view: all is synced, the folders of the layout are there, nothing
-/// stands at a staging path, these are the names of all objects, and each crash since the first barrier left a sane disk with
-/// these refs, which opens again with them.
+/// Each value keeps, for any file system that tells its view: all is synced, the folders of the layout and the configuration are
+/// there, nothing stands at a staging path, these are the names of all objects and of the checkouts, its objects, commits and refs
+/// are good, and each crash since the first barrier left a good disk with these refs, which opens again with them.
 #[derive(Drop)]
 pub struct Opened<F: Fs> {
     fs: F,
@@ -35,16 +37,17 @@ pub struct Opened<F: Fs> {
     faults: u64,
     limits: Limits,
     objects: Vec<ObjName>,
+    checkouts: Names,
 }
 
 impl<F: Fs> Model for Opened<F> {
-    ghost use Rattle.sys_open.specs.Opened.{IsListed, IsOpened, Opened};
+    ghost use Rattle.sys_open.specs.Opened.{AreCheckouts, IsListed, IsOpened, KeepsGood, Opened};
 
     ghost Value = { Opened F };
 
-    ghost view = { λ o. record { fs = o.fs; refs = o.refs.items; clock = o.clock; faults = o.faults; limits = o.limits; objects = o.objects.items } };
+    ghost view = { λ o. record { fs = o.fs; refs = o.refs.items; clock = o.clock; faults = o.faults; limits = o.limits; objects = o.objects.items; checkouts = o.checkouts } };
 
-    ghost invariant = { λ o. IsOpened F.view F.clock F.was o.fs o.clock o.refs.items × IsListed F.view o.fs o.objects.items };
+    ghost invariant = { λ o. IsOpened F.view F.clock F.was o.fs o.clock o.refs.items × IsListed F.view o.fs o.objects.items × KeepsGood F.view F.was o.fs o.clock o.limits o.refs.items × AreCheckouts F.view o.fs o.checkouts };
 }
 
 /// What an open repository is taken apart into, for a system that begins on it.
@@ -60,6 +63,8 @@ pub struct OpenedParts<F> {
     pub limits: Limits,
     /// The names of all objects, ascending.
     pub objects: Vec<ObjName>,
+    /// The names of the checkouts, ascending.
+    pub checkouts: Names,
 }
 
 impl<F: Fs> Opened<F> {
@@ -79,6 +84,24 @@ impl<F: Fs> Opened<F> {
         &self.objects
     }
 
+    /// The names in the folder of checkouts, ascending.
+    pub fn checkouts(&self) -> &Names
+        ensures checkouts { result.now ≡ self.now.checkouts }
+        ensures named { AreCheckouts F.view self.now.fs self.now.checkouts }
+    {
+        &self.checkouts
+    }
+
+    /// The object of this name, or None where nothing stands at its path.
+    pub fn load(&mut self, alloc: Global, name: &ObjName) -> Result<Option<Checked>, LoadFault>
+        ensures told { (v : View) → F.view self.old.fs ≡ Some v → Loads v.now name.now self.old.limits.content result }
+        ensures still { self.new ≡ record self.old { fs = self.new.fs } }
+        ensures quiet { IsQuiet (F.clock self.old.fs) (F.clock self.new.fs) (F.was self.old.fs) (F.was self.new.fs) (F.view self.old.fs) (F.view self.new.fs) }
+        ensures cause { HasCauseOf (F.faults self.old.fs) (F.faults self.new.fs) result }
+    {
+        load(alloc, &mut self.fs, name, &self.limits)
+    }
+
     /// The file system's count of faults.
     pub fn faults(&self) -> u64
         ensures { result ≡ F.faults self.now.fs }
@@ -96,6 +119,7 @@ impl<F: Fs> Opened<F> {
             faults: _,
             limits: _,
             objects: _,
+            checkouts: _,
         } = self;
         fs
     }
@@ -108,8 +132,11 @@ impl<F: Fs> Opened<F> {
         ensures faults { result.faults ≡ self.faults }
         ensures limits { result.limits ≡ self.limits }
         ensures objects { result.objects.items ≡ self.objects }
+        ensures checkouts { result.checkouts ≡ self.checkouts }
         ensures opened { IsOpened F.view F.clock F.was result.fs result.clock result.refs.items }
         ensures listed { IsListed F.view result.fs result.objects.items }
+        ensures good { KeepsGood F.view F.was result.fs result.clock result.limits result.refs.items }
+        ensures named { AreCheckouts F.view result.fs result.checkouts }
     {
         let Opened {
             fs,
@@ -118,6 +145,7 @@ impl<F: Fs> Opened<F> {
             faults,
             limits,
             objects,
+            checkouts,
         } = self;
         OpenedParts {
             fs,
@@ -126,22 +154,24 @@ impl<F: Fs> Opened<F> {
             faults,
             limits,
             objects,
+            checkouts,
         }
     }
 }
 
-/// Opens the repository of a file system, and lists its objects; where it isn't opened the file system comes back. No damage is
-/// told of a sane disk, so what a crash left since the first barrier opens again, with the same refs.
+/// Opens the repository of a file system; where it isn't opened the file system comes back. No damage is told of a good disk, so
+/// what a crash left since the first barrier opens again, with the same refs.
 pub fn adopt<F: Fs>(alloc: Global, fs: F, limits: Limits) -> Result<Opened<F>, (F, OpenFault)>
-    ensures sane { (v : View) → F.view fs ≡ Some v → IfOk result (λ o. IsSane v.now) }
+    ensures good { (v : View) → F.view fs ≡ Some v → IfOk result (λ o. IsGood limits v.now) }
     ensures begins { (v : View) → F.view fs ≡ Some v → IfOk result (λ o. Told (F.view o.fs) (Begins o.refs v)) }
     ensures keeps { (v : View) → F.view fs ≡ Some v → IfOk result (λ o. KeepsSince (Left (F.was o.fs)) o.clock v.now) }
-    ensures since { (v : View) → F.view fs ≡ Some v → IfOk result (λ o. HasSince (Left (F.was o.fs)) o.clock (first o.refs)) }
-    ensures told { (v : View) → F.view fs ≡ Some v → IfErr result (λ e. IsToldOf v.now e.1) }
+    ensures since { (v : View) → F.view fs ≡ Some v → IfOk result (λ o. IsGoodSince (Left (F.was o.fs)) o.clock limits (first o.refs)) }
+    ensures told { (v : View) → F.view fs ≡ Some v → IfErr result (λ e. IsToldOf limits v.now e.1) }
     ensures still { (v : View) → F.view fs ≡ Some v → IfErr result (λ e. StaysOnDamage e.1 (F.view e.0 ≡ Some (all_synced v))) }
     ensures works { (v : View) → F.view fs ≡ Some v → IfOk result (λ o. Works (Changes v.now) v (F.clock fs) (F.clock o.fs) (F.was fs) (F.was o.fs) (F.view o.fs)) }
     ensures undone { (v : View) → F.view fs ≡ Some v → IfErr result (λ e. Works (Changes v.now) v (F.clock fs) (F.clock e.0) (F.was fs) (F.was e.0) (F.view e.0)) }
     ensures objects { (v : View) → F.view fs ≡ Some v → IfOk result (λ o. Told (F.view o.fs) (λ w. AreAll w.now o.objects)) }
+    ensures checkouts { IfOk result (λ o. AreCheckouts F.view o.fs o.checkouts) }
     ensures ascending { IfOk result (λ o. AreAscending o.refs) }
     ensures opened { IfOk result (λ o. Next (F.clock fs) o.clock) }
     ensures begun { IfOk result (λ o. (o.faults ≡ F.faults fs) × (o.limits ≡ limits)) }
@@ -149,15 +179,16 @@ pub fn adopt<F: Fs>(alloc: Global, fs: F, limits: Limits) -> Result<Opened<F>, (
 {
     let mut fs = fs;
     let faults = fs.faults();
-    match open(alloc, &mut fs) {
-        Ok((refs, clock)) => match names_of_all(alloc, &mut fs) {
-            Ok(objects) => Ok(Opened {
+    match open(alloc, &mut fs, &limits) {
+        Ok(found) => match checkouts(alloc, &mut fs) {
+            Ok(checkouts) => Ok(Opened {
                 fs,
-                refs,
-                clock,
+                refs: found.refs,
+                clock: found.clock,
                 faults,
                 limits,
-                objects,
+                objects: found.objects,
+                checkouts,
             }),
             Err(fault) => Err((fs, fault)),
         },

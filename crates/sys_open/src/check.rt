@@ -2,26 +2,39 @@
 ghost use Rattle.std.specs.Prelude.{◌≡◌, [], Some, IfOk};
 ghost use Rattle.fs_trait.specs.View.{View};
 ghost use Rattle.fs_trait.specs.Effect.{IsQuiet};
+ghost use Rattle.repo_layout.specs.Paths.{heads};
 ghost use Rattle.rely.specs.State.{first};
 ghost use Rattle.rely.specs.Disks.{Logical};
-ghost use Rattle.sys_open.specs.declared.fault.Why.TheVariants.{WrongKind};
+ghost use Rattle.store_check.specs.Listing.{AreAll};
+ghost use Rattle.sys_open.specs.declared.fault.Why.TheVariants.{BadRef, WrongKind};
 ghost use Rattle.sys_open.specs.Faults.{HasReason};
-ghost use Rattle.layout_rules.specs.Checks.{Asks, Kinds};
+ghost use Rattle.layout_rules.specs.Checks.{Asks, HoldsRefs, Kinds};
 ghost use Rattle.sys_open.specs.Walk.{Walked};
 ghost use Rattle.sys_open.specs.Opening.{Answers, AreAscending};
+ghost use Rattle.sys_open.specs.Stored.{ToldOfStore};
 
+use crate::config::check_config;
 use crate::fault::{OpenFault, Why};
 use crate::found::Found;
 use crate::inside::check_inside;
 use crate::kinds::check_kinds;
 use crate::least::{damage, lesser};
-use crate::reach::reach;
 use crate::refs::read_refs;
 use crate::stages::check_stages;
+use crate::store::{look_at_commits, read_objects};
 use fs_trait::Fs;
-use ost_types::Csum;
+use ost_types::{Csum, Limits, ObjName};
 use repo_layout::{Folder, RefName, folder_path};
 use std::alloc::Global;
+
+/// What a disk that passes all checks has.
+#[derive(Drop)]
+pub struct Contents {
+    /// Ascending by the bytes of the names.
+    pub refs: Vec<(RefName, Csum)>,
+    /// The names of all objects, ascending.
+    pub objects: Vec<ObjName>,
+}
 
 // Looks at each place of the layout. The least one is told at which something stands that it doesn't allow.
 fn check_places<F: Fs>(alloc: Global, fs: &mut F) -> Result<(), OpenFault>
@@ -37,19 +50,52 @@ fn check_places<F: Fs>(alloc: Global, fs: &mut F) -> Result<(), OpenFault>
     }
 }
 
-/// Makes all checks, in their order. The refs that were read are told, ascending by the bytes of their names.
-pub fn check<F: Fs>(alloc: Global, fs: &mut F) -> Result<Vec<(RefName, Csum)>, OpenFault>
-    ensures told { (v : View) → F.view fs.old ≡ Some v → Answers v.now result }
+// The refs, ascending by the bytes of their names.
+fn refs_of<F: Fs>(alloc: Global, fs: &mut F) -> Result<Vec<(RefName, Csum)>, OpenFault>
+    ensures told { (v : View) → F.view fs.old ≡ Some v → Walked (HoldsRefs v.now) BadRef heads result }
     ensures refs { (v : View) → F.view fs.old ≡ Some v → IfOk result (λ refs. Logical v.now (first refs.items)) }
     ensures ascending { IfOk result (λ refs. AreAscending refs.items) }
     ensures quiet { IsQuiet (F.clock fs.old) (F.clock fs.new) (F.was fs.old) (F.was fs.new) (F.view fs.old) (F.view fs.new) }
     ensures reason { HasReason (F.faults fs.old) (F.faults fs.new) result }
 {
-    check_places(alloc, fs)?;
     let mut found = Found::new(alloc);
     let heads = folder_path(alloc, Folder::Heads)?;
     read_refs(alloc, fs, &heads, &mut found)?;
+    Ok(found.into_vec(alloc)?)
+}
+
+// The names of all objects. Each object is read, and then what the commits and these refs name.
+fn objects_of<F: Fs>(
+    alloc: Global,
+    fs: &mut F,
+    refs: &[(RefName, Csum)],
+    limits: &Limits,
+) -> Result<Vec<ObjName>, OpenFault>
+    requires ascending { AreAscending refs.now }
+    requires refs { (v : View) → F.view fs.old ≡ Some v → Logical v.now (first refs.now) }
+    ensures told { (v : View) → F.view fs.old ≡ Some v → ToldOfStore limits.now v.now result }
+    ensures all { (v : View) → F.view fs.old ≡ Some v → IfOk result (λ names. AreAll v.now names.items) }
+    ensures quiet { IsQuiet (F.clock fs.old) (F.clock fs.new) (F.was fs.old) (F.was fs.new) (F.view fs.old) (F.view fs.new) }
+    ensures reason { HasReason (F.faults fs.old) (F.faults fs.new) result }
+{
+    let names = read_objects(alloc, fs, limits)?;
+    look_at_commits(alloc, fs, names.as_slice(), refs, limits)?;
+    Ok(names)
+}
+
+/// Makes all checks, in their order.
+pub fn check<F: Fs>(alloc: Global, fs: &mut F, limits: &Limits) -> Result<Contents, OpenFault>
+    ensures told { (v : View) → F.view fs.old ≡ Some v → Answers limits.now v.now result }
+    ensures refs { (v : View) → F.view fs.old ≡ Some v → IfOk result (λ c. Logical v.now (first c.refs.items)) }
+    ensures objects { (v : View) → F.view fs.old ≡ Some v → IfOk result (λ c. AreAll v.now c.objects.items) }
+    ensures ascending { IfOk result (λ c. AreAscending c.refs.items) }
+    ensures quiet { IsQuiet (F.clock fs.old) (F.clock fs.new) (F.was fs.old) (F.was fs.new) (F.view fs.old) (F.view fs.new) }
+    ensures reason { HasReason (F.faults fs.old) (F.faults fs.new) result }
+{
+    check_places(alloc, fs)?;
+    check_config(alloc, fs)?;
+    let refs = refs_of(alloc, fs)?;
+    let objects = objects_of(alloc, fs, refs.as_slice(), limits)?;
     check_stages(alloc, fs)?;
-    let refs = found.into_vec(alloc)?;
-    Ok(refs)
+    Ok(Contents { refs, objects })
 }

@@ -3,15 +3,25 @@ ghost use Rattle.sys_open.specs.declared.fault.OpenFault.TheVariants as fault;
 ghost use Rattle.sys_open.specs.Faults.{IsRefusal};
 
 use fs_trait::FsErr;
-use ost_types::{FsPath, NoMemory, TryCopy};
+use ost_objects::CheckFault;
+use ost_types::{FsPath, NoMemory, ObjName, TryCopy};
 use std::alloc::{AllocError, AllocFailed};
 
 /// What is wrong with what stands at a path.
 #[derive(Clone, Copy, Debug, PartialEq, Eq)]
 pub enum Why {
+    /// What stands at the configuration's path isn't a regular file that is one.
+    BadConfig,
     /// A leaf at or below the folder of refs isn't a ref file under the path of a good name, or a folder there has a name
     /// that is too long for a path.
     BadRef,
+    /// What stands at an object's path doesn't have its name, or doesn't read as its kind.
+    BadObject(CheckFault),
+    /// This object is missing, or names a path that is past a limit: of the commit without a mark whose object has this path. Of
+    /// the ref whose file has it, it is the commit that the ref names, which is missing or has a mark.
+    Incomplete(ObjName),
+    /// There are more objects than the limit, which is one less than this.
+    TooMany(u64),
     /// Something else than a folder stands in a folder's place, a folder where a leaf belongs, or something else than a
     /// regular file at the path of a mark; or a folder at a staging path has a name that is too long for a path.
     WrongKind,

@@ -1,23 +1,27 @@
-//! Opening the repository of a file system: it is checked, its folders are laid out, what was staged is removed, and its objects
-//! are listed.
+//! Opening the repository of a file system: it is checked, its folders are laid out, its configuration is written where there is
+//! none, and what was staged is removed.
 #![tactic(auto)]
 
 mod adopting;
 mod arrange;
+mod barrier;
 mod check;
+mod checkouts;
 mod children;
 mod clear;
+mod config;
+mod configure;
 mod fault;
 mod found;
 mod inside;
 mod kinds;
 mod layout;
 mod least;
-mod objects;
 mod opening;
 mod reach;
 mod refs;
 mod stages;
+mod store;
 
 pub use adopting::{Opened, OpenedParts, adopt};
 pub use fault::{OpenFault, Why};

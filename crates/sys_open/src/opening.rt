@@ -7,20 +7,24 @@ ghost use Rattle.fs_trait.specs.Effect.{Next};
 ghost use Rattle.fs_trait.specs.Change.{Left};
 ghost use Rattle.sys_open.specs.Faults.{HasReason, IsInterruption};
 ghost use Rattle.layout_rules.specs.Checks.{IsSane};
+ghost use Rattle.store_check.specs.Listing.{AreAll};
 ghost use Rattle.sys_open.specs.Changes.{Changes, IsArranged, Works};
+ghost use Rattle.sys_open.specs.Damages.{HasConfig};
 ghost use Rattle.sys_open.specs.Opening.{Answers, AreAscending, Begins, KeepsSince, OnDamage};
 
-use crate::arrange::{arrange, barrier};
+use crate::arrange::arrange;
+use crate::barrier::barrier;
 use crate::check::check;
 use crate::fault::OpenFault;
 use fs_trait::Fs;
-use ost_types::Csum;
+use ost_types::{Csum, Limits, ObjName};
 use repo_layout::RefName;
 use std::alloc::Global;
 
 // arranges what the checks allow, and makes it outlast a crash where something was changed
 fn settle<F: Fs>(alloc: Global, fs: &mut F) -> Result<(), OpenFault>
     requires sane { (v : View) → F.view fs.old ≡ Some v → IsSane v.now }
+    requires config { (v : View) → F.view fs.old ≡ Some v → HasConfig v.now }
     requires settled { (v : View) → F.view fs.old ≡ Some v → (p : Path) → Always v p (shows v.now p) }
     ensures works { (v : View) → F.view fs.old ≡ Some v → Works (Changes v.now) v (F.clock fs.old) (F.clock fs.new) (F.was fs.old) (F.was fs.new) (F.view fs.new) }
     ensures arranged { (v : View) → F.view fs.old ≡ Some v → OnOk result (Told (F.view fs.new) (λ w. IsArranged w.now)) }
@@ -38,23 +42,39 @@ fn settle<F: Fs>(alloc: Global, fs: &mut F) -> Result<(), OpenFault>
     }
 }
 
-/// Opens the repository: makes all that is there outlast a crash, checks it, and then makes the folders that are absent and
-/// clears the staging paths. The refs are told, ascending by the bytes of their names, and the clock after the first barrier.
-pub fn open<F: Fs>(alloc: Global, fs: &mut F) -> Result<(Vec<(RefName, Csum)>, u64), OpenFault>
-    ensures told { (v : View) → F.view fs.old ≡ Some v → Answers v.now result }
-    ensures begins { (v : View) → F.view fs.old ≡ Some v → IfOk result (λ o. Told (F.view fs.new) (λ w. Begins o.0.items v w)) }
+/// What an opening found.
+#[derive(Drop)]
+pub struct Findings {
+    /// Ascending by the bytes of the names.
+    pub refs: Vec<(RefName, Csum)>,
+    /// The names of all objects, ascending.
+    pub objects: Vec<ObjName>,
+    /// The clock after the first barrier.
+    pub clock: u64,
+}
+
+/// Opens the repository: makes all that is there outlast a crash, checks it, and then makes the folders that are absent, writes the
+/// configuration where there is none, and clears the staging paths.
+pub fn open<F: Fs>(alloc: Global, fs: &mut F, limits: &Limits) -> Result<Findings, OpenFault>
+    ensures told { (v : View) → F.view fs.old ≡ Some v → Answers limits.now v.now result }
+    ensures begins { (v : View) → F.view fs.old ≡ Some v → IfOk result (λ o. Told (F.view fs.new) (λ w. Begins o.refs.items v w)) }
+    ensures objects { (v : View) → F.view fs.old ≡ Some v → IfOk result (λ o. AreAll v.now o.objects.items) }
     ensures still { (v : View) → F.view fs.old ≡ Some v → OnDamage result (F.view fs.new ≡ Some (all_synced v)) }
     ensures works { (v : View) → F.view fs.old ≡ Some v → Works (Changes v.now) v (F.clock fs.old) (F.clock fs.new) (F.was fs.old) (F.was fs.new) (F.view fs.new) }
-    ensures keeps { (v : View) → F.view fs.old ≡ Some v → IfOk result (λ o. KeepsSince (Left (F.was fs.new)) o.1 v.now) }
-    ensures ascending { IfOk result (λ o. AreAscending o.0.items) }
-    ensures past { IfOk result (λ o. o.1 ≤ F.clock fs.new) }
-    ensures opened { IfOk result (λ o. Next (F.clock fs.old) o.1) }
+    ensures keeps { (v : View) → F.view fs.old ≡ Some v → IfOk result (λ o. KeepsSince (Left (F.was fs.new)) o.clock v.now) }
+    ensures ascending { IfOk result (λ o. AreAscending o.refs.items) }
+    ensures past { IfOk result (λ o. o.clock ≤ F.clock fs.new) }
+    ensures opened { IfOk result (λ o. Next (F.clock fs.old) o.clock) }
     ensures later { F.clock fs.old ≤ F.clock fs.new }
     ensures reason { HasReason (F.faults fs.old) (F.faults fs.new) result }
 {
     barrier(alloc, fs)?;
-    let opened = fs.clock();
-    let refs = check(alloc, fs)?;
+    let clock = fs.clock();
+    let contents = check(alloc, fs, limits)?;
     settle(alloc, fs)?;
-    Ok((refs, opened))
+    Ok(Findings {
+        refs: contents.refs,
+        objects: contents.objects,
+        clock,
+    })
 }

@@ -135,7 +135,8 @@ fn read_file<F: Fs>(
     }
 }
 
-fn bytes_at<F: Fs>(fs: &mut F, at: &FsPath) -> Result<Bytes, OpenFault>
+/// The bytes of the regular file at the path.
+pub fn bytes_at<F: Fs>(fs: &mut F, at: &FsPath) -> Result<Bytes, OpenFault>
     ensures told { (v : View) → F.view fs.old ≡ Some v → IsFileAt v.now at.now → Finds (λ b. b ≡ v.now.bytes (inode_of (v.now.at at.now))) result }
     ensures quiet { IsQuiet (F.clock fs.old) (F.clock fs.new) (F.was fs.old) (F.was fs.new) (F.view fs.old) (F.view fs.new) }
     ensures reason { HasReason (F.faults fs.old) (F.faults fs.new) result }

@@ -64,7 +64,8 @@ pub fn clear_stages<F: Fs>(alloc: Global, fs: &mut F) -> Result<(), OpenFault>
     Ok(())
 }
 
-fn clear_stage<F: Fs>(alloc: Global, fs: &mut F, actor: u8) -> Result<(), OpenFault>
+/// Removes what stands at the staging path of an actor.
+pub fn clear_stage<F: Fs>(alloc: Global, fs: &mut F, actor: u8) -> Result<(), OpenFault>
     requires { actor < 16 }
     ensures works { (v : View) → F.view fs.old ≡ Some v → Works (Clears (stage_path actor)) v (F.clock fs.old) (F.clock fs.new) (F.was fs.old) (F.was fs.new) (F.view fs.new) }
     ensures cleared { (v : View) → F.view fs.old ≡ Some v → OnOk result (Told (F.view fs.new) (λ w. shows w.now (stage_path actor) ≡ Vacant)) }

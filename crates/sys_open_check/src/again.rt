@@ -1,6 +1,6 @@
 ghost use Rattle.std.specs.Prelude.{◌≡◌, Some, IfOk, IfErr};
 ghost use Rattle.fs_trait.specs.View.{View};
-ghost use Rattle.layout_rules.specs.Checks.{IsSane};
+ghost use Rattle.sys_open.specs.Damages.{IsGood};
 ghost use Rattle.sys_open.specs.Opening.{AreAscending, IsToldOf};
 
 use fs_trait::Fs;
@@ -19,8 +19,8 @@ pub struct Found<F> {
 
 /// Opens the repository of a file system, and gives the file system back, with the refs or the fault.
 pub fn open_again<F: Fs>(alloc: Global, fs: F, limits: Limits) -> Result<Found<F>, (F, OpenFault)>
-    ensures sane { (v : View) → F.view fs ≡ Some v → IfOk result (λ f. IsSane v.now) }
-    ensures told { (v : View) → F.view fs ≡ Some v → IfErr result (λ e. IsToldOf v.now e.1) }
+    ensures good { (v : View) → F.view fs ≡ Some v → IfOk result (λ f. IsGood limits v.now) }
+    ensures told { (v : View) → F.view fs ≡ Some v → IfErr result (λ e. IsToldOf limits v.now e.1) }
     ensures ascending { IfOk result (λ f. AreAscending f.refs.items) }
 {
     let opened = adopt(alloc, fs, limits)?;

@@ -8,4 +8,8 @@ pub use again::{Found, open_again};
 #[cfg(test)]
 mod disks;
 #[cfg(test)]
+mod store_tests;
+#[cfg(test)]
+mod stores;
+#[cfg(test)]
 mod tests;

@@ -1,4 +1,5 @@
 use crate::disks::{ONES, add_file, add_folder, add_link, with_folders, with_refs};
+use crate::stores::{COMMIT, COMMIT_BYTES, COMMIT_REF, EMPTY, META, META_BYTES, with_files};
 use crate::{Found, open_again};
 use fs_memory::{Choice, FailAt, MemFs};
 use fs_trait::{Fs, Node};
@@ -203,13 +204,16 @@ fn is_there(fs: &mut MemFs, alloc: Global, at: &[u8]) -> Result<bool, Fail> {
     Ok(fs.stat(&FsPath::parse(alloc, at)?)?.is_some())
 }
 
-// Two refs, a staged file, a staged folder, and names of others.
+// A commit, two refs, a staged file, a staged folder, and names of others.
 fn busy_disk(alloc: Global) -> Result<MemFs, Fail> {
-    let files: [(&[u8], &[u8]); 2] = [
-        (b"/ostree/repo/refs/heads/a/b", ONES),
-        (b"/ostree/repo/refs/heads/a-b", ONES),
+    let files: [(&[u8], &[u8]); 5] = [
+        (COMMIT, COMMIT_BYTES),
+        (EMPTY, b"\0"),
+        (META, META_BYTES),
+        (b"/ostree/repo/refs/heads/a/b", COMMIT_REF),
+        (b"/ostree/repo/refs/heads/a-b", COMMIT_REF),
     ];
-    let mut fs = with_refs(alloc, &files)?;
+    let mut fs = with_files(alloc, &files)?;
     let folders: [&[u8]; 4] = [
         b"/ostree/repo/tmp",
         b"/ostree/repo/tmp/actor-12",
@@ -224,6 +228,10 @@ fn busy_disk(alloc: Global) -> Result<MemFs, Fail> {
     add_file(&mut fs, alloc, b"/ostree/repo/tmp/actor-16", b"x")?;
     add_file(&mut fs, alloc, b"/mine/file", b"x")?;
     add_file(&mut fs, alloc, b"/ostree/repo/refs/file", b"x")?;
+    add_file(&mut fs, alloc, b"/ostree/repo/.lock", b"")?;
+    add_file(&mut fs, alloc, b"/ostree/repo/objects/6e/other", b"x")?;
+    add_file(&mut fs, alloc, b"/ostree/repo/refs/remotes/main", ONES)?;
+    add_folder(&mut fs, alloc, b"/ostree/repo/extensions")?;
     fs.sync_all()?;
     Ok(fs)
 }
@@ -247,8 +255,12 @@ fn leaves_the_names_of_others(rt: HostRuntime) -> Result<(), Fail> {
     let alloc = rt.alloc();
     let mut found = opened(alloc, busy_disk(alloc)?)?;
     check_found(&rt, &found);
-    let kept: [&[u8]; 5] = [
+    let kept: [&[u8]; 9] = [
         b"/mine/file",
+        b"/ostree/repo/.lock",
+        b"/ostree/repo/extensions",
+        b"/ostree/repo/objects/6e/other",
+        b"/ostree/repo/refs/remotes/main",
         b"/ostree/repo/refs/file",
         b"/ostree/repo/tmp/actor-16",
         b"/ostree/repo/tmp/other",
@@ -278,6 +290,11 @@ fn lays_out_what_is_missing(rt: HostRuntime) -> Result<(), Fail> {
     for at in folders {
         assert!(&rt; is_there(&mut found.fs, alloc, at)?);
     }
+    let config = found
+        .fs
+        .read(&FsPath::parse(alloc, b"/ostree/repo/config")?)?;
+    assert!(&rt; config.as_slice() == b"[core]\nrepo_version=1\nmode=bare\n".as_slice());
+    assert!(&rt; !is_there(&mut found.fs, alloc, b"/ostree/repo/tmp/actor-0")?);
     // what stands there already makes an opening one barrier
     let before = found.fs.moments();
     let again = opened(alloc, found.fs)?;
@@ -343,24 +360,43 @@ fn try_opening(alloc: Global, fs: MemFs) -> Result<Tried, Fail> {
 fn opens_failing(rt: &impl Abort, alloc: Global, call: u64, done: bool) -> Result<bool, Fail> {
     let mut fs = busy_disk(alloc)?;
     fs.fail_at(vec![in alloc; FailAt { call, done }]?);
-    let tried = try_opening(alloc, fs)?;
+    let mut tried = try_opening(alloc, fs)?;
+    tried.fs.fail_at(Vec::new(alloc));
     check_image(rt, alloc, &tried.fs, 0, vec![in alloc; 0]?)?;
     check_found(rt, &opened(alloc, tried.fs)?);
     Ok(tried.is_open)
 }
 
-#[test]
-fn tells_each_failed_call(rt: HostRuntime) -> Result<(), Fail> {
-    let alloc = rt.alloc();
+// How many of the openings failed in which one of these calls was to fail, every other one with its effect.
+fn count_failing(rt: &impl Abort, alloc: Global, first: u64, last: u64) -> Result<u32, Fail> {
     let mut failed: u32 = 0;
-    for call in 25..=100 {
-        let first = opens_failing(&rt, alloc, call, false)?;
-        let second = opens_failing(&rt, alloc, call, true)?;
-        assert_eq!(&rt; first, second);
-        if !first {
+    for call in first..=last {
+        if !opens_failing(rt, alloc, call, call % 2 == 0)? {
             failed = failed.saturating_add(1);
         }
     }
-    assert!(&rt; failed > 20);
+    Ok(failed)
+}
+
+// The opening begins with the call 45: its barrier, the checks of places, of the configuration and of refs.
+#[test]
+fn tells_failed_calls_of_the_first_checks(rt: HostRuntime) -> Result<(), Fail> {
+    assert_eq!(&rt; count_failing(&rt, rt.alloc(), 45, 85)?, 41);
+    Ok(())
+}
+
+// The objects, some of them, and the commits.
+#[test]
+fn tells_failed_calls_of_the_store(rt: HostRuntime) -> Result<(), Fail> {
+    assert_eq!(&rt; count_failing(&rt, rt.alloc(), 350, 385)?, 36);
+    Ok(())
+}
+
+// What is staged, laid out, written and cleared, to the end.
+#[test]
+fn tells_failed_calls_of_changes(rt: HostRuntime) -> Result<(), Fail> {
+    let failed = count_failing(&rt, rt.alloc(), 386, 460)?;
+    assert!(&rt; failed > 30);
+    assert!(&rt; failed < 75);
     Ok(())
 }

@@ -1,38 +1,80 @@
-use Rattle.std.proofs.Common.{◌∙◌, subst, List, ℕ, Err}
+use Rattle.std.proofs.Common.{◌∙◌, sym, subst, List, ℕ}
 use Rattle.std.proofs.lemmas.Result.{err_from_is_err_and}
 use Rattle.std.specs.Global.{Vec}
-use Rattle.sys_open.specs.declared.fault.Why.TheVariants.{BadRef}
-use Rattle.layout_rules.specs.Checks.{HoldsRefs}
-use Rattle.sys_open.specs.Gathered.{HasAllBelow}
-use Rattle.sys_open.specs.Walk.{IsSoBelow, Walked}
-use Rattle.sys_open.proofs.Checking.{kinds_fault, refs_fault, stages_fault, all_sane, refs_say, none_of}
+use Rattle.ost_types.specs.declared.object.ObjName.{ObjName}
+use Rattle.rely.specs.State.{first}
+use Rattle.rely.specs.Disks.{Logical}
+use Rattle.sys_open.specs.declared.check.Contents.{Contents}
+use Rattle.sys_open.specs.Damages.{Places, Config, RefFiles, Staging}
+use Rattle.sys_open.specs.Opening.{AreAscending}
+use Rattle.sys_open.proofs.Checking.{all_good, before_config, before_places, before_refs, before_staging, config_told, first_fault, places_pass, places_told, refs_pass, refs_told, stages_pass, stages_told, store_fault}
 use Rattle.sys_open.proofs.check.check.Goals as goal
 
 pub returns-in_err-check_places-clause-told : goal.returns-in_err-check_places-clause-told
 returns-in_err-check_places-clause-told g c = λ v told.
     let error = err_from_is_err_and c.from_residual.result c.from_residual.ensures.1 in
-    rw (error.1, error.2) (kinds_fault (Unit {0}) (Vec (List ℕ × List ℕ)) v.now _ (c.in_err-check_places.ensures.told v told))
+    rw (error.1, error.2) (first_fault (Unit {0}) Contents Places c.args.limits.now v.now _ (before_places c.args.limits.now v.now) (places_told (Unit {0}) c.args.limits.now v.now _ (c.in_err-check_places.ensures.told v told)))
 
-pub returns-in_err-read_refs-clause-told : goal.returns-in_err-read_refs-clause-told
-returns-in_err-read_refs-clause-told g c = λ v told.
-    let error = err_from_is_err_and c.from_residual-in_err-read_refs.result c.from_residual-in_err-read_refs.ensures.1 in
+pub returns-in_err-check_config-clause-told : goal.returns-in_err-check_config-clause-told
+returns-in_err-check_config-clause-told g c = λ v told.
+    let error = err_from_is_err_and c.from_residual-in_err-check_config.result c.from_residual-in_err-check_config.ensures.1 in
     let now = c.check_places.ensures.quiet.view ∙ told in
-    rw (error.1, error.2) (refs_fault (Unit {0}) (Vec (List ℕ × List ℕ)) v.now _ (c.in_ok-check_places.ensures.told v told) (subst (λ p. Walked {T = Unit {0}} (HoldsRefs v.now) BadRef p (Err c.in_err-read_refs.field-0.0)) c.in_ok-heads.ensures (c.in_err-read_refs.ensures.told v now)))
+    let places = places_pass c.args.limits.now v.now (c.in_ok-check_places.ensures.told v told) in
+    rw (error.1, error.2) (first_fault (Unit {0}) Contents Config c.args.limits.now v.now _ (before_config c.args.limits.now v.now places) (config_told (Unit {0}) c.args.limits.now v.now _ (c.in_err-check_config.ensures.told v now)))
+
+pub returns-in_err-refs-clause-told : goal.returns-in_err-refs-clause-told
+returns-in_err-refs-clause-told g c = λ v told.
+    let error = err_from_is_err_and c.from_residual-in_err-refs.result c.from_residual-in_err-refs.ensures.1 in
+    let now = c.check_places.ensures.quiet.view ∙ told in
+    let places = places_pass c.args.limits.now v.now (c.in_ok-check_places.ensures.told v told) in
+    let config = c.in_ok-check_config.ensures.told v now in
+    rw (error.1, error.2) (first_fault (Vec (List ℕ × List ℕ)) Contents RefFiles c.args.limits.now v.now _ (before_refs c.args.limits.now v.now places config) (refs_told (Vec (List ℕ × List ℕ)) c.args.limits.now v.now _ (c.in_err-refs.ensures.told v (c.check_config.ensures.quiet.view ∙ now))))
+
+pub objects_of-requires-clause-ascending : goal.objects_of-requires-clause-ascending
+objects_of-requires-clause-ascending g c = subst AreAscending (sym c.as_slice.ensures.value) c.in_ok-refs.ensures.ascending
+
+pub objects_of-requires-clause-refs : goal.objects_of-requires-clause-refs
+objects_of-requires-clause-refs g c = λ u now.
+    subst (λ l. Logical u.now (first l)) (sym c.as_slice.ensures.value) (c.in_ok-refs.ensures.refs u (sym c.refs_of.ensures.quiet.view ∙ now))
+
+pub returns-in_err-objects-clause-told : goal.returns-in_err-objects-clause-told
+returns-in_err-objects-clause-told g c = λ v told.
+    let error = err_from_is_err_and c.from_residual-in_err-objects.result c.from_residual-in_err-objects.ensures.1 in
+    let placed = c.check_places.ensures.quiet.view ∙ told in
+    let configured = c.check_config.ensures.quiet.view ∙ placed in
+    let now = c.refs_of.ensures.quiet.view ∙ configured in
+    let places = places_pass c.args.limits.now v.now (c.in_ok-check_places.ensures.told v told) in
+    let config = c.in_ok-check_config.ensures.told v placed in
+    let refs = refs_pass c.args.limits.now v.now (c.in_ok-refs.ensures.told v configured) in
+    rw (error.1, error.2) (store_fault c.args.limits.now v.now places config refs (Vec ObjName) Contents _ (c.in_err-objects.ensures.told v now))
 
 pub returns-in_err-check_stages-clause-told : goal.returns-in_err-check_stages-clause-told
 returns-in_err-check_stages-clause-told g c = λ v told.
     let error = err_from_is_err_and c.from_residual-in_err-check_stages.result c.from_residual-in_err-check_stages.ensures.1 in
-    let now = c.check_places.ensures.quiet.view ∙ told in
-    rw (error.1, error.2) (stages_fault (Unit {0}) (Vec (List ℕ × List ℕ)) v.now _ (c.in_ok-check_places.ensures.told v told) (subst (λ p. IsSoBelow (HoldsRefs v.now) p) c.in_ok-heads.ensures (c.in_ok-read_refs.ensures.told v now)) (c.in_err-check_stages.ensures.told v (c.read_refs.ensures.quiet.view ∙ now)))
+    let placed = c.check_places.ensures.quiet.view ∙ told in
+    let configured = c.check_config.ensures.quiet.view ∙ placed in
+    let read = c.refs_of.ensures.quiet.view ∙ configured in
+    let now = c.objects_of.ensures.quiet.view ∙ read in
+    let places = places_pass c.args.limits.now v.now (c.in_ok-check_places.ensures.told v told) in
+    let config = c.in_ok-check_config.ensures.told v placed in
+    let refs = refs_pass c.args.limits.now v.now (c.in_ok-refs.ensures.told v configured) in
+    rw (error.1, error.2) (first_fault (Unit {0}) Contents Staging c.args.limits.now v.now _ (before_staging c.args.limits.now v.now places config refs (c.in_ok-objects.ensures.told v read)) (stages_told (Unit {0}) c.args.limits.now v.now _ (c.in_err-check_stages.ensures.told v now)))
 
 pub returns-clause-told : goal.returns-clause-told
 returns-clause-told g c = λ v told.
-    let now = c.check_places.ensures.quiet.view ∙ told in
-    all_sane v.now (c.in_ok-check_places.ensures.told v told) (subst (λ p. IsSoBelow (HoldsRefs v.now) p) c.in_ok-heads.ensures (c.in_ok-read_refs.ensures.told v now)) (c.in_ok-check_stages.ensures.told v (c.read_refs.ensures.quiet.view ∙ now))
+    let placed = c.check_places.ensures.quiet.view ∙ told in
+    let configured = c.check_config.ensures.quiet.view ∙ placed in
+    let read = c.refs_of.ensures.quiet.view ∙ configured in
+    let now = c.objects_of.ensures.quiet.view ∙ read in
+    let places = places_pass c.args.limits.now v.now (c.in_ok-check_places.ensures.told v told) in
+    let config = c.in_ok-check_config.ensures.told v placed in
+    let refs = refs_pass c.args.limits.now v.now (c.in_ok-refs.ensures.told v configured) in
+    all_good c.args.limits.now v.now places config refs (c.in_ok-objects.ensures.told v read) (stages_pass c.args.limits.now v.now (c.in_ok-check_stages.ensures.told v now))
 
 pub returns-clause-refs : goal.returns-clause-refs
 returns-clause-refs g c = λ v told.
-    let now = c.check_places.ensures.quiet.view ∙ told in
-    refs_say v.now c.read_refs.new.found.refs c.in_ok-refs.refs.items c.in_ok-refs.ensures.items
-    (c.in_ok-read_refs.ensures.right v now (none_of v.now c.new-found.result.refs c.new-found.ensures))
-    (subst (λ p. HasAllBelow v.now p c.read_refs.new.found.refs) c.in_ok-heads.ensures (c.in_ok-read_refs.ensures.whole v now))
+    c.in_ok-refs.ensures.refs v (c.check_config.ensures.quiet.view ∙ (c.check_places.ensures.quiet.view ∙ told))
+
+pub returns-clause-objects : goal.returns-clause-objects
+returns-clause-objects g c = λ v told.
+    c.in_ok-objects.ensures.all v (c.refs_of.ensures.quiet.view ∙ (c.check_config.ensures.quiet.view ∙ (c.check_places.ensures.quiet.view ∙ told)))

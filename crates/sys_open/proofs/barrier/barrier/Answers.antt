@@ -3,7 +3,7 @@ use Rattle.fs_trait.specs.View.{all_synced}
 use Rattle.fs_trait.specs.Change.{Nothing}
 use Rattle.fs_trait.proofs.Effects.{all_synced-writes}
 use Rattle.sys_open.proofs.Working.{changed_left, works_call}
-use Rattle.sys_open.proofs.arrange.barrier.Goals as goal
+use Rattle.sys_open.proofs.barrier.barrier.Goals as goal
 
 pub returns-in-Ok-clause-works : goal.returns-in-Ok-clause-works
 returns-in-Ok-clause-works g c = λ v told.
