@@ -18,8 +18,10 @@ ghost use Rattle.commit_lasts.specs.Lasting.{AreRight, IsCommit, IsKept, IsOf, L
 
 use fs_trait::Fs;
 
-/// A commit whose objects are all sure to outlast a crash lasts; from an act in whose view it lasts it is kept, and it is kept by
-/// each further act. On a disk that was opened, the names are right where what stands at the paths has them, or is nothing.
+/// A commit of a tree within the bounds lasts where no crash leaves an object of it away, or a mark of it, and what a crash leaves
+/// at the paths of its objects has their names or is nothing. From an act in whose view it lasts it is kept, and it is kept by each
+/// further act. On a disk that was opened, what a crash leaves at these paths has the names, or is nothing, where what stands
+/// there does.
 pub fn commits_last<F: Fs>()
     ensures opened { (state : State) (v : View) (tree : List TreeItem) (message : Message) → IsOpening state v → ((o : Object) → IsOf tree message o → (shows v.now (path_of o.name) ≡ Vacant) ⊎ IsObjectSeen o.name.kind o.name.csum (shows v.now (path_of o.name))) → AreRight v tree message }
     ensures made { (limits : Limits) (tree : List TreeItem) (message : Message) (v : View) → IsCommit limits tree message → AreSure tree v → IsSure v (named_commit (sum_of tree message)) → NeverMarked (sum_of tree message) v → AreRight v tree message → LastsIn limits tree message v }

@@ -38,7 +38,7 @@ use Rattle.commit_work.specs.Facts.{IsChange, Changing, facts_by, commit_facts}
 use Rattle.commit_work.specs.Answers.{built_answer, change_answer, answer_by, answer_of, IsLacking, Says, ShowsLasting}
 
 -- where there was no room, the object isn't there
-lacking : (t : Committing) (v : View) → IsMade t → (ph : Phase) → t.phase ≡ ph → Links ph → FullAt ph v → IsLacking t v
+lacking : (t : Committing) (v : View) → IsMade t → (ph : Phase) → t.phase ≡ ph → Links ph → FullAt ph v → IsLacking t.items t.message v.now
 lacking t v made (phase.Put p) is links full =
     let last = (kept_as t made (phase.Put p) is).1 in
     (last.object, inl (last.last.number, last.last.object), subst (λ (n : ObjName). v.now.at (path_of n) ≡ Absent) last.puts.name full)
@@ -173,7 +173,7 @@ falls_of t new step = falls_by t.change t new refl step
 
 -- the count that a commit is told is no matter to its facts
 counted_by : (o : Option Naming) (lane objects : ℕ) (t : CommitCommand) (v : View) (b : Books) → facts_by o lane t v b → facts_by o lane (record t { objects = objects }) v b
-counted_by None lane objects t v b f = record { needs = f.needs; mine = f.mine; pins = f.pins; held = f.held; change = f.change }
+counted_by None lane objects t v b f = record { needs = f.needs; mine = f.mine; met = f.met; pins = f.pins; held = f.held; change = f.change }
 counted_by (Some n) lane objects t v b f = record {
   ref = f.ref;
   of = record { commit = f.of.commit; name = f.of.name; seen = f.of.seen; value = f.of.value };

@@ -36,8 +36,7 @@ use Rattle.rely.specs.declared.books.Pending.{Pending}
 use Rattle.rely.specs.State.{State}
 use Rattle.rely.specs.Books.{Books}
 use Rattle.rely.specs.Sound.{Stands}
-use Rattle.ref_work.specs.declared.command.RefCommand.TheVariants.{Change}
-use Rattle.ref_work.proofs.Refusals as refs
+use Rattle.ref_work.proofs.Refusals.{change_refused}
 use Rattle.commit_work.specs.declared.naming.Naming.{Naming}
 use Rattle.commit_work.specs.declared.command.CommitCommand.{CommitCommand}
 use Rattle.commit_work.specs.Kinds.{refuses_at, refuses_by, commit_refuses}
@@ -177,7 +176,7 @@ no_leaf start entries pending v stands sum is leaf =
 refused_by : (o : Option Naming) (start : State) (entries : List Entry) (pending : Option Pending) (lane : ℕ) (v : View) (b : Books) (t : CommitCommand) (e : FsErr) → IsTree v.now → Stands start entries pending v → facts_by o lane t v b → refuses_by o t v e
     → OfNone e
 refused_by None start entries pending lane v b t e tree stands f why = refused_at v (no_leaf start entries pending v stands) (commit_in t.build.phase) t f.needs e why
-refused_by (Some n) start entries pending lane v b t e tree stands f why = refs.refused_of start entries pending lane v b (Change n.work) e tree stands f.ref why
+refused_by (Some n) start entries pending lane v b t e tree stands f why = change_refused start entries pending v n.work.task e tree stands f.ref.needs why
 
 pub refused_of : (start : State) (entries : List Entry) (pending : Option Pending) (lane : ℕ) (v : View) (b : Books) (t : CommitCommand) (e : FsErr) → IsTree v.now → Stands start entries pending v → commit_facts lane t v b → commit_refuses t v e
     → OfNone e

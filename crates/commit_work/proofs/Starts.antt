@@ -61,6 +61,7 @@ begins_build start entries pending lane v b t stands home begins = record {
     meets = subst (λ ph. needs_in ph t.build v) (sym begins.new) tt;
   };
   mine = begins.mine;
+  met = λ name put is. (let n : None ≡ Some (name, put) = sym begins.met ∙ is in cc);
   pins = λ o r. absurd (relied_none t.build t.build.phase begins.new o r);
   held = λ was. (let n : false ≡ true = sym begins.pinned ∙ was in cc);
   change = λ commit.

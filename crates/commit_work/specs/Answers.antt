@@ -1,6 +1,7 @@
 -- What a commit answers, and what each answer says.
-use Rattle.std.specs.Prelude.{◌≡◌, ◌≢◌, ◌≤◌, ◌+◌, ℕ, false, List, Option, Some, None, Ok, Err}
-use Rattle.fs_trait.specs.View.{View}
+use Rattle.std.specs.Prelude.{◌≡◌, ◌≢◌, ◌⊎◌, ◌≤◌, ◌+◌, ℕ, false, List, Option, Some, None, Ok, Err}
+use Rattle.ost_forms.specs.declared.tree_item.TreeItem.{TreeItem}
+use Rattle.fs_trait.specs.View.{Disk, View}
 use Rattle.fs_trait.specs.declared.types.Value.TheVariants.{Absent}
 use Rattle.repo_layout.specs.RefName.{IsRefName}
 use Rattle.repo_model.specs.Objects.{path_of}
@@ -8,12 +9,14 @@ use Rattle.ref_room.specs.Clash.{IsLeastClash}
 use Rattle.ref_store.specs.declared.refusal.RefRefusal.TheVariants as refusal
 use Rattle.ref_store.specs.Steps.{HasValue}
 use Rattle.tree_build.specs.Items.{IsTree, IsLeastBad}
-use Rattle.tree_build.specs.Objects.{Object}
+use Rattle.tree_build.specs.Building.{IsNumber}
+use Rattle.tree_build.specs.Objects.{Object, work}
+use Rattle.commit_build.specs.declared.message.Message.{Message}
 use Rattle.commit_build.specs.declared.phase.Phase.TheVariants as phase
 use Rattle.commit_build.specs.declared.refusal.BuildRefusal.{BuildRefusal}
 use Rattle.commit_build.specs.declared.refusal.BuildRefusal.TheVariants as built
-use Rattle.commit_build.specs.Committing.{Committing, IsMade}
-use Rattle.commit_build.specs.Whole.{its_commit, IsOfCommit}
+use Rattle.commit_build.specs.Committing.{Committing, IsMade, commit_of}
+use Rattle.commit_build.specs.Whole.{its_commit}
 use Rattle.rely.specs.declared.event.Event.{Event}
 use Rattle.rely.specs.declared.event.Event.TheVariants.{SetRef}
 use Rattle.rely.specs.Laws.{Settle}
@@ -46,10 +49,12 @@ answer_by (Some n) t = change_answer n.commit n.work.answer
 abbrev pub answer_of : CommitCommand → Option CommitAnswer
 answer_of t = answer_by t.change t
 
--- a commit at its beginning, of this tree and this message, that changes this ref
+-- a commit at its beginning, of this tree and this message, that changes this ref; no count was told, and nothing was refused
 pub record IsCommitOf (ref : List ℕ) (first : Committing) (t : CommitCommand) : Type 0 where
   pub name : t.name ≡ ref
   pub build : t.build ≡ first
+  pub objects : t.objects ≡ 0
+  pub refusal : t.refusal ≡ None
   pub change : t.change ≡ None
 
 -- what is known of a command that begins
@@ -58,12 +63,13 @@ pub record Begins (lane : ℕ) (t : CommitCommand) : Type 0 where
   pub mine : t.build.actor ≡ lane
   pub named : IsRefName t.name
   pub new : t.build.phase ≡ phase.Check
+  pub met : t.build.met ≡ None
   pub pinned : t.pinned ≡ false
   pub change : t.change ≡ None
 
--- Nothing stands at the path of an object of the commit.
-abbrev pub IsLacking : Committing → View → Type 0
-IsLacking t v = (o : Object) × IsOfCommit t o × (v.now.at (path_of o.name) ≡ Absent)
+-- nothing stands at the path of an object of the commit
+abbrev pub IsLacking : List TreeItem → Message → Disk → Type 0
+IsLacking items message d = (o : Object) × (((n : ℕ) × IsNumber (work items) n o) ⊎ (o ≡ commit_of items message)) × (d.at (path_of o.name) ≡ Absent)
 
 -- Over the view before the last step, and after it. That the commit is done: the step settled that the ref, which named the parent,
 -- names the commit of these items; and no crash leaves away an object of it. Of a refusal of the build: the least bad path; or that
@@ -72,7 +78,7 @@ IsLacking t v = (o : Object) × IsOfCommit t o × (v.now.at (path_of o.name) ≡
 abbrev pub Says : CommitAnswer → CommitCommand → View → View → Type 0
 Says (answer.Commit commit) t v w = (commit ≡ (its_commit t.build).name.csum) × IsTree t.build.items × Lasts t.build v × (commit_kind t ≡ Settle (SetRef t.name t.build.message.parent commit))
 Says (answer.BadTree path) t v w = IsLeastBad t.build.items path × (w ≡ v)
-Says (answer.TooMany number) t v w = (t.build.limits.objects ≤ t.objects) × (number ≡ t.build.limits.objects + 1) × IsLacking t.build v × (w ≡ v)
+Says (answer.TooMany number) t v w = (t.build.limits.objects ≤ t.objects) × (number ≡ t.build.limits.objects + 1) × IsLacking t.build.items t.build.message v.now × (w ≡ v)
 Says (answer.RefMoved seen now) t v w = (seen ≡ t.build.message.parent) × HasValue v.now t.name now × (now ≢ seen)
 Says (answer.RefClash other) t v w = IsLeastClash v.now t.name other
 Says answer.NoRef t v w = ⊥

@@ -2,6 +2,7 @@
 use Rattle.std.specs.Prelude.{◌≡◌, ℕ, true, List, Contains, Option, Some, None}
 use Rattle.ost_types.specs.declared.object.ObjName.{ObjName}
 use Rattle.fs_trait.specs.View.{View}
+use Rattle.obj_store.specs.declared.phase.Put.{Put}
 use Rattle.tree_build.specs.Items.{IsTree}
 use Rattle.tree_build.specs.Objects.{Object}
 use Rattle.commit_build.specs.Committing.{Committing, storing_in}
@@ -24,11 +25,17 @@ pub record Lasts (t : Committing) (v : View) : Type 0 where
   pub commit : IsSure v (its_commit t).name
   pub unmarked : NeverMarked (its_commit t).name.csum v
 
--- While the commit is built: what the build needs; that the lane builds it; that each object on which the rest of the way relies is
--- pinned, and the one that is being put once it was looked for; and what the change of the ref will need.
+-- an object of this name is one that the build stored or found: the rest of its way relies on it
+abbrev pub Has : Committing → ObjName → Type 0
+Has t name = (o : Object) × Relies t o × (o.name ≡ name)
+
+-- While the commit is built: what the build needs; that the lane builds it; that what its last step met is among the objects that it
+-- stored or found; that each object on which the rest of the way relies is pinned, and the one that is being put once it was looked
+-- for; and what the change of the ref will need.
 pub record Building (lane : ℕ) (t : CommitCommand) (v : View) (b : Books) : Type 0 where
   pub needs : Needs t.build v
   pub mine : t.build.actor ≡ lane
+  pub met : (name : ObjName) (put : Put) → t.build.met ≡ Some (name, put) → Has t.build name
   pub pins : (o : Object) → Relies t.build o → Pinned lane b o.name
   pub held : t.pinned ≡ true → (name : ObjName) → storing_in t.build.phase ≡ Some name → Pinned lane b name
   pub change : (commit : List ℕ) → Facts lane (planned t commit).work.task v b

@@ -147,6 +147,7 @@ module _ (b : Books) (v : View) (actor lane mine : ℕ) (not : mine ≢ actor) (
     building_kept w b' does = record {
       needs = commit_kept W t.build v spares f.needs w does.writes;
       mine = f.mine;
+      met = f.met;
       pins = λ o r. does.books.pins (record { lane = mine; object = o.name }) other (f.pins o r);
       held = λ was name is. does.books.pins (record { lane = mine; object = name }) other (f.held was name is);
       change = λ commit. facts_kept b v actor lane mine not other (planned t commit).work.task w b' (f.change commit) does;
@@ -171,6 +172,7 @@ pub building_gain : (lane : ℕ) (t : CommitCommand) (v : View) (b b' : Books) �
 building_gain lane t v b b' keeps f = record {
   needs = f.needs;
   mine = f.mine;
+  met = f.met;
   pins = λ o r. keeps.pins (record { lane = lane; object = o.name }) refl (f.pins o r);
   held = λ was name is. keeps.pins (record { lane = lane; object = name }) refl (f.held was name is);
   change = λ commit. facts_gain lane (planned t commit).work.task v b b' keeps (f.change commit);

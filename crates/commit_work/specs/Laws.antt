@@ -46,6 +46,7 @@ use Rattle.commit_work.specs.Facts.{Pinned, Building, Changing, facts_by, commit
 use Rattle.commit_work.specs.Lying.{OfBuild, build_place, stage_place}
 use Rattle.commit_work.specs.Kept.{lasts_own, building_kept, changing_kept, building_gain, changing_gain}
 use Rattle.commit_work.specs.Relying.{Had, goes_on, relied_next, relied_end}
+use Rattle.commit_work.specs.Meeting.{met_has}
 use Rattle.commit_work.specs.Duties.{build_duty}
 
 ready_by : (o : Option Naming) (actor lane : ℕ) (t : CommitCommand) (v : View) (b : Books) → facts_by o lane t v b → needs_by o actor t v
@@ -113,7 +114,7 @@ last_by (Some n) t new step = ref_laws.last n.work step.0 step.2
 
 -- ---- the next step's facts
 -- what is being put goes on to be put, under its name
-named_same : (n : Need) (a name : ObjName) → named_by n a ≡ Some name → a ≡ name
+pub named_same : (n : Need) (a name : ObjName) → named_by n a ≡ Some name → a ≡ name
 named_same need.Shared a name is = cc
 named_same need.Nothing a name is = (let n : None ≡ Some name = is in cc)
 named_same need.Pin a name is = (let n : None ≡ Some name = is in cc)
@@ -239,13 +240,14 @@ building_next actor lane t new v w b b' stood f step l keeps =
     record {
       needs = l.needs;
       mine = same.actor ∙ f.mine;
+      met = λ name put is. met_has t.objects t.build new f.needs.made step name put is;
       pins = λ o r. keeps.pins (record { lane = lane; object = o.name }) refl (⊎_elim (λ was. f.pins o was) (λ put. now o.name put) (had_of t.objects t.build new f.needs.made step o r));
       held = λ some name is. keeps.pins (record { lane = lane; object = name }) refl (now name (put_of t.objects t.build new step some name is));
       change = λ commit. subst (λ (x : Naming). Facts lane x.work.task w b') (sym (planned_same t new t.refusal commit same)) (change_next lane t commit v w b b' f.needs l.writes keeps (f.change commit));
     }
 
 -- all is done: the commit lasts
-commit_phase : (ph : Phase) (commit : List ℕ) → commit_in ph ≡ Some commit → ph ≡ phase.Ended commit
+pub commit_phase : (ph : Phase) (commit : List ℕ) → commit_in ph ≡ Some commit → ph ≡ phase.Ended commit
 commit_phase (phase.Ended c) commit is = let e : c ≡ commit = cc in ap phase.Ended e
 commit_phase phase.Check commit is = (let n : None ≡ Some commit = is in cc)
 commit_phase phase.Make commit is = (let n : None ≡ Some commit = is in cc)

@@ -4,6 +4,8 @@ pub mod Lying
 pub mod Ruled
 pub mod Kept
 pub mod Relying
+pub mod Meeting
 pub mod Duties
 pub mod Laws
 pub mod Answers
+pub mod Held

@@ -56,7 +56,7 @@ after_one : (n count made : ℕ) → count ≡ made + 1 → n < pred count → n
 after_one n zero made e less = absurd (omega (arith, less))
 after_one n (suc count) made e less = omega (arith, e, less)
 
-before_count : (ph : putting.Phase) (made n : ℕ) → n < pred made → n < count_in ph made
+pub before_count : (ph : putting.Phase) (made n : ℕ) → n < pred made → n < count_in ph made
 before_count (at.Unlink k) made n less = pred_less made n less
 before_count (at.Ended k) made n less = pred_less made n less
 before_count at.Look made n less = less
@@ -64,7 +64,7 @@ before_count at.Stage made n less = less
 before_count at.Folder made n less = less
 before_count at.Link made n less = less
 
-within_made : (ph : putting.Phase) (made n : ℕ) → n < count_in ph made → n < made
+pub within_made : (ph : putting.Phase) (made n : ℕ) → n < count_in ph made → n < made
 within_made (at.Unlink k) made n less = less
 within_made (at.Ended k) made n less = less
 within_made at.Look made n less = pred_less made n less

@@ -17,14 +17,30 @@ ghost use Rattle.ref_work.specs.Facts.{Home};
 ghost use Rattle.commit_work.specs.declared.answer.CommitAnswer.{CommitAnswer};
 ghost use Rattle.commit_work.specs.declared.command.CommitCommand.{CommitCommand};
 ghost use Rattle.commit_work.specs.Answers.{Begins, Says, ShowsLasting, answer_of};
+ghost use Rattle.tree_build.specs.Objects.{Object};
+ghost use Rattle.ost_types.specs.declared.object.ObjName.{ObjName};
+ghost use Rattle.obj_store.specs.declared.phase.Put.TheVariants.{Stored};
 ghost use Rattle.commit_work.specs.Facts.{commit_facts};
-ghost use Rattle.commit_work.specs.Kinds.{commit_kind, commit_leaves, commit_left, commit_refuses, commit_stepped, commit_writes};
+ghost use Rattle.commit_work.specs.Held.{AreHeld, HasBehind, WasLacking};
+ghost use Rattle.commit_work.specs.Kinds.{commit_kind, commit_leaves, commit_left, commit_refuses, commit_stepped, commit_writes, met_in};
 
 /// No step of a commit leaves a folder where its lane stages, whatever the step answers; and where there is none, and the
 /// system's view stands, a new commit has its facts.
 pub fn lanes_that_commit()
     ensures own { (actor lane : ℕ) (t : CommitCommand) (v w : View) (b : Books) → commit_facts lane t v b → Writes (commit_writes actor t v) v w → Home lane v → Home lane w }
     ensures begins { (start : State) (entries : List Entry) (pending : Option Pending) (lane : ℕ) (v : View) (b : Books) (t : CommitCommand) → Stands start entries pending v → Home lane v → Begins lane t → commit_facts lane t v b }
+{}
+
+/// What a commit that runs has stored or found is pinned for its lane and stands at its path, and is what it goes on to have; no crash
+/// leaves it away once it was synced.
+pub fn commits_that_run()
+    ensures held { (lane : ℕ) (t : CommitCommand) (v : View) (b : Books) → commit_facts lane t v b → AreHeld lane t v b }
+    ensures stays { (t new : CommitCommand) (o : Object) → commit_stepped t turn.More new → HasBehind t o → HasBehind new o }
+{}
+
+/// A step that stored an object did so where nothing stood at its path, and where the store had room for it by the count that was told.
+pub fn objects_that_are_stored()
+    ensures { (t new : CommitCommand) (v w : View) (name : ObjName) → commit_leaves t turn.More new v w → met_in new.change new.build ≡ Some (name, Stored) → WasLacking t name v }
 {}
 
 /// Only a commit that lasts is shown under the ref: no crash leaves it or an object of its tree away, or a mark of it.

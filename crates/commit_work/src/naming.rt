@@ -1,5 +1,5 @@
 //! The change of the ref, once the commit is built and lasts.
-ghost use Rattle.std.specs.Prelude.{◌≡◌, Some, IfOk};
+ghost use Rattle.std.specs.Prelude.{◌≡◌, IfOk};
 ghost use Rattle.commit_work.specs.Answers.{change_answer};
 ghost use Rattle.commit_work.specs.Kinds.{planned};
 

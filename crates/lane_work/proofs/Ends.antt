@@ -1,5 +1,7 @@
 -- What the commands know when they begin, leave, answer and are refused for, by cases; and that the count told is no matter.
 use Rattle.std.proofs.Common.{◌≡◌, ◌<◌, ℕ, refl, List, Option, Some, None}
+use Rattle.ost_types.specs.declared.object.ObjName.{ObjName}
+use Rattle.obj_store.specs.declared.phase.Put.TheVariants.{Stored}
 use Rattle.fs_trait.specs.declared.task.Turn.TheVariants as turn
 use Rattle.fs_trait.specs.declared.types.FsErr.{FsErr}
 use Rattle.fs_trait.specs.Change.{Writes}
@@ -22,12 +24,13 @@ use Rattle.commit_work.specs.Answers as commits
 use Rattle.commit_work.specs.Kinds.{commit_leaves}
 use Rattle.commit_work.specs.Facts.{commit_facts}
 use Rattle.commit_work.proofs.Ends as commit_ends
+use Rattle.commit_work.proofs.Holding as commit_holding
 use Rattle.commit_work.proofs.Refusals as commit_refusals
 use Rattle.commit_work.proofs.Starts as commit_starts
 use Rattle.lane_work.specs.declared.command.LaneCommand.{LaneCommand}
 use Rattle.lane_work.specs.declared.command.LaneCommand.TheVariants.{Ref, Commit}
 use Rattle.lane_work.specs.Answers.{Begins, Says}
-use Rattle.lane_work.specs.Commands.{answer_of, lane_facts, lane_kind, lane_leaves, lane_left, lane_refuses, lane_stepped, lane_writes, script_answer, told, told_in}
+use Rattle.lane_work.specs.Commands.{answer_of, lane_facts, lane_kind, lane_leaves, lane_left, lane_refuses, lane_stepped, lane_writes, met_by, script_answer, told, told_in, WasLacking}
 
 pub begins_of : (start : State) (entries : List Entry) (pending : Option Pending) (lane : ℕ) (v : View) (b : Books) (t : LaneCommand) → Stands start entries pending v → Home lane v → Begins lane t → lane_facts lane t v b
 begins_of start entries pending lane v b (Ref t) stands home begins = ref_ends.begins_of start entries pending lane v b t stands home begins
@@ -63,6 +66,13 @@ says_of lane (Commit t) (Commit new) v w b a f l is = commit_says lane t new v w
 says_of lane (Ref t) (Commit new) v w b a f l is = absurd l
 says_of lane (Commit t) (Ref new) v w b a f l is = absurd l
 
+-- what a step stored, was lacked
+pub stored_of : (t new : LaneCommand) (v w : View) (name : ObjName) → lane_leaves t turn.More new v w → met_by new ≡ Some (name, Stored) → WasLacking t name v
+stored_of (Commit t) (Commit new) v w name l met = commit_holding.stored_of t new v w name l met
+stored_of (Ref t) (Ref new) v w name l met = (let n : None ≡ Some (name, Stored) = met in cc)
+stored_of (Ref t) (Commit new) v w name l met = absurd l
+stored_of (Commit t) (Ref new) v w name l met = absurd l
+
 -- nothing that others see depends on the count that a command was told
 pub told_facts : (lane objects : ℕ) (t : LaneCommand) (v : View) (b : Books) → lane_facts lane t v b → lane_facts lane (told objects t) v b
 told_facts lane objects (Ref t) v b f = f
@@ -75,10 +85,6 @@ told_kind objects (Commit t) = commit_ends.same_kind objects t
 pub told_left : (objects : ℕ) (t : LaneCommand) → lane_left (told objects t) ≡ lane_left t
 told_left objects (Ref t) = refl
 told_left objects (Commit t) = commit_ends.same_left objects t
-
-pub told_begins : (lane objects : ℕ) (t : LaneCommand) → Begins lane t → Begins lane (told objects t)
-told_begins lane objects (Ref t) begins = begins
-told_begins lane objects (Commit t) begins = record { made = begins.made; mine = begins.mine; named = begins.named; new = begins.new; pinned = begins.pinned; change = begins.change }
 
 -- and a command that is told again what it was told before is as it was
 pub told_back : (objects : ℕ) (t : LaneCommand) → told (told_in t) (told objects t) ≡ t

@@ -17,6 +17,7 @@ use Rattle.commit_work.specs.declared.answer.CommitAnswer.{CommitAnswer}
 use Rattle.commit_work.specs.declared.answer.CommitAnswer.TheVariants as committed
 use Rattle.commit_work.specs.Answers as commits
 use Rattle.commit_work.specs.Facts.{commit_facts}
+use Rattle.commit_work.specs.Held as held
 use Rattle.commit_work.specs.Kinds.{commit_kind, commit_needs, commit_writes, commit_stepped, commit_leaves, commit_refuses, commit_left, met_in}
 use Rattle.lane_work.specs.declared.command.LaneCommand.{LaneCommand}
 use Rattle.lane_work.specs.declared.command.LaneCommand.TheVariants.{Ref, Commit}
@@ -87,6 +88,11 @@ told_in (Commit t) = t.objects
 abbrev pub met_by : LaneCommand → Option (ObjName × Put)
 met_by (Ref t) = None
 met_by (Commit t) = met_in t.change t.build
+
+-- an object was lacked that a step of the task stored
+abbrev pub WasLacking : LaneCommand → ObjName → View → Type 0
+WasLacking (Ref t) name v = ⊥
+WasLacking (Commit t) name v = held.WasLacking t name v
 
 -- what each build of a commit keeps
 abbrev pub IsMadeIn : LaneCommand → Type 0

@@ -7,16 +7,21 @@ ghost use Rattle.fs_trait.specs.View.{View};
 ghost use Rattle.fs_trait.specs.Change.{Writes};
 ghost use Rattle.fs_trait.specs.declared.task.Turn.TheVariants as turn;
 ghost use Rattle.script.specs.declared.answer.Answer.{Answer};
+ghost use Rattle.ost_types.specs.declared.object.ObjName.{ObjName};
+ghost use Rattle.obj_store.specs.declared.phase.Put.TheVariants.{Stored};
 ghost use Rattle.rely.specs.declared.books.Entry.{Entry};
 ghost use Rattle.rely.specs.declared.books.Pending.{Pending};
+ghost use Rattle.rely.specs.declared.event.Event.TheVariants.{SetRef};
 ghost use Rattle.rely.specs.State.{State};
 ghost use Rattle.rely.specs.Books.{Books};
+ghost use Rattle.rely.specs.Lasting.{StaysFinished};
+ghost use Rattle.rely.specs.Laws.{Show};
 ghost use Rattle.rely.specs.Rely.{Does};
 ghost use Rattle.rely.specs.Sound.{Stands};
 ghost use Rattle.ref_work.specs.Facts.{Home};
 ghost use Rattle.lane_work.specs.declared.command.LaneCommand.{LaneCommand};
 ghost use Rattle.lane_work.specs.Answers.{Begins, Says};
-ghost use Rattle.lane_work.specs.Commands.{answer_of, lane_facts, lane_kind, lane_leaves, lane_left, lane_refuses, lane_stepped, lane_writes, told, told_in};
+ghost use Rattle.lane_work.specs.Commands.{answer_of, lane_facts, lane_kind, lane_leaves, lane_left, lane_refuses, lane_stepped, lane_writes, met_by, told, told_in, WasLacking};
 
 /// Of a lane without a task it is known that no folder stands where it stages. Nothing that others do changes that, nor a step
 /// of its own tasks, whatever the step answers; and with it a new task has its facts.
@@ -31,9 +36,19 @@ pub fn answers_of_lanes()
     ensures { (lane : ℕ) (t new : LaneCommand) (v w : View) (b : Books) (a : Answer) → lane_facts lane t v b → lane_leaves t (turn.Done tt) new v w → answer_of new ≡ Some a → Says a t v w }
 {}
 
+/// The step that sets a ref sets it to a commit that lasts: its object is left by each crash, and no mark of it is.
+pub fn refs_of_lanes_are_founded()
+    ensures { (lane : ℕ) (t : LaneCommand) (v : View) (b : Books) (name : List ℕ) (seen : Option (List ℕ)) (commit : List ℕ) → lane_facts lane t v b → lane_kind t ≡ Show (SetRef name seen commit) → StaysFinished v commit }
+{}
+
 /// Each step but the last leaves fewer steps, whether the view is told or not.
 pub fn steps_of_lanes_fall()
     ensures { (t new : LaneCommand) → lane_stepped t turn.More new → lane_left new < lane_left t }
+{}
+
+/// A step that stored an object did so where nothing stood at its path, and where the store had room for it by the count that was told.
+pub fn lanes_that_store()
+    ensures { (t new : LaneCommand) (v w : View) (name : ObjName) → lane_leaves t turn.More new v w → met_by new ≡ Some (name, Stored) → WasLacking t name v }
 {}
 
 /// Where the view is told, a command is refused only by a call that failed or for want of memory.

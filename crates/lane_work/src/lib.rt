@@ -7,6 +7,6 @@ mod laws;
 
 pub use command::LaneCommand;
 pub use laws::{
-    answers_of_lanes, lanes_that_idle, steps_of_lanes_fall, tasks_without_the_count,
-    told_refusals_of_lanes,
+    answers_of_lanes, lanes_that_idle, lanes_that_store, refs_of_lanes_are_founded,
+    steps_of_lanes_fall, tasks_without_the_count, told_refusals_of_lanes,
 };
