@@ -1,0 +1,9 @@
+pub mod Names
+pub mod Forms
+pub mod Steps
+pub mod Images
+pub mod Starts
+pub mod Puts
+pub mod RefChanges
+pub mod Lanes
+pub mod Keepings

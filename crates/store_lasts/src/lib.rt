@@ -1,0 +1,8 @@
+//! What each crash of a running system leaves of the store is good: an opening finds nothing wrong with it.
+#![tactic(auto)]
+
+mod laws;
+mod storing;
+
+pub use laws::{images_of_stores, more_commits_begun, stores_stand, stores_stay_good};
+pub use storing::Storing;
