@@ -18,7 +18,7 @@ use Rattle.sys_core.specs.declared.run.Run.{Run}
 use Rattle.sys_core.specs.declared.run.Running.{Running}
 use Rattle.sys_core.specs.Answers.{Answers, IsChangeOf, IsHalted, IsTold, state_after}
 use Rattle.sys_core.specs.Replied.{IsAt, IsCommand, IsTo, Replied, count_of, row}
-use Rattle.sys_core.specs.Pursues.{Accounted, Goes, Grows, IsAfter, Pursues, start_in, start_of, started_of}
+use Rattle.sys_core.specs.Pursues.{Accounted, Goes, Grows, IsAfter, Pursues, start_in, task_start, started_of}
 use Rattle.sys_core.proofs.Places.{at_one, count_more, here_or_apart, to_split, to_within, with_reply}
 use Rattle.sys_core.proofs.Booking.{some_of}
 use Rattle.sys_core.proofs.Prefixes.{state_stays}
@@ -44,11 +44,11 @@ start_at runs lane x lt = (
   get_or-map (λ (r : Run). start_in r.task) runs lane x (start_in (get_or runs lane x).task) lt,
 )
 
-unwrap_start : (h : List Entry) (task : Option Running) → unwrap_or (start_in task) (length h) ≡ start_of h task
+unwrap_start : (h : List Entry) (task : Option Running) → unwrap_or (start_in task) (length h) ≡ task_start h task
 unwrap_start h None = refl
 unwrap_start h (Some r) = refl
 
-start_view : (runs : List Run) (lane : ℕ) (x : Run) (h : List Entry) → lane < length runs → unwrap_or (get_or (started_of runs) lane None) (length h) ≡ start_of h (get_or runs lane x).task
+pub start_view : (runs : List Run) (lane : ℕ) (x : Run) (h : List Entry) → lane < length runs → unwrap_or (get_or (started_of runs) lane None) (length h) ≡ task_start h (get_or runs lane x).task
 start_view runs lane x h lt =
     ap (λ o. unwrap_or o (length h)) (get_or-map (λ (r : Run). start_in r.task) runs lane x None lt) ∙ unwrap_start h (get_or runs lane x).task
 
@@ -67,7 +67,7 @@ count_bound lanes runs replies booked few =
         let d = some_of lanes l in_lanes in
         omega (arith, ap length (get_or-map (λ (x : Vec Reply). x.items) replies l v [] lt), booked.counts l r v in_lanes, booked.within l d r in_lanes, booked.short l d in_lanes)
 
-begins_in : (started : List (Option ℕ)) (lane : ℕ) (h : List Entry) (task : Option Running) → IsAt started lane (start_in task) → Begins started lane (length h) (start_of h task)
+begins_in : (started : List (Option ℕ)) (lane : ℕ) (h : List Entry) (task : Option Running) → IsAt started lane (start_in task) → Begins started lane (length h) (task_start h task)
 begins_in started lane h None at = inr (at, refl)
 begins_in started lane h (Some r) at = inl at
 
@@ -84,7 +84,7 @@ module _ {F : Type 0} (view : F → Option View) (faults : F → ℕ) (limits : 
 
   -- when the lane's command began
   abbrev pub s : ℕ
-  s = start_of h was.task
+  s = task_start h was.task
 
   begins : Begins (started_of runs) lane (length h) s
   begins = begins_in (started_of runs) lane h was.task (start_at runs lane x within)
@@ -92,7 +92,7 @@ module _ {F : Type 0} (view : F → Option View) (faults : F → ℕ) (limits : 
   started_now : (o : Option ℕ) → start_in run.task ≡ o → set (started_of runs) lane o ≡ started_of (set runs lane run)
   started_now o is = sym (map-set (λ (r : Run). start_in r.task) runs lane run ∙ ap (set (started_of runs) lane) is)
 
-  s_within : s ≤ length h
+  pub s_within : s ≤ length h
   s_within = ⊎_elim (λ at. acc.replied.starts lane s at) (λ fresh. omega (arith, fresh.1)) begins
 
   -- the numbers of the reply are small

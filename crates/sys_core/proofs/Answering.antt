@@ -54,7 +54,8 @@ use Rattle.script.specs.declared.command.Command.TheVariants as command
 use Rattle.script.specs.declared.command.Rev.{Rev}
 use Rattle.sys_core.specs.Begins.{IsRev}
 use Rattle.sys_core.specs.Answers.{Answers, HasMade, HasMoved, IsChangeOf, IsFreeIn, IsHalted, LeastClashIn, Makes}
-use Rattle.sys_core.specs.Commits.{message_in, sum_of}
+use Rattle.commit_lasts.specs.Lasting.{sum_of}
+use Rattle.sys_core.specs.Commits.{message_in}
 use Rattle.sys_core.specs.Pursues.{Commits, Grows, IsChanging, IsNaming, NamesIn, Pursues, RefPursues}
 use Rattle.sys_core.proofs.Pursuing.{change_is, naming_is}
 use Rattle.sys_core.proofs.Telling.{RefusedBy}

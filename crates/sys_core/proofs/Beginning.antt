@@ -15,6 +15,7 @@ use Rattle.ref_work.specs.declared.command.RefCommand.{RefCommand}
 use Rattle.ref_work.specs.declared.command.RefCommand.TheVariants.{Parse, Reset, Change}
 use Rattle.ref_work.specs.Commands.{IsReset}
 use Rattle.sys_core.specs.Begins.{RunsBy, RunsRefBy}
+use Rattle.sys_core.specs.Commits.{message_by}
 
 pub reset_by : (lane : ℕ) (s : State) (branch name : List ℕ) (seen : Option (List ℕ)) (commit : List ℕ) (t : RefCommand) → IsReset lane name seen commit t → name ≡ branch → seen ≡ s (RefOf branch) → RunsRefBy lane s (command.Reset branch commit) t
 reset_by lane s branch name seen commit (Reset look plan) is named had = (is.0, is.3 ∙ named, is.4 ∙ had, is.5)
@@ -24,17 +25,14 @@ reset_by lane s branch name seen commit (Change work) is named had = absurd is
 abbrev pub first_of : ℕ → Limits → List TreeItem → Message → Committing
 first_of lane limits items message = record { actor = lane; items = items; limits = limits; message = message; made = 0; phase = phase.Check; met = None }
 
-abbrev pub message_of : Option (List ℕ) → List ℕ → List ℕ → ℕ → Message
-message_of parent subject body time = record { parent = parent; subject = subject; body = body; time = time }
-
 pub commit_by : (limits : Limits) (lane : ℕ) (s : State) (branch : List ℕ) (tree : Vec TreeItem) (subject body : List ℕ) (time : ℕ) (name : List ℕ) (seen : Option (List ℕ)) (items : List TreeItem) (sub bod : List ℕ) (t : CommitCommand)
-    → commits.IsCommitOf name (first_of lane limits items (message_of seen sub bod time)) t → commits.Begins lane t → name ≡ branch → seen ≡ s (RefOf branch) → items ≡ tree.items → sub ≡ subject → bod ≡ body
+    → commits.IsCommitOf name (first_of lane limits items (message_by seen sub bod time)) t → commits.Begins lane t → name ≡ branch → seen ≡ s (RefOf branch) → items ≡ tree.items → sub ≡ subject → bod ≡ body
     → RunsBy limits lane s (command.Commit branch tree subject body time) (lane_work.Commit t)
 commit_by limits lane s branch tree subject body time name seen items sub bod t is begins named had all said told =
-    let build : t.build ≡ first_of lane limits tree.items (message_of (s (RefOf branch)) subject body time) =
+    let build : t.build ≡ first_of lane limits tree.items (message_by (s (RefOf branch)) subject body time) =
     is.build
-    ∙ ap (λ x. first_of lane limits x (message_of seen sub bod time)) all
-    ∙ ap (λ x. first_of lane limits tree.items (message_of x sub bod time)) had
-    ∙ ap (λ x. first_of lane limits tree.items (message_of (s (RefOf branch)) x bod time)) said
-    ∙ ap (λ x. first_of lane limits tree.items (message_of (s (RefOf branch)) subject x time)) told in
-    (record { name = is.name ∙ named; build = build; change = is.change }, begins.made)
+    ∙ ap (λ x. first_of lane limits x (message_by seen sub bod time)) all
+    ∙ ap (λ x. first_of lane limits tree.items (message_by x sub bod time)) had
+    ∙ ap (λ x. first_of lane limits tree.items (message_by (s (RefOf branch)) x bod time)) said
+    ∙ ap (λ x. first_of lane limits tree.items (message_by (s (RefOf branch)) subject x time)) told in
+    (record { name = is.name ∙ named; build = build; objects = is.objects; refusal = is.refusal; change = is.change }, begins.made)

@@ -70,7 +70,3 @@ module _ (lanes : List Lane) (runs : List Run) (replies : List (Vec Reply)) (lan
 pub some_of : {X : Type 0} (xs : List X) (i : ℕ) → i < length xs → X
 some_of [] i lt = absurd (omega (arith, lt))
 some_of (x ∷ xs) i lt = x
-
--- the number of each lane's command, when one lane's task alone has changed
-pub same_number : (runs : List Run) (lane : ℕ) (x run : Run) → lane < length runs → run.command ≡ (get_or runs lane x).command → (r : Run) → (get_or (set runs lane run) lane r).command ≡ (get_or runs lane r).command
-same_number runs lane x run within same r = ap (λ (z : Run). z.command) (get_or-set_same runs lane run r within) ∙ same ∙ ap (λ (z : Run). z.command) (get_or_default runs lane x r within)

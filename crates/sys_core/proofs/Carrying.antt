@@ -1,6 +1,7 @@
 -- What a step of a command's task keeps of the objects, and the moment of the change that it made to last.
 use Rattle.std.proofs.Common.{◌≡◌, ◌⊎◌, inl, inr, ⊎_elim, ◌≤◌, ℕ, refl, sym, subst, arith, List, ◌∷◌, ◌++◌, [], length, Option}
 use Rattle.fs_trait.specs.View.{View}
+use Rattle.fs_trait.specs.Effect.{Elapses}
 use Rattle.rely.specs.declared.books.Base.{Base}
 use Rattle.rely.specs.declared.books.Books as rust
 use Rattle.rely.specs.declared.books.Entry.{Entry}
@@ -49,12 +50,17 @@ later_at moment old new (inr more) k e at = ⊎_elim
     (at_split old more.0 e k (subst (λ (l : List Entry). IsAt l k e) more.2 at))
 
 module _ {F : Type 0} (view : F → Option View) (clock : F → ℕ) (was : F → ℕ → View → Type 0) where
-  pub step_carried : (lane command : ℕ) (old new : Base F) (kind : Kind) (outcome : Outcome) → Lasts view clock was old.fs new.fs → Holds kind lane (books_of old.books) → IsBooked kind lane command (clock new.fs) outcome old.books new.books → IsCarried view clock was old new
-  step_carried lane command old new kind outcome lasts holds booked = record {
+  pub step_carried : (lane command : ℕ) (old new : Base F) (kind : Kind) (outcome : Outcome) → Lasts view clock was old.fs new.fs → Elapses (clock old.fs) (clock new.fs) (was old.fs) (was new.fs) (view new.fs) → Holds kind lane (books_of old.books) → IsBooked kind lane command (clock new.fs) outcome old.books new.books → IsCarried view clock was old new
+  step_carried lane command old new kind outcome lasts time holds booked = record {
     lasts = lasts;
+    time = time;
     moments = later_at (clock new.fs) old.books.history.items new.books.history.items (moment_is lane command (clock new.fs) old.books new.books kind outcome holds booked);
   }
 
   -- nothing was done
   pub same_carried : IsFs view clock was → (base : Base F) → IsCarried view clock was base base
-  same_carried laws base = record { lasts = lasts_refl view clock was laws base.fs; moments = λ k e at. inl at }
+  same_carried laws base = record {
+    lasts = lasts_refl view clock was laws base.fs;
+    time = record { later = omega arith; soon = omega arith; nothing_else = λ t w early had. inl had; keeps = λ t w early had. had };
+    moments = λ k e at. inl at;
+  }

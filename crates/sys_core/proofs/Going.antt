@@ -43,8 +43,8 @@ use Rattle.sys_core.specs.declared.lane.Came.TheVariants.{More, Answered}
 use Rattle.sys_core.specs.declared.run.Running.{Running}
 use Rattle.sys_core.specs.Answers.{Answers, IsFreeIn, IsHalted, IsTold, Makes, state_after}
 use Rattle.sys_core.specs.Begins.{AnswersBy}
-use Rattle.sys_core.specs.Lanes.{IsOver, now_of}
-use Rattle.sys_core.specs.Pursues.{Goes, HasAnswer, IsEndedAs, IsOutside, IsStray, IsRefusedAs, Pursues, start_of}
+use Rattle.sys_core.specs.Lanes.{EndsUnshown, now_of}
+use Rattle.sys_core.specs.Pursues.{Goes, HasAnswer, IsEndedAs, IsOutside, IsStray, IsRefusedAs, Pursues, task_start}
 use Rattle.sys_core.proofs.Answering as done
 use Rattle.sys_core.proofs.Answering.{done_gives, done_has}
 use Rattle.sys_core.proofs.Prefixes.{state_all}
@@ -141,10 +141,6 @@ begun_goes told limits lane number c b task a start idle from by none =
       λ p is mine. absurd (none p is mine),
     )
 
--- a command that ends for a call that failed before
-pub halted_goes : (told : Type 0) (limits : Limits) (lane number : ℕ) (c : Command) (b : rust.Books) (task task' : Option Running) (count : ℕ) → task' ≡ None → Goes told limits (first b.start.items) lane number c b b task task' (Answered (answer.Halted count) (start_of b.history.items task))
-halted_goes told limits lane number c b task task' count idle = (idle, refl, tt, inl (refl, λ n. n), (λ p is. inl is), λ p is mine. tt)
-
 -- a command that has ended has an answer
 pub has_answer : (t new : LaneCommand) (outcome : Outcome) → Steps lane_stepped t outcome new → (outcome ≡ came.Blocked → ⊥) → (outcome ≡ came.More → ⊥) → HasAnswer outcome new
 has_answer t new came.Done steps nb nm = done_has t new steps
@@ -168,7 +164,7 @@ module _ {F : Type 0} (view : F → Option View) (clock spare : F → ℕ) (was 
   after_new = after (events_of new.books.history.items) from
 
   pub goes_more : (outcome : Outcome) → outcome ≡ came.More → Steps lane_stepped t outcome t' → IsBooked (lane_kind t) lane number moment outcome old.books new.books → IsMadeIn t' → Pursues limits s c t
-      → (task task' : Option Running) → start ≡ start_of h task → task' ≡ Some (record { work = t'; start = start }) → Goes (IsTold view) limits from lane number c old.books new.books task task' More
+      → (task task' : Option Running) → start ≡ task_start h task → task' ≡ Some (record { work = t'; start = start }) → Goes (IsTold view) limits from lane number c old.books new.books task task' More
   goes_more outcome is steps booked made after task task' at now =
       let b : IsBooked (lane_kind t) lane number moment came.More old.books new.books = subst (λ o. IsBooked (lane_kind t) lane number moment o old.books new.books) is booked in (
         record { work = t'; start = start },
@@ -192,7 +188,7 @@ module _ {F : Type 0} (view : F → Option View) (clock spare : F → ℕ) (was 
   says_ref (Change work) (Change next) is then tells opens =
       says_change work next
       (λ v w told l. subst (λ x. lane_leaves x (turn.Done tt) (lane_work.Ref (Change next)) v w) is (subst (λ y. lane_leaves t (turn.Done tt) y v w) then l))
-      (λ v told. subst (λ x. lane_facts lane x v (books_of old.books)) is (ready.task.facts v told))
+      (λ v told. (subst (λ x. lane_facts lane x v (books_of old.books)) is (ready.task.facts v told)).ref)
       tells
       (subst (λ x. Opens (lane_kind x) lane (books_of old.books)) is opens)
       (subst (λ x. laws.Holds (lane_kind x) lane (books_of old.books)) is ready.task.holds)
@@ -245,8 +241,8 @@ module _ {F : Type 0} (view : F → Option View) (clock spare : F → ℕ) (was 
         apart v.0.now after_new f.0 f.1 tree name some
 
     pub goes_ended : (outcome : Outcome) → Steps lane_stepped t outcome t' → Tells lane_leaves lane_refuses t outcome t' (view old.fs) (view new.fs) → (outcome ≢ came.Blocked → Opens (lane_kind t) lane (books_of old.books))
-        → IsBooked (lane_kind t) lane number moment outcome old.books new.books → (IsOver outcome → NotPending lane (books_of new.books)) → Pursues limits s c t → ((p : Pending) → old.books.pending ≡ Some p → p.lane ≡ lane → p.command ≡ number)
-        → (faults : ℕ) (a : Answer) → IsEndedAs outcome c t' faults a → (task task' : Option Running) → start ≡ start_of h task → task' ≡ None → Goes (IsTold view) limits from lane number c old.books new.books task task' (Answered a start)
+        → IsBooked (lane_kind t) lane number moment outcome old.books new.books → (EndsUnshown outcome → NotPending lane (books_of new.books)) → Pursues limits s c t → ((p : Pending) → old.books.pending ≡ Some p → p.lane ≡ lane → p.command ≡ number)
+        → (faults : ℕ) (a : Answer) → IsEndedAs outcome c t' faults a → (task task' : Option Running) → start ≡ task_start h task → task' ≡ None → Goes (IsTold view) limits from lane number c old.books new.books task task' (Answered a start)
     goes_ended came.Done steps tells opens booked over after mine faults a is task task' at idle =
         let g = done_gives (IsTold view) limits from lane number moment s old.books new.books mine apart_new c t t' a after steps ready.task.holds booked (says t t' refl refl tells (opens (λ e. cc))) is in
         (idle, at, g.0, g.1, step_shown limits lane number moment old.books new.books s c t came.Done after booked, λ p shown l. absurd (over tt p shown l))

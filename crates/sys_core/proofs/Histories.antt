@@ -11,7 +11,7 @@ use Rattle.rely.specs.Exact.{IsBooked}
 use Rattle.rely.specs.Laws.{Kind, Quiet, Store, Take, Show, Shown, Settle, Holds, NotPending}
 use Rattle.rely.specs.State.{first, after, events_of}
 use Rattle.rely.proofs.States.{after_push, events_push}
-use Rattle.sys_core.specs.Lanes.{IsOver, now_of}
+use Rattle.sys_core.specs.Lanes.{EndsUnshown, now_of}
 
 -- one more entry, of the change that a step made to last
 pub record IsLonger (k : Kind) (old new : List Entry) : Type 0 where
@@ -53,21 +53,21 @@ module _ (lane command moment : ℕ) (old new : rust.Books) where
   same_pending : NotPending lane (books_of old) → new.pending ≡ old.pending → NotPending lane (books_of new)
   same_pending none same p is = none p (sym same ∙ is)
 
-  show_over : (e : Event) (outcome : Outcome) → IsOver outcome → NotPending lane (books_of old) → IsBooked (Show e) lane command moment outcome old new → NotPending lane (books_of new)
+  show_over : (e : Event) (outcome : Outcome) → EndsUnshown outcome → NotPending lane (books_of old) → IsBooked (Show e) lane command moment outcome old new → NotPending lane (books_of new)
   show_over e (came.Refused f) over none b = same_pending none b.1
   show_over e came.Done over none b = absurd b
   show_over e came.More over none b = absurd over
   show_over e came.Blocked over none b = absurd over
   show_over e came.Halted over none b = absurd over
 
-  shown_over : (e : Event) (n : ℕ) (outcome : Outcome) → IsOver outcome → IsBooked (Shown e n) lane command moment outcome old new → NotPending lane (books_of new)
+  shown_over : (e : Event) (n : ℕ) (outcome : Outcome) → EndsUnshown outcome → IsBooked (Shown e n) lane command moment outcome old new → NotPending lane (books_of new)
   shown_over e n (came.Refused f) over b = absurd b
   shown_over e n came.Done over b = absurd b
   shown_over e n came.More over b = absurd over
   shown_over e n came.Blocked over b = absurd over
   shown_over e n came.Halted over b = absurd over
 
-  settle_over : (e : Event) (outcome : Outcome) → IsOver outcome → IsBooked (Settle e) lane command moment outcome old new → NotPending lane (books_of new)
+  settle_over : (e : Event) (outcome : Outcome) → EndsUnshown outcome → IsBooked (Settle e) lane command moment outcome old new → NotPending lane (books_of new)
   settle_over e came.Done over b = λ p is. absurd (let z : None ≡ Some p = sym b.0 ∙ is in cc)
   settle_over e (came.Refused f) over b = absurd b
   settle_over e came.More over b = absurd over
@@ -75,7 +75,7 @@ module _ (lane command moment : ℕ) (old new : rust.Books) where
   settle_over e came.Halted over b = absurd over
 
   -- nothing of a command that is over is pending
-  pub over_idle : (k : Kind) (outcome : Outcome) → IsOver outcome → Holds k lane (books_of old) → IsBooked k lane command moment outcome old new → NotPending lane (books_of new)
+  pub over_idle : (k : Kind) (outcome : Outcome) → EndsUnshown outcome → Holds k lane (books_of old) → IsBooked k lane command moment outcome old new → NotPending lane (books_of new)
   over_idle Quiet outcome over h b = same_pending h b.1
   over_idle Store outcome over h b = same_pending h b.1
   over_idle (Take wants) outcome over h b = same_pending h b.1

@@ -1,5 +1,5 @@
 -- From a step of a command's task to the act of its lane.
-use Rattle.std.proofs.Common.{◌≡◌, inl, ℕ, true, false, refl, sym, ◌∙◌, subst, List, Option, Some, None}
+use Rattle.std.proofs.Common.{◌≡◌, inl, ℕ, true, false, refl, sym, ◌∙◌, ap, subst, List, Option, Some, None}
 use Rattle.fs_trait.specs.View.{View}
 use Rattle.ref_store.specs.Change.{Change as Changing}
 use Rattle.rely.specs.declared.books.Base.{Base}
@@ -13,6 +13,7 @@ use Rattle.ref_book.specs.declared.book.RefBook.{RefBook}
 use Rattle.ref_book.specs.Tracks.{Tracks, HasRoom}
 use Rattle.ref_work.specs.declared.look_up.Found.{Found}
 use Rattle.ref_work.specs.declared.command.RefCommand.{RefCommand}
+use Rattle.ref_work.specs.declared.work.RefWork.{RefWork}
 use Rattle.ref_work.specs.declared.command.RefCommand.TheVariants.{Parse, Reset, Change}
 use Rattle.ref_work.specs.Answers as refs
 use Rattle.ref_work.specs.Kinds.{event, kind_in}
@@ -27,7 +28,7 @@ use Rattle.lane_work.specs.Answers.{Begins}
 use Rattle.lane_work.specs.Commands.{lane_facts, lane_kind, told}
 use Rattle.lane_work.proofs.Ends.{begins_of, told_facts, told_kind}
 use Rattle.sys_core.specs.declared.run.Running.{Running}
-use Rattle.sys_core.specs.Lanes.{Facts, IsHome, IsOver, LaneActs, RunsIn, now_of}
+use Rattle.sys_core.specs.Lanes.{Facts, IsHome, EndsUnshown, LaneActs, RunsIn, now_of}
 
 found_holds : (found : Option Found) (commit : List ℕ) (lane : ℕ) (b : Books) → NotPending lane b → Holds (found_kind found commit) lane b
 found_holds None commit lane b none = none
@@ -37,7 +38,7 @@ found_holds (Some f) commit lane b none = none
 ref_holds : (lane : ℕ) (t : RefCommand) (b : Books) → refs.Begins lane t → NotPending lane b → Holds (command_kind t) lane b
 ref_holds lane (Parse look) b begins none = none
 ref_holds lane (Reset look plan) b begins none = found_holds look.found look.commit lane b none
-ref_holds lane (Change work) b begins none = subst (λ (t : Changing). Holds (kind_in t.phase (event t)) lane b) (sym begins.3) none
+ref_holds lane (Change work) b begins none = subst (λ (t : Changing). Holds (kind_in t.phase (event t)) lane b) (sym (ap (λ (x : RefWork). x.task) begins.2)) none
 
 commit_holds : (lane : ℕ) (t : CommitCommand) (b : Books) → commits.Begins lane t → NotPending lane b → Holds (commit_kind t) lane b
 commit_holds lane t b begins none =
@@ -94,7 +95,7 @@ module _ {F : Type 0} (view : F → Option View) (clock spare : F → ℕ) (was 
 
   -- a command that ended
   pub ended_runs : (lane : ℕ) (old new : Base F) (refs : RefBook) (outcome : Outcome) (work : LaneCommand) → Acts view clock spare was lane lane outcome (Runs lane_kind lane_facts lane work) old new
-      → (IsOver outcome → NotPending lane (books_of new.books)) → (outcome ≡ came.Blocked → ⊥) → (outcome ≡ came.More → ⊥) → new.books.halted ≡ false → RunsIn lane refs None (view new.fs) (books_of new.books)
+      → (EndsUnshown outcome → NotPending lane (books_of new.books)) → (outcome ≡ came.Blocked → ⊥) → (outcome ≡ came.More → ⊥) → new.books.halted ≡ false → RunsIn lane refs None (view new.fs) (books_of new.books)
   ended_runs lane old new refs came.Done work acts over nb nm live = over tt
   ended_runs lane old new refs (came.Refused e) work acts over nb nm live = over tt
   ended_runs lane old new refs came.Halted work acts over nb nm live = let z : true ≡ false = sym acts.tells ∙ live in cc

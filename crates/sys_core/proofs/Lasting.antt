@@ -10,6 +10,7 @@ use Rattle.fs_trait.specs.View.{View}
 use Rattle.fs_trait.specs.Image.{Told}
 use Rattle.tree_build.specs.Items.{IsTree}
 use Rattle.commit_build.specs.declared.message.Message.{Message}
+use Rattle.commit_lasts.specs.Lasting.{sum_of}
 use Rattle.commit_lasts.proofs.Lasting.{lasts_made, kept_begins, kept_on}
 use Rattle.rely.specs.declared.books.Entry.{Entry}
 use Rattle.rely.specs.declared.event.Event.TheVariants as event
@@ -25,10 +26,10 @@ use Rattle.sys_core.specs.declared.ask.Ask.{Ask}
 use Rattle.sys_core.specs.declared.run.Run.{Run}
 use Rattle.sys_core.specs.declared.ask.Ask.TheVariants.{More, Blocked, Done, Ended}
 use Rattle.sys_core.specs.Answers.{Answers, HasMade, IsChangeOf, IsSeen, IsTold, Makes, state_after}
-use Rattle.sys_core.specs.Booked.{Acted, Booked, IsReplied, Tells, given, replies_of, start_of}
-use Rattle.sys_core.specs.Commits.{IsFormed, IsMakeable, LastsWith, message_in, sum_of}
+use Rattle.sys_core.specs.Booked.{Acted, Booked, IsReplied, AnswerTells, given, replies_of, start_of}
+use Rattle.sys_core.specs.Commits.{IsFormed, IsMakeable, LastsWith, message_by, message_in}
 use Rattle.sys_core.specs.Fit.{AreFit}
-use Rattle.sys_core.specs.Lasting.{AreKept, AreKeptIn, IsCarried, IsCommitKept, message_by}
+use Rattle.sys_core.specs.Lasting.{AreKept, AreKeptIn, IsCarried, IsCommitKept}
 use Rattle.sys_core.specs.Replied.{IsAt, IsCommand, IsTo}
 use Rattle.sys_core.specs.System.{System}
 use Rattle.sys_core.proofs.Accounting.{one_command}
@@ -58,7 +59,7 @@ some_at (y ∷ xs) zero x is = (omega arith, is)
 some_at (y ∷ xs) (suc i) x is = let r = some_at xs i x is in (omega (arith, r.0), r.1)
 
 -- a command began when the history was as long as now, or shorter
-started_within : (started : List (Option ℕ)) (lane n : ℕ) → ((l s : ℕ) → IsAt started l (Some s) → s ≤ n) → (o : Option ℕ) → get_or started lane None ≡ o → unwrap_or o n ≤ n
+pub started_within : (started : List (Option ℕ)) (lane n : ℕ) → ((l s : ℕ) → IsAt started l (Some s) → s ≤ n) → (o : Option ℕ) → get_or started lane None ≡ o → unwrap_or o n ≤ n
 started_within started lane n starts None is = omega arith
 started_within started lane n starts (Some s) is = starts lane s (some_at started lane s is)
 
@@ -118,7 +119,7 @@ module _ {F : Type 0} (view : F → Option View) (clock : F → ℕ) (was : F �
 
     -- the one that this act answered
     module _ (r : Reply) (within : actor < length old.lanes) (replies : new.replies ≡ set old.replies actor (given old actor ++ r ∷ [])) (begun : r.start ≡ start_of old actor) (place : r.place ≡ length new.base.books.history.items)
-        (tells : Tells view faults faults' old actor r.answer) (begin : new.base.books.start.items ≡ old.base.books.start.items) (more : List Entry) (grows : new.base.books.history.items ≡ old.base.books.history.items ++ more) where
+        (tells : AnswerTells view faults faults' old actor r.answer) (begin : new.base.books.start.items ≡ old.base.books.start.items) (more : List Entry) (grows : new.base.books.history.items ≡ old.base.books.history.items ++ more) where
       abbrev pub then_ : State
       then_ = state_after (first old.base.books.start.items) old.base.books.history.items (start_of old actor)
 
@@ -205,7 +206,7 @@ module _ {F : Type 0} (view : F → Option View) (clock : F → ℕ) (was : F �
             (carried.moments k e at));
       }
 
-      by_ask : (ask : Ask) → Acted (Tells view faults faults' old actor) old new actor ask → AreKept was start new w
+      by_ask : (ask : Ask) → Acted (AnswerTells view faults faults' old actor) old new actor ask → AreKept was start new w
       by_ask More a = kept_all a.3.4 (λ k e at late moment branch tree subject body time is. absurd (no_reply a.1 k e at late))
       by_ask Blocked a = kept_all (ap (λ (x : System F). x.limits) a.1) (λ k e at late moment branch tree subject body time is. absurd (no_reply (ap (λ (x : System F). x.replies) a.1) k e at late))
       by_ask Ended a = kept_all (ap (λ (x : System F). x.limits) a.1) (λ k e at late moment branch tree subject body time is. absurd (no_reply (ap (λ (x : System F). x.replies) a.1) k e at late))
@@ -216,7 +217,7 @@ module _ {F : Type 0} (view : F → Option View) (clock : F → ℕ) (was : F �
 
 -- over an act
 pub act_keeps : {F : Type 0} (view : F → Option View) (clock : F → ℕ) (was : F → ℕ → View → Type 0) (old new : System F) (faults faults' actor : ℕ) (ask : Ask) → new.lanes ≡ old.lanes → AreFit old.limits old.lanes → length old.replies ≡ length old.lanes → IsReplied view old → IsReplied view new
-    → IsCarried view clock was old.base new.base → Acted (Tells view faults faults' old actor) old new actor ask
+    → IsCarried view clock was old.base new.base → Acted (AnswerTells view faults faults' old actor) old new actor ask
     → (start v : View) → view old.base.fs ≡ Some v → AreKept was start old v → Told (view new.base.fs) (λ w. AreKept was start new w)
 act_keeps view clock was old new faults faults' actor ask lanes fit rows was_replied replied carried acted start v told kept =
     let x = carried.lasts v told in
@@ -224,11 +225,11 @@ act_keeps view clock was old new faults faults' actor ask lanes fit rows was_rep
 
 -- so where the value before the act is known to be this one
 pub act_keeps_of : {F : Type 0} (view : F → Option View) (clock : F → ℕ) (was : F → ℕ → View → Type 0) (self old new : System F) (faults faults' actor : ℕ) (ask : Ask) → self ≡ old → new.lanes ≡ old.lanes → AreFit old.limits old.lanes → length old.replies ≡ length old.lanes → IsReplied view old → IsReplied view new
-    → IsCarried view clock was old.base new.base → Acted (Tells view faults faults' self actor) self new actor ask
+    → IsCarried view clock was old.base new.base → Acted (AnswerTells view faults faults' self actor) self new actor ask
     → (start v : View) → view self.base.fs ≡ Some v → AreKept was start self v → Told (view new.base.fs) (λ w. AreKept was start new w)
 act_keeps_of {F = F} view clock was self old new faults faults' actor ask is lanes fit rows was_replied replied carried acted start v told kept =
     act_keeps view clock was old new faults faults' actor ask lanes fit rows was_replied replied carried
-    (subst (λ s. Acted (Tells view faults faults' s actor) s new actor ask) is acted) start v
+    (subst (λ s. Acted (AnswerTells view faults faults' s actor) s new actor ask) is acted) start v
     (subst (λ (s : System F). view s.base.fs ≡ Some v) is told) (subst (λ s. AreKept was start s v) is kept)
 
 -- over an act that does nothing

@@ -24,3 +24,10 @@ pub mod Ranking
 pub mod Laters
 pub mod Lasting
 pub mod Carrying
+pub mod Storing
+pub mod Begun
+pub mod Written
+pub mod Stored
+pub mod Pinning
+pub mod Holding
+pub mod StoredFirst

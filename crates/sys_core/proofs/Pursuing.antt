@@ -42,8 +42,9 @@ use Rattle.script.specs.declared.command.Command.{Command}
 use Rattle.script.specs.declared.command.Command.TheVariants as command
 use Rattle.sys_core.specs.Answers.{IsChangeOf}
 use Rattle.sys_core.specs.Begins.{RunsBy, RunsRefBy}
-use Rattle.sys_core.specs.Commits.{message_in, sum_of}
-use Rattle.sys_core.specs.Pursues.{Commits, IsChanging, IsNaming, NamesIn, Pursues, RefPursues, IsShownBy, ReadsIn}
+use Rattle.commit_lasts.specs.Lasting.{sum_of}
+use Rattle.sys_core.specs.Commits.{message_in}
+use Rattle.sys_core.specs.Pursues.{Commits, IsChanging, IsNaming, NamesIn, Pursues, RefPursues, IsPendingBy, ReadsIn}
 
 -- at the beginning
 ref_begins : (lane : ℕ) (s : State) (c : Command) (t : RefCommand) → RunsRefBy lane s c t → RefPursues s c t
@@ -259,40 +260,40 @@ shows_change limits s (command.DropRef branch) (lane_work.Commit t) e is k = abs
 shows_change limits s command.Refs (lane_work.Commit t) e is k = absurd is
 
 module _ (lane number moment : ℕ) (old new : rust.Books) (Its : Event → Type 0) where
-  same_shown : new.pending ≡ old.pending → IsShownBy lane number (λ p. Its p.event) old new
+  same_shown : new.pending ≡ old.pending → IsPendingBy lane number (λ p. Its p.event) old new
   same_shown same p is = inl (sym same ∙ is)
 
-  noted_shown : (e : Event) → Its e → new.pending ≡ Some (record { lane = lane; command = number; event = e }) → IsShownBy lane number (λ p. Its p.event) old new
+  noted_shown : (e : Event) → Its e → new.pending ≡ Some (record { lane = lane; command = number; event = e }) → IsPendingBy lane number (λ p. Its p.event) old new
   noted_shown e its noted p is =
       let k : Some (record { lane = lane; command = number; event = e }) ≡ Some p = sym noted ∙ is in
       let x : record { lane = lane; command = number; event = e } ≡ p = cc in
       inr (sym (ap (λ (y : Pending). y.lane) x), sym (ap (λ (y : Pending). y.command) x), subst (λ (y : Pending). Its y.event) x its)
 
-  none_shown : new.pending ≡ None → IsShownBy lane number (λ p. Its p.event) old new
+  none_shown : new.pending ≡ None → IsPendingBy lane number (λ p. Its p.event) old new
   none_shown none p is = let z : None ≡ Some p = sym none ∙ is in cc
 
-  show_shown : (e : Event) (outcome : Outcome) → Its e → IsBooked (Show e) lane number moment outcome old new → IsShownBy lane number (λ p. Its p.event) old new
+  show_shown : (e : Event) (outcome : Outcome) → Its e → IsBooked (Show e) lane number moment outcome old new → IsPendingBy lane number (λ p. Its p.event) old new
   show_shown e came.More its b = noted_shown e its b.1
   show_shown e came.Halted its b = noted_shown e its b.1
   show_shown e came.Blocked its b = same_shown b.1
   show_shown e (came.Refused f) its b = same_shown b.1
   show_shown e came.Done its b = absurd b
 
-  held_shown : (e : Event) (n : ℕ) (outcome : Outcome) → IsBooked (Shown e n) lane number moment outcome old new → IsShownBy lane number (λ p. Its p.event) old new
+  held_shown : (e : Event) (n : ℕ) (outcome : Outcome) → IsBooked (Shown e n) lane number moment outcome old new → IsPendingBy lane number (λ p. Its p.event) old new
   held_shown e n came.More b = same_shown b.1
   held_shown e n came.Halted b = same_shown b.1
   held_shown e n came.Blocked b = absurd b
   held_shown e n (came.Refused f) b = absurd b
   held_shown e n came.Done b = absurd b
 
-  settle_shown : (e : Event) (outcome : Outcome) → IsBooked (Settle e) lane number moment outcome old new → IsShownBy lane number (λ p. Its p.event) old new
+  settle_shown : (e : Event) (outcome : Outcome) → IsBooked (Settle e) lane number moment outcome old new → IsPendingBy lane number (λ p. Its p.event) old new
   settle_shown e came.Done b = none_shown b.0
   settle_shown e came.Halted b = same_shown b.1
   settle_shown e came.More b = absurd b
   settle_shown e came.Blocked b = absurd b
   settle_shown e (came.Refused f) b = absurd b
 
-  kind_shown : (k : Kind) (outcome : Outcome) → ((e : Event) → k ≡ Show e → Its e) → IsBooked k lane number moment outcome old new → IsShownBy lane number (λ p. Its p.event) old new
+  kind_shown : (k : Kind) (outcome : Outcome) → ((e : Event) → k ≡ Show e → Its e) → IsBooked k lane number moment outcome old new → IsPendingBy lane number (λ p. Its p.event) old new
   kind_shown Quiet outcome its b = same_shown b.1
   kind_shown Store outcome its b = same_shown b.1
   kind_shown (Take wants) outcome its b = same_shown b.1
@@ -302,7 +303,7 @@ module _ (lane number moment : ℕ) (old new : rust.Books) (Its : Event → Type
 
 -- what is pending after a step of a command is its change, or was pending before
 pub step_shown : (limits : Limits) (lane number moment : ℕ) (old new : rust.Books) (s : State) (c : Command) (t : LaneCommand) (outcome : Outcome) → Pursues limits s c t → IsBooked (lane_kind t) lane number moment outcome old new
-    → IsShownBy lane number (λ p. IsChangeOf s c p.event) old new
+    → IsPendingBy lane number (λ p. IsChangeOf s c p.event) old new
 step_shown limits lane number moment old new s c t outcome is b = kind_shown lane number moment old new (IsChangeOf s c) (lane_kind t) outcome (λ e k. shows_change limits s c t e is k) b
 
 -- the history is as it was, but where a change is made to last

@@ -40,7 +40,7 @@ use Rattle.script.specs.declared.command.Command.{Command}
 use Rattle.script.specs.declared.command.Command.TheVariants as command
 use Rattle.sys_core.specs.declared.lane.Came.TheVariants.{Answered}
 use Rattle.sys_core.specs.Answers.{IsCaused, IsSeen}
-use Rattle.sys_core.specs.Commits.{IsLacking, message_in, IsFormed, LastsWith}
+use Rattle.sys_core.specs.Commits.{message_in, IsFormed, LastsWith}
 use Rattle.sys_core.specs.Begins.{AnswersBy}
 use Rattle.ost_types.specs.declared.object.ObjName.{ObjName}
 use Rattle.tree_build.specs.Items.{AreTyped}
@@ -83,7 +83,7 @@ module _ (v : View) (s : State) (halted : Bool) (before now : ℕ) where
     abbrev pub c : Command
     c = command.Commit branch tree subject body time
 
-    lacking_shown : commits.IsLacking t.build v → IsLacking tree.items (message_in s branch subject body time) v.now
+    lacking_shown : commits.IsLacking t.build.items t.build.message v.now → commits.IsLacking tree.items (message_in s branch subject body time) v.now
     lacking_shown l = (
       l.0,
       ⊎_elim

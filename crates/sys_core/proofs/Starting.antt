@@ -20,7 +20,7 @@ use Rattle.std.specs.Vec.{vec_capacity}
 use Rattle.std.specs.Global.{Vec}
 use Rattle.script.specs.declared.answer.Reply.{Reply}
 use Rattle.script.specs.declared.command.Lane.{Lane}
-use Rattle.sys_core.specs.Booked.{Booked, HasRoomFor}
+use Rattle.sys_core.specs.Booked.{Booked, HasReplyRoom}
 use Rattle.sys_core.proofs.Booking.{some_of}
 use Rattle.sys_core.specs.declared.run.Run.{Run}
 use Rattle.sys_core.specs.Lanes.{AreIdle, IsNew, Kept, RunsIn, now_of}
@@ -59,7 +59,7 @@ kept_new view clock spare was base book runs sound tracks few idle none home = r
 }
 
 -- room for the replies of one more lane
-pub room_push : (lanes : List Lane) (n : ℕ) (replies : List (Vec Reply)) (v : Vec Reply) (x : Lane) → n < length lanes → length replies ≡ n → HasRoomFor lanes n replies → v.items ≡ [] → get_or lanes n x ≡ x → length x.commands.items ≤ vec_capacity v → HasRoomFor lanes (n + 1) (replies ++ v ∷ [])
+pub room_push : (lanes : List Lane) (n : ℕ) (replies : List (Vec Reply)) (v : Vec Reply) (x : Lane) → n < length lanes → length replies ≡ n → HasReplyRoom lanes n replies → v.items ≡ [] → get_or lanes n x ≡ x → length x.commands.items ≤ vec_capacity v → HasReplyRoom lanes (n + 1) (replies ++ v ∷ [])
 room_push lanes n replies v x few is room empty at enough l d w lt = ⊎_elim
     (λ below. let e = get_or_append_left replies (v ∷ []) w l (omega (arith, below, is)) in
     (ap (λ (y : Vec Reply). y.items) e ∙ (room l d w below).0, subst (λ (y : Vec Reply). length (get_or lanes l d).commands.items ≤ vec_capacity y) (sym e) (room l d w below).1))
@@ -75,7 +75,7 @@ room_push lanes n replies v x few is room empty at enough l d w lt = ⊎_elim
 
 -- and so the books are at the beginning
 pub new_booked : (lanes : List Lane) (runs : List Run) (replies : List (Vec Reply)) → length runs ≡ length lanes → length replies ≡ length lanes → ((l : ℕ) (d : Lane) → l < length lanes → length (get_or lanes l d).commands.items ≤ 64)
-    → AreIdle runs → HasRoomFor lanes (length lanes) replies → Booked lanes runs replies
+    → AreIdle runs → HasReplyRoom lanes (length lanes) replies → Booked lanes runs replies
 new_booked lanes runs replies each replied short idle room = record {
   each_runs = each;
   each_replied = replied;

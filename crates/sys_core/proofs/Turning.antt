@@ -207,7 +207,7 @@ none_left lane (Some x) gone = let e : None ≡ Some x = (gone x refl).1 in cc
 ref_unlooked : (lane : ℕ) (t : RefCommand) → refs.Begins lane t → RefHasLooked t → ⊥
 ref_unlooked lane (Parse look) begins looked = looked
 ref_unlooked lane (Reset look plan) begins looked = looked
-ref_unlooked lane (Change work) begins looked = subst (λ (x : Changing). IsBehind x.phase) begins.3 looked
+ref_unlooked lane (Change work) begins looked = subst (λ (x : Changing). IsBehind x.phase) (ap (λ (x : RefWork). x.task) begins.2) looked
 
 commit_unlooked : (lane : ℕ) (t : CommitCommand) → commits.Begins lane t → NamingHasLooked t.change → ⊥
 commit_unlooked lane t begins looked = subst NamingHasLooked begins.change looked

@@ -10,6 +10,8 @@ use Rattle.ref_work.specs.declared.look_up.Found.TheVariants.{Missing, Partial, 
 use Rattle.ref_work.specs.Found.{IsFound}
 use Rattle.ref_room.specs.Clash.{Clashes}
 use Rattle.tree_build.specs.Items.{IsTree, IsLeastBad}
+use Rattle.commit_lasts.specs.Lasting.{sum_of}
+use Rattle.commit_work.specs.Answers.{IsLacking}
 use Rattle.ref_book.specs.Tracks.{Lists}
 use Rattle.rely.specs.declared.books.Entry.{Entry}
 use Rattle.rely.specs.declared.event.Event.{Event}
@@ -21,7 +23,7 @@ use Rattle.script.specs.declared.answer.Reply.{Reply}
 use Rattle.script.specs.declared.command.Command.{Command}
 use Rattle.script.specs.declared.command.Command.TheVariants.{Refs, RevParse, Reset, DropRef, Commit}
 use Rattle.sys_core.specs.Begins.{IsRev, IsNoRev}
-use Rattle.sys_core.specs.Commits.{IsLacking, LastsWith, message_in, sum_of, IsFormed}
+use Rattle.sys_core.specs.Commits.{LastsWith, message_in, IsFormed}
 
 -- file systems of this kind tell their view; they do it always or never
 abbrev pub IsTold : {F : Type 0} → (F → Option View) → Type 0

@@ -49,13 +49,18 @@ AnswersBy s answer.NoRef (DropRef branch) = s (RefOf branch) ≡ None
 AnswersBy s answer.NoMemory c = Unit {0}
 AnswersBy s a c = ⊥
 
--- What a command does in a state: it looks up the commit that is named there; a reset gives the ref that commit, and a drop
--- removes it, each where it has the value that it has there. A commit has that value as its parent, and is within the bounds.
+-- a task that looks a commit up for a command which begins in a state: the one that is named there; and for a reset it is to give the
+-- ref that commit where it has the value that it has there
+abbrev pub LooksUp : State → Command → RefCommand → Type 0
+LooksUp s (RevParse r) (task.Parse look) = IsRev r s look.commit
+LooksUp s (Reset branch commit) (task.Reset look plan) = (look.commit ≡ commit) × (plan.name ≡ branch) × (plan.seen ≡ s (RefOf branch)) × (plan.commit ≡ commit)
+LooksUp s c t = ⊥
+
+-- What a command does first in a state: it looks a commit up, or a drop removes the ref where it has the value that it has there. A
+-- commit has that value as its parent, and is within the bounds.
 abbrev pub RunsRefBy : ℕ → State → Command → RefCommand → Type 0
-RunsRefBy lane s (RevParse r) (task.Parse look) = IsRev r s look.commit
-RunsRefBy lane s (Reset branch commit) (task.Reset look plan) = (look.commit ≡ commit) × (plan.name ≡ branch) × (plan.seen ≡ s (RefOf branch)) × (plan.commit ≡ commit)
 RunsRefBy lane s (DropRef branch) (task.Change work) = (seen : List ℕ) × (s (RefOf branch) ≡ Some seen) × (work ≡ removal lane branch seen)
-RunsRefBy lane s c t = ⊥
+RunsRefBy lane s c t = LooksUp s c t
 
 abbrev pub RunsBy : Limits → ℕ → State → Command → LaneCommand → Type 0
 RunsBy limits lane s c (lane_work.Ref t) = RunsRefBy lane s c t

@@ -49,8 +49,8 @@ IsLater old new = (new.base.books.start.items ≡ old.base.books.start.items) ×
 
 -- What the answer to the lane's next command tells where its act began: of the disk and of calls that failed in it, and of the
 -- objects in the store.
-abbrev pub Tells : {F : Type 0} → (F → Option View) → ℕ → ℕ → System F → ℕ → Answer → Type 0
-Tells view before now s l a =
+abbrev pub AnswerTells : {F : Type 0} → (F → Option View) → ℕ → ℕ → System F → ℕ → Answer → Type 0
+AnswerTells view before now s l a =
     ((c : Command) → IsCommand s.lanes l (length (given s l)) c → Shown (view s.base.fs) (state_after (first s.base.books.start.items) s.base.books.history.items (start_of s l)) s.base.books.halted before now a c)
     × IsFull s.limits s.objects a
 
@@ -70,5 +70,5 @@ abbrev pub IsReplied : {F : Type 0} → (F → Option View) → System F → Typ
 IsReplied view s = Replied (IsTold view) s.limits (first s.base.books.start.items) s.base.books.history.items s.base.books.pending s.lanes s.started s.replies
 
 -- no replies so far, with room for one to each command
-abbrev pub HasRoomFor : List Lane → ℕ → List (Vec Reply) → Type 0
-HasRoomFor lanes n replies = (l : ℕ) (d : Lane) (v : Vec Reply) → l < n → (slice_index_or replies l v).items ≡ [] × (length (slice_index_or lanes l d).commands.items ≤ vec_capacity (slice_index_or replies l v))
+abbrev pub HasReplyRoom : List Lane → ℕ → List (Vec Reply) → Type 0
+HasReplyRoom lanes n replies = (l : ℕ) (d : Lane) (v : Vec Reply) → l < n → (slice_index_or replies l v).items ≡ [] × (length (slice_index_or lanes l d).commands.items ≤ vec_capacity (slice_index_or replies l v))

@@ -71,10 +71,10 @@ pub record Kept {F : Type 0} (view : F → Option View) (clock spare : F → ℕ
   pub facts : base.books.halted ≡ false → (lane : ℕ) (d : Run) → lane < length runs → Facts lane refs (slice_index_or runs lane d).task (view base.fs) (books_of base.books)
 
 -- the command ended, and nothing of it is shown
-abbrev pub IsOver : Outcome → Type 0
-IsOver came.Done = Unit {0}
-IsOver (came.Refused e) = Unit {0}
-IsOver outcome = ⊥
+abbrev pub EndsUnshown : Outcome → Type 0
+EndsUnshown came.Done = Unit {0}
+EndsUnshown (came.Refused e) = Unit {0}
+EndsUnshown outcome = ⊥
 
 -- no lane has begun
 abbrev pub IsNew : Run → Type 0

@@ -13,3 +13,6 @@ pub mod Turns
 pub mod Counts
 pub mod Did
 pub mod Lasting
+pub mod Storing
+pub mod Pins
+pub mod Held

@@ -10,6 +10,7 @@ use Rattle.ref_work.specs.declared.command.RefCommand.TheVariants as task
 use Rattle.tree_build.specs.Items.{IsTree}
 use Rattle.commit_build.specs.declared.message.Message.{Message}
 use Rattle.commit_build.specs.Committing.{IsMade, ReadsBack}
+use Rattle.commit_lasts.specs.Lasting.{sum_of}
 use Rattle.commit_work.specs.declared.command.CommitCommand.{CommitCommand}
 use Rattle.commit_work.specs.declared.naming.Naming.{Naming}
 use Rattle.lane_work.specs.declared.command.LaneCommand.{LaneCommand}
@@ -32,8 +33,8 @@ use Rattle.script.specs.declared.answer.Answer.TheVariants as answer
 use Rattle.script.specs.declared.command.Command.{Command}
 use Rattle.script.specs.declared.command.Command.TheVariants.{RevParse, Reset, DropRef, Commit}
 use Rattle.sys_core.specs.Answers.{Answers, IsChangeOf, IsHalted, IsTold, Makes, state_after}
-use Rattle.sys_core.specs.Begins.{IsRev}
-use Rattle.sys_core.specs.Commits.{message_in, sum_of}
+use Rattle.sys_core.specs.Begins.{LooksUp}
+use Rattle.sys_core.specs.Commits.{message_in}
 use Rattle.sys_core.specs.declared.lane.Came.{Came}
 use Rattle.sys_core.specs.declared.lane.Came.TheVariants.{Blocked, More, Answered}
 use Rattle.sys_core.specs.declared.run.Run.{Run}
@@ -45,11 +46,9 @@ IsChanging name seen value t = (t.name ≡ name) × (t.seen ≡ seen) × (t.valu
 
 -- What a command on refs is after, which begins in this state, at each of its steps.
 abbrev pub RefPursues : State → Command → RefCommand → Type 0
-RefPursues s (RevParse rev) (task.Parse look) = IsRev rev s look.commit
-RefPursues s (Reset branch commit) (task.Reset look plan) = (look.commit ≡ commit) × (plan.name ≡ branch) × (plan.seen ≡ s (RefOf branch)) × (plan.commit ≡ commit)
 RefPursues s (Reset branch commit) (task.Change work) = IsChanging branch (s (RefOf branch)) (Some commit) work.task
 RefPursues s (DropRef branch) (task.Change work) = IsChanging branch (s (RefOf branch)) None work.task × IsSome (s (RefOf branch))
-RefPursues s c t = ⊥
+RefPursues s c t = LooksUp s c t
 
 -- the ref is changed from this value to the commit with this sum, of this tree
 pub record IsNaming (branch : List ℕ) (seen : Option (List ℕ)) (tree : List TreeItem) (sum : List ℕ) (n : Naming) : Type 0 where
@@ -83,9 +82,9 @@ Pursues limits s (Commit branch tree subject body time) (lane_work.Commit t) = C
 Pursues limits s c (lane_work.Commit t) = ⊥
 
 -- how many changes lasted when the command began, or do now where it hasn't begun
-abbrev pub start_of : List Entry → Option Running → ℕ
-start_of entries None = length entries
-start_of entries (Some r) = r.start
+abbrev pub task_start : List Entry → Option Running → ℕ
+task_start entries None = length entries
+task_start entries (Some r) = r.start
 
 -- when the commands of the lanes began
 abbrev pub start_in : Option Running → Option ℕ
@@ -114,8 +113,8 @@ Grows lane number c a old new = ((new ≡ old) × (Makes a c → ⊥))
     ⊎ ((e : Entry) × (new ≡ old ++ e ∷ []) × (e.lane ≡ lane) × (e.command ≡ number) × Makes a c)
 
 -- what is pending was so before, or is the command's change
-abbrev pub IsShownBy : ℕ → ℕ → (Pending → Type 0) → rust.Books → rust.Books → Type 0
-IsShownBy lane number IsIts old new = (p : Pending) → new.pending ≡ Some p → (old.pending ≡ Some p) ⊎ ((p.lane ≡ lane) × (p.command ≡ number) × IsIts p)
+abbrev pub IsPendingBy : ℕ → ℕ → (Pending → Type 0) → rust.Books → rust.Books → Type 0
+IsPendingBy lane number IsIts old new = (p : Pending) → new.pending ≡ Some p → (old.pending ≡ Some p) ⊎ ((p.lane ≡ lane) × (p.command ≡ number) × IsIts p)
 
 -- nothing of the lane is pending, where no call failed
 abbrev pub IsShownAs : ℕ → Answer → rust.Books → Type 0
@@ -124,13 +123,13 @@ IsShownAs lane a new = (p : Pending) → new.pending ≡ Some p → p.lane ≡ l
 -- What an act of the lane came to: by the state in which its command began, with what it was after so far, and what it goes on to be after.
 abbrev pub Goes : Type 0 → Limits → State → ℕ → ℕ → Command → rust.Books → rust.Books → Option Running → Option Running → Came → Type 0
 Goes told limits first lane number c old new task task' Blocked = (task' ≡ task) × (new ≡ old)
-Goes told limits first lane number c old new task task' More = (r : Running) × (task' ≡ Some r) × (r.start ≡ start_of old.history.items task)
+Goes told limits first lane number c old new task task' More = (r : Running) × (task' ≡ Some r) × (r.start ≡ task_start old.history.items task)
     × Pursues limits (state_after first old.history.items r.start) c r.work × (new.history.items ≡ old.history.items)
-    × IsShownBy lane number (λ p. IsChangeOf (state_after first old.history.items r.start) c p.event) old new
-Goes told limits first lane number c old new task task' (Answered a start) = (task' ≡ None) × (start ≡ start_of old.history.items task)
+    × IsPendingBy lane number (λ p. IsChangeOf (state_after first old.history.items r.start) c p.event) old new
+Goes told limits first lane number c old new task task' (Answered a start) = (task' ≡ None) × (start ≡ task_start old.history.items task)
     × Answers told limits lane number (state_after first old.history.items start) (after (events_of new.history.items) first) new.history.items a c
     × Grows lane number c a old.history.items new.history.items
-    × IsShownBy lane number (λ p. IsChangeOf (state_after first old.history.items start) c p.event) old new × IsShownAs lane a new
+    × IsPendingBy lane number (λ p. IsChangeOf (state_after first old.history.items start) c p.event) old new × IsShownAs lane a new
 
 -- it has ended, and has an answer
 abbrev pub HasAnswer : Outcome → LaneCommand → Type 0

@@ -1,6 +1,3 @@
-ghost use Rattle.std.specs.Prelude.{◌≡◌};
-ghost use Rattle.fs_trait.specs.declared.types.FsErr.TheVariants as err;
-ghost use Rattle.script.specs.declared.answer.Answer.TheVariants as answer;
 ghost use Rattle.sys_core.specs.Pursues.{IsOutside, IsRefusedAs};
 
 use fs_trait::FsErr;

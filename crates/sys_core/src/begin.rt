@@ -1,8 +1,6 @@
-ghost use Rattle.std.specs.Prelude.{◌≡◌, ◌<◌, ℕ, List, Some, IfOk};
-ghost use Rattle.fs_trait.specs.View.{View};
+ghost use Rattle.std.specs.Prelude.{◌<◌, ℕ, List, Some, IfOk};
 ghost use Rattle.ref_book.specs.Tracks.{Tracks, HasRoom};
 ghost use Rattle.rely.specs.State.{State};
-ghost use Rattle.sys_core.specs.Lanes.{HasRoomFor};
 ghost use Rattle.sys_core.specs.Begins.{IsBegun, IsBy, IsFew};
 ghost use Rattle.sys_core.specs.Commits.{IsFit};
 ghost use Rattle.ost_types.specs.declared.limits.Limits.{Limits};
@@ -10,7 +8,7 @@ ghost use Rattle.script.specs.declared.command.Command.TheVariants as Command;
 
 use commit_work::CommitCommand;
 use lane_work::LaneCommand;
-use ost_types::{Csum, Limits, NoMemory, TryCopy, copy_all};
+use ost_types::{Limits, NoMemory, TryCopy, copy_all};
 use ref_book::RefBook;
 use ref_work::RefCommand;
 use script::{Answer, Command, Rev};

@@ -1,4 +1,4 @@
-ghost use Rattle.std.specs.Prelude.{◌≡◌, ◌<◌, ◌+◌, ◌++◌, ◌∷◌, [], ℕ, List, length, slice_index_or, slice_set};
+ghost use Rattle.std.specs.Prelude.{◌≡◌, ◌<◌, ◌+◌, ◌++◌, ◌∷◌, [], length, slice_index_or, slice_set};
 ghost use Rattle.script.specs.declared.command.Lane.{Lane};
 ghost use Rattle.sys_core.specs.declared.run.Run.{Run};
 ghost use Rattle.sys_core.specs.Booked.{Booked, replies_of};

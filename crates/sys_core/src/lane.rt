@@ -1,9 +1,11 @@
 ghost use Rattle.sys_core.specs.Lasting.{IsCarried};
 ghost use Rattle.sys_core.specs.declared.lane.Came.TheVariants as Came;
-ghost use Rattle.std.specs.Prelude.{true, ◌≡◌, ◌≢◌, ◌<◌, ◌≤◌, ◌+◌, ℕ, List, Option, Some, None, false, drop, length, slice_index_or};
+ghost use Rattle.std.specs.Prelude.{true, ◌≡◌, ◌≢◌, ◌<◌, ◌≤◌, ◌+◌, ℕ, List, Some, None, false, drop, length, slice_index_or};
 ghost use Rattle.fs_trait.specs.View.{View};
+ghost use Rattle.fs_trait.specs.Image.{Told};
+ghost use Rattle.fs_trait.specs.Change.{Writes};
 ghost use Rattle.ref_book.specs.Tracks.{Tracks, HasRoom, name_of};
-ghost use Rattle.lane_work.specs.Commands.{IsMadeIn, lane_facts, lane_kind, lane_leaves, lane_refuses, lane_stepped, met_by, told};
+ghost use Rattle.lane_work.specs.Commands.{IsMadeIn, lane_facts, lane_kind, lane_leaves, lane_refuses, lane_stepped, lane_writes, met_by, told};
 ghost use Rattle.commit_build.specs.Whole.{IsCounted};
 ghost use Rattle.rely.specs.declared.books.Entry.{Entry};
 ghost use Rattle.rely.specs.declared.kind.Outcome.TheVariants as came;
@@ -18,10 +20,13 @@ ghost use Rattle.script.specs.declared.answer.Answer.{Answer};
 ghost use Rattle.script.specs.declared.answer.Answer.TheVariants as answer;
 ghost use Rattle.sys_core.specs.Answers.{IsHalted, IsTold, Shown, state_after};
 ghost use Rattle.sys_core.specs.Commits.{IsFit};
-ghost use Rattle.sys_core.specs.Counts.{CountsAt, CountsBy, IsFull};
+ghost use Rattle.sys_core.specs.Counts.{CountsAt, CountsBy, IsFull, StoresBy};
 ghost use Rattle.sys_core.specs.Did.{Did};
-ghost use Rattle.sys_core.specs.Lanes.{Facts, HasRoomFor, IsHome, IsOver, LaneActs, now_of};
-ghost use Rattle.sys_core.specs.Pursues.{Goes, HasAnswer, IsAfter, IsEndedAs};
+ghost use Rattle.sys_core.specs.Lanes.{Facts, HasRoomFor, IsHome, EndsUnshown, LaneActs, now_of};
+ghost use Rattle.sys_core.specs.Pursues.{Goes, HasAnswer, IsAfter, IsEndedAs, task_start};
+ghost use Rattle.sys_core.specs.Storing.{HasWritten};
+ghost use Rattle.rely.specs.Pinning.{ArePinned, pin_in};
+ghost use Rattle.sys_core.specs.Pins.{Pins};
 ghost use Rattle.sys_core.specs.Turns.{HasTurn, RunsBehind, Turns};
 
 use crate::answer::answer_of;
@@ -66,13 +71,16 @@ pub(crate) fn lane_act<F: Fs>(
     requires turn { HasTurn lane base.old.books (RunsBehind run.old.task) }
     ensures acts { LaneActs F.view F.clock F.spare F.was lane refs.old refs.new run.new.task base.old base.new }
     ensures carried { IsCarried F.view F.clock F.was base.old base.new }
+    ensures wrote { (v : View) → F.view base.old.fs ≡ Some v → Told (F.view base.new.fs) (HasWritten limits lane objects.old (state_after (first base.old.books.start.items) base.old.books.history.items (task_start base.old.books.history.items run.old.task)) command.now (books_of base.old.books) v) }
     ensures number { run.new.command ≡ run.old.command }
     ensures blocked { result ≡ Came.Blocked → base.new ≡ base.old }
     ensures goes { Goes (IsTold F.view) limits (first base.old.books.start.items) lane run.old.command command.now base.old.books base.new.books run.old.task run.new.task result }
     ensures turns { Turns lane base.old.books base.new.books run.old.task run.new.task result }
+    ensures pins { Pins lane command.now base.old.books base.new.books run.old.task run.new.task result }
     ensures halts { (a : Answer) (start : ℕ) → result ≡ Came.Answered a start → IsHalted a → (base.new.books.halted ≡ true) × (a ≡ answer.Halted (F.faults base.new.fs)) }
     ensures shown { (a : Answer) (start : ℕ) → result ≡ Came.Answered a start → Shown (F.view base.old.fs) (state_after (first base.old.books.start.items) base.old.books.history.items start) base.old.books.halted (F.faults base.old.fs) (F.faults base.new.fs) a command.now }
     ensures counts { CountsBy objects.old run.new.task result objects.new }
+    ensures stores { (v : View) → F.view base.old.fs ≡ Some v → StoresBy limits objects.old v run.new.task result }
     ensures full { (a : Answer) (start : ℕ) → result ≡ Came.Answered a start → IsFull limits objects.old a }
 {
     match run.task.take() {
@@ -104,13 +112,16 @@ fn begins<F: Fs>(
     requires turn { HasTurn lane base.old.books (RunsBehind None) }
     ensures acts { LaneActs F.view F.clock F.spare F.was lane refs.old refs.new run.new.task base.old base.new }
     ensures carried { IsCarried F.view F.clock F.was base.old base.new }
+    ensures wrote { (v : View) → F.view base.old.fs ≡ Some v → Told (F.view base.new.fs) (HasWritten limits lane objects.old (state_after (first base.old.books.start.items) base.old.books.history.items (task_start base.old.books.history.items None)) command.now (books_of base.old.books) v) }
     ensures number { run.new.command ≡ run.old.command }
     ensures blocked { result ≡ Came.Blocked → base.new ≡ base.old }
     ensures goes { Goes (IsTold F.view) limits (first base.old.books.start.items) lane run.old.command command.now base.old.books base.new.books None run.new.task result }
     ensures turns { Turns lane base.old.books base.new.books None run.new.task result }
+    ensures pins { Pins lane command.now base.old.books base.new.books None run.new.task result }
     ensures halts { (a : Answer) (start : ℕ) → result ≡ Came.Answered a start → IsHalted a → (base.new.books.halted ≡ true) × (a ≡ answer.Halted (F.faults base.new.fs)) }
     ensures shown { (a : Answer) (start : ℕ) → result ≡ Came.Answered a start → Shown (F.view base.old.fs) (state_after (first base.old.books.start.items) base.old.books.history.items start) base.old.books.halted (F.faults base.old.fs) (F.faults base.new.fs) a command.now }
     ensures counts { CountsBy objects.old run.new.task result objects.new }
+    ensures stores { (v : View) → F.view base.old.fs ≡ Some v → StoresBy limits objects.old v run.new.task result }
     ensures full { (a : Answer) (start : ℕ) → result ≡ Came.Answered a start → IsFull limits objects.old a }
 {
     let start = base.books.history.len();
@@ -155,13 +166,16 @@ fn goes_on<F: Fs>(
     requires turn { HasTurn lane base.old.books (RunsBehind (Some running)) }
     ensures acts { LaneActs F.view F.clock F.spare F.was lane refs.old refs.new run.new.task base.old base.new }
     ensures carried { IsCarried F.view F.clock F.was base.old base.new }
+    ensures wrote { (v : View) → F.view base.old.fs ≡ Some v → Told (F.view base.new.fs) (HasWritten limits lane objects.old (state_after (first base.old.books.start.items) base.old.books.history.items (task_start base.old.books.history.items (Some running))) command.now (books_of base.old.books) v) }
     ensures number { run.new.command ≡ run.old.command }
     ensures blocked { result ≡ Came.Blocked → base.new ≡ base.old }
     ensures goes { Goes (IsTold F.view) limits (first base.old.books.start.items) lane run.old.command command.now base.old.books base.new.books (Some running) run.new.task result }
     ensures turns { Turns lane base.old.books base.new.books (Some running) run.new.task result }
+    ensures pins { Pins lane command.now base.old.books base.new.books (Some running) run.new.task result }
     ensures halts { (a : Answer) (start : ℕ) → result ≡ Came.Answered a start → IsHalted a → (base.new.books.halted ≡ true) × (a ≡ answer.Halted (F.faults base.new.fs)) }
     ensures shown { (a : Answer) (start : ℕ) → result ≡ Came.Answered a start → Shown (F.view base.old.fs) (state_after (first base.old.books.start.items) base.old.books.history.items start) base.old.books.halted (F.faults base.old.fs) (F.faults base.new.fs) a command.now }
     ensures counts { CountsBy objects.old run.new.task result objects.new }
+    ensures stores { (v : View) → F.view base.old.fs ≡ Some v → StoresBy limits objects.old v run.new.task result }
     ensures full { (a : Answer) (start : ℕ) → result ≡ Came.Answered a start → IsFull limits objects.old a }
 {
     let mut running = running;
@@ -228,15 +242,17 @@ fn told_act<F: Fs>(
     requires home { IsHome lane (F.view base.old.fs) }
     ensures acts { Acts F.view F.clock F.spare F.was lane lane result (Runs lane_kind lane_facts lane work.new) base.old base.new }
     ensures carried { IsCarried F.view F.clock F.was base.old base.new }
+    ensures wrote { (v : View) → F.view base.old.fs ≡ Some v → Told (F.view base.new.fs) (λ w. Writes (lane_writes lane (told objects.old work.old) v) v w) }
     ensures tracks { Tracks refs.new (now_of base.new.books) }
     ensures rooms { (name : List ℕ) → HasRoom refs.old name → HasRoom refs.new name }
     ensures room { result ≡ came.More → HasRoomFor refs.new work.new }
     ensures blocked { result ≡ came.Blocked → (base.new ≡ base.old) × (work.new ≡ work.old) }
     ensures held { result ≡ came.Blocked → Opens (lane_kind work.old) lane (books_of base.old.books) → ⊥ }
+    ensures pins { ArePinned (pin_in (lane_kind work.old)) lane result base.old.books.pins.items base.new.books.pins.items }
     ensures did { result ≢ came.Blocked → Did F.view lane number (F.clock base.new.fs) result (told objects.old work.old) work.new base.old base.new }
     ensures cause { (v : View) → F.view base.old.fs ≡ Some v → Causes (F.faults base.old.fs) (F.faults base.new.fs) result }
     ensures home { IsHome lane (F.view base.new.fs) }
-    ensures over { IsOver result → NotPending lane (books_of base.new.books) }
+    ensures over { EndsUnshown result → NotPending lane (books_of base.new.books) }
     ensures counts { CountsAt objects.old work.new result objects.new }
     ensures made { result ≡ came.More → IsMadeIn work.new }
 {
@@ -268,6 +284,7 @@ fn running_act<F: Fs>(
     requires home { IsHome lane (F.view base.old.fs) }
     ensures acts { Acts F.view F.clock F.spare F.was lane lane result (Runs lane_kind lane_facts lane work.new) base.old base.new }
     ensures carried { IsCarried F.view F.clock F.was base.old base.new }
+    ensures wrote { (v : View) → F.view base.old.fs ≡ Some v → Told (F.view base.new.fs) (λ w. Writes (lane_writes lane work.old v) v w) }
     ensures tracks { Tracks refs.new (now_of base.new.books) }
     ensures rooms { (name : List ℕ) → HasRoom refs.old name → HasRoom refs.new name }
     ensures room { result ≡ came.More → HasRoomFor refs.new work.new }
@@ -277,10 +294,11 @@ fn running_act<F: Fs>(
     ensures opens { result ≢ came.Blocked → Opens (lane_kind work.old) lane (books_of base.old.books) }
     ensures held { result ≡ came.Blocked → Opens (lane_kind work.old) lane (books_of base.old.books) → ⊥ }
     ensures locks { Locks (lane_kind work.old) lane result base.old.books base.new.books }
+    ensures pins { ArePinned (pin_in (lane_kind work.old)) lane result base.old.books.pins.items base.new.books.pins.items }
     ensures booked { IsBooked (lane_kind work.old) lane number (F.clock base.new.fs) result base.old.books base.new.books }
     ensures cause { (v : View) → F.view base.old.fs ≡ Some v → Causes (F.faults base.old.fs) (F.faults base.new.fs) result }
     ensures home { IsHome lane (F.view base.new.fs) }
-    ensures over { IsOver result → NotPending lane (books_of base.new.books) }
+    ensures over { EndsUnshown result → NotPending lane (books_of base.new.books) }
 {
     let before = base.books.history.len();
     let outcome = task_act(base, lane, lane, number, work);

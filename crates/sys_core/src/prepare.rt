@@ -1,8 +1,8 @@
-ghost use Rattle.std.specs.Prelude.{◌≡◌, ◌≤◌, ◌<◌, ℕ, None, IfOk, length, slice_index_or};
+ghost use Rattle.std.specs.Prelude.{◌≡◌, IfOk, length};
 ghost use Rattle.rely.specs.State.{first};
 ghost use Rattle.ref_book.specs.Tracks.{Tracks};
 ghost use Rattle.sys_core.specs.Lanes.{AreIdle};
-ghost use Rattle.sys_core.specs.Booked.{HasRoomFor};
+ghost use Rattle.sys_core.specs.Booked.{HasReplyRoom};
 
 use crate::run::Run;
 use ost_types::{Csum, NoMemory};
@@ -28,7 +28,7 @@ pub(crate) fn prepare(
     ensures refs { IfOk result (λ p. Tracks p.refs (first start.now)) }
     ensures runs { IfOk result (λ p. AreIdle p.runs.items) }
     ensures all { IfOk result (λ p. length p.runs.items ≡ length lanes.now) }
-    ensures room { IfOk result (λ p. HasRoomFor lanes.now (length lanes.now) p.replies.items) }
+    ensures room { IfOk result (λ p. HasReplyRoom lanes.now (length lanes.now) p.replies.items) }
     ensures replies { IfOk result (λ p. length p.replies.items ≡ length lanes.now) }
 {
     Ok(Prepared {
@@ -55,7 +55,7 @@ fn idle(alloc: Global, lanes: &[Lane]) -> Result<Vec<Run>, NoMemory>
 
 /// Room for a reply to each command.
 fn room(alloc: Global, lanes: &[Lane]) -> Result<Vec<Vec<Reply>>, NoMemory>
-    ensures room { IfOk result (λ r. HasRoomFor lanes.now (length lanes.now) r.items) }
+    ensures room { IfOk result (λ r. HasReplyRoom lanes.now (length lanes.now) r.items) }
     ensures all { IfOk result (λ r. length r.items ≡ length lanes.now) }
 {
     let mut replies = Vec::with_capacity(alloc, lanes.len())?;

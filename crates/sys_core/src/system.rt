@@ -1,4 +1,5 @@
 ghost use Rattle.fs_trait.specs.Image.{Told};
+ghost use Rattle.sys_core.specs.Storing.{AreStored, AreStoredIn};
 ghost use Rattle.sys_core.specs.Lasting.{AreKept, AreKeptIn};
 ghost use Rattle.std.specs.Prelude.{true, false, ◌≡◌, ◌<◌, ◌≤◌, ℕ, length, min, slice_index_or, Some, None, IfOk, IfErr};
 ghost use Rattle.fs_trait.specs.View.{View};
@@ -10,10 +11,11 @@ ghost use Rattle.sys_core.specs.Lanes.{AreIdle};
 ghost use Rattle.script.specs.declared.answer.Answer.TheVariants as answer;
 ghost use Rattle.script.specs.declared.answer.Reply.{Reply};
 ghost use Rattle.sys_core.specs.Answers.{IsHalted};
-ghost use Rattle.sys_core.specs.Counts.{Counted};
+ghost use Rattle.sys_core.specs.Counts.{Counted, Stores};
 ghost use Rattle.sys_core.specs.Fit.{AreFit};
+ghost use Rattle.sys_core.specs.Held.{Held};
 ghost use Rattle.sys_core.specs.Replied.{IsTo};
-ghost use Rattle.sys_core.specs.Booked.{Acted, Booked, HasCommand, IsLater, IsReplied, Tells, replies_of};
+ghost use Rattle.sys_core.specs.Booked.{Acted, Booked, HasCommand, IsLater, IsReplied, AnswerTells, replies_of};
 ghost use Rattle.sys_core.specs.Ranks.{AreWithin, HasEnded, IsHeldOff, IsOver, Ranked, left_in_all, rank};
 ghost use Rattle.sys_core.specs.Turns.{AsksTurn};
 ghost use Rattle.sys_core.specs.declared.ask.Ask.TheVariants as Ask;
@@ -61,12 +63,13 @@ impl<F: Fs> Model for System<F> {
     ghost use Rattle.sys_core.specs.Pursues.{Accounted, started_of};
     ghost use Rattle.sys_core.specs.Turns.{Ordered, works_of};
     ghost use Rattle.sys_core.specs.Fit.{AreFit};
+    ghost use Rattle.sys_core.specs.Pins.{AreInWork};
 
     ghost Value = { System F };
 
     ghost view = { λ s. record { base = s.base; lanes = s.lanes.items; started = started_of s.runs.items; works = works_of s.runs.items; replies = replies_of s.replies.items; limits = s.limits; objects = s.objects } };
 
-    ghost invariant = { λ s. Kept F.view F.clock F.spare F.was s.base s.refs s.runs.items × Booked s.lanes.items s.runs.items s.replies.items × Accounted F.view s.limits s.base s.lanes.items s.runs.items (replies_of s.replies.items) s.given (F.faults s.base.fs) × (s.base.books.halted ≡ false → Ordered s.base.books s.lanes.items s.runs.items) × AreFit s.limits s.lanes.items };
+    ghost invariant = { λ s. Kept F.view F.clock F.spare F.was s.base s.refs s.runs.items × Booked s.lanes.items s.runs.items s.replies.items × Accounted F.view s.limits s.base s.lanes.items s.runs.items (replies_of s.replies.items) s.given (F.faults s.base.fs) × (s.base.books.halted ≡ false → Ordered s.base.books s.lanes.items s.runs.items) × AreFit s.limits s.lanes.items × (s.base.books.halted ≡ false → AreInWork s.base.books s.lanes.items s.runs.items) };
 }
 
 /// What a system is taken apart into.
@@ -96,6 +99,7 @@ impl<F: Fs> System<F> {
         ensures limits { IfOk result (λ s. s.limits ≡ opened.limits) }
         ensures objects { IfOk result (λ s. s.objects ≡ min (length opened.objects) 4294967295) }
         ensures begins { IfOk result (λ s. (v : View) → AreKept F.was v s v) }
+        ensures good { IfOk result (λ s. (v : View) → F.view s.base.fs ≡ Some v → AreStored F.was s v) }
         ensures back { IfErr result (λ e. e.0 ≡ opened) }
     {
         match prepare(alloc, opened.refs(), &lanes) {
@@ -117,6 +121,7 @@ impl<F: Fs> System<F> {
         ensures limits { result.limits ≡ opened.limits }
         ensures objects { result.objects ≡ min (length opened.objects) 4294967295 }
         ensures begins { (v : View) → AreKept F.was v result v }
+        ensures good { (v : View) → F.view result.base.fs ≡ Some v → AreStored F.was result v }
     {
         let OpenedParts {
             fs,
@@ -125,6 +130,7 @@ impl<F: Fs> System<F> {
             faults: _,
             limits,
             objects,
+            checkouts: _,
         } = opened.into_parts();
         let Prepared {
             refs,
@@ -146,10 +152,13 @@ impl<F: Fs> System<F> {
 
     /// The next step of an actor. The actor of a lane has its number.
     pub fn act(&mut self, actor: u8) -> Ask
-        ensures acted { Acted (Tells F.view (F.faults self.old.base.fs) (F.faults self.new.base.fs) self.old actor) self.old self.new actor result }
+        ensures acted { Acted (AnswerTells F.view (F.faults self.old.base.fs) (F.faults self.new.base.fs) self.old actor) self.old self.new actor result }
         ensures counts { Counted self.old self.new actor result }
+        ensures stores { (v : View) → F.view self.old.base.fs ≡ Some v → Stores self.old self.new actor v result }
+        ensures bounded { (v : View) → F.view self.old.base.fs ≡ Some v → self.old.objects ≤ self.old.limits.objects → self.new.objects ≤ self.new.limits.objects }
         ensures lanes { self.new.lanes ≡ self.old.lanes }
-        ensures lasts { (start v : View) → F.view self.old.base.fs ≡ Some v → AreKept F.was start self.old v → Told (F.view self.new.base.fs) (λ w. AreKept F.was start self.new w) }
+        ensures lasts { (opening v : View) → F.view self.old.base.fs ≡ Some v → AreKept F.was opening self.old v → Told (F.view self.new.base.fs) (λ w. AreKept F.was opening self.new w) }
+        ensures good { (v : View) → F.view self.old.base.fs ≡ Some v → AreStored F.was self.old v → Told (F.view self.new.base.fs) (λ w. AreStored F.was self.new w) }
         ensures ranks { Ranked self.old self.new actor result }
         ensures held { result ≡ Ask.Blocked → IsHeldOff self.old actor }
         ensures waits { HasCommand self.old actor → self.old.base.books.halted ≡ false → AsksTurn (slice_index_or self.old.works actor None) → IsHeldOff self.old actor → result ≡ Ask.Blocked }
@@ -245,11 +254,13 @@ impl<F: Fs> System<F> {
 
     /// A crash at any moment since the opening left a sane disk whose refs are those after a prefix of the stored history
     /// that has each change acknowledged by that moment; and reads see the refs after the history, but for a change that
-    /// is pending. Each reply says what the states at its start and at its place show.
+    /// is pending. Each reply says what the states at its start and at its place show. What a commit that runs has stored or found is
+    /// pinned for its lane, and there.
     pub fn certify(&self)
         ensures headline { (v : View) → F.view self.now.base.fs ≡ Some v → Headline F.clock F.was self.now.base v }
         ensures replied { IsReplied F.view self.now }
         ensures within { AreWithin self.now }
+        ensures held { Held F.view self.now }
         ensures halted { (lane number : ℕ) (r : Reply) → IsTo self.now.replies lane number r → IsHalted r.answer → (self.now.base.books.halted ≡ true) × (r.answer ≡ answer.Halted (F.faults self.now.base.fs)) }
     {
         certify(&self.base);
@@ -263,7 +274,8 @@ impl<F: Fs> System<F> {
         ensures ended { HasEnded self.new }
         ensures lanes { self.new.lanes ≡ self.old.lanes }
         ensures later { IsLater self.old self.new }
-        ensures lasts { (start v : View) → F.view self.old.base.fs ≡ Some v → AreKept F.was start self.old v → Told (F.view self.new.base.fs) (λ w. AreKept F.was start self.new w) }
+        ensures lasts { (opening v : View) → F.view self.old.base.fs ≡ Some v → AreKept F.was opening self.old v → Told (F.view self.new.base.fs) (λ w. AreKept F.was opening self.new w) }
+        ensures good { (v : View) → F.view self.old.base.fs ≡ Some v → AreStored F.was self.old v → Told (F.view self.new.base.fs) (λ w. AreStored F.was self.new w) }
     {
         for actor in schedule {
             let _ = self.act(*actor);
@@ -278,7 +290,8 @@ impl<F: Fs> System<F> {
         ensures falls { result ≡ true → left_in_all self.new < left_in_all self.old }
         ensures lanes { self.new.lanes ≡ self.old.lanes }
         ensures later { IsLater self.old self.new }
-        ensures lasts { (start v : View) → F.view self.old.base.fs ≡ Some v → AreKept F.was start self.old v → Told (F.view self.new.base.fs) (λ w. AreKept F.was start self.new w) }
+        ensures lasts { (opening v : View) → F.view self.old.base.fs ≡ Some v → AreKept F.was opening self.old v → Told (F.view self.new.base.fs) (λ w. AreKept F.was opening self.new w) }
+        ensures good { (v : View) → F.view self.old.base.fs ≡ Some v → AreStored F.was self.old v → Told (F.view self.new.base.fs) (λ w. AreStored F.was self.new w) }
     {
         let _few = self.lanes();
         let mut unfinished = false;
@@ -296,10 +309,12 @@ impl<F: Fs> System<F> {
         ensures history { result.history ≡ self.base.books.history }
         ensures pending { result.pending ≡ self.base.books.pending }
         ensures lanes { result.lanes.items ≡ self.lanes }
-        ensures lasts { (start v : View) → AreKept F.was start self v → AreKeptIn (F.was result.fs) start self.limits result.lanes.items result.history.items v }
+        ensures lasts { (opening v : View) → AreKept F.was opening self v → AreKeptIn (F.was result.fs) opening self.limits result.lanes.items result.history.items v }
+        ensures good { (v : View) → AreStored F.was self v → AreStoredIn (F.was result.fs) self.limits (first self.base.books.start.items) self.base.books.opened result.lanes.items result.history.items self.started (replies_of result.replies.items) v }
         ensures headline { (v : View) → F.view self.base.fs ≡ Some v → Headline F.clock F.was self.base v }
         ensures replies { replies_of result.replies.items ≡ self.replies }
         ensures replied { IsReplied F.view self }
+        ensures held { Held F.view self }
     {
         self.certify();
         let System {

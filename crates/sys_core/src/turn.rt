@@ -1,5 +1,10 @@
 ghost use Rattle.sys_core.specs.Lasting.{IsCarried};
+ghost use Rattle.sys_core.specs.Storing.{HasWritten};
+ghost use Rattle.fs_trait.specs.Image.{Told};
+ghost use Rattle.fs_trait.specs.View.{View};
+ghost use Rattle.rely.specs.Books.{books_of};
 ghost use Rattle.std.specs.Prelude.{true, false, ◌≡◌, ◌≢◌, ◌<◌, ◌++◌, ℕ, List, Some, None, length, slice_index_or, slice_set};
+ghost use Rattle.fs_trait.specs.View.{View};
 ghost use Rattle.rely.specs.State.{State, first};
 ghost use Rattle.script.specs.declared.command.Command.{Command};
 ghost use Rattle.rely.specs.declared.books.Entry.{Entry};
@@ -13,9 +18,10 @@ ghost use Rattle.sys_core.specs.Booked.{Booked};
 ghost use Rattle.script.specs.declared.answer.Answer.{Answer};
 ghost use Rattle.sys_core.specs.Answers.{IsHalted, IsTold, Shown, state_after};
 ghost use Rattle.sys_core.specs.Commits.{IsFit};
-ghost use Rattle.sys_core.specs.Counts.{CountsBy, IsFull};
+ghost use Rattle.sys_core.specs.Counts.{CountsBy, IsFull, StoresBy};
 ghost use Rattle.sys_core.specs.Lanes.{Kept};
-ghost use Rattle.sys_core.specs.Pursues.{Goes, IsAfter, start_of};
+ghost use Rattle.sys_core.specs.Pins.{Pins};
+ghost use Rattle.sys_core.specs.Pursues.{Goes, IsAfter, task_start};
 ghost use Rattle.sys_core.specs.Turns.{HasTurn, RunsBehind, Turns};
 
 use crate::lane::{Came, lane_act};
@@ -46,6 +52,7 @@ pub(crate) fn turn<F: Fs>(
     requires turn { (r : Run) → base.old.books.halted ≡ false → HasTurn lane base.old.books (RunsBehind (slice_index_or runs.old.items lane r).task) }
     ensures kept { Kept F.view F.clock F.spare F.was base.new refs.new runs.new.items }
     ensures carried { IsCarried F.view F.clock F.was base.old base.new }
+    ensures wrote { (r : Run) (v : View) → F.view base.old.fs ≡ Some v → Told (F.view base.new.fs) (HasWritten limits lane objects.old (state_after (first base.old.books.start.items) base.old.books.history.items (task_start base.old.books.history.items (slice_index_or runs.old.items lane r).task)) command.now (books_of base.old.books) v) }
     ensures booked { (lanes : List Lane) (replies : List (Vec Reply)) → lane < length lanes → Booked lanes runs.old.items replies → Booked lanes runs.new.items replies }
     ensures number { (r : Run) → (slice_index_or runs.new.items lane r).command ≡ (slice_index_or runs.old.items lane r).command }
     ensures blocked { result ≡ Came.Blocked → base.new ≡ base.old }
@@ -54,9 +61,11 @@ pub(crate) fn turn<F: Fs>(
     ensures halts { (a : Answer) (start : ℕ) → result ≡ Came.Answered a start → IsHalted a → (base.new.books.halted ≡ true) × (a ≡ answer.Halted (F.faults base.new.fs)) }
     ensures shown { (a : Answer) (start : ℕ) → result ≡ Came.Answered a start → Shown (F.view base.old.fs) (state_after (first base.old.books.start.items) base.old.books.history.items start) base.old.books.halted (F.faults base.old.fs) (F.faults base.new.fs) a command.now }
     ensures counts { (r : Run) → CountsBy objects.old (slice_index_or runs.new.items lane r).task result objects.new }
+    ensures stores { (r : Run) (v : View) → F.view base.old.fs ≡ Some v → StoresBy limits objects.old v (slice_index_or runs.new.items lane r).task result }
     ensures full { (a : Answer) (start : ℕ) → result ≡ Came.Answered a start → IsFull limits objects.old a }
     ensures live { result ≡ Came.More → base.old.books.halted ≡ false }
     ensures turns { (r : Run) → base.old.books.halted ≡ false → Turns lane base.old.books base.new.books (slice_index_or runs.old.items lane r).task (slice_index_or runs.new.items lane r).task result }
+    ensures pins { (r : Run) → base.old.books.halted ≡ false → Pins lane command.now base.old.books base.new.books (slice_index_or runs.old.items lane r).task (slice_index_or runs.new.items lane r).task result }
     ensures waits { result ≡ Came.Blocked → base.old.books.halted ≡ false }
     ensures others { base.old.books.halted ≡ false → (x : ℕ) → x ≢ lane → base.old.books.turn ≡ Some x → base.new.books.turn ≡ Some x }
     ensures stays { base.old.books.halted ≡ true → base.new ≡ base.old }
@@ -77,7 +86,7 @@ fn halted<F: Fs>(base: &Base<F>, run: &mut Run) -> Came
     ensures shown { (s : State) (c : Command) (a : Answer) (start : ℕ) → result ≡ Came.Answered a start → Shown (F.view base.now.fs) s base.now.books.halted (F.faults base.now.fs) (F.faults base.now.fs) a c }
     ensures number { run.new.command ≡ run.old.command }
     ensures task { run.new.task ≡ None }
-    ensures answer { result ≡ Came.Answered (answer.Halted (F.faults base.now.fs)) (start_of base.now.books.history.items run.old.task) }
+    ensures answer { result ≡ Came.Answered (answer.Halted (F.faults base.now.fs)) (task_start base.now.books.history.items run.old.task) }
 {
     let start = match run.task.take() {
         Some(running) => {

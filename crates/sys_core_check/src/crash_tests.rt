@@ -1,5 +1,6 @@
 //! Calls that fail, and what a crash leaves.
-use crate::disks::{ONES, one_lane, run_lane, says, with_commit};
+use crate::disks::{one_lane, run_lane, says};
+use crate::stores::{COMMIT, with_commit};
 use crate::{NotRun, run};
 use fs_memory::{Choice, FailAt, MemFs};
 use script::Reply;
@@ -19,7 +20,7 @@ fn is_disk(fault: &NotRun) -> bool {
     matches!(fault, NotRun::NotOpened(OpenFault::Disk))
 }
 
-// The run begins with the 8th call.
+// The run begins with the 14th call.
 fn run_failing(alloc: Global, lines: &[u8], call: u64, done: bool) -> Result<Ran, Fail> {
     let mut fs = with_commit(alloc)?;
     fs.fail_at(vec![in alloc; FailAt { call, done }]?);
@@ -48,7 +49,7 @@ fn has_main(alloc: Global, fs: &MemFs, back: u64, picks: Vec<u32>) -> Result<boo
     if says(alloc, &parts.replies, "0 0 ok 0\n")? {
         return Ok(false);
     }
-    let row = format!(in alloc; "0 0 ok 1\n main {ONES}\n")?;
+    let row = format!(in alloc; "0 0 ok 1\n main {COMMIT}\n")?;
     if says(alloc, &parts.replies, row.as_str())? {
         return Ok(true);
     }
@@ -82,14 +83,17 @@ fn check_goes_on(rt: &impl Abort, alloc: Global, fs: &MemFs) -> Result<(), Fail>
     Ok(())
 }
 
-// The calls of the opening are the 8th to the 345th, the last 256 of which list the folders of objects; those of the reset follow.
-const LISTING: u64 = 90;
+// The calls of the opening are the 14th to the 376th, of which those from here on list the 256 folders of objects; those of the
+// reset follow.
+const FIRST_LISTING: u64 = 47;
 
-const RESET: u64 = 346;
+const LAST_LISTING: u64 = 302;
 
-const RESET_RENAME: u64 = 355;
+const RESET: u64 = 377;
 
-const RESET_SYNC: u64 = 356;
+const RESET_RENAME: u64 = 386;
+
+const RESET_SYNC: u64 = 387;
 
 fn check_failing_reset(rt: &impl Abort, alloc: Global, call: u64, done: bool) -> Result<(), Fail> {
     let ran = run_failing(alloc, b"reset main X", call, done)?;
@@ -111,11 +115,11 @@ fn check_failing_reset(rt: &impl Abort, alloc: Global, call: u64, done: bool) ->
 fn fails_at_each_call_of_a_reset(rt: HostRuntime) -> Result<(), Fail> {
     let alloc = rt.alloc();
     // of the calls that list, the first and the last
-    for call in 8..=LISTING {
+    for call in 14..=FIRST_LISTING {
         check_failing_reset(&rt, alloc, call, false)?;
         check_failing_reset(&rt, alloc, call, true)?;
     }
-    for call in 345..=357 {
+    for call in LAST_LISTING..=388 {
         check_failing_reset(&rt, alloc, call, false)?;
         check_failing_reset(&rt, alloc, call, true)?;
     }
@@ -143,11 +147,11 @@ fn halts_where_the_last_sync_fails(rt: HostRuntime) -> Result<(), Fail> {
     Ok(())
 }
 
-const DROP: u64 = 357;
+const DROP: u64 = 388;
 
-const DROP_UNLINK: u64 = 359;
+const DROP_UNLINK: u64 = 390;
 
-const DROP_SYNC: u64 = 360;
+const DROP_SYNC: u64 = 391;
 
 fn check_failing_drop(rt: &impl Abort, alloc: Global, call: u64, done: bool) -> Result<(), Fail> {
     let ran = run_failing(alloc, b"reset main X|drop main", call, done)?;
@@ -167,7 +171,7 @@ fn check_failing_drop(rt: &impl Abort, alloc: Global, call: u64, done: bool) -> 
 #[test]
 fn fails_at_each_call_of_a_drop(rt: HostRuntime) -> Result<(), Fail> {
     let alloc = rt.alloc();
-    for call in DROP..=361 {
+    for call in DROP..=392 {
         check_failing_drop(&rt, alloc, call, false)?;
         check_failing_drop(&rt, alloc, call, true)?;
     }
@@ -178,10 +182,12 @@ fn fails_at_each_call_of_a_drop(rt: HostRuntime) -> Result<(), Fail> {
 #[test]
 fn leaves_a_ref_at_each_moment(rt: HostRuntime) -> Result<(), Fail> {
     let alloc = rt.alloc();
-    let parts = run_lane(alloc, with_commit(alloc)?, b"reset main X")?;
+    let fs = with_commit(alloc)?;
+    let begin = fs.moments();
+    let parts = run_lane(alloc, fs, b"reset main X")?;
     assert!(rt; has_first(alloc, &parts.fs, 0)? && has_last(alloc, &parts.fs, 0)?);
     assert!(rt; !has_first(alloc, &parts.fs, 1)? && has_last(alloc, &parts.fs, 1)?);
-    for back in 2..parts.fs.moments() {
+    for back in 2..=parts.fs.moments().saturating_sub(begin) {
         assert!(rt; !has_first(alloc, &parts.fs, back)? && !has_last(alloc, &parts.fs, back)?);
     }
     Ok(())

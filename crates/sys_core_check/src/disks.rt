@@ -2,6 +2,7 @@
 ghost use Rattle.ost_types.specs.Mode.{IsFileMode, IsFolderMode};
 
 use crate::run;
+use crate::stores::{COMMIT, TWOS};
 use fs_memory::MemFs;
 use fs_trait::{Fs, Node};
 use ost_forms::{BodySpec, TreeItem};
@@ -11,12 +12,6 @@ use script::{Command, Lane, Reply, read_words, write_replies};
 use std::alloc::Global;
 use std::test::Fail;
 use sys_core::Parts;
-
-/// X in the lines of commands: the commit of `with_commit`.
-pub const ONES: &str = "1111111111111111111111111111111111111111111111111111111111111111";
-
-/// Y in the lines of commands.
-pub const TWOS: &str = "2222222222222222222222222222222222222222222222222222222222222222";
 
 fn folder_meta(alloc: Global) -> Meta
     ensures { IsFolderMode result.mode }
@@ -59,25 +54,6 @@ pub fn with_folders(alloc: Global, folders: &[&[u8]]) -> Result<MemFs, Fail> {
     Ok(fs)
 }
 
-/// A disk on which the commit of 64 digits 1 stands, after 7 calls.
-pub fn with_commit(alloc: Global) -> Result<MemFs, Fail> {
-    let folders: [&[u8]; 4] = [
-        b"/ostree",
-        b"/ostree/repo",
-        b"/ostree/repo/objects",
-        b"/ostree/repo/objects/11",
-    ];
-    let mut fs = with_folders(alloc, &folders)?;
-    add_file(
-        &mut fs,
-        alloc,
-        b"/ostree/repo/objects/11/11111111111111111111111111111111111111111111111111111111111111.commit",
-        b"",
-    )?;
-    fs.sync_all()?;
-    Ok(fs)
-}
-
 /// A disk with the folder of refs and that of staging paths.
 pub fn with_heads(alloc: Global) -> Result<MemFs, Fail> {
     let folders: [&[u8]; 5] = [
@@ -97,7 +73,7 @@ pub fn is_folder(fs: &mut MemFs, alloc: Global, at: &[u8]) -> Result<bool, Fail>
 
 fn spelled(text: &[u8]) -> &[u8] {
     match text {
-        b"X" => ONES.as_bytes(),
+        b"X" => COMMIT.as_bytes(),
         b"Y" => TWOS.as_bytes(),
         _ => text,
     }

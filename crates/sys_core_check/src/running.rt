@@ -1,11 +1,10 @@
 //! All commands of some lanes, on the repository of a file system.
 ghost use Rattle.std.specs.Prelude.{◌≡◌, ◌≤◌, ◌<◌, ℕ, Some, IsNone, IfSome, IfOk, IfErr, length, slice_index_or};
 ghost use Rattle.fs_trait.specs.View.{View};
-ghost use Rattle.layout_rules.specs.Checks.{IsSane};
 ghost use Rattle.sys_open.specs.Changes.{Changes, Works};
 ghost use Rattle.sys_core_check.specs.declared.running.NotRun.TheVariants as not_run;
 ghost use Rattle.script.specs.declared.command.Lane.{Lane};
-ghost use Rattle.sys_core_check.specs.Ran.{IsReason, LeftBy, Ran};
+ghost use Rattle.sys_core_check.specs.Ran.{AreShort, IsFirstLong, IsOpenable, IsReason, IsStop, LeftBy, MayRun, Ran, RanOn};
 ghost use Rattle.sys_core.specs.Fit.{AreFit};
 
 use crate::fit::are_fit;
@@ -36,9 +35,9 @@ fn run_opened<F: Fs>(
     lanes: Vec<Lane>,
 ) -> Result<Parts<F>, (F, NotRun)>
     requires few { length lanes.items ≤ 8 }
-    requires short { (l : ℕ) (d : Lane) → l < length lanes.items → length (slice_index_or lanes.items l d).commands.items ≤ 64 }
+    requires short { AreShort lanes.items }
     requires fit { AreFit opened.limits lanes.items }
-    ensures ran { IfOk result (Ran F.view F.clock F.was) }
+    ensures ran { IfOk result (RanOn F.view F.clock F.was opened lanes.items) }
     ensures back { IfErr result (λ e. (e.0 ≡ opened.fs) × (e.1 ≡ not_run.NoMemory)) }
 {
     match System::new(alloc, opened, lanes) {
@@ -53,18 +52,20 @@ fn run_opened<F: Fs>(
 
 /// The first lane with more than 64 commands.
 pub fn long_lane(lanes: &[Lane]) -> Option<usize>
-    ensures short { IsNone result → (l : ℕ) (d : Lane) → l < length lanes.now → length (slice_index_or lanes.now l d).commands.items ≤ 64 }
-    ensures long { IfSome result (λ l. (l < length lanes.now) × ((d : Lane) → 64 < length (slice_index_or lanes.now l d).commands.items)) }
+    ensures short { IsNone result → AreShort lanes.now }
+    ensures long { IfSome result (IsFirstLong lanes.now) }
 {
     lanes.iter().position(|lane| lane.commands.len() > 64)
 }
 
 /// Opens the repository of the file system, and runs all commands of the lanes. Where no lane is run the file system comes back.
 pub fn run<F: Fs>(alloc: Global, fs: F, lanes: Vec<Lane>) -> Result<Parts<F>, (F, NotRun)>
-    ensures ran { IfOk result (Ran F.view F.clock F.was) }
-    ensures sane { (v : View) → F.view fs ≡ Some v → IfOk result (λ p. IsSane v.now) }
-    ensures told { (v : View) → F.view fs ≡ Some v → IfErr result (λ e. IsReason lanes.items v.now e.1) }
-    ensures left { (v : View) → F.view fs ≡ Some v → IfErr result (λ e. LeftBy e.1 (e.0 ≡ fs) (Works (Changes v.now) v (F.clock fs) (F.clock e.0) (F.was fs) (F.was e.0) (F.view e.0))) }
+    ensures may { IfOk result (λ p. MayRun lanes.items) }
+    ensures ran { IfOk result (Ran F.view F.clock F.was fs lanes.items) }
+    ensures good { (v : View) → F.view fs ≡ Some v → IfOk result (λ p. IsOpenable v.now) }
+    ensures reason { IfErr result (λ e. IsReason lanes.items (e.0 ≡ fs) e.1) }
+    ensures told { (v : View) → F.view fs ≡ Some v → IfErr result (λ e. IsStop v.now e.1) }
+    ensures left { (v : View) → F.view fs ≡ Some v → IfErr result (λ e. LeftBy e.1 (Works (Changes v.now) v (F.clock fs) (F.clock e.0) (F.was fs) (F.was e.0) (F.view e.0))) }
 {
     if lanes.len() > 8 {
         return Err((fs, NotRun::TooManyLanes));

@@ -1,8 +1,6 @@
 //! What one lane of commands answers.
-use crate::disks::{
-    ONES, TWOS, add_file, add_folder, is_folder, run_lane, says, with_commit, with_folders,
-    with_heads,
-};
+use crate::disks::{add_file, add_folder, is_folder, run_lane, says, with_folders, with_heads};
+use crate::stores::{COMMIT, MARK, TWOS, with_commit};
 use crate::{NotRun, run};
 use fs_memory::MemFs;
 use fs_trait::Fs;
@@ -73,7 +71,7 @@ fn changes_a_ref(rt: HostRuntime) -> Result<(), Fail> {
         b"reset main X|rev-parse main|refs|rev-parse X",
     )?;
     let wanted = format!(in alloc;
-        "0 0 ok\n0 1 ok {ONES}\n0 2 ok 1\n main {ONES}\n0 3 ok {ONES}\n"
+        "0 0 ok\n0 1 ok {COMMIT}\n0 2 ok 1\n main {COMMIT}\n0 3 ok {COMMIT}\n"
     )?;
     assert!(rt; says(alloc, &parts.replies, wanted.as_str())?);
     assert!(rt; parts.history.len() == 1 && parts.pending.is_none());
@@ -101,10 +99,9 @@ fn tells_a_partial_commit(rt: HostRuntime) -> Result<(), Fail> {
     let alloc = rt.alloc();
     let mut fs = with_commit(alloc)?;
     add_folder(&mut fs, alloc, b"/ostree/repo/state")?;
-    let mark = format!(in alloc; "/ostree/repo/state/{ONES}.commitpartial")?;
-    add_file(&mut fs, alloc, mark.as_bytes(), b"")?;
+    add_file(&mut fs, alloc, MARK, b"")?;
     let parts = run_lane(alloc, fs, b"reset main X|rev-parse X")?;
-    let wanted = format!(in alloc; "0 0 refused Partial {ONES}\n0 1 refused Partial {ONES}\n")?;
+    let wanted = format!(in alloc; "0 0 refused Partial {COMMIT}\n0 1 refused Partial {COMMIT}\n")?;
     assert!(rt; says(alloc, &parts.replies, wanted.as_str())?);
     assert!(rt; parts.history.is_empty());
     Ok(())

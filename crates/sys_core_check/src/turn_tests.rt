@@ -1,9 +1,10 @@
 //! Lanes whose acts come one after the other.
 ghost use Rattle.std.specs.Prelude.{◌≡◌, IfOk};
 
-use crate::disks::{ONES, lane, says, tree_lane, with_commit};
+use crate::disks::{lane, says, tree_lane};
 use crate::fit::are_fit;
 use crate::running::long_lane;
+use crate::stores::{COMMIT, with_commit};
 use fs_memory::MemFs;
 use ost_types::{Csum, Limits};
 use script::{Answer, Lane, Reply};
@@ -110,7 +111,7 @@ fn waits_for_the_turn(rt: HostRuntime) -> Result<(), Fail> {
     assert!(rt; system.act(1) == Ask::More);
     assert!(rt; !interleave(&mut system, 100));
     let wanted = format!(in alloc;
-        "0 0 ok\n1 0 ok\n1 1 ok {ONES}\n1 2 ok 2\n a {ONES}\n b {ONES}\n"
+        "0 0 ok\n1 0 ok\n1 1 ok {COMMIT}\n1 2 ok 2\n a {COMMIT}\n b {COMMIT}\n"
     )?;
     assert!(rt; says(alloc, system.replies(), wanted.as_str())?);
     Ok(())
@@ -121,7 +122,7 @@ fn tells_a_ref_that_moved(rt: HostRuntime) -> Result<(), Fail> {
     let alloc = rt.alloc();
     let mut system = two_lanes(alloc, b"reset a X", b"reset a X")?;
     assert!(rt; interleave(&mut system, 100));
-    let wanted = format!(in alloc; "0 0 ok\n1 0 refused RefMoved none {ONES}\n")?;
+    let wanted = format!(in alloc; "0 0 ok\n1 0 refused RefMoved none {COMMIT}\n")?;
     assert!(rt; says(alloc, system.replies(), wanted.as_str())?);
     assert!(rt; system.history().len() == 1);
     Ok(())
@@ -181,9 +182,9 @@ fn commits_no_more_than_may_be(rt: HostRuntime) -> Result<(), Fail> {
     let alloc = rt.alloc();
     let lanes = vec![in alloc; tree_lane(alloc, b"main", b"refs")?]?;
     let mut limits = Limits::standard();
-    limits.objects = 3;
+    limits.objects = 5;
     let mut system = system_of(alloc, lanes, limits)?;
     system.drive(&[]);
-    assert!(rt; says(alloc, system.replies(), "0 0 refused TooMany 4\n0 1 ok 0\n")?);
+    assert!(rt; says(alloc, system.replies(), "0 0 refused TooMany 6\n0 1 ok 0\n")?);
     Ok(())
 }

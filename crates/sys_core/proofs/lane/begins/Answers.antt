@@ -1,4 +1,4 @@
-use Rattle.std.proofs.Common.{rules, ◌≡◌, ◌≤◌, ◌∙◌, ℕ, arith, sym, subst, ap, length, [], Option, Some, None}
+use Rattle.std.proofs.Common.{rules, ◌≡◌, ◌≤◌, ◌∙◌, ℕ, arith, inr, refl, sym, subst, ap, length, [], Option, Some, None}
 use Rattle.rely.specs.declared.books.Books as rust
 use Rattle.rely.specs.declared.kind.Outcome.{Outcome}
 use Rattle.rely.specs.declared.kind.Outcome.TheVariants as came
@@ -12,7 +12,7 @@ use Rattle.sys_core.specs.declared.lane.Came.TheVariants.{Answered, Blocked, Mor
 use Rattle.sys_core.specs.declared.run.Running.{Running}
 use Rattle.sys_core.specs.Answers.{IsHalted, IsTold, Shown, state_after}
 use Rattle.sys_core.specs.Begins.{AnswersBy}
-use Rattle.sys_core.specs.Counts.{CountsAt, CountsBy, IsFull}
+use Rattle.sys_core.specs.Counts.{CountsAt, CountsBy, IsFull, StoresBy}
 use Rattle.sys_core.specs.Left.{left_of}
 use Rattle.sys_core.specs.Lanes.{LaneActs, RunsIn, now_of}
 use Rattle.sys_core.specs.Pursues.{Goes, Pursues}
@@ -20,12 +20,15 @@ use Rattle.sys_core.specs.Turns.{HasTurn, RunsBehind, Turns}
 use Rattle.sys_core.proofs.Filling.{by_full, ended_full}
 use Rattle.sys_core.proofs.Going.{answers_by, begun_goes, ended_halts, goes_ended, goes_more, has_answer}
 use Rattle.sys_core.proofs.Lanes.{begin_ready, ended_runs, nothing_acts, runs_told, step_acts, tells_more}
+use Rattle.sys_core.proofs.Pinning.{pins_more, pins_over}
 use Rattle.sys_core.proofs.Prefixes.{state_all}
 use Rattle.sys_core.proofs.Pursuing.{pursues_begins, pursues_told}
 use Rattle.sys_core.proofs.Seeing.{by_shown, ended_shown}
+use Rattle.sys_core.proofs.Storing.{stores_more}
 use Rattle.sys_core.proofs.Turning.{begins_turn, halts_of, turn_told, turns_answered, turns_held, turns_more, turns_over}
 use Rattle.rely.proofs.Sounds.{IsFs}
 use Rattle.sys_core.proofs.Carrying.{same_carried}
+use Rattle.sys_core.proofs.Written.{nothing_written, step_written}
 use Rattle.sys_core.proofs.lane.begins.Goals as goal
 
 -- what the command was after before
@@ -256,3 +259,78 @@ pub returns-in-Answered-clause-carried : goal.returns-in-Answered-clause-carried
 returns-in-Answered-clause-carried g c =
     let laws : IsFs g.F.Fs.view g.F.Fs.clock g.F.Fs.was = record { only_now = g.met.F.Fs.only_now; bound = g.met.F.Fs.bound; told = g.met.F.Fs.told } in
     same_carried g.F.Fs.view g.F.Fs.clock g.F.Fs.was laws c.args.base.now
+
+pub returns-in-Blocked-clause-wrote : goal.returns-in-Blocked-clause-wrote
+returns-in-Blocked-clause-wrote g c = λ v told.
+    let b = c.args.base.now.books in
+    let t = c.in-Runs.work in
+    let ready = begin_ready g.F.Fs.view g.F.Fs.clock g.F.Fs.spare g.F.Fs.was c.args.lane c.args.base.now c.args.refs.now t c.requires.sound c.requires.live c.requires.facts c.in-Runs.ensures.begun.0 in
+    step_written c.args.limits c.args.lane c.args.objects.now (state_after (first b.start.items) b.history.items (length b.history.items)) c.args.command.now (books_of b) v t (g.F.Fs.view c.told_act.new.base.fs)
+    (subst (λ (s : State). Pursues c.args.limits s c.args.command.now t) (sym (state_all (first b.start.items) b.history.items)) (pursues_begins c.args.limits c.args.lane (now_of b) c.args.command.now t (c.in-Runs.ensures.by (now_of b) c.requires.tracks)))
+    (ready.task.facts v told) (c.told_act.ensures.wrote v told)
+
+pub returns-in-More-clause-wrote : goal.returns-in-More-clause-wrote
+returns-in-More-clause-wrote g c = λ v told.
+    let b = c.args.base.now.books in
+    let t = c.in-Runs.work in
+    let ready = begin_ready g.F.Fs.view g.F.Fs.clock g.F.Fs.spare g.F.Fs.was c.args.lane c.args.base.now c.args.refs.now t c.requires.sound c.requires.live c.requires.facts c.in-Runs.ensures.begun.0 in
+    step_written c.args.limits c.args.lane c.args.objects.now (state_after (first b.start.items) b.history.items (length b.history.items)) c.args.command.now (books_of b) v t (g.F.Fs.view c.told_act.new.base.fs)
+    (subst (λ (s : State). Pursues c.args.limits s c.args.command.now t) (sym (state_all (first b.start.items) b.history.items)) (pursues_begins c.args.limits c.args.lane (now_of b) c.args.command.now t (c.in-Runs.ensures.by (now_of b) c.requires.tracks)))
+    (ready.task.facts v told) (c.told_act.ensures.wrote v told)
+
+pub returns-in_default-clause-wrote : goal.returns-in_default-clause-wrote
+returns-in_default-clause-wrote g c = λ v told.
+    let b = c.args.base.now.books in
+    let t = c.in-Runs.work in
+    let ready = begin_ready g.F.Fs.view g.F.Fs.clock g.F.Fs.spare g.F.Fs.was c.args.lane c.args.base.now c.args.refs.now t c.requires.sound c.requires.live c.requires.facts c.in-Runs.ensures.begun.0 in
+    step_written c.args.limits c.args.lane c.args.objects.now (state_after (first b.start.items) b.history.items (length b.history.items)) c.args.command.now (books_of b) v t (g.F.Fs.view c.told_act.new.base.fs)
+    (subst (λ (s : State). Pursues c.args.limits s c.args.command.now t) (sym (state_all (first b.start.items) b.history.items)) (pursues_begins c.args.limits c.args.lane (now_of b) c.args.command.now t (c.in-Runs.ensures.by (now_of b) c.requires.tracks)))
+    (ready.task.facts v told) (c.told_act.ensures.wrote v told)
+
+pub returns-in-Answered-clause-wrote : goal.returns-in-Answered-clause-wrote
+returns-in-Answered-clause-wrote g c = λ v told.
+    let b = c.args.base.now.books in
+    nothing_written c.args.limits c.args.lane c.args.objects.now (state_after (first b.start.items) b.history.items (length b.history.items)) c.args.command.now (books_of b) v (g.F.Fs.view c.args.base.now.fs) told
+
+pub returns-in-Answered-clause-pins : goal.returns-in-Answered-clause-pins
+returns-in-Answered-clause-pins g c = λ live. inr (refl, refl)
+
+pub returns-in-Blocked-clause-pins : goal.returns-in-Blocked-clause-pins
+returns-in-Blocked-clause-pins g c = λ live. ap (λ b. b.books.pins.items) (c.told_act.ensures.blocked c.in-Blocked.is).0
+
+pub returns-in-More-clause-pins : goal.returns-in-More-clause-pins
+returns-in-More-clause-pins g c =
+    let t = c.in-Runs.work in
+    let b = c.args.base.now.books in
+    let from : c.len-start.result ≡ length b.history.items = search rules in
+    let after = subst (λ (s : State). Pursues c.args.limits s c.args.command.now t) (sym (start_is b c.len-start.result from)) (pursues_begins c.args.limits c.args.lane (now_of b) c.args.command.now t (c.in-Runs.ensures.by (now_of b) c.requires.tracks)) in
+    pins_more c.args.limits c.args.lane c.args.command.now b c.told_act.new.base.books c.len-start.result t c.told_act.result c.told_act.ensures.pins c.in-More.is after _ c.told_act.new.work c.replace.ensures.after None
+
+pub returns-in_default-clause-pins : goal.returns-in_default-clause-pins
+returns-in_default-clause-pins g c =
+    let e = c.told_act.ensures in
+    let k = c.ends.ensures in
+    pins_over c.args.limits c.args.lane c.args.command.now c.args.base.now.books c.told_act.new.base.books c.len-start.result c.in-Runs.work c.told_act.result e.pins
+    (halts_of g.F.Fs.view (Runs lane_kind lane_facts c.args.lane c.told_act.new.work) c.told_act.result c.told_act.new.base e.acts.tells) (λ is. c.in_default.not-Blocked is) (λ is. c.in_default.not-More is) None _ c.ends.result k.0 c.len-start.result k.1
+
+pub returns-in-Answered-clause-stores : goal.returns-in-Answered-clause-stores
+returns-in-Answered-clause-stores g c = λ v seen. tt
+
+pub returns-in-Blocked-clause-stores : goal.returns-in-Blocked-clause-stores
+returns-in-Blocked-clause-stores g c = λ v seen. tt
+
+pub returns-in-More-clause-stores : goal.returns-in-More-clause-stores
+returns-in-More-clause-stores g c = λ v seen.
+    let e = c.told_act.ensures in
+    let t = c.in-Runs.work in
+    let b = c.args.base.now.books in
+    let from : c.len-start.result ≡ length b.history.items = search rules in
+    let did = e.did (λ z. let n : came.More ≡ came.Blocked = sym c.in-More.is ∙ z in cc) in
+    let after = subst (λ (s : State). Pursues c.args.limits s c.args.command.now t) (sym (start_is b c.len-start.result from)) (pursues_begins c.args.limits c.args.lane (now_of b) c.args.command.now t (c.in-Runs.ensures.by (now_of b) c.requires.tracks)) in
+    subst (λ (o : Option Running). StoresBy c.args.limits c.args.objects.now v o More) (sym c.replace.ensures.after)
+    (stores_more c.args.limits _ c.args.command.now c.args.objects.now t c.told_act.new.work c.told_act.result _ _ c.in-More.is after did.tells v seen)
+
+pub returns-in_default-clause-stores : goal.returns-in_default-clause-stores
+returns-in_default-clause-stores g c = λ v seen.
+    let k = c.ends.ensures in
+    subst (λ (x : Came). StoresBy c.args.limits c.args.objects.now v c.args.run.now.task x) (sym k.1) tt

@@ -11,17 +11,20 @@ use Rattle.sys_core.specs.declared.lane.Came.{Came}
 use Rattle.sys_core.specs.declared.lane.Came.TheVariants.{Answered, Blocked, More}
 use Rattle.sys_core.specs.declared.run.Running.{Running}
 use Rattle.sys_core.specs.Answers.{IsHalted, IsTold, Shown, state_after}
-use Rattle.sys_core.specs.Counts.{CountsAt, CountsBy, IsFull}
+use Rattle.sys_core.specs.Counts.{CountsAt, CountsBy, IsFull, StoresBy}
 use Rattle.sys_core.specs.Lanes.{HasRoomFor, LaneActs}
 use Rattle.sys_core.specs.Pursues.{Goes}
 use Rattle.sys_core.specs.Turns.{HasTurn, RunsBehind, Turns}
 use Rattle.sys_core.proofs.Filling.{ended_full}
 use Rattle.sys_core.proofs.Going.{ended_halts, goes_ended, goes_more, has_answer}
 use Rattle.sys_core.proofs.Lanes.{ended_runs, runs_told, step_acts, tells_blocked, tells_more}
+use Rattle.sys_core.proofs.Pinning.{pins_more, pins_over}
 use Rattle.sys_core.proofs.Pursuing.{pursues_told}
 use Rattle.sys_core.proofs.Seeing.{ended_shown}
 use Rattle.sys_core.proofs.Steps.{room_more}
+use Rattle.sys_core.proofs.Storing.{stores_more}
 use Rattle.sys_core.proofs.Turning.{asks_waits, halts_of, turn_told, turns_held, turns_more, turns_over}
+use Rattle.sys_core.proofs.Written.{step_written}
 use Rattle.sys_core.proofs.lane.goes_on.Goals as goal
 
 pub told_act-requires-clause-ready : goal.told_act-requires-clause-ready
@@ -200,3 +203,52 @@ returns-in-More-clause-carried g c = c.told_act.ensures.carried
 
 pub returns-in_default-clause-carried : goal.returns-in_default-clause-carried
 returns-in_default-clause-carried g c = c.told_act.ensures.carried
+
+pub returns-in-Blocked-clause-wrote : goal.returns-in-Blocked-clause-wrote
+returns-in-Blocked-clause-wrote g c = λ v told.
+    let b = c.args.base.now.books in
+    step_written c.args.limits c.args.lane c.args.objects.now (state_after (first b.start.items) b.history.items c.args.running.start) c.args.command.now (books_of b) v c.args.running.work (g.F.Fs.view c.told_act.new.base.fs)
+    c.requires.after (c.requires.facts.runs.0.facts v told) (c.told_act.ensures.wrote v told)
+
+pub returns-in-More-clause-wrote : goal.returns-in-More-clause-wrote
+returns-in-More-clause-wrote g c = λ v told.
+    let b = c.args.base.now.books in
+    step_written c.args.limits c.args.lane c.args.objects.now (state_after (first b.start.items) b.history.items c.args.running.start) c.args.command.now (books_of b) v c.args.running.work (g.F.Fs.view c.told_act.new.base.fs)
+    c.requires.after (c.requires.facts.runs.0.facts v told) (c.told_act.ensures.wrote v told)
+
+pub returns-in_default-clause-wrote : goal.returns-in_default-clause-wrote
+returns-in_default-clause-wrote g c = λ v told.
+    let b = c.args.base.now.books in
+    step_written c.args.limits c.args.lane c.args.objects.now (state_after (first b.start.items) b.history.items c.args.running.start) c.args.command.now (books_of b) v c.args.running.work (g.F.Fs.view c.told_act.new.base.fs)
+    c.requires.after (c.requires.facts.runs.0.facts v told) (c.told_act.ensures.wrote v told)
+
+pub returns-in-Blocked-clause-pins : goal.returns-in-Blocked-clause-pins
+returns-in-Blocked-clause-pins g c = λ live. ap (λ b. b.books.pins.items) (c.told_act.ensures.blocked c.in-Blocked.is).0
+
+pub returns-in-More-clause-pins : goal.returns-in-More-clause-pins
+returns-in-More-clause-pins g c =
+    pins_more c.args.limits c.args.lane c.args.command.now c.args.base.now.books c.told_act.new.base.books c.args.running.start c.args.running.work c.told_act.result c.told_act.ensures.pins c.in-More.is c.requires.after _ c.told_act.new.work c.replace-in-More.ensures.after
+    (Some c.args.running)
+
+pub returns-in_default-clause-pins : goal.returns-in_default-clause-pins
+returns-in_default-clause-pins g c =
+    let e = c.told_act.ensures in
+    let k = c.ends.ensures in
+    pins_over c.args.limits c.args.lane c.args.command.now c.args.base.now.books c.told_act.new.base.books c.args.running.start c.args.running.work c.told_act.result e.pins
+    (halts_of g.F.Fs.view (Runs lane_kind lane_facts c.args.lane c.told_act.new.work) c.told_act.result c.told_act.new.base e.acts.tells) (λ is. c.in_default.not-Blocked is) (λ is. c.in_default.not-More is) (Some c.args.running) _ c.ends.result k.0 c.args.running.start k.1
+
+pub returns-in-Blocked-clause-stores : goal.returns-in-Blocked-clause-stores
+returns-in-Blocked-clause-stores g c = λ v seen. tt
+
+pub returns-in-More-clause-stores : goal.returns-in-More-clause-stores
+returns-in-More-clause-stores g c = λ v seen.
+    let e = c.told_act.ensures in
+    let b = c.args.base.now in
+    let did = e.did (λ z. let n : came.More ≡ came.Blocked = sym c.in-More.is ∙ z in cc) in
+    subst (λ (o : Option Running). StoresBy c.args.limits c.args.objects.now v o More) (sym c.replace-in-More.ensures.after)
+    (stores_more c.args.limits (state_after (first b.books.start.items) b.books.history.items c.args.running.start) c.args.command.now c.args.objects.now c.args.running.work c.told_act.new.work c.told_act.result _ _ c.in-More.is c.requires.after did.tells v seen)
+
+pub returns-in_default-clause-stores : goal.returns-in_default-clause-stores
+returns-in_default-clause-stores g c = λ v seen.
+    let k = c.ends.ensures in
+    subst (λ (x : Came). StoresBy c.args.limits c.args.objects.now v c.args.run.now.task x) (sym k.1) tt

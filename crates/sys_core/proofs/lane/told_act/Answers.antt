@@ -3,7 +3,9 @@ use Rattle.rely.specs.declared.kind.Outcome.TheVariants as came
 use Rattle.rely.specs.Books.{books_of}
 use Rattle.lane_work.specs.Commands.{told}
 use Rattle.sys_core.specs.Did.{Did}
+use Rattle.sys_core.proofs.Pinning.{pins_told}
 use Rattle.sys_core.proofs.Told.{acts_as, acts_held, counts_rest, did_of, told_again, told_opens, told_ready, told_room}
+use Rattle.sys_core.proofs.Written.{wrote_told}
 use Rattle.sys_core.proofs.lane.told_act.Goals as goal
 
 pub running_act-requires-clause-ready : goal.running_act-requires-clause-ready
@@ -96,6 +98,7 @@ returns-in_default g c =
     record {
       acts = e.acts;
       carried = e.carried;
+      wrote = wrote_told g.F.Fs.view c.args.lane c.args.objects.now c.args.work.now c.tell-former.new.self c.args.base.now c.running_act.new.base c.tell-former.ensures.told e.wrote;
       tracks = e.tracks;
       rooms = e.rooms;
       room = e.room;
@@ -105,6 +108,7 @@ returns-in_default g c =
           c.tell-former.ensures.told e.steps e.tells (e.opens n) e.locks e.booked;
       cause = e.cause;
       home = e.home;
+      pins = pins_told c.args.lane c.args.objects.now c.args.work.now c.tell-former.new.self c.running_act.result c.running_act.result c.args.base.now.books.pins.items c.running_act.new.base.books.pins.items c.tell-former.ensures.told refl e.pins;
       over = e.over;
       counts = counts_rest c.args.objects.now c.running_act.new.work c.running_act.result (λ n. c.in_default.not-More n);
       made = λ n. absurd (c.in_default.not-More n);
@@ -115,3 +119,16 @@ returns-in-Blocked-clause-carried g c = c.running_act.ensures.carried
 
 pub returns-in-More-clause-carried : goal.returns-in-More-clause-carried
 returns-in-More-clause-carried g c = c.running_act.ensures.carried
+
+pub returns-in-Blocked-clause-wrote : goal.returns-in-Blocked-clause-wrote
+returns-in-Blocked-clause-wrote g c = wrote_told g.F.Fs.view c.args.lane c.args.objects.now c.args.work.now c.tell-former.new.self c.args.base.now c.running_act.new.base c.tell-former.ensures.told c.running_act.ensures.wrote
+
+pub returns-in-More-clause-wrote : goal.returns-in-More-clause-wrote
+returns-in-More-clause-wrote g c = wrote_told g.F.Fs.view c.args.lane c.args.objects.now c.args.work.now c.tell-former.new.self c.args.base.now c.running_act.new.base c.tell-former.ensures.told c.running_act.ensures.wrote
+
+pub returns-in-Blocked-clause-pins : goal.returns-in-Blocked-clause-pins
+returns-in-Blocked-clause-pins g c = ap (λ b. b.books.pins.items) (c.running_act.ensures.blocked c.in-Blocked.is).0
+
+pub returns-in-More-clause-pins : goal.returns-in-More-clause-pins
+returns-in-More-clause-pins g c =
+    pins_told c.args.lane c.args.objects.now c.args.work.now c.tell-former.new.self c.running_act.result came.More c.args.base.now.books.pins.items c.running_act.new.base.books.pins.items c.tell-former.ensures.told c.in-More.is c.running_act.ensures.pins

@@ -1,6 +1,6 @@
 use Rattle.std.proofs.Common.{rules, ◌≡◌, ◌≤◌, ◌+◌, subst, sym, ap, arith, length, length-append, get_or, ◌∷◌, []}
 use Rattle.std.specs.Vec.{vec_capacity}
-use Rattle.sys_core.specs.Booked.{HasRoomFor}
+use Rattle.sys_core.specs.Booked.{HasReplyRoom}
 use Rattle.sys_core.proofs.Starting.{room_push}
 use Rattle.sys_core.proofs.prepare.room.Goals as goal
 
@@ -12,7 +12,7 @@ loop-lane-preserved c =
     let at : get_or c.args.lanes.now c.loop-lane.lane-index x ≡ x = search rules in
     let enough : length x.commands.items ≤ vec_capacity v = search rules in
     record {
-      room = subst (HasRoomFor c.args.lanes.now (c.loop-lane.lane-index + 1)) (sym c.in_ok-push.ensures.items)
+      room = subst (HasReplyRoom c.args.lanes.now (c.loop-lane.lane-index + 1)) (sym c.in_ok-push.ensures.items)
           (room_push c.args.lanes.now c.loop-lane.lane-index old v x c.loop-lane-test.true c.loop-lane.invariant.all c.loop-lane.invariant.room c.in_ok-with_capacity.ensures.items at enough);
       all = omega (arith, ap length c.in_ok-push.ensures.items, length-append old (v ∷ []), c.loop-lane.invariant.all);
     }

@@ -1,4 +1,4 @@
-use Rattle.std.proofs.Common.{rules, ◌≡◌, ◌<◌, ◌≤◌, ◌∙◌, ◌+◌, ap, sym, subst, refl, arith, List, length, get_or, set, false, None}
+use Rattle.std.proofs.Common.{rules, ◌≡◌, ◌<◌, ◌≤◌, ◌∙◌, ◌+◌, ap, sym, subst, refl, arith, List, length, get_or, set, false, Some, None}
 use Rattle.std.proofs.lemmas.List.{length-map, map-set, set-set}
 use Rattle.script.specs.declared.answer.Reply.{Reply}
 use Rattle.script.specs.declared.command.Lane.{Lane}
@@ -7,10 +7,11 @@ use Rattle.sys_core.specs.declared.run.Run.{Run}
 use Rattle.rely.specs.State.{first}
 use Rattle.commit_build.specs.Whole.{IsCounted}
 use Rattle.sys_core.specs.Answers.{Shown, state_after}
-use Rattle.sys_core.specs.Counts.{Counted, met_of}
+use Rattle.sys_core.specs.Counts.{Counted, HadRoom, met_of}
 use Rattle.sys_core.specs.Replied.{IsCommand}
 use Rattle.sys_core.specs.Lanes.{Kept}
-use Rattle.sys_core.specs.Booked.{Acted, Booked, HasCommand, Tells, replies_of}
+use Rattle.sys_core.specs.Booked.{Acted, Booked, HasCommand, AnswerTells, replies_of}
+use Rattle.sys_core.specs.Pins.{AreInWork}
 use Rattle.sys_core.specs.Pursues.{Accounted}
 use Rattle.sys_core.specs.Left.{left_of}
 use Rattle.sys_core.specs.Ranks.{IsHeldOff, Ranked}
@@ -19,9 +20,17 @@ use Rattle.sys_core.proofs.Ordering.{holder_has, ordered_act, ordered_held, turn
 use Rattle.sys_core.proofs.Ranking.{ranked_done, ranked_more, ranked_same, work_at}
 use Rattle.sys_core.proofs.Acting.{system_of, fewer, not_fewer, given_length, has_command, no_command}
 use Rattle.sys_core.proofs.Acts.{act_command, accounted_held, after_of, held_runs, mine_of, next_of, to_replies}
-use Rattle.sys_core.proofs.Accounting.{accounted_given, accounted_more, count_bound, given_place, given_start, given_started, more_started, one_command, start_said}
+use Rattle.sys_core.proofs.Accounting.{accounted_given, accounted_more, count_bound, given_place, given_start, given_started, more_started, one_command, start_said, start_view, s_within}
 use Rattle.sys_core.proofs.Keeping.{kept_number}
+use Rattle.sys_core.proofs.Pinning.{pinned_held, pinned_more, pinned_over}
 use Rattle.sys_core.proofs.Lasting.{act_keeps_of, each_row, held_keeps}
+use Rattle.std.proofs.lemmas.List.{length-map}
+use Rattle.fs_trait.specs.Image.{Told}
+use Rattle.rely.specs.Books.{books_of}
+use Rattle.sys_core.specs.Pursues.{start_in}
+use Rattle.sys_core.specs.Storing.{HasWritten}
+use Rattle.sys_core.proofs.Stored.{act_stores_of, held_stores}
+use Rattle.sys_core.proofs.Storing.{bounded_by}
 use Rattle.sys_core.proofs.system.System.act.Goals as goal
 
 pub returns-in_default-clause-acted : goal.returns-in_default-clause-acted
@@ -79,6 +88,7 @@ invariant_of-self g c =
       accounted_held g.F.Fs.view g.F.Fs.faults i.limits i.base c.turn-came.new.base i.lanes.items i.runs.items c.turn-came.new.runs.items (replies_of i.replies.items) i.given c.args.actor r c.self.invariant.2 (e.blocked refl) (e.run r) (e.number r) (e.goes r).0,
       (λ live. ordered_held i.base.books c.turn-came.new.base.books i.lanes.items i.runs.items c.turn-came.new.runs.items (ap (λ b. b.books) (e.blocked refl)) (held_runs i.runs.items c.turn-came.new.runs.items c.args.actor r (e.run r) (e.number r) (e.goes r).0) (c.self.invariant.3 (e.waits refl))),
       c.self.invariant.4,
+      (λ live. pinned_held i.base.books c.turn-came.new.base.books i.lanes.items i.runs.items c.turn-came.new.runs.items (ap (λ b. b.books) (e.blocked refl)) (held_runs i.runs.items c.turn-came.new.runs.items c.args.actor r (e.run r) (e.number r) (e.goes r).0) (c.self.invariant.5 (e.waits refl))),
     )
 
 pub invariant_of-self-in-More : goal.invariant_of-self-in-More
@@ -108,6 +118,12 @@ invariant_of-self-in-More g c =
           (ordered_act i.base.books new.books i.lanes.items i.runs.items (c.self.invariant.3 (e.live refl)) c.args.actor in_runs run (t.mine live) (t.others live) (e.others (e.live refl))
           (λ looked d. omega (arith, has.1 d, given_length i.base i.lanes.items i.runs.items i.replies.items i.limits i.objects c.args.actor booked within r, e.number r)))),
       c.self.invariant.4,
+      (λ live. let go = e.goes r in
+          let k = subst (λ n. IsCommand i.lanes.items c.args.actor n c.in-Some.command.now) (sym (e.number r)) command in
+          subst (λ (l : List Run). AreInWork new.books i.lanes.items l) (sym (e.run r))
+          (pinned_more i.base.books new.books i.lanes.items i.runs.items (c.self.invariant.5 (e.live refl)) e.start e.grows.0 e.grows.1 c.args.actor in_runs r run go.0 go.1 go.2
+          (subst (λ n. n ≤ length i.base.books.history.items) (sym go.2) (s_within g.F.Fs.view g.F.Fs.faults i.limits i.base new i.lanes.items i.runs.items (replies_of i.replies.items) i.given acc c.args.actor in_runs run r c.in-Some.command.now command next c.turn-came.ensures.start))
+          (e.number r) c.in-Some.command.now k (e.pins r (e.live refl) live))),
     )
 
 pub number_of-requires : goal.number_of-requires
@@ -188,6 +204,9 @@ invariant_of-self-in-Answered g c =
           (ordered_act i.base.books new.books i.lanes.items i.runs.items (c.self.invariant.3 was) c.args.actor in_runs after (t.mine live) (t.others live) (e.others was)
           (λ looked d. absurd (subst RunsBehind (e.goes r).0 looked)))),
       c.self.invariant.4,
+      (λ live. let was = was_live i.base.books new.books (λ over. ap (λ b. b.books) (e.stays over)) live in
+          subst (λ (l : List Run). AreInWork new.books i.lanes.items l) (sym all)
+          (pinned_over i.base.books new.books i.lanes.items i.runs.items (c.self.invariant.5 was) e.start e.grows.0 e.grows.1 c.args.actor in_runs r after run.task c.in-Answered.answer c.in-Answered.start (e.pins r was live))),
     )
 
 pub returns-in-Blocked-clause-acted : goal.returns-in-Blocked-clause-acted
@@ -230,7 +249,7 @@ returns-in-More-clause-acted g c =
     let has = has_command i.base i.lanes.items i.runs.items i.replies.items i.limits i.objects c.args.actor booked within r c.index-2.result.now
     (omega (arith, few, ap length c.deref.ensures.value, ap (λ (x : Lane). length x.commands.items) c.index-2.ensures, ap (λ (x : Run). x.command) c.index.ensures)) in
     let e = c.in-More.ensures in
-    subst (λ s. Acted (Tells g.F.Fs.view (g.F.Fs.faults s.base.fs) (g.F.Fs.faults new.fs) s c.args.actor) s (system_of new i.lanes.items now i.replies.items i.limits c.turn-came.new.objects) c.args.actor More) (sym view)
+    subst (λ s. Acted (AnswerTells g.F.Fs.view (g.F.Fs.faults s.base.fs) (g.F.Fs.faults new.fs) s c.args.actor) s (system_of new i.lanes.items now i.replies.items i.limits c.turn-came.new.objects) c.args.actor More) (sym view)
     (has, refl, more_started g.F.Fs.view g.F.Fs.faults i.limits i.base new i.lanes.items i.runs.items (replies_of i.replies.items) i.given acc c.args.actor in_runs run r c.in-Some.command.now command next c.turn-came.ensures.start (e.goes r) now (e.run r), (e.start, e.opened, e.grows.0, e.grows.1, refl))
 
 pub returns-in-Answered-clause-acted : goal.returns-in-Answered-clause-acted
@@ -259,7 +278,7 @@ returns-in-Answered-clause-acted g c =
     let number = ap (λ (x : Run). x.command) c.index.ensures ∙ sym (given_length i.base i.lanes.items i.runs.items i.replies.items i.limits i.objects c.args.actor booked within r) in
     let begun = start_said g.F.Fs.view g.F.Fs.faults i.limits i.base new i.lanes.items i.runs.items (replies_of i.replies.items) i.given acc c.args.actor in_runs run r c.in-Some.command.now command next c.turn-came.ensures.start c.in-Answered.answer c.in-Answered.start (e.goes r) in
     let reply : Reply = record { answer = c.in-Answered.answer; start = c.number_of.result; place = c.number_of-in-Answered.result; order = i.given; taken = None } in
-    subst (λ s. Acted (Tells g.F.Fs.view (g.F.Fs.faults s.base.fs) (g.F.Fs.faults new.fs) s c.args.actor) s (system_of new i.lanes.items c.book.new.runs.items c.book.new.replies.items i.limits c.turn-came.new.objects) c.args.actor (Done c.args.actor c.index.result.now.command)) (sym view) (
+    subst (λ s. Acted (AnswerTells g.F.Fs.view (g.F.Fs.faults s.base.fs) (g.F.Fs.faults new.fs) s c.args.actor) s (system_of new i.lanes.items c.book.new.runs.items c.book.new.replies.items i.limits c.turn-came.new.objects) c.args.actor (Done c.args.actor c.index.result.now.command)) (sym view) (
       has,
       refl,
       number,
@@ -417,3 +436,91 @@ returns-in-Answered-clause-lasts g c =
     let acc = (invariant_of-self-in-Answered g c).2 in
     act_keeps_of g.F.Fs.view g.F.Fs.clock g.F.Fs.was c.args.self.now (system_of i.base i.lanes.items i.runs.items i.replies.items i.limits i.objects) (system_of new i.lanes.items c.book.new.runs.items c.book.new.replies.items i.limits c.turn-came.new.objects) (g.F.Fs.faults c.args.self.now.base.fs) (g.F.Fs.faults new.fs) c.args.actor (Done c.args.actor c.index.result.now.command) view refl c.self.invariant.4 (each_row i.lanes.items i.runs.items i.replies.items c.self.invariant.1)
     c.self.invariant.2.replied acc.replied c.in-Answered.ensures.carried (returns-in-Answered-clause-acted g c)
+
+-- the store stays good
+pub returns-in_default-clause-good : goal.returns-in_default-clause-good
+returns-in_default-clause-good g c = λ v told stored. (v, told, stored)
+
+pub returns-in-Blocked-clause-good : goal.returns-in-Blocked-clause-good
+returns-in-Blocked-clause-good g c = λ v told stored. held_stores g.F.Fs.view g.F.Fs.was _ _ (returns-in-Blocked-clause-acted g c).1 v told stored
+
+pub returns-in-More-clause-good : goal.returns-in-More-clause-good
+returns-in-More-clause-good g c =
+    let i = c.self.inside in
+    let r = c.index.result.now in
+    let new = c.turn-came.new.base in
+    let e = c.in-More.ensures in
+    let within : c.args.actor < length i.lanes.items = search rules in
+    let few : c.index.result.now.command < length c.deref.result.now = fewer _ _ c.in-Some.ensures.lookup.0 in
+    let at : get_or c.deref.result.now c.index.result.now.command c.in-Some.command.now ≡ c.in-Some.command.now = search rules in
+    let command = act_command i.lanes.items c.args.actor i.runs.items r c.index-2.result.now c.deref.result.now c.in-Some.command.now within c.index.ensures c.index-2.ensures c.deref.ensures.value few at in
+    let booked = c.self.invariant.1 in
+    let in_runs : c.args.actor < length i.runs.items = omega (arith, booked.each_runs, within) in
+    let view : c.args.self.now ≡ system_of i.base i.lanes.items i.runs.items i.replies.items i.limits i.objects = search rules in
+    act_stores_of g.F.Fs.view g.F.Fs.clock g.F.Fs.was g.met.F.Fs.only_now c.args.self.now (system_of i.base i.lanes.items i.runs.items i.replies.items i.limits i.objects) (system_of new i.lanes.items c.turn-came.new.runs.items i.replies.items i.limits c.turn-came.new.objects) (g.F.Fs.faults c.args.self.now.base.fs) (g.F.Fs.faults new.fs) c.args.actor More
+    view (returns-in-More-clause-acted g c) refl (length-map i.runs.items (λ (x : Run). start_in x.task) ∙ booked.each_runs) (each_row i.lanes.items i.runs.items i.replies.items booked) c.self.invariant.2.replied refl e.opened
+    e.carried (λ w told. (e.kept.sound.stands w told).folders)
+    c.in-Some.command.now (subst (λ n. IsCommand i.lanes.items c.args.actor n c.in-Some.command.now) (sym (given_length i.base i.lanes.items i.runs.items i.replies.items i.limits i.objects c.args.actor booked within r)) command) (λ z. cc) (λ z. cc)
+    (λ v told. subst (λ n. Told (g.F.Fs.view new.fs) (HasWritten i.limits c.args.actor i.objects (state_after (first i.base.books.start.items) i.base.books.history.items n) c.in-Some.command.now (books_of i.base.books) v)) (sym (start_view i.runs.items c.args.actor r i.base.books.history.items in_runs)) (e.wrote r v told))
+
+pub returns-in-Answered-clause-good : goal.returns-in-Answered-clause-good
+returns-in-Answered-clause-good g c =
+    let i = c.self.inside in
+    let r = c.index.result.now in
+    let new = c.turn-came.new.base in
+    let e = c.in-Answered.ensures in
+    let within : c.args.actor < length i.lanes.items = search rules in
+    let few : c.index.result.now.command < length c.deref.result.now = fewer _ _ c.in-Some.ensures.lookup.0 in
+    let at : get_or c.deref.result.now c.index.result.now.command c.in-Some.command.now ≡ c.in-Some.command.now = search rules in
+    let command = act_command i.lanes.items c.args.actor i.runs.items r c.index-2.result.now c.deref.result.now c.in-Some.command.now within c.index.ensures c.index-2.ensures c.deref.ensures.value few at in
+    let booked = c.self.invariant.1 in
+    let in_runs : c.args.actor < length i.runs.items = omega (arith, booked.each_runs, within) in
+    let view : c.args.self.now ≡ system_of i.base i.lanes.items i.runs.items i.replies.items i.limits i.objects = search rules in
+    act_stores_of g.F.Fs.view g.F.Fs.clock g.F.Fs.was g.met.F.Fs.only_now c.args.self.now (system_of i.base i.lanes.items i.runs.items i.replies.items i.limits i.objects) (system_of new i.lanes.items c.book.new.runs.items c.book.new.replies.items i.limits c.turn-came.new.objects) (g.F.Fs.faults c.args.self.now.base.fs) (g.F.Fs.faults new.fs) c.args.actor (Done c.args.actor c.index.result.now.command)
+    view (returns-in-Answered-clause-acted g c) refl (length-map i.runs.items (λ (x : Run). start_in x.task) ∙ booked.each_runs) (each_row i.lanes.items i.runs.items i.replies.items booked) c.self.invariant.2.replied refl e.opened
+    e.carried (λ w told. (e.kept.sound.stands w told).folders)
+    c.in-Some.command.now (subst (λ n. IsCommand i.lanes.items c.args.actor n c.in-Some.command.now) (sym (given_length i.base i.lanes.items i.runs.items i.replies.items i.limits i.objects c.args.actor booked within r)) command) (λ z. cc) (λ z. cc)
+    (λ v told. subst (λ n. Told (g.F.Fs.view new.fs) (HasWritten i.limits c.args.actor i.objects (state_after (first i.base.books.start.items) i.base.books.history.items n) c.in-Some.command.now (books_of i.base.books) v)) (sym (start_view i.runs.items c.args.actor r i.base.books.history.items in_runs)) (e.wrote r v told))
+
+-- what was stored had room
+pub returns-in_default-clause-stores : goal.returns-in_default-clause-stores
+returns-in_default-clause-stores g c = λ v seen. tt
+
+pub returns-in-Blocked-clause-stores : goal.returns-in-Blocked-clause-stores
+returns-in-Blocked-clause-stores g c = λ v seen. tt
+
+pub returns-in-Answered-clause-stores : goal.returns-in-Answered-clause-stores
+returns-in-Answered-clause-stores g c = λ v seen. tt
+
+pub returns-in-More-clause-stores : goal.returns-in-More-clause-stores
+returns-in-More-clause-stores g c = λ v seen name met.
+    let i = c.self.inside in
+    let r = c.index.result.now in
+    let now = c.turn-came.new.runs.items in
+    let view : c.args.self.now ≡ system_of i.base i.lanes.items i.runs.items i.replies.items i.limits i.objects = search rules in
+    let in_now : c.args.actor < length now = search rules in
+    subst (λ s. HadRoom s.limits s.objects v name) (sym view)
+    (c.in-More.ensures.stores r v (subst (λ s. g.F.Fs.view s.base.fs ≡ Some v) view seen) name (sym (ap met_of (work_at now c.args.actor r in_now)) ∙ met))
+
+pub returns-in_default-clause-bounded : goal.returns-in_default-clause-bounded
+returns-in_default-clause-bounded g c = λ v seen within. within
+
+pub returns-in-Blocked-clause-bounded : goal.returns-in-Blocked-clause-bounded
+returns-in-Blocked-clause-bounded g c = λ v seen within. subst (λ s. s.objects ≤ s.limits.objects) (sym (returns-in-Blocked-clause-acted g c).1) within
+
+pub returns-in-More-clause-bounded : goal.returns-in-More-clause-bounded
+returns-in-More-clause-bounded g c = λ v seen within.
+    let i = c.self.inside in
+    let r = c.index.result.now in
+    let run = get_or c.turn-came.new.runs.items c.args.actor r in
+    let e = c.in-More.ensures in
+    let view : c.args.self.now ≡ system_of i.base i.lanes.items i.runs.items i.replies.items i.limits i.objects = search rules in
+    bounded_by i.objects i.limits.objects c.turn-came.new.objects (met_of (work_in run.task)) (e.counts r) (λ name met. (e.stores r v (subst (λ s. g.F.Fs.view s.base.fs ≡ Some v) view seen) name met).0)
+    (subst (λ s. s.objects ≤ s.limits.objects) view within)
+
+pub returns-in-Answered-clause-bounded : goal.returns-in-Answered-clause-bounded
+returns-in-Answered-clause-bounded g c = λ v seen within.
+    let i = c.self.inside in
+    let r = c.index.result.now in
+    let view : c.args.self.now ≡ system_of i.base i.lanes.items i.runs.items i.replies.items i.limits i.objects = search rules in
+    subst (λ n. n ≤ i.limits.objects) (sym (c.in-Answered.ensures.counts r)) (subst (λ s. s.objects ≤ s.limits.objects) view within)

@@ -7,8 +7,13 @@ use Rattle.sys_core.specs.Fit.{AreFit}
 use Rattle.sys_core.specs.Lanes.{now_of}
 use Rattle.sys_core.proofs.Accounting.{new_accounted}
 use Rattle.sys_core.proofs.Ordering.{ordered_new}
+use Rattle.sys_core.proofs.Pinning.{pinned_none}
 use Rattle.sys_core.proofs.Starting.{home_of, kept_new}
 use Rattle.sys_core.proofs.Lasting.{none_kept}
+use Rattle.sys_core.specs.Booked.{replies_of}
+use Rattle.sys_core.specs.Pursues.{started_of}
+use Rattle.sys_core.specs.Storing.{AreStoredIn}
+use Rattle.sys_core.proofs.StoredFirst.{stored_first}
 use Rattle.sys_core.proofs.system.System.begun.Goals as goal
 
 pub new-requires-clause-opening : goal.new-requires-clause-opening
@@ -34,7 +39,22 @@ invariant_of-result g c =
       new_accounted g.F.Fs.view c.into_parts-fs.result.limits base c.args.lanes.items c.args.prepared.runs.items c.args.prepared.replies.items (g.F.Fs.faults base.fs) e.history e.pending c.requires.booked c.requires.idle,
       (λ live. ordered_new base.books c.args.lanes.items c.args.prepared.runs.items e.free.0 e.free.1 c.requires.idle),
       subst (λ (l : Limits). AreFit l c.args.lanes.items) (sym opened.limits) c.requires.fit,
+      (λ live. pinned_none base.books c.args.lanes.items c.args.prepared.runs.items e.pins),
     )
 
 pub returns-clause-begins : goal.returns-clause-begins
 returns-clause-begins g c = none_kept _ _ _ _ c.new.ensures.history
+
+pub returns-clause-good : goal.returns-clause-good
+returns-clause-good g c = λ v told.
+    let e = c.new.ensures in
+    let parts = c.into_parts-fs.result in
+    let opened = c.into_parts-fs.ensures in
+    let base = c.new.result in
+    let there = subst (λ f. g.F.Fs.view f ≡ Some v) e.fs told in
+    let begin = first base.books.start.items in
+    let started = started_of c.args.prepared.runs.items in
+    let replies = replies_of c.args.prepared.replies.items in
+    subst (λ f. AreStoredIn (g.F.Fs.was f) parts.limits begin base.books.opened c.args.lanes.items base.books.history.items started replies v) (sym e.fs)
+    (subst (λ (m : ℕ). AreStoredIn (g.F.Fs.was parts.fs) parts.limits begin m c.args.lanes.items base.books.history.items started replies v) (sym e.opened)
+    (stored_first g.F.Fs.view g.F.Fs.was parts.fs parts.clock parts.limits parts.refs.items parts.objects.items begin c.args.lanes.items base.books.history.items started replies v there (g.met.F.Fs.tree parts.fs v there) (opened.opened.opening v there) opened.good (opened.listed v there)))

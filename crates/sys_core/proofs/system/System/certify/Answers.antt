@@ -7,10 +7,12 @@ use Rattle.rely.specs.Headline.{Headline}
 use Rattle.script.specs.declared.answer.Answer.TheVariants as answer
 use Rattle.sys_core.specs.Booked.{IsReplied}
 use Rattle.script.specs.declared.answer.Reply.{Reply}
+use Rattle.sys_core.specs.Held.{Held}
 use Rattle.sys_core.specs.Ranks.{AreWithin}
 use Rattle.sys_core.specs.Replied.{IsTo}
 use Rattle.sys_core.proofs.Acting.{given_length, system_of}
 use Rattle.sys_core.proofs.Booking.{some_of}
+use Rattle.sys_core.proofs.Holding.{held_here}
 use Rattle.sys_core.proofs.system.System.certify.Goals as goal
 
 pub returns-clause-headline : goal.returns-clause-headline
@@ -38,3 +40,10 @@ returns-clause-within g c =
       length-map i.replies.items (λ (v : Vec Reply). v.items) ∙ b.each_replied,
       (λ l d lt. let r = some_of i.runs.items l (omega (arith, b.each_runs, lt)) in omega (arith, given_length i.base i.lanes.items i.runs.items i.replies.items i.limits i.objects l b lt r, b.within l d r lt)),
     )
+
+pub returns-clause-held : goal.returns-clause-held
+returns-clause-held g c =
+    let i = c.self.inside in
+    let view : c.args.self.now ≡ system_of i.base i.lanes.items i.runs.items i.replies.items i.limits i.objects = search rules in
+    subst (Held g.F.Fs.view) (sym view)
+    (held_here g.F.Fs.view g.F.Fs.clock g.F.Fs.spare g.F.Fs.was i.base i.refs i.lanes.items i.runs.items i.replies.items i.limits i.objects i.given (g.F.Fs.faults i.base.fs) c.self.invariant.0 c.self.invariant.1 c.self.invariant.2 c.self.invariant.5)

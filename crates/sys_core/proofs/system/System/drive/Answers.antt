@@ -6,12 +6,17 @@ use Rattle.sys_core.proofs.system.System.drive.Goals as goal
 pub loop-actor-preserved : goal.loop-actor-preserved
 loop-actor-preserved g c =
     let i = c.loop-actor.invariant in
-    record { lanes = c.act.ensures.lanes ∙ i.lanes; later = later_trans c.args.self.now c.loop-actor.self c.act.new.self i.later (acted_later _ c.loop-actor.self c.act.new.self _ c.act.result c.act.ensures.acted); lasts = λ start v told kept. (let x = i.lasts start v told kept in c.act.ensures.lasts start x.0 x.1 x.2) }
+    record { lanes = c.act.ensures.lanes ∙ i.lanes; later = later_trans c.args.self.now c.loop-actor.self c.act.new.self i.later (acted_later _ c.loop-actor.self c.act.new.self _ c.act.result c.act.ensures.acted); lasts = λ start v told kept. (let x = i.lasts start v told kept in c.act.ensures.lasts start x.0 x.1 x.2); good = λ v told stored. (let x = i.good v told stored in c.act.ensures.good x.0 x.1 x.2) }
 
 pub rounds-preserved : goal.rounds-preserved
 rounds-preserved g c =
     let i = c.rounds.invariant in
-    record { lanes = c.round.ensures.lanes ∙ i.lanes; later = later_trans c.args.self.now c.rounds.self c.round.new.self i.later c.round.ensures.later; lasts = λ start v told kept. (let x = i.lasts start v told kept in c.round.ensures.lasts start x.0 x.1 x.2) }
+    record { lanes = c.round.ensures.lanes ∙ i.lanes; later = later_trans c.args.self.now c.rounds.self c.round.new.self i.later c.round.ensures.later; lasts = λ start v told kept. (let x = i.lasts start v told kept in c.round.ensures.lasts start x.0 x.1 x.2); good = λ v told stored. (let x = i.good v told stored in c.round.ensures.good x.0 x.1 x.2) }
 
 pub returns-clause-ended : goal.returns-clause-ended
 returns-clause-ended g c = ended_of c.round.new.self (c.round.ensures.over (search rules)) c.certify.ensures.within
+
+pub returns-clause-good : goal.returns-clause-good
+returns-clause-good g c = λ v told stored.
+    let x = c.rounds.invariant.good v told stored in
+    c.round.ensures.good x.0 x.1 x.2

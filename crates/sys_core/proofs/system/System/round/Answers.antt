@@ -11,6 +11,7 @@ lanes-preserved g c =
       lanes = c.act.ensures.lanes ∙ i.lanes;
       later = later_trans c.args.self.now c.lanes.self c.act.new.self i.later (acted_later _ c.lanes.self c.act.new.self c.lanes.lane c.act.result c.act.ensures.acted);
       lasts = λ start v told kept. (let x = i.lasts start v told kept in c.act.ensures.lasts start x.0 x.1 x.2);
+      good = λ v told stored. (let x = i.good v told stored in c.act.ensures.good x.0 x.1 x.2);
       progress = elim c.match-act.branch [
         | in-Ended w ↦ subst (λ (b : Bool). Progress c.args.self.now c.act.new.self (c.lanes.lane + 1) b) (sym w.unfinished-is)
             (progress_ended _ c.args.self.now c.lanes.self c.act.new.self c.lanes.lane c.lanes.unfinished c.act.result w.in-Ended.is c.act.ensures.acted i.progress)

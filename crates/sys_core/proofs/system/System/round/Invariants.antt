@@ -3,6 +3,7 @@ use Rattle.sys_core.specs.Booked.{IsLater}
 use Rattle.sys_core.proofs.Ranking.{Progress}
 use Rattle.fs_trait.specs.View.{View}
 use Rattle.fs_trait.specs.Image.{Told}
+use Rattle.sys_core.specs.Storing.{AreStored}
 use Rattle.sys_core.specs.Lasting.{AreKept}
 use Rattle.sys_core.proofs.system.System.round.Given as goal
 
@@ -12,5 +13,6 @@ invariant-lanes g l = record {
   lanes : l.self.lanes ≡ l.fn.self.lanes;
   later : IsLater l.fn.self l.self;
   lasts : (start v : View) → g.F.Fs.view l.fn.self.base.fs ≡ Some v → AreKept g.F.Fs.was start l.fn.self v → Told (g.F.Fs.view l.self.base.fs) (λ w. AreKept g.F.Fs.was start l.self w);
+  good : (v : View) → g.F.Fs.view l.fn.self.base.fs ≡ Some v → AreStored g.F.Fs.was l.fn.self v → Told (g.F.Fs.view l.self.base.fs) (λ w. AreStored g.F.Fs.was l.self w);
   progress : Progress l.fn.self l.self l.lane l.unfinished;
 }

@@ -1,0 +1,3 @@
+mod Allowed
+mod Makeables
+mod Takings
