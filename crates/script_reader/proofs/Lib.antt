@@ -3,5 +3,12 @@ pub mod Contents
 pub mod Hex
 pub mod Fields
 pub mod OneNode
+pub mod OneCommand
 pub mod Scripts
 pub mod OneScript
+pub mod FieldTexts
+pub mod Joins
+pub mod Lines
+pub mod NodeTexts
+pub mod CommandTexts
+pub mod Sections

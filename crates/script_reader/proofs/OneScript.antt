@@ -1,5 +1,6 @@
 -- Bytes that have a fault are no script.
-use Rattle.std.proofs.Common.{◌≡◌, ◌≢◌, ◌<◌, ◌≤◌, ◌+◌, ◌⊎◌, inl, inr, ℕ, List, [], ◌∷◌, ◌++◌, length, Some, None, Result, Ok, Err, IfErr, MatchResult, refl, sym, ◌∙◌, ap, subst, arith, length-append}
+use Rattle.std.proofs.Common.{◌≡◌, ◌≢◌, ◌≤◌, ◌+◌, ◌⊎◌, inl, inr, ℕ, List, [], ◌∷◌, ◌++◌, length, Some, None, Result, Ok, Err, IfErr, MatchResult, refl, sym, ◌∙◌, ap, subst, arith, length-append, take}
+use Rattle.std.proofs.Math.Seq.{take-append_seam}
 use Rattle.std.specs.Prelude.{slice_get}
 use Rattle.std.proofs.lemmas.Option.{slice_get_past}
 use Rattle.script.specs.Words.{IsWritten, Resolves, IsUnknown}
@@ -11,29 +12,52 @@ use Rattle.script.specs.declared.fault.ScriptFault.{ScriptFault}
 use Rattle.script.specs.declared.fault.ScriptFault.TheVariants.{BadLine, TooLong, TooManyLanes, TooManyCommands, UnknownTree, NoMemory}
 use Rattle.script.proofs.Alone.{commit_alone}
 use Rattle.script_reader.specs.Nodes.{fields_of}
+use Rattle.script_reader.specs.Same.{AreSame, AreSameLanes, IsSame}
 use Rattle.script_reader.specs.Script.{Tree, Commands, State, start, between, in_tree, in_lane, OpensTree, IsNextNode, Leads, Says, IsScript, Refuses, EndsBadly, FirstFault, IsFault}
+use Rattle.script_reader.proofs.OneCommand.{command_same}
 use Rattle.script_reader.proofs.OneNode.{node_one, end_no_node, end_no_command, lane_no_tree, same_tree}
 
--- two states that go on alike: the same trees and nodes, and as many lanes and commands
+-- two states that go on alike: the same trees and nodes, and the same lanes and commands
 abbrev Alike : State → State → Type 0
 Alike start start = Unit {0}
-Alike (between a b) (between c d) = (a ≡ c) × (length b ≡ length d)
-Alike (in_tree a b i) (in_tree c d j) = (a ≡ c) × (length b ≡ length d) × (i ≡ j)
-Alike (in_lane a b k) (in_lane c d l) = (a ≡ c) × (length b ≡ length d) × (length k ≡ length l)
+Alike (between a b) (between c d) = (a ≡ c) × AreSameLanes b d
+Alike (in_tree a b i) (in_tree c d j) = (a ≡ c) × AreSameLanes b d × (i ≡ j)
+Alike (in_lane a b k) (in_lane c d l) = (a ≡ c) × AreSameLanes b d × AreSame k l
 Alike s t = ⊥
 
-one_more : {X : Type 0} (b d : List X) (x y : X) → length b ≡ length d → length (b ++ x ∷ []) ≡ length (d ++ y ∷ [])
-one_more b d x y e = omega (arith, e, length-append b (x ∷ []), length-append d (y ∷ []))
+one_command : (k l : Commands) (c d : Command) → AreSame k l → IsSame c d → AreSame (k ++ c ∷ []) (l ++ d ∷ [])
+one_command [] [] c d are is = (is, tt)
+one_command [] (x ∷ l) c d are is = absurd are
+one_command (x ∷ k) [] c d are is = absurd are
+one_command (x ∷ k) (y ∷ l) c d are is = (are.0, one_command k l c d are.1 is)
+
+one_lane : (b d : List Commands) (k l : Commands) → AreSameLanes b d → AreSame k l → AreSameLanes (b ++ k ∷ []) (d ++ l ∷ [])
+one_lane [] [] k l are is = (is, tt)
+one_lane [] (x ∷ d) k l are is = absurd are
+one_lane (x ∷ b) [] k l are is = absurd are
+one_lane (x ∷ b) (y ∷ d) k l are is = (are.0, one_lane b d k l are.1 is)
+
+as_many : (k l : Commands) → AreSame k l → length k ≡ length l
+as_many [] [] are = refl
+as_many [] (x ∷ l) are = absurd are
+as_many (x ∷ k) [] are = absurd are
+as_many (x ∷ k) (y ∷ l) are = omega (arith, as_many k l are.1)
+
+as_many_lanes : (b d : List Commands) → AreSameLanes b d → length b ≡ length d
+as_many_lanes [] [] are = refl
+as_many_lanes [] (x ∷ d) are = absurd are
+as_many_lanes (x ∷ b) [] are = absurd are
+as_many_lanes (x ∷ b) (y ∷ d) are = omega (arith, as_many_lanes b d are.1)
 
 alike : (s t u v : State) → u ≡ s → v ≡ t → Alike s t → Alike u v
 alike s t u v p q a = subst (λ x. Alike x v) (sym p) (subst (Alike s) (sym q) a)
 
 leads_alike : (s t u v : State) (line : List ℕ) → Alike s t → Leads s line u → Leads t line v → Alike u v
-leads_alike start start u v line a p q = alike (between [] []) (between [] []) u v p.1 q.1 (refl, refl)
+leads_alike start start u v line a p q = alike (between [] []) (between [] []) u v p.1 q.1 (refl, tt)
 leads_alike (between a b) (between c d) u v line same (inl p) (inl q) = alike (in_tree a b []) (in_tree c d []) u v p.1 q.1 (same.0, same.1, refl)
 leads_alike (between a b) (between c d) u v line same (inl p) (inr q) = absurd (lane_no_tree line _ q.0 p.0.1)
 leads_alike (between a b) (between c d) u v line same (inr p) (inl q) = absurd (lane_no_tree line _ p.0 q.0.1)
-leads_alike (between a b) (between c d) u v line same (inr p) (inr q) = alike (in_lane a b []) (in_lane c d []) u v p.2 q.2 (same.0, same.1, refl)
+leads_alike (between a b) (between c d) u v line same (inr p) (inr q) = alike (in_lane a b []) (in_lane c d []) u v p.2 q.2 (same.0, same.1, tt)
 leads_alike (in_tree a b i) (in_tree c d j) u v line same (inl p) (inl q) =
     alike (between (a ++ i ∷ []) b) (between (c ++ j ∷ []) d) u v p.1 q.1 (ap (λ x. x ++ i ∷ []) same.0 ∙ ap (λ x. c ++ x ∷ []) same.2, same.1)
 leads_alike (in_tree a b i) (in_tree c d j) u v line same (inl p) (inr q) = absurd (end_no_node line q.0 p.0 q.1.0)
@@ -42,11 +66,12 @@ leads_alike (in_tree a b i) (in_tree c d j) u v line same (inr p) (inr q) =
     alike (in_tree a b (i ++ p.0 ∷ [])) (in_tree c d (j ++ q.0 ∷ [])) u v p.2 q.2
     (same.0, same.1, ap (λ x. x ++ p.0 ∷ []) same.2 ∙ ap (λ x. j ++ x ∷ []) (node_one line p.0 q.0 p.1.0 q.1.0))
 leads_alike (in_lane a b k) (in_lane c d l) u v line same (inl p) (inl q) =
-    alike (between a (b ++ k ∷ [])) (between c (d ++ l ∷ [])) u v p.1 q.1 (same.0, one_more b d k l same.1)
+    alike (between a (b ++ k ∷ [])) (between c (d ++ l ∷ [])) u v p.1 q.1 (same.0, one_lane b d k l same.1 same.2)
 leads_alike (in_lane a b k) (in_lane c d l) u v line same (inl p) (inr q) = absurd (end_no_command line q.2.0 p.0 q.2.1)
 leads_alike (in_lane a b k) (in_lane c d l) u v line same (inr p) (inl q) = absurd (end_no_command line p.2.0 q.0 p.2.1)
 leads_alike (in_lane a b k) (in_lane c d l) u v line same (inr p) (inr q) =
-    alike (in_lane a b (k ++ p.0 ∷ [])) (in_lane c d (l ++ q.0 ∷ [])) u v p.3 q.3 (same.0, same.1, one_more k l p.0 q.0 same.2)
+    alike (in_lane a b (k ++ p.0 ∷ [])) (in_lane c d (l ++ q.0 ∷ [])) u v p.3 q.3
+    (same.0, same.1, one_command k l p.0 q.0 same.2 (command_same c (fields_of line) p.2.0 q.2.0 p.0 q.0 p.2.1 q.2.1 (subst (λ x. Resolves x p.2.0 p.0) same.0 p.2.2) q.2.2))
 leads_alike start (between c d) u v line same p q = absurd same
 leads_alike start (in_tree c d j) u v line same p q = absurd same
 leads_alike start (in_lane c d l) u v line same p q = absurd same
@@ -116,9 +141,9 @@ clash_lane a c b d k l u line n NoMemory same count p r = refl
 
 clash : (s t u : State) (line : List ℕ) (n : ℕ) (e : ScriptFault) → Alike s t → Leads s line u → Refuses t line n e → e ≡ NoMemory
 clash start start u line n e same = clash_start u line n e
-clash (between a b) (between c d) u line n e same = clash_between a c b d u line n e same.0 same.1
+clash (between a b) (between c d) u line n e same = clash_between a c b d u line n e same.0 (as_many_lanes b d same.1)
 clash (in_tree a b i) (in_tree c d j) u line n e same = clash_tree a c b d i j u line n e same.2
-clash (in_lane a b k) (in_lane c d l) u line n e same = clash_lane a c b d k l u line n e same.0 same.2
+clash (in_lane a b k) (in_lane c d l) u line n e same = clash_lane a c b d k l u line n e same.0 (as_many k l same.2)
 clash start (between c d) u line n e same = absurd same
 clash start (in_tree c d j) u line n e same = absurd same
 clash start (in_lane c d l) u line n e same = absurd same
@@ -180,5 +205,18 @@ pub exact_from : {X : Type 0} (bytes : List ℕ) (lanes : List Commands) (P : X 
 exact_from bytes lanes P (Ok x) is script = tt
 exact_from bytes lanes P (Err e) is script = no_script bytes lanes e script is
 
-pub too_long : {X : Type 0} (bytes : List ℕ) (lanes : List Commands) → 4194304 < length bytes → IsScript bytes lanes → X
-too_long bytes lanes long script = absurd (omega (arith, long, script.few))
+-- the same lines lead to states that are alike
+says_alike : (lines : List (List ℕ)) (s t u v : State) → Alike s t → Says s lines u → Says t lines v → Alike u v
+says_alike [] s t u v same p q = alike s t u v (sym p) (sym q) same
+says_alike (line ∷ lines) s t u v same p q = says_alike lines p.0 q.0 u v (leads_alike s t p.0 q.0 line same p.1 q.1) p.2 q.2
+
+says_same : (lines more : List (List ℕ)) (u v : State) → lines ≡ more → Says start lines u → Says start more v → Alike u v
+says_same lines more u v same p q = says_alike lines start start u v tt p (subst (λ l. Says start l v) (sym same) q)
+
+-- bytes are a script of one list of lanes
+pub script_one : (bytes : List ℕ) (a b : List Commands) → IsScript bytes a → IsScript bytes b → AreSameLanes a b
+script_one bytes a b p q = (says_same p.lines q.lines (between p.trees a) (between q.trees b) (front_same p.lines q.lines (sym p.text ∙ q.text)) p.says q.says).1
+  where
+    front_same : (x y : List (List ℕ)) → x ++ [] ∷ [] ≡ y ++ [] ∷ [] → x ≡ y
+    front_same x y e = let l : length x ≡ length y = omega (arith, ap length e, length-append x ([] ∷ []), length-append y ([] ∷ [])) in
+        sym (take-append_seam x ([] ∷ [])) ∙ ap (λ n. take n (x ++ [] ∷ [])) l ∙ ap (take (length y)) e ∙ take-append_seam y ([] ∷ [])

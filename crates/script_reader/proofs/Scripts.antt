@@ -7,7 +7,8 @@ use Rattle.ost_forms.specs.declared.tree_item.TreeItem.{TreeItem}
 use Rattle.script.specs.Field.{IsNumber}
 use Rattle.script.specs.declared.fault.ScriptFault.{ScriptFault}
 use Rattle.script.specs.declared.fault.ScriptFault.TheVariants.{BadLine, TooLong, TooManyLanes, TooManyCommands, UnknownTree, NoMemory}
-use Rattle.script_reader.specs.Script.{Tree, Commands, State, start, between, in_tree, in_lane, Leads, Says, lines_of, IsScript, Refuses, EndsBadly, FirstFault, IsFault, StartsLine, OpensTree, Ascends, IsNextNode}
+use Rattle.script_reader.specs.Script.{Tree, Commands, State, start, between, in_tree, in_lane, Leads, Says, lines_of, script_limit, IsScript, Refuses, EndsBadly, FirstFault, IsFault, OpensTree, Ascends, IsNextNode}
+use Rattle.script_reader.specs.Drafts.{StartsLine}
 use Rattle.script_reader.specs.Nodes.{fields_of, IsNode}
 use Rattle.script_reader.proofs.Fields.{two_of}
 use Rattle.script_reader.proofs.OneNode.{node_one}
@@ -64,7 +65,7 @@ module _ (bytes rest line behind : List ℕ) (s : State) (n : ℕ) (so : ReadSoF
     short = omega (arith, so.short, less);
   }
 
-  first_fault : length bytes ≤ 4194304 → (f : ScriptFault) → Refuses s line n f → FirstFault bytes f
+  first_fault : length bytes ≤ script_limit → (f : ScriptFault) → Refuses s line n f → FirstFault bytes f
   first_fault few f refused = record {
     few = few;
     before = so.before;
@@ -76,7 +77,7 @@ module _ (bytes rest line behind : List ℕ) (s : State) (n : ℕ) (so : ReadSoF
     wrong = inr (some_lines behind, subst (λ k. Refuses s line k f) so.count refused);
   }
 
-  pub fault_here : length bytes ≤ 4194304 → (f : ScriptFault) → Refuses s line n f → IsFault bytes f
+  pub fault_here : length bytes ≤ script_limit → (f : ScriptFault) → Refuses s line n f → IsFault bytes f
   fault_here few (BadLine m) refused = first_fault few (BadLine m) refused
   fault_here few TooManyLanes refused = first_fault few TooManyLanes refused
   fault_here few TooManyCommands refused = first_fault few TooManyCommands refused
@@ -90,7 +91,7 @@ module _ (bytes rest line behind : List ℕ) (s : State) (n : ℕ) (so : ReadSoF
       not_long (in_tree a b c) r = r
       not_long (in_lane a b c) r = r
 
-module _ (bytes rest : List ℕ) (s : State) (n : ℕ) (so : ReadSoFar bytes rest s n) (few : length bytes ≤ 4194304) (e : lines_of rest ≡ rest ∷ []) where
+module _ (bytes rest : List ℕ) (s : State) (n : ℕ) (so : ReadSoFar bytes rest s n) (few : length bytes ≤ script_limit) (e : lines_of rest ≡ rest ∷ []) where
   pub fault_end : (f : ScriptFault) → f ≡ BadLine n → EndsBadly s rest → IsFault bytes f
   fault_end f is bad = subst (IsFault bytes) (sym is) (record {
     few = few;

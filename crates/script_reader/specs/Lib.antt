@@ -1,4 +1,6 @@
 pub mod Values
 pub mod Nodes
 pub mod Script
+pub mod Same
 pub mod Drafts
+pub mod Writing

@@ -9,9 +9,19 @@ use Rattle.script_reader.specs.declared.node.NodeKind.{NodeKind}
 use Rattle.script_reader.specs.declared.node.NodeKind.TheVariants.{Folder, File, Link}
 use Rattle.script_reader.specs.Values.{pieces, IsPathField, IsMode, IsXattrs, IsContent, IsTarget}
 
--- the fields of a line, with one space between them
+-- the fields of a line, with one space (32) between them
 abbrev pub fields_of : List ℕ → List (List ℕ)
 fields_of line = pieces 32 line
+
+-- The bits of a type as Linux has them: S_IFDIR, S_IFREG, and S_IFLNK with all permissions.
+abbrev pub folder_bits : ℕ
+folder_bits = 16384
+
+abbrev pub file_bits : ℕ
+file_bits = 32768
+
+abbrev pub link_mode : ℕ
+link_mode = 41471
 
 -- the fields of a folder's or a file's attributes, whose mode has the bits of its type above the permissions
 pub record IsMeta (type_bits : ℕ) (u g m x : List ℕ) (meta : Meta) : Type 0 where
@@ -26,19 +36,19 @@ pub record IsMeta (type_bits : ℕ) (u g m x : List ℕ) (meta : Meta) : Type 0 
 pub record IsLinkMeta (u g x : List ℕ) (meta : Meta) : Type 0 where
   pub owner : IsNumber (2 ^ 32) u meta.uid
   pub group : IsNumber (2 ^ 32) g meta.gid
-  pub mode : meta.mode ≡ 41471
+  pub mode : meta.mode ≡ link_mode
   pub xattrs : IsXattrs x meta.xattrs
 
 -- PATH UID GID MODE XATTRS
 pub record IsFolderAt (p u g m x : List ℕ) (item : TreeItem) : Type 0 where
   pub path : IsPathField p item.path
-  pub meta : IsMeta 16384 u g m x item.meta
+  pub meta : IsMeta folder_bits u g m x item.meta
   pub body : item.body ≡ None
 
 -- PATH UID GID MODE XATTRS CONTENT
 pub record IsFileAt (p u g m x c : List ℕ) (item : TreeItem) : Type 0 where
   pub path : IsPathField p item.path
-  pub meta : IsMeta 32768 u g m x item.meta
+  pub meta : IsMeta file_bits u g m x item.meta
   pub content : BodySpec
   pub body : item.body ≡ Some content
   pub written : IsContent c content

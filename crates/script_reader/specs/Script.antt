@@ -18,6 +18,16 @@ Tree = List TreeItem
 abbrev pub Commands : Type 0
 Commands = List Command
 
+-- the most bytes of a script, the most lanes, and the most commands of a lane
+abbrev pub script_limit : ℕ
+script_limit = 4194304
+
+abbrev pub lane_limit : ℕ
+lane_limit = 8
+
+abbrev pub command_limit : ℕ
+command_limit = 64
+
 -- what some lines have said: the trees and the lanes that are complete, and the section that is open
 pub data State : Type 0 where
   start : State
@@ -50,26 +60,26 @@ abbrev pub Leads : State → List ℕ → State → Type 0
 Leads start line s = (line ≡ header) × (s ≡ between [] [])
 Leads (between trees lanes) line s =
     (OpensTree (length trees) line × (s ≡ in_tree trees lanes []))
-    ⊎ ((line ≡ codes "lane") × (length lanes < 8) × (s ≡ in_lane trees lanes []))
+    ⊎ ((line ≡ codes "lane") × (length lanes < lane_limit) × (s ≡ in_lane trees lanes []))
 Leads (in_tree trees lanes items) line s =
     ((line ≡ codes "end") × (s ≡ between (trees ++ items ∷ []) lanes))
     ⊎ ((item : TreeItem) × IsNextNode items line item × (s ≡ in_tree trees lanes (items ++ item ∷ [])))
 Leads (in_lane trees lanes commands) line s =
     ((line ≡ codes "end") × (s ≡ between trees (lanes ++ commands ∷ [])))
-    ⊎ ((command : Command) × (length commands < 64) × IsCommandLine trees line command × (s ≡ in_lane trees lanes (commands ++ command ∷ [])))
+    ⊎ ((command : Command) × (length commands < command_limit) × IsCommandLine trees line command × (s ≡ in_lane trees lanes (commands ++ command ∷ [])))
 
 -- the same of some lines
 abbrev pub Says : State → List (List ℕ) → State → Type 0
 Says s [] t = s ≡ t
 Says s (line ∷ lines) t = (u : State) × Leads s line u × Says u lines t
 
--- what stands before each newline, and behind the last
+-- what stands before each newline (10), and behind the last
 abbrev pub lines_of : List ℕ → List (List ℕ)
 lines_of bytes = pieces 10 bytes
 
 -- a script, whose lanes have these commands: each line ends with a newline, and no section is open at the end
 pub record IsScript (bytes : List ℕ) (lanes : List Commands) : Type 0 where
-  pub few : length bytes ≤ 4194304
+  pub few : length bytes ≤ script_limit
   pub lines : List (List ℕ)
   pub text : lines_of bytes ≡ lines ++ [] ∷ []
   pub trees : List Tree
@@ -91,17 +101,12 @@ RefusesTree count written e = ⊥
 -- why the line with this number can't stand behind what the lines before it have said
 abbrev pub Refuses : State → List ℕ → ℕ → ScriptFault → Type 0
 Refuses s line n (BadLine m) = (m ≡ n) × IsBadLine s line
-Refuses (between trees lanes) line n TooManyLanes = (line ≡ codes "lane") × (8 ≤ length lanes)
-Refuses (in_lane trees lanes commands) line n TooManyCommands = (64 ≤ length commands) × (written : Written) × IsWritten (fields_of line) written
+Refuses (between trees lanes) line n TooManyLanes = (line ≡ codes "lane") × (lane_limit ≤ length lanes)
+Refuses (in_lane trees lanes commands) line n TooManyCommands = (command_limit ≤ length commands) × (written : Written) × IsWritten (fields_of line) written
 Refuses (in_lane trees lanes commands) line n (UnknownTree t) =
-    (length commands < 64) × (written : Written) × IsWritten (fields_of line) written × IsUnknown (length trees) written t
+    (length commands < command_limit) × (written : Written) × IsWritten (fields_of line) written × IsUnknown (length trees) written t
 Refuses s line n NoMemory = Unit {0}
 Refuses s line n e = ⊥
-
--- nothing, or a newline in front
-abbrev pub StartsLine : List ℕ → Type 0
-StartsLine [] = Unit {0}
-StartsLine (b ∷ t) = b ≡ 10
 
 -- what stands behind the last newline is bad, but nothing where no section is open
 abbrev pub EndsBadly : State → List ℕ → Type 0
@@ -112,7 +117,7 @@ EndsBadly (in_lane trees lanes commands) rest = Unit {0}
 
 -- the lines up to the first that is wrong, and those behind it
 pub record FirstFault (bytes : List ℕ) (e : ScriptFault) : Type 0 where
-  pub few : length bytes ≤ 4194304
+  pub few : length bytes ≤ script_limit
   pub before : List (List ℕ)
   pub line : List ℕ
   pub after : List (List ℕ)
@@ -124,7 +129,7 @@ pub record FirstFault (bytes : List ℕ) (e : ScriptFault) : Type 0 where
 
 -- why bytes are no script: they are too many, or by the first line that is wrong
 abbrev pub IsFault : List ℕ → ScriptFault → Type 0
-IsFault bytes TooLong = 4194304 < length bytes
+IsFault bytes TooLong = script_limit < length bytes
 IsFault bytes NoMemory = Unit {0}
 IsFault bytes (BadLine n) = FirstFault bytes (BadLine n)
 IsFault bytes TooManyLanes = FirstFault bytes TooManyLanes

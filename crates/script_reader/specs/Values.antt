@@ -33,7 +33,7 @@ IsPathText text path = IsParsed text (Ok path)
 abbrev pub IsPathField : List ℕ → Path → Type 0
 IsPathField = IsFieldOf IsPathText
 
--- 1 to 4 octal digits of this value, and no zero in front of others
+-- 1 to 4 octal digits of this value, and no `0` (48) in front of others
 pub record IsOctal (digits : List ℕ) (bits : ℕ) : Type 0 where
   pub some : 0 < length digits
   pub few : length digits ≤ 4
@@ -45,7 +45,7 @@ pub record IsOctal (digits : List ℕ) (bits : ℕ) : Type 0 where
 abbrev pub IsMode : List ℕ → ℕ → Type 0
 IsMode = IsFieldOf IsOctal
 
--- the name and the value of an attribute in hexadecimal digits, with `:` between them
+-- the name and the value of an attribute in hexadecimal digits, with `:` (58) between them
 pub record IsPair (pair : List ℕ) (xattr : Xattr) : Type 0 where
   pub parts : pieces 58 pair ≡ hex_of xattr.name ∷ hex_of xattr.value ∷ []
   pub name : IsBytes xattr.name
@@ -58,7 +58,7 @@ ArePairs [] (x ∷ xattrs) = ⊥
 ArePairs (pair ∷ pairs) [] = ⊥
 ArePairs (pair ∷ pairs) (x ∷ xattrs) = IsPair pair x × ArePairs pairs xattrs
 
--- pairs with `,` between them; no attributes are the empty text
+-- pairs with `,` (44) between them; no attributes are the empty text
 abbrev pub HasXattrs : List ℕ → List Xattr → Type 0
 HasXattrs text xattrs = ((text ≡ []) × (xattrs ≡ [])) ⊎ ((text ≢ []) × ArePairs (pieces 44 text) xattrs)
 
@@ -66,10 +66,14 @@ HasXattrs text xattrs = ((text ≡ []) × (xattrs ≡ [])) ⊎ ((text ≢ []) ×
 abbrev pub IsXattrs : List ℕ → List Xattr → Type 0
 IsXattrs = IsFieldOf HasXattrs
 
--- `*n:hh`: n bytes of the value hh
+-- the most bytes of a content that is one byte many times
+abbrev pub fill_limit : ℕ
+fill_limit = 268435456
+
+-- `*n:hh`: n bytes of the value hh, where `*` is 42 and `:` is 58
 pub record IsFillText (text : List ℕ) (len : ℕ) (byte : ℕ) : Type 0 where
   pub written : text ≡ 42 ∷ (decimal len ++ (58 ∷ hex_of (byte ∷ [])))
-  pub few : len ≤ 268435456
+  pub few : len ≤ fill_limit
   pub small : byte < 256
 
 abbrev pub IsFillBody : List ℕ → BodySpec → Type 0
@@ -77,7 +81,7 @@ IsFillBody text (Given bytes) = ⊥
 IsFillBody text (Fill len byte) = IsFillText text len byte
 IsFillBody text (Target target) = ⊥
 
--- the field of a file's content: `=` and the bytes themselves, or one byte many times
+-- the field of a file's content: `=` (61) and the bytes themselves, or one byte many times
 abbrev pub IsContent : List ℕ → BodySpec → Type 0
 IsContent field (Given bytes) = (text : List ℕ) × (field ≡ 61 ∷ text) × Spells text bytes
 IsContent field (Fill len byte) = IsFieldOf IsFillBody field (Fill len byte)

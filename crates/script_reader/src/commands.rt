@@ -1,9 +1,9 @@
 //! The next command of a lane.
-ghost use Rattle.std.specs.Prelude.{◌≡◌, ◌≢◌, ◌<◌, ◌≤◌, ◌++◌, ◌∷◌, [], List, ℕ, codes, length, map, IfOk, MatchResult};
+ghost use Rattle.std.specs.Prelude.{◌≡◌, ◌≢◌, ◌<◌, ◌++◌, ◌∷◌, [], List, codes, length, IfOk, MatchResult};
 ghost use Rattle.script.specs.Words.{Resolves};
 ghost use Rattle.script.specs.declared.command.Command.{Command};
 ghost use Rattle.script.specs.declared.command.Written.TheVariants as written;
-ghost use Rattle.script_reader.specs.Script.{in_lane, IsCommandLine, Refuses, RefusesTree};
+ghost use Rattle.script_reader.specs.Script.{command_limit, in_lane, IsCommandLine, Refuses, RefusesTree};
 
 use crate::cut::cut;
 use ost_forms::TreeItem;
@@ -12,7 +12,7 @@ use script::{Command, CommitLine, ScriptFault, Written, read_written};
 use std::alloc::Global;
 
 /// How many commands a lane has at most.
-const COMMAND_LIMIT: usize = 64;
+pub const COMMAND_LIMIT: usize = 64;
 
 /// The commands with that of the line, or why it can't stand here.
 pub fn next_command(
@@ -23,7 +23,7 @@ pub fn next_command(
     number: u32,
 ) -> Result<Vec<Command>, ScriptFault>
     requires { line.now ≢ codes "end" }
-    ensures { MatchResult result (λ more. (command : Command) × (length commands.items < 64) × IsCommandLine trees.now line.now command × (more.items ≡ commands.items ++ command ∷ [])) (λ e. (lanes : List (List Command)) → Refuses (in_lane trees.now lanes commands.items) line.now number e) }
+    ensures { MatchResult result (λ more. (command : Command) × (length commands.items < command_limit) × IsCommandLine trees.now line.now command × (more.items ≡ commands.items ++ command ∷ [])) (λ e. (lanes : List (List Command)) → Refuses (in_lane trees.now lanes commands.items) line.now number e) }
 {
     let fields = cut(alloc, line, b' ')?;
     let Some(written) = read_written(alloc, &fields)? else {

@@ -5,6 +5,7 @@ mod commands;
 mod content;
 mod cut;
 mod draft;
+mod laws;
 mod meta;
 mod mode;
 mod node;
@@ -15,11 +16,14 @@ mod step;
 mod target;
 mod xattrs;
 
-pub use read::read_script;
+pub use commands::COMMAND_LIMIT;
+pub use laws::readings;
+pub use read::{SCRIPT_LIMIT, read_script};
 pub use script::{
     Answer, Command, CommitLine, Lane, Reply, Rev, ScriptFault, Written, append_field, read_words,
     write_replies,
 };
+pub use step::LANE_LIMIT;
 
 #[cfg(test)]
 mod tests;

@@ -1,5 +1,5 @@
 //! The next node of a tree.
-ghost use Rattle.std.specs.Prelude.{◌≡◌, ◌++◌, ◌∷◌, [], List, ℕ, IfOk, MatchOption, true, false};
+ghost use Rattle.std.specs.Prelude.{◌≡◌, ◌++◌, ◌∷◌, [], IfOk, MatchOption, true, false};
 ghost use Rattle.ost_forms.specs.declared.tree_item.TreeItem.{TreeItem};
 ghost use Rattle.script_reader.specs.Script.{Ascends, IsNextNode};
 

@@ -1,8 +1,8 @@
 //! Scripts, from their first line to their last.
-ghost use Rattle.std.specs.Prelude.{◌≡◌, ◌≢◌, ◌<◌, ◌≤◌, ◌++◌, ◌∷◌, [], List, ℕ, length, map, All, IfErr, IfSome, MatchOption, MatchResult};
+ghost use Rattle.std.specs.Prelude.{◌≡◌, ◌≢◌, ◌<◌, ◌≤◌, ◌++◌, ◌∷◌, [], List, length, map, All, IfErr, IfSome, MatchOption, MatchResult};
 ghost use Rattle.script.specs.declared.fault.ScriptFault.TheVariants.{BadLine, NoMemory};
-ghost use Rattle.script_reader.specs.Drafts.{state_of};
-ghost use Rattle.script_reader.specs.Script.{between, lines_of, Commands, EndsBadly, IsFault, IsScript, StartsLine, Tree};
+ghost use Rattle.script_reader.specs.Drafts.{state_of, StartsLine};
+ghost use Rattle.script_reader.specs.Script.{between, lines_of, script_limit, Commands, EndsBadly, IsFault, IsScript, Tree};
 
 use crate::draft::Draft;
 use crate::step::follow;
@@ -10,7 +10,7 @@ use script::{Lane, ScriptFault};
 use std::alloc::Global;
 
 /// How many bytes a script has at most.
-const SCRIPT_LIMIT: usize = 4_194_304;
+pub const SCRIPT_LIMIT: usize = 4_194_304;
 
 /// The lanes of a script, or the first thing that is wrong with it. Lines are counted from 1.
 pub fn read_script(alloc: Global, bytes: &[u8]) -> Result<Vec<Lane>, ScriptFault>
@@ -24,7 +24,7 @@ pub fn read_script(alloc: Global, bytes: &[u8]) -> Result<Vec<Lane>, ScriptFault
 }
 
 fn read_lines(alloc: Global, bytes: &[u8]) -> Result<Vec<Lane>, ScriptFault>
-    requires { length bytes.now ≤ 4194304 }
+    requires { length bytes.now ≤ script_limit }
     ensures { MatchResult result (λ lanes. IsScript bytes.now (map (λ lane. lane.commands.items) lanes.items)) (IsFault bytes.now) }
 {
     let mut draft = Draft::Start;

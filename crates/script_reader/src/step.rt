@@ -3,7 +3,7 @@ ghost use Rattle.std.specs.Prelude.{◌≡◌, ◌≢◌, ◌<◌, ◌≤◌, �
 ghost use Rattle.script.specs.Field.{IsNumber};
 ghost use Rattle.script.specs.declared.fault.ScriptFault.TheVariants as fault;
 ghost use Rattle.script_reader.specs.Drafts.{lanes_of, state_of};
-ghost use Rattle.script_reader.specs.Script.{between, in_lane, in_tree, start, Leads, OpensTree, Refuses};
+ghost use Rattle.script_reader.specs.Script.{between, in_lane, in_tree, lane_limit, start, Leads, OpensTree, Refuses};
 
 use crate::commands::next_command;
 use crate::cut::cut;
@@ -29,7 +29,7 @@ pub fn follow(alloc: Global, draft: Draft, line: &[u8], number: u32) -> Result<D
 fn begin(alloc: Global, line: &[u8], number: u32) -> Result<Draft, ScriptFault>
     ensures { MatchResult result (λ d. Leads start line.now (state_of d)) (λ e. Refuses start line.now number e) }
 {
-    if line != b"ostree-script 1".as_slice() {
+    if !is_word(line, b"ostree-script 1") {
         return Err(ScriptFault::BadLine(number));
     }
     Ok(Draft::Between(Sections {
@@ -39,7 +39,7 @@ fn begin(alloc: Global, line: &[u8], number: u32) -> Result<Draft, ScriptFault>
 }
 
 /// How many lanes a script has at most.
-const LANE_LIMIT: usize = 8;
+pub const LANE_LIMIT: usize = 8;
 
 fn open(alloc: Global, sections: Sections, line: &[u8], number: u32) -> Result<Draft, ScriptFault>
     ensures { MatchResult result (λ d. Leads (between sections.trees.items (lanes_of sections)) line.now (state_of d)) (λ e. Refuses (between sections.trees.items (lanes_of sections)) line.now number e) }
@@ -55,7 +55,7 @@ fn open(alloc: Global, sections: Sections, line: &[u8], number: u32) -> Result<D
 }
 
 fn open_lane(alloc: Global, sections: Sections) -> Result<Draft, ScriptFault>
-    ensures { MatchResult result (λ d. (length (lanes_of sections) < 8) × (state_of d ≡ in_lane sections.trees.items (lanes_of sections) [])) (λ e. (e ≡ fault.TooManyLanes) × (8 ≤ length (lanes_of sections))) }
+    ensures { MatchResult result (λ d. (length (lanes_of sections) < lane_limit) × (state_of d ≡ in_lane sections.trees.items (lanes_of sections) [])) (λ e. (e ≡ fault.TooManyLanes) × (lane_limit ≤ length (lanes_of sections))) }
 {
     if sections.lanes.len() >= LANE_LIMIT {
         return Err(ScriptFault::TooManyLanes);
@@ -63,6 +63,7 @@ fn open_lane(alloc: Global, sections: Sections) -> Result<Draft, ScriptFault>
     Ok(Draft::Lane(sections, Vec::new(alloc)))
 }
 
+/// Whether the text is this word.
 fn is_word(text: &[u8], word: &[u8]) -> bool
     ensures yes { result ≡ true → text.now ≡ word.now }
     ensures no { result ≡ false → text.now ≢ word.now }
@@ -112,7 +113,7 @@ fn follow_tree(
 ) -> Result<Draft, ScriptFault>
     ensures { MatchResult result (λ d. Leads (in_tree sections.trees.items (lanes_of sections) items) line.now (state_of d)) (λ e. Refuses (in_tree sections.trees.items (lanes_of sections) items) line.now number e) }
 {
-    if line == b"end".as_slice() {
+    if is_word(line, b"end") {
         return Ok(end_tree(sections, items)?);
     }
     match next_node(alloc, items, line)? {
@@ -137,7 +138,7 @@ fn follow_lane(
 ) -> Result<Draft, ScriptFault>
     ensures { MatchResult result (λ d. Leads (in_lane sections.trees.items (lanes_of sections) commands.items) line.now (state_of d)) (λ e. Refuses (in_lane sections.trees.items (lanes_of sections) commands.items) line.now number e) }
 {
-    if line == b"end".as_slice() {
+    if is_word(line, b"end") {
         return Ok(end_lane(sections, commands)?);
     }
     match next_command(alloc, &sections.trees, commands, line, number) {
