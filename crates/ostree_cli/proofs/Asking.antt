@@ -1,8 +1,8 @@
 -- What the words and the input ask for, from what was read of them.
-use Rattle.std.proofs.Common.{◌≡◌, ◌≢◌, ◌⊎◌, inl, inr, ◌≤◌, ℕ, List, length, take, Option, Some, None, Result, Ok, Err, IfErr, MatchResult, refl, sym, ◌∙◌, ap, subst, arith}
+use Rattle.std.proofs.Common.{◌≡◌, ◌≢◌, ◌⊎◌, inr, ℕ, List, Option, Some, Result, Ok, Err, IfErr, refl, sym, ◌∙◌, subst, arith}
 use Rattle.std.proofs.lemmas.List.{take_all}
 use Rattle.script.proofs.Alone.{commit_alone}
-use Rattle.script.specs.Words.{IsCommand, ReadsWords, IsUnknown, IsWritten}
+use Rattle.script.specs.Words.{ReadsWords, IsUnknown, IsWritten}
 use Rattle.script.specs.declared.command.Command.{Command}
 use Rattle.script.specs.declared.command.Written.{Written}
 use Rattle.script.specs.declared.command.Written.TheVariants as written

@@ -1,15 +1,16 @@
 -- Lanes that are fit can be run within the program's limits.
-use Rattle.std.proofs.Common.{◌≡◌, ◌<◌, ◌≤◌, ℕ, List, length, get_or, map, refl, sym, ◌∙◌, ap, subst, arith}
+use Rattle.std.proofs.Common.{◌<◌, ◌≤◌, ℕ, List, length, get_or, sym, ◌∙◌, ap, subst, arith}
 use Rattle.std.specs.Prelude.{All}
 use Rattle.std.proofs.lemmas.List.{get_or-map, length-map}
 use Rattle.ost_types.specs.declared.limits.Limits.{Limits}
 use Rattle.script.specs.declared.command.Command.{Command}
 use Rattle.script.specs.declared.command.Command.TheVariants.{Refs, RevParse, Reset, DropRef, Commit}
 use Rattle.script.specs.declared.command.Lane.{Lane}
-use Rattle.script_trees.specs.Fit.{AreFit, IsFit, IsFitCommit, IsWide}
+use Rattle.script_reader.specs.Script.{command_limit, lane_limit}
+use Rattle.script_trees.specs.Fit.{AreFit, IsFit, IsWide}
 use Rattle.sys_core.specs.Commits as within
 use Rattle.sys_core.specs.Fit as all
-use Rattle.sys_core.specs.Replied.{IsAt, IsCommand}
+use Rattle.sys_core.specs.Replied.{IsAt}
 use Rattle.ostree_cli.specs.Words.{commands_of}
 
 -- what holds of each element holds of the one at a place
@@ -34,10 +35,10 @@ fit_within limits lanes wide fit = λ lane number c is.
     let commands = at_place (λ commands. All (IsFit limits) commands) (commands_of lanes) lane is.0.commands.items (fit.each limits wide) (lane_at lanes lane is.0 is.1) in
     fit_command limits c (at_place (IsFit limits) is.0.commands.items number c commands is.2)
 
-pub few_lanes : (lanes : List Lane) → AreFit (commands_of lanes) → length lanes ≤ 8
+pub few_lanes : (lanes : List Lane) → AreFit (commands_of lanes) → length lanes ≤ lane_limit
 few_lanes lanes fit = omega (arith, fit.few, length-map lanes (λ (lane : Lane). lane.commands.items))
 
-pub short_lanes : (lanes : List Lane) → AreFit (commands_of lanes) → (l : ℕ) (d : Lane) → l < length lanes → length (get_or lanes l d).commands.items ≤ 64
+pub short_lanes : (lanes : List Lane) → AreFit (commands_of lanes) → (l : ℕ) (d : Lane) → l < length lanes → length (get_or lanes l d).commands.items ≤ command_limit
 short_lanes lanes fit l d less =
     let at = fit.short l d.commands.items (subst (λ n. l < n) (sym (length-map lanes (λ (lane : Lane). lane.commands.items))) less) in
-    subst (λ (commands : List Command). length commands ≤ 64) (get_or-map (λ (lane : Lane). lane.commands.items) lanes l d d.commands.items less) at
+    subst (λ (commands : List Command). length commands ≤ command_limit) (get_or-map (λ (lane : Lane). lane.commands.items) lanes l d d.commands.items less) at

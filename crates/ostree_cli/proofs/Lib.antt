@@ -7,3 +7,4 @@ pub mod Rans
 pub mod Outcomes
 pub mod Asking
 pub mod Fits
+pub mod Lefts

@@ -1,5 +1,5 @@
 -- What the whole call tells of its words and of its input.
-use Rattle.std.proofs.Common.{◌≡◌, ◌≢◌, ◌⊎◌, inl, inr, ⊎_elim, ℕ, List, [], ◌∷◌, map, Option, Some, None, IfSome, refl, sym, ◌∙◌, subst}
+use Rattle.std.proofs.Common.{◌≡◌, ◌≢◌, ◌⊎◌, inl, inr, ⊎_elim, ℕ, List, [], ◌∷◌, map, Option, Some, None, IfSome, Result, Ok, Err, IfErr, refl, sym, ◌∙◌, subst}
 use Rattle.std.specs.Global.{Vec}
 use Rattle.rely.specs.declared.books.Entry.{Entry}
 use Rattle.rely.specs.declared.event.Event.{Event}
@@ -52,3 +52,18 @@ pub no_fault : (printed fault : Option TopFault) (history : List Entry) (pending
 no_fault printed None history pending replies same unused ran = refl
 no_fault printed (Some f) history pending replies same unused (inl none) = ⊎_elim (λ is. (let n : Some f ≡ None = sym is ∙ none in cc)) (λ is. (let n : Some NoMemory ≡ None = sym is ∙ none in cc)) same
 no_fault printed (Some f) history pending replies same unused (inr some) = absurd (some (no_replies replies (unused (λ is. (let n : Some f ≡ None = is in cc))).replies_are))
+
+-- a fault, and no reply: no lane was run
+pub unused_printed : (P : Type 0) (printed fault : Option TopFault) (replies : List (Vec Reply)) → (fault ≢ None → P) → (fault ≡ None → replies ≡ [] → printed ≡ None) → (printed ≡ None) ⊎ (replies ≢ []) ⊎ P
+unused_printed P printed None [] unused silent = inl (silent refl refl)
+unused_printed P printed None (lane ∷ replies) unused silent = inr (inl (λ none. let n : lane ∷ replies ≡ [] = none in cc))
+unused_printed P printed (Some f) replies unused silent = inr (inr (unused (λ none. let n : Some f ≡ None = none in cc)))
+
+pub some_fault : (P : Type 0) (fault : Option TopFault) → IfSome fault (λ f. P) → fault ≢ None → P
+some_fault P None holds some = absurd (some refl)
+some_fault P (Some f) holds some = holds
+
+-- what came back is what was opened
+pub back_from : {X F : Type 0} (Q : TopFault → Type 0) (P : F → Type 0) (opened : F) (r : Result X (F × TopFault)) → IfErr r (λ e. (e.0 ≡ opened) × Q e.1) → P opened → IfErr r (λ e. P e.0)
+back_from Q P opened (Ok x) back holds = tt
+back_from Q P opened (Err e) back holds = subst P (sym back.0) holds

@@ -1,14 +1,13 @@
 -- The headline of a system in plain data.
-use Rattle.std.proofs.Common.{◌≡◌, ◌≤◌, ◌++◌, ℕ, List, [], ◌∷◌, length, take, Option, Some, None, refl, sym, ◌∙◌, ap, subst}
-use Rattle.fs_trait.specs.View.{Disk, View}
-use Rattle.fs_trait.specs.Change.{Left}
+use Rattle.std.proofs.Common.{◌≡◌, ◌≤◌, ◌++◌, ℕ, List, length, take, Option, Some, None, refl, sym, ap, subst}
+use Rattle.fs_trait.specs.View.{View}
 use Rattle.rely.specs.declared.books.Base.{Base}
 use Rattle.rely.specs.declared.books.Entry.{Entry}
 use Rattle.rely.specs.declared.books.Pending.{Pending}
 use Rattle.rely.specs.declared.event.Event.{Event}
-use Rattle.rely.specs.State.{State, first, after, events_of, pending_of, acked, IsRun}
+use Rattle.rely.specs.State.{State, first, after, events_of, pending_of, IsRun}
 use Rattle.rely.specs.Headline as system
-use Rattle.ostree_cli.specs.Headline.{Headline, Fits, shown, stored}
+use Rattle.ostree_cli.specs.Headline.{Headline, shown, stored}
 use Rattle.ostree_cli.specs.Top.{event_of}
 
 same_shown : (p : Option Pending) → shown (event_of p) ≡ pending_of p

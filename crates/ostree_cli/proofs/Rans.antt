@@ -1,6 +1,7 @@
 -- What a run of lanes leaves, where the file system tells its view.
-use Rattle.std.proofs.Common.{◌≡◌, ◌∙◌, ◌+◌, ℕ, List, [], ◌∷◌, length, ap, Option, Some, Result, Ok, Err, IfOk, map, refl, sym, subst}
-use Rattle.fs_trait.specs.View.{View}
+use Rattle.std.proofs.Common.{◌≡◌, ◌≤◌, ◌∙◌, ◌+◌, ℕ, List, [], ◌∷◌, length, ap, Option, Some, Result, Ok, Err, IfOk, IfSome, map, refl, sym, subst}
+use Rattle.fs_trait.specs.Change.{Left}
+use Rattle.fs_trait.specs.View.{Disk, View}
 use Rattle.fs_trait.specs.Image.{Told}
 use Rattle.rely.specs.State.{first}
 use Rattle.rely.specs.Disks.{Logical}
@@ -15,11 +16,14 @@ use Rattle.sys_core.specs.declared.system.Parts.{Parts}
 use Rattle.sys_core.specs.Answers.{IsTold}
 use Rattle.sys_core.specs.Lasting.{AreKeptIn}
 use Rattle.sys_core.specs.Replied.{Replied}
-use Rattle.layout_rules.specs.Checks.{IsSane}
+use Rattle.sys_core.specs.Storing.{IsBegunIn}
+use Rattle.sys_open.specs.Damages.{IsGood}
 use Rattle.sys_open.specs.Opening.{Begins}
+use Rattle.sys_open.specs.declared.fault.OpenFault.TheVariants as opening
 use Rattle.ostree_cli.specs.declared.fault.TopFault.{TopFault}
+use Rattle.ostree_cli.specs.declared.fault.TopFault.TheVariants.{Usage, Script, Input, Open, NoMemory}
 use Rattle.ostree_cli.specs.Headline.{Headline}
-use Rattle.ostree_cli.specs.Top.{AreStandard, Ran, RanBy, event_of}
+use Rattle.ostree_cli.specs.Top.{AreStandard, IsStop, IsStopped, LeftGood, Ran, RanBy, event_of}
 use Rattle.ostree_cli.specs.Words.{IsLine}
 
 -- a view that is told has what each told view has, beside what is told of it
@@ -34,15 +38,16 @@ lengths [] = refl
 lengths (lane ∷ rest) = ap (λ l. length lane.commands.items ∷ l) (lengths rest)
 
 pub ran : {F : Type 0} (limits opened : Limits) (view : F → Option View) (clock : F → ℕ) (was : F → ℕ → View → Type 0) (v : View) (before barrier : ℕ) (refs : List (List ℕ × List ℕ)) (lanes : List Lane) (r : Result (Parts F) (F × TopFault))
-    → opened ≡ limits → IsSane v.now → Logical v.now (first refs) → barrier ≡ before + 1 → (begun : View) → Begins refs v begun
+    → opened ≡ limits → IsGood limits v.now → Logical v.now (first refs) → barrier ≡ before + 1 → (begun : View) → Begins refs v begun
     → ((w : View) → IfOk r (λ p. view p.fs ≡ Some w → Headline clock was barrier (first refs) p.fs p.history.items (event_of p.pending) w))
     → IfOk r (λ p. (started : List (Option ℕ)) × Replied (IsTold view) opened (first refs) p.history.items p.pending lanes started (map (λ replies. replies.items) p.replies.items))
     → IfOk r (λ p. map (λ row. length row) (map (λ replies. replies.items) p.replies.items) ≡ map (λ lane. length lane.commands.items) lanes)
     → IfOk r (λ p. Told (view p.fs) (AreKeptIn (was p.fs) begun opened lanes p.history.items))
+    → ((w : View) (t : ℕ) (d : Disk) → IfOk r (λ p. view p.fs ≡ Some w → barrier ≤ t → Left (was p.fs) t d → LeftGood opened (IsBegunIn (first refs) p.history.items lanes [] (map (λ replies. replies.items) p.replies.items)) d))
     → IfOk r (λ p. Told (view p.fs) (Ran limits view clock was v before (map (λ lane. lane.commands.items) lanes) p.fs p.history.items (event_of p.pending) (map (λ replies. replies.items) p.replies.items)))
-ran limits opened view clock was v before barrier refs lanes (Err e) same sane state at begun begins lines replied ended kept = tt
-ran limits opened view clock was v before barrier refs lanes (Ok p) same sane state at begun begins lines replied ended kept = told_all (view p.fs) (AreKeptIn (was p.fs) begun opened lanes p.history.items) (Ran limits view clock was v before (map (λ lane. lane.commands.items) lanes) p.fs p.history.items (event_of p.pending) (map (λ replies. replies.items) p.replies.items)) kept (λ w is stays. record {
-  sane = sane;
+ran limits opened view clock was v before barrier refs lanes (Err e) same good state at begun begins lines replied ended kept stored = tt
+ran limits opened view clock was v before barrier refs lanes (Ok p) same good state at begun begins lines replied ended kept stored = told_all (view p.fs) (AreKeptIn (was p.fs) begun opened lanes p.history.items) (Ran limits view clock was v before (map (λ lane. lane.commands.items) lanes) p.fs p.history.items (event_of p.pending) (map (λ replies. replies.items) p.replies.items)) kept (λ w is stays. record {
+  good = good;
   start = first refs;
   state = state;
   headline = subst (λ n. Headline clock was n (first refs) p.fs p.history.items (event_of p.pending) w) at (lines w is);
@@ -57,6 +62,7 @@ ran limits opened view clock was v before barrier refs lanes (Ok p) same sane st
   opens = begins.keeps;
   opened = begins.opening;
   kept = subst (λ l. AreKeptIn (was p.fs) begun l lanes p.history.items w) same stays;
+  stored = λ t d from left. subst (λ l. LeftGood l (IsBegunIn (first refs) p.history.items lanes [] (map (λ replies. replies.items) p.replies.items)) d) same (stored w t d is (subst (λ n. n ≤ t) (sym at) from) left);
 })
 
 -- what is said of the commits of a system is said of what it was taken apart into
@@ -87,3 +93,17 @@ by_words left words limits view clock was v before commands fs fs' h h' p p' r r
     (subst (λ x. Told (view fs) (RanBy left words view clock was v before fs x p' r')) (sym h-is)
     (subst (λ x. Told (view fs) (RanBy left words view clock was v before fs h x r')) (sym p-is)
     (subst (λ x. Told (view fs) (RanBy left words view clock was v before fs h p x)) (sym r-is) (told.0, told.1, (limits, commands, standard, line, told.2)))))
+
+-- a fault that is told within these bounds
+stopped : (limits : Limits) (d : Disk) → AreStandard limits → (fault : TopFault) → IsStop limits d fault → IsStopped d fault
+stopped limits d standard Usage stop = tt
+stopped limits d standard (Script e) stop = tt
+stopped limits d standard Input stop = tt
+stopped limits d standard NoMemory stop = tt
+stopped limits d standard (Open opening.NoMemory) stop = absurd stop
+stopped limits d standard (Open opening.Disk) stop = (limits, standard, tt)
+stopped limits d standard (Open (opening.Damaged p why)) stop = (limits, standard, stop)
+stopped limits d standard (Open (opening.Outside p)) stop = absurd stop
+
+pub stop_at : (told : Option TopFault) (fault : TopFault) (limits : Limits) (d : Disk) → told ≡ Some fault → AreStandard limits → IsStop limits d fault → IfSome told (IsStopped d)
+stop_at told fault limits d is standard stop = subst (λ o. IfSome o (IsStopped d)) (sym is) (stopped limits d standard fault stop)

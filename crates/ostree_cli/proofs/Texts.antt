@@ -1,11 +1,11 @@
 -- The words of a command are texts: each byte of a field is printed.
-use Rattle.std.proofs.Common.{◌≡◌, ◌≢◌, ◌⊎◌, inl, inr, ◌≤◌, ◌<◌, ◌+◌, ◌/◌, ◌%◌, ◌&&◌, not, eqb, nat_le, ℕ, zero, suc, List, [], ◌∷◌, ◌++◌, length, slice_index, Bool, true, IsTrue, All, refl, sym, ◌∙◌, ap, subst, arith, codes}
+use Rattle.std.proofs.Common.{◌≡◌, ◌≢◌, inl, inr, ◌≤◌, ◌<◌, ◌/◌, ◌%◌, ◌&&◌, nat_le, ℕ, zero, suc, List, [], ◌∷◌, length, slice_index, Bool, true, IsTrue, All, refl, sym, ap, subst, arith, codes}
 use Rattle.std.proofs.lemmas.List.Elements.{All-cons, All-head, All-nil, All-tail, All-append, All-weaker}
 use Rattle.std.proofs.lemmas.Bool.{and_parts}
 use Rattle.std.proofs.lemmas.Str.{IsUtf8-from_ascii}
 use Rattle.std.proofs.lemmas.Str.Ascii.{IsAscii-from_all}
 use Rattle.hex.specs.Hex.{IsBytes, encode_with, lower_digits}
-use Rattle.ost_types.specs.Csum.{hex_of, IsHexDigit, IsHexSum}
+use Rattle.ost_types.specs.Csum.{hex_of, IsHexDigit}
 use Rattle.ost_types.specs.Text.{IsText}
 use Rattle.ost_types.proofs.HexSums.{IsHexSum-hex_of}
 use Rattle.script.specs.Field.{IsField, Spells, Stands, is_plain}

@@ -1,9 +1,10 @@
 -- What is read of an input.
-use Rattle.std.specs.Prelude.{◌≡◌, ◌≤◌, ℕ, List, [], ◌++◌, take, drop, Option, Some}
+use Rattle.std.specs.Prelude.{◌≡◌, ◌+◌, ◌≤◌, ℕ, List, [], ◌++◌, take, drop, Option, Some}
+use Rattle.script_reader.specs.Script.{script_limit}
 
 -- a byte more than a script has at most
 abbrev pub input_limit : ℕ
-input_limit = 4194305
+input_limit = script_limit + 1
 
 -- all of it, or its front, and only what is behind that is left
 pub record IsRead (all bytes : List ℕ) (left : Option (List ℕ)) : Type 0 where

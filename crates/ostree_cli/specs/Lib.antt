@@ -5,3 +5,4 @@ pub mod Input
 pub mod Words
 pub mod Headline
 pub mod Top
+pub mod Whys

@@ -1,5 +1,5 @@
 -- The exit status: the greatest whose row applies.
-use Rattle.std.specs.Prelude.{◌≡◌, ◌==◌, ◌||◌, nat_lt, max, map, ℕ, Bool, List, [], ◌∷◌, Option, Some, None, if◌then◌else◌}
+use Rattle.std.specs.Prelude.{◌==◌, ◌||◌, nat_lt, max, map, ℕ, Bool, List, [], ◌∷◌, Option, Some, None, if◌then◌else◌}
 use Rattle.fs_trait.specs.Count.{last}
 use Rattle.script.specs.declared.answer.Answer.{Answer}
 use Rattle.script.specs.declared.answer.Answer.TheVariants as answer
@@ -36,7 +36,8 @@ lane_status replies = greatest (map (λ reply. answer_status reply.answer) repli
 abbrev pub replies_status : List (List Reply) → ℕ
 replies_status lanes = greatest (map lane_status lanes)
 
--- the status of a fault alone, 0 where there is none or where a count has to show it
+-- The status of a fault alone, 0 where there is none or where a count has to show it. Want of memory never comes as a fault of the
+-- script or of the opening, but a function has a row for each.
 abbrev pub fault_status : Option TopFault → ℕ
 fault_status None = 0
 fault_status (Some Usage) = 2

@@ -8,19 +8,13 @@ use Rattle.script.specs.declared.answer.Reply.{Reply}
 use Rattle.script.specs.declared.fault.ScriptFault.{ScriptFault}
 use Rattle.script.specs.declared.fault.ScriptFault.TheVariants.{BadLine, TooLong, TooManyLanes, TooManyCommands, UnknownTree}
 use Rattle.script.specs.declared.fault.ScriptFault.TheVariants as script
-use Rattle.sys_open.specs.declared.fault.Why.{Why}
-use Rattle.sys_open.specs.declared.fault.Why.TheVariants.{BadRef, WrongKind}
-use Rattle.sys_open.specs.declared.fault.OpenFault.{OpenFault}
 use Rattle.sys_open.specs.declared.fault.OpenFault.TheVariants.{Damaged, Disk, Outside}
 use Rattle.sys_open.specs.declared.fault.OpenFault.TheVariants as opening
+use Rattle.ostree_cli.specs.Whys.{why_end}
 use Rattle.ostree_cli.specs.declared.fault.TopFault.{TopFault}
 use Rattle.ostree_cli.specs.declared.fault.TopFault.TheVariants.{Usage, Script, Input, Open, NoMemory}
 
-abbrev pub why_text : Why → List ℕ
-why_text BadRef = codes "BadRef"
-why_text WrongKind = codes "WrongKind"
-
--- the line of a fault of a script, with its number, where it has one
+-- the line of a fault of a script, with its number, where it has one; want of memory is never told as one
 abbrev pub script_line : ScriptFault → List ℕ
 script_line (BadLine n) = codes "fault script BadLine " ++ (decimal n ++ 10 ∷ [])
 script_line TooLong = codes "fault script TooLong\n"
@@ -37,7 +31,7 @@ fault_line Input = codes "fault input\n"
 fault_line NoMemory = codes "fault memory\n"
 fault_line (Open opening.NoMemory) = codes "fault memory\n"
 fault_line (Open Disk) = codes "fault open Disk\n"
-fault_line (Open (Damaged path why)) = codes "fault open Damaged " ++ (escaped (text_of path) ++ (32 ∷ (why_text why ++ 10 ∷ [])))
+fault_line (Open (Damaged path why)) = codes "fault open Damaged " ++ (escaped (text_of path) ++ why_end why)
 fault_line (Open (Outside path)) = codes "fault open Outside " ++ (escaped (text_of path) ++ 10 ∷ [])
 
 -- all that is printed

@@ -1,7 +1,8 @@
 -- What the whole call comes to.
-use Rattle.std.specs.Prelude.{◌≡◌, ◌⊎◌, ◌+◌, ℕ, List, [], length, map, Option, Some, None}
+use Rattle.std.specs.Prelude.{◌≡◌, ◌⊎◌, ◌≤◌, ◌+◌, ℕ, List, [], length, map, Option, Some, None}
 use Rattle.fs_trait.specs.Count.{Rose}
-use Rattle.fs_trait.specs.View.{Disk, View, all_synced}
+use Rattle.fs_trait.specs.Change.{Left}
+use Rattle.fs_trait.specs.View.{Disk, View}
 use Rattle.rely.specs.declared.books.Entry.{Entry}
 use Rattle.rely.specs.declared.books.Pending.{Pending}
 use Rattle.rely.specs.declared.event.Event.{Event}
@@ -15,9 +16,15 @@ use Rattle.script.specs.declared.command.Lane.{Lane}
 use Rattle.sys_core.specs.Answers.{IsTold}
 use Rattle.sys_core.specs.Lasting.{AreKeptIn}
 use Rattle.sys_core.specs.Replied.{Replied}
-use Rattle.sys_open.specs.declared.fault.OpenFault.{OpenFault}
 use Rattle.sys_open.specs.declared.fault.OpenFault.TheVariants as opening
 use Rattle.layout_rules.specs.Checks.{IsSane}
+use Rattle.ost_forms.specs.declared.tree_item.TreeItem.{TreeItem}
+use Rattle.commit_build.specs.declared.message.Message.{Message}
+use Rattle.store_check.specs.Listing.{HasFew}
+use Rattle.store_lasts.specs.Keeping.{IsGoodDisk}
+use Rattle.store_lasts.specs.Standing.{AreAlone}
+use Rattle.sys_core.specs.Storing.{IsBegunIn, IsConfigured}
+use Rattle.sys_open.specs.Damages.{IsGood}
 use Rattle.sys_open.specs.Changes.{Keeps}
 use Rattle.sys_open.specs.Opening.{IsToldOf, StaysOnDamage}
 use Rattle.ostree_cli.specs.declared.fault.TopFault.{TopFault}
@@ -27,13 +34,13 @@ use Rattle.ostree_cli.specs.Output.{Wrote, WroteFront}
 use Rattle.ostree_cli.specs.Words.{IsLine}
 
 -- why no lane was run, by what reads see at the beginning
-abbrev pub IsStop : Disk → TopFault → Type 0
-IsStop d Usage = Unit {0}
-IsStop d (Script e) = Unit {0}
-IsStop d Input = Unit {0}
-IsStop d (Open opening.NoMemory) = ⊥
-IsStop d (Open fault) = IsToldOf d fault
-IsStop d NoMemory = Unit {0}
+abbrev pub IsStop : Limits → Disk → TopFault → Type 0
+IsStop limits d Usage = Unit {0}
+IsStop limits d (Script e) = Unit {0}
+IsStop limits d Input = Unit {0}
+IsStop limits d (Open opening.NoMemory) = ⊥
+IsStop limits d (Open fault) = IsToldOf limits d fault
+IsStop limits d NoMemory = Unit {0}
 
 -- after damage was told all is as it was, and outlasts a crash
 abbrev pub StaysOn : TopFault → Type 0 → Type 0
@@ -51,12 +58,29 @@ pub record AreStandard (limits : Limits) : Type 0 where
   pub paths : limits.paths ≡ 524288
   pub content : limits.content ≡ 268435456
 
--- What a run of lanes with these commands leaves: the repository was sane, and from the refs that it had then all is as the
+-- why no lane was run, within the limits of the program
+abbrev pub IsStopped : Disk → TopFault → Type 0
+IsStopped d Usage = Unit {0}
+IsStopped d (Script e) = Unit {0}
+IsStopped d Input = Unit {0}
+IsStopped d NoMemory = Unit {0}
+IsStopped d (Open opening.NoMemory) = ⊥
+IsStopped d (Open fault) = (limits : Limits) × AreStandard limits × IsToldOf limits d fault
+
+-- What a crash left of the store: the configuration is one; each object is what its name says, and each ref names a commit that is there
+-- and has no mark. And where no other bytes there have the name of an object of a commit that was begun, each commit without a mark is whole;
+-- so a sane disk with no more objects than may be is good then: it opens.
+pub record LeftGood (limits : Limits) (begun : List TreeItem → Message → Type 0) (d : Disk) : Type 0 where
+  pub store : IsGoodDisk limits begun IsConfigured d
+  pub opens : IsSane d → HasFew d limits.objects → AreAlone begun d → IsGood limits d
+
+-- What a run of lanes with these commands leaves: the repository was good, and from the refs that it had then all is as the
 -- headline says. Each reply is by its command and by the states that the changes make of these refs; and each change is one
 -- command's, which was answered so, or which was cut off where the change is pending. Each command of each lane has its reply. The
--- opening changed nothing but what it laid out and cleared, and from there on each commit that a change made is kept.
+-- opening changed nothing but what it laid out and cleared, and from there on each commit that a change made is kept, and what each crash
+-- leaves of the store is good.
 pub record Ran {F : Type 0} (limits : Limits) (view : F → Option View) (clock : F → ℕ) (was : F → ℕ → View → Type 0) (v : View) (before : ℕ) (commands : List (List Command)) (fs : F) (history : List Entry) (pending : Option Event) (replies : List (List Reply)) (w : View) : Type 0 where
-  pub sane : IsSane v.now
+  pub good : IsGood limits v.now
   pub start : State
   pub state : Logical v.now start
   pub headline : Headline clock was (before + 1) start fs history pending w
@@ -71,6 +95,7 @@ pub record Ran {F : Type 0} (limits : Limits) (view : F → Option View) (clock 
   pub opens : Keeps v.now begun.now
   pub opened : IsOpening start begun
   pub kept : AreKeptIn (was fs) begun limits lanes history w
+  pub stored : (t : ℕ) (d : Disk) → before + 1 ≤ t → Left (was fs) t d → LeftGood limits (IsBegunIn start history lanes [] replies) d
 
 -- so, of lanes that these words ask for, where an input has this left
 abbrev pub RanBy : {F : Type 0} → Option (List ℕ) → List (List ℕ) → (F → Option View) → (F → ℕ) → (F → ℕ → View → Type 0) → View → ℕ → F → List Entry → Option Event → List (List Reply) → View → Type 0

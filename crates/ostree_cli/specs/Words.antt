@@ -1,7 +1,7 @@
 -- The command line: `init` or `run` alone, or a command and its fields.
-use Rattle.std.specs.Prelude.{◌≡◌, ◌≢◌, ◌⊎◌, ℕ, List, [], ◌∷◌, codes, map, take, Option, Some}
+use Rattle.std.specs.Prelude.{◌≡◌, ◌≢◌, ◌⊎◌, ℕ, List, [], ◌∷◌, codes, map, take, Option, Some, Ok}
 use Rattle.fs_trait.specs.Count.{Rose}
-use Rattle.script.specs.Words.{IsCommand}
+use Rattle.script.specs.Words.{IsCommand, ReadsWords}
 use Rattle.script.specs.declared.command.Command.{Command}
 use Rattle.script.specs.declared.command.Lane.{Lane}
 use Rattle.script.specs.declared.fault.ScriptFault.TheVariants as script
@@ -21,24 +21,20 @@ run = codes "run" ∷ []
 abbrev pub commands_of : List Lane → List Commands
 commands_of lanes = map (λ lane. lane.commands.items) lanes
 
--- one lane with the one command
-abbrev pub IsLone : List (List ℕ) → List Commands → Type 0
-IsLone words lanes = (command : Command) × (lanes ≡ (command ∷ []) ∷ []) × IsCommand words command
-
 -- the words of no such command
 abbrev pub AreNoLone : List (List ℕ) → Type 0
 AreNoLone words = (command : Command) → ¬ (IsCommand words command)
 
 -- what the words alone say
 abbrev pub IsRequest : List (List ℕ) → Request → Type 0
-IsRequest words (request.Lanes lanes) = ((words ≡ init) × (commands_of lanes.items ≡ [])) ⊎ IsLone words (commands_of lanes.items)
+IsRequest words (request.Lanes lanes) = ((words ≡ init) × (commands_of lanes.items ≡ [])) ⊎ ReadsWords words (Ok (commands_of lanes.items))
 IsRequest words request.Script = words ≡ run
 
 -- no command line
 abbrev pub AreNoLine : List (List ℕ) → Type 0
 AreNoLine words = (words ≢ init) × (words ≢ run) × AreNoLone words
 
--- These are read of an input. Of one that tells what it has they are the first 4,194,305 bytes, or all.
+-- These are read of an input. Of one that tells what it has they are all, or the first so many bytes.
 abbrev pub Heard : Option (List ℕ) → List ℕ → Type 0
 Heard left bytes = (all : List ℕ) → left ≡ Some all → bytes ≡ take input_limit all
 
@@ -51,7 +47,7 @@ abbrev pub IsLine : Option (List ℕ) → List (List ℕ) → List Commands → 
 IsLine left words lanes =
     ((words ≡ init) × (lanes ≡ []))
     ⊎ ((words ≡ run) × HasScript left lanes)
-    ⊎ IsLone words lanes
+    ⊎ ReadsWords words (Ok lanes)
 
 -- why bytes give no lanes
 abbrev pub IsUnread : List ℕ → TopFault → Type 0

@@ -30,6 +30,7 @@ pub fn asked_lanes<S: Source>(
     ensures unread { map (λ word. string_bytes word) words.now ≢ run → input.new ≡ input.old }
     ensures later { S.faults input.old ≤ S.faults input.new }
     ensures quiet { IfOk result (λ _. S.faults input.new ≡ S.faults input.old) }
+    ensures failed { IfErr result (λ e. (e ≡ fault.Input) ⊎ (S.faults input.new ≡ S.faults input.old)) }
 {
     match read_line(alloc, words) {
         Ok(Request::Lanes(lanes)) => Ok(lanes),
@@ -47,6 +48,7 @@ fn read_lanes<S: Source>(alloc: Global, input: &mut S) -> Result<Vec<Lane>, TopF
     ensures read { (all : List ℕ) → S.left input.old ≡ Some all → TookFront all (S.left input.new) }
     ensures later { S.faults input.old ≤ S.faults input.new }
     ensures quiet { IfOk result (λ _. S.faults input.new ≡ S.faults input.old) }
+    ensures failed { IfErr result (λ e. (e ≡ fault.Input) ⊎ (S.faults input.new ≡ S.faults input.old)) }
 {
     let bytes = match read_input(alloc, input) {
         Ok(bytes) => bytes,

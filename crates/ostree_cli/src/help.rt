@@ -7,10 +7,11 @@ pub const VERSION: &[u8] = b"ostree_cli 0.1.0\n";
 pub const USAGE: &[u8] = b"\
 Usage: ostree_cli COMMAND [FIELD]...
 
-Works on the OSTree repository at ostree/repo below the current folder.
+Works on the OSTree repository at ostree/repo below the current folder. Each
+command first checks all that is there, and lays out what is missing.
 
 Commands:
-  init                  open the repository, and lay out what is missing
+  init                  check the repository, and lay out what is missing
   run                   read a script from the input, and run its lanes
   refs                  list the refs with their commits
   rev-parse REV         print the commit that REV names
@@ -30,7 +31,7 @@ lanes. The commands of a lane run one after the other.
   folder PATH UID GID MODE XATTRS
   file PATH UID GID MODE XATTRS CONTENT
   link PATH UID GID XATTRS TARGET
-  end                                    the paths of a tree ascend
+  end                                    its paths ascend, name by name
   lane
   commit BRANCH N SUBJECT BODY TIME      commit tree N, and let the ref name it
   ...                                    or any other command with its fields

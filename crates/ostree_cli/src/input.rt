@@ -2,20 +2,21 @@
 ghost use Rattle.std.specs.Prelude.{◌≡◌, ◌⊎◌, ◌≤◌, ◌<◌, ℕ, List, drop, length, Some, IfOk, IfErr, MatchResult};
 ghost use Rattle.fs_trait.specs.Count.{Rose};
 ghost use Rattle.ostree_cli.specs.declared.fault.TopFault.TheVariants as fault;
-ghost use Rattle.ostree_cli.specs.Input.{input_limit, IsRead, TakesMore, TookFront};
+ghost use Rattle.ostree_cli.specs.Input.{IsRead, TakesMore, TookFront};
 
 use crate::fault::TopFault;
 use fs_trait::Source;
 use ost_types::Bytes;
+use script_reader::SCRIPT_LIMIT;
 use std::alloc::Global;
 
 /// A byte more than a script has at most, so that one that is longer is seen to be so.
-const LIMIT: usize = 4_194_305;
+const LIMIT: usize = SCRIPT_LIMIT + 1;
 
 /// How many bytes are read at once.
 const PIECE: usize = 4_096;
 
-/// Reads the input to its end, or to its byte 4,194,305. A source whose count of failed calls has risen isn't relied on.
+/// Reads the input to its end, or to a byte more than a script has. A source whose count of failed calls has risen isn't relied on.
 pub fn read_input<S: Source>(alloc: Global, input: &mut S) -> Result<Bytes, TopFault>
     ensures read { (b : List ℕ) → S.left input.old ≡ Some b → MatchResult result (λ bytes. IsRead b bytes (S.left input.new)) (λ _. TookFront b (S.left input.new)) }
     ensures later { S.faults input.old ≤ S.faults input.new }

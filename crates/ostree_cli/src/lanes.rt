@@ -1,9 +1,11 @@
 //! The lanes of a call, on the repository of a file system.
-ghost use Rattle.std.specs.Prelude.{◌≡◌, ◌≢◌, ◌≤◌, ◌<◌, ℕ, List, Option, Some, IfOk, IfErr, length, map, slice_index_or};
-ghost use Rattle.fs_trait.specs.View.{View, all_synced};
+ghost use Rattle.std.specs.Prelude.{◌≡◌, ◌≤◌, ◌<◌, ℕ, List, [], Option, Some, IfOk, IfErr, length, map, slice_index_or};
+ghost use Rattle.fs_trait.specs.View.{Disk, View, all_synced};
+ghost use Rattle.fs_trait.specs.Change.{Left};
 ghost use Rattle.fs_trait.specs.Image.{Told};
 ghost use Rattle.fs_trait.specs.Count.{Rose};
 ghost use Rattle.script.specs.declared.command.Lane.{Lane};
+ghost use Rattle.sys_open.specs.Changes.{Changes, Works};
 ghost use Rattle.sys_open.specs.declared.fault.OpenFault.TheVariants as opening;
 ghost use Rattle.ostree_cli.specs.declared.fault.TopFault.TheVariants as fault;
 ghost use Rattle.rely.specs.State.{first};
@@ -11,9 +13,11 @@ ghost use Rattle.sys_core.specs.Answers.{IsTold};
 ghost use Rattle.sys_core.specs.Fit as within;
 ghost use Rattle.sys_core.specs.Lasting.{AreKeptIn};
 ghost use Rattle.sys_core.specs.Replied.{Replied};
+ghost use Rattle.sys_core.specs.Storing.{IsBegunIn};
 ghost use Rattle.ostree_cli.specs.Headline.{Headline};
-ghost use Rattle.ostree_cli.specs.Top.{IsStop, Ran, StaysOn, event_of};
+ghost use Rattle.ostree_cli.specs.Top.{IsStop, LeftGood, Ran, StaysOn, event_of};
 ghost use Rattle.ostree_cli.specs.Words.{IsEarly, commands_of};
+ghost use Rattle.script_reader.specs.Script.{command_limit, lane_limit};
 ghost use Rattle.script_trees.specs.Fit.{AreFit, IsWide};
 
 use crate::fault::TopFault;
@@ -34,8 +38,9 @@ pub fn run_lanes<F: Fs>(
     requires wide { IsWide limits }
     requires fit { AreFit (commands_of lanes.items) }
     ensures ran { (v : View) → F.view fs ≡ Some v → IfOk result (λ p. Told (F.view p.fs) (Ran limits F.view F.clock F.was v (F.clock fs) (commands_of lanes.items) p.fs p.history.items (event_of p.pending) (map (λ replies. replies.items) p.replies.items))) }
-    ensures told { (v : View) → F.view fs ≡ Some v → IfErr result (λ e. IsStop v.now e.1) }
+    ensures told { (v : View) → F.view fs ≡ Some v → IfErr result (λ e. IsStop limits v.now e.1) }
     ensures still { (v : View) → F.view fs ≡ Some v → IfErr result (λ e. StaysOn e.1 (F.view e.0 ≡ Some (all_synced v))) }
+    ensures undone { (v : View) → F.view fs ≡ Some v → IfErr result (λ e. Works (Changes v.now) v (F.clock fs) (F.clock e.0) (F.was fs) (F.was e.0) (F.view e.0)) }
     ensures late { IfErr result (λ e. IsEarly e.1 → ⊥) }
     ensures disk { IfErr result (λ e. e.1 ≡ fault.Open opening.Disk → Rose (F.faults fs) (F.faults e.0)) }
 {
@@ -52,13 +57,14 @@ fn run_opened<F: Fs>(
     opened: Opened<F>,
     lanes: Vec<Lane>,
 ) -> Result<Parts<F>, (F, TopFault)>
-    requires few { length lanes.items ≤ 8 }
-    requires short { (l : ℕ) (d : Lane) → l < length lanes.items → length (slice_index_or lanes.items l d).commands.items ≤ 64 }
+    requires few { length lanes.items ≤ lane_limit }
+    requires short { (l : ℕ) (d : Lane) → l < length lanes.items → length (slice_index_or lanes.items l d).commands.items ≤ command_limit }
     requires fit { within.AreFit opened.limits lanes.items }
     ensures ran { (w : View) → IfOk result (λ p. F.view p.fs ≡ Some w → Headline F.clock F.was opened.clock (first opened.refs) p.fs p.history.items (event_of p.pending) w) }
     ensures replied { IfOk result (λ p. (started : List (Option ℕ)) × Replied (IsTold F.view) opened.limits (first opened.refs) p.history.items p.pending lanes.items started (map (λ replies. replies.items) p.replies.items)) }
     ensures ended { IfOk result (λ p. map (λ row. length row) (map (λ replies. replies.items) p.replies.items) ≡ map (λ lane. length lane.commands.items) lanes.items) }
     ensures kept { (begun : View) → F.view opened.fs ≡ Some begun → IfOk result (λ p. Told (F.view p.fs) (AreKeptIn (F.was p.fs) begun opened.limits lanes.items p.history.items)) }
+    ensures stored { (w : View) (t : ℕ) (d : Disk) → IfOk result (λ p. F.view p.fs ≡ Some w → opened.clock ≤ t → Left (F.was p.fs) t d → LeftGood opened.limits (IsBegunIn (first opened.refs) p.history.items lanes.items [] (map (λ replies. replies.items) p.replies.items)) d) }
     ensures back { IfErr result (λ e. (e.0 ≡ opened.fs) × (e.1 ≡ fault.NoMemory)) }
 {
     match System::new(alloc, opened, lanes) {

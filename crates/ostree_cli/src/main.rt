@@ -14,6 +14,9 @@ mod status;
 mod tests;
 mod text;
 mod top;
+#[cfg(test)]
+mod tree_tests;
+mod why;
 mod words;
 
 use fs_host::{HostFs, StdSink, StdSource};

@@ -1,4 +1,4 @@
-ghost use Rattle.std.specs.Prelude.{◌≡◌, ◌≤◌, ℕ, List, Some, OnOk, OnErr, length};
+ghost use Rattle.std.specs.Prelude.{◌≡◌, ◌≤◌, ℕ, List, Some, OnOk, OnErr};
 ghost use Rattle.fs_trait.specs.Count.{Rose};
 ghost use Rattle.ostree_cli.specs.Output.{Wrote, WroteFront};
 

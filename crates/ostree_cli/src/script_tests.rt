@@ -2,10 +2,12 @@ use crate::asked::asked_lanes;
 use crate::lanes::run_lanes;
 use crate::text::output_of;
 use crate::top::{Ended, ostree};
+use fs_host::HostFs;
 use fs_memory::{MemFs, MemSink, MemSource};
 use fs_trait::{Fs, Source};
 use ost_types::{Bytes, FsPath, Limits, NoMemory};
 use std::alloc::Global;
+use std::fs;
 use std::process::Abort;
 use std::test::Fail;
 
@@ -73,6 +75,96 @@ fn refuses_what_is_no_script(rt: HostRuntime) -> Result<(), Fail> {
     let script = b"ostree-script 1\nlane\nref\nend\n";
     assert!(rt; is_refused(alloc, script, b"fault script BadLine 3\n", 2)?);
     assert!(rt; is_refused(alloc, b"", b"fault script BadLine 1\n", 2)?);
+    Ok(())
+}
+
+// The script whose lines these are, with one between them.
+fn is_bad_line(
+    alloc: Global,
+    front: &[u8],
+    line: &[u8],
+    end: &[u8],
+    output: &[u8],
+) -> Result<bool, Fail> {
+    let script = repeated(alloc, front, line, 1, end)?;
+    is_refused(alloc, &script, output, 2)
+}
+
+// Lines that can't stand between two sections, in a tree and in a lane.
+const BAD_HEADS: &[u8] =
+    b"|end|lane |lanes|tree|tree 1|tree 00|tree  0|tree 0 0|tree %3|tree ~|refs|ostree-script 1";
+
+const BAD_NODES: &[u8] =
+    b"|tree 0|lane|end |node / 0 0 755 ~|folder / 0 0 755|folder / 0 0 0755 ~|folder / 0 0 758 ~|folder / 0 00 755 ~|folder a 0 0 755 ~|folder / 0 0 755 6A:|file /a 0 0 644 ~|file /a 0 0 644 ~ a|file /a 0 0 644 ~ =%6A|file /a 0 0 644 ~ *1:6|link /a 0 0 ~ ~|link /a 0 0 777 ~ b";
+
+const BAD_COMMANDS: &[u8] =
+    b"|lane|tree 0|End|refs ~|refs main|rev-parse|rev-parse .main|rev-parse %6Dain|reset main 11|reset main|drop|drop a//b|commit main 0 first ~|commit main 00 first ~ 0|commit main 0 %00 ~ 0|commit main 0 first ~ -1|commit main 0 first ~ 18446744073709551616|prune";
+
+#[test]
+fn tells_each_bad_line(rt: HostRuntime) -> Result<(), Fail> {
+    let alloc = rt.alloc();
+    let told = b"fault script BadLine 3\n";
+    for line in BAD_NODES.split(|byte| *byte == b'|') {
+        let front = b"ostree-script 1\ntree 0\n";
+        assert!(rt; is_bad_line(alloc, front, line, b"\nend\n", told)?);
+    }
+    for line in BAD_COMMANDS.split(|byte| *byte == b'|') {
+        let front = b"ostree-script 1\nlane\n";
+        assert!(rt; is_bad_line(alloc, front, line, b"\nend\n", told)?);
+    }
+    let told = b"fault script BadLine 2\n";
+    for line in BAD_HEADS.split(|byte| *byte == b'|') {
+        assert!(rt; is_bad_line(alloc, b"ostree-script 1\n", line, b"\n", told)?);
+    }
+    let told = b"fault script BadLine 1\n";
+    assert!(rt; is_bad_line(alloc, b"ostree-script 2", b"", b"\n", told)?);
+    let told = b"fault script BadLine 4\n";
+    let front = b"ostree-script 1\ntree 0\nfolder /a-b 0 0 755 ~\n";
+    assert!(rt; is_bad_line(alloc, front, b"folder /a/b 0 0 755 ~", b"\nend\n", told)?);
+    assert!(rt; is_bad_line(alloc, front, b"folder /a-b 0 0 755 ~", b"\nend\n", told)?);
+    Ok(())
+}
+
+// What comes of `FIRST` where one of its bytes is left out, place by place: the number of the line that is bad then, or v
+// where a script is left. Three digits of each mode may go, and each of the time, the branch and the subject.
+const LEFT_OUT: &[u8] = b"\
+1111111111111111\
+2222222\
+3333333333333vvv333\
+44444444444444vvv444\
+5555\
+66666\
+7777777vvvv777vvvvv777vvvvvvvvvv7\
+8888";
+
+fn without(alloc: Global, place: usize) -> Result<Vec<u8>, NoMemory> {
+    let mut script = Vec::new(alloc);
+    for (at, byte) in FIRST.iter().enumerate() {
+        if at != place {
+            script.push(*byte)?;
+        }
+    }
+    Ok(script)
+}
+
+fn is_commit(alloc: Global, script: &[u8]) -> Result<bool, Fail> {
+    let (ended, out) = run(alloc, script, Vec::new(alloc))?;
+    Ok(out.bytes().starts_with(b"0 0 ok ") && ended.status == 0)
+}
+
+#[test]
+fn each_byte_left_out(rt: HostRuntime) -> Result<(), Fail> {
+    let alloc = rt.alloc();
+    assert_eq!(rt; LEFT_OUT.len(), FIRST.len());
+    for (place, wanted) in LEFT_OUT.iter().enumerate() {
+        let script = without(alloc, place)?;
+        if *wanted == b'v' {
+            assert!(rt; is_commit(alloc, &script)?);
+        } else {
+            let told = repeated(alloc, b"fault script BadLine ", &[*wanted], 1, b"\n")?;
+            assert!(rt; is_refused(alloc, &script, &told, 2)?);
+        }
+    }
     Ok(())
 }
 
@@ -182,6 +274,96 @@ fn commits_a_tree(rt: HostRuntime) -> Result<(), Fail> {
     for object in OBJECTS {
         assert!(rt; fs.stat(&FsPath::parse(alloc, object)?)?.is_some());
     }
+    Ok(())
+}
+
+// The same command once more, whose commit has the first one as its parent.
+const SECOND: &[u8] = b"a3396c2764ad6ce1fc15c712844bbf4382c4e2d0c216faebcc49f1f364dfe603";
+
+#[test]
+fn commits_a_tree_twice(rt: HostRuntime) -> Result<(), Fail> {
+    let alloc = rt.alloc();
+    let script = repeated(
+        alloc,
+        b"ostree-script 1\ntree 0\nfolder / 0 0 755 ~\nfolder /d 0 0 755 ~\nend\nlane\n",
+        b"commit main 0 first ~ 1700000000\n",
+        2,
+        b"end\n",
+    )?;
+    let (ended, out) = run(alloc, &script, Vec::new(alloc))?;
+    let mut wanted = line_of(alloc, b"0 0 ok ", COMMIT)?;
+    wanted.extend_from_slice(&line_of(alloc, b"0 1 ok ", SECOND)?)?;
+    assert!(rt; out.bytes() == wanted.as_slice());
+    assert_eq!(rt; ended.status, 0);
+    Ok(())
+}
+
+// What a call prints over the host's current folder, whose source has this script.
+fn printed_by_host(
+    alloc: Global,
+    host: HostFs<HostRuntime>,
+    line: &str,
+    script: &[u8],
+) -> Result<MemSink, Fail> {
+    let mut words = Vec::new(alloc);
+    for word in line.split(' ') {
+        words.push(String::from_str(alloc, word)?)?;
+    }
+    let mut out = MemSink::new(alloc, 1_000, Vec::new(alloc))?;
+    let mut input = source(alloc, script, Vec::new(alloc))?;
+    let _ = ostree(alloc, &words, host, &mut input, &mut out);
+    Ok(out)
+}
+
+// Two commits of a script in the host's current folder, each by a call of its own, and then the ref.
+#[test]
+fn commits_over_the_host(rt: HostRuntime) -> Result<(), Fail> {
+    let alloc = rt.alloc();
+    let _ = fs::remove_dir_all(&rt, "ostree");
+    let refs = line_of(alloc, b"0 0 ok 1\n main ", SECOND)?;
+    let first = line_of(alloc, b"0 0 ok ", COMMIT)?;
+    let second = line_of(alloc, b"0 0 ok ", SECOND)?;
+    let calls = [
+        ("run", &first),
+        ("run", &second),
+        ("refs", &refs),
+        ("rev-parse main", &second),
+    ];
+    for (line, wanted) in &calls {
+        let host = HostFs::new(rt.clone()?)?;
+        let out = printed_by_host(alloc, host, line, FIRST)?;
+        assert!(rt; out.bytes() == wanted.as_slice(), "{line}");
+    }
+    fs::remove_dir_all(&rt, "ostree")?;
+    Ok(())
+}
+
+// The first commit that README.md shows.
+const README: &[u8] = b"ostree-script 1
+tree 0
+folder / 0 0 755 ~
+folder /etc 0 0 755 ~
+file /etc/motd 0 0 644 ~ =hello%0a
+link /motd 0 0 ~ etc/motd
+end
+lane
+commit os/stable 0 first ~ 1700000000
+end
+";
+
+const README_COMMIT: &[u8] = b"372bb3aa3b0daddffe4ac314027e0a287b7300c89c9f7511c16b4d9cb1879bd1";
+
+#[test]
+fn commits_as_the_readme_shows(rt: HostRuntime) -> Result<(), Fail> {
+    let alloc = rt.alloc();
+    let (ended, out) = run(alloc, README, Vec::new(alloc))?;
+    assert!(rt; out.bytes() == line_of(alloc, b"0 0 ok ", README_COMMIT)?.as_slice());
+    let mut out = MemSink::new(alloc, 1_000, Vec::new(alloc))?;
+    let mut input = source(alloc, b"", Vec::new(alloc))?;
+    let words = vec![in alloc; String::from_str(alloc, "refs")?]?;
+    let ended = ostree(alloc, &words, ended.fs, &mut input, &mut out);
+    assert!(rt; out.bytes() == line_of(alloc, b"0 0 ok 1\n os/stable ", README_COMMIT)?.as_slice());
+    assert_eq!(rt; ended.status, 0);
     Ok(())
 }
 

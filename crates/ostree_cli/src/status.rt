@@ -1,5 +1,4 @@
 ghost use Rattle.std.specs.Prelude.{◌≡◌, map, if◌then◌else◌};
-ghost use Rattle.std.specs.List.{list_any};
 ghost use Rattle.ostree_cli.specs.Status.{answer_status, fault_status, has_risen, lane_status, replies_status, status_of};
 
 use crate::fault::TopFault;

@@ -1,21 +1,24 @@
 ghost use Rattle.ost_types.specs.Mode.{IsFolderMode, IsFileMode};
 
+use crate::asked::asked_lanes;
+use crate::lanes::run_lanes;
+use crate::text::output_of;
 use crate::top::{Ended, ostree};
 use fs_host::HostFs;
 use fs_memory::{Choice, FailAt, MemFs, MemSink, MemSource};
 use fs_trait::Fs;
-use ost_types::{Bytes, FsPath, Meta, Xattrs};
+use ost_types::{Bytes, FsPath, Limits, Meta, Xattrs};
 use std::alloc::Global;
 use std::fs;
 use std::process::Abort;
 use std::test::Fail;
 
-// 64 digits 1, a commit of the disks here; and 64 digits 2, none.
-const ONES: &str = "1111111111111111111111111111111111111111111111111111111111111111";
+// A commit of the disks here, and none.
+const COMMIT: &str = "b30605ed9370a39846c77ee0fc427b9e07ef40432f45037c89db106f36e49623";
 
-const TWOS: &str = "2222222222222222222222222222222222222222222222222222222222222222";
+const ABSENT: &str = "2222222222222222222222222222222222222222222222222222222222222222";
 
-// What a call prints and its exit status, call by call on one disk. X and Y stand for the digits.
+// What a call prints and its exit status, call by call on one disk. X and Y stand for the digits of the two.
 const TABLE: &[(&str, &str, u8)] = &[
     ("init", "", 0),
     ("refs", "0 0 ok 0\n", 0),
@@ -34,6 +37,7 @@ const TABLE: &[(&str, &str, u8)] = &[
     ("drop main", "0 0 ok\n", 0),
     ("drop main", "0 0 refused NoRef\n", 1),
     ("refs", "0 0 ok 1\n a/b/c X\n", 0),
+    ("drop a/b/c", "0 0 ok\n", 0),
     ("rev-parse", "fault usage\n", 2),
     ("rev-parse .main", "fault usage\n", 2),
     ("init now", "fault usage\n", 2),
@@ -47,7 +51,6 @@ const TABLE: &[(&str, &str, u8)] = &[
 
 // The same, where a mark then says that the commit is partial.
 const PARTIAL: &[(&str, &str, u8)] = &[
-    ("drop a/b/c", "0 0 ok\n", 0),
     ("reset main X", "0 0 refused Partial X\n", 1),
     ("rev-parse X", "0 0 refused Partial X\n", 1),
     ("refs", "0 0 ok 0\n", 0),
@@ -58,8 +61,8 @@ fn digits(alloc: Global, text: &str) -> Result<String, Fail> {
     let mut whole = String::new(alloc);
     for letter in text.chars() {
         match letter {
-            'X' => whole.push_str(ONES)?,
-            'Y' => whole.push_str(TWOS)?,
+            'X' => whole.push_str(COMMIT)?,
+            'Y' => whole.push_str(ABSENT)?,
             letter => whole.push(letter)?,
         }
     }
@@ -123,48 +126,92 @@ fn file_meta(alloc: Global) -> Meta
     }
 }
 
-fn add_folder(fs: &mut MemFs, alloc: Global, at: &[u8]) -> Result<(), Fail> {
+fn add_folder<F: Fs>(fs: &mut F, alloc: Global, at: &[u8]) -> Result<(), Fail> {
     Ok(fs.mkdir(&FsPath::parse(alloc, at)?, &folder_meta(alloc))?)
 }
 
-fn add_file(fs: &mut MemFs, alloc: Global, at: &[u8], bytes: &[u8]) -> Result<(), Fail> {
+fn add_file<F: Fs>(fs: &mut F, alloc: Global, at: &[u8], bytes: &[u8]) -> Result<(), Fail> {
     let at = FsPath::parse(alloc, at)?;
     fs.create(&at, &file_meta(alloc))?;
     Ok(fs.append(&at, bytes)?)
 }
 
-// A disk with an empty file in the place of the commit.
+// Where the commit's entries, which are none, its attributes and the commit itself stand, and what they hold.
+const ENTRIES_PATH: &[u8] =
+    b"/ostree/repo/objects/6e/340b9cffb37a989ca544e6bb780a2c78901d3fb33738768511a30617afa01d.dirtree";
+
+const ENTRIES: &[u8] = &[0];
+
+const META_PATH: &[u8] =
+    b"/ostree/repo/objects/44/6a0ef11b7cc167f3b603e585c7eeeeb675faa412d5ec73f62988eb0b6c5488.dirmeta";
+
+const META: &[u8] = &[0, 0, 0, 0, 0, 0, 0, 0, 0, 0, 0x41, 0xed];
+
+const COMMIT_PATH: &[u8] =
+    b"/ostree/repo/objects/b3/0605ed9370a39846c77ee0fc427b9e07ef40432f45037c89db106f36e49623.commit";
+
+const COMMIT_BYTES: &[u8] = &[
+    0x66, 0x69, 0x72, 0x73, 0x74, 0, 0, 0, 0, 0, 0, 0, 0x65, 0x53, 0xf1, 0, 0x6e, 0x34, 0x0b, 0x9c,
+    0xff, 0xb3, 0x7a, 0x98, 0x9c, 0xa5, 0x44, 0xe6, 0xbb, 0x78, 0x0a, 0x2c, 0x78, 0x90, 0x1d, 0x3f,
+    0xb3, 0x37, 0x38, 0x76, 0x85, 0x11, 0xa3, 0x06, 0x17, 0xaf, 0xa0, 0x1d, 0x44, 0x6a, 0x0e, 0xf1,
+    0x1b, 0x7c, 0xc1, 0x67, 0xf3, 0xb6, 0x03, 0xe5, 0x85, 0xc7, 0xee, 0xee, 0xb6, 0x75, 0xfa, 0xa4,
+    0x12, 0xd5, 0xec, 0x73, 0xf6, 0x29, 0x88, 0xeb, 0x0b, 0x6c, 0x54, 0x88, 0x30, 0x07, 0x06, 0, 0,
+    0,
+];
+
+// The folders of an empty repository, and of the objects here.
+const FOLDERS: &[&[u8]] = &[
+    b"/ostree",
+    b"/ostree/repo",
+    b"/ostree/repo/objects",
+    b"/ostree/repo/objects/44",
+    b"/ostree/repo/objects/4b",
+    b"/ostree/repo/objects/6e",
+    b"/ostree/repo/objects/b3",
+    b"/ostree/repo/refs",
+    b"/ostree/repo/refs/heads",
+    b"/ostree/repo/state",
+];
+
+fn add_folders<F: Fs>(fs: &mut F, alloc: Global) -> Result<(), Fail> {
+    for folder in FOLDERS {
+        add_folder(fs, alloc, folder)?;
+    }
+    Ok(())
+}
+
+// The commit with its two other objects.
+fn add_commit<F: Fs>(fs: &mut F, alloc: Global) -> Result<(), Fail> {
+    add_folders(fs, alloc)?;
+    add_file(fs, alloc, ENTRIES_PATH, ENTRIES)?;
+    add_file(fs, alloc, META_PATH, META)?;
+    add_file(fs, alloc, COMMIT_PATH, COMMIT_BYTES)?;
+    Ok(fs.sync_all()?)
+}
+
 fn with_commit(alloc: Global) -> Result<MemFs, Fail> {
     let mut fs = MemFs::new(alloc)?;
-    add_folder(&mut fs, alloc, b"/ostree")?;
-    add_folder(&mut fs, alloc, b"/ostree/repo")?;
-    add_folder(&mut fs, alloc, b"/ostree/repo/objects")?;
-    add_folder(&mut fs, alloc, b"/ostree/repo/objects/11")?;
-    add_file(
-        &mut fs,
-        alloc,
-        b"/ostree/repo/objects/11/11111111111111111111111111111111111111111111111111111111111111.commit",
-        b"",
-    )?;
-    fs.sync_all()?;
+    add_commit(&mut fs, alloc)?;
     Ok(fs)
 }
+
+// The mark that the commit is partial.
+const MARK_PATH: &[u8] =
+    b"/ostree/repo/state/b30605ed9370a39846c77ee0fc427b9e07ef40432f45037c89db106f36e49623.commitpartial";
 
 #[test]
 fn answers_over_memory(rt: HostRuntime) -> Result<(), Fail> {
     let alloc = rt.alloc();
+    let empty = MemFs::new(alloc)?;
+    let (_, same) = answers(alloc, empty, "rev-parse main", "0 0 refused NoRef\n", 1)?;
+    assert!(rt; same);
     let mut fs = with_commit(alloc)?;
     for (line, output, status) in TABLE {
         let (back, same) = answers(alloc, fs, line, output, *status)?;
         assert!(rt; same, "{line}");
         fs = back;
     }
-    add_file(
-        &mut fs,
-        alloc,
-        b"/ostree/repo/state/1111111111111111111111111111111111111111111111111111111111111111.commitpartial",
-        b"",
-    )?;
+    add_file(&mut fs, alloc, MARK_PATH, b"")?;
     for (line, output, status) in PARTIAL {
         let (back, same) = answers(alloc, fs, line, output, *status)?;
         assert!(rt; same, "{line}");
@@ -173,24 +220,37 @@ fn answers_over_memory(rt: HostRuntime) -> Result<(), Fail> {
     Ok(())
 }
 
+// A disk without anything is laid out once.
+#[test]
+fn lays_out_an_empty_disk(rt: HostRuntime) -> Result<(), Fail> {
+    let alloc = rt.alloc();
+    let (mut fs, same) = answers(alloc, MemFs::new(alloc)?, "init", "", 0)?;
+    assert!(rt; same);
+    let config = fs.read(&FsPath::parse(alloc, b"/ostree/repo/config")?)?;
+    assert!(rt; config.as_slice() == b"[core]\nrepo_version=1\nmode=bare\n".as_slice());
+    let made = fs.moments();
+    let (fs, same) = answers(alloc, fs, "init", "", 0)?;
+    assert!(rt; same);
+    assert_eq!(rt; fs.moments(), made.saturating_add(1));
+    let (_, same) = answers(alloc, fs, "refs", "0 0 ok 0\n", 0)?;
+    assert!(rt; same);
+    Ok(())
+}
+
+// Whether this is told where these files stand in the folders.
+fn is_damage(alloc: Global, files: &[(&[u8], &[u8])], output: &str) -> Result<bool, Fail> {
+    let mut fs = MemFs::new(alloc)?;
+    add_folders(&mut fs, alloc)?;
+    for (at, bytes) in files {
+        add_file(&mut fs, alloc, at, bytes)?;
+    }
+    let (_, same) = answers(alloc, fs, "refs", output, 8)?;
+    Ok(same)
+}
+
 #[test]
 fn tells_damage(rt: HostRuntime) -> Result<(), Fail> {
     let alloc = rt.alloc();
-    let (mut fs, _) = answers(alloc, with_commit(alloc)?, "init", "", 0)?;
-    add_file(
-        &mut fs,
-        alloc,
-        b"/ostree/repo/refs/heads/main",
-        ONES.as_bytes(),
-    )?;
-    let (_, same) = answers(
-        alloc,
-        fs,
-        "refs",
-        "fault open Damaged /ostree/repo/refs/heads/main BadRef\n",
-        8,
-    )?;
-    assert!(rt; same);
     let mut fs = MemFs::new(alloc)?;
     add_file(&mut fs, alloc, b"/ostree", b"")?;
     let (_, same) = answers(
@@ -201,6 +261,75 @@ fn tells_damage(rt: HostRuntime) -> Result<(), Fail> {
         8,
     )?;
     assert!(rt; same);
+    let config: &[u8] = b"[core]\nrepo_version=1\nmode=archive\n";
+    let told = "fault open Damaged /ostree/repo/config BadConfig\n";
+    assert!(rt; is_damage(alloc, &[(b"/ostree/repo/config", config)], told)?);
+    Ok(())
+}
+
+const HEAD_PATH: &[u8] = b"/ostree/repo/refs/heads/main";
+
+const ABSENT_LINE: &[u8] = b"2222222222222222222222222222222222222222222222222222222222222222\n";
+
+const OTHER: &[u8] = &[1];
+
+// A ref's file without the line's end, and refs to a commit that isn't there and to one that has a mark.
+#[test]
+fn tells_a_damaged_ref(rt: HostRuntime) -> Result<(), Fail> {
+    let alloc = rt.alloc();
+    let told = "fault open Damaged /ostree/repo/refs/heads/main BadRef\n";
+    assert!(rt; is_damage(alloc, &[(HEAD_PATH, COMMIT.as_bytes())], told)?);
+    let told = "fault open Damaged /ostree/repo/refs/heads/main Incomplete commit Y\n";
+    assert!(rt; is_damage(alloc, &[(HEAD_PATH, ABSENT_LINE)], told)?);
+    let told = "fault open Damaged /ostree/repo/refs/heads/main Incomplete commit X\n";
+    let (mut fs, _) = answers(alloc, with_commit(alloc)?, "reset main X", "0 0 ok\n", 0)?;
+    add_file(&mut fs, alloc, MARK_PATH, b"")?;
+    let (_, same) = answers(alloc, fs, "refs", told, 8)?;
+    assert!(rt; same);
+    Ok(())
+}
+
+const OTHER_PATH: &[u8] =
+    b"/ostree/repo/objects/4b/f5122f344554c53bde2ebb8cd2b7e3d1600ad631c385a5d7cce23c7785459a.dirtree";
+
+// Entries with other bytes, bytes with their name that are no entries, and a commit without its entries or its attributes.
+#[test]
+fn tells_a_damaged_object(rt: HostRuntime) -> Result<(), Fail> {
+    let alloc = rt.alloc();
+    let told =
+        "fault open Damaged /ostree/repo/objects/6e/340b9cffb37a989ca544e6bb780a2c78901d3fb33738768511a30617afa01d.dirtree BadObject WrongSum 4bf5122f344554c53bde2ebb8cd2b7e3d1600ad631c385a5d7cce23c7785459a\n";
+    assert!(rt; is_damage(alloc, &[(ENTRIES_PATH, OTHER)], told)?);
+    let told =
+        "fault open Damaged /ostree/repo/objects/4b/f5122f344554c53bde2ebb8cd2b7e3d1600ad631c385a5d7cce23c7785459a.dirtree BadObject Unreadable NotNormal\n";
+    assert!(rt; is_damage(alloc, &[(OTHER_PATH, OTHER)], told)?);
+    let commit = (COMMIT_PATH, COMMIT_BYTES);
+    let told =
+        "fault open Damaged /ostree/repo/objects/b3/0605ed9370a39846c77ee0fc427b9e07ef40432f45037c89db106f36e49623.commit Incomplete dirtree 6e340b9cffb37a989ca544e6bb780a2c78901d3fb33738768511a30617afa01d\n";
+    assert!(rt; is_damage(alloc, &[(META_PATH, META), commit], told)?);
+    let told =
+        "fault open Damaged /ostree/repo/objects/b3/0605ed9370a39846c77ee0fc427b9e07ef40432f45037c89db106f36e49623.commit Incomplete dirmeta 446a0ef11b7cc167f3b603e585c7eeeeb675faa412d5ec73f62988eb0b6c5488\n";
+    assert!(rt; is_damage(alloc, &[(ENTRIES_PATH, ENTRIES), commit], told)?);
+    Ok(())
+}
+
+// More objects than the limit, which is 2.
+#[test]
+fn tells_too_many_objects(rt: HostRuntime) -> Result<(), Fail> {
+    let alloc = rt.alloc();
+    let limits = Limits {
+        objects: 2,
+        paths: 524_288,
+        content: 268_435_456,
+    };
+    let words = words_of(alloc, "init")?;
+    let lanes = asked_lanes(alloc, &words, &mut nothing(alloc)).expect(&rt, "no lanes");
+    let (_, fault) = run_lanes(alloc, with_commit(alloc)?, lanes, limits)
+        .err()
+        .expect(&rt, "a fault");
+    let text = output_of(alloc, &Some(fault), &Vec::new(alloc))?;
+    assert!(rt;
+        text.as_slice() == b"fault open Damaged /ostree/repo/objects TooMany 3\n".as_slice()
+    );
     Ok(())
 }
 
@@ -310,12 +439,7 @@ const HEADER: &[u8] = &[
 fn answers_over_the_host(rt: HostRuntime) -> Result<(), Fail> {
     let alloc = rt.alloc();
     let _ = fs::remove_dir_all(&rt, "ostree");
-    fs::create_dir_all(&rt, "ostree/repo/objects/11")?;
-    fs::write(
-        &rt,
-        "ostree/repo/objects/11/11111111111111111111111111111111111111111111111111111111111111.commit",
-        HEADER,
-    )?;
+    add_commit(&mut HostFs::new(rt.clone()?)?, alloc)?;
     for (line, output, status) in TABLE {
         let host = HostFs::new(rt.clone()?)?;
         let (_, same) = answers(alloc, host, line, output, *status)?;
@@ -323,7 +447,7 @@ fn answers_over_the_host(rt: HostRuntime) -> Result<(), Fail> {
     }
     fs::write(
         &rt,
-        "ostree/repo/state/1111111111111111111111111111111111111111111111111111111111111111.commitpartial",
+        "ostree/repo/state/b30605ed9370a39846c77ee0fc427b9e07ef40432f45037c89db106f36e49623.commitpartial",
         HEADER,
     )?;
     for (line, output, status) in PARTIAL {

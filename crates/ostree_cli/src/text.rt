@@ -1,10 +1,11 @@
 ghost use Rattle.std.specs.Prelude.{◌≡◌, ◌++◌, [], map, codes, ◌∷◌, IfOk};
 ghost use Rattle.script.specs.Field.{escaped};
-ghost use Rattle.std.specs.Fmt.{decimal};
-ghost use Rattle.ostree_cli.specs.Text.{why_text, fault_line, output_of, script_line};
+ghost use Rattle.ostree_cli.specs.Text.{fault_line, output_of, script_line};
+ghost use Rattle.ostree_cli.specs.Whys.{why_end};
 ghost use Rattle.ost_types.specs.Path.{text_of};
 
 use crate::fault::TopFault;
+use crate::why::{number_line, why_end};
 use ost_types::{Bytes, FsPath, NoMemory};
 use script_reader::{Reply, ScriptFault, append_field, write_replies};
 use std::alloc::Global;
@@ -55,33 +56,22 @@ fn script_line(alloc: Global, fault: ScriptFault) -> Result<Bytes, NoMemory>
     ensures { IfOk result (λ t. t ≡ script_line fault) }
 {
     match fault {
-        ScriptFault::BadLine(n) => number_line(alloc, b"fault script BadLine ", n),
+        ScriptFault::BadLine(n) => number_line(alloc, b"fault script BadLine ", n.into()),
         ScriptFault::TooLong => Bytes::from_slice(alloc, b"fault script TooLong\n"),
         ScriptFault::TooManyLanes => Bytes::from_slice(alloc, b"fault script TooManyLanes\n"),
         ScriptFault::TooManyCommands => {
             Bytes::from_slice(alloc, b"fault script TooManyCommands\n")
         }
-        ScriptFault::UnknownTree(n) => number_line(alloc, b"fault script UnknownTree ", n),
+        ScriptFault::UnknownTree(n) => number_line(alloc, b"fault script UnknownTree ", n.into()),
         ScriptFault::NoMemory => Bytes::from_slice(alloc, MEMORY_LINE),
     }
 }
 
-fn number_line(alloc: Global, before: &[u8], number: u32) -> Result<Bytes, NoMemory>
-    ensures { IfOk result (λ t. t ≡ before.now ++ (decimal number ++ 10 ∷ [])) }
-{
-    let mut line = Bytes::from_slice(alloc, before)?;
-    line.append(format!(in alloc; "{number}")?.as_bytes())?;
-    line.push(b'\n')?;
-    Ok(line)
-}
-
 fn damaged_line(alloc: Global, path: &FsPath, why: &Why) -> Result<Bytes, NoMemory>
-    ensures { IfOk result (λ t. t ≡ codes "fault open Damaged " ++ (escaped (text_of path.now) ++ (32 ∷ (why_text why.now ++ 10 ∷ [])))) }
+    ensures { IfOk result (λ t. t ≡ codes "fault open Damaged " ++ (escaped (text_of path.now) ++ why_end why.now)) }
 {
-    match why {
-        Why::BadRef => path_line(alloc, b"fault open Damaged ", path, b" BadRef\n"),
-        Why::WrongKind => path_line(alloc, b"fault open Damaged ", path, b" WrongKind\n"),
-    }
+    let end = why_end(alloc, *why)?;
+    path_line(alloc, b"fault open Damaged ", path, end.as_slice())
 }
 
 fn path_line(alloc: Global, before: &[u8], path: &FsPath, behind: &[u8]) -> Result<Bytes, NoMemory>

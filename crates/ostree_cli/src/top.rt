@@ -1,8 +1,9 @@
-ghost use Rattle.std.specs.Prelude.{◌≡◌, ◌≢◌, ◌⊎◌, ◌≤◌, ℕ, List, [], Option, Some, None, IfSome, map, nat_lt};
+ghost use Rattle.std.specs.Prelude.{◌≡◌, ◌≢◌, ◌⊎◌, ◌≤◌, ℕ, List, [], Option, Some, None, IfSome, map, nat_lt, true, false};
 ghost use Rattle.std.specs.String.{string_bytes};
 ghost use Rattle.fs_trait.specs.View.{View, all_synced};
 ghost use Rattle.fs_trait.specs.Image.{Told};
 ghost use Rattle.fs_trait.specs.Count.{Rose};
+ghost use Rattle.sys_open.specs.Changes.{Changes, Works};
 ghost use Rattle.sys_open.specs.declared.fault.OpenFault.TheVariants as opening;
 ghost use Rattle.script_reader.specs.Script.{Commands, IsScript};
 ghost use Rattle.script.specs.declared.fault.ScriptFault.{ScriptFault};
@@ -10,7 +11,7 @@ ghost use Rattle.ostree_cli.specs.Input.{TookFront};
 ghost use Rattle.ostree_cli.specs.Words.{AreNoLine, IsEarly, IsRefused, run};
 ghost use Rattle.ostree_cli.specs.Status.{has_risen, status_of};
 ghost use Rattle.ostree_cli.specs.Text.{output_of};
-ghost use Rattle.ostree_cli.specs.Top.{IsStop, IsUnused, Prints, RanBy, StaysOn, event_of};
+ghost use Rattle.ostree_cli.specs.Top.{IsStopped, IsUnused, Prints, RanBy, StaysOn, event_of};
 
 use crate::asked::asked_lanes;
 use crate::fault::TopFault;
@@ -112,13 +113,15 @@ fn run<F: Fs, S: Source>(alloc: Global, words: &[String], fs: F, input: &mut S) 
     ensures script { (all : List ℕ) (lanes : List Commands) (e : ScriptFault) → S.left input.old ≡ Some all → IsScript all lanes → result.fault ≢ Some (TopFault.Script e) }
     ensures unused { result.fault ≢ None → IsUnused result.history.items result.pending (map (λ lane. lane.items) result.replies.items) }
     ensures disk { result.fault ≡ Some (TopFault.Open opening.Disk) → Rose (F.faults fs) (F.faults result.fs) }
-    ensures stop { (v : View) → F.view fs ≡ Some v → IfSome result.fault (IsStop v.now) }
+    ensures stop { (v : View) → F.view fs ≡ Some v → IfSome result.fault (IsStopped v.now) }
     ensures still { (v : View) → F.view fs ≡ Some v → IfSome result.fault (λ f. StaysOn f (F.view result.fs ≡ Some (all_synced v))) }
+    ensures undone { (v : View) → F.view fs ≡ Some v → IfSome result.fault (λ _. Works (Changes v.now) v (F.clock fs) (F.clock result.fs) (F.was fs) (F.was result.fs) (F.view result.fs)) }
     ensures ran { (v : View) → F.view fs ≡ Some v → result.fault ≡ None → Told (F.view result.fs) (RanBy (S.left input.old) (map (λ word. string_bytes word) words.now) F.view F.clock F.was v (F.clock fs) result.fs result.history.items result.pending (map (λ lane. lane.items) result.replies.items)) }
     ensures read { (all : List ℕ) → S.left input.old ≡ Some all → TookFront all (S.left input.new) }
     ensures unread { (map (λ word. string_bytes word) words.now) ≢ run → input.new ≡ input.old }
     ensures later { S.faults input.old ≤ S.faults input.new }
     ensures quiet { result.fault ≡ None → S.faults input.new ≡ S.faults input.old }
+    ensures failed { (result.fault ≡ Some TopFault.Input) ⊎ (S.faults input.new ≡ S.faults input.old) }
 {
     match asked_lanes(alloc, words, input) {
         Ok(lanes) => match run_lanes(alloc, fs, lanes, Limits::standard()) {
@@ -126,6 +129,17 @@ fn run<F: Fs, S: Source>(alloc: Global, words: &[String], fs: F, input: &mut S) 
             Err((fs, fault)) => stopped(alloc, fs, fault),
         },
         Err(fault) => stopped(alloc, fs, fault),
+    }
+}
+
+// Whether there is nothing to print.
+fn is_silent(fault: &Option<TopFault>, replies: &[Vec<Reply>]) -> bool
+    ensures yes { result ≡ true → (fault.now ≡ None) × (replies.now ≡ []) }
+    ensures no { result ≡ false → fault.now ≡ None → replies.now ≢ [] }
+{
+    match fault {
+        Some(_) => false,
+        None => replies.is_empty(),
     }
 }
 
@@ -137,9 +151,13 @@ fn print<K: Sink>(
     replies: &[Vec<Reply>],
 ) -> Option<TopFault>
     ensures fault { (result ≡ fault) ⊎ (result ≡ Some TopFault.NoMemory) }
+    ensures silent { fault ≡ None → replies.now ≡ [] → result ≡ None }
     ensures prints { (had : List ℕ) → K.taken out.old ≡ Some had → Prints had (output_of result (map (λ lane. lane.items) replies.now)) (K.faults out.old) (K.faults out.new) (K.taken out.new) }
     ensures later { K.faults out.old ≤ K.faults out.new }
 {
+    if is_silent(&fault, replies) {
+        return None;
+    }
     match output_of(alloc, &fault, replies) {
         Ok(text) => {
             let _ = write_all(out, text.as_slice());
@@ -169,18 +187,20 @@ pub fn ostree<F: Fs, S: Source, K: Sink>(
     ensures early { IfSome result.fault (λ f. IsEarly f → (result.fs ≡ fs) × IsRefused (S.left input.old) (map (λ word. string_bytes word) words.now) (S.faults input.old) (S.faults input.new) f) }
     ensures script { (all : List ℕ) (lanes : List Commands) (e : ScriptFault) → S.left input.old ≡ Some all → IsScript all lanes → result.fault ≢ Some (TopFault.Script e) }
     ensures disk { result.fault ≡ Some (TopFault.Open opening.Disk) → Rose (F.faults fs) (F.faults result.fs) }
-    ensures stop { (v : View) → F.view fs ≡ Some v → IfSome result.fault (IsStop v.now) }
+    ensures stop { (v : View) → F.view fs ≡ Some v → IfSome result.fault (IsStopped v.now) }
     ensures still { (v : View) → F.view fs ≡ Some v → IfSome result.fault (λ f. StaysOn f (F.view result.fs ≡ Some (all_synced v))) }
-    ensures unused { (result.fault ≡ None) ⊎ (result.fault ≡ Some TopFault.NoMemory) ⊎ IsUnused result.history.items result.pending (map (λ lane. lane.items) result.replies.items) }
+    ensures unused { (result.fault ≡ None) ⊎ (result.replies.items ≢ []) ⊎ IsUnused result.history.items result.pending (map (λ lane. lane.items) result.replies.items) }
+    ensures undone { (v : View) → F.view fs ≡ Some v → (result.fault ≡ None) ⊎ (result.replies.items ≢ []) ⊎ Works (Changes v.now) v (F.clock fs) (F.clock result.fs) (F.was fs) (F.was result.fs) (F.view result.fs) }
 
     // What a crash may leave, and what is left at the end.
     ensures ran { (v : View) → F.view fs ≡ Some v → (result.fault ≡ None) ⊎ (result.replies.items ≢ []) → Told (F.view result.fs) (RanBy (S.left input.old) (map (λ word. string_bytes word) words.now) F.view F.clock F.was v (F.clock fs) result.fs result.history.items result.pending (map (λ lane. lane.items) result.replies.items)) }
 
-    // What is read. Only `run` reads, and no lane runs where a call of the source failed.
+    // What is read. Only `run` reads, and no lane runs where a call of the source failed: this is told.
     ensures read { (all : List ℕ) → S.left input.old ≡ Some all → TookFront all (S.left input.new) }
     ensures unread { (map (λ word. string_bytes word) words.now) ≢ run → input.new ≡ input.old }
     ensures source_count { S.faults input.old ≤ S.faults input.new }
     ensures quiet { (result.fault ≡ None) ⊎ (result.replies.items ≢ []) → S.faults input.new ≡ S.faults input.old }
+    ensures failed { (result.fault ≡ Some TopFault.Input) ⊎ (result.fault ≡ Some TopFault.NoMemory) ⊎ (S.faults input.new ≡ S.faults input.old) }
 
     // What is printed, and the exit status.
     ensures output { (had : List ℕ) → K.taken out.old ≡ Some had → Prints had (output_of result.fault (map (λ lane. lane.items) result.replies.items)) (K.faults out.old) (K.faults out.new) (K.taken out.new) }

@@ -1,10 +1,10 @@
 //! The command line.
-ghost use Rattle.std.specs.Prelude.{◌≡◌, ◌⊎◌, ◌↔◌, ◌∷◌, List, [], ℕ, map, All, IfOk, IsTrue, MatchOption, MatchResult, Err};
+ghost use Rattle.std.specs.Prelude.{◌≡◌, ◌⊎◌, ◌↔◌, ◌∷◌, List, [], ℕ, map, All, IfOk, IsTrue, MatchOption, MatchResult, Ok, Err};
 ghost use Rattle.std.specs.String.{string_bytes};
 ghost use Rattle.ost_types.specs.Text.{IsText};
 ghost use Rattle.script.specs.Words.{ReadsWords};
 ghost use Rattle.ostree_cli.specs.declared.fault.TopFault.TheVariants as fault;
-ghost use Rattle.ostree_cli.specs.Words.{AreNoLine, AreNoLone, IsLone, IsRequest, commands_of};
+ghost use Rattle.ostree_cli.specs.Words.{AreNoLine, AreNoLone, IsRequest, commands_of};
 
 use crate::fault::TopFault;
 use ost_types::{NoMemory, Text};
@@ -38,7 +38,7 @@ pub fn read_line(alloc: Global, words: &[String]) -> Result<Request, TopFault>
 
 /// The lane of a command. A word that isn't text is no word of one, and there is no tree that a commit could be of.
 fn read_command(alloc: Global, words: &[String]) -> Result<Vec<Lane>, TopFault>
-    ensures { MatchResult result (λ lanes. IsLone (map (λ word. string_bytes word) words.now) (commands_of lanes.items)) (λ e. (e ≡ fault.NoMemory) ⊎ ((e ≡ fault.Usage) × AreNoLone (map (λ word. string_bytes word) words.now))) }
+    ensures { MatchResult result (λ lanes. ReadsWords (map (λ word. string_bytes word) words.now) (Ok (commands_of lanes.items))) (λ e. (e ≡ fault.NoMemory) ⊎ ((e ≡ fault.Usage) × AreNoLone (map (λ word. string_bytes word) words.now))) }
 {
     let Some(texts) = texts_of(alloc, words)? else {
         return Err(TopFault::Usage);

@@ -1,10 +1,13 @@
-use Rattle.std.proofs.Common.{List, length, map, sym, ◌∙◌, ap}
+use Rattle.std.proofs.Common.{◌≡◌, List, length, map, sym, ◌∙◌, ap, subst, Some}
 use Rattle.script.specs.declared.answer.Reply.{Reply}
 use Rattle.script.specs.declared.command.Lane.{Lane}
 use Rattle.ostree_cli.specs.Top.{event_of}
 use Rattle.sys_core.specs.Answers.{IsTold}
 use Rattle.ostree_cli.proofs.Plain.{parted}
 use Rattle.ostree_cli.proofs.Rans.{kept_parts, replied_parts}
+use Rattle.rely.specs.State.{first}
+use Rattle.sys_core.specs.Storing.{AreStored}
+use Rattle.ostree_cli.proofs.Lefts.{left_good}
 use Rattle.ostree_cli.proofs.lanes.run_opened.Goals as goal
 
 pub returns-in-Ok-clause-ran : goal.returns-in-Ok-clause-ran
@@ -38,3 +41,17 @@ returns-in-Ok-clause-kept g c = λ begun told.
     kept_parts g.F.Fs.view g.F.Fs.was begun s.base.fs p.fs s.limits c.args.opened.limits s.lanes c.args.lanes.items s.base.books.history.items p.history.items
     parts.fs (c.drive.ensures.later.4 ∙ c.in-Ok.ensures.limits) (c.drive.ensures.lanes ∙ c.in-Ok.ensures.lanes) (ap (λ h. h.items) parts.history)
     (c.drive.ensures.lasts begun begun (ap g.F.Fs.view c.in-Ok.ensures.fs ∙ told) (c.in-Ok.ensures.begins begun))
+
+pub returns-in-Ok-clause-stored : goal.returns-in-Ok-clause-stored
+returns-in-Ok-clause-stored g c = λ w t d told from left.
+    let s = c.drive.new.self in
+    let p = c.into_parts.result in
+    let parts = c.into_parts.ensures in
+    let first_view = g.met.F.Fs.told p.fs c.in-Ok.system.base.fs w told in
+    let there = subst (λ f. g.F.Fs.view f ≡ Some w) parts.fs told in
+    let at_start = c.in-Ok.ensures.good first_view.0 first_view.1 in
+    let after = c.drive.ensures.good first_view.0 first_view.1 at_start in
+    let same : after.0 ≡ w = (let e : Some after.0 ≡ Some w = sym after.1 ∙ there in cc) in
+    left_good (g.F.Fs.was p.fs) s.limits c.args.opened.limits (first s.base.books.start.items) (first c.args.opened.refs) s.base.books.opened c.args.opened.clock p.lanes.items c.args.lanes.items p.history.items s.started (map (λ replies. replies.items) p.replies.items) w
+    (c.drive.ensures.later.4 ∙ c.in-Ok.ensures.limits) (ap first (c.drive.ensures.later.0 ∙ c.in-Ok.ensures.start)) (c.drive.ensures.later.1 ∙ c.in-Ok.ensures.opened) (parts.lanes ∙ c.drive.ensures.lanes ∙ c.in-Ok.ensures.lanes)
+    (returns-in-Ok-clause-ended g c) (parts.good w (subst (λ u. AreStored g.F.Fs.was s u) same after.2)) t d from left

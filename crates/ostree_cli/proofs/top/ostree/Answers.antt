@@ -1,4 +1,5 @@
-use Rattle.ostree_cli.proofs.Outcomes.{early_printed, no_fault, script_printed, usage_early, usage_printed}
+use Rattle.std.proofs.Common.{◌∙◌}
+use Rattle.ostree_cli.proofs.Outcomes.{early_printed, no_fault, script_printed, some_fault, unused_printed, usage_early, usage_printed}
 use Rattle.ostree_cli.proofs.top.ostree.Goals as goal
 
 pub returns-clause-usage : goal.returns-clause-usage
@@ -12,3 +13,7 @@ returns-clause-script g c = λ all lanes e told script. script_printed e _ _ c.p
 
 pub returns-clause-ran : goal.returns-clause-ran
 returns-clause-ran g c = λ v told printed. c.run-fs.ensures.ran v told (no_fault _ c.run-fs.result.fault c.run-fs.result.history.items c.run-fs.result.pending c.run-fs.result.replies.items c.print-fault.ensures.fault c.run-fs.ensures.unused printed)
+
+pub returns-clause-undone : goal.returns-clause-undone
+returns-clause-undone g c = λ v told.
+    unused_printed _ _ c.run-fs.result.fault c.run-fs.result.replies.items (some_fault _ c.run-fs.result.fault (c.run-fs.ensures.undone v told)) (λ none empty. c.print-fault.ensures.silent none (c.deref.ensures.value ∙ empty))

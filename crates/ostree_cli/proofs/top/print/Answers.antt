@@ -1,5 +1,7 @@
-use Rattle.std.proofs.Common.{refl, ◌∙◌}
-use Rattle.ostree_cli.proofs.Printing.{prints_from}
+use Rattle.std.proofs.Common.{refl, ◌∙◌, ap, map}
+use Rattle.std.specs.Global.{Vec}
+use Rattle.script.specs.declared.answer.Reply.{Reply}
+use Rattle.ostree_cli.proofs.Printing.{prints_from, silent_prints}
 use Rattle.ostree_cli.proofs.top.print.Goals as goal
 
 pub returns-in-Ok-clause-prints : goal.returns-in-Ok-clause-prints
@@ -9,3 +11,7 @@ returns-in-Ok-clause-prints g c = λ had told.
 pub returns-in-Err-clause-prints : goal.returns-in-Err-clause-prints
 returns-in-Err-clause-prints g c = λ had told.
     prints_from c.write_all-in-Err.result had _ _ _ _ _ refl (c.write_all-in-Err.ensures.whole had told) (c.write_all-in-Err.ensures.front had told) c.write_all-in-Err.ensures.cause
+
+pub returns-then-is_silent-clause-prints : goal.returns-then-is_silent-clause-prints
+returns-then-is_silent-clause-prints g c = λ had told.
+    silent_prints had _ _ _ _ (ap (map (λ (lane : Vec Reply). lane.items)) (c.is_silent.ensures.yes c.if-is_silent.true).1) told

@@ -1,5 +1,5 @@
 use Rattle.std.proofs.Common.{sym, ◌∙◌, ap, map}
-use Rattle.ostree_cli.proofs.Rans.{by_words}
+use Rattle.ostree_cli.proofs.Rans.{by_words, stop_at}
 use Rattle.ostree_cli.proofs.Outcomes.{no_line, no_script, same_fault}
 use Rattle.ostree_cli.proofs.top.run.Goals as goal
 
@@ -19,3 +19,7 @@ returns-in-Ok-run_lanes-clause-ran g c = λ v told fault.
 pub returns-in-Err-clause-script : goal.returns-in-Err-clause-script
 returns-in-Err-clause-script g c = λ all lanes e told script is.
     no_script _ _ _ _ c.in-Err.fault e c.in-Err.ensures.fault (c.in-Err.ensures.exact all lanes told script) (same_fault _ _ (sym c.stopped-in-Err.ensures.fault ∙ is))
+
+pub returns-in-Err-run_lanes-clause-stop : goal.returns-in-Err-run_lanes-clause-stop
+returns-in-Err-run_lanes-clause-stop g c = λ v told.
+    stop_at c.stopped.result.fault c.in-Err-run_lanes.fault c.standard.result v.now c.stopped.ensures.fault (record { objects = c.standard.ensures.objects; paths = c.standard.ensures.paths; content = c.standard.ensures.content }) (c.in-Err-run_lanes.ensures.told v told)
