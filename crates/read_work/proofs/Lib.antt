@@ -1,0 +1,6 @@
+mod Told
+mod Entries
+mod Cats
+mod Logs
+mod Lists
+mod Begun

@@ -1,0 +1,23 @@
+//! The commands that read a commit, as tasks of the system.
+#![tactic(auto)]
+
+mod answer;
+mod cat;
+mod command;
+mod entry;
+mod laws;
+mod log;
+mod look;
+mod look_up;
+mod looked;
+mod ls;
+mod objects;
+mod rows;
+
+pub use answer::{LogRow, LsRow, ReadAnswer};
+pub use cat::{Cat, Place};
+pub use command::ReadCommand;
+pub use laws::{answers_of_reads, lanes_that_read, steps_of_reads_fall};
+pub use log::Log;
+pub use look::{Ask, Look};
+pub use ls::Ls;

@@ -1,0 +1,66 @@
+//! Whether a commit is there, and without a mark.
+ghost use Rattle.std.specs.Prelude.{◌≡◌, ◌≤◌, ◌+◌, Some, IfOk, IfErr, IsErrOf};
+ghost use Rattle.fs_trait.specs.declared.types.FsErr.TheVariants as err;
+ghost use Rattle.fs_trait.specs.View.{View};
+ghost use Rattle.fs_trait.specs.Image.{Told};
+ghost use Rattle.fs_trait.specs.Change.{Nothing, Writes};
+ghost use Rattle.fs_trait.specs.Effect.{Elapses, HasCause, OfNone};
+ghost use Rattle.ref_work.specs.Commands.{pin_wants};
+ghost use Rattle.ref_work.specs.Found.{IsFound};
+ghost use Rattle.read_work.specs.Finding.{found_in};
+
+use fs_trait::{Fs, FsErr};
+use ost_types::{Csum, Kind, ObjName};
+use ref_work::{Found, RefCommand};
+use rely::{Wants, Work};
+use script::Answer;
+use std::alloc::Global;
+
+/// A pin of the commit.
+pub(crate) fn pin_wants(commit: &Csum) -> Wants
+    ensures { result ≡ pin_wants commit.now }
+{
+    Wants {
+        exclusive: false,
+        turn: false,
+        shared: false,
+        sysroot: false,
+        hold: None,
+        pin: Some(ObjName {
+            csum: *commit,
+            kind: Kind::Commit,
+        }),
+    }
+}
+
+/// Looks the commit up as `rev-parse` does.
+pub(crate) fn look_up<F: Fs>(
+    alloc: Global,
+    actor: u8,
+    fs: &mut F,
+    commit: Csum,
+) -> Result<Found, FsErr>
+    ensures writes { (v : View) → F.view fs.old ≡ Some v → Told (F.view fs.new) (λ w. Writes Nothing v w) }
+    ensures unchanged { (v : View) → F.view fs.old ≡ Some v → IsErrOf result err.NoMemory → F.view fs.new ≡ Some v }
+    ensures told { (v : View) → F.view fs.old ≡ Some v → IfOk result (λ found. (F.view fs.new ≡ Some v) × IsFound v.now commit found) }
+    ensures named { (v : View) → F.view fs.old ≡ Some v → IfErr result OfNone }
+    ensures time { Elapses (F.clock fs.old) (F.clock fs.new) (F.was fs.old) (F.was fs.new) (F.view fs.new) }
+    ensures cause { HasCause (F.faults fs.old) (F.faults fs.new) result }
+    ensures room { F.spare fs.old ≤ F.spare fs.new + 1 }
+{
+    let mut parse = RefCommand::parse(alloc, commit);
+    match parse.advance(actor, fs) {
+        Ok(_) => Ok(found_in(parse.into_answer())),
+        Err(e) => Err(e),
+    }
+}
+
+fn found_in(answer: Option<Answer>) -> Found
+    ensures { result ≡ found_in answer }
+{
+    match answer {
+        Some(Answer::NoCommit(_)) => Found::Missing,
+        Some(Answer::Partial(_)) => Found::Partial,
+        _ => Found::Whole,
+    }
+}

@@ -1,0 +1,18 @@
+-- How a command begins that nobody interrupts, and what it answers at its end.
+use Rattle.std.proofs.Common.{◌≡◌, Option, Some, MatchOption, sym, ◌∙◌, ap, subst}
+use Rattle.fs_trait.specs.View.{Disk}
+use Rattle.read_work.specs.declared.answer.ReadAnswer.{ReadAnswer}
+use Rattle.read_work.specs.declared.command.ReadCommand.{ReadCommand}
+use Rattle.read_work.specs.declared.command.ReadCommand.TheVariants.{Look, Cat, Ls, Log, Ended}
+use Rattle.read_work.specs.Asked.{Answers, Asked}
+use Rattle.read_work.specs.Commands.{IsNew, Knows, answer_of}
+
+pub new_knows : (d : Disk) (t : ReadCommand) → IsNew t → Knows d t
+new_knows d (Look l) new = tt
+new_knows d (Cat c) new = absurd new
+new_knows d (Ls s) new = absurd new
+new_knows d (Log g) new = absurd new
+new_knows d (Ended a) new = absurd new
+
+pub ended : (d : Disk) (q : Option Asked) (t : ReadCommand) (o : Option ReadAnswer) (a : ReadAnswer) → o ≡ answer_of t → t ≡ Ended a → Answers d q a → MatchOption o ⊥ (λ a. Answers d q a)
+ended d q t o a is end says = subst (λ x. MatchOption x ⊥ (λ a. Answers d q a)) (sym (is ∙ ap answer_of end)) says
