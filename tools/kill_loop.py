@@ -18,19 +18,24 @@ import time
 
 PROGRAM = os.path.join(os.getcwd(), "build", "ostree_cli")
 FOLDER = os.path.join("build", "kill_loop")
-COMMITS = ["1" * 64, "2" * 64]
-# A regular file with owner 0, group 0 and mode 0100644 is kept on the host behind this header.
-HEADER = bytes.fromhex("0000001200000000" "00000000" "00000000" "000081a4" "00000000" "00" "11")
+# Two commits of a tree.
+SCRIPT = """ostree-script 1
+tree 0
+folder / 0 0 755 ~
+end
+lane
+commit os/main 0 first ~ 1700000000
+commit os/main 0 second ~ 1700000060
+end
+"""
 
 
 def lay_out():
+    """Makes the two commits in a fresh folder, and gives their names."""
     shutil.rmtree(FOLDER, ignore_errors=True)
-    for commit in COMMITS:
-        objects = os.path.join(FOLDER, "ostree/repo/objects", commit[:2])
-        os.makedirs(objects)
-        with open(os.path.join(objects, commit[2:] + ".commit"), "wb") as file:
-            file.write(HEADER)
-    subprocess.run([PROGRAM, "init"], cwd=FOLDER, check=True)
+    os.makedirs(FOLDER)
+    ran = subprocess.run([PROGRAM, "run"], cwd=FOLDER, input=SCRIPT, check=True, capture_output=True, text=True)
+    return [line.split()[3] for line in ran.stdout.splitlines()]
 
 
 def value():
@@ -44,28 +49,28 @@ def value():
     return words[3]
 
 
-def change(old):
+def change(commits, old):
     """A command that changes the ref, and the value that it gives."""
-    new = random.choice([c for c in COMMITS + [None] if c != old])
+    new = random.choice([c for c in commits + [None] if c != old])
     return (["drop", "os/main"] if new is None else ["reset", "os/main", new]), new
 
 
-def duration():
+def duration(commits):
     """About how long a change takes, in seconds."""
     began = time.monotonic()
-    for commit in COMMITS:
+    for commit in commits:
         subprocess.run([PROGRAM, "reset", "os/main", commit], cwd=FOLDER, check=True, stdout=subprocess.DEVNULL)
     return (time.monotonic() - began) / 2
 
 
 def main():
     rounds = int(sys.argv[1]) if len(sys.argv) > 1 else 500
-    lay_out()
-    longest = 1.2 * duration()
+    commits = lay_out()
+    longest = 1.2 * duration(commits)
     killed = changed = 0
     old = value()
     for number in range(rounds):
-        words, new = change(old)
+        words, new = change(commits, old)
         child = subprocess.Popen([PROGRAM] + words, cwd=FOLDER, stdout=subprocess.PIPE, text=True)
         time.sleep(random.uniform(0, longest))
         child.send_signal(signal.SIGKILL)
