@@ -1,11 +1,13 @@
 -- What is told of an object.
-use Rattle.std.specs.Prelude.{◌≡◌, ◌≢◌, ◌⊎◌, ◌≤◌, ℕ, Bool, true, false, [], List, Option, Some, None, Result, Ok, Err}
+use Rattle.std.specs.Prelude.{◌≡◌, ◌≢◌, ◌⊎◌, ◌≤◌, ℕ, Bool, true, false, List, Option, Some, None, Result, Ok, Err}
 use Rattle.sha2.specs.Sha256.{sha256}
 use Rattle.ost_types.specs.declared.meta.Meta.{Meta}
 use Rattle.ost_types.specs.declared.object.Kind.{Kind}
 use Rattle.ost_types.specs.declared.object.Kind.TheVariants as kind
 use Rattle.ost_types.specs.declared.object.ObjName.{ObjName}
-use Rattle.ost_types.specs.Mode.{IsFileMode, IsLinkMode}
+use Rattle.ost_forms.specs.declared.body.Body.{Body}
+use Rattle.ost_forms.specs.declared.body.Body.TheVariants.{Regular, Symlink as Link}
+use Rattle.ost_forms.specs.Stream.{IsFile, IsHeader, bytes_of, content_form, header_of}
 use Rattle.ost_forms.specs.declared.fault.ObjFault.{ObjFault}
 use Rattle.ost_forms.specs.declared.fault.ObjFault.TheVariants as read
 use Rattle.ost_objects.specs.declared.checked.Checked.{Checked}
@@ -35,10 +37,14 @@ Looks d name (Err fs.Failed) = Unit {0}
 Looks d name (Err fs.NoMemory) = Unit {0}
 Looks d name (Err e) = ⊥
 
--- a file, or a link, whose mode is another's, and a link that leads nowhere
+-- The numbers have 32 bits, and no file has such attributes with such a body: its mode is another's, or it is a link that leads
+-- nowhere.
+abbrev pub IsOdd : Meta → Body → Type 0
+IsOdd m body = IsHeader (header_of m body) × (IsFile (header_of m body) (bytes_of body) → ⊥)
+
 abbrev pub IsMisfit : Seen → Type 0
-IsMisfit (Leaf n m bytes) = IsFileMode m.mode → ⊥
-IsMisfit (Symlink m target) = IsLinkMode m.mode × (target ≢ []) → ⊥
+IsMisfit (Leaf n m bytes) = IsOdd m (Regular bytes)
+IsMisfit (Symlink m target) = IsOdd m (Link target)
 IsMisfit s = ⊥
 
 -- Something with the name is there, and doesn't read as its kind.
@@ -94,12 +100,12 @@ abbrev pub IsRegular : Disk → Value → Meta → Type 0
 IsRegular d (File n) m = d.meta n ≡ m
 IsRegular d x m = ⊥
 
--- the stream of this form, where the mode fits
-abbrev pub Streams : Type 0 → Option (List ℕ) → Result (List ℕ) LoadFault → Type 0
-Streams fits form (Ok bytes) = form ≡ Some bytes
-Streams fits form (Err (Damaged (check.Unreadable read.BadMode))) = fits → ⊥
-Streams fits form (Err NoMemory) = Unit {0}
-Streams fits form (Err e) = ⊥
+-- the stream of a file, where the mode fits
+abbrev pub Streams : Meta → Body → Result (List ℕ) LoadFault → Type 0
+Streams m body (Ok bytes) = content_form m body ≡ Some bytes
+Streams m body (Err (Damaged (check.Unreadable read.BadMode))) = IsOdd m body
+Streams m body (Err NoMemory) = Unit {0}
+Streams m body (Err e) = ⊥
 
 abbrev pub IsFailed : {T : Type 0} → Result T LoadFault → Type 0
 IsFailed (Err (Fs fs.Failed)) = Unit {0}

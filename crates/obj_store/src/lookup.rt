@@ -1,12 +1,13 @@
 //! What stands at an object's path.
-ghost use Rattle.std.specs.Prelude.{◌≡◌, ◌≢◌, ◌≤◌, ℕ, [], Some, IfOk, IfErr};
-ghost use Rattle.ost_forms.specs.Stream.{content_form};
+ghost use Rattle.std.specs.Prelude.{◌≡◌, ◌≤◌, ◌<◌, ◌^◌, ℕ, Some, IfErr};
+ghost use Rattle.ost_objects.specs.declared.fault.CheckFault.TheVariants as checks;
 ghost use Rattle.ost_forms.specs.declared.body.Body.TheVariants.{Regular, Symlink};
-ghost use Rattle.ost_types.specs.Mode.{IsFileMode, IsLinkMode};
+ghost use Rattle.ost_forms.specs.declared.fault.ObjFault.TheVariants as reads;
 ghost use Rattle.fs_trait.specs.View.{View};
 ghost use Rattle.fs_trait.specs.Effect.{HasCause, IsNode, IsQuiet, OfNone};
 ghost use Rattle.fs_trait.specs.Seen.{Symlink as SeenLink, shows};
 ghost use Rattle.fs_trait.specs.declared.types.Value.TheVariants.{File};
+ghost use Rattle.obj_store.specs.declared.fault.LoadFault.TheVariants as faults;
 ghost use Rattle.obj_store.specs.Lookup.{Looks, Loads, ChecksAs, fault_of, Opens, IsRegular, Streams, HasCauseOf, IsFailed};
 
 use crate::LoadFault;
@@ -120,11 +121,11 @@ fn file_bytes<F: Fs>(
 }
 
 fn file_stream(alloc: Global, meta: Meta, bytes: Bytes) -> Result<Bytes, LoadFault>
-    ensures form { Streams (IsFileMode meta.mode) (content_form meta (Regular bytes)) result }
+    ensures form { Streams meta (Regular bytes) result }
     ensures failed { IsFailed result → ⊥ }
 {
     if !is_file_mode(meta.mode) {
-        return Err(LoadFault::Damaged(CheckFault::Unreadable(ObjFault::BadMode)));
+        return Err(bad_mode(&meta));
     }
     let content = Content {
         meta,
@@ -145,15 +146,32 @@ fn link_bytes(alloc: Global, kind: Kind, meta: Meta, target: Text) -> Result<Byt
 }
 
 fn link_stream(alloc: Global, meta: Meta, target: Text) -> Result<Bytes, LoadFault>
-    ensures form { Streams (IsLinkMode meta.mode × (target ≢ [])) (content_form meta (Symlink target)) result }
+    ensures form { Streams meta (Symlink target) result }
     ensures failed { IsFailed result → ⊥ }
 {
-    if !is_link_mode(meta.mode) || target.as_slice().is_empty() {
-        return Err(LoadFault::Damaged(CheckFault::Unreadable(ObjFault::BadMode)));
+    if target.as_slice().is_empty() {
+        // its stream is that of a file without bytes
+        return file_stream(alloc, meta, Bytes::new(alloc));
+    }
+    if !is_link_mode(meta.mode) {
+        return Err(bad_mode(&meta));
     }
     let content = Content {
         meta,
         body: Body::Symlink(target),
     };
     Ok(write_content(alloc, &content)?)
+}
+
+/// The mode is none of such a file; the numbers of attributes have 32 bits.
+fn bad_mode(meta: &Meta) -> LoadFault
+    ensures fault { result ≡ faults.Damaged (checks.Unreadable reads.BadMode) }
+    ensures uid { meta.now.uid < 2 ^ 32 }
+    ensures gid { meta.now.gid < 2 ^ 32 }
+    ensures mode { meta.now.mode < 2 ^ 32 }
+{
+    let _uid = meta.uid;
+    let _gid = meta.gid;
+    let _mode = meta.mode;
+    LoadFault::Damaged(CheckFault::Unreadable(ObjFault::BadMode))
 }
