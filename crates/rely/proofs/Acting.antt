@@ -1,5 +1,5 @@
 -- The one act of all tasks, from their laws.
-use Rattle.std.proofs.Common.{◌≡◌, ◌≢◌, ⊎_elim, ◌<◌, ◌≤◌, ℕ, refl, sym, ◌∙◌, ap, subst, [], append-nil, Option, Some}
+use Rattle.std.proofs.Common.{◌≡◌, ◌≢◌, ◌⊎◌, ⊎_elim, arith, ◌<◌, ◌≤◌, ℕ, refl, sym, ◌∙◌, ap, subst, [], append-nil, Option, Some}
 use Rattle.ost_types.specs.Path.{Path}
 use Rattle.fs_trait.specs.declared.task.Turn.{Turn}
 use Rattle.fs_trait.specs.declared.task.Turn.TheVariants as turn
@@ -7,13 +7,16 @@ use Rattle.fs_trait.specs.View.{View}
 use Rattle.fs_trait.specs.Image.{Told}
 use Rattle.fs_trait.specs.Seen.{Seen}
 use Rattle.fs_trait.specs.Change.{Writes}
-use Rattle.fs_trait.specs.Effect.{Elapses}
+use Rattle.fs_trait.specs.Effect.{Elapses, OfNone}
+use Rattle.fs_trait.specs.declared.types.FsErr.{FsErr}
+use Rattle.fs_trait.specs.declared.types.FsErr.TheVariants as err
 use Rattle.fs_trait.proofs.Kept.{weaker}
 use Rattle.rely.specs.declared.books.Base.{Base}
 use Rattle.rely.specs.declared.books.Pending.{Pending}
 use Rattle.rely.specs.declared.event.Event.{Event}
 use Rattle.rely.specs.declared.kind.Outcome.{Outcome}
 use Rattle.rely.specs.declared.kind.Outcome.TheVariants as came
+use Rattle.rely.specs.Exact as exact
 use Rattle.rely.specs.State.{first, stored}
 use Rattle.rely.specs.Books.{Books, books_of, Spared, Keeps}
 use Rattle.rely.specs.Rely.{May, Does}
@@ -195,3 +198,29 @@ tells_end view runs came.Done new is = tt
 
 pub ends_refl : {F : Type 0} (actor lane : ℕ) (base : Base F) → Ends actor lane base base
 ends_refl actor lane base = record { fs = refl; history = refl; pending = refl; owed = refl; opened = refl; start = refl; spared = spared_refl actor lane (books_of base.books); agrees = λ a. a }
+
+-- where no time goes by the view is as it was
+pub view_stays : {F : Type 0} (view : F → Option View) (clock : F → ℕ) (was : F → ℕ → View → Type 0) (only_now : (fs : F) (t : ℕ) (v : View) → clock fs ≤ t → was fs t v → view fs ≡ Some v) (counts_now : (fs : F) (t : ℕ) (v : View) → t ≤ clock fs → view fs ≡ Some v → was fs t v)
+    → (old new : F) → Elapses (clock old) (clock new) (was old) (was new) (view new) → clock new ≡ clock old → (v : View) → view old ≡ Some v → view new ≡ Some v
+view_stays view clock was only_now counts_now old new time same v told =
+    only_now new (clock old) v (omega (arith, same)) (time.keeps (clock old) v (omega arith) (counts_now old (clock old) v (omega arith) told))
+
+-- a step that failed or wanted for memory, and didn't halt, left the view as it was
+pub none_stays : {F : Type 0} (view : F → Option View) (clock : F → ℕ) (was : F → ℕ → View → Type 0) (only_now : (fs : F) (t : ℕ) (v : View) → clock fs ≤ t → was fs t v → view fs ≡ Some v) (counts_now : (fs : F) (t : ℕ) (v : View) → t ≤ clock fs → view fs ≡ Some v → was fs t v)
+    → (old new : F) → Elapses (clock old) (clock new) (was old) (was new) (view new) → (e : FsErr) → (e ≡ err.Failed → clock new ≡ clock old) → ((v : View) → view old ≡ Some v → e ≡ err.NoMemory → view new ≡ Some v)
+    → OfNone e → (v : View) → view old ≡ Some v → view new ≡ Some v
+none_stays view clock was only_now counts_now old new time err.Failed still unchanged named v told = view_stays view clock was only_now counts_now old new time (still refl) v told
+none_stays view clock was only_now counts_now old new time err.NoMemory still unchanged named v told = unchanged v told refl
+none_stays view clock was only_now counts_now old new time err.Exists still unchanged named v told = absurd named
+none_stays view clock was only_now counts_now old new time err.Missing still unchanged named v told = absurd named
+none_stays view clock was only_now counts_now old new time err.NotFolder still unchanged named v told = absurd named
+none_stays view clock was only_now counts_now old new time err.NotEmpty still unchanged named v told = absurd named
+
+-- what the views say of a step that was refused
+pub refused_tells : {T : Type 0} (leaves : T → Turn (Unit {0}) → T → View → View → Type 0) (refuses : T → View → FsErr → Type 0) (t new : T) (outcome : Outcome) (e : FsErr) (before now : Option View)
+    → ((outcome ≡ came.Halted) × (e ≡ err.Failed)) ⊎ (outcome ≡ came.Refused e) → ((v : View) → before ≡ Some v → (e ≡ err.NoMemory) ⊎ refuses t v e) → (outcome ≡ came.Refused e → OfNone e → (v : View) → before ≡ Some v → now ≡ Some v)
+    → exact.Tells leaves refuses t outcome new before now
+refused_tells leaves refuses t new outcome e before now answer why still = ⊎_elim
+    (λ halted. subst (λ o. exact.Tells leaves refuses t o new before now) (sym halted.0) tt)
+    (λ is. subst (λ o. exact.Tells leaves refuses t o new before now) (sym is) (λ v told. (why v told, λ named. still is named v told)))
+    answer

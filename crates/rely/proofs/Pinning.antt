@@ -1,5 +1,5 @@
 -- Which pins there are after an act.
-use Rattle.std.proofs.Common.{◌≡◌, ◌≢◌, ◌⊎◌, inl, inr, ⊎_elim, ℕ, zero, suc, Bool, true, false, not, nat_eq, refl, sym, ◌∙◌, ap, subst, arith, List, [], ◌∷◌, ◌++◌, append-nil, Contains, Option, Some, None}
+use Rattle.std.proofs.Common.{◌≡◌, ◌≢◌, ◌⊎◌, inl, inr, ⊎_elim, ℕ, suc, Bool, true, false, not, nat_eq, refl, sym, ◌∙◌, ap, arith, List, [], ◌∷◌, ◌++◌, append-nil, Contains, Option, Some, None}
 use Rattle.std.specs.List.{filter}
 use Rattle.std.proofs.lemmas.Bool.Decides.{nat_tests}
 use Rattle.std.proofs.lemmas.List.Elements.{filter-append}
@@ -7,9 +7,7 @@ use Rattle.ost_types.specs.declared.object.ObjName.{ObjName}
 use Rattle.rely.specs.declared.books.Pin.{Pin}
 use Rattle.rely.specs.declared.kind.Outcome.{Outcome}
 use Rattle.rely.specs.declared.kind.Outcome.TheVariants as came
-use Rattle.rely.specs.declared.kind.Step.TheVariants as step
-use Rattle.rely.specs.Laws.{Kind, Quiet, Store, Take, Show, Shown, Settle, step_of}
-use Rattle.rely.specs.Pinning.{ArePinned, is_others, pin_in, with_pin, without}
+use Rattle.rely.specs.Pinning.{ArePinned, is_others, with_pin, without}
 use Rattle.rely.proofs.Lists.{contains_cases, filter_contains}
 
 -- a lane's own pin is none of the others'

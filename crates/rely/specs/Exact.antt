@@ -1,10 +1,11 @@
 -- What each answer of an act says, exactly.
-use Rattle.std.specs.Prelude.{◌≡◌, ◌≢◌, ◌⊎◌, ℕ, ◌++◌, ◌∷◌, [], Bool, true, false, Option, Some, None}
+use Rattle.std.specs.Prelude.{◌≡◌, ◌≢◌, ◌⊎◌, ◌≤◌, ℕ, ◌++◌, ◌∷◌, [], Bool, true, false, Option, Some, None}
 use Rattle.fs_trait.specs.Count.{Rose}
 use Rattle.fs_trait.specs.declared.task.Turn.{Turn}
 use Rattle.fs_trait.specs.declared.task.Turn.TheVariants as turn
 use Rattle.fs_trait.specs.declared.types.FsErr.{FsErr}
 use Rattle.fs_trait.specs.declared.types.FsErr.TheVariants as err
+use Rattle.fs_trait.specs.Effect.{OfNone}
 use Rattle.fs_trait.specs.Image.{Told}
 use Rattle.fs_trait.specs.View.{View}
 use Rattle.rely.specs.declared.books.Books as rust
@@ -31,11 +32,12 @@ Steps stepped old came.Done new = stepped old (turn.Done tt) new
 Steps stepped old came.Blocked new = new ≡ old
 Steps stepped old outcome new = Unit {0}
 
--- what the views say of a step that goes on, of the last one, and of one that ended the command
+-- What the views say of a step that goes on, of the last one, and of one that ended the command: this one, where it failed or wanted for
+-- memory, left the view as it was.
 abbrev pub Tells : {T : Type 0} → (T → Turn (Unit {0}) → T → View → View → Type 0) → (T → View → FsErr → Type 0) → T → Outcome → T → Option View → Option View → Type 0
 Tells leaves refuses old came.More new before now = (v : View) → before ≡ Some v → Told now (λ w. leaves old turn.More new v w)
 Tells leaves refuses old came.Done new before now = (v : View) → before ≡ Some v → Told now (λ w. leaves old (turn.Done tt) new v w)
-Tells leaves refuses old (came.Refused e) new before now = (v : View) → before ≡ Some v → (e ≡ err.NoMemory) ⊎ refuses old v e
+Tells leaves refuses old (came.Refused e) new before now = (v : View) → before ≡ Some v → ((e ≡ err.NoMemory) ⊎ refuses old v e) × (OfNone e → now ≡ Some v)
 Tells leaves refuses old outcome new before now = Unit {0}
 
 -- history and pending change are as they were
@@ -80,10 +82,19 @@ IsBooked (Take wants) lane command moment outcome old new = IsUnbooked old new
 IsBooked (Shown e owed) lane command moment outcome old new = IsHeldBy outcome old new
 
 -- a command ends for a call that failed, or for a failed change of all, only where the count of faults rose
+abbrev pub HasRisen : ℕ → ℕ → Outcome → Type 0
+HasRisen before now (came.Refused err.Failed) = Rose before now
+HasRisen before now came.Halted = Rose before now
+HasRisen before now outcome = Unit {0}
+
+-- and that count never falls
 abbrev pub Causes : ℕ → ℕ → Outcome → Type 0
-Causes before now (came.Refused err.Failed) = Rose before now
-Causes before now came.Halted = Rose before now
-Causes before now outcome = Unit {0}
+Causes before now outcome = (before ≤ now) × HasRisen before now outcome
+
+-- a failed change ends all commands, and nothing else does
+abbrev pub IsLive : Outcome → Bool → Bool → Type 0
+IsLive came.Halted old new = new ≡ true
+IsLive outcome old new = new ≡ old
 
 -- a lock that is asked for is the lane's; another is as it was
 abbrev pub lock_taken : Bool → ℕ → Option ℕ → Option ℕ

@@ -9,7 +9,7 @@ ghost use Rattle.rely.specs.declared.event.Event.{Event};
 ghost use Rattle.rely.specs.declared.kind.Outcome.TheVariants as Outcome;
 ghost use Rattle.fs_trait.specs.declared.types.FsErr.TheVariants as FsErr;
 ghost use Rattle.rely.specs.Books.{books_of, Free, Frees};
-ghost use Rattle.rely.specs.Exact.{Opens, Steps, Tells, IsUnbooked, IsHeldBy, IsShownBy, IsSettledBy, IsBooked, Causes, IsGivenUp, IsLeft, Locks};
+ghost use Rattle.rely.specs.Exact.{Opens, Steps, Tells, IsUnbooked, IsHeldBy, IsShownBy, IsSettledBy, IsBooked, Causes, IsGivenUp, IsLeft, IsLive, Locks};
 ghost use Rattle.rely.specs.Lasting.{Lasts};
 ghost use Rattle.rely.specs.Pinning.{ArePinned, pin_in, without};
 ghost use Rattle.rely.specs.Laws.{IsShow, IsShown, IsOwing, IsSettle, IsQuiet, IsStore, IsTake, KeepsRoom, owed_by, Ready, Runs, IsBy, Stood, Acts, Ends, IsEnd, Show, Shown, Settle};
@@ -49,6 +49,7 @@ fn end<F>(base: &mut Base<F>, actor: u8, lane: u8)
     ensures ends { Ends actor lane base.old base.new }
     ensures given_up { IsGivenUp lane base.old.books.turn base.new.books.turn × IsGivenUp lane base.old.books.exclusive base.new.books.exclusive }
     ensures pins { base.new.books.pins.items ≡ without lane base.old.books.pins.items }
+    ensures live { base.new.books.halted ≡ base.old.books.halted }
 {
     base.books.release(actor, lane);
 }
@@ -59,8 +60,10 @@ fn refuse<F: Fs>(base: &mut Base<F>, actor: u8, lane: u8, before: u64, e: FsErr)
     ensures ends { Ends actor lane base.old base.new }
     ensures told { IsEnd result base.new }
     ensures answer { ((result ≡ Outcome.Halted) × (e ≡ FsErr.Failed)) ⊎ (result ≡ Outcome.Refused e) }
+    ensures still { result ≡ Outcome.Refused e → e ≡ FsErr.Failed → F.clock base.old.fs ≡ before }
     ensures given_up { IsLeft lane result base.old.books.turn base.new.books.turn × IsLeft lane result base.old.books.exclusive base.new.books.exclusive }
     ensures pins { ArePinned None lane result base.old.books.pins.items base.new.books.pins.items }
+    ensures live { IsLive result base.old.books.halted base.new.books.halted }
 {
     if e == FsErr::Failed && base.fs.clock() != before {
         base.books.halted = true;
@@ -86,6 +89,7 @@ fn quiet<T: Work, F: Fs>(base: &mut Base<F>, actor: u8, lane: u8, task: &mut T) 
     ensures booked { IsUnbooked base.old.books base.new.books }
     ensures time { Elapses (F.clock base.old.fs) (F.clock base.new.fs) (F.was base.old.fs) (F.was base.new.fs) (F.view base.new.fs) }
     ensures cause { Causes (F.faults base.old.fs) (F.faults base.new.fs) result }
+    ensures live { IsLive result base.old.books.halted base.new.books.halted }
 {
     let before = base.fs.clock();
     match advance_with_room(base, actor, task) {
@@ -113,6 +117,7 @@ fn show<T: Work, F: Fs>(base: &mut Base<F>, lane: u8, command: u32, task: &mut T
     ensures booked { (e : Event) → T.kind_of task.old ≡ Show e → IsShownBy lane command e result base.old.books base.new.books }
     ensures time { Elapses (F.clock base.old.fs) (F.clock base.new.fs) (F.was base.old.fs) (F.was base.new.fs) (F.view base.new.fs) }
     ensures cause { (v : View) → F.view base.old.fs ≡ Some v → Causes (F.faults base.old.fs) (F.faults base.new.fs) result }
+    ensures live { IsLive result base.old.books.halted base.new.books.halted }
 {
     if !base.books.frees_turn(lane) {
         return Outcome::Blocked;
@@ -150,6 +155,7 @@ fn show_event<T: Work, F: Fs>(
     ensures booked { IsShownBy lane command event result base.old.books base.new.books }
     ensures time { Elapses (F.clock base.old.fs) (F.clock base.new.fs) (F.was base.old.fs) (F.was base.new.fs) (F.view base.new.fs) }
     ensures cause { (v : View) → F.view base.old.fs ≡ Some v → Causes (F.faults base.old.fs) (F.faults base.new.fs) result }
+    ensures live { IsLive result base.old.books.halted base.new.books.halted }
 {
     match advance_with_room(base, lane, task) {
         Ok(_) => {
@@ -182,6 +188,7 @@ fn shown<T: Work, F: Fs>(base: &mut Base<F>, lane: u8, task: &mut T) -> Outcome
     ensures booked { IsHeldBy result base.old.books base.new.books }
     ensures time { Elapses (F.clock base.old.fs) (F.clock base.new.fs) (F.was base.old.fs) (F.was base.new.fs) (F.view base.new.fs) }
     ensures cause { (v : View) → F.view base.old.fs ≡ Some v → Causes (F.faults base.old.fs) (F.faults base.new.fs) result }
+    ensures live { IsLive result base.old.books.halted base.new.books.halted }
 {
     base.books.pay();
     match task.advance(lane, &mut base.fs) {
@@ -207,6 +214,7 @@ fn settle<T: Work, F: Fs>(base: &mut Base<F>, lane: u8, task: &mut T) -> Outcome
     ensures booked { IsSettledBy (F.clock base.new.fs) result base.old.books base.new.books }
     ensures time { Elapses (F.clock base.old.fs) (F.clock base.new.fs) (F.was base.old.fs) (F.was base.new.fs) (F.view base.new.fs) }
     ensures cause { (v : View) → F.view base.old.fs ≡ Some v → Causes (F.faults base.old.fs) (F.faults base.new.fs) result }
+    ensures live { IsLive result base.old.books.halted base.new.books.halted }
 {
     match task.advance(lane, &mut base.fs) {
         Ok(Turn::Done(())) => {
@@ -242,6 +250,7 @@ fn store<T: Work, F: Fs>(base: &mut Base<F>, actor: u8, lane: u8, task: &mut T) 
     ensures booked { IsUnbooked base.old.books base.new.books }
     ensures time { Elapses (F.clock base.old.fs) (F.clock base.new.fs) (F.was base.old.fs) (F.was base.new.fs) (F.view base.new.fs) }
     ensures cause { Causes (F.faults base.old.fs) (F.faults base.new.fs) result }
+    ensures live { IsLive result base.old.books.halted base.new.books.halted }
 {
     if !is_free(base.books.exclusive, lane) {
         return Outcome::Blocked;
@@ -264,6 +273,7 @@ fn take<T: Work, F: Fs>(base: &mut Base<F>, lane: u8, wants: Wants, task: &mut T
     ensures booked { IsUnbooked base.old.books base.new.books }
     ensures time { Elapses (F.clock base.old.fs) (F.clock base.new.fs) (F.was base.old.fs) (F.was base.new.fs) (F.view base.new.fs) }
     ensures cause { Causes (F.faults base.old.fs) (F.faults base.new.fs) result }
+    ensures live { IsLive result base.old.books.halted base.new.books.halted }
 {
     if !base.books.frees(&wants, lane) {
         return Outcome::Blocked;
@@ -298,6 +308,7 @@ pub fn task_act<T: Work, F: Fs>(
     ensures time { Elapses (F.clock base.old.fs) (F.clock base.new.fs) (F.was base.old.fs) (F.was base.new.fs) (F.view base.new.fs) }
     ensures outlasts { Lasts F.view F.clock F.was base.old.fs base.new.fs }
     ensures cause { (v : View) → F.view base.old.fs ≡ Some v → Causes (F.faults base.old.fs) (F.faults base.new.fs) result }
+    ensures live { IsLive result base.old.books.halted base.new.books.halted }
 {
     match task.kind() {
         Step::Quiet => quiet(base, actor, lane, task),
@@ -323,6 +334,7 @@ pub fn help_act<T: Work, F: Fs>(base: &mut Base<F>, actor: u8, lane: u8, task: &
     ensures time { Elapses (F.clock base.old.fs) (F.clock base.new.fs) (F.was base.old.fs) (F.was base.new.fs) (F.view base.new.fs) }
     ensures outlasts { Lasts F.view F.clock F.was base.old.fs base.new.fs }
     ensures cause { Causes (F.faults base.old.fs) (F.faults base.new.fs) result }
+    ensures live { IsLive result base.old.books.halted base.new.books.halted }
 {
     match task.kind() {
         Step::Store => store(base, actor, lane, task),

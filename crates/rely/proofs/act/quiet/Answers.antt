@@ -1,6 +1,7 @@
+use Rattle.std.proofs.Common.{Err, ◌∙◌, ap}
 use Rattle.rely.specs.Laws.{Runs}
 use Rattle.rely.proofs.Sounds.{IsFs}
-use Rattle.rely.proofs.Acting.{asks, quiet_acts, quiet_tells, tells_end, ends_refl}
+use Rattle.rely.proofs.Acting.{asks, ends_refl, none_stays, quiet_acts, quiet_tells, refused_tells, tells_end}
 use Rattle.rely.proofs.act.quiet.Given as given
 use Rattle.rely.proofs.act.quiet.Goals as goal
 
@@ -33,3 +34,12 @@ returns-in-Err-clause-acts g c =
     let r = c.requires in
     quiet_acts g.F.Fs.view g.F.Fs.clock g.F.Fs.spare g.F.Fs.was (fs g) g.met.T.Work.laws c.args.base.now c.advance_with_room.new.base c.refuse.new.base c.args.actor c.args.lane c.args.task.now c.advance_with_room.new.task c.refuse.result
     e.books c.refuse.ensures.ends r.by r.unseen r.stood r.ready e.writes e.time e.room (tells_end g.F.Fs.view (Runs g.T.Work.kind_of g.T.Work.facts c.args.lane c.advance_with_room.new.task) c.refuse.result c.refuse.new.base c.refuse.ensures.told)
+
+pub returns-in-Err-clause-tells : goal.returns-in-Err-clause-tells
+returns-in-Err-clause-tells g c =
+    let e = c.in-Err.ensures in
+    let old = c.args.base.now.fs in
+    let mid = c.advance_with_room.new.base.fs in
+    refused_tells g.T.Work.leaves g.T.Work.refuses c.args.task.now c.advance_with_room.new.task c.refuse.result c.in-Err.e (g.F.Fs.view old) (g.F.Fs.view c.refuse.new.base.fs) c.refuse.ensures.answer e.refused
+    (λ is named v told. ap g.F.Fs.view c.refuse.ensures.ends.fs
+    ∙ none_stays g.F.Fs.view g.F.Fs.clock g.F.Fs.was g.met.F.Fs.only_now g.met.F.Fs.counts_now old mid e.time c.in-Err.e (λ failed. c.refuse.ensures.still is failed ∙ c.clock-before.ensures) (λ u told_u none. e.unchanged u told_u (ap Err none)) named v told)
