@@ -1,11 +1,11 @@
 -- From what a field stands for to what it names, and from the fields to the command.
-use Rattle.std.proofs.Common.{◌≡◌, ◌≢◌, ℕ, true, false, List, ◌∷◌, codes, Option, Some, None, IsSome, IfSome, MatchOption, Result, Ok, Err, IfOk, ◌↔◌, refl, sym, ◌∙◌, ap, subst, rules}
-use Rattle.ost_types.specs.Path.{same_name}
+use Rattle.std.proofs.Common.{◌≡◌, ◌≢◌, ℕ, cond, List, [], ◌∷◌, length, get_or, map, codes, Option, Some, None, IsSome, IfSome, MatchOption, Result, Ok, Err, IfOk, ◌↔◌, refl, sym, ◌∙◌, ap, subst, rules}
+use Rattle.ost_types.specs.Path.{Path, same_name}
 use Rattle.ost_types.specs.Csum.{hex_of}
 use Rattle.repo_layout.specs.RefName.{IsRefName}
 use Rattle.repo_layout.specs.RefFile.{IsSum}
-use Rattle.script.specs.Field.{IsField, IsNoField}
-use Rattle.script.specs.Words.{IsBranch, IsCommit, spelled, keyword_of, HasFields, IsCommitLine, IsCommand, IsWritten, AreNoCommand}
+use Rattle.script.specs.Field.{IsField, IsNoField, IsPathField}
+use Rattle.script.specs.Words.{AreRevPath, IsBranch, IsCommit, spelled, keyword_of, HasFields, IsCommitLine, IsCommand, IsWritten, AreNoCommand}
 use Rattle.script.specs.declared.command.Rev.{Rev}
 use Rattle.script.specs.declared.command.Command.{Command}
 use Rattle.script.specs.declared.command.Command.TheVariants as command
@@ -13,7 +13,8 @@ use Rattle.script.specs.declared.command.CommitLine.{CommitLine}
 use Rattle.script.specs.declared.command.Written.{Written}
 use Rattle.script.specs.declared.command.Written.TheVariants as written
 use Rattle.script.specs.declared.words.Keyword.{Keyword}
-use Rattle.script.specs.declared.words.Keyword.TheVariants.{Refs, RevParse, Reset, DropRef, Commit}
+use Rattle.script.specs.declared.words.Keyword.TheVariants.{Refs, RevParse, Log, Ls, Cat, Reset, DropRef, Commit}
+use Rattle.script.proofs.Slices.{two_of}
 use Rattle.script.proofs.Spelling.{field_one}
 
 pub both_ok : {X Y : Type 0} (P Q R : X → Type 0) (r : Result X Y) → ((x : X) → P x → Q x → R x) → IfOk r P → IfOk r Q → IfOk r R
@@ -43,117 +44,127 @@ sum_from field value (Some s) is text whole back = record { spelled = subst (IsF
 pub no_sum : (field : List ℕ) → IsNoField field → (sum : List ℕ) → ¬ (IsCommit field sum)
 no_sum field none sum c = none (hex_of sum) c.spelled
 
-pub spelled_one : (j k : Keyword) → spelled j ≡ spelled k → j ≡ k
-spelled_one Refs Refs e = refl
-spelled_one Refs RevParse e = let n : true ≡ false = ap (same_name (codes "refs")) e in cc
-spelled_one Refs Reset e = let n : true ≡ false = ap (same_name (codes "refs")) e in cc
-spelled_one Refs DropRef e = let n : true ≡ false = ap (same_name (codes "refs")) e in cc
-spelled_one Refs Commit e = let n : true ≡ false = ap (same_name (codes "refs")) e in cc
-spelled_one RevParse Refs e = let n : true ≡ false = ap (same_name (codes "rev-parse")) e in cc
-spelled_one RevParse RevParse e = refl
-spelled_one RevParse Reset e = let n : true ≡ false = ap (same_name (codes "rev-parse")) e in cc
-spelled_one RevParse DropRef e = let n : true ≡ false = ap (same_name (codes "rev-parse")) e in cc
-spelled_one RevParse Commit e = let n : true ≡ false = ap (same_name (codes "rev-parse")) e in cc
-spelled_one Reset Refs e = let n : true ≡ false = ap (same_name (codes "reset")) e in cc
-spelled_one Reset RevParse e = let n : true ≡ false = ap (same_name (codes "reset")) e in cc
-spelled_one Reset Reset e = refl
-spelled_one Reset DropRef e = let n : true ≡ false = ap (same_name (codes "reset")) e in cc
-spelled_one Reset Commit e = let n : true ≡ false = ap (same_name (codes "reset")) e in cc
-spelled_one DropRef Refs e = let n : true ≡ false = ap (same_name (codes "drop")) e in cc
-spelled_one DropRef RevParse e = let n : true ≡ false = ap (same_name (codes "drop")) e in cc
-spelled_one DropRef Reset e = let n : true ≡ false = ap (same_name (codes "drop")) e in cc
-spelled_one DropRef DropRef e = refl
-spelled_one DropRef Commit e = let n : true ≡ false = ap (same_name (codes "drop")) e in cc
-spelled_one Commit Refs e = let n : true ≡ false = ap (same_name (codes "commit")) e in cc
-spelled_one Commit RevParse e = let n : true ≡ false = ap (same_name (codes "commit")) e in cc
-spelled_one Commit Reset e = let n : true ≡ false = ap (same_name (codes "commit")) e in cc
-spelled_one Commit DropRef e = let n : true ≡ false = ap (same_name (codes "commit")) e in cc
-spelled_one Commit Commit e = refl
+-- two fields, of which the second is no path
+pub no_rev_path : {V : Type 0} (now : V → List ℕ) (fs : List V) (b : V) → length fs ≡ 2 → ((path : Path) → ¬ (IsPathField (now (get_or fs 1 b)) path)) → (rev : Rev) (path : Path) → ¬ (AreRevPath (map now fs) rev path)
+no_rev_path now fs b two none rev path are =
+    let same : are.0 ∷ are.1 ∷ [] ≡ now (get_or fs 0 b) ∷ now (get_or fs 1 b) ∷ [] = sym are.2 ∙ two_of now fs b b two in
+    let second : are.1 ≡ now (get_or fs 1 b) = cc in
+    none path (subst (λ f. IsPathField f path) second are.4)
 
-module _ (k : Keyword) (words fields : List (List ℕ)) (word : List ℕ) (line : words ≡ word ∷ fields) (is : word ≡ spelled k) where
-  same_word : (j : Keyword) (more : List (List ℕ)) → words ≡ spelled j ∷ more → (j ≡ k) × (more ≡ fields)
-  same_word j more e =
+keywords : List Keyword
+keywords = Refs ∷ RevParse ∷ Log ∷ Ls ∷ Cat ∷ Reset ∷ DropRef ∷ Commit ∷ []
+
+-- the first of these keywords with this spelling
+first_spelled : List ℕ → List Keyword → Option Keyword
+first_spelled word [] = None
+first_spelled word (k ∷ ks) = cond (same_name (spelled k) word) (Some k) (first_spelled word ks)
+
+found : (k : Keyword) → first_spelled (spelled k) keywords ≡ Some k
+unfolding keywords first_spelled
+found Refs = refl
+found RevParse = refl
+found Log = refl
+found Ls = refl
+found Cat = refl
+found Reset = refl
+found DropRef = refl
+found Commit = refl
+
+pub spelled_one : (j k : Keyword) → spelled j ≡ spelled k → j ≡ k
+spelled_one j k e = let same : Some j ≡ Some k = sym (found j) ∙ ap (λ w. first_spelled w keywords) e ∙ found k in cc
+
+-- the word that closes a lane is no keyword
+pub end_word : (k : Keyword) → codes "end" ≡ spelled k → ⊥
+unfolding keywords first_spelled
+end_word k e = let none : None ≡ Some k = ap (λ w. first_spelled w keywords) e ∙ found k in cc
+
+-- they are the fields of no command with this keyword
+abbrev NoneHas : Keyword → List (List ℕ) → Type 0
+NoneHas Refs fields = ¬ (HasFields command.Refs fields)
+NoneHas RevParse fields = (rev : Rev) → ¬ (HasFields (command.RevParse rev) fields)
+NoneHas Log fields = (rev : Rev) → ¬ (HasFields (command.Log rev) fields)
+NoneHas Ls fields = (rev : Rev) (path : Path) → ¬ (HasFields (command.Ls rev path) fields)
+NoneHas Cat fields = (rev : Rev) (path : Path) → ¬ (HasFields (command.Cat rev path) fields)
+NoneHas Reset fields = (branch commit : List ℕ) → ¬ (HasFields (command.Reset branch commit) fields)
+NoneHas DropRef fields = (branch : List ℕ) → ¬ (HasFields (command.DropRef branch) fields)
+NoneHas Commit fields = (line : CommitLine) → ¬ (IsCommitLine fields line)
+
+not_had : (c : Command) (fields : List (List ℕ)) → NoneHas (keyword_of c) fields → ¬ (HasFields c fields)
+not_had command.Refs fields none = none
+not_had (command.RevParse rev) fields none = none rev
+not_had (command.Log rev) fields none = none rev
+not_had (command.Ls rev path) fields none = none rev path
+not_had (command.Cat rev path) fields none = none rev path
+not_had (command.Reset branch commit) fields none = none branch commit
+not_had (command.DropRef branch) fields none = none branch
+not_had (command.Commit branch tree subject body time) fields none = λ h. h
+
+module _ (words fields : List (List ℕ)) (word : List ℕ) (line : words ≡ word ∷ fields) where
+  same_word : (j k : Keyword) (more : List (List ℕ)) → word ≡ spelled k → words ≡ spelled j ∷ more → (j ≡ k) × (more ≡ fields)
+  same_word j k more is e =
       let whole : word ∷ fields ≡ spelled j ∷ more = sym line ∙ e in
       let w : word ≡ spelled j = cc in
       let rest : more ≡ fields = cc in
       (spelled_one j k (sym w ∙ is), rest)
 
-  no_command : ((c : Command) → keyword_of c ≡ k → ¬ (HasFields c fields)) → (k ≡ Commit → (c : CommitLine) → ¬ (IsCommitLine fields c)) → AreNoCommand words
-  no_command none no_line (written.Command c) it =
-      let same = same_word (keyword_of c) it.fields it.line in
-      none c same.0 (subst (HasFields c) same.1 it.has)
-  no_command none no_line (written.Commit c) it =
-      let same = same_word Commit it.0 it.1 in
-      no_line (sym same.0) c (subst (λ f. IsCommitLine f c) same.1 it.2)
+  no_command : (k : Keyword) → word ≡ spelled k → NoneHas k fields → AreNoCommand words
+  no_command k is none (written.Command c) it =
+      let same = same_word (keyword_of c) k it.fields is it.line in
+      not_had c fields (subst (λ j. NoneHas j fields) (sym same.0) none) (subst (HasFields c) same.1 it.has)
+  no_command k is none (written.Commit c) it =
+      let same = same_word Commit k it.0 is it.1 in
+      subst (λ j. NoneHas j fields) (sym same.0) none c (subst (λ f. IsCommitLine f c) same.1 it.2)
 
-  is_command : (c : Command) → keyword_of c ≡ k → HasFields c fields → IsCommand words c
-  is_command c kind has = record { fields = fields; line = line ∙ ap (λ w. w ∷ fields) (is ∙ ap spelled (sym kind)); has = has }
+  is_command : (c : Command) → word ≡ spelled (keyword_of c) → HasFields c fields → IsCommand words c
+  is_command c is has = record { fields = fields; line = line ∙ ap (λ w. w ∷ fields) is; has = has }
 
-module _ (words fields : List (List ℕ)) (word : List ℕ) (line : words ≡ word ∷ fields) where
   pub refs_from : word ≡ spelled Refs → (o : Option Written)
-      → MatchOption o (¬ (HasFields command.Refs fields)) (λ w. (w ≡ written.Command command.Refs) × HasFields command.Refs fields)
+      → MatchOption o (NoneHas Refs fields) (λ w. (w ≡ written.Command command.Refs) × HasFields command.Refs fields)
       → MatchOption o (AreNoCommand words) (IsWritten words)
-  refs_from is None none = no_command Refs words fields word line is by (λ e. cc)
-    where
-      by : (c : Command) → keyword_of c ≡ Refs → ¬ (HasFields c fields)
-      by command.Refs kind = none
-      by (command.RevParse rev) kind = cc
-      by (command.Reset branch commit) kind = cc
-      by (command.DropRef branch) kind = cc
-      by (command.Commit branch tree subject body time) kind = cc
-  refs_from is (Some w) found = subst (IsWritten words) (sym found.0) (is_command Refs words fields word line is command.Refs refl found.1)
+  refs_from is None none = no_command Refs is none
+  refs_from is (Some w) it = subst (IsWritten words) (sym it.0) (is_command command.Refs is it.1)
 
   pub rev_parse_from : word ≡ spelled RevParse → (o : Option Written)
-      → MatchOption o ((rev : Rev) → ¬ (HasFields (command.RevParse rev) fields)) (λ w. (rev : Rev) × (w ≡ written.Command (command.RevParse rev)) × HasFields (command.RevParse rev) fields)
+      → MatchOption o (NoneHas RevParse fields) (λ w. (rev : Rev) × (w ≡ written.Command (command.RevParse rev)) × HasFields (command.RevParse rev) fields)
       → MatchOption o (AreNoCommand words) (IsWritten words)
-  rev_parse_from is None none = no_command RevParse words fields word line is by (λ e. cc)
-    where
-      by : (c : Command) → keyword_of c ≡ RevParse → ¬ (HasFields c fields)
-      by command.Refs kind = cc
-      by (command.RevParse rev) kind = none rev
-      by (command.Reset branch commit) kind = cc
-      by (command.DropRef branch) kind = cc
-      by (command.Commit branch tree subject body time) kind = cc
-  rev_parse_from is (Some w) found = subst (IsWritten words) (sym found.1) (is_command RevParse words fields word line is (command.RevParse found.0) refl found.2)
+  rev_parse_from is None none = no_command RevParse is none
+  rev_parse_from is (Some w) it = subst (IsWritten words) (sym it.1) (is_command (command.RevParse it.0) is it.2)
+
+  pub log_from : word ≡ spelled Log → (o : Option Written)
+      → MatchOption o (NoneHas Log fields) (λ w. (rev : Rev) × (w ≡ written.Command (command.Log rev)) × HasFields (command.Log rev) fields)
+      → MatchOption o (AreNoCommand words) (IsWritten words)
+  log_from is None none = no_command Log is none
+  log_from is (Some w) it = subst (IsWritten words) (sym it.1) (is_command (command.Log it.0) is it.2)
+
+  pub ls_from : word ≡ spelled Ls → (o : Option Written)
+      → MatchOption o (NoneHas Ls fields) (λ w. (rev : Rev) × (path : Path) × (w ≡ written.Command (command.Ls rev path)) × HasFields (command.Ls rev path) fields)
+      → MatchOption o (AreNoCommand words) (IsWritten words)
+  ls_from is None none = no_command Ls is none
+  ls_from is (Some w) it = subst (IsWritten words) (sym it.2) (is_command (command.Ls it.0 it.1) is it.3)
+
+  pub cat_from : word ≡ spelled Cat → (o : Option Written)
+      → MatchOption o (NoneHas Cat fields) (λ w. (rev : Rev) × (path : Path) × (w ≡ written.Command (command.Cat rev path)) × HasFields (command.Cat rev path) fields)
+      → MatchOption o (AreNoCommand words) (IsWritten words)
+  cat_from is None none = no_command Cat is none
+  cat_from is (Some w) it = subst (IsWritten words) (sym it.2) (is_command (command.Cat it.0 it.1) is it.3)
 
   pub reset_from : word ≡ spelled Reset → (o : Option Written)
-      → MatchOption o ((branch commit : List ℕ) → ¬ (HasFields (command.Reset branch commit) fields)) (λ w. (branch commit : List ℕ) × (w ≡ written.Command (command.Reset branch commit)) × HasFields (command.Reset branch commit) fields)
+      → MatchOption o (NoneHas Reset fields) (λ w. (branch commit : List ℕ) × (w ≡ written.Command (command.Reset branch commit)) × HasFields (command.Reset branch commit) fields)
       → MatchOption o (AreNoCommand words) (IsWritten words)
-  reset_from is None none = no_command Reset words fields word line is by (λ e. cc)
-    where
-      by : (c : Command) → keyword_of c ≡ Reset → ¬ (HasFields c fields)
-      by command.Refs kind = cc
-      by (command.RevParse rev) kind = cc
-      by (command.Reset branch commit) kind = none branch commit
-      by (command.DropRef branch) kind = cc
-      by (command.Commit branch tree subject body time) kind = cc
-  reset_from is (Some w) found = subst (IsWritten words) (sym found.2) (is_command Reset words fields word line is (command.Reset found.0 found.1) refl found.3)
+  reset_from is None none = no_command Reset is none
+  reset_from is (Some w) it = subst (IsWritten words) (sym it.2) (is_command (command.Reset it.0 it.1) is it.3)
 
   pub drop_from : word ≡ spelled DropRef → (o : Option Written)
-      → MatchOption o ((branch : List ℕ) → ¬ (HasFields (command.DropRef branch) fields)) (λ w. (branch : List ℕ) × (w ≡ written.Command (command.DropRef branch)) × HasFields (command.DropRef branch) fields)
+      → MatchOption o (NoneHas DropRef fields) (λ w. (branch : List ℕ) × (w ≡ written.Command (command.DropRef branch)) × HasFields (command.DropRef branch) fields)
       → MatchOption o (AreNoCommand words) (IsWritten words)
-  drop_from is None none = no_command DropRef words fields word line is by (λ e. cc)
-    where
-      by : (c : Command) → keyword_of c ≡ DropRef → ¬ (HasFields c fields)
-      by command.Refs kind = cc
-      by (command.RevParse rev) kind = cc
-      by (command.Reset branch commit) kind = cc
-      by (command.DropRef branch) kind = none branch
-      by (command.Commit branch tree subject body time) kind = cc
-  drop_from is (Some w) found = subst (IsWritten words) (sym found.1) (is_command DropRef words fields word line is (command.DropRef found.0) refl found.2)
+  drop_from is None none = no_command DropRef is none
+  drop_from is (Some w) it = subst (IsWritten words) (sym it.1) (is_command (command.DropRef it.0) is it.2)
 
   pub commit_from : word ≡ spelled Commit → (o : Option Written)
-      → MatchOption o ((c : CommitLine) → ¬ (IsCommitLine fields c)) (λ w. (c : CommitLine) × (w ≡ written.Commit c) × IsCommitLine fields c)
+      → MatchOption o (NoneHas Commit fields) (λ w. (c : CommitLine) × (w ≡ written.Commit c) × IsCommitLine fields c)
       → MatchOption o (AreNoCommand words) (IsWritten words)
-  commit_from is None none = no_command Commit words fields word line is by (λ e. none)
-    where
-      by : (c : Command) → keyword_of c ≡ Commit → ¬ (HasFields c fields)
-      by command.Refs kind = cc
-      by (command.RevParse rev) kind = cc
-      by (command.Reset branch commit) kind = cc
-      by (command.DropRef branch) kind = cc
-      by (command.Commit branch tree subject body time) kind = λ h. h
-  commit_from is (Some w) found = subst (IsWritten words) (sym found.1) (fields, line ∙ ap (λ w. w ∷ fields) is, found.2)
+  commit_from is None none = no_command Commit is none
+  commit_from is (Some w) it = subst (IsWritten words) (sym it.1) (fields, line ∙ ap (λ w. w ∷ fields) is, it.2)
 
   pub none_from : ((k : Keyword) → word ≡ spelled k → ⊥) → AreNoCommand words
   none_from none (written.Command c) it = let e : word ∷ fields ≡ spelled (keyword_of c) ∷ it.fields = sym line ∙ it.line in none (keyword_of c) cc

@@ -1,4 +1,4 @@
--- Slices one by one: the first of some, and five.
+-- Slices one by one: the first of some, two, and five.
 use Rattle.std.proofs.Common.{◌≡◌, ◌<◌, ◌≤◌, ◌+◌, ◌-◌, ℕ, List, [], ◌∷◌, ◌++◌, length, get_or, map, take, drop, Option, Some, None, MatchOption, refl, sym, ◌∙◌, ap, subst, arith}
 use Rattle.std.proofs.lemmas.List.{take_all, take_more, map_push}
 
@@ -11,6 +11,12 @@ pub slices_step : {V : Type 0} (now : V → List ℕ) (had new : List V) (x : V)
     → map now had ≡ take i words → new ≡ had ++ x ∷ [] → now x ≡ w → map now new ≡ take (i + 1) words
 slices_step now had new x i words w less is before more same =
     ap (map now) more ∙ map_push now had x ∙ ap (λ y. map now had ++ y ∷ []) (same ∙ is) ∙ ap (λ t. t ++ get_or words i w ∷ []) before ∙ sym (take_more words i w less)
+
+pub two_of : {V : Type 0} (now : V → List ℕ) (fs : List V) (a b : V) → length fs ≡ 2 → map now fs ≡ now (get_or fs 0 a) ∷ now (get_or fs 1 b) ∷ []
+two_of now [] a b e = absurd (omega (arith, e))
+two_of now (v ∷ []) a b e = absurd (omega (arith, e))
+two_of now (v ∷ w ∷ []) a b e = refl
+two_of now (v ∷ w ∷ x ∷ fs) a b e = absurd (omega (arith, e))
 
 pub five_of : {V : Type 0} (now : V → List ℕ) (fs : List V) (a b c d e : V) → length fs ≡ 5
     → map now fs ≡ now (get_or fs 0 a) ∷ now (get_or fs 1 b) ∷ now (get_or fs 2 c) ∷ now (get_or fs 3 d) ∷ now (get_or fs 4 e) ∷ []

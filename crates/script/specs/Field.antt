@@ -1,8 +1,10 @@
 -- Fields: runs of bytes from `!` to `~`, in which `%` and two digits stand for any byte.
-use Rattle.std.specs.Prelude.{◌≡◌, ◌≢◌, ◌⊎◌, ◌<◌, ◌==◌, ◌&&◌, not, nat_le, ℕ, Bool, IsTrue, if◌then◌else◌, List, [], ◌∷◌, ◌++◌, codes}
+use Rattle.std.specs.Prelude.{◌≡◌, ◌≢◌, ◌⊎◌, ◌<◌, ◌==◌, ◌&&◌, not, nat_le, ℕ, Bool, IsTrue, if◌then◌else◌, List, [], ◌∷◌, ◌++◌, codes, Option, MatchOption, Ok}
 use Rattle.std.specs.List.{flat_map}
 use Rattle.std.specs.Fmt.{decimal}
 use Rattle.ost_types.specs.Csum.{hex_of}
+use Rattle.ost_types.specs.Parse.{IsParsed}
+use Rattle.ost_types.specs.Path.{Path}
 use Rattle.ost_types.specs.Text.{IsText}
 
 -- a byte that stands for itself: from `!` to `~`, but for `%`
@@ -16,6 +18,12 @@ escaped_byte b = if is_plain b then b ∷ [] else (37 ∷ hex_of (b ∷ []))
 -- how bytes are written
 abbrev pub escaped : List ℕ → List ℕ
 escaped value = flat_map escaped_byte value
+
+-- a value as a field: `~` (126) stands for no bytes, so the one byte `~` is written by its digits
+abbrev pub field_text : List ℕ → List ℕ
+field_text [] = codes "~"
+field_text (b ∷ []) = if b == 126 then codes "%7e" else escaped (b ∷ [])
+field_text (b ∷ c ∷ value) = escaped (b ∷ c ∷ value)
 
 -- the text begins with what stands for the byte: itself, where it is plain, or `%` and its two digits
 abbrev pub Stands : List ℕ → ℕ → List ℕ → Type 0
@@ -35,6 +43,23 @@ IsField field value = ((field ≡ codes "~") × (value ≡ [])) ⊎ ((field ≢ 
 
 abbrev pub IsNoField : List ℕ → Type 0
 IsNoField field = (value : List ℕ) → ¬ (IsField field value)
+
+-- the value, where there is one, and None only where there is none
+abbrev pub Gives : {X : Type 0} → (X → Type 0) → Option X → Type 0
+Gives P o = MatchOption o ((x : _) → ¬ (P x)) P
+
+-- the field of a text that is written so for the value
+pub record IsFieldOf {X : Type 0} (IsWritten : List ℕ → X → Type 0) (field : List ℕ) (x : X) : Type 0 where
+  pub text : List ℕ
+  pub spelled : IsField field text
+  pub written : IsWritten text x
+
+abbrev pub IsPathText : List ℕ → Path → Type 0
+IsPathText text path = IsParsed text (Ok path)
+
+-- the field of a path
+abbrev pub IsPathField : List ℕ → Path → Type 0
+IsPathField = IsFieldOf IsPathText
 
 -- the field of a number below the bound: its decimal digits, so without leading zeros
 pub record IsNumber (bound : ℕ) (field : List ℕ) (n : ℕ) : Type 0 where

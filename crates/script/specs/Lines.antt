@@ -1,17 +1,47 @@
 -- What is printed of replies.
-use Rattle.std.specs.Prelude.{◌+◌, ℕ, List, [], ◌∷◌, ◌++◌, length, codes, Option, Some, None}
+use Rattle.std.specs.Prelude.{◌+◌, ℕ, false, List, [], ◌∷◌, ◌++◌, length, codes, Option, Some, None}
 use Rattle.std.specs.List.{flat_map}
-use Rattle.std.specs.Fmt.{decimal}
-use Rattle.ost_types.specs.Path.{text_of}
+use Rattle.std.specs.Fmt.{decimal, digits}
+use Rattle.ost_types.specs.Path.{Path, text_of}
 use Rattle.ost_types.specs.Csum.{hex_of}
-use Rattle.script.specs.Field.{escaped}
+use Rattle.script.specs.Field.{escaped, field_text}
 use Rattle.script.specs.declared.answer.Answer.{Answer}
-use Rattle.script.specs.declared.answer.Answer.TheVariants.{Nothing, Refs, Commit, NoRef, NoCommit, Partial, RefMoved, RefClash, BadTree, TooMany, NoMemory, DiskFault, Halted, Outside}
+use Rattle.script.specs.declared.answer.Answer.TheVariants.{Nothing, Refs, Commit, Log, Ls, Content, NoRef, NoCommit, Partial, NoPath, NotFile, RefMoved, RefClash, BadTree, TooMany, NoMemory, DiskFault, Halted, Outside}
 use Rattle.script.specs.declared.answer.Reply.{Reply}
+use Rattle.script.specs.declared.rows.LogRow.{LogRow}
+use Rattle.script.specs.declared.rows.LsRow.{LsRow}
+use Rattle.script.specs.declared.rows.LsRow.TheVariants.{Folder, Leaf}
+
+-- how many rows there are
+abbrev pub count_text : ℕ → List ℕ
+count_text count = codes "ok " ++ decimal count
+
+-- and each behind it
+abbrev pub rows_text : {X : Type 0} → (X → List ℕ) → List X → List ℕ
+rows_text row rows = count_text (length rows) ++ flat_map row rows
 
 -- a ref and its commit on a line of their own
 abbrev pub ref_row : List ℕ × List ℕ → List ℕ
 ref_row row = codes "\n " ++ (row.0 ++ (32 ∷ hex_of row.1))
+
+-- a commit of a log: its time is in seconds since 1970
+abbrev pub log_row : LogRow → List ℕ
+log_row row = codes "\n " ++ (hex_of row.commit ++ (32 ∷ (decimal row.time ++ (32 ∷ field_text row.subject))))
+
+abbrev pub octal : ℕ → List ℕ
+octal n = digits 8 false n
+
+-- a folder of a tree, with its permissions in octal digits
+abbrev pub folder_row : ℕ → ℕ → ℕ → Path → List ℕ
+folder_row uid gid mode path = codes "\n folder " ++ (decimal uid ++ (32 ∷ (decimal gid ++ (32 ∷ (octal mode ++ (32 ∷ escaped (text_of path)))))))
+
+-- a file or a link, by the name of its object
+abbrev pub leaf_row : List ℕ → Path → List ℕ
+leaf_row file path = codes "\n leaf " ++ (hex_of file ++ (32 ∷ escaped (text_of path)))
+
+abbrev pub ls_row : LsRow → List ℕ
+ls_row (Folder uid gid mode path) = folder_row uid gid mode path
+ls_row (Leaf file path) = leaf_row file path
 
 abbrev pub value_text : Option (List ℕ) → List ℕ
 value_text None = codes "none"
@@ -20,11 +50,16 @@ value_text (Some sum) = hex_of sum
 -- an answer behind the two numbers of its line
 abbrev pub answer_text : Answer → List ℕ
 answer_text Nothing = codes "ok"
-answer_text (Refs rows) = codes "ok " ++ (decimal (length rows.items) ++ flat_map ref_row rows.items)
+answer_text (Refs rows) = rows_text ref_row rows.items
 answer_text (Commit sum) = codes "ok " ++ hex_of sum
+answer_text (Log rows) = rows_text log_row rows.items
+answer_text (Ls rows) = rows_text ls_row rows.items
+answer_text (Content bytes) = codes "ok " ++ field_text bytes
 answer_text NoRef = codes "refused NoRef"
 answer_text (NoCommit sum) = codes "refused NoCommit " ++ hex_of sum
 answer_text (Partial sum) = codes "refused Partial " ++ hex_of sum
+answer_text (NoPath path) = codes "refused NoPath " ++ escaped (text_of path)
+answer_text (NotFile path) = codes "refused NotFile " ++ escaped (text_of path)
 answer_text (RefMoved seen now) = codes "refused RefMoved " ++ (value_text seen ++ (32 ∷ value_text now))
 answer_text (RefClash name) = codes "refused RefClash " ++ name
 answer_text (BadTree path) = codes "refused BadTree " ++ escaped (text_of path)

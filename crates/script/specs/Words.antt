@@ -1,14 +1,15 @@
 -- A command as words: its keyword, as it is written, and its fields.
 use Rattle.std.specs.Prelude.{◌≡◌, ◌≤◌, ◌^◌, ℕ, List, [], ◌∷◌, codes, Some, slice_get, Result, Ok, Err}
 use Rattle.ost_types.specs.Csum.{hex_of}
+use Rattle.ost_types.specs.Path.{Path}
 use Rattle.repo_layout.specs.RefName.{IsRefName}
 use Rattle.repo_layout.specs.RefFile.{IsSum}
 use Rattle.ost_forms.specs.declared.tree_item.TreeItem.{TreeItem}
-use Rattle.script.specs.Field.{IsField, IsNumber, IsTextField}
+use Rattle.script.specs.Field.{IsField, IsNumber, IsPathField, IsTextField}
 use Rattle.script.specs.declared.command.Rev.{Rev}
 use Rattle.script.specs.declared.command.Rev.TheVariants.{Ref, Commit}
 use Rattle.script.specs.declared.command.Command.{Command}
-use Rattle.script.specs.declared.command.Command.TheVariants.{Refs, RevParse, Reset, DropRef, Commit as CommitTree}
+use Rattle.script.specs.declared.command.Command.TheVariants.{Refs, RevParse, Log, Ls, Cat, Reset, DropRef, Commit as CommitTree}
 use Rattle.script.specs.declared.command.CommitLine.{CommitLine}
 use Rattle.script.specs.declared.command.Written.{Written}
 use Rattle.script.specs.declared.command.Written.TheVariants as written
@@ -35,6 +36,9 @@ IsRev field (Commit sum) = IsCommit field sum
 abbrev pub spelled : Keyword → List ℕ
 spelled word.Refs = codes "refs"
 spelled word.RevParse = codes "rev-parse"
+spelled word.Log = codes "log"
+spelled word.Ls = codes "ls"
+spelled word.Cat = codes "cat"
 spelled word.Reset = codes "reset"
 spelled word.DropRef = codes "drop"
 spelled word.Commit = codes "commit"
@@ -42,13 +46,23 @@ spelled word.Commit = codes "commit"
 abbrev pub keyword_of : Command → Keyword
 keyword_of Refs = word.Refs
 keyword_of (RevParse rev) = word.RevParse
+keyword_of (Log rev) = word.Log
+keyword_of (Ls rev path) = word.Ls
+keyword_of (Cat rev path) = word.Cat
 keyword_of (Reset branch commit) = word.Reset
 keyword_of (DropRef branch) = word.DropRef
 keyword_of (CommitTree branch tree subject body time) = word.Commit
 
+-- REV PATH
+abbrev pub AreRevPath : List (List ℕ) → Rev → Path → Type 0
+AreRevPath fields rev path = (f g : List ℕ) × (fields ≡ f ∷ g ∷ []) × IsRev f rev × IsPathField g path
+
 abbrev pub HasFields : Command → List (List ℕ) → Type 0
 HasFields Refs fields = fields ≡ []
 HasFields (RevParse rev) fields = (f : List ℕ) × (fields ≡ f ∷ []) × IsRev f rev
+HasFields (Log rev) fields = (f : List ℕ) × (fields ≡ f ∷ []) × IsRev f rev
+HasFields (Ls rev path) fields = AreRevPath fields rev path
+HasFields (Cat rev path) fields = AreRevPath fields rev path
 HasFields (Reset branch commit) fields = (f g : List ℕ) × (fields ≡ f ∷ g ∷ []) × IsBranch f branch × IsCommit g commit
 HasFields (DropRef branch) fields = (f : List ℕ) × (fields ≡ f ∷ []) × IsBranch f branch
 HasFields (CommitTree branch tree subject body time) fields = ⊥

@@ -1,7 +1,8 @@
-use ost_types::{Csum, FsPath};
+use crate::rows::{LogRow, LsRow};
+use ost_types::{Bytes, Csum, FsPath};
 use repo_layout::RefName;
 
-/// What a command answered. The first three are those of a command that was done, the next seven refuse it, and the
+/// What a command answered. The first six are those of a command that was done, the next nine refuse it, and the
 /// others end it for want of something outside.
 #[derive(Drop, Debug)]
 pub enum Answer {
@@ -11,12 +12,22 @@ pub enum Answer {
     Refs(Vec<(RefName, Csum)>),
     /// The name of a commit.
     Commit(Csum),
+    /// The commit, its parent and so on.
+    Log(Vec<LogRow>),
+    /// The path and all below it, ascending.
+    Ls(Vec<LsRow>),
+    /// What the regular file holds.
+    Content(Bytes),
     /// There is no such ref.
     NoRef,
     /// There is no such commit.
     NoCommit(Csum),
     /// Objects of the commit may be missing.
     Partial(Csum),
+    /// Nothing stands at the path in the commit's tree.
+    NoPath(FsPath),
+    /// A folder or a symbolic link stands there.
+    NotFile(FsPath),
     /// The ref has changed since the command looked at it: its value then, and its value now.
     RefMoved {
         seen: Option<Csum>,

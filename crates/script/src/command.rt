@@ -1,5 +1,5 @@
 use ost_forms::TreeItem;
-use ost_types::{Csum, Text};
+use ost_types::{Csum, FsPath, Text};
 use repo_layout::RefName;
 
 /// What names a commit: a ref, or the 64 digits of the commit itself.
@@ -17,6 +17,20 @@ pub enum Command {
     /// `rev-parse` tells the commit.
     RevParse {
         rev: Rev,
+    },
+    /// `log` lists the commit, its parent and so on.
+    Log {
+        rev: Rev,
+    },
+    /// `ls` lists the path in the commit's tree, and all below it.
+    Ls {
+        rev: Rev,
+        path: FsPath,
+    },
+    /// `cat` tells what the regular file at the path in the commit's tree holds.
+    Cat {
+        rev: Rev,
+        path: FsPath,
     },
     /// `reset` makes the ref name the commit.
     Reset {

@@ -1,12 +1,24 @@
 //! Bytes as a field: those outside `!` to `~`, and `%`, as `%` and two digits.
 ghost use Rattle.std.specs.Prelude.{◌≡◌, ◌++◌, ◌∷◌, [], OnOk};
 ghost use Rattle.ost_types.specs.Csum.{hex_of};
-ghost use Rattle.script.specs.Field.{escaped, is_plain};
+ghost use Rattle.script.specs.Field.{escaped, field_text, is_plain};
 
 use ost_types::{Bytes, NoMemory};
 
-/// Appends the bytes as a field. A field of no bytes is written `~` by the caller, where there may be one. After an
-/// error a part of it may stand there.
+/// Appends any bytes as a field: no bytes as `~`, and the one byte `~` by its digits. After an error a part of it may
+/// stand there.
+pub fn append_bytes(line: &mut Bytes, value: &[u8]) -> Result<(), NoMemory>
+    ensures { OnOk result (line.new ≡ line.old ++ field_text value.now) }
+{
+    match value {
+        [] => line.append(b"~"),
+        [b'~'] => line.append(b"%7e"),
+        _ => append_field(line, value),
+    }
+}
+
+/// Appends bytes as a field that are some, and not `~` alone: a path, or a name. After an error a part of it may stand
+/// there.
 pub fn append_field(line: &mut Bytes, value: &[u8]) -> Result<(), NoMemory>
     ensures { OnOk result (line.new ≡ line.old ++ escaped value.now) }
 {

@@ -8,17 +8,22 @@ mod fault;
 mod field;
 mod lines;
 mod number;
+mod path;
 mod read;
+mod row_lines;
+mod rows;
 mod value;
 mod words;
 
 pub use answer::{Answer, Reply};
 pub use command::{Command, CommitLine, Lane, Rev, Written};
-pub use escape::append_field;
+pub use escape::{append_bytes, append_field};
 pub use fault::ScriptFault;
 pub use field::{byte_of, read_field, unescape};
 pub use lines::write_replies;
 pub use number::{number_of, read_text, read_u32, read_u64};
+pub use path::read_path;
+pub use rows::{LogRow, LsRow};
 pub use words::{read_words, read_written};
 
 #[cfg(test)]

@@ -1,14 +1,14 @@
 //! Replies as lines.
-ghost use Rattle.std.specs.Prelude.{◌≡◌, ◌++◌, ◌∷◌, [], length, map, codes, IfOk, OnOk};
-ghost use Rattle.std.specs.List.{flat_map};
+ghost use Rattle.std.specs.Prelude.{◌≡◌, ◌++◌, ◌∷◌, [], map, codes, IfOk, OnOk};
 ghost use Rattle.std.specs.Fmt.{decimal};
 ghost use Rattle.ost_types.specs.Csum.{hex_of};
 ghost use Rattle.ost_types.specs.Path.{text_of};
-ghost use Rattle.script.specs.Field.{escaped};
-ghost use Rattle.script.specs.Lines.{answer_text, lane_lines, ref_row, replies_text, reply_line, value_text};
+ghost use Rattle.script.specs.Field.{escaped, field_text};
+ghost use Rattle.script.specs.Lines.{answer_text, lane_lines, replies_text, reply_line, value_text};
 
 use crate::answer::{Answer, Reply};
-use crate::escape::append_field;
+use crate::escape::{append_bytes, append_field};
+use crate::row_lines::{append_log, append_ls, append_refs};
 use ost_types::{Bytes, Csum, FsPath, NoMemory};
 use repo_layout::RefName;
 use std::alloc::Global;
@@ -60,47 +60,26 @@ fn append_answer(alloc: Global, text: &mut Bytes, answer: &Answer) -> Result<(),
         Answer::Nothing => text.append(b"ok"),
         Answer::Refs(rows) => append_refs(alloc, text, rows),
         Answer::Commit(commit) => append_sum(text, b"ok ", commit),
+        Answer::Log(rows) => append_log(alloc, text, rows),
+        Answer::Ls(rows) => append_ls(alloc, text, rows),
+        Answer::Content(content) => append_content(text, content),
         Answer::NoRef => text.append(b"refused NoRef"),
         Answer::NoCommit(commit) => append_sum(text, b"refused NoCommit ", commit),
         Answer::Partial(commit) => append_sum(text, b"refused Partial ", commit),
+        Answer::NoPath(path) => append_path(text, b"refused NoPath ", path),
+        Answer::NotFile(path) => append_path(text, b"refused NotFile ", path),
         Answer::RefMoved { seen, now } => append_moved(text, seen, now),
         Answer::RefClash(name) => append_clash(text, name),
-        Answer::BadTree(path) => append_bad_tree(text, path),
+        Answer::BadTree(path) => append_path(text, b"refused BadTree ", path),
         Answer::TooMany(count) => append_too_many(alloc, text, *count),
         Answer::NoMemory => text.append(b"fault NoMemory"),
         Answer::DiskFault => text.append(b"fault DiskFault"),
         Answer::Halted(count) => append_halted(alloc, text, *count),
-        Answer::Outside(path) => append_outside(text, path),
+        Answer::Outside(path) => append_path(text, b"fault Outside ", path),
     }
 }
 
-fn append_refs(alloc: Global, text: &mut Bytes, rows: &[(RefName, Csum)]) -> Result<(), NoMemory>
-    ensures { OnOk result (text.new ≡ text.old ++ (codes "ok " ++ (decimal (length rows.now) ++ flat_map ref_row rows.now))) }
-{
-    let count = rows.len();
-    text.append(format!(in alloc; "ok {count}")?.as_bytes())?;
-    append_rows(text, rows)
-}
-
-fn append_rows(text: &mut Bytes, rows: &[(RefName, Csum)]) -> Result<(), NoMemory>
-    ensures { OnOk result (text.new ≡ text.old ++ flat_map ref_row rows.now) }
-{
-    for row in rows {
-        append_row(text, &row.0, &row.1)?;
-    }
-    Ok(())
-}
-
-fn append_row(text: &mut Bytes, name: &RefName, commit: &Csum) -> Result<(), NoMemory>
-    ensures { OnOk result (text.new ≡ text.old ++ ref_row (name.now, commit.now)) }
-{
-    text.append(b"\n ")?;
-    text.append(name.as_slice())?;
-    text.push(b' ')?;
-    text.append(&commit.to_hex())
-}
-
-fn append_sum(text: &mut Bytes, before: &[u8], commit: &Csum) -> Result<(), NoMemory>
+pub fn append_sum(text: &mut Bytes, before: &[u8], commit: &Csum) -> Result<(), NoMemory>
     ensures { OnOk result (text.new ≡ text.old ++ (before.now ++ hex_of commit.now)) }
 {
     text.append(before)?;
@@ -131,11 +110,18 @@ fn append_clash(text: &mut Bytes, name: &RefName) -> Result<(), NoMemory>
     append_both(text, b"refused RefClash ", name.as_slice())
 }
 
-fn append_bad_tree(text: &mut Bytes, path: &FsPath) -> Result<(), NoMemory>
-    ensures { OnOk result (text.new ≡ text.old ++ (codes "refused BadTree " ++ escaped (text_of path.now))) }
+pub fn append_path(text: &mut Bytes, before: &[u8], path: &FsPath) -> Result<(), NoMemory>
+    ensures { OnOk result (text.new ≡ text.old ++ (before.now ++ escaped (text_of path.now))) }
 {
     let path = path.text()?;
-    append_escaped(text, b"refused BadTree ", path.as_slice())
+    append_escaped(text, before, path.as_slice())
+}
+
+fn append_content(text: &mut Bytes, content: &Bytes) -> Result<(), NoMemory>
+    ensures { OnOk result (text.new ≡ text.old ++ (codes "ok " ++ field_text content.now)) }
+{
+    text.append(b"ok ")?;
+    append_bytes(text, content.as_slice())
 }
 
 fn append_too_many(alloc: Global, text: &mut Bytes, count: u64) -> Result<(), NoMemory>
@@ -148,13 +134,6 @@ fn append_halted(alloc: Global, text: &mut Bytes, count: u64) -> Result<(), NoMe
     ensures { OnOk result (text.new ≡ text.old ++ (codes "fault Halted " ++ decimal count)) }
 {
     text.append(format!(in alloc; "fault Halted {count}")?.as_bytes())
-}
-
-fn append_outside(text: &mut Bytes, path: &FsPath) -> Result<(), NoMemory>
-    ensures { OnOk result (text.new ≡ text.old ++ (codes "fault Outside " ++ escaped (text_of path.now))) }
-{
-    let path = path.text()?;
-    append_escaped(text, b"fault Outside ", path.as_slice())
 }
 
 fn append_both(text: &mut Bytes, before: &[u8], behind: &[u8]) -> Result<(), NoMemory>

@@ -1,15 +1,17 @@
 //! The fields of each command.
 ghost use Rattle.std.specs.Prelude.{◌≡◌, ℕ, List, IfOk, MatchOption, map};
-ghost use Rattle.script.specs.Words.{HasFields, IsCommitLine, IsCommitLineAt};
+ghost use Rattle.ost_types.specs.Path.{Path};
+ghost use Rattle.script.specs.Words.{AreRevPath, HasFields, IsCommitLine, IsCommitLineAt};
 ghost use Rattle.script.specs.declared.command.CommitLine.{CommitLine};
 ghost use Rattle.script.specs.declared.command.Rev.{Rev};
 ghost use Rattle.script.specs.declared.command.Command.TheVariants as command;
 ghost use Rattle.script.specs.declared.command.Written.TheVariants as written;
 
-use crate::command::{Command, CommitLine, Written};
+use crate::command::{Command, CommitLine, Rev, Written};
 use crate::number::{read_text, read_u32, read_u64};
+use crate::path::read_path;
 use crate::value::{read_branch, read_commit, read_rev};
-use ost_types::NoMemory;
+use ost_types::{FsPath, NoMemory};
 use std::alloc::Global;
 
 pub fn read_refs(fields: &[&[u8]]) -> Option<Written>
@@ -29,6 +31,51 @@ pub fn read_rev_parse(alloc: Global, fields: &[&[u8]]) -> Result<Option<Written>
     };
     match read_rev(alloc, rev)? {
         Some(rev) => Ok(Some(Written::Command(Command::RevParse { rev }))),
+        None => Ok(None),
+    }
+}
+
+pub fn read_log(alloc: Global, fields: &[&[u8]]) -> Result<Option<Written>, NoMemory>
+    ensures { IfOk result (λ o. MatchOption o ((rev : Rev) → ¬ (HasFields (command.Log rev) (map (λ f. f.now) fields.now))) (λ c. (rev : Rev) × (c ≡ written.Command (command.Log rev)) × HasFields (command.Log rev) (map (λ f. f.now) fields.now))) }
+{
+    let [rev] = fields else {
+        return Ok(None);
+    };
+    match read_rev(alloc, rev)? {
+        Some(rev) => Ok(Some(Written::Command(Command::Log { rev }))),
+        None => Ok(None),
+    }
+}
+
+pub fn read_ls(alloc: Global, fields: &[&[u8]]) -> Result<Option<Written>, NoMemory>
+    ensures { IfOk result (λ o. MatchOption o ((rev : Rev) (path : Path) → ¬ (HasFields (command.Ls rev path) (map (λ f. f.now) fields.now))) (λ c. (rev : Rev) × (path : Path) × (c ≡ written.Command (command.Ls rev path)) × HasFields (command.Ls rev path) (map (λ f. f.now) fields.now))) }
+{
+    match read_rev_path(alloc, fields)? {
+        Some((rev, path)) => Ok(Some(Written::Command(Command::Ls { rev, path }))),
+        None => Ok(None),
+    }
+}
+
+pub fn read_cat(alloc: Global, fields: &[&[u8]]) -> Result<Option<Written>, NoMemory>
+    ensures { IfOk result (λ o. MatchOption o ((rev : Rev) (path : Path) → ¬ (HasFields (command.Cat rev path) (map (λ f. f.now) fields.now))) (λ c. (rev : Rev) × (path : Path) × (c ≡ written.Command (command.Cat rev path)) × HasFields (command.Cat rev path) (map (λ f. f.now) fields.now))) }
+{
+    match read_rev_path(alloc, fields)? {
+        Some((rev, path)) => Ok(Some(Written::Command(Command::Cat { rev, path }))),
+        None => Ok(None),
+    }
+}
+
+fn read_rev_path(alloc: Global, fields: &[&[u8]]) -> Result<Option<(Rev, FsPath)>, NoMemory>
+    ensures { IfOk result (λ o. MatchOption o ((rev : Rev) (path : Path) → ¬ (AreRevPath (map (λ f. f.now) fields.now) rev path)) (λ p. AreRevPath (map (λ f. f.now) fields.now) p.0 p.1)) }
+{
+    let [rev, path] = fields else {
+        return Ok(None);
+    };
+    let Some(rev) = read_rev(alloc, rev)? else {
+        return Ok(None);
+    };
+    match read_path(alloc, path)? {
+        Some(path) => Ok(Some((rev, path))),
         None => Ok(None),
     }
 }

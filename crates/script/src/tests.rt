@@ -1,5 +1,7 @@
-use crate::{Answer, Command, Lane, Reply, Rev, ScriptFault, read_words, write_replies};
-use ost_types::{Csum, FsPath, NoMemory, Text};
+use crate::{
+    Answer, Command, Lane, LogRow, LsRow, Reply, Rev, ScriptFault, read_words, write_replies,
+};
+use ost_types::{Bytes, Csum, FsPath, NoMemory, Text};
 use repo_layout::RefName;
 use std::alloc::Global;
 use std::process::Abort;
@@ -57,6 +59,67 @@ fn resets(command: &Command, name: &[u8], digits: &[u8]) -> bool {
             branch.as_slice() == name && commit.to_hex().as_slice() == digits
         }
         _ => false,
+    }
+}
+
+// Whether the words ask for the log of this ref.
+fn logs(command: &Command, name: &[u8]) -> bool {
+    match command {
+        Command::Log {
+            rev: Rev::Ref(found),
+        } => found.as_slice() == name,
+        _ => false,
+    }
+}
+
+fn is_path(path: &FsPath, text: &[u8]) -> Result<bool, NoMemory> {
+    Ok(path.text()?.as_slice() == text)
+}
+
+fn lists(command: &Command, name: &[u8], text: &[u8]) -> Result<bool, NoMemory> {
+    match command {
+        Command::Ls {
+            rev: Rev::Ref(found),
+            path,
+        } => Ok(found.as_slice() == name && is_path(path, text)?),
+        _ => Ok(false),
+    }
+}
+
+fn shows(command: &Command, digits: &[u8], text: &[u8]) -> Result<bool, NoMemory> {
+    match command {
+        Command::Cat {
+            rev: Rev::Commit(found),
+            path,
+        } => Ok(found.to_hex().as_slice() == digits && is_path(path, text)?),
+        _ => Ok(false),
+    }
+}
+
+#[test]
+fn reads_looks_into_commits(rt: HostRuntime) -> Result<(), Fail> {
+    let alloc = rt.alloc();
+    let log = command(&rt, alloc, b"log a/%62");
+    assert!(&rt; logs(&log, b"a/b"));
+    let root = command(&rt, alloc, b"ls main /");
+    assert!(&rt; lists(&root, b"main", b"/")?);
+    let below = command(&rt, alloc, b"ls main /etc/a%20b");
+    assert!(&rt; lists(&below, b"main", b"/etc/a b")?);
+    let cat = command(
+        &rt,
+        alloc,
+        b"cat 1111111111111111111111111111111111111111111111111111111111111111 /%7e",
+    );
+    assert!(&rt; shows(&cat, ONES, b"/~")?);
+    Ok(())
+}
+
+#[test]
+fn refuses_looks_with_other_fields(rt: HostRuntime) {
+    let lines =
+        b"log|log a b|log ~|ls|ls main|ls /|ls main etc|ls main /etc/|ls main //etc|ls main /..|ls main ~|ls main /a /b|cat main|cat main /a%|cat .a /a|cat main /a%00|Log main|lst main /";
+    for line in lines.split(|byte| *byte == b'|') {
+        assert!(&rt; matches!(read(&rt, rt.alloc(), line), Err(ScriptFault::BadLine(1))));
     }
 }
 
@@ -148,6 +211,82 @@ fn prints_answers_that_are_done(rt: HostRuntime) -> Result<(), Fail> {
         Answer::Commit(ones),
         b"ok 1111111111111111111111111111111111111111111111111111111111111111\n",
     )?;
+    Ok(())
+}
+
+fn commit_row(
+    rt: &impl Abort,
+    alloc: Global,
+    time: u64,
+    subject: &[u8],
+) -> Result<LogRow, NoMemory> {
+    let commit = Csum::from_hex(ONES).expect(rt, "the digits of a sum");
+    let subject = Text::parse(alloc, subject)?.expect(rt, "a text");
+    Ok(LogRow {
+        commit,
+        time,
+        subject,
+    })
+}
+
+#[test]
+fn prints_a_log(rt: HostRuntime) -> Result<(), Fail> {
+    let alloc = rt.alloc();
+    let mut rows = Vec::new(alloc);
+    rows.push(commit_row(&rt, alloc, 18446744073709551615, b"a second %")?)?;
+    rows.push(commit_row(&rt, alloc, 0, b"")?)?;
+    rows.push(commit_row(&rt, alloc, 7, b"~")?)?;
+    check(
+        &rt,
+        alloc,
+        Answer::Log(rows),
+        b"ok 3\n 1111111111111111111111111111111111111111111111111111111111111111 18446744073709551615 a%20second%20%25\n 1111111111111111111111111111111111111111111111111111111111111111 0 ~\n 1111111111111111111111111111111111111111111111111111111111111111 7 %7e\n",
+    )?;
+    check(&rt, alloc, Answer::Log(Vec::new(alloc)), b"ok 0\n")?;
+    Ok(())
+}
+
+#[test]
+fn prints_a_listing(rt: HostRuntime) -> Result<(), Fail> {
+    let alloc = rt.alloc();
+    let mut rows = Vec::new(alloc);
+    rows.push(LsRow::Folder {
+        uid: 0,
+        gid: 4294967295,
+        mode: 0o1755,
+        path: FsPath::parse(alloc, b"/")?,
+    })?;
+    rows.push(LsRow::Leaf {
+        file: Csum::from_hex(ONES).expect(&rt, "the digits of a sum"),
+        path: FsPath::parse(alloc, b"/a b")?,
+    })?;
+    rows.push(LsRow::Folder {
+        uid: 1,
+        gid: 0,
+        mode: 0,
+        path: FsPath::parse(alloc, b"/~")?,
+    })?;
+    check(
+        &rt,
+        alloc,
+        Answer::Ls(rows),
+        b"ok 3\n folder 0 4294967295 1755 /\n leaf 1111111111111111111111111111111111111111111111111111111111111111 /a%20b\n folder 1 0 0 /~\n",
+    )?;
+    Ok(())
+}
+
+#[test]
+fn prints_contents(rt: HostRuntime) -> Result<(), Fail> {
+    let alloc = rt.alloc();
+    let some = Bytes::from_slice(alloc, b"a\x00\n\xff~")?;
+    check(&rt, alloc, Answer::Content(some), b"ok a%00%0a%ff~\n")?;
+    let tilde = Bytes::from_slice(alloc, b"~")?;
+    check(&rt, alloc, Answer::Content(tilde), b"ok %7e\n")?;
+    check(&rt, alloc, Answer::Content(Bytes::new(alloc)), b"ok ~\n")?;
+    let none = FsPath::parse(alloc, b"/a b")?;
+    check(&rt, alloc, Answer::NoPath(none), b"refused NoPath /a%20b\n")?;
+    let root = FsPath::parse(alloc, b"/")?;
+    check(&rt, alloc, Answer::NotFile(root), b"refused NotFile /\n")?;
     Ok(())
 }
 

@@ -4,7 +4,10 @@ ghost use Rattle.script.specs.Words.{AreNoCommand, IsWritten, ReadsWords, spelle
 
 use crate::command::{Command, Lane, Written};
 use crate::fault::ScriptFault;
-use crate::read::{read_commit_words, read_drop, read_refs, read_reset, read_rev_parse};
+use crate::read::{
+    read_cat, read_commit_words, read_drop, read_log, read_ls, read_refs, read_reset,
+    read_rev_parse,
+};
 use ost_types::{NoMemory, Text};
 use std::alloc::Global;
 
@@ -51,6 +54,9 @@ pub fn read_written(alloc: Global, words: &[&[u8]]) -> Result<Option<Written>, N
     match keyword_of(keyword) {
         Some(Keyword::Refs) => Ok(read_refs(fields)),
         Some(Keyword::RevParse) => read_rev_parse(alloc, fields),
+        Some(Keyword::Log) => read_log(alloc, fields),
+        Some(Keyword::Ls) => read_ls(alloc, fields),
+        Some(Keyword::Cat) => read_cat(alloc, fields),
         Some(Keyword::Reset) => read_reset(alloc, fields),
         Some(Keyword::DropRef) => read_drop(alloc, fields),
         Some(Keyword::Commit) => read_commit_words(alloc, fields),
@@ -63,6 +69,9 @@ pub fn read_written(alloc: Global, words: &[&[u8]]) -> Result<Option<Written>, N
 enum Keyword {
     Refs,
     RevParse,
+    Log,
+    Ls,
+    Cat,
     Reset,
     DropRef,
     Commit,
@@ -74,6 +83,9 @@ fn keyword_of(word: &[u8]) -> Option<Keyword>
     match word {
         b"refs" => Some(Keyword::Refs),
         b"rev-parse" => Some(Keyword::RevParse),
+        b"log" => Some(Keyword::Log),
+        b"ls" => Some(Keyword::Ls),
+        b"cat" => Some(Keyword::Cat),
         b"reset" => Some(Keyword::Reset),
         b"drop" => Some(Keyword::DropRef),
         b"commit" => Some(Keyword::Commit),

@@ -8,9 +8,9 @@ use Rattle.ost_types.specs.Csum.{hex_of}
 use Rattle.ost_types.proofs.HexSums.{hex_of-injective}
 use Rattle.ost_forms.specs.declared.tree_item.BodySpec.{BodySpec}
 use Rattle.ost_forms.specs.declared.tree_item.BodySpec.TheVariants.{Given, Fill, Target}
-use Rattle.script.specs.Field.{IsField, Spells, Stands}
+use Rattle.script.specs.Field.{Gives, IsField, IsFieldOf, Spells, Stands}
 use Rattle.script.proofs.Spelling.{one, two_digits}
-use Rattle.script_reader.specs.Values.{Gives, IsFieldOf, IsFillText, IsFillBody, IsContent}
+use Rattle.script_reader.specs.Values.{IsFillText, IsFillBody, IsContent}
 
 pub GivenBy : List ℕ → BodySpec → Type 0
 GivenBy text body = (bytes : List ℕ) × (body ≡ Given bytes) × Spells text bytes

@@ -4,8 +4,7 @@ use Rattle.std.proofs.lemmas.Bool.{and_parts, eqb-true}
 use Rattle.std.proofs.lemmas.List.Elements.{All-nil, All-cons, All-head, All-tail, All-append, All-weaker}
 use Rattle.hex.specs.Hex.{IsBytes, encode_with, lower_digits}
 use Rattle.ost_types.specs.Csum.{hex_of, IsHexDigit}
-use Rattle.script.specs.Field.{IsField, Spells, Stands, escaped, escaped_byte, is_plain}
-use Rattle.script_reader.specs.Writing.{field_text}
+use Rattle.script.specs.Field.{escaped, escaped_byte, field_text, is_plain, IsField, Spells, Stands}
 
 -- from `!` to `~`
 abbrev pub IsVisible : ℕ → Type 0

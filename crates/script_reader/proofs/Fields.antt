@@ -3,16 +3,10 @@ use Rattle.std.proofs.Common.{◌≡◌, ◌≢◌, ◌≤◌, ◌-◌, inl, inr
 use Rattle.ost_types.specs.Path.{same_name}
 use Rattle.ost_forms.specs.declared.tree_item.TreeItem.{TreeItem}
 use Rattle.script.proofs.Slices.{first_of}
-use Rattle.script_reader.specs.Values.{Gives}
+use Rattle.script.specs.Field.{Gives}
 use Rattle.script_reader.specs.Nodes.{fields_of, node_word, IsFolder, IsFile, IsLink, IsNode}
 use Rattle.script_reader.specs.declared.node.NodeKind.{NodeKind}
 use Rattle.script_reader.specs.declared.node.NodeKind.TheVariants.{Folder, File, Link}
-
-pub two_of : {V : Type 0} (now : V → List ℕ) (fs : List V) (a b : V) → length fs ≡ 2 → map now fs ≡ now (get_or fs 0 a) ∷ now (get_or fs 1 b) ∷ []
-two_of now [] a b e = absurd (omega (arith, e))
-two_of now (v ∷ []) a b e = absurd (omega (arith, e))
-two_of now (v ∷ w ∷ []) a b e = refl
-two_of now (v ∷ w ∷ x ∷ fs) a b e = absurd (omega (arith, e))
 
 pub six_of : {V : Type 0} (now : V → List ℕ) (fs : List V) (a b c d e f : V) → length fs ≡ 6
     → map now fs ≡ now (get_or fs 0 a) ∷ now (get_or fs 1 b) ∷ now (get_or fs 2 c) ∷ now (get_or fs 3 d) ∷ now (get_or fs 4 e) ∷ now (get_or fs 5 f) ∷ []

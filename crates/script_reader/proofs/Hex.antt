@@ -8,7 +8,8 @@ use Rattle.hex.proofs.HexLemmas.{decode_of-encode_lower}
 use Rattle.ost_types.specs.Csum.{hex_of}
 use Rattle.ost_types.proofs.HexSums.{hex_of-injective}
 use Rattle.ost_types.specs.declared.meta.Xattr.{Xattr}
-use Rattle.script_reader.specs.Values.{Gives, pieces, IsPair, ArePairs, HasXattrs}
+use Rattle.script.specs.Field.{Gives}
+use Rattle.script_reader.specs.Values.{pieces, IsPair, ArePairs, HasXattrs}
 
 -- bytes that decode from the digits, and are written so or not
 pub hex_read : (digits bytes : List ℕ) (o : Option (List ℕ)) → decode_of digits ≡ Ok bytes

@@ -19,10 +19,10 @@ use Rattle.ost_types.specs.declared.meta.Xattr.{Xattr}
 use Rattle.ost_forms.specs.declared.tree_item.TreeItem.{TreeItem}
 use Rattle.ost_forms.specs.declared.tree_item.BodySpec.{BodySpec}
 use Rattle.ost_forms.specs.declared.tree_item.BodySpec.TheVariants.{Given, Fill, Target}
-use Rattle.script.specs.Field.{IsNumber, IsTextField, escaped}
+use Rattle.script.specs.Field.{escaped, field_text, IsNumber, IsPathField, IsPathText, IsTextField}
 use Rattle.script_reader.specs.Nodes.{IsMeta, IsLinkMeta, IsNode}
-use Rattle.script_reader.specs.Values.{IsContent, IsOctal, IsMode, IsPair, ArePairs, HasXattrs, IsXattrs, IsPathText, IsPathField}
-use Rattle.script_reader.specs.Writing.{field_text, number_text, line_text, pair_text, xattrs_text, octal_text, mode_text, fill_text, file_words, node_words, node_line, HasType, FitsNode, IsPlainXattr, IsWritableNode}
+use Rattle.script_reader.specs.Values.{IsContent, IsOctal, IsMode, IsPair, ArePairs, HasXattrs, IsXattrs}
+use Rattle.script_reader.specs.Writing.{number_text, line_text, pair_text, xattrs_text, octal_text, mode_text, fill_text, file_words, node_words, node_line, HasType, FitsNode, IsPlainXattr, IsWritableNode}
 use Rattle.script_reader.proofs.FieldTexts.{IsVisible, bytes_from, one_byte, visible_bytes, visible_all, digit_visible, hex_digits, hex_visible, escaped_spells, escaped_visible, field_spelled, field_visible}
 use Rattle.script_reader.proofs.Joins.{Lacks, cut_joined, joined_all}
 use Rattle.script_reader.proofs.Lines.{cut_words, one_line}
@@ -95,8 +95,11 @@ number_back bound n low less = record { spelled = field_spelled (decimal n) (dec
 pub text_back : (text : List ℕ) → IsText text → IsTextField (field_text text) text
 text_back text is = record { spelled = field_spelled text (text_bytes text is); text = is }
 
-path_back : (path : Path) → IsPathText (text_of path) path → IsPathField (field_text (text_of path)) path
+pub path_back : (path : Path) → IsPathText (text_of path) path → IsPathField (field_text (text_of path)) path
 path_back path is = record { text = text_of path; spelled = field_spelled (text_of path) (path_bytes path is); written = is }
+
+pub path_visible : (path : Path) → IsPathText (text_of path) path → All IsVisible (field_text (text_of path))
+path_visible path is = field_visible (text_of path) (path_bytes path is)
 
 pub number_visible : (n : ℕ) → n < 2 ^ 64 → All IsVisible (number_text n)
 number_visible n less = field_visible (decimal n) (decimal_bytes n less)
@@ -270,9 +273,6 @@ module _ (item : TreeItem) (is : IsWritableNode item) where
     xattrs = xattrs_back item.meta.xattrs is.xattrs;
   }
 
-  path_visible : All IsVisible (field_text (text_of item.path))
-  path_visible = field_visible (text_of item.path) (path_bytes item.path is.path)
-
   owner_visible : All IsVisible (number_text item.meta.uid)
   owner_visible = number_visible item.meta.uid (omega (arith, is.owner))
 
@@ -285,7 +285,7 @@ module _ (item : TreeItem) (is : IsWritableNode item) where
   file_visible : (content : List ℕ) → HasType 32768 item.meta.mode → All IsVisible content → All (All IsVisible) (file_words item content)
   file_visible content has seen =
       All-from_recursion (All IsVisible) (file_words item content)
-      (visible_all (codes "file") refl, (path_visible, (owner_visible, (group_visible, (mode_visible 32768 item.meta.mode has, (xattrs_visible, (seen, tt)))))))
+      (visible_all (codes "file") refl, (path_visible item.path is.path, (owner_visible, (group_visible, (mode_visible 32768 item.meta.mode has, (xattrs_visible, (seen, tt)))))))
 
   given_visible : (bytes : List ℕ) → IsBytes bytes → All IsVisible (61 ∷ escaped bytes)
   given_visible bytes are = All-cons IsVisible 61 (escaped bytes) (omega arith, omega arith) (escaped_visible bytes are)
@@ -296,12 +296,12 @@ module _ (item : TreeItem) (is : IsWritableNode item) where
   words_visible : (body : Option BodySpec) → FitsNode item.meta.mode body → All (All IsVisible) (node_words item body)
   words_visible None fits =
       All-from_recursion (All IsVisible) (node_words item None)
-      (visible_all (codes "folder") refl, (path_visible, (owner_visible, (group_visible, (mode_visible 16384 item.meta.mode fits, (xattrs_visible, tt))))))
+      (visible_all (codes "folder") refl, (path_visible item.path is.path, (owner_visible, (group_visible, (mode_visible 16384 item.meta.mode fits, (xattrs_visible, tt))))))
   words_visible (Some (Given bytes)) fits = file_visible (61 ∷ escaped bytes) fits.0 (given_visible bytes fits.1)
   words_visible (Some (Fill len byte)) fits = file_visible (fill_text len byte) fits.0 (fill_visible len byte fits.1 fits.2)
   words_visible (Some (Target target)) fits =
       All-from_recursion (All IsVisible) (node_words item (Some (Target target)))
-      (visible_all (codes "link") refl, (path_visible, (owner_visible, (group_visible, (xattrs_visible, (field_visible target (text_bytes target fits.1), tt))))))
+      (visible_all (codes "link") refl, (path_visible item.path is.path, (owner_visible, (group_visible, (xattrs_visible, (field_visible target (text_bytes target fits.1), tt))))))
 
   file_at : (content : List ℕ) (body : BodySpec) → item.body ≡ Some body → HasType 32768 item.meta.mode → All IsVisible content → IsContent content body → IsNode (line_text (file_words item content)) item
   file_at content body holds has seen written =

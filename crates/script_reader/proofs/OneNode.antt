@@ -2,13 +2,12 @@
 use Rattle.std.proofs.Common.{◌≡◌, ◌≤◌, ◌^◌, ◌+◌, inl, inr, ℕ, true, false, List, [], ◌∷◌, codes, Some, refl, sym, ◌∙◌, ap, subst, arith, rules}
 use Rattle.std.proofs.lemmas.Fmt.{decimal_injective}
 use Rattle.std.specs.Fmt.{decimal}
-use Rattle.ost_types.specs.Path.{Path, same_name}
+use Rattle.ost_types.specs.Path.{same_name}
 use Rattle.ost_types.specs.declared.meta.Meta.{Meta}
 use Rattle.ost_types.specs.declared.meta.Xattr.{Xattr}
 use Rattle.ost_forms.specs.declared.tree_item.TreeItem.{TreeItem}
 use Rattle.ost_forms.specs.declared.tree_item.BodySpec.{BodySpec}
 use Rattle.ost_forms.specs.declared.tree_item.BodySpec.TheVariants.{Given, Fill, Target}
-use Rattle.repo_layout.proofs.KnownPaths.{parsed_same}
 use Rattle.script.specs.Field.{IsNumber, Spells}
 use Rattle.script.specs.Words.{IsCommitLineAt, IsCommitLine, IsWritten}
 use Rattle.script.specs.declared.command.CommitLine.{CommitLine}
@@ -17,9 +16,11 @@ use Rattle.script.specs.declared.command.Written.TheVariants as written
 use Rattle.script.proofs.Alone.{end_no_written}
 use Rattle.script.proofs.Slices.{At5}
 use Rattle.script.proofs.Spelling.{field_one, spelled_one}
-use Rattle.script_reader.specs.Values.{IsPathText, IsPathField, IsOctal, HasXattrs, IsXattrs, IsFillBody, IsContent}
+use Rattle.script.proofs.FieldValues.{field_of_one}
+use Rattle.script.proofs.OneCommand.{path_one}
+use Rattle.script_reader.specs.Values.{IsOctal, HasXattrs, IsXattrs, IsFillBody, IsContent}
 use Rattle.script_reader.specs.Nodes.{fields_of, IsMeta, IsLinkMeta, IsFolderAt, IsFileAt, IsLinkAt, IsFolder, IsFile, IsLink, IsNode}
-use Rattle.script_reader.proofs.Values.{field_of_one, octal_one}
+use Rattle.script_reader.proofs.Values.{octal_one}
 use Rattle.script_reader.proofs.Contents.{fill_one, filled_first}
 use Rattle.script_reader.proofs.Hex.{xattrs_one}
 use Rattle.script_reader.proofs.Fields.{At6, other_head, same_tail, folder_file, folder_link, file_link}
@@ -35,9 +36,6 @@ meta_same a b p q r s = search (rules, p, q, r, s)
 
 item_same : (a b : TreeItem) → a.path ≡ b.path → a.meta ≡ b.meta → a.body ≡ b.body → a ≡ b
 item_same a b p q r = search (rules, p, q, r)
-
-path_one : (field : List ℕ) (p q : Path) → IsPathField field p → IsPathField field q → p ≡ q
-path_one field = field_of_one IsPathText field parsed_same
 
 xattrs_field_one : (field : List ℕ) (p q : List Xattr) → IsXattrs field p → IsXattrs field q → p ≡ q
 xattrs_field_one field = field_of_one HasXattrs field xattrs_one

@@ -96,6 +96,9 @@ known_tree trees words (written.Commit k) (written.Commit l) (command.Commit bra
     let n : None ≡ Some tree.items = sym none ∙ r.1 in cc
 known_tree trees words (written.Commit k) (written.Commit l) command.Refs n s r t un = r
 known_tree trees words (written.Commit k) (written.Commit l) (command.RevParse rev) n s r t un = r
+known_tree trees words (written.Commit k) (written.Commit l) (command.Log rev) n s r t un = r
+known_tree trees words (written.Commit k) (written.Commit l) (command.Ls rev path) n s r t un = r
+known_tree trees words (written.Commit k) (written.Commit l) (command.Cat rev path) n s r t un = r
 known_tree trees words (written.Commit k) (written.Commit l) (command.Reset branch sum) n s r t un = r
 known_tree trees words (written.Commit k) (written.Commit l) (command.DropRef branch) n s r t un = r
 

@@ -10,7 +10,7 @@ use Rattle.script.specs.declared.fault.ScriptFault.TheVariants.{BadLine, TooLong
 use Rattle.script_reader.specs.Script.{Tree, Commands, State, start, between, in_tree, in_lane, Leads, Says, lines_of, script_limit, IsScript, Refuses, EndsBadly, FirstFault, IsFault, OpensTree, Ascends, IsNextNode}
 use Rattle.script_reader.specs.Drafts.{StartsLine}
 use Rattle.script_reader.specs.Nodes.{fields_of, IsNode}
-use Rattle.script_reader.proofs.Fields.{two_of}
+use Rattle.script.proofs.Slices.{two_of}
 use Rattle.script_reader.proofs.OneNode.{node_one}
 
 pub says_more : (s : State) (before : List (List ℕ)) (t u : State) (line : List ℕ) → Says s before t → Leads t line u → Says s (before ++ line ∷ []) u

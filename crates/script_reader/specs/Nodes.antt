@@ -4,10 +4,10 @@ use Rattle.ost_types.specs.declared.meta.Meta.{Meta}
 use Rattle.ost_forms.specs.declared.tree_item.TreeItem.{TreeItem}
 use Rattle.ost_forms.specs.declared.tree_item.BodySpec.{BodySpec}
 use Rattle.ost_forms.specs.declared.tree_item.BodySpec.TheVariants.{Target}
-use Rattle.script.specs.Field.{IsNumber}
+use Rattle.script.specs.Field.{IsNumber, IsPathField}
 use Rattle.script_reader.specs.declared.node.NodeKind.{NodeKind}
 use Rattle.script_reader.specs.declared.node.NodeKind.TheVariants.{Folder, File, Link}
-use Rattle.script_reader.specs.Values.{pieces, IsPathField, IsMode, IsXattrs, IsContent, IsTarget}
+use Rattle.script_reader.specs.Values.{pieces, IsMode, IsXattrs, IsContent, IsTarget}
 
 -- the fields of a line, with one space (32) between them
 abbrev pub fields_of : List ℕ → List (List ℕ)

@@ -1,37 +1,18 @@
 -- What the fields of a node stand for.
-use Rattle.std.specs.Prelude.{◌≡◌, ◌≢◌, ◌<◌, ◌≤◌, ◌==◌, ◌⊎◌, ℕ, List, [], ◌∷◌, ◌++◌, length, slice_index, Option, MatchOption, Ok}
+use Rattle.std.specs.Prelude.{◌≡◌, ◌≢◌, ◌<◌, ◌≤◌, ◌==◌, ◌⊎◌, ℕ, List, [], ◌∷◌, ◌++◌, length, slice_index}
 use Rattle.std.specs.List.{slice_split}
 use Rattle.std.specs.Fmt.{decimal}
 use Rattle.std.specs.Str.Parse.{AllDigits, digits_value}
 use Rattle.hex.specs.Hex.{IsBytes}
 use Rattle.ost_types.specs.Csum.{hex_of}
-use Rattle.ost_types.specs.Path.{Path}
-use Rattle.ost_types.specs.Parse.{IsParsed}
 use Rattle.ost_types.specs.declared.meta.Xattr.{Xattr}
 use Rattle.ost_forms.specs.declared.tree_item.BodySpec.{BodySpec}
 use Rattle.ost_forms.specs.declared.tree_item.BodySpec.TheVariants.{Given, Fill, Target}
-use Rattle.script.specs.Field.{IsField, Spells, IsTextField}
-
--- the value, where there is one, and None only where there is none
-abbrev pub Gives : {X : Type 0} → (X → Type 0) → Option X → Type 0
-Gives P o = MatchOption o ((x : _) → ¬ (P x)) P
+use Rattle.script.specs.Field.{IsFieldOf, IsTextField, Spells}
 
 -- what stands between the bytes at which a text is cut
 abbrev pub pieces : ℕ → List ℕ → List (List ℕ)
 pieces byte text = slice_split (λ b. b == byte) text
-
--- the field of a text that is written so for the value
-pub record IsFieldOf {X : Type 0} (IsWritten : List ℕ → X → Type 0) (field : List ℕ) (x : X) : Type 0 where
-  pub text : List ℕ
-  pub spelled : IsField field text
-  pub written : IsWritten text x
-
-abbrev pub IsPathText : List ℕ → Path → Type 0
-IsPathText text path = IsParsed text (Ok path)
-
--- the field of a path
-abbrev pub IsPathField : List ℕ → Path → Type 0
-IsPathField = IsFieldOf IsPathText
 
 -- 1 to 4 octal digits of this value, and no `0` (48) in front of others
 pub record IsOctal (digits : List ℕ) (bits : ℕ) : Type 0 where

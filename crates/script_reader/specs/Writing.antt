@@ -1,11 +1,11 @@
 -- How trees and lanes are written as a script, each thing in one spelling.
-use Rattle.std.specs.Prelude.{◌≡◌, ◌≢◌, ◌+◌, ◌-◌, ◌/◌, ◌%◌, ◌^◌, ◌<◌, ◌≤◌, ◌==◌, nat_lt, if◌then◌else◌, ℕ, List, [], ◌∷◌, ◌++◌, All, length, map, codes, Option, Some, None}
+use Rattle.std.specs.Prelude.{◌≡◌, ◌≢◌, ◌+◌, ◌-◌, ◌/◌, ◌%◌, ◌^◌, ◌<◌, ◌≤◌, nat_lt, if◌then◌else◌, ℕ, List, [], ◌∷◌, ◌++◌, All, length, map, codes, Option, Some, None}
 use Rattle.std.specs.List.{flat_map, join_with_byte}
 use Rattle.std.specs.Fmt.{decimal}
 use Rattle.std.specs.declared.cmp.Ordering.TheVariants.{Less}
 use Rattle.hex.specs.Hex.{IsBytes}
 use Rattle.ost_types.specs.Csum.{hex_of}
-use Rattle.ost_types.specs.Path.{path_cmp, text_of}
+use Rattle.ost_types.specs.Path.{Path, path_cmp, text_of}
 use Rattle.ost_types.specs.Text.{IsText}
 use Rattle.ost_types.specs.declared.meta.Xattr.{Xattr}
 use Rattle.ost_forms.specs.declared.tree_item.TreeItem.{TreeItem}
@@ -13,24 +13,18 @@ use Rattle.ost_forms.specs.declared.tree_item.BodySpec.{BodySpec}
 use Rattle.ost_forms.specs.declared.tree_item.BodySpec.TheVariants.{Given, Fill, Target}
 use Rattle.repo_layout.specs.RefName.{IsRefName}
 use Rattle.repo_layout.specs.RefFile.{IsSum}
-use Rattle.script.specs.Field.{escaped}
+use Rattle.script.specs.Field.{escaped, field_text, IsPathText}
 use Rattle.script.specs.Words.{Resolves, keyword_of, spelled}
 use Rattle.script.specs.declared.command.Rev.{Rev}
 use Rattle.script.specs.declared.command.Rev.TheVariants.{Ref, Commit}
 use Rattle.script.specs.declared.command.Command.{Command}
-use Rattle.script.specs.declared.command.Command.TheVariants.{Refs, RevParse, Reset, DropRef, Commit as CommitTree}
+use Rattle.script.specs.declared.command.Command.TheVariants.{Refs, RevParse, Log, Ls, Cat, Reset, DropRef, Commit as CommitTree}
 use Rattle.script.specs.declared.command.Written.{Written}
 use Rattle.script.specs.declared.command.Written.TheVariants as written
 use Rattle.script_reader.specs.declared.node.NodeKind.TheVariants.{Folder, File, Link}
 use Rattle.script_reader.specs.Nodes.{file_bits, folder_bits, link_mode, node_word}
 use Rattle.script_reader.specs.Script.{Tree, Commands, command_limit, header, lane_limit, script_limit}
-use Rattle.script_reader.specs.Values.{IsPathText, fill_limit}
-
--- a value as a field: `~` (126) stands for no bytes, so the one byte `~` is written by its digits
-abbrev pub field_text : List ℕ → List ℕ
-field_text [] = codes "~"
-field_text (b ∷ []) = if b == 126 then codes "%7e" else escaped (b ∷ [])
-field_text (b ∷ c ∷ value) = escaped (b ∷ c ∷ value)
+use Rattle.script_reader.specs.Values.{fill_limit}
 
 abbrev pub number_text : ℕ → List ℕ
 number_text n = field_text (decimal n)
@@ -87,10 +81,16 @@ abbrev pub rev_text : Rev → List ℕ
 rev_text (Ref name) = field_text name
 rev_text (Commit sum) = field_text (hex_of sum)
 
+abbrev pub rev_path_fields : Rev → Path → List (List ℕ)
+rev_path_fields rev path = rev_text rev ∷ field_text (text_of path) ∷ []
+
 -- A commit is written with its tree's number, and not as a command that stands for itself.
 abbrev pub command_fields : Command → List (List ℕ)
 command_fields Refs = []
 command_fields (RevParse rev) = rev_text rev ∷ []
+command_fields (Log rev) = rev_text rev ∷ []
+command_fields (Ls rev path) = rev_path_fields rev path
+command_fields (Cat rev path) = rev_path_fields rev path
 command_fields (Reset branch commit) = field_text branch ∷ field_text (hex_of commit) ∷ []
 command_fields (DropRef branch) = field_text branch ∷ []
 command_fields (CommitTree branch tree subject body time) = []
@@ -168,6 +168,9 @@ IsWritableRev (Commit sum) = IsSum sum
 abbrev pub IsWritable : Written → Type 0
 IsWritable (written.Command Refs) = Unit {0}
 IsWritable (written.Command (RevParse rev)) = IsWritableRev rev
+IsWritable (written.Command (Log rev)) = IsWritableRev rev
+IsWritable (written.Command (Ls rev path)) = IsWritableRev rev × IsPathText (text_of path) path
+IsWritable (written.Command (Cat rev path)) = IsWritableRev rev × IsPathText (text_of path) path
 IsWritable (written.Command (Reset branch commit)) = IsRefName branch × IsSum commit
 IsWritable (written.Command (DropRef branch)) = IsRefName branch
 IsWritable (written.Command (CommitTree branch tree subject body time)) = ⊥

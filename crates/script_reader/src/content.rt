@@ -1,8 +1,8 @@
 ghost use Rattle.std.specs.Prelude.{◌≡◌, ◌≢◌, ◌<◌, ◌∷◌, ◌++◌, [], ℕ, List, IfOk, IfSome, IsNone, MatchOption, length};
 ghost use Rattle.ost_types.specs.Csum.{hex_of};
 ghost use Rattle.ost_forms.specs.declared.tree_item.BodySpec.TheVariants.{Given};
-ghost use Rattle.script.specs.Field.{Spells};
-ghost use Rattle.script_reader.specs.Values.{Gives, IsContent, IsFieldOf, IsFillBody};
+ghost use Rattle.script.specs.Field.{Gives, IsFieldOf, Spells};
+ghost use Rattle.script_reader.specs.Values.{IsContent, IsFillBody};
 
 use ost_forms::BodySpec;
 use ost_types::NoMemory;

@@ -10,7 +10,6 @@ mod meta;
 mod mode;
 mod node;
 mod nodes;
-mod path;
 mod read;
 mod step;
 mod target;
@@ -20,8 +19,8 @@ pub use commands::COMMAND_LIMIT;
 pub use laws::readings;
 pub use read::{SCRIPT_LIMIT, read_script};
 pub use script::{
-    Answer, Command, CommitLine, Lane, Reply, Rev, ScriptFault, Written, append_field, read_words,
-    write_replies,
+    Answer, Command, CommitLine, Lane, LogRow, LsRow, Reply, Rev, ScriptFault, Written,
+    append_bytes, append_field, read_words, write_replies,
 };
 pub use step::LANE_LIMIT;
 

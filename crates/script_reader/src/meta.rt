@@ -1,6 +1,6 @@
 ghost use Rattle.std.specs.Prelude.{◌≤◌, IfOk};
+ghost use Rattle.script.specs.Field.{Gives};
 ghost use Rattle.script_reader.specs.Nodes.{IsLinkMeta, IsMeta};
-ghost use Rattle.script_reader.specs.Values.{Gives};
 
 use crate::mode::read_mode;
 use crate::xattrs::read_xattrs;

@@ -1,5 +1,6 @@
 ghost use Rattle.std.specs.Prelude.{◌≡◌, ◌≢◌, ◌<◌, ◌≤◌, true, false, IfOk, IfSome, length, slice_index};
-ghost use Rattle.script_reader.specs.Values.{Gives, IsMode, IsOctal};
+ghost use Rattle.script.specs.Field.{Gives};
+ghost use Rattle.script_reader.specs.Values.{IsMode, IsOctal};
 
 use ost_types::NoMemory;
 use script::read_field;

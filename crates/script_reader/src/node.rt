@@ -1,15 +1,15 @@
 //! The lines of a tree.
 ghost use Rattle.std.specs.Prelude.{◌≡◌, ◌≢◌, map, IfOk, MatchOption};
+ghost use Rattle.script.specs.Field.{Gives};
 ghost use Rattle.script_reader.specs.Nodes.{IsFile, IsFileAt, IsFolder, IsFolderAt, IsLink, IsLinkAt, IsNode, node_word};
-ghost use Rattle.script_reader.specs.Values.{Gives};
 
 use crate::content::read_content;
 use crate::cut::cut;
 use crate::meta::{read_link_meta, read_meta};
-use crate::path::read_path;
 use crate::target::read_target;
 use ost_forms::{BodySpec, TreeItem};
 use ost_types::NoMemory;
+use script::read_path;
 use std::alloc::Global;
 
 /// The node that a line of a tree has.

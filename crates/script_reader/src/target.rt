@@ -1,5 +1,6 @@
 ghost use Rattle.std.specs.Prelude.{IfOk};
-ghost use Rattle.script_reader.specs.Values.{Gives, IsTarget};
+ghost use Rattle.script.specs.Field.{Gives};
+ghost use Rattle.script_reader.specs.Values.{IsTarget};
 
 use ost_types::{NoMemory, Text};
 use script::read_text;

@@ -135,6 +135,36 @@ fn tells_what_is_too_long(rt: HostRuntime) -> Result<(), Fail> {
     Ok(())
 }
 
+// One lane with this line.
+fn lane_of(alloc: Global, line: &[u8]) -> Result<Vec<u8>, NoMemory> {
+    let mut text = script(alloc, b"lane\n", 1)?;
+    text.extend_from_slice(line)?;
+    text.extend_from_slice(b"\nend\n")?;
+    Ok(text)
+}
+
+#[test]
+fn reads_looks_into_commits(rt: HostRuntime) -> Result<(), Fail> {
+    let alloc = rt.alloc();
+    let lines =
+        b"log main|log 1111111111111111111111111111111111111111111111111111111111111111|ls main /|ls main /a%20b|cat a/b /a/b|cat main %2fa";
+    for line in lines.split(|byte| *byte == b'|') {
+        assert!(&rt; fault_of(alloc, &lane_of(alloc, line)?) == None);
+    }
+    Ok(())
+}
+
+#[test]
+fn refuses_looks_with_other_fields(rt: HostRuntime) -> Result<(), Fail> {
+    let alloc = rt.alloc();
+    let lines =
+        b"log|log main /|log ~|ls|ls main|ls / main|ls main ~|ls main a|ls main /a/|ls main /a  |cat main|cat main /a /b|cat main /%00|cat main /.|cat .a /a";
+    for line in lines.split(|byte| *byte == b'|') {
+        assert!(&rt; fault_of(alloc, &lane_of(alloc, line)?) == Some(ScriptFault::BadLine(3)));
+    }
+    Ok(())
+}
+
 fn tree_of(alloc: Global, line: &[u8]) -> Result<Vec<u8>, NoMemory> {
     let mut text = script(alloc, b"tree 0\n", 1)?;
     text.extend_from_slice(line)?;

@@ -2,7 +2,8 @@ ghost use Rattle.std.specs.Prelude.{◌≡◌, ◌≢◌, None, true, false, IfO
 ghost use Rattle.hex.specs.Hex.{IsBytes};
 ghost use Rattle.hex.specs.declared.error.FromHexError.TheVariants as kind;
 ghost use Rattle.ost_types.specs.Csum.{hex_of};
-ghost use Rattle.script_reader.specs.Values.{ArePairs, Gives, HasXattrs, IsPair, IsXattrs, pieces};
+ghost use Rattle.script.specs.Field.{Gives};
+ghost use Rattle.script_reader.specs.Values.{ArePairs, HasXattrs, IsPair, IsXattrs, pieces};
 
 use crate::cut::cut;
 use hex::FromHexError;

@@ -9,8 +9,8 @@ use Rattle.hex.proofs.HexLemmas.{length-encode_with}
 use Rattle.ost_types.specs.Csum.{hex_of}
 use Rattle.ost_types.specs.Path.{Path, joined, text_of}
 use Rattle.ost_types.specs.declared.meta.Xattr.{Xattr}
-use Rattle.script.specs.Field.{IsField, Spells, Stands}
-use Rattle.script_reader.specs.Values.{pieces, ArePairs, HasXattrs, IsPair, IsPathField, IsXattrs}
+use Rattle.script.specs.Field.{IsField, IsPathField, Spells, Stands}
+use Rattle.script_reader.specs.Values.{pieces, ArePairs, HasXattrs, IsPair, IsXattrs}
 use Rattle.tree_build.specs.Brief.{xattr_size, xattrs_size}
 
 -- the lengths of some pieces, each with the byte behind it

@@ -12,7 +12,7 @@ use Rattle.ost_forms.specs.declared.tree_item.BodySpec.{BodySpec}
 use Rattle.ost_forms.specs.declared.tree_item.TreeItem.{TreeItem}
 use Rattle.script.specs.Words.{IsCommand, IsCommitLineAt, IsWritten as IsCommandWritten, Resolves}
 use Rattle.script.specs.declared.command.Command.{Command}
-use Rattle.script.specs.declared.command.Command.TheVariants.{Refs, RevParse, Reset, DropRef, Commit}
+use Rattle.script.specs.declared.command.Command.TheVariants.{Refs, RevParse, Log, Ls, Cat, Reset, DropRef, Commit}
 use Rattle.script.specs.declared.command.CommitLine.{CommitLine}
 use Rattle.script.specs.declared.command.Written.{Written}
 use Rattle.script.specs.declared.command.Written.TheVariants as written
@@ -60,6 +60,9 @@ IsStateFit n (in_lane trees lanes commands) = AreSectionsFit trees lanes × (len
 plain : (words : List (List ℕ)) (c : Command) → IsCommand words c → IsCommandFit c
 plain words Refs is = tt
 plain words (RevParse rev) is = tt
+plain words (Log rev) is = tt
+plain words (Ls rev path) is = tt
+plain words (Cat rev path) is = tt
 plain words (Reset branch commit) is = tt
 plain words (DropRef branch) is = tt
 plain words (Commit branch tree subject body time) is = absurd is.has
@@ -72,6 +75,9 @@ both_short line b n s m t fields l e is at =
 committed : (trees : List Tree) (line : List ℕ) (l : CommitLine) (c : Command) → All (IsTreeWithin limit) trees → length line ≤ limit → IsCommandWritten (fields_of line) (written.Commit l) → Resolves trees (written.Commit l) c → IsCommandFit c
 committed trees line l Refs all few is r = absurd r
 committed trees line l (RevParse rev) all few is r = absurd r
+committed trees line l (Log rev) all few is r = absurd r
+committed trees line l (Ls rev path) all few is r = absurd r
+committed trees line l (Cat rev path) all few is r = absurd r
 committed trees line l (Reset branch commit) all few is r = absurd r
 committed trees line l (DropRef branch) all few is r = absurd r
 committed trees line l (Commit branch tree subject body time) all few is r =
@@ -184,6 +190,9 @@ fit_commit limits items subject body wide tree s b le =
 fit_command : (limits : Limits) → IsWide limits → (c : Command) → IsCommandFit c → IsFit limits c
 fit_command limits wide Refs is = tt
 fit_command limits wide (RevParse rev) is = tt
+fit_command limits wide (Log rev) is = tt
+fit_command limits wide (Ls rev path) is = tt
+fit_command limits wide (Cat rev path) is = tt
 fit_command limits wide (Reset branch commit) is = tt
 fit_command limits wide (DropRef branch) is = tt
 fit_command limits wide (Commit branch tree subject body time) is = fit_commit limits tree.items subject body wide is.0 is.1 is.2 is.3

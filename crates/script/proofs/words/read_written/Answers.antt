@@ -1,7 +1,7 @@
 use Rattle.std.proofs.Common.{Some, ◌∙◌, ap}
 use Rattle.std.proofs.lemmas.Result.{IfOk-weaker}
 use Rattle.script.proofs.Slices.{first_of}
-use Rattle.script.proofs.Fields.{some_of, refs_from, rev_parse_from, reset_from, drop_from, commit_from, no_word}
+use Rattle.script.proofs.Fields.{some_of, refs_from, rev_parse_from, log_from, ls_from, cat_from, reset_from, drop_from, commit_from, no_word}
 use Rattle.script.proofs.words.read_written.Goals as goal
 
 pub returns-in-Some-Refs : goal.returns-in-Some-Refs
@@ -13,6 +13,21 @@ pub returns-in-Some-RevParse : goal.returns-in-Some-RevParse
 returns-in-Some-RevParse c =
     let word = some_of _ _ c.keyword_of.result _ c.keyword_of.ensures (c.in-Some-RevParse.is ∙ ap Some c.in-Some-RevParse.field-0-is) in
     IfOk-weaker _ _ _ (rev_parse_from _ _ _ (first_of (λ w. w.now) c.args.words.now _ c.in-len1-up.len_at_least) word) c.read_rev_parse.ensures
+
+pub returns-in-Some-Log : goal.returns-in-Some-Log
+returns-in-Some-Log c =
+    let word = some_of _ _ c.keyword_of.result _ c.keyword_of.ensures (c.in-Some-Log.is ∙ ap Some c.in-Some-Log.field-0-is) in
+    IfOk-weaker _ _ _ (log_from _ _ _ (first_of (λ w. w.now) c.args.words.now _ c.in-len1-up.len_at_least) word) c.read_log.ensures
+
+pub returns-in-Some-Ls : goal.returns-in-Some-Ls
+returns-in-Some-Ls c =
+    let word = some_of _ _ c.keyword_of.result _ c.keyword_of.ensures (c.in-Some-Ls.is ∙ ap Some c.in-Some-Ls.field-0-is) in
+    IfOk-weaker _ _ _ (ls_from _ _ _ (first_of (λ w. w.now) c.args.words.now _ c.in-len1-up.len_at_least) word) c.read_ls.ensures
+
+pub returns-in-Some-Cat : goal.returns-in-Some-Cat
+returns-in-Some-Cat c =
+    let word = some_of _ _ c.keyword_of.result _ c.keyword_of.ensures (c.in-Some-Cat.is ∙ ap Some c.in-Some-Cat.field-0-is) in
+    IfOk-weaker _ _ _ (cat_from _ _ _ (first_of (λ w. w.now) c.args.words.now _ c.in-len1-up.len_at_least) word) c.read_cat.ensures
 
 pub returns-in-Some-Reset : goal.returns-in-Some-Reset
 returns-in-Some-Reset c =

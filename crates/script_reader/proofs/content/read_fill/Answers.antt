@@ -1,5 +1,5 @@
+use Rattle.script.proofs.FieldValues.{text_read, no_text, field_gives}
 use Rattle.script_reader.specs.Values.{IsFillBody}
-use Rattle.script_reader.proofs.Values.{text_read, no_text, field_gives}
 use Rattle.script_reader.proofs.content.read_fill.Goals as goal
 
 pub returns-in-Some : goal.returns-in-Some

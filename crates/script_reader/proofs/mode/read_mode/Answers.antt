@@ -1,5 +1,5 @@
+use Rattle.script.proofs.FieldValues.{text_read, no_text, field_gives}
 use Rattle.script_reader.specs.Values.{IsOctal}
-use Rattle.script_reader.proofs.Values.{text_read, no_text, field_gives}
 use Rattle.script_reader.proofs.mode.read_mode.Goals as goal
 
 pub returns-in-Some-clause-value : goal.returns-in-Some-clause-value

@@ -1,6 +1,6 @@
 use Rattle.std.proofs.lemmas.Result.{IfOk-weaker}
+use Rattle.script.proofs.FieldValues.{text_read, no_text, field_gives}
 use Rattle.script_reader.specs.Values.{HasXattrs}
-use Rattle.script_reader.proofs.Values.{text_read, no_text, field_gives}
 use Rattle.script_reader.proofs.xattrs.read_xattrs.Goals as goal
 
 pub returns-in-Some : goal.returns-in-Some

@@ -1,7 +1,7 @@
 use Rattle.std.proofs.lemmas.Result.{IfOk-weaker}
-use Rattle.script_reader.specs.Values.{IsPathText}
-use Rattle.script_reader.proofs.Values.{text_read, no_text, field_gives}
-use Rattle.script_reader.proofs.path.read_path.Goals as goal
+use Rattle.script.specs.Field.{IsPathText}
+use Rattle.script.proofs.FieldValues.{text_read, no_text, field_gives}
+use Rattle.script.proofs.path.read_path.Goals as goal
 
 pub returns-in-Some : goal.returns-in-Some
 returns-in-Some c = IfOk-weaker _ _ _ (λ o. field_gives IsPathText _ _ o (text_read _ _ _ _ c.in_ok-text.ensures c.in-Some.is c.as_slice.ensures)) c.parse_path.ensures

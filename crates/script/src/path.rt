@@ -1,9 +1,10 @@
+//! Paths as fields.
 ghost use Rattle.std.specs.Prelude.{◌≡◌, ◌≢◌, None, IfOk};
 ghost use Rattle.ost_types.specs.declared.path.parse.PathFault.TheVariants as kind;
-ghost use Rattle.script_reader.specs.Values.{Gives, IsPathField, IsPathText};
+ghost use Rattle.script.specs.Field.{Gives, IsPathField, IsPathText};
 
+use crate::field::read_field;
 use ost_types::{FsPath, NoMemory, PathFault};
-use script::read_field;
 use std::alloc::Global;
 
 /// The path that a field has.
