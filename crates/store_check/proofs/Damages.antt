@@ -56,7 +56,7 @@ nothing_in kind.File bytes e = let n : None ≡ Some bytes = e in cc
 pub nothing_at : (d : Disk) (name : ObjName) (bytes : List ℕ) → d.at (path_of name) ≡ Absent → object_at d name ≡ Some bytes → ⊥
 nothing_at d name bytes none e = nothing_in name.kind bytes (subst (λ z. object_in name.kind (seen d z) ≡ Some bytes) none e)
 
-bad_there : (d : Disk) (content : ℕ) (name : ObjName) (fault : CheckFault) → IsBad d content name fault → d.at (path_of name) ≢ Absent
+pub bad_there : (d : Disk) (content : ℕ) (name : ObjName) (fault : CheckFault) → IsBad d content name fault → d.at (path_of name) ≢ Absent
 bad_there d content name (check.WrongSum found) bad none = nothing_at d name bad.bytes none bad.there
 bad_there d content name (check.Unreadable e) (inl misread) none = nothing_at d name misread.bytes none misread.stored.there
 bad_there d content name (check.Unreadable e) (inr misfit) none = subst (λ z. IsMisfit (seen d z)) none misfit.2

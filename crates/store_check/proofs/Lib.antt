@@ -2,7 +2,7 @@ mod Digits
 mod Orders
 mod Gathering
 mod Firsts
-mod Damages
+pub mod Damages
 mod Wholes
 mod FirstRefs
 mod Marking
@@ -10,3 +10,5 @@ mod Ends
 mod Bounds
 mod Entering
 mod Folding
+mod Distinct
+pub mod Excluded

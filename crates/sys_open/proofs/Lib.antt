@@ -28,3 +28,4 @@ pub mod Goods
 mod Reopening
 mod StoreKept
 mod Opens
+pub mod Exclusive

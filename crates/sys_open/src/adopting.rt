@@ -1,4 +1,4 @@
-ghost use Rattle.std.specs.Prelude.{◌≡◌, Some, IfOk, IfErr};
+ghost use Rattle.std.specs.Prelude.{◌≡◌, ◌≤◌, Some, IfOk, IfErr};
 ghost use Rattle.fs_trait.specs.View.{View, all_synced};
 ghost use Rattle.fs_trait.specs.Image.{Told};
 ghost use Rattle.fs_trait.specs.Count.{Rose};
@@ -175,6 +175,7 @@ pub fn adopt<F: Fs>(alloc: Global, fs: F, limits: Limits) -> Result<Opened<F>, (
     ensures ascending { IfOk result (λ o. AreAscending o.refs) }
     ensures opened { IfOk result (λ o. Next (F.clock fs) o.clock) }
     ensures begun { IfOk result (λ o. (o.faults ≡ F.faults fs) × (o.limits ≡ limits)) }
+    ensures later { IfOk result (λ o. F.faults fs ≤ F.faults o.fs) }
     ensures disk { IfErr result (λ e. e.1 ≡ fault.Disk → Rose (F.faults fs) (F.faults e.0)) }
 {
     let mut fs = fs;
