@@ -1,5 +1,6 @@
 -- What a look leaves: an answer, or a command that begins.
-use Rattle.std.proofs.Common.{◌≡◌, true, false, List, ℕ, [], Some, inl, refl, sym, ◌∙◌, ap, subst}
+use Rattle.std.proofs.Common.{◌≡◌, true, false, List, ℕ, [], Some, refl, sym, ◌∙◌, ap, subst}
+use Rattle.fs_trait.specs.Image.{IsTree}
 use Rattle.fs_trait.specs.View.{Disk, View}
 use Rattle.repo_model.specs.Objects.{Store, Stores}
 use Rattle.read_work.specs.declared.command.ReadCommand.{ReadCommand}
@@ -17,6 +18,11 @@ use Rattle.read_work.specs.LsSteps.{LsKnows}
 no_rows : (S : Store) (commit next : List ℕ) → next ≡ commit → IsChain S commit [] next
 unfolding IsChain
 no_rows S commit next is = is
+
+begins_anew : (a : Ask) (l x : look.Look) → BeginsBy a l (Look x) → ⊥
+begins_anew (ask.Cat path) l x begins = begins
+begins_anew (ask.Ls path) l x begins = begins
+begins_anew ask.Log l x begins = begins
 
 module _ (d : Disk) (l : look.Look) where
   abbrev Goes : ReadCommand → Type 0
@@ -44,9 +50,9 @@ module _ (d : Disk) (l : look.Look) where
   begun ask.Log is (Ls x) b = absurd b
   begun ask.Log is (Ended x) b = absurd b
 
-pub look_leaves : (l : look.Look) (v : View) (next : ReadCommand) → LookTells v.now l next → read_leaves (Look l) (turn_of next) next v v
-look_leaves l v (Ended a) tells = (refl, a, refl, inl tells)
-look_leaves l v (Look x) tells = let goes = begun v.now l l.ask refl (Look x) tells.0 in (refl, goes.0, goes.1)
-look_leaves l v (Cat x) tells = let goes = begun v.now l l.ask refl (Cat x) tells.0 in (refl, goes.0, goes.1)
-look_leaves l v (Ls x) tells = let goes = begun v.now l l.ask refl (Ls x) tells.0 in (refl, goes.0, goes.1)
-look_leaves l v (Log x) tells = let goes = begun v.now l l.ask refl (Log x) tells.0 in (refl, goes.0, goes.1)
+pub look_leaves : (l : look.Look) (v : View) (next : ReadCommand) → IsTree v.now → LookTells v.now l next → read_leaves (Look l) (turn_of next) next v v
+look_leaves l v (Ended a) tree tells = (refl, a, refl, tells)
+look_leaves l v (Look x) tree tells = absurd (begins_anew l.ask l x tells.0)
+look_leaves l v (Cat x) tree tells = let goes = begun v.now l l.ask refl (Cat x) tells.0 in (refl, goes.0, goes.1, tt, (tells.1, tree))
+look_leaves l v (Ls x) tree tells = let goes = begun v.now l l.ask refl (Ls x) tells.0 in (refl, goes.0, goes.1, tt, (tells.1, tree))
+look_leaves l v (Log x) tree tells = let goes = begun v.now l l.ask refl (Log x) tells.0 in (refl, goes.0, goes.1, tt, (tells.1, tree))

@@ -12,7 +12,7 @@ use Rattle.ost_forms.specs.declared.body.Body.TheVariants.{Regular, Symlink}
 use Rattle.ost_forms.specs.Commit.{CommitParts}
 use Rattle.ost_forms.specs.DirTree.{Entries, IsSorted}
 use Rattle.fs_trait.specs.View.{Disk}
-use Rattle.repo_model.specs.Objects.{Store, Stores, Has, IsMap}
+use Rattle.repo_model.specs.Objects.{Store, Stores, Has, IsMap, path_of}
 use Rattle.repo_model.specs.Trees.{HasCommit, HasEntries, HasFile, HasFolder, HasMeta, Names, NamesFile, Shows, TreeShows, name_of}
 use Rattle.repo_model.proofs.Stored.{stores_map}
 use Rattle.tree_read.proofs.Walk.{entries_one, shows_met}
@@ -117,6 +117,10 @@ pub come_first : (d : Disk) (commit : List ℕ) (path : Path) (parts : CommitPar
 unfolding Way
 come_first d commit path parts has = record { deep = omega arith; parts = parts; here = has; way = (refl, refl) }
 
+-- the commit is missing or damaged
+pub no_commit : (d : Disk) (old new : Cat) (o : Option ReadAnswer) → o ≡ Some (answer.Lacking (path_of (name_of kind.Commit old.commit))) → IsAbsent d (name_of kind.Commit old.commit) ⊎ IsDamaged d old.limits.content (name_of kind.Commit old.commit) → CatTells d old new o
+no_commit d old new o is why = subst (CatTells d old new) (sym is) (name_of kind.Commit old.commit, refl, inl refl, why)
+
 module _ (d : Disk) (old : Cat) (tree meta : List ℕ) (depth : ℕ) (at : old.place ≡ place.Folder tree meta depth) (knows : CatKnows d old) where
   come : HasCome d old.commit old.path tree meta depth
   come = subst (λ p. KnowsAt p d old) at knows
@@ -152,11 +156,11 @@ module _ (d : Disk) (old : Cat) (tree meta : List ℕ) (depth : ℕ) (at : old.p
   meta_of_commit = inr (come.parts, come.here, take depth old.path ++ [], way_names (Stores d) come.parts.tree come.parts.meta (take depth old.path) tree meta [] (name_of kind.DirMeta meta) come.way (inr refl))
 
   -- the entries, or the attributes, are missing or damaged
-  pub no_entries : (new : Cat) (o : Option ReadAnswer) → o ≡ Some (answer.Lacking (name_of kind.DirTree tree)) → IsAbsent d (name_of kind.DirTree tree) ⊎ IsDamaged d old.limits.content (name_of kind.DirTree tree) → CatTells d old new o
-  no_entries new o is why = subst (CatTells d old new) (sym is) (tree_of_commit, why)
+  pub no_entries : (new : Cat) (o : Option ReadAnswer) → o ≡ Some (answer.Lacking (path_of (name_of kind.DirTree tree))) → IsAbsent d (name_of kind.DirTree tree) ⊎ IsDamaged d old.limits.content (name_of kind.DirTree tree) → CatTells d old new o
+  no_entries new o is why = subst (CatTells d old new) (sym is) (name_of kind.DirTree tree, refl, tree_of_commit, why)
 
-  pub no_attributes : (new : Cat) (o : Option ReadAnswer) → o ≡ Some (answer.Lacking (name_of kind.DirMeta meta)) → IsAbsent d (name_of kind.DirMeta meta) ⊎ IsDamaged d old.limits.content (name_of kind.DirMeta meta) → CatTells d old new o
-  no_attributes new o is why = subst (CatTells d old new) (sym is) (meta_of_commit, why)
+  pub no_attributes : (new : Cat) (o : Option ReadAnswer) → o ≡ Some (answer.Lacking (path_of (name_of kind.DirMeta meta))) → IsAbsent d (name_of kind.DirMeta meta) ⊎ IsDamaged d old.limits.content (name_of kind.DirMeta meta) → CatTells d old new o
+  no_attributes new o is why = subst (CatTells d old new) (sym is) (name_of kind.DirMeta meta, refl, meta_of_commit, why)
 
   folder_at : (S : Store) (a : Meta) → HasMeta S meta a → Shows S tree meta [] (node.Folder a)
   unfolding Shows
@@ -173,8 +177,8 @@ module _ (d : Disk) (old : Cat) (sum : List ℕ) (at : old.place ≡ place.File 
   pub file_shown : TreeShows (Stores d) old.commit old.path (node.Leaf sum)
   file_shown = subst (λ p. KnowsAt p d old) at knows
 
-  pub no_file_there : (new : Cat) (o : Option ReadAnswer) → o ≡ Some (answer.Lacking (name_of kind.File sum)) → IsAbsent d (name_of kind.File sum) ⊎ IsDamaged d old.limits.content (name_of kind.File sum) → CatTells d old new o
-  no_file_there new o is why = subst (CatTells d old new) (sym is) (inr (file_shown.0, file_shown.1, old.path, shown_leaf (Stores d) file_shown.0.tree file_shown.0.meta old.path sum file_shown.2), why)
+  pub no_file_there : (new : Cat) (o : Option ReadAnswer) → o ≡ Some (answer.Lacking (path_of (name_of kind.File sum))) → IsAbsent d (name_of kind.File sum) ⊎ IsDamaged d old.limits.content (name_of kind.File sum) → CatTells d old new o
+  no_file_there new o is why = subst (CatTells d old new) (sym is) (name_of kind.File sum, refl, inr (file_shown.0, file_shown.1, old.path, shown_leaf (Stores d) file_shown.0.tree file_shown.0.meta old.path sum file_shown.2), why)
 
   pub body_told : (body : Body) → HasBody (Stores d) old.limits.content sum body → (new : Cat) (a : ReadAnswer) → TellsBody old.path body a → CatTells d old new (Some a)
   body_told (Regular bytes) has new a is = subst (λ x. CatTells d old new (Some x)) (sym is) (sum, file_shown, has)

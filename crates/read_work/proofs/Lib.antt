@@ -4,3 +4,4 @@ mod Cats
 mod Logs
 mod Lists
 mod Begun
+pub mod Ends

@@ -1,5 +1,5 @@
 -- The rows of a tree that was read.
-use Rattle.std.proofs.Common.{◌≡◌, ◌⊎◌, inl, inr, Bool, true, ◌&&◌, [], ◌∷◌, length, take, Some, None, Result, Ok, refl, sym, ◌∙◌, ap, subst, arith, Contains, if◌then◌else◌}
+use Rattle.std.proofs.Common.{◌≡◌, ◌⊎◌, inl, inr, Bool, true, ◌&&◌, [], ◌∷◌, length, take, Some, None, Result, Ok, Err, refl, sym, ◌∙◌, ap, subst, arith, Contains, if◌then◌else◌}
 use Rattle.std.specs.Cmp.Lexicographic.{pointwise}
 use Rattle.ost_types.specs.declared.node.NodeName.{NodeName}
 use Rattle.ost_types.specs.declared.object.ObjName.{ObjName}
@@ -9,9 +9,10 @@ use Rattle.ost_types.proofs.Paths.{same_or_apart, same_path-self, same_path-apar
 use Rattle.fs_trait.specs.declared.task.Turn.{Turn}
 use Rattle.fs_trait.specs.declared.task.Turn.TheVariants as turn
 use Rattle.fs_trait.specs.View.{Disk}
-use Rattle.repo_model.specs.Objects.{Stores}
+use Rattle.repo_model.specs.Objects.{Stores, path_of}
 use Rattle.repo_model.specs.Trees.{Names, Shows}
 use Rattle.tree_read.specs.declared.fault.TreeFault.{TreeFault}
+use Rattle.tree_read.specs.declared.fault.TreeFault.TheVariants as fault
 use Rattle.tree_read.specs.declared.item.Item.{Item}
 use Rattle.tree_read.specs.Walked.{StillMet, Walked}
 use Rattle.tree_read.specs.Reading.{Knows, Reading, StepTells}
@@ -107,3 +108,7 @@ all_read d old new r path a is tells same listed =
 
 pub starts_with_is : (p q needle hay : Path) → needle ≡ p → hay ≡ q → (b : Bool) → b ≡ pointwise same_name needle (take (length needle) hay) → b ≡ is_below p q
 starts_with_is p q needle hay is at b told = told ∙ ap (λ n. pointwise same_name n (take (length n) hay)) is ∙ ap (λ h. pointwise same_name p (take (length p) h)) at ∙ starts_below p q
+
+-- and where an object is damaged
+pub damaged_listed : (d : Disk) (old new : Reading) (r : Turned) (path : Path) (name : ObjName) (a : ReadAnswer) → r ≡ turn.Done (Err (fault.Damaged name)) → StepTells d old (Ok r) new → a ≡ answer.Lacking (path_of name) → SaysLs d old.limits old.commit path a
+damaged_listed d old new r path name a at tells is = subst (SaysLs d old.limits old.commit path) (sym is) (name, refl, inr (subst (λ r. StepTells d old (Ok r) new) at tells))

@@ -9,14 +9,15 @@ use Rattle.ost_types.specs.Path.{Path}
 use Rattle.ost_forms.specs.declared.body.Body.TheVariants.{Regular}
 use Rattle.ost_forms.specs.Commit.{CommitParts}
 use Rattle.fs_trait.specs.View.{Disk}
-use Rattle.repo_model.specs.Objects.{Store, Stores, Has}
+use Rattle.repo_layout.specs.RefFile.{IsSum}
+use Rattle.repo_model.specs.Objects.{Store, Stores, Has, path_of}
 use Rattle.repo_model.specs.Trees.{HasCommit, Names, Shows, TreeShows, name_of}
 use Rattle.tree_read.specs.Looks.{IsAbsent, IsDamaged}
 use Rattle.tree_read.specs.Order.{FirstAbsent, FirstDamaged}
 use Rattle.tree_read.specs.Whole.{AtCommitOr}
 use Rattle.ref_work.specs.declared.look_up.Found.TheVariants.{Missing, Partial}
 use Rattle.ref_work.specs.Found.{IsFound}
-use Rattle.read_work.specs.declared.answer.LogRow.{LogRow}
+use Rattle.script.specs.declared.rows.LogRow.{LogRow}
 use Rattle.read_work.specs.declared.answer.ReadAnswer.{ReadAnswer}
 use Rattle.read_work.specs.declared.answer.ReadAnswer.TheVariants as answer
 use Rattle.read_work.specs.declared.look.Ask.{Ask}
@@ -43,24 +44,34 @@ abbrev pub SaysCat : Disk → ℕ → List ℕ → Path → ReadAnswer → Type 
 SaysCat d content commit path (answer.Content bytes) = (sum : List ℕ) × TreeShows (Stores d) commit path (Leaf sum) × HasBody (Stores d) content sum (Regular bytes)
 SaysCat d content commit path (answer.NoPath p) = (p ≡ path) × IsNowhere (Stores d) content commit path
 SaysCat d content commit path (answer.NotFile p) = (p ≡ path) × (n : NodeName) × TreeShows (Stores d) commit path n × IsNoFile (Stores d) content n
-SaysCat d content commit path (answer.Lacking o) = IsOfCommit (Stores d) commit o × (IsAbsent d o ⊎ IsDamaged d content o)
+SaysCat d content commit path (answer.Lacking p) = (o : ObjName) × (p ≡ path_of o) × IsOfCommit (Stores d) commit o × (IsAbsent d o ⊎ IsDamaged d content o)
 SaysCat d content commit path a = ⊥
+
+-- the first object of the commit, in the order of its paths, that isn't there
+abbrev pub IsFirstAbsent : Disk → Limits → List ℕ → ObjName → Type 0
+IsFirstAbsent d limits commit o = AtCommitOr d commit ((o ≡ name_of kind.Commit commit) × IsAbsent d o) (λ tree meta. FirstAbsent d limits tree meta o)
+
+-- and the first that something else than it stands for
+abbrev pub IsFirstDamaged : Disk → Limits → List ℕ → ObjName → Type 0
+IsFirstDamaged d limits commit o = AtCommitOr d commit ((o ≡ name_of kind.Commit commit) × IsDamaged d limits.content o) (λ tree meta. FirstDamaged d limits tree meta o)
 
 -- Of `ls`: the rows are those of the path and of all below it; nothing is at the path; or the first object of the commit that is
 -- missing or damaged.
 abbrev pub SaysLs : Disk → Limits → List ℕ → Path → ReadAnswer → Type 0
 SaysLs d limits commit path (answer.Ls rows) = IsListing (Stores d) limits commit path rows.items
 SaysLs d limits commit path (answer.NoPath p) = (p ≡ path) × IsNowhere (Stores d) limits.content commit path
-SaysLs d limits commit path (answer.Lacking o) =
-    AtCommitOr d commit ((o ≡ name_of kind.Commit commit) × IsAbsent d o) (λ tree meta. FirstAbsent d limits tree meta o)
-    ⊎ AtCommitOr d commit ((o ≡ name_of kind.Commit commit) × IsDamaged d limits.content o) (λ tree meta. FirstDamaged d limits tree meta o)
+SaysLs d limits commit path (answer.Lacking p) = (o : ObjName) × (p ≡ path_of o) × (IsFirstAbsent d limits commit o ⊎ IsFirstDamaged d limits commit o)
 SaysLs d limits commit path a = ⊥
+
+-- the commit itself isn't there, or a commit of its log is damaged
+abbrev pub IsLackingNext : Disk → ℕ → List ℕ → ObjName → Type 0
+IsLackingNext d content commit o =
+    (rows : List LogRow) × (next : List ℕ) × IsSum next × IsChain (Stores d) commit rows next × (o ≡ name_of kind.Commit next) × (((rows ≡ []) × IsAbsent d o) ⊎ IsDamaged d content o)
 
 -- Of `log`: the rows are the commit's log; or a commit of it is damaged, or the commit itself isn't there.
 abbrev pub SaysLog : Disk → ℕ → List ℕ → ReadAnswer → Type 0
 SaysLog d content commit (answer.Log rows) = IsLog d commit rows.items
-SaysLog d content commit (answer.Lacking o) =
-    (rows : List LogRow) × (next : List ℕ) × IsChain (Stores d) commit rows next × (o ≡ name_of kind.Commit next) × (((rows ≡ []) × IsAbsent d o) ⊎ IsDamaged d content o)
+SaysLog d content commit (answer.Lacking p) = (o : ObjName) × (p ≡ path_of o) × IsLackingNext d content commit o
 SaysLog d content commit a = ⊥
 
 abbrev pub SaysOf : Disk → Limits → List ℕ → Ask → ReadAnswer → Type 0

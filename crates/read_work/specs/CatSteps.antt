@@ -14,8 +14,10 @@ use Rattle.read_work.specs.declared.answer.ReadAnswer.TheVariants as answer
 use Rattle.read_work.specs.declared.cat.Cat.{Cat}
 use Rattle.read_work.specs.declared.cat.Place.{Place}
 use Rattle.read_work.specs.declared.cat.Place.TheVariants.{Commit, Folder, File}
+use Rattle.read_work.specs.declared.look.Ask.TheVariants as ask
 use Rattle.read_work.specs.Answers.{SaysCat}
 use Rattle.read_work.specs.Entering.{HasNone}
+use Rattle.read_work.specs.Fits.{Fits}
 use Rattle.read_work.specs.Ways.{Way}
 
 -- the folder is the one at so many names of the path
@@ -45,7 +47,7 @@ cat_left (File sum) names = 1
 
 abbrev pub IsCatStepped : Cat → Cat → Option ReadAnswer → Type 0
 IsCatStepped old new None = (new ≡ record old { place = new.place }) × (cat_left new.place (length old.path) < cat_left old.place (length old.path))
-IsCatStepped old new (Some a) = Unit {0}
+IsCatStepped old new (Some a) = Fits (ask.Cat old.path) old.commit a
 
 -- the next name of the path, and what comes behind it
 pub record Splits (path : Path) (depth : ℕ) (x : Name) (rest : Path) : Type 0 where

@@ -6,7 +6,7 @@ use Rattle.fs_trait.specs.View.{Disk}
 use Rattle.repo_model.specs.Objects.{Store, Stores}
 use Rattle.repo_model.specs.Trees.{HasCommit, name_of}
 use Rattle.tree_read.specs.Looks.{IsAbsent}
-use Rattle.read_work.specs.declared.answer.LogRow.{LogRow}
+use Rattle.script.specs.declared.rows.LogRow.{LogRow}
 
 -- The rows are those of this commit, its parent and so on, and the last of them has this parent: no bytes where it has none. Where
 -- there is no row, it is the commit itself.

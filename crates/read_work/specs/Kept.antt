@@ -12,7 +12,7 @@ use Rattle.repo_model.proofs.Grown.{tree_up}
 use Rattle.repo_model.proofs.Stored.{stores_map}
 use Rattle.tree_read.specs.Order.{IsOwner}
 use Rattle.tree_read.specs.Reading.{Knows, Reading}
-use Rattle.read_work.specs.declared.answer.LogRow.{LogRow}
+use Rattle.script.specs.declared.rows.LogRow.{LogRow}
 use Rattle.read_work.specs.declared.cat.Cat.{Cat}
 use Rattle.read_work.specs.declared.cat.Place.{Place}
 use Rattle.read_work.specs.declared.cat.Place.TheVariants as place

@@ -1,14 +1,16 @@
 -- The laws of the commands that read a commit.
-use Rattle.std.proofs.Common.{ℕ, List, [], ◌∷◌}
+use Rattle.std.proofs.Common.{ℕ, List, [], ◌∷◌, sym, subst}
 use Rattle.fs_trait.specs.declared.task.Turn.TheVariants as turn
 use Rattle.fs_trait.specs.View.{View}
 use Rattle.fs_trait.specs.Change.{Nothing}
 use Rattle.rely.specs.Books.{Books}
 use Rattle.rely.specs.Laws.{Kind, Laws, IsBefore, IsLastly, Chain, Duty}
-use Rattle.read_work.specs.declared.answer.LogRow.{LogRow}
+use Rattle.script.specs.declared.rows.LogRow.{LogRow}
 use Rattle.read_work.specs.declared.command.ReadCommand.{ReadCommand}
 use Rattle.read_work.specs.declared.command.ReadCommand.TheVariants.{Look, Cat, Ls, Log, Ended}
 use Rattle.read_work.specs.Commands.{read_facts, read_kind, read_leaves, read_needs, read_stepped, read_writes}
+use Rattle.read_work.specs.Founded.{IsFounded}
+use Rattle.read_work.specs.Founding.{founded_kept, founded_next}
 use Rattle.read_work.specs.Kept.{knows_up}
 use Rattle.read_work.specs.LogSteps.{log_kind}
 use Rattle.read_work.specs.Stored.{stored_kept}
@@ -59,11 +61,11 @@ duty_of (Ended a) actor lane v b Done = ((λ p s a. absurd a), (λ q s a. absurd
 
 pub read_laws : Laws read_kind read_needs read_writes read_stepped read_leaves read_facts
 read_laws = record {
-  ready = λ actor lane t v b by f. f;
-  kept = λ actor lane mine t v w b b' not other does holds f. knows_up v.now w.now (stored_kept b actor lane v w does.writes) t f;
+  ready = λ actor lane t v b by f. f.0;
+  kept = λ actor lane mine t v w b b' not other does holds f. (knows_up v.now w.now (stored_kept b actor lane v w does.writes) t f.0, founded_kept b v w actor lane does.writes t f.1);
   gains = λ lane t v b b' keeps f. f;
   duty = λ actor lane t new v b agrees by stood f. duty_of t actor lane v b (read_leaves t (turn.Done tt) new v);
   chain = λ t new step. chain_of t (read_kind new) (before new);
   last = λ t new step. last_of t;
-  next = λ actor lane t new v w b b' stood f leaves keeps. leaves.2;
+  next = λ actor lane t new v w b b' stood f leaves keeps. (leaves.2, subst (IsFounded new) (sym leaves.0) (founded_next v t new f.1 leaves.4 leaves.3 leaves.1));
 }

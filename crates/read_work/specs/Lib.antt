@@ -6,6 +6,8 @@ pub mod Chains
 pub mod Listing
 pub mod Answers
 pub mod Asked
+pub mod Fits
+pub mod Founded
 pub mod Finding
 pub mod LookSteps
 pub mod CatSteps
@@ -16,4 +18,5 @@ pub mod WayLaws
 pub mod Stored
 pub mod Onward
 pub mod Kept
+pub mod Founding
 pub mod Laws

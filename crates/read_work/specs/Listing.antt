@@ -9,8 +9,8 @@ use Rattle.repo_model.specs.Objects.{Store}
 use Rattle.repo_model.specs.Trees.{TreeShows}
 use Rattle.repo_model.specs.Whole.{Complete}
 use Rattle.tree_read.specs.Whole.{IsTree}
-use Rattle.read_work.specs.declared.answer.LsRow.{LsRow}
-use Rattle.read_work.specs.declared.answer.LsRow.TheVariants as row
+use Rattle.script.specs.declared.rows.LsRow.{LsRow}
+use Rattle.script.specs.declared.rows.LsRow.TheVariants as row
 
 -- of a folder's mode the bits for permissions
 abbrev pub row_of : Path → NodeName → LsRow

@@ -3,16 +3,18 @@ use Rattle.std.specs.Prelude.{◌≡◌, ◌≢◌, ◌<◌, ◌-◌, ℕ, List,
 use Rattle.ost_types.specs.declared.object.Kind.TheVariants.{Commit as CommitKind}
 use Rattle.ost_forms.specs.declared.commit.Commit.{Commit}
 use Rattle.fs_trait.specs.View.{Disk}
-use Rattle.repo_model.specs.Objects.{Stores}
+use Rattle.repo_model.specs.Objects.{Stores, path_of}
 use Rattle.repo_model.specs.Trees.{name_of}
 use Rattle.rely.specs.Laws.{Kind, Quiet, Take}
 use Rattle.ref_work.specs.Commands.{pin_wants}
-use Rattle.read_work.specs.declared.answer.LogRow.{LogRow}
+use Rattle.script.specs.declared.rows.LogRow.{LogRow}
 use Rattle.read_work.specs.declared.answer.ReadAnswer.{ReadAnswer}
 use Rattle.read_work.specs.declared.answer.ReadAnswer.TheVariants as answer
 use Rattle.read_work.specs.declared.log.Log.{Log}
+use Rattle.read_work.specs.declared.look.Ask.TheVariants as ask
 use Rattle.read_work.specs.Answers.{SaysLog}
 use Rattle.read_work.specs.Chains.{IsChain}
+use Rattle.read_work.specs.Fits.{Fits}
 
 -- each commit but the first is pinned when it is read
 abbrev pub log_kind : List LogRow → List ℕ → Kind
@@ -32,7 +34,11 @@ log_left rows = 18446744073709551616 - length rows
 
 abbrev pub IsLogStepped : Log → Log → Option ReadAnswer → Type 0
 IsLogStepped old new None = (new.limits ≡ old.limits) × (new.commit ≡ old.commit) × (log_left new.rows.items < log_left old.rows.items)
-IsLogStepped old new (Some a) = Unit {0}
+IsLogStepped old new (Some a) = Fits ask.Log old.commit a
+
+-- it has the same rows, and the same commit comes next
+abbrev pub IsAsBefore : Log → Log → Type 0
+IsAsBefore old new = (new.limits ≡ old.limits) × (new.commit ≡ old.commit) × (new.rows.items ≡ old.rows.items) × (new.next ≡ old.next)
 
 abbrev pub row_of : Log → Commit → LogRow
 row_of g c = record { commit = g.next; time = c.time; subject = c.subject }
@@ -46,6 +52,6 @@ Takes c old new (Some a) = ⊥
 
 -- and where it isn't there
 abbrev pub Stops : Log → Option ReadAnswer → Type 0
-Stops old (Some (answer.Lacking o)) = (old.rows.items ≡ []) × (o ≡ name_of CommitKind old.next)
+Stops old (Some (answer.Lacking p)) = (old.rows.items ≡ []) × (p ≡ path_of (name_of CommitKind old.next))
 Stops old (Some (answer.Log rows)) = (old.rows.items ≢ []) × (rows.items ≡ old.rows.items)
 Stops old a = ⊥

@@ -10,6 +10,7 @@ use Rattle.read_work.specs.declared.look.Ask.{Ask}
 use Rattle.read_work.specs.declared.look.Ask.TheVariants as ask
 use Rattle.read_work.specs.declared.look.Look as look
 use Rattle.read_work.specs.Answers.{SaysStopped}
+use Rattle.read_work.specs.Fits.{Fits}
 
 -- at most so many steps go on
 abbrev pub ask_left : Ask → ℕ → ℕ
@@ -31,7 +32,7 @@ abbrev pub Begins : look.Look → ReadCommand → Type 0
 Begins l t = BeginsBy l.ask l t
 
 abbrev pub IsLookStepped : look.Look → ReadCommand → Type 0
-IsLookStepped l (Ended a) = Unit {0}
+IsLookStepped l (Ended a) = Fits l.ask l.commit a
 IsLookStepped l t = Begins l t
 
 -- a commit that isn't whole is answered; else what was asked begins

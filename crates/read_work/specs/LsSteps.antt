@@ -8,7 +8,9 @@ use Rattle.tree_read.specs.Reading.{IsSoFar, left_of}
 use Rattle.read_work.specs.declared.answer.ReadAnswer.{ReadAnswer}
 use Rattle.read_work.specs.declared.answer.ReadAnswer.TheVariants as answer
 use Rattle.read_work.specs.declared.ls.Ls.{Ls}
+use Rattle.read_work.specs.declared.look.Ask.TheVariants as ask
 use Rattle.read_work.specs.Answers.{SaysLs}
+use Rattle.read_work.specs.Fits.{Fits}
 use Rattle.read_work.specs.Listing.{rows_below}
 
 abbrev pub LsKnows : Disk → Ls → Type 0
@@ -20,7 +22,7 @@ LsTells d old new (Some a) = SaysLs d old.task.limits old.task.commit old.path a
 
 abbrev pub IsLsStepped : Ls → Ls → Option ReadAnswer → Type 0
 IsLsStepped old new None = (new.path ≡ old.path) × (new.task.commit ≡ old.task.commit) × (new.task.limits ≡ old.task.limits) × (left_of new.task < left_of old.task)
-IsLsStepped old new (Some a) = Unit {0}
+IsLsStepped old new (Some a) = Fits (ask.Ls old.path) old.task.commit a
 
 -- what is listed of a map
 abbrev pub IsListed : Path → Nodes → ReadAnswer → Type 0

@@ -1,31 +1,13 @@
 //! What a command that reads a commit answers.
-use ost_types::{Bytes, Csum, FsPath, ObjName, Text};
+ghost use Rattle.std.specs.Prelude.{◌≡◌, Some, IfOk};
+ghost use Rattle.repo_model.specs.Objects.{path_of};
+ghost use Rattle.repo_model.specs.Trees.{name_of};
+ghost use Rattle.read_work.specs.declared.answer.ReadAnswer.TheVariants as answer;
 
-/// A commit of a log.
-#[derive(Drop, Debug)]
-pub struct LogRow {
-    pub commit: Csum,
-    /// Seconds since 1970.
-    pub time: u64,
-    pub subject: Text,
-}
-
-/// A path of a tree, and what stands there.
-#[derive(Drop, Debug)]
-pub enum LsRow {
-    Folder {
-        uid: u32,
-        gid: u32,
-        /// The permission bits.
-        mode: u32,
-        path: FsPath,
-    },
-    Leaf {
-        /// The name of its object.
-        file: Csum,
-        path: FsPath,
-    },
-}
+use ost_types::{Bytes, Csum, FsPath, Kind, NoMemory, ObjName};
+use repo_layout::object_path;
+use script::{LogRow, LsRow};
+use std::alloc::Global;
 
 #[derive(Drop, Debug)]
 pub enum ReadAnswer {
@@ -43,6 +25,24 @@ pub enum ReadAnswer {
     NoPath(FsPath),
     /// A folder or a symbolic link stands there.
     NotFile(FsPath),
-    /// An object of the commit is missing or damaged.
-    Lacking(ObjName),
+    /// An object of the commit is missing or damaged: where it should stand in the repository.
+    Lacking(FsPath),
+}
+
+/// The object is missing or damaged.
+pub(crate) fn lacking(alloc: Global, name: &ObjName) -> Result<ReadAnswer, NoMemory>
+    ensures { IfOk result (λ a. a ≡ answer.Lacking (path_of name.now)) }
+{
+    Ok(ReadAnswer::Lacking(object_path(alloc, name)?))
+}
+
+/// The object of this kind is.
+pub(crate) fn lacking_of(
+    alloc: Global,
+    csum: Csum,
+    kind: Kind,
+) -> Result<Option<ReadAnswer>, NoMemory>
+    ensures { IfOk result (λ a. a ≡ Some (answer.Lacking (path_of (name_of kind csum)))) }
+{
+    Ok(Some(lacking(alloc, &ObjName { csum, kind })?))
 }

@@ -1,18 +1,16 @@
 //! `cat` goes down the path, and reads the file that stands there.
-ghost use Rattle.std.specs.Prelude.{◌≡◌, ◌<◌, ◌≤◌, ℕ, length, Some, None, IfOk, IfErr};
+ghost use Rattle.std.specs.Prelude.{◌≡◌, ◌<◌, ◌≤◌, ℕ, length, Some, None, IfOk, IfErr, OnErr};
 ghost use Rattle.fs_trait.specs.View.{View};
 ghost use Rattle.fs_trait.specs.Effect.{HasCause, IsQuiet, OfNone};
-ghost use Rattle.repo_model.specs.Trees.{name_of};
 ghost use Rattle.read_work.specs.declared.answer.ReadAnswer.TheVariants as answer;
 ghost use Rattle.read_work.specs.declared.cat.Place.TheVariants as place;
 ghost use Rattle.read_work.specs.CatSteps.{CatKnows, CatTells, Enters, IsCatStepped, TellsBody, cat_left};
 
 use crate::ReadAnswer;
+use crate::answer::lacking_of;
 use crate::entry::{Entry, entry_of};
 use crate::looked::Looked;
-use crate::objects::{
-    look_at_attributes, look_at_body, look_at_commit, look_at_entries, object_name,
-};
+use crate::objects::{look_at_attributes, look_at_body, look_at_commit, look_at_entries};
 use fs_trait::{Fs, FsErr};
 use ost_forms::{Body, DirTree};
 use ost_types::{Csum, FsPath, Kind, Limits, NoMemory, TryCopy};
@@ -71,6 +69,7 @@ impl Cat {
     pub(crate) fn step<F: Fs>(&mut self, fs: &mut F) -> Result<Option<ReadAnswer>, FsErr>
         ensures told { (v : View) → F.view fs.old ≡ Some v → CatKnows v.now self.old → IfOk result (CatTells v.now self.old self.new) }
         ensures stepped { IfOk result (IsCatStepped self.old self.new) }
+        ensures stays { OnErr result (self.new ≡ self.old) }
         ensures named { (v : View) → F.view fs.old ≡ Some v → IfErr result OfNone }
         ensures quiet { IsQuiet (F.clock fs.old) (F.clock fs.new) (F.was fs.old) (F.was fs.new) (F.view fs.old) (F.view fs.new) }
         ensures keeps_room { F.spare fs.old ≤ F.spare fs.new }
@@ -88,6 +87,7 @@ impl Cat {
         requires { self.old.place ≡ place.Commit }
         ensures told { (v : View) → F.view fs.old ≡ Some v → CatKnows v.now self.old → IfOk result (CatTells v.now self.old self.new) }
         ensures stepped { IfOk result (IsCatStepped self.old self.new) }
+        ensures stays { OnErr result (self.new ≡ self.old) }
         ensures named { (v : View) → F.view fs.old ≡ Some v → IfErr result OfNone }
         ensures quiet { IsQuiet (F.clock fs.old) (F.clock fs.new) (F.was fs.old) (F.was fs.new) (F.view fs.old) (F.view fs.new) }
         ensures keeps_room { F.spare fs.old ≤ F.spare fs.new }
@@ -102,8 +102,8 @@ impl Cat {
                 };
                 Ok(None)
             }
-            Looked::Absent => Ok(lacking(self.commit, Kind::Commit)),
-            Looked::Damaged => Ok(lacking(self.commit, Kind::Commit)),
+            Looked::Absent => Ok(lacking_of(self.alloc, self.commit, Kind::Commit)?),
+            Looked::Damaged => Ok(lacking_of(self.alloc, self.commit, Kind::Commit)?),
         }
     }
 
@@ -117,6 +117,7 @@ impl Cat {
         requires { self.old.place ≡ place.Folder tree meta depth }
         ensures told { (v : View) → F.view fs.old ≡ Some v → CatKnows v.now self.old → IfOk result (CatTells v.now self.old self.new) }
         ensures stepped { IfOk result (IsCatStepped self.old self.new) }
+        ensures stays { OnErr result (self.new ≡ self.old) }
         ensures named { (v : View) → F.view fs.old ≡ Some v → IfErr result OfNone }
         ensures quiet { IsQuiet (F.clock fs.old) (F.clock fs.new) (F.was fs.old) (F.was fs.new) (F.view fs.old) (F.view fs.new) }
         ensures keeps_room { F.spare fs.old ≤ F.spare fs.new }
@@ -140,6 +141,7 @@ impl Cat {
         requires deep { depth < length self.old.path }
         ensures told { (v : View) → F.view fs.old ≡ Some v → CatKnows v.now self.old → IfOk result (CatTells v.now self.old self.new) }
         ensures stepped { IfOk result (IsCatStepped self.old self.new) }
+        ensures stays { OnErr result (self.new ≡ self.old) }
         ensures named { (v : View) → F.view fs.old ≡ Some v → IfErr result OfNone }
         ensures quiet { IsQuiet (F.clock fs.old) (F.clock fs.new) (F.was fs.old) (F.was fs.new) (F.view fs.old) (F.view fs.new) }
         ensures keeps_room { F.spare fs.old ≤ F.spare fs.new }
@@ -147,15 +149,16 @@ impl Cat {
     {
         match look_at_entries(self.alloc, fs, &tree, &self.limits)? {
             Looked::Here(entries) => Ok(self.enter(&entries, depth)?),
-            Looked::Absent => Ok(lacking(tree, Kind::DirTree)),
-            Looked::Damaged => Ok(lacking(tree, Kind::DirTree)),
+            Looked::Absent => Ok(lacking_of(self.alloc, tree, Kind::DirTree)?),
+            Looked::Damaged => Ok(lacking_of(self.alloc, tree, Kind::DirTree)?),
         }
     }
 
     /// Goes on by the next name of the path.
     fn enter(&mut self, entries: &DirTree, depth: usize) -> Result<Option<ReadAnswer>, NoMemory>
         requires { depth < length self.old.path }
-        ensures { IfOk result (Enters (record { files = entries.now.files; folders = entries.now.folders }) depth self.old self.new) }
+        ensures enters { IfOk result (Enters (record { files = entries.now.files; folders = entries.now.folders }) depth self.old self.new) }
+        ensures stays { OnErr result (self.new ≡ self.old) }
     {
         let names = self.path.names();
         let is_last = depth + 1 == names.len();
@@ -195,6 +198,7 @@ impl Cat {
         requires deep { length self.old.path ≤ _depth }
         ensures told { (v : View) → F.view fs.old ≡ Some v → CatKnows v.now self.old → IfOk result (CatTells v.now self.old self.new) }
         ensures stepped { IfOk result (IsCatStepped self.old self.new) }
+        ensures stays { OnErr result (self.new ≡ self.old) }
         ensures named { (v : View) → F.view fs.old ≡ Some v → IfErr result OfNone }
         ensures quiet { IsQuiet (F.clock fs.old) (F.clock fs.new) (F.was fs.old) (F.was fs.new) (F.view fs.old) (F.view fs.new) }
         ensures keeps_room { F.spare fs.old ≤ F.spare fs.new }
@@ -205,8 +209,8 @@ impl Cat {
                 drop(meta);
                 Ok(Some(self.no_file()?))
             }
-            Looked::Absent => Ok(lacking(meta, Kind::DirMeta)),
-            Looked::Damaged => Ok(lacking(meta, Kind::DirMeta)),
+            Looked::Absent => Ok(lacking_of(self.alloc, meta, Kind::DirMeta)?),
+            Looked::Damaged => Ok(lacking_of(self.alloc, meta, Kind::DirMeta)?),
         }
     }
 
@@ -214,6 +218,7 @@ impl Cat {
         requires { self.old.place ≡ place.File file }
         ensures told { (v : View) → F.view fs.old ≡ Some v → CatKnows v.now self.old → IfOk result (CatTells v.now self.old self.new) }
         ensures stepped { IfOk result (IsCatStepped self.old self.new) }
+        ensures stays { OnErr result (self.new ≡ self.old) }
         ensures named { (v : View) → F.view fs.old ≡ Some v → IfErr result OfNone }
         ensures quiet { IsQuiet (F.clock fs.old) (F.clock fs.new) (F.was fs.old) (F.was fs.new) (F.view fs.old) (F.view fs.new) }
         ensures keeps_room { F.spare fs.old ≤ F.spare fs.new }
@@ -221,8 +226,8 @@ impl Cat {
     {
         match look_at_body(self.alloc, fs, &file, &self.limits)? {
             Looked::Here(body) => Ok(Some(self.told_of(body)?)),
-            Looked::Absent => Ok(lacking(file, Kind::File)),
-            Looked::Damaged => Ok(lacking(file, Kind::File)),
+            Looked::Absent => Ok(lacking_of(self.alloc, file, Kind::File)?),
+            Looked::Damaged => Ok(lacking_of(self.alloc, file, Kind::File)?),
         }
     }
 
@@ -241,10 +246,4 @@ impl Cat {
     {
         Ok(ReadAnswer::NotFile(self.path.copy()?))
     }
-}
-
-pub(crate) fn lacking(csum: Csum, kind: Kind) -> Option<ReadAnswer>
-    ensures { result ≡ Some (answer.Lacking (name_of kind csum)) }
-{
-    Some(ReadAnswer::Lacking(object_name(&csum, kind)))
 }

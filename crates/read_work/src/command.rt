@@ -3,11 +3,11 @@ ghost use Rattle.std.specs.Prelude.{◌≡◌, ◌<◌, ◌^◌};
 ghost use Rattle.fs_trait.specs.declared.task.Turn.{Turn};
 ghost use Rattle.rely.specs.Laws.{step_of};
 ghost use Rattle.read_work.specs.declared.command.ReadCommand.TheVariants as command;
-ghost use Rattle.read_work.specs.Commands.{answer_of, ends, read_facts, read_kind, read_leaves, read_left, read_needs, read_refuses, read_stepped, read_writes, turn_of};
+ghost use Rattle.read_work.specs.Commands.{IsNew, answer_of, ends, read_facts, read_kind, read_leaves, read_left, read_needs, read_refuses, read_stepped, read_writes, turn_of};
 ghost use Rattle.read_work.specs.Laws.{read_laws};
 ghost use Rattle.read_work.specs.declared.look.Ask.TheVariants as asks;
 
-use crate::look_up::pin_wants;
+use crate::look_up::{pin_wants, sum_of_commit};
 use crate::{Ask, Cat, Log, Look, Ls, ReadAnswer};
 use fs_trait::{Fs, FsErr, Turn};
 use ost_types::{Csum, FsPath, Limits, NoMemory};
@@ -31,25 +31,31 @@ impl ReadCommand {
     /// `cat`: what the regular file at the path of the commit's tree holds.
     pub fn cat(alloc: Global, limits: Limits, commit: Csum, path: FsPath) -> ReadCommand
         ensures cat { result ≡ command.Look (record { alloc = alloc; limits = limits; commit = commit; ask = asks.Cat path }) }
+        ensures new { IsNew result }
         ensures left { read_left result < 2 ^ 128 }
     {
         let _names = path.names();
+        sum_of_commit(&commit);
         ReadCommand::Look(Look::new(alloc, limits, commit, Ask::Cat(path)))
     }
 
     /// `ls`: the path of the commit's tree, and all below it.
     pub fn ls(alloc: Global, limits: Limits, commit: Csum, path: FsPath) -> ReadCommand
         ensures ls { result ≡ command.Look (record { alloc = alloc; limits = limits; commit = commit; ask = asks.Ls path }) }
+        ensures new { IsNew result }
         ensures left { read_left result < 2 ^ 128 }
     {
+        sum_of_commit(&commit);
         ReadCommand::Look(Look::new(alloc, limits, commit, Ask::Ls(path)))
     }
 
     /// `log`: the commit, its parent, and so on.
     pub fn log(alloc: Global, limits: Limits, commit: Csum) -> ReadCommand
         ensures log { result ≡ command.Look (record { alloc = alloc; limits = limits; commit = commit; ask = asks.Log }) }
+        ensures new { IsNew result }
         ensures left { read_left result < 2 ^ 128 }
     {
+        sum_of_commit(&commit);
         ReadCommand::Look(Look::new(alloc, limits, commit, Ask::Log))
     }
 

@@ -14,7 +14,7 @@ mod ls;
 mod objects;
 mod rows;
 
-pub use answer::{LogRow, LsRow, ReadAnswer};
+pub use answer::ReadAnswer;
 pub use cat::{Cat, Place};
 pub use command::ReadCommand;
 pub use laws::{answers_of_reads, lanes_that_read, steps_of_reads_fall};

@@ -1,19 +1,20 @@
 //! `log` reads a commit, its parent, and so on.
-ghost use Rattle.std.specs.Prelude.{◌≡◌, ◌≤◌, ◌-◌, ◌^◌, [], length, Some, None, IfOk, IfErr};
+ghost use Rattle.std.specs.Prelude.{◌≡◌, ◌≤◌, ◌-◌, ◌^◌, [], length, Some, None, IfOk, IfErr, OnErr};
 ghost use Rattle.fs_trait.specs.View.{View};
 ghost use Rattle.fs_trait.specs.Effect.{HasCause, IsQuiet, OfNone};
 ghost use Rattle.rely.specs.Laws.{step_of};
-ghost use Rattle.read_work.specs.LogSteps.{IsLogStepped, LogKnows, LogTells, Stops, Takes, log_kind, log_left};
+ghost use Rattle.read_work.specs.LogSteps.{IsAsBefore, IsLogStepped, LogKnows, LogTells, Stops, Takes, log_kind, log_left};
 
-use crate::cat::lacking;
-use crate::look_up::pin_wants;
+use crate::ReadAnswer;
+use crate::answer::lacking_of;
+use crate::look_up::{pin_wants, sum_of_commit};
 use crate::looked::Looked;
 use crate::objects::look_at_commit;
-use crate::{LogRow, ReadAnswer};
 use fs_trait::{Fs, FsErr};
 use ost_forms::Commit;
 use ost_types::{Csum, Kind, Limits, NoMemory};
 use rely::Step;
+use script::LogRow;
 use std::alloc::Global;
 use std::mem;
 
@@ -67,15 +68,17 @@ impl Log {
     pub(crate) fn step<F: Fs>(&mut self, fs: &mut F) -> Result<Option<ReadAnswer>, FsErr>
         ensures told { (v : View) → F.view fs.old ≡ Some v → LogKnows v.now self.old → IfOk result (LogTells v.now self.old self.new) }
         ensures stepped { IfOk result (IsLogStepped self.old self.new) }
+        ensures stays { OnErr result (IsAsBefore self.old self.new) }
         ensures named { (v : View) → F.view fs.old ≡ Some v → IfErr result OfNone }
         ensures quiet { IsQuiet (F.clock fs.old) (F.clock fs.new) (F.was fs.old) (F.was fs.new) (F.view fs.old) (F.view fs.new) }
         ensures keeps_room { F.spare fs.old ≤ F.spare fs.new }
         ensures cause { HasCause (F.faults fs.old) (F.faults fs.new) result }
     {
+        sum_of_commit(&self.next);
         match look_at_commit(self.alloc, fs, &self.next, &self.limits)? {
             Looked::Here(commit) => Ok(self.take(commit)?),
-            Looked::Absent => Ok(self.stop()),
-            Looked::Damaged => Ok(lacking(self.next, Kind::Commit)),
+            Looked::Absent => Ok(self.stop()?),
+            Looked::Damaged => Ok(lacking_of(self.alloc, self.next, Kind::Commit)?),
         }
     }
 
@@ -83,6 +86,7 @@ impl Log {
     fn take(&mut self, commit: Commit) -> Result<Option<ReadAnswer>, NoMemory>
         ensures took { IfOk result (Takes commit self.old self.new) }
         ensures stepped { IfOk result (IsLogStepped self.old self.new) }
+        ensures stays { OnErr result (IsAsBefore self.old self.new) }
     {
         let Commit {
             parent,
@@ -105,13 +109,14 @@ impl Log {
     }
 
     /// The next commit isn't there.
-    fn stop(&mut self) -> Option<ReadAnswer>
-        ensures { Stops self.old result }
+    fn stop(&mut self) -> Result<Option<ReadAnswer>, NoMemory>
+        ensures stops { IfOk result (Stops self.old) }
+        ensures stays { OnErr result (IsAsBefore self.old self.new) }
     {
         if self.rows.is_empty() {
-            lacking(self.next, Kind::Commit)
+            lacking_of(self.alloc, self.next, Kind::Commit)
         } else {
-            Some(ReadAnswer::Log(self.give()))
+            Ok(Some(ReadAnswer::Log(self.give())))
         }
     }
 

@@ -5,6 +5,7 @@ ghost use Rattle.fs_trait.specs.View.{View};
 ghost use Rattle.fs_trait.specs.Image.{Told};
 ghost use Rattle.fs_trait.specs.Change.{Nothing, Writes};
 ghost use Rattle.fs_trait.specs.Effect.{Elapses, HasCause, OfNone};
+ghost use Rattle.repo_layout.specs.RefFile.{IsSum};
 ghost use Rattle.ref_work.specs.Commands.{pin_wants};
 ghost use Rattle.ref_work.specs.Found.{IsFound};
 ghost use Rattle.read_work.specs.Finding.{found_in};
@@ -31,6 +32,13 @@ pub(crate) fn pin_wants(commit: &Csum) -> Wants
             kind: Kind::Commit,
         }),
     }
+}
+
+/// What names a commit is a sum.
+pub(crate) fn sum_of_commit(commit: &Csum)
+    ensures { IsSum commit.now }
+{
+    let _bytes = commit.as_slice();
 }
 
 /// Looks the commit up as `rev-parse` does.

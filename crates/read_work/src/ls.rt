@@ -1,11 +1,12 @@
 //! `ls` reads the whole tree, and lists a part of it.
-ghost use Rattle.std.specs.Prelude.{◌≡◌, ◌≤◌, Some, None, [], false, IfOk, IfErr};
+ghost use Rattle.std.specs.Prelude.{◌≡◌, ◌≤◌, Some, None, [], false, IfOk, IfErr, OnErr};
 ghost use Rattle.fs_trait.specs.View.{View};
 ghost use Rattle.fs_trait.specs.Effect.{HasCause, IsQuiet, OfNone};
 ghost use Rattle.tree_read.specs.Reading.{left_of};
 ghost use Rattle.read_work.specs.LsSteps.{IsListed, IsLsStepped, LsKnows, LsTells};
 
 use crate::ReadAnswer;
+use crate::answer::lacking;
 use crate::rows::rows_below;
 use fs_trait::{Fs, FsErr, Turn};
 use ost_types::{Csum, FsPath, Limits, NoMemory, TryCopy};
@@ -41,6 +42,7 @@ impl Ls {
     pub(crate) fn step<F: Fs>(&mut self, fs: &mut F) -> Result<Option<ReadAnswer>, FsErr>
         ensures told { (v : View) → F.view fs.old ≡ Some v → LsKnows v.now self.old → IfOk result (LsTells v.now self.old self.new) }
         ensures stepped { IfOk result (IsLsStepped self.old self.new) }
+        ensures stays { OnErr result (self.new ≡ self.old) }
         ensures named { (v : View) → F.view fs.old ≡ Some v → LsKnows v.now self.old → IfErr result OfNone }
         ensures quiet { IsQuiet (F.clock fs.old) (F.clock fs.new) (F.was fs.old) (F.was fs.new) (F.view fs.old) (F.view fs.new) }
         ensures keeps_room { F.spare fs.old ≤ F.spare fs.new }
@@ -49,8 +51,8 @@ impl Ls {
         match self.task.step(fs)? {
             Turn::More => Ok(None),
             Turn::Done(Ok(())) => Ok(Some(self.listed()?)),
-            Turn::Done(Err(TreeFault::Absent(name))) => Ok(Some(ReadAnswer::Lacking(name))),
-            Turn::Done(Err(TreeFault::Damaged(name))) => Ok(Some(ReadAnswer::Lacking(name))),
+            Turn::Done(Err(TreeFault::Absent(name))) => Ok(Some(lacking(self.alloc, &name)?)),
+            Turn::Done(Err(TreeFault::Damaged(name))) => Ok(Some(lacking(self.alloc, &name)?)),
             Turn::Done(Err(TreeFault::Fs(_) | TreeFault::NoMemory)) => Err(FsErr::NoMemory),
         }
     }

@@ -136,12 +136,6 @@ pub(crate) fn look_at_body<F: Fs>(
     }
 }
 
-pub(crate) fn object_name(csum: &Csum, kind: Kind) -> ObjName
-    ensures { result ≡ name_of kind csum.now }
-{
-    ObjName { csum: *csum, kind }
-}
-
 fn commit_of(alloc: Global, object: &Checked) -> Result<Looked<Commit>, FsErr>
     ensures { Reads kinds.Commit 0 object.now.bytes (λ c. ReadsCommit (λ x. x) object.now.bytes (Ok (parts_of c))) result }
 {

@@ -3,8 +3,8 @@ ghost use Rattle.std.specs.Prelude.{◌≡◌, ◌++◌, ◌∷◌, [], IfOk, On
 ghost use Rattle.ost_types.specs.Path.{is_below};
 ghost use Rattle.read_work.specs.Listing.{row_of, rows_below};
 
-use crate::LsRow;
 use ost_types::{FsPath, NoMemory, NodeName, PathMap, TryCopy};
+use script::LsRow;
 use std::alloc::Global;
 
 /// The rows of the path and of all below it, in their order.

@@ -4,8 +4,9 @@ use Rattle.fs_trait.specs.View.{Disk}
 use Rattle.read_work.specs.declared.answer.ReadAnswer.{ReadAnswer}
 use Rattle.read_work.specs.declared.command.ReadCommand.{ReadCommand}
 use Rattle.read_work.specs.declared.command.ReadCommand.TheVariants.{Look, Cat, Ls, Log, Ended}
-use Rattle.read_work.specs.Asked.{Answers, Asked}
-use Rattle.read_work.specs.Commands.{IsNew, Knows, answer_of}
+use Rattle.read_work.specs.Asked.{Answers, asked}
+use Rattle.read_work.specs.Commands.{IsNew, Knows, Tells, answer_of}
+use Rattle.read_work.proofs.Ends.{answers_by}
 
 pub new_knows : (d : Disk) (t : ReadCommand) → IsNew t → Knows d t
 new_knows d (Look l) new = tt
@@ -14,5 +15,5 @@ new_knows d (Ls s) new = absurd new
 new_knows d (Log g) new = absurd new
 new_knows d (Ended a) new = absurd new
 
-pub ended : (d : Disk) (q : Option Asked) (t : ReadCommand) (o : Option ReadAnswer) (a : ReadAnswer) → o ≡ answer_of t → t ≡ Ended a → Answers d q a → MatchOption o ⊥ (λ a. Answers d q a)
-ended d q t o a is end says = subst (λ x. MatchOption x ⊥ (λ a. Answers d q a)) (sym (is ∙ ap answer_of end)) says
+pub ended : (d : Disk) (t new : ReadCommand) (o : Option ReadAnswer) (a : ReadAnswer) → o ≡ answer_of new → new ≡ Ended a → Tells t d a → MatchOption o ⊥ (λ a. Answers d (asked t) a)
+ended d t new o a is end tells = subst (λ x. MatchOption x ⊥ (λ a. Answers d (asked t) a)) (sym (is ∙ ap answer_of end)) (answers_by t d a tells)

@@ -5,8 +5,9 @@ use crate::run_alone;
 use fs_memory::MemFs;
 use fs_trait::Fs;
 use ost_types::{Csum, FsPath, Kind, Limits, ObjName};
-use read_work::{LogRow, LsRow, ReadAnswer, ReadCommand};
+use read_work::{ReadAnswer, ReadCommand};
 use repo_layout::object_path;
+use script::{LogRow, LsRow};
 use std::alloc::Global;
 use std::test::Fail;
 
@@ -70,10 +71,10 @@ fn is_no_commit(answer: &ReadAnswer, commit: &Csum) -> bool {
     }
 }
 
-fn is_lacking(answer: &ReadAnswer, csum: Csum, kind: Kind) -> bool {
+fn is_lacking(alloc: Global, answer: &ReadAnswer, csum: Csum, kind: Kind) -> Result<bool, Fail> {
     match answer {
-        ReadAnswer::Lacking(name) => *name == ObjName { csum, kind },
-        _ => false,
+        ReadAnswer::Lacking(path) => Ok(*path == object_path(alloc, &ObjName { csum, kind })?),
+        _ => Ok(false),
     }
 }
 
@@ -113,21 +114,59 @@ fn is_row(row: Option<&LogRow>, commit: &Csum, time: u64, subject: &[u8]) -> boo
     }
 }
 
-#[test]
-fn a_tree_of_one_folder(rt: HostRuntime) -> Result<(), Fail> {
-    let alloc = rt.alloc();
+/// A disk with a commit of a tree with one folder, `d`.
+fn with_one_folder(alloc: Global) -> Result<(MemFs, Csum), Fail> {
     let mut fs = laid_out(alloc)?;
     let root = put_root(&mut fs, alloc)?;
     let commit = put_first(&mut fs, alloc, &root)?;
+    Ok((fs, commit))
+}
+
+// `ls` lists these folders.
+fn lists(
+    fs: &mut MemFs,
+    alloc: Global,
+    commit: Csum,
+    path: &[u8],
+    wanted: &[&[u8]],
+) -> Result<bool, Fail> {
+    let answer = ls(fs, alloc, commit, path)?;
+    has_folders(alloc, &answer, wanted)
+}
+
+// `cat` finds nothing at the path.
+fn finds_nothing(fs: &mut MemFs, alloc: Global, commit: Csum, path: &[u8]) -> Result<bool, Fail> {
+    let answer = cat(fs, alloc, commit, path)?;
+    has_no_path(alloc, &answer, path)
+}
+
+// `cat` finds no file there.
+fn finds_no_file(fs: &mut MemFs, alloc: Global, commit: Csum, path: &[u8]) -> Result<bool, Fail> {
+    let answer = cat(fs, alloc, commit, path)?;
+    is_no_file(alloc, &answer, path)
+}
+
+#[test]
+fn lists_a_tree_of_one_folder(rt: HostRuntime) -> Result<(), Fail> {
+    let alloc = rt.alloc();
+    let (mut fs, commit) = with_one_folder(alloc)?;
     let all: [&[u8]; 2] = [b"/", b"/d"];
     let below: [&[u8]; 1] = [b"/d"];
-    assert!(rt; has_folders(alloc, &ls(&mut fs, alloc, commit, b"/")?, &all)?);
-    assert!(rt; has_folders(alloc, &ls(&mut fs, alloc, commit, b"/d")?, &below)?);
-    assert!(rt; has_no_path(alloc, &ls(&mut fs, alloc, commit, b"/x")?, b"/x")?);
-    assert!(rt; is_no_file(alloc, &cat(&mut fs, alloc, commit, b"/d")?, b"/d")?);
-    assert!(rt; is_no_file(alloc, &cat(&mut fs, alloc, commit, b"/")?, b"/")?);
-    assert!(rt; has_no_path(alloc, &cat(&mut fs, alloc, commit, b"/x")?, b"/x")?);
-    assert!(rt; has_no_path(alloc, &cat(&mut fs, alloc, commit, b"/d/x")?, b"/d/x")?);
+    assert!(rt; lists(&mut fs, alloc, commit, b"/", &all)?);
+    assert!(rt; lists(&mut fs, alloc, commit, b"/d", &below)?);
+    let answer = ls(&mut fs, alloc, commit, b"/x")?;
+    assert!(rt; has_no_path(alloc, &answer, b"/x")?);
+    Ok(())
+}
+
+#[test]
+fn finds_no_file_in_a_tree_of_one_folder(rt: HostRuntime) -> Result<(), Fail> {
+    let alloc = rt.alloc();
+    let (mut fs, commit) = with_one_folder(alloc)?;
+    assert!(rt; finds_no_file(&mut fs, alloc, commit, b"/d")?);
+    assert!(rt; finds_no_file(&mut fs, alloc, commit, b"/")?);
+    assert!(rt; finds_nothing(&mut fs, alloc, commit, b"/x")?);
+    assert!(rt; finds_nothing(&mut fs, alloc, commit, b"/d/x")?);
     Ok(())
 }
 
@@ -156,7 +195,7 @@ fn commits_in_a_log(rt: HostRuntime) -> Result<(), Fail> {
     assert!(rt; rows.len() == 1 && is_row(rows.get(0), &second, 1_700_000_001, b"second"));
     // the parent has other bytes
     put_bytes(&mut fs, alloc, &ObjName { csum: first, kind }, b"other")?;
-    assert!(rt; is_lacking(&log(&mut fs, alloc, second)?, first, kind));
+    assert!(rt; is_lacking(alloc, &log(&mut fs, alloc, second)?, first, kind)?);
     Ok(())
 }
 
@@ -185,32 +224,39 @@ const LINK: &str = "389846c2702216e1367c8dfb68326a6b93ccf5703c89c93979052a9bf359
 
 const OTHER: &str = "66a0f5fc8c775babd7e221b413b553f63df0087050b4d9fcd9e387eefb3854ff";
 
-#[test]
-fn files_of_ostree(rt: HostRuntime) -> Result<(), Fail> {
-    let alloc = rt.alloc();
+/// A disk with that commit, its root's entries, and two of its files.
+fn with_files(alloc: Global) -> Result<(MemFs, Csum), Fail> {
     let mut fs = laid_out(alloc)?;
     let bytes = hex::decode(alloc, COMMIT)?;
     let commit = put_named(&mut fs, alloc, Kind::Commit, bytes.as_slice())?;
+    put_files(&mut fs, alloc)?;
+    Ok((fs, commit))
+}
+
+fn put_files(fs: &mut MemFs, alloc: Global) -> Result<(), Fail> {
     let bytes = hex::decode(alloc, ENTRIES)?;
-    put_named(&mut fs, alloc, Kind::DirTree, bytes.as_slice())?;
+    put_named(fs, alloc, Kind::DirTree, bytes.as_slice())?;
     let (csum, kind) = (sum_from(HELLO)?, Kind::File);
-    put_bytes(&mut fs, alloc, &ObjName { csum, kind }, b"hello\n")?;
-    put_link(&mut fs, alloc, sum_from(LINK)?, b"usr/bin")?;
-    assert!(rt; has_content(&cat(&mut fs, alloc, commit, b"/hello")?, b"hello\n"));
-    assert!(rt; is_no_file(alloc, &cat(&mut fs, alloc, commit, b"/link")?, b"/link")?);
-    assert!(rt;
-        has_no_path(
-            alloc,
-            &cat(&mut fs, alloc, commit, b"/hello/x")?,
-            b"/hello/x"
-        )?
-    );
-    assert!(rt;
-        is_lacking(
-            &cat(&mut fs, alloc, commit, b"/a")?,
-            sum_from(OTHER)?,
-            Kind::File
-        )
-    );
+    put_bytes(fs, alloc, &ObjName { csum, kind }, b"hello\n")?;
+    put_link(fs, alloc, sum_from(LINK)?, b"usr/bin")
+}
+
+#[test]
+fn files_of_ostree(rt: HostRuntime) -> Result<(), Fail> {
+    let alloc = rt.alloc();
+    let (mut fs, commit) = with_files(alloc)?;
+    let answer = cat(&mut fs, alloc, commit, b"/hello")?;
+    assert!(rt; has_content(&answer, b"hello\n"));
+    assert!(rt; finds_no_file(&mut fs, alloc, commit, b"/link")?);
+    assert!(rt; finds_nothing(&mut fs, alloc, commit, b"/hello/x")?);
+    Ok(())
+}
+
+#[test]
+fn a_file_that_is_missing(rt: HostRuntime) -> Result<(), Fail> {
+    let alloc = rt.alloc();
+    let (mut fs, commit) = with_files(alloc)?;
+    let answer = cat(&mut fs, alloc, commit, b"/a")?;
+    assert!(rt; is_lacking(alloc, &answer, sum_from(OTHER)?, Kind::File)?);
     Ok(())
 }

@@ -3,16 +3,16 @@ use Rattle.read_work.specs.Entering.{IsEntry}
 use Rattle.read_work.proofs.Cats.{splits, more_names, no_way_on}
 use Rattle.read_work.proofs.cat.Cat.enter.Goals as goal
 
-pub returns-in-Folder : goal.returns-in-Folder
-returns-in-Folder c = (
+pub returns-in-Folder-clause-enters : goal.returns-in-Folder-clause-enters
+returns-in-Folder-clause-enters c = (
   c.index-names-depth.result,
   _,
   splits c.args.self.now.path c.names-names.result.now c.names-names.ensures.value c.args.depth c.index-names-depth.result c.requires c.index-names-depth.is,
   inl (c.in-Folder.tree, c.in-Folder.meta, subst (IsEntry _ _) c.in-Folder.is c.entry_of-entry.ensures, refl),
 )
 
-pub returns-in-File-2 : goal.returns-in-File-2
-returns-in-File-2 c =
+pub returns-in-File-2-clause-enters : goal.returns-in-File-2-clause-enters
+returns-in-File-2-clause-enters c =
     let path = c.args.self.now.path in
     let names = c.names-names.result.now in
     let same = c.names-names.ensures.value in
@@ -21,8 +21,8 @@ returns-in-File-2 c =
     (splits path names same c.args.depth x c.requires c.index-names-depth.is)
     (inr (c.in-File-2.field-0, subst (IsEntry _ _) c.in-File-2.is c.entry_of-entry.ensures, more_names path names same c.args.depth x c.requires c.index-names-depth.is (λ e. omega (arith, e, c.if-is_last.false))))
 
-pub returns-in-Nothing : goal.returns-in-Nothing
-returns-in-Nothing c =
+pub returns-in-Nothing-clause-enters : goal.returns-in-Nothing-clause-enters
+returns-in-Nothing-clause-enters c =
     let path = c.args.self.now.path in
     let names = c.names-names.result.now in
     let same = c.names-names.ensures.value in

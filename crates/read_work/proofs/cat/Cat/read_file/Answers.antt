@@ -7,10 +7,10 @@ pub returns-in_ok-told_of-in-Here-clause-told : goal.returns-in_ok-told_of-in-He
 returns-in_ok-told_of-in-Here-clause-told g c = λ v is knows.
     body_told v.now c.args.self.now c.args.file c.requires knows c.in-Here.body (here_is v.now _ _ _ _ c.in-Here.body c.in-Here.is (c.in_ok-body.ensures.told v is)) c.args.self.now _ c.in_ok-told_of-in-Here.ensures
 
-pub returns-in-Absent-clause-told : goal.returns-in-Absent-clause-told
-returns-in-Absent-clause-told g c = λ v is knows.
-    no_file_there v.now c.args.self.now c.args.file c.requires knows _ _ c.lacking.ensures (inl (absent_is v.now _ _ _ _ c.in-Absent.is (c.in_ok-body.ensures.told v is)))
+pub returns-in_ok-lacking_of-in-Absent-clause-told : goal.returns-in_ok-lacking_of-in-Absent-clause-told
+returns-in_ok-lacking_of-in-Absent-clause-told g c = λ v is knows.
+    no_file_there v.now c.args.self.now c.args.file c.requires knows _ _ c.in_ok-lacking_of-in-Absent.ensures (inl (absent_is v.now _ _ _ _ c.in-Absent.is (c.in_ok-body.ensures.told v is)))
 
-pub returns-in-Damaged-clause-told : goal.returns-in-Damaged-clause-told
-returns-in-Damaged-clause-told g c = λ v is knows.
-    no_file_there v.now c.args.self.now c.args.file c.requires knows _ _ c.lacking-in-Damaged.ensures (inr (damaged_is v.now _ _ _ _ c.in-Damaged.is (c.in_ok-body.ensures.told v is)))
+pub returns-in_ok-lacking_of-in-Damaged-clause-told : goal.returns-in_ok-lacking_of-in-Damaged-clause-told
+returns-in_ok-lacking_of-in-Damaged-clause-told g c = λ v is knows.
+    no_file_there v.now c.args.self.now c.args.file c.requires knows _ _ c.in_ok-lacking_of-in-Damaged.ensures (inr (damaged_is v.now _ _ _ _ c.in-Damaged.is (c.in_ok-body.ensures.told v is)))

@@ -13,5 +13,5 @@ returns-in_ok-next-in-Look-clause-after g c = λ v told.
       now.0,
       subst (λ t. read_leaves t c.go.result c.go.new.self v v) (sym c.in-Look.is)
           (subst (λ u. read_leaves (Look look) u c.go.new.self v v) (sym c.go.ensures.turn)
-          (subst (λ n. read_leaves (Look look) (turn_of next) n v v) (sym c.go.ensures.next) (look_leaves look v next now.1))),
+          (subst (λ n. read_leaves (Look look) (turn_of next) n v v) (sym c.go.ensures.next) (look_leaves look v next (g.met.F.Fs.tree c.args.fs.now v told) now.1))),
     )
