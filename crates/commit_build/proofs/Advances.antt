@@ -1,13 +1,19 @@
 -- What came of an object in a step.
-use Rattle.std.proofs.Common.{◌≡◌, Bool, true, false, refl, sym, ◌∙◌, ap, subst, Some, None, Ok}
+use Rattle.std.proofs.Common.{◌≡◌, Bool, true, false, refl, sym, ◌∙◌, ap, subst, Option, Some, None, Ok}
+use Rattle.std.specs.Prelude.{◌&&◌}
+use Rattle.ost_types.specs.Path.{Path}
 use Rattle.fs_trait.specs.declared.types.FsErr.{FsErr}
 use Rattle.fs_trait.specs.declared.types.FsErr.TheVariants.{Failed, Exists, Missing, NotFolder, NotEmpty, NoMemory}
 use Rattle.fs_trait.specs.declared.types.Value.{Value}
 use Rattle.fs_trait.specs.declared.types.Value.TheVariants.{Absent, Folder as FolderValue, Link as LinkValue, File as FileValue}
 use Rattle.fs_trait.specs.declared.task.Turn.TheVariants.{More, Done}
 use Rattle.fs_trait.specs.View.{View}
+use Rattle.fs_trait.specs.Image.{Told}
 use Rattle.fs_trait.specs.Effect.{OfNone}
-use Rattle.fs_trait.specs.Seen.{seen}
+use Rattle.fs_trait.specs.Seen.{Seen, Vacant, seen, shows}
+use Rattle.fs_trait.specs.Change.{Writes}
+use Rattle.fs_trait.proofs.Facts.{vacant_absent}
+use Rattle.fs_trait.proofs.Kept.{weaker}
 use Rattle.repo_model.specs.Objects.{object_in, path_of}
 use Rattle.obj_store.specs.declared.source.Source.{Source}
 use Rattle.obj_store.specs.declared.phase.Put.{Put}
@@ -15,8 +21,8 @@ use Rattle.obj_store.specs.declared.phase.Put.TheVariants.{Stored, Present}
 use Rattle.obj_store.specs.declared.phase.Phase.{Phase}
 use Rattle.obj_store.specs.declared.phase.Phase.TheVariants.{Look, Stage, Folder, Link, Unlink, Ended}
 use Rattle.obj_store.specs.Putting.{Putting, IsMade, IsStepped, Follows, IsLast, put_in}
-use Rattle.obj_store.specs.Steps.{Came, Tells, Refuses, goes_on, ends, would_store_in, MayStore}
-use Rattle.commit_build.specs.Advancing.{newly, CameOf, HasRoom}
+use Rattle.obj_store.specs.Steps.{Came, Tells, Refuses, WritesOf, goes_on, ends, would_store_in, writes_in, MayStore}
+use Rattle.commit_build.specs.Advancing.{newly, CameOf, HasRoom, WritesIn}
 use Rattle.commit_build.specs.Steps.{IsThere}
 
 pub may_link : (ph : Phase) → MayStore ph true → ph ≡ Link
@@ -99,6 +105,17 @@ module _ (full : Bool) (old : Putting) (v w : View) (full_there : full ≡ true 
 
   pub over_came : (new : Putting) (e : Put) → IsStepped old (Ok (Done e)) new → Tells old new v w (Done e) → CameOf full (newly (put_in old.phase) (Some e)) old v w
   over_came new e stepped told = over e old.phase refl stepped.1 told
+
+-- an object is put where nothing stands, and so with room
+pub few_writes : (full : Bool) (t : Putting) (v w : View) → (full ≡ true → would_store_in t.phase (v.now.at (path_of t.name)) ≡ false) → Writes (WritesOf t v) v w → Writes (WritesIn full t v) v w
+few_writes full t v w there writes = weaker (WritesOf t v) (WritesIn full t v) v w (λ p s wrote. (wrote, λ link. room_at p s link (subst (λ ph. writes_in ph t v p s) link wrote))) writes
+  where
+    room_at : (p : Path) (s : Seen) → t.phase ≡ Link → writes_in Link t v p s → full ≡ false
+    room_at p s link wrote = no_room full t v w there full refl link (vacant_absent v.now (path_of t.name) (subst (λ q. shows v.now q ≡ Vacant) wrote.0 wrote.2))
+
+pub few_step : (full none : Bool) (t : Putting) (v : View) (view : Option View) → none ≡ (full && would_store_in t.phase (v.now.at (path_of t.name))) → none ≡ false → Told view (λ w. Writes (WritesOf t v) v w) → Told view (λ w. Writes (WritesIn full t v) v w)
+few_step full none t v view is not told =
+    (told.0, told.1, few_writes full t v told.0 (λ e. subst (λ f. (f && would_store_in t.phase (v.now.at (path_of t.name))) ≡ false) e (sym is ∙ not)) told.2)
 
 -- what came of the object is there
 pub came_there : (t : Putting) (v w : View) (e : Put) → IsMade t → Came e t v w → IsThere w.now t.name

@@ -58,7 +58,7 @@ module _ (q : Putting) (w : View) (needs : put.Needs q w) (name : ObjName) (s : 
   pub puts_link : put.WritesOf q w (path_of name) s → q.phase ≡ at.Link
   puts_link = links q.phase needs.meets
 
-calm_off : (ph : Phase) → IsCalm ph → (w : View) (name : ObjName) (s : Seen) → writes_in ph w (path_of name) s → ⊥
+pub calm_off : (ph : Phase) → IsCalm ph → (w : View) (name : ObjName) (s : Seen) → writes_in ph w (path_of name) s → ⊥
 calm_off phase.Check calm w name s a = a
 calm_off phase.Make calm w name s a = a
 calm_off (phase.Made c) calm w name s a = a

@@ -1,5 +1,5 @@
 -- How many objects a tree has at most.
-use Rattle.std.proofs.Common.{◌≡◌, ◌≤◌, ◌*◌, ℕ, List, [], ◌∷◌, length, Option, Some, None, refl, arith}
+use Rattle.std.proofs.Common.{◌≡◌, ◌≤◌, ◌*◌, List, [], ◌∷◌, length, Option, Some, None, refl, arith}
 use Rattle.ost_forms.specs.declared.tree_item.BodySpec.{BodySpec}
 use Rattle.ost_forms.specs.declared.tree_item.TreeItem.{TreeItem}
 use Rattle.tree_build.specs.Objects.{work}

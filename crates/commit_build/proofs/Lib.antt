@@ -13,3 +13,5 @@ pub mod Counted
 pub mod Endings
 pub mod Stable
 pub mod Fewness
+pub mod Rooms
+pub mod Storings

@@ -1,17 +1,19 @@
 -- A step of putting an object into a store that may be full.
 use Rattle.std.specs.Prelude.{◌≡◌, ◌⊎◌, Bool, true, false, Option, Some, None, Result, Ok, Err}
+use Rattle.ost_types.specs.Path.{Path}
 use Rattle.fs_trait.specs.declared.types.FsErr.{FsErr}
 use Rattle.fs_trait.specs.declared.types.Value.TheVariants.{Absent}
 use Rattle.fs_trait.specs.declared.task.Turn.TheVariants.{More, Done}
 use Rattle.fs_trait.specs.View.{View}
 use Rattle.fs_trait.specs.Effect.{OfNone}
+use Rattle.fs_trait.specs.Seen.{Seen}
 use Rattle.repo_model.specs.Objects.{path_of}
 use Rattle.obj_store.specs.declared.phase.Put.{Put}
 use Rattle.obj_store.specs.declared.phase.Put.TheVariants.{Stored, Present}
 use Rattle.obj_store.specs.declared.phase.Phase as putting
 use Rattle.obj_store.specs.declared.phase.Phase.TheVariants.{Link}
 use Rattle.obj_store.specs.Putting.{Putting, IsStepped, put_in}
-use Rattle.obj_store.specs.Steps.{Came, OfPhase}
+use Rattle.obj_store.specs.Steps.{Came, OfPhase, WritesOf}
 use Rattle.commit_build.specs.declared.advance.Progress.{Progress}
 use Rattle.commit_build.specs.declared.advance.Progress.TheVariants.{Full, Further, Over}
 
@@ -19,6 +21,10 @@ use Rattle.commit_build.specs.declared.advance.Progress.TheVariants.{Full, Furth
 abbrev pub newly : Option Put → Option Put → Option Put
 newly (Some put) now = None
 newly None now = now
+
+-- what it may write: no object where there is no room
+abbrev pub WritesIn : Bool → Putting → View → Path → Seen → Type 0
+WritesIn full t v p s = WritesOf t v p s × (t.phase ≡ Link → full ≡ false)
 
 -- it is the step that puts the object, and there is no room
 abbrev pub MayBeFull : Bool → putting.Phase → Bool → Type 0

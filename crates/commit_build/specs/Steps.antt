@@ -29,7 +29,7 @@ use Rattle.commit_build.specs.declared.refusal.BuildRefusal.{BuildRefusal}
 use Rattle.commit_build.specs.declared.phase.Phase.{Phase}
 use Rattle.commit_build.specs.declared.phase.Phase.TheVariants as phase
 use Rattle.commit_build.specs.Advancing as advancing
-use Rattle.commit_build.specs.Committing.{Committing, IsMade, named_commit}
+use Rattle.commit_build.specs.Committing.{Committing, IsMade, Links, named_commit}
 
 -- what the next step may write
 abbrev pub writes_in : Phase → View → Path → Seen → Type 0
@@ -40,6 +40,10 @@ writes_in ph v p s = ⊥
 
 abbrev pub WritesOf : Committing → View → Path → Seen → Type 0
 WritesOf t v = writes_in t.phase v
+
+-- and with so many objects in the store: where these are as many as the bound no object is put
+abbrev pub WritesIn : ℕ → Committing → View → Path → Seen → Type 0
+WritesIn count t v p s = WritesOf t v p s × (Links t.phase → count < t.limits.objects)
 
 -- The folders that are used are there, and none stands at the staging path.
 pub record HasHomes (actor : ℕ) (d : Disk) : Type 0 where

@@ -8,7 +8,7 @@ ghost use Rattle.fs_trait.specs.declared.types.FsErr.TheVariants as err;
 ghost use Rattle.repo_model.specs.Objects.{path_of};
 ghost use Rattle.obj_store.specs.Putting.{Takes, left};
 ghost use Rattle.obj_store.specs.Steps.{Needs, WritesOf, Refuses, would_store_in};
-ghost use Rattle.commit_build.specs.Advancing.{IsAdvanced, Tells, MayBeFull, MayRefuse, newly, OnFurther};
+ghost use Rattle.commit_build.specs.Advancing.{IsAdvanced, Tells, MayBeFull, MayRefuse, newly, OnFurther, WritesIn};
 
 use fs_trait::{Fs, FsErr, Turn};
 use obj_store::{Put, PutTask};
@@ -26,6 +26,7 @@ pub(crate) enum Progress {
 pub(crate) fn advance<F: Fs>(task: &mut PutTask, fs: &mut F, full: bool) -> Result<Progress, FsErr>
     requires { (v : View) → F.view fs.old ≡ Some v → Needs task.old v }
     ensures writes { (v : View) → F.view fs.old ≡ Some v → Told (F.view fs.new) (λ w. Writes (WritesOf task.old v) v w) }
+    ensures few { (v : View) → F.view fs.old ≡ Some v → Told (F.view fs.new) (λ w. Writes (WritesIn full task.old v) v w) }
     ensures after { (v : View) → F.view fs.old ≡ Some v → OnOk result (Told (F.view fs.new) (λ w. Needs task.new w)) }
     ensures tells { (v : View) → F.view fs.old ≡ Some v → IfOk result (λ progress. Told (F.view fs.new) (λ w. Tells full task.old v w progress)) }
     ensures fails { (v : View) → F.view fs.old ≡ Some v → IfErr result (Refuses task.old v) }

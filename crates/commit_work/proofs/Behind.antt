@@ -1,5 +1,5 @@
 -- What a commit has stored or found, it has behind it after each further step.
-use Rattle.std.proofs.Common.{◌≡◌, inl, inr, ⊎_elim, ℕ, ◌<◌, ◌+◌, suc, zero, pred, refl, sym, ◌∙◌, ap, subst, arith, List, Option, Some, None}
+use Rattle.std.proofs.Common.{◌≡◌, inl, inr, ⊎_elim, ℕ, ◌<◌, ◌+◌, suc, zero, pred, refl, sym, subst, arith, List, Option, Some, None}
 use Rattle.ost_types.specs.declared.object.ObjName.{ObjName}
 use Rattle.fs_trait.specs.declared.task.Turn.TheVariants as turn
 use Rattle.tree_build.specs.Objects.{Object}
@@ -16,7 +16,7 @@ use Rattle.commit_build.specs.Whole.{IsOfCommit}
 use Rattle.commit_build.proofs.Stable.{IsSeenTo, Relies, relied_in}
 use Rattle.commit_work.specs.declared.naming.Naming.{Naming}
 use Rattle.commit_work.specs.declared.command.CommitCommand.{CommitCommand}
-use Rattle.commit_work.specs.Kinds.{BuildSteps, built, commit_stepped, planned, stepped_at, stepped_by}
+use Rattle.commit_work.specs.Kinds.{BuildSteps, commit_stepped, stepped_at, stepped_by}
 use Rattle.commit_work.specs.Held.{HasBehind, behind_by}
 use Rattle.commit_work.specs.Laws.{commit_phase}
 use Rattle.commit_work.specs.Relying.{before_count, within_made}

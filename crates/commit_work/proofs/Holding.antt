@@ -1,6 +1,6 @@
 -- From the facts of a commit that runs: what it has stored or found is pinned, and there; and that a step which stored an object had
 -- room for it.
-use Rattle.std.proofs.Common.{◌≡◌, ◌≢◌, inl, inr, ⊎_elim, ◌<◌, ℕ, refl, sym, ◌∙◌, ap, subst, List, Option, Some, None}
+use Rattle.std.proofs.Common.{◌≡◌, inl, inr, ⊎_elim, ◌<◌, ℕ, refl, sym, ◌∙◌, ap, subst, List, Option, Some, None}
 use Rattle.ost_types.specs.declared.object.ObjName.{ObjName}
 use Rattle.fs_trait.specs.declared.types.Value.TheVariants.{Absent}
 use Rattle.fs_trait.specs.declared.task.Turn.TheVariants as turn
@@ -16,7 +16,7 @@ use Rattle.obj_store.specs.declared.phase.Phase.TheVariants as at
 use Rattle.obj_store.specs.Putting.{Putting}
 use Rattle.commit_build.specs.declared.phase.Phase.{Phase}
 use Rattle.commit_build.specs.declared.phase.Phase.TheVariants as phase
-use Rattle.commit_build.specs.Committing.{Committing, Follows, IsEnded, IsMade, commit_in, named_commit}
+use Rattle.commit_build.specs.Committing.{Committing, Follows, IsEnded, commit_in, named_commit}
 use Rattle.commit_build.specs.Steps.{AreSure, CameOf, IsSure, IsThere, Needs, NeverMarked, came_in, once_seen_to}
 use Rattle.commit_build.specs.Whole.{its_commit, IsOfCommit}
 use Rattle.commit_build.proofs.MetSteps.{Met, met_put, met_commit, met_calm}
@@ -25,8 +25,8 @@ use Rattle.commit_build.proofs.Stable.{IsSeenTo, relied_in}
 use Rattle.rely.specs.Books.{Books}
 use Rattle.commit_work.specs.declared.naming.Naming.{Naming}
 use Rattle.commit_work.specs.declared.command.CommitCommand.{CommitCommand}
-use Rattle.commit_work.specs.Kinds.{BuildSteps, Builds, built, commit_leaves, leaves_at, leaves_by, met_in}
-use Rattle.commit_work.specs.Facts.{Building, Changing, commit_facts, facts_by}
+use Rattle.commit_work.specs.Kinds.{BuildSteps, Builds, commit_leaves, leaves_at, leaves_by, met_in}
+use Rattle.commit_work.specs.Facts.{commit_facts, facts_by}
 use Rattle.commit_work.specs.Held.{AreHeld, AreHeldBy, IsCommitSynced, IsTreeSynced, WasLacking}
 
 -- what is sure to be there, is there

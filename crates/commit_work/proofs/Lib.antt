@@ -6,3 +6,4 @@ pub mod Founded
 pub mod Behind
 pub mod Holding
 pub mod Pinning
+pub mod Stored

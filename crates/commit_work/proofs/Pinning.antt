@@ -1,5 +1,5 @@
 -- What a step of a commit pins is an object of the commit.
-use Rattle.std.proofs.Common.{◌≡◌, inl, inr, ℕ, Bool, true, false, refl, sym, ◌∙◌, ap, subst, List, Option, Some, None}
+use Rattle.std.proofs.Common.{◌≡◌, inl, inr, Bool, true, false, refl, sym, ◌∙◌, Option, Some, None}
 use Rattle.ost_types.specs.declared.object.ObjName.{ObjName}
 use Rattle.tree_build.specs.Objects.{Object}
 use Rattle.obj_store.specs.Putting as put

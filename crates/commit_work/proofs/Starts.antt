@@ -13,7 +13,7 @@ use Rattle.tree_build.specs.Objects as tree
 use Rattle.commit_build.specs.declared.phase.Phase.{Phase}
 use Rattle.commit_build.specs.declared.phase.Phase.TheVariants as phase
 use Rattle.commit_build.specs.Committing.{Committing}
-use Rattle.commit_build.specs.Steps.{Needs, WritesOf, needs_in, HasHomes}
+use Rattle.commit_build.specs.Steps.{Needs, WritesIn, needs_in, HasHomes}
 use Rattle.commit_build.proofs.Stable.{relied_in, commit_lies}
 use Rattle.rely.specs.declared.books.Entry.{Entry}
 use Rattle.rely.specs.declared.books.Pending.{Pending}
@@ -29,14 +29,14 @@ use Rattle.commit_work.specs.Facts.{Building, facts_by, commit_facts}
 use Rattle.commit_work.specs.Answers.{Begins}
 use Rattle.commit_work.specs.Laws.{no_folder_staged}
 
-home_build : (lane : ℕ) (t : Committing) (v w : View) → Needs t v → t.actor ≡ lane → Writes (WritesOf t v) v w → Home lane v → Home lane w
-home_build lane t v w needs mine writes home = subst (λ a. NotDirectory (shows w.now (stage_path a))) mine (⊎_elim
+home_build : (lane objects : ℕ) (t : Committing) (v w : View) → Needs t v → t.actor ≡ lane → Writes (WritesIn objects t v) v w → Home lane v → Home lane w
+home_build lane objects t v w needs mine writes home = subst (λ a. NotDirectory (shows w.now (stage_path a))) mine (⊎_elim
     (λ same. subst NotDirectory (sym same) (subst (λ a. NotDirectory (shows v.now (stage_path a))) (sym mine) home))
-    (λ wrote. no_folder_staged t v needs.made.actor (stage_path t.actor) _ (commit_lies t v needs (stage_path t.actor) _ wrote) refl)
+    (λ wrote. no_folder_staged t v needs.made.actor (stage_path t.actor) _ (commit_lies t v needs (stage_path t.actor) _ wrote.0) refl)
     (writes.now (stage_path t.actor)))
 
 home_by : (o : Option Naming) (actor lane : ℕ) (t : CommitCommand) (v w : View) (b : Books) → facts_by o lane t v b → Writes (writes_by o actor t v) v w → Home lane v → Home lane w
-home_by None actor lane t v w b f writes home = home_build lane t.build v w f.needs f.mine writes home
+home_by None actor lane t v w b f writes home = home_build lane t.objects t.build v w f.needs f.mine writes home
 home_by (Some n) actor lane t v w b f writes home = home_own lane n.work.task v f.ref.needs f.ref.mine w writes home
 
 pub own_of : (actor lane : ℕ) (t : CommitCommand) (v w : View) (b : Books) → commit_facts lane t v b → Writes (commit_writes actor t v) v w → Home lane v → Home lane w

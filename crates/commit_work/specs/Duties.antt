@@ -25,7 +25,7 @@ use Rattle.tree_build.specs.Objects as tree
 use Rattle.commit_build.specs.declared.phase.Phase.{Phase}
 use Rattle.commit_build.specs.declared.phase.Phase.TheVariants as phase
 use Rattle.commit_build.specs.Committing.{Puts, need_in, named_by, storing_in}
-use Rattle.commit_build.specs.Steps.{WritesOf}
+use Rattle.commit_build.specs.Steps.{WritesIn}
 use Rattle.commit_build.proofs.Stable.{Lies, commit_lies}
 use Rattle.commit_build.proofs.Wholes.{of_commit_sum}
 use Rattle.rely.specs.declared.books.Share.{Share}
@@ -140,18 +140,18 @@ module _ (b : Books) (v : View) (lane : ℕ) (t : CommitCommand) (f : Building l
       more)
       l.place
 
-  within : (need_in t.build.phase ≡ Shared → Free b.exclusive lane) → Within (WritesOf t.build v) (May b v lane lane)
+  within : (need_in t.build.phase ≡ Shared → Free b.exclusive lane) → Within (WritesIn t.objects t.build v) (May b v lane lane)
   within free p s wrote =
-      let l = commit_lies t.build v f.needs p s wrote in
+      let l = commit_lies t.build v f.needs p s wrote.0 in
       record { at = at p s free l; comes = comes p s l; folders = inr (inl l.folders); fits = fits p s l; objects = objects p s l; marks = marks p s l }
 
-  still : Still (WritesOf t.build v) v
+  still : Still (WritesIn t.objects t.build v) v
   still (RefOf name) s wrote =
-      let n : OfBuild t.build.actor (Ref name) = subst (OfBuild t.build.actor) (place-ref name) (build_place t.build v f.needs.made.actor _ s (commit_lies t.build v f.needs _ s wrote)) in
+      let n : OfBuild t.build.actor (Ref name) = subst (OfBuild t.build.actor) (place-ref name) (build_place t.build v f.needs.made.actor _ s (commit_lies t.build v f.needs _ s wrote.0)) in
       absurd n
 
   -- each step of the build keeps the duty of its kind
   pub build_duty : (actor : ℕ) (o : Option ObjName) → storing_in t.build.phase ≡ o → Agrees b → Stood (build_kind t.pinned o) actor lane b → (Done : View → Type 0)
-      → Duty (build_kind t.pinned o) actor lane v b (WritesOf t.build v) Done
+      → Duty (build_kind t.pinned o) actor lane v b (WritesIn t.objects t.build v) Done
   build_duty actor None is agrees stood Done = (within (λ shared. absurd (stores t.build.phase shared is)), still)
   build_duty actor (Some name) is agrees stood Done = (within (λ shared. free_by b actor lane agrees (stood.shared refl)), still)

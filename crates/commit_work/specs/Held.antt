@@ -1,11 +1,12 @@
 -- What a commit that runs has stored or found of its objects: it is pinned for the lane, and stands at its path.
-use Rattle.std.specs.Prelude.{◌≡◌, ◌<◌, ℕ, Option, Some, None}
+use Rattle.std.specs.Prelude.{◌≡◌, ◌⊎◌, ◌<◌, ℕ, Option, Some, None}
 use Rattle.ost_types.specs.declared.object.ObjName.{ObjName}
 use Rattle.fs_trait.specs.declared.types.Value.TheVariants.{Absent}
 use Rattle.fs_trait.specs.View.{View}
 use Rattle.repo_model.specs.Objects.{path_of}
 use Rattle.tree_build.specs.Objects.{Object}
 use Rattle.obj_store.specs.declared.phase.Put.{Put}
+use Rattle.obj_store.specs.declared.phase.Put.TheVariants.{Stored}
 use Rattle.commit_build.specs.declared.phase.Phase.{Phase}
 use Rattle.commit_build.specs.declared.phase.Phase.TheVariants as phase
 use Rattle.commit_build.specs.Committing.{Committing, IsEnded}
@@ -64,3 +65,7 @@ AreHeld lane t v b = AreHeldBy t.change lane t.build v b
 -- nothing stood at the object's path, and the store had room for one more by the count that was told
 abbrev pub WasLacking : CommitCommand → ObjName → View → Type 0
 WasLacking t name v = (t.objects < t.build.limits.objects) × (v.now.at (path_of name) ≡ Absent)
+
+-- the step stored the object, or nothing changed
+abbrev pub StoredThere : CommitCommand → ObjName → View → View → Type 0
+StoredThere new name v w = (w ≡ v) ⊎ (met_in new.change new.build ≡ Some (name, Stored))

@@ -15,7 +15,7 @@ use Rattle.obj_store.specs.declared.phase.Put.{Put}
 use Rattle.commit_build.specs.declared.refusal.BuildRefusal.{BuildRefusal}
 use Rattle.commit_build.specs.Committing as build
 use Rattle.commit_build.specs.Committing.{Committing, storing_in, commit_in}
-use Rattle.commit_build.specs.Steps.{Needs, WritesOf, Refuses, FullAt, came_in}
+use Rattle.commit_build.specs.Steps.{Needs, WritesIn, WritesOf, Refuses, FullAt, came_in}
 use Rattle.rely.specs.declared.kind.Wants.{Wants}
 use Rattle.rely.specs.Laws.{Kind, Quiet, Take}
 use Rattle.ref_work.specs.declared.work.RefWork.{RefWork}
@@ -51,7 +51,7 @@ abbrev pub commit_needs : ℕ → CommitCommand → View → Type 0
 commit_needs actor t v = needs_by t.change actor t v
 
 abbrev pub writes_by : Option Naming → ℕ → CommitCommand → View → Path → Seen → Type 0
-writes_by None actor t v p s = WritesOf t.build v p s
+writes_by None actor t v p s = WritesIn t.objects t.build v p s
 writes_by (Some n) actor t v p s = ref_writes actor n.work v p s
 
 abbrev pub commit_writes : ℕ → CommitCommand → View → Path → Seen → Type 0

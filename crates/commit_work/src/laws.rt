@@ -1,10 +1,13 @@
 //! What others may rest on, beside the contracts of the steps.
-ghost use Rattle.std.specs.Prelude.{◌≡◌, ◌<◌, ℕ, List, Option, Some, IsSome};
+ghost use Rattle.std.specs.Prelude.{◌≡◌, ◌<◌, ◌^◌, ℕ, List, Option, Some, IsSome};
 ghost use Rattle.fs_trait.specs.declared.types.FsErr.{FsErr};
 ghost use Rattle.fs_trait.specs.Effect.{OfNone};
 ghost use Rattle.fs_trait.specs.Image.{IsTree};
 ghost use Rattle.fs_trait.specs.View.{View};
 ghost use Rattle.fs_trait.specs.Change.{Writes};
+ghost use Rattle.fs_trait.specs.Seen.{Seen};
+ghost use Rattle.repo_layout.specs.RefFile.{IsSum};
+ghost use Rattle.repo_model.specs.Objects.{path_of};
 ghost use Rattle.fs_trait.specs.declared.task.Turn.TheVariants as turn;
 ghost use Rattle.rely.specs.declared.books.Entry.{Entry};
 ghost use Rattle.rely.specs.declared.books.Pending.{Pending};
@@ -21,7 +24,7 @@ ghost use Rattle.tree_build.specs.Objects.{Object};
 ghost use Rattle.ost_types.specs.declared.object.ObjName.{ObjName};
 ghost use Rattle.obj_store.specs.declared.phase.Put.TheVariants.{Stored};
 ghost use Rattle.commit_work.specs.Facts.{commit_facts};
-ghost use Rattle.commit_work.specs.Held.{AreHeld, HasBehind, WasLacking};
+ghost use Rattle.commit_work.specs.Held.{AreHeld, HasBehind, StoredThere, WasLacking};
 ghost use Rattle.commit_work.specs.Kinds.{commit_kind, commit_leaves, commit_left, commit_refuses, commit_stepped, commit_writes, met_in};
 
 /// No step of a commit leaves a folder where its lane stages, whatever the step answers; and where there is none, and the
@@ -39,8 +42,13 @@ pub fn commits_that_run()
 {}
 
 /// A step that stored an object did so where nothing stood at its path, and where the store had room for it by the count that was told.
+/// One that may write at an object's path had room, whatever it answers; where it goes on it stored that object, or changed nothing, and
+/// the last one changed nothing.
 pub fn objects_that_are_stored()
-    ensures { (t new : CommitCommand) (v w : View) (name : ObjName) → commit_leaves t turn.More new v w → met_in new.change new.build ≡ Some (name, Stored) → WasLacking t name v }
+    ensures lacked { (t new : CommitCommand) (v w : View) (name : ObjName) → commit_leaves t turn.More new v w → met_in new.change new.build ≡ Some (name, Stored) → WasLacking t name v }
+    ensures room { (actor lane : ℕ) (t : CommitCommand) (v : View) (b : Books) → commit_facts lane t v b → (name : ObjName) (s : Seen) → IsSum name.csum → commit_writes actor t v (path_of name) s → (t.objects < t.build.limits.objects) × (t.build.limits.objects < 2 ^ 32) }
+    ensures stored { (actor lane : ℕ) (t new : CommitCommand) (v w : View) (b : Books) → commit_facts lane t v b → commit_leaves t turn.More new v w → (name : ObjName) (s : Seen) → IsSum name.csum → commit_writes actor t v (path_of name) s → StoredThere new name v w }
+    ensures done { (actor lane : ℕ) (t new : CommitCommand) (v w : View) (b : Books) → commit_facts lane t v b → commit_leaves t (turn.Done tt) new v w → (name : ObjName) (s : Seen) → IsSum name.csum → commit_writes actor t v (path_of name) s → w ≡ v }
 {}
 
 /// Only a commit that lasts is shown under the ref: no crash leaves it or an object of its tree away, or a mark of it.

@@ -5,7 +5,7 @@ ghost use Rattle.fs_trait.specs.Image.{Told};
 ghost use Rattle.fs_trait.specs.Effect.{Elapses, HasCause};
 ghost use Rattle.fs_trait.specs.Change.{Writes};
 ghost use Rattle.fs_trait.specs.declared.types.FsErr.TheVariants as err;
-ghost use Rattle.commit_build.specs.Steps.{Needs, WritesOf, Refuses};
+ghost use Rattle.commit_build.specs.Steps.{Needs, WritesIn, Refuses};
 ghost use Rattle.commit_build.specs.Committing.{commit_in};
 ghost use Rattle.commit_work.specs.Kinds.{BuildSteps, BuildLeaves, leaves_at, leaves_build, planned, refuses_at, stepped_at, stepped_build};
 
@@ -18,7 +18,7 @@ impl CommitCommand {
     /// Does the next step of the build; once all is done the change of the ref begins.
     pub(crate) fn build_on<F: Fs>(&mut self, fs: &mut F) -> Result<Turn<()>, FsErr>
         requires needs { (v : View) → F.view fs.old ≡ Some v → Needs self.old.build v }
-        ensures writes { (v : View) → F.view fs.old ≡ Some v → Told (F.view fs.new) (λ w. Writes (WritesOf self.old.build v) v w) }
+        ensures writes { (v : View) → F.view fs.old ≡ Some v → Told (F.view fs.new) (λ w. Writes (WritesIn self.old.objects self.old.build v) v w) }
         ensures unchanged { (v : View) → F.view fs.old ≡ Some v → IsErrOf result err.NoMemory → F.view fs.new ≡ Some v }
         ensures stepped { IfOk result (λ u. stepped_at (commit_in self.old.build.phase) self.old u self.new) }
         ensures after { (v : View) → F.view fs.old ≡ Some v → IfOk result (λ u. Told (F.view fs.new) (λ w. leaves_at (commit_in self.old.build.phase) self.old u self.new v w)) }
@@ -46,7 +46,7 @@ impl CommitCommand {
 
     fn go_on<F: Fs>(&mut self, fs: &mut F) -> Result<Turn<()>, FsErr>
         requires needs { (v : View) → F.view fs.old ≡ Some v → Needs self.old.build v }
-        ensures writes { (v : View) → F.view fs.old ≡ Some v → Told (F.view fs.new) (λ w. Writes (WritesOf self.old.build v) v w) }
+        ensures writes { (v : View) → F.view fs.old ≡ Some v → Told (F.view fs.new) (λ w. Writes (WritesIn self.old.objects self.old.build v) v w) }
         ensures unchanged { (v : View) → F.view fs.old ≡ Some v → IsErrOf result err.NoMemory → F.view fs.new ≡ Some v }
         ensures stepped { IfOk result (λ u. stepped_build self.old u self.new) }
         ensures after { (v : View) → F.view fs.old ≡ Some v → IfOk result (λ u. Told (F.view fs.new) (λ w. leaves_build self.old u self.new v w)) }
@@ -75,7 +75,7 @@ fn build_step<F: Fs>(
     objects: u32,
 ) -> Result<Option<BuildRefusal>, FsErr>
     requires { (v : View) → F.view fs.old ≡ Some v → Needs build.old v }
-    ensures writes { (v : View) → F.view fs.old ≡ Some v → Told (F.view fs.new) (λ w. Writes (WritesOf build.old v) v w) }
+    ensures writes { (v : View) → F.view fs.old ≡ Some v → Told (F.view fs.new) (λ w. Writes (WritesIn objects build.old v) v w) }
     ensures unchanged { (v : View) → F.view fs.old ≡ Some v → IsErrOf result err.NoMemory → F.view fs.new ≡ Some v }
     ensures stepped { IfOk result (λ refusal. BuildSteps objects build.old refusal build.new) }
     ensures after { (v : View) → F.view fs.old ≡ Some v → IfOk result (λ refusal. Told (F.view fs.new) (λ w. BuildLeaves objects build.old refusal build.new v w)) }

@@ -9,7 +9,7 @@ ghost use Rattle.commit_build.specs.declared.phase.Phase.TheVariants as phase;
 ghost use Rattle.commit_build.specs.declared.refusal.BuildRefusal.TheVariants as refusal;
 ghost use Rattle.fs_trait.specs.declared.task.Turn.TheVariants as turn;
 ghost use Rattle.commit_build.specs.Committing.{Committing, IsPut, IsPutCommit, IsSyncCommit, IsUnmark, IsSyncState, IsStepped, MayTick, OnMore, Takes, left, met_of};
-ghost use Rattle.commit_build.specs.Steps.{Needs, WritesOf, Refuses, Tells, OfPhase, TakesLeaf, is_leaf_node};
+ghost use Rattle.commit_build.specs.Steps.{Needs, WritesOf, WritesIn, Refuses, Tells, OfPhase, TakesLeaf, is_leaf_node};
 
 use super::CommitTask;
 use crate::advance::{Progress, advance};
@@ -30,6 +30,7 @@ impl CommitTask {
     ) -> Result<Turn<Result<Csum, BuildRefusal>>, FsErr>
         requires { (v : View) → F.view fs.old ≡ Some v → Needs self.old v }
         ensures writes { (v : View) → F.view fs.old ≡ Some v → Told (F.view fs.new) (λ w. Writes (WritesOf self.old v) v w) }
+        ensures few { (v : View) → F.view fs.old ≡ Some v → Told (F.view fs.new) (λ w. Writes (WritesIn count self.old v) v w) }
         ensures after { (v : View) → F.view fs.old ≡ Some v → OnOk result (Told (F.view fs.new) (λ w. Needs self.new w)) }
         ensures tells { (v : View) → F.view fs.old ≡ Some v → IfOk result (λ turn. Told (F.view fs.new) (λ w. Tells count self.old self.new v w turn)) }
         ensures fails { (v : View) → F.view fs.old ≡ Some v → IfErr result (Refuses self.old v) }
@@ -61,6 +62,7 @@ impl CommitTask {
         requires phase { IsPut self.old.phase }
         requires needs { (v : View) → F.view fs.old ≡ Some v → Needs self.old v }
         ensures writes { (v : View) → F.view fs.old ≡ Some v → Told (F.view fs.new) (λ w. Writes (WritesOf self.old v) v w) }
+        ensures few { (v : View) → F.view fs.old ≡ Some v → Told (F.view fs.new) (λ w. Writes (WritesIn count self.old v) v w) }
         ensures after { (v : View) → F.view fs.old ≡ Some v → OnOk result (Told (F.view fs.new) (λ w. Needs self.new w)) }
         ensures tells { (v : View) → F.view fs.old ≡ Some v → IfOk result (λ turn. Told (F.view fs.new) (λ w. Tells count self.old self.new v w turn)) }
         ensures fails { (v : View) → F.view fs.old ≡ Some v → IfErr result (Refuses self.old v) }
@@ -100,6 +102,7 @@ impl CommitTask {
         requires phase { IsPutCommit self.old.phase }
         requires needs { (v : View) → F.view fs.old ≡ Some v → Needs self.old v }
         ensures writes { (v : View) → F.view fs.old ≡ Some v → Told (F.view fs.new) (λ w. Writes (WritesOf self.old v) v w) }
+        ensures few { (v : View) → F.view fs.old ≡ Some v → Told (F.view fs.new) (λ w. Writes (WritesIn count self.old v) v w) }
         ensures after { (v : View) → F.view fs.old ≡ Some v → OnOk result (Told (F.view fs.new) (λ w. Needs self.new w)) }
         ensures tells { (v : View) → F.view fs.old ≡ Some v → IfOk result (λ turn. Told (F.view fs.new) (λ w. Tells count self.old self.new v w turn)) }
         ensures fails { (v : View) → F.view fs.old ≡ Some v → IfErr result (Refuses self.old v) }

@@ -9,6 +9,7 @@ use Rattle.commit_build.specs.Steps.{Needs, writes_in}
 use Rattle.commit_build.proofs.PutSteps.{needs_as}
 use Rattle.commit_build.proofs.PhaseSteps.{told_three, told_two}
 use Rattle.commit_build.proofs.PutTells.{full_after, commit_further, commit_ended, commit_tells}
+use Rattle.commit_build.proofs.Rooms.{told_commit}
 use Rattle.commit_build.proofs.task.CommitTask.put_commit.Goals as goal
 
 pub advance-requires : goal.advance-requires
@@ -54,3 +55,26 @@ returns-in-Over-clause-tells g c = λ v told.
     let phase = sym (ap (λ (t : Committing). t.phase) c.self.view_is) ∙ c.in-PutCommit.is in
     let room = subst (λ (t : Committing). c.at_bound-full.result ≡ false → c.args.count < t.limits.objects) c.self.view_is c.at_bound-full.ensures.room in
     told_two _ _ _ (λ w came. commit_tells c.args.self.now c.in-PutCommit.put phase c.at_bound-full.result c.args.count room c.in-Over.end _ _ c.met_of-self-inside-in-Over.ensures c.name-name.ensures v w came) tells
+
+pub returns-in_err-advance-clause-few : goal.returns-in_err-advance-clause-few
+returns-in_err-advance-clause-few g c = λ v told.
+    let phase = sym (ap (λ (t : Committing). t.phase) c.self.view_is) ∙ c.in-PutCommit.is in
+    let room = subst (λ (t : Committing). c.at_bound-full.result ≡ false → c.args.count < t.limits.objects) c.self.view_is c.at_bound-full.ensures.room in
+    told_commit c.args.self.now c.args.count v _ c.in-PutCommit.put c.at_bound-full.result room phase (c.advance.ensures.few v told)
+
+pub returns-in-Further-clause-few : goal.returns-in-Further-clause-few
+returns-in-Further-clause-few g c = λ v told.
+    let phase = sym (ap (λ (t : Committing). t.phase) c.self.view_is) ∙ c.in-PutCommit.is in
+    let room = subst (λ (t : Committing). c.at_bound-full.result ≡ false → c.args.count < t.limits.objects) c.self.view_is c.at_bound-full.ensures.room in
+    told_commit c.args.self.now c.args.count v _ c.in-PutCommit.put c.at_bound-full.result room phase (c.advance.ensures.few v told)
+
+pub returns-in-Over-clause-few : goal.returns-in-Over-clause-few
+returns-in-Over-clause-few g c = λ v told.
+    let phase = sym (ap (λ (t : Committing). t.phase) c.self.view_is) ∙ c.in-PutCommit.is in
+    let room = subst (λ (t : Committing). c.at_bound-full.result ≡ false → c.args.count < t.limits.objects) c.self.view_is c.at_bound-full.ensures.room in
+    told_commit c.args.self.now c.args.count v _ c.in-PutCommit.put c.at_bound-full.result room phase (c.advance.ensures.few v told)
+
+pub returns-in-Over-clause-writes : goal.returns-in-Over-clause-writes
+returns-in-Over-clause-writes g c = λ v told.
+    let phase = sym (ap (λ (t : Committing). t.phase) c.self.view_is) ∙ c.in-PutCommit.is in
+    subst (λ f. Told (g.F.Fs.view c.advance.new.fs) (λ w. Writes (writes_in f v) v w)) (sym phase) (c.advance.ensures.writes v told)

@@ -1,8 +1,9 @@
 use Rattle.std.proofs.Common.{sym, subst, IfOk, IfErr}
+use Rattle.fs_trait.specs.Change.{Writes}
 use Rattle.fs_trait.specs.Image.{Told}
 use Rattle.commit_build.specs.Committing.{commit_in}
 use Rattle.commit_work.specs.declared.command.CommitCommand.{CommitCommand}
-use Rattle.commit_work.specs.Kinds.{needs_by, leaves_at, leaves_by, refuses_at, refuses_by}
+use Rattle.commit_work.specs.Kinds.{needs_by, leaves_at, leaves_by, refuses_at, refuses_by, writes_by}
 use Rattle.commit_work.proofs.Steps.{same_parts, change_leaves}
 use Rattle.commit_work.proofs.work.CommitCommandWork.advance.Goals as goal
 
@@ -24,3 +25,7 @@ returns-in-None-clause-refused g c = λ v told.
 
 pub returns-in-Some-clause-after : goal.returns-in-Some-clause-after
 returns-in-Some-clause-after g c = λ v told. change_leaves c.args.self.now c.in-Some.naming c.advance.new.self _ v _ c.advance.result c.in-Some.is (c.advance.ensures.after v told)
+
+pub returns-in-None-clause-writes : goal.returns-in-None-clause-writes
+returns-in-None-clause-writes g c = λ v told.
+    subst (λ o. Told (g.F.Fs.view c.build_on.new.fs) (λ w. Writes (λ p s. writes_by o c.args.actor c.args.self.now v p s) v w)) (sym c.in-None.is) (c.build_on.ensures.writes v told)
