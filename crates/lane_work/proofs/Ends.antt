@@ -1,5 +1,5 @@
 -- What the commands know when they begin, leave, answer and are refused for, by cases; and that the count told is no matter.
-use Rattle.std.proofs.Common.{◌≡◌, ◌<◌, ℕ, refl, List, Option, Some, None}
+use Rattle.std.proofs.Common.{◌≡◌, ◌<◌, ◌∙◌, ℕ, ap, refl, subst, sym, ⊎_elim, List, Option, Some, None}
 use Rattle.ost_types.specs.declared.object.ObjName.{ObjName}
 use Rattle.obj_store.specs.declared.phase.Put.TheVariants.{Stored}
 use Rattle.fs_trait.specs.declared.task.Turn.TheVariants as turn
@@ -7,12 +7,14 @@ use Rattle.fs_trait.specs.declared.types.FsErr.{FsErr}
 use Rattle.fs_trait.specs.Change.{Writes}
 use Rattle.fs_trait.specs.Effect.{OfNone}
 use Rattle.fs_trait.specs.Image.{IsTree}
+use Rattle.fs_trait.specs.Seen.{NotDirectory}
 use Rattle.fs_trait.specs.View.{View}
 use Rattle.rely.specs.declared.books.Entry.{Entry}
 use Rattle.rely.specs.declared.books.Pending.{Pending}
 use Rattle.rely.specs.Books.{Books}
 use Rattle.rely.specs.Sound.{Stands}
 use Rattle.rely.specs.State.{State}
+use Rattle.repo_layout.specs.Paths.{stage_path}
 use Rattle.script.specs.declared.answer.Answer.{Answer}
 use Rattle.ref_work.specs.Facts.{Home}
 use Rattle.ref_work.proofs.Ends as ref_ends
@@ -27,28 +29,40 @@ use Rattle.commit_work.proofs.Ends as commit_ends
 use Rattle.commit_work.proofs.Holding as commit_holding
 use Rattle.commit_work.proofs.Refusals as commit_refusals
 use Rattle.commit_work.proofs.Starts as commit_starts
+use Rattle.read_work.specs.declared.answer.ReadAnswer.{ReadAnswer}
+use Rattle.read_work.specs.declared.command.ReadCommand.{ReadCommand}
+use Rattle.read_work.specs.Commands.{answer_of as read_answer_of, read_facts, read_leaves}
+use Rattle.read_work.proofs.Ends as read_ends
 use Rattle.lane_work.specs.declared.command.LaneCommand.{LaneCommand}
-use Rattle.lane_work.specs.declared.command.LaneCommand.TheVariants.{Ref, Commit}
+use Rattle.lane_work.specs.declared.command.LaneCommand.TheVariants.{Ref, Commit, Read}
 use Rattle.lane_work.specs.Answers.{Begins, Says}
-use Rattle.lane_work.specs.Commands.{answer_of, lane_facts, lane_kind, lane_leaves, lane_left, lane_refuses, lane_stepped, lane_writes, met_by, script_answer, told, told_in, WasLacking}
+use Rattle.lane_work.specs.Commands.{answer_of, lane_facts, lane_kind, lane_leaves, lane_left, lane_refuses, lane_stepped, lane_writes, met_by, read_answer, script_answer, script_read, told, told_in, WasLacking}
 
 pub begins_of : (start : State) (entries : List Entry) (pending : Option Pending) (lane : ℕ) (v : View) (b : Books) (t : LaneCommand) → Stands start entries pending v → Home lane v → Begins lane t → lane_facts lane t v b
 begins_of start entries pending lane v b (Ref t) stands home begins = ref_ends.begins_of start entries pending lane v b t stands home begins
 begins_of start entries pending lane v b (Commit t) stands home begins = commit_starts.begins_of start entries pending lane v b t stands home begins
+begins_of start entries pending lane v b (Read t) stands home begins = read_ends.begins_of start entries pending lane v b t stands begins
 
 pub own_of : (actor lane : ℕ) (t : LaneCommand) (v w : View) (b : Books) → lane_facts lane t v b → Writes (lane_writes actor t v) v w → Home lane v → Home lane w
 own_of actor lane (Ref t) v w b f writes home = home_task actor lane t v w b f writes home
 own_of actor lane (Commit t) v w b f writes home = commit_starts.own_of actor lane t v w b f writes home
+own_of actor lane (Read t) v w b f writes home = ⊎_elim (λ same. subst NotDirectory (sym same) home) (λ wrote. absurd wrote) (writes.now (stage_path lane))
 
 pub falls_of : (t new : LaneCommand) → lane_stepped t turn.More new → lane_left new < lane_left t
 falls_of (Ref t) (Ref new) step = ref_ends.falls_always t new step
 falls_of (Commit t) (Commit new) step = commit_ends.falls_of t new step
+falls_of (Read t) (Read new) step = step.1
 falls_of (Ref t) (Commit new) step = absurd step
+falls_of (Ref t) (Read new) step = absurd step
 falls_of (Commit t) (Ref new) step = absurd step
+falls_of (Commit t) (Read new) step = absurd step
+falls_of (Read t) (Ref new) step = absurd step
+falls_of (Read t) (Commit new) step = absurd step
 
 pub refused_of : (start : State) (entries : List Entry) (pending : Option Pending) (lane : ℕ) (v : View) (b : Books) (t : LaneCommand) (e : FsErr) → IsTree v.now → Stands start entries pending v → lane_facts lane t v b → lane_refuses t v e → OfNone e
 refused_of start entries pending lane v b (Ref t) e tree stands f why = ref_refusals.refused_of start entries pending lane v b t e tree stands f why
 refused_of start entries pending lane v b (Commit t) e tree stands f why = commit_refusals.refused_of start entries pending lane v b t e tree stands f why
+refused_of start entries pending lane v b (Read t) e tree stands f why = why
 
 -- the answer of a commit behind the script's
 pub said_by : (o : Option CommitAnswer) (a : Answer) → script_answer o ≡ Some a → (said : CommitAnswer) × (o ≡ Some said) × (script_answer (Some said) ≡ Some a)
@@ -60,33 +74,57 @@ commit_says lane t new v w b a f l is =
     let s = said_by (commits.answer_of new) a is in
     (s.0, s.2, commit_ends.says_of lane t new v w b s.0 f l s.1)
 
+-- and of one that reads
+read_said : (o : Option ReadAnswer) (a : Answer) → script_read o ≡ Some a → (said : ReadAnswer) × (o ≡ Some said) × (read_answer said ≡ a)
+read_said (Some said) a is = (said, refl, (let same : Some (read_answer said) ≡ Some a = is in cc))
+read_said None a is = (let n : None ≡ Some a = is in cc)
+
+read_says : (lane : ℕ) (t new : ReadCommand) (v w : View) (b : Books) (a : Answer) → read_facts lane t v b → read_leaves t (turn.Done tt) new v w → script_read (read_answer_of new) ≡ Some a → Says a (Read t) v w
+read_says lane t new v w b a f l is =
+    let s = read_said (read_answer_of new) a is in
+    (s.0, s.2, (read_ends.says_of lane t new v w b s.0 f l s.1).1, read_ends.finished_of lane t new v w b s.0 f l s.1)
+
 pub says_of : (lane : ℕ) (t new : LaneCommand) (v w : View) (b : Books) (a : Answer) → lane_facts lane t v b → lane_leaves t (turn.Done tt) new v w → answer_of new ≡ Some a → Says a t v w
 says_of lane (Ref t) (Ref new) v w b a f l is = ref_ends.says_of lane t new v w b a f l is
 says_of lane (Commit t) (Commit new) v w b a f l is = commit_says lane t new v w b a f l is
+says_of lane (Read t) (Read new) v w b a f l is = read_says lane t new v w b a f l is
 says_of lane (Ref t) (Commit new) v w b a f l is = absurd l
+says_of lane (Ref t) (Read new) v w b a f l is = absurd l
 says_of lane (Commit t) (Ref new) v w b a f l is = absurd l
+says_of lane (Commit t) (Read new) v w b a f l is = absurd l
+says_of lane (Read t) (Ref new) v w b a f l is = absurd l
+says_of lane (Read t) (Commit new) v w b a f l is = absurd l
 
 -- what a step stored, was lacked
 pub stored_of : (t new : LaneCommand) (v w : View) (name : ObjName) → lane_leaves t turn.More new v w → met_by new ≡ Some (name, Stored) → WasLacking t name v
 stored_of (Commit t) (Commit new) v w name l met = commit_holding.stored_of t new v w name l met
 stored_of (Ref t) (Ref new) v w name l met = (let n : None ≡ Some (name, Stored) = met in cc)
+stored_of (Read t) (Read new) v w name l met = (let n : None ≡ Some (name, Stored) = met in cc)
 stored_of (Ref t) (Commit new) v w name l met = absurd l
+stored_of (Ref t) (Read new) v w name l met = absurd l
 stored_of (Commit t) (Ref new) v w name l met = absurd l
+stored_of (Commit t) (Read new) v w name l met = absurd l
+stored_of (Read t) (Ref new) v w name l met = absurd l
+stored_of (Read t) (Commit new) v w name l met = absurd l
 
 -- nothing that others see depends on the count that a command was told
 pub told_facts : (lane objects : ℕ) (t : LaneCommand) (v : View) (b : Books) → lane_facts lane t v b → lane_facts lane (told objects t) v b
 told_facts lane objects (Ref t) v b f = f
 told_facts lane objects (Commit t) v b f = commit_ends.counted lane objects t v b f
+told_facts lane objects (Read t) v b f = f
 
 pub told_kind : (objects : ℕ) (t : LaneCommand) → lane_kind (told objects t) ≡ lane_kind t
 told_kind objects (Ref t) = refl
 told_kind objects (Commit t) = commit_ends.same_kind objects t
+told_kind objects (Read t) = refl
 
 pub told_left : (objects : ℕ) (t : LaneCommand) → lane_left (told objects t) ≡ lane_left t
 told_left objects (Ref t) = refl
 told_left objects (Commit t) = commit_ends.same_left objects t
+told_left objects (Read t) = refl
 
 -- and a command that is told again what it was told before is as it was
 pub told_back : (objects : ℕ) (t : LaneCommand) → told (told_in t) (told objects t) ≡ t
 told_back objects (Ref t) = refl
 told_back objects (Commit t) = refl
+told_back objects (Read t) = refl

@@ -1,16 +1,36 @@
 -- A lane's command sets a ref only to a commit that lasts.
-use Rattle.std.proofs.Common.{◌≡◌, ℕ, List, Option}
+use Rattle.std.proofs.Common.{◌≡◌, ◌∷◌, ℕ, List, [], Option}
 use Rattle.fs_trait.specs.View.{View}
+use Rattle.rely.specs.declared.event.Event.{Event}
 use Rattle.rely.specs.declared.event.Event.TheVariants.{SetRef}
 use Rattle.rely.specs.Books.{Books}
 use Rattle.rely.specs.Lasting.{StaysFinished}
-use Rattle.rely.specs.Laws.{Show}
+use Rattle.rely.specs.Laws.{Quiet, Show, Take}
 use Rattle.ref_work.proofs.Resets.{reset_founded}
 use Rattle.commit_work.proofs.Founded.{commit_founded}
+use Rattle.ref_work.specs.Commands.{pin_wants}
+use Rattle.script.specs.declared.rows.LogRow.{LogRow}
+use Rattle.read_work.specs.declared.command.ReadCommand.{ReadCommand}
+use Rattle.read_work.specs.declared.command.ReadCommand.TheVariants as read
+use Rattle.read_work.specs.Commands.{read_kind}
+use Rattle.read_work.specs.LogSteps.{log_kind}
 use Rattle.lane_work.specs.declared.command.LaneCommand.{LaneCommand}
-use Rattle.lane_work.specs.declared.command.LaneCommand.TheVariants.{Ref, Commit}
+use Rattle.lane_work.specs.declared.command.LaneCommand.TheVariants.{Ref, Commit, Read}
 use Rattle.lane_work.specs.Commands.{lane_facts, lane_kind}
+
+log_founded : (rows : List LogRow) (next : List ℕ) (e : Event) (X : Type 0) → log_kind rows next ≡ Show e → X
+log_founded [] next e X is = absurd (let n : Quiet ≡ Show e = is in cc)
+log_founded (r ∷ rows) next e X is = absurd (let n : Take (pin_wants next) ≡ Show e = is in cc)
+
+-- one that reads sets none
+read_founded : (t : ReadCommand) (e : Event) (X : Type 0) → read_kind t ≡ Show e → X
+read_founded (read.Look l) e X is = absurd (let n : Take (pin_wants l.commit) ≡ Show e = is in cc)
+read_founded (read.Cat c) e X is = absurd (let n : Quiet ≡ Show e = is in cc)
+read_founded (read.Ls s) e X is = absurd (let n : Quiet ≡ Show e = is in cc)
+read_founded (read.Log g) e X is = log_founded g.rows.items g.next e X is
+read_founded (read.Ended a) e X is = absurd (let n : Quiet ≡ Show e = is in cc)
 
 pub lane_founded : (lane : ℕ) (t : LaneCommand) (v : View) (b : Books) (name : List ℕ) (seen : Option (List ℕ)) (commit : List ℕ) → lane_facts lane t v b → lane_kind t ≡ Show (SetRef name seen commit) → StaysFinished v commit
 lane_founded lane (Ref t) v b name seen commit f is = reset_founded lane t v b name seen commit f is
 lane_founded lane (Commit t) v b name seen commit f is = commit_founded lane t v b name seen commit f is
+lane_founded lane (Read t) v b name seen commit f is = read_founded t (SetRef name seen commit) (StaysFinished v commit) is

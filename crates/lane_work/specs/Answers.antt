@@ -5,15 +5,21 @@ use Rattle.script.specs.declared.answer.Answer.{Answer}
 use Rattle.ref_work.specs.Answers as refs
 use Rattle.commit_work.specs.declared.answer.CommitAnswer.{CommitAnswer}
 use Rattle.commit_work.specs.Answers as commits
+use Rattle.read_work.specs.declared.answer.ReadAnswer.{ReadAnswer}
+use Rattle.read_work.specs.Asked as reads
+use Rattle.read_work.specs.Commands.{IsNew}
+use Rattle.read_work.specs.Founded.{IsFinishedOf, IsRead}
 use Rattle.lane_work.specs.declared.command.LaneCommand.{LaneCommand}
-use Rattle.lane_work.specs.declared.command.LaneCommand.TheVariants.{Ref, Commit}
-use Rattle.lane_work.specs.Commands.{script_answer}
+use Rattle.lane_work.specs.declared.command.LaneCommand.TheVariants.{Ref, Commit, Read}
+use Rattle.lane_work.specs.Commands.{read_answer, script_answer}
 
 abbrev pub Begins : ℕ → LaneCommand → Type 0
 Begins lane (Ref t) = refs.Begins lane t
 Begins lane (Commit t) = commits.Begins lane t
+Begins lane (Read t) = IsNew t
 
--- over the views before and after the last step
+-- over the views before and after the last step; one that reads changes nothing
 abbrev pub Says : Answer → LaneCommand → View → View → Type 0
 Says a (Ref t) v w = refs.Says a t v w
 Says a (Commit t) v w = (said : CommitAnswer) × (script_answer (Some said) ≡ Some a) × commits.Says said t v w
+Says a (Read t) v w = (said : ReadAnswer) × (read_answer said ≡ a) × reads.Answers v.now (reads.asked t) said × (IsRead said → IsFinishedOf (reads.asked t) v)

@@ -4,10 +4,12 @@ ghost use Rattle.lane_work.specs.Commands.{IsMadeIn, answer_of, lane_facts, lane
 ghost use Rattle.lane_work.specs.Laws.{lane_laws};
 
 use crate::answer::script_answer;
+use crate::read_answer::script_read;
 use commit_work::CommitCommand;
 use fs_trait::{Fs, FsErr, Turn};
 use obj_store::Put;
 use ost_types::{NoMemory, ObjName};
+use read_work::ReadCommand;
 use ref_work::RefCommand;
 use rely::{Event, Step, Work};
 use script::Answer;
@@ -19,6 +21,8 @@ pub enum LaneCommand {
     Ref(RefCommand),
     /// `commit`.
     Commit(CommitCommand),
+    /// `log`, `ls` or `cat`.
+    Read(ReadCommand),
 }
 
 impl LaneCommand {
@@ -28,7 +32,7 @@ impl LaneCommand {
         ensures former { result ≡ told_in self.old }
     {
         match self {
-            LaneCommand::Ref(_) => 0,
+            LaneCommand::Ref(_) | LaneCommand::Read(_) => 0,
             LaneCommand::Commit(work) => work.tell(objects),
         }
     }
@@ -39,7 +43,7 @@ impl LaneCommand {
         ensures made { IsMadeIn self.now }
     {
         match self {
-            LaneCommand::Ref(_) => None,
+            LaneCommand::Ref(_) | LaneCommand::Read(_) => None,
             LaneCommand::Commit(work) => work.met(),
         }
     }
@@ -51,6 +55,7 @@ impl LaneCommand {
         match self {
             LaneCommand::Ref(work) => work.into_answer(),
             LaneCommand::Commit(work) => script_answer(work.into_answer()),
+            LaneCommand::Read(work) => script_read(work.into_answer()),
         }
     }
 
@@ -61,6 +66,7 @@ impl LaneCommand {
         match self {
             LaneCommand::Ref(work) => work.left(),
             LaneCommand::Commit(work) => work.left(),
+            LaneCommand::Read(work) => work.left(),
         }
     }
 }
@@ -86,6 +92,7 @@ impl Work for LaneCommand {
         match self {
             LaneCommand::Ref(work) => work.kind(),
             LaneCommand::Commit(work) => work.kind(),
+            LaneCommand::Read(work) => work.kind(),
         }
     }
 
@@ -93,6 +100,7 @@ impl Work for LaneCommand {
         match self {
             LaneCommand::Ref(work) => work.event(),
             LaneCommand::Commit(work) => work.event(),
+            LaneCommand::Read(work) => work.event(),
         }
     }
 
@@ -100,6 +108,7 @@ impl Work for LaneCommand {
         match self {
             LaneCommand::Ref(work) => work.owes(),
             LaneCommand::Commit(work) => work.owes(),
+            LaneCommand::Read(work) => work.owes(),
         }
     }
 
@@ -107,6 +116,7 @@ impl Work for LaneCommand {
         match self {
             LaneCommand::Ref(work) => work.advance(actor, fs),
             LaneCommand::Commit(work) => work.advance(actor, fs),
+            LaneCommand::Read(work) => work.advance(actor, fs),
         }
     }
 }

@@ -5,6 +5,9 @@ ghost use Rattle.fs_trait.specs.Effect.{OfNone};
 ghost use Rattle.fs_trait.specs.Image.{IsTree};
 ghost use Rattle.fs_trait.specs.View.{View};
 ghost use Rattle.fs_trait.specs.Change.{Writes};
+ghost use Rattle.fs_trait.specs.Seen.{Seen};
+ghost use Rattle.repo_layout.specs.RefFile.{IsSum};
+ghost use Rattle.repo_model.specs.Objects.{path_of};
 ghost use Rattle.fs_trait.specs.declared.task.Turn.TheVariants as turn;
 ghost use Rattle.script.specs.declared.answer.Answer.{Answer};
 ghost use Rattle.ost_types.specs.declared.object.ObjName.{ObjName};
@@ -21,7 +24,7 @@ ghost use Rattle.rely.specs.Sound.{Stands};
 ghost use Rattle.ref_work.specs.Facts.{Home};
 ghost use Rattle.lane_work.specs.declared.command.LaneCommand.{LaneCommand};
 ghost use Rattle.lane_work.specs.Answers.{Begins, Says};
-ghost use Rattle.lane_work.specs.Commands.{answer_of, lane_facts, lane_kind, lane_leaves, lane_left, lane_refuses, lane_stepped, lane_writes, met_by, told, told_in, WasLacking};
+ghost use Rattle.lane_work.specs.Commands.{answer_of, lane_facts, lane_kind, lane_leaves, lane_left, lane_refuses, lane_stepped, lane_writes, met_by, told, told_in, KnewRoom, StoredThere, WasLacking};
 
 /// Of a lane without a task it is known that no folder stands where it stages. Nothing that others do changes that, nor a step
 /// of its own tasks, whatever the step answers; and with it a new task has its facts.
@@ -47,8 +50,13 @@ pub fn steps_of_lanes_fall()
 {}
 
 /// A step that stored an object did so where nothing stood at its path, and where the store had room for it by the count that was told.
+/// One that may write at an object's path had room, whatever it answers; where it goes on it stored that object, or changed nothing, and
+/// the last one changed nothing.
 pub fn lanes_that_store()
-    ensures { (t new : LaneCommand) (v w : View) (name : ObjName) → lane_leaves t turn.More new v w → met_by new ≡ Some (name, Stored) → WasLacking t name v }
+    ensures lacked { (t new : LaneCommand) (v w : View) (name : ObjName) → lane_leaves t turn.More new v w → met_by new ≡ Some (name, Stored) → WasLacking t name v }
+    ensures room { (actor lane : ℕ) (t : LaneCommand) (v : View) (b : Books) → lane_facts lane t v b → (name : ObjName) (s : Seen) → IsSum name.csum → lane_writes actor t v (path_of name) s → KnewRoom t }
+    ensures stored { (actor lane : ℕ) (t new : LaneCommand) (v w : View) (b : Books) → lane_facts lane t v b → lane_leaves t turn.More new v w → (name : ObjName) (s : Seen) → IsSum name.csum → lane_writes actor t v (path_of name) s → StoredThere new name v w }
+    ensures done { (actor lane : ℕ) (t new : LaneCommand) (v w : View) (b : Books) → lane_facts lane t v b → lane_leaves t (turn.Done tt) new v w → (name : ObjName) (s : Seen) → IsSum name.csum → lane_writes actor t v (path_of name) s → w ≡ v }
 {}
 
 /// Where the view is told, a command is refused only by a call that failed or for want of memory.

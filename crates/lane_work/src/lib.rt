@@ -4,6 +4,7 @@
 mod answer;
 mod command;
 mod laws;
+mod read_answer;
 
 pub use command::LaneCommand;
 pub use laws::{

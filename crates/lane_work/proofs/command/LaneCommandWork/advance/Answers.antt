@@ -13,3 +13,9 @@ advance-requires-in-Commit g c = λ v told. subst (λ t. lane_needs c.args.actor
 
 pub returns-in-Commit-clause-after : goal.returns-in-Commit-clause-after
 returns-in-Commit-clause-after g c = λ v told. rw c.in-Commit.is (c.advance-in-Commit.ensures.after v told)
+
+pub advance-requires-in-Read : goal.advance-requires-in-Read
+advance-requires-in-Read g c = λ v told. subst (λ t. lane_needs c.args.actor t v) c.in-Read.is (c.requires v told)
+
+pub returns-in-Read-clause-after : goal.returns-in-Read-clause-after
+returns-in-Read-clause-after g c = λ v told. rw c.in-Read.is (c.advance-in-Read.ensures.after v told)
