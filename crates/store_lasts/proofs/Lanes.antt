@@ -7,6 +7,7 @@ use Rattle.fs_trait.specs.View.{View}
 use Rattle.fs_trait.specs.Seen.{Seen}
 use Rattle.fs_trait.specs.Change.{Writes}
 use Rattle.commit_build.specs.declared.message.Message.{Message}
+use Rattle.commit_build.specs.Steps.{WritesOf}
 use Rattle.rely.specs.declared.event.Event.TheVariants.{SetRef}
 use Rattle.rely.specs.Books.{Books}
 use Rattle.rely.specs.Lasting.{Stays, StaysFinished}
@@ -17,19 +18,19 @@ use Rattle.commit_work.specs.declared.naming.Naming.{Naming}
 use Rattle.commit_work.specs.Facts.{facts_by}
 use Rattle.commit_work.specs.Kinds.{kind_by, writes_by}
 use Rattle.lane_work.specs.declared.command.LaneCommand.{LaneCommand}
-use Rattle.lane_work.specs.declared.command.LaneCommand.TheVariants.{Ref, Commit}
+use Rattle.lane_work.specs.declared.command.LaneCommand.TheVariants.{Ref, Commit, Read}
 use Rattle.lane_work.proofs.Founded.{lane_founded}
 use Rattle.lane_work.specs.Commands.{lane_facts, lane_kind, lane_writes}
 use Rattle.store_lasts.specs.Standing.{StoreStands}
 use Rattle.store_lasts.specs.Writing.{Grows, IsBegun, KeepsStore}
-use Rattle.store_lasts.proofs.Puts.{build_keeps, silent_keeps}
+use Rattle.store_lasts.proofs.Puts.{build_keeps, keeps_within, silent_keeps}
 use Rattle.store_lasts.proofs.RefChanges.{change_keeps}
 use Rattle.store_lasts.proofs.Steps.{stands_kept}
 
 module _ (limits : Limits) (begun : List TreeItem → Message → Type 0) (actor lane : ℕ) (v : View) (b : Books) where
   commit_keeps : (t : CommitCommand) → (o : Option Naming) → facts_by o lane t v b → IsBegun limits begun (Commit t)
       → ((name : List ℕ) (seen : Option (List ℕ)) (commit : List ℕ) → kind_by o t ≡ Show (SetRef name seen commit) → StaysFinished v commit) → KeepsStore limits begun v (writes_by o actor t v)
-  commit_keeps t None f is founded = build_keeps limits begun t.build v f.needs is.0 is.1
+  commit_keeps t None f is founded = keeps_within limits begun v (WritesOf t.build v) (writes_by None actor t v) (λ p s wrote. wrote.0) (build_keeps limits begun t.build v f.needs is.0 is.1)
   commit_keeps t (Some n) f is founded = change_keeps limits begun lane n.work.task v b f.ref founded
 
   pub lane_keeps : (t : LaneCommand) → lane_facts lane t v b → IsBegun limits begun t
@@ -38,6 +39,7 @@ module _ (limits : Limits) (begun : List TreeItem → Message → Type 0) (actor
   lane_keeps (Ref (ref.Reset look plan)) f is founded = silent_keeps limits begun v (lane_writes actor (Ref (ref.Reset look plan)) v) (λ p s wrote. wrote)
   lane_keeps (Ref (ref.Change work)) f is founded = change_keeps limits begun lane work.task v b f.ref founded
   lane_keeps (Commit t) f is founded = commit_keeps t t.change f is founded
+  lane_keeps (Read t) f is founded = silent_keeps limits begun v (lane_writes actor (Read t) v) (λ p s wrote. wrote)
 
   pub stands_step : (t : LaneCommand) (config : Seen → Type 0) (names : List ObjName) (w : View) → lane_facts lane t v b → IsBegun limits begun t
       → Stays v w → Writes (lane_writes actor t v) v w → StoreStands limits begun config names v → (next : List ObjName) × Grows (lane_writes actor t v) w names next × StoreStands limits begun config next w

@@ -6,4 +6,6 @@ pub mod Starts
 pub mod Puts
 pub mod RefChanges
 pub mod Lanes
+pub mod Growing
 pub mod Keepings
+pub mod Lackings

@@ -133,6 +133,36 @@ with_name x (y ∷ ys) sorted = by (name_cmp x y) refl (with_name x ys (sorted_r
     by Greater is (inl among) = inl (inr among)
     by Greater is (inr w) = inr (y ∷ w.0, behind x y ys w.0 is sorted w.1)
 
+-- ---- different names are no more than those among which they are
+
+less_in : (y : ObjName) (ys : List ObjName) → IsStrictlySortedBy name_cmp (y ∷ ys) → (a : ObjName) → Among a ys → name_cmp y a ≡ Less
+unfolding IsStrictlySortedBy
+less_in y ys sorted a among = all_at (λ z. name_cmp y z ≡ Less) a ys sorted.0 among
+
+pub few_among : (ys xs : List ObjName) → IsStrictlySortedBy name_cmp ys → IsStrictlySortedBy name_cmp xs → ((a : ObjName) → Among a xs → Among a ys) → length xs ≤ length ys
+few_among ys [] ascends rises all = omega arith
+few_among [] (x ∷ xs) ascends rises all = absurd (all x (inl refl))
+few_among (y ∷ ys) (x ∷ xs) ascends rises all = ⊎_elim
+    (λ e. omega (
+      arith,
+      few_among ys xs (sorted_rest y ys ascends) (sorted_rest x xs rises) (λ a among. ⊎_elim
+          (λ here. absurd (not_itself x (subst (λ z. name_cmp x z ≡ Less) (sym here ∙ e) (less_in x xs rises a among))))
+          (λ rest. rest)
+          (all a (inr among))),
+    ))
+    (λ later. omega (
+      arith,
+      few_among ys (x ∷ xs) (sorted_rest y ys ascends) rises (λ a among. ⊎_elim
+          (λ here. absurd (not_itself y (subst (λ z. name_cmp y z ≡ Less) (sym here) (above (less_in y ys ascends x later) a among))))
+          (λ rest. rest)
+          (all a among)),
+    ))
+    (all x (inl refl))
+  where
+    above : name_cmp y x ≡ Less → (a : ObjName) → Among a (x ∷ xs) → name_cmp y a ≡ Less
+    above less a (inl e) = subst (λ z. name_cmp y z ≡ Less) e less
+    above less a (inr among) = name_order.trans y x a less (less_in x xs rises a among)
+
 -- ---- those that pass a test
 
 module _ (t : ObjName → Bool) where

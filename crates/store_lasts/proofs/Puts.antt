@@ -50,6 +50,22 @@ silent_keeps limits begun v W none = record {
   config = λ s wrote. none config_path s wrote;
 }
 
+-- a step that writes no more than such a one
+pub keeps_within : (limits : Limits) (begun : List TreeItem → Message → Type 0) (v : View) (W U : Path → Seen → Type 0) → ((p : Path) (s : Seen) → U p s → W p s) → KeepsStore limits begun v W → KeepsStore limits begun v U
+keeps_within limits begun v W U to keeps = record {
+  objects = λ name sum s wrote. keeps.objects name sum s (to (path_of name) s wrote);
+  one = ⊎_elim
+      (λ none. inl (λ name sum s wrote. none name sum s (to (path_of name) s wrote)))
+      (λ one. inr (one.0, one.1, λ name sum s wrote. one.2 name sum s (to (path_of name) s wrote)))
+      keeps.one;
+  commits = λ commit sum. ⊎_elim
+      (λ sealed_. inl sealed_)
+      (λ spares. inr (record { object = λ s wrote. spares.object s (to (path_of (name_of Commit commit)) s wrote); mark = λ s wrote. spares.mark s (to (mark_path commit) s wrote) }))
+      (keeps.commits commit sum);
+  refs = λ name commit s wrote says. keeps.refs name commit s (to (ref_path name) s wrote) says;
+  config = λ s wrote. keeps.config s (to config_path s wrote);
+}
+
 same_or : (a b : List ℕ) → (a ≡ b) ⊎ (a ≡ b → ⊥)
 same_or a b = by (same_name a b) refl
   where

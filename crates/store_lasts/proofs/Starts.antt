@@ -1,5 +1,5 @@
 -- The beginning, on a disk that passed the checks.
-use Rattle.std.proofs.Common.{◌≡◌, ◌≢◌, ◌⊎◌, inl, inr, ℕ, Bool, true, false, refl, sym, ◌∙◌, ap, subst, List, Some}
+use Rattle.std.proofs.Common.{◌≡◌, ◌≢◌, ◌⊎◌, inl, inr, ◌≤◌, ℕ, Bool, true, false, refl, sym, ◌∙◌, ap, subst, arith, List, length, Some}
 use Rattle.ost_types.specs.declared.limits.Limits.{Limits}
 use Rattle.ost_types.specs.declared.object.Kind.TheVariants.{Commit}
 use Rattle.ost_types.specs.declared.object.ObjName.{ObjName}
@@ -7,7 +7,7 @@ use Rattle.ost_types.specs.Path.{Path}
 use Rattle.ost_forms.specs.declared.tree_item.TreeItem.{TreeItem}
 use Rattle.fs_trait.specs.declared.types.Value.{Value}
 use Rattle.fs_trait.specs.declared.types.Value.TheVariants.{Absent, Folder, Link, File}
-use Rattle.fs_trait.specs.View.{View}
+use Rattle.fs_trait.specs.View.{Disk, View}
 use Rattle.fs_trait.specs.Image.{IsTree}
 use Rattle.fs_trait.specs.Seen.{Seen, Vacant, seen, shows, MayBe}
 use Rattle.fs_trait.proofs.Claims.{reads_shows}
@@ -16,7 +16,8 @@ use Rattle.repo_layout.specs.RefFile.{IsSum}
 use Rattle.repo_layout.specs.Refs.{Names, is_leaf}
 use Rattle.repo_model.specs.Objects.{path_of}
 use Rattle.repo_model.specs.Trees.{name_of}
-use Rattle.store_check.specs.Listing.{IsThere, AreAll}
+use Rattle.tree_build.proofs.Lists.{among_contained, contained_among}
+use Rattle.store_check.specs.Listing.{IsThere, AreAll, HasFew}
 use Rattle.commit_build.specs.declared.message.Message.{Message}
 use Rattle.rely.specs.Disks.{IsLeaf, Says}
 use Rattle.rely.specs.Opening.{IsOpening}
@@ -27,6 +28,7 @@ use Rattle.rely.proofs.Lasting.{always_safe}
 use Rattle.store_check.specs.Good.{IsGoodStore}
 use Rattle.rely.specs.Lasting.{StaysFinished}
 use Rattle.store_lasts.specs.Standing.{IsKeptWhole, IsSoundSeen, StoreStands}
+use Rattle.store_lasts.proofs.Names.{few_among}
 
 nothing_there : (x : Value) → (x ≡ Absent) ⊎ (x ≢ Absent)
 nothing_there Absent = inl refl
@@ -76,3 +78,12 @@ module _ (state : State) (v : View) (limits : Limits) (names : List ObjName) (be
     founded = founded_now;
     settled = λ s may. subst config (sym (only config_path s may)) is;
   }
+
+-- all objects of a disk are as few as any list of them says
+pub few_all : (d : Disk) (names : List ObjName) (most : ℕ) → AreAll d names → HasFew d most → length names ≤ most
+few_all d names most are few = omega (
+  arith,
+  few.few,
+  few_among few.names names few.are.ascending are.ascending
+      (λ a among. contained_among a few.names (few.are.all a (are.here a (among_contained a names among)))),
+)

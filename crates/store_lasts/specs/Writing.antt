@@ -11,11 +11,13 @@ use Rattle.repo_layout.specs.Paths.{config_path, mark_path, ref_path}
 use Rattle.repo_layout.specs.RefFile.{IsSum}
 use Rattle.repo_model.specs.Objects.{path_of}
 use Rattle.repo_model.specs.Trees.{name_of}
+use Rattle.obj_store.specs.declared.phase.Put.TheVariants.{Stored}
 use Rattle.commit_build.specs.declared.message.Message.{Message}
 use Rattle.rely.specs.Disks.{IsLeaf, Says}
 use Rattle.rely.specs.State.{RefOf}
 use Rattle.lane_work.specs.declared.command.LaneCommand.{LaneCommand}
-use Rattle.lane_work.specs.declared.command.LaneCommand.TheVariants.{Ref, Commit as CommitTask}
+use Rattle.lane_work.specs.declared.command.LaneCommand.TheVariants.{Ref, Commit as CommitTask, Read}
+use Rattle.lane_work.specs.Commands.{met_by}
 use Rattle.rely.specs.Lasting.{StaysFinished}
 use Rattle.store_lasts.specs.Standing.{IsSoundSeen, IsSealed}
 
@@ -39,7 +41,11 @@ pub record KeepsStore (limits : Limits) (begun : List TreeItem → Message → T
   pub refs : (name commit : List ℕ) (s : Seen) → W (ref_path name) s → Says (RefOf name) (Some commit) s → StaysFinished v commit
   pub config : (s : Seen) → W config_path s → ⊥
 
--- One name more: of an object at whose path the step writes, where a crash may leave now what none left before.
+-- one name more
+abbrev pub IsOneMore : List ObjName → List ObjName → Type 0
+IsOneMore names next = length next ≡ length names + 1
+
+-- So: of an object at whose path the step writes, where a crash may leave now what none left before.
 pub record Adds (W : Path → Seen → Type 0) (w : View) (names next : List ObjName) : Type 0 where
   pub name : ObjName
   pub sum : IsSum name.csum
@@ -48,7 +54,11 @@ pub record Adds (W : Path → Seen → Type 0) (w : View) (names next : List Obj
   pub may : MayBe w (path_of name) shown
   pub there : shown ≢ Vacant
   pub new : Contains names name → ⊥
-  pub longer : length next ≡ length names + 1
+  pub longer : IsOneMore names next
+
+-- the task's last step stored an object
+abbrev pub HasStored : LaneCommand → Type 0
+HasStored t = (name : ObjName) × (met_by t ≡ Some (name, Stored))
 
 abbrev pub Grows : (Path → Seen → Type 0) → View → List ObjName → List ObjName → Type 0
 Grows W w names next = (next ≡ names) ⊎ Adds W w names next
@@ -57,3 +67,4 @@ Grows W w names next = (next ≡ names) ⊎ Adds W w names next
 abbrev pub IsBegun : Limits → (List TreeItem → Message → Type 0) → LaneCommand → Type 0
 IsBegun limits begun (Ref t) = Unit {0}
 IsBegun limits begun (CommitTask t) = (t.build.limits ≡ limits) × begun t.build.items t.build.message
+IsBegun limits begun (Read t) = Unit {0}

@@ -4,5 +4,7 @@
 mod laws;
 mod storing;
 
-pub use laws::{images_of_stores, more_commits_begun, stores_stand, stores_stay_good};
+pub use laws::{
+    images_of_stores, more_commits_begun, names_of_stores, stores_stand, stores_stay_good,
+};
 pub use storing::Storing;
