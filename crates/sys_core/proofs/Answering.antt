@@ -3,6 +3,7 @@ use Rattle.std.proofs.Common.{◌≡◌, inl, inr, ◌+◌, ℕ, Bool, refl, sym
 use Rattle.std.specs.Global.{Vec}
 use Rattle.ost_types.specs.declared.limits.Limits.{Limits}
 use Rattle.ost_types.specs.declared.object.ObjName.{ObjName}
+use Rattle.ost_types.specs.Path.{Path}
 use Rattle.ost_forms.specs.declared.tree_item.TreeItem.{TreeItem}
 use Rattle.fs_trait.specs.declared.task.Turn.TheVariants as turn
 use Rattle.ref_store.specs.declared.phase.Phase.{Phase}
@@ -32,10 +33,20 @@ use Rattle.commit_work.specs.Answers as commits
 use Rattle.commit_work.specs.Kinds as kinds
 use Rattle.commit_work.specs.Kinds.{BuildSteps, build_kind, commit_stepped, kind_by, stepped_at, stepped_by}
 use Rattle.commit_work.proofs.Ends.{answered}
+use Rattle.script.specs.declared.rows.LogRow.{LogRow}
+use Rattle.read_work.specs.declared.answer.ReadAnswer.{ReadAnswer}
+use Rattle.read_work.specs.declared.answer.ReadAnswer.TheVariants as given
+use Rattle.read_work.specs.declared.command.ReadCommand.{ReadCommand}
+use Rattle.read_work.specs.declared.command.ReadCommand.TheVariants as read
+use Rattle.read_work.specs.declared.look.Ask.TheVariants as ask
+use Rattle.read_work.specs.Asked.{Asked, asked}
+use Rattle.read_work.specs.Fits.{Fits, IsFitting}
+use Rattle.read_work.specs.Commands.{answer_of as read_answer_of, read_kind, read_stepped}
+use Rattle.read_work.specs.LogSteps.{log_kind}
 use Rattle.lane_work.specs.declared.command.LaneCommand.{LaneCommand}
 use Rattle.lane_work.specs.declared.command.LaneCommand.TheVariants as lane_work
 use Rattle.lane_work.specs.Commands as lanes
-use Rattle.lane_work.specs.Commands.{lane_kind, lane_stepped, script_answer}
+use Rattle.lane_work.specs.Commands.{lane_kind, lane_stepped, read_answer, script_answer, script_read}
 use Rattle.rely.specs.declared.books.Books as rust
 use Rattle.rely.specs.declared.books.Entry.{Entry}
 use Rattle.rely.specs.declared.books.Pending.{Pending}
@@ -52,7 +63,7 @@ use Rattle.script.specs.declared.answer.Answer.TheVariants as answer
 use Rattle.script.specs.declared.command.Command.{Command}
 use Rattle.script.specs.declared.command.Command.TheVariants as command
 use Rattle.script.specs.declared.command.Rev.{Rev}
-use Rattle.sys_core.specs.Begins.{IsRev}
+use Rattle.sys_core.specs.Reading.{IsRev, Reads}
 use Rattle.sys_core.specs.Answers.{Answers, HasMade, HasMoved, IsChangeOf, IsFreeIn, IsHalted, LeastClashIn, Makes}
 use Rattle.commit_lasts.specs.Lasting.{sum_of}
 use Rattle.sys_core.specs.Commits.{message_in}
@@ -91,6 +102,38 @@ build_same : (pinned : Bool) (o : Option ObjName) (lane number moment : ℕ) (ol
 build_same pinned None lane number moment old new b = b.0
 build_same pinned (Some name) lane number moment old new b = b.0
 
+log_same : (rows : List LogRow) (commit : List ℕ) (lane number moment : ℕ) (old new : rust.Books) → IsBooked (log_kind rows commit) lane number moment came.Done old new → new.history.items ≡ old.history.items
+log_same [] commit lane number moment old new b = b.0
+log_same (r ∷ rows) commit lane number moment old new b = b.0
+
+read_same : (t : ReadCommand) (lane number moment : ℕ) (old new : rust.Books) → IsBooked (read_kind t) lane number moment came.Done old new → new.history.items ≡ old.history.items
+read_same (read.Look l) lane number moment old new b = b.0
+read_same (read.Cat c) lane number moment old new b = b.0
+read_same (read.Ls s) lane number moment old new b = b.0
+read_same (read.Log g) lane number moment old new b = log_same g.rows.items g.next lane number moment old new b
+read_same (read.Ended a) lane number moment old new b = b.0
+
+-- what was read makes no change, and isn't the end of the run
+read_makes : (said : ReadAnswer) (c : Command) → Makes (read_answer said) c → ⊥
+read_makes (given.Content bytes) c makes = makes
+read_makes (given.Ls rows) c makes = makes
+read_makes (given.Log rows) c makes = makes
+read_makes (given.NoCommit commit) c makes = makes
+read_makes (given.Partial commit) c makes = makes
+read_makes (given.NoPath path) c makes = makes
+read_makes (given.NotFile path) c makes = makes
+read_makes (given.Lacking path) c makes = makes
+
+read_goes : (said : ReadAnswer) → IsHalted (read_answer said) → ⊥
+read_goes (given.Content bytes) halted = halted
+read_goes (given.Ls rows) halted = halted
+read_goes (given.Log rows) halted = halted
+read_goes (given.NoCommit commit) halted = halted
+read_goes (given.Partial commit) halted = halted
+read_goes (given.NoPath path) halted = halted
+read_goes (given.NotFile path) halted = halted
+read_goes (given.Lacking path) halted = halted
+
 -- a ref that the last change sets is there
 set_there : (first : State) (entries : List Entry) (last : Entry) (branch : List ℕ) (seen : Option (List ℕ)) (commit : List ℕ) → last.event ≡ made.SetRef branch seen commit → IsSome (after (events_of (entries ++ last ∷ [])) first (RefOf branch))
 set_there first entries last branch seen commit is =
@@ -126,6 +169,52 @@ module _ (told : Type 0) (limits : Limits) (first : State) (lane number moment :
   stopped_gives branch commit None look plan (Parse next) a same is step e = absurd step
   stopped_gives branch commit None look plan (Change work) a same is step e = absurd step
   stopped_gives branch commit (Some found) look plan t a same is step e = absurd step
+
+  -- what a command answers that reads a commit
+  log_says : (rev : Rev) (commit : List ℕ) (said : ReadAnswer) → IsRev rev s commit → Fits ask.Log commit said → Answers told limits lane number s q new.history.items (read_answer said) (command.Log rev)
+  log_says rev commit (given.Log rows) is fits = (commit, is)
+  log_says rev commit (given.NoCommit other) is fits = subst (IsRev rev s) (sym fits) is
+  log_says rev commit (given.Partial other) is fits = subst (IsRev rev s) (sym fits) is
+  log_says rev commit (given.Lacking path) is fits = (commit, is)
+  log_says rev commit (given.Content bytes) is fits = absurd fits
+  log_says rev commit (given.Ls rows) is fits = absurd fits
+  log_says rev commit (given.NoPath path) is fits = absurd fits
+  log_says rev commit (given.NotFile path) is fits = absurd fits
+
+  ls_says : (rev : Rev) (path : Path) (commit : List ℕ) (said : ReadAnswer) → IsRev rev s commit → Fits (ask.Ls path) commit said → Answers told limits lane number s q new.history.items (read_answer said) (command.Ls rev path)
+  ls_says rev path commit (given.Ls rows) is fits = (commit, is)
+  ls_says rev path commit (given.NoPath there) is fits = (fits, (commit, is))
+  ls_says rev path commit (given.NoCommit other) is fits = subst (IsRev rev s) (sym fits) is
+  ls_says rev path commit (given.Partial other) is fits = subst (IsRev rev s) (sym fits) is
+  ls_says rev path commit (given.Lacking there) is fits = (commit, is)
+  ls_says rev path commit (given.Content bytes) is fits = absurd fits
+  ls_says rev path commit (given.Log rows) is fits = absurd fits
+  ls_says rev path commit (given.NotFile there) is fits = absurd fits
+
+  cat_says : (rev : Rev) (path : Path) (commit : List ℕ) (said : ReadAnswer) → IsRev rev s commit → Fits (ask.Cat path) commit said → Answers told limits lane number s q new.history.items (read_answer said) (command.Cat rev path)
+  cat_says rev path commit (given.Content bytes) is fits = (commit, is)
+  cat_says rev path commit (given.NoPath there) is fits = (fits, (commit, is))
+  cat_says rev path commit (given.NotFile there) is fits = (fits, (commit, is))
+  cat_says rev path commit (given.NoCommit other) is fits = subst (IsRev rev s) (sym fits) is
+  cat_says rev path commit (given.Partial other) is fits = subst (IsRev rev s) (sym fits) is
+  cat_says rev path commit (given.Lacking there) is fits = (commit, is)
+  cat_says rev path commit (given.Ls rows) is fits = absurd fits
+  cat_says rev path commit (given.Log rows) is fits = absurd fits
+
+  read_says : (c : Command) (x : Option Asked) (said : ReadAnswer) → Reads limits s c x → IsFitting x said → Answers told limits lane number s q new.history.items (read_answer said) c
+  read_says (command.Log rev) x said is fits = log_says rev is.0 said is.1 (subst (λ y. IsFitting y said) is.2 fits)
+  read_says (command.Ls rev path) x said is fits = ls_says rev path is.0 said is.1 (subst (λ y. IsFitting y said) is.2 fits)
+  read_says (command.Cat rev path) x said is fits = cat_says rev path is.0 said is.1 (subst (λ y. IsFitting y said) is.2 fits)
+  read_says (command.RevParse rev) x said is fits = absurd is
+  read_says (command.Reset branch commit) x said is fits = absurd is
+  read_says (command.DropRef branch) x said is fits = absurd is
+  read_says (command.Commit branch tree subject body time) x said is fits = absurd is
+  read_says command.Refs x said is fits = absurd is
+
+  read_gives : (c : Command) (t next : ReadCommand) (a : Answer) → Reads limits s c (asked t) → read_stepped t (turn.Done tt) next → new.history.items ≡ old.history.items → script_read (read_answer_of next) ≡ Some a → Gives c a
+  read_gives c t next a is step same e =
+      let k : read_answer step.0 ≡ a = (let z : Some (read_answer step.0) ≡ Some a = sym (ap (λ x. script_read (read_answer_of x)) step.1) ∙ e in cc) in
+      subst (Gives c) k (read_says c (asked t) step.0 is step.2, inl (same, read_makes step.0 c), read_goes step.0)
 
   -- The change is the last entry. Where nothing is pending, no ref of the state clashes with another.
   module _ (mine : (x : Pending) → old.pending ≡ Some x → x.lane ≡ lane → x.command ≡ number) (apart : told → new.pending ≡ None → (name : List ℕ) → IsSome (q (RefOf name)) → IsFreeIn q name) where
@@ -215,6 +304,9 @@ module _ (told : Type 0) (limits : Limits) (first : State) (lane number moment :
     ref_gives (command.Reset branch commit) (Parse look) next a is step holds booked says e = absurd is
     ref_gives (command.DropRef branch) (Parse look) next a is step holds booked says e = absurd is
     ref_gives (command.Commit branch tree subject body time) t next a is step holds booked says e = absurd is
+    ref_gives (command.Log rev) t next a is step holds booked says e = absurd is
+    ref_gives (command.Ls rev path) t next a is step holds booked says e = absurd is
+    ref_gives (command.Cat rev path) t next a is step holds booked says e = absurd is
     ref_gives command.Refs t next a is step holds booked says e = absurd is
     ref_gives (command.Reset branch commit) (Reset look plan) next a is step holds booked says e =
         stopped_gives branch commit look.found look plan next a (found_same look.found look.commit lane number moment old new booked) is.0 step e
@@ -282,13 +374,21 @@ module _ (told : Type 0) (limits : Limits) (first : State) (lane number moment :
     -- what the answer of a command that is done says, and whether its change is the last one
     pub done_gives : (c : Command) (t next : LaneCommand) (a : Answer) → Pursues limits s c t → lane_stepped t (turn.Done tt) next → Holds (lane_kind t) lane (books_of old) → IsBooked (lane_kind t) lane number moment came.Done old new → Tells told p t next → lanes.answer_of next ≡ Some a → Gives c a
     done_gives c (lane_work.Ref t) (lane_work.Ref next) a is step holds booked says e = ref_gives c t next a is step holds booked says e
+    done_gives c (lane_work.Read t) (lane_work.Read next) a is step holds booked says e = read_gives c t next a is step (read_same t lane number moment old new booked) e
     done_gives c (lane_work.Ref t) (lane_work.Commit next) a is step holds booked says e = absurd step
+    done_gives c (lane_work.Ref t) (lane_work.Read next) a is step holds booked says e = absurd step
     done_gives c (lane_work.Commit t) (lane_work.Ref next) a is step holds booked says e = absurd step
+    done_gives c (lane_work.Commit t) (lane_work.Read next) a is step holds booked says e = absurd step
+    done_gives c (lane_work.Read t) (lane_work.Ref next) a is step holds booked says e = absurd step
+    done_gives c (lane_work.Read t) (lane_work.Commit next) a is step holds booked says e = absurd step
     done_gives (command.Commit branch tree subject body time) (lane_work.Commit t) (lane_work.Commit next) a is step holds booked says e =
         gives_by branch tree subject body time t is t.change next a refl is.names step holds booked says e
     done_gives (command.RevParse rev) (lane_work.Commit t) (lane_work.Commit next) a is step holds booked says e = absurd is
     done_gives (command.Reset branch commit) (lane_work.Commit t) (lane_work.Commit next) a is step holds booked says e = absurd is
     done_gives (command.DropRef branch) (lane_work.Commit t) (lane_work.Commit next) a is step holds booked says e = absurd is
+    done_gives (command.Log rev) (lane_work.Commit t) (lane_work.Commit next) a is step holds booked says e = absurd is
+    done_gives (command.Ls rev path) (lane_work.Commit t) (lane_work.Commit next) a is step holds booked says e = absurd is
+    done_gives (command.Cat rev path) (lane_work.Commit t) (lane_work.Commit next) a is step holds booked says e = absurd is
     done_gives command.Refs (lane_work.Commit t) (lane_work.Commit next) a is step holds booked says e = absurd is
 
 change_has : (r : Came) (old new : Changing) → stepped_in (turn.Done tt) r old new → IsSome (change_answer r)
@@ -336,5 +436,10 @@ script_has (Some committed.NoRef) some = refl
 pub done_has : (t next : LaneCommand) → lane_stepped t (turn.Done tt) next → IsSome (lanes.answer_of next)
 done_has (lane_work.Ref t) (lane_work.Ref next) step = ref_has t next step
 done_has (lane_work.Commit t) (lane_work.Commit next) step = script_has (commits.answer_of next) (answered t next step)
+done_has (lane_work.Read t) (lane_work.Read next) step = subst (λ x. IsSome (script_read (read_answer_of x))) (sym step.1) refl
 done_has (lane_work.Ref t) (lane_work.Commit next) step = absurd step
+done_has (lane_work.Ref t) (lane_work.Read next) step = absurd step
 done_has (lane_work.Commit t) (lane_work.Ref next) step = absurd step
+done_has (lane_work.Commit t) (lane_work.Read next) step = absurd step
+done_has (lane_work.Read t) (lane_work.Ref next) step = absurd step
+done_has (lane_work.Read t) (lane_work.Commit next) step = absurd step

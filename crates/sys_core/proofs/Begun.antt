@@ -1,15 +1,14 @@
 -- A command that has begun goes on so over an act, and so does the commit that it makes.
-use Rattle.std.proofs.Common.{◌≡◌, ◌≢◌, ◌⊎◌, inl, inr, ⊎_elim, ◌<◌, ◌≤◌, ℕ, refl, sym, ◌∙◌, ap, subst, arith, List, ◌∷◌, ◌++◌, [], length, get_or, set, unwrap_or, Option, Some, None}
+use Rattle.std.proofs.Common.{◌≡◌, ◌≢◌, inl, inr, ◌<◌, ◌≤◌, ℕ, refl, sym, ◌∙◌, ap, subst, arith, List, ◌∷◌, ◌++◌, [], length, get_or, set, unwrap_or, Option, Some, None}
 use Rattle.std.proofs.lemmas.List.{get_or_default}
 use Rattle.ost_forms.specs.declared.tree_item.TreeItem.{TreeItem}
 use Rattle.std.specs.Global.{Vec}
 use Rattle.fs_trait.specs.View.{View}
 use Rattle.commit_build.specs.declared.message.Message.{Message}
 use Rattle.rely.specs.declared.books.Entry.{Entry}
-use Rattle.rely.specs.State.{State, first}
+use Rattle.rely.specs.State.{first}
 use Rattle.script.specs.declared.answer.Answer.{Answer}
 use Rattle.script.specs.declared.answer.Reply.{Reply}
-use Rattle.script.specs.declared.command.Command.{Command}
 use Rattle.script.specs.declared.command.Command.TheVariants.{Commit}
 use Rattle.script.specs.declared.command.Lane.{Lane}
 use Rattle.sys_core.specs.declared.ask.Ask.{Ask}

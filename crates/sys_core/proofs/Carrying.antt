@@ -1,5 +1,5 @@
--- What a step of a command's task keeps of the objects, and the moment of the change that it made to last.
-use Rattle.std.proofs.Common.{◌≡◌, ◌⊎◌, inl, inr, ⊎_elim, ◌≤◌, ℕ, refl, sym, subst, arith, List, ◌∷◌, ◌++◌, [], length, Option}
+-- What a step of a command's task keeps of the objects, what it counts of failed calls, and the moment of the change that it made to last.
+use Rattle.std.proofs.Common.{◌≡◌, ◌⊎◌, inl, inr, ⊎_elim, ◌≤◌, ℕ, refl, sym, subst, arith, List, ◌∷◌, ◌++◌, [], length, Bool, Option, Some}
 use Rattle.fs_trait.specs.View.{View}
 use Rattle.fs_trait.specs.Effect.{Elapses}
 use Rattle.rely.specs.declared.books.Base.{Base}
@@ -9,11 +9,12 @@ use Rattle.rely.specs.declared.event.Event.{Event}
 use Rattle.rely.specs.declared.kind.Outcome.{Outcome}
 use Rattle.rely.specs.declared.kind.Outcome.TheVariants as came
 use Rattle.rely.specs.Books.{books_of}
-use Rattle.rely.specs.Exact.{IsBooked}
+use Rattle.rely.specs.Exact.{Causes, IsBooked, IsLive}
 use Rattle.rely.specs.Lasting.{Lasts}
 use Rattle.rely.specs.Laws.{Kind, Quiet, Store, Take, Show, Shown, Settle, Holds}
 use Rattle.rely.proofs.Lasting.{lasts_refl}
 use Rattle.rely.proofs.Sounds.{IsFs}
+use Rattle.sys_core.specs.Causes.{Fails}
 use Rattle.sys_core.specs.Lasting.{IsCarried}
 use Rattle.sys_core.specs.Replied.{IsAt}
 use Rattle.sys_core.proofs.Histories.{grown}
@@ -49,18 +50,29 @@ later_at moment old new (inr more) k e at = ⊎_elim
     (λ here. inr (omega (arith, here.0), subst (λ (x : Entry). x.moment ≡ moment) (sym here.1) more.1))
     (at_split old more.0 e k (subst (λ (l : List Entry). IsAt l k e) more.2 at))
 
-module _ {F : Type 0} (view : F → Option View) (clock : F → ℕ) (was : F → ℕ → View → Type 0) where
-  pub step_carried : (lane command : ℕ) (old new : Base F) (kind : Kind) (outcome : Outcome) → Lasts view clock was old.fs new.fs → Elapses (clock old.fs) (clock new.fs) (was old.fs) (was new.fs) (view new.fs) → Holds kind lane (books_of old.books) → IsBooked kind lane command (clock new.fs) outcome old.books new.books → IsCarried view clock was old new
-  step_carried lane command old new kind outcome lasts time holds booked = record {
+-- only a failed change ends all commands
+fails_by : (before now : ℕ) (outcome : Outcome) (old new : Bool) → Causes before now outcome → IsLive outcome old new → Fails before now old new
+fails_by before now came.Halted old new cause live = (cause.0, λ was is. cause.1)
+fails_by before now came.Blocked old new cause live = (cause.0, λ was is. cc)
+fails_by before now came.More old new cause live = (cause.0, λ was is. cc)
+fails_by before now came.Done old new cause live = (cause.0, λ was is. cc)
+fails_by before now (came.Refused e) old new cause live = (cause.0, λ was is. cc)
+
+module _ {F : Type 0} (view : F → Option View) (clock : F → ℕ) (was : F → ℕ → View → Type 0) (faults : F → ℕ) where
+  pub step_carried : (lane command : ℕ) (old new : Base F) (kind : Kind) (outcome : Outcome) → Lasts view clock was old.fs new.fs → Elapses (clock old.fs) (clock new.fs) (was old.fs) (was new.fs) (view new.fs) → Holds kind lane (books_of old.books) → IsBooked kind lane command (clock new.fs) outcome old.books new.books
+      → ((v : View) → view old.fs ≡ Some v → Causes (faults old.fs) (faults new.fs) outcome) → IsLive outcome old.books.halted new.books.halted → IsCarried view clock was faults old new
+  step_carried lane command old new kind outcome lasts time holds booked cause live = record {
     lasts = lasts;
     time = time;
     moments = later_at (clock new.fs) old.books.history.items new.books.history.items (moment_is lane command (clock new.fs) old.books new.books kind outcome holds booked);
+    fails = λ v told. fails_by (faults old.fs) (faults new.fs) outcome old.books.halted new.books.halted (cause v told) live;
   }
 
   -- nothing was done
-  pub same_carried : IsFs view clock was → (base : Base F) → IsCarried view clock was base base
+  pub same_carried : IsFs view clock was → (base : Base F) → IsCarried view clock was faults base base
   same_carried laws base = record {
     lasts = lasts_refl view clock was laws base.fs;
     time = record { later = omega arith; soon = omega arith; nothing_else = λ t w early had. inl had; keeps = λ t w early had. had };
     moments = λ k e at. inl at;
+    fails = λ v told. (omega arith, λ was is. cc);
   }

@@ -19,9 +19,12 @@ use Rattle.commit_work.specs.declared.command.CommitCommand.{CommitCommand}
 use Rattle.commit_work.specs.Answers as commits
 use Rattle.commit_work.specs.Kinds as kinds
 use Rattle.commit_work.specs.Kinds.{BuildSteps, stepped_at, stepped_by}
+use Rattle.read_work.specs.declared.answer.ReadAnswer.{ReadAnswer}
+use Rattle.read_work.specs.declared.answer.ReadAnswer.TheVariants as given
+use Rattle.read_work.specs.Commands.{answer_of as read_answer_of}
 use Rattle.lane_work.specs.declared.command.LaneCommand.{LaneCommand}
 use Rattle.lane_work.specs.declared.command.LaneCommand.TheVariants as lane_work
-use Rattle.lane_work.specs.Commands.{answer_of, lane_stepped, script_answer, told}
+use Rattle.lane_work.specs.Commands.{answer_of, lane_stepped, read_answer, script_answer, script_read, told}
 use Rattle.rely.specs.declared.kind.Outcome.{Outcome}
 use Rattle.rely.specs.declared.kind.Outcome.TheVariants as came
 use Rattle.rely.specs.Exact.{Steps}
@@ -62,6 +65,20 @@ module _ (limits : Limits) (objects : ℕ) where
   ref_full (Reset look plan) a e = reset_full look.found look.commit a e
   ref_full (Change work) a e = change_full work.answer a e
 
+  spoken_full : (said : ReadAnswer) → IsFull limits objects (read_answer said)
+  spoken_full (given.Content bytes) = tt
+  spoken_full (given.Ls rows) = tt
+  spoken_full (given.Log rows) = tt
+  spoken_full (given.NoCommit commit) = tt
+  spoken_full (given.Partial commit) = tt
+  spoken_full (given.NoPath path) = tt
+  spoken_full (given.NotFile path) = tt
+  spoken_full (given.Lacking path) = tt
+
+  read_full : (o : Option ReadAnswer) (a : Answer) → script_read o ≡ Some a → IsFull limits objects a
+  read_full None a e = let z : None ≡ Some a = e in cc
+  read_full (Some said) a e = let k : read_answer said ≡ a = (let z : Some (read_answer said) ≡ Some a = e in cc) in is_full (read_answer said) a k (spoken_full said)
+
   naming_full : (commit : List ℕ) (r : Came) (a : Answer) → script_answer (commits.change_answer commit r) ≡ Some a → IsFull limits objects a
   naming_full commit None a e = let z : None ≡ Some a = e in cc
   naming_full commit (Some (Ok x)) a e = let k : answer.Commit commit ≡ a = cc in is_full (answer.Commit commit) a k tt
@@ -82,6 +99,11 @@ module _ (limits : Limits) (objects : ℕ) where
   stray_full (answer.Partial commit) is = tt
   stray_full (answer.RefMoved seen now) is = tt
   stray_full (answer.RefClash other) is = tt
+  stray_full (answer.Log rows) is = tt
+  stray_full (answer.Ls rows) is = tt
+  stray_full (answer.Content bytes) is = tt
+  stray_full (answer.NoPath path) is = tt
+  stray_full (answer.NotFile path) is = tt
   stray_full (answer.BadTree path) is = tt
   stray_full (answer.TooMany many) is = absurd is
 
@@ -90,6 +112,9 @@ module _ (limits : Limits) (objects : ℕ) where
   outside_full (command.DropRef branch) a is = stray_full a is
   outside_full (command.Commit branch tree subject body time) a is = stray_full a is
   outside_full (command.RevParse rev) a is = is_full answer.DiskFault a (sym is) tt
+  outside_full (command.Log rev) a is = is_full answer.DiskFault a (sym is) tt
+  outside_full (command.Ls rev path) a is = is_full answer.DiskFault a (sym is) tt
+  outside_full (command.Cat rev path) a is = is_full answer.DiskFault a (sym is) tt
   outside_full command.Refs a is = is_full answer.DiskFault a (sym is) tt
 
   refused_full : (e : FsErr) (c : Command) (a : Answer) → IsRefusedAs e c a → IsFull limits objects a
@@ -113,6 +138,11 @@ module _ (limits : Limits) (objects : ℕ) where
   by_full s (answer.Partial commit) c by = tt
   by_full s (answer.RefMoved seen now) c by = tt
   by_full s (answer.RefClash other) c by = tt
+  by_full s (answer.Log rows) c by = tt
+  by_full s (answer.Ls rows) c by = tt
+  by_full s (answer.Content bytes) c by = tt
+  by_full s (answer.NoPath path) c by = tt
+  by_full s (answer.NotFile path) c by = tt
   by_full s (answer.BadTree path) c by = tt
   by_full s (answer.TooMany many) c by = absurd by
 
@@ -140,13 +170,21 @@ bounds_of limits s (command.Commit branch tree subject body time) t is = is.boun
 bounds_of limits s (command.RevParse rev) t is = absurd is
 bounds_of limits s (command.Reset branch commit) t is = absurd is
 bounds_of limits s (command.DropRef branch) t is = absurd is
+bounds_of limits s (command.Log rev) t is = absurd is
+bounds_of limits s (command.Ls rev path) t is = absurd is
+bounds_of limits s (command.Cat rev path) t is = absurd is
 bounds_of limits s command.Refs t is = absurd is
 
 module _ (limits : Limits) (s : State) (c : Command) (objects : ℕ) where
   done_full : (t next : LaneCommand) (a : Answer) → Pursues limits s c t → lane_stepped (told objects t) (turn.Done tt) next → answer_of next ≡ Some a → IsFull limits objects a
   done_full (lane_work.Ref t) (lane_work.Ref next) a is step e = ref_full limits objects next a e
+  done_full (lane_work.Read t) (lane_work.Read next) a is step e = read_full limits objects (read_answer_of next) a e
   done_full (lane_work.Ref t) (lane_work.Commit next) a is step e = absurd step
+  done_full (lane_work.Ref t) (lane_work.Read next) a is step e = absurd step
   done_full (lane_work.Commit t) (lane_work.Ref next) a is step e = absurd step
+  done_full (lane_work.Commit t) (lane_work.Read next) a is step e = absurd step
+  done_full (lane_work.Read t) (lane_work.Ref next) a is step e = absurd step
+  done_full (lane_work.Read t) (lane_work.Commit next) a is step e = absurd step
   done_full (lane_work.Commit t) (lane_work.Commit next) a is step e = full_by limits (record t { objects = objects }) (bounds_of limits s c t is) t.change next a refl step e
 
   -- whatever ended the command

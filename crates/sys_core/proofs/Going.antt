@@ -1,6 +1,7 @@
 -- What an act of a lane came to.
 use Rattle.std.proofs.Common.{◌≡◌, ◌≢◌, inl, ⊎_elim, ℕ, true, refl, sym, ◌∙◌, ap, subst, List, length, Option, Some, None, Err, IsSome}
 use Rattle.ost_types.specs.declared.limits.Limits.{Limits}
+use Rattle.ost_types.specs.Path.{Path}
 use Rattle.fs_trait.specs.View.{View}
 use Rattle.fs_trait.specs.Effect.{OfNone}
 use Rattle.fs_trait.specs.Image.{IsTree, Told}
@@ -56,9 +57,9 @@ module _ (told : Type 0) (limits : Limits) (lane number : ℕ) (s p : State) (en
   Plain a c = Answers told limits lane number s p entries a c × (Makes a c → ⊥)
 
   -- want of something outside says nothing of the states
-  stray_answers : (a : Answer) (c : Command) → (told → ⊥) → IsStray a → Plain a c × (IsHalted a → ⊥)
+  stray_answers : (a : Answer) (c : Command) → ((path : Path) → Answers told limits lane number s p entries (answer.Outside path) c) → IsStray a → Plain a c × (IsHalted a → ⊥)
   stray_answers answer.NoMemory c out is = ((tt, λ n. n), λ n. n)
-  stray_answers (answer.Outside path) c out is = ((out, λ n. n), λ n. n)
+  stray_answers (answer.Outside path) c out is = ((out path, λ n. n), λ n. n)
   stray_answers answer.DiskFault c out is = absurd is
   stray_answers (answer.Halted count) c out is = absurd is
   stray_answers answer.Nothing c out is = absurd is
@@ -69,6 +70,11 @@ module _ (told : Type 0) (limits : Limits) (lane number : ℕ) (s p : State) (en
   stray_answers (answer.Partial commit) c out is = absurd is
   stray_answers (answer.RefMoved seen now) c out is = absurd is
   stray_answers (answer.RefClash other) c out is = absurd is
+  stray_answers (answer.Log rows) c out is = absurd is
+  stray_answers (answer.Ls rows) c out is = absurd is
+  stray_answers (answer.Content bytes) c out is = absurd is
+  stray_answers (answer.NoPath path) c out is = absurd is
+  stray_answers (answer.NotFile path) c out is = absurd is
   stray_answers (answer.BadTree path) c out is = absurd is
   stray_answers (answer.TooMany many) c out is = absurd is
 
@@ -76,10 +82,13 @@ module _ (told : Type 0) (limits : Limits) (lane number : ℕ) (s p : State) (en
   disk_answers a c is = subst (λ x. Plain x c × (IsHalted x → ⊥)) (sym is) ((tt, λ n. n), λ n. n)
 
   outside_answers : (c : Command) (a : Answer) → (told → ⊥) → IsOutside c a → Plain a c × (IsHalted a → ⊥)
-  outside_answers (command.Reset branch commit) a out is = stray_answers a (command.Reset branch commit) out is
-  outside_answers (command.DropRef branch) a out is = stray_answers a (command.DropRef branch) out is
-  outside_answers (command.Commit branch tree subject body time) a out is = stray_answers a (command.Commit branch tree subject body time) out is
+  outside_answers (command.Reset branch commit) a out is = stray_answers a (command.Reset branch commit) (λ path. out) is
+  outside_answers (command.DropRef branch) a out is = stray_answers a (command.DropRef branch) (λ path. out) is
+  outside_answers (command.Commit branch tree subject body time) a out is = stray_answers a (command.Commit branch tree subject body time) (λ path. out) is
   outside_answers (command.RevParse rev) a out is = disk_answers a (command.RevParse rev) is
+  outside_answers (command.Log rev) a out is = disk_answers a (command.Log rev) is
+  outside_answers (command.Ls rev path) a out is = disk_answers a (command.Ls rev path) is
+  outside_answers (command.Cat rev path) a out is = disk_answers a (command.Cat rev path) is
   outside_answers command.Refs a out is = disk_answers a command.Refs is
 
   pub refused_answers : (e : FsErr) (c : Command) (a : Answer) → (told → OfNone e) → IsRefusedAs e c a → (Answers told limits lane number s p entries a c × (Makes a c → ⊥)) × (IsHalted a → ⊥)
@@ -101,12 +110,18 @@ module _ (told : Type 0) (limits : Limits) (lane number : ℕ) (s : State) (entr
   refs_by : (rows : _) (c : Command) → AnswersBy s (answer.Refs rows) c → At (answer.Refs rows) c
   refs_by rows command.Refs by = (by, λ n. n, λ n. n)
   refs_by rows (command.RevParse rev) by = absurd by
+  refs_by rows (command.Log rev) by = absurd by
+  refs_by rows (command.Ls rev path) by = absurd by
+  refs_by rows (command.Cat rev path) by = absurd by
   refs_by rows (command.Reset branch commit) by = absurd by
   refs_by rows (command.DropRef branch) by = absurd by
   refs_by rows (command.Commit branch tree subject body time) by = absurd by
 
   none_by : (c : Command) → AnswersBy s answer.NoRef c → At answer.NoRef c
   none_by (command.RevParse rev) by = (by, λ n. n, λ n. n)
+  none_by (command.Log rev) by = (by, λ n. n, λ n. n)
+  none_by (command.Ls rev path) by = (by, λ n. n, λ n. n)
+  none_by (command.Cat rev path) by = (by, λ n. n, λ n. n)
   none_by (command.DropRef branch) by = (λ t. by, λ n. n, λ n. n)
   none_by command.Refs by = absurd by
   none_by (command.Reset branch commit) by = absurd by
@@ -125,6 +140,11 @@ module _ (told : Type 0) (limits : Limits) (lane number : ℕ) (s : State) (entr
   answers_by (answer.Partial commit) c by = absurd by
   answers_by (answer.RefMoved seen now) c by = absurd by
   answers_by (answer.RefClash other) c by = absurd by
+  answers_by (answer.Log rows) c by = absurd by
+  answers_by (answer.Ls rows) c by = absurd by
+  answers_by (answer.Content bytes) c by = absurd by
+  answers_by (answer.NoPath path) c by = absurd by
+  answers_by (answer.NotFile path) c by = absurd by
   answers_by (answer.BadTree path) c by = absurd by
   answers_by (answer.TooMany many) c by = absurd by
 
@@ -219,7 +239,10 @@ module _ {F : Type 0} (view : F → Option View) (clock spare : F → ℕ) (was 
   says (lane_work.Ref x) (lane_work.Ref y) is then tells opens = says_ref x y is then tells opens
   says (lane_work.Commit x) (lane_work.Commit y) is then tells opens = says_naming x y x.change y.change is then refl refl tells opens
   says (lane_work.Ref x) (lane_work.Commit y) is then tells opens = tt
+  says (lane_work.Ref x) (lane_work.Read y) is then tells opens = tt
   says (lane_work.Commit x) (lane_work.Ref y) is then tells opens = tt
+  says (lane_work.Commit x) (lane_work.Read y) is then tells opens = tt
+  says (lane_work.Read x) y is then tells opens = tt
 
   -- a step is refused for nothing else
   none_told : (f : FsErr) → Tells lane_leaves lane_refuses t (came.Refused f) t' (view old.fs) (view new.fs) → IsTold view → OfNone f
@@ -228,7 +251,7 @@ module _ {F : Type 0} (view : F → Option View) (clock spare : F → ℕ) (was 
       ⊎_elim
       (λ k. subst OfNone (sym k) tt)
       (λ why. refused_of from h old.books.pending lane v.0 (books_of old.books) t f (trees old.fs v.0 v.1) (ready.sound.stands v.0 v.1) (ready.task.facts v.0 v.1) why)
-      (tells v.0 v.1)
+      (tells v.0 v.1).0
 
   module _ (sound : Sound view clock spare was new) (same_start : new.books.start.items ≡ old.books.start.items) where
     -- where nothing is pending, the disk shows that no ref clashes with another

@@ -22,7 +22,7 @@ use Rattle.script.specs.declared.command.Command.{Command}
 use Rattle.script.specs.declared.command.Lane.{Lane}
 use Rattle.sys_core.specs.declared.run.Run.{Run}
 use Rattle.sys_core.specs.declared.run.Running.{Running}
-use Rattle.sys_core.specs.Answers.{state_after}
+use Rattle.sys_core.specs.Answers.{IsTold, state_after}
 use Rattle.sys_core.specs.Booked.{Booked, given, replies_of}
 use Rattle.sys_core.specs.Held.{Held}
 use Rattle.sys_core.specs.Lanes.{Kept, RunsIn}
@@ -52,7 +52,7 @@ module _ (runs : List Run) (lane : ℕ) (t : LaneCommand) (at : IsAt (works_of r
   work_here x = sym (get_or-map (λ (r : Run). work_in r.task) runs lane x (Some t) runs_here) ∙ at.1
 
 module _ {F : Type 0} (view : F → Option View) (clock spare : F → ℕ) (was : F → ℕ → View → Type 0) (base : Base F) (refs : RefBook) (lanes : List Lane) (runs : List Run) (replies : List (Vec Reply)) (limits : Limits) (objects count faults : ℕ)
-    (kept : Kept view clock spare was base refs runs) (booked : Booked lanes runs replies) (acc : Accounted view limits base lanes runs (replies_of replies) count faults) (pinned : base.books.halted ≡ false → AreInWork base.books lanes runs) where
+    (kept : Kept view clock spare was base refs runs) (booked : Booked lanes runs replies) (acc : Accounted view limits base lanes runs (replies_of replies) count faults) (pinned : base.books.halted ≡ false → AreInWork (IsTold view) base.books lanes runs) where
   after_here : (lane start : ℕ) (t : LaneCommand) (c : Command) → IsAt (works_of runs) lane (Some t) → IsAt (started_of runs) lane (Some start) → IsCommand lanes lane (length (given (system_of base lanes runs replies limits objects) lane)) c
       → Pursues limits (state_after (first base.books.start.items) base.books.history.items start) c t
   after_here lane start t c at began command =
@@ -71,7 +71,7 @@ module _ {F : Type 0} (view : F → Option View) (clock spare : F → ℕ) (was 
       held_of lane t v (books_of base.books) ((runs_of lane refs (get_or runs lane x).task (Commit t) (view base.fs) (books_of base.books) (work_here runs lane (Commit t) at x) facts.runs).facts v told)
 
   pins_here : base.books.halted ≡ false → (p : Pin) → Contains base.books.pins.items p
-      → (start : ℕ) × (c : Command) × IsAt (started_of runs) p.lane (Some start) × IsCommand lanes p.lane (length (given (system_of base lanes runs replies limits objects) p.lane)) c × IsWorkOf (state_after (first base.books.start.items) base.books.history.items start) c p.object
+      → (start : ℕ) × (c : Command) × IsAt (started_of runs) p.lane (Some start) × IsCommand lanes p.lane (length (given (system_of base lanes runs replies limits objects) p.lane)) c × IsWorkOf (IsTold view) (state_after (first base.books.start.items) base.books.history.items start) c p.object
   pins_here live p has =
       let w = pinned live p has in
       let x = some_of runs p.lane w.within in

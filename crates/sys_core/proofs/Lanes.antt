@@ -22,6 +22,9 @@ use Rattle.commit_build.specs.Committing.{storing_in}
 use Rattle.commit_work.specs.declared.command.CommitCommand.{CommitCommand}
 use Rattle.commit_work.specs.Answers as commits
 use Rattle.commit_work.specs.Kinds.{build_kind, commit_kind, kind_by}
+use Rattle.read_work.specs.declared.command.ReadCommand.{ReadCommand}
+use Rattle.read_work.specs.declared.command.ReadCommand.TheVariants as read
+use Rattle.read_work.specs.Commands.{IsNew, read_kind}
 use Rattle.lane_work.specs.declared.command.LaneCommand.{LaneCommand}
 use Rattle.lane_work.specs.declared.command.LaneCommand.TheVariants as lane_work
 use Rattle.lane_work.specs.Answers.{Begins}
@@ -45,9 +48,17 @@ commit_holds lane t b begins none =
     subst (λ o. Holds (kind_by o t) lane b) (sym begins.change)
     (subst (λ ph. Holds (build_kind t.pinned (storing_in ph)) lane b) (sym begins.new) none)
 
+read_holds : (lane : ℕ) (t : ReadCommand) (b : Books) → IsNew t → NotPending lane b → Holds (read_kind t) lane b
+read_holds lane (read.Look l) b new none = none
+read_holds lane (read.Cat c) b new none = absurd new
+read_holds lane (read.Ls s) b new none = absurd new
+read_holds lane (read.Log g) b new none = absurd new
+read_holds lane (read.Ended a) b new none = absurd new
+
 begin_holds : (lane : ℕ) (t : LaneCommand) (b : Books) → Begins lane t → NotPending lane b → Holds (lane_kind t) lane b
 begin_holds lane (lane_work.Ref t) b begins none = ref_holds lane t b begins none
 begin_holds lane (lane_work.Commit t) b begins none = commit_holds lane t b begins none
+begin_holds lane (lane_work.Read t) b begins none = read_holds lane t b begins none
 
 -- what a task is told is no matter to its facts
 pub runs_told : (lane objects : ℕ) (t : LaneCommand) (view : Option View) (b : Books) → Runs lane_kind lane_facts lane t view b → Runs lane_kind lane_facts lane (told objects t) view b

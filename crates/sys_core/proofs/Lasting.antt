@@ -41,6 +41,11 @@ made_answer : (branch : List ℕ) (tree : Vec TreeItem) (subject body : List ℕ
 made_answer branch tree subject body time (answer.Commit sum) makes = (sum, refl)
 made_answer branch tree subject body time answer.Nothing makes = absurd makes
 made_answer branch tree subject body time (answer.Refs rows) makes = absurd makes
+made_answer branch tree subject body time (answer.Log rows) makes = absurd makes
+made_answer branch tree subject body time (answer.Ls rows) makes = absurd makes
+made_answer branch tree subject body time (answer.Content bytes) makes = absurd makes
+made_answer branch tree subject body time (answer.NoPath path) makes = absurd makes
+made_answer branch tree subject body time (answer.NotFile path) makes = absurd makes
 made_answer branch tree subject body time (answer.NoCommit commit) makes = absurd makes
 made_answer branch tree subject body time (answer.Partial commit) makes = absurd makes
 made_answer branch tree subject body time (answer.RefMoved seen now) makes = absurd makes
@@ -183,7 +188,7 @@ module _ {F : Type 0} (view : F → Option View) (clock : F → ℕ) (was : F �
         seen : LastsWith tree.items said.0 v × IsFormed tree.items (message_in then_ branch subject body time)
         seen =
             let here : IsCommand old.lanes actor (length (given old actor)) c = subst (λ l. IsCommand old.lanes l (length (given old actor)) c) its.0 (subst (λ n. IsCommand old.lanes e.lane n c) its.1 (command_was e.lane e.command c is)) in
-            subst (λ a. IsSeen v then_ a c) says (tells.0 c here v told).0
+            subst (λ a. IsSeen old.limits v then_ a c) says (tells.0 c here v told).0
 
         pub its_kept : IsCommitKept (was new.base.fs) start old.limits e branch tree.items subject body time w
         its_kept = made_now e moment branch tree subject body time (now_ (RefOf branch)) its_event
@@ -191,7 +196,7 @@ module _ {F : Type 0} (view : F → Option View) (clock : F → ℕ) (was : F �
             (subst (λ s. IsFormed tree.items (message_in s branch subject body time)) (sym same_state) seen.1)
             (subst (λ x. LastsWith tree.items x v) made.1 seen.0)
 
-    module _ (carried : IsCarried view clock was old.base new.base) where
+    module _ {failed : F → ℕ} (carried : IsCarried view clock was failed old.base new.base) where
       -- all of them
       kept_all : new.limits ≡ old.limits
           → ((k : ℕ) (e : Entry) → IsAt new.base.books.history.items k e → length old.base.books.history.items ≤ k → clock old.base.fs ≤ e.moment → (branch : List ℕ) (tree : Vec TreeItem) (subject body : List ℕ) (time : ℕ) → IsCommand new.lanes e.lane e.command (command.Commit branch tree subject body time)
@@ -217,7 +222,7 @@ module _ {F : Type 0} (view : F → Option View) (clock : F → ℕ) (was : F �
 
 -- over an act
 pub act_keeps : {F : Type 0} (view : F → Option View) (clock : F → ℕ) (was : F → ℕ → View → Type 0) (old new : System F) (faults faults' actor : ℕ) (ask : Ask) → new.lanes ≡ old.lanes → AreFit old.limits old.lanes → length old.replies ≡ length old.lanes → IsReplied view old → IsReplied view new
-    → IsCarried view clock was old.base new.base → Acted (AnswerTells view faults faults' old actor) old new actor ask
+    → {failed : F → ℕ} → IsCarried view clock was failed old.base new.base → Acted (AnswerTells view faults faults' old actor) old new actor ask
     → (start v : View) → view old.base.fs ≡ Some v → AreKept was start old v → Told (view new.base.fs) (λ w. AreKept was start new w)
 act_keeps view clock was old new faults faults' actor ask lanes fit rows was_replied replied carried acted start v told kept =
     let x = carried.lasts v told in
@@ -225,7 +230,7 @@ act_keeps view clock was old new faults faults' actor ask lanes fit rows was_rep
 
 -- so where the value before the act is known to be this one
 pub act_keeps_of : {F : Type 0} (view : F → Option View) (clock : F → ℕ) (was : F → ℕ → View → Type 0) (self old new : System F) (faults faults' actor : ℕ) (ask : Ask) → self ≡ old → new.lanes ≡ old.lanes → AreFit old.limits old.lanes → length old.replies ≡ length old.lanes → IsReplied view old → IsReplied view new
-    → IsCarried view clock was old.base new.base → Acted (AnswerTells view faults faults' self actor) self new actor ask
+    → {failed : F → ℕ} → IsCarried view clock was failed old.base new.base → Acted (AnswerTells view faults faults' self actor) self new actor ask
     → (start v : View) → view self.base.fs ≡ Some v → AreKept was start self v → Told (view new.base.fs) (λ w. AreKept was start new w)
 act_keeps_of {F = F} view clock was self old new faults faults' actor ask is lanes fit rows was_replied replied carried acted start v told kept =
     act_keeps view clock was old new faults faults' actor ask lanes fit rows was_replied replied carried

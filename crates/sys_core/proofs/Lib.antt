@@ -31,3 +31,5 @@ pub mod Stored
 pub mod Pinning
 pub mod Holding
 pub mod StoredFirst
+pub mod Causing
+pub mod Inside

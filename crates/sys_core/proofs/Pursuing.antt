@@ -1,5 +1,5 @@
 -- A command's task goes on to be after what it was after, and what it makes pending.
-use Rattle.std.proofs.Common.{◌≡◌, inl, inr, ℕ, Bool, refl, sym, ◌∙◌, ap, subst, List, Option, Some, None, Ok, IsSome, true, false}
+use Rattle.std.proofs.Common.{◌≡◌, inl, inr, ℕ, Bool, refl, sym, ◌∙◌, ap, subst, List, [], ◌∷◌, Option, Some, None, Ok, IsSome, true, false}
 use Rattle.ost_types.specs.declared.limits.Limits.{Limits}
 use Rattle.ost_types.specs.declared.object.ObjName.{ObjName}
 use Rattle.ost_forms.specs.declared.tree_item.TreeItem.{TreeItem}
@@ -23,6 +23,11 @@ use Rattle.commit_build.proofs.Wholes.{IsSame, same_more}
 use Rattle.commit_work.specs.declared.naming.Naming.{Naming}
 use Rattle.commit_work.specs.declared.command.CommitCommand.{CommitCommand}
 use Rattle.commit_work.specs.Kinds.{BuildSteps, build_kind, kind_by, planned, stepped_at, stepped_by}
+use Rattle.script.specs.declared.rows.LogRow.{LogRow}
+use Rattle.read_work.specs.declared.command.ReadCommand.{ReadCommand}
+use Rattle.read_work.specs.declared.command.ReadCommand.TheVariants as reading
+use Rattle.read_work.specs.Commands.{read_kind}
+use Rattle.read_work.specs.LogSteps.{log_kind}
 use Rattle.lane_work.specs.declared.command.LaneCommand.{LaneCommand}
 use Rattle.lane_work.specs.declared.command.LaneCommand.TheVariants as lane_work
 use Rattle.lane_work.specs.Commands.{IsMadeIn, lane_kind, lane_stepped, told}
@@ -45,6 +50,7 @@ use Rattle.sys_core.specs.Begins.{RunsBy, RunsRefBy}
 use Rattle.commit_lasts.specs.Lasting.{sum_of}
 use Rattle.sys_core.specs.Commits.{message_in}
 use Rattle.sys_core.specs.Pursues.{Commits, IsChanging, IsNaming, NamesIn, Pursues, RefPursues, IsPendingBy, ReadsIn}
+use Rattle.sys_core.specs.Reading.{Reads}
 
 -- at the beginning
 ref_begins : (lane : ℕ) (s : State) (c : Command) (t : RefCommand) → RunsRefBy lane s c t → RefPursues s c t
@@ -60,10 +66,14 @@ ref_begins lane s (command.DropRef branch) (Change work) by =
 ref_begins lane s (command.DropRef branch) (Parse look) by = absurd by
 ref_begins lane s (command.DropRef branch) (Reset look plan) by = absurd by
 ref_begins lane s (command.Commit branch tree subject body time) t by = absurd by
+ref_begins lane s (command.Log rev) t by = absurd by
+ref_begins lane s (command.Ls rev path) t by = absurd by
+ref_begins lane s (command.Cat rev path) t by = absurd by
 ref_begins lane s command.Refs t by = absurd by
 
 pub pursues_begins : (limits : Limits) (lane : ℕ) (s : State) (c : Command) (t : LaneCommand) → RunsBy limits lane s c t → Pursues limits s c t
 pursues_begins limits lane s c (lane_work.Ref t) by = ref_begins lane s c t by
+pursues_begins limits lane s c (lane_work.Read t) by = by
 pursues_begins limits lane s (command.Commit branch tree subject body time) (lane_work.Commit t) by = record {
   name = by.0.name;
   items = ap (λ (x : Committing). x.items) by.0.build;
@@ -76,15 +86,22 @@ pursues_begins limits lane s (command.Commit branch tree subject body time) (lan
 pursues_begins limits lane s (command.RevParse rev) (lane_work.Commit t) by = absurd by
 pursues_begins limits lane s (command.Reset branch commit) (lane_work.Commit t) by = absurd by
 pursues_begins limits lane s (command.DropRef branch) (lane_work.Commit t) by = absurd by
+pursues_begins limits lane s (command.Log rev) (lane_work.Commit t) by = absurd by
+pursues_begins limits lane s (command.Ls rev path) (lane_work.Commit t) by = absurd by
+pursues_begins limits lane s (command.Cat rev path) (lane_work.Commit t) by = absurd by
 pursues_begins limits lane s command.Refs (lane_work.Commit t) by = absurd by
 
 -- whatever the task is told
 pub pursues_told : (limits : Limits) (s : State) (c : Command) (objects : ℕ) (t : LaneCommand) → Pursues limits s c t → Pursues limits s c (told objects t)
 pursues_told limits s c objects (lane_work.Ref t) is = is
+pursues_told limits s c objects (lane_work.Read t) is = is
 pursues_told limits s (command.Commit branch tree subject body time) objects (lane_work.Commit t) is = record { name = is.name; items = is.items; bounds = is.bounds; says = is.says; made = is.made; names = is.names; reads = is.reads }
 pursues_told limits s (command.RevParse rev) objects (lane_work.Commit t) is = absurd is
 pursues_told limits s (command.Reset branch commit) objects (lane_work.Commit t) is = absurd is
 pursues_told limits s (command.DropRef branch) objects (lane_work.Commit t) is = absurd is
+pursues_told limits s (command.Log rev) objects (lane_work.Commit t) is = absurd is
+pursues_told limits s (command.Ls rev path) objects (lane_work.Commit t) is = absurd is
+pursues_told limits s (command.Cat rev path) objects (lane_work.Commit t) is = absurd is
 pursues_told limits s command.Refs objects (lane_work.Commit t) is = absurd is
 
 changing_step : (name : List ℕ) (seen value : Option (List ℕ)) (t new : Changing) → IsStepped t (Ok turn.More) new → IsChanging name seen value t → IsChanging name seen value new
@@ -111,6 +128,9 @@ ref_step s (command.Reset branch commit) (Reset look plan) new step is = reset_s
 ref_step s (command.RevParse rev) (Reset look plan) new step is = absurd is
 ref_step s (command.DropRef branch) (Reset look plan) new step is = absurd is
 ref_step s (command.Commit branch tree subject body time) (Reset look plan) new step is = absurd is
+ref_step s (command.Log rev) (Reset look plan) new step is = absurd is
+ref_step s (command.Ls rev path) (Reset look plan) new step is = absurd is
+ref_step s (command.Cat rev path) (Reset look plan) new step is = absurd is
 ref_step s command.Refs (Reset look plan) new step is = absurd is
 ref_step s c (Change work) (Parse look) step is = absurd step
 ref_step s c (Change work) (Reset look plan) step is = absurd step
@@ -118,6 +138,9 @@ ref_step s (command.Reset branch commit) (Change work) (Change new) step is = ch
 ref_step s (command.DropRef branch) (Change work) (Change new) step is = (changing_step branch (s (RefOf branch)) None work.task new.task step.0 is.0, is.1)
 ref_step s (command.RevParse rev) (Change work) (Change new) step is = absurd is
 ref_step s (command.Commit branch tree subject body time) (Change work) (Change new) step is = absurd is
+ref_step s (command.Log rev) (Change work) (Change new) step is = absurd is
+ref_step s (command.Ls rev path) (Change work) (Change new) step is = absurd is
+ref_step s (command.Cat rev path) (Change work) (Change new) step is = absurd is
 ref_step s command.Refs (Change work) (Change new) step is = absurd is
 
 -- what is committed stays
@@ -204,13 +227,21 @@ module _ (limits : Limits) (branch : List ℕ) (tree : List TreeItem) (message :
 -- and at each step
 pub pursues_step : (limits : Limits) (s : State) (c : Command) (t new : LaneCommand) → lane_stepped t turn.More new → IsMadeIn new → Pursues limits s c t → Pursues limits s c new
 pursues_step limits s c (lane_work.Ref t) (lane_work.Ref new) step made is = ref_step s c t new step is
+pursues_step limits s c (lane_work.Read t) (lane_work.Read new) step made is = subst (Reads limits s c) (sym step.0) is
 pursues_step limits s c (lane_work.Ref t) (lane_work.Commit new) step made is = absurd step
+pursues_step limits s c (lane_work.Ref t) (lane_work.Read new) step made is = absurd step
 pursues_step limits s c (lane_work.Commit t) (lane_work.Ref new) step made is = absurd step
+pursues_step limits s c (lane_work.Commit t) (lane_work.Read new) step made is = absurd step
+pursues_step limits s c (lane_work.Read t) (lane_work.Ref new) step made is = absurd step
+pursues_step limits s c (lane_work.Read t) (lane_work.Commit new) step made is = absurd step
 pursues_step limits s (command.Commit branch tree subject body time) (lane_work.Commit t) (lane_work.Commit new) step made is =
     step_by limits branch tree.items (message_in s branch subject body time) t is t.change new refl step made is.names
 pursues_step limits s (command.RevParse rev) (lane_work.Commit t) (lane_work.Commit new) step made is = absurd is
 pursues_step limits s (command.Reset branch commit) (lane_work.Commit t) (lane_work.Commit new) step made is = absurd is
 pursues_step limits s (command.DropRef branch) (lane_work.Commit t) (lane_work.Commit new) step made is = absurd is
+pursues_step limits s (command.Log rev) (lane_work.Commit t) (lane_work.Commit new) step made is = absurd is
+pursues_step limits s (command.Ls rev path) (lane_work.Commit t) (lane_work.Commit new) step made is = absurd is
+pursues_step limits s (command.Cat rev path) (lane_work.Commit t) (lane_work.Commit new) step made is = absurd is
 pursues_step limits s command.Refs (lane_work.Commit t) (lane_work.Commit new) step made is = absurd is
 
 drop_event : (seen : Option (List ℕ)) (branch : List ℕ) → IsSome seen → (x : List ℕ) × (seen ≡ Some x) × (event_of None branch seen ≡ event.DropRef branch x)
@@ -228,6 +259,9 @@ change_is s (command.DropRef branch) work is =
     (d.0, d.1, event_is branch (s (RefOf branch)) None work.task is.0 ∙ d.2)
 change_is s (command.RevParse rev) work is = absurd is
 change_is s (command.Commit branch tree subject body time) work is = absurd is
+change_is s (command.Log rev) work is = absurd is
+change_is s (command.Ls rev path) work is = absurd is
+change_is s (command.Cat rev path) work is = absurd is
 change_is s command.Refs work is = absurd is
 
 pub naming_is : (branch : List ℕ) (seen : Option (List ℕ)) (tree : List TreeItem) (sum : List ℕ) (n : Naming) → IsNaming branch seen tree sum n → event n.work.task ≡ event.SetRef branch seen sum
@@ -250,13 +284,28 @@ commit_shows : (branch : List ℕ) (seen : Option (List ℕ)) (tree : List TreeI
 commit_shows branch seen tree its t None e names k = build_shows t.pinned (storing_in t.build.phase) e k
 commit_shows branch seen tree its t (Some n) e names k = sym (kind_shows (progress_in n.work.task.phase) (event n.work.task) e k) ∙ naming_is branch seen tree its n names
 
+log_shows : {P : Type 0} (rows : List LogRow) (next : List ℕ) (e : Event) → log_kind rows next ≡ Show e → P
+log_shows [] next e is = cc
+log_shows (r ∷ rows) next e is = cc
+
+read_shows : {P : Type 0} (t : ReadCommand) (e : Event) → read_kind t ≡ Show e → P
+read_shows (reading.Look l) e is = cc
+read_shows (reading.Cat c) e is = cc
+read_shows (reading.Ls s) e is = cc
+read_shows (reading.Log g) e is = log_shows g.rows.items g.next e is
+read_shows (reading.Ended a) e is = cc
+
 shows_change : (limits : Limits) (s : State) (c : Command) (t : LaneCommand) (e : Event) → Pursues limits s c t → lane_kind t ≡ Show e → IsChangeOf s c e
 shows_change limits s c (lane_work.Ref t) e is k = ref_shows s c t e is k
+shows_change limits s c (lane_work.Read t) e is k = read_shows t e k
 shows_change limits s (command.Commit branch tree subject body time) (lane_work.Commit t) e is k =
     commit_shows branch (s (RefOf branch)) tree.items (sum_of tree.items (message_in s branch subject body time)) t t.change e is.names k
 shows_change limits s (command.RevParse rev) (lane_work.Commit t) e is k = absurd is
 shows_change limits s (command.Reset branch commit) (lane_work.Commit t) e is k = absurd is
 shows_change limits s (command.DropRef branch) (lane_work.Commit t) e is k = absurd is
+shows_change limits s (command.Log rev) (lane_work.Commit t) e is k = absurd is
+shows_change limits s (command.Ls rev path) (lane_work.Commit t) e is k = absurd is
+shows_change limits s (command.Cat rev path) (lane_work.Commit t) e is k = absurd is
 shows_change limits s command.Refs (lane_work.Commit t) e is k = absurd is
 
 module _ (lane number moment : ℕ) (old new : rust.Books) (Its : Event → Type 0) where

@@ -1,5 +1,5 @@
 -- What an answer tells of the disk and of calls that failed, where the view is told.
-use Rattle.std.proofs.Common.{◌≡◌, ◌⊎◌, inl, inr, ⊎_elim, ℕ, Bool, true, false, sym, ◌∙◌, ap, subst, List, Option, Some, None}
+use Rattle.std.proofs.Common.{◌≡◌, ◌⊎◌, inl, inr, ⊎_elim, ℕ, Bool, true, false, refl, sym, ◌∙◌, ap, subst, List, Option, Some, None}
 use Rattle.std.specs.Global.{Vec}
 use Rattle.ost_types.specs.declared.limits.Limits.{Limits}
 use Rattle.ost_forms.specs.declared.tree_item.TreeItem.{TreeItem}
@@ -9,7 +9,7 @@ use Rattle.fs_trait.specs.Effect.{OfNone}
 use Rattle.fs_trait.specs.declared.types.FsErr.{FsErr}
 use Rattle.fs_trait.specs.declared.types.FsErr.TheVariants as err
 use Rattle.ref_work.specs.declared.command.RefCommand.{RefCommand}
-use Rattle.ref_work.specs.declared.look_up.Found.TheVariants.{Whole}
+use Rattle.ref_work.specs.declared.look_up.Found.TheVariants.{Missing, Partial, Whole}
 use Rattle.ref_work.specs.Found.{IsFound}
 use Rattle.ref_work.specs.Answers as refs
 use Rattle.tree_build.specs.Building.{IsNumber}
@@ -20,10 +20,18 @@ use Rattle.commit_work.specs.declared.answer.CommitAnswer.{CommitAnswer}
 use Rattle.commit_work.specs.declared.answer.CommitAnswer.TheVariants as committed
 use Rattle.commit_work.specs.declared.command.CommitCommand.{CommitCommand}
 use Rattle.commit_work.specs.Answers as commits
+use Rattle.read_work.specs.declared.answer.ReadAnswer.{ReadAnswer}
+use Rattle.read_work.specs.declared.answer.ReadAnswer.TheVariants as given
+use Rattle.read_work.specs.declared.look.Ask.{Ask}
+use Rattle.read_work.specs.declared.look.Ask.TheVariants as ask
+use Rattle.read_work.specs.Answers.{SaysOf}
+use Rattle.read_work.specs.Asked as reads
+use Rattle.read_work.specs.Asked.{Asked, asked}
+use Rattle.read_work.specs.Founded.{IsFinishedOf, IsRead}
 use Rattle.lane_work.specs.declared.command.LaneCommand.{LaneCommand}
 use Rattle.lane_work.specs.declared.command.LaneCommand.TheVariants as lane_work
 use Rattle.lane_work.specs.Answers.{Says}
-use Rattle.lane_work.specs.Commands.{lane_facts, lane_leaves, lane_refuses, script_answer}
+use Rattle.lane_work.specs.Commands.{lane_facts, lane_leaves, lane_refuses, read_answer, script_answer}
 use Rattle.lane_work.proofs.Ends.{refused_of, says_of}
 use Rattle.rely.specs.declared.books.Entry.{Entry}
 use Rattle.rely.specs.declared.books.Pending.{Pending}
@@ -42,6 +50,7 @@ use Rattle.sys_core.specs.declared.lane.Came.TheVariants.{Answered}
 use Rattle.sys_core.specs.Answers.{IsCaused, IsSeen}
 use Rattle.sys_core.specs.Commits.{message_in, IsFormed, LastsWith}
 use Rattle.sys_core.specs.Begins.{AnswersBy}
+use Rattle.sys_core.specs.Reading.{Reads, SaysBy}
 use Rattle.ost_types.specs.declared.object.ObjName.{ObjName}
 use Rattle.tree_build.specs.Items.{AreTyped}
 use Rattle.commit_work.specs.Kinds.{build_kind, commit_kind, kind_by}
@@ -50,16 +59,19 @@ use Rattle.rely.specs.Laws.{Settle}
 use Rattle.rely.specs.declared.event.Event.{Event}
 use Rattle.sys_core.specs.Pursues.{Commits, IsEndedAs, IsRefusedAs, Pursues, RefPursues, ReadsIn}
 
-module _ (v : View) (s : State) (halted : Bool) (before now : ℕ) where
+module _ (limits : Limits) (v : View) (s : State) (halted : Bool) (before now : ℕ) where
   abbrev pub Says_so : Answer → Command → Type 0
-  Says_so a c = IsSeen v s a c × IsCaused halted before now a
+  Says_so a c = IsSeen limits v s a c × IsCaused halted before now a
 
   -- a commit that is looked up
-  found_shown : (commit : List ℕ) (c : Command) (t : RefCommand) → RefPursues s c t → IsFound v.now commit Whole → IsSeen v s (answer.Commit commit) c
+  found_shown : (commit : List ℕ) (c : Command) (t : RefCommand) → RefPursues s c t → IsFound v.now commit Whole → IsSeen limits v s (answer.Commit commit) c
   found_shown commit (command.Commit branch tree subject body time) t is found = absurd is
   found_shown commit (command.RevParse rev) t is found = found
   found_shown commit (command.Reset branch named) t is found = found
   found_shown commit (command.DropRef branch) t is found = found
+  found_shown commit (command.Log rev) t is found = found
+  found_shown commit (command.Ls rev path) t is found = found
+  found_shown commit (command.Cat rev path) t is found = found
   found_shown commit command.Refs t is found = found
 
   ref_shown : (a : Answer) (c : Command) (t : RefCommand) (w : View) → RefPursues s c t → refs.Says a t v w → Says_so a c
@@ -75,11 +87,16 @@ module _ (v : View) (s : State) (halted : Bool) (before now : ℕ) where
   ref_shown answer.DiskFault c t w is says = absurd says
   ref_shown (answer.Halted count) c t w is says = absurd says
   ref_shown (answer.Outside path) c t w is says = absurd says
+  ref_shown (answer.Log rows) c t w is says = absurd says
+  ref_shown (answer.Ls rows) c t w is says = absurd says
+  ref_shown (answer.Content bytes) c t w is says = absurd says
+  ref_shown (answer.NoPath path) c t w is says = absurd says
+  ref_shown (answer.NotFile path) c t w is says = absurd says
   ref_shown (answer.BadTree path) c t w is says = absurd says
   ref_shown (answer.TooMany many) c t w is says = absurd says
 
   -- a commit that was made, or for which there was no room
-  module _ (limits : Limits) (branch : List ℕ) (tree : Vec TreeItem) (subject body : List ℕ) (time : ℕ) (t : CommitCommand) (w : View) (is : Commits limits branch tree.items (message_in s branch subject body time) t) where
+  module _ (branch : List ℕ) (tree : Vec TreeItem) (subject body : List ℕ) (time : ℕ) (t : CommitCommand) (w : View) (is : Commits limits branch tree.items (message_in s branch subject body time) t) where
     abbrev pub c : Command
     c = command.Commit branch tree subject body time
 
@@ -121,15 +138,58 @@ module _ (v : View) (s : State) (halted : Bool) (before now : ℕ) where
     made_shown (committed.RefClash other) a e says = let k : answer.RefClash other ≡ a = cc in subst (λ x. Says_so x c) k (tt, tt)
     made_shown committed.NoRef a e says = absurd says
 
-  said_shown : (limits : Limits) (a : Answer) (c : Command) (t : LaneCommand) (w : View) → Pursues limits s c t → Says a t v w → Says_so a c
-  said_shown limits a c (lane_work.Ref t) w is says = ref_shown a c t w is says
-  said_shown limits a (command.Commit branch tree subject body time) (lane_work.Commit t) w is says = made_shown limits branch tree subject body time t w is says.0 a says.1 says.2
-  said_shown limits a (command.RevParse rev) (lane_work.Commit t) w is says = absurd is
-  said_shown limits a (command.Reset branch commit) (lane_work.Commit t) w is says = absurd is
-  said_shown limits a (command.DropRef branch) (lane_work.Commit t) w is says = absurd is
-  said_shown limits a command.Refs (lane_work.Commit t) w is says = absurd is
+  -- what was read of a commit
+  missing_by : (q : Option Asked) (commit : List ℕ) → reads.Answers v.now q (given.NoCommit commit) → IsFound v.now commit Missing
+  missing_by None commit says = absurd says
+  missing_by (Some q) commit says = ⊎_elim (λ stopped. subst (λ x. IsFound v.now x Missing) (sym stopped.0) stopped.1) (λ other. absurd (not_so q.ask other)) says
+    where
+      not_so : (a : Ask) → SaysOf v.now q.limits q.commit a (given.NoCommit commit) → ⊥
+      not_so (ask.Cat path) other = other
+      not_so (ask.Ls path) other = other
+      not_so ask.Log other = other
 
-  pub by_shown : (p : State) (a : Answer) (c : Command) → AnswersBy p a c → IsSeen v s a c × IsCaused halted before now a
+  partial_by : (q : Option Asked) (commit : List ℕ) → reads.Answers v.now q (given.Partial commit) → IsFound v.now commit Partial
+  partial_by None commit says = absurd says
+  partial_by (Some q) commit says = ⊎_elim (λ stopped. subst (λ x. IsFound v.now x Partial) (sym stopped.0) stopped.1) (λ other. absurd (not_so q.ask other)) says
+    where
+      not_so : (a : Ask) → SaysOf v.now q.limits q.commit a (given.Partial commit) → ⊥
+      not_so (ask.Cat path) other = other
+      not_so (ask.Ls path) other = other
+      not_so ask.Log other = other
+
+  read_by : (c : Command) (q : Option Asked) (said : ReadAnswer) → Reads limits s c q → reads.Answers v.now q said → IsFinishedOf q v → SaysBy v limits s c (read_answer said)
+  read_by (command.Log rev) q said is says finished = (is.0, is.1, subst (λ x. IsFinishedOf x v) is.2 finished, said, refl, subst (λ x. reads.Answers v.now x said) is.2 says)
+  read_by (command.Ls rev path) q said is says finished = (is.0, is.1, subst (λ x. IsFinishedOf x v) is.2 finished, said, refl, subst (λ x. reads.Answers v.now x said) is.2 says)
+  read_by (command.Cat rev path) q said is says finished = (is.0, is.1, subst (λ x. IsFinishedOf x v) is.2 finished, said, refl, subst (λ x. reads.Answers v.now x said) is.2 says)
+  read_by (command.Commit branch tree subject body time) q said is says finished = absurd is
+  read_by (command.RevParse rev) q said is says finished = absurd is
+  read_by (command.Reset branch commit) q said is says finished = absurd is
+  read_by (command.DropRef branch) q said is says finished = absurd is
+  read_by command.Refs q said is says finished = absurd is
+
+  read_shown : (c : Command) (q : Option Asked) (said : ReadAnswer) → Reads limits s c q → reads.Answers v.now q said → (IsRead said → IsFinishedOf q v) → Says_so (read_answer said) c
+  read_shown c q (given.Content bytes) is says finished = (read_by c q (given.Content bytes) is says (finished tt), tt)
+  read_shown c q (given.Ls rows) is says finished = (read_by c q (given.Ls rows) is says (finished tt), tt)
+  read_shown c q (given.Log rows) is says finished = (read_by c q (given.Log rows) is says (finished tt), tt)
+  read_shown c q (given.NoPath path) is says finished = (read_by c q (given.NoPath path) is says (finished tt), tt)
+  read_shown c q (given.NotFile path) is says finished = (read_by c q (given.NotFile path) is says (finished tt), tt)
+  read_shown c q (given.Lacking path) is says finished = (read_by c q (given.Lacking path) is says (finished tt), tt)
+  read_shown c q (given.NoCommit commit) is says finished = (missing_by q commit says, tt)
+  read_shown c q (given.Partial commit) is says finished = (partial_by q commit says, tt)
+
+  said_shown : (a : Answer) (c : Command) (t : LaneCommand) (w : View) → Pursues limits s c t → Says a t v w → Says_so a c
+  said_shown a c (lane_work.Ref t) w is says = ref_shown a c t w is says
+  said_shown a c (lane_work.Read t) w is says = subst (λ x. Says_so x c) says.1 (read_shown c (asked t) says.0 is says.2 says.3)
+  said_shown a (command.Commit branch tree subject body time) (lane_work.Commit t) w is says = made_shown branch tree subject body time t w is says.0 a says.1 says.2
+  said_shown a (command.RevParse rev) (lane_work.Commit t) w is says = absurd is
+  said_shown a (command.Reset branch commit) (lane_work.Commit t) w is says = absurd is
+  said_shown a (command.DropRef branch) (lane_work.Commit t) w is says = absurd is
+  said_shown a (command.Log rev) (lane_work.Commit t) w is says = absurd is
+  said_shown a (command.Ls rev path) (lane_work.Commit t) w is says = absurd is
+  said_shown a (command.Cat rev path) (lane_work.Commit t) w is says = absurd is
+  said_shown a command.Refs (lane_work.Commit t) w is says = absurd is
+
+  pub by_shown : (p : State) (a : Answer) (c : Command) → AnswersBy p a c → IsSeen limits v s a c × IsCaused halted before now a
   by_shown p (answer.Refs rows) c by = (tt, tt)
   by_shown p answer.NoRef c by = (tt, tt)
   by_shown p answer.NoMemory c by = (tt, tt)
@@ -142,6 +202,11 @@ module _ (v : View) (s : State) (halted : Bool) (before now : ℕ) where
   by_shown p (answer.Partial commit) c by = absurd by
   by_shown p (answer.RefMoved seen there) c by = absurd by
   by_shown p (answer.RefClash other) c by = absurd by
+  by_shown p (answer.Log rows) c by = absurd by
+  by_shown p (answer.Ls rows) c by = absurd by
+  by_shown p (answer.Content bytes) c by = absurd by
+  by_shown p (answer.NoPath path) c by = absurd by
+  by_shown p (answer.NotFile path) c by = absurd by
   by_shown p (answer.BadTree path) c by = absurd by
   by_shown p (answer.TooMany many) c by = absurd by
 
@@ -151,7 +216,7 @@ module _ (v : View) (s : State) (halted : Bool) (before now : ℕ) where
   -- the call failed, or there was no memory
   refused_shown : (c : Command) (a : Answer) (e : FsErr) → OfNone e → Causes before now (came.Refused e) → IsRefusedAs e c a → Says_so a c
   refused_shown c a err.NoMemory named cause is = subst (λ x. Says_so x c) (sym is) (tt, tt)
-  refused_shown c a err.Failed named cause is = disk_shown a c is cause
+  refused_shown c a err.Failed named cause is = disk_shown a c is cause.1
   refused_shown c a err.Exists named cause is = absurd named
   refused_shown c a err.Missing named cause is = absurd named
   refused_shown c a err.NotFolder named cause is = absurd named
@@ -163,17 +228,17 @@ module _ (start : State) (entries : List Entry) (pending : Option Pending) (view
   none_refused : (e : FsErr) → (e ≡ err.NoMemory) ⊎ lane_refuses t v e → OfNone e
   none_refused e why = ⊎_elim (λ k. subst OfNone (sym k) tt) (λ w. refused_of start entries pending lane v b t e tree stands (facts v is) w) why
 
-  pub ended_shown : (outcome : Outcome) → Tells lane_leaves lane_refuses t outcome t' view after_view → Causes before now outcome → IsEndedAs outcome c t' count a → IsSeen v s a c × IsCaused halted before now a
+  pub ended_shown : (outcome : Outcome) → Tells lane_leaves lane_refuses t outcome t' view after_view → Causes before now outcome → IsEndedAs outcome c t' count a → IsSeen limits v s a c × IsCaused halted before now a
   ended_shown came.Done tells cause ends =
       let w = tells v is in
-      said_shown v s halted before now limits a c t w.0 after (says_of lane t t' v w.0 b a (facts v is) w.2 ends)
-  ended_shown came.Halted tells cause ends = subst (λ x. IsSeen v s x c × IsCaused halted before now x) (sym ends) (tt, λ live. cause)
-  ended_shown (came.Refused e) tells cause ends = refused_shown v s halted before now c a e (none_refused e (tells v is)) cause ends
+      said_shown limits v s halted before now a c t w.0 after (says_of lane t t' v w.0 b a (facts v is) w.2 ends)
+  ended_shown came.Halted tells cause ends = subst (λ x. IsSeen limits v s x c × IsCaused halted before now x) (sym ends) (tt, λ live. cause.1)
+  ended_shown (came.Refused e) tells cause ends = refused_shown limits v s halted before now c a e (none_refused e (tells v is).0) cause ends
   ended_shown came.Blocked tells cause ends = absurd ends
   ended_shown came.More tells cause ends = absurd ends
 
 -- a command that ends for a call that failed before
-pub halted_shown : (v : View) (s : State) (c : Command) (halted : Bool) (before now count n : ℕ) (a : Answer) (start : ℕ) → Answered (answer.Halted count) n ≡ Answered a start → halted ≡ true → IsSeen v s a c × IsCaused halted before now a
-halted_shown v s c halted before now count n a start is was =
+pub halted_shown : (limits : Limits) (v : View) (s : State) (c : Command) (halted : Bool) (before now count n : ℕ) (a : Answer) (start : ℕ) → Answered (answer.Halted count) n ≡ Answered a start → halted ≡ true → IsSeen limits v s a c × IsCaused halted before now a
+halted_shown limits v s c halted before now count n a start is was =
     let same : answer.Halted count ≡ a = cc in
-    subst (λ x. IsSeen v s x c × IsCaused halted before now x) same (tt, λ live. let z : true ≡ false = sym was ∙ live in cc)
+    subst (λ x. IsSeen limits v s x c × IsCaused halted before now x) same (tt, λ live. let z : true ≡ false = sym was ∙ live in cc)

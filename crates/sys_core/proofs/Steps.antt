@@ -1,5 +1,5 @@
 -- What a step of a command keeps of the room for its ref, and what of its lane.
-use Rattle.std.proofs.Common.{◌≡◌, ℕ, Bool, refl, sym, ◌∙◌, ap, subst, List, Option, Some, None}
+use Rattle.std.proofs.Common.{◌≡◌, ℕ, Bool, refl, sym, ◌∙◌, ap, subst, List, [], ◌∷◌, Option, Some, None}
 use Rattle.fs_trait.specs.declared.task.Turn.TheVariants as turn
 use Rattle.ref_store.specs.declared.progress.Progress.{Progress}
 use Rattle.ref_store.specs.declared.progress.Progress.TheVariants as progress
@@ -21,8 +21,13 @@ use Rattle.commit_build.specs.Committing.{commit_in, storing_in}
 use Rattle.commit_work.specs.declared.naming.Naming.{Naming}
 use Rattle.commit_work.specs.declared.command.CommitCommand.{CommitCommand}
 use Rattle.commit_work.specs.Kinds.{build_kind, built, kind_by, stepped_at, stepped_by}
+use Rattle.script.specs.declared.rows.LogRow.{LogRow}
+use Rattle.read_work.specs.declared.command.ReadCommand.{ReadCommand}
+use Rattle.read_work.specs.declared.command.ReadCommand.TheVariants as read
+use Rattle.read_work.specs.Commands.{read_kind}
+use Rattle.read_work.specs.LogSteps.{log_kind}
 use Rattle.lane_work.specs.declared.command.LaneCommand.{LaneCommand}
-use Rattle.lane_work.specs.declared.command.LaneCommand.TheVariants.{Ref, Commit}
+use Rattle.lane_work.specs.declared.command.LaneCommand.TheVariants.{Ref, Commit, Read}
 use Rattle.lane_work.specs.Commands.{lane_kind, lane_stepped, told}
 use Rattle.sys_core.specs.Lanes.{HasCommitRoom, HasRefRoom, HasRoomFor}
 
@@ -63,9 +68,21 @@ commit_settles : (refs : RefBook) (o : Option Naming) (t : CommitCommand) (e : E
 commit_settles refs None t e room is = build_settles t.pinned (storing_in t.build.phase) e is
 commit_settles refs (Some n) t e room is = change_settles refs n.work e room is
 
+log_settles : {P : Type 0} (rows : List LogRow) (next : List ℕ) (e : Event) → log_kind rows next ≡ Settle e → P
+log_settles [] next e is = cc
+log_settles (r ∷ rows) next e is = cc
+
+read_settles : {P : Type 0} (t : ReadCommand) (e : Event) → read_kind t ≡ Settle e → P
+read_settles (read.Look l) e is = cc
+read_settles (read.Cat c) e is = cc
+read_settles (read.Ls s) e is = cc
+read_settles (read.Log g) e is = log_settles g.rows.items g.next e is
+read_settles (read.Ended a) e is = cc
+
 pub room_settles : (refs : RefBook) (t : LaneCommand) (e : Event) → HasRoomFor refs t → lane_kind t ≡ Settle e → HasRoom refs (name_of e)
 room_settles refs (Ref t) e room is = ref_settles refs t e room is
 room_settles refs (Commit t) e room is = commit_settles refs t.change t e room is
+room_settles refs (Read t) e room is = read_settles t e is
 
 reset_room : (refs : RefBook) (found : Option Found) (look : LookUp) (plan : Plan) (new : RefCommand) → reset_stepped found look plan turn.More new → HasRoom refs plan.name → HasRefRoom refs new
 reset_room refs None look plan (Reset next p) step room = subst (HasRoom refs) (sym (ap (λ (x : Plan). x.name) step.1)) room
@@ -98,8 +115,13 @@ commit_step refs (Some n) t new is step room =
 pub room_step : (refs : RefBook) (t new : LaneCommand) → lane_stepped t turn.More new → HasRoomFor refs t → HasRoomFor refs new
 room_step refs (Ref t) (Ref new) step room = ref_step refs t new step room
 room_step refs (Commit t) (Commit new) step room = commit_step refs t.change t new refl step room
+room_step refs (Read t) (Read new) step room = tt
 room_step refs (Ref t) (Commit new) step room = absurd step
+room_step refs (Ref t) (Read new) step room = absurd step
 room_step refs (Commit t) (Ref new) step room = absurd step
+room_step refs (Commit t) (Read new) step room = absurd step
+room_step refs (Read t) (Ref new) step room = absurd step
+room_step refs (Read t) (Commit new) step room = absurd step
 
 ref_more : (refs refs' : RefBook) (t : RefCommand) → ((name : List ℕ) → HasRoom refs name → HasRoom refs' name) → HasRefRoom refs t → HasRefRoom refs' t
 ref_more refs refs' (Parse look) more room = tt
@@ -113,6 +135,7 @@ commit_more refs refs' (Some n) t more room = more n.work.task.name room
 pub room_more : (refs refs' : RefBook) (t : LaneCommand) → ((name : List ℕ) → HasRoom refs name → HasRoom refs' name) → HasRoomFor refs t → HasRoomFor refs' t
 room_more refs refs' (Ref t) more room = ref_more refs refs' t more room
 room_more refs refs' (Commit t) more room = commit_more refs refs' t.change t more room
+room_more refs refs' (Read t) more room = tt
 
 -- whatever the task is told
 told_more : (refs : RefBook) (objects : ℕ) (o : Option Naming) (t : CommitCommand) → HasCommitRoom o refs t → HasCommitRoom o refs (record t { objects = objects })
@@ -122,3 +145,4 @@ told_more refs objects (Some n) t room = room
 pub room_told : (refs : RefBook) (objects : ℕ) (t : LaneCommand) → HasRoomFor refs t → HasRoomFor refs (told objects t)
 room_told refs objects (Ref t) room = room
 room_told refs objects (Commit t) room = told_more refs objects t.change t room
+room_told refs objects (Read t) room = tt

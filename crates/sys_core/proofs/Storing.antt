@@ -3,8 +3,6 @@ use Rattle.std.proofs.Common.{◌≡◌, ◌<◌, ◌≤◌, ◌+◌, ℕ, refl,
 use Rattle.std.proofs.Math.Nat.{min-le_left}
 use Rattle.ost_types.specs.declared.limits.Limits.{Limits}
 use Rattle.ost_types.specs.declared.object.ObjName.{ObjName}
-use Rattle.fs_trait.specs.declared.task.Turn.TheVariants as turn
-use Rattle.fs_trait.specs.Image.{Told}
 use Rattle.fs_trait.specs.View.{View}
 use Rattle.obj_store.specs.declared.phase.Put.{Put}
 use Rattle.obj_store.specs.declared.phase.Put.TheVariants.{Stored, Present}
@@ -24,10 +22,14 @@ use Rattle.sys_core.specs.Pursues.{Pursues}
 
 lacking_in : (limits : Limits) (s : State) (c : Command) (objects : ℕ) (t : LaneCommand) (name : ObjName) (v : View) → Pursues limits s c t → WasLacking (told objects t) name v → HadRoom limits objects v name
 lacking_in limits s c objects (lane_work.Ref t) name v after lacks = absurd lacks
+lacking_in limits s c objects (lane_work.Read t) name v after lacks = absurd lacks
 lacking_in limits s (command.Commit branch tree subject body time) objects (lane_work.Commit t) name v after lacks = (subst (λ (l : Limits). objects < l.objects) after.bounds lacks.0, lacks.1)
 lacking_in limits s (command.RevParse rev) objects (lane_work.Commit t) name v after lacks = absurd after
 lacking_in limits s (command.Reset branch commit) objects (lane_work.Commit t) name v after lacks = absurd after
 lacking_in limits s (command.DropRef branch) objects (lane_work.Commit t) name v after lacks = absurd after
+lacking_in limits s (command.Log rev) objects (lane_work.Commit t) name v after lacks = absurd after
+lacking_in limits s (command.Ls rev path) objects (lane_work.Commit t) name v after lacks = absurd after
+lacking_in limits s (command.Cat rev path) objects (lane_work.Commit t) name v after lacks = absurd after
 lacking_in limits s command.Refs objects (lane_work.Commit t) name v after lacks = absurd after
 
 pub stores_more : (limits : Limits) (s : State) (c : Command) (objects : ℕ) (t new : LaneCommand) (o : Outcome) (before now : Option View) → o ≡ came.More → Pursues limits s c t → Tells lane_leaves lane_refuses (told objects t) o new before now

@@ -1,5 +1,5 @@
 -- What a step of a command's task leaves of the Turn, and of the acts that its command may need.
-use Rattle.std.proofs.Common.{◌≡◌, ◌≢◌, ◌<◌, ◌≤◌, ℕ, Bool, true, false, refl, sym, ◌∙◌, ap, subst, arith, List, Option, Some, None}
+use Rattle.std.proofs.Common.{◌≡◌, ◌≢◌, ◌<◌, ◌≤◌, ℕ, Bool, true, false, refl, sym, ◌∙◌, ap, subst, arith, List, [], ◌∷◌, Option, Some, None}
 use Rattle.fs_trait.specs.declared.task.Turn.TheVariants as turn
 use Rattle.fs_trait.specs.View.{View}
 use Rattle.ref_store.specs.declared.phase.Phase.{Phase}
@@ -30,6 +30,11 @@ use Rattle.commit_work.specs.declared.naming.Naming.{Naming}
 use Rattle.commit_work.specs.declared.command.CommitCommand.{CommitCommand}
 use Rattle.commit_work.specs.Answers as commits
 use Rattle.commit_work.specs.Kinds.{build_kind, kind_by, put_wants, stepped_at, stepped_by}
+use Rattle.script.specs.declared.rows.LogRow.{LogRow}
+use Rattle.read_work.specs.declared.command.ReadCommand.{ReadCommand}
+use Rattle.read_work.specs.declared.command.ReadCommand.TheVariants as read
+use Rattle.read_work.specs.Commands.{read_kind}
+use Rattle.read_work.specs.LogSteps.{log_kind}
 use Rattle.lane_work.specs.declared.command.LaneCommand.{LaneCommand}
 use Rattle.lane_work.specs.declared.command.LaneCommand.TheVariants as lane_work
 use Rattle.lane_work.specs.Answers.{Begins}
@@ -93,9 +98,21 @@ commit_nobody : (o : Option Naming) (t : CommitCommand) (lane : ℕ) → exclusi
 commit_nobody None t lane = build_nobody t.pinned (storing_in t.build.phase) lane
 commit_nobody (Some n) t lane = at_nobody (progress_in n.work.task.phase) (event n.work.task) lane
 
+log_nobody : (rows : List LogRow) (next : List ℕ) (lane : ℕ) → exclusive_in (log_kind rows next) lane None ≡ None
+log_nobody [] next lane = refl
+log_nobody (r ∷ rows) next lane = refl
+
+read_nobody : (t : ReadCommand) (lane : ℕ) → exclusive_in (read_kind t) lane None ≡ None
+read_nobody (read.Look l) lane = refl
+read_nobody (read.Cat c) lane = refl
+read_nobody (read.Ls s) lane = refl
+read_nobody (read.Log g) lane = log_nobody g.rows.items g.next lane
+read_nobody (read.Ended a) lane = refl
+
 nobody_in : (t : LaneCommand) (lane : ℕ) → exclusive_in (lane_kind t) lane None ≡ None
 nobody_in (lane_work.Ref t) lane = ref_nobody t lane
 nobody_in (lane_work.Commit t) lane = commit_nobody t.change t lane
+nobody_in (lane_work.Read t) lane = read_nobody t lane
 
 -- behind the look
 look_left : (t u : Changing) → t.phase ≡ phase.Look → u ≡ record t { phase = u.phase } → u.phase ≡ phase.Look → left u < left t → ⊥
@@ -171,8 +188,13 @@ commit_has lane (Some n) t new lock is step has looked = change_has n.work.task.
 step_has : (lane : ℕ) (t new : LaneCommand) (lock : Option ℕ) → lane_stepped t turn.More new → (HasLooked t → lock ≡ Some lane) → HasLooked new → turn_in (lane_kind t) lane lock ≡ Some lane
 step_has lane (lane_work.Ref t) (lane_work.Ref new) lock step has looked = ref_has lane t new lock step has looked
 step_has lane (lane_work.Commit t) (lane_work.Commit new) lock step has looked = commit_has lane t.change t new lock refl step has looked
+step_has lane (lane_work.Read t) (lane_work.Read new) lock step has looked = absurd looked
 step_has lane (lane_work.Ref t) (lane_work.Commit new) lock step has looked = absurd step
+step_has lane (lane_work.Ref t) (lane_work.Read new) lock step has looked = absurd step
 step_has lane (lane_work.Commit t) (lane_work.Ref new) lock step has looked = absurd step
+step_has lane (lane_work.Commit t) (lane_work.Read new) lock step has looked = absurd step
+step_has lane (lane_work.Read t) (lane_work.Ref new) lock step has looked = absurd step
+step_has lane (lane_work.Read t) (lane_work.Commit new) lock step has looked = absurd step
 
 change_behind : (work next : RefWork) → ref_stepped work turn.More next → IsBehind next.task.phase
 change_behind work next step = next_behind work.task.phase next.task.phase work.task step.0.1 (λ was look. look_left work.task next.task was step.0.0 look step.1)
@@ -188,16 +210,33 @@ commit_only : (lane : ℕ) (o : Option Naming) (t new : CommitCommand) (lock : O
 commit_only lane None t new lock step only is = absurd (only (sym (build_keeps t.pinned (storing_in t.build.phase) lane lock) ∙ is))
 commit_only lane (Some n) t new lock step only is = subst NamingHasLooked (sym (ap (λ (x : CommitCommand). x.change) step.1)) (change_behind n.work step.0 step.2)
 
+log_keeps : (rows : List LogRow) (next : List ℕ) (lane : ℕ) (lock : Option ℕ) → turn_in (log_kind rows next) lane lock ≡ lock
+log_keeps [] next lane lock = refl
+log_keeps (r ∷ rows) next lane lock = refl
+
+read_keeps : (t : ReadCommand) (lane : ℕ) (lock : Option ℕ) → turn_in (read_kind t) lane lock ≡ lock
+read_keeps (read.Look l) lane lock = refl
+read_keeps (read.Cat c) lane lock = refl
+read_keeps (read.Ls s) lane lock = refl
+read_keeps (read.Log g) lane lock = log_keeps g.rows.items g.next lane lock
+read_keeps (read.Ended a) lane lock = refl
+
 step_only : (lane : ℕ) (t new : LaneCommand) (lock : Option ℕ) → lane_stepped t turn.More new → (lock ≡ Some lane → HasLooked t) → turn_in (lane_kind t) lane lock ≡ Some lane → HasLooked new
 step_only lane (lane_work.Ref t) (lane_work.Ref new) lock step only is = ref_only lane t new lock step only is
 step_only lane (lane_work.Commit t) (lane_work.Commit new) lock step only is = commit_only lane t.change t new lock step only is
+step_only lane (lane_work.Read t) (lane_work.Read new) lock step only is = only (sym (read_keeps t lane lock) ∙ is)
 step_only lane (lane_work.Ref t) (lane_work.Commit new) lock step only is = absurd step
+step_only lane (lane_work.Ref t) (lane_work.Read new) lock step only is = absurd step
 step_only lane (lane_work.Commit t) (lane_work.Ref new) lock step only is = absurd step
+step_only lane (lane_work.Commit t) (lane_work.Read new) lock step only is = absurd step
+step_only lane (lane_work.Read t) (lane_work.Ref new) lock step only is = absurd step
+step_only lane (lane_work.Read t) (lane_work.Commit new) lock step only is = absurd step
 
 -- whatever the task is told
 pub turn_told : (lane objects : ℕ) (t : LaneCommand) (b : rust.Books) → HasTurn lane b (HasLooked t) → HasTurn lane b (HasLooked (told objects t))
 turn_told lane objects (lane_work.Ref t) b h = h
 turn_told lane objects (lane_work.Commit t) b h = h
+turn_told lane objects (lane_work.Read t) b h = h
 
 none_left : (lane : ℕ) (new : Option ℕ) → IsGivenUp lane None new → new ≡ None
 none_left lane None gone = refl
@@ -222,6 +261,7 @@ begins_turn lane t b begins h = record {
     unlooked : (t : LaneCommand) → Begins lane t → HasLooked t → ⊥
     unlooked (lane_work.Ref t) begins looked = ref_unlooked lane t begins looked
     unlooked (lane_work.Commit t) begins looked = commit_unlooked lane t begins looked
+    unlooked (lane_work.Read t) begins looked = looked
 
 free_none : (lock : Option ℕ) (lane : ℕ) → lock ≡ None → Free lock lane
 free_none lock lane is = λ x e. absurd (let z : None ≡ Some x = sym is ∙ e in cc)
@@ -291,10 +331,22 @@ commit_held : (lane : ℕ) (o : Option Naming) (t : CommitCommand) (b : rust.Boo
 commit_held lane None t b nobody shut = absurd (shut (opens_build t.pinned (storing_in t.build.phase) lane b nobody))
 commit_held lane (Some n) t b nobody shut = change_held lane n.work b nobody shut
 
+opens_log : (rows : List LogRow) (next : List ℕ) (lane : ℕ) (b : rust.Books) → b.exclusive ≡ None → Opens (log_kind rows next) lane (books_of b)
+opens_log [] next lane b nobody = tt
+opens_log (r ∷ rows) next lane b nobody = pin_frees next lane b nobody
+
+opens_read : (t : ReadCommand) (lane : ℕ) (b : rust.Books) → b.exclusive ≡ None → Opens (read_kind t) lane (books_of b)
+opens_read (read.Look l) lane b nobody = pin_frees l.commit lane b nobody
+opens_read (read.Cat c) lane b nobody = tt
+opens_read (read.Ls s) lane b nobody = tt
+opens_read (read.Log g) lane b nobody = opens_log g.rows.items g.next lane b nobody
+opens_read (read.Ended a) lane b nobody = tt
+
 -- a step is held off only by another lane that has the Turn
 pub held_off : (lane : ℕ) (t : LaneCommand) (b : rust.Books) → b.exclusive ≡ None → (Opens (lane_kind t) lane (books_of b) → ⊥) → IsOthers lane b.turn
 held_off lane (lane_work.Ref t) b nobody shut = ref_held lane t b nobody shut
 held_off lane (lane_work.Commit t) b nobody shut = commit_held lane t.change t b nobody shut
+held_off lane (lane_work.Read t) b nobody shut = absurd (shut (opens_read t lane b nobody))
 
 -- a look that is taken found the Turn free
 look_waits : (ph : Phase) (e : Event) (lane : ℕ) (b : rust.Books) → IsLook ph → Opens (kind_in ph e) lane (books_of b) → IsOthers lane b.turn → ⊥
@@ -318,6 +370,7 @@ commit_waits lane (Some n) t b opens asks off = look_waits n.work.task.phase (ev
 pub asks_waits : (lane objects : ℕ) (t : LaneCommand) (b : rust.Books) → Opens (lane_kind (told objects t)) lane (books_of b) → AsksTurn (Some t) → IsOthers lane b.turn → ⊥
 asks_waits lane objects (lane_work.Ref t) b opens asks off = ref_waits lane t b opens asks off
 asks_waits lane objects (lane_work.Commit t) b opens asks off = commit_waits lane t.change (record t { objects = objects }) b opens asks off
+asks_waits lane objects (lane_work.Read t) b opens asks off = asks
 
 less_most : (a b c : ℕ) → a < b → b ≤ c → a < c
 less_most a b c less most = omega (arith, less, most)

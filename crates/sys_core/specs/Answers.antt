@@ -21,9 +21,9 @@ use Rattle.script.specs.declared.answer.Answer.{Answer}
 use Rattle.script.specs.declared.answer.Answer.TheVariants as answer
 use Rattle.script.specs.declared.answer.Reply.{Reply}
 use Rattle.script.specs.declared.command.Command.{Command}
-use Rattle.script.specs.declared.command.Command.TheVariants.{Refs, RevParse, Reset, DropRef, Commit}
-use Rattle.sys_core.specs.Begins.{IsRev, IsNoRev}
+use Rattle.script.specs.declared.command.Command.TheVariants.{Refs, RevParse, Log, Ls, Cat, Reset, DropRef, Commit}
 use Rattle.sys_core.specs.Commits.{LastsWith, message_in, IsFormed}
+use Rattle.sys_core.specs.Reading.{IsNoRev, IsRev, NamesCommit, SaysBy}
 
 -- file systems of this kind tell their view; they do it always or never
 abbrev pub IsTold : {F : Type 0} → (F → Option View) → Type 0
@@ -82,12 +82,27 @@ Answers told limits lane number s p entries (answer.Commit sum) (Commit branch t
 Answers told limits lane number s p entries (answer.BadTree path) (Commit branch tree subject body time) = IsLeastBad tree.items path
 Answers told limits lane number s p entries (answer.TooMany many) (Commit branch tree subject body time) = many ≡ limits.objects + 1
 Answers told limits lane number s p entries answer.NoRef (RevParse rev) = IsNoRev rev s
+Answers told limits lane number s p entries answer.NoRef (Log rev) = IsNoRev rev s
+Answers told limits lane number s p entries answer.NoRef (Ls rev path) = IsNoRev rev s
+Answers told limits lane number s p entries answer.NoRef (Cat rev path) = IsNoRev rev s
 Answers told limits lane number s p entries answer.NoRef (DropRef branch) = told → s (RefOf branch) ≡ None
 Answers told limits lane number s p entries answer.NoRef (Reset branch commit) = told → ⊥
 Answers told limits lane number s p entries answer.NoRef (Commit branch tree subject body time) = told → ⊥
+Answers told limits lane number s p entries (answer.Log rows) (Log rev) = NamesCommit rev s
+Answers told limits lane number s p entries (answer.Ls rows) (Ls rev path) = NamesCommit rev s
+Answers told limits lane number s p entries (answer.Content bytes) (Cat rev path) = NamesCommit rev s
+Answers told limits lane number s p entries (answer.NoPath there) (Ls rev path) = (there ≡ path) × NamesCommit rev s
+Answers told limits lane number s p entries (answer.NoPath there) (Cat rev path) = (there ≡ path) × NamesCommit rev s
+Answers told limits lane number s p entries (answer.NotFile there) (Cat rev path) = (there ≡ path) × NamesCommit rev s
 Answers told limits lane number s p entries (answer.NoCommit commit) (RevParse rev) = IsRev rev s commit
+Answers told limits lane number s p entries (answer.NoCommit commit) (Log rev) = IsRev rev s commit
+Answers told limits lane number s p entries (answer.NoCommit commit) (Ls rev path) = IsRev rev s commit
+Answers told limits lane number s p entries (answer.NoCommit commit) (Cat rev path) = IsRev rev s commit
 Answers told limits lane number s p entries (answer.NoCommit named) (Reset branch commit) = named ≡ commit
 Answers told limits lane number s p entries (answer.Partial commit) (RevParse rev) = IsRev rev s commit
+Answers told limits lane number s p entries (answer.Partial commit) (Log rev) = IsRev rev s commit
+Answers told limits lane number s p entries (answer.Partial commit) (Ls rev path) = IsRev rev s commit
+Answers told limits lane number s p entries (answer.Partial commit) (Cat rev path) = IsRev rev s commit
 Answers told limits lane number s p entries (answer.Partial named) (Reset branch commit) = named ≡ commit
 Answers told limits lane number s p entries (answer.RefMoved seen now) (Reset branch commit) = told → HasMoved s p branch seen now
 Answers told limits lane number s p entries (answer.RefMoved seen now) (DropRef branch) = told → HasMoved s p branch seen now × IsSome seen
@@ -98,19 +113,28 @@ Answers told limits lane number s p entries (answer.RefClash other) (Commit bran
 Answers told limits lane number s p entries answer.NoMemory command = Unit {0}
 Answers told limits lane number s p entries answer.DiskFault command = Unit {0}
 Answers told limits lane number s p entries (answer.Halted count) command = Unit {0}
+Answers told limits lane number s p entries (answer.Outside path) (Log rev) = NamesCommit rev s
+Answers told limits lane number s p entries (answer.Outside path) (Ls rev there) = NamesCommit rev s
+Answers told limits lane number s p entries (answer.Outside path) (Cat rev there) = NamesCommit rev s
 Answers told limits lane number s p entries (answer.Outside path) command = told → ⊥
 Answers told limits lane number s p entries a command = ⊥
 
 -- What stands on the disk where an answer tells of a commit: one that was made lasts, and one that there is no room for isn't
--- there whole. That something else changed the disk is never told.
-abbrev pub IsSeen : View → State → Answer → Command → Type 0
-IsSeen v s (answer.Commit sum) (Commit branch tree subject body time) = LastsWith tree.items sum v × IsFormed tree.items (message_in s branch subject body time)
-IsSeen v s (answer.Commit commit) c = IsFound v.now commit Whole
-IsSeen v s (answer.TooMany many) (Commit branch tree subject body time) = IsLacking tree.items (message_in s branch subject body time) v.now
-IsSeen v s (answer.NoCommit commit) c = IsFound v.now commit Missing
-IsSeen v s (answer.Partial commit) c = IsFound v.now commit Partial
-IsSeen v s (answer.Outside path) c = ⊥
-IsSeen v s a c = Unit {0}
+-- there whole. What was read of a commit is there; and that something else changed the disk is told only of an object that a commit which
+-- is read needs.
+abbrev pub IsSeen : Limits → View → State → Answer → Command → Type 0
+IsSeen limits v s (answer.Commit sum) (Commit branch tree subject body time) = LastsWith tree.items sum v × IsFormed tree.items (message_in s branch subject body time)
+IsSeen limits v s (answer.Commit commit) c = IsFound v.now commit Whole
+IsSeen limits v s (answer.TooMany many) (Commit branch tree subject body time) = IsLacking tree.items (message_in s branch subject body time) v.now
+IsSeen limits v s (answer.NoCommit commit) c = IsFound v.now commit Missing
+IsSeen limits v s (answer.Partial commit) c = IsFound v.now commit Partial
+IsSeen limits v s (answer.Log rows) c = SaysBy v limits s c (answer.Log rows)
+IsSeen limits v s (answer.Ls rows) c = SaysBy v limits s c (answer.Ls rows)
+IsSeen limits v s (answer.Content bytes) c = SaysBy v limits s c (answer.Content bytes)
+IsSeen limits v s (answer.NoPath path) c = SaysBy v limits s c (answer.NoPath path)
+IsSeen limits v s (answer.NotFile path) c = SaysBy v limits s c (answer.NotFile path)
+IsSeen limits v s (answer.Outside path) c = SaysBy v limits s c (answer.Outside path)
+IsSeen limits v s a c = Unit {0}
 
 -- a call failed in the act that says so, if none that changes something failed before
 abbrev pub IsCaused : Bool → ℕ → ℕ → Answer → Type 0
@@ -120,8 +144,8 @@ IsCaused halted before now a = Unit {0}
 
 -- what the answer of a command that began in the state s tells of the disk before its act and of calls that failed in it, where the
 -- view is told
-abbrev pub Shown : Option View → State → Bool → ℕ → ℕ → Answer → Command → Type 0
-Shown view s halted before now a c = (v : View) → view ≡ Some v → IsSeen v s a c × IsCaused halted before now a
+abbrev pub Shown : Limits → Option View → State → Bool → ℕ → ℕ → Answer → Command → Type 0
+Shown limits view s halted before now a c = (v : View) → view ≡ Some v → IsSeen limits v s a c × IsCaused halted before now a
 
 -- A reply to a command of a lane: by the state at its start and the one at its place, which come in this order.
 pub record IsReply (told : Type 0) (limits : Limits) (first : State) (entries : List Entry) (lane number : ℕ) (command : Command) (r : Reply) : Type 0 where

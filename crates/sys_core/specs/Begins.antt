@@ -3,9 +3,7 @@ use Rattle.std.specs.Prelude.{◌≡◌, ◌≤◌, ℕ, List, Some, None}
 use Rattle.script.specs.declared.answer.Answer.{Answer}
 use Rattle.script.specs.declared.answer.Answer.TheVariants as answer
 use Rattle.script.specs.declared.command.Command.{Command}
-use Rattle.script.specs.declared.command.Command.TheVariants.{Refs, RevParse, Reset, DropRef, Commit}
-use Rattle.script.specs.declared.command.Rev.{Rev}
-use Rattle.script.specs.declared.command.Rev.TheVariants as rev
+use Rattle.script.specs.declared.command.Command.TheVariants.{Refs, RevParse, Log, Ls, Cat, Reset, DropRef, Commit}
 use Rattle.rely.specs.State.{State, RefOf}
 use Rattle.ref_book.specs.Tracks.{Lists}
 use Rattle.ref_work.specs.declared.command.RefCommand.{RefCommand}
@@ -15,6 +13,7 @@ use Rattle.ost_types.specs.declared.limits.Limits.{Limits}
 use Rattle.commit_build.specs.declared.phase.Phase.TheVariants as phase
 use Rattle.commit_build.specs.Committing.{IsMade}
 use Rattle.commit_work.specs.Answers.{IsCommitOf}
+use Rattle.read_work.specs.Asked.{asked}
 use Rattle.lane_work.specs.declared.command.LaneCommand.{LaneCommand}
 use Rattle.lane_work.specs.declared.command.LaneCommand.TheVariants as lane_work
 use Rattle.lane_work.specs.Commands.{lane_left}
@@ -25,26 +24,20 @@ use Rattle.sys_core.specs.declared.begin.Begun.TheVariants.{Answered, Runs}
 use Rattle.sys_core.specs.Lanes.{HasRoomFor}
 use Rattle.sys_core.specs.Commits.{message_in}
 use Rattle.sys_core.specs.Left.{most}
+use Rattle.sys_core.specs.Reading.{IsNoRev, IsRev, Reads}
 
 -- a task at its beginning, with room for its ref, or an answer
 abbrev pub IsBegun : ℕ → RefBook → Begun → Type 0
 IsBegun lane refs (Answered answer) = Unit {0}
 IsBegun lane refs (Runs t) = work.Begins lane t × HasRoomFor refs t
 
--- the commit that a revision names in a state
-abbrev pub IsRev : Rev → State → List ℕ → Type 0
-IsRev (rev.Ref name) s commit = s (RefOf name) ≡ Some commit
-IsRev (rev.Commit named) s commit = commit ≡ named
-
--- it names none
-abbrev pub IsNoRev : Rev → State → Type 0
-IsNoRev (rev.Ref name) s = s (RefOf name) ≡ None
-IsNoRev (rev.Commit named) s = ⊥
-
 -- What a command answers by the refs of a state alone.
 abbrev pub AnswersBy : State → Answer → Command → Type 0
 AnswersBy s (answer.Refs rows) Refs = Lists rows.items s
 AnswersBy s answer.NoRef (RevParse r) = IsNoRev r s
+AnswersBy s answer.NoRef (Log r) = IsNoRev r s
+AnswersBy s answer.NoRef (Ls r path) = IsNoRev r s
+AnswersBy s answer.NoRef (Cat r path) = IsNoRev r s
 AnswersBy s answer.NoRef (DropRef branch) = s (RefOf branch) ≡ None
 AnswersBy s answer.NoMemory c = Unit {0}
 AnswersBy s a c = ⊥
@@ -57,7 +50,7 @@ LooksUp s (Reset branch commit) (task.Reset look plan) = (look.commit ≡ commit
 LooksUp s c t = ⊥
 
 -- What a command does first in a state: it looks a commit up, or a drop removes the ref where it has the value that it has there. A
--- commit has that value as its parent, and is within the bounds.
+-- commit has that value as its parent, and is within the bounds. A log, ls or cat reads the commit that is named there.
 abbrev pub RunsRefBy : ℕ → State → Command → RefCommand → Type 0
 RunsRefBy lane s (DropRef branch) (task.Change work) = (seen : List ℕ) × (s (RefOf branch) ≡ Some seen) × (work ≡ removal lane branch seen)
 RunsRefBy lane s c t = LooksUp s c t
@@ -67,6 +60,7 @@ RunsBy limits lane s c (lane_work.Ref t) = RunsRefBy lane s c t
 RunsBy limits lane s (Commit branch tree subject body time) (lane_work.Commit t) =
     IsCommitOf branch (record { actor = lane; items = tree.items; limits = limits; message = message_in s branch subject body time; made = 0; phase = phase.Check; met = None }) t × IsMade t.build
 RunsBy limits lane s c (lane_work.Commit t) = ⊥
+RunsBy limits lane s c (lane_work.Read t) = Reads limits s c (asked t)
 
 abbrev pub IsBy : Limits → ℕ → State → Command → Begun → Type 0
 IsBy limits lane s c (Answered answer) = AnswersBy s answer c

@@ -51,7 +51,7 @@ IsLater old new = (new.base.books.start.items ≡ old.base.books.start.items) ×
 -- objects in the store.
 abbrev pub AnswerTells : {F : Type 0} → (F → Option View) → ℕ → ℕ → System F → ℕ → Answer → Type 0
 AnswerTells view before now s l a =
-    ((c : Command) → IsCommand s.lanes l (length (given s l)) c → Shown (view s.base.fs) (state_after (first s.base.books.start.items) s.base.books.history.items (start_of s l)) s.base.books.halted before now a c)
+    ((c : Command) → IsCommand s.lanes l (length (given s l)) c → Shown s.limits (view s.base.fs) (state_after (first s.base.books.start.items) s.base.books.history.items (start_of s l)) s.base.books.halted before now a c)
     × IsFull s.limits s.objects a
 
 -- Which act it was: one that goes on gives no reply; one that is held off, or has no command, changes nothing; and one that is

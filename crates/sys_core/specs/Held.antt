@@ -9,7 +9,7 @@ use Rattle.rely.specs.declared.books.Pin.{Pin}
 use Rattle.rely.specs.Books.{books_of}
 use Rattle.rely.specs.State.{first}
 use Rattle.script.specs.declared.command.Command.{Command}
-use Rattle.sys_core.specs.Answers.{state_after}
+use Rattle.sys_core.specs.Answers.{IsTold, state_after}
 use Rattle.sys_core.specs.Booked.{given}
 use Rattle.sys_core.specs.Pins.{IsWorkOf}
 use Rattle.sys_core.specs.Pursues.{Pursues}
@@ -24,5 +24,5 @@ pub record Held {F : Type 0} (view : F → Option View) (s : System F) : Type 0 
   pub after : (lane start : ℕ) (t : LaneCommand) (c : Command) → IsAt s.works lane (Some t) → IsAt s.started lane (Some start) → IsCommand s.lanes lane (length (given s lane)) c
       → Pursues s.limits (state_after (first s.base.books.start.items) s.base.books.history.items start) c t
   pub pins : s.base.books.halted ≡ false → (p : Pin) → Contains s.base.books.pins.items p
-      → (start : ℕ) × (c : Command) × IsAt s.started p.lane (Some start) × IsCommand s.lanes p.lane (length (given s p.lane)) c × IsWorkOf (state_after (first s.base.books.start.items) s.base.books.history.items start) c p.object
+      → (start : ℕ) × (c : Command) × IsAt s.started p.lane (Some start) × IsCommand s.lanes p.lane (length (given s p.lane)) c × IsWorkOf (IsTold view) (state_after (first s.base.books.start.items) s.base.books.history.items start) c p.object
   pub commits : s.base.books.halted ≡ false → (v : View) → view s.base.fs ≡ Some v → (lane : ℕ) (t : CommitCommand) → IsAt s.works lane (Some (Commit t)) → AreHeld lane t v (books_of s.base.books)

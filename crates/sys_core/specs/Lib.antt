@@ -1,5 +1,6 @@
 pub mod Lanes
 pub mod Commits
+pub mod Reading
 pub mod Begins
 pub mod System
 pub mod Booked
@@ -12,7 +13,9 @@ pub mod Ranks
 pub mod Turns
 pub mod Counts
 pub mod Did
+pub mod Causes
 pub mod Lasting
 pub mod Storing
 pub mod Pins
 pub mod Held
+pub mod Inside

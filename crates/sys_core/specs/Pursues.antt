@@ -13,6 +13,7 @@ use Rattle.commit_build.specs.Committing.{IsMade, ReadsBack}
 use Rattle.commit_lasts.specs.Lasting.{sum_of}
 use Rattle.commit_work.specs.declared.command.CommitCommand.{CommitCommand}
 use Rattle.commit_work.specs.declared.naming.Naming.{Naming}
+use Rattle.read_work.specs.Asked.{asked}
 use Rattle.lane_work.specs.declared.command.LaneCommand.{LaneCommand}
 use Rattle.lane_work.specs.declared.command.LaneCommand.TheVariants as lane_work
 use Rattle.lane_work.specs.Commands.{answer_of}
@@ -31,10 +32,11 @@ use Rattle.sys_core.specs.Replied.{IsCommand, IsTo, Replied, count_of}
 use Rattle.script.specs.declared.answer.Answer.{Answer}
 use Rattle.script.specs.declared.answer.Answer.TheVariants as answer
 use Rattle.script.specs.declared.command.Command.{Command}
-use Rattle.script.specs.declared.command.Command.TheVariants.{RevParse, Reset, DropRef, Commit}
+use Rattle.script.specs.declared.command.Command.TheVariants.{Reset, DropRef, Commit}
 use Rattle.sys_core.specs.Answers.{Answers, IsChangeOf, IsHalted, IsTold, Makes, state_after}
 use Rattle.sys_core.specs.Begins.{LooksUp}
 use Rattle.sys_core.specs.Commits.{message_in}
+use Rattle.sys_core.specs.Reading.{Reads}
 use Rattle.sys_core.specs.declared.lane.Came.{Came}
 use Rattle.sys_core.specs.declared.lane.Came.TheVariants.{Blocked, More, Answered}
 use Rattle.sys_core.specs.declared.run.Run.{Run}
@@ -80,6 +82,7 @@ abbrev pub Pursues : Limits → State → Command → LaneCommand → Type 0
 Pursues limits s c (lane_work.Ref t) = RefPursues s c t
 Pursues limits s (Commit branch tree subject body time) (lane_work.Commit t) = Commits limits branch tree.items (message_in s branch subject body time) t
 Pursues limits s c (lane_work.Commit t) = ⊥
+Pursues limits s c (lane_work.Read t) = Reads limits s c (asked t)
 
 -- how many changes lasted when the command began, or do now where it hasn't begun
 abbrev pub task_start : List Entry → Option Running → ℕ
@@ -130,6 +133,12 @@ Goes told limits first lane number c old new task task' (Answered a start) = (ta
     × Answers told limits lane number (state_after first old.history.items start) (after (events_of new.history.items) first) new.history.items a c
     × Grows lane number c a old.history.items new.history.items
     × IsPendingBy lane number (λ p. IsChangeOf (state_after first old.history.items start) c p.event) old new × IsShownAs lane a new
+
+-- it was refused, or ended with all others
+abbrev pub IsFaulty : Outcome → Type 0
+IsFaulty came.Halted = Unit {0}
+IsFaulty (came.Refused e) = Unit {0}
+IsFaulty outcome = ⊥
 
 -- it has ended, and has an answer
 abbrev pub HasAnswer : Outcome → LaneCommand → Type 0

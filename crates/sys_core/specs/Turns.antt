@@ -6,7 +6,7 @@ use Rattle.ref_work.specs.declared.command.RefCommand.{RefCommand}
 use Rattle.ref_work.specs.declared.command.RefCommand.TheVariants.{Parse, Reset, Change}
 use Rattle.commit_work.specs.declared.naming.Naming.{Naming}
 use Rattle.lane_work.specs.declared.command.LaneCommand.{LaneCommand}
-use Rattle.lane_work.specs.declared.command.LaneCommand.TheVariants.{Ref, Commit}
+use Rattle.lane_work.specs.declared.command.LaneCommand.TheVariants.{Ref, Commit, Read}
 use Rattle.rely.specs.declared.books.Books as rust
 use Rattle.script.specs.declared.command.Lane.{Lane}
 use Rattle.sys_core.specs.declared.lane.Came.{Came}
@@ -41,6 +41,7 @@ NamingHasLooked (Some n) = IsBehind n.work.task.phase
 abbrev pub HasLooked : LaneCommand → Type 0
 HasLooked (Ref t) = RefHasLooked t
 HasLooked (Commit t) = NamingHasLooked t.change
+HasLooked (Read t) = ⊥
 
 abbrev pub RunsBehind : Option Running → Type 0
 RunsBehind None = ⊥
@@ -63,6 +64,7 @@ abbrev pub AsksTurn : Option LaneCommand → Type 0
 AsksTurn None = ⊥
 AsksTurn (Some (Ref t)) = RefAsksTurn t
 AsksTurn (Some (Commit t)) = NamingAsksTurn t.change
+AsksTurn (Some (Read t)) = ⊥
 
 -- A lane has the Turn exactly where its command has looked. Nobody removes objects.
 pub record HasTurn (lane : ℕ) (b : rust.Books) (Looked : Type 0) : Type 0 where

@@ -30,6 +30,10 @@ fn outside(alloc: Global, command: &Command) -> Answer
                 Err(NoMemory) => Answer::NoMemory,
             }
         }
-        Command::Refs | Command::RevParse { rev: _ } => Answer::DiskFault,
+        Command::Refs
+        | Command::RevParse { .. }
+        | Command::Log { .. }
+        | Command::Ls { .. }
+        | Command::Cat { .. } => Answer::DiskFault,
     }
 }

@@ -6,6 +6,7 @@ ghost use Rattle.sys_core.specs.Commits.{IsFit};
 ghost use Rattle.ost_types.specs.declared.limits.Limits.{Limits};
 ghost use Rattle.script.specs.declared.command.Command.TheVariants as Command;
 
+use crate::reading::{cat, commit_of, log, ls};
 use commit_work::CommitCommand;
 use lane_work::LaneCommand;
 use ost_types::{Limits, NoMemory, TryCopy, copy_all};
@@ -60,6 +61,9 @@ fn task_of(
     match command {
         Command::Refs => Ok(Begun::Answered(Answer::Refs(refs.rows()?))),
         Command::RevParse { rev } => Ok(parse(alloc, refs, rev)),
+        Command::Log { rev } => Ok(log(alloc, refs, limits, rev)),
+        Command::Ls { rev, path } => ls(alloc, refs, limits, rev, path),
+        Command::Cat { rev, path } => cat(alloc, refs, limits, rev, path),
         Command::Reset { branch, commit } => {
             refs.make_room(branch)?;
             let seen = refs.get(branch);
@@ -100,17 +104,14 @@ fn task_of(
     }
 }
 
-// a ref must be there; its commit, or the one that was named, is looked up
+// the commit that is named is looked up
 fn parse(alloc: Global, refs: &RefBook, rev: &Rev) -> Begun
     ensures begun { (lane : ℕ) → IsBegun lane refs.now result }
     ensures left { IsFew result }
     ensures by { (limits : Limits) (lane : ℕ) (s : State) → Tracks refs.now s → IsBy limits lane s (Command.RevParse rev.now) result }
 {
-    match rev {
-        Rev::Commit(commit) => Begun::Runs(LaneCommand::Ref(RefCommand::parse(alloc, *commit))),
-        Rev::Ref(name) => match refs.get(name) {
-            None => Begun::Answered(Answer::NoRef),
-            Some(commit) => Begun::Runs(LaneCommand::Ref(RefCommand::parse(alloc, commit))),
-        },
+    match commit_of(refs, rev) {
+        None => Begun::Answered(Answer::NoRef),
+        Some(commit) => Begun::Runs(LaneCommand::Ref(RefCommand::parse(alloc, commit))),
     }
 }

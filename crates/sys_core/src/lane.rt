@@ -1,11 +1,12 @@
 ghost use Rattle.sys_core.specs.Lasting.{IsCarried};
 ghost use Rattle.sys_core.specs.declared.lane.Came.TheVariants as Came;
-ghost use Rattle.std.specs.Prelude.{true, ◌≡◌, ◌≢◌, ◌<◌, ◌≤◌, ◌+◌, ℕ, List, Some, None, false, drop, length, slice_index_or};
+ghost use Rattle.std.specs.Prelude.{true, ◌≡◌, ◌≢◌, ◌<◌, ◌≤◌, ◌+◌, ℕ, List, Some, None, IsSome, false, drop, length, slice_index_or};
 ghost use Rattle.fs_trait.specs.View.{View};
 ghost use Rattle.fs_trait.specs.Image.{Told};
 ghost use Rattle.fs_trait.specs.Change.{Writes};
 ghost use Rattle.ref_book.specs.Tracks.{Tracks, HasRoom, name_of};
-ghost use Rattle.lane_work.specs.Commands.{IsMadeIn, lane_facts, lane_kind, lane_leaves, lane_refuses, lane_stepped, lane_writes, met_by, told};
+ghost use Rattle.lane_work.specs.declared.command.LaneCommand.{LaneCommand};
+ghost use Rattle.lane_work.specs.Commands.{answer_of as told_by, IsMadeIn, lane_facts, lane_kind, lane_leaves, lane_refuses, lane_stepped, lane_writes, met_by, told};
 ghost use Rattle.commit_build.specs.Whole.{IsCounted};
 ghost use Rattle.rely.specs.declared.books.Entry.{Entry};
 ghost use Rattle.rely.specs.declared.kind.Outcome.TheVariants as came;
@@ -15,7 +16,7 @@ ghost use Rattle.rely.specs.State.{State, after, events_of};
 ghost use Rattle.rely.specs.Sound.{Sound};
 ghost use Rattle.rely.specs.State.{first};
 ghost use Rattle.rely.specs.declared.books.Pending.{Pending};
-ghost use Rattle.rely.specs.Exact.{Causes, IsBooked, Locks, Opens, Steps, Tells};
+ghost use Rattle.rely.specs.Exact.{Causes, IsBooked, IsLive, Locks, Opens, Steps, Tells};
 ghost use Rattle.script.specs.declared.answer.Answer.{Answer};
 ghost use Rattle.script.specs.declared.answer.Answer.TheVariants as answer;
 ghost use Rattle.sys_core.specs.Answers.{IsHalted, IsTold, Shown, state_after};
@@ -23,7 +24,7 @@ ghost use Rattle.sys_core.specs.Commits.{IsFit};
 ghost use Rattle.sys_core.specs.Counts.{CountsAt, CountsBy, IsFull, StoresBy};
 ghost use Rattle.sys_core.specs.Did.{Did};
 ghost use Rattle.sys_core.specs.Lanes.{Facts, HasRoomFor, IsHome, EndsUnshown, LaneActs, now_of};
-ghost use Rattle.sys_core.specs.Pursues.{Goes, HasAnswer, IsAfter, IsEndedAs, task_start};
+ghost use Rattle.sys_core.specs.Pursues.{Goes, HasAnswer, IsAfter, IsEndedAs, IsFaulty, task_start};
 ghost use Rattle.sys_core.specs.Storing.{HasWritten};
 ghost use Rattle.rely.specs.Pinning.{ArePinned, pin_in};
 ghost use Rattle.sys_core.specs.Pins.{Pins};
@@ -70,15 +71,15 @@ pub(crate) fn lane_act<F: Fs>(
     requires fit { IsFit limits command.now }
     requires turn { HasTurn lane base.old.books (RunsBehind run.old.task) }
     ensures acts { LaneActs F.view F.clock F.spare F.was lane refs.old refs.new run.new.task base.old base.new }
-    ensures carried { IsCarried F.view F.clock F.was base.old base.new }
-    ensures wrote { (v : View) → F.view base.old.fs ≡ Some v → Told (F.view base.new.fs) (HasWritten limits lane objects.old (state_after (first base.old.books.start.items) base.old.books.history.items (task_start base.old.books.history.items run.old.task)) command.now (books_of base.old.books) v) }
+    ensures carried { IsCarried F.view F.clock F.was F.faults base.old base.new }
+    ensures wrote { (v : View) → F.view base.old.fs ≡ Some v → Told (F.view base.new.fs) (HasWritten limits lane objects.old objects.new (state_after (first base.old.books.start.items) base.old.books.history.items (task_start base.old.books.history.items run.old.task)) command.now base.old.books base.new.books v) }
     ensures number { run.new.command ≡ run.old.command }
     ensures blocked { result ≡ Came.Blocked → base.new ≡ base.old }
     ensures goes { Goes (IsTold F.view) limits (first base.old.books.start.items) lane run.old.command command.now base.old.books base.new.books run.old.task run.new.task result }
     ensures turns { Turns lane base.old.books base.new.books run.old.task run.new.task result }
-    ensures pins { Pins lane command.now base.old.books base.new.books run.old.task run.new.task result }
+    ensures pins { Pins (IsTold F.view) lane command.now base.old.books base.new.books run.old.task run.new.task result }
     ensures halts { (a : Answer) (start : ℕ) → result ≡ Came.Answered a start → IsHalted a → (base.new.books.halted ≡ true) × (a ≡ answer.Halted (F.faults base.new.fs)) }
-    ensures shown { (a : Answer) (start : ℕ) → result ≡ Came.Answered a start → Shown (F.view base.old.fs) (state_after (first base.old.books.start.items) base.old.books.history.items start) base.old.books.halted (F.faults base.old.fs) (F.faults base.new.fs) a command.now }
+    ensures shown { (a : Answer) (start : ℕ) → result ≡ Came.Answered a start → Shown limits (F.view base.old.fs) (state_after (first base.old.books.start.items) base.old.books.history.items start) base.old.books.halted (F.faults base.old.fs) (F.faults base.new.fs) a command.now }
     ensures counts { CountsBy objects.old run.new.task result objects.new }
     ensures stores { (v : View) → F.view base.old.fs ≡ Some v → StoresBy limits objects.old v run.new.task result }
     ensures full { (a : Answer) (start : ℕ) → result ≡ Came.Answered a start → IsFull limits objects.old a }
@@ -111,15 +112,15 @@ fn begins<F: Fs>(
     requires fit { IsFit limits command.now }
     requires turn { HasTurn lane base.old.books (RunsBehind None) }
     ensures acts { LaneActs F.view F.clock F.spare F.was lane refs.old refs.new run.new.task base.old base.new }
-    ensures carried { IsCarried F.view F.clock F.was base.old base.new }
-    ensures wrote { (v : View) → F.view base.old.fs ≡ Some v → Told (F.view base.new.fs) (HasWritten limits lane objects.old (state_after (first base.old.books.start.items) base.old.books.history.items (task_start base.old.books.history.items None)) command.now (books_of base.old.books) v) }
+    ensures carried { IsCarried F.view F.clock F.was F.faults base.old base.new }
+    ensures wrote { (v : View) → F.view base.old.fs ≡ Some v → Told (F.view base.new.fs) (HasWritten limits lane objects.old objects.new (state_after (first base.old.books.start.items) base.old.books.history.items (task_start base.old.books.history.items None)) command.now base.old.books base.new.books v) }
     ensures number { run.new.command ≡ run.old.command }
     ensures blocked { result ≡ Came.Blocked → base.new ≡ base.old }
     ensures goes { Goes (IsTold F.view) limits (first base.old.books.start.items) lane run.old.command command.now base.old.books base.new.books None run.new.task result }
     ensures turns { Turns lane base.old.books base.new.books None run.new.task result }
-    ensures pins { Pins lane command.now base.old.books base.new.books None run.new.task result }
+    ensures pins { Pins (IsTold F.view) lane command.now base.old.books base.new.books None run.new.task result }
     ensures halts { (a : Answer) (start : ℕ) → result ≡ Came.Answered a start → IsHalted a → (base.new.books.halted ≡ true) × (a ≡ answer.Halted (F.faults base.new.fs)) }
-    ensures shown { (a : Answer) (start : ℕ) → result ≡ Came.Answered a start → Shown (F.view base.old.fs) (state_after (first base.old.books.start.items) base.old.books.history.items start) base.old.books.halted (F.faults base.old.fs) (F.faults base.new.fs) a command.now }
+    ensures shown { (a : Answer) (start : ℕ) → result ≡ Came.Answered a start → Shown limits (F.view base.old.fs) (state_after (first base.old.books.start.items) base.old.books.history.items start) base.old.books.halted (F.faults base.old.fs) (F.faults base.new.fs) a command.now }
     ensures counts { CountsBy objects.old run.new.task result objects.new }
     ensures stores { (v : View) → F.view base.old.fs ≡ Some v → StoresBy limits objects.old v run.new.task result }
     ensures full { (a : Answer) (start : ℕ) → result ≡ Came.Answered a start → IsFull limits objects.old a }
@@ -165,15 +166,15 @@ fn goes_on<F: Fs>(
     requires after { IsAfter limits (first base.old.books.start.items) base.old.books.history.items command.now (Some running) }
     requires turn { HasTurn lane base.old.books (RunsBehind (Some running)) }
     ensures acts { LaneActs F.view F.clock F.spare F.was lane refs.old refs.new run.new.task base.old base.new }
-    ensures carried { IsCarried F.view F.clock F.was base.old base.new }
-    ensures wrote { (v : View) → F.view base.old.fs ≡ Some v → Told (F.view base.new.fs) (HasWritten limits lane objects.old (state_after (first base.old.books.start.items) base.old.books.history.items (task_start base.old.books.history.items (Some running))) command.now (books_of base.old.books) v) }
+    ensures carried { IsCarried F.view F.clock F.was F.faults base.old base.new }
+    ensures wrote { (v : View) → F.view base.old.fs ≡ Some v → Told (F.view base.new.fs) (HasWritten limits lane objects.old objects.new (state_after (first base.old.books.start.items) base.old.books.history.items (task_start base.old.books.history.items (Some running))) command.now base.old.books base.new.books v) }
     ensures number { run.new.command ≡ run.old.command }
     ensures blocked { result ≡ Came.Blocked → base.new ≡ base.old }
     ensures goes { Goes (IsTold F.view) limits (first base.old.books.start.items) lane run.old.command command.now base.old.books base.new.books (Some running) run.new.task result }
     ensures turns { Turns lane base.old.books base.new.books (Some running) run.new.task result }
-    ensures pins { Pins lane command.now base.old.books base.new.books (Some running) run.new.task result }
+    ensures pins { Pins (IsTold F.view) lane command.now base.old.books base.new.books (Some running) run.new.task result }
     ensures halts { (a : Answer) (start : ℕ) → result ≡ Came.Answered a start → IsHalted a → (base.new.books.halted ≡ true) × (a ≡ answer.Halted (F.faults base.new.fs)) }
-    ensures shown { (a : Answer) (start : ℕ) → result ≡ Came.Answered a start → Shown (F.view base.old.fs) (state_after (first base.old.books.start.items) base.old.books.history.items start) base.old.books.halted (F.faults base.old.fs) (F.faults base.new.fs) a command.now }
+    ensures shown { (a : Answer) (start : ℕ) → result ≡ Came.Answered a start → Shown limits (F.view base.old.fs) (state_after (first base.old.books.start.items) base.old.books.history.items start) base.old.books.halted (F.faults base.old.fs) (F.faults base.new.fs) a command.now }
     ensures counts { CountsBy objects.old run.new.task result objects.new }
     ensures stores { (v : View) → F.view base.old.fs ≡ Some v → StoresBy limits objects.old v run.new.task result }
     ensures full { (a : Answer) (start : ℕ) → result ≡ Came.Answered a start → IsFull limits objects.old a }
@@ -220,10 +221,31 @@ fn answer_at_end<F: Fs>(
     ensures { IsEndedAs outcome command.now work (F.faults base.now.fs) result }
 {
     match outcome {
+        Outcome::Done => told_answer(work),
+        outcome => {
+            drop(work);
+            fault_answer(alloc, base, command, outcome)
+        }
+    }
+}
+
+/// What a command answers that is done.
+fn told_answer(work: LaneCommand) -> Answer
+    requires { IsSome (told_by work) }
+    ensures { told_by work ≡ Some result }
+{
+    work.into_answer().unwrap()
+}
+
+/// What a command answers that was refused, or ended with all others.
+fn fault_answer<F: Fs>(alloc: Global, base: &Base<F>, command: &Command, outcome: Outcome) -> Answer
+    requires { IsFaulty outcome }
+    ensures { (work : LaneCommand) → IsEndedAs outcome command.now work (F.faults base.now.fs) result }
+{
+    match outcome {
         Outcome::Refused(e) => answer_of(alloc, command, e),
         Outcome::Halted => Answer::Halted(base.fs.faults()),
-        Outcome::Done => work.into_answer().unwrap(),
-        Outcome::Blocked | Outcome::More => unreachable!(),
+        Outcome::Done | Outcome::Blocked | Outcome::More => unreachable!(),
     }
 }
 
@@ -241,7 +263,7 @@ fn told_act<F: Fs>(
     requires room { HasRoomFor refs.old work.old }
     requires home { IsHome lane (F.view base.old.fs) }
     ensures acts { Acts F.view F.clock F.spare F.was lane lane result (Runs lane_kind lane_facts lane work.new) base.old base.new }
-    ensures carried { IsCarried F.view F.clock F.was base.old base.new }
+    ensures carried { IsCarried F.view F.clock F.was F.faults base.old base.new }
     ensures wrote { (v : View) → F.view base.old.fs ≡ Some v → Told (F.view base.new.fs) (λ w. Writes (lane_writes lane (told objects.old work.old) v) v w) }
     ensures tracks { Tracks refs.new (now_of base.new.books) }
     ensures rooms { (name : List ℕ) → HasRoom refs.old name → HasRoom refs.new name }
@@ -254,6 +276,7 @@ fn told_act<F: Fs>(
     ensures home { IsHome lane (F.view base.new.fs) }
     ensures over { EndsUnshown result → NotPending lane (books_of base.new.books) }
     ensures counts { CountsAt objects.old work.new result objects.new }
+    ensures no_fewer { objects.old ≤ objects.new }
     ensures made { result ≡ came.More → IsMadeIn work.new }
 {
     let former = work.tell(*objects);
@@ -283,7 +306,7 @@ fn running_act<F: Fs>(
     requires room { HasRoomFor refs.old work.old }
     requires home { IsHome lane (F.view base.old.fs) }
     ensures acts { Acts F.view F.clock F.spare F.was lane lane result (Runs lane_kind lane_facts lane work.new) base.old base.new }
-    ensures carried { IsCarried F.view F.clock F.was base.old base.new }
+    ensures carried { IsCarried F.view F.clock F.was F.faults base.old base.new }
     ensures wrote { (v : View) → F.view base.old.fs ≡ Some v → Told (F.view base.new.fs) (λ w. Writes (lane_writes lane work.old v) v w) }
     ensures tracks { Tracks refs.new (now_of base.new.books) }
     ensures rooms { (name : List ℕ) → HasRoom refs.old name → HasRoom refs.new name }
@@ -297,6 +320,7 @@ fn running_act<F: Fs>(
     ensures pins { ArePinned (pin_in (lane_kind work.old)) lane result base.old.books.pins.items base.new.books.pins.items }
     ensures booked { IsBooked (lane_kind work.old) lane number (F.clock base.new.fs) result base.old.books base.new.books }
     ensures cause { (v : View) → F.view base.old.fs ≡ Some v → Causes (F.faults base.old.fs) (F.faults base.new.fs) result }
+    ensures live { IsLive result base.old.books.halted base.new.books.halted }
     ensures home { IsHome lane (F.view base.new.fs) }
     ensures over { EndsUnshown result → NotPending lane (books_of base.new.books) }
 {
@@ -309,6 +333,7 @@ fn running_act<F: Fs>(
 /// One more object is in the store, where the task's last step put one there.
 fn count(objects: &mut u32, work: &LaneCommand)
     ensures counted { IsCounted objects.old (met_by work.now) objects.new }
+    ensures no_fewer { objects.old ≤ objects.new }
     ensures made { IsMadeIn work.now }
 {
     if let Some((_, Put::Stored)) = work.met() {

@@ -7,6 +7,7 @@ mod begin;
 mod book;
 mod lane;
 mod prepare;
+mod reading;
 mod run;
 mod system;
 mod turn;

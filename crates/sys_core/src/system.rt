@@ -1,5 +1,7 @@
 ghost use Rattle.fs_trait.specs.Image.{Told};
-ghost use Rattle.sys_core.specs.Storing.{AreStored, AreStoredIn};
+ghost use Rattle.sys_core.specs.Causes.{AreCaused, AreCausedIn};
+ghost use Rattle.sys_core.specs.Inside.{AreInside, AreInsideIn};
+ghost use Rattle.sys_core.specs.Storing.{AreStored, AreStoredIn, IsBegunIn};
 ghost use Rattle.sys_core.specs.Lasting.{AreKept, AreKeptIn};
 ghost use Rattle.std.specs.Prelude.{true, false, ◌≡◌, ◌<◌, ◌≤◌, ℕ, length, min, slice_index_or, Some, None, IfOk, IfErr};
 ghost use Rattle.fs_trait.specs.View.{View};
@@ -64,12 +66,13 @@ impl<F: Fs> Model for System<F> {
     ghost use Rattle.sys_core.specs.Turns.{Ordered, works_of};
     ghost use Rattle.sys_core.specs.Fit.{AreFit};
     ghost use Rattle.sys_core.specs.Pins.{AreInWork};
+    ghost use Rattle.sys_core.specs.Answers.{IsTold};
 
     ghost Value = { System F };
 
     ghost view = { λ s. record { base = s.base; lanes = s.lanes.items; started = started_of s.runs.items; works = works_of s.runs.items; replies = replies_of s.replies.items; limits = s.limits; objects = s.objects } };
 
-    ghost invariant = { λ s. Kept F.view F.clock F.spare F.was s.base s.refs s.runs.items × Booked s.lanes.items s.runs.items s.replies.items × Accounted F.view s.limits s.base s.lanes.items s.runs.items (replies_of s.replies.items) s.given (F.faults s.base.fs) × (s.base.books.halted ≡ false → Ordered s.base.books s.lanes.items s.runs.items) × AreFit s.limits s.lanes.items × (s.base.books.halted ≡ false → AreInWork s.base.books s.lanes.items s.runs.items) };
+    ghost invariant = { λ s. Kept F.view F.clock F.spare F.was s.base s.refs s.runs.items × Booked s.lanes.items s.runs.items s.replies.items × Accounted F.view s.limits s.base s.lanes.items s.runs.items (replies_of s.replies.items) s.given (F.faults s.base.fs) × (s.base.books.halted ≡ false → Ordered s.base.books s.lanes.items s.runs.items) × AreFit s.limits s.lanes.items × (s.base.books.halted ≡ false → AreInWork (IsTold F.view) s.base.books s.lanes.items s.runs.items) };
 }
 
 /// What a system is taken apart into.
@@ -100,6 +103,8 @@ impl<F: Fs> System<F> {
         ensures objects { IfOk result (λ s. s.objects ≡ min (length opened.objects) 4294967295) }
         ensures begins { IfOk result (λ s. (v : View) → AreKept F.was v s v) }
         ensures good { IfOk result (λ s. (v : View) → F.view s.base.fs ≡ Some v → AreStored F.was s v) }
+        ensures caused { IfOk result (λ s. AreCaused F.faults (F.faults opened.fs) s) }
+        ensures inside { IfOk result (λ s. AreInside F.was s) }
         ensures back { IfErr result (λ e. e.0 ≡ opened) }
     {
         match prepare(alloc, opened.refs(), &lanes) {
@@ -122,6 +127,8 @@ impl<F: Fs> System<F> {
         ensures objects { result.objects ≡ min (length opened.objects) 4294967295 }
         ensures begins { (v : View) → AreKept F.was v result v }
         ensures good { (v : View) → F.view result.base.fs ≡ Some v → AreStored F.was result v }
+        ensures caused { AreCaused F.faults (F.faults opened.fs) result }
+        ensures inside { AreInside F.was result }
     {
         let OpenedParts {
             fs,
@@ -159,6 +166,8 @@ impl<F: Fs> System<F> {
         ensures lanes { self.new.lanes ≡ self.old.lanes }
         ensures lasts { (opening v : View) → F.view self.old.base.fs ≡ Some v → AreKept F.was opening self.old v → Told (F.view self.new.base.fs) (λ w. AreKept F.was opening self.new w) }
         ensures good { (v : View) → F.view self.old.base.fs ≡ Some v → AreStored F.was self.old v → Told (F.view self.new.base.fs) (λ w. AreStored F.was self.new w) }
+        ensures caused { (before : ℕ) (v : View) → F.view self.old.base.fs ≡ Some v → AreCaused F.faults before self.old → AreCaused F.faults before self.new }
+        ensures inside { (v : View) → F.view self.old.base.fs ≡ Some v → AreStored F.was self.old v → AreInside F.was self.old → AreInside F.was self.new }
         ensures ranks { Ranked self.old self.new actor result }
         ensures held { result ≡ Ask.Blocked → IsHeldOff self.old actor }
         ensures waits { HasCommand self.old actor → self.old.base.books.halted ≡ false → AsksTurn (slice_index_or self.old.works actor None) → IsHeldOff self.old actor → result ≡ Ask.Blocked }
@@ -276,6 +285,8 @@ impl<F: Fs> System<F> {
         ensures later { IsLater self.old self.new }
         ensures lasts { (opening v : View) → F.view self.old.base.fs ≡ Some v → AreKept F.was opening self.old v → Told (F.view self.new.base.fs) (λ w. AreKept F.was opening self.new w) }
         ensures good { (v : View) → F.view self.old.base.fs ≡ Some v → AreStored F.was self.old v → Told (F.view self.new.base.fs) (λ w. AreStored F.was self.new w) }
+        ensures caused { (before : ℕ) (v : View) → F.view self.old.base.fs ≡ Some v → AreCaused F.faults before self.old → AreCaused F.faults before self.new }
+        ensures inside { (v : View) → F.view self.old.base.fs ≡ Some v → AreStored F.was self.old v → AreInside F.was self.old → AreInside F.was self.new }
     {
         for actor in schedule {
             let _ = self.act(*actor);
@@ -292,6 +303,8 @@ impl<F: Fs> System<F> {
         ensures later { IsLater self.old self.new }
         ensures lasts { (opening v : View) → F.view self.old.base.fs ≡ Some v → AreKept F.was opening self.old v → Told (F.view self.new.base.fs) (λ w. AreKept F.was opening self.new w) }
         ensures good { (v : View) → F.view self.old.base.fs ≡ Some v → AreStored F.was self.old v → Told (F.view self.new.base.fs) (λ w. AreStored F.was self.new w) }
+        ensures caused { (before : ℕ) (v : View) → F.view self.old.base.fs ≡ Some v → AreCaused F.faults before self.old → AreCaused F.faults before self.new }
+        ensures inside { (v : View) → F.view self.old.base.fs ≡ Some v → AreStored F.was self.old v → AreInside F.was self.old → AreInside F.was self.new }
     {
         let _few = self.lanes();
         let mut unfinished = false;
@@ -310,7 +323,9 @@ impl<F: Fs> System<F> {
         ensures pending { result.pending ≡ self.base.books.pending }
         ensures lanes { result.lanes.items ≡ self.lanes }
         ensures lasts { (opening v : View) → AreKept F.was opening self v → AreKeptIn (F.was result.fs) opening self.limits result.lanes.items result.history.items v }
-        ensures good { (v : View) → AreStored F.was self v → AreStoredIn (F.was result.fs) self.limits (first self.base.books.start.items) self.base.books.opened result.lanes.items result.history.items self.started (replies_of result.replies.items) v }
+        ensures good { (v : View) → AreStored F.was self v → AreStoredIn (F.was result.fs) self.limits (first self.base.books.start.items) self.base.books.opened result.lanes.items result.history.items self.started (replies_of result.replies.items) self.base.books.halted self.objects v }
+        ensures inside { AreInside F.was self → AreInsideIn (F.was result.fs) self.base.books.opened (IsBegunIn (first self.base.books.start.items) result.history.items result.lanes.items self.started (replies_of result.replies.items)) (replies_of result.replies.items) }
+        ensures caused { (before : ℕ) → AreCaused F.faults before self → AreCausedIn before (F.faults result.fs) self.base.books.halted (replies_of result.replies.items) }
         ensures headline { (v : View) → F.view self.base.fs ≡ Some v → Headline F.clock F.was self.base v }
         ensures replies { replies_of result.replies.items ≡ self.replies }
         ensures replied { IsReplied F.view self }

@@ -6,6 +6,7 @@ ghost use Rattle.rely.specs.Books.{books_of};
 ghost use Rattle.std.specs.Prelude.{true, false, ◌≡◌, ◌≢◌, ◌<◌, ◌++◌, ℕ, List, Some, None, length, slice_index_or, slice_set};
 ghost use Rattle.fs_trait.specs.View.{View};
 ghost use Rattle.rely.specs.State.{State, first};
+ghost use Rattle.ost_types.specs.declared.limits.Limits.{Limits};
 ghost use Rattle.script.specs.declared.command.Command.{Command};
 ghost use Rattle.rely.specs.declared.books.Entry.{Entry};
 ghost use Rattle.rely.specs.declared.books.Pending.{Pending};
@@ -51,21 +52,21 @@ pub(crate) fn turn<F: Fs>(
     requires fit { IsFit limits command.now }
     requires turn { (r : Run) → base.old.books.halted ≡ false → HasTurn lane base.old.books (RunsBehind (slice_index_or runs.old.items lane r).task) }
     ensures kept { Kept F.view F.clock F.spare F.was base.new refs.new runs.new.items }
-    ensures carried { IsCarried F.view F.clock F.was base.old base.new }
-    ensures wrote { (r : Run) (v : View) → F.view base.old.fs ≡ Some v → Told (F.view base.new.fs) (HasWritten limits lane objects.old (state_after (first base.old.books.start.items) base.old.books.history.items (task_start base.old.books.history.items (slice_index_or runs.old.items lane r).task)) command.now (books_of base.old.books) v) }
+    ensures carried { IsCarried F.view F.clock F.was F.faults base.old base.new }
+    ensures wrote { (r : Run) (v : View) → F.view base.old.fs ≡ Some v → Told (F.view base.new.fs) (HasWritten limits lane objects.old objects.new (state_after (first base.old.books.start.items) base.old.books.history.items (task_start base.old.books.history.items (slice_index_or runs.old.items lane r).task)) command.now base.old.books base.new.books v) }
     ensures booked { (lanes : List Lane) (replies : List (Vec Reply)) → lane < length lanes → Booked lanes runs.old.items replies → Booked lanes runs.new.items replies }
     ensures number { (r : Run) → (slice_index_or runs.new.items lane r).command ≡ (slice_index_or runs.old.items lane r).command }
     ensures blocked { result ≡ Came.Blocked → base.new ≡ base.old }
     ensures run { (r : Run) → runs.new.items ≡ slice_set runs.old.items lane (slice_index_or runs.new.items lane r) }
     ensures goes { (r : Run) → Goes (IsTold F.view) limits (first base.old.books.start.items) lane (slice_index_or runs.old.items lane r).command command.now base.old.books base.new.books (slice_index_or runs.old.items lane r).task (slice_index_or runs.new.items lane r).task result }
     ensures halts { (a : Answer) (start : ℕ) → result ≡ Came.Answered a start → IsHalted a → (base.new.books.halted ≡ true) × (a ≡ answer.Halted (F.faults base.new.fs)) }
-    ensures shown { (a : Answer) (start : ℕ) → result ≡ Came.Answered a start → Shown (F.view base.old.fs) (state_after (first base.old.books.start.items) base.old.books.history.items start) base.old.books.halted (F.faults base.old.fs) (F.faults base.new.fs) a command.now }
+    ensures shown { (a : Answer) (start : ℕ) → result ≡ Came.Answered a start → Shown limits (F.view base.old.fs) (state_after (first base.old.books.start.items) base.old.books.history.items start) base.old.books.halted (F.faults base.old.fs) (F.faults base.new.fs) a command.now }
     ensures counts { (r : Run) → CountsBy objects.old (slice_index_or runs.new.items lane r).task result objects.new }
     ensures stores { (r : Run) (v : View) → F.view base.old.fs ≡ Some v → StoresBy limits objects.old v (slice_index_or runs.new.items lane r).task result }
     ensures full { (a : Answer) (start : ℕ) → result ≡ Came.Answered a start → IsFull limits objects.old a }
     ensures live { result ≡ Came.More → base.old.books.halted ≡ false }
     ensures turns { (r : Run) → base.old.books.halted ≡ false → Turns lane base.old.books base.new.books (slice_index_or runs.old.items lane r).task (slice_index_or runs.new.items lane r).task result }
-    ensures pins { (r : Run) → base.old.books.halted ≡ false → Pins lane command.now base.old.books base.new.books (slice_index_or runs.old.items lane r).task (slice_index_or runs.new.items lane r).task result }
+    ensures pins { (r : Run) → base.old.books.halted ≡ false → Pins (IsTold F.view) lane command.now base.old.books base.new.books (slice_index_or runs.old.items lane r).task (slice_index_or runs.new.items lane r).task result }
     ensures waits { result ≡ Came.Blocked → base.old.books.halted ≡ false }
     ensures others { base.old.books.halted ≡ false → (x : ℕ) → x ≢ lane → base.old.books.turn ≡ Some x → base.new.books.turn ≡ Some x }
     ensures stays { base.old.books.halted ≡ true → base.new ≡ base.old }
@@ -83,7 +84,7 @@ pub(crate) fn turn<F: Fs>(
 /// The end of a command after a changing call failed.
 fn halted<F: Fs>(base: &Base<F>, run: &mut Run) -> Came
     requires { base.now.books.halted ≡ true }
-    ensures shown { (s : State) (c : Command) (a : Answer) (start : ℕ) → result ≡ Came.Answered a start → Shown (F.view base.now.fs) s base.now.books.halted (F.faults base.now.fs) (F.faults base.now.fs) a c }
+    ensures shown { (limits : Limits) (s : State) (c : Command) (a : Answer) (start : ℕ) → result ≡ Came.Answered a start → Shown limits (F.view base.now.fs) s base.now.books.halted (F.faults base.now.fs) (F.faults base.now.fs) a c }
     ensures number { run.new.command ≡ run.old.command }
     ensures task { run.new.task ≡ None }
     ensures answer { result ≡ Came.Answered (answer.Halted (F.faults base.now.fs)) (task_start base.now.books.history.items run.old.task) }

@@ -11,6 +11,8 @@ mod crash_tests;
 #[cfg(test)]
 mod disks;
 #[cfg(test)]
+mod read_tests;
+#[cfg(test)]
 mod stores;
 #[cfg(test)]
 mod tests;

@@ -23,7 +23,7 @@ fn open_disk(alloc: Global, limits: Limits) -> Result<Opened<MemFs>, Fail>
     }
 }
 
-fn system_of(alloc: Global, lanes: Vec<Lane>, limits: Limits) -> Result<System<MemFs>, Fail> {
+pub fn system_of(alloc: Global, lanes: Vec<Lane>, limits: Limits) -> Result<System<MemFs>, Fail> {
     if lanes.len() > 8 {
         return Err("too many lanes")?;
     }
@@ -44,8 +44,8 @@ fn two_lanes(alloc: Global, first: &[u8], second: &[u8]) -> Result<System<MemFs>
     system_of(alloc, lanes, Limits::standard())
 }
 
-// Whether another lane was in the way, in so many rounds of one act each.
-fn interleave(system: &mut System<MemFs>, rounds: u32) -> bool {
+/// Whether another lane was in the way, in so many rounds of one act each.
+pub fn interleave(system: &mut System<MemFs>, rounds: u32) -> bool {
     let mut blocked = false;
     for _ in 0..rounds {
         for lane in 0..2 {
@@ -138,8 +138,8 @@ fn acts_for_no_other_lane(rt: HostRuntime) -> Result<(), Fail> {
     Ok(())
 }
 
-// The commit of a reply.
-fn commit_in(system: &System<MemFs>, lane: usize, number: usize) -> Option<Csum> {
+/// The commit of a reply.
+pub fn commit_in(system: &System<MemFs>, lane: usize, number: usize) -> Option<Csum> {
     match system.replies().get(lane).and_then(|row| row.get(number)) {
         Some(
             Reply {

@@ -20,7 +20,7 @@ use Rattle.sys_core.specs.Turns.{HasTurn, RunsBehind, Turns}
 use Rattle.sys_core.proofs.Filling.{by_full, ended_full}
 use Rattle.sys_core.proofs.Going.{answers_by, begun_goes, ended_halts, goes_ended, goes_more, has_answer}
 use Rattle.sys_core.proofs.Lanes.{begin_ready, ended_runs, nothing_acts, runs_told, step_acts, tells_more}
-use Rattle.sys_core.proofs.Pinning.{pins_more, pins_over}
+use Rattle.sys_core.proofs.Pinning.{chained_of, pins_more, pins_over}
 use Rattle.sys_core.proofs.Prefixes.{state_all}
 use Rattle.sys_core.proofs.Pursuing.{pursues_begins, pursues_told}
 use Rattle.sys_core.proofs.Seeing.{by_shown, ended_shown}
@@ -182,8 +182,8 @@ returns-in_default-clause-shown g c = λ a start is.
     let one : Answered k.0 c.len-start.result ≡ Answered a start = sym k.1 ∙ is in
     let same : k.0 ≡ a = cc in
     let at : c.len-start.result ≡ start = cc in
-    subst (λ i. Shown (g.F.Fs.view base.fs) (state_after (first b.start.items) b.history.items i) b.halted (g.F.Fs.faults base.fs) (g.F.Fs.faults c.told_act.new.base.fs) a c.args.command.now) at
-    (subst (λ x. Shown (g.F.Fs.view base.fs) s b.halted (g.F.Fs.faults base.fs) (g.F.Fs.faults c.told_act.new.base.fs) x c.args.command.now) same
+    subst (λ i. Shown c.args.limits (g.F.Fs.view base.fs) (state_after (first b.start.items) b.history.items i) b.halted (g.F.Fs.faults base.fs) (g.F.Fs.faults c.told_act.new.base.fs) a c.args.command.now) at
+    (subst (λ x. Shown c.args.limits (g.F.Fs.view base.fs) s b.halted (g.F.Fs.faults base.fs) (g.F.Fs.faults c.told_act.new.base.fs) x c.args.command.now) same
     (λ v seen. ended_shown (first b.start.items) b.history.items b.pending (g.F.Fs.view base.fs) (g.F.Fs.view c.told_act.new.base.fs) c.args.lane (books_of b) c.args.limits s c.args.command.now (told n t) c.told_act.new.work after b.halted _ _ _ k.0 v seen
     ready.task.facts (g.met.F.Fs.tree base.fs v seen) (c.requires.sound.stands v seen) c.told_act.result did.tells (e.cause v seen) k.2))
 
@@ -204,7 +204,7 @@ returns-in-Answered-clause-shown g c = λ a start is v told.
     let b = c.args.base.now.books in
     let one : Answered c.in-Answered.answer c.len-start.result ≡ Answered a start = is in
     let same : c.in-Answered.answer ≡ a = cc in
-    by_shown v (state_after (first b.start.items) b.history.items start) b.halted _ _ (now_of b) a c.args.command.now (subst (λ x. AnswersBy (now_of b) x c.args.command.now) same (c.in-Answered.ensures.by (now_of b) c.requires.tracks))
+    by_shown c.args.limits v (state_after (first b.start.items) b.history.items start) b.halted _ _ (now_of b) a c.args.command.now (subst (λ x. AnswersBy (now_of b) x c.args.command.now) same (c.in-Answered.ensures.by (now_of b) c.requires.tracks))
 
 pub returns-in-Answered-clause-full : goal.returns-in-Answered-clause-full
 returns-in-Answered-clause-full g c = λ a start is.
@@ -258,39 +258,44 @@ returns-in_default-clause-carried g c = c.told_act.ensures.carried
 pub returns-in-Answered-clause-carried : goal.returns-in-Answered-clause-carried
 returns-in-Answered-clause-carried g c =
     let laws : IsFs g.F.Fs.view g.F.Fs.clock g.F.Fs.was = record { only_now = g.met.F.Fs.only_now; bound = g.met.F.Fs.bound; told = g.met.F.Fs.told } in
-    same_carried g.F.Fs.view g.F.Fs.clock g.F.Fs.was laws c.args.base.now
+    same_carried g.F.Fs.view g.F.Fs.clock g.F.Fs.was g.F.Fs.faults laws c.args.base.now
 
 pub returns-in-Blocked-clause-wrote : goal.returns-in-Blocked-clause-wrote
 returns-in-Blocked-clause-wrote g c = λ v told.
     let b = c.args.base.now.books in
-    let t = c.in-Runs.work in
-    let ready = begin_ready g.F.Fs.view g.F.Fs.clock g.F.Fs.spare g.F.Fs.was c.args.lane c.args.base.now c.args.refs.now t c.requires.sound c.requires.live c.requires.facts c.in-Runs.ensures.begun.0 in
-    step_written c.args.limits c.args.lane c.args.objects.now (state_after (first b.start.items) b.history.items (length b.history.items)) c.args.command.now (books_of b) v t (g.F.Fs.view c.told_act.new.base.fs)
-    (subst (λ (s : State). Pursues c.args.limits s c.args.command.now t) (sym (state_all (first b.start.items) b.history.items)) (pursues_begins c.args.limits c.args.lane (now_of b) c.args.command.now t (c.in-Runs.ensures.by (now_of b) c.requires.tracks)))
-    (ready.task.facts v told) (c.told_act.ensures.wrote v told)
+    nothing_written c.args.limits c.args.lane c.args.objects.now c.told_act.new.objects (state_after (first b.start.items) b.history.items (length b.history.items)) c.args.command.now b c.told_act.new.base.books v (g.F.Fs.view c.told_act.new.base.fs)
+    c.told_act.ensures.no_fewer (ap (λ x. g.F.Fs.view x.fs) (c.told_act.ensures.blocked c.in-Blocked.is).0 ∙ told)
 
 pub returns-in-More-clause-wrote : goal.returns-in-More-clause-wrote
 returns-in-More-clause-wrote g c = λ v told.
-    let b = c.args.base.now.books in
+    let e = c.told_act.ensures in
+    let base = c.args.base.now in
+    let b = base.books in
     let t = c.in-Runs.work in
-    let ready = begin_ready g.F.Fs.view g.F.Fs.clock g.F.Fs.spare g.F.Fs.was c.args.lane c.args.base.now c.args.refs.now t c.requires.sound c.requires.live c.requires.facts c.in-Runs.ensures.begun.0 in
-    step_written c.args.limits c.args.lane c.args.objects.now (state_after (first b.start.items) b.history.items (length b.history.items)) c.args.command.now (books_of b) v t (g.F.Fs.view c.told_act.new.base.fs)
-    (subst (λ (s : State). Pursues c.args.limits s c.args.command.now t) (sym (state_all (first b.start.items) b.history.items)) (pursues_begins c.args.limits c.args.lane (now_of b) c.args.command.now t (c.in-Runs.ensures.by (now_of b) c.requires.tracks)))
-    (ready.task.facts v told) (c.told_act.ensures.wrote v told)
+    let ready = begin_ready g.F.Fs.view g.F.Fs.clock g.F.Fs.spare g.F.Fs.was c.args.lane base c.args.refs.now t c.requires.sound c.requires.live c.requires.facts c.in-Runs.ensures.begun.0 in
+    let went : c.told_act.result ≡ came.Blocked → ⊥ = λ z. (let n : came.More ≡ came.Blocked = sym c.in-More.is ∙ z in cc) in
+    step_written g.F.Fs.view c.args.limits c.args.lane _ _ c.args.objects.now c.told_act.new.objects (state_after (first b.start.items) b.history.items (length b.history.items)) c.args.command.now base c.told_act.new.base t c.told_act.new.work c.told_act.result
+    c.requires.live (subst (λ (s : State). Pursues c.args.limits s c.args.command.now t) (sym (state_all (first b.start.items) b.history.items)) (pursues_begins c.args.limits c.args.lane (now_of b) c.args.command.now t (c.in-Runs.ensures.by (now_of b) c.requires.tracks)))
+    went (e.did went) e.counts e.no_fewer (halts_of g.F.Fs.view (Runs lane_kind lane_facts c.args.lane c.told_act.new.work) c.told_act.result c.told_act.new.base e.acts.tells)
+    v told (ready.task.facts v told) (g.met.F.Fs.tree base.fs v told) (c.requires.sound.stands v told) (e.wrote v told)
 
 pub returns-in_default-clause-wrote : goal.returns-in_default-clause-wrote
 returns-in_default-clause-wrote g c = λ v told.
-    let b = c.args.base.now.books in
+    let e = c.told_act.ensures in
+    let base = c.args.base.now in
+    let b = base.books in
     let t = c.in-Runs.work in
-    let ready = begin_ready g.F.Fs.view g.F.Fs.clock g.F.Fs.spare g.F.Fs.was c.args.lane c.args.base.now c.args.refs.now t c.requires.sound c.requires.live c.requires.facts c.in-Runs.ensures.begun.0 in
-    step_written c.args.limits c.args.lane c.args.objects.now (state_after (first b.start.items) b.history.items (length b.history.items)) c.args.command.now (books_of b) v t (g.F.Fs.view c.told_act.new.base.fs)
-    (subst (λ (s : State). Pursues c.args.limits s c.args.command.now t) (sym (state_all (first b.start.items) b.history.items)) (pursues_begins c.args.limits c.args.lane (now_of b) c.args.command.now t (c.in-Runs.ensures.by (now_of b) c.requires.tracks)))
-    (ready.task.facts v told) (c.told_act.ensures.wrote v told)
+    let ready = begin_ready g.F.Fs.view g.F.Fs.clock g.F.Fs.spare g.F.Fs.was c.args.lane base c.args.refs.now t c.requires.sound c.requires.live c.requires.facts c.in-Runs.ensures.begun.0 in
+    let went : c.told_act.result ≡ came.Blocked → ⊥ = λ z. c.in_default.not-Blocked z in
+    step_written g.F.Fs.view c.args.limits c.args.lane _ _ c.args.objects.now c.told_act.new.objects (state_after (first b.start.items) b.history.items (length b.history.items)) c.args.command.now base c.told_act.new.base t c.told_act.new.work c.told_act.result
+    c.requires.live (subst (λ (s : State). Pursues c.args.limits s c.args.command.now t) (sym (state_all (first b.start.items) b.history.items)) (pursues_begins c.args.limits c.args.lane (now_of b) c.args.command.now t (c.in-Runs.ensures.by (now_of b) c.requires.tracks)))
+    went (e.did went) e.counts e.no_fewer (halts_of g.F.Fs.view (Runs lane_kind lane_facts c.args.lane c.told_act.new.work) c.told_act.result c.told_act.new.base e.acts.tells)
+    v told (ready.task.facts v told) (g.met.F.Fs.tree base.fs v told) (c.requires.sound.stands v told) (e.wrote v told)
 
 pub returns-in-Answered-clause-wrote : goal.returns-in-Answered-clause-wrote
 returns-in-Answered-clause-wrote g c = λ v told.
     let b = c.args.base.now.books in
-    nothing_written c.args.limits c.args.lane c.args.objects.now (state_after (first b.start.items) b.history.items (length b.history.items)) c.args.command.now (books_of b) v (g.F.Fs.view c.args.base.now.fs) told
+    nothing_written c.args.limits c.args.lane c.args.objects.now c.args.objects.now (state_after (first b.start.items) b.history.items (length b.history.items)) c.args.command.now b b v (g.F.Fs.view c.args.base.now.fs) (omega arith) told
 
 pub returns-in-Answered-clause-pins : goal.returns-in-Answered-clause-pins
 returns-in-Answered-clause-pins g c = λ live. inr (refl, refl)
@@ -304,13 +309,15 @@ returns-in-More-clause-pins g c =
     let b = c.args.base.now.books in
     let from : c.len-start.result ≡ length b.history.items = search rules in
     let after = subst (λ (s : State). Pursues c.args.limits s c.args.command.now t) (sym (start_is b c.len-start.result from)) (pursues_begins c.args.limits c.args.lane (now_of b) c.args.command.now t (c.in-Runs.ensures.by (now_of b) c.requires.tracks)) in
-    pins_more c.args.limits c.args.lane c.args.command.now b c.told_act.new.base.books c.len-start.result t c.told_act.result c.told_act.ensures.pins c.in-More.is after _ c.told_act.new.work c.replace.ensures.after None
+    pins_more (IsTold g.F.Fs.view) c.args.limits c.args.lane c.args.command.now b c.told_act.new.base.books c.len-start.result t c.told_act.result c.told_act.ensures.pins c.in-More.is
+    (chained_of g.F.Fs.view g.met.F.Fs.told c.args.base.now.fs c.args.lane t (books_of b) (begin_ready g.F.Fs.view g.F.Fs.clock g.F.Fs.spare g.F.Fs.was c.args.lane c.args.base.now c.args.refs.now t c.requires.sound c.requires.live c.requires.facts c.in-Runs.ensures.begun.0).task.facts)
+    after _ c.told_act.new.work c.replace.ensures.after None
 
 pub returns-in_default-clause-pins : goal.returns-in_default-clause-pins
 returns-in_default-clause-pins g c =
     let e = c.told_act.ensures in
     let k = c.ends.ensures in
-    pins_over c.args.limits c.args.lane c.args.command.now c.args.base.now.books c.told_act.new.base.books c.len-start.result c.in-Runs.work c.told_act.result e.pins
+    pins_over (IsTold g.F.Fs.view) c.args.limits c.args.lane c.args.command.now c.args.base.now.books c.told_act.new.base.books c.len-start.result c.in-Runs.work c.told_act.result e.pins
     (halts_of g.F.Fs.view (Runs lane_kind lane_facts c.args.lane c.told_act.new.work) c.told_act.result c.told_act.new.base e.acts.tells) (λ is. c.in_default.not-Blocked is) (λ is. c.in_default.not-More is) None _ c.ends.result k.0 c.len-start.result k.1
 
 pub returns-in-Answered-clause-stores : goal.returns-in-Answered-clause-stores

@@ -18,13 +18,13 @@ use Rattle.sys_core.specs.Turns.{HasTurn, RunsBehind, Turns}
 use Rattle.sys_core.proofs.Filling.{ended_full}
 use Rattle.sys_core.proofs.Going.{ended_halts, goes_ended, goes_more, has_answer}
 use Rattle.sys_core.proofs.Lanes.{ended_runs, runs_told, step_acts, tells_blocked, tells_more}
-use Rattle.sys_core.proofs.Pinning.{pins_more, pins_over}
+use Rattle.sys_core.proofs.Pinning.{chained_of, pins_more, pins_over}
 use Rattle.sys_core.proofs.Pursuing.{pursues_told}
 use Rattle.sys_core.proofs.Seeing.{ended_shown}
 use Rattle.sys_core.proofs.Steps.{room_more}
 use Rattle.sys_core.proofs.Storing.{stores_more}
 use Rattle.sys_core.proofs.Turning.{asks_waits, halts_of, turn_told, turns_held, turns_more, turns_over}
-use Rattle.sys_core.proofs.Written.{step_written}
+use Rattle.sys_core.proofs.Written.{nothing_written, step_written}
 use Rattle.sys_core.proofs.lane.goes_on.Goals as goal
 
 pub told_act-requires-clause-ready : goal.told_act-requires-clause-ready
@@ -168,8 +168,8 @@ returns-in_default-clause-shown g c = λ a start is.
     let one : Answered k.0 c.args.running.start ≡ Answered a start = sym k.1 ∙ is in
     let same : k.0 ≡ a = cc in
     let at : c.args.running.start ≡ start = cc in
-    subst (λ n. Shown (g.F.Fs.view base.fs) (state_after (first b.start.items) b.history.items n) b.halted (g.F.Fs.faults base.fs) (g.F.Fs.faults c.told_act.new.base.fs) a c.args.command.now) at
-    (subst (λ x. Shown (g.F.Fs.view base.fs) s b.halted (g.F.Fs.faults base.fs) (g.F.Fs.faults c.told_act.new.base.fs) x c.args.command.now) same
+    subst (λ n. Shown c.args.limits (g.F.Fs.view base.fs) (state_after (first b.start.items) b.history.items n) b.halted (g.F.Fs.faults base.fs) (g.F.Fs.faults c.told_act.new.base.fs) a c.args.command.now) at
+    (subst (λ x. Shown c.args.limits (g.F.Fs.view base.fs) s b.halted (g.F.Fs.faults base.fs) (g.F.Fs.faults c.told_act.new.base.fs) x c.args.command.now) same
     (λ v seen. ended_shown (first b.start.items) b.history.items b.pending (g.F.Fs.view base.fs) (g.F.Fs.view c.told_act.new.base.fs) c.args.lane (books_of b) c.args.limits s c.args.command.now (told c.args.objects.now t) c.told_act.new.work after b.halted _ _ _ k.0 v seen
     runs.facts (g.met.F.Fs.tree base.fs v seen) (c.requires.sound.stands v seen) c.told_act.result did.tells (e.cause v seen) k.2))
 
@@ -207,34 +207,42 @@ returns-in_default-clause-carried g c = c.told_act.ensures.carried
 pub returns-in-Blocked-clause-wrote : goal.returns-in-Blocked-clause-wrote
 returns-in-Blocked-clause-wrote g c = λ v told.
     let b = c.args.base.now.books in
-    step_written c.args.limits c.args.lane c.args.objects.now (state_after (first b.start.items) b.history.items c.args.running.start) c.args.command.now (books_of b) v c.args.running.work (g.F.Fs.view c.told_act.new.base.fs)
-    c.requires.after (c.requires.facts.runs.0.facts v told) (c.told_act.ensures.wrote v told)
+    nothing_written c.args.limits c.args.lane c.args.objects.now c.told_act.new.objects (state_after (first b.start.items) b.history.items c.args.running.start) c.args.command.now b c.told_act.new.base.books v (g.F.Fs.view c.told_act.new.base.fs)
+    c.told_act.ensures.no_fewer (ap (λ x. g.F.Fs.view x.fs) (c.told_act.ensures.blocked c.in-Blocked.is).0 ∙ told)
 
 pub returns-in-More-clause-wrote : goal.returns-in-More-clause-wrote
 returns-in-More-clause-wrote g c = λ v told.
-    let b = c.args.base.now.books in
-    step_written c.args.limits c.args.lane c.args.objects.now (state_after (first b.start.items) b.history.items c.args.running.start) c.args.command.now (books_of b) v c.args.running.work (g.F.Fs.view c.told_act.new.base.fs)
-    c.requires.after (c.requires.facts.runs.0.facts v told) (c.told_act.ensures.wrote v told)
+    let e = c.told_act.ensures in
+    let base = c.args.base.now in
+    let b = base.books in
+    let went : c.told_act.result ≡ came.Blocked → ⊥ = λ z. (let n : came.More ≡ came.Blocked = sym c.in-More.is ∙ z in cc) in
+    step_written g.F.Fs.view c.args.limits c.args.lane _ _ c.args.objects.now c.told_act.new.objects (state_after (first b.start.items) b.history.items c.args.running.start) c.args.command.now base c.told_act.new.base c.args.running.work c.told_act.new.work c.told_act.result
+    c.requires.live c.requires.after went (e.did went) e.counts e.no_fewer (halts_of g.F.Fs.view (Runs lane_kind lane_facts c.args.lane c.told_act.new.work) c.told_act.result c.told_act.new.base e.acts.tells)
+    v told (c.requires.facts.runs.0.facts v told) (g.met.F.Fs.tree base.fs v told) (c.requires.sound.stands v told) (e.wrote v told)
 
 pub returns-in_default-clause-wrote : goal.returns-in_default-clause-wrote
 returns-in_default-clause-wrote g c = λ v told.
-    let b = c.args.base.now.books in
-    step_written c.args.limits c.args.lane c.args.objects.now (state_after (first b.start.items) b.history.items c.args.running.start) c.args.command.now (books_of b) v c.args.running.work (g.F.Fs.view c.told_act.new.base.fs)
-    c.requires.after (c.requires.facts.runs.0.facts v told) (c.told_act.ensures.wrote v told)
+    let e = c.told_act.ensures in
+    let base = c.args.base.now in
+    let b = base.books in
+    let went : c.told_act.result ≡ came.Blocked → ⊥ = λ z. c.in_default.not-Blocked z in
+    step_written g.F.Fs.view c.args.limits c.args.lane _ _ c.args.objects.now c.told_act.new.objects (state_after (first b.start.items) b.history.items c.args.running.start) c.args.command.now base c.told_act.new.base c.args.running.work c.told_act.new.work c.told_act.result
+    c.requires.live c.requires.after went (e.did went) e.counts e.no_fewer (halts_of g.F.Fs.view (Runs lane_kind lane_facts c.args.lane c.told_act.new.work) c.told_act.result c.told_act.new.base e.acts.tells)
+    v told (c.requires.facts.runs.0.facts v told) (g.met.F.Fs.tree base.fs v told) (c.requires.sound.stands v told) (e.wrote v told)
 
 pub returns-in-Blocked-clause-pins : goal.returns-in-Blocked-clause-pins
 returns-in-Blocked-clause-pins g c = λ live. ap (λ b. b.books.pins.items) (c.told_act.ensures.blocked c.in-Blocked.is).0
 
 pub returns-in-More-clause-pins : goal.returns-in-More-clause-pins
 returns-in-More-clause-pins g c =
-    pins_more c.args.limits c.args.lane c.args.command.now c.args.base.now.books c.told_act.new.base.books c.args.running.start c.args.running.work c.told_act.result c.told_act.ensures.pins c.in-More.is c.requires.after _ c.told_act.new.work c.replace-in-More.ensures.after
+    pins_more (IsTold g.F.Fs.view) c.args.limits c.args.lane c.args.command.now c.args.base.now.books c.told_act.new.base.books c.args.running.start c.args.running.work c.told_act.result c.told_act.ensures.pins c.in-More.is (chained_of g.F.Fs.view g.met.F.Fs.told c.args.base.now.fs c.args.lane c.args.running.work (books_of c.args.base.now.books) c.requires.facts.runs.0.facts) c.requires.after _ c.told_act.new.work c.replace-in-More.ensures.after
     (Some c.args.running)
 
 pub returns-in_default-clause-pins : goal.returns-in_default-clause-pins
 returns-in_default-clause-pins g c =
     let e = c.told_act.ensures in
     let k = c.ends.ensures in
-    pins_over c.args.limits c.args.lane c.args.command.now c.args.base.now.books c.told_act.new.base.books c.args.running.start c.args.running.work c.told_act.result e.pins
+    pins_over (IsTold g.F.Fs.view) c.args.limits c.args.lane c.args.command.now c.args.base.now.books c.told_act.new.base.books c.args.running.start c.args.running.work c.told_act.result e.pins
     (halts_of g.F.Fs.view (Runs lane_kind lane_facts c.args.lane c.told_act.new.work) c.told_act.result c.told_act.new.base e.acts.tells) (λ is. c.in_default.not-Blocked is) (λ is. c.in_default.not-More is) (Some c.args.running) _ c.ends.result k.0 c.args.running.start k.1
 
 pub returns-in-Blocked-clause-stores : goal.returns-in-Blocked-clause-stores

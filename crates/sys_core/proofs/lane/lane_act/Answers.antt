@@ -4,7 +4,6 @@ use Rattle.sys_core.specs.declared.run.Running.{Running}
 use Rattle.sys_core.specs.Answers.{IsTold, state_after}
 use Rattle.sys_core.specs.Pursues.{Goes, task_start}
 use Rattle.fs_trait.specs.Image.{Told}
-use Rattle.rely.specs.Books.{books_of}
 use Rattle.sys_core.specs.Storing.{HasWritten}
 use Rattle.sys_core.specs.Pins.{Pins}
 use Rattle.sys_core.proofs.lane.lane_act.Goals as goal
@@ -18,16 +17,16 @@ returns-in-Some-clause-goes g c =
 pub returns-in-Some-clause-wrote : goal.returns-in-Some-clause-wrote
 returns-in-Some-clause-wrote g c = λ v told.
     let b = c.args.base.now.books in
-    subst (λ (t : Option Running). Told (g.F.Fs.view c.goes_on.new.base.fs) (HasWritten c.args.limits c.args.lane c.args.objects.now (state_after (first b.start.items) b.history.items (task_start b.history.items t)) c.args.command.now (books_of b) v))
+    subst (λ (t : Option Running). Told (g.F.Fs.view c.goes_on.new.base.fs) (HasWritten c.args.limits c.args.lane c.args.objects.now c.goes_on.new.objects (state_after (first b.start.items) b.history.items (task_start b.history.items t)) c.args.command.now b c.goes_on.new.base.books v))
     (sym (sym c.take.ensures.value ∙ c.in-Some.is)) (c.goes_on.ensures.wrote v told)
 
 pub returns-in-None-clause-wrote : goal.returns-in-None-clause-wrote
 returns-in-None-clause-wrote g c = λ v told.
     let b = c.args.base.now.books in
-    subst (λ (t : Option Running). Told (g.F.Fs.view c.begins.new.base.fs) (HasWritten c.args.limits c.args.lane c.args.objects.now (state_after (first b.start.items) b.history.items (task_start b.history.items t)) c.args.command.now (books_of b) v))
+    subst (λ (t : Option Running). Told (g.F.Fs.view c.begins.new.base.fs) (HasWritten c.args.limits c.args.lane c.args.objects.now c.begins.new.objects (state_after (first b.start.items) b.history.items (task_start b.history.items t)) c.args.command.now b c.begins.new.base.books v))
     (sym (sym c.take.ensures.value ∙ c.in-None.is)) (c.begins.ensures.wrote v told)
 
 pub returns-in-Some-clause-pins : goal.returns-in-Some-clause-pins
 returns-in-Some-clause-pins g c =
-    subst (λ (t : Option Running). Pins c.args.lane c.args.command.now c.args.base.now.books c.goes_on.new.base.books t c.goes_on.new.run.task c.goes_on.result)
+    subst (λ (t : Option Running). Pins (IsTold g.F.Fs.view) c.args.lane c.args.command.now c.args.base.now.books c.goes_on.new.base.books t c.goes_on.new.run.task c.goes_on.result)
     (sym (sym c.take.ensures.value ∙ c.in-Some.is)) c.goes_on.ensures.pins

@@ -62,7 +62,7 @@ returns-clause-home g c = λ w told.
     subst (Home c.args.lane) e (own_of c.args.lane c.args.lane c.args.work.now v.0 k.0 _ (c.requires.ready.task.facts v.0 v.1) k.2 (c.requires.home v.0 v.1))
 
 pub returns-clause-carried : goal.returns-clause-carried
-returns-clause-carried g c = step_carried g.F.Fs.view g.F.Fs.clock g.F.Fs.was c.args.lane c.args.number c.args.base.now c.task_act-outcome.new.base (lane_kind c.args.work.now) c.task_act-outcome.result c.task_act-outcome.ensures.outlasts c.task_act-outcome.ensures.time c.requires.ready.task.holds c.task_act-outcome.ensures.booked
+returns-clause-carried g c = step_carried g.F.Fs.view g.F.Fs.clock g.F.Fs.was g.F.Fs.faults c.args.lane c.args.number c.args.base.now c.task_act-outcome.new.base (lane_kind c.args.work.now) c.task_act-outcome.result c.task_act-outcome.ensures.outlasts c.task_act-outcome.ensures.time c.requires.ready.task.holds c.task_act-outcome.ensures.booked c.task_act-outcome.ensures.cause c.task_act-outcome.ensures.live
 
 pub returns-clause-wrote : goal.returns-clause-wrote
 returns-clause-wrote g c = c.task_act-outcome.ensures.wrote

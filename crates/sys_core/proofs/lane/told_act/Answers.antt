@@ -1,4 +1,4 @@
-use Rattle.std.proofs.Common.{◌≡◌, ◌∙◌, ap, sym, subst, refl}
+use Rattle.std.proofs.Common.{arith, ◌≡◌, ◌∙◌, ap, sym, subst, refl}
 use Rattle.rely.specs.declared.kind.Outcome.TheVariants as came
 use Rattle.rely.specs.Books.{books_of}
 use Rattle.lane_work.specs.Commands.{told}
@@ -110,6 +110,7 @@ returns-in_default g c =
       home = e.home;
       pins = pins_told c.args.lane c.args.objects.now c.args.work.now c.tell-former.new.self c.running_act.result c.running_act.result c.args.base.now.books.pins.items c.running_act.new.base.books.pins.items c.tell-former.ensures.told refl e.pins;
       over = e.over;
+      no_fewer = omega arith;
       counts = counts_rest c.args.objects.now c.running_act.new.work c.running_act.result (λ n. c.in_default.not-More n);
       made = λ n. absurd (c.in_default.not-More n);
     }

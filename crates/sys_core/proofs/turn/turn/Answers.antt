@@ -1,4 +1,4 @@
-use Rattle.std.proofs.Common.{◌≡◌, ◌∙◌, sym, subst, get_or, set, get_or-set_same}
+use Rattle.std.proofs.Common.{◌≡◌, ◌∙◌, arith, sym, subst, get_or, set, get_or-set_same}
 use Rattle.std.proofs.lemmas.List.{get_or_default}
 use Rattle.rely.specs.State.{first}
 use Rattle.sys_core.specs.declared.run.Run.{Run}
@@ -10,7 +10,6 @@ use Rattle.sys_core.proofs.Keeping.{kept_act}
 use Rattle.rely.proofs.Sounds.{IsFs}
 use Rattle.sys_core.proofs.Carrying.{same_carried}
 use Rattle.fs_trait.specs.Image.{Told}
-use Rattle.rely.specs.Books.{books_of}
 use Rattle.sys_core.specs.Storing.{HasWritten}
 use Rattle.sys_core.proofs.Written.{nothing_written}
 use Rattle.sys_core.proofs.turn.turn.Goals as goal
@@ -30,28 +29,28 @@ returns-clause-goes g c = λ r.
 pub returns-then-base-clause-carried : goal.returns-then-base-clause-carried
 returns-then-base-clause-carried g c =
     let laws : IsFs g.F.Fs.view g.F.Fs.clock g.F.Fs.was = record { only_now = g.met.F.Fs.only_now; bound = g.met.F.Fs.bound; told = g.met.F.Fs.told } in
-    same_carried g.F.Fs.view g.F.Fs.clock g.F.Fs.was laws c.args.base.now
+    same_carried g.F.Fs.view g.F.Fs.clock g.F.Fs.was g.F.Fs.faults laws c.args.base.now
 
 pub returns-clause-wrote : goal.returns-clause-wrote
 returns-clause-wrote g c = λ r v told.
     let b = c.args.base.now.books in
     let runs = c.args.runs.now.items in
     let was : c.index_mut-run.result.now ≡ get_or runs c.args.lane r = c.index_mut-run.ensures.value ∙ get_or_default runs c.args.lane _ r c.requires.lane in
-    subst (λ (x : Run). Told (g.F.Fs.view c.lane_act.new.base.fs) (HasWritten c.args.limits c.args.lane c.args.objects.now (state_after (first b.start.items) b.history.items (task_start b.history.items x.task)) c.args.command.now (books_of b) v)) was
+    subst (λ (x : Run). Told (g.F.Fs.view c.lane_act.new.base.fs) (HasWritten c.args.limits c.args.lane c.args.objects.now c.lane_act.new.objects (state_after (first b.start.items) b.history.items (task_start b.history.items x.task)) c.args.command.now b c.lane_act.new.base.books v)) was
     (c.lane_act.ensures.wrote v told)
 
 pub returns-then-base-clause-wrote : goal.returns-then-base-clause-wrote
 returns-then-base-clause-wrote g c = λ r v told.
     let b = c.args.base.now.books in
-    nothing_written c.args.limits c.args.lane c.args.objects.now (state_after (first b.start.items) b.history.items (task_start b.history.items (get_or c.args.runs.now.items c.args.lane r).task)) c.args.command.now (books_of b) v (g.F.Fs.view c.args.base.now.fs) told
+    nothing_written c.args.limits c.args.lane c.args.objects.now c.args.objects.now (state_after (first b.start.items) b.history.items (task_start b.history.items (get_or c.args.runs.now.items c.args.lane r).task)) c.args.command.now b b v (g.F.Fs.view c.args.base.now.fs) (omega arith) told
 
 pub returns-clause-pins : goal.returns-clause-pins
 returns-clause-pins g c = λ r live.
     let b = c.args.base.now.books in
     let runs = c.args.runs.now.items in
     let was : c.index_mut-run.result.now ≡ get_or runs c.args.lane r = c.index_mut-run.ensures.value ∙ get_or_default runs c.args.lane _ r c.requires.lane in
-    subst (λ (x : Run). Pins c.args.lane c.args.command.now b c.lane_act.new.base.books x.task (get_or (set runs c.args.lane c.lane_act.new.run) c.args.lane r).task c.lane_act.result) was
-    (subst (λ (x : Run). Pins c.args.lane c.args.command.now b c.lane_act.new.base.books c.index_mut-run.result.now.task x.task c.lane_act.result)
+    subst (λ (x : Run). Pins (IsTold g.F.Fs.view) c.args.lane c.args.command.now b c.lane_act.new.base.books x.task (get_or (set runs c.args.lane c.lane_act.new.run) c.args.lane r).task c.lane_act.result) was
+    (subst (λ (x : Run). Pins (IsTold g.F.Fs.view) c.args.lane c.args.command.now b c.lane_act.new.base.books c.index_mut-run.result.now.task x.task c.lane_act.result)
     (sym (get_or-set_same runs c.args.lane c.lane_act.new.run r c.requires.lane)) c.lane_act.ensures.pins)
 
 pub returns-clause-stores : goal.returns-clause-stores

@@ -6,7 +6,7 @@ use Rattle.sys_core.specs.declared.ask.Ask.TheVariants.{More, Blocked, Done, End
 use Rattle.sys_core.specs.declared.run.Run.{Run}
 use Rattle.rely.specs.State.{first}
 use Rattle.commit_build.specs.Whole.{IsCounted}
-use Rattle.sys_core.specs.Answers.{Shown, state_after}
+use Rattle.sys_core.specs.Answers.{IsTold, Shown, state_after}
 use Rattle.sys_core.specs.Counts.{Counted, HadRoom, met_of}
 use Rattle.sys_core.specs.Replied.{IsCommand}
 use Rattle.sys_core.specs.Lanes.{Kept}
@@ -26,9 +26,10 @@ use Rattle.sys_core.proofs.Pinning.{pinned_held, pinned_more, pinned_over}
 use Rattle.sys_core.proofs.Lasting.{act_keeps_of, each_row, held_keeps}
 use Rattle.std.proofs.lemmas.List.{length-map}
 use Rattle.fs_trait.specs.Image.{Told}
-use Rattle.rely.specs.Books.{books_of}
 use Rattle.sys_core.specs.Pursues.{start_in}
 use Rattle.sys_core.specs.Storing.{HasWritten}
+use Rattle.sys_core.proofs.Inside.{inside_as, inside_done, inside_held, inside_more}
+use Rattle.sys_core.proofs.Causing.{caused_as, caused_done, caused_more, caused_same}
 use Rattle.sys_core.proofs.Stored.{act_stores_of, held_stores}
 use Rattle.sys_core.proofs.Storing.{bounded_by}
 use Rattle.sys_core.proofs.system.System.act.Goals as goal
@@ -88,7 +89,7 @@ invariant_of-self g c =
       accounted_held g.F.Fs.view g.F.Fs.faults i.limits i.base c.turn-came.new.base i.lanes.items i.runs.items c.turn-came.new.runs.items (replies_of i.replies.items) i.given c.args.actor r c.self.invariant.2 (e.blocked refl) (e.run r) (e.number r) (e.goes r).0,
       (λ live. ordered_held i.base.books c.turn-came.new.base.books i.lanes.items i.runs.items c.turn-came.new.runs.items (ap (λ b. b.books) (e.blocked refl)) (held_runs i.runs.items c.turn-came.new.runs.items c.args.actor r (e.run r) (e.number r) (e.goes r).0) (c.self.invariant.3 (e.waits refl))),
       c.self.invariant.4,
-      (λ live. pinned_held i.base.books c.turn-came.new.base.books i.lanes.items i.runs.items c.turn-came.new.runs.items (ap (λ b. b.books) (e.blocked refl)) (held_runs i.runs.items c.turn-came.new.runs.items c.args.actor r (e.run r) (e.number r) (e.goes r).0) (c.self.invariant.5 (e.waits refl))),
+      (λ live. pinned_held (IsTold g.F.Fs.view) i.base.books c.turn-came.new.base.books i.lanes.items i.runs.items c.turn-came.new.runs.items (ap (λ b. b.books) (e.blocked refl)) (held_runs i.runs.items c.turn-came.new.runs.items c.args.actor r (e.run r) (e.number r) (e.goes r).0) (c.self.invariant.5 (e.waits refl))),
     )
 
 pub invariant_of-self-in-More : goal.invariant_of-self-in-More
@@ -120,8 +121,8 @@ invariant_of-self-in-More g c =
       c.self.invariant.4,
       (λ live. let go = e.goes r in
           let k = subst (λ n. IsCommand i.lanes.items c.args.actor n c.in-Some.command.now) (sym (e.number r)) command in
-          subst (λ (l : List Run). AreInWork new.books i.lanes.items l) (sym (e.run r))
-          (pinned_more i.base.books new.books i.lanes.items i.runs.items (c.self.invariant.5 (e.live refl)) e.start e.grows.0 e.grows.1 c.args.actor in_runs r run go.0 go.1 go.2
+          subst (λ (l : List Run). AreInWork (IsTold g.F.Fs.view) new.books i.lanes.items l) (sym (e.run r))
+          (pinned_more (IsTold g.F.Fs.view) i.base.books new.books i.lanes.items i.runs.items (c.self.invariant.5 (e.live refl)) e.start e.grows.0 e.grows.1 c.args.actor in_runs r run go.0 go.1 go.2
           (subst (λ n. n ≤ length i.base.books.history.items) (sym go.2) (s_within g.F.Fs.view g.F.Fs.faults i.limits i.base new i.lanes.items i.runs.items (replies_of i.replies.items) i.given acc c.args.actor in_runs run r c.in-Some.command.now command next c.turn-came.ensures.start))
           (e.number r) c.in-Some.command.now k (e.pins r (e.live refl) live))),
     )
@@ -205,8 +206,8 @@ invariant_of-self-in-Answered g c =
           (λ looked d. absurd (subst RunsBehind (e.goes r).0 looked)))),
       c.self.invariant.4,
       (λ live. let was = was_live i.base.books new.books (λ over. ap (λ b. b.books) (e.stays over)) live in
-          subst (λ (l : List Run). AreInWork new.books i.lanes.items l) (sym all)
-          (pinned_over i.base.books new.books i.lanes.items i.runs.items (c.self.invariant.5 was) e.start e.grows.0 e.grows.1 c.args.actor in_runs r after run.task c.in-Answered.answer c.in-Answered.start (e.pins r was live))),
+          subst (λ (l : List Run). AreInWork (IsTold g.F.Fs.view) new.books i.lanes.items l) (sym all)
+          (pinned_over (IsTold g.F.Fs.view) i.base.books new.books i.lanes.items i.runs.items (c.self.invariant.5 was) e.start e.grows.0 e.grows.1 c.args.actor in_runs r after run.task c.in-Answered.answer c.in-Answered.start (e.pins r was live))),
     )
 
 pub returns-in-Blocked-clause-acted : goal.returns-in-Blocked-clause-acted
@@ -291,8 +292,8 @@ returns-in-Answered-clause-acted g c =
       (
         (λ d is.
             let there = subst (λ n. IsCommand i.lanes.items c.args.actor n d) (given_length i.base i.lanes.items i.runs.items i.replies.items i.limits i.objects c.args.actor booked within r) is in
-            subst (λ n. Shown (g.F.Fs.view i.base.fs) (state_after (first i.base.books.start.items) i.base.books.history.items n) i.base.books.halted (g.F.Fs.faults i.base.fs) (g.F.Fs.faults new.fs) c.in-Answered.answer d) begun
-            (subst (λ x. Shown (g.F.Fs.view i.base.fs) (state_after (first i.base.books.start.items) i.base.books.history.items c.in-Answered.start) i.base.books.halted (g.F.Fs.faults i.base.fs) (g.F.Fs.faults new.fs) c.in-Answered.answer x)
+            subst (λ n. Shown i.limits (g.F.Fs.view i.base.fs) (state_after (first i.base.books.start.items) i.base.books.history.items n) i.base.books.halted (g.F.Fs.faults i.base.fs) (g.F.Fs.faults new.fs) c.in-Answered.answer d) begun
+            (subst (λ x. Shown i.limits (g.F.Fs.view i.base.fs) (state_after (first i.base.books.start.items) i.base.books.history.items c.in-Answered.start) i.base.books.halted (g.F.Fs.faults i.base.fs) (g.F.Fs.faults new.fs) c.in-Answered.answer x)
             (one_command i.lanes.items c.args.actor (get_or i.runs.items c.args.actor r).command c.in-Some.command.now d command there) (e.shown c.in-Answered.answer c.in-Answered.start refl))),
         e.full c.in-Answered.answer c.in-Answered.start refl,
       ),
@@ -459,9 +460,9 @@ returns-in-More-clause-good g c =
     let view : c.args.self.now ≡ system_of i.base i.lanes.items i.runs.items i.replies.items i.limits i.objects = search rules in
     act_stores_of g.F.Fs.view g.F.Fs.clock g.F.Fs.was g.met.F.Fs.only_now c.args.self.now (system_of i.base i.lanes.items i.runs.items i.replies.items i.limits i.objects) (system_of new i.lanes.items c.turn-came.new.runs.items i.replies.items i.limits c.turn-came.new.objects) (g.F.Fs.faults c.args.self.now.base.fs) (g.F.Fs.faults new.fs) c.args.actor More
     view (returns-in-More-clause-acted g c) refl (length-map i.runs.items (λ (x : Run). start_in x.task) ∙ booked.each_runs) (each_row i.lanes.items i.runs.items i.replies.items booked) c.self.invariant.2.replied refl e.opened
-    e.carried (λ w told. (e.kept.sound.stands w told).folders)
+    e.carried (λ w told. (e.kept.sound.stands w told).folders) (λ live. e.live refl)
     c.in-Some.command.now (subst (λ n. IsCommand i.lanes.items c.args.actor n c.in-Some.command.now) (sym (given_length i.base i.lanes.items i.runs.items i.replies.items i.limits i.objects c.args.actor booked within r)) command) (λ z. cc) (λ z. cc)
-    (λ v told. subst (λ n. Told (g.F.Fs.view new.fs) (HasWritten i.limits c.args.actor i.objects (state_after (first i.base.books.start.items) i.base.books.history.items n) c.in-Some.command.now (books_of i.base.books) v)) (sym (start_view i.runs.items c.args.actor r i.base.books.history.items in_runs)) (e.wrote r v told))
+    (λ v told. subst (λ n. Told (g.F.Fs.view new.fs) (HasWritten i.limits c.args.actor i.objects c.turn-came.new.objects (state_after (first i.base.books.start.items) i.base.books.history.items n) c.in-Some.command.now i.base.books new.books v)) (sym (start_view i.runs.items c.args.actor r i.base.books.history.items in_runs)) (e.wrote r v told))
 
 pub returns-in-Answered-clause-good : goal.returns-in-Answered-clause-good
 returns-in-Answered-clause-good g c =
@@ -478,9 +479,9 @@ returns-in-Answered-clause-good g c =
     let view : c.args.self.now ≡ system_of i.base i.lanes.items i.runs.items i.replies.items i.limits i.objects = search rules in
     act_stores_of g.F.Fs.view g.F.Fs.clock g.F.Fs.was g.met.F.Fs.only_now c.args.self.now (system_of i.base i.lanes.items i.runs.items i.replies.items i.limits i.objects) (system_of new i.lanes.items c.book.new.runs.items c.book.new.replies.items i.limits c.turn-came.new.objects) (g.F.Fs.faults c.args.self.now.base.fs) (g.F.Fs.faults new.fs) c.args.actor (Done c.args.actor c.index.result.now.command)
     view (returns-in-Answered-clause-acted g c) refl (length-map i.runs.items (λ (x : Run). start_in x.task) ∙ booked.each_runs) (each_row i.lanes.items i.runs.items i.replies.items booked) c.self.invariant.2.replied refl e.opened
-    e.carried (λ w told. (e.kept.sound.stands w told).folders)
+    e.carried (λ w told. (e.kept.sound.stands w told).folders) (λ live. was_live i.base.books new.books (λ over. ap (λ b. b.books) (e.stays over)) live)
     c.in-Some.command.now (subst (λ n. IsCommand i.lanes.items c.args.actor n c.in-Some.command.now) (sym (given_length i.base i.lanes.items i.runs.items i.replies.items i.limits i.objects c.args.actor booked within r)) command) (λ z. cc) (λ z. cc)
-    (λ v told. subst (λ n. Told (g.F.Fs.view new.fs) (HasWritten i.limits c.args.actor i.objects (state_after (first i.base.books.start.items) i.base.books.history.items n) c.in-Some.command.now (books_of i.base.books) v)) (sym (start_view i.runs.items c.args.actor r i.base.books.history.items in_runs)) (e.wrote r v told))
+    (λ v told. subst (λ n. Told (g.F.Fs.view new.fs) (HasWritten i.limits c.args.actor i.objects c.turn-came.new.objects (state_after (first i.base.books.start.items) i.base.books.history.items n) c.in-Some.command.now i.base.books new.books v)) (sym (start_view i.runs.items c.args.actor r i.base.books.history.items in_runs)) (e.wrote r v told))
 
 -- what was stored had room
 pub returns-in_default-clause-stores : goal.returns-in_default-clause-stores
@@ -524,3 +525,92 @@ returns-in-Answered-clause-bounded g c = λ v seen within.
     let r = c.index.result.now in
     let view : c.args.self.now ≡ system_of i.base i.lanes.items i.runs.items i.replies.items i.limits i.objects = search rules in
     subst (λ n. n ≤ i.limits.objects) (sym (c.in-Answered.ensures.counts r)) (subst (λ s. s.objects ≤ s.limits.objects) view within)
+
+-- what the replies tell of failed calls has its cause
+pub returns-in_default-clause-caused : goal.returns-in_default-clause-caused
+returns-in_default-clause-caused g c = λ before v told was. was
+
+pub returns-in-Blocked-clause-caused : goal.returns-in-Blocked-clause-caused
+returns-in-Blocked-clause-caused g c = λ before v told was. caused_same g.F.Fs.faults _ _ before (returns-in-Blocked-clause-acted g c).1 was
+
+pub returns-in-More-clause-caused : goal.returns-in-More-clause-caused
+returns-in-More-clause-caused g c = λ before v told was.
+    let i = c.self.inside in
+    let r = c.index.result.now in
+    let new = c.turn-came.new.base in
+    let within : c.args.actor < length i.lanes.items = search rules in
+    let few : c.index.result.now.command < length c.deref.result.now = fewer _ _ c.in-Some.ensures.lookup.0 in
+    let at : get_or c.deref.result.now c.index.result.now.command c.in-Some.command.now ≡ c.in-Some.command.now = search rules in
+    let command = act_command i.lanes.items c.args.actor i.runs.items r c.index-2.result.now c.deref.result.now c.in-Some.command.now within c.index.ensures c.index-2.ensures c.deref.ensures.value few at in
+    let booked = c.self.invariant.1 in
+    let view : c.args.self.now ≡ system_of i.base i.lanes.items i.runs.items i.replies.items i.limits i.objects = search rules in
+    let old = system_of i.base i.lanes.items i.runs.items i.replies.items i.limits i.objects in
+    let now = system_of new i.lanes.items c.turn-came.new.runs.items i.replies.items i.limits c.turn-came.new.objects in
+    caused_as g.F.Fs.faults c.args.self.now old now before view
+    (λ before_was. caused_more g.F.Fs.view g.F.Fs.faults old now c.args.actor (each_row i.lanes.items i.runs.items i.replies.items booked) c.in-More.ensures.carried.fails
+    c.in-Some.command.now (subst (λ n. IsCommand i.lanes.items c.args.actor n c.in-Some.command.now) (sym (given_length i.base i.lanes.items i.runs.items i.replies.items i.limits i.objects c.args.actor booked within r)) command)
+    before v (subst (λ s. g.F.Fs.view s.base.fs ≡ Some v) view told) before_was refl) was
+
+pub returns-in-Answered-clause-caused : goal.returns-in-Answered-clause-caused
+returns-in-Answered-clause-caused g c = λ before v told was.
+    let i = c.self.inside in
+    let r = c.index.result.now in
+    let new = c.turn-came.new.base in
+    let within : c.args.actor < length i.lanes.items = search rules in
+    let few : c.index.result.now.command < length c.deref.result.now = fewer _ _ c.in-Some.ensures.lookup.0 in
+    let at : get_or c.deref.result.now c.index.result.now.command c.in-Some.command.now ≡ c.in-Some.command.now = search rules in
+    let command = act_command i.lanes.items c.args.actor i.runs.items r c.index-2.result.now c.deref.result.now c.in-Some.command.now within c.index.ensures c.index-2.ensures c.deref.ensures.value few at in
+    let booked = c.self.invariant.1 in
+    let view : c.args.self.now ≡ system_of i.base i.lanes.items i.runs.items i.replies.items i.limits i.objects = search rules in
+    let old = system_of i.base i.lanes.items i.runs.items i.replies.items i.limits i.objects in
+    let now = system_of new i.lanes.items c.book.new.runs.items c.book.new.replies.items i.limits c.turn-came.new.objects in
+    caused_as g.F.Fs.faults c.args.self.now old now before view
+    (λ before_was. caused_done g.F.Fs.view g.F.Fs.faults old now c.args.actor (each_row i.lanes.items i.runs.items i.replies.items booked) c.in-Answered.ensures.carried.fails
+    c.in-Some.command.now (subst (λ n. IsCommand i.lanes.items c.args.actor n c.in-Some.command.now) (sym (given_length i.base i.lanes.items i.runs.items i.replies.items i.limits i.objects c.args.actor booked within r)) command)
+    before v (subst (λ s. g.F.Fs.view s.base.fs ≡ Some v) view told) before_was c.args.actor c.index.result.now.command
+    (subst (λ s. Acted (AnswerTells g.F.Fs.view (g.F.Fs.faults s.base.fs) (g.F.Fs.faults new.fs) s c.args.actor) s now c.args.actor (Done c.args.actor c.index.result.now.command)) view (returns-in-Answered-clause-acted g c))) was
+
+-- that something else changed the disk is never told
+pub returns-in_default-clause-inside : goal.returns-in_default-clause-inside
+returns-in_default-clause-inside g c = λ v told stored was. was
+
+pub returns-in-Blocked-clause-inside : goal.returns-in-Blocked-clause-inside
+returns-in-Blocked-clause-inside g c = λ v told stored was. inside_held g.F.Fs.was _ _ (returns-in-Blocked-clause-acted g c).1 was
+
+pub returns-in-More-clause-inside : goal.returns-in-More-clause-inside
+returns-in-More-clause-inside g c = λ v told stored was.
+    let i = c.self.inside in
+    let r = c.index.result.now in
+    let new = c.turn-came.new.base in
+    let within : c.args.actor < length i.lanes.items = search rules in
+    let few : c.index.result.now.command < length c.deref.result.now = fewer _ _ c.in-Some.ensures.lookup.0 in
+    let at : get_or c.deref.result.now c.index.result.now.command c.in-Some.command.now ≡ c.in-Some.command.now = search rules in
+    let command = act_command i.lanes.items c.args.actor i.runs.items r c.index-2.result.now c.deref.result.now c.in-Some.command.now within c.index.ensures c.index-2.ensures c.deref.ensures.value few at in
+    let booked = c.self.invariant.1 in
+    let view : c.args.self.now ≡ system_of i.base i.lanes.items i.runs.items i.replies.items i.limits i.objects = search rules in
+    let old = system_of i.base i.lanes.items i.runs.items i.replies.items i.limits i.objects in
+    let now = system_of new i.lanes.items c.turn-came.new.runs.items i.replies.items i.limits c.turn-came.new.objects in
+    let e = c.in-More.ensures in
+    let acted = subst (λ s. Acted (AnswerTells g.F.Fs.view (g.F.Fs.faults s.base.fs) (g.F.Fs.faults new.fs) s c.args.actor) s now c.args.actor (More)) view (returns-in-More-clause-acted g c) in
+    inside_as g.F.Fs.was c.args.self.now old now v view
+    (λ stored_here was_so. inside_more g.F.Fs.view g.F.Fs.clock g.F.Fs.was g.met.F.Fs.counts_now g.met.F.Fs.tree (g.F.Fs.faults old.base.fs) (g.F.Fs.faults new.fs) old now c.args.actor refl (length-map i.runs.items (λ (x : Run). start_in x.task) ∙ booked.each_runs) (each_row i.lanes.items i.runs.items i.replies.items booked) c.self.invariant.2.replied
+    e.opened c.self.invariant.0.sound.ordered.ascends e.carried.time v (subst (λ s. g.F.Fs.view s.base.fs ≡ Some v) view told) stored_here was_so acted) stored was
+
+pub returns-in-Answered-clause-inside : goal.returns-in-Answered-clause-inside
+returns-in-Answered-clause-inside g c = λ v told stored was.
+    let i = c.self.inside in
+    let r = c.index.result.now in
+    let new = c.turn-came.new.base in
+    let within : c.args.actor < length i.lanes.items = search rules in
+    let few : c.index.result.now.command < length c.deref.result.now = fewer _ _ c.in-Some.ensures.lookup.0 in
+    let at : get_or c.deref.result.now c.index.result.now.command c.in-Some.command.now ≡ c.in-Some.command.now = search rules in
+    let command = act_command i.lanes.items c.args.actor i.runs.items r c.index-2.result.now c.deref.result.now c.in-Some.command.now within c.index.ensures c.index-2.ensures c.deref.ensures.value few at in
+    let booked = c.self.invariant.1 in
+    let view : c.args.self.now ≡ system_of i.base i.lanes.items i.runs.items i.replies.items i.limits i.objects = search rules in
+    let old = system_of i.base i.lanes.items i.runs.items i.replies.items i.limits i.objects in
+    let now = system_of new i.lanes.items c.book.new.runs.items c.book.new.replies.items i.limits c.turn-came.new.objects in
+    let e = c.in-Answered.ensures in
+    let acted = subst (λ s. Acted (AnswerTells g.F.Fs.view (g.F.Fs.faults s.base.fs) (g.F.Fs.faults new.fs) s c.args.actor) s now c.args.actor (Done c.args.actor c.index.result.now.command)) view (returns-in-Answered-clause-acted g c) in
+    inside_as g.F.Fs.was c.args.self.now old now v view
+    (λ stored_here was_so. inside_done g.F.Fs.view g.F.Fs.clock g.F.Fs.was g.met.F.Fs.counts_now g.met.F.Fs.tree (g.F.Fs.faults old.base.fs) (g.F.Fs.faults new.fs) old now c.args.actor refl (length-map i.runs.items (λ (x : Run). start_in x.task) ∙ booked.each_runs) (each_row i.lanes.items i.runs.items i.replies.items booked) c.self.invariant.2.replied
+    e.opened c.self.invariant.0.sound.ordered.ascends e.carried.time v (subst (λ s. g.F.Fs.view s.base.fs ≡ Some v) view told) stored_here was_so c.args.actor c.index.result.now.command c.in-Some.command.now (subst (λ n. IsCommand i.lanes.items c.args.actor n c.in-Some.command.now) (sym (given_length i.base i.lanes.items i.runs.items i.replies.items i.limits i.objects c.args.actor booked within r)) command) acted) stored was

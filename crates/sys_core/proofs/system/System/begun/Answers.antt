@@ -1,8 +1,10 @@
-use Rattle.std.proofs.Common.{◌≡◌, ◌∙◌, ℕ, List, ap, sym, subst, Some}
+use Rattle.std.proofs.Common.{rules, ◌≡◌, ◌∙◌, ℕ, List, length, ap, sym, subst, arith, Some}
+use Rattle.std.specs.Prelude.{min}
 use Rattle.ost_types.specs.declared.limits.Limits.{Limits}
 use Rattle.rely.specs.declared.books.Entry.{Entry}
 use Rattle.rely.specs.State.{State, after, events_of, first}
 use Rattle.ref_book.specs.Tracks.{Tracks}
+use Rattle.sys_core.specs.Answers.{IsTold}
 use Rattle.sys_core.specs.Fit.{AreFit}
 use Rattle.sys_core.specs.Lanes.{now_of}
 use Rattle.sys_core.proofs.Accounting.{new_accounted}
@@ -13,6 +15,7 @@ use Rattle.sys_core.proofs.Lasting.{none_kept}
 use Rattle.sys_core.specs.Booked.{replies_of}
 use Rattle.sys_core.specs.Pursues.{started_of}
 use Rattle.sys_core.specs.Storing.{AreStoredIn}
+use Rattle.sys_core.proofs.Causing.{caused_first}
 use Rattle.sys_core.proofs.StoredFirst.{stored_first}
 use Rattle.sys_core.proofs.system.System.begun.Goals as goal
 
@@ -39,7 +42,7 @@ invariant_of-result g c =
       new_accounted g.F.Fs.view c.into_parts-fs.result.limits base c.args.lanes.items c.args.prepared.runs.items c.args.prepared.replies.items (g.F.Fs.faults base.fs) e.history e.pending c.requires.booked c.requires.idle,
       (λ live. ordered_new base.books c.args.lanes.items c.args.prepared.runs.items e.free.0 e.free.1 c.requires.idle),
       subst (λ (l : Limits). AreFit l c.args.lanes.items) (sym opened.limits) c.requires.fit,
-      (λ live. pinned_none base.books c.args.lanes.items c.args.prepared.runs.items e.pins),
+      (λ live. pinned_none (IsTold g.F.Fs.view) base.books c.args.lanes.items c.args.prepared.runs.items e.pins),
     )
 
 pub returns-clause-begins : goal.returns-clause-begins
@@ -55,6 +58,19 @@ returns-clause-good g c = λ v told.
     let begin = first base.books.start.items in
     let started = started_of c.args.prepared.runs.items in
     let replies = replies_of c.args.prepared.replies.items in
-    subst (λ f. AreStoredIn (g.F.Fs.was f) parts.limits begin base.books.opened c.args.lanes.items base.books.history.items started replies v) (sym e.fs)
-    (subst (λ (m : ℕ). AreStoredIn (g.F.Fs.was parts.fs) parts.limits begin m c.args.lanes.items base.books.history.items started replies v) (sym e.opened)
-    (stored_first g.F.Fs.view g.F.Fs.was parts.fs parts.clock parts.limits parts.refs.items parts.objects.items begin c.args.lanes.items base.books.history.items started replies v there (g.met.F.Fs.tree parts.fs v there) (opened.opened.opening v there) opened.good (opened.listed v there)))
+    let size : c.len.result ≡ length parts.objects.items = search rules in
+    subst (λ f. AreStoredIn (g.F.Fs.was f) parts.limits begin base.books.opened c.args.lanes.items base.books.history.items started replies base.books.halted c.count_of.result v) (sym e.fs)
+    (subst (λ (m : ℕ). AreStoredIn (g.F.Fs.was parts.fs) parts.limits begin m c.args.lanes.items base.books.history.items started replies base.books.halted c.count_of.result v) (sym e.opened)
+    (stored_first g.F.Fs.view g.F.Fs.was parts.fs parts.clock parts.limits parts.refs.items parts.objects.items begin c.args.lanes.items base.books.history.items started replies base.books.halted c.count_of.result v there (g.met.F.Fs.tree parts.fs v there) (opened.opened.opening v there) opened.good (opened.listed v there) (c.count_of.ensures ∙ ap (λ (n : ℕ). min n 4294967295) size) (search rules)))
+
+pub returns-clause-caused : goal.returns-clause-caused
+returns-clause-caused g c =
+    let now : g.F.Fs.faults c.new.result.fs ≡ g.F.Fs.faults c.args.opened.fs = ap g.F.Fs.faults (c.new.ensures.fs ∙ c.into_parts-fs.ensures.fs) in
+    let acc = (invariant_of-result g c).2 in
+    caused_first (g.F.Fs.faults c.args.opened.fs) (g.F.Fs.faults c.new.result.fs) c.new.result.books.halted (replies_of c.args.prepared.replies.items) now c.new.ensures.live
+    (λ lane number r to. omega (arith, acc.replied.numbered.below lane number r to, acc.count))
+
+pub returns-clause-inside : goal.returns-clause-inside
+returns-clause-inside g c =
+    let acc = (invariant_of-result g c).2 in
+    λ alone lane number r to is. omega (arith, acc.replied.numbered.below lane number r to, acc.count)

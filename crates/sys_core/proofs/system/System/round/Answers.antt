@@ -12,6 +12,8 @@ lanes-preserved g c =
       later = later_trans c.args.self.now c.lanes.self c.act.new.self i.later (acted_later _ c.lanes.self c.act.new.self c.lanes.lane c.act.result c.act.ensures.acted);
       lasts = λ start v told kept. (let x = i.lasts start v told kept in c.act.ensures.lasts start x.0 x.1 x.2);
       good = λ v told stored. (let x = i.good v told stored in c.act.ensures.good x.0 x.1 x.2);
+      caused = λ before v told was. (let x = g.met.F.Fs.told c.args.self.now.base.fs c.lanes.self.base.fs v told in c.act.ensures.caused before x.0 x.1 (i.caused before v told was));
+      inside = λ v told stored was. (let y = i.good v told stored in c.act.ensures.inside y.0 y.1 y.2 (i.inside v told stored was));
       progress = elim c.match-act.branch [
         | in-Ended w ↦ subst (λ (b : Bool). Progress c.args.self.now c.act.new.self (c.lanes.lane + 1) b) (sym w.unfinished-is)
             (progress_ended _ c.args.self.now c.lanes.self c.act.new.self c.lanes.lane c.lanes.unfinished c.act.result w.in-Ended.is c.act.ensures.acted i.progress)

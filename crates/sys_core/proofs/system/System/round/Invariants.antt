@@ -1,8 +1,10 @@
-use Rattle.std.proofs.Common.{◌≡◌, Some}
+use Rattle.std.proofs.Common.{◌≡◌, ℕ, Some}
 use Rattle.sys_core.specs.Booked.{IsLater}
 use Rattle.sys_core.proofs.Ranking.{Progress}
 use Rattle.fs_trait.specs.View.{View}
 use Rattle.fs_trait.specs.Image.{Told}
+use Rattle.sys_core.specs.Causes.{AreCaused}
+use Rattle.sys_core.specs.Inside.{AreInside}
 use Rattle.sys_core.specs.Storing.{AreStored}
 use Rattle.sys_core.specs.Lasting.{AreKept}
 use Rattle.sys_core.proofs.system.System.round.Given as goal
@@ -14,5 +16,7 @@ invariant-lanes g l = record {
   later : IsLater l.fn.self l.self;
   lasts : (start v : View) → g.F.Fs.view l.fn.self.base.fs ≡ Some v → AreKept g.F.Fs.was start l.fn.self v → Told (g.F.Fs.view l.self.base.fs) (λ w. AreKept g.F.Fs.was start l.self w);
   good : (v : View) → g.F.Fs.view l.fn.self.base.fs ≡ Some v → AreStored g.F.Fs.was l.fn.self v → Told (g.F.Fs.view l.self.base.fs) (λ w. AreStored g.F.Fs.was l.self w);
+  caused : (before : ℕ) (v : View) → g.F.Fs.view l.fn.self.base.fs ≡ Some v → AreCaused g.F.Fs.faults before l.fn.self → AreCaused g.F.Fs.faults before l.self;
+  inside : (v : View) → g.F.Fs.view l.fn.self.base.fs ≡ Some v → AreStored g.F.Fs.was l.fn.self v → AreInside g.F.Fs.was l.fn.self → AreInside g.F.Fs.was l.self;
   progress : Progress l.fn.self l.self l.lane l.unfinished;
 }
