@@ -1,5 +1,5 @@
 -- What each crash leaves of the store, once each command has its reply.
-use Rattle.std.proofs.Common.{◌≡◌, ◌⊎◌, inl, inr, ⊎_elim, ◌<◌, ◌≤◌, ℕ, refl, sym, ◌∙◌, ap, subst, arith, List, [], length, map, get_or, Option}
+use Rattle.std.proofs.Common.{◌≡◌, ◌⊎◌, inl, inr, ⊎_elim, ◌<◌, ◌≤◌, ℕ, Bool, refl, sym, ◌∙◌, ap, subst, arith, List, [], length, map, get_or, Option}
 use Rattle.std.proofs.lemmas.List.{get_or-map, length-map}
 use Rattle.ost_types.specs.declared.limits.Limits.{Limits}
 use Rattle.ost_forms.specs.declared.tree_item.TreeItem.{TreeItem}
@@ -12,6 +12,7 @@ use Rattle.script.specs.declared.answer.Reply.{Reply}
 use Rattle.script.specs.declared.command.Command.{Command}
 use Rattle.script.specs.declared.command.Lane.{Lane}
 use Rattle.store_lasts.specs.Keeping.{IsGoodDisk}
+use Rattle.sys_core.specs.Inside.{AreInsideIn}
 use Rattle.sys_core.specs.Replied.{IsAt, IsCommand, row}
 use Rattle.sys_core.specs.Storing.{AreStoredIn, HasBegun, IsBegunIn, IsConfigured}
 use Rattle.sys_open.proofs.Goods.{good_of}
@@ -52,27 +53,38 @@ began_ended begin entries lanes started replies tree message ended is = record {
 }
 
 -- of a system within these bounds
-left_here : (was : ℕ → View → Type 0) (limits : Limits) (begin : State) (opened : ℕ) (lanes : List Lane) (entries : List Entry) (started : List (Option ℕ)) (replies : List (List Reply)) (w : View) → IsEnded lanes replies
-    → AreStoredIn was limits begin opened lanes entries started replies w → (t : ℕ) (d : Disk) → opened ≤ t → Left was t d → LeftGood limits (IsBegunIn begin entries lanes [] replies) d
-left_here was limits begin opened lanes entries started replies w ended stored t d from left =
+left_here : (was : ℕ → View → Type 0) (limits : Limits) (begin : State) (opened : ℕ) (lanes : List Lane) (entries : List Entry) (started : List (Option ℕ)) (replies : List (List Reply)) (halted : Bool) (objects : ℕ) (w : View) → IsEnded lanes replies
+    → AreStoredIn was limits begin opened lanes entries started replies halted objects w → (t : ℕ) (d : Disk) → opened ≤ t → Left was t d → LeftGood limits (IsBegunIn begin entries lanes [] replies) d
+left_here was limits begin opened lanes entries started replies halted objects w ended stored t d from left =
     let is = stored.keeps.since t d from left in
     let store : IsGoodDisk limits (IsBegunIn begin entries lanes [] replies) IsConfigured d = record {
       sound = is.sound;
+      few = is.few;
       founded = is.founded;
       same = is.same;
       whole = λ alone. is.whole (λ tree message began. alone tree message (began_ended begin entries lanes started replies tree message ended began));
     } in
     record {
       store = store;
-      opens = λ sane few alone. good_of limits d sane is.same (record { sound = is.sound; few = few; whole = store.whole alone; founded = is.founded });
+      opens = λ sane alone. good_of limits d sane is.same (record { sound = is.sound; few = is.few; whole = store.whole alone; founded = is.founded });
     }
 
-pub left_good : (was : ℕ → View → Type 0) (limits limits' : Limits) (begin begin' : State) (opened opened' : ℕ) (lanes lanes' : List Lane) (entries : List Entry) (started : List (Option ℕ)) (replies : List (List Reply)) (w : View)
-    → limits ≡ limits' → begin ≡ begin' → opened ≡ opened' → lanes ≡ lanes' → map (λ row. length row) replies ≡ map (λ lane. length lane.commands.items) lanes' → AreStoredIn was limits begin opened lanes entries started replies w
+pub left_good : (was : ℕ → View → Type 0) (limits limits' : Limits) (begin begin' : State) (opened opened' : ℕ) (lanes lanes' : List Lane) (entries : List Entry) (started : List (Option ℕ)) (replies : List (List Reply)) (halted : Bool) (objects : ℕ) (w : View)
+    → limits ≡ limits' → begin ≡ begin' → opened ≡ opened' → lanes ≡ lanes' → map (λ row. length row) replies ≡ map (λ lane. length lane.commands.items) lanes' → AreStoredIn was limits begin opened lanes entries started replies halted objects w
     → (t : ℕ) (d : Disk) → opened' ≤ t → Left was t d → LeftGood limits' (IsBegunIn begin' entries lanes' [] replies) d
-left_good was limits limits' begin begin' opened opened' lanes lanes' entries started replies w limits-is begin-is opened-is lanes-is ended stored =
-    left_here was limits' begin' opened' lanes' entries started replies w ended
-    (subst (λ x. AreStoredIn was x begin' opened' lanes' entries started replies w) limits-is
-    (subst (λ x. AreStoredIn was limits x opened' lanes' entries started replies w) begin-is
-    (subst (λ x. AreStoredIn was limits begin x lanes' entries started replies w) opened-is
-    (subst (λ x. AreStoredIn was limits begin opened x entries started replies w) lanes-is stored))))
+left_good was limits limits' begin begin' opened opened' lanes lanes' entries started replies halted objects w limits-is begin-is opened-is lanes-is ended stored =
+    left_here was limits' begin' opened' lanes' entries started replies halted objects w ended
+    (subst (λ x. AreStoredIn was x begin' opened' lanes' entries started replies halted objects w) limits-is
+    (subst (λ x. AreStoredIn was limits x opened' lanes' entries started replies halted objects w) begin-is
+    (subst (λ x. AreStoredIn was limits begin x lanes' entries started replies halted objects w) opened-is
+    (subst (λ x. AreStoredIn was limits begin opened x entries started replies halted objects w) lanes-is stored))))
+
+-- that something else changed the disk is told by no reply
+pub inside_left : (was : ℕ → View → Type 0) (begin begin' : State) (opened opened' : ℕ) (lanes lanes' : List Lane) (entries : List Entry) (started : List (Option ℕ)) (replies : List (List Reply))
+    → begin ≡ begin' → opened ≡ opened' → lanes ≡ lanes' → map (λ row. length row) replies ≡ map (λ lane. length lane.commands.items) lanes' → AreInsideIn was opened (IsBegunIn begin entries lanes started replies) replies
+    → AreInsideIn was opened' (IsBegunIn begin' entries lanes' [] replies) replies
+inside_left was begin begin' opened opened' lanes lanes' entries started replies begin-is opened-is lanes-is ended inside =
+    let here = subst (λ x. AreInsideIn was x (IsBegunIn begin' entries lanes' started replies) replies) opened-is
+    (subst (λ x. AreInsideIn was opened (IsBegunIn x entries lanes' started replies) replies) begin-is
+    (subst (λ x. AreInsideIn was opened (IsBegunIn begin entries x started replies) replies) lanes-is inside)) in
+    λ alone. here (λ v had tree message began. alone v had tree message (began_ended begin' entries lanes' started replies tree message ended began))

@@ -8,3 +8,5 @@ pub mod Outcomes
 pub mod Asking
 pub mod Fits
 pub mod Lefts
+pub mod Statuses
+pub mod Completing

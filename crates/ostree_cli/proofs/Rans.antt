@@ -14,6 +14,7 @@ use Rattle.script.specs.declared.command.Command.{Command}
 use Rattle.script.specs.declared.command.Lane.{Lane}
 use Rattle.sys_core.specs.declared.system.Parts.{Parts}
 use Rattle.sys_core.specs.Answers.{IsTold}
+use Rattle.sys_core.specs.Inside.{AreInsideIn}
 use Rattle.sys_core.specs.Lasting.{AreKeptIn}
 use Rattle.sys_core.specs.Replied.{Replied}
 use Rattle.sys_core.specs.Storing.{IsBegunIn}
@@ -44,9 +45,10 @@ pub ran : {F : Type 0} (limits opened : Limits) (view : F → Option View) (cloc
     → IfOk r (λ p. map (λ row. length row) (map (λ replies. replies.items) p.replies.items) ≡ map (λ lane. length lane.commands.items) lanes)
     → IfOk r (λ p. Told (view p.fs) (AreKeptIn (was p.fs) begun opened lanes p.history.items))
     → ((w : View) (t : ℕ) (d : Disk) → IfOk r (λ p. view p.fs ≡ Some w → barrier ≤ t → Left (was p.fs) t d → LeftGood opened (IsBegunIn (first refs) p.history.items lanes [] (map (λ replies. replies.items) p.replies.items)) d))
+    → ((w : View) → IfOk r (λ p. view p.fs ≡ Some w → AreInsideIn (was p.fs) barrier (IsBegunIn (first refs) p.history.items lanes [] (map (λ replies. replies.items) p.replies.items)) (map (λ replies. replies.items) p.replies.items)))
     → IfOk r (λ p. Told (view p.fs) (Ran limits view clock was v before (map (λ lane. lane.commands.items) lanes) p.fs p.history.items (event_of p.pending) (map (λ replies. replies.items) p.replies.items)))
-ran limits opened view clock was v before barrier refs lanes (Err e) same good state at begun begins lines replied ended kept stored = tt
-ran limits opened view clock was v before barrier refs lanes (Ok p) same good state at begun begins lines replied ended kept stored = told_all (view p.fs) (AreKeptIn (was p.fs) begun opened lanes p.history.items) (Ran limits view clock was v before (map (λ lane. lane.commands.items) lanes) p.fs p.history.items (event_of p.pending) (map (λ replies. replies.items) p.replies.items)) kept (λ w is stays. record {
+ran limits opened view clock was v before barrier refs lanes (Err e) same good state at begun begins lines replied ended kept stored inside = tt
+ran limits opened view clock was v before barrier refs lanes (Ok p) same good state at begun begins lines replied ended kept stored inside = told_all (view p.fs) (AreKeptIn (was p.fs) begun opened lanes p.history.items) (Ran limits view clock was v before (map (λ lane. lane.commands.items) lanes) p.fs p.history.items (event_of p.pending) (map (λ replies. replies.items) p.replies.items)) kept (λ w is stays. record {
   good = good;
   start = first refs;
   state = state;
@@ -63,6 +65,7 @@ ran limits opened view clock was v before barrier refs lanes (Ok p) same good st
   opened = begins.opening;
   kept = subst (λ l. AreKeptIn (was p.fs) begun l lanes p.history.items w) same stays;
   stored = λ t d from left. subst (λ l. LeftGood l (IsBegunIn (first refs) p.history.items lanes [] (map (λ replies. replies.items) p.replies.items)) d) same (stored w t d is (subst (λ n. n ≤ t) (sym at) from) left);
+  inside = subst (λ n. AreInsideIn (was p.fs) n (IsBegunIn (first refs) p.history.items lanes [] (map (λ replies. replies.items) p.replies.items)) (map (λ replies. replies.items) p.replies.items)) at (inside w is);
 })
 
 -- what is said of the commits of a system is said of what it was taken apart into

@@ -6,3 +6,4 @@ pub mod Words
 pub mod Headline
 pub mod Top
 pub mod Whys
+pub mod Complete

@@ -19,6 +19,9 @@ abbrev pub answer_status : Answer → ℕ
 answer_status answer.Nothing = 0
 answer_status (answer.Refs rows) = 0
 answer_status (answer.Commit sum) = 0
+answer_status (answer.Log rows) = 0
+answer_status (answer.Ls rows) = 0
+answer_status (answer.Content bytes) = 0
 answer_status answer.NoMemory = 3
 answer_status (answer.Outside path) = 4
 answer_status answer.DiskFault = 0

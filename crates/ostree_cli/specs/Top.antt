@@ -14,13 +14,13 @@ use Rattle.script.specs.declared.answer.Reply.{Reply}
 use Rattle.script.specs.declared.command.Command.{Command}
 use Rattle.script.specs.declared.command.Lane.{Lane}
 use Rattle.sys_core.specs.Answers.{IsTold}
+use Rattle.sys_core.specs.Inside.{AreInsideIn}
 use Rattle.sys_core.specs.Lasting.{AreKeptIn}
 use Rattle.sys_core.specs.Replied.{Replied}
 use Rattle.sys_open.specs.declared.fault.OpenFault.TheVariants as opening
 use Rattle.layout_rules.specs.Checks.{IsSane}
 use Rattle.ost_forms.specs.declared.tree_item.TreeItem.{TreeItem}
 use Rattle.commit_build.specs.declared.message.Message.{Message}
-use Rattle.store_check.specs.Listing.{HasFew}
 use Rattle.store_lasts.specs.Keeping.{IsGoodDisk}
 use Rattle.store_lasts.specs.Standing.{AreAlone}
 use Rattle.sys_core.specs.Storing.{IsBegunIn, IsConfigured}
@@ -68,17 +68,18 @@ IsStopped d (Open opening.NoMemory) = ⊥
 IsStopped d (Open fault) = (limits : Limits) × AreStandard limits × IsToldOf limits d fault
 
 -- What a crash left of the store: the configuration is one; each object is what its name says, and each ref names a commit that is there
--- and has no mark. And where no other bytes there have the name of an object of a commit that was begun, each commit without a mark is whole;
--- so a sane disk with no more objects than may be is good then: it opens.
+-- and has no mark; and there are no more objects than may be. And where no other bytes there have the name of an object of a commit that
+-- was begun, each commit without a mark is whole; so a sane disk is good then: it opens.
 pub record LeftGood (limits : Limits) (begun : List TreeItem → Message → Type 0) (d : Disk) : Type 0 where
   pub store : IsGoodDisk limits begun IsConfigured d
-  pub opens : IsSane d → HasFew d limits.objects → AreAlone begun d → IsGood limits d
+  pub opens : IsSane d → AreAlone begun d → IsGood limits d
 
 -- What a run of lanes with these commands leaves: the repository was good, and from the refs that it had then all is as the
 -- headline says. Each reply is by its command and by the states that the changes make of these refs; and each change is one
 -- command's, which was answered so, or which was cut off where the change is pending. Each command of each lane has its reply. The
 -- opening changed nothing but what it laid out and cleared, and from there on each commit that a change made is kept, and what each crash
--- leaves of the store is good.
+-- leaves of the store is good. No reply tells that something else changed the disk, as far as reads never saw other bytes with the name of an
+-- object of a commit that was begun.
 pub record Ran {F : Type 0} (limits : Limits) (view : F → Option View) (clock : F → ℕ) (was : F → ℕ → View → Type 0) (v : View) (before : ℕ) (commands : List (List Command)) (fs : F) (history : List Entry) (pending : Option Event) (replies : List (List Reply)) (w : View) : Type 0 where
   pub good : IsGood limits v.now
   pub start : State
@@ -96,6 +97,7 @@ pub record Ran {F : Type 0} (limits : Limits) (view : F → Option View) (clock 
   pub opened : IsOpening start begun
   pub kept : AreKeptIn (was fs) begun limits lanes history w
   pub stored : (t : ℕ) (d : Disk) → before + 1 ≤ t → Left (was fs) t d → LeftGood limits (IsBegunIn start history lanes [] replies) d
+  pub inside : AreInsideIn (was fs) (before + 1) (IsBegunIn start history lanes [] replies) replies
 
 -- so, of lanes that these words ask for, where an input has this left
 abbrev pub RanBy : {F : Type 0} → Option (List ℕ) → List (List ℕ) → (F → Option View) → (F → ℕ) → (F → ℕ → View → Type 0) → View → ℕ → F → List Entry → Option Event → List (List Reply) → View → Type 0

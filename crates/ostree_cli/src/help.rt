@@ -15,6 +15,10 @@ Commands:
   run                   read a script from the input, and run its lanes
   refs                  list the refs with their commits
   rev-parse REV         print the commit that REV names
+  log REV               list the commit, its parent and so on, each with its
+                        time and subject
+  ls REV PATH           list what the commit's tree has at PATH and below
+  cat REV PATH          print what the file at PATH holds, as a field
   reset BRANCH COMMIT   make the ref name the commit
   drop BRANCH           remove the ref
   --help                print this text
@@ -22,8 +26,9 @@ Commands:
 
 BRANCH is the name of a ref: 1 to 12 parts of A-Z a-z 0-9 - _ . that don't
 begin with a dot, joined by /, at most 255 bytes in all, and not 64 digits.
-COMMIT is 64 digits of 0-9 a-f. REV is a BRANCH or a COMMIT. A byte of a field
-may be written as % and two digits of 0-9 a-f.
+COMMIT is 64 digits of 0-9 a-f. REV is a BRANCH or a COMMIT. PATH is / for the
+root, or each name behind a /, at most 64 names and 1,024 bytes. A byte of a
+field may be written as % and two digits of 0-9 a-f.
 
 A script is lines that each end with a newline: ostree-script 1, then trees and
 lanes. The commands of a lane run one after the other.

@@ -11,9 +11,11 @@ ghost use Rattle.ostree_cli.specs.declared.fault.TopFault.TheVariants as fault;
 ghost use Rattle.rely.specs.State.{first};
 ghost use Rattle.sys_core.specs.Answers.{IsTold};
 ghost use Rattle.sys_core.specs.Fit as within;
+ghost use Rattle.sys_core.specs.Inside.{AreInsideIn};
 ghost use Rattle.sys_core.specs.Lasting.{AreKeptIn};
 ghost use Rattle.sys_core.specs.Replied.{Replied};
 ghost use Rattle.sys_core.specs.Storing.{IsBegunIn};
+ghost use Rattle.ostree_cli.specs.Complete.{AreCausedBy};
 ghost use Rattle.ostree_cli.specs.Headline.{Headline};
 ghost use Rattle.ostree_cli.specs.Top.{IsStop, LeftGood, Ran, StaysOn, event_of};
 ghost use Rattle.ostree_cli.specs.Words.{IsEarly, commands_of};
@@ -41,6 +43,7 @@ pub fn run_lanes<F: Fs>(
     ensures told { (v : View) → F.view fs ≡ Some v → IfErr result (λ e. IsStop limits v.now e.1) }
     ensures still { (v : View) → F.view fs ≡ Some v → IfErr result (λ e. StaysOn e.1 (F.view e.0 ≡ Some (all_synced v))) }
     ensures undone { (v : View) → F.view fs ≡ Some v → IfErr result (λ e. Works (Changes v.now) v (F.clock fs) (F.clock e.0) (F.was fs) (F.was e.0) (F.view e.0)) }
+    ensures caused { (v : View) → F.view fs ≡ Some v → IfOk result (λ p. AreCausedBy (F.faults fs) (F.faults p.fs) (map (λ replies. replies.items) p.replies.items)) }
     ensures late { IfErr result (λ e. IsEarly e.1 → ⊥) }
     ensures disk { IfErr result (λ e. e.1 ≡ fault.Open opening.Disk → Rose (F.faults fs) (F.faults e.0)) }
 {
@@ -65,6 +68,8 @@ fn run_opened<F: Fs>(
     ensures ended { IfOk result (λ p. map (λ row. length row) (map (λ replies. replies.items) p.replies.items) ≡ map (λ lane. length lane.commands.items) lanes.items) }
     ensures kept { (begun : View) → F.view opened.fs ≡ Some begun → IfOk result (λ p. Told (F.view p.fs) (AreKeptIn (F.was p.fs) begun opened.limits lanes.items p.history.items)) }
     ensures stored { (w : View) (t : ℕ) (d : Disk) → IfOk result (λ p. F.view p.fs ≡ Some w → opened.clock ≤ t → Left (F.was p.fs) t d → LeftGood opened.limits (IsBegunIn (first opened.refs) p.history.items lanes.items [] (map (λ replies. replies.items) p.replies.items)) d) }
+    ensures caused { (v : View) → F.view opened.fs ≡ Some v → IfOk result (λ p. AreCausedBy (F.faults opened.fs) (F.faults p.fs) (map (λ replies. replies.items) p.replies.items)) }
+    ensures inside { (w : View) → IfOk result (λ p. F.view p.fs ≡ Some w → AreInsideIn (F.was p.fs) opened.clock (IsBegunIn (first opened.refs) p.history.items lanes.items [] (map (λ replies. replies.items) p.replies.items)) (map (λ replies. replies.items) p.replies.items)) }
     ensures back { IfErr result (λ e. (e.0 ≡ opened.fs) × (e.1 ≡ fault.NoMemory)) }
 {
     match System::new(alloc, opened, lanes) {

@@ -6,6 +6,8 @@ mod fault;
 mod help;
 mod input;
 mod lanes;
+#[cfg(test)]
+mod look_tests;
 mod output;
 #[cfg(test)]
 mod script_tests;

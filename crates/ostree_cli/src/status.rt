@@ -78,10 +78,17 @@ fn answer_status(answer: &Answer) -> u8
     ensures { result ≡ answer_status answer.now }
 {
     match answer {
-        Answer::Nothing | Answer::Refs(_) | Answer::Commit(_) => 0,
+        Answer::Nothing
+        | Answer::Refs(_)
+        | Answer::Commit(_)
+        | Answer::Log(_)
+        | Answer::Ls(_)
+        | Answer::Content(_) => 0,
         Answer::NoRef
         | Answer::NoCommit(_)
         | Answer::Partial(_)
+        | Answer::NoPath(_)
+        | Answer::NotFile(_)
         | Answer::RefMoved { .. }
         | Answer::RefClash(_)
         | Answer::BadTree(_)

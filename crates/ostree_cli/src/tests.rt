@@ -40,6 +40,9 @@ const TABLE: &[(&str, &str, u8)] = &[
     ("drop a/b/c", "0 0 ok\n", 0),
     ("rev-parse", "fault usage\n", 2),
     ("rev-parse .main", "fault usage\n", 2),
+    ("log", "fault usage\n", 2),
+    ("ls main", "fault usage\n", 2),
+    ("cat main a", "fault usage\n", 2),
     ("init now", "fault usage\n", 2),
     ("refs main", "fault usage\n", 2),
     ("commit main", "fault usage\n", 2),
@@ -53,6 +56,9 @@ const TABLE: &[(&str, &str, u8)] = &[
 const PARTIAL: &[(&str, &str, u8)] = &[
     ("reset main X", "0 0 refused Partial X\n", 1),
     ("rev-parse X", "0 0 refused Partial X\n", 1),
+    ("log X", "0 0 refused Partial X\n", 1),
+    ("ls X /", "0 0 refused Partial X\n", 1),
+    ("cat X /", "0 0 refused Partial X\n", 1),
     ("refs", "0 0 ok 0\n", 0),
 ];
 

@@ -7,6 +7,7 @@ ghost use Rattle.sys_open.specs.Changes.{Changes, Works};
 ghost use Rattle.sys_open.specs.declared.fault.OpenFault.TheVariants as opening;
 ghost use Rattle.script_reader.specs.Script.{Commands, IsScript};
 ghost use Rattle.script.specs.declared.fault.ScriptFault.{ScriptFault};
+ghost use Rattle.ostree_cli.specs.Complete.{AreCausedBy, IsAsked, IsComplete, IsGoodHere};
 ghost use Rattle.ostree_cli.specs.Input.{TookFront};
 ghost use Rattle.ostree_cli.specs.Words.{AreNoLine, IsEarly, IsRefused, run};
 ghost use Rattle.ostree_cli.specs.Status.{has_risen, status_of};
@@ -117,6 +118,7 @@ fn run<F: Fs, S: Source>(alloc: Global, words: &[String], fs: F, input: &mut S) 
     ensures still { (v : View) → F.view fs ≡ Some v → IfSome result.fault (λ f. StaysOn f (F.view result.fs ≡ Some (all_synced v))) }
     ensures undone { (v : View) → F.view fs ≡ Some v → IfSome result.fault (λ _. Works (Changes v.now) v (F.clock fs) (F.clock result.fs) (F.was fs) (F.was result.fs) (F.view result.fs)) }
     ensures ran { (v : View) → F.view fs ≡ Some v → result.fault ≡ None → Told (F.view result.fs) (RanBy (S.left input.old) (map (λ word. string_bytes word) words.now) F.view F.clock F.was v (F.clock fs) result.fs result.history.items result.pending (map (λ lane. lane.items) result.replies.items)) }
+    ensures caused { (v : View) → F.view fs ≡ Some v → AreCausedBy (F.faults fs) (F.faults result.fs) (map (λ lane. lane.items) result.replies.items) }
     ensures read { (all : List ℕ) → S.left input.old ≡ Some all → TookFront all (S.left input.new) }
     ensures unread { (map (λ word. string_bytes word) words.now) ≢ run → input.new ≡ input.old }
     ensures later { S.faults input.old ≤ S.faults input.new }
@@ -194,6 +196,11 @@ pub fn ostree<F: Fs, S: Source, K: Sink>(
 
     // What a crash may leave, and what is left at the end.
     ensures ran { (v : View) → F.view fs ≡ Some v → (result.fault ≡ None) ⊎ (result.replies.items ≢ []) → Told (F.view result.fs) (RanBy (S.left input.old) (map (λ word. string_bytes word) words.now) F.view F.clock F.was v (F.clock fs) result.fs result.history.items result.pending (map (λ lane. lane.items) result.replies.items)) }
+
+    // A reply tells of a call that failed only where the count of failed calls rose. Where that of no stream rose either, and the words, the
+    // script and the disk are good, every command has an answer of its own, or there was no memory for the call.
+    ensures caused { (v : View) → F.view fs ≡ Some v → AreCausedBy (F.faults fs) (F.faults result.fs) (map (λ lane. lane.items) result.replies.items) }
+    ensures complete { (v : View) → F.view fs ≡ Some v → IsAsked (S.left input.old) (map (λ word. string_bytes word) words.now) → IsGoodHere v.now → ¬ (Rose (S.faults input.old) (S.faults input.new)) → ¬ (Rose (F.faults fs) (F.faults result.fs)) → ¬ (Rose (K.faults out.old) (K.faults out.new)) → IsComplete result.fault (map (λ lane. lane.items) result.replies.items) result.status }
 
     // What is read. Only `run` reads, and no lane runs where a call of the source failed: this is told.
     ensures read { (all : List ℕ) → S.left input.old ≡ Some all → TookFront all (S.left input.new) }

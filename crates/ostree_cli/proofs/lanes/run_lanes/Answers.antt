@@ -1,5 +1,6 @@
 use Rattle.std.proofs.Common.{sym, subst}
 use Rattle.sys_core.specs.Fit.{AreFit}
+use Rattle.ostree_cli.proofs.Completing.{caused_since}
 use Rattle.ostree_cli.proofs.Fits.{few_lanes, fit_within, short_lanes}
 use Rattle.ostree_cli.proofs.Outcomes.{back_from}
 use Rattle.ostree_cli.proofs.Rans.{ran, same_refs}
@@ -17,7 +18,12 @@ returns-in-Ok-clause-ran g c = λ v told.
     let o = c.in-Ok.ensures in
     let begins = o.begins v told in
     ran c.args.limits c.in-Ok.opened.limits g.F.Fs.view g.F.Fs.clock g.F.Fs.was v (g.F.Fs.clock c.args.fs) c.in-Ok.opened.clock c.in-Ok.opened.refs c.args.lanes.items c.run_opened.result
-    o.begun.1 (o.good v told) (same_refs (g.F.Fs.view c.in-Ok.opened.fs) c.in-Ok.opened.refs v begins) o.opened.is begins.0 begins.2 c.run_opened.ensures.ran c.run_opened.ensures.replied c.run_opened.ensures.ended (c.run_opened.ensures.kept begins.0 begins.1) c.run_opened.ensures.stored
+    o.begun.1 (o.good v told) (same_refs (g.F.Fs.view c.in-Ok.opened.fs) c.in-Ok.opened.refs v begins) o.opened.is begins.0 begins.2 c.run_opened.ensures.ran c.run_opened.ensures.replied c.run_opened.ensures.ended (c.run_opened.ensures.kept begins.0 begins.1) c.run_opened.ensures.stored c.run_opened.ensures.inside
 
 pub returns-in-Ok-clause-undone : goal.returns-in-Ok-clause-undone
 returns-in-Ok-clause-undone g c = λ v told. back_from _ _ c.in-Ok.opened.fs c.run_opened.result c.run_opened.ensures.back (c.in-Ok.ensures.works v told)
+
+pub returns-in-Ok-clause-caused : goal.returns-in-Ok-clause-caused
+returns-in-Ok-clause-caused g c = λ v told.
+    let begins = c.in-Ok.ensures.begins v told in
+    caused_since (g.F.Fs.faults c.args.fs) (g.F.Fs.faults c.in-Ok.opened.fs) g.F.Fs.faults c.run_opened.result c.in-Ok.ensures.later (c.run_opened.ensures.caused begins.0 begins.1)

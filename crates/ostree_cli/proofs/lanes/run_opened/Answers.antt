@@ -7,7 +7,7 @@ use Rattle.ostree_cli.proofs.Plain.{parted}
 use Rattle.ostree_cli.proofs.Rans.{kept_parts, replied_parts}
 use Rattle.rely.specs.State.{first}
 use Rattle.sys_core.specs.Storing.{AreStored}
-use Rattle.ostree_cli.proofs.Lefts.{left_good}
+use Rattle.ostree_cli.proofs.Lefts.{inside_left, left_good}
 use Rattle.ostree_cli.proofs.lanes.run_opened.Goals as goal
 
 pub returns-in-Ok-clause-ran : goal.returns-in-Ok-clause-ran
@@ -52,6 +52,25 @@ returns-in-Ok-clause-stored g c = λ w t d told from left.
     let at_start = c.in-Ok.ensures.good first_view.0 first_view.1 in
     let after = c.drive.ensures.good first_view.0 first_view.1 at_start in
     let same : after.0 ≡ w = (let e : Some after.0 ≡ Some w = sym after.1 ∙ there in cc) in
-    left_good (g.F.Fs.was p.fs) s.limits c.args.opened.limits (first s.base.books.start.items) (first c.args.opened.refs) s.base.books.opened c.args.opened.clock p.lanes.items c.args.lanes.items p.history.items s.started (map (λ replies. replies.items) p.replies.items) w
+    left_good (g.F.Fs.was p.fs) s.limits c.args.opened.limits (first s.base.books.start.items) (first c.args.opened.refs) s.base.books.opened c.args.opened.clock p.lanes.items c.args.lanes.items p.history.items s.started (map (λ replies. replies.items) p.replies.items) s.base.books.halted s.objects w
     (c.drive.ensures.later.4 ∙ c.in-Ok.ensures.limits) (ap first (c.drive.ensures.later.0 ∙ c.in-Ok.ensures.start)) (c.drive.ensures.later.1 ∙ c.in-Ok.ensures.opened) (parts.lanes ∙ c.drive.ensures.lanes ∙ c.in-Ok.ensures.lanes)
     (returns-in-Ok-clause-ended g c) (parts.good w (subst (λ u. AreStored g.F.Fs.was s u) same after.2)) t d from left
+
+pub returns-in-Ok-clause-caused : goal.returns-in-Ok-clause-caused
+returns-in-Ok-clause-caused g c = λ v told lane number r to failed.
+    let start = c.in-Ok.ensures in
+    let parts = c.into_parts.ensures in
+    let there = subst (λ f. g.F.Fs.view f ≡ Some v) (sym start.fs) told in
+    let all = parts.caused (g.F.Fs.faults c.args.opened.fs) (c.drive.ensures.caused (g.F.Fs.faults c.args.opened.fs) v there start.caused) in
+    all.each lane number r to failed
+
+pub returns-in-Ok-clause-inside : goal.returns-in-Ok-clause-inside
+returns-in-Ok-clause-inside g c = λ w told.
+    let s = c.drive.new.self in
+    let p = c.into_parts.result in
+    let parts = c.into_parts.ensures in
+    let first_view = g.met.F.Fs.told p.fs c.in-Ok.system.base.fs w told in
+    let at_start = c.in-Ok.ensures.good first_view.0 first_view.1 in
+    inside_left (g.F.Fs.was p.fs) (first s.base.books.start.items) (first c.args.opened.refs) s.base.books.opened c.args.opened.clock p.lanes.items c.args.lanes.items p.history.items s.started (map (λ replies. replies.items) p.replies.items)
+    (ap first (c.drive.ensures.later.0 ∙ c.in-Ok.ensures.start)) (c.drive.ensures.later.1 ∙ c.in-Ok.ensures.opened) (parts.lanes ∙ c.drive.ensures.lanes ∙ c.in-Ok.ensures.lanes)
+    (returns-in-Ok-clause-ended g c) (parts.inside (c.drive.ensures.inside first_view.0 first_view.1 at_start c.in-Ok.ensures.inside))

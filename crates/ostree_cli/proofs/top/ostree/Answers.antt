@@ -1,4 +1,5 @@
-use Rattle.std.proofs.Common.{◌∙◌}
+use Rattle.std.proofs.Common.{◌∙◌, rules}
+use Rattle.ostree_cli.proofs.Completing.{complete, memory_printed, no_fault_but_memory, refused_of}
 use Rattle.ostree_cli.proofs.Outcomes.{early_printed, no_fault, script_printed, some_fault, unused_printed, usage_early, usage_printed}
 use Rattle.ostree_cli.proofs.top.ostree.Goals as goal
 
@@ -17,3 +18,10 @@ returns-clause-ran g c = λ v told printed. c.run-fs.ensures.ran v told (no_faul
 pub returns-clause-undone : goal.returns-clause-undone
 returns-clause-undone g c = λ v told.
     unused_printed _ _ c.run-fs.result.fault c.run-fs.result.replies.items (some_fault _ c.run-fs.result.fault (c.run-fs.ensures.undone v told)) (λ none empty. c.print-fault.ensures.silent none (c.deref.ensures.value ∙ empty))
+
+pub returns-clause-complete : goal.returns-clause-complete
+returns-clause-complete g c = λ v told asked good unfailed unrisen taken.
+    let run = c.run-fs.ensures in
+    let unfaulted = no_fault_but_memory _ _ v.now _ _ _ _ asked good unfailed unrisen c.run-fs.result.fault (λ is. usage_early _ _ _ _ _ _ run.early is) (refused_of _ _ _ run.early) run.script run.disk (run.stop v told) in
+    complete c.print-fault.result _ _ _ _ _ _ _ _ (memory_printed _ _ c.print-fault.ensures.fault unfaulted) (run.caused v told)
+    run.later unfailed unrisen taken (search rules)

@@ -1,4 +1,5 @@
 use Rattle.std.proofs.Common.{sym, ◌∙◌, ap, map}
+use Rattle.ostree_cli.proofs.Completing.{caused_parts, caused_unused}
 use Rattle.ostree_cli.proofs.Rans.{by_words, stop_at}
 use Rattle.ostree_cli.proofs.Outcomes.{no_line, no_script, same_fault}
 use Rattle.ostree_cli.proofs.top.run.Goals as goal
@@ -23,3 +24,14 @@ returns-in-Err-clause-script g c = λ all lanes e told script is.
 pub returns-in-Err-run_lanes-clause-stop : goal.returns-in-Err-run_lanes-clause-stop
 returns-in-Err-run_lanes-clause-stop g c = λ v told.
     stop_at c.stopped.result.fault c.in-Err-run_lanes.fault c.standard.result v.now c.stopped.ensures.fault (record { objects = c.standard.ensures.objects; paths = c.standard.ensures.paths; content = c.standard.ensures.content }) (c.in-Err-run_lanes.ensures.told v told)
+
+pub returns-in-Ok-run_lanes-clause-caused : goal.returns-in-Ok-run_lanes-clause-caused
+returns-in-Ok-run_lanes-clause-caused g c = λ v told.
+    let o = c.outcome_of.ensures in
+    caused_parts g.F.Fs.faults (g.F.Fs.faults c.args.fs) c.in-Ok-run_lanes.parts.fs c.outcome_of.result.fs _ _ o.fs (ap (map (λ replies. replies.items)) o.replies) (c.in-Ok-run_lanes.ensures.caused v told)
+
+pub returns-in-Err-run_lanes-clause-caused : goal.returns-in-Err-run_lanes-clause-caused
+returns-in-Err-run_lanes-clause-caused g c = λ v told. caused_unused _ _ _ c.stopped.ensures.unused.replies_are
+
+pub returns-in-Err-clause-caused : goal.returns-in-Err-clause-caused
+returns-in-Err-clause-caused g c = λ v told. caused_unused _ _ _ c.stopped-in-Err.ensures.unused.replies_are
