@@ -1,5 +1,5 @@
 #!/bin/sh
-# Runs the program in a fresh folder: two trees are committed under one ref, and refs are set, listed and removed.
+# Runs the program in a fresh folder: two trees are committed under one ref and looked into, and refs are set, listed and removed.
 set -eu
 cd "$(dirname "$0")/.."
 program=$PWD/build/ostree_cli
@@ -37,6 +37,10 @@ EOF
 cat script
 ask run <script
 ask refs
+ask log os/stable
+ask ls os/stable /
+ask cat os/stable /etc/motd
+ask cat os/stable /motd
 commit=$("$program" rev-parse os/stable)
 ask reset main "${commit##* }"
 ask reset main/next "${commit##* }"

@@ -1,0 +1,97 @@
+#!/usr/bin/env python3
+"""The names of the objects in crates/ostree_cli/src/look_tests.rt, reckoned from OSTree's formats alone."""
+import hashlib
+import struct
+
+
+def name_of(data):
+    return hashlib.sha256(data).digest()
+
+
+def with_ends(data, ends):
+    """A GVariant container of less than 256 bytes: its data, and behind it where its parts end."""
+    assert len(data) + len(ends) < 256
+    return data + bytes(ends)
+
+
+def tuple_of(data, ends):
+    return with_ends(data, ends[::-1])
+
+
+def array_of(parts):
+    ends, data = [], b""
+    for part in parts:
+        data += part
+        ends.append(len(data))
+    return with_ends(data, ends)
+
+
+def stream(uid, gid, mode, target):
+    """The header of a file's or a link's content stream, without extended attributes."""
+    data = struct.pack(">IIII", uid, gid, mode, 0) + target + b"\0"
+    header = tuple_of(data, [len(data)])
+    return struct.pack(">II", len(header), 0) + header
+
+
+def file(uid, gid, mode, content):
+    return name_of(stream(uid, gid, 0o100000 + mode, b"") + content)
+
+
+def link(uid, gid, target):
+    return name_of(stream(uid, gid, 0o120777, target))
+
+
+def dirmeta(uid, gid, mode):
+    return name_of(struct.pack(">III", uid, gid, 0o40000 + mode))
+
+
+def dirtree(files, folders):
+    """Files and links as names and sums, folders as names and two sums, each in the order of the names."""
+    items = [tuple_of(name + b"\0" + sum, [len(name) + 1]) for name, sum in files]
+    below = [tuple_of(name + b"\0" + tree + meta, [len(name) + 1, len(name) + 33]) for name, tree, meta in folders]
+    front = array_of(items)
+    return name_of(tuple_of(front + array_of(below), [len(front)]))
+
+
+def commit(root, parent, subject, body, time):
+    data = parent
+    ends = [0, len(data), len(data)]
+    for text in (subject, body):
+        data += text + b"\0"
+        ends.append(len(data))
+    data += bytes(-len(data) % 8) + struct.pack(">Q", time)
+    for sum in root:
+        data += sum
+        ends.append(len(data))
+    return name_of(tuple_of(data, ends[:-1]))
+
+
+PLAIN = dirmeta(0, 0, 0o755)
+
+
+def readme():
+    """The first commit of README.md."""
+    motd = file(0, 0, 0o644, b"hello\n")
+    beside = link(0, 0, b"etc/motd")
+    root = dirtree([(b"motd", beside)], [(b"etc", dirtree([(b"motd", motd)], []), PLAIN)])
+    return [motd, beside, commit((root, PLAIN), b"", b"first", b"", 1700000000)]
+
+
+def odd():
+    """Three commits of a tree with odd names, permissions and contents and of one with a root alone."""
+    files = [
+        (b"a b", file(0, 0, 0o644, b"")),
+        (b"a%", file(3, 4, 0o4755, b"~")),
+        (b"c", file(0, 0, 0o644, b"\0\n%\xff ")),
+    ]
+    below = link(7, 8, b"../a")
+    root = dirtree(files, [(b"d", dirtree([(b"l", below)], []), dirmeta(5, 6, 0))])
+    empty = dirtree([], [])
+    first = commit((root, dirmeta(1, 2, 0o1777)), b"", b"", b"", 0)
+    second = commit((empty, PLAIN), first, b"~", b"", 2**64 - 1)
+    third = commit((empty, PLAIN), second, "\u00c4 b".encode(), b"x", 5)
+    return [sum for _, sum in files] + [below, first, second, third]
+
+
+for sum in readme() + odd():
+    print(sum.hex())
