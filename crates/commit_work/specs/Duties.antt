@@ -1,11 +1,11 @@
 -- What a step of the build writes is what its lane may write, and changes nothing that the state speaks of.
-use Rattle.std.proofs.Common.{◌≡◌, ◌≢◌, ◌⊎◌, inl, inr, ⊎_elim, ℕ, refl, sym, ◌∙◌, ap, subst, List, Contains, Option, Some, None}
+use Rattle.std.proofs.Common.{◌≡◌, ◌≢◌, ◌⊎◌, inl, inr, ⊎_elim, ℕ, refl, sym, ◌∙◌, ap, subst, List, [], Contains, Option, Some, None}
 use Rattle.std.proofs.lemmas.List.Elements.{All-contains}
 use Rattle.ost_types.specs.declared.meta.Meta.{Meta}
 use Rattle.ost_types.specs.declared.object.Kind.{Kind}
 use Rattle.ost_types.specs.declared.object.Kind.TheVariants.{Commit}
 use Rattle.ost_types.specs.declared.object.ObjName.{ObjName}
-use Rattle.ost_types.specs.Path.{Path}
+use Rattle.ost_types.specs.Path.{Name, Path}
 use Rattle.fs_trait.specs.declared.task.Need.{Need}
 use Rattle.fs_trait.specs.declared.task.Need.TheVariants.{Nothing, Shared}
 use Rattle.fs_trait.specs.declared.types.Value.TheVariants.{File}
@@ -14,7 +14,7 @@ use Rattle.fs_trait.specs.Image.{Holds}
 use Rattle.fs_trait.specs.Effect.{IsFresh}
 use Rattle.fs_trait.specs.Seen.{Seen, Vacant, Leaf, shows, NotDirectory}
 use Rattle.repo_layout.specs.Paths.{object_path, stage_path}
-use Rattle.repo_layout.specs.Place.{Stage, Ref, ObjectsFolder, Object, Mark, place}
+use Rattle.repo_layout.specs.Place.{Checkout, Stage, Ref, ObjectsFolder, Object, Mark, place}
 use Rattle.repo_layout.proofs.Places.{place-ref, place-objects_folder}
 use Rattle.layout_rules.specs.InLayout.{InLayout}
 use Rattle.repo_model.specs.Objects.{object_in}
@@ -140,10 +140,23 @@ module _ (b : Books) (v : View) (lane : ℕ) (t : CommitCommand) (f : Building l
       more)
       l.place
 
+  -- no checkout's folder is made
+  checkouts : (p : Path) (s : Seen) → Lies t.build v p s → (name : Name) → place p ≡ Checkout name [] → shows v.now p ≡ Vacant
+  checkouts p s l name is = absurd (⊎_elim
+      (λ a. (let n : Stage lane ≡ Checkout name [] = sym (ap place a.0 ∙ stage) ∙ is in cc))
+      (λ more. ⊎_elim
+      (λ a. (let n : ObjectsFolder _ ≡ Checkout name [] = sym (ap place a.2 ∙ place-objects_folder a.0.name.csum) ∙ is in cc))
+      (λ rest. ⊎_elim
+      (λ a. (let n : Object a.0.name.kind a.0.name.csum ≡ Checkout name [] = sym (ap place a.4 ∙ object_place t.build a.0 a.2) ∙ is in cc))
+      (λ a. (let n : Mark _ ≡ Checkout name [] = sym (ap place a.0 ∙ mark_place t.build) ∙ is in cc))
+      rest)
+      more)
+      l.place)
+
   within : (need_in t.build.phase ≡ Shared → Free b.exclusive lane) → Within (WritesIn t.objects t.build v) (May b v lane lane)
   within free p s wrote =
       let l = commit_lies t.build v f.needs p s wrote.0 in
-      record { at = at p s free l; comes = comes p s l; folders = inr (inl l.folders); fits = fits p s l; objects = objects p s l; marks = marks p s l }
+      record { at = at p s free l; comes = comes p s l; folders = inr (inl l.folders); fits = fits p s l; objects = objects p s l; marks = marks p s l; checkouts = checkouts p s l }
 
   still : Still (WritesIn t.objects t.build v) v
   still (RefOf name) s wrote =

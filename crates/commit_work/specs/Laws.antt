@@ -20,7 +20,7 @@ use Rattle.ref_store.specs.Steps.{HereOfStage}
 use Rattle.layout_rules.proofs.Layouts.{fixed_other}
 use Rattle.rely.specs.Books.{Books, Agrees, Granted, Keeps}
 use Rattle.rely.specs.Rely.{Does}
-use Rattle.rely.specs.Laws.{Kind, Quiet, Store, Take, Show, Shown, Settle, Laws, IsBy, IsBefore, IsLastly, Chain, Stood, Duty}
+use Rattle.rely.specs.Laws.{Kind, Quiet, Store, Take, Claim, Show, Shown, Settle, Laws, IsBy, IsBefore, IsClaim, IsLastly, Chain, Owned, Stood, Duty}
 use Rattle.tree_build.specs.Objects as tree
 use Rattle.commit_build.specs.declared.phase.Phase.{Phase}
 use Rattle.commit_build.specs.declared.phase.Phase.TheVariants as phase
@@ -35,10 +35,10 @@ use Rattle.obj_store.specs.Putting as put
 use Rattle.commit_build.specs.declared.message.Message.{Message}
 use Rattle.commit_build.specs.declared.refusal.BuildRefusal.{BuildRefusal}
 use Rattle.ref_work.specs.declared.work.RefWork.{RefWork}
-use Rattle.ref_work.specs.Kinds.{ref_kind, ref_leaves}
+use Rattle.ref_work.specs.Kinds.{event, ref_kind, ref_leaves}
 use Rattle.ref_work.specs.Facts.{Facts}
 use Rattle.ref_work.specs.Kept.{facts_gain, stage_folder}
-use Rattle.ref_work.specs.Laws.{ref_laws}
+use Rattle.ref_work.specs.Laws.{no_claim, ref_laws}
 use Rattle.commit_work.specs.declared.naming.Naming.{Naming}
 use Rattle.commit_work.specs.declared.command.CommitCommand.{CommitCommand}
 use Rattle.commit_work.specs.Kinds.{put_wants, build_kind, kind_by, commit_kind, planned, needs_by, commit_needs, writes_by, commit_writes, BuildSteps, Builds, built, stepped_at, stepped_by, commit_stepped, leaves_at, leaves_by, commit_leaves}
@@ -68,6 +68,7 @@ duty_each : (k : Kind) (actor lane : ℕ) (v : View) (b : Books) (W : Path → S
 duty_each Quiet actor lane v b W D E work duty some = duty work
 duty_each Store actor lane v b W D E work duty some = duty work
 duty_each (Take wants) actor lane v b W D E work duty some = duty work
+duty_each (Claim name) actor lane v b W D E work duty some = duty work
 duty_each (Show e) actor lane v b W D E work duty some = duty work
 duty_each (Shown e owed) actor lane v b W D E work duty some = duty work
 duty_each (Settle e) actor lane v b W D E work duty some = ((duty work).0, λ w ends. let n = some w ends in (duty n.0).1 w n.1)
@@ -285,10 +286,10 @@ next_at (Some commit) actor lane t new v w b b' is none stood f l keeps =
     (subst (λ (x : View). Changing lane (record t { change = Some (planned t commit) }) (planned t commit) x b') (sym l.1)
     (changing_first lane t commit v b b' (commit_phase t.build.phase commit is) f keeps))
 
-changing_next : (actor lane : ℕ) (t : CommitCommand) (n : Naming) (next : RefWork) (v w : View) (b b' : Books) → Stood (ref_kind n.work) actor lane b → Changing lane t n v b → ref_leaves n.work turn.More next v w → Keeps lane b b'
+changing_next : (actor lane : ℕ) (t : CommitCommand) (n : Naming) (next : RefWork) (v w : View) (b b' : Books) → Stood (ref_kind n.work) actor lane b → Changing lane t n v b → ref_leaves n.work turn.More next v w → Keeps lane b b' → Owned (ref_kind n.work) lane b'
     → Changing lane (record t { change = Some (record n { work = next }) }) (record n { work = next }) w b'
-changing_next actor lane t n next v w b b' stood f l keeps = record {
-  ref = ref_laws.next actor lane n.work next v w b b' stood f.ref l keeps;
+changing_next actor lane t n next v w b b' stood f l keeps own = record {
+  ref = ref_laws.next actor lane n.work next v w b b' stood f.ref l keeps own;
   of = record {
     commit = f.of.commit;
     name = ap (λ (x : store.Change). x.name) l.stepped.0 ∙ f.of.name;
@@ -300,11 +301,23 @@ changing_next actor lane t n next v w b b' stood f l keeps = record {
   pins = λ o of. keeps.pins (record { lane = lane; object = o.name }) refl (f.pins o of);
 }
 
-next_by : (o : Option Naming) (actor lane : ℕ) (t new : CommitCommand) (v w : View) (b b' : Books) → t.change ≡ o → Stood (kind_by o t) actor lane b → facts_by o lane t v b → leaves_by o t turn.More new v w → Keeps lane b b'
+next_by : (o : Option Naming) (actor lane : ℕ) (t new : CommitCommand) (v w : View) (b b' : Books) → t.change ≡ o → Stood (kind_by o t) actor lane b → facts_by o lane t v b → leaves_by o t turn.More new v w → Keeps lane b b' → Owned (kind_by o t) lane b'
     → commit_facts lane new w b'
-next_by None actor lane t new v w b b' is stood f l keeps = next_at (commit_in t.build.phase) actor lane t new v w b b' refl is stood f l keeps
-next_by (Some n) actor lane t new v w b b' is stood f l keeps =
-    subst (λ (x : CommitCommand). commit_facts lane x w b') (sym l.1) (changing_next actor lane t n l.0 v w b b' stood f l.2 keeps)
+next_by None actor lane t new v w b b' is stood f l keeps own = next_at (commit_in t.build.phase) actor lane t new v w b b' refl is stood f l keeps
+next_by (Some n) actor lane t new v w b b' is stood f l keeps own =
+    subst (λ (x : CommitCommand). commit_facts lane x w b') (sym l.1) (changing_next actor lane t n l.0 v w b b' stood f l.2 keeps own)
+
+build_claim : (pinned : Bool) (o : Option ObjName) → IsClaim (build_kind pinned o) → ⊥
+build_claim pinned None is = is
+build_claim pinned (Some name) is = is
+
+claim_by : (o : Option Naming) (t : CommitCommand) → IsClaim (kind_by o t) → ⊥
+claim_by None t is = build_claim t.pinned (storing_in t.build.phase) is
+claim_by (Some n) t is = no_claim (store.progress_in n.work.task.phase) (event n.work.task) is
+
+-- no step makes the folder of a checkout
+pub no_commit_claim : (t : CommitCommand) → IsClaim (commit_kind t) → ⊥
+no_commit_claim t is = claim_by t.change t is
 
 pub commit_laws : Laws commit_kind commit_needs commit_writes commit_stepped commit_leaves commit_facts
 commit_laws = record {
@@ -314,5 +327,6 @@ commit_laws = record {
   duty = λ actor lane t new v b agrees by stood f. duty_by t.change actor lane t new v b agrees by stood f;
   chain = λ t new step. chain_by t.change t new refl step;
   last = λ t new step. last_by t.change t new step;
-  next = λ actor lane t new v w b b' stood f leaves keeps. next_by t.change actor lane t new v w b b' refl stood f leaves keeps;
+  next = λ actor lane t new v w b b' stood f leaves keeps own. next_by t.change actor lane t new v w b b' refl stood f leaves keeps own;
+  claims = λ lane t new v w b name is step f leaves. absurd (no_commit_claim t (subst IsClaim (sym is) tt));
 }

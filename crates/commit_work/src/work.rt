@@ -7,7 +7,7 @@ ghost use Rattle.commit_work.specs.Laws.{commit_laws};
 
 use crate::CommitCommand;
 use fs_trait::{Fs, FsErr, Turn};
-use ost_types::{NoMemory, ObjName};
+use ost_types::{Name, NoMemory, ObjName};
 use rely::{Event, Step, Wants, Work};
 
 fn put_wants(pinned: bool, name: ObjName) -> Wants
@@ -62,6 +62,10 @@ impl Work for CommitCommand {
             None => Err(NoMemory),
             Some(naming) => naming.work.event(),
         }
+    }
+
+    fn claim(&self) -> Result<Name, NoMemory> {
+        Err(NoMemory)
     }
 
     fn owes(&self) -> u64 {

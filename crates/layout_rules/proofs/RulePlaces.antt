@@ -1,4 +1,4 @@
--- A rule is for no ref's path, and for no staging path.
+-- A rule is for no ref's path, for no staging path, and for no path in a checkout.
 use Rattle.std.proofs.Common.{◌≡◌, ◌≢◌, ◌⊎◌, inl, inr, ◌<◌, ℕ, Bool, true, false, if◌then◌else◌, refl, sym, subst, arith, List, [], ◌∷◌, ◌++◌, append-nil, codes}
 use Rattle.ost_types.specs.Path.{Name, Path, same_path, under}
 use Rattle.ost_types.proofs.Paths.{is_below-self}
@@ -9,7 +9,7 @@ use Rattle.repo_layout.specs.declared.folder.Folder.TheVariants as layout
 use Rattle.repo_layout.specs.BootPaths.{boot_folder_path, kernel_path, loader_folder_path}
 use Rattle.repo_layout.specs.Fixed.{number}
 use Rattle.repo_layout.specs.Paths.{folder_path, in_repo}
-use Rattle.repo_layout.specs.Place.{Place, ObjectsFolder, Other, Ref, Stage, place, deploy_place, object_place, ostree_place, repo_place}
+use Rattle.repo_layout.specs.Place.{Place, Checkout, ObjectsFolder, Other, Ref, Stage, place, deploy_place, object_place, ostree_place, repo_place}
 use Rattle.repo_layout.specs.RefFile.{IsSum}
 use Rattle.repo_layout.proofs.Places.{place-boot_folder, place-boot_link, place-kernel, place-loader_folder, place-mark, place-summary}
 use Rattle.layout_rules.specs.declared.many.Many.{Many}
@@ -22,10 +22,11 @@ use Rattle.layout_rules.specs.Many.{IsIn, IsOfKernel, stateroot_path}
 use Rattle.layout_rules.specs.Spots.{spot_path}
 use Rattle.layout_rules.proofs.Layouts.{fixed_other}
 
--- neither
+-- none of these
 abbrev IsElse : Place → Type 0
 IsElse (Stage actor) = ⊥
 IsElse (Ref name) = ⊥
+IsElse (Checkout name rest) = ⊥
 IsElse x = Unit {0}
 
 else_at : (p q : Path) (x : Place) → p ≡ q → place q ≡ x → IsElse x → IsElse (place p)
@@ -85,3 +86,6 @@ no_ref rule p name is e = let k : IsElse (Ref name) = subst IsElse e (rule_else 
 
 pub no_stage : (rule : Rule) (p : Path) (actor : ℕ) → IsFor rule p → place p ≢ Stage actor
 no_stage rule p actor is e = let k : IsElse (Stage actor) = subst IsElse e (rule_else rule p is) in k
+
+pub no_checkout : (rule : Rule) (p : Path) (name : Name) (rest : Path) → IsFor rule p → place p ≢ Checkout name rest
+no_checkout rule p name rest is e = let k : IsElse (Checkout name rest) = subst IsElse e (rule_else rule p is) in k

@@ -37,7 +37,7 @@ module _ (d e : Disk) (more : (name : ObjName) (b : List ℕ) → Stores d name 
   owner_up content tree meta [] o owner = owner
   owner_up content tree meta (x ∷ rest) o owner = (owner.0, owner.1, owner.2, names_up (Stores d) (Stores e) more (stores_map e) content tree meta owner.0 o owner.3, owner.4)
 
-  reading_up : (t : Reading) → Knows d t → Knows e t
+  pub reading_up : (t : Reading) → Knows d t → Knows e t
   reading_up t k = record {
     parts = k.parts;
     has = commit_up (Stores d) (Stores e) more t.commit k.parts k.has;

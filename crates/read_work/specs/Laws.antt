@@ -4,7 +4,7 @@ use Rattle.fs_trait.specs.declared.task.Turn.TheVariants as turn
 use Rattle.fs_trait.specs.View.{View}
 use Rattle.fs_trait.specs.Change.{Nothing}
 use Rattle.rely.specs.Books.{Books}
-use Rattle.rely.specs.Laws.{Kind, Laws, IsBefore, IsLastly, Chain, Duty}
+use Rattle.rely.specs.Laws.{Kind, Laws, IsBefore, IsClaim, IsLastly, Chain, Duty}
 use Rattle.script.specs.declared.rows.LogRow.{LogRow}
 use Rattle.read_work.specs.declared.command.ReadCommand.{ReadCommand}
 use Rattle.read_work.specs.declared.command.ReadCommand.TheVariants.{Look, Cat, Ls, Log, Ended}
@@ -59,6 +59,18 @@ duty_of (Ls s) actor lane v b Done = ((λ p s a. absurd a), (λ q s a. absurd a)
 duty_of (Log g) actor lane v b Done = log_duty g.rows.items g.next actor lane v b Done
 duty_of (Ended a) actor lane v b Done = ((λ p s a. absurd a), (λ q s a. absurd a))
 
+log_claim : (rows : List LogRow) (next : List ℕ) → IsClaim (log_kind rows next) → ⊥
+log_claim [] next is = is
+log_claim (r ∷ rows) next is = is
+
+-- no step makes the folder of a checkout
+pub no_read_claim : (t : ReadCommand) → IsClaim (read_kind t) → ⊥
+no_read_claim (Look l) is = is
+no_read_claim (Cat c) is = is
+no_read_claim (Ls s) is = is
+no_read_claim (Log g) is = log_claim g.rows.items g.next is
+no_read_claim (Ended a) is = is
+
 pub read_laws : Laws read_kind read_needs read_writes read_stepped read_leaves read_facts
 read_laws = record {
   ready = λ actor lane t v b by f. f.0;
@@ -67,5 +79,6 @@ read_laws = record {
   duty = λ actor lane t new v b agrees by stood f. duty_of t actor lane v b (read_leaves t (turn.Done tt) new v);
   chain = λ t new step. chain_of t (read_kind new) (before new);
   last = λ t new step. last_of t;
-  next = λ actor lane t new v w b b' stood f leaves keeps. (leaves.2, subst (IsFounded new) (sym leaves.0) (founded_next v t new f.1 leaves.4 leaves.3 leaves.1));
+  next = λ actor lane t new v w b b' stood f leaves keeps own. (leaves.2, subst (IsFounded new) (sym leaves.0) (founded_next v t new f.1 leaves.4 leaves.3 leaves.1));
+  claims = λ lane t new v w b name is step f leaves. absurd (no_read_claim t (subst IsClaim (sym is) tt));
 }

@@ -7,10 +7,10 @@ ghost use Rattle.read_work.specs.Commands.{IsNew, answer_of, ends, read_facts, r
 ghost use Rattle.read_work.specs.Laws.{read_laws};
 ghost use Rattle.read_work.specs.declared.look.Ask.TheVariants as asks;
 
-use crate::look_up::{pin_wants, sum_of_commit};
+use crate::commits::{pin_wants, sum_of_commit};
 use crate::{Ask, Cat, Log, Look, Ls, ReadAnswer};
 use fs_trait::{Fs, FsErr, Turn};
-use ost_types::{Csum, FsPath, Limits, NoMemory};
+use ost_types::{Csum, FsPath, Limits, Name, NoMemory};
 use rely::{Event, Step, Work};
 use std::alloc::Global;
 
@@ -135,6 +135,10 @@ impl Work for ReadCommand {
     }
 
     fn event(&self) -> Result<Event, NoMemory> {
+        Err(NoMemory)
+    }
+
+    fn claim(&self) -> Result<Name, NoMemory> {
         Err(NoMemory)
     }
 

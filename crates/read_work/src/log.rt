@@ -7,7 +7,7 @@ ghost use Rattle.read_work.specs.LogSteps.{IsAsBefore, IsLogStepped, LogKnows, L
 
 use crate::ReadAnswer;
 use crate::answer::lacking_of;
-use crate::look_up::{pin_wants, sum_of_commit};
+use crate::commits::{pin_wants, sum_of_commit};
 use crate::looked::Looked;
 use crate::objects::look_at_commit;
 use fs_trait::{Fs, FsErr};

@@ -7,7 +7,7 @@ ghost use Rattle.fs_trait.specs.Change.{Nothing, Writes};
 ghost use Rattle.fs_trait.specs.Effect.{Elapses, HasCause, OfNone};
 ghost use Rattle.read_work.specs.LookSteps.{Begins, IsLookStepped, LookTells, look_left};
 
-use crate::look_up::look_up;
+use crate::commits::look_up;
 use crate::{Cat, Log, Ls, ReadAnswer, ReadCommand};
 use fs_trait::{Fs, FsErr};
 use ost_types::{Csum, FsPath, Limits, NoMemory, TryCopy};

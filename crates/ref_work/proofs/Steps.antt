@@ -12,7 +12,7 @@ use Rattle.ref_store.specs.declared.progress.Progress.{Progress}
 use Rattle.ref_store.specs.declared.progress.Progress.TheVariants as progress
 use Rattle.ref_store.specs.Change.{Change, Follows, Takes, is_owed, owed_after}
 use Rattle.rely.specs.declared.event.Event.{Event}
-use Rattle.rely.specs.Laws.{Kind, Quiet, Store, Take, Show, Shown, Settle, IsShow, IsSettle, IsLastly, KeepsRoom, owed_by}
+use Rattle.rely.specs.Laws.{Kind, Quiet, Store, Take, Claim, Show, Shown, Settle, IsShow, IsSettle, IsLastly, KeepsRoom, owed_by}
 use Rattle.ref_work.specs.declared.look_up.Found.{Found}
 use Rattle.ref_work.specs.Commands.{found_kind}
 use Rattle.ref_work.specs.Kinds.{kind_at, kind_in, put_kind, turn_wants}
@@ -111,6 +111,7 @@ shows_lastly (Show e) shows last = absurd last
 shows_lastly Quiet shows last = absurd shows
 shows_lastly Store shows last = absurd shows
 shows_lastly (Take wants) shows last = absurd shows
+shows_lastly (Claim name) shows last = absurd shows
 shows_lastly (Shown e owed) shows last = absurd shows
 shows_lastly (Settle e) shows last = absurd shows
 

@@ -12,7 +12,7 @@ use Rattle.ref_store.specs.Steps.{HereOfStage}
 use Rattle.rely.specs.Books.{Books, Agrees, Keeps}
 use Rattle.rely.specs.Lasting.{IsFinishedNow}
 use Rattle.rely.specs.Rely.{Does}
-use Rattle.rely.specs.Laws.{Laws, IsBy, IsBefore, IsLastly, Chain, Holds, Stood, Duty}
+use Rattle.rely.specs.Laws.{Laws, IsBy, IsBefore, IsClaim, IsLastly, Chain, Holds, Owned, Stood, Duty}
 use Rattle.rely.proofs.Finished.{finished_synced}
 use Rattle.ref_work.specs.declared.work.RefWork.{RefWork}
 use Rattle.ref_work.specs.declared.look_up.LookUp.{LookUp}
@@ -24,11 +24,11 @@ use Rattle.ref_work.specs.declared.look_up.Found.TheVariants.{Whole}
 use Rattle.ref_work.specs.Found.{IsFound}
 use Rattle.ref_work.specs.Founded.{IsFounded, IsKnownBy}
 use Rattle.ref_work.specs.Founding.{founded_kept, founded_own, found_now, known_kept}
-use Rattle.ref_work.specs.Kinds.{ref_kind, ref_leaves}
+use Rattle.ref_work.specs.Kinds.{event, ref_kind, ref_leaves}
 use Rattle.ref_work.specs.Facts.{Facts}
 use Rattle.ref_work.specs.Kept.{facts_kept, facts_gain}
 use Rattle.ref_work.specs.Duties.{change_duty}
-use Rattle.ref_work.specs.Laws.{ref_laws}
+use Rattle.ref_work.specs.Laws.{no_claim, ref_laws}
 use Rattle.ref_work.specs.Commands.{found_kind, planned, command_kind, command_needs, command_writes, reset_stepped, command_stepped, reset_leaves, command_leaves, Resetting, Changing, command_facts}
 
 ready_of : (actor lane : ℕ) (t : RefCommand) (v : View) (b : Books) → IsBy (command_kind t) actor lane → command_facts lane t v b → command_needs actor t v
@@ -138,18 +138,37 @@ reset_next (Some found) lane look plan (Parse next) v w b b' f same known l keep
 reset_next (Some found) lane look plan (Reset next p) v w b b' f same known l keeps = absurd l
 
 -- a change names the same commit till its end
-change_next : (actor lane : ℕ) (work new : RefWork) (v w : View) (b b' : Books) → Stood (ref_kind work) actor lane b → Changing lane work v b → ref_leaves work turn.More new v w → Keeps lane b b' → Changing lane new w b'
-change_next actor lane work new v w b b' stood f l keeps = record {
-  ref = ref_laws.next actor lane work new v w b b' stood f.ref l keeps;
+change_next : (actor lane : ℕ) (work new : RefWork) (v w : View) (b b' : Books) → Stood (ref_kind work) actor lane b → Changing lane work v b → ref_leaves work turn.More new v w → Keeps lane b b' → Owned (ref_kind work) lane b' → Changing lane new w b'
+change_next actor lane work new v w b b' stood f l keeps own = record {
+  ref = ref_laws.next actor lane work new v w b b' stood f.ref l keeps own;
   founded = subst (λ o. IsFounded o w) (sym (ap (λ (x : store.Change). x.value) l.stepped.0)) (founded_own work.task v w lane f.ref.needs f.ref.mine l.writes work.task.value f.founded);
 }
 
-next_of : (actor lane : ℕ) (t new : RefCommand) (v w : View) (b b' : Books) → Stood (command_kind t) actor lane b → command_facts lane t v b → command_leaves t turn.More new v w → Keeps lane b b' → command_facts lane new w b'
-next_of actor lane (Parse look) new v w b b' stood f l keeps = absurd l
-next_of actor lane (Reset look plan) new v w b b' stood f l keeps = reset_next look.found lane look plan new v w b b' f.change f.same f.commit l keeps
-next_of actor lane (Change work) (Change new) v w b b' stood f l keeps = change_next actor lane work new v w b b' stood f l keeps
-next_of actor lane (Change work) (Parse look) v w b b' stood f l keeps = absurd l
-next_of actor lane (Change work) (Reset look plan) v w b b' stood f l keeps = absurd l
+next_of : (actor lane : ℕ) (t new : RefCommand) (v w : View) (b b' : Books) → Stood (command_kind t) actor lane b → command_facts lane t v b → command_leaves t turn.More new v w → Keeps lane b b' → Owned (command_kind t) lane b' → command_facts lane new w b'
+next_of actor lane (Parse look) new v w b b' stood f l keeps own = absurd l
+next_of actor lane (Reset look plan) new v w b b' stood f l keeps own = reset_next look.found lane look plan new v w b b' f.change f.same f.commit l keeps
+next_of actor lane (Change work) (Change new) v w b b' stood f l keeps own = change_next actor lane work new v w b b' stood f l keeps own
+next_of actor lane (Change work) (Parse look) v w b b' stood f l keeps own = absurd l
+next_of actor lane (Change work) (Reset look plan) v w b b' stood f l keeps own = absurd l
+
+found_claim : (found : Option Found) (commit : List ℕ) → IsClaim (found_kind found commit) → ⊥
+found_claim None commit is = is
+found_claim (Some found) commit is = is
+
+-- no step makes the folder of a checkout
+pub no_command_claim : (t : RefCommand) → IsClaim (command_kind t) → ⊥
+no_command_claim (Parse look) is = is
+no_command_claim (Reset look plan) is = found_claim look.found look.commit is
+no_command_claim (Change work) is = no_claim (store.progress_in work.task.phase) (event work.task) is
 
 pub command_laws : Laws command_kind command_needs command_writes command_stepped command_leaves command_facts
-command_laws = record { ready = ready_of; kept = kept_of; gains = gains_of; duty = duty_of; chain = chain_of; last = last_of; next = next_of }
+command_laws = record {
+  ready = ready_of;
+  kept = kept_of;
+  gains = gains_of;
+  duty = duty_of;
+  chain = chain_of;
+  last = last_of;
+  next = next_of;
+  claims = λ lane t new v w b name is step f leaves. absurd (no_command_claim t (subst IsClaim (sym is) tt));
+}

@@ -3,7 +3,7 @@ use Rattle.std.proofs.Common.{◌≡◌, ◌≢◌, ◌⊎◌, inl, inr, ⊎_eli
 use Rattle.ost_types.specs.declared.meta.Meta.{Meta}
 use Rattle.ost_types.specs.declared.object.Kind.{Kind}
 use Rattle.ost_types.specs.declared.object.Kind.TheVariants.{Commit}
-use Rattle.ost_types.specs.Path.{Path}
+use Rattle.ost_types.specs.Path.{Name, Path}
 use Rattle.ost_types.proofs.Paths.{under-folder}
 use Rattle.fs_trait.specs.declared.types.Value.TheVariants.{File}
 use Rattle.fs_trait.specs.View.{View}
@@ -12,7 +12,7 @@ use Rattle.fs_trait.specs.Effect.{IsFresh}
 use Rattle.fs_trait.specs.Seen.{Seen, Vacant, Directory, Symlink, Leaf, shows, MayBe, IsDirectory, NotDirectory, bytes_in}
 use Rattle.repo_layout.specs.RefFile.{IsSum, ref_text}
 use Rattle.repo_layout.specs.Paths.{object_path, ref_path, stage_path}
-use Rattle.repo_layout.specs.Place.{Mark, Object, Ref, Stage, place}
+use Rattle.repo_layout.specs.Place.{Checkout, Mark, Object, Ref, Stage, place}
 use Rattle.layout_rules.specs.InLayout.{InLayout}
 use Rattle.ref_room.specs.Clash.{ref_folder}
 use Rattle.ref_room.specs.Clearing as clearing
@@ -89,6 +89,13 @@ module _ (b : Books) (v : View) (lane : ℕ) (t : Change) (needs : Needs t v) (m
       (λ r. (let k : Ref r.0 ≡ Mark commit = sym r.1 ∙ at in cc))
       (placed p s l).lies
 
+  -- and no checkout's folder is made
+  checkouts : (p : Path) (s : Seen) → Lies t v p s → (name : Name) → place p ≡ Checkout name [] → shows v.now p ≡ Vacant
+  checkouts p s l name at = absurd (⊎_elim
+      (λ e. (let k : Stage lane ≡ Checkout name [] = sym e ∙ at in cc))
+      (λ r. (let k : Ref r.0 ≡ Checkout name [] = sym r.1 ∙ at in cc))
+      (placed p s l).lies)
+
   comes : (p : Path) (s : Seen) → Lies t v p s → (n : ℕ) (m : Meta) (bytes : List ℕ) → s ≡ Leaf n m bytes → IsFresh n v ⊎ ((q : Path) × Holds v q (File n) × NotOthers lane (place q))
   comes p s l n m bytes e = ⊎_elim (λ fresh. inl fresh) (λ at. inr (own_file v lane (stage_path t.actor) n stage at)) (l.comes n m bytes e)
 
@@ -105,7 +112,7 @@ module _ (b : Books) (v : View) (lane : ℕ) (t : Change) (needs : Needs t v) (m
     within : (ph : Phase) → t.phase ≡ ph → Within (writes_in ph t v) (May b v lane lane)
     within ph is p s a =
         let l = ref_lies t v needs p s (subst (λ f. writes_in f t v p s) (sym is) a) in
-        record { at = at p s l; fits = fits p s l; objects = objects p s l; marks = marks p s l; comes = comes p s l; folders = folders p s l }
+        record { at = at p s l; fits = fits p s l; objects = objects p s l; marks = marks p s l; checkouts = checkouts p s l; comes = comes p s l; folders = folders p s l }
 
 -- the change is done: the ref's path may show only its new file, or nothing, and folders lead there
 abbrev pub IsDone : Change → View → Type 0

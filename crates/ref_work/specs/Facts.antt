@@ -8,7 +8,7 @@ use Rattle.ref_store.specs.declared.progress.Progress.TheVariants as progress
 use Rattle.ref_store.specs.Change.{Change, progress_in}
 use Rattle.ref_store.specs.Steps.{Needs, HasSeen}
 use Rattle.rely.specs.Books.{Books}
-use Rattle.rely.specs.Laws.{Kind, Quiet, Store, Take, Show, Shown, Settle}
+use Rattle.rely.specs.Laws.{Kind, Quiet, Store, Take, Claim, Show, Shown, Settle}
 use Rattle.ref_work.specs.declared.work.RefWork.{RefWork}
 use Rattle.ref_work.specs.Kinds.{event, kind_in}
 
@@ -17,6 +17,7 @@ abbrev pub turn_in : Kind → ℕ → Books → Type 0
 turn_in (Take wants) lane b = Unit {0}
 turn_in Quiet lane b = b.turn ≡ Some lane
 turn_in Store lane b = b.turn ≡ Some lane
+turn_in (Claim name) lane b = b.turn ≡ Some lane
 turn_in (Show e) lane b = b.turn ≡ Some lane
 turn_in (Shown e owed) lane b = b.turn ≡ Some lane
 turn_in (Settle e) lane b = b.turn ≡ Some lane

@@ -28,7 +28,7 @@ use Rattle.ref_store.proofs.Seen.{seen_kept}
 use Rattle.rely.specs.declared.event.Event.{Event}
 use Rattle.rely.specs.Books.{Books, Keeps}
 use Rattle.rely.specs.Rely.{May, Does}
-use Rattle.rely.specs.Laws.{Kind, Quiet, Store, Take, Show, Shown, Settle}
+use Rattle.rely.specs.Laws.{Kind, Quiet, Store, Take, Claim, Show, Shown, Settle}
 use Rattle.layout_rules.proofs.Layouts.{above_ref, fixed_other, in_heads}
 use Rattle.rely.proofs.Mays.{folders_harmless, not_other, own_harmless, ref_leads_harmless, at_place, stage_apart}
 use Rattle.ref_work.specs.Kinds.{event, kind_in, put_kind}
@@ -58,6 +58,7 @@ turn_more : (k : Kind) (lane : ℕ) (b b' : Books) → (b.turn ≡ Some lane →
 turn_more Quiet lane b b' still turn = still turn
 turn_more Store lane b b' still turn = still turn
 turn_more (Take wants) lane b b' still turn = tt
+turn_more (Claim name) lane b b' still turn = still turn
 turn_more (Show e) lane b b' still turn = still turn
 turn_more (Shown e owed) lane b b' still turn = still turn
 turn_more (Settle e) lane b b' still turn = still turn

@@ -10,6 +10,8 @@ use Rattle.staged_file.specs.declared.phase.Show.TheVariants as show
 use Rattle.staged_file.specs.Staged as staging
 use Rattle.ref_store.specs.declared.phase.Phase.{Phase}
 use Rattle.ref_store.specs.declared.phase.Phase.TheVariants as phase
+use Rattle.ref_store.specs.declared.progress.Progress.{Progress}
+use Rattle.ref_store.specs.declared.progress.Progress.TheVariants as progress
 use Rattle.ref_store.specs.Change.{Change, Follows, IsLast, IsRefusing, progress_in, progress_of}
 use Rattle.ref_store.specs.Steps.{Needs}
 use Rattle.ref_store.proofs.Seen.{seen_next}
@@ -17,7 +19,7 @@ use Rattle.ref_store.proofs.Progresses.{after_look}
 use Rattle.rely.specs.declared.event.Event.{Event}
 use Rattle.rely.specs.Books.{Books, Keeps}
 use Rattle.rely.specs.Laws as rely
-use Rattle.rely.specs.Laws.{Kind, Quiet, Store, Take, Laws, IsBefore, IsSettle, IsLastly, Chain, Stood}
+use Rattle.rely.specs.Laws.{Kind, Quiet, Store, Take, Laws, IsBefore, IsClaim, IsSettle, IsLastly, Chain, Stood}
 use Rattle.ref_work.specs.Kinds.{event, kind_at, put_kind, kind_in, ref_kind, ref_needs, ref_writes, ref_stepped, ref_leaves, stepped_in, leaves_in, Answer, Leaves}
 use Rattle.ref_work.specs.Facts.{turn_in, IsRunning, Facts, ref_facts}
 use Rattle.ref_work.specs.Kept.{facts_kept, facts_gain, put_turn}
@@ -196,6 +198,7 @@ any_turn : (k : Kind) (lane : ℕ) (b : Books) → b.turn ≡ Some lane → turn
 any_turn Quiet lane b turn = turn
 any_turn Store lane b turn = turn
 any_turn (Take wants) lane b turn = tt
+any_turn (rely.Claim name) lane b turn = turn
 any_turn (rely.Show e) lane b turn = turn
 any_turn (rely.Shown e owed) lane b turn = turn
 any_turn (rely.Settle e) lane b turn = turn
@@ -219,6 +222,15 @@ change_next actor lane t new v w b b' stood f l keeps = record {
   seen = seen_next t new v w f.needs f.seen l.stepped l.tells l.writes;
 }
 
+-- no step makes the folder of a checkout
+pub no_claim : (p : Progress) (e : Event) → IsClaim (kind_at p e) → ⊥
+no_claim progress.Looking e is = is
+no_claim progress.Preparing e is = is
+no_claim progress.Showing e is = is
+no_claim progress.Shown e is = is
+no_claim progress.Settling e is = is
+no_claim progress.Ended e is = is
+
 pub ref_laws : Laws ref_kind ref_needs ref_writes ref_stepped ref_leaves ref_facts
 ref_laws = record {
   ready = λ actor lane t v b by f. f.needs;
@@ -227,5 +239,6 @@ ref_laws = record {
   duty = λ actor lane t new v b agrees by stood f. change_duty b v actor lane t.task f agrees (λ w. leaves_in (turn.Done tt) new.answer t.task new.task v w) (λ settles w l. done_in new.answer t.task new.task v w settles l) stood;
   chain = λ t new step. change_chain t.task new.task step.0;
   last = λ t new step. change_last new.answer t.task new.task step;
-  next = λ actor lane t new v w b b' stood f leaves keeps. change_next actor lane t.task new.task v w b b' stood f leaves keeps;
+  next = λ actor lane t new v w b b' stood f leaves keeps own. change_next actor lane t.task new.task v w b b' stood f leaves keeps;
+  claims = λ lane t new v w b name is step f leaves. absurd (no_claim (progress_in t.task.phase) (event t.task) (subst IsClaim (sym is) tt));
 }

@@ -14,7 +14,7 @@ use crate::RefWork;
 use crate::look_up::{Found, LookUp, commit_name};
 use crate::plan::Plan;
 use fs_trait::{Fs, FsErr, Turn};
-use ost_types::{Csum, NoMemory};
+use ost_types::{Csum, Name, NoMemory};
 use ref_store::RefRefusal;
 use rely::{Event, Step, Wants, Work};
 use repo_layout::RefName;
@@ -183,6 +183,10 @@ impl Work for RefCommand {
             RefCommand::Parse(_) | RefCommand::Reset(_, _) => Err(NoMemory),
             RefCommand::Change(work) => work.event(),
         }
+    }
+
+    fn claim(&self) -> Result<Name, NoMemory> {
+        Err(NoMemory)
     }
 
     fn owes(&self) -> u64 {

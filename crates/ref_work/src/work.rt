@@ -8,7 +8,7 @@ ghost use Rattle.ref_work.specs.Facts.{ref_facts};
 ghost use Rattle.ref_work.specs.Laws.{ref_laws};
 
 use fs_trait::{Fs, FsErr, Turn};
-use ost_types::{Csum, NoMemory, TryCopy};
+use ost_types::{Csum, Name, NoMemory, TryCopy};
 use ref_store::{Progress, RefRefusal, RefTask};
 use rely::{Event, Step, Wants, Work};
 use repo_layout::RefName;
@@ -124,6 +124,10 @@ impl Work for RefWork {
             (None, Some(seen)) => Ok(Event::DropRef { name, seen }),
             (None, None) => Err(NoMemory),
         }
+    }
+
+    fn claim(&self) -> Result<Name, NoMemory> {
+        Err(NoMemory)
     }
 
     fn owes(&self) -> u64 {

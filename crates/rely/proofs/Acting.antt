@@ -1,5 +1,5 @@
 -- The one act of all tasks, from their laws.
-use Rattle.std.proofs.Common.{◌≡◌, ◌≢◌, ◌⊎◌, ⊎_elim, arith, ◌<◌, ◌≤◌, ℕ, refl, sym, ◌∙◌, ap, subst, [], append-nil, Option, Some}
+use Rattle.std.proofs.Common.{◌≡◌, ◌≢◌, ◌⊎◌, inl, ⊎_elim, arith, ◌<◌, ◌≤◌, ℕ, refl, sym, ◌∙◌, ap, subst, [], append-nil, Contains, Option, Some}
 use Rattle.ost_types.specs.Path.{Path}
 use Rattle.fs_trait.specs.declared.task.Turn.{Turn}
 use Rattle.fs_trait.specs.declared.task.Turn.TheVariants as turn
@@ -12,6 +12,8 @@ use Rattle.fs_trait.specs.declared.types.FsErr.{FsErr}
 use Rattle.fs_trait.specs.declared.types.FsErr.TheVariants as err
 use Rattle.fs_trait.proofs.Kept.{weaker}
 use Rattle.rely.specs.declared.books.Base.{Base}
+use Rattle.rely.specs.declared.books.Books as rust
+use Rattle.rely.specs.declared.books.Claim as claim
 use Rattle.rely.specs.declared.books.Pending.{Pending}
 use Rattle.rely.specs.declared.event.Event.{Event}
 use Rattle.rely.specs.declared.kind.Outcome.{Outcome}
@@ -22,9 +24,10 @@ use Rattle.rely.specs.Books.{Books, books_of, Spared, Keeps}
 use Rattle.rely.specs.Rely.{May, Does}
 use Rattle.rely.specs.Sound.{Ordered, Sound}
 use Rattle.rely.specs.Change.{Still}
-use Rattle.rely.specs.Laws.{Kind, Quiet, Store, Take, Show, Shown, Settle, Laws, Duty, Within, IsQuiet, IsBy, IsBefore, Chain, Holds, Stood, NotPending, IsPending, Runs, Ready, Tells, Acts, Ends, IsEnd}
+use Rattle.rely.specs.Laws.{Kind, Quiet, Store, Take, Claim, Show, Shown, Settle, Laws, Duty, Within, IsQuiet, IsPlain, IsBy, IsBefore, Owned, Chain, Holds, Stood, NotPending, IsPending, Runs, Ready, Tells, Acts, Ends, IsEnd}
 use Rattle.rely.proofs.States.{ascends_later}
 use Rattle.rely.proofs.Knowns.{stands_quiet}
+use Rattle.rely.proofs.Claiming.{claims_stand}
 use Rattle.rely.proofs.Locking.{spared_refl}
 use Rattle.rely.proofs.Sounds.{IsFs, sound_goes}
 
@@ -32,13 +35,14 @@ pub told_same : {P : View → Type 0} (view : Option View) (w : View) → view �
 told_same {P} view w is told = let e : Some told.0 ≡ Some w = sym told.1 ∙ is in let k : told.0 ≡ w = cc in subst P k told.2
 
 pub keeps_refl : (lane : ℕ) (b : Books) → Keeps lane b b
-keeps_refl lane b = record { exclusive = λ k. k; turn = λ k. k; sysroot = λ k. k; shared = λ x l k. k; holds = λ h l k. k; wants = λ w l k. k; pins = λ p l k. k }
+keeps_refl lane b = record { exclusive = λ k. k; turn = λ k. k; sysroot = λ k. k; shared = λ x l k. k; holds = λ h l k. k; wants = λ w l k. k; pins = λ p l k. k; claims = λ c k. k; others = λ c l k. k }
 
 -- what is to be held for the next step
-before_holds : (next : Kind) (lane : ℕ) (b : Books) → IsBefore next → NotPending lane b → Holds next lane b
+pub before_holds : (next : Kind) (lane : ℕ) (b : Books) → IsBefore next → NotPending lane b → Holds next lane b
 before_holds Quiet lane b is none = none
 before_holds Store lane b is none = none
 before_holds (Take wants) lane b is none = none
+before_holds (Claim name) lane b is none = none
 before_holds (Show e) lane b is none = none
 before_holds (Shown e owed) lane b is none = absurd is
 before_holds (Settle e) lane b is none = absurd is
@@ -47,6 +51,7 @@ pub quiet_not : (kind : Kind) (lane : ℕ) (b : Books) → IsQuiet kind → Hold
 quiet_not Quiet lane b is h = h
 quiet_not Store lane b is h = h
 quiet_not (Take wants) lane b is h = h
+quiet_not (Claim name) lane b is h = h
 quiet_not (Show e) lane b is h = absurd is
 quiet_not (Shown e owed) lane b is h = absurd is
 quiet_not (Settle e) lane b is h = absurd is
@@ -55,9 +60,29 @@ quiet_chain : (kind next : Kind) → IsQuiet kind → Chain kind next → IsBefo
 quiet_chain Quiet next is c = c
 quiet_chain Store next is c = c
 quiet_chain (Take wants) next is c = c
+quiet_chain (Claim name) next is c = c
 quiet_chain (Show e) next is c = absurd is
 quiet_chain (Shown e owed) next is c = absurd is
 quiet_chain (Settle e) next is c = absurd is
+
+pub plain_quiet : (kind : Kind) → IsPlain kind → IsQuiet kind
+plain_quiet Quiet is = tt
+plain_quiet Store is = tt
+plain_quiet (Take wants) is = tt
+plain_quiet (Claim name) is = absurd is
+plain_quiet (Show e) is = absurd is
+plain_quiet (Shown e owed) is = absurd is
+plain_quiet (Settle e) is = absurd is
+
+-- behind it the lane has nothing of its own
+plain_owned : (kind : Kind) (lane : ℕ) (b : Books) → IsPlain kind → Owned kind lane b
+plain_owned Quiet lane b is = tt
+plain_owned Store lane b is = tt
+plain_owned (Take wants) lane b is = tt
+plain_owned (Claim name) lane b is = absurd is
+plain_owned (Show e) lane b is = absurd is
+plain_owned (Shown e owed) lane b is = absurd is
+plain_owned (Settle e) lane b is = absurd is
 
 own : (W : Path → Seen → Type 0) (b : Books) (v : View) (actor lane : ℕ) (kind : Kind) → IsBy kind actor lane → (kind ≡ Store → ⊥) → Within W (May b v lane lane) → Within W (May b v actor lane)
 own W b v actor lane kind by not within = subst (λ (a : ℕ). Within W (May b v a lane)) (sym (⊎_elim (λ e. e) (λ s. absurd (not s)) by)) within
@@ -66,6 +91,7 @@ quiet_duty : (kind : Kind) (actor lane : ℕ) (v : View) (b : Books) (W : Path �
 quiet_duty Quiet actor lane v b W Done is by d = (own W b v actor lane Quiet by (λ (z : Quiet ≡ Store). cc) d.0, d.1)
 quiet_duty Store actor lane v b W Done is by d = d
 quiet_duty (Take wants) actor lane v b W Done is by d = (own W b v actor lane (Take wants) by (λ (z : Take wants ≡ Store). cc) d.0, d.1)
+quiet_duty (Claim name) actor lane v b W Done is by d = (own W b v actor lane (Claim name) by (λ (z : Claim name ≡ Store). cc) d.0, d.1)
 quiet_duty (Show e) actor lane v b W Done is by d = absurd is
 quiet_duty (Shown e owed) actor lane v b W Done is by d = absurd is
 quiet_duty (Settle e) actor lane v b W Done is by d = absurd is
@@ -101,6 +127,10 @@ module _ {F : Type 0} (view : F → Option View) (clock spare : F → ℕ) (was 
     entry = λ owes. rw (ends.history, same) (was.entry (subst (λ n. 0 < n) (ends.owed ∙ ap (λ b. b.owed) same) owes));
   }
 
+  -- no claim comes
+  pub ended_claims : (old mid new : Base F) (actor lane : ℕ) → mid.books ≡ old.books → Ends actor lane mid new → (c : claim.Claim) → Contains new.books.claims.items c → Contains old.books.claims.items c
+  ended_claims old mid new actor lane same ends c has = subst (λ (b : rust.Books). Contains b.claims.items c) same (ends.claims c has)
+
   pub quiet_sound : (old mid new : Base F) (actor lane : ℕ) (t : T) → mid.books ≡ old.books → Ends actor lane mid new → IsBy (kind t) actor lane → IsQuiet (kind t) → Stood (kind t) actor lane (books_of old.books) → Ready view clock spare was (Runs kind facts lane t) old
       → Wrote old.fs mid.fs actor t → Calls old.fs mid.fs → old.books.owed ≤ spare mid.fs → Sound view clock spare was new
   quiet_sound old mid new actor lane t same ends by is stood ready wrote time room =
@@ -117,22 +147,26 @@ module _ {F : Type 0} (view : F → Option View) (clock spare : F → ℕ) (was 
       let parts = quiet_parts old actor lane t by is stood ready v told_v in
       let wrote_w : Writes (writes actor t v) v w = told_same (view mid.fs) w (ap view (sym ends.fs) ∙ told_w) (wrote v told_v) in
       rw (history, pending) (stands_quiet (first old.books.start.items) old.books.history.items (books_of old.books) actor lane (writes actor t v) v w wrote_w parts.0 parts.1 ready.sound.ordered.owner none stands))
+      (λ v w told_v told_w there.
+      let parts = quiet_parts old actor lane t by is stood ready v told_v in
+      let wrote_w : Writes (writes actor t v) v w = told_same (view mid.fs) w (ap view (sym ends.fs) ∙ told_w) (wrote v told_v) in
+      claims_stand (books_of old.books) v w actor lane (weaker (writes actor t v) (May (books_of old.books) v actor lane) v w parts.0 wrote_w) old.books.claims.items new.books.claims.items (ended_claims old mid new actor lane same ends) there)
 
   pub quiet_does : (old mid new : Base F) (actor lane : ℕ) (t : T) → mid.books ≡ old.books → Ends actor lane mid new → IsBy (kind t) actor lane → IsQuiet (kind t) → Stood (kind t) actor lane (books_of old.books) → Ready view clock spare was (Runs kind facts lane t) old
       → Wrote old.fs mid.fs actor t → (v : View) → view old.fs ≡ Some v → (w : View) × (view new.fs ≡ Some w) × Does actor lane v (books_of old.books) w (books_of new.books)
   quiet_does old mid new actor lane t same ends by is stood ready wrote v told =
       let w = wrote v told in
       let parts = quiet_parts old actor lane t by is stood ready v told in
-      (w.0, ap view ends.fs ∙ w.1, record { writes = weaker (writes actor t v) (May (books_of old.books) v actor lane) v w.0 parts.0 w.2; books = subst (λ b. Spared actor lane (books_of b) (books_of new.books)) same ends.spared })
+      (w.0, ap view ends.fs ∙ w.1, record { writes = weaker (writes actor t v) (May (books_of old.books) v actor lane) v w.0 parts.0 w.2; books = subst (λ b. Spared actor lane (books_of b) (books_of new.books)) same ends.spared; claims = λ c has. inl (ended_claims old mid new actor lane same ends c has) })
 
-  pub quiet_runs : (old : Base F) (fs : F) (actor lane : ℕ) (t new : T) → IsQuiet (kind t) → Stood (kind t) actor lane (books_of old.books) → Ready view clock spare was (Runs kind facts lane t) old
+  pub quiet_runs : (old : Base F) (fs : F) (actor lane : ℕ) (t new : T) → IsPlain (kind t) → Stood (kind t) actor lane (books_of old.books) → Ready view clock spare was (Runs kind facts lane t) old
       → stepped t turn.More new → ((v : View) → view old.fs ≡ Some v → Told (view fs) (λ w. leaves t turn.More new v w))
       → Runs kind facts lane new (view fs) (books_of old.books)
   quiet_runs old fs actor lane t new is stood ready step after = record {
     facts = λ w told_w.
         let v = fslaws.told fs old.fs w told_w in
-        laws.next actor lane t new v.0 w (books_of old.books) (books_of old.books) stood (ready.task.facts v.0 v.1) (told_same (view fs) w told_w (after v.0 v.1)) (keeps_refl lane (books_of old.books));
-    holds = before_holds (kind new) lane (books_of old.books) (quiet_chain (kind t) (kind new) is (laws.chain t new step)) (quiet_not (kind t) lane (books_of old.books) is ready.task.holds);
+        laws.next actor lane t new v.0 w (books_of old.books) (books_of old.books) stood (ready.task.facts v.0 v.1) (told_same (view fs) w told_w (after v.0 v.1)) (keeps_refl lane (books_of old.books)) (plain_owned (kind t) lane (books_of old.books) is);
+    holds = before_holds (kind new) lane (books_of old.books) (quiet_chain (kind t) (kind new) (plain_quiet (kind t) is) (laws.chain t new step)) (quiet_not (kind t) lane (books_of old.books) (plain_quiet (kind t) is) ready.task.holds);
   }
 
   -- A step that changes nothing that the state speaks of, and what its command gives up then.
@@ -148,7 +182,7 @@ module _ {F : Type 0} (view : F → Option View) (clock spare : F → ℕ) (was 
         tells = tells;
       }
 
-  pub quiet_tells : (old mid : Base F) (actor lane : ℕ) (t next : T) (u : Turn (Unit {0})) → mid ≡ record old { fs = mid.fs } → IsQuiet (kind t) → Stood (kind t) actor lane (books_of old.books) → Ready view clock spare was (Runs kind facts lane t) old
+  pub quiet_tells : (old mid : Base F) (actor lane : ℕ) (t next : T) (u : Turn (Unit {0})) → mid ≡ record old { fs = mid.fs } → IsPlain (kind t) → Stood (kind t) actor lane (books_of old.books) → Ready view clock spare was (Runs kind facts lane t) old
       → u ≡ turn.More → stepped t u next → ((v : View) → view old.fs ≡ Some v → Told (view mid.fs) (λ w. leaves t u next v w))
       → Runs kind facts lane next (view mid.fs) (books_of mid.books)
   quiet_tells old mid actor lane t next u only is stood ready more step after =
@@ -173,6 +207,7 @@ module _ {T : Type 0} {kind : T → Kind} {needs : ℕ → T → View → Type 0
       by Quiet h = not_mine h
       by Store h = not_mine h
       by (Take wants) h = not_mine h
+      by (Claim name) h = not_mine h
       by (Show e) h = not_mine h
       by (Shown e owed) h = (still e owed h.0, h.1)
       by (Settle e) h = still e 1 h
@@ -197,7 +232,7 @@ tells_end view runs came.More new is = absurd is
 tells_end view runs came.Done new is = tt
 
 pub ends_refl : {F : Type 0} (actor lane : ℕ) (base : Base F) → Ends actor lane base base
-ends_refl actor lane base = record { fs = refl; history = refl; pending = refl; owed = refl; opened = refl; start = refl; spared = spared_refl actor lane (books_of base.books); agrees = λ a. a }
+ends_refl actor lane base = record { fs = refl; history = refl; pending = refl; owed = refl; opened = refl; start = refl; claims = λ c has. has; spared = spared_refl actor lane (books_of base.books); agrees = λ a. a }
 
 -- where no time goes by the view is as it was
 pub view_stays : {F : Type 0} (view : F → Option View) (clock : F → ℕ) (was : F → ℕ → View → Type 0) (only_now : (fs : F) (t : ℕ) (v : View) → clock fs ≤ t → was fs t v → view fs ≡ Some v) (counts_now : (fs : F) (t : ℕ) (v : View) → t ≤ clock fs → view fs ≡ Some v → was fs t v)

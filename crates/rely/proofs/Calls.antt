@@ -1,7 +1,7 @@
 -- What single calls owe: each kind of call once, for the tasks of all commands.
-use Rattle.std.proofs.Common.{◌≡◌, ◌≢◌, ◌⊎◌, inl, inr, ⊎_elim, ℕ, refl, sym, ◌∙◌, ap, subst, List, Option, Some, None}
+use Rattle.std.proofs.Common.{◌≡◌, ◌≢◌, ◌⊎◌, inl, inr, ⊎_elim, ℕ, refl, sym, ◌∙◌, ap, subst, List, [], ◌∷◌, ◌++◌, Option, Some, None}
 use Rattle.ost_types.specs.declared.meta.Meta.{Meta}
-use Rattle.ost_types.specs.Path.{Path, IsPath, under}
+use Rattle.ost_types.specs.Path.{Name, Path, IsPath, under}
 use Rattle.fs_trait.specs.declared.types.Value.TheVariants.{File}
 use Rattle.fs_trait.specs.View.{View}
 use Rattle.fs_trait.specs.Image.{Holds}
@@ -10,15 +10,16 @@ use Rattle.fs_trait.specs.Seen.{Seen, Vacant, Directory, Symlink, Leaf, shows, M
 use Rattle.fs_trait.specs.Change.{Nothing}
 use Rattle.repo_layout.specs.RefName.{IsRefName}
 use Rattle.repo_layout.specs.RefFile.{IsSum, ref_text}
+use Rattle.repo_layout.specs.BootPaths.{checkout_path}
 use Rattle.repo_layout.specs.Paths.{ref_path}
-use Rattle.repo_layout.specs.Place.{Mark, Object, Stage, Ref, place}
-use Rattle.repo_layout.proofs.Places.{place-ref, ref_path-injective}
+use Rattle.repo_layout.specs.Place.{Checkout, Mark, Object, Stage, Ref, place}
+use Rattle.repo_layout.proofs.Places.{place-checkout, place-ref, ref_path-injective}
 use Rattle.layout_rules.specs.InLayout.{InLayout}
-use Rattle.layout_rules.proofs.RulePlaces.{no_ref, no_stage}
+use Rattle.layout_rules.proofs.RulePlaces.{no_checkout, no_ref, no_stage}
 use Rattle.rely.specs.declared.event.Event.TheVariants.{SetRef, DropRef}
 use Rattle.rely.specs.State.{Topic, RefOf}
 use Rattle.rely.specs.Disks.{path_of, IsLeaf, Says}
-use Rattle.rely.specs.Books.{Books, Free}
+use Rattle.rely.specs.Books.{Books, Free, IsClaimed}
 use Rattle.rely.specs.Rely.{May, may_at, NotOthers, OwnTree, HasNoRefs}
 use Rattle.rely.specs.Sound.{ShownBy, Leads}
 use Rattle.rely.specs.Change.{Still, Shows, Final}
@@ -47,6 +48,7 @@ stage_within b v actor lane p s at bounds comes = record {
   fits = stage_fits actor p s at bounds;
   objects = λ kind sum e. (let k : Stage actor ≡ Object kind sum = sym at ∙ e in cc);
   marks = λ c e there. (let k : Stage actor ≡ Mark c = sym at ∙ e in cc);
+  checkouts = λ name e. (let k : Stage actor ≡ Checkout name [] = sym at ∙ e in cc);
   comes = comes;
   folders = inr (inr (inl (subst (OwnTree actor) (sym at) refl)));
 }
@@ -67,6 +69,7 @@ ref_within b v actor lane name p s e turn alone bounds comes folders = record {
   fits = ref_fits name p s (ap place e ∙ place-ref name) (λ there. subst IsPath (sym e) (bounds there));
   objects = λ kind sum k. (let n : Ref name ≡ Object kind sum = sym (ap place e ∙ place-ref name) ∙ k in cc);
   marks = λ c k there. (let n : Ref name ≡ Mark c = sym (ap place e ∙ place-ref name) ∙ k in cc);
+  checkouts = λ x k. (let n : Ref name ≡ Checkout x [] = sym (ap place e ∙ place-ref name) ∙ k in cc);
   comes = comes;
   folders = ⊎_elim (λ k. inl k) (λ rest. ⊎_elim (λ k. inr (inl k)) (λ k. inr (inr (inr (inr k)))) rest) folders;
 }
@@ -117,3 +120,41 @@ set_final w name commit seen sum only leads = record { only = λ s may. (sum, on
 
 pub drop_final : (w : View) (name seen : List ℕ) → ((s : Seen) → MayBe w (ref_path name) s → IsLeaf s → ⊥) → Final (DropRef name seen) w
 drop_final w name seen only = record { only = only; leads = λ c is. absurd (let z : None ≡ Some c = is in cc) }
+
+-- No rule of the layout is for a path in a checkout.
+pub checkout_fits : (name : Name) (rest p : Path) (s : Seen) → place p ≡ Checkout name rest → (s ≢ Vacant → IsPath p) → InLayout p s
+checkout_fits name rest p s at bounds = record { suits = λ rule is. absurd (no_checkout rule p name rest is at); bounds = bounds }
+
+-- The folder of a checkout, where nothing stands.
+pub folder_within : (b : Books) (v : View) (actor lane : ℕ) (name : Name) (p : Path) (s : Seen) → p ≡ checkout_path name → IsPath p → IsDirectory s → shows v.now p ≡ Vacant → May b v actor lane p s
+folder_within b v actor lane name p s e bounds is vacant =
+    let at : place p ≡ Checkout name [] = ap place e ∙ place-checkout name [] in
+    record {
+      at = subst (λ x. may_at b actor lane x s) (sym at) is;
+      fits = checkout_fits name [] p s at (λ there. bounds);
+      objects = λ kind sum k. (let n : Checkout name [] ≡ Object kind sum = sym at ∙ k in cc);
+      marks = λ c k there. (let n : Checkout name [] ≡ Mark c = sym at ∙ k in cc);
+      checkouts = λ x k. vacant;
+      comes = λ n m bytes k. absurd (let bad : IsDirectory (Leaf n m bytes) = subst IsDirectory k is in bad);
+      folders = inl is;
+    }
+
+-- A write in the folder of a checkout that is the lane's.
+pub checkout_within : (b : Books) (v : View) (actor lane : ℕ) (name x : Name) (rest p : Path) (s : Seen) → p ≡ checkout_path name ++ x ∷ rest → IsClaimed name lane b → (s ≢ Vacant → IsPath p)
+    → ((n : ℕ) (m : Meta) (bytes : List ℕ) → s ≡ Leaf n m bytes → IsFresh n v ⊎ ((q : Path) × Holds v q (File n) × NotOthers actor (place q)))
+    → IsDirectory s ⊎ NotDirectory (shows v.now p) → May b v actor lane p s
+checkout_within b v actor lane name x rest p s e claimed bounds comes folders =
+    let at : place p ≡ Checkout name (x ∷ rest) = ap place e ∙ place-checkout name (x ∷ rest) in
+    record {
+      at = subst (λ y. may_at b actor lane y s) (sym at) claimed.mine;
+      fits = checkout_fits name (x ∷ rest) p s at bounds;
+      objects = λ kind sum k. (let n : Checkout name (x ∷ rest) ≡ Object kind sum = sym at ∙ k in cc);
+      marks = λ c k there. (let n : Checkout name (x ∷ rest) ≡ Mark c = sym at ∙ k in cc);
+      checkouts = λ y k. absurd (let n : Checkout name (x ∷ rest) ≡ Checkout y [] = sym at ∙ k in cc);
+      comes = comes;
+      folders = ⊎_elim (λ k. inl k) (λ k. inr (inl k)) folders;
+    }
+
+-- Whatever is written in checkouts alone changes nothing that the state speaks of.
+pub checkout_still : (W : Path → Seen → Type 0) (v : View) → ((p : Path) (s : Seen) → W p s → (name : Name) × (rest : Path) × (place p ≡ Checkout name rest)) → Still W v
+checkout_still W v at (RefOf name) s wrote = absurd (let k = at (ref_path name) s wrote in let n : Ref name ≡ Checkout k.0 k.1 = sym (place-ref name) ∙ k.2 in cc)

@@ -4,10 +4,12 @@ pub mod Mays
 pub mod Knowns
 mod Lists
 pub mod Locking
+pub mod Claiming
 pub mod Sounds
 pub mod Acting
 pub mod Showing
 pub mod Taking
+pub mod Noting
 pub mod Pinning
 pub mod Calls
 pub mod Headlines

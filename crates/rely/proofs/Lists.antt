@@ -1,5 +1,5 @@
 -- Lists from which some were taken, or to which one was added.
-use Rattle.std.proofs.Common.{◌≡◌, ◌≢◌, ◌⊎◌, inl, inr, ⊎_elim, ℕ, zero, suc, Bool, true, false, not, nat_eq, refl, sym, ◌∙◌, ap, arith, List, [], ◌∷◌, All, Contains}
+use Rattle.std.proofs.Common.{◌≡◌, ◌≢◌, ◌⊎◌, inl, inr, ⊎_elim, ℕ, zero, suc, Bool, true, false, not, nat_eq, refl, sym, ◌∙◌, ap, arith, List, [], ◌∷◌, ◌++◌, All, Contains}
 use Rattle.std.specs.List.{filter}
 use Rattle.std.proofs.lemmas.Bool.Decides.{nat_tests}
 use Rattle.std.proofs.lemmas.List.Elements.{Contains-get_or}
@@ -11,6 +11,14 @@ apart_test a b other = by (nat_eq a b) refl
     by true is = absurd (other (let e : a ≡ b = grind (arith, nat_tests) in e))
     by false is = ap not is
 
+-- two numbers that are the same unless they differ
+pub other_or_own : (a b : ℕ) → (a ≢ b → a ≡ b) → a ≡ b
+other_or_own a b h = by (nat_eq a b) refl
+  where
+    by : (t : Bool) → nat_eq a b ≡ t → a ≡ b
+    by true e = grind (arith, nat_tests)
+    by false e = h (λ same. let z : true ≡ false = sym (let k : nat_eq b b ≡ true = grind (arith, nat_tests) in k) ∙ ap (λ y. nat_eq y b) (sym same) ∙ e in cc)
+
 module _ {X : Type 0} where
   contains_here : (xs : List X) (y x : X) → y ≡ x → Contains (y ∷ xs) x
   contains_here xs y x e = (0, omega arith, e)
@@ -21,6 +29,25 @@ module _ {X : Type 0} where
   pub contains_cases : (xs : List X) (y x : X) → Contains (y ∷ xs) x → (y ≡ x) ⊎ Contains xs x
   contains_cases xs y x (zero, lt, e) = inl e
   contains_cases xs y x (suc k, lt, e) = inr (k, omega arith, e)
+
+  -- the last element of a list that was added
+  pub added_cases : (xs : List X) (y x : X) → Contains (xs ++ y ∷ []) x → Contains xs x ⊎ (y ≡ x)
+  added_cases [] y x has = ⊎_elim (λ here. inr here) (λ later. inl later) (contains_cases [] y x has)
+  added_cases (z ∷ xs) y x has = ⊎_elim
+      (λ here. inl (contains_here xs z x here))
+      (λ later. ⊎_elim (λ was. inl (contains_later xs z x was)) (λ is. inr is) (added_cases xs y x later))
+      (contains_cases (xs ++ y ∷ []) z x has)
+
+  pub contains_added : (xs : List X) (y : X) → Contains (xs ++ y ∷ []) y
+  contains_added [] y = contains_here [] y y refl
+  contains_added (z ∷ xs) y = contains_later (xs ++ y ∷ []) z y (contains_added xs y)
+
+  pub added_contains : (xs : List X) (y x : X) → Contains xs x → Contains (xs ++ y ∷ []) x
+  added_contains [] y x has = contains_later [] y x has
+  added_contains (z ∷ xs) y x has = ⊎_elim
+      (λ here. contains_here (xs ++ y ∷ []) z x here)
+      (λ later. contains_later (xs ++ y ∷ []) z x (added_contains xs y x later))
+      (contains_cases xs z x has)
 
   pub contains_filter : (test : X → Bool) (xs : List X) (x : X) → test x ≡ true → Contains xs x → Contains (filter test xs) x
   contains_filter test [] x is has = has

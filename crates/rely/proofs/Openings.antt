@@ -1,5 +1,5 @@
 -- The beginning keeps what every value keeps.
-use Rattle.std.proofs.Common.{◌≡◌, ◌⊎◌, inl, inr, ⊎_elim, ◌<◌, ◌≤◌, ℕ, refl, sym, ◌∙◌, ap, subst, arith, List, [], true, false, Option, Some, None}
+use Rattle.std.proofs.Common.{◌≡◌, ◌⊎◌, inl, inr, ⊎_elim, ◌<◌, ◌≤◌, ℕ, refl, sym, ◌∙◌, ap, subst, arith, List, [], ◌∷◌, true, false, Contains, Option, Some, None}
 use Rattle.ost_types.specs.Path.{Path, under}
 use Rattle.fs_trait.specs.declared.types.Value.{Value}
 use Rattle.fs_trait.specs.declared.types.Value.TheVariants.{Absent, Folder, Link, File}
@@ -15,6 +15,7 @@ use Rattle.repo_layout.specs.Refs.{is_leaf}
 use Rattle.repo_layout.proofs.Places.{place-ref}
 use Rattle.rely.specs.declared.books.Base.{Base}
 use Rattle.rely.specs.declared.books.Books.{Books}
+use Rattle.rely.specs.declared.books.Claim.{Claim}
 use Rattle.rely.specs.State.{Topic, RefOf, Said, State, first, IsNamed}
 use Rattle.rely.specs.Disks.{path_of, IsLeaf, Says, IsOther}
 use Rattle.rely.specs.Sound.{Leads, NoStray, Stands, Sound}
@@ -89,11 +90,15 @@ module _ (start : State) (v : View) (tree : IsTree v.now) (begins : IsOpening st
     reached = within_bounds;
   }
 
+no_member : (claims : List Claim) → claims ≡ [] → (c : Claim) → Contains claims c → ⊥
+no_member [] none c (k, lt, e) = omega (arith, lt)
+no_member (x ∷ claims) none c has = let z : x ∷ claims ≡ [] = none in cc
+
 pub sound_begins : {F : Type 0} (view : F → Option View) (clock spare : F → ℕ) (was : F → ℕ → View → Type 0) → ((fs : F) (v : View) → view fs ≡ Some v → IsTree v.now) → (base : Base F)
-    → base.books.exclusive ≡ None → base.books.turn ≡ None → base.books.history.items ≡ [] → base.books.pending ≡ None → base.books.owed ≡ 0 → base.books.opened ≤ clock base.fs
+    → base.books.exclusive ≡ None → base.books.turn ≡ None → base.books.history.items ≡ [] → base.books.claims.items ≡ [] → base.books.pending ≡ None → base.books.owed ≡ 0 → base.books.opened ≤ clock base.fs
     → ((v : View) → view base.fs ≡ Some v → IsOpening (first base.books.start.items) v)
     → ((v : View) → view base.fs ≡ Some v → HasSince (Left (was base.fs)) base.books.opened (first base.books.start.items)) → Sound view clock spare was base
-sound_begins view clock spare was trees base alone turn empty none nothing opened begins since = record {
+sound_begins view clock spare was trees base alone turn empty unclaimed none nothing opened begins since = record {
   ordered = record {
     agrees = record { turn = λ x y ex. absurd (let z : None ≡ Some x = sym alone ∙ ex in cc); shared = λ x ex. absurd (let z : None ≡ Some x = sym alone ∙ ex in cc) };
     owner = λ p is. absurd (let z : None ≡ Some p = sym none ∙ is in cc);
@@ -108,15 +113,16 @@ sound_begins view clock spare was trees base alone turn empty none nothing opene
         let has = since v told t d from left in
         record { past = []; rest = []; split = refl; has_acked = omega arith; shows = has.1; sane = has.0 };
   });
+  claims = λ v told c has. absurd (no_member base.books.claims.items unclaimed c has);
 }
 
 -- so it is of books that are new
 pub sound_new : {F : Type 0} (view : F → Option View) (clock spare : F → ℕ) (was : F → ℕ → View → Type 0) → ((fs : F) (v : View) → view fs ≡ Some v → IsTree v.now) → (fs : F) (books : Books) (opened : ℕ) (start : List (List ℕ × List ℕ))
-    → books.exclusive ≡ None → books.turn ≡ None → books.history.items ≡ [] → books.pending ≡ None → books.owed ≡ 0 → books.opened ≡ opened → books.start.items ≡ start
+    → books.exclusive ≡ None → books.turn ≡ None → books.history.items ≡ [] → books.claims.items ≡ [] → books.pending ≡ None → books.owed ≡ 0 → books.opened ≡ opened → books.start.items ≡ start
     → opened ≤ clock fs → ((v : View) → view fs ≡ Some v → IsOpening (first start) v) → ((v : View) → view fs ≡ Some v → HasSince (Left (was fs)) opened (first start))
     → Sound view clock spare was (record { fs = fs; books = books })
-sound_new view clock spare was trees fs books opened start alone turn empty none nothing at these past begins since =
-    sound_begins view clock spare was trees (record { fs = fs; books = books }) alone turn empty none nothing
+sound_new view clock spare was trees fs books opened start alone turn empty unclaimed none nothing at these past begins since =
+    sound_begins view clock spare was trees (record { fs = fs; books = books }) alone turn empty unclaimed none nothing
     (subst (λ n. n ≤ clock fs) (sym at) past)
     (λ v told. subst (λ l. IsOpening (first l) v) (sym these) (begins v told))
     (λ v told. subst (λ n. HasSince (Left (was fs)) n (first books.start.items)) (sym at) (subst (λ l. HasSince (Left (was fs)) opened (first l)) (sym these) (since v told)))

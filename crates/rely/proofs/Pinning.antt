@@ -1,5 +1,5 @@
 -- Which pins there are after an act.
-use Rattle.std.proofs.Common.{◌≡◌, ◌≢◌, ◌⊎◌, inl, inr, ⊎_elim, ℕ, suc, Bool, true, false, not, nat_eq, refl, sym, ◌∙◌, ap, arith, List, [], ◌∷◌, ◌++◌, append-nil, Contains, Option, Some, None}
+use Rattle.std.proofs.Common.{◌≡◌, ◌≢◌, ◌⊎◌, inl, inr, ⊎_elim, ℕ, Bool, true, false, not, nat_eq, refl, sym, ◌∙◌, ap, arith, List, [], ◌∷◌, ◌++◌, append-nil, Contains, Option, Some, None}
 use Rattle.std.specs.List.{filter}
 use Rattle.std.proofs.lemmas.Bool.Decides.{nat_tests}
 use Rattle.std.proofs.lemmas.List.Elements.{filter-append}
@@ -8,7 +8,7 @@ use Rattle.rely.specs.declared.books.Pin.{Pin}
 use Rattle.rely.specs.declared.kind.Outcome.{Outcome}
 use Rattle.rely.specs.declared.kind.Outcome.TheVariants as came
 use Rattle.rely.specs.Pinning.{ArePinned, is_others, with_pin, without}
-use Rattle.rely.proofs.Lists.{contains_cases, filter_contains}
+use Rattle.rely.proofs.Lists.{added_cases, contains_cases, filter_contains}
 
 -- a lane's own pin is none of the others'
 own_goes : (lane : ℕ) (object : ObjName) → without lane (record { lane = lane; object = object } ∷ []) ≡ []
@@ -28,14 +28,6 @@ pinned_then pin lane came.Halted old mid new goes is so = so ∙ is
 pinned_then pin lane came.Done old mid new goes is so = so ∙ ap (without lane) is ∙ without_pin pin lane old
 pinned_then pin lane (came.Refused e) old mid new goes is so = so ∙ ap (without lane) is ∙ without_pin pin lane old
 pinned_then pin lane came.Blocked old mid new goes is so = absurd (goes refl)
-
--- the last element of a list that was added
-added_cases : (pins : List Pin) (x p : Pin) → Contains (pins ++ x ∷ []) p → Contains pins p ⊎ (x ≡ p)
-added_cases [] x p has = ⊎_elim (λ here. inr here) (λ later. inl later) (contains_cases [] x p has)
-added_cases (y ∷ pins) x p has = ⊎_elim
-    (λ here. inl (0, omega arith, here))
-    (λ later. ⊎_elim (λ was. (let lt = was.1 in inl (suc was.0, omega arith, was.2))) (λ is. inr is) (added_cases pins x p later))
-    (contains_cases (pins ++ x ∷ []) y p has)
 
 -- each pin is an old one, or the lane's of this object
 pub with_cases : (pin : Option ObjName) (lane : ℕ) (pins : List Pin) (p : Pin) → Contains (with_pin pin lane pins) p → Contains pins p ⊎ ((p.lane ≡ lane) × (pin ≡ Some p.object))

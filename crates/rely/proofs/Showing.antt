@@ -1,5 +1,5 @@
 -- The step that shows a change, those behind it, and the one that makes it last.
-use Rattle.std.proofs.Common.{◌≡◌, inl, inr, ◌+◌, ◌-◌, ◌<◌, ◌≤◌, ℕ, refl, sym, ◌∙◌, ap, subst, arith, List, [], ◌∷◌, ◌++◌, append-nil, Bool, Option, Some, None}
+use Rattle.std.proofs.Common.{◌≡◌, inl, inr, ◌+◌, ◌-◌, ◌<◌, ◌≤◌, ℕ, refl, sym, ◌∙◌, ap, subst, arith, List, [], ◌∷◌, ◌++◌, append-nil, Bool, Contains, Option, Some, None}
 use Rattle.std.specs.Vec.{vec_len, vec_capacity}
 use Rattle.ost_types.specs.Path.{Path}
 use Rattle.fs_trait.specs.declared.task.Turn.{Turn}
@@ -13,6 +13,7 @@ use Rattle.fs_trait.specs.Effect.{Elapses, Next}
 use Rattle.fs_trait.proofs.Kept.{weaker, same_view}
 use Rattle.rely.specs.declared.books.Base.{Base}
 use Rattle.rely.specs.declared.books.Books as rust
+use Rattle.rely.specs.declared.books.Claim as claim
 use Rattle.rely.specs.declared.books.Entry.{Entry}
 use Rattle.rely.specs.declared.books.Pending.{Pending}
 use Rattle.rely.specs.declared.event.Event.{Event}
@@ -21,14 +22,15 @@ use Rattle.rely.specs.declared.kind.Outcome.TheVariants as came
 use Rattle.rely.specs.State.{first, events_of, stored}
 use Rattle.rely.specs.Books.{Books, books_of, Free, Agrees, Spared}
 use Rattle.rely.specs.Rely.{May, Does}
-use Rattle.rely.specs.Sound.{Stands, Sound}
+use Rattle.rely.specs.Sound.{AreThere, Stands, Sound}
 use Rattle.rely.specs.Change.{Away, Shows, Final}
-use Rattle.rely.specs.Laws.{Kind, Quiet, Store, Take, Show, Shown, Settle, Laws, Duty, Within, IsShow, IsShown, IsSettle, IsLastly, Chain, Follows, Holds, Stood, NotPending, IsPending, Runs, Ready, Tells, Acts, Ends, owed_by}
+use Rattle.rely.specs.Laws.{Kind, Quiet, Store, Take, Claim, Show, Shown, Settle, Laws, Duty, Within, Owned, IsShow, IsShown, IsSettle, IsLastly, Chain, Follows, Holds, Stood, NotPending, IsPending, Runs, Ready, Tells, Acts, Ends, owed_by}
 use Rattle.rely.proofs.States.{ascends_later, ascends_push, events_push, acked_late}
 use Rattle.rely.proofs.Knowns.{stands_show, stands_away, stands_settle}
+use Rattle.rely.proofs.Claiming.{claims_stand}
 use Rattle.rely.proofs.Locking.{spared_refl, spared_then}
 use Rattle.rely.proofs.Sounds.{IsFs, sound_goes}
-use Rattle.rely.proofs.Acting.{told_same, ends_ordered}
+use Rattle.rely.proofs.Acting.{told_same, ended_claims, ends_ordered}
 
 pub no_pending : (o : Option Pending) → ((p : Pending) → o ≡ Some p → ⊥) → o ≡ None
 no_pending None none = refl
@@ -39,6 +41,7 @@ pub follows_holds : (e : Event) (most : ℕ) (next : Kind) (lane : ℕ) (b : Boo
 follows_holds e most Quiet lane b c h = absurd c
 follows_holds e most Store lane b c h = absurd c
 follows_holds e most (Take wants) lane b c h = absurd c
+follows_holds e most (Claim name) lane b c h = absurd c
 follows_holds e most (Show d) lane b c h = absurd c
 follows_holds e most (Shown d owed) lane b c h = (subst (λ (x : Event). IsPending x owed lane b) (sym c.0) h, c.2)
 follows_holds e most (Settle d) lane b c h = subst (λ (x : Event). IsPending x 1 lane b) (sym c.0) h
@@ -47,6 +50,7 @@ pub follows_owed : (e : Event) (most : ℕ) (next : Kind) → Follows e most nex
 follows_owed e most Quiet c = absurd c
 follows_owed e most Store c = absurd c
 follows_owed e most (Take wants) c = absurd c
+follows_owed e most (Claim name) c = absurd c
 follows_owed e most (Show d) c = absurd c
 follows_owed e most (Shown d owed) c = c.1
 follows_owed e most (Settle d) c = c.1
@@ -55,6 +59,7 @@ pub show_is : (k : Kind) → IsShow k → (e : Event) × (k ≡ Show e)
 show_is Quiet is = absurd is
 show_is Store is = absurd is
 show_is (Take wants) is = absurd is
+show_is (Claim name) is = absurd is
 show_is (Show e) is = (e, refl)
 show_is (Shown e owed) is = absurd is
 show_is (Settle e) is = absurd is
@@ -63,6 +68,7 @@ pub shown_is : (k : Kind) → IsShown k → (e : Event) × (owed : ℕ) × (k �
 shown_is Quiet is = absurd is
 shown_is Store is = absurd is
 shown_is (Take wants) is = absurd is
+shown_is (Claim name) is = absurd is
 shown_is (Show e) is = absurd is
 shown_is (Shown e owed) is = (e, owed, refl)
 shown_is (Settle e) is = absurd is
@@ -71,6 +77,7 @@ pub settle_is : (k : Kind) → IsSettle k → (e : Event) × (k ≡ Settle e)
 settle_is Quiet is = absurd is
 settle_is Store is = absurd is
 settle_is (Take wants) is = absurd is
+settle_is (Claim name) is = absurd is
 settle_is (Show e) is = absurd is
 settle_is (Shown e owed) is = absurd is
 settle_is (Settle e) is = (e, refl)
@@ -91,7 +98,7 @@ module _ {F : Type 0} (view : F → Option View) (clock spare : F → ℕ) (was 
   pub blocked_acts : (base : Base F) (actor lane : ℕ) (t : T) → Ready view clock spare was (Runs kind facts lane t) base → Acts view clock spare was actor lane came.Blocked (Runs kind facts lane t) base base
   blocked_acts base actor lane t ready = record {
     sound = ready.sound;
-    does = λ v told. (v, told, record { writes = same_view (May (books_of base.books) v actor lane) v; books = spared_refl actor lane (books_of base.books) });
+    does = λ v told. (v, told, record { writes = same_view (May (books_of base.books) v actor lane) v; books = spared_refl actor lane (books_of base.books); claims = λ c has. inl has });
     books = spared_refl actor lane (books_of base.books);
     tells = ready.task;
   }
@@ -104,6 +111,7 @@ module _ {F : Type 0} (view : F → Option View) (clock spare : F → ℕ) (was 
       let history : new.books.history ≡ old.books.history = ends.history ∙ ap (λ b. b.history) same in
       let pending : new.books.pending ≡ old.books.pending = ends.pending ∙ ap (λ b. b.pending) same in
       let spared = subst (λ b. Spared actor lane (books_of b) (books_of new.books)) same ends.spared in
+      let fewer = ended_claims view clock spare was fslaws laws old mid new actor lane same ends in
       record {
         sound = sound_goes view clock spare was fslaws old new [] ready.sound (subst (Calls old.fs) (sym ends.fs) time)
             (ends_ordered view clock spare was fslaws laws old mid new actor lane same ends none time.later room ready.sound.ordered)
@@ -114,8 +122,12 @@ module _ {F : Type 0} (view : F → Option View) (clock spare : F → ℕ) (was 
             (λ v w told_v told_w stands.
             let one : Some v ≡ Some w = sym (unchanged v told_v) ∙ sym (ap view ends.fs) ∙ told_w in
             let k : v ≡ w = cc in
-            rw (history, pending) (subst (λ x. Stands (first old.books.start.items) old.books.history.items old.books.pending x) k stands));
-        does = λ v told. (v, ap view ends.fs ∙ unchanged v told, record { writes = same_view (May (books_of old.books) v actor lane) v; books = spared });
+            rw (history, pending) (subst (λ x. Stands (first old.books.start.items) old.books.history.items old.books.pending x) k stands))
+            (λ v w told_v told_w there.
+            let one : Some v ≡ Some w = sym (unchanged v told_v) ∙ sym (ap view ends.fs) ∙ told_w in
+            let k : v ≡ w = cc in
+            subst (λ x. AreThere new.books.claims.items x) k (λ c has. there c (fewer c has)));
+        does = λ v told. (v, ap view ends.fs ∙ unchanged v told, record { writes = same_view (May (books_of old.books) v actor lane) v; books = spared; claims = λ c has. inl (fewer c has) });
         books = spared;
         tells = tt;
       }
@@ -155,6 +167,8 @@ module _ {F : Type 0} (view : F → Option View) (clock spare : F → ℕ) (was 
         holds = s.holds;
         wants = s.wants;
         pins = s.pins;
+        claims = s.claims;
+        claimers = s.claimers;
         uses = s.uses;
         pending = λ q other is. absurd (let z : None ≡ Some q = sym none ∙ is in cc);
         shown = λ q is. inr (let k : p ≡ q = cc in ap (λ (x : Pending). x.lane) (sym k));
@@ -191,9 +205,12 @@ module _ {F : Type 0} (view : F → Option View) (clock spare : F → ℕ) (was 
             (λ v w told_v told_w stands.
             let d = show_duty old lane t e is turn_free free ready v told_v in
             stands_show (first old.books.start.items) old.books.history.items (books_of old.books) lane lane p (writes lane t v) v w (told_same (view fs) w told_w (wrote v told_v)) d.0 d.1
-            (subst (λ (o : Option Pending). Stands (first old.books.start.items) old.books.history.items o v) none stands));
+            (subst (λ (o : Option Pending). Stands (first old.books.start.items) old.books.history.items o v) none stands))
+            (λ v w told_v told_w there.
+            let d = show_duty old lane t e is turn_free free ready v told_v in
+            claims_stand (books_of old.books) v w lane lane (weaker (writes lane t v) (May (books_of old.books) v lane lane) v w d.0 (told_same (view fs) w told_w (wrote v told_v))) old.books.claims.items old.books.claims.items (λ c has. has) there);
         does = λ v told. let w = wrote v told in let d = show_duty old lane t e is turn_free free ready v told in
-            (w.0, w.1, record { writes = weaker (writes lane t v) (May (books_of old.books) v lane lane) v w.0 d.0 w.2; books = spared });
+            (w.0, w.1, record { writes = weaker (writes lane t v) (May (books_of old.books) v lane lane) v w.0 d.0 w.2; books = spared; claims = λ c has. inl has });
         books = spared;
         tells = tells;
       }
@@ -210,7 +227,8 @@ module _ {F : Type 0} (view : F → Option View) (clock spare : F → ℕ) (was 
             let v = fslaws.told fs old.fs w told_w in
             laws.next lane lane t next v.0 w (books_of old.books) b (subst (λ (k : Kind). Stood k lane lane (books_of old.books)) (sym is) (turn_free, free)) (ready.task.facts v.0 v.1)
             (told_same (view fs) w told_w (subst (λ x. Told (view fs) (λ w. leaves t x next v.0 w)) more (after v.0 v.1)))
-            (record { exclusive = λ k. k; turn = λ k. refl; sysroot = λ k. k; shared = λ x l k. k; holds = λ x l k. k; wants = λ x l k. k; pins = λ x l k. k });
+            (record { exclusive = λ k. k; turn = λ k. refl; sysroot = λ k. k; shared = λ x l k. k; holds = λ x l k. k; wants = λ x l k. k; pins = λ x l k. k; claims = λ c k. k; others = λ c l k. k })
+            (subst (λ (k : Kind). Owned k lane b) (sym is) tt);
         holds = follows_holds e (owed_by (kind next)) (kind next) lane b chain (record { command = command; turn = refl; pending = refl; owes = omega arith });
       }
 
@@ -232,6 +250,8 @@ module _ {F : Type 0} (view : F → Option View) (clock spare : F → ℕ) (was 
         holds = s.holds;
         wants = s.wants;
         pins = s.pins;
+        claims = s.claims;
+        claimers = s.claimers;
         uses = s.uses;
         pending = s.pending;
         shown = s.shown;
@@ -255,9 +275,11 @@ module _ {F : Type 0} (view : F → Option View) (clock spare : F → ℕ) (was 
             refl refl (sym (append-nil (stored old.books.history.items old.books.pending))) (λ t le. refl)
             (λ v w told_v told_w stands.
             let d = parts v told_v in
-            stands_away (first old.books.start.items) old.books.history.items (books_of old.books) lane lane (writes lane t v) v w (told_same (view fs) w told_w (wrote v told_v)) d.0 d.1 stands);
+            stands_away (first old.books.start.items) old.books.history.items (books_of old.books) lane lane (writes lane t v) v w (told_same (view fs) w told_w (wrote v told_v)) d.0 d.1 stands)
+            (λ v w told_v told_w there.
+            claims_stand (books_of old.books) v w lane lane (weaker (writes lane t v) (May (books_of old.books) v lane lane) v w (parts v told_v).0 (told_same (view fs) w told_w (wrote v told_v))) old.books.claims.items old.books.claims.items (λ c has. has) there);
         does = λ v told. let w = wrote v told in let d = parts v told in
-            (w.0, w.1, record { writes = weaker (writes lane t v) (May (books_of old.books) v lane lane) v w.0 d.0 w.2; books = spared });
+            (w.0, w.1, record { writes = weaker (writes lane t v) (May (books_of old.books) v lane lane) v w.0 d.0 w.2; books = spared; claims = λ c has. inl has });
         books = spared;
         tells = tells;
       }
@@ -294,7 +316,8 @@ module _ {F : Type 0} (view : F → Option View) (clock spare : F → ℕ) (was 
             let v = fslaws.told fs old.fs w told_w in
             laws.next lane lane t next v.0 w (books_of old.books) b (subst (λ (k : Kind). Stood k lane lane (books_of old.books)) (sym is) tt) (ready.task.facts v.0 v.1)
             (told_same (view fs) w told_w (subst (λ x. Told (view fs) (λ w. leaves t x next v.0 w)) more (after v.0 v.1)))
-            (record { exclusive = λ k. k; turn = λ k. k; sysroot = λ k. k; shared = λ x l k. k; holds = λ x l k. k; wants = λ x l k. k; pins = λ x l k. k });
+            (record { exclusive = λ k. k; turn = λ k. k; sysroot = λ k. k; shared = λ x l k. k; holds = λ x l k. k; wants = λ x l k. k; pins = λ x l k. k; claims = λ c k. k; others = λ c l k. k })
+            (subst (λ (k : Kind). Owned k lane b) (sym is) tt);
         holds = follows_holds e chain.0 (kind next) lane b chain.2
             (record { command = pend.command; turn = pend.turn; pending = pend.pending; owes = omega (arith, follows_owed e chain.0 (kind next) chain.2, chain.1, pend.owes) });
       })
@@ -328,6 +351,8 @@ module _ {F : Type 0} (view : F → Option View) (clock spare : F → ℕ) (was 
         holds = s.holds;
         wants = s.wants;
         pins = s.pins;
+        claims = s.claims;
+        claimers = s.claimers;
         uses = s.uses;
         pending = λ q other is. absurd (other (mine q is));
         shown = λ q is. absurd (let z : None ≡ Some q = is in cc);
@@ -357,6 +382,7 @@ module _ {F : Type 0} (view : F → Option View) (clock spare : F → ℕ) (was 
       let opened : new.books.opened ≡ old.books.opened = ends.opened ∙ ap (λ b. b.opened) same in
       let start : new.books.start.items ≡ old.books.start.items = ap (λ v. v.items) (ends.start ∙ ap (λ b. b.start) same) in
       let now : clock new.fs ≡ clock mid.fs = ap clock ends.fs in
+      let fewer : (c : claim.Claim) → Contains new.books.claims.items c → Contains old.books.claims.items c = (λ c has. subst (λ (b : rust.Books). Contains b.claims.items c) same (ends.claims c has)) in
       let ord = ready.sound.ordered in
       let agrees : Agrees (books_of mid.books) = subst (λ (b : rust.Books). Agrees (books_of b)) (sym same) (record { turn = ord.agrees.turn; shared = ord.agrees.shared }) in
       let spared = spared_then lane lane (books_of old.books) (books_of mid.books) (books_of new.books) (settle_spared old.books mid.books lane en p same grows pend.pending refl) ends.spared in
@@ -379,9 +405,13 @@ module _ {F : Type 0} (view : F → Option View) (clock spare : F → ℕ) (was 
             rw (history, none) (stands_settle (first old.books.start.items) old.books.history.items p en v w refl
             (weaker (writes lane t v) Nothing v w d.0 (told_same (view mid.fs) w told_m (wrote v told_v)))
             (d.1 w (told_same (view mid.fs) w told_m (subst (λ x. Told (view mid.fs) (λ w. leaves t x next v w)) done (after v told_v))))
-            (subst (λ (o : Option Pending). Stands (first old.books.start.items) old.books.history.items o v) pend.pending stands)));
+            (subst (λ (o : Option Pending). Stands (first old.books.start.items) old.books.history.items o v) pend.pending stands)))
+            (λ v w told_v told_w there.
+            let told_m : view mid.fs ≡ Some w = ap view (sym ends.fs) ∙ told_w in
+            let d = settle_duty old lane t next e is ready v told_v in
+            claims_stand (books_of old.books) v w lane lane (weaker (writes lane t v) (May (books_of old.books) v lane lane) v w (λ q s k. absurd (d.0 q s k)) (told_same (view mid.fs) w told_m (wrote v told_v))) old.books.claims.items new.books.claims.items fewer there);
         does = λ v told. let w = wrote v told in let d = settle_duty old lane t next e is ready v told in
-            (w.0, ap view ends.fs ∙ w.1, record { writes = weaker (writes lane t v) (May (books_of old.books) v lane lane) v w.0 (λ q s k. absurd (d.0 q s k)) w.2; books = spared });
+            (w.0, ap view ends.fs ∙ w.1, record { writes = weaker (writes lane t v) (May (books_of old.books) v lane lane) v w.0 (λ q s k. absurd (d.0 q s k)) w.2; books = spared; claims = λ c has. inl (fewer c has) });
         books = spared;
         tells = tt;
       }
@@ -441,6 +471,7 @@ module _ {F : Type 0} (view : F → Option View) (clock spare : F → ℕ) (was 
           };
           stands = rw (items, pending, start) ready.sound.stands;
           crash = rw (items, pending, start, opened) ready.sound.crash;
+          claims = rw (ap (λ b. b.claims.items) same) ready.sound.claims;
         };
         live = ap (λ b. b.halted) same ∙ ready.live;
         task = subst (runs (view old.fs)) (sym eq) ready.task;

@@ -10,7 +10,7 @@ use Rattle.rely.specs.declared.books.Entry.{Entry}
 use Rattle.rely.specs.declared.books.Pending.{Pending}
 use Rattle.rely.specs.declared.event.Event.{Event}
 use Rattle.rely.specs.State.{State, first, stored, acked}
-use Rattle.rely.specs.Sound.{Stands, Fits, Crash, Ordered, Sound}
+use Rattle.rely.specs.Sound.{AreThere, Stands, Fits, Crash, Ordered, Sound}
 use Rattle.rely.proofs.Goods.{fits_now}
 
 -- What a crash left before goes on to fit while the history grows, since what it gained came later; what it leaves now fits.
@@ -53,8 +53,9 @@ module _ {F : Type 0} (view : F → Option View) (clock spare : F → ℕ) (was 
       → stored new.books.history.items new.books.pending ≡ stored old.books.history.items old.books.pending ++ more
       → ((t : ℕ) → t ≤ clock old.fs → acked t new.books.history.items ≡ acked t old.books.history.items)
       → ((v w : View) → view old.fs ≡ Some v → view new.fs ≡ Some w → Stands (first old.books.start.items) old.books.history.items old.books.pending v → Stands (first old.books.start.items) new.books.history.items new.books.pending w)
+      → ((v w : View) → view old.fs ≡ Some v → view new.fs ≡ Some w → AreThere old.books.claims.items v → AreThere new.books.claims.items w)
       → Sound view clock spare was new
-  sound_goes old new more sound time ordered opened start grows same stands = record {
+  sound_goes old new more sound time ordered opened start grows same stands there = record {
     ordered = ordered;
     stands = λ w is. subst (λ l. Stands (first l) new.books.history.items new.books.pending w) (sym start) (now w is);
     crash = λ w is.
@@ -66,6 +67,7 @@ module _ {F : Type 0} (view : F → Option View) (clock spare : F → ℕ) (was 
         (passes (clock old.fs) (clock new.fs) (was old.fs) (was new.fs) (view new.fs) (laws.only_now new.fs) time)
         (λ t d left. laws.bound old.fs t left.0 left.1)
         grows same now));
+    claims = λ w is. let v = laws.told new.fs old.fs w is in there v.0 w v.1 is (sound.claims v.0 v.1);
   }
     where
       now : (w : View) → view new.fs ≡ Some w → Stands (first old.books.start.items) new.books.history.items new.books.pending w

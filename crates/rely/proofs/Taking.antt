@@ -1,6 +1,5 @@
 -- Locks that a lane takes in the middle of its task.
-use Rattle.std.proofs.Common.{◌≡◌, ◌≢◌, ◌<◌, ℕ, nat_eq, true, false, refl, sym, ◌∙◌, ap, subst, arith, Bool, Option, Some, Contains}
-use Rattle.std.proofs.lemmas.Bool.Decides.{nat_tests}
+use Rattle.std.proofs.Common.{◌≡◌, ⊎_elim, inl, inr, ◌<◌, ℕ, refl, sym, ◌∙◌, ap, subst, List, [], ◌∷◌, Option, Some, Contains}
 use Rattle.ost_types.specs.Path.{Path}
 use Rattle.fs_trait.specs.declared.task.Turn.{Turn}
 use Rattle.fs_trait.specs.View.{View}
@@ -9,54 +8,51 @@ use Rattle.fs_trait.proofs.Kept.{weaker}
 use Rattle.repo_layout.specs.Place.{Place, Config, Stage, Ref, ObjectsFolder, Object, Mark, Summary, Deployment, Etc, Origin, Staged, BootLink, BootLinkStage, BootFolder, Loader, LoaderStage, LoaderFolder, KernelCopy, Checkout, Other, place}
 use Rattle.rely.specs.declared.books.Base.{Base}
 use Rattle.rely.specs.declared.books.Books as rust
+use Rattle.rely.specs.declared.books.Claim as claim
 use Rattle.rely.specs.declared.books.Pin.{Pin}
 use Rattle.rely.specs.declared.kind.Outcome.{Outcome}
 use Rattle.rely.specs.declared.kind.Wants.{Wants}
 use Rattle.rely.specs.Books.{Books, books_of, Agrees, Spared, Keeps}
 use Rattle.rely.specs.Rely.{May, may_at, NotPinned}
-use Rattle.rely.specs.Laws.{Kind, Quiet, Store, Take, Show, Shown, Settle, Laws, IsStore, IsTake, Holds, NotPending, Runs, Ready, Acts}
+use Rattle.rely.specs.Laws.{Kind, Quiet, Store, Take, Claim, Show, Shown, Settle, Laws, IsStore, IsTake, Holds, NotPending, Runs, Ready, Acts}
+use Rattle.rely.proofs.Lists.{other_or_own}
 use Rattle.rely.proofs.Locking.{free_before, spared_then}
 
-other_or_own : (a b : ℕ) → (a ≢ b → a ≡ b) → a ≡ b
-other_or_own a b h = by (nat_eq a b) refl
-  where
-    by : (t : Bool) → nat_eq a b ≡ t → a ≡ b
-    by true e = grind (arith, nat_tests)
-    by false e = h (λ same. let z : true ≡ false = sym (let k : nat_eq b b ≡ true = grind (arith, nat_tests) in k) ∙ ap (λ y. nat_eq y b) (sym same) ∙ e in cc)
-
 -- With more locks of its own a lane may write no more than before.
-may_before : (b b' : Books) (actor lane : ℕ) → Spared actor lane b b' → Keeps lane b b' → (x : Place) (s : Seen) → may_at b' actor lane x s → may_at b actor lane x s
-may_before b b' actor lane sp ke Config s m = m
-may_before b b' actor lane sp ke (Stage a) s m = m
-may_before b b' actor lane sp ke (Ref n) s m = (free_before b.turn b'.turn lane sp.turn m.0, free_before b.exclusive b'.exclusive lane sp.exclusive m.1)
-may_before b b' actor lane sp ke (ObjectsFolder d) s m = m
-may_before b b' actor lane sp ke (Object k c) s m = (free_before b.exclusive b'.exclusive lane sp.exclusive m.0, m.1, λ none p has k e. pinned p (m.2 none) has k e)
+may_before : (b b' : Books) (actor lane : ℕ) → Spared actor lane b b' → Keeps lane b b' → b'.claims ≡ b.claims → (x : Place) (s : Seen) → may_at b' actor lane x s → may_at b actor lane x s
+may_before b b' actor lane sp ke same Config s m = m
+may_before b b' actor lane sp ke same (Stage a) s m = m
+may_before b b' actor lane sp ke same (Ref n) s m = (free_before b.turn b'.turn lane sp.turn m.0, free_before b.exclusive b'.exclusive lane sp.exclusive m.1)
+may_before b b' actor lane sp ke same (ObjectsFolder d) s m = m
+may_before b b' actor lane sp ke same (Object k c) s m = (free_before b.exclusive b'.exclusive lane sp.exclusive m.0, m.1, λ none p has k e. pinned p (m.2 none) has k e)
   where
     pinned : (p : Pin) → NotPinned b'.pins lane k c → Contains b.pins p → p.object.kind ≡ k → p.object.csum ≡ c → p.lane ≡ lane
     pinned p none has kk cc_ = other_or_own p.lane lane (λ other. none p (sp.pins p other has) kk cc_)
-may_before b b' actor lane sp ke (Mark c) s m = m
-may_before b b' actor lane sp ke Summary s m = (free_before b.turn b'.turn lane sp.turn m.0, free_before b.exclusive b'.exclusive lane sp.exclusive m.1)
-may_before b b' actor lane sp ke (Deployment o c n r) s m = free_before b.sysroot b'.sysroot lane sp.sysroot m
-may_before b b' actor lane sp ke (Etc o c n r) s m = m
-may_before b b' actor lane sp ke (Origin o c n) s m = free_before b.sysroot b'.sysroot lane sp.sysroot m
-may_before b b' actor lane sp ke Staged s m = free_before b.sysroot b'.sysroot lane sp.sysroot m
-may_before b b' actor lane sp ke (BootLink n) s m = free_before b.sysroot b'.sysroot lane sp.sysroot m
-may_before b b' actor lane sp ke BootLinkStage s m = free_before b.sysroot b'.sysroot lane sp.sysroot m
-may_before b b' actor lane sp ke (BootFolder n k r) s m = free_before b.sysroot b'.sysroot lane sp.sysroot m
-may_before b b' actor lane sp ke Loader s m = (free_before b.turn b'.turn lane sp.turn m.0, free_before b.exclusive b'.exclusive lane sp.exclusive m.1, free_before b.sysroot b'.sysroot lane sp.sysroot m.2)
-may_before b b' actor lane sp ke LoaderStage s m = free_before b.sysroot b'.sysroot lane sp.sysroot m
-may_before b b' actor lane sp ke (LoaderFolder n r) s m = free_before b.sysroot b'.sysroot lane sp.sysroot m
-may_before b b' actor lane sp ke (KernelCopy o c r) s m = free_before b.sysroot b'.sysroot lane sp.sysroot m
-may_before b b' actor lane sp ke (Checkout n r) s m = m
-may_before b b' actor lane sp ke (Other p) s m = m
+may_before b b' actor lane sp ke same (Mark c) s m = m
+may_before b b' actor lane sp ke same Summary s m = (free_before b.turn b'.turn lane sp.turn m.0, free_before b.exclusive b'.exclusive lane sp.exclusive m.1)
+may_before b b' actor lane sp ke same (Deployment o c n r) s m = free_before b.sysroot b'.sysroot lane sp.sysroot m
+may_before b b' actor lane sp ke same (Etc o c n r) s m = m
+may_before b b' actor lane sp ke same (Origin o c n) s m = free_before b.sysroot b'.sysroot lane sp.sysroot m
+may_before b b' actor lane sp ke same Staged s m = free_before b.sysroot b'.sysroot lane sp.sysroot m
+may_before b b' actor lane sp ke same (BootLink n) s m = free_before b.sysroot b'.sysroot lane sp.sysroot m
+may_before b b' actor lane sp ke same BootLinkStage s m = free_before b.sysroot b'.sysroot lane sp.sysroot m
+may_before b b' actor lane sp ke same (BootFolder n k r) s m = free_before b.sysroot b'.sysroot lane sp.sysroot m
+may_before b b' actor lane sp ke same Loader s m = (free_before b.turn b'.turn lane sp.turn m.0, free_before b.exclusive b'.exclusive lane sp.exclusive m.1, free_before b.sysroot b'.sysroot lane sp.sysroot m.2)
+may_before b b' actor lane sp ke same LoaderStage s m = free_before b.sysroot b'.sysroot lane sp.sysroot m
+may_before b b' actor lane sp ke same (LoaderFolder n r) s m = free_before b.sysroot b'.sysroot lane sp.sysroot m
+may_before b b' actor lane sp ke same (KernelCopy o c r) s m = free_before b.sysroot b'.sysroot lane sp.sysroot m
+may_before b b' actor lane sp ke same (Checkout n []) s m = m
+may_before b b' actor lane sp ke same (Checkout n (x ∷ r)) s m = subst (λ (l : List claim.Claim). Contains l (record { lane = lane; name = n })) same m
+may_before b b' actor lane sp ke same (Other p) s m = m
 
-pub may_less : (b b' : Books) (v : View) (actor lane : ℕ) → Spared actor lane b b' → Keeps lane b b' → (p : Path) (s : Seen) → May b' v actor lane p s → May b v actor lane p s
-may_less b b' v actor lane sp ke p s m = record { at = may_before b b' actor lane sp ke (place p) s m.at; fits = m.fits; objects = m.objects; marks = m.marks; comes = m.comes; folders = m.folders }
+pub may_less : (b b' : Books) (v : View) (actor lane : ℕ) → Spared actor lane b b' → Keeps lane b b' → b'.claims ≡ b.claims → (p : Path) (s : Seen) → May b' v actor lane p s → May b v actor lane p s
+may_less b b' v actor lane sp ke same p s m = record { at = may_before b b' actor lane sp ke same (place p) s m.at; fits = m.fits; objects = m.objects; marks = m.marks; checkouts = m.checkouts; comes = m.comes; folders = m.folders }
 
 pub store_is : (k : Kind) → IsStore k → k ≡ Store
 store_is Quiet is = absurd is
 store_is Store is = refl
 store_is (Take wants) is = absurd is
+store_is (Claim name) is = absurd is
 store_is (Show e) is = absurd is
 store_is (Shown e owed) is = absurd is
 store_is (Settle e) is = absurd is
@@ -65,6 +61,7 @@ pub take_is : (wants : Wants) (k : Kind) → IsTake wants k → k ≡ Take wants
 take_is wants Quiet is = absurd is
 take_is wants Store is = absurd is
 take_is wants (Take w) is = ap Take is
+take_is wants (Claim name) is = absurd is
 take_is wants (Show e) is = absurd is
 take_is wants (Shown e owed) is = absurd is
 take_is wants (Settle e) is = absurd is
@@ -97,6 +94,7 @@ module _ {F : Type 0} (view : F → Option View) (clock spare : F → ℕ) (was 
           };
           stands = rw (history, pending, start) ready.sound.stands;
           crash = rw (history, pending, start, opened) ready.sound.crash;
+          claims = rw (ap (λ x. x.claims) same) ready.sound.claims;
         };
         live = ap (λ x. x.halted) same ∙ ready.live;
         task = record {
@@ -105,12 +103,12 @@ module _ {F : Type 0} (view : F → Option View) (clock spare : F → ℕ) (was 
         };
       }
 
-  pub take_acts : (old new : Base F) (b : rust.Books) (lane : ℕ) (outcome : Outcome) (runs : Option View → Books → Type 0) → Spared lane lane (books_of old.books) (books_of b) → Keeps lane (books_of old.books) (books_of b)
+  pub take_acts : (old new : Base F) (b : rust.Books) (lane : ℕ) (outcome : Outcome) (runs : Option View → Books → Type 0) → b.claims ≡ old.books.claims → Spared lane lane (books_of old.books) (books_of b) → Keeps lane (books_of old.books) (books_of b)
       → Acts view clock spare was lane lane outcome runs (record old { books = b }) new → Acts view clock spare was lane lane outcome runs old new
-  take_acts old new b lane outcome runs spared keeps acts = record {
+  take_acts old new b lane outcome runs same spared keeps acts = record {
     sound = acts.sound;
     does = λ v told. let d = acts.does v told in
-        (d.0, d.1, record { writes = weaker (May (books_of b) v lane lane) (May (books_of old.books) v lane lane) v d.0 (may_less (books_of old.books) (books_of b) v lane lane spared keeps) d.2.writes; books = spared_then lane lane (books_of old.books) (books_of b) (books_of new.books) spared d.2.books });
+        (d.0, d.1, record { writes = weaker (May (books_of b) v lane lane) (May (books_of old.books) v lane lane) v d.0 (may_less (books_of old.books) (books_of b) v lane lane spared keeps (ap (λ l. l.items) same)) d.2.writes; books = spared_then lane lane (books_of old.books) (books_of b) (books_of new.books) spared d.2.books; claims = λ c has. ⊎_elim (λ was. inl (subst (λ l. Contains l.items c) same was)) (λ none. inr none) (d.2.claims c has) });
     books = spared_then lane lane (books_of old.books) (books_of b) (books_of new.books) spared acts.books;
     tells = acts.tells;
   }

@@ -44,5 +44,6 @@ barrier_laws = record {
   duty = λ actor lane t new v b agrees by stood f. ((λ p s wrote. absurd wrote), (λ q s wrote. absurd wrote));
   chain = λ t new step. absurd step;
   last = λ t new step. tt;
-  next = λ actor lane t new v w b b' stood f leaves keeps. tt;
+  next = λ actor lane t new v w b b' stood f leaves keeps own. tt;
+  claims = λ lane t new v w b name is step f leaves. absurd step;
 }

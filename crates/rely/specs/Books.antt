@@ -1,7 +1,9 @@
 -- Who holds what, and what was changed.
 use Rattle.std.specs.Prelude.{◌≡◌, ◌≢◌, ◌⊎◌, ◌≤◌, ℕ, Bool, IsTrue, IsSome, List, ◌++◌, All, Contains, Option, Some}
 use Rattle.ost_types.specs.declared.object.ObjName.{ObjName}
+use Rattle.ost_types.specs.Path.{Name}
 use Rattle.rely.specs.declared.books.Books as rust
+use Rattle.rely.specs.declared.books.Claim.{Claim}
 use Rattle.rely.specs.declared.books.Entry.{Entry}
 use Rattle.rely.specs.declared.books.Hold.{Hold}
 use Rattle.rely.specs.declared.books.Pending.{Pending}
@@ -20,6 +22,7 @@ pub record Books : Type 0 where
   pub holds : List Hold
   pub wants : List Want
   pub pins : List Pin
+  pub claims : List Claim
   pub uses : List Use
   pub history : List Entry
   pub pending : Option Pending
@@ -38,6 +41,7 @@ books_of b = record {
   holds = b.holds.items;
   wants = b.wants.items;
   pins = b.pins.items;
+  claims = b.claims.items;
   uses = b.uses.items;
   history = b.history.items;
   pending = b.pending;
@@ -74,6 +78,15 @@ pub record Granted (w : Wants) (actor lane : ℕ) (b : Books) : Type 0 where
   pub sysroot : IsTrue w.sysroot → b.sysroot ≡ Some lane
   pub hold : (p : ℕ) → w.hold ≡ Some p → Contains b.holds (record { lane = lane; place = p })
 
+-- The checkout of that name is the lane's alone.
+pub record IsClaimed (name : Name) (lane : ℕ) (b : Books) : Type 0 where
+  pub mine : Contains b.claims (record { lane = lane; name = name })
+  pub alone : (c : Claim) → Contains b.claims c → c.name ≡ name → c.lane ≡ lane
+
+-- The checkout of that name is nobody's.
+abbrev pub Unclaimed : Name → Books → Type 0
+Unclaimed name b = (c : Claim) → Contains b.claims c → c.name ≢ name
+
 -- No two locks that exclude each other are held.
 pub record Agrees (b : Books) : Type 0 where
   pub turn : (x y : ℕ) → b.exclusive ≡ Some x → b.turn ≡ Some y → y ≡ x
@@ -89,6 +102,9 @@ pub record Spared (actor lane : ℕ) (b b' : Books) : Type 0 where
   pub wants : (w : Want) → w.actor ≢ actor → w.lane ≢ lane → Contains b.wants w → Contains b'.wants w
   pub pins : (p : Pin) → p.lane ≢ lane → Contains b.pins p → Contains b'.pins p
   pub uses : (u : Use) → u.lane ≢ lane → Contains b.uses u → Contains b'.uses u
+  -- the claims of others stay, and none comes
+  pub claims : (c : Claim) → c.lane ≢ lane → Contains b.claims c → Contains b'.claims c
+  pub claimers : (c : Claim) → c.lane ≢ lane → Contains b'.claims c → Contains b.claims c
   -- what is pending comes and goes with its owner
   pub pending : (p : Pending) → p.lane ≢ lane → b.pending ≡ Some p → b'.pending ≡ Some p
   pub shown : (p : Pending) → b'.pending ≡ Some p → (b.pending ≡ Some p) ⊎ (p.lane ≡ lane)
@@ -110,3 +126,5 @@ pub record Keeps (lane : ℕ) (b b' : Books) : Type 0 where
   pub holds : (h : Hold) → h.lane ≡ lane → Contains b.holds h → Contains b'.holds h
   pub wants : (w : Want) → w.lane ≡ lane → Contains b.wants w → Contains b'.wants w
   pub pins : (p : Pin) → p.lane ≡ lane → Contains b.pins p → Contains b'.pins p
+  pub claims : (c : Claim) → Contains b.claims c → Contains b'.claims c
+  pub others : (c : Claim) → c.lane ≢ lane → Contains b'.claims c → Contains b.claims c

@@ -14,13 +14,14 @@ use Rattle.rely.specs.declared.event.Event.{Event}
 use Rattle.rely.specs.declared.kind.Outcome.{Outcome}
 use Rattle.rely.specs.declared.kind.Outcome.TheVariants as came
 use Rattle.rely.specs.Books.{Books, Free, Frees}
-use Rattle.rely.specs.Laws.{Kind, Quiet, Store, Take, Show, Shown, Settle}
+use Rattle.rely.specs.Laws.{Kind, Quiet, Store, Take, Claim, Show, Shown, Settle}
 
 -- what others leave free for such a step
 abbrev pub Opens : Kind → ℕ → Books → Type 0
 Opens Quiet lane b = Unit {0}
 Opens Store lane b = Free b.exclusive lane
 Opens (Take wants) lane b = Frees wants lane b
+Opens (Claim name) lane b = Unit {0}
 Opens (Show e) lane b = Free b.exclusive lane × Free b.turn lane
 Opens (Shown e owed) lane b = Unit {0}
 Opens (Settle e) lane b = Unit {0}
@@ -79,6 +80,7 @@ IsBooked (Settle e) lane command moment outcome old new = IsSettledBy moment out
 IsBooked Quiet lane command moment outcome old new = IsUnbooked old new
 IsBooked Store lane command moment outcome old new = IsUnbooked old new
 IsBooked (Take wants) lane command moment outcome old new = IsUnbooked old new
+IsBooked (Claim name) lane command moment outcome old new = IsUnbooked old new
 IsBooked (Shown e owed) lane command moment outcome old new = IsHeldBy outcome old new
 
 -- a command ends for a call that failed, or for a failed change of all, only where the count of faults rose

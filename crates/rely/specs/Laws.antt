@@ -1,13 +1,15 @@
 -- What every kind of task tells of its steps, and the laws that the one act of all tasks stands on.
-use Rattle.std.specs.Prelude.{◌≡◌, ◌≢◌, ◌⊎◌, ◌≤◌, ◌<◌, ℕ, ◌+◌, suc, true, false, Option, Some, Result, IsErrOf, OnOk}
-use Rattle.ost_types.specs.Path.{Path}
+use Rattle.std.specs.Prelude.{◌≡◌, ◌≢◌, ◌⊎◌, ◌≤◌, ◌<◌, ℕ, ◌+◌, suc, true, false, Contains, Option, Some, Result, IsErrOf, OnOk}
+use Rattle.ost_types.specs.Path.{Name, Path}
 use Rattle.fs_trait.specs.declared.task.Turn.{Turn}
 use Rattle.fs_trait.specs.declared.task.Turn.TheVariants as turn
 use Rattle.fs_trait.specs.declared.types.FsErr.{FsErr}
 use Rattle.fs_trait.specs.declared.types.FsErr.TheVariants as err
 use Rattle.fs_trait.specs.View.{View}
-use Rattle.fs_trait.specs.Seen.{Seen}
+use Rattle.fs_trait.specs.Seen.{Seen, Vacant, shows}
 use Rattle.fs_trait.specs.Change.{Nothing}
+use Rattle.repo_layout.specs.BootPaths.{checkout_path}
+use Rattle.rely.specs.declared.books.Claim as claim
 use Rattle.rely.specs.declared.books.Base.{Base}
 use Rattle.rely.specs.declared.books.Pending.{Pending}
 use Rattle.rely.specs.declared.event.Event.{Event}
@@ -16,7 +18,7 @@ use Rattle.rely.specs.declared.kind.Outcome.TheVariants as came
 use Rattle.rely.specs.declared.kind.Step.{Step}
 use Rattle.rely.specs.declared.kind.Step.TheVariants as step
 use Rattle.rely.specs.declared.kind.Wants.{Wants}
-use Rattle.rely.specs.Books.{Books, books_of, Free, Granted, Agrees, Spared, Keeps}
+use Rattle.rely.specs.Books.{Books, books_of, Free, Granted, Agrees, Spared, Keeps, IsClaimed}
 use Rattle.rely.specs.Rely.{May, Does}
 use Rattle.rely.specs.Sound.{Sound}
 use Rattle.rely.specs.Change.{Still, Away, Shows, Final}
@@ -26,6 +28,7 @@ pub data Kind : Type 0 where
   Quiet : Kind  -- it changes nothing that the state speaks of
   Store : Kind  -- so too, and another actor may take it
   Take : Wants → Kind  -- so too, once these locks are taken
+  Claim : Name → Kind  -- it makes the folder of this checkout, which is the lane's from then on
   Show : Event → Kind  -- it shows this change
   Shown : Event → ℕ → Kind  -- it comes between showing and settling; so many calls are owed, itself among them
   Settle : Event → Kind  -- it makes the change last
@@ -34,6 +37,7 @@ abbrev pub step_of : Kind → Step
 step_of Quiet = step.Quiet
 step_of Store = step.Store
 step_of (Take wants) = step.Take wants
+step_of (Claim name) = step.Claim
 step_of (Show e) = step.Show
 step_of (Shown e owed) = step.Shown
 step_of (Settle e) = step.Settle
@@ -64,6 +68,7 @@ abbrev pub Holds : Kind → ℕ → Books → Type 0
 Holds Quiet lane b = NotPending lane b
 Holds Store lane b = NotPending lane b
 Holds (Take wants) lane b = NotPending lane b
+Holds (Claim name) lane b = NotPending lane b
 Holds (Show e) lane b = NotPending lane b
 Holds (Shown e owed) lane b = IsPending e owed lane b × (0 < owed)
 Holds (Settle e) lane b = IsPending e 1 lane b
@@ -73,6 +78,7 @@ abbrev pub Stood : Kind → ℕ → ℕ → Books → Type 0
 Stood Quiet actor lane b = Unit {0}
 Stood Store actor lane b = Free b.exclusive lane
 Stood (Take wants) actor lane b = Granted wants actor lane b
+Stood (Claim name) actor lane b = Unit {0}
 Stood (Show e) actor lane b = Free b.turn lane × Free b.exclusive lane
 Stood (Shown e owed) actor lane b = Unit {0}
 Stood (Settle e) actor lane b = Unit {0}
@@ -88,6 +94,7 @@ abbrev pub IsBefore : Kind → Type 0
 IsBefore Quiet = Unit {0}
 IsBefore Store = Unit {0}
 IsBefore (Take wants) = Unit {0}
+IsBefore (Claim name) = Unit {0}
 IsBefore (Show e) = Unit {0}
 IsBefore (Shown e owed) = ⊥
 IsBefore (Settle e) = ⊥
@@ -97,6 +104,7 @@ abbrev pub Chain : Kind → Kind → Type 0
 Chain Quiet next = IsBefore next
 Chain Store next = IsBefore next
 Chain (Take wants) next = IsBefore next
+Chain (Claim name) next = IsBefore next
 Chain (Show e) next = Follows e (owed_by next) next
 Chain (Shown e owed) next = (most : ℕ) × (owed ≡ suc most) × Follows e most next
 Chain (Settle e) next = ⊥
@@ -134,7 +142,24 @@ abbrev pub IsQuiet : Kind → Type 0
 IsQuiet Quiet = Unit {0}
 IsQuiet Store = Unit {0}
 IsQuiet (Take wants) = Unit {0}
+IsQuiet (Claim name) = Unit {0}
 IsQuiet k = ⊥
+
+-- so too, and it makes no folder of a checkout
+abbrev pub IsPlain : Kind → Type 0
+IsPlain Quiet = Unit {0}
+IsPlain Store = Unit {0}
+IsPlain (Take wants) = Unit {0}
+IsPlain k = ⊥
+
+abbrev pub IsClaim : Kind → Type 0
+IsClaim (Claim name) = Unit {0}
+IsClaim k = ⊥
+
+-- what the lane has of its own behind a step of this kind that goes on
+abbrev pub Owned : Kind → ℕ → Books → Type 0
+Owned (Claim name) lane b = IsClaimed name lane b
+Owned kind lane b = Unit {0}
 
 -- A step takes the room of at most one call. One that is owed and has room doesn't lack memory, and the one that shows the
 -- change leaves room for those that are owed then.
@@ -151,6 +176,7 @@ abbrev pub Duty : Kind → ℕ → ℕ → View → Books → (Path → Seen →
 Duty Quiet actor lane v b W Done = Within W (May b v lane lane) × Still W v
 Duty Store actor lane v b W Done = Within W (May b v actor lane) × Still W v
 Duty (Take wants) actor lane v b W Done = Within W (May b v lane lane) × Still W v
+Duty (Claim name) actor lane v b W Done = Within W (May b v lane lane) × Still W v
 Duty (Show e) actor lane v b W Done = Within W (May b v lane lane) × Shows W v e
 Duty (Shown e owed) actor lane v b W Done = Within W (May b v lane lane) × Away W
 Duty (Settle e) actor lane v b W Done = Within W Nothing × ((w : View) → Done w → Final e w)
@@ -160,6 +186,7 @@ abbrev pub IsLastly : Kind → Type 0
 IsLastly Quiet = Unit {0}
 IsLastly Store = Unit {0}
 IsLastly (Take wants) = Unit {0}
+IsLastly (Claim name) = Unit {0}
 IsLastly (Show e) = ⊥
 IsLastly (Shown e owed) = ⊥
 IsLastly (Settle e) = Unit {0}
@@ -176,7 +203,9 @@ pub record Laws {T : Type 0} (kind : T → Kind) (needs : ℕ → T → View →
   pub chain : (t new : T) → stepped t turn.More new → Chain (kind t) (kind new)
   pub last : (t new : T) → stepped t (turn.Done tt) new → IsLastly (kind t)
   -- the next step's facts
-  pub next : (actor lane : ℕ) (t new : T) (v w : View) (b b' : Books) → Stood (kind t) actor lane b → facts lane t v b → leaves t turn.More new v w → Keeps lane b b' → facts lane new w b'
+  pub next : (actor lane : ℕ) (t new : T) (v w : View) (b b' : Books) → Stood (kind t) actor lane b → facts lane t v b → leaves t turn.More new v w → Keeps lane b b' → Owned (kind t) lane b' → facts lane new w b'
+  -- where a checkout is claimed nothing stood, and its folder stands
+  pub claims : (lane : ℕ) (t new : T) (v w : View) (b : Books) (name : Name) → kind t ≡ Claim name → stepped t turn.More new → facts lane t v b → leaves t turn.More new v w → (shows v.now (checkout_path name) ≡ Vacant) × (shows w.now (checkout_path name) ≢ Vacant)
 
 -- A running task's own facts, where the view is told, and the books of its kind of step.
 pub record Runs {T : Type 0} (kind : T → Kind) (of : ℕ → T → View → Books → Type 0) (lane : ℕ) (t : T) (view : Option View) (b : Books) : Type 0 where
@@ -211,6 +240,7 @@ pub record Ends {F : Type 0} (actor lane : ℕ) (old new : Base F) : Type 0 wher
   pub owed : new.books.owed ≡ old.books.owed
   pub opened : new.books.opened ≡ old.books.opened
   pub start : new.books.start ≡ old.books.start
+  pub claims : (c : claim.Claim) → Contains new.books.claims.items c → Contains old.books.claims.items c
   pub spared : Spared actor lane (books_of old.books) (books_of new.books)
   pub agrees : Agrees (books_of old.books) → Agrees (books_of new.books)
 

@@ -11,5 +11,6 @@ pub mod Opening
 pub mod Barrier
 pub mod Exact
 pub mod Pinning
+pub mod Claiming
 pub mod Part
 pub mod Lasting

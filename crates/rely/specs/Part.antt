@@ -1,7 +1,7 @@
 -- Two tasks, one after the other, are a task.
 use Rattle.std.specs.Prelude.{◌≡◌, ℕ, Bool, true, false, Option, Some, None}
 use Rattle.std.proofs.Common.{sym, subst}
-use Rattle.ost_types.specs.Path.{Path}
+use Rattle.ost_types.specs.Path.{Name, Path}
 use Rattle.fs_trait.specs.declared.task.Turn.{Turn}
 use Rattle.fs_trait.specs.declared.task.Turn.TheVariants as turn
 use Rattle.fs_trait.specs.declared.types.FsErr.{FsErr}
@@ -10,7 +10,7 @@ use Rattle.fs_trait.specs.View.{View}
 use Rattle.fs_trait.specs.Seen.{Seen}
 use Rattle.fs_trait.specs.Change.{Nothing}
 use Rattle.rely.specs.Books.{Books, Keeps}
-use Rattle.rely.specs.Laws.{Kind, Quiet, Store, Take, Show, Shown, Settle, Laws, Duty, Chain, IsBefore, IsQuiet, Stood, Holds, NotPending}
+use Rattle.rely.specs.Laws.{Kind, Quiet, Store, Take, Claim, Show, Shown, Settle, Laws, Duty, Chain, IsBefore, IsPlain, Stood, Holds, NotPending}
 
 -- how far it is: in the first, behind it, in the second
 pub data Part (A B : Type 0) : Type 0 where
@@ -62,10 +62,11 @@ part_refuses ra rb (First a) v e = ra a v e
 part_refuses ra rb (Between a) v e = e ≡ NoMemory
 part_refuses ra rb (Second b) v e = rb b v e
 
--- The first shows no change. When it is done the second's facts hold, and nothing of it is shown.
+-- The first shows no change, and its last step makes no folder of a checkout. When it is done the second's facts hold, and nothing of
+-- it is shown.
 pub record Hands {A B : Type 0} (ka : A → Kind) (sa : A → Turn (Unit {0}) → A → Type 0) (la : A → Turn (Unit {0}) → A → View → View → Type 0) (fa : ℕ → A → View → Books → Type 0)
     (kb : B → Kind) (fb : ℕ → B → View → Books → Type 0) (h : A → B) : Type 0 where
-  pub quiet : (t new : A) → sa t (turn.Done tt) new → IsQuiet (ka t)
+  pub plain : (t new : A) → sa t (turn.Done tt) new → IsPlain (ka t)
   pub before : (t : A) → IsBefore (kb (h t))
   pub next : (actor lane : ℕ) (t new : A) (v w : View) (b b' : Books) → Stood (ka t) actor lane b → fa lane t v b → la t (turn.Done tt) new v w → Keeps lane b b' → fb lane (h new) w b'
 
@@ -74,22 +75,28 @@ duty_more : (k : Kind) (actor lane : ℕ) (v : View) (b : Books) (W : Path → S
 duty_more Quiet actor lane v b W Done Never none d = d
 duty_more Store actor lane v b W Done Never none d = d
 duty_more (Take wants) actor lane v b W Done Never none d = d
+duty_more (Claim name) actor lane v b W Done Never none d = d
 duty_more (Show e) actor lane v b W Done Never none d = d
 duty_more (Shown e owed) actor lane v b W Done Never none d = d
 duty_more (Settle e) actor lane v b W Done Never none d = (d.0, λ w bad. absurd (none w bad))
 
-quiet_before : (k : Kind) → IsQuiet k → Chain k Quiet
-quiet_before Quiet is = tt
-quiet_before Store is = tt
-quiet_before (Take wants) is = tt
-quiet_before (Show e) is = absurd is
-quiet_before (Shown e owed) is = absurd is
-quiet_before (Settle e) is = absurd is
+plain_before : (k : Kind) → IsPlain k → Chain k Quiet
+plain_before Quiet is = tt
+plain_before Store is = tt
+plain_before (Take wants) is = tt
+plain_before (Claim name) is = absurd is
+plain_before (Show e) is = absurd is
+plain_before (Shown e owed) is = absurd is
+plain_before (Settle e) is = absurd is
+
+no_claim : (k : Kind) (name : Name) → IsPlain k → k ≡ Claim name → ⊥
+no_claim k name is e = let bad : IsPlain (Claim name) = subst IsPlain e is in bad
 
 not_pending : (k : Kind) (lane : ℕ) (b : Books) → IsBefore k → NotPending lane b → Holds k lane b
 not_pending Quiet lane b is none = none
 not_pending Store lane b is none = none
 not_pending (Take wants) lane b is none = none
+not_pending (Claim name) lane b is none = none
 not_pending (Show e) lane b is none = none
 not_pending (Shown e owed) lane b is none = absurd is
 not_pending (Settle e) lane b is none = absurd is
@@ -116,7 +123,7 @@ module _ {A B : Type 0} {ka : A → Kind} {na : ℕ → A → View → Type 0} {
       ]
     ];
     chain = elim [
-      | First a ↦ elim [ First new ↦ one.chain a new | Between new ↦ λ s. quiet_before (ka a) (hands.quiet a new s) | Second new ↦ λ s. absurd s ]
+      | First a ↦ elim [ First new ↦ one.chain a new | Between new ↦ λ s. plain_before (ka a) (hands.plain a new s) | Second new ↦ λ s. absurd s ]
       | Between a ↦ elim [ First new ↦ λ s. absurd s | Between new ↦ λ s. absurd s | Second new ↦ λ s. subst (λ (x : B). IsBefore (kb x)) (sym s) (hands.before a) ]
       | Second b ↦ elim [ First new ↦ λ s. absurd s | Between new ↦ λ s. absurd s | Second new ↦ two.chain b new ]
     ];
@@ -128,18 +135,31 @@ module _ {A B : Type 0} {ka : A → Kind} {na : ℕ → A → View → Type 0} {
     next = λ actor lane. elim [
       | First a ↦ elim [
         | First new ↦ one.next actor lane a new
-        | Between new ↦ λ v w b b' stood f leaves keeps. hands.next actor lane a new v w b b' stood f leaves keeps
-        | Second new ↦ λ v w b b' stood f leaves keeps. absurd leaves
+        | Between new ↦ λ v w b b' stood f leaves keeps own. hands.next actor lane a new v w b b' stood f leaves keeps
+        | Second new ↦ λ v w b b' stood f leaves keeps own. absurd leaves
       ]
       | Between a ↦ elim [
-        | First new ↦ λ v w b b' stood f leaves keeps. absurd leaves
-        | Between new ↦ λ v w b b' stood f leaves keeps. absurd leaves
-        | Second new ↦ λ v w b b' stood f leaves keeps. subst (λ (x : B). fb lane x w b') (sym leaves.1) (subst (λ (x : View). fb lane (h a) x b') (sym leaves.0) (two.gains lane (h a) v b b' keeps f))
+        | First new ↦ λ v w b b' stood f leaves keeps own. absurd leaves
+        | Between new ↦ λ v w b b' stood f leaves keeps own. absurd leaves
+        | Second new ↦ λ v w b b' stood f leaves keeps own. subst (λ (x : B). fb lane x w b') (sym leaves.1) (subst (λ (x : View). fb lane (h a) x b') (sym leaves.0) (two.gains lane (h a) v b b' keeps f))
       ]
       | Second t ↦ elim [
-        | First new ↦ λ v w b b' stood f leaves keeps. absurd leaves
-        | Between new ↦ λ v w b b' stood f leaves keeps. absurd leaves
+        | First new ↦ λ v w b b' stood f leaves keeps own. absurd leaves
+        | Between new ↦ λ v w b b' stood f leaves keeps own. absurd leaves
         | Second new ↦ two.next actor lane t new
+      ]
+    ];
+    claims = λ lane. elim [
+      | First a ↦ elim [
+        | First new ↦ one.claims lane a new
+        | Between new ↦ λ v w b name is s f leaves. absurd (no_claim (ka a) name (hands.plain a new s) is)
+        | Second new ↦ λ v w b name is s f leaves. absurd s
+      ]
+      | Between a ↦ λ new v w b name is s f leaves. (let bad : Quiet ≡ Claim name = is in cc)
+      | Second t ↦ elim [
+        | First new ↦ λ v w b name is s f leaves. absurd s
+        | Between new ↦ λ v w b name is s f leaves. absurd s
+        | Second new ↦ two.claims lane t new
       ]
     ];
   }
@@ -155,4 +175,5 @@ laws_along f laws = record {
   chain = λ t new. laws.chain (f t) (f new);
   last = λ t new. laws.last (f t) (f new);
   next = λ actor lane t new. laws.next actor lane (f t) (f new);
+  claims = λ lane t new. laws.claims lane (f t) (f new);
 }

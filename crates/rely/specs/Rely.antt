@@ -1,5 +1,5 @@
 -- What an actor may write, as far as what the others hold goes, and what an act keeps for them.
-use Rattle.std.specs.Prelude.{◌≡◌, ◌≢◌, ◌⊎◌, ℕ, List, Contains, IsTrue}
+use Rattle.std.specs.Prelude.{◌≡◌, ◌≢◌, ◌⊎◌, ℕ, List, [], ◌∷◌, Contains, IsTrue}
 use Rattle.ost_types.specs.declared.meta.Meta.{Meta}
 use Rattle.ost_types.specs.declared.object.Kind as object
 use Rattle.ost_types.specs.declared.object.Kind.TheVariants.{Commit}
@@ -10,9 +10,11 @@ use Rattle.fs_trait.specs.Image.{Holds}
 use Rattle.fs_trait.specs.Effect.{IsFresh}
 use Rattle.fs_trait.specs.Seen.{Seen, Vacant, Leaf, shows, IsDirectory, NotDirectory}
 use Rattle.fs_trait.specs.Change.{Writes}
+use Rattle.repo_layout.specs.BootPaths.{checkout_path}
 use Rattle.repo_layout.specs.Paths.{object_path, ref_path}
 use Rattle.repo_layout.specs.Place.{Place, Config, Stage, Ref, ObjectsFolder, Object, Mark, Summary, Deployment, Etc, Origin, Staged, BootLink, BootLinkStage, BootFolder, Loader, LoaderStage, LoaderFolder, KernelCopy, Checkout, Other, place}
 use Rattle.layout_rules.specs.InLayout.{InLayout}
+use Rattle.rely.specs.declared.books.Claim.{Claim}
 use Rattle.rely.specs.declared.books.Pin.{Pin}
 use Rattle.rely.specs.Disks.{IsLeaf}
 use Rattle.rely.specs.Books.{Books, Free, Spared}
@@ -41,7 +43,8 @@ may_at b actor lane LoaderStage s = Free b.sysroot lane
 may_at b actor lane (LoaderFolder version rest) s = Free b.sysroot lane
 may_at b actor lane (KernelCopy os bootcsum rest) s = Free b.sysroot lane
 may_at b actor lane (Etc os commit serial rest) s = ⊥
-may_at b actor lane (Checkout name rest) s = ⊥
+may_at b actor lane (Checkout name []) s = IsDirectory s
+may_at b actor lane (Checkout name (x ∷ rest)) s = Contains b.claims (record { lane = lane; name = name })
 may_at b actor lane Config s = ⊥
 may_at b actor lane (Other p) s = ⊥
 
@@ -63,18 +66,20 @@ abbrev pub HasNoRefs : View → Path → Type 0
 HasNoRefs v p = (name : List ℕ) → IsTrue (is_below p (ref_path name)) → IsLeaf (shows v.now (ref_path name)) → ⊥
 
 -- What this actor, for this lane, may write over this view: something that may be at such a place, and suits the layout; an object
--- only where nothing stands, and whole, so nobody writes over one or removes it; a mark only where its commit isn't; no file but a
--- new one, or one that stands at a path that is no other's staging path; and nothing in a folder's place, but where nothing, or no
--- ref, is in the folder.
+-- only where nothing stands, and whole, so nobody writes over one or removes it; a mark only where its commit isn't; a checkout's
+-- folder only where nothing stands; no file but a new one, or one that stands at a path that is no other's staging path; and nothing
+-- in a folder's place, but where nothing, or no ref, is in the folder.
 pub record May (b : Books) (v : View) (actor lane : ℕ) (p : Path) (s : Seen) : Type 0 where
   pub at : may_at b actor lane (place p) s
   pub fits : InLayout p s
   pub objects : (kind : object.Kind) (sum : List ℕ) → place p ≡ Object kind sum → (shows v.now p ≡ Vacant) × IsObjectSeen kind sum s
   pub marks : (commit : List ℕ) → place p ≡ Mark commit → s ≢ Vacant → shows v.now (object_path Commit commit) ≡ Vacant
+  pub checkouts : (name : Name) → place p ≡ Checkout name [] → shows v.now p ≡ Vacant
   pub comes : (n : ℕ) (m : Meta) (bytes : List ℕ) → s ≡ Leaf n m bytes → IsFresh n v ⊎ ((q : Path) × Holds v q (File n) × NotOthers actor (place q))
   pub folders : IsDirectory s ⊎ NotDirectory (shows v.now p) ⊎ OwnTree actor (place p) ⊎ IsEmpty v p ⊎ HasNoRefs v p
 
--- An act of this actor for this lane: its writes, and all that others hold stays.
+-- An act of this actor for this lane: its writes, and all that others hold stays; a checkout is claimed only where nothing stands.
 pub record Does (actor lane : ℕ) (v : View) (b : Books) (w : View) (b' : Books) : Type 0 where
   pub writes : Writes (May b v actor lane) v w
   pub books : Spared actor lane b b'
+  pub claims : (c : Claim) → Contains b'.claims c → Contains b.claims c ⊎ (shows v.now (checkout_path c.name) ≡ Vacant)

@@ -1,16 +1,18 @@
 -- What every value of the system keeps.
-use Rattle.std.specs.Prelude.{◌≡◌, ◌⊎◌, ◌<◌, ◌≤◌, ℕ, IsTrue, List, ◌++◌, length, Option, Some, None}
+use Rattle.std.specs.Prelude.{◌≡◌, ◌≢◌, ◌⊎◌, ◌<◌, ◌≤◌, ℕ, IsTrue, List, ◌++◌, length, Contains, Option, Some, None}
 use Rattle.std.specs.Vec.{vec_len, vec_capacity}
 use Rattle.ost_types.specs.Path.{Path, is_below, under}
 use Rattle.fs_trait.specs.View.{Disk, View}
-use Rattle.fs_trait.specs.Seen.{Seen, MayBe}
+use Rattle.fs_trait.specs.Seen.{Seen, Vacant, shows, MayBe}
 use Rattle.fs_trait.specs.Change.{LeadsTo, Left}
 use Rattle.repo_layout.specs.declared.folder.Folder.{Folder}
+use Rattle.repo_layout.specs.BootPaths.{checkout_path}
 use Rattle.repo_layout.specs.Paths.{folder_path, heads}
 use Rattle.repo_layout.specs.Place.{place}
 use Rattle.layout_rules.specs.Checks.{IsSane}
 use Rattle.layout_rules.specs.InLayout.{IsBounded, IsSuited}
 use Rattle.rely.specs.declared.books.Base.{Base}
+use Rattle.rely.specs.declared.books.Claim.{Claim}
 use Rattle.rely.specs.declared.books.Entry.{Entry}
 use Rattle.rely.specs.declared.books.Pending.{Pending}
 use Rattle.rely.specs.declared.event.Event.{Event}
@@ -75,8 +77,13 @@ pub record Ordered {F : Type 0} (clock spare : F → ℕ) (base : Base F) : Type
   pub room : base.books.owed ≤ spare base.fs
   pub entry : 0 < base.books.owed → vec_len base.books.history < vec_capacity base.books.history
 
+-- a folder stands for each checkout that is claimed
+abbrev pub AreThere : List Claim → View → Type 0
+AreThere claims v = (c : Claim) → Contains claims c → shows v.now (checkout_path c.name) ≢ Vacant
+
 -- What every value keeps.
 pub record Sound {F : Type 0} (view : F → Option View) (clock spare : F → ℕ) (was : F → ℕ → View → Type 0) (base : Base F) : Type 0 where
   pub ordered : Ordered clock spare base
   pub stands : (v : View) → view base.fs ≡ Some v → Stands (first base.books.start.items) base.books.history.items base.books.pending v
   pub crash : (v : View) → view base.fs ≡ Some v → Crash (Left (was base.fs)) base.books.opened (first base.books.start.items) base.books.history.items base.books.pending
+  pub claims : (v : View) → view base.fs ≡ Some v → AreThere base.books.claims.items v

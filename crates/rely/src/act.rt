@@ -12,10 +12,12 @@ ghost use Rattle.rely.specs.Books.{books_of, Free, Frees};
 ghost use Rattle.rely.specs.Exact.{Opens, Steps, Tells, IsUnbooked, IsHeldBy, IsShownBy, IsSettledBy, IsBooked, Causes, IsGivenUp, IsLeft, IsLive, Locks};
 ghost use Rattle.rely.specs.Lasting.{Lasts};
 ghost use Rattle.rely.specs.Pinning.{ArePinned, pin_in, without};
-ghost use Rattle.rely.specs.Laws.{IsShow, IsShown, IsOwing, IsSettle, IsQuiet, IsStore, IsTake, KeepsRoom, owed_by, Ready, Runs, IsBy, Stood, Acts, Ends, IsEnd, Show, Shown, Settle};
+ghost use Rattle.rely.specs.Claiming.{AreClaimed, claim_in, of_others};
+ghost use Rattle.rely.specs.Laws.{IsShow, IsShown, IsOwing, IsSettle, IsPlain, IsStore, IsTake, IsClaim, KeepsRoom, owed_by, Ready, Runs, IsBy, Stood, Acts, Ends, IsEnd, Claim, Show, Shown, Settle};
 
 use crate::{Base, Event, Outcome, Step, Wants, Work, is_free};
 use fs_trait::{Fs, FsErr, Turn};
+use ost_types::Name;
 
 /// Takes a step that isn't owed, once there is room for it and for all calls that are owed.
 fn advance_with_room<T: Work, F: Fs>(
@@ -49,6 +51,7 @@ fn end<F>(base: &mut Base<F>, actor: u8, lane: u8)
     ensures ends { Ends actor lane base.old base.new }
     ensures given_up { IsGivenUp lane base.old.books.turn base.new.books.turn × IsGivenUp lane base.old.books.exclusive base.new.books.exclusive }
     ensures pins { base.new.books.pins.items ≡ without lane base.old.books.pins.items }
+    ensures claims { base.new.books.claims.items ≡ of_others lane base.old.books.claims.items }
     ensures live { base.new.books.halted ≡ base.old.books.halted }
 {
     base.books.release(actor, lane);
@@ -63,6 +66,7 @@ fn refuse<F: Fs>(base: &mut Base<F>, actor: u8, lane: u8, before: u64, e: FsErr)
     ensures still { result ≡ Outcome.Refused e → e ≡ FsErr.Failed → F.clock base.old.fs ≡ before }
     ensures given_up { IsLeft lane result base.old.books.turn base.new.books.turn × IsLeft lane result base.old.books.exclusive base.new.books.exclusive }
     ensures pins { ArePinned None lane result base.old.books.pins.items base.new.books.pins.items }
+    ensures claimed { AreClaimed None lane result base.old.books.claims.items base.new.books.claims.items }
     ensures live { IsLive result base.old.books.halted base.new.books.halted }
 {
     if e == FsErr::Failed && base.fs.clock() != before {
@@ -77,7 +81,7 @@ fn refuse<F: Fs>(base: &mut Base<F>, actor: u8, lane: u8, before: u64, e: FsErr)
 fn quiet<T: Work, F: Fs>(base: &mut Base<F>, actor: u8, lane: u8, task: &mut T) -> Outcome
     requires ready { Ready F.view F.clock F.spare F.was (Runs T.kind_of T.facts lane task.old) base.old }
     requires by { IsBy (T.kind_of task.old) actor lane }
-    requires unseen { IsQuiet (T.kind_of task.old) }
+    requires plain { IsPlain (T.kind_of task.old) }
     requires stood { Stood (T.kind_of task.old) actor lane (books_of base.old.books) }
     ensures acts { Acts F.view F.clock F.spare F.was actor lane result (Runs T.kind_of T.facts lane task.new) base.old base.new }
     ensures steps { Steps T.stepped task.old result task.new }
@@ -86,6 +90,7 @@ fn quiet<T: Work, F: Fs>(base: &mut Base<F>, actor: u8, lane: u8, task: &mut T) 
     ensures goes { result ≢ Outcome.Blocked }
     ensures left { IsLeft lane result base.old.books.turn base.new.books.turn × IsLeft lane result base.old.books.exclusive base.new.books.exclusive }
     ensures pins { ArePinned None lane result base.old.books.pins.items base.new.books.pins.items }
+    ensures claimed { AreClaimed None lane result base.old.books.claims.items base.new.books.claims.items }
     ensures booked { IsUnbooked base.old.books base.new.books }
     ensures time { Elapses (F.clock base.old.fs) (F.clock base.new.fs) (F.was base.old.fs) (F.was base.new.fs) (F.view base.new.fs) }
     ensures cause { Causes (F.faults base.old.fs) (F.faults base.new.fs) result }
@@ -114,6 +119,7 @@ fn show<T: Work, F: Fs>(base: &mut Base<F>, lane: u8, command: u32, task: &mut T
     ensures opens { result ≢ Outcome.Blocked → (Free base.old.books.exclusive lane × Free base.old.books.turn lane) }
     ensures locks { Locks (T.kind_of task.old) lane result base.old.books base.new.books }
     ensures pins { ArePinned None lane result base.old.books.pins.items base.new.books.pins.items }
+    ensures claimed { AreClaimed None lane result base.old.books.claims.items base.new.books.claims.items }
     ensures booked { (e : Event) → T.kind_of task.old ≡ Show e → IsShownBy lane command e result base.old.books base.new.books }
     ensures time { Elapses (F.clock base.old.fs) (F.clock base.new.fs) (F.was base.old.fs) (F.was base.new.fs) (F.view base.new.fs) }
     ensures cause { (v : View) → F.view base.old.fs ≡ Some v → Causes (F.faults base.old.fs) (F.faults base.new.fs) result }
@@ -152,6 +158,7 @@ fn show_event<T: Work, F: Fs>(
     ensures goes { result ≢ Outcome.Blocked }
     ensures locks { Locks (T.kind_of task.old) lane result base.old.books base.new.books }
     ensures pins { ArePinned None lane result base.old.books.pins.items base.new.books.pins.items }
+    ensures claimed { AreClaimed None lane result base.old.books.claims.items base.new.books.claims.items }
     ensures booked { IsShownBy lane command event result base.old.books base.new.books }
     ensures time { Elapses (F.clock base.old.fs) (F.clock base.new.fs) (F.was base.old.fs) (F.was base.new.fs) (F.view base.new.fs) }
     ensures cause { (v : View) → F.view base.old.fs ≡ Some v → Causes (F.faults base.old.fs) (F.faults base.new.fs) result }
@@ -185,6 +192,7 @@ fn shown<T: Work, F: Fs>(base: &mut Base<F>, lane: u8, task: &mut T) -> Outcome
     ensures goes { result ≢ Outcome.Blocked }
     ensures locks { Locks (T.kind_of task.old) lane result base.old.books base.new.books }
     ensures pins { ArePinned None lane result base.old.books.pins.items base.new.books.pins.items }
+    ensures claimed { AreClaimed None lane result base.old.books.claims.items base.new.books.claims.items }
     ensures booked { IsHeldBy result base.old.books base.new.books }
     ensures time { Elapses (F.clock base.old.fs) (F.clock base.new.fs) (F.was base.old.fs) (F.was base.new.fs) (F.view base.new.fs) }
     ensures cause { (v : View) → F.view base.old.fs ≡ Some v → Causes (F.faults base.old.fs) (F.faults base.new.fs) result }
@@ -211,6 +219,7 @@ fn settle<T: Work, F: Fs>(base: &mut Base<F>, lane: u8, task: &mut T) -> Outcome
     ensures goes { result ≢ Outcome.Blocked }
     ensures locks { Locks (T.kind_of task.old) lane result base.old.books base.new.books }
     ensures pins { ArePinned None lane result base.old.books.pins.items base.new.books.pins.items }
+    ensures claimed { AreClaimed None lane result base.old.books.claims.items base.new.books.claims.items }
     ensures booked { IsSettledBy (F.clock base.new.fs) result base.old.books base.new.books }
     ensures time { Elapses (F.clock base.old.fs) (F.clock base.new.fs) (F.was base.old.fs) (F.was base.new.fs) (F.view base.new.fs) }
     ensures cause { (v : View) → F.view base.old.fs ≡ Some v → Causes (F.faults base.old.fs) (F.faults base.new.fs) result }
@@ -247,6 +256,7 @@ fn store<T: Work, F: Fs>(base: &mut Base<F>, actor: u8, lane: u8, task: &mut T) 
     ensures opens { result ≢ Outcome.Blocked → Free base.old.books.exclusive lane }
     ensures locks { Locks (T.kind_of task.old) lane result base.old.books base.new.books }
     ensures pins { ArePinned None lane result base.old.books.pins.items base.new.books.pins.items }
+    ensures claimed { AreClaimed None lane result base.old.books.claims.items base.new.books.claims.items }
     ensures booked { IsUnbooked base.old.books base.new.books }
     ensures time { Elapses (F.clock base.old.fs) (F.clock base.new.fs) (F.was base.old.fs) (F.was base.new.fs) (F.view base.new.fs) }
     ensures cause { Causes (F.faults base.old.fs) (F.faults base.new.fs) result }
@@ -270,6 +280,7 @@ fn take<T: Work, F: Fs>(base: &mut Base<F>, lane: u8, wants: Wants, task: &mut T
     ensures opens { result ≢ Outcome.Blocked → Frees wants lane (books_of base.old.books) }
     ensures locks { Locks (T.kind_of task.old) lane result base.old.books base.new.books }
     ensures pins { ArePinned wants.pin lane result base.old.books.pins.items base.new.books.pins.items }
+    ensures claimed { AreClaimed None lane result base.old.books.claims.items base.new.books.claims.items }
     ensures booked { IsUnbooked base.old.books base.new.books }
     ensures time { Elapses (F.clock base.old.fs) (F.clock base.new.fs) (F.was base.old.fs) (F.was base.new.fs) (F.view base.new.fs) }
     ensures cause { Causes (F.faults base.old.fs) (F.faults base.new.fs) result }
@@ -283,6 +294,69 @@ fn take<T: Work, F: Fs>(base: &mut Base<F>, lane: u8, wants: Wants, task: &mut T
         return Outcome::Refused(FsErr::NoMemory);
     }
     quiet(base, lane, lane, task)
+}
+
+/// The step that makes the folder of a checkout.
+fn claim<T: Work, F: Fs>(base: &mut Base<F>, lane: u8, task: &mut T) -> Outcome
+    requires ready { Ready F.view F.clock F.spare F.was (Runs T.kind_of T.facts lane task.old) base.old }
+    requires kind { IsClaim (T.kind_of task.old) }
+    ensures acts { Acts F.view F.clock F.spare F.was lane lane result (Runs T.kind_of T.facts lane task.new) base.old base.new }
+    ensures steps { Steps T.stepped task.old result task.new }
+    ensures wrote { (v : View) → F.view base.old.fs ≡ Some v → Told (F.view base.new.fs) (λ w. Writes (T.writes_of lane task.old v) v w) }
+    ensures tells { Tells T.leaves T.refuses task.old result task.new (F.view base.old.fs) (F.view base.new.fs) }
+    ensures goes { result ≢ Outcome.Blocked }
+    ensures left { IsLeft lane result base.old.books.turn base.new.books.turn × IsLeft lane result base.old.books.exclusive base.new.books.exclusive }
+    ensures pins { ArePinned None lane result base.old.books.pins.items base.new.books.pins.items }
+    ensures claimed { AreClaimed (claim_in (T.kind_of task.old)) lane result base.old.books.claims.items base.new.books.claims.items }
+    ensures booked { IsUnbooked base.old.books base.new.books }
+    ensures time { Elapses (F.clock base.old.fs) (F.clock base.new.fs) (F.was base.old.fs) (F.was base.new.fs) (F.view base.new.fs) }
+    ensures cause { Causes (F.faults base.old.fs) (F.faults base.new.fs) result }
+    ensures live { IsLive result base.old.books.halted base.new.books.halted }
+{
+    let Ok(name) = task.claim() else {
+        end(base, lane, lane);
+        return Outcome::Refused(FsErr::NoMemory);
+    };
+    if base.books.make_claim_room().is_err() {
+        end(base, lane, lane);
+        return Outcome::Refused(FsErr::NoMemory);
+    }
+    claim_named(base, lane, name, task)
+}
+
+/// So, once there is room for the claim.
+fn claim_named<T: Work, F: Fs>(base: &mut Base<F>, lane: u8, name: Name, task: &mut T) -> Outcome
+    requires ready { Ready F.view F.clock F.spare F.was (Runs T.kind_of T.facts lane task.old) base.old }
+    requires kind { T.kind_of task.old ≡ Claim name }
+    requires room { vec_len base.old.books.claims < vec_capacity base.old.books.claims }
+    ensures acts { Acts F.view F.clock F.spare F.was lane lane result (Runs T.kind_of T.facts lane task.new) base.old base.new }
+    ensures steps { Steps T.stepped task.old result task.new }
+    ensures wrote { (v : View) → F.view base.old.fs ≡ Some v → Told (F.view base.new.fs) (λ w. Writes (T.writes_of lane task.old v) v w) }
+    ensures tells { Tells T.leaves T.refuses task.old result task.new (F.view base.old.fs) (F.view base.new.fs) }
+    ensures goes { result ≢ Outcome.Blocked }
+    ensures left { IsLeft lane result base.old.books.turn base.new.books.turn × IsLeft lane result base.old.books.exclusive base.new.books.exclusive }
+    ensures pins { ArePinned None lane result base.old.books.pins.items base.new.books.pins.items }
+    ensures claimed { AreClaimed (Some name) lane result base.old.books.claims.items base.new.books.claims.items }
+    ensures booked { IsUnbooked base.old.books base.new.books }
+    ensures time { Elapses (F.clock base.old.fs) (F.clock base.new.fs) (F.was base.old.fs) (F.was base.new.fs) (F.view base.new.fs) }
+    ensures cause { Causes (F.faults base.old.fs) (F.faults base.new.fs) result }
+    ensures live { IsLive result base.old.books.halted base.new.books.halted }
+{
+    let before = base.fs.clock();
+    match advance_with_room(base, lane, task) {
+        Ok(Turn::More) => {
+            if !base.books.note_claim(lane, name) {
+                base.books.halted = true;
+                return Outcome::Halted;
+            }
+            Outcome::More
+        }
+        Ok(Turn::Done(())) => {
+            end(base, lane, lane);
+            Outcome::Done
+        }
+        Err(e) => refuse(base, lane, lane, before, e),
+    }
 }
 
 /// Takes the next step of a lane's task: the lane's own actor, or a helper where the step may be anybody's. A lane's own
@@ -304,6 +378,7 @@ pub fn task_act<T: Work, F: Fs>(
     ensures opens { result ≢ Outcome.Blocked → Opens (T.kind_of task.old) lane (books_of base.old.books) }
     ensures locks { Locks (T.kind_of task.old) lane result base.old.books base.new.books }
     ensures pins { ArePinned (pin_in (T.kind_of task.old)) lane result base.old.books.pins.items base.new.books.pins.items }
+    ensures claimed { AreClaimed (claim_in (T.kind_of task.old)) lane result base.old.books.claims.items base.new.books.claims.items }
     ensures booked { IsBooked (T.kind_of task.old) lane command (F.clock base.new.fs) result base.old.books base.new.books }
     ensures time { Elapses (F.clock base.old.fs) (F.clock base.new.fs) (F.was base.old.fs) (F.was base.new.fs) (F.view base.new.fs) }
     ensures outlasts { Lasts F.view F.clock F.was base.old.fs base.new.fs }
@@ -314,6 +389,7 @@ pub fn task_act<T: Work, F: Fs>(
         Step::Quiet => quiet(base, actor, lane, task),
         Step::Store => store(base, actor, lane, task),
         Step::Take(wants) => take(base, lane, wants, task),
+        Step::Claim => claim(base, lane, task),
         Step::Show => show(base, lane, command, task),
         Step::Shown => shown(base, lane, task),
         Step::Settle => settle(base, lane, task),
@@ -331,6 +407,7 @@ pub fn help_act<T: Work, F: Fs>(base: &mut Base<F>, actor: u8, lane: u8, task: &
     ensures opens { result ≢ Outcome.Blocked → IsStore (T.kind_of task.old) × Free base.old.books.exclusive lane }
     ensures booked { IsUnbooked base.old.books base.new.books }
     ensures pins { ArePinned None lane result base.old.books.pins.items base.new.books.pins.items }
+    ensures claimed { AreClaimed None lane result base.old.books.claims.items base.new.books.claims.items }
     ensures time { Elapses (F.clock base.old.fs) (F.clock base.new.fs) (F.was base.old.fs) (F.was base.new.fs) (F.view base.new.fs) }
     ensures outlasts { Lasts F.view F.clock F.was base.old.fs base.new.fs }
     ensures cause { Causes (F.faults base.old.fs) (F.faults base.new.fs) result }

@@ -2,7 +2,7 @@ ghost use Rattle.rely.specs.Barrier.{barrier_kind, barrier_needs, barrier_writes
 
 use crate::{Event, Step, Work};
 use fs_trait::{Fs, FsErr, Turn};
-use ost_types::NoMemory;
+use ost_types::{Name, NoMemory};
 
 /// A task of one step, which makes outlast a crash all that is there.
 #[derive(Clone, Copy, Debug, PartialEq, Eq)]
@@ -30,6 +30,10 @@ impl Work for Barrier {
     }
 
     fn event(&self) -> Result<Event, NoMemory> {
+        Err(NoMemory)
+    }
+
+    fn claim(&self) -> Result<Name, NoMemory> {
         Err(NoMemory)
     }
 

@@ -1,5 +1,5 @@
 use crate::Event;
-use ost_types::{Csum, ObjName};
+use ost_types::{Csum, Name, ObjName};
 use repo_layout::{OsName, RefName};
 
 /// A change that lasts.
@@ -26,6 +26,13 @@ pub struct Pending {
 pub struct Pin {
     pub lane: u8,
     pub object: ObjName,
+}
+
+/// A checkout that a lane's command makes: nobody else writes in its folder.
+#[derive(Drop, Debug)]
+pub struct Claim {
+    pub lane: u8,
+    pub name: Name,
 }
 
 /// A lane reads the `etc` of the deployment at this place of the list.
@@ -72,6 +79,7 @@ pub struct Books {
     pub holds: Vec<Hold>,
     pub wants: Vec<Want>,
     pub pins: Vec<Pin>,
+    pub claims: Vec<Claim>,
     pub uses: Vec<Use>,
     pub history: Vec<Entry>,
     pub pending: Option<Pending>,

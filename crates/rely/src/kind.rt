@@ -10,6 +10,8 @@ pub enum Step {
     Store,
     /// So too, once these locks are taken.
     Take(Wants),
+    /// It makes the folder of a checkout, which is the lane's from then on.
+    Claim,
     /// It shows a change.
     Show,
     /// It comes between the step that shows a change and the one that makes it last.

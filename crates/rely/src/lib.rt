@@ -16,7 +16,7 @@ mod work;
 
 pub use act::{help_act, task_act};
 pub use barrier::Barrier;
-pub use books::{Base, Books, Entry, Hold, Pending, Pin, Share, Use, Want};
+pub use books::{Base, Books, Claim, Entry, Hold, Pending, Pin, Share, Use, Want};
 pub use crash::certify;
 pub use event::Event;
 pub use kind::{Outcome, Step, Wants};

@@ -1,5 +1,6 @@
 ghost use Rattle.std.specs.Prelude.{◌≡◌, ◌↔◌, ◌≢◌, ◌⊎◌, ◌<◌, ◌-◌, ◌++◌, ◌∷◌, [], ℕ, List, Option, Some, None, IsTrue, All, Contains, OnOk, OnErr};
 ghost use Rattle.ost_types.specs.declared.object.ObjName.{ObjName};
+ghost use Rattle.rely.specs.declared.books.Claim.{Claim};
 ghost use Rattle.rely.specs.declared.books.Hold.{Hold};
 ghost use Rattle.rely.specs.declared.books.Pending.{Pending};
 ghost use Rattle.rely.specs.declared.books.Pin.{Pin};
@@ -9,9 +10,10 @@ ghost use Rattle.rely.specs.declared.books.Want.{Want};
 ghost use Rattle.rely.specs.Books.{books_of, Free, Frees, Granted, Agrees, Spared, Keeps};
 ghost use Rattle.rely.specs.Exact.{IsGivenUp, lock_taken};
 ghost use Rattle.rely.specs.Pinning.{with_pin, without};
+ghost use Rattle.rely.specs.Claiming.{of_others};
 
-use crate::{Books, Entry, Event, Hold, Pending, Pin, Share, Want, Wants};
-use ost_types::{NoMemory, ObjName};
+use crate::{Books, Claim, Entry, Event, Hold, Pending, Pin, Share, Want, Wants};
+use ost_types::{Name, NoMemory, ObjName};
 
 /// Whether nobody else holds the lock.
 pub(crate) fn is_free(lock: Option<u8>, who: u8) -> bool
@@ -65,6 +67,14 @@ fn give_up_pins(pins: &mut Vec<Pin>, lane: u8)
     ensures kept { (x : Pin) → x.lane ≢ lane → Contains pins.old.items x → Contains pins.new.items x }
 {
     pins.retain(|x| x.lane != lane);
+}
+
+fn give_up_claims(claims: &mut Vec<Claim>, lane: u8)
+    ensures left { claims.new.items ≡ of_others lane claims.old.items }
+    ensures kept { (x : Claim) → x.lane ≢ lane → Contains claims.old.items x → Contains claims.new.items x }
+    ensures no_more { (x : Claim) → Contains claims.new.items x → Contains claims.old.items x }
+{
+    claims.retain(|x| x.lane != lane);
 }
 
 /// Takes a lock.
@@ -163,10 +173,12 @@ impl Books {
 
     /// Gives up all that a lane holds.
     pub(crate) fn release(&mut self, actor: u8, lane: u8)
-        ensures same { self.new ≡ record self.old { shared = self.new.shared; exclusive = self.new.exclusive; turn = self.new.turn; sysroot = self.new.sysroot; holds = self.new.holds; wants = self.new.wants; pins = self.new.pins } }
+        ensures same { self.new ≡ record self.old { shared = self.new.shared; exclusive = self.new.exclusive; turn = self.new.turn; sysroot = self.new.sysroot; holds = self.new.holds; wants = self.new.wants; pins = self.new.pins; claims = self.new.claims } }
         ensures turn { (x : ℕ) → self.new.turn ≡ Some x → self.old.turn ≡ Some x }
         ensures given_up { IsGivenUp lane self.old.turn self.new.turn × IsGivenUp lane self.old.exclusive self.new.exclusive }
         ensures pins { self.new.pins.items ≡ without lane self.old.pins.items }
+        ensures claims { self.new.claims.items ≡ of_others lane self.old.claims.items }
+        ensures no_more { (x : Claim) → Contains self.new.claims.items x → Contains self.old.claims.items x }
         ensures spared { Spared actor lane (books_of self.old) (books_of self.new) }
         ensures agrees { Agrees (books_of self.old) → Agrees (books_of self.new) }
     {
@@ -177,6 +189,7 @@ impl Books {
         give_up_holds(&mut self.holds, lane);
         give_up_wants(&mut self.wants, lane);
         give_up_pins(&mut self.pins, lane);
+        give_up_claims(&mut self.claims, lane);
     }
 
     /// Room for one more entry of the history.
@@ -188,6 +201,25 @@ impl Books {
     {
         self.history.reserve(1)?;
         Ok(())
+    }
+
+    /// Room for one more claim.
+    pub(crate) fn make_claim_room(&mut self) -> Result<(), NoMemory>
+        ensures same { self.new ≡ record self.old { claims = self.new.claims } }
+        ensures items { self.new.claims.items ≡ self.old.claims.items }
+        ensures room { OnOk result (vec_len self.new.claims < vec_capacity self.new.claims) }
+    {
+        self.claims.reserve(1)?;
+        Ok(())
+    }
+
+    /// The checkout of that name is the lane's.
+    pub(crate) fn note_claim(&mut self, lane: u8, name: Name) -> bool
+        ensures done { vec_len self.old.claims < vec_capacity self.old.claims → IsTrue result }
+        ensures same { self.new ≡ record self.old { claims = self.new.claims } }
+        ensures added { IsTrue result → self.new.claims.items ≡ self.old.claims.items ++ record { lane = lane; name = name } ∷ [] }
+    {
+        self.claims.push(Claim { lane, name }).is_ok()
     }
 
     /// The lane's change is shown, or may be.

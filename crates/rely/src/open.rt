@@ -14,9 +14,10 @@ use std::alloc::Global;
 impl Books {
     /// The books at the opening: nobody holds anything, and nothing has changed.
     fn new(alloc: Global, opened: u64, start: Vec<(RefName, Csum)>) -> Books
-        ensures fresh { result ≡ record { shared = result.shared; exclusive = None; turn = None; sysroot = None; holds = result.holds; wants = result.wants; pins = result.pins; uses = result.uses; history = result.history; pending = None; replies = 0; owed = 0; halted = false; opened = opened; start = start } }
+        ensures fresh { result ≡ record { shared = result.shared; exclusive = None; turn = None; sysroot = None; holds = result.holds; wants = result.wants; pins = result.pins; claims = result.claims; uses = result.uses; history = result.history; pending = None; replies = 0; owed = 0; halted = false; opened = opened; start = start } }
         ensures history { result.history.items ≡ [] }
         ensures pins { result.pins.items ≡ [] }
+        ensures claims { result.claims.items ≡ [] }
     {
         Books {
             shared: Vec::new(alloc),
@@ -26,6 +27,7 @@ impl Books {
             holds: Vec::new(alloc),
             wants: Vec::new(alloc),
             pins: Vec::new(alloc),
+            claims: Vec::new(alloc),
             uses: Vec::new(alloc),
             history: Vec::new(alloc),
             pending: None,
@@ -51,6 +53,7 @@ impl<F: Fs> Base<F> {
         ensures pending { result.books.pending ≡ None }
         ensures live { result.books.halted ≡ false }
         ensures pins { result.books.pins.items ≡ [] }
+        ensures claims { result.books.claims.items ≡ [] }
         ensures free { (result.books.turn ≡ None) × (result.books.exclusive ≡ None) }
         ensures opened { result.books.opened ≡ opened }
         ensures sound { Sound F.view F.clock F.spare F.was result }

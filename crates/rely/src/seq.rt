@@ -8,7 +8,7 @@ ghost use Rattle.rely.specs.Part.{Hands, part_at, part_kind, part_needs, part_wr
 
 use crate::{Event, Step, Work};
 use fs_trait::{Fs, FsErr, Turn};
-use ost_types::NoMemory;
+use ost_types::{Name, NoMemory};
 
 /// A task that hands over to another one when it is done.
 pub trait Then<B: Work>: Work {
@@ -63,6 +63,16 @@ impl<A: Work + Then<B> + Drop, B: Work + Drop> Work for Seq<A, B> {
         match &self.second {
             None => Err(NoMemory),
             Some(task) => task.event(),
+        }
+    }
+
+    fn claim(&self) -> Result<Name, NoMemory> {
+        if !self.over {
+            return self.first.claim();
+        }
+        match &self.second {
+            None => Err(NoMemory),
+            Some(task) => task.claim(),
         }
     }
 

@@ -1,7 +1,7 @@
 ghost use Rattle.std.specs.Prelude.{◌≡◌, ℕ, Option, Some, IfOk, IfErr, OnOk, IsErrOf};
 ghost use Rattle.fs_trait.specs.declared.types.FsErr.{FsErr};
 ghost use Rattle.fs_trait.specs.declared.types.FsErr.TheVariants as err;
-ghost use Rattle.ost_types.specs.Path.{Path};
+ghost use Rattle.ost_types.specs.Path.{Name, Path};
 ghost use Rattle.fs_trait.specs.declared.task.Turn.{Turn};
 ghost use Rattle.fs_trait.specs.View.{View};
 ghost use Rattle.fs_trait.specs.Image.{Told};
@@ -10,11 +10,11 @@ ghost use Rattle.fs_trait.specs.Change.{Writes};
 ghost use Rattle.fs_trait.specs.Effect.{Elapses, HasCause, Next, OfNone};
 ghost use Rattle.rely.specs.declared.event.Event.{Event};
 ghost use Rattle.rely.specs.Books.{Books};
-ghost use Rattle.rely.specs.Laws.{Kind, Show, IsOwing, IsSettle, KeepsRoom, Laws, step_of, owed_by};
+ghost use Rattle.rely.specs.Laws.{Kind, Claim, Show, IsOwing, IsSettle, KeepsRoom, Laws, step_of, owed_by};
 
 use crate::{Event, Step};
 use fs_trait::{Fs, FsErr, Turn};
-use ost_types::NoMemory;
+use ost_types::{Name, NoMemory};
 
 /// The running task of a command, as the system sees it.
 pub trait Work {
@@ -44,6 +44,10 @@ pub trait Work {
     /// The change that the next step shows.
     fn event(&self) -> Result<Event, NoMemory>
         ensures { (e : Event) → kind_of self.now ≡ Show e → IfOk result (λ x. x ≡ e) };
+
+    /// The checkout whose folder the next step makes.
+    fn claim(&self) -> Result<Name, NoMemory>
+        ensures { (name : Name) → kind_of self.now ≡ Claim name → IfOk result (λ x. x ≡ name) };
 
     /// How many calls are owed, that of the next step among them.
     fn owes(&self) -> u64

@@ -1,7 +1,7 @@
 use Rattle.std.proofs.Common.{Err, ◌∙◌, ap}
 use Rattle.rely.specs.Laws.{Runs}
 use Rattle.rely.proofs.Sounds.{IsFs}
-use Rattle.rely.proofs.Acting.{asks, ends_refl, none_stays, quiet_acts, quiet_tells, refused_tells, tells_end}
+use Rattle.rely.proofs.Acting.{asks, ends_refl, none_stays, plain_quiet, quiet_acts, quiet_tells, refused_tells, tells_end}
 use Rattle.rely.proofs.act.quiet.Given as given
 use Rattle.rely.proofs.act.quiet.Goals as goal
 
@@ -18,22 +18,22 @@ returns-in-Ok-More-clause-acts g c =
     let r = c.requires in
     let mid = c.advance_with_room.new.base in
     quiet_acts g.F.Fs.view g.F.Fs.clock g.F.Fs.spare g.F.Fs.was (fs g) g.met.T.Work.laws c.args.base.now mid mid c.args.actor c.args.lane c.args.task.now c.advance_with_room.new.task _
-    e.books (ends_refl c.args.actor c.args.lane mid) r.by r.unseen r.stood r.ready e.writes e.time e.room
-    (quiet_tells g.F.Fs.view g.F.Fs.clock g.F.Fs.spare g.F.Fs.was (fs g) g.met.T.Work.laws c.args.base.now mid c.args.actor c.args.lane c.args.task.now c.advance_with_room.new.task c.in-Ok-More.field-0 e.books r.unseen r.stood r.ready c.in-Ok-More.field-0-is e.stepped e.after)
+    e.books (ends_refl c.args.actor c.args.lane mid) r.by (plain_quiet (g.T.Work.kind_of c.args.task.now) r.plain) r.stood r.ready e.writes e.time e.room
+    (quiet_tells g.F.Fs.view g.F.Fs.clock g.F.Fs.spare g.F.Fs.was (fs g) g.met.T.Work.laws c.args.base.now mid c.args.actor c.args.lane c.args.task.now c.advance_with_room.new.task c.in-Ok-More.field-0 e.books r.plain r.stood r.ready c.in-Ok-More.field-0-is e.stepped e.after)
 
 pub returns-in-Ok-Done-clause-acts : goal.returns-in-Ok-Done-clause-acts
 returns-in-Ok-Done-clause-acts g c =
     let e = c.in-Ok-Done.ensures in
     let r = c.requires in
     quiet_acts g.F.Fs.view g.F.Fs.clock g.F.Fs.spare g.F.Fs.was (fs g) g.met.T.Work.laws c.args.base.now c.advance_with_room.new.base c.end.new.base c.args.actor c.args.lane c.args.task.now c.advance_with_room.new.task _
-    e.books c.end.ensures.ends r.by r.unseen r.stood r.ready e.writes e.time e.room tt
+    e.books c.end.ensures.ends r.by (plain_quiet (g.T.Work.kind_of c.args.task.now) r.plain) r.stood r.ready e.writes e.time e.room tt
 
 pub returns-in-Err-clause-acts : goal.returns-in-Err-clause-acts
 returns-in-Err-clause-acts g c =
     let e = c.in-Err.ensures in
     let r = c.requires in
     quiet_acts g.F.Fs.view g.F.Fs.clock g.F.Fs.spare g.F.Fs.was (fs g) g.met.T.Work.laws c.args.base.now c.advance_with_room.new.base c.refuse.new.base c.args.actor c.args.lane c.args.task.now c.advance_with_room.new.task c.refuse.result
-    e.books c.refuse.ensures.ends r.by r.unseen r.stood r.ready e.writes e.time e.room (tells_end g.F.Fs.view (Runs g.T.Work.kind_of g.T.Work.facts c.args.lane c.advance_with_room.new.task) c.refuse.result c.refuse.new.base c.refuse.ensures.told)
+    e.books c.refuse.ensures.ends r.by (plain_quiet (g.T.Work.kind_of c.args.task.now) r.plain) r.stood r.ready e.writes e.time e.room (tells_end g.F.Fs.view (Runs g.T.Work.kind_of g.T.Work.facts c.args.lane c.advance_with_room.new.task) c.refuse.result c.refuse.new.base c.refuse.ensures.told)
 
 pub returns-in-Err-clause-tells : goal.returns-in-Err-clause-tells
 returns-in-Err-clause-tells g c =

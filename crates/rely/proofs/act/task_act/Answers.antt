@@ -17,6 +17,9 @@ returns-in-Store-clause-outlasts g c = lasts_act g.F.Fs.view g.F.Fs.clock g.F.Fs
 pub returns-in-Take-clause-outlasts : goal.returns-in-Take-clause-outlasts
 returns-in-Take-clause-outlasts g c = lasts_act g.F.Fs.view g.F.Fs.clock g.F.Fs.was (fs g) c.args.base.now.fs c.take.new.base.fs (books_of c.args.base.now.books) (books_of c.take.new.base.books) c.args.lane c.args.lane c.take.ensures.acts.does c.take.ensures.time
 
+pub returns-in-Claim-clause-outlasts : goal.returns-in-Claim-clause-outlasts
+returns-in-Claim-clause-outlasts g c = lasts_act g.F.Fs.view g.F.Fs.clock g.F.Fs.was (fs g) c.args.base.now.fs c.claim.new.base.fs (books_of c.args.base.now.books) (books_of c.claim.new.base.books) c.args.lane c.args.lane c.claim.ensures.acts.does c.claim.ensures.time
+
 pub returns-in-Show-clause-outlasts : goal.returns-in-Show-clause-outlasts
 returns-in-Show-clause-outlasts g c = lasts_act g.F.Fs.view g.F.Fs.clock g.F.Fs.was (fs g) c.args.base.now.fs c.show.new.base.fs (books_of c.args.base.now.books) (books_of c.show.new.base.books) c.args.lane c.args.lane c.show.ensures.acts.does c.show.ensures.time
 

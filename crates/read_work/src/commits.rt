@@ -18,7 +18,7 @@ use script::Answer;
 use std::alloc::Global;
 
 /// A pin of the commit.
-pub(crate) fn pin_wants(commit: &Csum) -> Wants
+pub fn pin_wants(commit: &Csum) -> Wants
     ensures { result ≡ pin_wants commit.now }
 {
     Wants {
@@ -35,19 +35,14 @@ pub(crate) fn pin_wants(commit: &Csum) -> Wants
 }
 
 /// What names a commit is a sum.
-pub(crate) fn sum_of_commit(commit: &Csum)
+pub fn sum_of_commit(commit: &Csum)
     ensures { IsSum commit.now }
 {
     let _bytes = commit.as_slice();
 }
 
 /// Looks the commit up as `rev-parse` does.
-pub(crate) fn look_up<F: Fs>(
-    alloc: Global,
-    actor: u8,
-    fs: &mut F,
-    commit: Csum,
-) -> Result<Found, FsErr>
+pub fn look_up<F: Fs>(alloc: Global, actor: u8, fs: &mut F, commit: Csum) -> Result<Found, FsErr>
     ensures writes { (v : View) → F.view fs.old ≡ Some v → Told (F.view fs.new) (λ w. Writes Nothing v w) }
     ensures unchanged { (v : View) → F.view fs.old ≡ Some v → IsErrOf result err.NoMemory → F.view fs.new ≡ Some v }
     ensures told { (v : View) → F.view fs.old ≡ Some v → IfOk result (λ found. (F.view fs.new ≡ Some v) × IsFound v.now commit found) }
