@@ -1,12 +1,11 @@
 -- What a line of a lane is not.
 use Rattle.std.proofs.Common.{◌≡◌, ℕ, List, ◌∷◌, codes, sym, ◌∙◌}
-use Rattle.script.specs.Words.{spelled, keyword_of, HasFields, IsCommand, IsWritten}
+use Rattle.script.specs.Words.{keyword_of, HasFields, IsCommand, IsWritten}
 use Rattle.script.specs.declared.command.Command.{Command}
 use Rattle.script.specs.declared.command.Command.TheVariants as command
 use Rattle.script.specs.declared.command.CommitLine.{CommitLine}
 use Rattle.script.specs.declared.command.Written.{Written}
 use Rattle.script.specs.declared.command.Written.TheVariants as written
-use Rattle.script.specs.declared.words.Keyword.{Keyword}
 use Rattle.script.specs.declared.words.Keyword.TheVariants.{Commit}
 use Rattle.script.proofs.Fields.{end_word, spelled_one}
 
@@ -24,6 +23,7 @@ no_commit (command.RevParse rev) fields kind has = cc
 no_commit (command.Log rev) fields kind has = cc
 no_commit (command.Ls rev path) fields kind has = cc
 no_commit (command.Cat rev path) fields kind has = cc
+no_commit (command.Checkout rev name) fields kind has = cc
 no_commit (command.Reset branch sum) fields kind has = cc
 no_commit (command.DropRef branch) fields kind has = cc
 no_commit (command.Commit branch tree subject body time) fields kind has = has

@@ -2,10 +2,11 @@
 use Rattle.std.proofs.Common.{◌≡◌, ◌≢◌, ℕ, cond, List, [], ◌∷◌, length, get_or, map, codes, Option, Some, None, IsSome, IfSome, MatchOption, Result, Ok, Err, IfOk, ◌↔◌, refl, sym, ◌∙◌, ap, subst, rules}
 use Rattle.ost_types.specs.Path.{Path, same_name}
 use Rattle.ost_types.specs.Csum.{hex_of}
+use Rattle.ost_types.specs.Text.{IsName}
 use Rattle.repo_layout.specs.RefName.{IsRefName}
 use Rattle.repo_layout.specs.RefFile.{IsSum}
-use Rattle.script.specs.Field.{IsField, IsNoField, IsPathField}
-use Rattle.script.specs.Words.{AreRevPath, IsBranch, IsCommit, spelled, keyword_of, HasFields, IsCommitLine, IsCommand, IsWritten, AreNoCommand}
+use Rattle.script.specs.Field.{Gives, IsField, IsNameField, IsNoField, IsPathField}
+use Rattle.script.specs.Words.{AreRevName, AreRevPath, IsBranch, IsCommit, spelled, keyword_of, HasFields, IsCommitLine, IsCommand, IsWritten, AreNoCommand}
 use Rattle.script.specs.declared.command.Rev.{Rev}
 use Rattle.script.specs.declared.command.Command.{Command}
 use Rattle.script.specs.declared.command.Command.TheVariants as command
@@ -13,7 +14,7 @@ use Rattle.script.specs.declared.command.CommitLine.{CommitLine}
 use Rattle.script.specs.declared.command.Written.{Written}
 use Rattle.script.specs.declared.command.Written.TheVariants as written
 use Rattle.script.specs.declared.words.Keyword.{Keyword}
-use Rattle.script.specs.declared.words.Keyword.TheVariants.{Refs, RevParse, Log, Ls, Cat, Reset, DropRef, Commit}
+use Rattle.script.specs.declared.words.Keyword.TheVariants.{Refs, RevParse, Log, Ls, Cat, Checkout, Reset, DropRef, Commit}
 use Rattle.script.proofs.Slices.{two_of}
 use Rattle.script.proofs.Spelling.{field_one}
 
@@ -31,6 +32,10 @@ pub branch_from : (field value : List ℕ) (o : Option (List ℕ)) → IsField f
     → MatchOption o ((name : List ℕ) → ¬ (IsBranch field name)) (IsBranch field)
 branch_from field value None is exact same = λ name b. no_value (exact.1 (subst IsRefName (field_one field name value b.spelled is) b.ref))
 branch_from field value (Some n) is exact same = record { spelled = subst (IsField field) (sym same) is; ref = subst IsRefName (sym same) (exact.0 (search rules)) }
+
+pub name_from : (field value : List ℕ) (o : Option (List ℕ)) → IsField field value → (IsSome o ↔ IsName value) → IfSome o (λ n. n ≡ value) → Gives (IsNameField field) o
+name_from field value None is exact same = λ name b. no_value (exact.1 (subst IsName (field_one field name value b.spelled is) b.whole))
+name_from field value (Some n) is exact same = record { spelled = subst (IsField field) (sym same) is; whole = subst IsName (sym same) (exact.0 (search rules)) }
 
 -- what was read of a value of 32 bytes in digits
 pub sum_from : (field value : List ℕ) (o : Option (List ℕ)) → IsField field value → IfSome o (λ s. hex_of s ≡ value) → IfSome o IsSum → ((sum : List ℕ) → IsSum sum → value ≡ hex_of sum → o ≡ Some sum)
@@ -51,8 +56,15 @@ no_rev_path now fs b two none rev path are =
     let second : are.1 ≡ now (get_or fs 1 b) = cc in
     none path (subst (λ f. IsPathField f path) second are.4)
 
+-- two fields, of which the second is no name
+pub no_rev_name : {V : Type 0} (now : V → List ℕ) (fs : List V) (b : V) → length fs ≡ 2 → ((name : List ℕ) → ¬ (IsNameField (now (get_or fs 1 b)) name)) → (rev : Rev) (name : List ℕ) → ¬ (AreRevName (map now fs) rev name)
+no_rev_name now fs b two none rev name are =
+    let same : are.0 ∷ are.1 ∷ [] ≡ now (get_or fs 0 b) ∷ now (get_or fs 1 b) ∷ [] = sym are.2 ∙ two_of now fs b b two in
+    let second : are.1 ≡ now (get_or fs 1 b) = cc in
+    none name (subst (λ f. IsNameField f name) second are.4)
+
 keywords : List Keyword
-keywords = Refs ∷ RevParse ∷ Log ∷ Ls ∷ Cat ∷ Reset ∷ DropRef ∷ Commit ∷ []
+keywords = Refs ∷ RevParse ∷ Log ∷ Ls ∷ Cat ∷ Checkout ∷ Reset ∷ DropRef ∷ Commit ∷ []
 
 -- the first of these keywords with this spelling
 first_spelled : List ℕ → List Keyword → Option Keyword
@@ -66,6 +78,7 @@ found RevParse = refl
 found Log = refl
 found Ls = refl
 found Cat = refl
+found Checkout = refl
 found Reset = refl
 found DropRef = refl
 found Commit = refl
@@ -85,6 +98,7 @@ NoneHas RevParse fields = (rev : Rev) → ¬ (HasFields (command.RevParse rev) f
 NoneHas Log fields = (rev : Rev) → ¬ (HasFields (command.Log rev) fields)
 NoneHas Ls fields = (rev : Rev) (path : Path) → ¬ (HasFields (command.Ls rev path) fields)
 NoneHas Cat fields = (rev : Rev) (path : Path) → ¬ (HasFields (command.Cat rev path) fields)
+NoneHas Checkout fields = (rev : Rev) (name : List ℕ) → ¬ (HasFields (command.Checkout rev name) fields)
 NoneHas Reset fields = (branch commit : List ℕ) → ¬ (HasFields (command.Reset branch commit) fields)
 NoneHas DropRef fields = (branch : List ℕ) → ¬ (HasFields (command.DropRef branch) fields)
 NoneHas Commit fields = (line : CommitLine) → ¬ (IsCommitLine fields line)
@@ -95,6 +109,7 @@ not_had (command.RevParse rev) fields none = none rev
 not_had (command.Log rev) fields none = none rev
 not_had (command.Ls rev path) fields none = none rev path
 not_had (command.Cat rev path) fields none = none rev path
+not_had (command.Checkout rev name) fields none = none rev name
 not_had (command.Reset branch commit) fields none = none branch commit
 not_had (command.DropRef branch) fields none = none branch
 not_had (command.Commit branch tree subject body time) fields none = λ h. h
@@ -147,6 +162,12 @@ module _ (words fields : List (List ℕ)) (word : List ℕ) (line : words ≡ wo
       → MatchOption o (AreNoCommand words) (IsWritten words)
   cat_from is None none = no_command Cat is none
   cat_from is (Some w) it = subst (IsWritten words) (sym it.2) (is_command (command.Cat it.0 it.1) is it.3)
+
+  pub checkout_from : word ≡ spelled Checkout → (o : Option Written)
+      → MatchOption o (NoneHas Checkout fields) (λ w. (rev : Rev) × (name : List ℕ) × (w ≡ written.Command (command.Checkout rev name)) × HasFields (command.Checkout rev name) fields)
+      → MatchOption o (AreNoCommand words) (IsWritten words)
+  checkout_from is None none = no_command Checkout is none
+  checkout_from is (Some w) it = subst (IsWritten words) (sym it.2) (is_command (command.Checkout it.0 it.1) is it.3)
 
   pub reset_from : word ≡ spelled Reset → (o : Option Written)
       → MatchOption o (NoneHas Reset fields) (λ w. (branch commit : List ℕ) × (w ≡ written.Command (command.Reset branch commit)) × HasFields (command.Reset branch commit) fields)

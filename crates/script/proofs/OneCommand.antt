@@ -4,12 +4,12 @@ use Rattle.ost_types.specs.Csum.{hex_of, IsHexSum}
 use Rattle.ost_types.specs.Path.{Path}
 use Rattle.ost_types.proofs.HexSums.{IsHexSum-hex_of, hex_of-injective}
 use Rattle.repo_layout.proofs.KnownPaths.{parsed_same}
-use Rattle.script.specs.Field.{IsPathField, IsPathText}
-use Rattle.script.specs.Words.{AreRevPath, HasFields, IsBranch, IsCommand, IsCommit, IsRev, keyword_of}
+use Rattle.script.specs.Field.{IsNameField, IsPathField, IsPathText}
+use Rattle.script.specs.Words.{AreRevName, AreRevPath, HasFields, IsBranch, IsCommand, IsCommit, IsRev, keyword_of}
 use Rattle.script.specs.declared.command.Rev.{Rev}
 use Rattle.script.specs.declared.command.Rev.TheVariants.{Ref, Commit}
 use Rattle.script.specs.declared.command.Command.{Command}
-use Rattle.script.specs.declared.command.Command.TheVariants.{Refs, RevParse, Log, Ls, Cat, Reset, DropRef, Commit as CommitTree}
+use Rattle.script.specs.declared.command.Command.TheVariants.{Refs, RevParse, Log, Ls, Cat, Checkout, Reset, DropRef, Commit as CommitTree}
 use Rattle.script.specs.declared.words.Keyword.{Keyword}
 use Rattle.script.specs.declared.words.Keyword.TheVariants as word
 use Rattle.script.proofs.Alone.{same_fields, same_keyword}
@@ -37,6 +37,9 @@ rev_one field (Commit a) (Commit b) p q = ap Commit (sum_one field a b p q)
 pub path_one : (field : List ℕ) (p q : Path) → IsPathField field p → IsPathField field q → p ≡ q
 path_one field = field_of_one IsPathText field parsed_same
 
+name_one : (field a b : List ℕ) → IsNameField field a → IsNameField field b → a ≡ b
+name_one field a b p q = field_one field a b p.spelled q.spelled
+
 -- ---- commands
 
 first_same : (f g : List ℕ) (fields : List (List ℕ)) → fields ≡ f ∷ [] → fields ≡ g ∷ [] → g ≡ f
@@ -52,6 +55,7 @@ Shape word.RevParse fields c = (rev : Rev) × (c ≡ RevParse rev) × HasFields 
 Shape word.Log fields c = (rev : Rev) × (c ≡ Log rev) × HasFields (Log rev) fields
 Shape word.Ls fields c = (rev : Rev) × (path : Path) × (c ≡ Ls rev path) × HasFields (Ls rev path) fields
 Shape word.Cat fields c = (rev : Rev) × (path : Path) × (c ≡ Cat rev path) × HasFields (Cat rev path) fields
+Shape word.Checkout fields c = (rev : Rev) × (name : List ℕ) × (c ≡ Checkout rev name) × HasFields (Checkout rev name) fields
 Shape word.Reset fields c = (branch commit : List ℕ) × (c ≡ Reset branch commit) × HasFields (Reset branch commit) fields
 Shape word.DropRef fields c = (branch : List ℕ) × (c ≡ DropRef branch) × HasFields (DropRef branch) fields
 Shape word.Commit fields c = ⊥
@@ -62,6 +66,7 @@ shape (RevParse rev) fields has = (rev, refl, has)
 shape (Log rev) fields has = (rev, refl, has)
 shape (Ls rev path) fields has = (rev, path, refl, has)
 shape (Cat rev path) fields has = (rev, path, refl, has)
+shape (Checkout rev name) fields has = (rev, name, refl, has)
 shape (Reset branch commit) fields has = (branch, commit, refl, has)
 shape (DropRef branch) fields has = (branch, refl, has)
 shape (CommitTree branch tree subject body time) fields has = has
@@ -74,12 +79,18 @@ rev_path_one fields a b r s p q =
     let same = both_same p.0 p.1 q.0 q.1 fields p.2 q.2 in
     (rev_one p.0 a b p.3 (subst (λ f. IsRev f b) same.0 q.3), path_one p.1 r s p.4 (subst (λ f. IsPathField f s) same.1 q.4))
 
+rev_name_one : (fields : List (List ℕ)) (a b : Rev) (n m : List ℕ) → AreRevName fields a n → AreRevName fields b m → (a ≡ b) × (n ≡ m)
+rev_name_one fields a b n m p q =
+    let same = both_same p.0 p.1 q.0 q.1 fields p.2 q.2 in
+    (rev_one p.0 a b p.3 (subst (λ f. IsRev f b) same.0 q.3), name_one p.1 n m p.4 (subst (λ f. IsNameField f m) same.1 q.4))
+
 shape_one : (k : Keyword) (fields : List (List ℕ)) (c d : Command) → Shape k fields c → Shape k fields d → c ≡ d
 shape_one word.Refs fields c d p q = p ∙ sym q
 shape_one word.RevParse fields c d p q = p.1 ∙ ap RevParse (rev_field_one fields p.0 q.0 p.2 q.2) ∙ sym q.1
 shape_one word.Log fields c d p q = p.1 ∙ ap Log (rev_field_one fields p.0 q.0 p.2 q.2) ∙ sym q.1
 shape_one word.Ls fields c d p q = let same = rev_path_one fields p.0 q.0 p.1 q.1 p.3 q.3 in p.2 ∙ ap₂ Ls same.0 same.1 ∙ sym q.2
 shape_one word.Cat fields c d p q = let same = rev_path_one fields p.0 q.0 p.1 q.1 p.3 q.3 in p.2 ∙ ap₂ Cat same.0 same.1 ∙ sym q.2
+shape_one word.Checkout fields c d p q = let same = rev_name_one fields p.0 q.0 p.1 q.1 p.3 q.3 in p.2 ∙ ap₂ Checkout same.0 same.1 ∙ sym q.2
 shape_one word.Reset fields c d p q =
     let a = p.3 in
     let b = q.3 in

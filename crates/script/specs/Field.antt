@@ -5,7 +5,7 @@ use Rattle.std.specs.Fmt.{decimal}
 use Rattle.ost_types.specs.Csum.{hex_of}
 use Rattle.ost_types.specs.Parse.{IsParsed}
 use Rattle.ost_types.specs.Path.{Path}
-use Rattle.ost_types.specs.Text.{IsText}
+use Rattle.ost_types.specs.Text.{IsName, IsText}
 
 -- a byte that stands for itself: from `!` to `~`, but for `%`
 abbrev pub is_plain : ℕ → Bool
@@ -65,6 +65,11 @@ IsPathField = IsFieldOf IsPathText
 pub record IsNumber (bound : ℕ) (field : List ℕ) (n : ℕ) : Type 0 where
   pub spelled : IsField field (decimal n)
   pub below : n < bound
+
+-- the field of a node's name
+pub record IsNameField (field name : List ℕ) : Type 0 where
+  pub spelled : IsField field name
+  pub whole : IsName name
 
 -- the field of a text
 pub record IsTextField (field value : List ℕ) : Type 0 where

@@ -6,7 +6,7 @@ use Rattle.ost_types.specs.Path.{Path, text_of}
 use Rattle.ost_types.specs.Csum.{hex_of}
 use Rattle.script.specs.Field.{escaped, field_text}
 use Rattle.script.specs.declared.answer.Answer.{Answer}
-use Rattle.script.specs.declared.answer.Answer.TheVariants.{Nothing, Refs, Commit, Log, Ls, Content, NoRef, NoCommit, Partial, NoPath, NotFile, RefMoved, RefClash, BadTree, TooMany, NoMemory, DiskFault, Halted, Outside}
+use Rattle.script.specs.declared.answer.Answer.TheVariants.{Nothing, Refs, Commit, Log, Ls, Content, NoRef, NoCommit, Partial, NoPath, NotFile, DestExists, RefMoved, RefClash, BadTree, TooMany, NoMemory, DiskFault, Halted, Outside}
 use Rattle.script.specs.declared.answer.Reply.{Reply}
 use Rattle.script.specs.declared.rows.LogRow.{LogRow}
 use Rattle.script.specs.declared.rows.LsRow.{LsRow}
@@ -60,6 +60,7 @@ answer_text (NoCommit sum) = codes "refused NoCommit " ++ hex_of sum
 answer_text (Partial sum) = codes "refused Partial " ++ hex_of sum
 answer_text (NoPath path) = codes "refused NoPath " ++ escaped (text_of path)
 answer_text (NotFile path) = codes "refused NotFile " ++ escaped (text_of path)
+answer_text (DestExists path) = codes "refused DestExists " ++ escaped (text_of path)
 answer_text (RefMoved seen now) = codes "refused RefMoved " ++ (value_text seen ++ (32 ∷ value_text now))
 answer_text (RefClash name) = codes "refused RefClash " ++ name
 answer_text (BadTree path) = codes "refused BadTree " ++ escaped (text_of path)

@@ -5,11 +5,11 @@ use Rattle.ost_types.specs.Path.{Path}
 use Rattle.repo_layout.specs.RefName.{IsRefName}
 use Rattle.repo_layout.specs.RefFile.{IsSum}
 use Rattle.ost_forms.specs.declared.tree_item.TreeItem.{TreeItem}
-use Rattle.script.specs.Field.{IsField, IsNumber, IsPathField, IsTextField}
+use Rattle.script.specs.Field.{IsField, IsNameField, IsNumber, IsPathField, IsTextField}
 use Rattle.script.specs.declared.command.Rev.{Rev}
 use Rattle.script.specs.declared.command.Rev.TheVariants.{Ref, Commit}
 use Rattle.script.specs.declared.command.Command.{Command}
-use Rattle.script.specs.declared.command.Command.TheVariants.{Refs, RevParse, Log, Ls, Cat, Reset, DropRef, Commit as CommitTree}
+use Rattle.script.specs.declared.command.Command.TheVariants.{Refs, RevParse, Log, Ls, Cat, Checkout, Reset, DropRef, Commit as CommitTree}
 use Rattle.script.specs.declared.command.CommitLine.{CommitLine}
 use Rattle.script.specs.declared.command.Written.{Written}
 use Rattle.script.specs.declared.command.Written.TheVariants as written
@@ -39,6 +39,7 @@ spelled word.RevParse = codes "rev-parse"
 spelled word.Log = codes "log"
 spelled word.Ls = codes "ls"
 spelled word.Cat = codes "cat"
+spelled word.Checkout = codes "checkout"
 spelled word.Reset = codes "reset"
 spelled word.DropRef = codes "drop"
 spelled word.Commit = codes "commit"
@@ -49,6 +50,7 @@ keyword_of (RevParse rev) = word.RevParse
 keyword_of (Log rev) = word.Log
 keyword_of (Ls rev path) = word.Ls
 keyword_of (Cat rev path) = word.Cat
+keyword_of (Checkout rev name) = word.Checkout
 keyword_of (Reset branch commit) = word.Reset
 keyword_of (DropRef branch) = word.DropRef
 keyword_of (CommitTree branch tree subject body time) = word.Commit
@@ -57,12 +59,17 @@ keyword_of (CommitTree branch tree subject body time) = word.Commit
 abbrev pub AreRevPath : List (List ℕ) → Rev → Path → Type 0
 AreRevPath fields rev path = (f g : List ℕ) × (fields ≡ f ∷ g ∷ []) × IsRev f rev × IsPathField g path
 
+-- REV NAME
+abbrev pub AreRevName : List (List ℕ) → Rev → List ℕ → Type 0
+AreRevName fields rev name = (f g : List ℕ) × (fields ≡ f ∷ g ∷ []) × IsRev f rev × IsNameField g name
+
 abbrev pub HasFields : Command → List (List ℕ) → Type 0
 HasFields Refs fields = fields ≡ []
 HasFields (RevParse rev) fields = (f : List ℕ) × (fields ≡ f ∷ []) × IsRev f rev
 HasFields (Log rev) fields = (f : List ℕ) × (fields ≡ f ∷ []) × IsRev f rev
 HasFields (Ls rev path) fields = AreRevPath fields rev path
 HasFields (Cat rev path) fields = AreRevPath fields rev path
+HasFields (Checkout rev name) fields = AreRevName fields rev name
 HasFields (Reset branch commit) fields = (f g : List ℕ) × (fields ≡ f ∷ g ∷ []) × IsBranch f branch × IsCommit g commit
 HasFields (DropRef branch) fields = (f : List ℕ) × (fields ≡ f ∷ []) × IsBranch f branch
 HasFields (CommitTree branch tree subject body time) fields = ⊥

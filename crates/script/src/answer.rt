@@ -2,7 +2,7 @@ use crate::rows::{LogRow, LsRow};
 use ost_types::{Bytes, Csum, FsPath};
 use repo_layout::RefName;
 
-/// What a command answered. The first six are those of a command that was done, the next nine refuse it, and the
+/// What a command answered. The first six are those of a command that was done, the next ten refuse it, and the
 /// others end it for want of something outside.
 #[derive(Drop, Debug)]
 pub enum Answer {
@@ -28,6 +28,8 @@ pub enum Answer {
     NoPath(FsPath),
     /// A folder or a symbolic link stands there.
     NotFile(FsPath),
+    /// Something stands at the path already.
+    DestExists(FsPath),
     /// The ref has changed since the command looked at it: its value then, and its value now.
     RefMoved {
         seen: Option<Csum>,

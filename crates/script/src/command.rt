@@ -1,5 +1,5 @@
 use ost_forms::TreeItem;
-use ost_types::{Csum, FsPath, Text};
+use ost_types::{Csum, FsPath, Name, Text};
 use repo_layout::RefName;
 
 /// What names a commit: a ref, or the 64 digits of the commit itself.
@@ -31,6 +31,11 @@ pub enum Command {
     Cat {
         rev: Rev,
         path: FsPath,
+    },
+    /// `checkout` lays the commit's tree out as the folder with the name in `/checkout`.
+    Checkout {
+        rev: Rev,
+        name: Name,
     },
     /// `reset` makes the ref name the commit.
     Reset {

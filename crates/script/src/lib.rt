@@ -7,6 +7,7 @@ mod escape;
 mod fault;
 mod field;
 mod lines;
+mod name;
 mod number;
 mod path;
 mod read;

@@ -1,17 +1,18 @@
 //! The fields of each command.
 ghost use Rattle.std.specs.Prelude.{◌≡◌, ℕ, List, IfOk, MatchOption, map};
 ghost use Rattle.ost_types.specs.Path.{Path};
-ghost use Rattle.script.specs.Words.{AreRevPath, HasFields, IsCommitLine, IsCommitLineAt};
+ghost use Rattle.script.specs.Words.{AreRevName, AreRevPath, HasFields, IsCommitLine, IsCommitLineAt};
 ghost use Rattle.script.specs.declared.command.CommitLine.{CommitLine};
 ghost use Rattle.script.specs.declared.command.Rev.{Rev};
 ghost use Rattle.script.specs.declared.command.Command.TheVariants as command;
 ghost use Rattle.script.specs.declared.command.Written.TheVariants as written;
 
 use crate::command::{Command, CommitLine, Rev, Written};
+use crate::name::read_name;
 use crate::number::{read_text, read_u32, read_u64};
 use crate::path::read_path;
 use crate::value::{read_branch, read_commit, read_rev};
-use ost_types::{FsPath, NoMemory};
+use ost_types::{FsPath, Name, NoMemory};
 use std::alloc::Global;
 
 pub fn read_refs(fields: &[&[u8]]) -> Option<Written>
@@ -61,6 +62,30 @@ pub fn read_cat(alloc: Global, fields: &[&[u8]]) -> Result<Option<Written>, NoMe
 {
     match read_rev_path(alloc, fields)? {
         Some((rev, path)) => Ok(Some(Written::Command(Command::Cat { rev, path }))),
+        None => Ok(None),
+    }
+}
+
+pub fn read_checkout(alloc: Global, fields: &[&[u8]]) -> Result<Option<Written>, NoMemory>
+    ensures { IfOk result (λ o. MatchOption o ((rev : Rev) (name : List ℕ) → ¬ (HasFields (command.Checkout rev name) (map (λ f. f.now) fields.now))) (λ c. (rev : Rev) × (name : List ℕ) × (c ≡ written.Command (command.Checkout rev name)) × HasFields (command.Checkout rev name) (map (λ f. f.now) fields.now))) }
+{
+    match read_rev_name(alloc, fields)? {
+        Some((rev, name)) => Ok(Some(Written::Command(Command::Checkout { rev, name }))),
+        None => Ok(None),
+    }
+}
+
+fn read_rev_name(alloc: Global, fields: &[&[u8]]) -> Result<Option<(Rev, Name)>, NoMemory>
+    ensures { IfOk result (λ o. MatchOption o ((rev : Rev) (name : List ℕ) → ¬ (AreRevName (map (λ f. f.now) fields.now) rev name)) (λ p. AreRevName (map (λ f. f.now) fields.now) p.0 p.1)) }
+{
+    let [rev, name] = fields else {
+        return Ok(None);
+    };
+    let Some(rev) = read_rev(alloc, rev)? else {
+        return Ok(None);
+    };
+    match read_name(alloc, name)? {
+        Some(name) => Ok(Some((rev, name))),
         None => Ok(None),
     }
 }

@@ -96,6 +96,48 @@ fn shows(command: &Command, digits: &[u8], text: &[u8]) -> Result<bool, NoMemory
     }
 }
 
+fn checks_out(command: &Command, name: &[u8], folder: &[u8]) -> bool {
+    match command {
+        Command::Checkout {
+            rev: Rev::Ref(found),
+            name: wanted,
+        } => found.as_slice() == name && wanted.as_slice() == folder,
+        _ => false,
+    }
+}
+
+fn checks_out_commit(command: &Command, digits: &[u8], folder: &[u8]) -> bool {
+    match command {
+        Command::Checkout {
+            rev: Rev::Commit(found),
+            name: wanted,
+        } => found.to_hex().as_slice() == digits && wanted.as_slice() == folder,
+        _ => false,
+    }
+}
+
+#[test]
+fn reads_checkouts(rt: HostRuntime) {
+    let alloc = rt.alloc();
+    let plain = command(&rt, alloc, b"checkout a/%62 a%20b");
+    assert!(&rt; checks_out(&plain, b"a/b", b"a b"));
+    let tilde = command(
+        &rt,
+        alloc,
+        b"checkout 1111111111111111111111111111111111111111111111111111111111111111 %7e",
+    );
+    assert!(&rt; checks_out_commit(&tilde, ONES, b"~"));
+}
+
+#[test]
+fn refuses_checkouts_with_other_fields(rt: HostRuntime) {
+    let lines =
+        b"checkout|checkout main|checkout main a b|checkout main ~|checkout main .|checkout main %2e.|checkout main /a|checkout main a/b|checkout main a%2fb|checkout main a%00|checkout main %ff|checkout main a%|checkout .a a|checkouts main a";
+    for line in lines.split(|byte| *byte == b'|') {
+        assert!(&rt; matches!(read(&rt, rt.alloc(), line), Err(ScriptFault::BadLine(1))));
+    }
+}
+
 #[test]
 fn reads_looks_into_commits(rt: HostRuntime) -> Result<(), Fail> {
     let alloc = rt.alloc();
@@ -287,6 +329,13 @@ fn prints_contents(rt: HostRuntime) -> Result<(), Fail> {
     check(&rt, alloc, Answer::NoPath(none), b"refused NoPath /a%20b\n")?;
     let root = FsPath::parse(alloc, b"/")?;
     check(&rt, alloc, Answer::NotFile(root), b"refused NotFile /\n")?;
+    let folder = FsPath::parse(alloc, b"/checkout/a b")?;
+    check(
+        &rt,
+        alloc,
+        Answer::DestExists(folder),
+        b"refused DestExists /checkout/a%20b\n",
+    )?;
     Ok(())
 }
 

@@ -5,8 +5,8 @@ ghost use Rattle.script.specs.Words.{AreNoCommand, IsWritten, ReadsWords, spelle
 use crate::command::{Command, Lane, Written};
 use crate::fault::ScriptFault;
 use crate::read::{
-    read_cat, read_commit_words, read_drop, read_log, read_ls, read_refs, read_reset,
-    read_rev_parse,
+    read_cat, read_checkout, read_commit_words, read_drop, read_log, read_ls, read_refs,
+    read_reset, read_rev_parse,
 };
 use ost_types::{NoMemory, Text};
 use std::alloc::Global;
@@ -57,6 +57,7 @@ pub fn read_written(alloc: Global, words: &[&[u8]]) -> Result<Option<Written>, N
         Some(Keyword::Log) => read_log(alloc, fields),
         Some(Keyword::Ls) => read_ls(alloc, fields),
         Some(Keyword::Cat) => read_cat(alloc, fields),
+        Some(Keyword::Checkout) => read_checkout(alloc, fields),
         Some(Keyword::Reset) => read_reset(alloc, fields),
         Some(Keyword::DropRef) => read_drop(alloc, fields),
         Some(Keyword::Commit) => read_commit_words(alloc, fields),
@@ -72,6 +73,7 @@ enum Keyword {
     Log,
     Ls,
     Cat,
+    Checkout,
     Reset,
     DropRef,
     Commit,
@@ -86,6 +88,7 @@ fn keyword_of(word: &[u8]) -> Option<Keyword>
         b"log" => Some(Keyword::Log),
         b"ls" => Some(Keyword::Ls),
         b"cat" => Some(Keyword::Cat),
+        b"checkout" => Some(Keyword::Checkout),
         b"reset" => Some(Keyword::Reset),
         b"drop" => Some(Keyword::DropRef),
         b"commit" => Some(Keyword::Commit),

@@ -6,17 +6,18 @@ use Rattle.std.proofs.lemmas.List.Splits.{join_with_byte-slice_split}
 use Rattle.hex.specs.Hex.{IsBytes}
 use Rattle.ost_types.specs.Csum.{hex_of}
 use Rattle.ost_types.specs.Path.{Path, text_of}
+use Rattle.ost_types.specs.Text.{IsName}
 use Rattle.repo_layout.specs.RefName.{IsPart, IsRefName, is_part_byte, parts_of}
 use Rattle.repo_layout.specs.RefFile.{IsSum}
-use Rattle.script.specs.Words.{AreRevPath, IsBranch, IsCommit, IsRev, IsWritten}
+use Rattle.script.specs.Words.{AreRevName, AreRevPath, IsBranch, IsCommit, IsRev, IsWritten}
 use Rattle.script.specs.declared.command.Rev.{Rev}
 use Rattle.script.specs.declared.command.Rev.TheVariants.{Ref, Commit}
-use Rattle.script.specs.declared.command.Command.TheVariants.{Refs, RevParse, Log, Ls, Cat, Reset, DropRef, Commit as CommitTree}
+use Rattle.script.specs.declared.command.Command.TheVariants.{Refs, RevParse, Log, Ls, Cat, Checkout, Reset, DropRef, Commit as CommitTree}
 use Rattle.script.specs.declared.command.Written.{Written}
 use Rattle.script.specs.declared.command.Written.TheVariants as written
-use Rattle.script.specs.Field.{IsPathText, field_text}
+use Rattle.script.specs.Field.{IsNameField, IsPathText, field_text}
 use Rattle.script_reader.specs.Nodes.{fields_of}
-use Rattle.script_reader.specs.Writing.{IsWritable, IsWritableRev, command_line, command_words, number_text, rev_path_fields, rev_text}
+use Rattle.script_reader.specs.Writing.{IsWritable, IsWritableRev, command_line, command_words, number_text, rev_name_fields, rev_path_fields, rev_text}
 use Rattle.script_reader.proofs.FieldTexts.{IsVisible, bytes_from, field_spelled, field_visible, hex_visible, visible_all, visible_bytes}
 use Rattle.script_reader.proofs.Joins.{Lacks, joined_all}
 use Rattle.script_reader.proofs.Lines.{cut_words, one_line}
@@ -57,6 +58,15 @@ rev_visible (Commit sum) is = sum_visible sum is
 rev_path_back : (rev : Rev) (path : Path) → IsWritableRev rev × IsPathText (text_of path) path → AreRevPath (rev_path_fields rev path) rev path
 rev_path_back rev path is = (rev_text rev, field_text (text_of path), refl, rev_back rev is.0, path_back path is.1)
 
+name_back : (name : List ℕ) → IsName name → IsNameField (field_text name) name
+name_back name is = record { spelled = field_spelled name (text_bytes name is.text); whole = is }
+
+name_visible : (name : List ℕ) → IsName name → All IsVisible (field_text name)
+name_visible name is = field_visible name (text_bytes name is.text)
+
+rev_name_back : (rev : Rev) (name : List ℕ) → IsWritableRev rev × IsName name → AreRevName (rev_name_fields rev name) rev name
+rev_name_back rev name is = (rev_text rev, field_text name, refl, rev_back rev is.0, name_back name is.1)
+
 -- a commit's tree has a number that a line can hold
 abbrev pub HasShortTree : Written → Type 0
 HasShortTree (written.Command command) = Unit {0}
@@ -70,6 +80,8 @@ words_visible (written.Command (Ls rev path)) is short =
     All-from_recursion (All IsVisible) (command_words (written.Command (Ls rev path))) (visible_all (codes "ls") refl, (rev_visible rev is.0, (path_visible path is.1, tt)))
 words_visible (written.Command (Cat rev path)) is short =
     All-from_recursion (All IsVisible) (command_words (written.Command (Cat rev path))) (visible_all (codes "cat") refl, (rev_visible rev is.0, (path_visible path is.1, tt)))
+words_visible (written.Command (Checkout rev name)) is short =
+    All-from_recursion (All IsVisible) (command_words (written.Command (Checkout rev name))) (visible_all (codes "checkout") refl, (rev_visible rev is.0, (name_visible name is.1, tt)))
 words_visible (written.Command (Reset branch commit)) is short =
     All-from_recursion (All IsVisible) (command_words (written.Command (Reset branch commit))) (visible_all (codes "reset") refl, (branch_visible branch is.0, (sum_visible commit is.1, tt)))
 words_visible (written.Command (DropRef branch)) is short = All-from_recursion (All IsVisible) (command_words (written.Command (DropRef branch))) (visible_all (codes "drop") refl, (branch_visible branch is, tt))
@@ -89,6 +101,7 @@ words_back (written.Command (RevParse rev)) is short = record { fields = rev_tex
 words_back (written.Command (Log rev)) is short = record { fields = rev_text rev ∷ []; line = refl; has = (rev_text rev, refl, rev_back rev is) }
 words_back (written.Command (Ls rev path)) is short = record { fields = rev_path_fields rev path; line = refl; has = rev_path_back rev path is }
 words_back (written.Command (Cat rev path)) is short = record { fields = rev_path_fields rev path; line = refl; has = rev_path_back rev path is }
+words_back (written.Command (Checkout rev name)) is short = record { fields = rev_name_fields rev name; line = refl; has = rev_name_back rev name is }
 words_back (written.Command (Reset branch commit)) is short =
     record { fields = field_text branch ∷ field_text (hex_of commit) ∷ []; line = refl; has = (field_text branch, field_text (hex_of commit), refl, branch_back branch is.0, commit_back commit is.1) }
 words_back (written.Command (DropRef branch)) is short = record { fields = field_text branch ∷ []; line = refl; has = (field_text branch, refl, branch_back branch is) }

@@ -4,7 +4,7 @@ use Rattle.std.specs.Prelude.{slice_get}
 use Rattle.script.specs.Words.{IsCommitLine, IsCommitLineAt, IsWritten, Resolves}
 use Rattle.script.specs.declared.command.CommitLine.{CommitLine}
 use Rattle.script.specs.declared.command.Command.{Command}
-use Rattle.script.specs.declared.command.Command.TheVariants.{Refs, RevParse, Log, Ls, Cat, Reset, DropRef, Commit as CommitTree}
+use Rattle.script.specs.declared.command.Command.TheVariants.{Refs, RevParse, Log, Ls, Cat, Checkout, Reset, DropRef, Commit as CommitTree}
 use Rattle.script.specs.declared.command.Written.{Written}
 use Rattle.script.specs.declared.command.Written.TheVariants as written
 use Rattle.script.proofs.Alone.{commit_alone}
@@ -47,6 +47,7 @@ same_one (RevParse r) d e = e
 same_one (Log r) d e = e
 same_one (Ls r p) d e = e
 same_one (Cat r p) d e = e
+same_one (Checkout r n) d e = e
 same_one (Reset b s) d e = e
 same_one (DropRef b) d e = e
 same_one (CommitTree b t s m n) d e = subst (IsSame (CommitTree b t s m n)) e (refl, refl, refl, refl, refl)
@@ -61,6 +62,7 @@ commit_same trees k l (CommitTree b t s m n) (RevParse r) same p q = absurd q
 commit_same trees k l (CommitTree b t s m n) (Log r) same p q = absurd q
 commit_same trees k l (CommitTree b t s m n) (Ls r x) same p q = absurd q
 commit_same trees k l (CommitTree b t s m n) (Cat r x) same p q = absurd q
+commit_same trees k l (CommitTree b t s m n) (Checkout r x) same p q = absurd q
 commit_same trees k l (CommitTree b t s m n) (Reset x y) same p q = absurd q
 commit_same trees k l (CommitTree b t s m n) (DropRef x) same p q = absurd q
 commit_same trees k l Refs d same p q = absurd p
@@ -68,6 +70,7 @@ commit_same trees k l (RevParse r) d same p q = absurd p
 commit_same trees k l (Log r) d same p q = absurd p
 commit_same trees k l (Ls r x) d same p q = absurd p
 commit_same trees k l (Cat r x) d same p q = absurd p
+commit_same trees k l (Checkout r x) d same p q = absurd p
 commit_same trees k l (Reset x y) d same p q = absurd p
 commit_same trees k l (DropRef x) d same p q = absurd p
 

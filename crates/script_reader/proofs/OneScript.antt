@@ -99,6 +99,7 @@ known_tree trees words (written.Commit k) (written.Commit l) (command.RevParse r
 known_tree trees words (written.Commit k) (written.Commit l) (command.Log rev) n s r t un = r
 known_tree trees words (written.Commit k) (written.Commit l) (command.Ls rev path) n s r t un = r
 known_tree trees words (written.Commit k) (written.Commit l) (command.Cat rev path) n s r t un = r
+known_tree trees words (written.Commit k) (written.Commit l) (command.Checkout rev name) n s r t un = r
 known_tree trees words (written.Commit k) (written.Commit l) (command.Reset branch sum) n s r t un = r
 known_tree trees words (written.Commit k) (written.Commit l) (command.DropRef branch) n s r t un = r
 

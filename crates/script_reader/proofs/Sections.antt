@@ -98,6 +98,7 @@ short_tree trees (written.Commit line) (command.RevParse rev) is few = absurd is
 short_tree trees (written.Commit line) (command.Log rev) is few = absurd is
 short_tree trees (written.Commit line) (command.Ls rev path) is few = absurd is
 short_tree trees (written.Commit line) (command.Cat rev path) is few = absurd is
+short_tree trees (written.Commit line) (command.Checkout rev name) is few = absurd is
 short_tree trees (written.Commit line) (command.Reset branch commit) is few = absurd is
 short_tree trees (written.Commit line) (command.DropRef branch) is few = absurd is
 

@@ -6,7 +6,7 @@ use Rattle.std.specs.declared.cmp.Ordering.TheVariants.{Less}
 use Rattle.hex.specs.Hex.{IsBytes}
 use Rattle.ost_types.specs.Csum.{hex_of}
 use Rattle.ost_types.specs.Path.{Path, path_cmp, text_of}
-use Rattle.ost_types.specs.Text.{IsText}
+use Rattle.ost_types.specs.Text.{IsName, IsText}
 use Rattle.ost_types.specs.declared.meta.Xattr.{Xattr}
 use Rattle.ost_forms.specs.declared.tree_item.TreeItem.{TreeItem}
 use Rattle.ost_forms.specs.declared.tree_item.BodySpec.{BodySpec}
@@ -18,7 +18,7 @@ use Rattle.script.specs.Words.{Resolves, keyword_of, spelled}
 use Rattle.script.specs.declared.command.Rev.{Rev}
 use Rattle.script.specs.declared.command.Rev.TheVariants.{Ref, Commit}
 use Rattle.script.specs.declared.command.Command.{Command}
-use Rattle.script.specs.declared.command.Command.TheVariants.{Refs, RevParse, Log, Ls, Cat, Reset, DropRef, Commit as CommitTree}
+use Rattle.script.specs.declared.command.Command.TheVariants.{Refs, RevParse, Log, Ls, Cat, Checkout, Reset, DropRef, Commit as CommitTree}
 use Rattle.script.specs.declared.command.Written.{Written}
 use Rattle.script.specs.declared.command.Written.TheVariants as written
 use Rattle.script_reader.specs.declared.node.NodeKind.TheVariants.{Folder, File, Link}
@@ -84,6 +84,9 @@ rev_text (Commit sum) = field_text (hex_of sum)
 abbrev pub rev_path_fields : Rev → Path → List (List ℕ)
 rev_path_fields rev path = rev_text rev ∷ field_text (text_of path) ∷ []
 
+abbrev pub rev_name_fields : Rev → List ℕ → List (List ℕ)
+rev_name_fields rev name = rev_text rev ∷ field_text name ∷ []
+
 -- A commit is written with its tree's number, and not as a command that stands for itself.
 abbrev pub command_fields : Command → List (List ℕ)
 command_fields Refs = []
@@ -91,6 +94,7 @@ command_fields (RevParse rev) = rev_text rev ∷ []
 command_fields (Log rev) = rev_text rev ∷ []
 command_fields (Ls rev path) = rev_path_fields rev path
 command_fields (Cat rev path) = rev_path_fields rev path
+command_fields (Checkout rev name) = rev_name_fields rev name
 command_fields (Reset branch commit) = field_text branch ∷ field_text (hex_of commit) ∷ []
 command_fields (DropRef branch) = field_text branch ∷ []
 command_fields (CommitTree branch tree subject body time) = []
@@ -171,6 +175,7 @@ IsWritable (written.Command (RevParse rev)) = IsWritableRev rev
 IsWritable (written.Command (Log rev)) = IsWritableRev rev
 IsWritable (written.Command (Ls rev path)) = IsWritableRev rev × IsPathText (text_of path) path
 IsWritable (written.Command (Cat rev path)) = IsWritableRev rev × IsPathText (text_of path) path
+IsWritable (written.Command (Checkout rev name)) = IsWritableRev rev × IsName name
 IsWritable (written.Command (Reset branch commit)) = IsRefName branch × IsSum commit
 IsWritable (written.Command (DropRef branch)) = IsRefName branch
 IsWritable (written.Command (CommitTree branch tree subject body time)) = ⊥

@@ -147,7 +147,7 @@ fn lane_of(alloc: Global, line: &[u8]) -> Result<Vec<u8>, NoMemory> {
 fn reads_looks_into_commits(rt: HostRuntime) -> Result<(), Fail> {
     let alloc = rt.alloc();
     let lines =
-        b"log main|log 1111111111111111111111111111111111111111111111111111111111111111|ls main /|ls main /a%20b|cat a/b /a/b|cat main %2fa";
+        b"log main|log 1111111111111111111111111111111111111111111111111111111111111111|ls main /|ls main /a%20b|cat a/b /a/b|cat main %2fa|checkout main a|checkout a/b a%20b";
     for line in lines.split(|byte| *byte == b'|') {
         assert!(&rt; fault_of(alloc, &lane_of(alloc, line)?) == None);
     }
@@ -158,7 +158,7 @@ fn reads_looks_into_commits(rt: HostRuntime) -> Result<(), Fail> {
 fn refuses_looks_with_other_fields(rt: HostRuntime) -> Result<(), Fail> {
     let alloc = rt.alloc();
     let lines =
-        b"log|log main /|log ~|ls|ls main|ls / main|ls main ~|ls main a|ls main /a/|ls main /a  |cat main|cat main /a /b|cat main /%00|cat main /.|cat .a /a";
+        b"log|log main /|log ~|ls|ls main|ls / main|ls main ~|ls main a|ls main /a/|ls main /a  |cat main|cat main /a /b|cat main /%00|cat main /.|cat .a /a|checkout main|checkout main /a|checkout main ..|checkout main ~|checkout main a%2fb|checkout main a b";
     for line in lines.split(|byte| *byte == b'|') {
         assert!(&rt; fault_of(alloc, &lane_of(alloc, line)?) == Some(ScriptFault::BadLine(3)));
     }

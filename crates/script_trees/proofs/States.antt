@@ -12,7 +12,7 @@ use Rattle.ost_forms.specs.declared.tree_item.BodySpec.{BodySpec}
 use Rattle.ost_forms.specs.declared.tree_item.TreeItem.{TreeItem}
 use Rattle.script.specs.Words.{IsCommand, IsCommitLineAt, IsWritten as IsCommandWritten, Resolves}
 use Rattle.script.specs.declared.command.Command.{Command}
-use Rattle.script.specs.declared.command.Command.TheVariants.{Refs, RevParse, Log, Ls, Cat, Reset, DropRef, Commit}
+use Rattle.script.specs.declared.command.Command.TheVariants.{Refs, RevParse, Log, Ls, Cat, Checkout, Reset, DropRef, Commit}
 use Rattle.script.specs.declared.command.CommitLine.{CommitLine}
 use Rattle.script.specs.declared.command.Written.{Written}
 use Rattle.script.specs.declared.command.Written.TheVariants as written
@@ -63,6 +63,7 @@ plain words (RevParse rev) is = tt
 plain words (Log rev) is = tt
 plain words (Ls rev path) is = tt
 plain words (Cat rev path) is = tt
+plain words (Checkout rev name) is = tt
 plain words (Reset branch commit) is = tt
 plain words (DropRef branch) is = tt
 plain words (Commit branch tree subject body time) is = absurd is.has
@@ -78,6 +79,7 @@ committed trees line l (RevParse rev) all few is r = absurd r
 committed trees line l (Log rev) all few is r = absurd r
 committed trees line l (Ls rev path) all few is r = absurd r
 committed trees line l (Cat rev path) all few is r = absurd r
+committed trees line l (Checkout rev name) all few is r = absurd r
 committed trees line l (Reset branch commit) all few is r = absurd r
 committed trees line l (DropRef branch) all few is r = absurd r
 committed trees line l (Commit branch tree subject body time) all few is r =
@@ -193,6 +195,7 @@ fit_command limits wide (RevParse rev) is = tt
 fit_command limits wide (Log rev) is = tt
 fit_command limits wide (Ls rev path) is = tt
 fit_command limits wide (Cat rev path) is = tt
+fit_command limits wide (Checkout rev name) is = tt
 fit_command limits wide (Reset branch commit) is = tt
 fit_command limits wide (DropRef branch) is = tt
 fit_command limits wide (Commit branch tree subject body time) is = fit_commit limits tree.items subject body wide is.0 is.1 is.2 is.3

@@ -1,7 +1,7 @@
 use Rattle.std.proofs.Common.{Some, ◌∙◌, ap}
 use Rattle.std.proofs.lemmas.Result.{IfOk-weaker}
 use Rattle.script.proofs.Slices.{first_of}
-use Rattle.script.proofs.Fields.{some_of, refs_from, rev_parse_from, log_from, ls_from, cat_from, reset_from, drop_from, commit_from, no_word}
+use Rattle.script.proofs.Fields.{some_of, refs_from, rev_parse_from, log_from, ls_from, cat_from, checkout_from, reset_from, drop_from, commit_from, no_word}
 use Rattle.script.proofs.words.read_written.Goals as goal
 
 pub returns-in-Some-Refs : goal.returns-in-Some-Refs
@@ -28,6 +28,11 @@ pub returns-in-Some-Cat : goal.returns-in-Some-Cat
 returns-in-Some-Cat c =
     let word = some_of _ _ c.keyword_of.result _ c.keyword_of.ensures (c.in-Some-Cat.is ∙ ap Some c.in-Some-Cat.field-0-is) in
     IfOk-weaker _ _ _ (cat_from _ _ _ (first_of (λ w. w.now) c.args.words.now _ c.in-len1-up.len_at_least) word) c.read_cat.ensures
+
+pub returns-in-Some-Checkout : goal.returns-in-Some-Checkout
+returns-in-Some-Checkout c =
+    let word = some_of _ _ c.keyword_of.result _ c.keyword_of.ensures (c.in-Some-Checkout.is ∙ ap Some c.in-Some-Checkout.field-0-is) in
+    IfOk-weaker _ _ _ (checkout_from _ _ _ (first_of (λ w. w.now) c.args.words.now _ c.in-len1-up.len_at_least) word) c.read_checkout.ensures
 
 pub returns-in-Some-Reset : goal.returns-in-Some-Reset
 returns-in-Some-Reset c =
