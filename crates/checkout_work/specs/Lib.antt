@@ -1,0 +1,15 @@
+pub mod Reads
+pub mod Answers
+pub mod Asked
+pub mod Fits
+pub mod Founded
+pub mod Placing
+pub mod MakeSteps
+pub mod ReadSteps
+pub mod LookSteps
+pub mod Commands
+pub mod Phases
+pub mod Kept
+pub mod Duties
+pub mod Nexts
+pub mod Laws
