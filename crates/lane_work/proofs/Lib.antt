@@ -1,3 +1,4 @@
+pub mod Claims
 pub mod Ends
 pub mod Founded
 pub mod Stored

@@ -14,6 +14,7 @@ use Rattle.ref_work.specs.declared.command.RefCommand.{RefCommand}
 use Rattle.ref_work.specs.Commands.{command_facts, command_writes}
 use Rattle.ref_work.proofs.Resets.{command_places}
 use Rattle.commit_work.proofs.Stored.{commit_done, commit_room, commit_stored}
+use Rattle.checkout_work.proofs.Writing.{no_objects}
 use Rattle.lane_work.specs.declared.command.LaneCommand.{LaneCommand}
 use Rattle.lane_work.specs.declared.command.LaneCommand.TheVariants as work
 use Rattle.lane_work.specs.Commands.{KnewRoom, StoredThere, lane_facts, lane_leaves, lane_writes}
@@ -29,17 +30,22 @@ pub lane_room : (actor lane : ℕ) (t : LaneCommand) (v : View) (b : Books) → 
 lane_room actor lane (work.Ref t) v b f name s sum wrote = refs_off actor lane t v b f name s sum wrote
 lane_room actor lane (work.Commit t) v b f name s sum wrote = commit_room actor lane t v b f name s sum wrote
 lane_room actor lane (work.Read t) v b f name s sum wrote = absurd wrote
+lane_room actor lane (work.Checkout t) v b f name s sum wrote = absurd (no_objects actor t v name s sum wrote)
 
 pub lane_stored : (actor lane : ℕ) (t new : LaneCommand) (v w : View) (b : Books) → lane_facts lane t v b → lane_leaves t turn.More new v w → (name : ObjName) (s : Seen) → IsSum name.csum → lane_writes actor t v (path_of name) s → StoredThere new name v w
 lane_stored actor lane (work.Ref t) new v w b f l name s sum wrote = absurd (refs_off actor lane t v b f name s sum wrote)
 lane_stored actor lane (work.Commit t) (work.Commit new) v w b f l name s sum wrote = commit_stored v w name s sum actor lane t new b f l wrote
 lane_stored actor lane (work.Commit t) (work.Ref new) v w b f l name s sum wrote = absurd l
 lane_stored actor lane (work.Commit t) (work.Read new) v w b f l name s sum wrote = absurd l
+lane_stored actor lane (work.Commit t) (work.Checkout new) v w b f l name s sum wrote = absurd l
 lane_stored actor lane (work.Read t) new v w b f l name s sum wrote = absurd wrote
+lane_stored actor lane (work.Checkout t) new v w b f l name s sum wrote = absurd (no_objects actor t v name s sum wrote)
 
 pub lane_done : (actor lane : ℕ) (t new : LaneCommand) (v w : View) (b : Books) → lane_facts lane t v b → lane_leaves t (turn.Done tt) new v w → (name : ObjName) (s : Seen) → IsSum name.csum → lane_writes actor t v (path_of name) s → w ≡ v
 lane_done actor lane (work.Ref t) new v w b f l name s sum wrote = absurd (refs_off actor lane t v b f name s sum wrote)
 lane_done actor lane (work.Commit t) (work.Commit new) v w b f l name s sum wrote = commit_done v w name s sum actor lane t new b f l wrote
 lane_done actor lane (work.Commit t) (work.Ref new) v w b f l name s sum wrote = absurd l
 lane_done actor lane (work.Commit t) (work.Read new) v w b f l name s sum wrote = absurd l
+lane_done actor lane (work.Commit t) (work.Checkout new) v w b f l name s sum wrote = absurd l
 lane_done actor lane (work.Read t) new v w b f l name s sum wrote = absurd wrote
+lane_done actor lane (work.Checkout t) new v w b f l name s sum wrote = absurd (no_objects actor t v name s sum wrote)

@@ -9,17 +9,23 @@ use Rattle.read_work.specs.declared.answer.ReadAnswer.{ReadAnswer}
 use Rattle.read_work.specs.Asked as reads
 use Rattle.read_work.specs.Commands.{IsNew}
 use Rattle.read_work.specs.Founded.{IsFinishedOf, IsRead}
+use Rattle.checkout_work.specs.declared.answer.CheckoutAnswer.{CheckoutAnswer}
+use Rattle.checkout_work.specs.Asked as checkouts
+use Rattle.checkout_work.specs.Commands as checking
+use Rattle.checkout_work.specs.Founded as checked
 use Rattle.lane_work.specs.declared.command.LaneCommand.{LaneCommand}
-use Rattle.lane_work.specs.declared.command.LaneCommand.TheVariants.{Ref, Commit, Read}
-use Rattle.lane_work.specs.Commands.{read_answer, script_answer}
+use Rattle.lane_work.specs.declared.command.LaneCommand.TheVariants.{Ref, Commit, Read, Checkout}
+use Rattle.lane_work.specs.Commands.{checkout_answer, read_answer, script_answer}
 
 abbrev pub Begins : ℕ → LaneCommand → Type 0
 Begins lane (Ref t) = refs.Begins lane t
 Begins lane (Commit t) = commits.Begins lane t
 Begins lane (Read t) = IsNew t
+Begins lane (Checkout t) = checking.IsNew t
 
--- over the views before and after the last step; one that reads changes nothing
+-- Over the views before and after the last step. One that reads changes nothing, and the last step of a checkout neither.
 abbrev pub Says : Answer → LaneCommand → View → View → Type 0
 Says a (Ref t) v w = refs.Says a t v w
 Says a (Commit t) v w = (said : CommitAnswer) × (script_answer (Some said) ≡ Some a) × commits.Says said t v w
 Says a (Read t) v w = (said : ReadAnswer) × (read_answer said ≡ a) × reads.Answers v.now (reads.asked t) said × (IsRead said → IsFinishedOf (reads.asked t) v)
+Says a (Checkout t) v w = (w ≡ v) × (said : CheckoutAnswer) × (checkout_answer said ≡ a) × checkouts.Answers v.now (checkouts.asked t) said × (checked.IsOfFinished said → checked.IsFinishedOf (checkouts.asked t) v)

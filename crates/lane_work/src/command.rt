@@ -4,11 +4,13 @@ ghost use Rattle.lane_work.specs.Commands.{IsMadeIn, answer_of, lane_facts, lane
 ghost use Rattle.lane_work.specs.Laws.{lane_laws};
 
 use crate::answer::script_answer;
+use crate::checkout_answer::script_checkout;
 use crate::read_answer::script_read;
+use checkout_work::CheckoutCommand;
 use commit_work::CommitCommand;
 use fs_trait::{Fs, FsErr, Turn};
 use obj_store::Put;
-use ost_types::{NoMemory, ObjName};
+use ost_types::{Name, NoMemory, ObjName};
 use read_work::ReadCommand;
 use ref_work::RefCommand;
 use rely::{Event, Step, Work};
@@ -23,6 +25,8 @@ pub enum LaneCommand {
     Commit(CommitCommand),
     /// `log`, `ls` or `cat`.
     Read(ReadCommand),
+    /// `checkout`.
+    Checkout(CheckoutCommand),
 }
 
 impl LaneCommand {
@@ -32,7 +36,7 @@ impl LaneCommand {
         ensures former { result ≡ told_in self.old }
     {
         match self {
-            LaneCommand::Ref(_) | LaneCommand::Read(_) => 0,
+            LaneCommand::Ref(_) | LaneCommand::Read(_) | LaneCommand::Checkout(_) => 0,
             LaneCommand::Commit(work) => work.tell(objects),
         }
     }
@@ -43,7 +47,7 @@ impl LaneCommand {
         ensures made { IsMadeIn self.now }
     {
         match self {
-            LaneCommand::Ref(_) | LaneCommand::Read(_) => None,
+            LaneCommand::Ref(_) | LaneCommand::Read(_) | LaneCommand::Checkout(_) => None,
             LaneCommand::Commit(work) => work.met(),
         }
     }
@@ -56,6 +60,7 @@ impl LaneCommand {
             LaneCommand::Ref(work) => work.into_answer(),
             LaneCommand::Commit(work) => script_answer(work.into_answer()),
             LaneCommand::Read(work) => script_read(work.into_answer()),
+            LaneCommand::Checkout(work) => script_checkout(work.into_answer()),
         }
     }
 
@@ -67,6 +72,7 @@ impl LaneCommand {
             LaneCommand::Ref(work) => work.left(),
             LaneCommand::Commit(work) => work.left(),
             LaneCommand::Read(work) => work.left(),
+            LaneCommand::Checkout(work) => work.left(),
         }
     }
 }
@@ -93,6 +99,7 @@ impl Work for LaneCommand {
             LaneCommand::Ref(work) => work.kind(),
             LaneCommand::Commit(work) => work.kind(),
             LaneCommand::Read(work) => work.kind(),
+            LaneCommand::Checkout(work) => work.kind(),
         }
     }
 
@@ -101,6 +108,16 @@ impl Work for LaneCommand {
             LaneCommand::Ref(work) => work.event(),
             LaneCommand::Commit(work) => work.event(),
             LaneCommand::Read(work) => work.event(),
+            LaneCommand::Checkout(work) => work.event(),
+        }
+    }
+
+    fn claim(&self) -> Result<Name, NoMemory> {
+        match self {
+            LaneCommand::Ref(work) => work.claim(),
+            LaneCommand::Commit(work) => work.claim(),
+            LaneCommand::Read(work) => work.claim(),
+            LaneCommand::Checkout(work) => work.claim(),
         }
     }
 
@@ -109,6 +126,7 @@ impl Work for LaneCommand {
             LaneCommand::Ref(work) => work.owes(),
             LaneCommand::Commit(work) => work.owes(),
             LaneCommand::Read(work) => work.owes(),
+            LaneCommand::Checkout(work) => work.owes(),
         }
     }
 
@@ -117,6 +135,7 @@ impl Work for LaneCommand {
             LaneCommand::Ref(work) => work.advance(actor, fs),
             LaneCommand::Commit(work) => work.advance(actor, fs),
             LaneCommand::Read(work) => work.advance(actor, fs),
+            LaneCommand::Checkout(work) => work.advance(actor, fs),
         }
     }
 }

@@ -6,6 +6,7 @@ ghost use Rattle.fs_trait.specs.Image.{IsTree};
 ghost use Rattle.fs_trait.specs.View.{View};
 ghost use Rattle.fs_trait.specs.Change.{Writes};
 ghost use Rattle.fs_trait.specs.Seen.{Seen};
+ghost use Rattle.repo_layout.specs.BootPaths.{checkout_path};
 ghost use Rattle.repo_layout.specs.RefFile.{IsSum};
 ghost use Rattle.repo_model.specs.Objects.{path_of};
 ghost use Rattle.fs_trait.specs.declared.task.Turn.TheVariants as turn;
@@ -18,13 +19,13 @@ ghost use Rattle.rely.specs.declared.event.Event.TheVariants.{SetRef};
 ghost use Rattle.rely.specs.State.{State};
 ghost use Rattle.rely.specs.Books.{Books};
 ghost use Rattle.rely.specs.Lasting.{StaysFinished};
-ghost use Rattle.rely.specs.Laws.{Show};
+ghost use Rattle.rely.specs.Laws.{Claim, Show};
 ghost use Rattle.rely.specs.Rely.{Does};
 ghost use Rattle.rely.specs.Sound.{Stands};
 ghost use Rattle.ref_work.specs.Facts.{Home};
 ghost use Rattle.lane_work.specs.declared.command.LaneCommand.{LaneCommand};
 ghost use Rattle.lane_work.specs.Answers.{Begins, Says};
-ghost use Rattle.lane_work.specs.Commands.{answer_of, lane_facts, lane_kind, lane_leaves, lane_left, lane_refuses, lane_stepped, lane_writes, met_by, told, told_in, KnewRoom, StoredThere, WasLacking};
+ghost use Rattle.lane_work.specs.Commands.{answer_of, lane_facts, lane_kind, lane_leaves, lane_left, lane_refuses, lane_stepped, lane_writes, met_by, told, told_in, IsCheckoutOf, KnewRoom, StoredThere, WasLacking};
 
 /// Of a lane without a task it is known that no folder stands where it stages. Nothing that others do changes that, nor a step
 /// of its own tasks, whatever the step answers; and with it a new task has its facts.
@@ -57,6 +58,11 @@ pub fn lanes_that_store()
     ensures room { (actor lane : ℕ) (t : LaneCommand) (v : View) (b : Books) → lane_facts lane t v b → (name : ObjName) (s : Seen) → IsSum name.csum → lane_writes actor t v (path_of name) s → KnewRoom t }
     ensures stored { (actor lane : ℕ) (t new : LaneCommand) (v w : View) (b : Books) → lane_facts lane t v b → lane_leaves t turn.More new v w → (name : ObjName) (s : Seen) → IsSum name.csum → lane_writes actor t v (path_of name) s → StoredThere new name v w }
     ensures done { (actor lane : ℕ) (t new : LaneCommand) (v w : View) (b : Books) → lane_facts lane t v b → lane_leaves t (turn.Done tt) new v w → (name : ObjName) (s : Seen) → IsSum name.csum → lane_writes actor t v (path_of name) s → w ≡ v }
+{}
+
+/// A step that may write at a checkout's path makes the folder, and its task is a checkout of that name.
+pub fn claims_of_lanes()
+    ensures { (actor lane : ℕ) (t : LaneCommand) (v : View) (b : Books) (name : List ℕ) (s : Seen) → lane_facts lane t v b → lane_writes actor t v (checkout_path name) s → (lane_kind t ≡ Claim name) × IsCheckoutOf name t }
 {}
 
 /// Where the view is told, a command is refused only by a call that failed or for want of memory.

@@ -17,12 +17,14 @@ use Rattle.commit_work.specs.declared.command.CommitCommand.{CommitCommand}
 use Rattle.commit_work.specs.declared.naming.Naming.{Naming}
 use Rattle.commit_work.specs.Facts.{facts_by}
 use Rattle.commit_work.specs.Kinds.{kind_by, writes_by}
+use Rattle.checkout_work.proofs.Writing.{writes_inside}
 use Rattle.lane_work.specs.declared.command.LaneCommand.{LaneCommand}
-use Rattle.lane_work.specs.declared.command.LaneCommand.TheVariants.{Ref, Commit, Read}
+use Rattle.lane_work.specs.declared.command.LaneCommand.TheVariants.{Ref, Commit, Read, Checkout}
 use Rattle.lane_work.proofs.Founded.{lane_founded}
 use Rattle.lane_work.specs.Commands.{lane_facts, lane_kind, lane_writes}
 use Rattle.store_lasts.specs.Standing.{StoreStands}
 use Rattle.store_lasts.specs.Writing.{Grows, IsBegun, KeepsStore}
+use Rattle.store_lasts.proofs.Checkouts.{checkout_keeps}
 use Rattle.store_lasts.proofs.Puts.{build_keeps, keeps_within, silent_keeps}
 use Rattle.store_lasts.proofs.RefChanges.{change_keeps}
 use Rattle.store_lasts.proofs.Steps.{stands_kept}
@@ -40,6 +42,7 @@ module _ (limits : Limits) (begun : List TreeItem → Message → Type 0) (actor
   lane_keeps (Ref (ref.Change work)) f is founded = change_keeps limits begun lane work.task v b f.ref founded
   lane_keeps (Commit t) f is founded = commit_keeps t t.change f is founded
   lane_keeps (Read t) f is founded = silent_keeps limits begun v (lane_writes actor (Read t) v) (λ p s wrote. wrote)
+  lane_keeps (Checkout t) f is founded = checkout_keeps limits begun v (lane_writes actor (Checkout t) v) (λ p s wrote. let k = writes_inside actor t v p s wrote in (k.0, k.1, k.3))
 
   pub stands_step : (t : LaneCommand) (config : Seen → Type 0) (names : List ObjName) (w : View) → lane_facts lane t v b → IsBegun limits begun t
       → Stays v w → Writes (lane_writes actor t v) v w → StoreStands limits begun config names v → (next : List ObjName) × Grows (lane_writes actor t v) w names next × StoreStands limits begun config next w

@@ -4,6 +4,7 @@ pub mod Steps
 pub mod Images
 pub mod Starts
 pub mod Puts
+pub mod Checkouts
 pub mod RefChanges
 pub mod Lanes
 pub mod Growing

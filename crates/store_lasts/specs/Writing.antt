@@ -16,7 +16,7 @@ use Rattle.commit_build.specs.declared.message.Message.{Message}
 use Rattle.rely.specs.Disks.{IsLeaf, Says}
 use Rattle.rely.specs.State.{RefOf}
 use Rattle.lane_work.specs.declared.command.LaneCommand.{LaneCommand}
-use Rattle.lane_work.specs.declared.command.LaneCommand.TheVariants.{Ref, Commit as CommitTask, Read}
+use Rattle.lane_work.specs.declared.command.LaneCommand.TheVariants.{Ref, Commit as CommitTask, Read, Checkout}
 use Rattle.lane_work.specs.Commands.{met_by}
 use Rattle.rely.specs.Lasting.{StaysFinished}
 use Rattle.store_lasts.specs.Standing.{IsSoundSeen, IsSealed}
@@ -68,3 +68,4 @@ abbrev pub IsBegun : Limits → (List TreeItem → Message → Type 0) → LaneC
 IsBegun limits begun (Ref t) = Unit {0}
 IsBegun limits begun (CommitTask t) = (t.build.limits ≡ limits) × begun t.build.items t.build.message
 IsBegun limits begun (Read t) = Unit {0}
+IsBegun limits begun (Checkout t) = Unit {0}

@@ -19,3 +19,9 @@ advance-requires-in-Read g c = λ v told. subst (λ t. lane_needs c.args.actor t
 
 pub returns-in-Read-clause-after : goal.returns-in-Read-clause-after
 returns-in-Read-clause-after g c = λ v told. rw c.in-Read.is (c.advance-in-Read.ensures.after v told)
+
+pub advance-requires-in-Checkout : goal.advance-requires-in-Checkout
+advance-requires-in-Checkout g c = λ v told. subst (λ t. lane_needs c.args.actor t v) c.in-Checkout.is (c.requires v told)
+
+pub returns-in-Checkout-clause-after : goal.returns-in-Checkout-clause-after
+returns-in-Checkout-clause-after g c = λ v told. rw c.in-Checkout.is (c.advance-in-Checkout.ensures.after v told)
