@@ -31,7 +31,7 @@ use Rattle.commit_work.specs.declared.naming.Naming.{Naming}
 use Rattle.commit_work.specs.declared.command.CommitCommand.{CommitCommand}
 use Rattle.commit_work.specs.Answers as commits
 use Rattle.commit_work.specs.Kinds as kinds
-use Rattle.commit_work.specs.Kinds.{BuildSteps, build_kind, commit_stepped, kind_by, stepped_at, stepped_by}
+use Rattle.commit_work.specs.Kinds.{BuildSteps, build_kind, kind_by, stepped_at, stepped_by}
 use Rattle.commit_work.proofs.Ends.{answered}
 use Rattle.script.specs.declared.rows.LogRow.{LogRow}
 use Rattle.read_work.specs.declared.answer.ReadAnswer.{ReadAnswer}
@@ -43,10 +43,17 @@ use Rattle.read_work.specs.Asked.{Asked, asked}
 use Rattle.read_work.specs.Fits.{Fits, IsFitting}
 use Rattle.read_work.specs.Commands.{answer_of as read_answer_of, read_kind, read_stepped}
 use Rattle.read_work.specs.LogSteps.{log_kind}
+use Rattle.checkout_work.specs.declared.answer.CheckoutAnswer.{CheckoutAnswer}
+use Rattle.checkout_work.specs.declared.answer.CheckoutAnswer.TheVariants as checkout
+use Rattle.checkout_work.specs.declared.command.CheckoutCommand.{CheckoutCommand}
+use Rattle.checkout_work.specs.Asked as checking
+use Rattle.checkout_work.specs.Fits as checkouts
+use Rattle.checkout_work.specs.Commands.{answer_of as checkout_answer_of, checkout_kind, checkout_stepped}
+use Rattle.checkout_work.proofs.Ends.{answered as checkout_answered}
 use Rattle.lane_work.specs.declared.command.LaneCommand.{LaneCommand}
 use Rattle.lane_work.specs.declared.command.LaneCommand.TheVariants as lane_work
 use Rattle.lane_work.specs.Commands as lanes
-use Rattle.lane_work.specs.Commands.{lane_kind, lane_stepped, read_answer, script_answer, script_read}
+use Rattle.lane_work.specs.Commands.{checkout_answer, lane_kind, lane_stepped, read_answer, script_answer, script_checkout, script_read}
 use Rattle.rely.specs.declared.books.Books as rust
 use Rattle.rely.specs.declared.books.Entry.{Entry}
 use Rattle.rely.specs.declared.books.Pending.{Pending}
@@ -63,11 +70,12 @@ use Rattle.script.specs.declared.answer.Answer.TheVariants as answer
 use Rattle.script.specs.declared.command.Command.{Command}
 use Rattle.script.specs.declared.command.Command.TheVariants as command
 use Rattle.script.specs.declared.command.Rev.{Rev}
-use Rattle.sys_core.specs.Reading.{IsRev, Reads}
+use Rattle.sys_core.specs.Reading.{ChecksOut, IsRev, Reads}
 use Rattle.sys_core.specs.Answers.{Answers, HasMade, HasMoved, IsChangeOf, IsFreeIn, IsHalted, LeastClashIn, Makes}
 use Rattle.commit_lasts.specs.Lasting.{sum_of}
 use Rattle.sys_core.specs.Commits.{message_in}
 use Rattle.sys_core.specs.Pursues.{Commits, Grows, IsChanging, IsNaming, NamesIn, Pursues, RefPursues}
+use Rattle.sys_core.proofs.Checkouts.{asks_same, checkout_asks}
 use Rattle.sys_core.proofs.Pursuing.{change_is, naming_is}
 use Rattle.sys_core.proofs.Telling.{RefusedBy}
 
@@ -133,6 +141,21 @@ read_goes (given.Partial commit) halted = halted
 read_goes (given.NoPath path) halted = halted
 read_goes (given.NotFile path) halted = halted
 read_goes (given.Lacking path) halted = halted
+
+-- neither does a checkout
+checkout_makes : (said : CheckoutAnswer) (rev : Rev) (name : List ℕ) → Makes (checkout_answer said) (command.Checkout rev name) → ⊥
+checkout_makes checkout.Done rev name makes = makes
+checkout_makes (checkout.NoCommit commit) rev name makes = makes
+checkout_makes (checkout.Partial commit) rev name makes = makes
+checkout_makes (checkout.DestExists path) rev name makes = makes
+checkout_makes (checkout.Lacking path) rev name makes = makes
+
+checkout_goes : (said : CheckoutAnswer) → IsHalted (checkout_answer said) → ⊥
+checkout_goes checkout.Done halted = halted
+checkout_goes (checkout.NoCommit commit) halted = halted
+checkout_goes (checkout.Partial commit) halted = halted
+checkout_goes (checkout.DestExists path) halted = halted
+checkout_goes (checkout.Lacking path) halted = halted
 
 -- a ref that the last change sets is there
 set_there : (first : State) (entries : List Entry) (last : Entry) (branch : List ℕ) (seen : Option (List ℕ)) (commit : List ℕ) → last.event ≡ made.SetRef branch seen commit → IsSome (after (events_of (entries ++ last ∷ [])) first (RefOf branch))
@@ -205,6 +228,7 @@ module _ (told : Type 0) (limits : Limits) (first : State) (lane number moment :
   read_says (command.Log rev) x said is fits = log_says rev is.0 said is.1 (subst (λ y. IsFitting y said) is.2 fits)
   read_says (command.Ls rev path) x said is fits = ls_says rev path is.0 said is.1 (subst (λ y. IsFitting y said) is.2 fits)
   read_says (command.Cat rev path) x said is fits = cat_says rev path is.0 said is.1 (subst (λ y. IsFitting y said) is.2 fits)
+  read_says (command.Checkout rev name) x said is fits = absurd is
   read_says (command.RevParse rev) x said is fits = absurd is
   read_says (command.Reset branch commit) x said is fits = absurd is
   read_says (command.DropRef branch) x said is fits = absurd is
@@ -215,6 +239,28 @@ module _ (told : Type 0) (limits : Limits) (first : State) (lane number moment :
   read_gives c t next a is step same e =
       let k : read_answer step.0 ≡ a = (let z : Some (read_answer step.0) ≡ Some a = sym (ap (λ x. script_read (read_answer_of x)) step.1) ∙ e in cc) in
       subst (Gives c) k (read_says c (asked t) step.0 is step.2, inl (same, read_makes step.0 c), read_goes step.0)
+
+  -- what a checkout answers
+  out_says : (rev : Rev) (name commit : List ℕ) (said : CheckoutAnswer) → IsRev rev s commit → checkouts.IsFitting (Some (record { limits = limits; commit = commit; name = name })) said → Answers told limits lane number s q new.history.items (checkout_answer said) (command.Checkout rev name)
+  out_says rev name commit checkout.Done is fits = (commit, is)
+  out_says rev name commit (checkout.NoCommit other) is fits = subst (IsRev rev s) (sym fits) is
+  out_says rev name commit (checkout.Partial other) is fits = subst (IsRev rev s) (sym fits) is
+  out_says rev name commit (checkout.DestExists there) is fits = (fits, (commit, is))
+  out_says rev name commit (checkout.Lacking there) is fits = (commit, is)
+
+  out_gives : (c : Command) (t next : CheckoutCommand) (a : Answer) → ChecksOut limits s c (checking.asked t) → checkout_stepped t (turn.Done tt) next → new.history.items ≡ old.history.items → script_checkout (checkout_answer_of next) ≡ Some a → Gives c a
+  out_gives (command.Checkout rev name) t next a is step same e =
+      let r = checkout_answered t next step in
+      let k : checkout_answer r.0 ≡ a = (let z : Some (checkout_answer r.0) ≡ Some a = sym (ap (λ o. script_checkout o) r.1) ∙ e in cc) in
+      subst (Gives (command.Checkout rev name)) k (out_says rev name is.0 r.0 is.1 (subst (λ y. checkouts.IsFitting y r.0) is.2 r.2), inl (same, checkout_makes r.0 rev name), checkout_goes r.0)
+  out_gives (command.RevParse rev) t next a is step same e = absurd is
+  out_gives (command.Log rev) t next a is step same e = absurd is
+  out_gives (command.Ls rev path) t next a is step same e = absurd is
+  out_gives (command.Cat rev path) t next a is step same e = absurd is
+  out_gives (command.Reset branch commit) t next a is step same e = absurd is
+  out_gives (command.DropRef branch) t next a is step same e = absurd is
+  out_gives (command.Commit branch tree subject body time) t next a is step same e = absurd is
+  out_gives command.Refs t next a is step same e = absurd is
 
   -- The change is the last entry. Where nothing is pending, no ref of the state clashes with another.
   module _ (mine : (x : Pending) → old.pending ≡ Some x → x.lane ≡ lane → x.command ≡ number) (apart : told → new.pending ≡ None → (name : List ℕ) → IsSome (q (RefOf name)) → IsFreeIn q name) where
@@ -307,6 +353,7 @@ module _ (told : Type 0) (limits : Limits) (first : State) (lane number moment :
     ref_gives (command.Log rev) t next a is step holds booked says e = absurd is
     ref_gives (command.Ls rev path) t next a is step holds booked says e = absurd is
     ref_gives (command.Cat rev path) t next a is step holds booked says e = absurd is
+    ref_gives (command.Checkout rev name) t next a is step holds booked says e = absurd is
     ref_gives command.Refs t next a is step holds booked says e = absurd is
     ref_gives (command.Reset branch commit) (Reset look plan) next a is step holds booked says e =
         stopped_gives branch commit look.found look plan next a (found_same look.found look.commit lane number moment old new booked) is.0 step e
@@ -375,12 +422,19 @@ module _ (told : Type 0) (limits : Limits) (first : State) (lane number moment :
     pub done_gives : (c : Command) (t next : LaneCommand) (a : Answer) → Pursues limits s c t → lane_stepped t (turn.Done tt) next → Holds (lane_kind t) lane (books_of old) → IsBooked (lane_kind t) lane number moment came.Done old new → Tells told p t next → lanes.answer_of next ≡ Some a → Gives c a
     done_gives c (lane_work.Ref t) (lane_work.Ref next) a is step holds booked says e = ref_gives c t next a is step holds booked says e
     done_gives c (lane_work.Read t) (lane_work.Read next) a is step holds booked says e = read_gives c t next a is step (read_same t lane number moment old new booked) e
+    done_gives c (lane_work.Checkout t) (lane_work.Checkout next) a is step holds booked says e = out_gives c t next a is step (asks_same (checking.asked t) (checkout_kind t) (checkout_asks t) lane number moment old new booked) e
     done_gives c (lane_work.Ref t) (lane_work.Commit next) a is step holds booked says e = absurd step
     done_gives c (lane_work.Ref t) (lane_work.Read next) a is step holds booked says e = absurd step
+    done_gives c (lane_work.Ref t) (lane_work.Checkout next) a is step holds booked says e = absurd step
     done_gives c (lane_work.Commit t) (lane_work.Ref next) a is step holds booked says e = absurd step
     done_gives c (lane_work.Commit t) (lane_work.Read next) a is step holds booked says e = absurd step
+    done_gives c (lane_work.Commit t) (lane_work.Checkout next) a is step holds booked says e = absurd step
     done_gives c (lane_work.Read t) (lane_work.Ref next) a is step holds booked says e = absurd step
     done_gives c (lane_work.Read t) (lane_work.Commit next) a is step holds booked says e = absurd step
+    done_gives c (lane_work.Read t) (lane_work.Checkout next) a is step holds booked says e = absurd step
+    done_gives c (lane_work.Checkout t) (lane_work.Ref next) a is step holds booked says e = absurd step
+    done_gives c (lane_work.Checkout t) (lane_work.Commit next) a is step holds booked says e = absurd step
+    done_gives c (lane_work.Checkout t) (lane_work.Read next) a is step holds booked says e = absurd step
     done_gives (command.Commit branch tree subject body time) (lane_work.Commit t) (lane_work.Commit next) a is step holds booked says e =
         gives_by branch tree subject body time t is t.change next a refl is.names step holds booked says e
     done_gives (command.RevParse rev) (lane_work.Commit t) (lane_work.Commit next) a is step holds booked says e = absurd is
@@ -389,6 +443,7 @@ module _ (told : Type 0) (limits : Limits) (first : State) (lane number moment :
     done_gives (command.Log rev) (lane_work.Commit t) (lane_work.Commit next) a is step holds booked says e = absurd is
     done_gives (command.Ls rev path) (lane_work.Commit t) (lane_work.Commit next) a is step holds booked says e = absurd is
     done_gives (command.Cat rev path) (lane_work.Commit t) (lane_work.Commit next) a is step holds booked says e = absurd is
+    done_gives (command.Checkout rev name) (lane_work.Commit t) (lane_work.Commit next) a is step holds booked says e = absurd is
     done_gives command.Refs (lane_work.Commit t) (lane_work.Commit next) a is step holds booked says e = absurd is
 
 change_has : (r : Came) (old new : Changing) → stepped_in (turn.Done tt) r old new → IsSome (change_answer r)
@@ -437,9 +492,16 @@ pub done_has : (t next : LaneCommand) → lane_stepped t (turn.Done tt) next →
 done_has (lane_work.Ref t) (lane_work.Ref next) step = ref_has t next step
 done_has (lane_work.Commit t) (lane_work.Commit next) step = script_has (commits.answer_of next) (answered t next step)
 done_has (lane_work.Read t) (lane_work.Read next) step = subst (λ x. IsSome (script_read (read_answer_of x))) (sym step.1) refl
+done_has (lane_work.Checkout t) (lane_work.Checkout next) step = let r = checkout_answered t next step in subst (λ o. IsSome (script_checkout o)) (sym r.1) refl
 done_has (lane_work.Ref t) (lane_work.Commit next) step = absurd step
 done_has (lane_work.Ref t) (lane_work.Read next) step = absurd step
+done_has (lane_work.Ref t) (lane_work.Checkout next) step = absurd step
 done_has (lane_work.Commit t) (lane_work.Ref next) step = absurd step
 done_has (lane_work.Commit t) (lane_work.Read next) step = absurd step
+done_has (lane_work.Commit t) (lane_work.Checkout next) step = absurd step
 done_has (lane_work.Read t) (lane_work.Ref next) step = absurd step
 done_has (lane_work.Read t) (lane_work.Commit next) step = absurd step
+done_has (lane_work.Read t) (lane_work.Checkout next) step = absurd step
+done_has (lane_work.Checkout t) (lane_work.Ref next) step = absurd step
+done_has (lane_work.Checkout t) (lane_work.Commit next) step = absurd step
+done_has (lane_work.Checkout t) (lane_work.Read next) step = absurd step

@@ -11,7 +11,7 @@ use Rattle.rely.specs.declared.kind.Outcome.TheVariants as came
 use Rattle.rely.specs.Books.{books_of}
 use Rattle.rely.specs.Exact.{Causes, IsBooked, IsLive}
 use Rattle.rely.specs.Lasting.{Lasts}
-use Rattle.rely.specs.Laws.{Kind, Quiet, Store, Take, Show, Shown, Settle, Holds}
+use Rattle.rely.specs.Laws.{Kind, Quiet, Store, Take, Claim, Show, Shown, Settle, Holds}
 use Rattle.rely.proofs.Lasting.{lasts_refl}
 use Rattle.rely.proofs.Sounds.{IsFs}
 use Rattle.sys_core.specs.Causes.{Fails}
@@ -19,6 +19,7 @@ use Rattle.sys_core.specs.Lasting.{IsCarried}
 use Rattle.sys_core.specs.Replied.{IsAt}
 use Rattle.sys_core.proofs.Histories.{grown}
 use Rattle.sys_core.proofs.Places.{at_split}
+use Rattle.sys_core.proofs.Setting.{ShowsFinished, founded_step}
 
 -- one more entry, of this moment
 abbrev IsLater : ℕ → List Entry → List Entry → Type 0
@@ -39,6 +40,7 @@ module _ (lane command moment : ℕ) (old new : rust.Books) where
   moment_is Quiet outcome h b = unsettled Quiet outcome (λ e is. cc) h b
   moment_is Store outcome h b = unsettled Store outcome (λ e is. cc) h b
   moment_is (Take wants) outcome h b = unsettled (Take wants) outcome (λ e is. cc) h b
+  moment_is (Claim name) outcome h b = unsettled (Claim name) outcome (λ e is. cc) h b
   moment_is (Show d) outcome h b = unsettled (Show d) outcome (λ e is. cc) h b
   moment_is (Shown d n) outcome h b = unsettled (Shown d n) outcome (λ e is. cc) h b
   moment_is (Settle d) outcome h b = settled d outcome h b
@@ -60,12 +62,14 @@ fails_by before now (came.Refused e) old new cause live = (cause.0, λ was is. c
 
 module _ {F : Type 0} (view : F → Option View) (clock : F → ℕ) (was : F → ℕ → View → Type 0) (faults : F → ℕ) where
   pub step_carried : (lane command : ℕ) (old new : Base F) (kind : Kind) (outcome : Outcome) → Lasts view clock was old.fs new.fs → Elapses (clock old.fs) (clock new.fs) (was old.fs) (was new.fs) (view new.fs) → Holds kind lane (books_of old.books) → IsBooked kind lane command (clock new.fs) outcome old.books new.books
-      → ((v : View) → view old.fs ≡ Some v → Causes (faults old.fs) (faults new.fs) outcome) → IsLive outcome old.books.halted new.books.halted → IsCarried view clock was faults old new
-  step_carried lane command old new kind outcome lasts time holds booked cause live = record {
+      → ((v : View) → view old.fs ≡ Some v → Causes (faults old.fs) (faults new.fs) outcome) → IsLive outcome old.books.halted new.books.halted
+      → ((v : View) → view old.fs ≡ Some v → ShowsFinished v kind) → IsCarried view clock was faults old new
+  step_carried lane command old new kind outcome lasts time holds booked cause live shows = record {
     lasts = lasts;
     time = time;
     moments = later_at (clock new.fs) old.books.history.items new.books.history.items (moment_is lane command (clock new.fs) old.books new.books kind outcome holds booked);
     fails = λ v told. fails_by (faults old.fs) (faults new.fs) outcome old.books.halted new.books.halted (cause v told) live;
+    founded = λ v told. founded_step lane command (clock new.fs) old.books new.books v kind outcome holds booked (shows v told);
   }
 
   -- nothing was done
@@ -75,4 +79,5 @@ module _ {F : Type 0} (view : F → Option View) (clock : F → ℕ) (was : F �
     time = record { later = omega arith; soon = omega arith; nothing_else = λ t w early had. inl had; keeps = λ t w early had. had };
     moments = λ k e at. inl at;
     fails = λ v told. (omega arith, λ was is. cc);
+    founded = λ v told each. each;
   }

@@ -9,13 +9,14 @@ use Rattle.script.specs.declared.command.Command.{Command}
 use Rattle.sys_core.specs.declared.ask.Ask.TheVariants.{Done}
 use Rattle.sys_core.specs.Answers.{IsCaused}
 use Rattle.sys_core.specs.Booked.{Acted, AnswerTells, given}
-use Rattle.sys_core.specs.Causes.{AreCaused, AreCausedIn, Fails, IsFailure}
+use Rattle.sys_core.specs.Causes.{AreCaused, AreCausedIn, Fails}
+use Rattle.sys_core.specs.Faults.{IsFailure}
 use Rattle.sys_core.specs.Replied.{IsCommand, IsTo}
 use Rattle.sys_core.specs.System.{System}
 use Rattle.sys_core.proofs.Places.{here_or_apart, to_split}
 
 -- a count that rose has risen over any longer time
-rose_since : (before a b : ℕ) → before ≤ a → Rose a b → Rose before b
+pub rose_since : (before a b : ℕ) → before ≤ a → Rose a b → Rose before b
 rose_since before a b le (inl lt) = inl (omega (arith, le, lt))
 rose_since before a b le (inr at) = inr at
 
@@ -44,6 +45,7 @@ risen halted before a b (answer.NoCommit sum) from le was cause is = absurd is
 risen halted before a b (answer.Partial sum) from le was cause is = absurd is
 risen halted before a b (answer.NoPath path) from le was cause is = absurd is
 risen halted before a b (answer.NotFile path) from le was cause is = absurd is
+risen halted before a b (answer.DestExists path) from le was cause is = absurd is
 risen halted before a b (answer.RefMoved seen now) from le was cause is = absurd is
 risen halted before a b (answer.RefClash name) from le was cause is = absurd is
 risen halted before a b (answer.BadTree path) from le was cause is = absurd is

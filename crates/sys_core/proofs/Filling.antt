@@ -22,9 +22,12 @@ use Rattle.commit_work.specs.Kinds.{BuildSteps, stepped_at, stepped_by}
 use Rattle.read_work.specs.declared.answer.ReadAnswer.{ReadAnswer}
 use Rattle.read_work.specs.declared.answer.ReadAnswer.TheVariants as given
 use Rattle.read_work.specs.Commands.{answer_of as read_answer_of}
+use Rattle.checkout_work.specs.declared.answer.CheckoutAnswer.{CheckoutAnswer}
+use Rattle.checkout_work.specs.declared.answer.CheckoutAnswer.TheVariants as checkout
+use Rattle.checkout_work.specs.Commands.{answer_of as checkout_answer_of}
 use Rattle.lane_work.specs.declared.command.LaneCommand.{LaneCommand}
 use Rattle.lane_work.specs.declared.command.LaneCommand.TheVariants as lane_work
-use Rattle.lane_work.specs.Commands.{answer_of, lane_stepped, read_answer, script_answer, script_read, told}
+use Rattle.lane_work.specs.Commands.{answer_of, checkout_answer, lane_stepped, read_answer, script_answer, script_checkout, script_read, told}
 use Rattle.rely.specs.declared.kind.Outcome.{Outcome}
 use Rattle.rely.specs.declared.kind.Outcome.TheVariants as came
 use Rattle.rely.specs.Exact.{Steps}
@@ -79,6 +82,17 @@ module _ (limits : Limits) (objects : ℕ) where
   read_full None a e = let z : None ≡ Some a = e in cc
   read_full (Some said) a e = let k : read_answer said ≡ a = (let z : Some (read_answer said) ≡ Some a = e in cc) in is_full (read_answer said) a k (spoken_full said)
 
+  told_full : (said : CheckoutAnswer) → IsFull limits objects (checkout_answer said)
+  told_full checkout.Done = tt
+  told_full (checkout.NoCommit commit) = tt
+  told_full (checkout.Partial commit) = tt
+  told_full (checkout.DestExists path) = tt
+  told_full (checkout.Lacking path) = tt
+
+  checkout_full : (o : Option CheckoutAnswer) (a : Answer) → script_checkout o ≡ Some a → IsFull limits objects a
+  checkout_full None a e = let z : None ≡ Some a = e in cc
+  checkout_full (Some said) a e = let k : checkout_answer said ≡ a = (let z : Some (checkout_answer said) ≡ Some a = e in cc) in is_full (checkout_answer said) a k (told_full said)
+
   naming_full : (commit : List ℕ) (r : Came) (a : Answer) → script_answer (commits.change_answer commit r) ≡ Some a → IsFull limits objects a
   naming_full commit None a e = let z : None ≡ Some a = e in cc
   naming_full commit (Some (Ok x)) a e = let k : answer.Commit commit ≡ a = cc in is_full (answer.Commit commit) a k tt
@@ -104,6 +118,7 @@ module _ (limits : Limits) (objects : ℕ) where
   stray_full (answer.Content bytes) is = tt
   stray_full (answer.NoPath path) is = tt
   stray_full (answer.NotFile path) is = tt
+  stray_full (answer.DestExists path) is = tt
   stray_full (answer.BadTree path) is = tt
   stray_full (answer.TooMany many) is = absurd is
 
@@ -115,6 +130,7 @@ module _ (limits : Limits) (objects : ℕ) where
   outside_full (command.Log rev) a is = is_full answer.DiskFault a (sym is) tt
   outside_full (command.Ls rev path) a is = is_full answer.DiskFault a (sym is) tt
   outside_full (command.Cat rev path) a is = is_full answer.DiskFault a (sym is) tt
+  outside_full (command.Checkout rev name) a is = is_full answer.DiskFault a (sym is) tt
   outside_full command.Refs a is = is_full answer.DiskFault a (sym is) tt
 
   refused_full : (e : FsErr) (c : Command) (a : Answer) → IsRefusedAs e c a → IsFull limits objects a
@@ -143,6 +159,7 @@ module _ (limits : Limits) (objects : ℕ) where
   by_full s (answer.Content bytes) c by = tt
   by_full s (answer.NoPath path) c by = tt
   by_full s (answer.NotFile path) c by = tt
+  by_full s (answer.DestExists path) c by = tt
   by_full s (answer.BadTree path) c by = tt
   by_full s (answer.TooMany many) c by = absurd by
 
@@ -173,18 +190,26 @@ bounds_of limits s (command.DropRef branch) t is = absurd is
 bounds_of limits s (command.Log rev) t is = absurd is
 bounds_of limits s (command.Ls rev path) t is = absurd is
 bounds_of limits s (command.Cat rev path) t is = absurd is
+bounds_of limits s (command.Checkout rev name) t is = absurd is
 bounds_of limits s command.Refs t is = absurd is
 
 module _ (limits : Limits) (s : State) (c : Command) (objects : ℕ) where
   done_full : (t next : LaneCommand) (a : Answer) → Pursues limits s c t → lane_stepped (told objects t) (turn.Done tt) next → answer_of next ≡ Some a → IsFull limits objects a
   done_full (lane_work.Ref t) (lane_work.Ref next) a is step e = ref_full limits objects next a e
   done_full (lane_work.Read t) (lane_work.Read next) a is step e = read_full limits objects (read_answer_of next) a e
+  done_full (lane_work.Checkout t) (lane_work.Checkout next) a is step e = checkout_full limits objects (checkout_answer_of next) a e
   done_full (lane_work.Ref t) (lane_work.Commit next) a is step e = absurd step
   done_full (lane_work.Ref t) (lane_work.Read next) a is step e = absurd step
+  done_full (lane_work.Ref t) (lane_work.Checkout next) a is step e = absurd step
   done_full (lane_work.Commit t) (lane_work.Ref next) a is step e = absurd step
   done_full (lane_work.Commit t) (lane_work.Read next) a is step e = absurd step
+  done_full (lane_work.Commit t) (lane_work.Checkout next) a is step e = absurd step
   done_full (lane_work.Read t) (lane_work.Ref next) a is step e = absurd step
   done_full (lane_work.Read t) (lane_work.Commit next) a is step e = absurd step
+  done_full (lane_work.Read t) (lane_work.Checkout next) a is step e = absurd step
+  done_full (lane_work.Checkout t) (lane_work.Ref next) a is step e = absurd step
+  done_full (lane_work.Checkout t) (lane_work.Commit next) a is step e = absurd step
+  done_full (lane_work.Checkout t) (lane_work.Read next) a is step e = absurd step
   done_full (lane_work.Commit t) (lane_work.Commit next) a is step e = full_by limits (record t { objects = objects }) (bounds_of limits s c t is) t.change next a refl step e
 
   -- whatever ended the command

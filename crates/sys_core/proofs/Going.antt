@@ -75,6 +75,7 @@ module _ (told : Type 0) (limits : Limits) (lane number : ℕ) (s p : State) (en
   stray_answers (answer.Content bytes) c out is = absurd is
   stray_answers (answer.NoPath path) c out is = absurd is
   stray_answers (answer.NotFile path) c out is = absurd is
+  stray_answers (answer.DestExists path) c out is = absurd is
   stray_answers (answer.BadTree path) c out is = absurd is
   stray_answers (answer.TooMany many) c out is = absurd is
 
@@ -89,6 +90,7 @@ module _ (told : Type 0) (limits : Limits) (lane number : ℕ) (s p : State) (en
   outside_answers (command.Log rev) a out is = disk_answers a (command.Log rev) is
   outside_answers (command.Ls rev path) a out is = disk_answers a (command.Ls rev path) is
   outside_answers (command.Cat rev path) a out is = disk_answers a (command.Cat rev path) is
+  outside_answers (command.Checkout rev name) a out is = disk_answers a (command.Checkout rev name) is
   outside_answers command.Refs a out is = disk_answers a command.Refs is
 
   pub refused_answers : (e : FsErr) (c : Command) (a : Answer) → (told → OfNone e) → IsRefusedAs e c a → (Answers told limits lane number s p entries a c × (Makes a c → ⊥)) × (IsHalted a → ⊥)
@@ -113,6 +115,7 @@ module _ (told : Type 0) (limits : Limits) (lane number : ℕ) (s : State) (entr
   refs_by rows (command.Log rev) by = absurd by
   refs_by rows (command.Ls rev path) by = absurd by
   refs_by rows (command.Cat rev path) by = absurd by
+  refs_by rows (command.Checkout rev name) by = absurd by
   refs_by rows (command.Reset branch commit) by = absurd by
   refs_by rows (command.DropRef branch) by = absurd by
   refs_by rows (command.Commit branch tree subject body time) by = absurd by
@@ -122,6 +125,7 @@ module _ (told : Type 0) (limits : Limits) (lane number : ℕ) (s : State) (entr
   none_by (command.Log rev) by = (by, λ n. n, λ n. n)
   none_by (command.Ls rev path) by = (by, λ n. n, λ n. n)
   none_by (command.Cat rev path) by = (by, λ n. n, λ n. n)
+  none_by (command.Checkout rev name) by = (by, λ n. n, λ n. n)
   none_by (command.DropRef branch) by = (λ t. by, λ n. n, λ n. n)
   none_by command.Refs by = absurd by
   none_by (command.Reset branch commit) by = absurd by
@@ -145,6 +149,7 @@ module _ (told : Type 0) (limits : Limits) (lane number : ℕ) (s : State) (entr
   answers_by (answer.Content bytes) c by = absurd by
   answers_by (answer.NoPath path) c by = absurd by
   answers_by (answer.NotFile path) c by = absurd by
+  answers_by (answer.DestExists path) c by = absurd by
   answers_by (answer.BadTree path) c by = absurd by
   answers_by (answer.TooMany many) c by = absurd by
 
@@ -240,9 +245,12 @@ module _ {F : Type 0} (view : F → Option View) (clock spare : F → ℕ) (was 
   says (lane_work.Commit x) (lane_work.Commit y) is then tells opens = says_naming x y x.change y.change is then refl refl tells opens
   says (lane_work.Ref x) (lane_work.Commit y) is then tells opens = tt
   says (lane_work.Ref x) (lane_work.Read y) is then tells opens = tt
+  says (lane_work.Ref x) (lane_work.Checkout y) is then tells opens = tt
   says (lane_work.Commit x) (lane_work.Ref y) is then tells opens = tt
   says (lane_work.Commit x) (lane_work.Read y) is then tells opens = tt
+  says (lane_work.Commit x) (lane_work.Checkout y) is then tells opens = tt
   says (lane_work.Read x) y is then tells opens = tt
+  says (lane_work.Checkout x) y is then tells opens = tt
 
   -- a step is refused for nothing else
   none_told : (f : FsErr) → Tells lane_leaves lane_refuses t (came.Refused f) t' (view old.fs) (view new.fs) → IsTold view → OfNone f

@@ -8,7 +8,7 @@ use Rattle.rely.specs.declared.kind.Outcome.{Outcome}
 use Rattle.rely.specs.declared.kind.Outcome.TheVariants as came
 use Rattle.rely.specs.Books.{books_of}
 use Rattle.rely.specs.Exact.{IsBooked}
-use Rattle.rely.specs.Laws.{Kind, Quiet, Store, Take, Show, Shown, Settle, Holds, NotPending}
+use Rattle.rely.specs.Laws.{Kind, Quiet, Store, Take, Claim, Show, Shown, Settle, Holds, NotPending}
 use Rattle.rely.specs.State.{first, after, events_of}
 use Rattle.rely.proofs.States.{after_push, events_push}
 use Rattle.sys_core.specs.Lanes.{EndsUnshown, now_of}
@@ -46,6 +46,7 @@ module _ (lane command moment : ℕ) (old new : rust.Books) where
   grown Quiet outcome h b = inl b.0
   grown Store outcome h b = inl b.0
   grown (Take wants) outcome h b = inl b.0
+  grown (Claim name) outcome h b = inl b.0
   grown (Show e) outcome h b = inl (shown_so e outcome b)
   grown (Shown e n) outcome h b = inl (held_so e n outcome b)
   grown (Settle e) outcome h b = settled e outcome h b
@@ -79,6 +80,7 @@ module _ (lane command moment : ℕ) (old new : rust.Books) where
   over_idle Quiet outcome over h b = same_pending h b.1
   over_idle Store outcome over h b = same_pending h b.1
   over_idle (Take wants) outcome over h b = same_pending h b.1
+  over_idle (Claim name) outcome over h b = same_pending h b.1
   over_idle (Show e) outcome over h b = show_over e outcome over h b
   over_idle (Shown e n) outcome over h b = shown_over e n outcome over b
   over_idle (Settle e) outcome over h b = settle_over e outcome over b

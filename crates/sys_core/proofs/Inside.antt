@@ -1,5 +1,5 @@
 -- That something else than this program changed the disk is told by no reply, over an act.
-use Rattle.std.proofs.Common.{◌≡◌, ⊎_elim, ◌≤◌, ℕ, refl, sym, subst, arith, List, [], ◌∷◌, length, Option, Some}
+use Rattle.std.proofs.Common.{◌≡◌, inr, ⊎_elim, ◌≤◌, ℕ, refl, sym, subst, arith, List, [], ◌∷◌, length, Option, Some}
 use Rattle.ost_types.specs.declared.limits.Limits.{Limits}
 use Rattle.ost_types.specs.declared.object.ObjName.{ObjName}
 use Rattle.ost_types.specs.Path.{Path}
@@ -12,7 +12,10 @@ use Rattle.read_work.specs.declared.answer.ReadAnswer.TheVariants as read
 use Rattle.read_work.specs.declared.look.Ask.{Ask as ReadAsk}
 use Rattle.read_work.specs.declared.look.Ask.TheVariants as ask
 use Rattle.read_work.specs.Answers.{Says}
-use Rattle.lane_work.specs.Commands.{read_answer}
+use Rattle.checkout_work.specs.declared.answer.CheckoutAnswer.{CheckoutAnswer}
+use Rattle.checkout_work.specs.declared.answer.CheckoutAnswer.TheVariants as checkout
+use Rattle.checkout_work.specs.Answers as checkouts
+use Rattle.lane_work.specs.Commands.{checkout_answer, read_answer}
 use Rattle.rely.specs.declared.books.Entry.{Entry}
 use Rattle.rely.specs.Lasting.{IsFinishedNow}
 use Rattle.rely.specs.State.{Ascends, State, first}
@@ -30,7 +33,8 @@ use Rattle.sys_core.specs.declared.ask.Ask.{Ask}
 use Rattle.sys_core.specs.declared.ask.Ask.TheVariants.{More, Done}
 use Rattle.sys_core.specs.Answers.{IsSeen, state_after}
 use Rattle.sys_core.specs.Booked.{Acted, AnswerTells, IsReplied, given, start_of}
-use Rattle.sys_core.specs.Inside.{AreInside, IsOutside}
+use Rattle.sys_core.specs.Faults.{IsOutside}
+use Rattle.sys_core.specs.Inside.{AreInside}
 use Rattle.sys_core.specs.Reading.{SaysBy, SaysOf}
 use Rattle.sys_core.specs.Replied.{IsCommand, IsTo}
 use Rattle.sys_core.specs.Storing.{AreStored, WasBegun}
@@ -39,7 +43,7 @@ use Rattle.sys_core.proofs.Begun.{commit_begun_on}
 use Rattle.sys_core.proofs.Places.{to_split}
 
 -- the moments of a history are between these two
-within : (from : ℕ) (es : List Entry) (to : ℕ) → Ascends from es to → from ≤ to
+pub within : (from : ℕ) (es : List Entry) (to : ℕ) → Ascends from es to → from ≤ to
 within from [] to a = a
 within from (e ∷ es) to a = omega (arith, a.0, within e.moment es to a.1)
 
@@ -58,10 +62,19 @@ module _ (limits : Limits) (v : View) (sound : (name : ObjName) → IsSound v.no
   of_rev : (s : State) (r : Rev) (a : ReadAsk) (path : Path) → SaysOf v limits s r a (answer.Outside path) → ⊥
   of_rev s r a path says = lacks_none a says.0 path says.3 says.2 says.4 says.5
 
+  -- nor does a checkout find that it does
+  lacks_out : (commit name : List ℕ) (path : Path) (said : CheckoutAnswer) → IsFinishedNow v commit → checkout_answer said ≡ answer.Outside path → checkouts.Says v.now limits commit name said → ⊥
+  lacks_out commit name path (checkout.Lacking p) finished is says = lacking_never limits v (record { limits = limits; commit = commit; ask = ask.Ls [] }) p refl sound whole finished (inr says)
+  lacks_out commit name path checkout.Done finished is says = cc
+  lacks_out commit name path (checkout.NoCommit named) finished is says = cc
+  lacks_out commit name path (checkout.Partial named) finished is says = cc
+  lacks_out commit name path (checkout.DestExists there) finished is says = cc
+
   by_command : (s : State) (c : Command) (path : Path) → SaysBy v limits s c (answer.Outside path) → ⊥
   by_command s (command.Log r) path says = of_rev s r ask.Log path says
   by_command s (command.Ls r at) path says = of_rev s r (ask.Ls at) path says
   by_command s (command.Cat r at) path says = of_rev s r (ask.Cat at) path says
+  by_command s (command.Checkout r name) path says = lacks_out says.0 name path says.3 says.2 says.4 says.5
   by_command s command.Refs path says = says
   by_command s (command.RevParse r) path says = says
   by_command s (command.Reset branch commit) path says = says
@@ -81,6 +94,7 @@ module _ (limits : Limits) (v : View) (sound : (name : ObjName) → IsSound v.no
   seen_inside s c (answer.Partial sum) seen is = is
   seen_inside s c (answer.NoPath path) seen is = is
   seen_inside s c (answer.NotFile path) seen is = is
+  seen_inside s c (answer.DestExists path) seen is = is
   seen_inside s c (answer.RefMoved old new) seen is = is
   seen_inside s c (answer.RefClash name) seen is = is
   seen_inside s c (answer.BadTree path) seen is = is

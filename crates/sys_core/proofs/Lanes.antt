@@ -25,6 +25,8 @@ use Rattle.commit_work.specs.Kinds.{build_kind, commit_kind, kind_by}
 use Rattle.read_work.specs.declared.command.ReadCommand.{ReadCommand}
 use Rattle.read_work.specs.declared.command.ReadCommand.TheVariants as read
 use Rattle.read_work.specs.Commands.{IsNew, read_kind}
+use Rattle.checkout_work.specs.Asked as checking
+use Rattle.checkout_work.specs.Commands.{checkout_kind}
 use Rattle.lane_work.specs.declared.command.LaneCommand.{LaneCommand}
 use Rattle.lane_work.specs.declared.command.LaneCommand.TheVariants as lane_work
 use Rattle.lane_work.specs.Answers.{Begins}
@@ -32,6 +34,7 @@ use Rattle.lane_work.specs.Commands.{lane_facts, lane_kind, told}
 use Rattle.lane_work.proofs.Ends.{begins_of, told_facts, told_kind}
 use Rattle.sys_core.specs.declared.run.Running.{Running}
 use Rattle.sys_core.specs.Lanes.{Facts, IsHome, EndsUnshown, LaneActs, RunsIn, now_of}
+use Rattle.sys_core.proofs.Checkouts.{asks_holds, checkout_asks}
 
 found_holds : (found : Option Found) (commit : List ℕ) (lane : ℕ) (b : Books) → NotPending lane b → Holds (found_kind found commit) lane b
 found_holds None commit lane b none = none
@@ -59,6 +62,7 @@ begin_holds : (lane : ℕ) (t : LaneCommand) (b : Books) → Begins lane t → N
 begin_holds lane (lane_work.Ref t) b begins none = ref_holds lane t b begins none
 begin_holds lane (lane_work.Commit t) b begins none = commit_holds lane t b begins none
 begin_holds lane (lane_work.Read t) b begins none = read_holds lane t b begins none
+begin_holds lane (lane_work.Checkout t) b begins none = asks_holds (checking.asked t) (checkout_kind t) (checkout_asks t) lane b none
 
 -- what a task is told is no matter to its facts
 pub runs_told : (lane objects : ℕ) (t : LaneCommand) (view : Option View) (b : Books) → Runs lane_kind lane_facts lane t view b → Runs lane_kind lane_facts lane (told objects t) view b
@@ -84,7 +88,7 @@ module _ {F : Type 0} (view : F → Option View) (clock spare : F → ℕ) (was 
       → Facts lane refs None (view base.fs) (books_of base.books) → LaneActs view clock spare was lane refs refs' None base base
   nothing_acts lane base refs refs' sound tracks rooms facts = record {
     sound = sound;
-    does = λ v told. (v, told, record { writes = record { only = λ p s may. inl may; now = λ p. inl refl }; books = (ends_refl lane lane base).spared });
+    does = λ v told. (v, told, record { writes = record { only = λ p s may. inl may; now = λ p. inl refl }; books = (ends_refl lane lane base).spared; claims = λ c has. inl has });
     books = (ends_refl lane lane base).spared;
     tracks = tracks;
     rooms = rooms;

@@ -46,6 +46,7 @@ made_answer branch tree subject body time (answer.Ls rows) makes = absurd makes
 made_answer branch tree subject body time (answer.Content bytes) makes = absurd makes
 made_answer branch tree subject body time (answer.NoPath path) makes = absurd makes
 made_answer branch tree subject body time (answer.NotFile path) makes = absurd makes
+made_answer branch tree subject body time (answer.DestExists path) makes = absurd makes
 made_answer branch tree subject body time (answer.NoCommit commit) makes = absurd makes
 made_answer branch tree subject body time (answer.Partial commit) makes = absurd makes
 made_answer branch tree subject body time (answer.RefMoved seen now) makes = absurd makes

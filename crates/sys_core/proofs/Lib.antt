@@ -1,3 +1,4 @@
+pub mod Checkouts
 pub mod Histories
 pub mod Steps
 pub mod Lanes
@@ -33,3 +34,11 @@ pub mod Holding
 pub mod StoredFirst
 pub mod Causing
 pub mod Inside
+pub mod CheckedOut
+pub mod Makings
+pub mod Folding
+pub mod Folders
+pub mod Setting
+pub mod Saying
+pub mod Standing
+pub mod Founding

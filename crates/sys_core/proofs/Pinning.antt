@@ -25,6 +25,9 @@ use Rattle.read_work.specs.Chains.{IsChain}
 use Rattle.read_work.specs.Commands.{read_kind}
 use Rattle.read_work.specs.Kept.{chain_up}
 use Rattle.read_work.specs.LogSteps.{log_kind}
+use Rattle.checkout_work.specs.declared.command.CheckoutCommand.{CheckoutCommand}
+use Rattle.checkout_work.specs.Asked as checking
+use Rattle.checkout_work.specs.Commands.{checkout_kind}
 use Rattle.lane_work.specs.declared.command.LaneCommand.{LaneCommand}
 use Rattle.lane_work.specs.declared.command.LaneCommand.TheVariants as lane_work
 use Rattle.lane_work.specs.Commands.{lane_facts, lane_kind, told}
@@ -59,8 +62,9 @@ use Rattle.sys_core.specs.declared.run.Run.{Run}
 use Rattle.sys_core.specs.declared.run.Running.{Running}
 use Rattle.sys_core.specs.Pins.{AreInWork, IsNamedBy, IsPinOf, IsWorkOf, Reaches, Pins, PinsBy}
 use Rattle.sys_core.specs.Pursues.{Commits, Pursues, RefPursues, start_in, task_start}
-use Rattle.sys_core.specs.Reading.{AsksOf, Reads}
+use Rattle.sys_core.specs.Reading.{AsksOf, ChecksOut, Reads}
 use Rattle.sys_core.specs.Replied.{IsCommand}
+use Rattle.sys_core.proofs.Checkouts.{asks_pin, checkout_asks}
 use Rattle.sys_core.proofs.Ordering.{split}
 use Rattle.sys_core.proofs.Prefixes.{state_stays}
 
@@ -89,6 +93,7 @@ ref_pin known s (command.Commit branch tree subject body time) t name after is =
 ref_pin known s (command.Log rev) t name after is = absurd after
 ref_pin known s (command.Ls rev path) t name after is = absurd after
 ref_pin known s (command.Cat rev path) t name after is = absurd after
+ref_pin known s (command.Checkout rev folder) t name after is = absurd after
 ref_pin known s command.Refs t name after is = absurd after
 
 commit_pin : (known : Type 0) (limits : Limits) (s : State) (branch : List ℕ) (tree : Vec TreeItem) (subject body : List ℕ) (time : ℕ) (t : CommitCommand) (name : ObjName) → Commits limits branch tree.items (message_in s branch subject body time) t → (o : Object) × IsOfCommit t.build o × (o.name ≡ name)
@@ -125,6 +130,7 @@ look_pin known limits s (command.Log rev) l name after is =
     (k.0, k.1, k.0, k.2, λ t. itself k.0 k.0 refl)
 look_pin known limits s (command.Ls rev path) l name after is = look_named limits s rev (ask.Ls path) l name after is
 look_pin known limits s (command.Cat rev path) l name after is = look_named limits s rev (ask.Cat path) l name after is
+look_pin known limits s (command.Checkout rev folder) l name after is = absurd after
 look_pin known limits s (command.RevParse rev) l name after is = absurd after
 look_pin known limits s (command.Reset branch commit) l name after is = absurd after
 look_pin known limits s (command.DropRef branch) l name after is = absurd after
@@ -147,6 +153,7 @@ log_pin known limits s (command.Log rev) g name leads after is =
     (after.0, after.1, g.next, log_named g.rows.items g.next name is, λ t. subst (λ x. Reaches x g.next) same (leads t))
 log_pin known limits s (command.Ls rev path) g name leads after is = not_log g (record { limits = limits; commit = after.0; ask = ask.Ls path }) after.2 (λ e. let n : ask.Ls path ≡ ask.Log = e in cc)
 log_pin known limits s (command.Cat rev path) g name leads after is = not_log g (record { limits = limits; commit = after.0; ask = ask.Cat path }) after.2 (λ e. let n : ask.Cat path ≡ ask.Log = e in cc)
+log_pin known limits s (command.Checkout rev folder) g name leads after is = absurd after
 log_pin known limits s (command.RevParse rev) g name leads after is = absurd after
 log_pin known limits s (command.Reset branch commit) g name leads after is = absurd after
 log_pin known limits s (command.DropRef branch) g name leads after is = absurd after
@@ -160,6 +167,22 @@ read_pin known limits s c (read.Cat x) name chained after is = absurd (none_some
 read_pin known limits s c (read.Ls x) name chained after is = absurd (none_some name is)
 read_pin known limits s c (read.Ended a) name chained after is = absurd (none_some name is)
 
+-- a checkout pins the commit
+out_pin : (known : Type 0) (limits : Limits) (s : State) (c : Command) (t : CheckoutCommand) (name : ObjName) → ChecksOut limits s c (checking.asked t) → pin_in (checkout_kind t) ≡ Some name → IsWorkOf known s c name
+out_pin known limits s (command.Checkout rev folder) t name after is =
+    let p = asks_pin (checking.asked t) (checkout_kind t) (checkout_asks t) name is in
+    let q : checking.Asked = record { limits = limits; commit = after.0; name = folder } in
+    let same : p.0 ≡ q = (let e : Some p.0 ≡ Some q = sym p.1 ∙ after.2 in cc) in
+    (after.0, after.1, p.2 ∙ ap (λ (x : checking.Asked). commit_name x.commit) same)
+out_pin known limits s (command.RevParse rev) t name after is = absurd after
+out_pin known limits s (command.Log rev) t name after is = absurd after
+out_pin known limits s (command.Ls rev path) t name after is = absurd after
+out_pin known limits s (command.Cat rev path) t name after is = absurd after
+out_pin known limits s (command.Reset branch commit) t name after is = absurd after
+out_pin known limits s (command.DropRef branch) t name after is = absurd after
+out_pin known limits s (command.Commit branch tree subject body time) t name after is = absurd after
+out_pin known limits s command.Refs t name after is = absurd after
+
 pub pin_work : (known : Type 0) (limits : Limits) (s : State) (c : Command) (t : LaneCommand) (name : ObjName) → Chained known t → Pursues limits s c t → pin_in (lane_kind t) ≡ Some name → IsWorkOf known s c name
 pin_work known limits s c (lane_work.Ref t) name chained after is = ref_pin known s c t name after is
 pin_work known limits s (command.Commit branch tree subject body time) (lane_work.Commit t) name chained after is = commit_pin known limits s branch tree subject body time t name after (pin_of t name after.made is)
@@ -167,10 +190,12 @@ pin_work known limits s (command.RevParse rev) (lane_work.Commit t) name chained
 pin_work known limits s (command.Log rev) (lane_work.Commit t) name chained after is = absurd after
 pin_work known limits s (command.Ls rev path) (lane_work.Commit t) name chained after is = absurd after
 pin_work known limits s (command.Cat rev path) (lane_work.Commit t) name chained after is = absurd after
+pin_work known limits s (command.Checkout rev folder) (lane_work.Commit t) name chained after is = absurd after
 pin_work known limits s (command.Reset branch commit) (lane_work.Commit t) name chained after is = absurd after
 pin_work known limits s (command.DropRef branch) (lane_work.Commit t) name chained after is = absurd after
 pin_work known limits s command.Refs (lane_work.Commit t) name chained after is = absurd after
 pin_work known limits s c (lane_work.Read t) name chained after is = read_pin known limits s c t name chained after is
+pin_work known limits s c (lane_work.Checkout t) name chained after is = out_pin known limits s c t name after is
 
 -- so it does where the view is told, since the store has each of its commits
 pub chained_of : {F : Type 0} (view : F → Option View) → ((fs gs : F) (v : View) → view fs ≡ Some v → Told (view gs) (λ w. Unit {0})) → (fs : F) (lane : ℕ) (t : LaneCommand) (b : Books) → ((v : View) → view fs ≡ Some v → lane_facts lane t v b) → Chained (IsTold view) t
@@ -183,6 +208,7 @@ chained_of view always fs lane (lane_work.Read (read.Ls x)) b facts = tt
 chained_of view always fs lane (lane_work.Read (read.Ended x)) b facts = tt
 chained_of view always fs lane (lane_work.Ref x) b facts = tt
 chained_of view always fs lane (lane_work.Commit x) b facts = tt
+chained_of view always fs lane (lane_work.Checkout x) b facts = tt
 
 -- ---- what an act of the lane leaves
 pub pins_told : (lane objects : ℕ) (t u : LaneCommand) (o x : Outcome) (old new : List Pin) → u ≡ told objects t → o ≡ x → ArePinned (pin_in (lane_kind u)) lane o old new → ArePinned (pin_in (lane_kind t)) lane x old new

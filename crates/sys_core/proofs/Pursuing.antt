@@ -28,6 +28,8 @@ use Rattle.read_work.specs.declared.command.ReadCommand.{ReadCommand}
 use Rattle.read_work.specs.declared.command.ReadCommand.TheVariants as reading
 use Rattle.read_work.specs.Commands.{read_kind}
 use Rattle.read_work.specs.LogSteps.{log_kind}
+use Rattle.checkout_work.specs.Asked as checking
+use Rattle.checkout_work.specs.Commands.{checkout_kind}
 use Rattle.lane_work.specs.declared.command.LaneCommand.{LaneCommand}
 use Rattle.lane_work.specs.declared.command.LaneCommand.TheVariants as lane_work
 use Rattle.lane_work.specs.Commands.{IsMadeIn, lane_kind, lane_stepped, told}
@@ -41,7 +43,7 @@ use Rattle.rely.specs.declared.event.Event.TheVariants as event
 use Rattle.rely.specs.declared.kind.Outcome.{Outcome}
 use Rattle.rely.specs.declared.kind.Outcome.TheVariants as came
 use Rattle.rely.specs.Exact.{IsBooked}
-use Rattle.rely.specs.Laws.{Kind, Quiet, Store, Take, Show, Shown, Settle}
+use Rattle.rely.specs.Laws.{Kind, Quiet, Store, Take, Claim, Show, Shown, Settle}
 use Rattle.rely.specs.State.{State, RefOf}
 use Rattle.script.specs.declared.command.Command.{Command}
 use Rattle.script.specs.declared.command.Command.TheVariants as command
@@ -50,7 +52,8 @@ use Rattle.sys_core.specs.Begins.{RunsBy, RunsRefBy}
 use Rattle.commit_lasts.specs.Lasting.{sum_of}
 use Rattle.sys_core.specs.Commits.{message_in}
 use Rattle.sys_core.specs.Pursues.{Commits, IsChanging, IsNaming, NamesIn, Pursues, RefPursues, IsPendingBy, ReadsIn}
-use Rattle.sys_core.specs.Reading.{Reads}
+use Rattle.sys_core.specs.Reading.{ChecksOut, Reads}
+use Rattle.sys_core.proofs.Checkouts.{asks_no_show, checkout_asks}
 
 -- at the beginning
 ref_begins : (lane : ℕ) (s : State) (c : Command) (t : RefCommand) → RunsRefBy lane s c t → RefPursues s c t
@@ -69,11 +72,13 @@ ref_begins lane s (command.Commit branch tree subject body time) t by = absurd b
 ref_begins lane s (command.Log rev) t by = absurd by
 ref_begins lane s (command.Ls rev path) t by = absurd by
 ref_begins lane s (command.Cat rev path) t by = absurd by
+ref_begins lane s (command.Checkout rev name) t by = absurd by
 ref_begins lane s command.Refs t by = absurd by
 
 pub pursues_begins : (limits : Limits) (lane : ℕ) (s : State) (c : Command) (t : LaneCommand) → RunsBy limits lane s c t → Pursues limits s c t
 pursues_begins limits lane s c (lane_work.Ref t) by = ref_begins lane s c t by
 pursues_begins limits lane s c (lane_work.Read t) by = by
+pursues_begins limits lane s c (lane_work.Checkout t) by = by
 pursues_begins limits lane s (command.Commit branch tree subject body time) (lane_work.Commit t) by = record {
   name = by.0.name;
   items = ap (λ (x : Committing). x.items) by.0.build;
@@ -89,12 +94,14 @@ pursues_begins limits lane s (command.DropRef branch) (lane_work.Commit t) by = 
 pursues_begins limits lane s (command.Log rev) (lane_work.Commit t) by = absurd by
 pursues_begins limits lane s (command.Ls rev path) (lane_work.Commit t) by = absurd by
 pursues_begins limits lane s (command.Cat rev path) (lane_work.Commit t) by = absurd by
+pursues_begins limits lane s (command.Checkout rev name) (lane_work.Commit t) by = absurd by
 pursues_begins limits lane s command.Refs (lane_work.Commit t) by = absurd by
 
 -- whatever the task is told
 pub pursues_told : (limits : Limits) (s : State) (c : Command) (objects : ℕ) (t : LaneCommand) → Pursues limits s c t → Pursues limits s c (told objects t)
 pursues_told limits s c objects (lane_work.Ref t) is = is
 pursues_told limits s c objects (lane_work.Read t) is = is
+pursues_told limits s c objects (lane_work.Checkout t) is = is
 pursues_told limits s (command.Commit branch tree subject body time) objects (lane_work.Commit t) is = record { name = is.name; items = is.items; bounds = is.bounds; says = is.says; made = is.made; names = is.names; reads = is.reads }
 pursues_told limits s (command.RevParse rev) objects (lane_work.Commit t) is = absurd is
 pursues_told limits s (command.Reset branch commit) objects (lane_work.Commit t) is = absurd is
@@ -102,6 +109,7 @@ pursues_told limits s (command.DropRef branch) objects (lane_work.Commit t) is =
 pursues_told limits s (command.Log rev) objects (lane_work.Commit t) is = absurd is
 pursues_told limits s (command.Ls rev path) objects (lane_work.Commit t) is = absurd is
 pursues_told limits s (command.Cat rev path) objects (lane_work.Commit t) is = absurd is
+pursues_told limits s (command.Checkout rev name) objects (lane_work.Commit t) is = absurd is
 pursues_told limits s command.Refs objects (lane_work.Commit t) is = absurd is
 
 changing_step : (name : List ℕ) (seen value : Option (List ℕ)) (t new : Changing) → IsStepped t (Ok turn.More) new → IsChanging name seen value t → IsChanging name seen value new
@@ -131,6 +139,7 @@ ref_step s (command.Commit branch tree subject body time) (Reset look plan) new 
 ref_step s (command.Log rev) (Reset look plan) new step is = absurd is
 ref_step s (command.Ls rev path) (Reset look plan) new step is = absurd is
 ref_step s (command.Cat rev path) (Reset look plan) new step is = absurd is
+ref_step s (command.Checkout rev name) (Reset look plan) new step is = absurd is
 ref_step s command.Refs (Reset look plan) new step is = absurd is
 ref_step s c (Change work) (Parse look) step is = absurd step
 ref_step s c (Change work) (Reset look plan) step is = absurd step
@@ -141,6 +150,7 @@ ref_step s (command.Commit branch tree subject body time) (Change work) (Change 
 ref_step s (command.Log rev) (Change work) (Change new) step is = absurd is
 ref_step s (command.Ls rev path) (Change work) (Change new) step is = absurd is
 ref_step s (command.Cat rev path) (Change work) (Change new) step is = absurd is
+ref_step s (command.Checkout rev name) (Change work) (Change new) step is = absurd is
 ref_step s command.Refs (Change work) (Change new) step is = absurd is
 
 -- what is committed stays
@@ -228,12 +238,19 @@ module _ (limits : Limits) (branch : List ℕ) (tree : List TreeItem) (message :
 pub pursues_step : (limits : Limits) (s : State) (c : Command) (t new : LaneCommand) → lane_stepped t turn.More new → IsMadeIn new → Pursues limits s c t → Pursues limits s c new
 pursues_step limits s c (lane_work.Ref t) (lane_work.Ref new) step made is = ref_step s c t new step is
 pursues_step limits s c (lane_work.Read t) (lane_work.Read new) step made is = subst (Reads limits s c) (sym step.0) is
+pursues_step limits s c (lane_work.Checkout t) (lane_work.Checkout new) step made is = subst (ChecksOut limits s c) (sym step.0) is
 pursues_step limits s c (lane_work.Ref t) (lane_work.Commit new) step made is = absurd step
 pursues_step limits s c (lane_work.Ref t) (lane_work.Read new) step made is = absurd step
+pursues_step limits s c (lane_work.Ref t) (lane_work.Checkout new) step made is = absurd step
 pursues_step limits s c (lane_work.Commit t) (lane_work.Ref new) step made is = absurd step
 pursues_step limits s c (lane_work.Commit t) (lane_work.Read new) step made is = absurd step
+pursues_step limits s c (lane_work.Commit t) (lane_work.Checkout new) step made is = absurd step
 pursues_step limits s c (lane_work.Read t) (lane_work.Ref new) step made is = absurd step
 pursues_step limits s c (lane_work.Read t) (lane_work.Commit new) step made is = absurd step
+pursues_step limits s c (lane_work.Read t) (lane_work.Checkout new) step made is = absurd step
+pursues_step limits s c (lane_work.Checkout t) (lane_work.Ref new) step made is = absurd step
+pursues_step limits s c (lane_work.Checkout t) (lane_work.Commit new) step made is = absurd step
+pursues_step limits s c (lane_work.Checkout t) (lane_work.Read new) step made is = absurd step
 pursues_step limits s (command.Commit branch tree subject body time) (lane_work.Commit t) (lane_work.Commit new) step made is =
     step_by limits branch tree.items (message_in s branch subject body time) t is t.change new refl step made is.names
 pursues_step limits s (command.RevParse rev) (lane_work.Commit t) (lane_work.Commit new) step made is = absurd is
@@ -242,6 +259,7 @@ pursues_step limits s (command.DropRef branch) (lane_work.Commit t) (lane_work.C
 pursues_step limits s (command.Log rev) (lane_work.Commit t) (lane_work.Commit new) step made is = absurd is
 pursues_step limits s (command.Ls rev path) (lane_work.Commit t) (lane_work.Commit new) step made is = absurd is
 pursues_step limits s (command.Cat rev path) (lane_work.Commit t) (lane_work.Commit new) step made is = absurd is
+pursues_step limits s (command.Checkout rev name) (lane_work.Commit t) (lane_work.Commit new) step made is = absurd is
 pursues_step limits s command.Refs (lane_work.Commit t) (lane_work.Commit new) step made is = absurd is
 
 drop_event : (seen : Option (List ℕ)) (branch : List ℕ) → IsSome seen → (x : List ℕ) × (seen ≡ Some x) × (event_of None branch seen ≡ event.DropRef branch x)
@@ -262,6 +280,7 @@ change_is s (command.Commit branch tree subject body time) work is = absurd is
 change_is s (command.Log rev) work is = absurd is
 change_is s (command.Ls rev path) work is = absurd is
 change_is s (command.Cat rev path) work is = absurd is
+change_is s (command.Checkout rev name) work is = absurd is
 change_is s command.Refs work is = absurd is
 
 pub naming_is : (branch : List ℕ) (seen : Option (List ℕ)) (tree : List TreeItem) (sum : List ℕ) (n : Naming) → IsNaming branch seen tree sum n → event n.work.task ≡ event.SetRef branch seen sum
@@ -298,6 +317,7 @@ read_shows (reading.Ended a) e is = cc
 shows_change : (limits : Limits) (s : State) (c : Command) (t : LaneCommand) (e : Event) → Pursues limits s c t → lane_kind t ≡ Show e → IsChangeOf s c e
 shows_change limits s c (lane_work.Ref t) e is k = ref_shows s c t e is k
 shows_change limits s c (lane_work.Read t) e is k = read_shows t e k
+shows_change limits s c (lane_work.Checkout t) e is k = absurd (asks_no_show (checking.asked t) (checkout_kind t) (checkout_asks t) e k)
 shows_change limits s (command.Commit branch tree subject body time) (lane_work.Commit t) e is k =
     commit_shows branch (s (RefOf branch)) tree.items (sum_of tree.items (message_in s branch subject body time)) t t.change e is.names k
 shows_change limits s (command.RevParse rev) (lane_work.Commit t) e is k = absurd is
@@ -306,6 +326,7 @@ shows_change limits s (command.DropRef branch) (lane_work.Commit t) e is k = abs
 shows_change limits s (command.Log rev) (lane_work.Commit t) e is k = absurd is
 shows_change limits s (command.Ls rev path) (lane_work.Commit t) e is k = absurd is
 shows_change limits s (command.Cat rev path) (lane_work.Commit t) e is k = absurd is
+shows_change limits s (command.Checkout rev name) (lane_work.Commit t) e is k = absurd is
 shows_change limits s command.Refs (lane_work.Commit t) e is k = absurd is
 
 module _ (lane number moment : ℕ) (old new : rust.Books) (Its : Event → Type 0) where
@@ -346,6 +367,7 @@ module _ (lane number moment : ℕ) (old new : rust.Books) (Its : Event → Type
   kind_shown Quiet outcome its b = same_shown b.1
   kind_shown Store outcome its b = same_shown b.1
   kind_shown (Take wants) outcome its b = same_shown b.1
+  kind_shown (Claim name) outcome its b = same_shown b.1
   kind_shown (Show e) outcome its b = show_shown e outcome (its e refl) b
   kind_shown (Shown e n) outcome its b = held_shown e n outcome b
   kind_shown (Settle e) outcome its b = settle_shown e outcome b
@@ -382,6 +404,7 @@ module _ (lane number moment : ℕ) (old new : rust.Books) where
   history_same Quiet outcome not b = b.0
   history_same Store outcome not b = b.0
   history_same (Take wants) outcome not b = b.0
+  history_same (Claim name) outcome not b = b.0
   history_same (Show e) outcome not b = show_same e outcome b
   history_same (Shown e n) outcome not b = held_same e n outcome b
   history_same (Settle e) outcome not b = settle_same e outcome not b

@@ -28,10 +28,14 @@ use Rattle.read_work.specs.Answers.{SaysOf}
 use Rattle.read_work.specs.Asked as reads
 use Rattle.read_work.specs.Asked.{Asked, asked}
 use Rattle.read_work.specs.Founded.{IsFinishedOf, IsRead}
+use Rattle.checkout_work.specs.declared.answer.CheckoutAnswer.{CheckoutAnswer}
+use Rattle.checkout_work.specs.declared.answer.CheckoutAnswer.TheVariants as checkout
+use Rattle.checkout_work.specs.Asked as checking
+use Rattle.checkout_work.specs.Founded as checked
 use Rattle.lane_work.specs.declared.command.LaneCommand.{LaneCommand}
 use Rattle.lane_work.specs.declared.command.LaneCommand.TheVariants as lane_work
 use Rattle.lane_work.specs.Answers.{Says}
-use Rattle.lane_work.specs.Commands.{lane_facts, lane_leaves, lane_refuses, read_answer, script_answer}
+use Rattle.lane_work.specs.Commands.{checkout_answer, lane_facts, lane_leaves, lane_refuses, read_answer, script_answer}
 use Rattle.lane_work.proofs.Ends.{refused_of, says_of}
 use Rattle.rely.specs.declared.books.Entry.{Entry}
 use Rattle.rely.specs.declared.books.Pending.{Pending}
@@ -46,11 +50,12 @@ use Rattle.script.specs.declared.answer.Answer.{Answer}
 use Rattle.script.specs.declared.answer.Answer.TheVariants as answer
 use Rattle.script.specs.declared.command.Command.{Command}
 use Rattle.script.specs.declared.command.Command.TheVariants as command
+use Rattle.script.specs.declared.command.Rev.{Rev}
 use Rattle.sys_core.specs.declared.lane.Came.TheVariants.{Answered}
 use Rattle.sys_core.specs.Answers.{IsCaused, IsSeen}
 use Rattle.sys_core.specs.Commits.{message_in, IsFormed, LastsWith}
 use Rattle.sys_core.specs.Begins.{AnswersBy}
-use Rattle.sys_core.specs.Reading.{Reads, SaysBy}
+use Rattle.sys_core.specs.Reading.{ChecksOut, Reads, SaysBy}
 use Rattle.ost_types.specs.declared.object.ObjName.{ObjName}
 use Rattle.tree_build.specs.Items.{AreTyped}
 use Rattle.commit_work.specs.Kinds.{build_kind, commit_kind, kind_by}
@@ -72,7 +77,20 @@ module _ (limits : Limits) (v : View) (s : State) (halted : Bool) (before now : 
   found_shown commit (command.Log rev) t is found = found
   found_shown commit (command.Ls rev path) t is found = found
   found_shown commit (command.Cat rev path) t is found = found
+  found_shown commit (command.Checkout rev name) t is found = found
   found_shown commit command.Refs t is found = found
+
+  -- a ref that is changed
+  nothing_shown : (c : Command) (t : RefCommand) → RefPursues s c t → IsSeen limits v s answer.Nothing c
+  nothing_shown (command.Commit branch tree subject body time) t is = tt
+  nothing_shown (command.RevParse rev) t is = tt
+  nothing_shown (command.Reset branch named) t is = tt
+  nothing_shown (command.DropRef branch) t is = tt
+  nothing_shown (command.Log rev) t is = tt
+  nothing_shown (command.Ls rev path) t is = tt
+  nothing_shown (command.Cat rev path) t is = tt
+  nothing_shown (command.Checkout rev name) t is = absurd is
+  nothing_shown command.Refs t is = tt
 
   ref_shown : (a : Answer) (c : Command) (t : RefCommand) (w : View) → RefPursues s c t → refs.Says a t v w → Says_so a c
   ref_shown (answer.Commit commit) c t w is says = (found_shown commit c t is says, tt)
@@ -80,7 +98,7 @@ module _ (limits : Limits) (v : View) (s : State) (halted : Bool) (before now : 
   ref_shown (answer.Partial commit) c t w is says = (says, tt)
   ref_shown (answer.RefMoved seen there) c t w is says = (tt, tt)
   ref_shown (answer.RefClash other) c t w is says = (tt, tt)
-  ref_shown answer.Nothing c t w is says = (tt, tt)
+  ref_shown answer.Nothing c t w is says = (nothing_shown c t is, tt)
   ref_shown (answer.Refs rows) c t w is says = absurd says
   ref_shown answer.NoRef c t w is says = absurd says
   ref_shown answer.NoMemory c t w is says = absurd says
@@ -92,6 +110,7 @@ module _ (limits : Limits) (v : View) (s : State) (halted : Bool) (before now : 
   ref_shown (answer.Content bytes) c t w is says = absurd says
   ref_shown (answer.NoPath path) c t w is says = absurd says
   ref_shown (answer.NotFile path) c t w is says = absurd says
+  ref_shown (answer.DestExists path) c t w is says = absurd says
   ref_shown (answer.BadTree path) c t w is says = absurd says
   ref_shown (answer.TooMany many) c t w is says = absurd says
 
@@ -161,6 +180,7 @@ module _ (limits : Limits) (v : View) (s : State) (halted : Bool) (before now : 
   read_by (command.Log rev) q said is says finished = (is.0, is.1, subst (λ x. IsFinishedOf x v) is.2 finished, said, refl, subst (λ x. reads.Answers v.now x said) is.2 says)
   read_by (command.Ls rev path) q said is says finished = (is.0, is.1, subst (λ x. IsFinishedOf x v) is.2 finished, said, refl, subst (λ x. reads.Answers v.now x said) is.2 says)
   read_by (command.Cat rev path) q said is says finished = (is.0, is.1, subst (λ x. IsFinishedOf x v) is.2 finished, said, refl, subst (λ x. reads.Answers v.now x said) is.2 says)
+  read_by (command.Checkout rev name) q said is says finished = absurd is
   read_by (command.Commit branch tree subject body time) q said is says finished = absurd is
   read_by (command.RevParse rev) q said is says finished = absurd is
   read_by (command.Reset branch commit) q said is says finished = absurd is
@@ -177,9 +197,37 @@ module _ (limits : Limits) (v : View) (s : State) (halted : Bool) (before now : 
   read_shown c q (given.NoCommit commit) is says finished = (missing_by q commit says, tt)
   read_shown c q (given.Partial commit) is says finished = (partial_by q commit says, tt)
 
+  -- and what a checkout found or made
+  module _ (rev : Rev) (name : List ℕ) (q : Option checking.Asked) (is : ChecksOut limits s (command.Checkout rev name) q) where
+    out_by : (said : CheckoutAnswer) → checking.Answers v.now q said → checked.IsFinishedOf q v → SaysBy v limits s (command.Checkout rev name) (checkout_answer said)
+    out_by said says finished = (is.0, is.1, subst (λ x. checked.IsFinishedOf x v) is.2 finished, said, refl, subst (λ x. checking.Answers v.now x said) is.2 says)
+
+    out_shown : (said : CheckoutAnswer) → checking.Answers v.now q said → (checked.IsOfFinished said → checked.IsFinishedOf q v) → Says_so (checkout_answer said) (command.Checkout rev name)
+    out_shown checkout.Done says finished = (out_by checkout.Done says (finished tt), tt)
+    out_shown (checkout.DestExists path) says finished = (out_by (checkout.DestExists path) says (finished tt), tt)
+    out_shown (checkout.Lacking path) says finished = (out_by (checkout.Lacking path) says (finished tt), tt)
+    out_shown (checkout.NoCommit commit) says finished =
+        let stopped = subst (λ x. checking.Answers v.now x (checkout.NoCommit commit)) is.2 says in
+        (subst (λ x. IsFound v.now x Missing) (sym stopped.0) stopped.1, tt)
+    out_shown (checkout.Partial commit) says finished =
+        let stopped = subst (λ x. checking.Answers v.now x (checkout.Partial commit)) is.2 says in
+        (subst (λ x. IsFound v.now x Partial) (sym stopped.0) stopped.1, tt)
+
+  checkout_shown : (c : Command) (q : Option checking.Asked) (said : CheckoutAnswer) → ChecksOut limits s c q → checking.Answers v.now q said → (checked.IsOfFinished said → checked.IsFinishedOf q v) → Says_so (checkout_answer said) c
+  checkout_shown (command.Checkout rev name) q said is says finished = out_shown rev name q is said says finished
+  checkout_shown (command.Commit branch tree subject body time) q said is says finished = absurd is
+  checkout_shown (command.RevParse rev) q said is says finished = absurd is
+  checkout_shown (command.Reset branch commit) q said is says finished = absurd is
+  checkout_shown (command.DropRef branch) q said is says finished = absurd is
+  checkout_shown (command.Log rev) q said is says finished = absurd is
+  checkout_shown (command.Ls rev path) q said is says finished = absurd is
+  checkout_shown (command.Cat rev path) q said is says finished = absurd is
+  checkout_shown command.Refs q said is says finished = absurd is
+
   said_shown : (a : Answer) (c : Command) (t : LaneCommand) (w : View) → Pursues limits s c t → Says a t v w → Says_so a c
   said_shown a c (lane_work.Ref t) w is says = ref_shown a c t w is says
   said_shown a c (lane_work.Read t) w is says = subst (λ x. Says_so x c) says.1 (read_shown c (asked t) says.0 is says.2 says.3)
+  said_shown a c (lane_work.Checkout t) w is says = subst (λ x. Says_so x c) says.2 (checkout_shown c (checking.asked t) says.1 is says.3 says.4)
   said_shown a (command.Commit branch tree subject body time) (lane_work.Commit t) w is says = made_shown branch tree subject body time t w is says.0 a says.1 says.2
   said_shown a (command.RevParse rev) (lane_work.Commit t) w is says = absurd is
   said_shown a (command.Reset branch commit) (lane_work.Commit t) w is says = absurd is
@@ -187,6 +235,7 @@ module _ (limits : Limits) (v : View) (s : State) (halted : Bool) (before now : 
   said_shown a (command.Log rev) (lane_work.Commit t) w is says = absurd is
   said_shown a (command.Ls rev path) (lane_work.Commit t) w is says = absurd is
   said_shown a (command.Cat rev path) (lane_work.Commit t) w is says = absurd is
+  said_shown a (command.Checkout rev name) (lane_work.Commit t) w is says = absurd is
   said_shown a command.Refs (lane_work.Commit t) w is says = absurd is
 
   pub by_shown : (p : State) (a : Answer) (c : Command) → AnswersBy p a c → IsSeen limits v s a c × IsCaused halted before now a
@@ -207,6 +256,7 @@ module _ (limits : Limits) (v : View) (s : State) (halted : Bool) (before now : 
   by_shown p (answer.Content bytes) c by = absurd by
   by_shown p (answer.NoPath path) c by = absurd by
   by_shown p (answer.NotFile path) c by = absurd by
+  by_shown p (answer.DestExists path) c by = absurd by
   by_shown p (answer.BadTree path) c by = absurd by
   by_shown p (answer.TooMany many) c by = absurd by
 

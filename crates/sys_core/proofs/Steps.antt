@@ -26,10 +26,13 @@ use Rattle.read_work.specs.declared.command.ReadCommand.{ReadCommand}
 use Rattle.read_work.specs.declared.command.ReadCommand.TheVariants as read
 use Rattle.read_work.specs.Commands.{read_kind}
 use Rattle.read_work.specs.LogSteps.{log_kind}
+use Rattle.checkout_work.specs.Asked.{asked}
+use Rattle.checkout_work.specs.Commands.{checkout_kind}
 use Rattle.lane_work.specs.declared.command.LaneCommand.{LaneCommand}
-use Rattle.lane_work.specs.declared.command.LaneCommand.TheVariants.{Ref, Commit, Read}
+use Rattle.lane_work.specs.declared.command.LaneCommand.TheVariants.{Ref, Commit, Read, Checkout}
 use Rattle.lane_work.specs.Commands.{lane_kind, lane_stepped, told}
 use Rattle.sys_core.specs.Lanes.{HasCommitRoom, HasRefRoom, HasRoomFor}
+use Rattle.sys_core.proofs.Checkouts.{asks_no_settle, checkout_asks}
 
 -- the ref that a change of a ref changes
 event_name : (value : Option (List ℕ)) (name : List ℕ) (seen : Option (List ℕ)) → name_of (event_of value name seen) ≡ name
@@ -83,6 +86,7 @@ pub room_settles : (refs : RefBook) (t : LaneCommand) (e : Event) → HasRoomFor
 room_settles refs (Ref t) e room is = ref_settles refs t e room is
 room_settles refs (Commit t) e room is = commit_settles refs t.change t e room is
 room_settles refs (Read t) e room is = read_settles t e is
+room_settles refs (Checkout t) e room is = absurd (asks_no_settle (asked t) (checkout_kind t) (checkout_asks t) e is)
 
 reset_room : (refs : RefBook) (found : Option Found) (look : LookUp) (plan : Plan) (new : RefCommand) → reset_stepped found look plan turn.More new → HasRoom refs plan.name → HasRefRoom refs new
 reset_room refs None look plan (Reset next p) step room = subst (HasRoom refs) (sym (ap (λ (x : Plan). x.name) step.1)) room
@@ -116,12 +120,19 @@ pub room_step : (refs : RefBook) (t new : LaneCommand) → lane_stepped t turn.M
 room_step refs (Ref t) (Ref new) step room = ref_step refs t new step room
 room_step refs (Commit t) (Commit new) step room = commit_step refs t.change t new refl step room
 room_step refs (Read t) (Read new) step room = tt
+room_step refs (Checkout t) (Checkout new) step room = tt
 room_step refs (Ref t) (Commit new) step room = absurd step
 room_step refs (Ref t) (Read new) step room = absurd step
+room_step refs (Ref t) (Checkout new) step room = absurd step
 room_step refs (Commit t) (Ref new) step room = absurd step
 room_step refs (Commit t) (Read new) step room = absurd step
+room_step refs (Commit t) (Checkout new) step room = absurd step
 room_step refs (Read t) (Ref new) step room = absurd step
 room_step refs (Read t) (Commit new) step room = absurd step
+room_step refs (Read t) (Checkout new) step room = absurd step
+room_step refs (Checkout t) (Ref new) step room = absurd step
+room_step refs (Checkout t) (Commit new) step room = absurd step
+room_step refs (Checkout t) (Read new) step room = absurd step
 
 ref_more : (refs refs' : RefBook) (t : RefCommand) → ((name : List ℕ) → HasRoom refs name → HasRoom refs' name) → HasRefRoom refs t → HasRefRoom refs' t
 ref_more refs refs' (Parse look) more room = tt
@@ -136,6 +147,7 @@ pub room_more : (refs refs' : RefBook) (t : LaneCommand) → ((name : List ℕ) 
 room_more refs refs' (Ref t) more room = ref_more refs refs' t more room
 room_more refs refs' (Commit t) more room = commit_more refs refs' t.change t more room
 room_more refs refs' (Read t) more room = tt
+room_more refs refs' (Checkout t) more room = tt
 
 -- whatever the task is told
 told_more : (refs : RefBook) (objects : ℕ) (o : Option Naming) (t : CommitCommand) → HasCommitRoom o refs t → HasCommitRoom o refs (record t { objects = objects })
@@ -146,3 +158,4 @@ pub room_told : (refs : RefBook) (objects : ℕ) (t : LaneCommand) → HasRoomFo
 room_told refs objects (Ref t) room = room
 room_told refs objects (Commit t) room = told_more refs objects t.change t room
 room_told refs objects (Read t) room = tt
+room_told refs objects (Checkout t) room = tt

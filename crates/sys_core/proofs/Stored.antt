@@ -81,6 +81,7 @@ module _ {F : Type 0} (view : F → Option View) (clock : F → ℕ) (was : F �
     task_begun : (t : LaneCommand) → (d : Command) → d ≡ c → Pursues old.limits (begin_of old actor) d t → writing.IsBegun old.limits (WasBegun new) t
     task_begun (work.Ref t) d same after = tt
     task_begun (work.Read t) d same after = tt
+    task_begun (work.Checkout t) d same after = tt
     task_begun (work.Commit t) (command.Commit branch tree subject body time_) same after = (
       after.bounds,
       subst (λ (m : Message). WasBegun new t.build.items m) (sym after.says)
@@ -93,6 +94,7 @@ module _ {F : Type 0} (view : F → Option View) (clock : F → ℕ) (was : F �
     task_begun (work.Commit t) (command.Log rev) same after = absurd after
     task_begun (work.Commit t) (command.Ls rev path) same after = absurd after
     task_begun (work.Commit t) (command.Cat rev path) same after = absurd after
+    task_begun (work.Commit t) (command.Checkout rev name) same after = absurd after
     task_begun (work.Commit t) command.Refs same after = absurd after
 
     module _ (step : IsStepOf old.limits actor old.objects new.objects (begin_of old actor) c old.base.books new.base.books v w) (stored : AreStored was old v) where

@@ -23,6 +23,7 @@ use Rattle.sys_core.specs.Pursues.{Pursues}
 lacking_in : (limits : Limits) (s : State) (c : Command) (objects : ℕ) (t : LaneCommand) (name : ObjName) (v : View) → Pursues limits s c t → WasLacking (told objects t) name v → HadRoom limits objects v name
 lacking_in limits s c objects (lane_work.Ref t) name v after lacks = absurd lacks
 lacking_in limits s c objects (lane_work.Read t) name v after lacks = absurd lacks
+lacking_in limits s c objects (lane_work.Checkout t) name v after lacks = absurd lacks
 lacking_in limits s (command.Commit branch tree subject body time) objects (lane_work.Commit t) name v after lacks = (subst (λ (l : Limits). objects < l.objects) after.bounds lacks.0, lacks.1)
 lacking_in limits s (command.RevParse rev) objects (lane_work.Commit t) name v after lacks = absurd after
 lacking_in limits s (command.Reset branch commit) objects (lane_work.Commit t) name v after lacks = absurd after
@@ -30,6 +31,7 @@ lacking_in limits s (command.DropRef branch) objects (lane_work.Commit t) name v
 lacking_in limits s (command.Log rev) objects (lane_work.Commit t) name v after lacks = absurd after
 lacking_in limits s (command.Ls rev path) objects (lane_work.Commit t) name v after lacks = absurd after
 lacking_in limits s (command.Cat rev path) objects (lane_work.Commit t) name v after lacks = absurd after
+lacking_in limits s (command.Checkout rev folder) objects (lane_work.Commit t) name v after lacks = absurd after
 lacking_in limits s command.Refs objects (lane_work.Commit t) name v after lacks = absurd after
 
 pub stores_more : (limits : Limits) (s : State) (c : Command) (objects : ℕ) (t new : LaneCommand) (o : Outcome) (before now : Option View) → o ≡ came.More → Pursues limits s c t → Tells lane_leaves lane_refuses (told objects t) o new before now

@@ -14,7 +14,7 @@ use Rattle.rely.specs.declared.kind.Outcome.TheVariants as came
 use Rattle.rely.specs.declared.books.Base.{Base}
 use Rattle.rely.specs.Books.{Books, books_of, Free, Frees}
 use Rattle.rely.specs.Exact.{IsGivenUp, Locks, Opens, Steps, exclusive_in, lock_taken, turn_in}
-use Rattle.rely.specs.Laws.{Kind, Quiet, Store, Take, Show, Shown, Settle, Tells}
+use Rattle.rely.specs.Laws.{Kind, Quiet, Store, Take, Claim, Show, Shown, Settle, Tells}
 use Rattle.ref_work.specs.declared.work.RefWork.{RefWork}
 use Rattle.ref_work.specs.declared.look_up.LookUp.{LookUp}
 use Rattle.ref_work.specs.declared.look_up.Found.{Found}
@@ -35,6 +35,9 @@ use Rattle.read_work.specs.declared.command.ReadCommand.{ReadCommand}
 use Rattle.read_work.specs.declared.command.ReadCommand.TheVariants as read
 use Rattle.read_work.specs.Commands.{read_kind}
 use Rattle.read_work.specs.LogSteps.{log_kind}
+use Rattle.checkout_work.specs.Asked as checking
+use Rattle.checkout_work.specs.Asked.{Asked}
+use Rattle.checkout_work.specs.Commands.{checkout_kind}
 use Rattle.lane_work.specs.declared.command.LaneCommand.{LaneCommand}
 use Rattle.lane_work.specs.declared.command.LaneCommand.TheVariants as lane_work
 use Rattle.lane_work.specs.Answers.{Begins}
@@ -44,6 +47,7 @@ use Rattle.sys_core.specs.declared.lane.Came.{Came}
 use Rattle.sys_core.specs.declared.lane.Came.TheVariants.{Blocked, More}
 use Rattle.sys_core.specs.declared.run.Running.{Running}
 use Rattle.sys_core.specs.Left.{left_of}
+use Rattle.sys_core.proofs.Checkouts.{AsksPin, asks_keeps, asks_nobody, checkout_asks}
 use Rattle.sys_core.specs.Turns.{AsksTurn, HasLooked, HasTurn, IsBehind, IsLook, IsOthers, NamingAsksTurn, NamingHasLooked, RefAsksTurn, RefHasLooked, RunsBehind, Turns, work_in}
 
 -- a lock that is the lane's own stays so
@@ -55,6 +59,7 @@ own_stays (Take wants) lane = taken wants.turn
     taken : (t : Bool) → lock_taken t lane (Some lane) ≡ Some lane
     taken true = refl
     taken false = refl
+own_stays (Claim name) lane = refl
 own_stays (Show e) lane = refl
 own_stays (Shown e owed) lane = refl
 own_stays (Settle e) lane = refl
@@ -68,6 +73,7 @@ others_had : (k : Kind) (lane x : ℕ) (lock : Option ℕ) → x ≢ lane → tu
 others_had Quiet lane x lock other is = is
 others_had Store lane x lock other is = is
 others_had (Take wants) lane x lock other is = taken_had wants.turn lane x lock other is
+others_had (Claim name) lane x lock other is = is
 others_had (Show e) lane x lock other is = taken_had true lane x lock other is
 others_had (Shown e owed) lane x lock other is = is
 others_had (Settle e) lane x lock other is = is
@@ -113,6 +119,7 @@ nobody_in : (t : LaneCommand) (lane : ℕ) → exclusive_in (lane_kind t) lane N
 nobody_in (lane_work.Ref t) lane = ref_nobody t lane
 nobody_in (lane_work.Commit t) lane = commit_nobody t.change t lane
 nobody_in (lane_work.Read t) lane = read_nobody t lane
+nobody_in (lane_work.Checkout t) lane = asks_nobody (checking.asked t) (checkout_kind t) (checkout_asks t) lane
 
 -- behind the look
 look_left : (t u : Changing) → t.phase ≡ phase.Look → u ≡ record t { phase = u.phase } → u.phase ≡ phase.Look → left u < left t → ⊥
@@ -189,12 +196,19 @@ step_has : (lane : ℕ) (t new : LaneCommand) (lock : Option ℕ) → lane_stepp
 step_has lane (lane_work.Ref t) (lane_work.Ref new) lock step has looked = ref_has lane t new lock step has looked
 step_has lane (lane_work.Commit t) (lane_work.Commit new) lock step has looked = commit_has lane t.change t new lock refl step has looked
 step_has lane (lane_work.Read t) (lane_work.Read new) lock step has looked = absurd looked
+step_has lane (lane_work.Checkout t) (lane_work.Checkout new) lock step has looked = absurd looked
 step_has lane (lane_work.Ref t) (lane_work.Commit new) lock step has looked = absurd step
 step_has lane (lane_work.Ref t) (lane_work.Read new) lock step has looked = absurd step
+step_has lane (lane_work.Ref t) (lane_work.Checkout new) lock step has looked = absurd step
 step_has lane (lane_work.Commit t) (lane_work.Ref new) lock step has looked = absurd step
 step_has lane (lane_work.Commit t) (lane_work.Read new) lock step has looked = absurd step
+step_has lane (lane_work.Commit t) (lane_work.Checkout new) lock step has looked = absurd step
 step_has lane (lane_work.Read t) (lane_work.Ref new) lock step has looked = absurd step
 step_has lane (lane_work.Read t) (lane_work.Commit new) lock step has looked = absurd step
+step_has lane (lane_work.Read t) (lane_work.Checkout new) lock step has looked = absurd step
+step_has lane (lane_work.Checkout t) (lane_work.Ref new) lock step has looked = absurd step
+step_has lane (lane_work.Checkout t) (lane_work.Commit new) lock step has looked = absurd step
+step_has lane (lane_work.Checkout t) (lane_work.Read new) lock step has looked = absurd step
 
 change_behind : (work next : RefWork) → ref_stepped work turn.More next → IsBehind next.task.phase
 change_behind work next step = next_behind work.task.phase next.task.phase work.task step.0.1 (λ was look. look_left work.task next.task was step.0.0 look step.1)
@@ -225,18 +239,26 @@ step_only : (lane : ℕ) (t new : LaneCommand) (lock : Option ℕ) → lane_step
 step_only lane (lane_work.Ref t) (lane_work.Ref new) lock step only is = ref_only lane t new lock step only is
 step_only lane (lane_work.Commit t) (lane_work.Commit new) lock step only is = commit_only lane t.change t new lock step only is
 step_only lane (lane_work.Read t) (lane_work.Read new) lock step only is = only (sym (read_keeps t lane lock) ∙ is)
+step_only lane (lane_work.Checkout t) (lane_work.Checkout new) lock step only is = only (sym (asks_keeps (checking.asked t) (checkout_kind t) (checkout_asks t) lane lock) ∙ is)
 step_only lane (lane_work.Ref t) (lane_work.Commit new) lock step only is = absurd step
 step_only lane (lane_work.Ref t) (lane_work.Read new) lock step only is = absurd step
+step_only lane (lane_work.Ref t) (lane_work.Checkout new) lock step only is = absurd step
 step_only lane (lane_work.Commit t) (lane_work.Ref new) lock step only is = absurd step
 step_only lane (lane_work.Commit t) (lane_work.Read new) lock step only is = absurd step
+step_only lane (lane_work.Commit t) (lane_work.Checkout new) lock step only is = absurd step
 step_only lane (lane_work.Read t) (lane_work.Ref new) lock step only is = absurd step
 step_only lane (lane_work.Read t) (lane_work.Commit new) lock step only is = absurd step
+step_only lane (lane_work.Read t) (lane_work.Checkout new) lock step only is = absurd step
+step_only lane (lane_work.Checkout t) (lane_work.Ref new) lock step only is = absurd step
+step_only lane (lane_work.Checkout t) (lane_work.Commit new) lock step only is = absurd step
+step_only lane (lane_work.Checkout t) (lane_work.Read new) lock step only is = absurd step
 
 -- whatever the task is told
 pub turn_told : (lane objects : ℕ) (t : LaneCommand) (b : rust.Books) → HasTurn lane b (HasLooked t) → HasTurn lane b (HasLooked (told objects t))
 turn_told lane objects (lane_work.Ref t) b h = h
 turn_told lane objects (lane_work.Commit t) b h = h
 turn_told lane objects (lane_work.Read t) b h = h
+turn_told lane objects (lane_work.Checkout t) b h = h
 
 none_left : (lane : ℕ) (new : Option ℕ) → IsGivenUp lane None new → new ≡ None
 none_left lane None gone = refl
@@ -262,6 +284,7 @@ begins_turn lane t b begins h = record {
     unlooked (lane_work.Ref t) begins looked = ref_unlooked lane t begins looked
     unlooked (lane_work.Commit t) begins looked = commit_unlooked lane t begins looked
     unlooked (lane_work.Read t) begins looked = looked
+    unlooked (lane_work.Checkout t) begins looked = looked
 
 free_none : (lock : Option ℕ) (lane : ℕ) → lock ≡ None → Free lock lane
 free_none lock lane is = λ x e. absurd (let z : None ≡ Some x = sym is ∙ e in cc)
@@ -342,11 +365,21 @@ opens_read (read.Ls s) lane b nobody = tt
 opens_read (read.Log g) lane b nobody = opens_log g.rows.items g.next lane b nobody
 opens_read (read.Ended a) lane b nobody = tt
 
+opens_asks : (q : Option Asked) (k : Kind) → AsksPin q k → (lane : ℕ) (b : rust.Books) → b.exclusive ≡ None → Opens k lane (books_of b)
+opens_asks q Quiet asks lane b nobody = tt
+opens_asks q (Claim name) asks lane b nobody = tt
+opens_asks q (Take wants) asks lane b nobody = subst (λ w. Frees w lane (books_of b)) (sym asks.2) (pin_frees asks.0.commit lane b nobody)
+opens_asks q Store asks lane b nobody = absurd asks
+opens_asks q (Show e) asks lane b nobody = absurd asks
+opens_asks q (Shown e owed) asks lane b nobody = absurd asks
+opens_asks q (Settle e) asks lane b nobody = absurd asks
+
 -- a step is held off only by another lane that has the Turn
 pub held_off : (lane : ℕ) (t : LaneCommand) (b : rust.Books) → b.exclusive ≡ None → (Opens (lane_kind t) lane (books_of b) → ⊥) → IsOthers lane b.turn
 held_off lane (lane_work.Ref t) b nobody shut = ref_held lane t b nobody shut
 held_off lane (lane_work.Commit t) b nobody shut = commit_held lane t.change t b nobody shut
 held_off lane (lane_work.Read t) b nobody shut = absurd (shut (opens_read t lane b nobody))
+held_off lane (lane_work.Checkout t) b nobody shut = absurd (shut (opens_asks (checking.asked t) (checkout_kind t) (checkout_asks t) lane b nobody))
 
 -- a look that is taken found the Turn free
 look_waits : (ph : Phase) (e : Event) (lane : ℕ) (b : rust.Books) → IsLook ph → Opens (kind_in ph e) lane (books_of b) → IsOthers lane b.turn → ⊥
@@ -371,6 +404,7 @@ pub asks_waits : (lane objects : ℕ) (t : LaneCommand) (b : rust.Books) → Ope
 asks_waits lane objects (lane_work.Ref t) b opens asks off = ref_waits lane t b opens asks off
 asks_waits lane objects (lane_work.Commit t) b opens asks off = commit_waits lane t.change (record t { objects = objects }) b opens asks off
 asks_waits lane objects (lane_work.Read t) b opens asks off = asks
+asks_waits lane objects (lane_work.Checkout t) b opens asks off = asks
 
 less_most : (a b c : ℕ) → a < b → b ≤ c → a < c
 less_most a b c less most = omega (arith, less, most)

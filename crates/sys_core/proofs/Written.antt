@@ -48,7 +48,9 @@ room_in limits s command.Refs objects (work.Commit t) after room = absurd after
 room_in limits s (command.Log rev) objects (work.Commit t) after room = absurd after
 room_in limits s (command.Ls rev path) objects (work.Commit t) after room = absurd after
 room_in limits s (command.Cat rev path) objects (work.Commit t) after room = absurd after
+room_in limits s (command.Checkout rev name) objects (work.Commit t) after room = absurd after
 room_in limits s c objects (work.Read t) after room = absurd room
+room_in limits s c objects (work.Checkout t) after room = absurd room
 
 -- so many more, where 32 bits are enough
 counted_one : (before most now : ℕ) (met : Option (ObjName × Put)) (name : ObjName) → met ≡ Some (name, Stored) → IsCounted before met now → before < most → most < 2 ^ 32 → now ≡ before + 1

@@ -6,6 +6,7 @@ use Rattle.std.specs.declared.cmp.Ordering.TheVariants.{Less}
 use Rattle.ost_types.specs.declared.limits.Limits.{Limits}
 use Rattle.fs_trait.specs.View.{View}
 use Rattle.fs_trait.specs.Count.{Rose}
+use Rattle.repo_layout.specs.BootPaths.{checkout_path}
 use Rattle.ref_work.specs.declared.look_up.Found.TheVariants.{Missing, Partial, Whole}
 use Rattle.ref_work.specs.Found.{IsFound}
 use Rattle.ref_room.specs.Clash.{Clashes}
@@ -21,7 +22,7 @@ use Rattle.script.specs.declared.answer.Answer.{Answer}
 use Rattle.script.specs.declared.answer.Answer.TheVariants as answer
 use Rattle.script.specs.declared.answer.Reply.{Reply}
 use Rattle.script.specs.declared.command.Command.{Command}
-use Rattle.script.specs.declared.command.Command.TheVariants.{Refs, RevParse, Log, Ls, Cat, Reset, DropRef, Commit}
+use Rattle.script.specs.declared.command.Command.TheVariants.{Refs, RevParse, Log, Ls, Cat, Checkout, Reset, DropRef, Commit}
 use Rattle.sys_core.specs.Commits.{LastsWith, message_in, IsFormed}
 use Rattle.sys_core.specs.Reading.{IsNoRev, IsRev, NamesCommit, SaysBy}
 
@@ -85,6 +86,7 @@ Answers told limits lane number s p entries answer.NoRef (RevParse rev) = IsNoRe
 Answers told limits lane number s p entries answer.NoRef (Log rev) = IsNoRev rev s
 Answers told limits lane number s p entries answer.NoRef (Ls rev path) = IsNoRev rev s
 Answers told limits lane number s p entries answer.NoRef (Cat rev path) = IsNoRev rev s
+Answers told limits lane number s p entries answer.NoRef (Checkout rev name) = IsNoRev rev s
 Answers told limits lane number s p entries answer.NoRef (DropRef branch) = told → s (RefOf branch) ≡ None
 Answers told limits lane number s p entries answer.NoRef (Reset branch commit) = told → ⊥
 Answers told limits lane number s p entries answer.NoRef (Commit branch tree subject body time) = told → ⊥
@@ -94,15 +96,19 @@ Answers told limits lane number s p entries (answer.Content bytes) (Cat rev path
 Answers told limits lane number s p entries (answer.NoPath there) (Ls rev path) = (there ≡ path) × NamesCommit rev s
 Answers told limits lane number s p entries (answer.NoPath there) (Cat rev path) = (there ≡ path) × NamesCommit rev s
 Answers told limits lane number s p entries (answer.NotFile there) (Cat rev path) = (there ≡ path) × NamesCommit rev s
+Answers told limits lane number s p entries answer.Nothing (Checkout rev name) = NamesCommit rev s
+Answers told limits lane number s p entries (answer.DestExists there) (Checkout rev name) = (there ≡ checkout_path name) × NamesCommit rev s
 Answers told limits lane number s p entries (answer.NoCommit commit) (RevParse rev) = IsRev rev s commit
 Answers told limits lane number s p entries (answer.NoCommit commit) (Log rev) = IsRev rev s commit
 Answers told limits lane number s p entries (answer.NoCommit commit) (Ls rev path) = IsRev rev s commit
 Answers told limits lane number s p entries (answer.NoCommit commit) (Cat rev path) = IsRev rev s commit
+Answers told limits lane number s p entries (answer.NoCommit commit) (Checkout rev name) = IsRev rev s commit
 Answers told limits lane number s p entries (answer.NoCommit named) (Reset branch commit) = named ≡ commit
 Answers told limits lane number s p entries (answer.Partial commit) (RevParse rev) = IsRev rev s commit
 Answers told limits lane number s p entries (answer.Partial commit) (Log rev) = IsRev rev s commit
 Answers told limits lane number s p entries (answer.Partial commit) (Ls rev path) = IsRev rev s commit
 Answers told limits lane number s p entries (answer.Partial commit) (Cat rev path) = IsRev rev s commit
+Answers told limits lane number s p entries (answer.Partial commit) (Checkout rev name) = IsRev rev s commit
 Answers told limits lane number s p entries (answer.Partial named) (Reset branch commit) = named ≡ commit
 Answers told limits lane number s p entries (answer.RefMoved seen now) (Reset branch commit) = told → HasMoved s p branch seen now
 Answers told limits lane number s p entries (answer.RefMoved seen now) (DropRef branch) = told → HasMoved s p branch seen now × IsSome seen
@@ -116,12 +122,13 @@ Answers told limits lane number s p entries (answer.Halted count) command = Unit
 Answers told limits lane number s p entries (answer.Outside path) (Log rev) = NamesCommit rev s
 Answers told limits lane number s p entries (answer.Outside path) (Ls rev there) = NamesCommit rev s
 Answers told limits lane number s p entries (answer.Outside path) (Cat rev there) = NamesCommit rev s
+Answers told limits lane number s p entries (answer.Outside path) (Checkout rev name) = NamesCommit rev s
 Answers told limits lane number s p entries (answer.Outside path) command = told → ⊥
 Answers told limits lane number s p entries a command = ⊥
 
 -- What stands on the disk where an answer tells of a commit: one that was made lasts, and one that there is no room for isn't
--- there whole. What was read of a commit is there; and that something else changed the disk is told only of an object that a commit which
--- is read needs.
+-- there whole. What was read of a commit is there, and so is the folder that was made of one; and that something else changed the disk is
+-- told only of an object that a commit which is read needs.
 abbrev pub IsSeen : Limits → View → State → Answer → Command → Type 0
 IsSeen limits v s (answer.Commit sum) (Commit branch tree subject body time) = LastsWith tree.items sum v × IsFormed tree.items (message_in s branch subject body time)
 IsSeen limits v s (answer.Commit commit) c = IsFound v.now commit Whole
@@ -134,6 +141,8 @@ IsSeen limits v s (answer.Content bytes) c = SaysBy v limits s c (answer.Content
 IsSeen limits v s (answer.NoPath path) c = SaysBy v limits s c (answer.NoPath path)
 IsSeen limits v s (answer.NotFile path) c = SaysBy v limits s c (answer.NotFile path)
 IsSeen limits v s (answer.Outside path) c = SaysBy v limits s c (answer.Outside path)
+IsSeen limits v s (answer.DestExists path) c = SaysBy v limits s c (answer.DestExists path)
+IsSeen limits v s answer.Nothing (Checkout rev name) = SaysBy v limits s (Checkout rev name) answer.Nothing
 IsSeen limits v s a c = Unit {0}
 
 -- a call failed in the act that says so, if none that changes something failed before

@@ -3,7 +3,7 @@ use Rattle.std.specs.Prelude.{◌≡◌, ◌≤◌, ℕ, List, Some, None}
 use Rattle.script.specs.declared.answer.Answer.{Answer}
 use Rattle.script.specs.declared.answer.Answer.TheVariants as answer
 use Rattle.script.specs.declared.command.Command.{Command}
-use Rattle.script.specs.declared.command.Command.TheVariants.{Refs, RevParse, Log, Ls, Cat, Reset, DropRef, Commit}
+use Rattle.script.specs.declared.command.Command.TheVariants.{Refs, RevParse, Log, Ls, Cat, Checkout, Reset, DropRef, Commit}
 use Rattle.rely.specs.State.{State, RefOf}
 use Rattle.ref_book.specs.Tracks.{Lists}
 use Rattle.ref_work.specs.declared.command.RefCommand.{RefCommand}
@@ -14,6 +14,7 @@ use Rattle.commit_build.specs.declared.phase.Phase.TheVariants as phase
 use Rattle.commit_build.specs.Committing.{IsMade}
 use Rattle.commit_work.specs.Answers.{IsCommitOf}
 use Rattle.read_work.specs.Asked.{asked}
+use Rattle.checkout_work.specs.Asked as checking
 use Rattle.lane_work.specs.declared.command.LaneCommand.{LaneCommand}
 use Rattle.lane_work.specs.declared.command.LaneCommand.TheVariants as lane_work
 use Rattle.lane_work.specs.Commands.{lane_left}
@@ -24,7 +25,7 @@ use Rattle.sys_core.specs.declared.begin.Begun.TheVariants.{Answered, Runs}
 use Rattle.sys_core.specs.Lanes.{HasRoomFor}
 use Rattle.sys_core.specs.Commits.{message_in}
 use Rattle.sys_core.specs.Left.{most}
-use Rattle.sys_core.specs.Reading.{IsNoRev, IsRev, Reads}
+use Rattle.sys_core.specs.Reading.{ChecksOut, IsNoRev, IsRev, Reads}
 
 -- a task at its beginning, with room for its ref, or an answer
 abbrev pub IsBegun : ℕ → RefBook → Begun → Type 0
@@ -38,6 +39,7 @@ AnswersBy s answer.NoRef (RevParse r) = IsNoRev r s
 AnswersBy s answer.NoRef (Log r) = IsNoRev r s
 AnswersBy s answer.NoRef (Ls r path) = IsNoRev r s
 AnswersBy s answer.NoRef (Cat r path) = IsNoRev r s
+AnswersBy s answer.NoRef (Checkout r name) = IsNoRev r s
 AnswersBy s answer.NoRef (DropRef branch) = s (RefOf branch) ≡ None
 AnswersBy s answer.NoMemory c = Unit {0}
 AnswersBy s a c = ⊥
@@ -50,7 +52,8 @@ LooksUp s (Reset branch commit) (task.Reset look plan) = (look.commit ≡ commit
 LooksUp s c t = ⊥
 
 -- What a command does first in a state: it looks a commit up, or a drop removes the ref where it has the value that it has there. A
--- commit has that value as its parent, and is within the bounds. A log, ls or cat reads the commit that is named there.
+-- commit has that value as its parent, and is within the bounds. A log, ls or cat reads the commit that is named there, and a checkout
+-- makes a folder of it.
 abbrev pub RunsRefBy : ℕ → State → Command → RefCommand → Type 0
 RunsRefBy lane s (DropRef branch) (task.Change work) = (seen : List ℕ) × (s (RefOf branch) ≡ Some seen) × (work ≡ removal lane branch seen)
 RunsRefBy lane s c t = LooksUp s c t
@@ -61,6 +64,7 @@ RunsBy limits lane s (Commit branch tree subject body time) (lane_work.Commit t)
     IsCommitOf branch (record { actor = lane; items = tree.items; limits = limits; message = message_in s branch subject body time; made = 0; phase = phase.Check; met = None }) t × IsMade t.build
 RunsBy limits lane s c (lane_work.Commit t) = ⊥
 RunsBy limits lane s c (lane_work.Read t) = Reads limits s c (asked t)
+RunsBy limits lane s c (lane_work.Checkout t) = ChecksOut limits s c (checking.asked t)
 
 abbrev pub IsBy : Limits → ℕ → State → Command → Begun → Type 0
 IsBy limits lane s c (Answered answer) = AnswersBy s answer c

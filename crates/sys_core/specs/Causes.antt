@@ -1,17 +1,10 @@
 -- That commands end for calls that failed only where calls failed.
 use Rattle.std.specs.Prelude.{Bool, true, false, ◌≡◌, ◌≤◌, ℕ, List}
 use Rattle.fs_trait.specs.Count.{Rose}
-use Rattle.script.specs.declared.answer.Answer.{Answer}
-use Rattle.script.specs.declared.answer.Answer.TheVariants as answer
 use Rattle.script.specs.declared.answer.Reply.{Reply}
+use Rattle.sys_core.specs.Faults.{IsFailure}
 use Rattle.sys_core.specs.Replied.{IsTo}
 use Rattle.sys_core.specs.System.{System}
-
--- the answers that tell of calls that failed
-abbrev pub IsFailure : Answer → Type 0
-IsFailure answer.DiskFault = Unit {0}
-IsFailure (answer.Halted count) = Unit {0}
-IsFailure a = ⊥
 
 -- Over an act the count of failed calls doesn't fall; it rose where the act ended all commands.
 abbrev pub Fails : ℕ → ℕ → Bool → Bool → Type 0

@@ -3,18 +3,12 @@ use Rattle.std.specs.Prelude.{ℕ, List}
 use Rattle.ost_forms.specs.declared.tree_item.TreeItem.{TreeItem}
 use Rattle.fs_trait.specs.View.{View}
 use Rattle.commit_build.specs.declared.message.Message.{Message}
-use Rattle.script.specs.declared.answer.Answer.{Answer}
-use Rattle.script.specs.declared.answer.Answer.TheVariants as answer
 use Rattle.script.specs.declared.answer.Reply.{Reply}
 use Rattle.store_lasts.specs.Standing.{AreAlone}
+use Rattle.sys_core.specs.Faults.{IsOutside}
 use Rattle.sys_core.specs.Replied.{IsTo}
 use Rattle.sys_core.specs.Storing.{WasBegun}
 use Rattle.sys_core.specs.System.{System}
-
--- the answer that something else changed what stands at a path
-abbrev pub IsOutside : Answer → Type 0
-IsOutside (answer.Outside path) = Unit {0}
-IsOutside a = ⊥
 
 -- No reply says so, if since this moment reads never saw other bytes with the name of an object of a commit that was begun.
 abbrev pub AreInsideIn : (ℕ → View → Type 0) → ℕ → (List TreeItem → Message → Type 0) → List (List Reply) → Type 0

@@ -8,7 +8,7 @@ use Rattle.ref_work.specs.declared.command.RefCommand.TheVariants.{Parse, Reset,
 use Rattle.commit_work.specs.declared.command.CommitCommand.{CommitCommand}
 use Rattle.commit_work.specs.declared.naming.Naming.{Naming}
 use Rattle.lane_work.specs.declared.command.LaneCommand.{LaneCommand}
-use Rattle.lane_work.specs.declared.command.LaneCommand.TheVariants.{Ref, Commit, Read}
+use Rattle.lane_work.specs.declared.command.LaneCommand.TheVariants.{Ref, Commit, Read, Checkout}
 use Rattle.lane_work.specs.Commands.{lane_kind, lane_facts}
 use Rattle.ref_work.specs.Facts.{Home}
 use Rattle.rely.specs.declared.books.Base.{Base}
@@ -41,6 +41,7 @@ abbrev pub HasRoomFor : RefBook → LaneCommand → Type 0
 HasRoomFor refs (Ref t) = HasRefRoom refs t
 HasRoomFor refs (Commit t) = HasCommitRoom t.change refs t
 HasRoomFor refs (Read t) = Unit {0}
+HasRoomFor refs (Checkout t) = Unit {0}
 
 -- a command that runs has its facts, and nothing is pending for a lane without one
 abbrev pub RunsIn : ℕ → RefBook → Option Running → Option View → Books → Type 0

@@ -15,16 +15,18 @@ use Rattle.script.specs.declared.command.Command.TheVariants.{Commit}
 use Rattle.script.specs.declared.command.Lane.{Lane}
 use Rattle.sys_core.specs.Causes.{Fails}
 use Rattle.sys_core.specs.Commits.{message_by}
+use Rattle.sys_core.specs.Founded.{EachChange, SetsFinished}
 use Rattle.sys_core.specs.Replied.{IsAt, IsCommand}
 use Rattle.sys_core.specs.System.{System}
 
 -- What an act keeps of the objects of the store, how time goes on in it, and what it may count of failed calls; a change that it made
--- to last has the moment behind it.
+-- to last has the moment behind it, and one that it shows names no commit but one that lasts.
 pub record IsCarried {F : Type 0} (view : F → Option View) (clock : F → ℕ) (was : F → ℕ → View → Type 0) (faults : F → ℕ) (old new : Base F) : Type 0 where
   pub lasts : Lasts view clock was old.fs new.fs
   pub time : Elapses (clock old.fs) (clock new.fs) (was old.fs) (was new.fs) (view new.fs)
   pub moments : (k : ℕ) (e : Entry) → IsAt new.books.history.items k e → IsAt old.books.history.items k e ⊎ ((length old.books.history.items ≤ k) × (e.moment ≡ clock new.fs))
   pub fails : (v : View) → view old.fs ≡ Some v → Fails (faults old.fs) (faults new.fs) old.books.halted new.books.halted
+  pub founded : (v : View) → view old.fs ≡ Some v → EachChange (SetsFinished v) old.books.history.items old.books.pending → EachChange (SetsFinished v) new.books.history.items new.books.pending
 
 -- The change let the branch of a commit's command name the commit of its tree, whose parent is the ref's value before. Where what
 -- stood at the paths of its objects at the opening had their names, it is kept since.

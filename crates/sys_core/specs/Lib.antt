@@ -13,9 +13,14 @@ pub mod Ranks
 pub mod Turns
 pub mod Counts
 pub mod Did
+pub mod Faults
 pub mod Causes
+pub mod Founded
 pub mod Lasting
 pub mod Storing
 pub mod Pins
 pub mod Held
 pub mod Inside
+pub mod Folders
+pub mod Folding
+pub mod Said

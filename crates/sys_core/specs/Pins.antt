@@ -11,7 +11,7 @@ use Rattle.rely.specs.declared.books.Pin.{Pin}
 use Rattle.rely.specs.Pinning.{with_pin, without}
 use Rattle.rely.specs.State.{State, first}
 use Rattle.script.specs.declared.command.Command.{Command}
-use Rattle.script.specs.declared.command.Command.TheVariants.{RevParse, Log, Ls, Cat, Reset, Commit}
+use Rattle.script.specs.declared.command.Command.TheVariants.{RevParse, Log, Ls, Cat, Checkout, Reset, Commit}
 use Rattle.script.specs.declared.command.Lane.{Lane}
 use Rattle.script.specs.declared.command.Rev.{Rev}
 use Rattle.script.specs.declared.rows.LogRow.{LogRow}
@@ -41,6 +41,7 @@ IsWorkOf told s (RevParse rev) name = IsNamedBy rev s name
 IsWorkOf told s (Log rev) name = (commit : List ℕ) × IsRev rev s commit × (next : List ℕ) × (name ≡ commit_name next) × (told → Reaches commit next)
 IsWorkOf told s (Ls rev path) name = IsNamedBy rev s name
 IsWorkOf told s (Cat rev path) name = IsNamedBy rev s name
+IsWorkOf told s (Checkout rev folder) name = IsNamedBy rev s name
 IsWorkOf told s (Reset branch commit) name = name ≡ commit_name commit
 IsWorkOf told s (Commit branch tree subject body time) name = (o : Object) × IsOf tree.items (message_in s branch subject body time) o × (o.name ≡ name)
 IsWorkOf told s c name = ⊥

@@ -14,6 +14,7 @@ use Rattle.commit_lasts.specs.Lasting.{sum_of}
 use Rattle.commit_work.specs.declared.command.CommitCommand.{CommitCommand}
 use Rattle.commit_work.specs.declared.naming.Naming.{Naming}
 use Rattle.read_work.specs.Asked.{asked}
+use Rattle.checkout_work.specs.Asked as checking
 use Rattle.lane_work.specs.declared.command.LaneCommand.{LaneCommand}
 use Rattle.lane_work.specs.declared.command.LaneCommand.TheVariants as lane_work
 use Rattle.lane_work.specs.Commands.{answer_of}
@@ -36,7 +37,7 @@ use Rattle.script.specs.declared.command.Command.TheVariants.{Reset, DropRef, Co
 use Rattle.sys_core.specs.Answers.{Answers, IsChangeOf, IsHalted, IsTold, Makes, state_after}
 use Rattle.sys_core.specs.Begins.{LooksUp}
 use Rattle.sys_core.specs.Commits.{message_in}
-use Rattle.sys_core.specs.Reading.{Reads}
+use Rattle.sys_core.specs.Reading.{ChecksOut, Reads}
 use Rattle.sys_core.specs.declared.lane.Came.{Came}
 use Rattle.sys_core.specs.declared.lane.Came.TheVariants.{Blocked, More, Answered}
 use Rattle.sys_core.specs.declared.run.Run.{Run}
@@ -83,6 +84,7 @@ Pursues limits s c (lane_work.Ref t) = RefPursues s c t
 Pursues limits s (Commit branch tree subject body time) (lane_work.Commit t) = Commits limits branch tree.items (message_in s branch subject body time) t
 Pursues limits s c (lane_work.Commit t) = ⊥
 Pursues limits s c (lane_work.Read t) = Reads limits s c (asked t)
+Pursues limits s c (lane_work.Checkout t) = ChecksOut limits s c (checking.asked t)
 
 -- how many changes lasted when the command began, or do now where it hasn't begun
 abbrev pub task_start : List Entry → Option Running → ℕ

@@ -6,7 +6,7 @@ use Rattle.ref_work.specs.declared.command.RefCommand.{RefCommand}
 use Rattle.ref_work.specs.declared.command.RefCommand.TheVariants.{Parse, Reset, Change}
 use Rattle.commit_work.specs.declared.naming.Naming.{Naming}
 use Rattle.lane_work.specs.declared.command.LaneCommand.{LaneCommand}
-use Rattle.lane_work.specs.declared.command.LaneCommand.TheVariants.{Ref, Commit, Read}
+use Rattle.lane_work.specs.declared.command.LaneCommand.TheVariants.{Ref, Commit, Read, Checkout}
 use Rattle.rely.specs.declared.books.Books as rust
 use Rattle.script.specs.declared.command.Lane.{Lane}
 use Rattle.sys_core.specs.declared.lane.Came.{Came}
@@ -42,6 +42,7 @@ abbrev pub HasLooked : LaneCommand → Type 0
 HasLooked (Ref t) = RefHasLooked t
 HasLooked (Commit t) = NamingHasLooked t.change
 HasLooked (Read t) = ⊥
+HasLooked (Checkout t) = ⊥
 
 abbrev pub RunsBehind : Option Running → Type 0
 RunsBehind None = ⊥
@@ -65,6 +66,7 @@ AsksTurn None = ⊥
 AsksTurn (Some (Ref t)) = RefAsksTurn t
 AsksTurn (Some (Commit t)) = NamingAsksTurn t.change
 AsksTurn (Some (Read t)) = ⊥
+AsksTurn (Some (Checkout t)) = ⊥
 
 -- A lane has the Turn exactly where its command has looked. Nobody removes objects.
 pub record HasTurn (lane : ℕ) (b : rust.Books) (Looked : Type 0) : Type 0 where

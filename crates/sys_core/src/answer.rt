@@ -34,6 +34,7 @@ fn outside(alloc: Global, command: &Command) -> Answer
         | Command::RevParse { .. }
         | Command::Log { .. }
         | Command::Ls { .. }
-        | Command::Cat { .. } => Answer::DiskFault,
+        | Command::Cat { .. }
+        | Command::Checkout { .. } => Answer::DiskFault,
     }
 }

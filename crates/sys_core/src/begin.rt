@@ -6,7 +6,7 @@ ghost use Rattle.sys_core.specs.Commits.{IsFit};
 ghost use Rattle.ost_types.specs.declared.limits.Limits.{Limits};
 ghost use Rattle.script.specs.declared.command.Command.TheVariants as Command;
 
-use crate::reading::{cat, commit_of, log, ls};
+use crate::reading::{cat, checkout, commit_of, log, ls};
 use commit_work::CommitCommand;
 use lane_work::LaneCommand;
 use ost_types::{Limits, NoMemory, TryCopy, copy_all};
@@ -64,6 +64,7 @@ fn task_of(
         Command::Log { rev } => Ok(log(alloc, refs, limits, rev)),
         Command::Ls { rev, path } => ls(alloc, refs, limits, rev, path),
         Command::Cat { rev, path } => cat(alloc, refs, limits, rev, path),
+        Command::Checkout { rev, name } => checkout(alloc, refs, limits, rev, name),
         Command::Reset { branch, commit } => {
             refs.make_room(branch)?;
             let seen = refs.get(branch);

@@ -23,12 +23,14 @@ ghost use Rattle.sys_core.specs.Answers.{IsHalted, IsTold, Shown, state_after};
 ghost use Rattle.sys_core.specs.Commits.{IsFit};
 ghost use Rattle.sys_core.specs.Counts.{CountsAt, CountsBy, IsFull, StoresBy};
 ghost use Rattle.sys_core.specs.Did.{Did};
+ghost use Rattle.sys_core.specs.Folding.{Folds};
 ghost use Rattle.sys_core.specs.Lanes.{Facts, HasRoomFor, IsHome, EndsUnshown, LaneActs, now_of};
 ghost use Rattle.sys_core.specs.Pursues.{Goes, HasAnswer, IsAfter, IsEndedAs, IsFaulty, task_start};
 ghost use Rattle.sys_core.specs.Storing.{HasWritten};
+ghost use Rattle.rely.specs.Claiming.{AreClaimed, claim_in};
 ghost use Rattle.rely.specs.Pinning.{ArePinned, pin_in};
 ghost use Rattle.sys_core.specs.Pins.{Pins};
-ghost use Rattle.sys_core.specs.Turns.{HasTurn, RunsBehind, Turns};
+ghost use Rattle.sys_core.specs.Turns.{HasTurn, RunsBehind, Turns, work_in};
 
 use crate::answer::answer_of;
 use crate::begin::{Begun, begin};
@@ -73,6 +75,7 @@ pub(crate) fn lane_act<F: Fs>(
     ensures acts { LaneActs F.view F.clock F.spare F.was lane refs.old refs.new run.new.task base.old base.new }
     ensures carried { IsCarried F.view F.clock F.was F.faults base.old base.new }
     ensures wrote { (v : View) → F.view base.old.fs ≡ Some v → Told (F.view base.new.fs) (HasWritten limits lane objects.old objects.new (state_after (first base.old.books.start.items) base.old.books.history.items (task_start base.old.books.history.items run.old.task)) command.now base.old.books base.new.books v) }
+    ensures folds { (v : View) → F.view base.old.fs ≡ Some v → Told (F.view base.new.fs) (Folds limits lane (state_after (first base.old.books.start.items) base.old.books.history.items (task_start base.old.books.history.items run.old.task)) command.now (work_in run.old.task) (work_in run.new.task) result (books_of base.old.books) (books_of base.new.books) v) }
     ensures number { run.new.command ≡ run.old.command }
     ensures blocked { result ≡ Came.Blocked → base.new ≡ base.old }
     ensures goes { Goes (IsTold F.view) limits (first base.old.books.start.items) lane run.old.command command.now base.old.books base.new.books run.old.task run.new.task result }
@@ -114,6 +117,7 @@ fn begins<F: Fs>(
     ensures acts { LaneActs F.view F.clock F.spare F.was lane refs.old refs.new run.new.task base.old base.new }
     ensures carried { IsCarried F.view F.clock F.was F.faults base.old base.new }
     ensures wrote { (v : View) → F.view base.old.fs ≡ Some v → Told (F.view base.new.fs) (HasWritten limits lane objects.old objects.new (state_after (first base.old.books.start.items) base.old.books.history.items (task_start base.old.books.history.items None)) command.now base.old.books base.new.books v) }
+    ensures folds { (v : View) → F.view base.old.fs ≡ Some v → Told (F.view base.new.fs) (Folds limits lane (state_after (first base.old.books.start.items) base.old.books.history.items (task_start base.old.books.history.items None)) command.now (work_in None) (work_in run.new.task) result (books_of base.old.books) (books_of base.new.books) v) }
     ensures number { run.new.command ≡ run.old.command }
     ensures blocked { result ≡ Came.Blocked → base.new ≡ base.old }
     ensures goes { Goes (IsTold F.view) limits (first base.old.books.start.items) lane run.old.command command.now base.old.books base.new.books None run.new.task result }
@@ -168,6 +172,7 @@ fn goes_on<F: Fs>(
     ensures acts { LaneActs F.view F.clock F.spare F.was lane refs.old refs.new run.new.task base.old base.new }
     ensures carried { IsCarried F.view F.clock F.was F.faults base.old base.new }
     ensures wrote { (v : View) → F.view base.old.fs ≡ Some v → Told (F.view base.new.fs) (HasWritten limits lane objects.old objects.new (state_after (first base.old.books.start.items) base.old.books.history.items (task_start base.old.books.history.items (Some running))) command.now base.old.books base.new.books v) }
+    ensures folds { (v : View) → F.view base.old.fs ≡ Some v → Told (F.view base.new.fs) (Folds limits lane (state_after (first base.old.books.start.items) base.old.books.history.items (task_start base.old.books.history.items (Some running))) command.now (work_in (Some running)) (work_in run.new.task) result (books_of base.old.books) (books_of base.new.books) v) }
     ensures number { run.new.command ≡ run.old.command }
     ensures blocked { result ≡ Came.Blocked → base.new ≡ base.old }
     ensures goes { Goes (IsTold F.view) limits (first base.old.books.start.items) lane run.old.command command.now base.old.books base.new.books (Some running) run.new.task result }
@@ -271,6 +276,7 @@ fn told_act<F: Fs>(
     ensures blocked { result ≡ came.Blocked → (base.new ≡ base.old) × (work.new ≡ work.old) }
     ensures held { result ≡ came.Blocked → Opens (lane_kind work.old) lane (books_of base.old.books) → ⊥ }
     ensures pins { ArePinned (pin_in (lane_kind work.old)) lane result base.old.books.pins.items base.new.books.pins.items }
+    ensures claimed { AreClaimed (claim_in (lane_kind work.old)) lane result base.old.books.claims.items base.new.books.claims.items }
     ensures did { result ≢ came.Blocked → Did F.view lane number (F.clock base.new.fs) result (told objects.old work.old) work.new base.old base.new }
     ensures cause { (v : View) → F.view base.old.fs ≡ Some v → Causes (F.faults base.old.fs) (F.faults base.new.fs) result }
     ensures home { IsHome lane (F.view base.new.fs) }
@@ -318,6 +324,7 @@ fn running_act<F: Fs>(
     ensures held { result ≡ came.Blocked → Opens (lane_kind work.old) lane (books_of base.old.books) → ⊥ }
     ensures locks { Locks (lane_kind work.old) lane result base.old.books base.new.books }
     ensures pins { ArePinned (pin_in (lane_kind work.old)) lane result base.old.books.pins.items base.new.books.pins.items }
+    ensures claimed { AreClaimed (claim_in (lane_kind work.old)) lane result base.old.books.claims.items base.new.books.claims.items }
     ensures booked { IsBooked (lane_kind work.old) lane number (F.clock base.new.fs) result base.old.books base.new.books }
     ensures cause { (v : View) → F.view base.old.fs ≡ Some v → Causes (F.faults base.old.fs) (F.faults base.new.fs) result }
     ensures live { IsLive result base.old.books.halted base.new.books.halted }

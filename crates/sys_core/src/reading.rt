@@ -1,4 +1,4 @@
-//! A command that reads a commit begins: the commit that its revision names is read, or there is no such ref.
+//! A command that reads a commit or checks it out begins: with the commit that its revision names, or there is no such ref.
 ghost use Rattle.std.specs.Prelude.{ℕ, IfOk};
 ghost use Rattle.ref_book.specs.Tracks.{Tracks};
 ghost use Rattle.rely.specs.State.{State};
@@ -7,8 +7,9 @@ ghost use Rattle.sys_core.specs.Begins.{IsBegun, IsBy, IsFew};
 ghost use Rattle.sys_core.specs.Reading.{IsNamed};
 
 use crate::begin::Begun;
+use checkout_work::CheckoutCommand;
 use lane_work::LaneCommand;
-use ost_types::{Csum, FsPath, Limits, NoMemory, TryCopy};
+use ost_types::{Csum, FsPath, Limits, Name, NoMemory, TryCopy};
 use read_work::ReadCommand;
 use ref_book::RefBook;
 use script::{Answer, Rev};
@@ -74,6 +75,26 @@ pub(crate) fn cat(
         Some(commit) => {
             let work = ReadCommand::cat(alloc, limits, commit, path.copy()?);
             Ok(Begun::Runs(LaneCommand::Read(work)))
+        }
+    }
+}
+
+pub(crate) fn checkout(
+    alloc: Global,
+    refs: &RefBook,
+    limits: Limits,
+    rev: &Rev,
+    name: &Name,
+) -> Result<Begun, NoMemory>
+    ensures begun { (lane : ℕ) → IfOk result (IsBegun lane refs.now) }
+    ensures left { IfOk result IsFew }
+    ensures by { (lane : ℕ) (s : State) → Tracks refs.now s → IfOk result (IsBy limits lane s (Command.Checkout rev.now name.now)) }
+{
+    match commit_of(refs, rev) {
+        None => Ok(Begun::Answered(Answer::NoRef)),
+        Some(commit) => {
+            let work = CheckoutCommand::new(alloc, limits, commit, name.copy()?);
+            Ok(Begun::Runs(LaneCommand::Checkout(work)))
         }
     }
 }

@@ -1,10 +1,13 @@
 ghost use Rattle.fs_trait.specs.Image.{Told};
 ghost use Rattle.sys_core.specs.Causes.{AreCaused, AreCausedIn};
+ghost use Rattle.sys_core.specs.Folders.{AreFolders, AreFoldersIn};
+ghost use Rattle.sys_core.specs.Founded.{AreFounded, AreFoundedIn};
+ghost use Rattle.sys_core.specs.Said.{AreSaid, AreSaidIn};
 ghost use Rattle.sys_core.specs.Inside.{AreInside, AreInsideIn};
 ghost use Rattle.sys_core.specs.Storing.{AreStored, AreStoredIn, IsBegunIn};
 ghost use Rattle.sys_core.specs.Lasting.{AreKept, AreKeptIn};
 ghost use Rattle.std.specs.Prelude.{true, false, ◌≡◌, ◌<◌, ◌≤◌, ℕ, length, min, slice_index_or, Some, None, IfOk, IfErr};
-ghost use Rattle.fs_trait.specs.View.{View};
+ghost use Rattle.fs_trait.specs.View.{Disk, View};
 ghost use Rattle.rely.specs.Headline.{Headline};
 ghost use Rattle.rely.specs.State.{first};
 ghost use Rattle.ref_book.specs.Tracks.{Tracks};
@@ -105,6 +108,9 @@ impl<F: Fs> System<F> {
         ensures good { IfOk result (λ s. (v : View) → F.view s.base.fs ≡ Some v → AreStored F.was s v) }
         ensures caused { IfOk result (λ s. AreCaused F.faults (F.faults opened.fs) s) }
         ensures inside { IfOk result (λ s. AreInside F.was s) }
+        ensures folders { IfOk result (λ s. (v : View) → AreFolders v.now s v) }
+        ensures said { IfOk result (λ s. AreSaid F.was s) }
+        ensures founded { IfOk result (λ s. (v : View) → AreFounded v s v) }
         ensures back { IfErr result (λ e. e.0 ≡ opened) }
     {
         match prepare(alloc, opened.refs(), &lanes) {
@@ -129,6 +135,9 @@ impl<F: Fs> System<F> {
         ensures good { (v : View) → F.view result.base.fs ≡ Some v → AreStored F.was result v }
         ensures caused { AreCaused F.faults (F.faults opened.fs) result }
         ensures inside { AreInside F.was result }
+        ensures folders { (v : View) → AreFolders v.now result v }
+        ensures said { AreSaid F.was result }
+        ensures founded { (v : View) → AreFounded v result v }
     {
         let OpenedParts {
             fs,
@@ -168,6 +177,9 @@ impl<F: Fs> System<F> {
         ensures good { (v : View) → F.view self.old.base.fs ≡ Some v → AreStored F.was self.old v → Told (F.view self.new.base.fs) (λ w. AreStored F.was self.new w) }
         ensures caused { (before : ℕ) (v : View) → F.view self.old.base.fs ≡ Some v → AreCaused F.faults before self.old → AreCaused F.faults before self.new }
         ensures inside { (v : View) → F.view self.old.base.fs ≡ Some v → AreStored F.was self.old v → AreInside F.was self.old → AreInside F.was self.new }
+        ensures folders { (opening : Disk) (v : View) → F.view self.old.base.fs ≡ Some v → AreFolders opening self.old v → Told (F.view self.new.base.fs) (λ w. AreFolders opening self.new w) }
+        ensures said { (v : View) → F.view self.old.base.fs ≡ Some v → AreSaid F.was self.old → AreSaid F.was self.new }
+        ensures founded { (opening v : View) → F.view self.old.base.fs ≡ Some v → AreStored F.was self.old v → AreFounded opening self.old v → Told (F.view self.new.base.fs) (λ w. AreFounded opening self.new w) }
         ensures ranks { Ranked self.old self.new actor result }
         ensures held { result ≡ Ask.Blocked → IsHeldOff self.old actor }
         ensures waits { HasCommand self.old actor → self.old.base.books.halted ≡ false → AsksTurn (slice_index_or self.old.works actor None) → IsHeldOff self.old actor → result ≡ Ask.Blocked }
@@ -287,6 +299,9 @@ impl<F: Fs> System<F> {
         ensures good { (v : View) → F.view self.old.base.fs ≡ Some v → AreStored F.was self.old v → Told (F.view self.new.base.fs) (λ w. AreStored F.was self.new w) }
         ensures caused { (before : ℕ) (v : View) → F.view self.old.base.fs ≡ Some v → AreCaused F.faults before self.old → AreCaused F.faults before self.new }
         ensures inside { (v : View) → F.view self.old.base.fs ≡ Some v → AreStored F.was self.old v → AreInside F.was self.old → AreInside F.was self.new }
+        ensures folders { (opening : Disk) (v : View) → F.view self.old.base.fs ≡ Some v → AreFolders opening self.old v → Told (F.view self.new.base.fs) (λ w. AreFolders opening self.new w) }
+        ensures said { (v : View) → F.view self.old.base.fs ≡ Some v → AreSaid F.was self.old → AreSaid F.was self.new }
+        ensures founded { (opening v : View) → F.view self.old.base.fs ≡ Some v → AreStored F.was self.old v → AreFounded opening self.old v → Told (F.view self.new.base.fs) (λ w. AreFounded opening self.new w) }
     {
         for actor in schedule {
             let _ = self.act(*actor);
@@ -305,6 +320,9 @@ impl<F: Fs> System<F> {
         ensures good { (v : View) → F.view self.old.base.fs ≡ Some v → AreStored F.was self.old v → Told (F.view self.new.base.fs) (λ w. AreStored F.was self.new w) }
         ensures caused { (before : ℕ) (v : View) → F.view self.old.base.fs ≡ Some v → AreCaused F.faults before self.old → AreCaused F.faults before self.new }
         ensures inside { (v : View) → F.view self.old.base.fs ≡ Some v → AreStored F.was self.old v → AreInside F.was self.old → AreInside F.was self.new }
+        ensures folders { (opening : Disk) (v : View) → F.view self.old.base.fs ≡ Some v → AreFolders opening self.old v → Told (F.view self.new.base.fs) (λ w. AreFolders opening self.new w) }
+        ensures said { (v : View) → F.view self.old.base.fs ≡ Some v → AreSaid F.was self.old → AreSaid F.was self.new }
+        ensures founded { (opening v : View) → F.view self.old.base.fs ≡ Some v → AreStored F.was self.old v → AreFounded opening self.old v → Told (F.view self.new.base.fs) (λ w. AreFounded opening self.new w) }
     {
         let _few = self.lanes();
         let mut unfinished = false;
@@ -326,6 +344,9 @@ impl<F: Fs> System<F> {
         ensures good { (v : View) → AreStored F.was self v → AreStoredIn (F.was result.fs) self.limits (first self.base.books.start.items) self.base.books.opened result.lanes.items result.history.items self.started (replies_of result.replies.items) self.base.books.halted self.objects v }
         ensures inside { AreInside F.was self → AreInsideIn (F.was result.fs) self.base.books.opened (IsBegunIn (first self.base.books.start.items) result.history.items result.lanes.items self.started (replies_of result.replies.items)) (replies_of result.replies.items) }
         ensures caused { (before : ℕ) → AreCaused F.faults before self → AreCausedIn before (F.faults result.fs) self.base.books.halted (replies_of result.replies.items) }
+        ensures folders { (opening : Disk) (v : View) → AreFolders opening self v → AreFoldersIn self.limits (first self.base.books.start.items) result.history.items result.lanes.items (replies_of result.replies.items) opening v.now }
+        ensures said { AreSaid F.was self → AreSaidIn (F.was result.fs) self.base.books.opened self.limits (first self.base.books.start.items) result.history.items result.lanes.items (replies_of result.replies.items) }
+        ensures founded { (opening v : View) → AreFounded opening self v → AreFoundedIn opening result.history.items result.pending (replies_of result.replies.items) v }
         ensures headline { (v : View) → F.view self.base.fs ≡ Some v → Headline F.clock F.was self.base v }
         ensures replies { replies_of result.replies.items ≡ self.replies }
         ensures replied { IsReplied F.view self }

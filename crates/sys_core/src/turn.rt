@@ -20,10 +20,11 @@ ghost use Rattle.script.specs.declared.answer.Answer.{Answer};
 ghost use Rattle.sys_core.specs.Answers.{IsHalted, IsTold, Shown, state_after};
 ghost use Rattle.sys_core.specs.Commits.{IsFit};
 ghost use Rattle.sys_core.specs.Counts.{CountsBy, IsFull, StoresBy};
+ghost use Rattle.sys_core.specs.Folding.{Folds};
 ghost use Rattle.sys_core.specs.Lanes.{Kept};
 ghost use Rattle.sys_core.specs.Pins.{Pins};
 ghost use Rattle.sys_core.specs.Pursues.{Goes, IsAfter, task_start};
-ghost use Rattle.sys_core.specs.Turns.{HasTurn, RunsBehind, Turns};
+ghost use Rattle.sys_core.specs.Turns.{HasTurn, RunsBehind, Turns, work_in};
 
 use crate::lane::{Came, lane_act};
 use crate::run::Run;
@@ -54,6 +55,7 @@ pub(crate) fn turn<F: Fs>(
     ensures kept { Kept F.view F.clock F.spare F.was base.new refs.new runs.new.items }
     ensures carried { IsCarried F.view F.clock F.was F.faults base.old base.new }
     ensures wrote { (r : Run) (v : View) → F.view base.old.fs ≡ Some v → Told (F.view base.new.fs) (HasWritten limits lane objects.old objects.new (state_after (first base.old.books.start.items) base.old.books.history.items (task_start base.old.books.history.items (slice_index_or runs.old.items lane r).task)) command.now base.old.books base.new.books v) }
+    ensures folds { (r : Run) (v : View) → F.view base.old.fs ≡ Some v → Told (F.view base.new.fs) (Folds limits lane (state_after (first base.old.books.start.items) base.old.books.history.items (task_start base.old.books.history.items (slice_index_or runs.old.items lane r).task)) command.now (work_in (slice_index_or runs.old.items lane r).task) (work_in (slice_index_or runs.new.items lane r).task) result (books_of base.old.books) (books_of base.new.books) v) }
     ensures booked { (lanes : List Lane) (replies : List (Vec Reply)) → lane < length lanes → Booked lanes runs.old.items replies → Booked lanes runs.new.items replies }
     ensures number { (r : Run) → (slice_index_or runs.new.items lane r).command ≡ (slice_index_or runs.old.items lane r).command }
     ensures blocked { result ≡ Came.Blocked → base.new ≡ base.old }

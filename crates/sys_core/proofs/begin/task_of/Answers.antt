@@ -30,6 +30,12 @@ returns-in-Cat-clause-begun c = c.cat.ensures.begun c.args.lane
 pub returns-in-Cat-clause-by : goal.returns-in-Cat-clause-by
 returns-in-Cat-clause-by c = λ s tracks. subst (λ (x : Command). IfOk c.cat.result (IsBy c.args.limits c.args.lane s x)) (sym c.in-Cat.is) (c.cat.ensures.by c.args.lane s tracks)
 
+pub returns-in-Checkout-clause-begun : goal.returns-in-Checkout-clause-begun
+returns-in-Checkout-clause-begun c = c.checkout.ensures.begun c.args.lane
+
+pub returns-in-Checkout-clause-by : goal.returns-in-Checkout-clause-by
+returns-in-Checkout-clause-by c = λ s tracks. subst (λ (x : Command). IfOk c.checkout.result (IsBy c.args.limits c.args.lane s x)) (sym c.in-Checkout.is) (c.checkout.ensures.by c.args.lane s tracks)
+
 pub returns-in_ok-copy-in-Reset-clause-by : goal.returns-in_ok-copy-in-Reset-clause-by
 returns-in_ok-copy-in-Reset-clause-by c = λ s tracks. subst (λ (x : Command). RunsRefBy c.args.lane s x c.reset-work.result) (sym c.in-Reset.is)
     (reset_by c.args.lane s c.in-Reset.branch _ _ _ c.reset-work.result c.reset-work.ensures.reset (search rules) (c.get-seen.ensures s (c.in_ok-make_room-in-Reset.ensures.refs s tracks)))

@@ -1,4 +1,5 @@
 use Rattle.std.proofs.Common.{rules, ◌≡◌, ◌≤◌, ◌∙◌, ℕ, arith, inr, refl, sym, subst, ap, length, [], Option, Some, None}
+use Rattle.fs_trait.specs.Image.{Told}
 use Rattle.rely.specs.declared.books.Books as rust
 use Rattle.rely.specs.declared.kind.Outcome.{Outcome}
 use Rattle.rely.specs.declared.kind.Outcome.TheVariants as came
@@ -13,11 +14,13 @@ use Rattle.sys_core.specs.declared.run.Running.{Running}
 use Rattle.sys_core.specs.Answers.{IsHalted, IsTold, Shown, state_after}
 use Rattle.sys_core.specs.Begins.{AnswersBy}
 use Rattle.sys_core.specs.Counts.{CountsAt, CountsBy, IsFull, StoresBy}
+use Rattle.sys_core.specs.Folding.{Folds}
 use Rattle.sys_core.specs.Left.{left_of}
 use Rattle.sys_core.specs.Lanes.{LaneActs, RunsIn, now_of}
 use Rattle.sys_core.specs.Pursues.{Goes, Pursues}
-use Rattle.sys_core.specs.Turns.{HasTurn, RunsBehind, Turns}
+use Rattle.sys_core.specs.Turns.{HasTurn, RunsBehind, Turns, work_in}
 use Rattle.sys_core.proofs.Filling.{by_full, ended_full}
+use Rattle.sys_core.proofs.Folding.{folds_answered, folds_blocked, folds_ended, folds_more, other_by}
 use Rattle.sys_core.proofs.Going.{answers_by, begun_goes, ended_halts, goes_ended, goes_more, has_answer}
 use Rattle.sys_core.proofs.Lanes.{begin_ready, ended_runs, nothing_acts, runs_told, step_acts, tells_more}
 use Rattle.sys_core.proofs.Pinning.{chained_of, pins_more, pins_over}
@@ -341,3 +344,47 @@ pub returns-in_default-clause-stores : goal.returns-in_default-clause-stores
 returns-in_default-clause-stores g c = λ v seen.
     let k = c.ends.ensures in
     subst (λ (x : Came). StoresBy c.args.limits c.args.objects.now v c.args.run.now.task x) (sym k.1) tt
+
+-- the folders of checkouts
+pub returns-in-Answered-clause-folds : goal.returns-in-Answered-clause-folds
+returns-in-Answered-clause-folds g c = λ v told.
+    let a = c.in-Answered.answer in
+    let by = c.in-Answered.ensures.by (now_of c.args.base.now.books) c.requires.tracks in
+    (v, told, folds_answered c.args.limits c.args.lane _ c.args.command.now None _ c.args.base.now v a c.len-start.result _ refl (λ rev name is. other_by (now_of c.args.base.now.books) a rev name (subst (AnswersBy (now_of c.args.base.now.books) a) is by)))
+
+pub returns-in-Blocked-clause-folds : goal.returns-in-Blocked-clause-folds
+returns-in-Blocked-clause-folds g c = λ v told.
+    let b = c.args.base.now.books in
+    let same = (c.told_act.ensures.blocked c.in-Blocked.is).0 in
+    let s = state_after (first b.start.items) b.history.items (length b.history.items) in (
+      v,
+      ap (λ x. g.F.Fs.view x.fs) same ∙ told,
+      subst (λ x. Folds c.args.limits c.args.lane s c.args.command.now None (work_in c.args.run.now.task) Blocked (books_of b) (books_of x.books) v v) (sym same)
+          (folds_blocked c.args.limits c.args.lane s c.args.command.now None (work_in c.args.run.now.task) c.args.base.now v (ap work_in c.requires.idle)),
+    )
+
+pub returns-in-More-clause-folds : goal.returns-in-More-clause-folds
+returns-in-More-clause-folds g c = λ v told.
+    let e = c.told_act.ensures in
+    let base = c.args.base.now in
+    let b = base.books in
+    let t = c.in-Runs.work in
+    let s = state_after (first b.start.items) b.history.items (length b.history.items) in
+    let ready = begin_ready g.F.Fs.view g.F.Fs.clock g.F.Fs.spare g.F.Fs.was c.args.lane base c.args.refs.now t c.requires.sound c.requires.live c.requires.facts c.in-Runs.ensures.begun.0 in
+    let after = subst (λ (p : State). Pursues c.args.limits p c.args.command.now t) (sym (state_all (first b.start.items) b.history.items)) (pursues_begins c.args.limits c.args.lane (now_of b) c.args.command.now t (c.in-Runs.ensures.by (now_of b) c.requires.tracks)) in
+    subst (λ (o : Option Running). Told (g.F.Fs.view c.told_act.new.base.fs) (Folds c.args.limits c.args.lane s c.args.command.now None (work_in o) More (books_of b) (books_of c.told_act.new.base.books) v)) (sym c.replace.ensures.after)
+    (folds_more g.F.Fs.view c.args.limits c.args.lane _ _ c.args.objects.now s c.args.command.now base c.told_act.new.base t c.told_act.new.work None (λ name made. absurd made) c.told_act.result after (e.did (λ z. let n : came.More ≡ came.Blocked = sym c.in-More.is ∙ z in cc)) v told
+    (ready.task.facts v told) (e.acts.does v told) (e.wrote v told) c.in-More.is)
+
+pub returns-in_default-clause-folds : goal.returns-in_default-clause-folds
+returns-in_default-clause-folds g c = λ v told.
+    let e = c.told_act.ensures in
+    let k = c.ends.ensures in
+    let base = c.args.base.now in
+    let b = base.books in
+    let t = c.in-Runs.work in
+    let s = state_after (first b.start.items) b.history.items (length b.history.items) in
+    let ready = begin_ready g.F.Fs.view g.F.Fs.clock g.F.Fs.spare g.F.Fs.was c.args.lane base c.args.refs.now t c.requires.sound c.requires.live c.requires.facts c.in-Runs.ensures.begun.0 in
+    let after = subst (λ (p : State). Pursues c.args.limits p c.args.command.now t) (sym (state_all (first b.start.items) b.history.items)) (pursues_begins c.args.limits c.args.lane (now_of b) c.args.command.now t (c.in-Runs.ensures.by (now_of b) c.requires.tracks)) in
+    folds_ended g.F.Fs.view c.args.limits c.args.lane _ _ c.args.objects.now s c.args.command.now base c.told_act.new.base t c.told_act.new.work None (λ name made. absurd made) c.told_act.result after (e.did (λ z. c.in_default.not-Blocked z)) v told
+    (ready.task.facts v told) (e.acts.does v told) (e.wrote v told) (g.met.F.Fs.tree base.fs v told) (c.requires.sound.stands v told) e.claimed k.0 _ k.2 _ c.ends.result c.len-start.result k.1

@@ -1,4 +1,5 @@
 use Rattle.std.proofs.Common.{◌≡◌, ◌∙◌, arith, sym, subst, ap, refl, Option, Some, None}
+use Rattle.fs_trait.specs.Image.{Told}
 use Rattle.rely.specs.declared.kind.Outcome.{Outcome}
 use Rattle.rely.specs.declared.kind.Outcome.TheVariants as came
 use Rattle.rely.specs.Books.{books_of}
@@ -12,10 +13,12 @@ use Rattle.sys_core.specs.declared.lane.Came.TheVariants.{Answered, Blocked, Mor
 use Rattle.sys_core.specs.declared.run.Running.{Running}
 use Rattle.sys_core.specs.Answers.{IsHalted, IsTold, Shown, state_after}
 use Rattle.sys_core.specs.Counts.{CountsAt, CountsBy, IsFull, StoresBy}
+use Rattle.sys_core.specs.Folding.{Folds}
 use Rattle.sys_core.specs.Lanes.{HasRoomFor, LaneActs}
 use Rattle.sys_core.specs.Pursues.{Goes}
-use Rattle.sys_core.specs.Turns.{HasTurn, RunsBehind, Turns}
+use Rattle.sys_core.specs.Turns.{HasTurn, RunsBehind, Turns, work_in}
 use Rattle.sys_core.proofs.Filling.{ended_full}
+use Rattle.sys_core.proofs.Folding.{folds_blocked, folds_ended, folds_more}
 use Rattle.sys_core.proofs.Going.{ended_halts, goes_ended, goes_more, has_answer}
 use Rattle.sys_core.proofs.Lanes.{ended_runs, runs_told, step_acts, tells_blocked, tells_more}
 use Rattle.sys_core.proofs.Pinning.{chained_of, pins_more, pins_over}
@@ -260,3 +263,38 @@ pub returns-in_default-clause-stores : goal.returns-in_default-clause-stores
 returns-in_default-clause-stores g c = λ v seen.
     let k = c.ends.ensures in
     subst (λ (x : Came). StoresBy c.args.limits c.args.objects.now v c.args.run.now.task x) (sym k.1) tt
+
+-- the folders of checkouts
+pub returns-in-Blocked-clause-folds : goal.returns-in-Blocked-clause-folds
+returns-in-Blocked-clause-folds g c = λ v told.
+    let b = c.args.base.now.books in
+    let same = c.told_act.ensures.blocked c.in-Blocked.is in
+    let s = state_after (first b.start.items) b.history.items c.args.running.start in
+    let next : c.replace.new.self ≡ Some c.args.running = c.replace.ensures.after ∙ ap (λ (w : LaneCommand). Some (record { work = w; start = c.args.running.start })) same.1 in (
+      v,
+      ap (λ x. g.F.Fs.view x.fs) same.0 ∙ told,
+      subst (λ x. Folds c.args.limits c.args.lane s c.args.command.now (Some c.args.running.work) (work_in c.replace.new.self) Blocked (books_of b) (books_of x.books) v v) (sym same.0)
+          (folds_blocked c.args.limits c.args.lane s c.args.command.now (Some c.args.running.work) (work_in c.replace.new.self) c.args.base.now v (ap work_in next)),
+    )
+
+pub returns-in-More-clause-folds : goal.returns-in-More-clause-folds
+returns-in-More-clause-folds g c = λ v told.
+    let e = c.told_act.ensures in
+    let base = c.args.base.now in
+    let b = base.books in
+    let t = c.args.running.work in
+    let s = state_after (first b.start.items) b.history.items c.args.running.start in
+    subst (λ (o : Option Running). Told (g.F.Fs.view c.told_act.new.base.fs) (Folds c.args.limits c.args.lane s c.args.command.now (Some t) (work_in o) More (books_of b) (books_of c.told_act.new.base.books) v)) (sym c.replace-in-More.ensures.after)
+    (folds_more g.F.Fs.view c.args.limits c.args.lane _ _ c.args.objects.now s c.args.command.now base c.told_act.new.base t c.told_act.new.work (Some t) (λ name made. made) c.told_act.result c.requires.after (e.did (λ z. let n : came.More ≡ came.Blocked = sym c.in-More.is ∙ z in cc)) v told
+    (c.requires.facts.runs.0.facts v told) (e.acts.does v told) (e.wrote v told) c.in-More.is)
+
+pub returns-in_default-clause-folds : goal.returns-in_default-clause-folds
+returns-in_default-clause-folds g c = λ v told.
+    let e = c.told_act.ensures in
+    let k = c.ends.ensures in
+    let base = c.args.base.now in
+    let b = base.books in
+    let t = c.args.running.work in
+    let s = state_after (first b.start.items) b.history.items c.args.running.start in
+    folds_ended g.F.Fs.view c.args.limits c.args.lane _ _ c.args.objects.now s c.args.command.now base c.told_act.new.base t c.told_act.new.work (Some t) (λ name made. made) c.told_act.result c.requires.after (e.did (λ z. c.in_default.not-Blocked z)) v told
+    (c.requires.facts.runs.0.facts v told) (e.acts.does v told) (e.wrote v told) (g.met.F.Fs.tree base.fs v told) (c.requires.sound.stands v told) e.claimed k.0 _ k.2 _ c.ends.result c.args.running.start k.1

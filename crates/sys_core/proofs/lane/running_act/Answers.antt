@@ -12,6 +12,7 @@ use Rattle.sys_core.proofs.Histories.{IsLonger, grown, now_goes, few_more, added
 use Rattle.sys_core.proofs.Steps.{room_settles, room_step, room_more}
 use Rattle.sys_core.proofs.lane.running_act.Given as given
 use Rattle.sys_core.proofs.Carrying.{step_carried}
+use Rattle.sys_core.proofs.Setting.{lane_shows}
 use Rattle.sys_core.proofs.lane.running_act.Goals as goal
 
 module _ (g : given.Over) (c : goal.After-note-arg-1 g) where
@@ -63,6 +64,7 @@ returns-clause-home g c = λ w told.
 
 pub returns-clause-carried : goal.returns-clause-carried
 returns-clause-carried g c = step_carried g.F.Fs.view g.F.Fs.clock g.F.Fs.was g.F.Fs.faults c.args.lane c.args.number c.args.base.now c.task_act-outcome.new.base (lane_kind c.args.work.now) c.task_act-outcome.result c.task_act-outcome.ensures.outlasts c.task_act-outcome.ensures.time c.requires.ready.task.holds c.task_act-outcome.ensures.booked c.task_act-outcome.ensures.cause c.task_act-outcome.ensures.live
+    (λ v told. lane_shows c.args.lane c.args.work.now v _ (c.requires.ready.task.facts v told))
 
 pub returns-clause-wrote : goal.returns-clause-wrote
 returns-clause-wrote g c = c.task_act-outcome.ensures.wrote

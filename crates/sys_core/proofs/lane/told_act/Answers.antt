@@ -3,6 +3,7 @@ use Rattle.rely.specs.declared.kind.Outcome.TheVariants as came
 use Rattle.rely.specs.Books.{books_of}
 use Rattle.lane_work.specs.Commands.{told}
 use Rattle.sys_core.specs.Did.{Did}
+use Rattle.sys_core.proofs.Folding.{claims_told}
 use Rattle.sys_core.proofs.Pinning.{pins_told}
 use Rattle.sys_core.proofs.Told.{acts_as, acts_held, counts_rest, did_of, told_again, told_opens, told_ready, told_room}
 use Rattle.sys_core.proofs.Written.{wrote_told}
@@ -109,6 +110,7 @@ returns-in_default g c =
       cause = e.cause;
       home = e.home;
       pins = pins_told c.args.lane c.args.objects.now c.args.work.now c.tell-former.new.self c.running_act.result c.running_act.result c.args.base.now.books.pins.items c.running_act.new.base.books.pins.items c.tell-former.ensures.told refl e.pins;
+      claimed = claims_told c.args.lane c.args.objects.now c.args.work.now c.tell-former.new.self c.running_act.result c.running_act.result c.args.base.now.books.claims.items c.running_act.new.base.books.claims.items c.tell-former.ensures.told refl e.claimed;
       over = e.over;
       no_fewer = omega arith;
       counts = counts_rest c.args.objects.now c.running_act.new.work c.running_act.result (λ n. c.in_default.not-More n);
@@ -133,3 +135,10 @@ returns-in-Blocked-clause-pins g c = ap (λ b. b.books.pins.items) (c.running_ac
 pub returns-in-More-clause-pins : goal.returns-in-More-clause-pins
 returns-in-More-clause-pins g c =
     pins_told c.args.lane c.args.objects.now c.args.work.now c.tell-former.new.self c.running_act.result came.More c.args.base.now.books.pins.items c.running_act.new.base.books.pins.items c.tell-former.ensures.told c.in-More.is c.running_act.ensures.pins
+
+pub returns-in-Blocked-clause-claimed : goal.returns-in-Blocked-clause-claimed
+returns-in-Blocked-clause-claimed g c = ap (λ b. b.books.claims.items) (c.running_act.ensures.blocked c.in-Blocked.is).0
+
+pub returns-in-More-clause-claimed : goal.returns-in-More-clause-claimed
+returns-in-More-clause-claimed g c =
+    claims_told c.args.lane c.args.objects.now c.args.work.now c.tell-former.new.self c.running_act.result came.More c.args.base.now.books.claims.items c.running_act.new.base.books.claims.items c.tell-former.ensures.told c.in-More.is c.running_act.ensures.claimed

@@ -28,7 +28,10 @@ use Rattle.std.proofs.lemmas.List.{length-map}
 use Rattle.fs_trait.specs.Image.{Told}
 use Rattle.sys_core.specs.Pursues.{start_in}
 use Rattle.sys_core.specs.Storing.{HasWritten}
+use Rattle.sys_core.proofs.Folders.{folders_answered, folders_go_on, folders_held, folds_view}
 use Rattle.sys_core.proofs.Inside.{inside_as, inside_done, inside_held, inside_more}
+use Rattle.sys_core.proofs.Saying.{said_as, said_done, said_held, said_more}
+use Rattle.sys_core.proofs.Founding.{act_founds_done, act_founds_more, founded_as, founded_held}
 use Rattle.sys_core.proofs.Causing.{caused_as, caused_done, caused_more, caused_same}
 use Rattle.sys_core.proofs.Stored.{act_stores_of, held_stores}
 use Rattle.sys_core.proofs.Storing.{bounded_by}
@@ -614,3 +617,134 @@ returns-in-Answered-clause-inside g c = λ v told stored was.
     inside_as g.F.Fs.was c.args.self.now old now v view
     (λ stored_here was_so. inside_done g.F.Fs.view g.F.Fs.clock g.F.Fs.was g.met.F.Fs.counts_now g.met.F.Fs.tree (g.F.Fs.faults old.base.fs) (g.F.Fs.faults new.fs) old now c.args.actor refl (length-map i.runs.items (λ (x : Run). start_in x.task) ∙ booked.each_runs) (each_row i.lanes.items i.runs.items i.replies.items booked) c.self.invariant.2.replied
     e.opened c.self.invariant.0.sound.ordered.ascends e.carried.time v (subst (λ s. g.F.Fs.view s.base.fs ≡ Some v) view told) stored_here was_so c.args.actor c.index.result.now.command c.in-Some.command.now (subst (λ n. IsCommand i.lanes.items c.args.actor n c.in-Some.command.now) (sym (given_length i.base i.lanes.items i.runs.items i.replies.items i.limits i.objects c.args.actor booked within r)) command) acted) stored was
+
+-- what the replies say of the disk was so
+pub returns-in_default-clause-said : goal.returns-in_default-clause-said
+returns-in_default-clause-said g c = λ v told said. said
+
+pub returns-in-Blocked-clause-said : goal.returns-in-Blocked-clause-said
+returns-in-Blocked-clause-said g c = λ v told said. said_held g.F.Fs.was _ _ (returns-in-Blocked-clause-acted g c).1 said
+
+pub returns-in-More-clause-said : goal.returns-in-More-clause-said
+returns-in-More-clause-said g c = λ v told said.
+    let i = c.self.inside in
+    let new = c.turn-came.new.base in
+    let booked = c.self.invariant.1 in
+    let view : c.args.self.now ≡ system_of i.base i.lanes.items i.runs.items i.replies.items i.limits i.objects = search rules in
+    let old = system_of i.base i.lanes.items i.runs.items i.replies.items i.limits i.objects in
+    let now = system_of new i.lanes.items c.turn-came.new.runs.items i.replies.items i.limits c.turn-came.new.objects in
+    let e = c.in-More.ensures in
+    let acted = subst (λ s. Acted (AnswerTells g.F.Fs.view (g.F.Fs.faults s.base.fs) (g.F.Fs.faults new.fs) s c.args.actor) s now c.args.actor More) view (returns-in-More-clause-acted g c) in
+    said_as g.F.Fs.was c.args.self.now old now view
+    (λ said_so. said_more g.F.Fs.view g.F.Fs.clock g.F.Fs.was g.met.F.Fs.counts_now g.met.F.Fs.bound (g.F.Fs.faults old.base.fs) (g.F.Fs.faults new.fs) old now c.args.actor refl (each_row i.lanes.items i.runs.items i.replies.items booked) c.self.invariant.2.replied
+    c.self.invariant.0.sound.ordered.ascends e.carried.time v (subst (λ s. g.F.Fs.view s.base.fs ≡ Some v) view told) said_so acted) said
+
+pub returns-in-Answered-clause-said : goal.returns-in-Answered-clause-said
+returns-in-Answered-clause-said g c = λ v told said.
+    let i = c.self.inside in
+    let new = c.turn-came.new.base in
+    let booked = c.self.invariant.1 in
+    let view : c.args.self.now ≡ system_of i.base i.lanes.items i.runs.items i.replies.items i.limits i.objects = search rules in
+    let old = system_of i.base i.lanes.items i.runs.items i.replies.items i.limits i.objects in
+    let now = system_of new i.lanes.items c.book.new.runs.items c.book.new.replies.items i.limits c.turn-came.new.objects in
+    let e = c.in-Answered.ensures in
+    let acted = subst (λ s. Acted (AnswerTells g.F.Fs.view (g.F.Fs.faults s.base.fs) (g.F.Fs.faults new.fs) s c.args.actor) s now c.args.actor (Done c.args.actor c.index.result.now.command)) view (returns-in-Answered-clause-acted g c) in
+    said_as g.F.Fs.was c.args.self.now old now view
+    (λ said_so. said_done g.F.Fs.view g.F.Fs.clock g.F.Fs.was g.met.F.Fs.counts_now g.met.F.Fs.bound (g.F.Fs.faults old.base.fs) (g.F.Fs.faults new.fs) old now c.args.actor refl (each_row i.lanes.items i.runs.items i.replies.items booked) c.self.invariant.2.replied
+    c.self.invariant.0.sound.ordered.ascends e.carried.time v (subst (λ s. g.F.Fs.view s.base.fs ≡ Some v) view told) said_so c.args.actor c.index.result.now.command acted) said
+
+-- commits that were there stay, and so do those that refs are set to
+pub returns-in_default-clause-founded : goal.returns-in_default-clause-founded
+returns-in_default-clause-founded g c = λ opening v told stored founded. (v, told, founded)
+
+pub returns-in-Blocked-clause-founded : goal.returns-in-Blocked-clause-founded
+returns-in-Blocked-clause-founded g c = λ opening v told stored founded. founded_held g.F.Fs.view _ _ (returns-in-Blocked-clause-acted g c).1 opening v told founded
+
+pub returns-in-More-clause-founded : goal.returns-in-More-clause-founded
+returns-in-More-clause-founded g c =
+    let i = c.self.inside in
+    let new = c.turn-came.new.base in
+    let booked = c.self.invariant.1 in
+    let view : c.args.self.now ≡ system_of i.base i.lanes.items i.runs.items i.replies.items i.limits i.objects = search rules in
+    let old = system_of i.base i.lanes.items i.runs.items i.replies.items i.limits i.objects in
+    let now = system_of new i.lanes.items c.turn-came.new.runs.items i.replies.items i.limits c.turn-came.new.objects in
+    let e = c.in-More.ensures in
+    let acted = subst (λ s. Acted (AnswerTells g.F.Fs.view (g.F.Fs.faults s.base.fs) (g.F.Fs.faults new.fs) s c.args.actor) s now c.args.actor More) view (returns-in-More-clause-acted g c) in
+    founded_as g.F.Fs.view g.F.Fs.was c.args.self.now old now view
+    (act_founds_more g.F.Fs.view g.F.Fs.clock g.F.Fs.was g.F.Fs.faults (g.F.Fs.faults old.base.fs) (g.F.Fs.faults new.fs) old now c.args.actor (each_row i.lanes.items i.runs.items i.replies.items booked) c.self.invariant.2.replied e.carried acted)
+
+pub returns-in-Answered-clause-founded : goal.returns-in-Answered-clause-founded
+returns-in-Answered-clause-founded g c =
+    let i = c.self.inside in
+    let r = c.index.result.now in
+    let within : c.args.actor < length i.lanes.items = search rules in
+    let few : c.index.result.now.command < length c.deref.result.now = fewer _ _ c.in-Some.ensures.lookup.0 in
+    let at : get_or c.deref.result.now c.index.result.now.command c.in-Some.command.now ≡ c.in-Some.command.now = search rules in
+    let command = act_command i.lanes.items c.args.actor i.runs.items r c.index-2.result.now c.deref.result.now c.in-Some.command.now within c.index.ensures c.index-2.ensures c.deref.ensures.value few at in
+    let new = c.turn-came.new.base in
+    let booked = c.self.invariant.1 in
+    let view : c.args.self.now ≡ system_of i.base i.lanes.items i.runs.items i.replies.items i.limits i.objects = search rules in
+    let old = system_of i.base i.lanes.items i.runs.items i.replies.items i.limits i.objects in
+    let now = system_of new i.lanes.items c.book.new.runs.items c.book.new.replies.items i.limits c.turn-came.new.objects in
+    let e = c.in-Answered.ensures in
+    let acted = subst (λ s. Acted (AnswerTells g.F.Fs.view (g.F.Fs.faults s.base.fs) (g.F.Fs.faults new.fs) s c.args.actor) s now c.args.actor (Done c.args.actor c.index.result.now.command)) view (returns-in-Answered-clause-acted g c) in
+    founded_as g.F.Fs.view g.F.Fs.was c.args.self.now old now view
+    (act_founds_done g.F.Fs.view g.F.Fs.clock g.F.Fs.was g.F.Fs.faults (g.F.Fs.faults old.base.fs) (g.F.Fs.faults new.fs) old now c.args.actor (each_row i.lanes.items i.runs.items i.replies.items booked) c.self.invariant.2.replied e.carried
+    c.in-Some.command.now (subst (λ n. IsCommand i.lanes.items c.args.actor n c.in-Some.command.now) (sym (given_length i.base i.lanes.items i.runs.items i.replies.items i.limits i.objects c.args.actor booked within r)) command) c.args.actor c.index.result.now.command acted)
+
+-- the folders of checkouts
+pub returns-in_default-clause-folders : goal.returns-in_default-clause-folders
+returns-in_default-clause-folders g c = λ opening v told was. (v, told, was)
+
+pub returns-in-Blocked-clause-folders : goal.returns-in-Blocked-clause-folders
+returns-in-Blocked-clause-folders g c = λ opening v told was. folders_held g.F.Fs.view _ _ (returns-in-Blocked-clause-acted g c).1 opening v told was
+
+pub returns-in-More-clause-folders : goal.returns-in-More-clause-folders
+returns-in-More-clause-folders g c =
+    let i = c.self.inside in
+    let r = c.index.result.now in
+    let new = c.turn-came.new.base in
+    let h = i.base.books.history.items in
+    let within : c.args.actor < length i.lanes.items = search rules in
+    let few : c.index.result.now.command < length c.deref.result.now = fewer _ _ c.in-Some.ensures.lookup.0 in
+    let at : get_or c.deref.result.now c.index.result.now.command c.in-Some.command.now ≡ c.in-Some.command.now = search rules in
+    let command = act_command i.lanes.items c.args.actor i.runs.items r c.index-2.result.now c.deref.result.now c.in-Some.command.now within c.index.ensures c.index-2.ensures c.deref.ensures.value few at in
+    let booked = c.self.invariant.1 in
+    let in_runs : c.args.actor < length i.runs.items = omega (arith, booked.each_runs, within) in
+    let in_works : c.args.actor < length (works_of i.runs.items) = omega (arith, length-map i.runs.items (λ (x : Run). work_in x.task), in_runs) in
+    let run = get_or c.turn-came.new.runs.items c.args.actor r in
+    let view : c.args.self.now ≡ system_of i.base i.lanes.items i.runs.items i.replies.items i.limits i.objects = search rules in
+    let e = c.in-More.ensures in
+    λ opening v told was. folders_go_on g.F.Fs.view (g.F.Fs.faults c.args.self.now.base.fs) (g.F.Fs.faults new.fs) c.args.self.now (system_of i.base i.lanes.items i.runs.items i.replies.items i.limits i.objects) (system_of new i.lanes.items c.turn-came.new.runs.items i.replies.items i.limits c.turn-came.new.objects) c.args.actor view refl refl
+    (length-map i.runs.items (λ (x : Run). start_in x.task) ∙ booked.each_runs) (each_row i.lanes.items i.runs.items i.replies.items booked) c.self.invariant.2.replied within c.in-Some.command.now
+    (subst (λ n. IsCommand i.lanes.items c.args.actor n c.in-Some.command.now) (sym (given_length i.base i.lanes.items i.runs.items i.replies.items i.limits i.objects c.args.actor booked within r)) command)
+    (work_in run.task) (ap works_of (e.run r) ∙ map-set (λ (x : Run). work_in x.task) i.runs.items c.args.actor run) _ (folds_view g.F.Fs.view i.limits c.args.actor c.in-Some.command.now i.base new i.runs.items r (work_in run.task) _ in_runs (e.folds r))
+    opening v told was refl (returns-in-More-clause-acted g c) refl in_works
+
+pub returns-in-Answered-clause-folders : goal.returns-in-Answered-clause-folders
+returns-in-Answered-clause-folders g c =
+    let i = c.self.inside in
+    let r = c.index.result.now in
+    let new = c.turn-came.new.base in
+    let now = c.turn-came.new.runs.items in
+    let within : c.args.actor < length i.lanes.items = search rules in
+    let few : c.index.result.now.command < length c.deref.result.now = fewer _ _ c.in-Some.ensures.lookup.0 in
+    let at : get_or c.deref.result.now c.index.result.now.command c.in-Some.command.now ≡ c.in-Some.command.now = search rules in
+    let command = act_command i.lanes.items c.args.actor i.runs.items r c.index-2.result.now c.deref.result.now c.in-Some.command.now within c.index.ensures c.index-2.ensures c.deref.ensures.value few at in
+    let booked = c.self.invariant.1 in
+    let acc = c.self.invariant.2 in
+    let in_runs : c.args.actor < length i.runs.items = omega (arith, booked.each_runs, within) in
+    let next = next_of g.F.Fs.view g.F.Fs.faults i.limits i.base i.lanes.items i.runs.items i.replies.items i.given booked acc c.args.actor within r in
+    let run = get_or now c.args.actor r in
+    let view : c.args.self.now ≡ system_of i.base i.lanes.items i.runs.items i.replies.items i.limits i.objects = search rules in
+    let e = c.in-Answered.ensures in
+    let after : Run = record { command = run.command + 1; task = run.task } in
+    let all : c.book.new.runs.items ≡ set i.runs.items c.args.actor after =
+    c.book.ensures.tasks r ∙ ap (λ (l : List Run). set l c.args.actor after) (e.run r) ∙ set-set i.runs.items c.args.actor run after in
+    let begun = start_said g.F.Fs.view g.F.Fs.faults i.limits i.base new i.lanes.items i.runs.items (replies_of i.replies.items) i.given acc c.args.actor in_runs run r c.in-Some.command.now command next c.turn-came.ensures.start c.in-Answered.answer c.in-Answered.start (e.goes r) in
+    let reply : Reply = record { answer = c.in-Answered.answer; start = c.number_of.result; place = c.number_of-in-Answered.result; order = i.given; taken = None } in
+    λ opening v told was. folders_answered g.F.Fs.view (g.F.Fs.faults c.args.self.now.base.fs) (g.F.Fs.faults new.fs) c.args.self.now (system_of i.base i.lanes.items i.runs.items i.replies.items i.limits i.objects) (system_of new i.lanes.items c.book.new.runs.items c.book.new.replies.items i.limits c.turn-came.new.objects) c.args.actor view refl refl
+    (length-map i.runs.items (λ (x : Run). start_in x.task) ∙ booked.each_runs) (each_row i.lanes.items i.runs.items i.replies.items booked) acc.replied within c.in-Some.command.now
+    (subst (λ n. IsCommand i.lanes.items c.args.actor n c.in-Some.command.now) (sym (given_length i.base i.lanes.items i.runs.items i.replies.items i.limits i.objects c.args.actor booked within r)) command)
+    (work_in run.task) (ap works_of all ∙ map-set (λ (x : Run). work_in x.task) i.runs.items c.args.actor after) _ (folds_view g.F.Fs.view i.limits c.args.actor c.in-Some.command.now i.base new i.runs.items r (work_in run.task) _ in_runs (e.folds r))
+    opening v told was reply c.in-Answered.start c.args.actor c.index.result.now.command refl (returns-in-Answered-clause-acted g c) (c.number_of.ensures ∙ begun) c.book.ensures.replies

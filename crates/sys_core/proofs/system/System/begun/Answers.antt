@@ -16,6 +16,8 @@ use Rattle.sys_core.specs.Booked.{replies_of}
 use Rattle.sys_core.specs.Pursues.{started_of}
 use Rattle.sys_core.specs.Storing.{AreStoredIn}
 use Rattle.sys_core.proofs.Causing.{caused_first}
+use Rattle.sys_core.proofs.Folders.{folders_first}
+use Rattle.sys_core.proofs.Founding.{founded_first}
 use Rattle.sys_core.proofs.StoredFirst.{stored_first}
 use Rattle.sys_core.proofs.system.System.begun.Goals as goal
 
@@ -74,3 +76,19 @@ pub returns-clause-inside : goal.returns-clause-inside
 returns-clause-inside g c =
     let acc = (invariant_of-result g c).2 in
     λ alone lane number r to is. omega (arith, acc.replied.numbered.below lane number r to, acc.count)
+
+pub returns-clause-said : goal.returns-clause-said
+returns-clause-said g c =
+    let acc = (invariant_of-result g c).2 in
+    λ lane number r d to is. absurd (omega (arith, acc.replied.numbered.below lane number r to, acc.count))
+
+pub returns-clause-founded : goal.returns-clause-founded
+returns-clause-founded g c =
+    let acc = (invariant_of-result g c).2 in
+    founded_first c.new.result.books.history.items c.new.result.books.pending (replies_of c.args.prepared.replies.items) c.new.ensures.history c.new.ensures.pending
+    (λ lane number r to. omega (arith, acc.replied.numbered.below lane number r to, acc.count))
+
+pub returns-clause-folders : goal.returns-clause-folders
+returns-clause-folders g c =
+    let acc = (invariant_of-result g c).2 in
+    λ v. folders_first _ v (λ lane number r to. omega (arith, acc.replied.numbered.below lane number r to, acc.count))
