@@ -71,6 +71,11 @@ pub fn is_folder(fs: &mut MemFs, alloc: Global, at: &[u8]) -> Result<bool, Fail>
     Ok(matches!(&found, Some(Node::Folder(_))))
 }
 
+pub fn is_file(fs: &mut MemFs, alloc: Global, at: &[u8]) -> Result<bool, Fail> {
+    let found = fs.stat(&FsPath::parse(alloc, at)?)?;
+    Ok(matches!(&found, Some(Node::File { .. })))
+}
+
 fn spelled(text: &[u8]) -> &[u8] {
     match text {
         b"X" => COMMIT.as_bytes(),

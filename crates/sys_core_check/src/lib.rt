@@ -7,6 +7,8 @@ mod running;
 pub use running::{NotRun, run};
 
 #[cfg(test)]
+mod checkout_tests;
+#[cfg(test)]
 mod crash_tests;
 #[cfg(test)]
 mod disks;
