@@ -52,4 +52,5 @@ def main():
     compare("200 files of 1 MiB", large_files(), folder)
 
 
-main()
+if __name__ == "__main__":
+    main()

@@ -59,14 +59,14 @@ def laid_out(tree, top):
             os.chmod(top + path, 0o644)
 
 
-def apart(work):
+def apart(work, fault="the trees weren't made"):
     """Does this in a process of its own: the most memory of a program is at least what its parent has had."""
     child = os.fork()
     if child == 0:
         work()
         os._exit(0)
     if os.waitpid(child, 0)[1]:
-        sys.exit("the trees weren't made")
+        sys.exit(fault)
 
 
 def prepare(tree, place):

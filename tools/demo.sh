@@ -1,5 +1,6 @@
 #!/bin/sh
-# Runs the program in a fresh folder: two trees are committed under one ref and looked into, and refs are set, listed and removed.
+# Runs the program in a fresh folder: two trees are committed under one ref and looked into, one is checked out, and refs are set, listed
+# and removed.
 set -eu
 cd "$(dirname "$0")/.."
 program=$PWD/build/ostree_cli
@@ -12,6 +13,10 @@ ask() {
 	status=0
 	"$program" "$@" || status=$?
 	echo "(status $status)"
+}
+show() {
+	echo "\$ $*"
+	"$@"
 }
 ask init
 cat >script <<'EOF'
@@ -41,6 +46,10 @@ ask log os/stable
 ask ls os/stable /
 ask cat os/stable /etc/motd
 ask cat os/stable /motd
+ask checkout os/stable stable
+ask checkout os/stable stable
+show ls -lR checkout
+show cat -v checkout/stable/etc/motd
 commit=$("$program" rev-parse os/stable)
 ask reset main "${commit##* }"
 ask reset main/next "${commit##* }"

@@ -1,5 +1,5 @@
 #!/usr/bin/env python3
-"""The names of the objects in crates/ostree_cli/src/look_tests.rt, reckoned from OSTree's formats alone."""
+"""The names of the objects in look_tests.rt and checkout_tests.rt of crates/ostree_cli/src, reckoned from OSTree's formats alone."""
 import hashlib
 import struct
 
@@ -93,5 +93,13 @@ def odd():
     return [sum for _, sum in files] + [below, first, second, third]
 
 
-for sum in readme() + odd():
+def twice():
+    """A commit of a tree that has one of these files twice, and no other text."""
+    content = file(0, 0, 0o644, b"\0\n%\xff ")
+    files = [(b"a b", file(0, 0, 0o644, b"")), (b"c", content)]
+    below = dirtree([(b"c", content), (b"l", link(7, 8, b"../a"))], [])
+    return [commit((dirtree(files, [(b"d", below, dirmeta(5, 6, 0))]), dirmeta(1, 2, 0o1777)), b"", b"", b"", 0)]
+
+
+for sum in readme() + odd() + twice():
     print(sum.hex())

@@ -1,24 +1,17 @@
 -- Every command has an answer of its own where the words, the script and the disk are good and no call failed.
-use Rattle.std.proofs.Common.{◌≡◌, ◌⊎◌, inl, inr, ⊎_elim, ◌<◌, ◌≤◌, ℕ, Bool, true, false, nat_lt, List, [], ◌∷◌, map, Option, Some, None, IfSome, Result, Ok, Err, IfOk, refl, sym, ◌∙◌, subst, ap, arith}
+use Rattle.std.proofs.Common.{◌≡◌, ◌⊎◌, inl, inr, ◌≤◌, ℕ, Bool, true, false, nat_lt, List, [], map, Option, Some, None, IfSome, Result, Ok, Err, IfOk, refl, sym, ◌∙◌, subst, ap, arith}
 use Rattle.std.proofs.lemmas.Bool.Decides.{nat_tests}
-use Rattle.ost_types.specs.declared.limits.Limits.{Limits}
-use Rattle.fs_trait.specs.Count.{Rose, last}
+use Rattle.fs_trait.specs.Count.{Rose}
 use Rattle.fs_trait.specs.View.{Disk}
-use Rattle.rely.specs.declared.books.Entry.{Entry}
-use Rattle.rely.specs.declared.books.Pending.{Pending}
-use Rattle.rely.specs.State.{State}
 use Rattle.script.specs.Words.{IsCommand}
-use Rattle.script.specs.declared.answer.Answer.{Answer}
-use Rattle.script.specs.declared.answer.Answer.TheVariants as answer
 use Rattle.script.specs.declared.answer.Reply.{Reply}
 use Rattle.script.specs.declared.command.Command.{Command}
 use Rattle.script.specs.declared.command.Command.TheVariants as command
-use Rattle.script.specs.declared.command.Lane.{Lane}
 use Rattle.script.specs.declared.fault.ScriptFault.{ScriptFault}
 use Rattle.script_reader.specs.Script.{Commands, IsScript}
 use Rattle.sys_core.specs.declared.system.Parts.{Parts}
-use Rattle.sys_core.specs.Answers.{Answers}
-use Rattle.sys_core.specs.Replied.{IsTo, Replied}
+use Rattle.sys_core.specs.Replied.{IsTo}
+use Rattle.sys_core.proofs.Causing.{rose_since}
 use Rattle.sys_open.specs.declared.fault.OpenFault.{OpenFault}
 use Rattle.sys_open.specs.declared.fault.OpenFault.TheVariants as opening
 use Rattle.sys_open.proofs.Exclusive.{fault_good}
@@ -33,10 +26,6 @@ use Rattle.ostree_cli.proofs.Statuses.{replies_small, status_small}
 risen_tested : (before now : ℕ) → has_risen before now ≡ true → Rose before now
 risen_tested before now is = grind (arith, nat_tests)
 
-rose_since : (before a b : ℕ) → before ≤ a → Rose a b → Rose before b
-rose_since before a b le (inl lt) = inl (omega (arith, le, lt))
-rose_since before a b le (inr at) = inr at
-
 -- `run` is no command
 not_run : (command : Command) (fields : List (List ℕ)) → IsCommand run command → ⊥
 not_run command.Refs fields is = let e = is.line in cc
@@ -44,6 +33,7 @@ not_run (command.RevParse rev) fields is = let e = is.line in cc
 not_run (command.Log rev) fields is = let e = is.line in cc
 not_run (command.Ls rev path) fields is = let e = is.line in cc
 not_run (command.Cat rev path) fields is = let e = is.line in cc
+not_run (command.Checkout rev name) fields is = let e = is.line in cc
 not_run (command.Reset branch commit) fields is = let e = is.line in cc
 not_run (command.DropRef branch) fields is = let e = is.line in cc
 not_run (command.Commit branch tree subject body time) fields is = let e = is.line in cc

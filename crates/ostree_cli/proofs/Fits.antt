@@ -4,7 +4,7 @@ use Rattle.std.specs.Prelude.{All}
 use Rattle.std.proofs.lemmas.List.{get_or-map, length-map}
 use Rattle.ost_types.specs.declared.limits.Limits.{Limits}
 use Rattle.script.specs.declared.command.Command.{Command}
-use Rattle.script.specs.declared.command.Command.TheVariants.{Refs, RevParse, Log, Ls, Cat, Reset, DropRef, Commit}
+use Rattle.script.specs.declared.command.Command.TheVariants.{Refs, RevParse, Log, Ls, Cat, Checkout, Reset, DropRef, Commit}
 use Rattle.script.specs.declared.command.Lane.{Lane}
 use Rattle.script_reader.specs.Script.{command_limit, lane_limit}
 use Rattle.script_trees.specs.Fit.{AreFit, IsFit, IsWide}
@@ -23,6 +23,7 @@ fit_command limits (RevParse rev) is = tt
 fit_command limits (Log rev) is = tt
 fit_command limits (Ls rev path) is = tt
 fit_command limits (Cat rev path) is = tt
+fit_command limits (Checkout rev name) is = tt
 fit_command limits (Reset branch commit) is = tt
 fit_command limits (DropRef branch) is = tt
 fit_command limits (Commit branch tree subject body time) is = record { items = is.ordered; makeable = is.makeable; small = λ parent short. is.small parent time short }

@@ -3,6 +3,7 @@ pub mod Printing
 pub mod Greatest
 pub mod Texts
 pub mod Plain
+pub mod Checkouts
 pub mod Rans
 pub mod Outcomes
 pub mod Asking

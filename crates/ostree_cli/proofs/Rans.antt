@@ -3,8 +3,11 @@ use Rattle.std.proofs.Common.{◌≡◌, ◌≤◌, ◌∙◌, ◌+◌, ℕ, Lis
 use Rattle.fs_trait.specs.Change.{Left}
 use Rattle.fs_trait.specs.View.{Disk, View}
 use Rattle.fs_trait.specs.Image.{Told}
-use Rattle.rely.specs.State.{first}
+use Rattle.repo_layout.specs.RefFile.{IsSum}
+use Rattle.store_check.specs.Commits.{IsFinished}
+use Rattle.rely.specs.State.{State, first}
 use Rattle.rely.specs.Disks.{Logical}
+use Rattle.rely.specs.Lasting.{StaysFinished}
 use Rattle.rely.specs.declared.books.Entry.{Entry}
 use Rattle.rely.specs.declared.books.Pending.{Pending}
 use Rattle.rely.specs.declared.event.Event.{Event}
@@ -14,9 +17,12 @@ use Rattle.script.specs.declared.command.Command.{Command}
 use Rattle.script.specs.declared.command.Lane.{Lane}
 use Rattle.sys_core.specs.declared.system.Parts.{Parts}
 use Rattle.sys_core.specs.Answers.{IsTold}
+use Rattle.sys_core.specs.Folders.{AreFoldersIn}
+use Rattle.sys_core.specs.Founded.{ArePresentIn}
 use Rattle.sys_core.specs.Inside.{AreInsideIn}
 use Rattle.sys_core.specs.Lasting.{AreKeptIn}
 use Rattle.sys_core.specs.Replied.{Replied}
+use Rattle.sys_core.specs.Said.{AreSaidIn}
 use Rattle.sys_core.specs.Storing.{IsBegunIn}
 use Rattle.sys_open.specs.Damages.{IsGood}
 use Rattle.sys_open.specs.Opening.{Begins}
@@ -26,6 +32,7 @@ use Rattle.ostree_cli.specs.declared.fault.TopFault.TheVariants.{Usage, Script, 
 use Rattle.ostree_cli.specs.Headline.{Headline}
 use Rattle.ostree_cli.specs.Top.{AreStandard, IsStop, IsStopped, LeftGood, Ran, RanBy, event_of}
 use Rattle.ostree_cli.specs.Words.{IsLine}
+use Rattle.ostree_cli.proofs.Checkouts.{folders_before}
 
 -- a view that is told has what each told view has, beside what is told of it
 told_all : (o : Option View) (Q R : View → Type 0) → Told o Q → ((w : View) → o ≡ Some w → Q w → R w) → Told o R
@@ -46,9 +53,13 @@ pub ran : {F : Type 0} (limits opened : Limits) (view : F → Option View) (cloc
     → IfOk r (λ p. Told (view p.fs) (AreKeptIn (was p.fs) begun opened lanes p.history.items))
     → ((w : View) (t : ℕ) (d : Disk) → IfOk r (λ p. view p.fs ≡ Some w → barrier ≤ t → Left (was p.fs) t d → LeftGood opened (IsBegunIn (first refs) p.history.items lanes [] (map (λ replies. replies.items) p.replies.items)) d))
     → ((w : View) → IfOk r (λ p. view p.fs ≡ Some w → AreInsideIn (was p.fs) barrier (IsBegunIn (first refs) p.history.items lanes [] (map (λ replies. replies.items) p.replies.items)) (map (λ replies. replies.items) p.replies.items)))
+    → ((w : View) → IfOk r (λ p. view p.fs ≡ Some w → AreSaidIn (was p.fs) barrier opened (first refs) p.history.items lanes (map (λ replies. replies.items) p.replies.items)))
+    → ((commit : List ℕ) → IsSum commit → IsFinished begun.now commit → StaysFinished begun commit)
+    → IfOk r (λ p. ArePresentIn (StaysFinished begun) p.history.items (map (λ replies. replies.items) p.replies.items))
+    → IfOk r (λ p. Told (view p.fs) (λ w. AreFoldersIn opened (first refs) p.history.items lanes (map (λ replies. replies.items) p.replies.items) begun.now w.now))
     → IfOk r (λ p. Told (view p.fs) (Ran limits view clock was v before (map (λ lane. lane.commands.items) lanes) p.fs p.history.items (event_of p.pending) (map (λ replies. replies.items) p.replies.items)))
-ran limits opened view clock was v before barrier refs lanes (Err e) same good state at begun begins lines replied ended kept stored inside = tt
-ran limits opened view clock was v before barrier refs lanes (Ok p) same good state at begun begins lines replied ended kept stored inside = told_all (view p.fs) (AreKeptIn (was p.fs) begun opened lanes p.history.items) (Ran limits view clock was v before (map (λ lane. lane.commands.items) lanes) p.fs p.history.items (event_of p.pending) (map (λ replies. replies.items) p.replies.items)) kept (λ w is stays. record {
+ran limits opened view clock was v before barrier refs lanes (Err e) same good state at begun begins lines replied ended kept stored inside said finished present folders = tt
+ran limits opened view clock was v before barrier refs lanes (Ok p) same good state at begun begins lines replied ended kept stored inside said finished present folders = told_all (view p.fs) (AreKeptIn (was p.fs) begun opened lanes p.history.items) (Ran limits view clock was v before (map (λ lane. lane.commands.items) lanes) p.fs p.history.items (event_of p.pending) (map (λ replies. replies.items) p.replies.items)) kept (λ w is stays. record {
   good = good;
   start = first refs;
   state = state;
@@ -66,6 +77,16 @@ ran limits opened view clock was v before barrier refs lanes (Ok p) same good st
   kept = subst (λ l. AreKeptIn (was p.fs) begun l lanes p.history.items w) same stays;
   stored = λ t d from left. subst (λ l. LeftGood l (IsBegunIn (first refs) p.history.items lanes [] (map (λ replies. replies.items) p.replies.items)) d) same (stored w t d is (subst (λ n. n ≤ t) (sym at) from) left);
   inside = subst (λ n. AreInsideIn (was p.fs) n (IsBegunIn (first refs) p.history.items lanes [] (map (λ replies. replies.items) p.replies.items)) (map (λ replies. replies.items) p.replies.items)) at (inside w is);
+  said = subst (λ l. AreSaidIn (was p.fs) (before + 1) l (first refs) p.history.items lanes (map (λ replies. replies.items) p.replies.items)) same
+      (subst (λ n. AreSaidIn (was p.fs) n opened (first refs) p.history.items lanes (map (λ replies. replies.items) p.replies.items)) at (said w is));
+  present = record {
+    finished = λ lane number r commit to absent is. present.finished lane number r commit to absent (finished commit is.0 is.1);
+    set = present.set;
+  };
+  folders = (let one : folders.0 ≡ w = (let e : Some folders.0 ≡ Some w = sym folders.1 ∙ is in cc) in
+      folders_before limits (first refs) p.history.items lanes (map (λ replies. replies.items) p.replies.items) v.now begun.now w.now begins.keeps
+      (subst (λ (u : View). AreFoldersIn limits (first refs) p.history.items lanes (map (λ replies. replies.items) p.replies.items) begun.now u.now) one
+      (subst (λ l. AreFoldersIn l (first refs) p.history.items lanes (map (λ replies. replies.items) p.replies.items) begun.now folders.0.now) same folders.2)));
 })
 
 -- what is said of the commits of a system is said of what it was taken apart into
@@ -110,3 +131,12 @@ stopped limits d standard (Open (opening.Outside p)) stop = absurd stop
 
 pub stop_at : (told : Option TopFault) (fault : TopFault) (limits : Limits) (d : Disk) → told ≡ Some fault → AreStandard limits → IsStop limits d fault → IfSome told (IsStopped d)
 stop_at told fault limits d is standard stop = subst (λ o. IfSome o (IsStopped d)) (sym is) (stopped limits d standard fault stop)
+
+-- what is said of the disk in the replies of a system is said of what it was taken apart into
+pub said_parts : (was : ℕ → View → Type 0) (opened opened' : ℕ) (limits limits' : Limits) (begin begin' : State) (h : List Entry) (lanes lanes' : List Lane) (replies : List (List Reply))
+    → limits ≡ limits' → begin ≡ begin' → opened ≡ opened' → lanes ≡ lanes' → AreSaidIn was opened limits begin h lanes replies → AreSaidIn was opened' limits' begin' h lanes' replies
+said_parts was opened opened' limits limits' begin begin' h lanes lanes' replies limits-is begin-is opened-is lanes-is said =
+    subst (λ x. AreSaidIn was x limits' begin' h lanes' replies) opened-is
+    (subst (λ x. AreSaidIn was opened x begin' h lanes' replies) limits-is
+    (subst (λ x. AreSaidIn was opened limits x h lanes' replies) begin-is
+    (subst (λ x. AreSaidIn was opened limits begin h x replies) lanes-is said)))

@@ -1,5 +1,5 @@
 -- The status where each command was answered.
-use Rattle.std.proofs.Common.{◌≡◌, ◌⊎◌, inl, inr, ◌<◌, ℕ, zero, suc, List, [], ◌∷◌, map, length, false, Option, Some, None, refl, sym, ◌∙◌, subst, ap, arith}
+use Rattle.std.proofs.Common.{◌≡◌, ◌⊎◌, inl, inr, ℕ, suc, List, [], ◌∷◌, false, Option, Some, None, refl, ap, arith}
 use Rattle.std.specs.Prelude.{max}
 use Rattle.script.specs.declared.answer.Answer.{Answer}
 use Rattle.script.specs.declared.answer.Answer.TheVariants as answer
@@ -7,8 +7,8 @@ use Rattle.script.specs.declared.answer.Reply.{Reply}
 use Rattle.sys_core.specs.Replied.{IsAt, IsTo}
 use Rattle.ostree_cli.specs.declared.fault.TopFault.{TopFault}
 use Rattle.ostree_cli.specs.declared.fault.TopFault.TheVariants.{NoMemory}
-use Rattle.sys_core.specs.Inside.{IsOutside}
-use Rattle.ostree_cli.specs.Status.{answer_status, fault_status, greatest, lane_status, replies_status, status_of}
+use Rattle.sys_core.specs.Faults.{IsOutside}
+use Rattle.ostree_cli.specs.Status.{answer_status, fault_status, lane_status, replies_status, status_of}
 
 -- done, refused, or without memory
 abbrev IsSmall : ℕ → Type 0
@@ -30,6 +30,7 @@ answer_small (answer.NoCommit sum) inside = inr (inl refl)
 answer_small (answer.Partial sum) inside = inr (inl refl)
 answer_small (answer.NoPath path) inside = inr (inl refl)
 answer_small (answer.NotFile path) inside = inr (inl refl)
+answer_small (answer.DestExists path) inside = inr (inl refl)
 answer_small (answer.RefMoved seen now) inside = inr (inl refl)
 answer_small (answer.RefClash name) inside = inr (inl refl)
 answer_small (answer.BadTree path) inside = inr (inl refl)

@@ -9,12 +9,12 @@ use Rattle.ost_types.specs.Csum.{hex_of, IsHexDigit}
 use Rattle.ost_types.specs.Path.{Path}
 use Rattle.ost_types.specs.Text.{IsText}
 use Rattle.ost_types.proofs.HexSums.{IsHexSum-hex_of}
-use Rattle.script.specs.Field.{IsField, IsPathField, Spells, Stands, is_plain}
-use Rattle.script.specs.Words.{AreRevPath, IsCommand, HasFields, IsBranch, IsCommit, IsRev, keyword_of, spelled}
+use Rattle.script.specs.Field.{IsField, IsNameField, IsPathField, Spells, Stands, is_plain}
+use Rattle.script.specs.Words.{AreRevName, AreRevPath, IsCommand, HasFields, IsBranch, IsCommit, IsRev, keyword_of, spelled}
 use Rattle.script.specs.declared.command.Rev.TheVariants.{Ref, Commit}
 use Rattle.script.specs.declared.command.Rev.{Rev}
 use Rattle.script.specs.declared.command.Command.{Command}
-use Rattle.script.specs.declared.command.Command.TheVariants.{Refs, RevParse, Log, Ls, Cat, Reset, DropRef, Commit as CommitTree}
+use Rattle.script.specs.declared.command.Command.TheVariants.{Refs, RevParse, Log, Ls, Cat, Checkout, Reset, DropRef, Commit as CommitTree}
 
 -- from the space to `~`
 abbrev IsPrinted : ℕ → Type 0
@@ -83,6 +83,9 @@ commit_text field sum is = field_text field (hex_of sum) is.spelled
 path_text : (field : List ℕ) (path : Path) → IsPathField field path → IsText field
 path_text field path is = field_text field is.text is.spelled
 
+name_text : (field name : List ℕ) → IsNameField field name → IsText field
+name_text field name is = field_text field name is.spelled
+
 rev_text : (field : List ℕ) (rev : Rev) → IsRev field rev → IsText field
 rev_text field (Ref name) is = branch_text field name is
 rev_text field (Commit sum) is = commit_text field sum is
@@ -93,12 +96,16 @@ alone f is = All-cons IsText f [] is (All-nil IsText)
 rev_path_text : (rev : Rev) (path : Path) (fields : List (List ℕ)) → AreRevPath fields rev path → All IsText fields
 rev_path_text rev path fields has = subst (All IsText) (sym has.2) (All-cons IsText has.0 (has.1 ∷ []) (rev_text has.0 rev has.3) (alone has.1 (path_text has.1 path has.4)))
 
+rev_name_text : (rev : Rev) (name : List ℕ) (fields : List (List ℕ)) → AreRevName fields rev name → All IsText fields
+rev_name_text rev name fields has = subst (All IsText) (sym has.2) (All-cons IsText has.0 (has.1 ∷ []) (rev_text has.0 rev has.3) (alone has.1 (name_text has.1 name has.4)))
+
 fields_text : (command : Command) (fields : List (List ℕ)) → HasFields command fields → All IsText fields
 fields_text Refs fields has = subst (All IsText) (sym has) (All-nil IsText)
 fields_text (RevParse rev) fields has = subst (All IsText) (sym has.1) (alone has.0 (rev_text has.0 rev has.2))
 fields_text (Log rev) fields has = subst (All IsText) (sym has.1) (alone has.0 (rev_text has.0 rev has.2))
 fields_text (Ls rev path) fields has = rev_path_text rev path fields has
 fields_text (Cat rev path) fields has = rev_path_text rev path fields has
+fields_text (Checkout rev name) fields has = rev_name_text rev name fields has
 fields_text (Reset branch commit) fields has =
     subst (All IsText) (sym has.2) (All-cons IsText has.0 (has.1 ∷ []) (branch_text has.0 branch has.3) (alone has.1 (commit_text has.1 commit has.4)))
 fields_text (DropRef branch) fields has = subst (All IsText) (sym has.1) (alone has.0 (branch_text has.0 branch has.2))
@@ -130,6 +137,7 @@ keyword_text (RevParse rev) = text_from (codes "rev-parse") (tested (codes "rev-
 keyword_text (Log rev) = text_from (codes "log") (tested (codes "log") refl)
 keyword_text (Ls rev path) = text_from (codes "ls") (tested (codes "ls") refl)
 keyword_text (Cat rev path) = text_from (codes "cat") (tested (codes "cat") refl)
+keyword_text (Checkout rev name) = text_from (codes "checkout") (tested (codes "checkout") refl)
 keyword_text (Reset branch commit) = text_from (codes "reset") (tested (codes "reset") refl)
 keyword_text (DropRef branch) = text_from (codes "drop") (tested (codes "drop") refl)
 keyword_text (CommitTree branch tree subject body time) = text_from (codes "commit") (tested (codes "commit") refl)

@@ -7,8 +7,7 @@ use Rattle.script.specs.Words.{IsCommand}
 use Rattle.script.specs.declared.answer.Reply.{Reply}
 use Rattle.script.specs.declared.command.Command.{Command}
 use Rattle.script_reader.specs.Script.{Commands, IsScript}
-use Rattle.sys_core.specs.Causes.{IsFailure}
-use Rattle.sys_core.specs.Inside.{IsOutside}
+use Rattle.sys_core.specs.Faults.{IsFailure, IsOutside}
 use Rattle.sys_core.specs.Replied.{IsTo}
 use Rattle.sys_open.specs.Damages.{IsGood}
 use Rattle.ostree_cli.specs.declared.fault.TopFault.{TopFault}

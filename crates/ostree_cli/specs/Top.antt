@@ -14,11 +14,16 @@ use Rattle.script.specs.declared.answer.Reply.{Reply}
 use Rattle.script.specs.declared.command.Command.{Command}
 use Rattle.script.specs.declared.command.Lane.{Lane}
 use Rattle.sys_core.specs.Answers.{IsTold}
+use Rattle.sys_core.specs.Folders.{AreFoldersIn}
+use Rattle.sys_core.specs.Founded.{ArePresentIn}
 use Rattle.sys_core.specs.Inside.{AreInsideIn}
 use Rattle.sys_core.specs.Lasting.{AreKeptIn}
 use Rattle.sys_core.specs.Replied.{Replied}
+use Rattle.sys_core.specs.Said.{AreSaidIn}
 use Rattle.sys_open.specs.declared.fault.OpenFault.TheVariants as opening
 use Rattle.layout_rules.specs.Checks.{IsSane}
+use Rattle.repo_layout.specs.RefFile.{IsSum}
+use Rattle.store_check.specs.Commits.{IsFinished}
 use Rattle.ost_forms.specs.declared.tree_item.TreeItem.{TreeItem}
 use Rattle.commit_build.specs.declared.message.Message.{Message}
 use Rattle.store_lasts.specs.Keeping.{IsGoodDisk}
@@ -79,7 +84,10 @@ pub record LeftGood (limits : Limits) (begun : List TreeItem → Message → Typ
 -- command's, which was answered so, or which was cut off where the change is pending. Each command of each lane has its reply. The
 -- opening changed nothing but what it laid out and cleared, and from there on each commit that a change made is kept, and what each crash
 -- leaves of the store is good. No reply tells that something else changed the disk, as far as reads never saw other bytes with the name of an
--- object of a commit that was begun.
+-- object of a commit that was begun. What each reply tells of the disk was so, in a view that reads had then; and none tells that a commit
+-- isn't there, or has a mark, of one that was there without one when the repository was opened, or that a ref was set to before. Each folder
+-- of a checkout that was done is its commit's tree at the end; each that stands then stood at the beginning, or a command checks out to its
+-- name; and none is told to stand in the way but one that stood at the beginning, or that another command checks out to.
 pub record Ran {F : Type 0} (limits : Limits) (view : F → Option View) (clock : F → ℕ) (was : F → ℕ → View → Type 0) (v : View) (before : ℕ) (commands : List (List Command)) (fs : F) (history : List Entry) (pending : Option Event) (replies : List (List Reply)) (w : View) : Type 0 where
   pub good : IsGood limits v.now
   pub start : State
@@ -98,6 +106,9 @@ pub record Ran {F : Type 0} (limits : Limits) (view : F → Option View) (clock 
   pub kept : AreKeptIn (was fs) begun limits lanes history w
   pub stored : (t : ℕ) (d : Disk) → before + 1 ≤ t → Left (was fs) t d → LeftGood limits (IsBegunIn start history lanes [] replies) d
   pub inside : AreInsideIn (was fs) (before + 1) (IsBegunIn start history lanes [] replies) replies
+  pub said : AreSaidIn (was fs) (before + 1) limits start history lanes replies
+  pub present : ArePresentIn (λ commit. IsSum commit × IsFinished begun.now commit) history replies
+  pub folders : AreFoldersIn limits start history lanes replies v.now w.now
 
 -- so, of lanes that these words ask for, where an input has this left
 abbrev pub RanBy : {F : Type 0} → Option (List ℕ) → List (List ℕ) → (F → Option View) → (F → ℕ) → (F → ℕ → View → Type 0) → View → ℕ → F → List Entry → Option Event → List (List Reply) → View → Type 0

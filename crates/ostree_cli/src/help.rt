@@ -19,6 +19,7 @@ Commands:
                         time and subject
   ls REV PATH           list what the commit's tree has at PATH and below
   cat REV PATH          print what the file at PATH holds, as a field
+  checkout REV NAME     lay the commit's tree out in checkout/NAME
   reset BRANCH COMMIT   make the ref name the commit
   drop BRANCH           remove the ref
   --help                print this text
@@ -27,7 +28,8 @@ Commands:
 BRANCH is the name of a ref: 1 to 12 parts of A-Z a-z 0-9 - _ . that don't
 begin with a dot, joined by /, at most 255 bytes in all, and not 64 digits.
 COMMIT is 64 digits of 0-9 a-f. REV is a BRANCH or a COMMIT. PATH is / for the
-root, or each name behind a /, at most 64 names and 1,024 bytes. A byte of a
+root, or each name behind a /, at most 64 names and 1,024 bytes. NAME is one
+name: 1 to 255 bytes of UTF-8 without / and zero, neither . nor .. A byte of a
 field may be written as % and two digits of 0-9 a-f.
 
 A script is lines that each end with a newline: ostree-script 1, then trees and

@@ -11,9 +11,13 @@ ghost use Rattle.ostree_cli.specs.declared.fault.TopFault.TheVariants as fault;
 ghost use Rattle.rely.specs.State.{first};
 ghost use Rattle.sys_core.specs.Answers.{IsTold};
 ghost use Rattle.sys_core.specs.Fit as within;
+ghost use Rattle.rely.specs.Lasting.{StaysFinished};
+ghost use Rattle.sys_core.specs.Folders.{AreFoldersIn};
+ghost use Rattle.sys_core.specs.Founded.{ArePresentIn};
 ghost use Rattle.sys_core.specs.Inside.{AreInsideIn};
 ghost use Rattle.sys_core.specs.Lasting.{AreKeptIn};
 ghost use Rattle.sys_core.specs.Replied.{Replied};
+ghost use Rattle.sys_core.specs.Said.{AreSaidIn};
 ghost use Rattle.sys_core.specs.Storing.{IsBegunIn};
 ghost use Rattle.ostree_cli.specs.Complete.{AreCausedBy};
 ghost use Rattle.ostree_cli.specs.Headline.{Headline};
@@ -70,6 +74,9 @@ fn run_opened<F: Fs>(
     ensures stored { (w : View) (t : ℕ) (d : Disk) → IfOk result (λ p. F.view p.fs ≡ Some w → opened.clock ≤ t → Left (F.was p.fs) t d → LeftGood opened.limits (IsBegunIn (first opened.refs) p.history.items lanes.items [] (map (λ replies. replies.items) p.replies.items)) d) }
     ensures caused { (v : View) → F.view opened.fs ≡ Some v → IfOk result (λ p. AreCausedBy (F.faults opened.fs) (F.faults p.fs) (map (λ replies. replies.items) p.replies.items)) }
     ensures inside { (w : View) → IfOk result (λ p. F.view p.fs ≡ Some w → AreInsideIn (F.was p.fs) opened.clock (IsBegunIn (first opened.refs) p.history.items lanes.items [] (map (λ replies. replies.items) p.replies.items)) (map (λ replies. replies.items) p.replies.items)) }
+    ensures said { (w : View) → IfOk result (λ p. F.view p.fs ≡ Some w → AreSaidIn (F.was p.fs) opened.clock opened.limits (first opened.refs) p.history.items lanes.items (map (λ replies. replies.items) p.replies.items)) }
+    ensures present { (begun : View) → F.view opened.fs ≡ Some begun → IfOk result (λ p. ArePresentIn (StaysFinished begun) p.history.items (map (λ replies. replies.items) p.replies.items)) }
+    ensures folders { (begun : View) → F.view opened.fs ≡ Some begun → IfOk result (λ p. Told (F.view p.fs) (λ w. AreFoldersIn opened.limits (first opened.refs) p.history.items lanes.items (map (λ replies. replies.items) p.replies.items) begun.now w.now)) }
     ensures back { IfErr result (λ e. (e.0 ≡ opened.fs) × (e.1 ≡ fault.NoMemory)) }
 {
     match System::new(alloc, opened, lanes) {

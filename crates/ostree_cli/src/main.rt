@@ -2,6 +2,8 @@
 #![tactic(auto)]
 
 mod asked;
+#[cfg(test)]
+mod checkout_tests;
 mod fault;
 mod help;
 mod input;

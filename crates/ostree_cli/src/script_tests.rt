@@ -98,7 +98,7 @@ const BAD_NODES: &[u8] =
     b"|tree 0|lane|end |node / 0 0 755 ~|folder / 0 0 755|folder / 0 0 0755 ~|folder / 0 0 758 ~|folder / 0 00 755 ~|folder a 0 0 755 ~|folder / 0 0 755 6A:|file /a 0 0 644 ~|file /a 0 0 644 ~ a|file /a 0 0 644 ~ =%6A|file /a 0 0 644 ~ *1:6|link /a 0 0 ~ ~|link /a 0 0 777 ~ b";
 
 const BAD_COMMANDS: &[u8] =
-    b"|lane|tree 0|End|refs ~|refs main|rev-parse|rev-parse .main|rev-parse %6Dain|log|log .main|log a b|ls main|ls main etc|ls main /etc/|ls /etc main|ls main ~|cat main|cat main /a%|cat main /.|cat main / ~|reset main 11|reset main|drop|drop a//b|commit main 0 first ~|commit main 00 first ~ 0|commit main 0 %00 ~ 0|commit main 0 first ~ -1|commit main 0 first ~ 18446744073709551616|prune";
+    b"|lane|tree 0|End|refs ~|refs main|rev-parse|rev-parse .main|rev-parse %6Dain|log|log .main|log a b|ls main|ls main etc|ls main /etc/|ls /etc main|ls main ~|cat main|cat main /a%|cat main /.|cat main / ~|checkout main|checkout main /a|checkout main ~|checkout main a b|reset main 11|reset main|drop|drop a//b|commit main 0 first ~|commit main 00 first ~ 0|commit main 0 %00 ~ 0|commit main 0 first ~ -1|commit main 0 first ~ 18446744073709551616|prune";
 
 #[test]
 fn tells_each_bad_line(rt: HostRuntime) -> Result<(), Fail> {

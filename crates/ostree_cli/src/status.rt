@@ -89,6 +89,7 @@ fn answer_status(answer: &Answer) -> u8
         | Answer::Partial(_)
         | Answer::NoPath(_)
         | Answer::NotFile(_)
+        | Answer::DestExists(_)
         | Answer::RefMoved { .. }
         | Answer::RefClash(_)
         | Answer::BadTree(_)

@@ -38,11 +38,20 @@ const TABLE: &[(&str, &str, u8)] = &[
     ("drop main", "0 0 refused NoRef\n", 1),
     ("refs", "0 0 ok 1\n a/b/c X\n", 0),
     ("drop a/b/c", "0 0 ok\n", 0),
+    ("checkout main a", "0 0 refused NoRef\n", 1),
+    ("checkout Y a", "0 0 refused NoCommit Y\n", 1),
+    ("checkout X a", "0 0 ok\n", 0),
+    ("checkout X a", "0 0 refused DestExists /checkout/a\n", 1),
+    ("checkout X a%20b", "0 0 ok\n", 0),
+    ("checkout Y a%20b", "0 0 refused NoCommit Y\n", 1),
     ("rev-parse", "fault usage\n", 2),
     ("rev-parse .main", "fault usage\n", 2),
     ("log", "fault usage\n", 2),
     ("ls main", "fault usage\n", 2),
     ("cat main a", "fault usage\n", 2),
+    ("checkout main", "fault usage\n", 2),
+    ("checkout main a/b", "fault usage\n", 2),
+    ("checkout main ..", "fault usage\n", 2),
     ("init now", "fault usage\n", 2),
     ("refs main", "fault usage\n", 2),
     ("commit main", "fault usage\n", 2),
@@ -59,6 +68,7 @@ const PARTIAL: &[(&str, &str, u8)] = &[
     ("log X", "0 0 refused Partial X\n", 1),
     ("ls X /", "0 0 refused Partial X\n", 1),
     ("cat X /", "0 0 refused Partial X\n", 1),
+    ("checkout X a", "0 0 refused Partial X\n", 1),
     ("refs", "0 0 ok 0\n", 0),
 ];
 
@@ -445,6 +455,7 @@ const HEADER: &[u8] = &[
 fn answers_over_the_host(rt: HostRuntime) -> Result<(), Fail> {
     let alloc = rt.alloc();
     let _ = fs::remove_dir_all(&rt, "ostree");
+    let _ = fs::remove_dir_all(&rt, "checkout");
     add_commit(&mut HostFs::new(rt.clone()?)?, alloc)?;
     for (line, output, status) in TABLE {
         let host = HostFs::new(rt.clone()?)?;
@@ -461,6 +472,7 @@ fn answers_over_the_host(rt: HostRuntime) -> Result<(), Fail> {
         let (_, same) = answers(alloc, host, line, output, *status)?;
         assert!(rt; same, "{line}");
     }
+    fs::remove_dir_all(&rt, "checkout")?;
     fs::remove_dir_all(&rt, "ostree")?;
     Ok(())
 }

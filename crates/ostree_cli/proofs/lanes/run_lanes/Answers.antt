@@ -1,5 +1,7 @@
 use Rattle.std.proofs.Common.{sym, subst}
+use Rattle.rely.specs.State.{first}
 use Rattle.sys_core.specs.Fit.{AreFit}
+use Rattle.sys_core.proofs.Founding.{finished_opened}
 use Rattle.ostree_cli.proofs.Completing.{caused_since}
 use Rattle.ostree_cli.proofs.Fits.{few_lanes, fit_within, short_lanes}
 use Rattle.ostree_cli.proofs.Outcomes.{back_from}
@@ -18,7 +20,8 @@ returns-in-Ok-clause-ran g c = λ v told.
     let o = c.in-Ok.ensures in
     let begins = o.begins v told in
     ran c.args.limits c.in-Ok.opened.limits g.F.Fs.view g.F.Fs.clock g.F.Fs.was v (g.F.Fs.clock c.args.fs) c.in-Ok.opened.clock c.in-Ok.opened.refs c.args.lanes.items c.run_opened.result
-    o.begun.1 (o.good v told) (same_refs (g.F.Fs.view c.in-Ok.opened.fs) c.in-Ok.opened.refs v begins) o.opened.is begins.0 begins.2 c.run_opened.ensures.ran c.run_opened.ensures.replied c.run_opened.ensures.ended (c.run_opened.ensures.kept begins.0 begins.1) c.run_opened.ensures.stored c.run_opened.ensures.inside
+    o.begun.1 (o.good v told) (same_refs (g.F.Fs.view c.in-Ok.opened.fs) c.in-Ok.opened.refs v begins) o.opened.is begins.0 begins.2 c.run_opened.ensures.ran c.run_opened.ensures.replied c.run_opened.ensures.ended (c.run_opened.ensures.kept begins.0 begins.1) c.run_opened.ensures.stored c.run_opened.ensures.inside c.run_opened.ensures.said
+    (finished_opened (first c.in-Ok.opened.refs) begins.0 begins.2.opening (g.met.F.Fs.tree c.in-Ok.opened.fs begins.0 begins.1)) (c.run_opened.ensures.present begins.0 begins.1) (c.run_opened.ensures.folders begins.0 begins.1)
 
 pub returns-in-Ok-clause-undone : goal.returns-in-Ok-clause-undone
 returns-in-Ok-clause-undone g c = λ v told. back_from _ _ c.in-Ok.opened.fs c.run_opened.result c.run_opened.ensures.back (c.in-Ok.ensures.works v told)

@@ -4,9 +4,10 @@ use Rattle.script.specs.declared.command.Lane.{Lane}
 use Rattle.ostree_cli.specs.Top.{event_of}
 use Rattle.sys_core.specs.Answers.{IsTold}
 use Rattle.ostree_cli.proofs.Plain.{parted}
-use Rattle.ostree_cli.proofs.Rans.{kept_parts, replied_parts}
+use Rattle.ostree_cli.proofs.Rans.{kept_parts, replied_parts, said_parts}
 use Rattle.rely.specs.State.{first}
 use Rattle.sys_core.specs.Storing.{AreStored}
+use Rattle.ostree_cli.proofs.Checkouts.{folders_left}
 use Rattle.ostree_cli.proofs.Lefts.{inside_left, left_good}
 use Rattle.ostree_cli.proofs.lanes.run_opened.Goals as goal
 
@@ -74,3 +75,31 @@ returns-in-Ok-clause-inside g c = λ w told.
     inside_left (g.F.Fs.was p.fs) (first s.base.books.start.items) (first c.args.opened.refs) s.base.books.opened c.args.opened.clock p.lanes.items c.args.lanes.items p.history.items s.started (map (λ replies. replies.items) p.replies.items)
     (ap first (c.drive.ensures.later.0 ∙ c.in-Ok.ensures.start)) (c.drive.ensures.later.1 ∙ c.in-Ok.ensures.opened) (parts.lanes ∙ c.drive.ensures.lanes ∙ c.in-Ok.ensures.lanes)
     (returns-in-Ok-clause-ended g c) (parts.inside (c.drive.ensures.inside first_view.0 first_view.1 at_start c.in-Ok.ensures.inside))
+
+pub returns-in-Ok-clause-said : goal.returns-in-Ok-clause-said
+returns-in-Ok-clause-said g c = λ w told.
+    let s = c.drive.new.self in
+    let p = c.into_parts.result in
+    let parts = c.into_parts.ensures in
+    let first_view = g.met.F.Fs.told p.fs c.in-Ok.system.base.fs w told in
+    said_parts (g.F.Fs.was p.fs) s.base.books.opened c.args.opened.clock s.limits c.args.opened.limits (first s.base.books.start.items) (first c.args.opened.refs) p.history.items p.lanes.items c.args.lanes.items (map (λ replies. replies.items) p.replies.items)
+    (c.drive.ensures.later.4 ∙ c.in-Ok.ensures.limits) (ap first (c.drive.ensures.later.0 ∙ c.in-Ok.ensures.start)) (c.drive.ensures.later.1 ∙ c.in-Ok.ensures.opened) (parts.lanes ∙ c.drive.ensures.lanes ∙ c.in-Ok.ensures.lanes)
+    (parts.said (c.drive.ensures.said first_view.0 first_view.1 c.in-Ok.ensures.said))
+
+pub returns-in-Ok-clause-present : goal.returns-in-Ok-clause-present
+returns-in-Ok-clause-present g c = λ begun told.
+    let there = ap g.F.Fs.view c.in-Ok.ensures.fs ∙ told in
+    let after = c.drive.ensures.founded begun begun there (c.in-Ok.ensures.good begun there) (c.in-Ok.ensures.founded begun) in
+    (c.into_parts.ensures.founded begun after.0 after.2).present
+
+pub returns-in-Ok-clause-folders : goal.returns-in-Ok-clause-folders
+returns-in-Ok-clause-folders g c = λ begun told.
+    let s = c.drive.new.self in
+    let p = c.into_parts.result in
+    let parts = c.into_parts.ensures in
+    let after = c.drive.ensures.folders begun.now begun (ap g.F.Fs.view c.in-Ok.ensures.fs ∙ told) (c.in-Ok.ensures.folders begun) in (
+      after.0,
+      ap g.F.Fs.view parts.fs ∙ after.1,
+      folders_left s.limits c.args.opened.limits (first s.base.books.start.items) (first c.args.opened.refs) p.history.items p.lanes.items c.args.lanes.items (map (λ replies. replies.items) p.replies.items) begun.now after.0.now
+          (c.drive.ensures.later.4 ∙ c.in-Ok.ensures.limits) (ap first (c.drive.ensures.later.0 ∙ c.in-Ok.ensures.start)) (parts.lanes ∙ c.drive.ensures.lanes ∙ c.in-Ok.ensures.lanes) (parts.folders begun.now after.0 after.2),
+    )

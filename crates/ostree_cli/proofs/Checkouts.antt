@@ -1,0 +1,66 @@
+-- The folders of checkouts, from the disk at the beginning to the end of a run.
+use Rattle.std.proofs.Common.{◌≡◌, ◌≢◌, inl, inr, ⊎_elim, ℕ, sym, ◌∙◌, ap, subst, arith, List, [], append-nil}
+use Rattle.ost_types.specs.declared.limits.Limits.{Limits}
+use Rattle.ost_types.specs.Path.{Name}
+use Rattle.ost_types.proofs.Paths.{is_below-self}
+use Rattle.fs_trait.specs.Seen.{Seen, Vacant, shows}
+use Rattle.fs_trait.specs.View.{Disk}
+use Rattle.repo_layout.specs.BootPaths.{checkout_path}
+use Rattle.repo_layout.specs.declared.folder.Folder.{Folder}
+use Rattle.repo_layout.specs.Paths.{config_path, folder_path, stage_path}
+use Rattle.repo_layout.specs.Place.{Checkout, Config, Other, Stage, place}
+use Rattle.repo_layout.proofs.Places.{place-checkout, place-config, place-stage}
+use Rattle.layout_rules.proofs.Layouts.{fixed_other}
+use Rattle.rely.specs.declared.books.Entry.{Entry}
+use Rattle.rely.specs.State.{State}
+use Rattle.script.specs.declared.answer.Reply.{Reply}
+use Rattle.script.specs.declared.command.Lane.{Lane}
+use Rattle.sys_core.specs.Folders.{AreFoldersIn, IsNamed, IsTaken}
+use Rattle.sys_open.specs.Changes.{Changes, Keeps, Puts, file_meta}
+use Rattle.repo_config.specs.Config.{config_text}
+
+-- an opening puts nothing in a checkout's place
+not_laid : (name : Name) (f : Folder) → checkout_path name ≡ folder_path f → ⊥
+not_laid name f is = let n : Checkout name [] ≡ Other (folder_path f) = sym (place-checkout name []) ∙ ap place is ∙ fixed_other f (folder_path f) (is_below-self (folder_path f)) in cc
+
+not_staged : (name : Name) → checkout_path name ≡ stage_path 0 → ⊥
+not_staged name is = let n : Checkout name [] ≡ Stage 0 = sym (place-checkout name []) ∙ ap place (is ∙ sym (append-nil (stage_path 0))) ∙ place-stage 0 [] (omega arith) in cc
+
+not_config : (name : Name) → checkout_path name ≡ config_path → ⊥
+not_config name is = let n : Checkout name [] ≡ Config = sym (place-checkout name []) ∙ ap place is ∙ place-config in cc
+
+not_put : (name : Name) (s : Seen) → Puts (stage_path 0) config_path file_meta config_text (checkout_path name) s → ⊥
+not_put name s (inl staged) = not_staged name staged.0
+not_put name s (inr put) = not_config name put.0
+
+only_cleared : (d : Disk) (name : Name) (s : Seen) → Changes d (checkout_path name) s → s ≡ Vacant
+only_cleared d name s (inl lays) = absurd (not_laid name lays.0.0 lays.0.1)
+only_cleared d name s (inr (inl clears)) = clears.2.1
+only_cleared d name s (inr (inr puts)) = absurd (not_put name s puts.puts)
+
+-- so what stands after it stood before
+stood : (d e : Disk) → Keeps d e → (name : Name) → shows e (checkout_path name) ≢ Vacant → shows d (checkout_path name) ≢ Vacant
+stood d e keeps name there none = ⊎_elim (λ same. there (same ∙ none)) (λ changed. there (only_cleared d name (shows e (checkout_path name)) changed)) (keeps (checkout_path name))
+
+named_before : (lanes : List Lane) (d e : Disk) → Keeps d e → (name : Name) → IsNamed lanes e name → IsNamed lanes d name
+named_before lanes d e keeps name (inl there) = inl (stood d e keeps name there)
+named_before lanes d e keeps name (inr by) = inr by
+
+taken_before : (lanes : List Lane) (d e : Disk) → Keeps d e → (name : Name) (lane number : ℕ) → IsTaken lanes e name lane number → IsTaken lanes d name lane number
+taken_before lanes d e keeps name lane number (inl there) = inl (stood d e keeps name there)
+taken_before lanes d e keeps name lane number (inr by) = inr by
+
+pub folders_before : (limits : Limits) (begin : State) (h : List Entry) (lanes : List Lane) (replies : List (List Reply)) (d e now : Disk) → Keeps d e → AreFoldersIn limits begin h lanes replies e now → AreFoldersIn limits begin h lanes replies d now
+folders_before limits begin h lanes replies d e now keeps is = record {
+  done = is.done;
+  made = λ name there. named_before lanes d e keeps name (is.made name there);
+  taken = λ lane number r rev name path to command exists. taken_before lanes d e keeps name lane number (is.taken lane number r rev name path to command exists);
+}
+
+-- what is said of the folders of a system is said of what it was taken apart into
+pub folders_left : (limits limits' : Limits) (begin begin' : State) (h : List Entry) (lanes lanes' : List Lane) (replies : List (List Reply)) (opening now : Disk)
+    → limits ≡ limits' → begin ≡ begin' → lanes ≡ lanes' → AreFoldersIn limits begin h lanes replies opening now → AreFoldersIn limits' begin' h lanes' replies opening now
+folders_left limits limits' begin begin' h lanes lanes' replies opening now limits-is begin-is lanes-is is =
+    subst (λ x. AreFoldersIn x begin' h lanes' replies opening now) limits-is
+    (subst (λ x. AreFoldersIn limits x h lanes' replies opening now) begin-is
+    (subst (λ x. AreFoldersIn limits begin h x replies opening now) lanes-is is))
