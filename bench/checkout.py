@@ -7,12 +7,11 @@ the opening alone, with which each run begins, and which `ostree` doesn't make. 
 """
 import os
 import shutil
-import subprocess
 import sys
 import tempfile
 
 from opening import files
-from run import PROGRAM, TIME, apart, large_files, measured, prepare, small_files
+from run import PROGRAM, apart, committed, large_files, measured, ratios, report, small_files
 
 SCRIPT = b"ostree-script 1\nlane\ncheckout main there\nend\n"
 # The attributes of a folder stand in a file of this name on the host.
@@ -39,25 +38,12 @@ def check_same(place):
         os._exit(1)
 
 
-def commit_both(place):
-    subprocess.run(["ostree", "--repo=R", "init", "--mode=bare"], cwd=place, check=True)
-    subprocess.run(
-        ["ostree", "--repo=R", "commit", "--no-bindings", "--no-xattrs", f"--timestamp=@{TIME}", "--branch=main", "--subject=first", "--tree=dir=tree"],
-        cwd=place,
-        check=True,
-        stdout=subprocess.DEVNULL,
-    )
-    os.mkdir(f"{place}/ours")
-    measured([PROGRAM, "run"], f"{place}/ours", f"{place}/script")
-    with open(f"{place}/checkout", "wb") as it:
-        it.write(SCRIPT)
-
-
 def compare(name, tree, folder):
     place = tempfile.mkdtemp(dir=folder)
     try:
-        apart(lambda: prepare(tree, place))
-        commit_both(place)
+        committed(tree, place)
+        with open(f"{place}/checkout", "wb") as it:
+            it.write(SCRIPT)
         opening = measured([PROGRAM, "init"], f"{place}/ours")
         theirs = measured(["ostree", "--repo=R", "checkout", "-H", "main", "theirs"], place)
         ours = measured([PROGRAM, "run"], f"{place}/ours", f"{place}/checkout")
@@ -65,9 +51,8 @@ def compare(name, tree, folder):
             sys.exit(f"{name}: {ours[0]}")
         apart(lambda: check_same(place), f"{name}: the folders differ, or a file was copied")
         print(name)
-        for who, (_, seconds, busy, memory) in (("ostree checkout -H", theirs), ("ostree_cli run", ours), ("ostree_cli init", opening)):
-            print(f"  {who}: {seconds:.2f} s, {busy:.2f} s of the processor, {memory:.0f} MiB")
-        print(f"  run / checkout: time {ours[1] / theirs[1]:.1f}, processor {ours[2] / theirs[2]:.1f}, memory {ours[3] / theirs[3]:.1f}")
+        report((("ostree checkout -H", theirs), ("ostree_cli run", ours), ("ostree_cli init", opening)))
+        ratios("run / checkout", ours, theirs)
         beyond = ours[1] - opening[1]
         print(f"  run beyond init: {beyond:.2f} s, {beyond / theirs[1]:.1f} of ostree's", flush=True)
     finally:

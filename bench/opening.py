@@ -4,13 +4,11 @@
 
     bench/opening.py [FOLDER]
 """
-import os
 import shutil
-import subprocess
 import sys
 import tempfile
 
-from run import PROGRAM, TIME, apart, large_files, measured, prepare
+from run import PROGRAM, committed, large_files, measured, ratios, report
 
 
 def files(number):
@@ -25,22 +23,12 @@ def files(number):
 def compare(name, tree, folder):
     place = tempfile.mkdtemp(dir=folder)
     try:
-        apart(lambda: prepare(tree, place))
-        subprocess.run(["ostree", "--repo=R", "init", "--mode=bare"], cwd=place, check=True)
-        subprocess.run(
-            ["ostree", "--repo=R", "commit", "--no-bindings", "--no-xattrs", f"--timestamp=@{TIME}", "--branch=main", "--subject=first", "--tree=dir=tree"],
-            cwd=place,
-            check=True,
-            stdout=subprocess.DEVNULL,
-        )
-        os.mkdir(f"{place}/ours")
-        measured([PROGRAM, "run"], f"{place}/ours", f"{place}/script")
+        committed(tree, place)
         theirs = measured(["ostree", "--repo=R", "fsck", "-q"], place)
         ours = measured([PROGRAM, "init"], f"{place}/ours")
         print(name)
-        for who, (_, seconds, busy, memory) in (("ostree fsck", theirs), ("ostree_cli init", ours)):
-            print(f"  {who}: {seconds:.2f} s, {busy:.2f} s of the processor, {memory:.0f} MiB")
-        print(f"  init / fsck: time {ours[1] / theirs[1]:.1f}, processor {ours[2] / theirs[2]:.1f}, memory {ours[3] / theirs[3]:.1f}", flush=True)
+        report((("ostree fsck", theirs), ("ostree_cli init", ours)))
+        ratios("init / fsck", ours, theirs)
     finally:
         shutil.rmtree(place)
 

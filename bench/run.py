@@ -90,24 +90,39 @@ def measured(words, folder, script=os.devnull):
     return output, seconds, used.ru_utime + used.ru_stime, used.ru_maxrss / 1024
 
 
+def committed(tree, place):
+    """Makes the tree and its script there, and commits it with both: what each commit came to."""
+    apart(lambda: prepare(tree, place))
+    subprocess.run(["ostree", "--repo=R", "init", "--mode=bare"], cwd=place, check=True)
+    theirs = measured(
+        ["ostree", "--repo=R", "commit", "--no-bindings", "--no-xattrs", f"--timestamp=@{TIME}", "--branch=main", "--subject=first", "--tree=dir=tree"],
+        place,
+    )
+    os.mkdir(f"{place}/ours")
+    return theirs, measured([PROGRAM, "run"], f"{place}/ours", f"{place}/script")
+
+
+def report(runs):
+    """Prints what each run cost."""
+    for who, (_, seconds, busy, memory) in runs:
+        print(f"  {who}: {seconds:.2f} s, {busy:.2f} s of the processor, {memory:.0f} MiB")
+
+
+def ratios(what, ours, theirs):
+    """Prints our run's cost over theirs."""
+    print(f"  {what}: time {ours[1] / theirs[1]:.1f}, processor {ours[2] / theirs[2]:.1f}, memory {ours[3] / theirs[3]:.1f}", flush=True)
+
+
 def compare(name, tree, folder):
     place = tempfile.mkdtemp(dir=folder)
     try:
-        apart(lambda: prepare(tree, place))
-        subprocess.run(["ostree", "--repo=R", "init", "--mode=bare"], cwd=place, check=True)
-        theirs = measured(
-            ["ostree", "--repo=R", "commit", "--no-bindings", "--no-xattrs", f"--timestamp=@{TIME}", "--branch=main", "--subject=first", "--tree=dir=tree"],
-            place,
-        )
-        os.mkdir(f"{place}/ours")
-        ours = measured([PROGRAM, "run"], f"{place}/ours", f"{place}/script")
+        theirs, ours = committed(tree, place)
         again = measured([PROGRAM, "refs"], f"{place}/ours")
         if ours[0].split()[-1] != theirs[0].strip():
             sys.exit(f"{name}: the commits differ: {ours[0]}{theirs[0]}")
         print(f"{name}: the same commit, {theirs[0].strip()}")
-        for who, (_, seconds, busy, memory) in (("ostree commit", theirs), ("ostree_cli run", ours), ("ostree_cli refs, behind it", again)):
-            print(f"  {who}: {seconds:.2f} s, {busy:.2f} s of the processor, {memory:.0f} MiB")
-        print(f"  run / commit: time {ours[1] / theirs[1]:.1f}, processor {ours[2] / theirs[2]:.1f}, memory {ours[3] / theirs[3]:.1f}")
+        report((("ostree commit", theirs), ("ostree_cli run", ours), ("ostree_cli refs, behind it", again)))
+        ratios("run / commit", ours, theirs)
     finally:
         shutil.rmtree(place)
 
