@@ -1,7 +1,7 @@
 //! The current folder of the machine as a file system, with its counts.
 ghost use Rattle.std.specs.Prelude.{◌≡◌, ◌<◌, None, OnOk, OnErr, IfErr, IfOk};
 ghost use Rattle.fs_trait.specs.Count.{last, Rose};
-ghost use Rattle.fs_trait.specs.Effect.{Next, HasCause};
+ghost use Rattle.fs_trait.specs.Effect.{Next, HasCause, IsCounted};
 ghost use Rattle.fs_host.specs.Laws.{not_told};
 ghost use Rattle.fs_host.specs.Refusal.{answered, IsClockAfter};
 
@@ -47,6 +47,7 @@ impl<R: Files + AllocGlobal + Clone + Drop> HostFs<R> {
         ensures stops { OnErr result (self.old.clock ≡ last) }
         ensures same { OnErr result (self.new.clock ≡ self.old.clock) }
         ensures cause { HasCause self.old.faults self.new.faults result }
+        ensures counts { IsCounted self.old.faults self.new.faults result }
     {
         match self.clock.checked_add(1) {
             Some(clock) => {
@@ -63,6 +64,7 @@ impl<R: Files + AllocGlobal + Clone + Drop> HostFs<R> {
         ensures folder { self.new.folder ≡ self.old.folder }
         ensures clock { self.new.clock ≡ self.old.clock }
         ensures cause { HasCause self.old.faults self.new.faults result }
+        ensures counts { IsCounted self.old.faults self.new.faults result }
     {
         if let Err(FsErr::Failed) = &outcome {
             self.faults = self.faults.saturating_add(1);
@@ -75,6 +77,7 @@ impl<R: Files + AllocGlobal + Clone + Drop> HostFs<R> {
         ensures folder { self.new.folder ≡ self.old.folder }
         ensures clock { self.new.clock ≡ self.old.clock }
         ensures cause { HasCause self.old.faults self.new.faults result }
+        ensures counts { IsCounted self.old.faults self.new.faults result }
     {
         self.counted(outcome.map_err(FsErr::from))
     }
@@ -86,6 +89,7 @@ impl<R: Files + AllocGlobal + Clone + Drop> HostFs<R> {
         ensures folder { self.new.folder ≡ self.old.folder }
         ensures clock { IsClockAfter self.old.clock self.new.clock result }
         ensures cause { HasCause self.old.faults self.new.faults result }
+        ensures counts { IsCounted self.old.faults self.new.faults result }
     {
         if let Err(FsErr::NoMemory) = &outcome {
             self.clock -= 1;

@@ -1,5 +1,6 @@
-ghost use Rattle.std.specs.Prelude.{◌≤◌, ◌↔◌, Contains, IsTrue};
-ghost use Rattle.fs_trait.specs.Count.{Rose};
+ghost use Rattle.std.specs.Prelude.{◌≡◌, ◌⊎◌, ◌≤◌, ◌↔◌, Contains, IsTrue};
+ghost use Rattle.fs_trait.specs.Count.{last, Rose};
+ghost use Rattle.fs_trait.specs.Effect.{Next};
 ghost use Rattle.fs_memory.specs.Calls.{IsNext};
 
 /// The number of the next call. It stops at its last value, which no plan can name.
@@ -20,6 +21,7 @@ pub fn is_listed(fail: &[u64], call: u128) -> bool
 pub fn one_more(faults: u64) -> u64
     ensures later { faults ≤ result }
     ensures rose { Rose faults result }
+    ensures one { Next faults result ⊎ ((faults ≡ last) × (result ≡ faults)) }
 {
     faults.saturating_add(1)
 }

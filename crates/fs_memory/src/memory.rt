@@ -4,7 +4,7 @@ ghost use Rattle.fs_trait.specs.Count.{last};
 ghost use Rattle.fs_trait.specs.Image.{Image};
 ghost use Rattle.ost_types.specs.Mode.{IsFolderMode, IsFileMode, IsLinkMode};
 ghost use Rattle.fs_trait.specs.View.{View, named, created, moved, extended, file_synced, folder_synced, all_synced};
-ghost use Rattle.fs_trait.specs.Effect.{no_new, no_file, no_leaf, no_move, no_folder, no_link, no_rmdir, inode_of, part, one_inode, OfPlacing, OfFinding, OfEmptying, OfNone, HasNames, IsFresh, IsNode, IsListing, Changed, Created, Removed, Answered, Elapses, Ticks, IsQuiet, HasCause, TakesRoom};
+ghost use Rattle.fs_trait.specs.Effect.{no_new, no_file, no_leaf, no_move, no_folder, no_link, no_rmdir, inode_of, part, one_inode, OfPlacing, OfFinding, OfEmptying, OfNone, HasNames, IsFresh, IsNode, IsListing, Changed, Created, Removed, Answered, Elapses, Ticks, IsQuiet, HasCause, IsCounted, TakesRoom};
 ghost use Rattle.fs_trait.specs.declared.types.Value.TheVariants.{Absent, Folder, Link};
 ghost use Rattle.fs_trait.specs.declared.types.FsErr.{FsErr};
 ghost use Rattle.fs_trait.specs.declared.types.FsErr.TheVariants as error;
@@ -72,7 +72,8 @@ fn settle(change: Result<Change, FsErr>, done: Option<bool>) -> Option<Outcome>
 }
 
 fn raised(faults: u64, answer: &Result<(), FsErr>) -> u64
-    ensures { HasCause faults result answer.now }
+    ensures cause { HasCause faults result answer.now }
+    ensures counts { IsCounted faults result answer.now }
 {
     match answer {
         Ok(_) => faults,
@@ -153,6 +154,7 @@ impl MemFs {
         ensures ticks { Ticks (clock_of self.old) (clock_of self.new) result }
         ensures stops { clock_of self.old ≡ last → Some (view_now self.new) ≡ Some (view_now self.old) }
         ensures cause { HasCause self.old.faults self.new.faults result }
+        ensures counts { IsCounted self.old.faults self.new.faults result }
         ensures number { CountsCall self.old self.new }
         ensures base { self.new.base ≡ self.old.base }
         ensures pools { KeepsPools self.old self.new }
@@ -175,6 +177,7 @@ impl MemFs {
         ensures changes { KeepsRecord self.old self.new }
         ensures pools { KeepsPools self.old self.new }
         ensures cause { HasCause self.old.faults self.new.faults result }
+        ensures counts { IsCounted self.old.faults self.new.faults result }
         ensures failed { OnErr result (IsErrOf result error.Failed) }
         ensures plan { IsTurn (planned_call self.old self.new) result }
         ensures number { CountsCall self.old self.new }
@@ -209,6 +212,7 @@ impl Fs for MemFs {
         ensures ticks { Ticks (clock_of self.old) (clock_of self.new) result }
         ensures stops { clock_of self.old ≡ last → Some (view_now self.new) ≡ Some (view_now self.old) }
         ensures cause { HasCause (faults_of self.old) (faults_of self.new) result }
+        ensures counts { IsCounted (faults_of self.old) (faults_of self.new) result }
         ensures room { TakesRoom false (room_of self.old) (room_of self.new) result }
         ensures number { CountsCall self.old self.new }
         ensures plan { Obeys (planned_call self.old self.new) (no_new at.now (view_now self.old).now) (view_now self.old) (named at.now (Folder meta.now) (view_now self.old)) result (view_now self.new) }
@@ -225,6 +229,7 @@ impl Fs for MemFs {
         ensures ticks { Ticks (clock_of self.old) (clock_of self.new) result }
         ensures stops { clock_of self.old ≡ last → Some (view_now self.new) ≡ Some (view_now self.old) }
         ensures cause { HasCause (faults_of self.old) (faults_of self.new) result }
+        ensures counts { IsCounted (faults_of self.old) (faults_of self.new) result }
         ensures room { TakesRoom false (room_of self.old) (room_of self.new) result }
         ensures number { CountsCall self.old self.new }
         ensures plan { (n : ℕ) × IsFresh n (view_now self.old) × Obeys (planned_call self.old self.new) (no_new at.now (view_now self.old).now) (view_now self.old) (created at.now meta.now n (view_now self.old)) result (view_now self.new) }
@@ -240,6 +245,7 @@ impl Fs for MemFs {
         ensures ticks { Ticks (clock_of self.old) (clock_of self.new) result }
         ensures stops { clock_of self.old ≡ last → Some (view_now self.new) ≡ Some (view_now self.old) }
         ensures cause { HasCause (faults_of self.old) (faults_of self.new) result }
+        ensures counts { IsCounted (faults_of self.old) (faults_of self.new) result }
         ensures room { TakesRoom false (room_of self.old) (room_of self.new) result }
         ensures number { CountsCall self.old self.new }
         ensures plan { Obeys (planned_call self.old self.new) (no_file at.now (view_now self.old).now) (view_now self.old) (extended (inode_of ((view_now self.old).now.at at.now)) bytes.now (view_now self.old)) result (view_now self.new) }
@@ -257,6 +263,7 @@ impl Fs for MemFs {
         ensures ticks { Ticks (clock_of self.old) (clock_of self.new) result }
         ensures stops { clock_of self.old ≡ last → Some (view_now self.new) ≡ Some (view_now self.old) }
         ensures cause { HasCause (faults_of self.old) (faults_of self.new) result }
+        ensures counts { IsCounted (faults_of self.old) (faults_of self.new) result }
         ensures room { TakesRoom false (room_of self.old) (room_of self.new) result }
         ensures number { CountsCall self.old self.new }
         ensures plan { Obeys (planned_call self.old self.new) (no_new at.now (view_now self.old).now) (view_now self.old) (named at.now (Link meta.now target.now) (view_now self.old)) result (view_now self.new) }
@@ -272,6 +279,7 @@ impl Fs for MemFs {
         ensures ticks { Ticks (clock_of self.old) (clock_of self.new) result }
         ensures stops { clock_of self.old ≡ last → Some (view_now self.new) ≡ Some (view_now self.old) }
         ensures cause { HasCause (faults_of self.old) (faults_of self.new) result }
+        ensures counts { IsCounted (faults_of self.old) (faults_of self.new) result }
         ensures room { TakesRoom false (room_of self.old) (room_of self.new) result }
         ensures number { CountsCall self.old self.new }
         ensures plan { Obeys (planned_call self.old self.new) (no_link from.now to.now (view_now self.old).now) (view_now self.old) (named to.now ((view_now self.old).now.at from.now) (view_now self.old)) result (view_now self.new) }
@@ -294,6 +302,7 @@ impl Fs for MemFs {
         ensures ticks { Ticks (clock_of self.old) (clock_of self.new) result }
         ensures stops { clock_of self.old ≡ last → Some (view_now self.new) ≡ Some (view_now self.old) }
         ensures cause { HasCause (faults_of self.old) (faults_of self.new) result }
+        ensures counts { IsCounted (faults_of self.old) (faults_of self.new) result }
         ensures room { TakesRoom true (room_of self.old) (room_of self.new) result }
         ensures number { CountsCall self.old self.new }
         ensures plan { Obeys (planned_call self.old self.new) (no_leaf at.now (view_now self.old).now) (view_now self.old) (named at.now Absent (view_now self.old)) result (view_now self.new) }
@@ -309,6 +318,7 @@ impl Fs for MemFs {
         ensures ticks { Ticks (clock_of self.old) (clock_of self.new) result }
         ensures stops { clock_of self.old ≡ last → Some (view_now self.new) ≡ Some (view_now self.old) }
         ensures cause { HasCause (faults_of self.old) (faults_of self.new) result }
+        ensures counts { IsCounted (faults_of self.old) (faults_of self.new) result }
         ensures room { TakesRoom true (room_of self.old) (room_of self.new) result }
         ensures number { CountsCall self.old self.new }
         ensures plan { (b : Bool) × HasNames b at.now (view_now self.old).now × Obeys (planned_call self.old self.new) (no_rmdir b at.now (view_now self.old).now) (view_now self.old) (named at.now Absent (view_now self.old)) result (view_now self.new) }
@@ -325,6 +335,7 @@ impl Fs for MemFs {
         ensures ticks { Ticks (clock_of self.old) (clock_of self.new) result }
         ensures stops { clock_of self.old ≡ last → Some (view_now self.new) ≡ Some (view_now self.old) }
         ensures cause { HasCause (faults_of self.old) (faults_of self.new) result }
+        ensures counts { IsCounted (faults_of self.old) (faults_of self.new) result }
         ensures room { TakesRoom true (room_of self.old) (room_of self.new) result }
         ensures number { CountsCall self.old self.new }
         ensures plan { Obeys (planned_call self.old self.new) (no_move from.now to.now (view_now self.old).now) (view_now self.old) (moved from.now to.now (view_now self.old)) result (view_now self.new) }
@@ -340,6 +351,7 @@ impl Fs for MemFs {
         ensures ticks { Ticks (clock_of self.old) (clock_of self.new) result }
         ensures stops { clock_of self.old ≡ last → Some (view_now self.new) ≡ Some (view_now self.old) }
         ensures cause { HasCause (faults_of self.old) (faults_of self.new) result }
+        ensures counts { IsCounted (faults_of self.old) (faults_of self.new) result }
         ensures room { TakesRoom true (room_of self.old) (room_of self.new) result }
         ensures number { CountsCall self.old self.new }
         ensures plan { Obeys (planned_call self.old self.new) (no_file at.now (view_now self.old).now) (view_now self.old) (file_synced (inode_of ((view_now self.old).now.at at.now)) (view_now self.old)) result (view_now self.new) }
@@ -355,6 +367,7 @@ impl Fs for MemFs {
         ensures ticks { Ticks (clock_of self.old) (clock_of self.new) result }
         ensures stops { clock_of self.old ≡ last → Some (view_now self.new) ≡ Some (view_now self.old) }
         ensures cause { HasCause (faults_of self.old) (faults_of self.new) result }
+        ensures counts { IsCounted (faults_of self.old) (faults_of self.new) result }
         ensures room { TakesRoom true (room_of self.old) (room_of self.new) result }
         ensures number { CountsCall self.old self.new }
         ensures plan { Obeys (planned_call self.old self.new) (no_folder at.now (view_now self.old).now) (view_now self.old) (folder_synced at.now (view_now self.old)) result (view_now self.new) }
@@ -370,6 +383,7 @@ impl Fs for MemFs {
         ensures ticks { Ticks (clock_of self.old) (clock_of self.new) result }
         ensures stops { clock_of self.old ≡ last → Some (view_now self.new) ≡ Some (view_now self.old) }
         ensures cause { HasCause (faults_of self.old) (faults_of self.new) result }
+        ensures counts { IsCounted (faults_of self.old) (faults_of self.new) result }
         ensures room { TakesRoom true (room_of self.old) (room_of self.new) result }
         ensures number { CountsCall self.old self.new }
         ensures plan { Obeys (planned_call self.old self.new) None (view_now self.old) (all_synced (view_now self.old)) result (view_now self.new) }
@@ -397,6 +411,7 @@ impl Fs for MemFs {
         ensures quiet { IsQuiet (clock_of self.old) (clock_of self.new) (was_since self.old) (was_since self.new) (Some (view_now self.old)) (Some (view_now self.new)) }
         ensures keeps_room { (room_of self.old) ≤ (room_of self.new) }
         ensures cause { HasCause (faults_of self.old) (faults_of self.new) result }
+        ensures counts { IsCounted (faults_of self.old) (faults_of self.new) result }
         ensures number { CountsCall self.old self.new }
         ensures plan { ObeysReading (planned_call self.old self.new) result }
     {
@@ -410,6 +425,7 @@ impl Fs for MemFs {
         ensures quiet { IsQuiet (clock_of self.old) (clock_of self.new) (was_since self.old) (was_since self.new) (Some (view_now self.old)) (Some (view_now self.new)) }
         ensures keeps_room { (room_of self.old) ≤ (room_of self.new) }
         ensures cause { HasCause (faults_of self.old) (faults_of self.new) result }
+        ensures counts { IsCounted (faults_of self.old) (faults_of self.new) result }
         ensures number { CountsCall self.old self.new }
         ensures plan { ObeysReading (planned_call self.old self.new) result }
     {
@@ -424,6 +440,7 @@ impl Fs for MemFs {
         ensures quiet { IsQuiet (clock_of self.old) (clock_of self.new) (was_since self.old) (was_since self.new) (Some (view_now self.old)) (Some (view_now self.new)) }
         ensures keeps_room { (room_of self.old) ≤ (room_of self.new) }
         ensures cause { HasCause (faults_of self.old) (faults_of self.new) result }
+        ensures counts { IsCounted (faults_of self.old) (faults_of self.new) result }
         ensures number { CountsCall self.old self.new }
         ensures plan { ObeysReading (planned_call self.old self.new) result }
     {
@@ -437,6 +454,7 @@ impl Fs for MemFs {
         ensures quiet { IsQuiet (clock_of self.old) (clock_of self.new) (was_since self.old) (was_since self.new) (Some (view_now self.old)) (Some (view_now self.new)) }
         ensures keeps_room { (room_of self.old) ≤ (room_of self.new) }
         ensures cause { HasCause (faults_of self.old) (faults_of self.new) result }
+        ensures counts { IsCounted (faults_of self.old) (faults_of self.new) result }
         ensures number { CountsCall self.old self.new }
         ensures plan { ObeysReading (planned_call self.old self.new) result }
     {
@@ -450,6 +468,7 @@ impl Fs for MemFs {
         ensures quiet { IsQuiet (clock_of self.old) (clock_of self.new) (was_since self.old) (was_since self.new) (Some (view_now self.old)) (Some (view_now self.new)) }
         ensures keeps_room { (room_of self.old) ≤ (room_of self.new) }
         ensures cause { HasCause (faults_of self.old) (faults_of self.new) result }
+        ensures counts { IsCounted (faults_of self.old) (faults_of self.new) result }
         ensures number { CountsCall self.old self.new }
         ensures plan { ObeysReading (planned_call self.old self.new) result }
     {

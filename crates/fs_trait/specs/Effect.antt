@@ -174,6 +174,16 @@ pub record HasCause {T : Type 0} (before now : ℕ) (result : Result T FsErr) : 
   pub later : before ≤ now
   pub failed : IsErrOf result Failed → Rose before now
 
+-- one more than before
+pub record Next (before now : ℕ) : Type 0 where
+  pub room : before < last
+  pub is : now ≡ before + 1
+
+-- The count of faults rises by one exactly where a call answers `Failed`; at its last value it stays.
+pub record IsCounted {T : Type 0} (before now : ℕ) (result : Result T FsErr) : Type 0 where
+  pub failed : IsErrOf result Failed → Next before now ⊎ ((before ≡ last) × (now ≡ before))
+  pub other : (IsErrOf result Failed → ⊥) → now ≡ before
+
 -- room for later calls: a call takes at most one, and where there is some it doesn't lack memory
 pub record TakesRoom {T : Type 0} (owed : Bool) (before now : ℕ) (result : Result T FsErr) : Type 0 where
   pub at_most_one : before ≤ now + 1
@@ -185,11 +195,6 @@ pub record LeavesEach (before now : ℕ) (past since : ℕ → View → Type 0) 
   pub each : (w : View) → since before w → EachImage w P
   -- for a run that began earlier
   pub older : (t : ℕ) (w : View) → t ≤ before → since t w → past t w ⊎ EachImage w P
-
--- one more than before
-pub record Next (before now : ℕ) : Type 0 where
-  pub room : before < last
-  pub is : now ≡ before + 1
 
 -- Each changing call raises the clock by one, but one that lacked memory leaves it. At its last value each fails and leaves it.
 abbrev pub Ticks : {T : Type 0} → ℕ → ℕ → Result T FsErr → Type 0

@@ -3,7 +3,7 @@ ghost use Rattle.ost_types.specs.Mode.{IsFolderMode, IsFileMode, IsLinkMode};
 ghost use Rattle.fs_trait.specs.Count.{last};
 ghost use Rattle.fs_trait.specs.View.{View, named, created, moved, extended, file_synced, folder_synced, all_synced};
 ghost use Rattle.fs_trait.specs.Image.{IsTree, Told};
-ghost use Rattle.fs_trait.specs.Effect.{no_new, no_file, no_leaf, no_move, no_folder, no_link, inode_of, part, one_inode, OfPlacing, OfFinding, OfEmptying, OfNone, IsNode, IsListing, Changed, Created, Removed, Answered, Elapses, Ticks, IsQuiet, HasCause, TakesRoom};
+ghost use Rattle.fs_trait.specs.Effect.{no_new, no_file, no_leaf, no_move, no_folder, no_link, inode_of, part, one_inode, OfPlacing, OfFinding, OfEmptying, OfNone, IsNode, IsListing, Changed, Created, Removed, Answered, Elapses, Ticks, IsQuiet, HasCause, IsCounted, TakesRoom};
 ghost use Rattle.fs_trait.specs.declared.types.Value.TheVariants.{Absent, Folder, Link};
 ghost use Rattle.fs_trait.specs.declared.types.FsErr.TheVariants.{NoMemory};
 
@@ -46,6 +46,7 @@ pub trait Fs: Drop {
         ensures ticks { Ticks (clock self.old) (clock self.new) result }
         ensures stops { clock self.old ≡ last → view self.new ≡ view self.old }
         ensures cause { HasCause (faults self.old) (faults self.new) result }
+        ensures counts { IsCounted (faults self.old) (faults self.new) result }
         ensures room { TakesRoom false (spare self.old) (spare self.new) result };
 
     /// Makes an empty regular file. Refused with `Exists` where something is there.
@@ -57,6 +58,7 @@ pub trait Fs: Drop {
         ensures ticks { Ticks (clock self.old) (clock self.new) result }
         ensures stops { clock self.old ≡ last → view self.new ≡ view self.old }
         ensures cause { HasCause (faults self.old) (faults self.new) result }
+        ensures counts { IsCounted (faults self.old) (faults self.new) result }
         ensures room { TakesRoom false (spare self.old) (spare self.new) result };
 
     /// Adds bytes at the end of a regular file, which then isn't synced. Refused with `Missing` where no regular file is there.
@@ -67,6 +69,7 @@ pub trait Fs: Drop {
         ensures ticks { Ticks (clock self.old) (clock self.new) result }
         ensures stops { clock self.old ≡ last → view self.new ≡ view self.old }
         ensures cause { HasCause (faults self.old) (faults self.new) result }
+        ensures counts { IsCounted (faults self.old) (faults self.new) result }
         ensures room { TakesRoom false (spare self.old) (spare self.new) result };
 
     /// Makes a symbolic link. Refused with `Exists` where something is there.
@@ -79,6 +82,7 @@ pub trait Fs: Drop {
         ensures ticks { Ticks (clock self.old) (clock self.new) result }
         ensures stops { clock self.old ≡ last → view self.new ≡ view self.old }
         ensures cause { HasCause (faults self.old) (faults self.new) result }
+        ensures counts { IsCounted (faults self.old) (faults self.new) result }
         ensures room { TakesRoom false (spare self.old) (spare self.new) result };
 
     /// Gives the leaf at `from` the name `to` too: the same inode, or a link equal to it.
@@ -90,6 +94,7 @@ pub trait Fs: Drop {
         ensures ticks { Ticks (clock self.old) (clock self.new) result }
         ensures stops { clock self.old ≡ last → view self.new ≡ view self.old }
         ensures cause { HasCause (faults self.old) (faults self.new) result }
+        ensures counts { IsCounted (faults self.old) (faults self.new) result }
         ensures room { TakesRoom false (spare self.old) (spare self.new) result };
 
     /// Takes a leaf's name away. Refused with `Missing` where no leaf is there.
@@ -100,6 +105,7 @@ pub trait Fs: Drop {
         ensures ticks { Ticks (clock self.old) (clock self.new) result }
         ensures stops { clock self.old ≡ last → view self.new ≡ view self.old }
         ensures cause { HasCause (faults self.old) (faults self.new) result }
+        ensures counts { IsCounted (faults self.old) (faults self.new) result }
         ensures room { TakesRoom true (spare self.old) (spare self.new) result };
 
     /// Removes an empty folder. Refused with `Missing` where nothing is there, with `NotFolder` at a leaf,
@@ -111,6 +117,7 @@ pub trait Fs: Drop {
         ensures ticks { Ticks (clock self.old) (clock self.new) result }
         ensures stops { clock self.old ≡ last → view self.new ≡ view self.old }
         ensures cause { HasCause (faults self.old) (faults self.new) result }
+        ensures counts { IsCounted (faults self.old) (faults self.new) result }
         ensures room { TakesRoom true (spare self.old) (spare self.new) result };
 
     /// Gives the leaf at `from` the name `to` in its place, in one step; a leaf that was at `to` loses that name.
@@ -123,6 +130,7 @@ pub trait Fs: Drop {
         ensures ticks { Ticks (clock self.old) (clock self.new) result }
         ensures stops { clock self.old ≡ last → view self.new ≡ view self.old }
         ensures cause { HasCause (faults self.old) (faults self.new) result }
+        ensures counts { IsCounted (faults self.old) (faults self.new) result }
         ensures room { TakesRoom true (spare self.old) (spare self.new) result };
 
     /// Makes the bytes of a regular file outlast a crash. Refused with `Missing` where no regular file is there.
@@ -133,6 +141,7 @@ pub trait Fs: Drop {
         ensures ticks { Ticks (clock self.old) (clock self.new) result }
         ensures stops { clock self.old ≡ last → view self.new ≡ view self.old }
         ensures cause { HasCause (faults self.old) (faults self.new) result }
+        ensures counts { IsCounted (faults self.old) (faults self.new) result }
         ensures room { TakesRoom true (spare self.old) (spare self.new) result };
 
     /// Makes the names directly in a folder outlast a crash. Refused with `Missing` where nothing is there,
@@ -144,6 +153,7 @@ pub trait Fs: Drop {
         ensures ticks { Ticks (clock self.old) (clock self.new) result }
         ensures stops { clock self.old ≡ last → view self.new ≡ view self.old }
         ensures cause { HasCause (faults self.old) (faults self.new) result }
+        ensures counts { IsCounted (faults self.old) (faults self.new) result }
         ensures room { TakesRoom true (spare self.old) (spare self.new) result };
 
     /// Makes everything outlast a crash.
@@ -154,6 +164,7 @@ pub trait Fs: Drop {
         ensures ticks { Ticks (clock self.old) (clock self.new) result }
         ensures stops { clock self.old ≡ last → view self.new ≡ view self.old }
         ensures cause { HasCause (faults self.old) (faults self.new) result }
+        ensures counts { IsCounted (faults self.old) (faults self.new) result }
         ensures room { TakesRoom true (spare self.old) (spare self.new) result };
 
     /// Makes room for so many changing calls. A call takes the room of at most one, and a `rename`, an `unlink`,
@@ -171,7 +182,8 @@ pub trait Fs: Drop {
         ensures named { IfErr result OfNone }
         ensures quiet { IsQuiet (clock self.old) (clock self.new) (was self.old) (was self.new) (view self.old) (view self.new) }
         ensures keeps_room { spare self.old ≤ spare self.new }
-        ensures cause { HasCause (faults self.old) (faults self.new) result };
+        ensures cause { HasCause (faults self.old) (faults self.new) result }
+        ensures counts { IsCounted (faults self.old) (faults self.new) result };
 
     /// The bytes of a regular file. Refused with `Missing` where none is there.
     fn read(&mut self, at: &FsPath) -> Result<Bytes, FsErr>
@@ -179,7 +191,8 @@ pub trait Fs: Drop {
         ensures named { IfErr result OfFinding }
         ensures quiet { IsQuiet (clock self.old) (clock self.new) (was self.old) (was self.new) (view self.old) (view self.new) }
         ensures keeps_room { spare self.old ≤ spare self.new }
-        ensures cause { HasCause (faults self.old) (faults self.new) result };
+        ensures cause { HasCause (faults self.old) (faults self.new) result }
+        ensures counts { IsCounted (faults self.old) (faults self.new) result };
 
     /// The bytes of a regular file from one place on, at most so many. Refused as `read` is.
     fn read_part(&mut self, at: &FsPath, from: u64, max: u32) -> Result<Bytes, FsErr>
@@ -188,7 +201,8 @@ pub trait Fs: Drop {
         ensures named { IfErr result OfFinding }
         ensures quiet { IsQuiet (clock self.old) (clock self.new) (was self.old) (was self.new) (view self.old) (view self.new) }
         ensures keeps_room { spare self.old ≤ spare self.new }
-        ensures cause { HasCause (faults self.old) (faults self.new) result };
+        ensures cause { HasCause (faults self.old) (faults self.new) result }
+        ensures counts { IsCounted (faults self.old) (faults self.new) result };
 
     /// The names directly in a folder, ascending. Refused as `sync_dir` is.
     fn list(&mut self, at: &FsPath) -> Result<Names, FsErr>
@@ -196,7 +210,8 @@ pub trait Fs: Drop {
         ensures named { IfErr result OfFinding }
         ensures quiet { IsQuiet (clock self.old) (clock self.new) (was self.old) (was self.new) (view self.old) (view self.new) }
         ensures keeps_room { spare self.old ≤ spare self.new }
-        ensures cause { HasCause (faults self.old) (faults self.new) result };
+        ensures cause { HasCause (faults self.old) (faults self.new) result }
+        ensures counts { IsCounted (faults self.old) (faults self.new) result };
 
     /// Whether both paths are regular files of one inode.
     fn same(&mut self, a: &FsPath, b: &FsPath) -> Result<bool, FsErr>
@@ -204,7 +219,8 @@ pub trait Fs: Drop {
         ensures named { IfErr result OfNone }
         ensures quiet { IsQuiet (clock self.old) (clock self.new) (was self.old) (was self.new) (view self.old) (view self.new) }
         ensures keeps_room { spare self.old ≤ spare self.new }
-        ensures cause { HasCause (faults self.old) (faults self.new) result };
+        ensures cause { HasCause (faults self.old) (faults self.new) result }
+        ensures counts { IsCounted (faults self.old) (faults self.new) result };
 
     /// The number of changing calls so far. Refused and failed ones count too, but not one that wanted for memory.
     fn clock(&self) -> u64
