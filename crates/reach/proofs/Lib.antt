@@ -1,0 +1,6 @@
+pub mod Reaching
+pub mod Commits
+pub mod Parts
+pub mod Lining
+pub mod Exact
+pub mod Marked

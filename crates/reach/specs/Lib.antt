@@ -1,0 +1,4 @@
+pub mod Reach
+pub mod Lines
+pub mod Removed
+pub mod Marking
