@@ -7,7 +7,6 @@ use Rattle.std.proofs.lemmas.List.Elements.{All-contains, All-map}
 use Rattle.sha2.specs.Sha256.{sha256}
 use Rattle.sha2.proofs.Facts256.{length-sha256}
 use Rattle.ost_types.specs.declared.limits.Limits.{Limits}
-use Rattle.ost_types.specs.declared.meta.Meta.{Meta}
 use Rattle.ost_types.specs.declared.object.ObjName.{ObjName}
 use Rattle.ost_types.specs.declared.object.Kind.TheVariants as kinds
 use Rattle.ost_types.specs.Path.{Name, Path, AreNames, path_cmp, under}
@@ -21,7 +20,7 @@ use Rattle.ost_forms.specs.DirTree.{Entries, HasSums, HasNames, IsSorted, ReadsD
 use Rattle.ost_forms.proofs.Laws.{one_tree}
 use Rattle.repo_model.specs.Objects.{Store}
 use Rattle.repo_model.specs.Trees.{name_of, HasEntries, HasFile, HasFolder}
-use Rattle.tree_build.specs.Items.{IsInFolder, IsWide, FitsBody, HasFolder as ItemFolder}
+use Rattle.tree_build.specs.Items.{IsInFolder, HasFolder as ItemFolder}
 use Rattle.tree_build.specs.Objects.{Object, made, children, entries_of, tree_bytes, meta_bytes, file_bytes, work, file_object, tree_object, meta_object}
 use Rattle.tree_build.specs.Objects as objects
 use Rattle.tree_build.specs.Makeable.{IsSmall, IsSmallBy, AreSmall}
