@@ -39,6 +39,10 @@ file_no_tree : (e : Entries) (x : Name) (rest : Path) (o : ObjName) → NamesFil
 file_no_tree e x [] o file kind = let z : File ≡ DirTree = sym (ap (λ (x : ObjName). x.kind) file.2) ∙ kind in cc
 file_no_tree e x (y ∷ rest) o file kind = absurd file
 
+file_no_commit : (e : Entries) (x : Name) (rest : Path) (o : ObjName) → NamesFile e x rest o → o.kind ≡ Commit → ⊥
+file_no_commit e x [] o file kind = let z : File ≡ Commit = sym (ap (λ (x : ObjName). x.kind) file.2) ∙ kind in cc
+file_no_commit e x (y ∷ rest) o file kind = absurd file
+
 tree_no_commit : (o : ObjName) → o.kind ≡ Commit → o.kind ≡ DirTree → ⊥
 tree_no_commit o commit tree = let e : Commit ≡ DirTree = sym commit ∙ tree in cc
 
@@ -63,8 +67,7 @@ pub names_kind : (S : Store) (tree meta : List ℕ) (p : Path) (o : ObjName) →
 unfolding Names
 names_kind S tree meta [] o (inl is) kind = let e : DirTree ≡ Commit = sym (ap (λ (x : ObjName). x.kind) is) ∙ kind in cc
 names_kind S tree meta [] o (inr is) kind = let e : DirMeta ≡ Commit = sym (ap (λ (x : ObjName). x.kind) is) ∙ kind in cc
-names_kind S tree meta (x ∷ []) o (e, has, inl file) kind = let z : File ≡ Commit = sym (ap (λ (x : ObjName). x.kind) file.2) ∙ kind in cc
-names_kind S tree meta (x ∷ y ∷ rest) o (e, has, inl file) kind = absurd file
+names_kind S tree meta (x ∷ rest) o (e, has, inl file) kind = file_no_commit e x rest o file kind
 names_kind S tree meta (x ∷ rest) o (e, has, inr (t, m, folder, names)) kind = names_kind S t m rest o names kind
 
 -- ---- one commit

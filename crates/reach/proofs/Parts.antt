@@ -7,8 +7,8 @@ use Rattle.ost_types.specs.declared.object.ObjName.{ObjName}
 use Rattle.ost_types.specs.Path.{Path}
 use Rattle.ost_forms.specs.Commit.{CommitParts}
 use Rattle.ost_forms.specs.DirTree.{Entries}
-use Rattle.repo_model.specs.Objects.{Store, IsMap}
-use Rattle.repo_model.specs.Trees.{HasEntries, HasFolder, Names, Shows, TreeShows, name_of}
+use Rattle.repo_model.specs.Objects.{Store, IsMap, Has}
+use Rattle.repo_model.specs.Trees.{HasCommit, HasEntries, HasFolder, Names, Shows, TreeShows, name_of}
 use Rattle.repo_model.specs.Whole.{Complete}
 use Rattle.repo_model.proofs.Grown.{complete_up, shows_down, shows_up, tree_up}
 use Rattle.reach.specs.Reach.{ObjNames, Is, Reach, Refers, start, onward}
@@ -34,14 +34,17 @@ module _ (S : Store) (limits : Limits) (commit : List ℕ) (whole : Complete S l
   kept_all : (o : ObjName) → Reach S (Is (name_of Commit commit)) o → keep o
   kept_all = reach_least S (Is (name_of Commit commit)) keep (λ o is. subst keep (sym is) at) closed
 
+  pub part_objects : (p : Path) (o : ObjName) → Names (Part S keep) whole.parts.tree whole.parts.meta p o → Has (Part S keep) limits.content o
+  part_objects p o names =
+      let was = names_up (Part S keep) S less whole.parts.tree whole.parts.meta p o names in
+      let has = whole.objects p o was in
+      record { bytes = has.bytes; stored = (has.stored, kept_all o (named_reached S commit whole.parts whole.here p o was)); formed = has.formed }
+
   pub whole_part : Complete (Part S keep) limits commit
   whole_part = record {
     parts = whole.parts;
     here = record { bytes = whole.here.bytes; stored = (whole.here.stored, at); reads = whole.here.reads };
-    objects = λ p o names.
-        let was = names_up (Part S keep) S less whole.parts.tree whole.parts.meta p o names in
-        let has = whole.objects p o was in
-        record { bytes = has.bytes; stored = (has.stored, kept_all o (named_reached S commit whole.parts whole.here p o was)); formed = has.formed };
+    objects = part_objects;
     few = record { paths = whole.few.paths; few = whole.few.few; all = λ p n shown. whole.few.all p n (shows_up (Part S keep) S less whole.parts.tree whole.parts.meta p n shown) };
     short = λ p n shown. whole.short p n (shows_up (Part S keep) S less whole.parts.tree whole.parts.meta p n shown);
   }
@@ -116,10 +119,9 @@ module _ (S T : Store) (commit : List ℕ) (kept : (o : ObjName) (b : List ℕ) 
   -- and nothing more, where it is whole
   pub commit_shown : IsMap T → (limits : Limits) → Complete S limits commit → (p : Path) (n : NodeName) → TreeShows T commit p n → TreeShows S commit p n
   commit_shown map limits whole p n shown =
-      let part = whole_part S limits commit whole Its at_itself goes_on in
       let up : (o : ObjName) (b : List ℕ) → Part S Its o b → T o b = λ o b has. kept o b has.1 has.0 in
       let c = whole.parts in
-      let here = record { bytes = whole.here.bytes; stored = up (name_of Commit commit) whole.here.bytes (whole.here.stored, at_itself); reads = whole.here.reads } in
+      let here : HasCommit T commit c = record { bytes = whole.here.bytes; stored = up (name_of Commit commit) whole.here.bytes (whole.here.stored, at_itself); reads = whole.here.reads } in
       let same : shown.0 ≡ c = one_parts T map commit shown.0 c shown.1 here in
       let now : Shows T c.tree c.meta p n = subst (λ (x : CommitParts). Shows T x.tree x.meta p n) same shown.2 in
-      (c, whole.here, shows_up (Part S Its) S (λ o b has. has.0) c.tree c.meta p n (shows_down (Part S Its) T up map limits.content c.tree c.meta p n part.objects now))
+      (c, whole.here, shows_up (Part S Its) S (λ o b has. has.0) c.tree c.meta p n (shows_down (Part S Its) T up map limits.content c.tree c.meta p n (part_objects S limits commit whole Its at_itself goes_on) now))
