@@ -8,7 +8,7 @@ use Rattle.ost_forms.specs.Commit.{CommitParts}
 use Rattle.ost_forms.specs.DirTree.{Entries}
 use Rattle.ost_forms.proofs.Parted.{one_commit}
 use Rattle.repo_model.specs.Objects.{Store, IsMap, Has}
-use Rattle.repo_model.specs.Trees.{HasCommit, HasEntries, HasFolder, Names, NamesFile, name_of}
+use Rattle.repo_model.specs.Trees.{HasCommit, HasEntries, Names, NamesFile, name_of}
 use Rattle.repo_model.specs.Whole.{Complete}
 use Rattle.reach.specs.Reach.{ObjNames, Is, IsEntry, IsFolderOf, Reach, Refers, start, onward}
 

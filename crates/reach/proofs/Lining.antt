@@ -1,10 +1,10 @@
 -- Lines of commits, and what is reachable from roots.
-use Rattle.std.proofs.Common.{◌≡◌, ◌≢◌, ◌⊎◌, inl, inr, ⊎_elim, ◌<◌, ◌≤◌, ℕ, zero, suc, List, arith, refl, sym, ap, subst}
+use Rattle.std.proofs.Common.{◌≡◌, inl, inr, ⊎_elim, ◌≤◌, ℕ, suc, List, arith, refl, sym, ap, subst}
 use Rattle.ost_types.specs.declared.object.Kind.TheVariants.{Commit}
 use Rattle.ost_types.specs.declared.object.ObjName.{ObjName}
 use Rattle.repo_model.specs.Objects.{Store}
 use Rattle.repo_model.specs.Trees.{name_of}
-use Rattle.reach.specs.Reach.{ObjNames, Reach, start, onward}
+use Rattle.reach.specs.Reach.{ObjNames, Reach, start}
 use Rattle.reach.specs.Lines.{Begins, Line, Reachable, root, parent}
 use Rattle.reach.proofs.Reaching.{reach_kind, reach_stays, reach_up}
 

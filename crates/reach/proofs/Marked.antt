@@ -1,5 +1,5 @@
 -- Where nothing waits, what is marked is what of the reachable stands in the store; and the commits that were found are those in line.
-use Rattle.std.proofs.Common.{◌≡◌, ◌⊎◌, inl, inr, ⊎_elim, ℕ, ◌≤◌, ◌+◌, List, arith, subst}
+use Rattle.std.proofs.Common.{◌⊎◌, inl, inr, ⊎_elim, ℕ, ◌≤◌, List, arith, subst}
 use Rattle.ost_types.specs.declared.object.Kind.TheVariants.{Commit}
 use Rattle.ost_types.specs.declared.object.ObjName.{ObjName}
 use Rattle.repo_model.specs.Objects.{Store}
@@ -8,7 +8,6 @@ use Rattle.reach.specs.Reach.{ObjNames, IsIn, Refers, start, onward}
 use Rattle.reach.specs.Lines.{Line, Reachable, root, parent}
 use Rattle.reach.specs.Marking.{LooksInto, Marks, Nears}
 use Rattle.reach.specs.Removed.{IsPruned, IsSplit}
-use Rattle.reach.proofs.Lining.{line_depth}
 use Rattle.reach.proofs.Reaching.{refers_in}
 
 -- The end of the marking.

@@ -5,7 +5,7 @@ use Rattle.ost_types.specs.declared.object.Kind.TheVariants.{Commit, DirTree, Di
 use Rattle.ost_types.specs.declared.object.ObjName.{ObjName}
 use Rattle.repo_model.specs.Objects.{Store}
 use Rattle.repo_model.specs.Trees.{name_of}
-use Rattle.reach.specs.Reach.{ObjNames, Is, IsIn, IsFolderOf, Reach, Refers, start, onward}
+use Rattle.reach.specs.Reach.{ObjNames, IsIn, IsFolderOf, Reach, Refers, start, onward}
 
 -- An object that another store has, too, names the same there.
 pub refers_where : (S T : Store) (o next : ObjName) → ((b : List ℕ) → S o b → T o b) → Refers S o next → Refers T o next

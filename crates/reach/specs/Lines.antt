@@ -2,7 +2,6 @@
 -- `--depth` says how many parents of each commit are followed).
 use Rattle.std.specs.Prelude.{◌≡◌, ◌⊎◌, ◌<◌, ℕ, suc, List}
 use Rattle.ost_types.specs.declared.object.Kind.TheVariants.{Commit}
-use Rattle.ost_types.specs.declared.object.ObjName.{ObjName}
 use Rattle.ost_forms.specs.Commit.{CommitParts}
 use Rattle.repo_model.specs.Objects.{Store}
 use Rattle.repo_model.specs.Trees.{HasCommit, name_of}

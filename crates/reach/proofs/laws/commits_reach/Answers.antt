@@ -1,7 +1,5 @@
-use Rattle.std.proofs.Common.{◌≡◌, inl, inr, ⊎_elim, sym, subst}
-use Rattle.ost_types.specs.declared.object.Kind.TheVariants.{Commit}
+use Rattle.std.proofs.Common.{⊎_elim}
 use Rattle.repo_model.specs.Objects.{Stores}
-use Rattle.repo_model.specs.Trees.{name_of}
 use Rattle.repo_model.proofs.Stored.{stores_map}
 use Rattle.reach.specs.Reach.{Is, start}
 use Rattle.reach.proofs.Reaching.{reach_kind}

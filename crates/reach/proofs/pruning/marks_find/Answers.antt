@@ -1,4 +1,4 @@
-use Rattle.std.proofs.Common.{◌≡◌, ℕ, List, [], arith}
+use Rattle.std.proofs.Common.{[], arith}
 use Rattle.std.specs.Prelude.{Contains}
 use Rattle.ost_types.specs.declared.object.ObjName.{ObjName}
 use Rattle.repo_model.specs.Objects.{Stores}
