@@ -5,4 +5,4 @@ mod laws;
 mod pruning;
 
 pub use laws::{commits_reach, commits_stay, reach_is_least, reach_needs};
-pub use pruning::{lines_of_commits, marks_find, pruned_is_exact, removed_objects};
+pub use pruning::{distances_find, lines_of_commits, marks_find, pruned_is_exact, removed_objects};

@@ -8,7 +8,7 @@ ghost use Rattle.repo_model.specs.Trees.{name_of};
 ghost use Rattle.reach.specs.Reach.{IsIn, Reach, Refers};
 ghost use Rattle.reach.specs.Lines.{Line, Reachable};
 ghost use Rattle.reach.specs.Removed.{IsPruned, IsSplit};
-ghost use Rattle.reach.specs.Marking.{LooksInto, Marks, Nears};
+ghost use Rattle.reach.specs.Marking.{AreDoomed, Listed, LooksInto, LooksUp, Marks, Nears};
 
 /// A line is no longer than the depth; the commits that are reachable are those in line; at depth zero only what the roots reach is;
 /// and more is reachable from more roots, to a greater depth, and in a store that has more.
@@ -34,12 +34,21 @@ pub fn pruned_is_exact()
     ensures none { (before now : Disk) (roots removed : List ObjName) (depth : ℕ) → IsPruned (Stores before) (Stores now) (Contains roots) depth (Contains removed) → (o : ObjName) → Contains removed o → Reachable (Stores now) (Contains roots) depth o → ⊥ }
 {}
 
-/// Each object that is looked into keeps what marks say. Where nothing waits, what is marked is what of the store is reachable; and
-/// where all commits nearer than the depth were looked into, each that is in line was found, no further away.
+/// Commits by their distance from a root: what says that they were found so holds at the beginning, and where one is looked into; and where
+/// none waits that is nearer than the depth, each that is in line was found, no further away.
+pub fn distances_find()
+    ensures begins { (d : Disk) (roots : List ObjName) (depth : ℕ) (found waiting : List (ℕ × List ℕ)) → ((k : ℕ) (commit : List ℕ) → Contains found (k, commit) → (k ≡ 0) × Contains roots (name_of Commit commit)) → ((commit : List ℕ) → Contains roots (name_of Commit commit) → IsIn (Stores d) (name_of Commit commit) → Contains found (0, commit)) → ((k : ℕ) (commit : List ℕ) → Contains found (k, commit) → Contains waiting (k, commit)) → Nears (Stores d) (Contains roots) depth (Listed found) (Listed waiting) }
+    ensures step { (d : Disk) (roots : List ObjName) (depth k : ℕ) (commit : List ℕ) (found waiting found' waiting' : List (ℕ × List ℕ)) → Nears (Stores d) (Contains roots) depth (Listed found) (Listed waiting) → LooksUp (Stores d) depth k commit (Listed found) (Listed waiting) (Listed found') (Listed waiting') → Nears (Stores d) (Contains roots) depth (Listed found') (Listed waiting') }
+    ensures ends { (d : Disk) (roots : List ObjName) (depth : ℕ) (found waiting : List (ℕ × List ℕ)) → Nears (Stores d) (Contains roots) depth (Listed found) (Listed waiting) → ((k : ℕ) (commit : List ℕ) → Contains waiting (k, commit) → depth ≤ k) → (k : ℕ) (commit : List ℕ) → Line (Stores d) (Contains roots) depth k commit → IsIn (Stores d) (name_of Commit commit) → (j : ℕ) × (j ≤ k) × Contains found (j, commit) }
+{}
+
+/// Then what says that names are marked so holds once the roots and these commits are, and where one is looked into; and where nothing
+/// waits, exactly those of the store are marked that are reachable. What of the store isn't marked then is to be removed: nothing that
+/// stays names it, and once it is gone exactly what wasn't reachable is.
 pub fn marks_find()
+    ensures begins { (d : Disk) (roots marked waiting : List ObjName) (depth : ℕ) (found left : List (ℕ × List ℕ)) → Nears (Stores d) (Contains roots) depth (Listed found) (Listed left) → ((k : ℕ) (commit : List ℕ) → Contains left (k, commit) → depth ≤ k) → ((o : ObjName) → Contains marked o → Contains roots o ⊎ ((k : ℕ) × (commit : List ℕ) × Contains found (k, commit) × (o ≡ name_of Commit commit))) → ((o : ObjName) → Contains roots o → IsIn (Stores d) o → Contains marked o) → ((k : ℕ) (commit : List ℕ) → Contains found (k, commit) → Contains marked (name_of Commit commit)) → ((o next : ObjName) → Contains marked o → Refers (Stores d) o next → Contains waiting o) → Marks (Stores d) (Contains roots) depth (Contains marked) (Contains waiting) }
     ensures step { (d : Disk) (roots marked waiting marked' waiting' : List ObjName) (depth : ℕ) (o : ObjName) → Marks (Stores d) (Contains roots) depth (Contains marked) (Contains waiting) → LooksInto (Stores d) o (Contains marked) (Contains waiting) (Contains marked') (Contains waiting') → Marks (Stores d) (Contains roots) depth (Contains marked') (Contains waiting') }
     ensures ends { (d : Disk) (roots marked : List ObjName) (depth : ℕ) → Marks (Stores d) (Contains roots) depth (Contains marked) (Contains []) → (o : ObjName) → IsIn (Stores d) o → Contains marked o ↔ Reachable (Stores d) (Contains roots) depth o }
-    ensures lines { (d : Disk) (roots : List ObjName) (depth : ℕ) (found : List (ℕ × List ℕ)) → Nears (Stores d) (Contains roots) depth (λ k commit. Contains found (k, commit)) depth → (k : ℕ) (commit : List ℕ) → Line (Stores d) (Contains roots) depth k commit → IsIn (Stores d) (name_of Commit commit) → (j : ℕ) × (j ≤ k) × Contains found (j, commit) }
-    ensures kept { (d : Disk) (roots marked doomed : List ObjName) (depth : ℕ) → Marks (Stores d) (Contains roots) depth (Contains marked) (Contains []) → ((o : ObjName) → Contains doomed o → IsIn (Stores d) o × (Contains marked o → ⊥)) → ((o : ObjName) → IsIn (Stores d) o → Contains marked o ⊎ Contains doomed o) → (o next : ObjName) → (Contains doomed o → ⊥) → Refers (Stores d) o next → Contains doomed next → ⊥ }
-    ensures pruned { (d now : Disk) (roots marked doomed : List ObjName) (depth : ℕ) → Marks (Stores d) (Contains roots) depth (Contains marked) (Contains []) → ((o : ObjName) → Contains doomed o → IsIn (Stores d) o × (Contains marked o → ⊥)) → ((o : ObjName) → IsIn (Stores d) o → Contains marked o ⊎ Contains doomed o) → IsSplit (Stores d) (Stores now) (Contains doomed) → IsPruned (Stores d) (Stores now) (Contains roots) depth (Contains doomed) }
+    ensures kept { (d : Disk) (roots marked doomed : List ObjName) (depth : ℕ) → Marks (Stores d) (Contains roots) depth (Contains marked) (Contains []) → AreDoomed (Stores d) (Contains marked) (Contains doomed) → (o next : ObjName) → (Contains doomed o → ⊥) → Refers (Stores d) o next → Contains doomed next → ⊥ }
+    ensures pruned { (d now : Disk) (roots marked doomed : List ObjName) (depth : ℕ) → Marks (Stores d) (Contains roots) depth (Contains marked) (Contains []) → AreDoomed (Stores d) (Contains marked) (Contains doomed) → IsSplit (Stores d) (Stores now) (Contains doomed) → IsPruned (Stores d) (Stores now) (Contains roots) depth (Contains doomed) }
 {}
