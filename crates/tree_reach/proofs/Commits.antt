@@ -13,7 +13,7 @@ use Rattle.repo_model.specs.Objects.{Store, IsMap}
 use Rattle.repo_model.specs.Trees.{HasCommit, name_of}
 use Rattle.tree_build.specs.Commits.{CommitsTree, HasTree}
 use Rattle.tree_build.specs.Items.{HasFolder as ItemFolder}
-use Rattle.tree_build.specs.Objects.{Object, file_bytes, file_object, made, meta_bytes, meta_object, objects_of, root_of, tree_bytes, tree_object, work}
+use Rattle.tree_build.specs.Objects.{Object, file_bytes, file_object, made, meta_bytes, meta_object, root_of, tree_bytes, tree_object, work}
 use Rattle.tree_build.proofs.Lists.{Among, contained_among}
 use Rattle.tree_build.proofs.Places.{stands_first}
 use Rattle.tree_build.proofs.Suffixes.{rises_from}

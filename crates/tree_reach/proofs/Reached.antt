@@ -1,6 +1,6 @@
 -- Each object of a tree is reached from its root, over the objects of the tree, and nothing else is.
 use Rattle.std.proofs.Common.{◌≡◌, ◌⊎◌, inl, inr, ℕ, zero, suc, ◌≤◌, ◌+◌, List, [], ◌∷◌, ◌++◌, length, Option, Some, None, Ok, refl, sym, ◌∙◌, ap, subst, ⊎_elim, arith}
-use Rattle.std.specs.Prelude.{All, Contains}
+use Rattle.std.specs.Prelude.{Contains}
 use Rattle.std.specs.declared.cmp.Ordering.TheVariants.{Less}
 use Rattle.std.proofs.lemmas.List.{length-append}
 use Rattle.std.proofs.lemmas.List.Elements.{All-contains, All-map}
@@ -31,8 +31,8 @@ use Rattle.tree_build.proofs.Children.{children_ascend, files_ascend, folders_as
 use Rattle.tree_build.proofs.Works.{objects_file, objects_folder}
 use Rattle.tree_build.proofs.Smalls.{small_at, small_form, small_short}
 use Rattle.tree_build.proofs.Places.{Stands, stands_first, stands_among, among_stands, stands_behind, work_among, one_at}
-use Rattle.reach.specs.Reach.{ObjNames, IsEntry, IsIn, Reach, Refers, start, onward}
-use Rattle.tree_reach.specs.Trees.{IsMadeTree, IsOfTree, IsRootOf, TreeStore}
+use Rattle.reach.specs.Reach.{ObjNames, IsEntry, IsIn, Reach, Refers, onward}
+use Rattle.tree_reach.specs.Trees.{IsMadeTree, TreeStore}
 use Rattle.tree_reach.proofs.Entries.{all_by, file_from, file_into, folder_from, folder_into, last_is_name, made_rises, work_from}
 
 module _ (limits : Limits) (items : List TreeItem) (has : IsMadeTree limits items) where
