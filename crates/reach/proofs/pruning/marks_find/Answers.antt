@@ -3,7 +3,7 @@ use Rattle.std.specs.Prelude.{Contains}
 use Rattle.ost_types.specs.declared.object.ObjName.{ObjName}
 use Rattle.repo_model.specs.Objects.{Stores}
 use Rattle.reach.specs.Marking.{Listed}
-use Rattle.reach.proofs.Marked.{kept_closed, marked_all, marks_begin, marks_step, pruned_from}
+use Rattle.reach.proofs.Marked.{kept_closed, marked_all, marks_begin, marks_step, pruned_from, roots_stay}
 use Rattle.reach.proofs.pruning.marks_find.Goals as goal
 
 nothing : (o : ObjName) → Contains [] o → ⊥
@@ -20,6 +20,9 @@ returns-clause-ends c = λ d roots marked depth m o has. (
   λ is. m.right o is,
   λ reached. marked_all (Stores d) (Contains roots) depth (Contains marked) (Contains []) m nothing o reached has,
 )
+
+pub returns-clause-roots : goal.returns-clause-roots
+returns-clause-roots c = λ d roots marked doomed depth m are. roots_stay (Stores d) (Contains roots) depth (Contains marked) (Contains []) m nothing (Contains doomed) are
 
 pub returns-clause-kept : goal.returns-clause-kept
 returns-clause-kept c = λ d roots marked doomed depth m are. kept_closed (Stores d) (Contains roots) depth (Contains marked) (Contains []) m nothing (Contains doomed) are

@@ -1,6 +1,9 @@
 use Rattle.repo_model.specs.Objects.{Stores}
-use Rattle.tree_reach.proofs.Commits.{commit_all, commit_only, disk_all, disk_only, tree_all, tree_only}
+use Rattle.tree_reach.proofs.Commits.{commit_all, commit_only, disk_all, disk_only, tree_all, tree_named, tree_only}
 use Rattle.tree_reach.proofs.laws.trees_reach.Goals as goal
+
+pub returns-clause-named : goal.returns-clause-named
+returns-clause-named c = tree_named
 
 pub returns-clause-tree : goal.returns-clause-tree
 returns-clause-tree c = λ limits items has o. (tree_only limits items has o, tree_all limits items has o)
