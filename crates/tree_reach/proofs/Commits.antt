@@ -11,16 +11,18 @@ use Rattle.ost_forms.proofs.Parted.{one_commit}
 use Rattle.ost_objects.specs.Object.{IsNamed}
 use Rattle.repo_model.specs.Objects.{Store, IsMap}
 use Rattle.repo_model.specs.Trees.{HasCommit, name_of}
+use Rattle.repo_model.specs.Whole.{Complete}
 use Rattle.tree_build.specs.Commits.{CommitsTree, HasTree}
 use Rattle.tree_build.specs.Items.{HasFolder as ItemFolder}
 use Rattle.tree_build.specs.Objects.{Object, file_bytes, file_object, made, meta_bytes, meta_object, root_of, tree_bytes, tree_object, work}
 use Rattle.tree_build.proofs.Lists.{Among, contained_among}
 use Rattle.tree_build.proofs.Places.{stands_first}
+use Rattle.tree_build.proofs.Shown.{complete}
 use Rattle.tree_build.proofs.Suffixes.{rises_from}
 use Rattle.tree_build.proofs.Works.{objects_file, objects_folder}
 use Rattle.reach.specs.Reach.{Is, IsIn, Reach, Refers, start, onward}
 use Rattle.reach.proofs.Reaching.{folder_kind, reach_back, reach_kind, reach_least, reach_stays, refers_where}
-use Rattle.tree_reach.specs.Trees.{CommitStore, IsCommitOf, IsMadeTree, IsOfTree, IsRootOf, TreeStore}
+use Rattle.tree_reach.specs.Trees.{CommitStore, Held, IsCommitOf, IsMadeTree, IsOfTree, IsRootOf, TreeStore}
 use Rattle.tree_reach.proofs.Entries.{work_from}
 use Rattle.tree_reach.proofs.Reached.{meta_there, only_work, root_first, tree_reached, tree_there}
 
@@ -175,3 +177,29 @@ disk_all S limits items commit has c o is =
     let m = made_of_it S limits items has in
     let k = commit_of_it S items commit c in
     store_up limits items m commit c.here.bytes k S has.one has.objects c.here.stored o (commit_all limits items m commit c.here.bytes k o is)
+
+-- ---- a store that holds each object that it leads to
+
+module _ (S : Store) (limits : Limits) (items : List TreeItem) (has : IsMadeTree limits items) (commit bytes : List ℕ) (c : IsCommitOf items bytes)
+    (kept : (o : ObjName) (b : List ℕ) → Reach (Held S items commit bytes) (Is (name_of kinds.Commit commit)) o → CommitStore items commit bytes o b → S o b) where
+  one_of : (o : ObjName) (b : List ℕ) → CommitStore items commit bytes o b → (o ≡ name_of kinds.Commit commit) ⊎ IsOfTree items o
+  one_of o b (inl (x, among, n, e)) = inr (x, among, n)
+  one_of o b (inr (n, e)) = inl n
+
+  -- It holds all of them.
+  pub held_all : (o : ObjName) (b : List ℕ) → CommitStore items commit bytes o b → S o b
+  held_all o b is =
+      kept o b
+      (reach_back (Held S items commit bytes) (CommitStore items commit bytes) (Is (name_of kinds.Commit commit)) (λ x d reached there. (there, kept x d reached there)) o
+      (commit_all limits items has commit bytes c o (one_of o b is)))
+      is
+
+  pub held_whole : IsMap S → Complete S limits commit
+  held_whole map = complete S limits items commit
+      (record { one = map; ordered = has.ordered; typed = has.typed; tree = has.tree; makeable = has.makeable; objects = λ o among. held_all o.name o.bytes (inl (o, among, refl, refl)) })
+      (record {
+        parts = c.parts;
+        here = record { bytes = bytes; stored = held_all (name_of kinds.Commit commit) bytes (inr (refl, refl)); reads = c.reads };
+        tree = c.tree;
+        meta = c.meta;
+      })

@@ -40,3 +40,7 @@ pub record IsCommitOf (items : List TreeItem) (bytes : List ℕ) : Type 0 where
 -- the objects of the tree, and these bytes as the commit
 abbrev pub CommitStore : List TreeItem → List ℕ → List ℕ → Store
 CommitStore items commit bytes name b = TreeStore items name b ⊎ ((name ≡ name_of Commit commit) × (b ≡ bytes))
+
+-- those of them that a store has
+abbrev pub Held : Store → List TreeItem → List ℕ → List ℕ → Store
+Held S items commit bytes name b = CommitStore items commit bytes name b × S name b

@@ -3,4 +3,4 @@
 
 mod laws;
 
-pub use laws::trees_reach;
+pub use laws::{trees_are_held, trees_reach};
