@@ -1,8 +1,11 @@
 # make          proves and builds the program, and leaves it at build/ostree_cli
 # make check    the gate: every proof, edit, test and stored run
 # make demo     builds if need be, and runs the program in a fresh folder
-# make install  copies the program to $(PREFIX)/bin
+# make install  copies the program, its man page and its completions below $(PREFIX)
 PREFIX ?= /usr/local
+MAN_PAGES = $(PREFIX)/share/man/man1
+BASH_COMPLETIONS = $(PREFIX)/share/bash-completion/completions
+ZSH_COMPLETIONS = $(PREFIX)/share/zsh/site-functions
 PROGRAM = build/ostree_cli
 SOURCES = crates.txt HANDLES $(shell find crates -path '*/out' -prune -o -type f -print)
 
@@ -18,8 +21,11 @@ demo: $(PROGRAM)
 	sh tools/demo.sh
 
 install: $(PROGRAM)
-	mkdir -p "$(PREFIX)/bin"
+	mkdir -p "$(PREFIX)/bin" "$(MAN_PAGES)" "$(BASH_COMPLETIONS)" "$(ZSH_COMPLETIONS)"
 	cp $(PROGRAM) "$(PREFIX)/bin/ostree_cli"
+	cp man/ostree_cli.1 "$(MAN_PAGES)/ostree_cli.1"
+	cp completion/ostree_cli.bash "$(BASH_COMPLETIONS)/ostree_cli"
+	cp completion/_ostree_cli "$(ZSH_COMPLETIONS)/_ostree_cli"
 
 clean:
 	rm -rf build crates/*/out
