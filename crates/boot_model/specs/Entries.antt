@@ -25,8 +25,11 @@ abbrev pub spaced : List (List ℕ) → List ℕ
 spaced words = flat_map (λ word. word ++ 32 ∷ []) words
 
 -- where the link of a member is, as its entry tells it: through the link of its version
+abbrev pub named_version : ℕ → List ℕ
+named_version version = codes "/ostree/boot." ++ decimal version ++ 47 ∷ []
+
 abbrev pub named_link : ℕ → Name → List ℕ → ℕ → List ℕ
-named_link version os bootcsum number = codes "/ostree/boot." ++ decimal version ++ 47 ∷ os ++ 47 ∷ hex_of bootcsum ++ 47 ∷ decimal number
+named_link version os bootcsum number = named_version version ++ os ++ 47 ∷ hex_of bootcsum ++ 47 ∷ decimal number
 
 abbrev pub options_line : ℕ → BootItem → ℕ → List ℕ
 options_line version item number = codes "options " ++ spaced item.kargs ++ codes "ostree=" ++ named_link version item.id.os item.kernel.bootcsum number ++ newline
@@ -38,8 +41,11 @@ kernel_text item = codes "/ostree/" ++ kernel_folder item.id.os item.kernel.boot
 abbrev pub linux_line : BootItem → List ℕ
 linux_line item = codes "linux " ++ kernel_text item ++ codes "/vmlinuz-" ++ item.kernel.kver ++ newline
 
+abbrev pub initrd_front : BootItem → List ℕ
+initrd_front item = codes "initrd " ++ kernel_text item ++ codes "/initramfs-"
+
 abbrev pub initrd_line : BootItem → List ℕ
-initrd_line item = codes "initrd " ++ kernel_text item ++ codes "/initramfs-" ++ item.kernel.kver ++ codes ".img" ++ newline
+initrd_line item = initrd_front item ++ item.kernel.kver ++ codes ".img" ++ newline
 
 -- there is none without an initramfs
 abbrev pub initrd_lines : Bool → BootItem → List ℕ

@@ -30,7 +30,7 @@ ends_conf file = drop (length file - 5) file ≡ codes ".conf"
 -- An entry of a version: a regular file of such a name, with these bytes.
 pub record HasEntry (d : Disk) (version : ℕ) (file : Name) (bytes : List ℕ) : Type 0 where
   pub name : ends_conf file
-  pub file : reads d (entry_path version file) ≡ Some bytes
+  pub holds : reads d (entry_path version file) ≡ Some bytes
 
 -- The link of a member, through the link of its version, leads to the folder of the deployment.
 pub record Leads (d : Disk) (version : ℕ) (os : Name) (bootcsum : List ℕ) (number : ℕ) (id : DepId) : Type 0 where

@@ -1,7 +1,7 @@
 //! The text of a boot entry.
 ghost use Rattle.std.specs.Prelude.{◌≡◌, ◌++◌, ◌-◌, ◌<◌, ◌≤◌, List, ℕ, [], ◌∷◌, IfOk, OnOk, length, slice_index_or};
 ghost use Rattle.repo_layout.specs.Fixed.{number};
-ghost use Rattle.boot_model.specs.Entries.{entry_text, initrd_lines, kernel_text, linux_line, named_link, options_line, spaced, title_line, version_line};
+ghost use Rattle.boot_model.specs.Entries.{entry_text, initrd_front, initrd_line, initrd_lines, kernel_text, linux_line, named_link, named_version, options_line, spaced, title_line, version_line};
 ghost use Rattle.boot_model.specs.Items.{IsAt, is_like, link_number};
 ghost use Rattle.boot_model.specs.declared.item.BootItem.{BootItem as Item};
 
@@ -60,24 +60,30 @@ fn spaced(alloc: Global, item: &BootItem) -> Result<Bytes, NoMemory>
     Ok(text)
 }
 
+// the folder in which a version's links are named
+fn named_version(version: Version) -> &'static [u8]
+    ensures { result.now ≡ named_version (number version) }
+{
+    match version {
+        Version::Zero => b"/ostree/boot.0/",
+        Version::One => b"/ostree/boot.1/",
+    }
+}
+
 fn named_link(
     alloc: Global,
     version: Version,
     item: &BootItem,
-    number: usize,
+    place: usize,
 ) -> Result<Bytes, NoMemory>
-    ensures { IfOk result (λ t. t ≡ named_link (number version) item.now.id.os item.now.kernel.bootcsum number) }
+    ensures { IfOk result (λ t. t ≡ named_link (number version) item.now.id.os item.now.kernel.bootcsum place) }
 {
-    let front: &[u8] = match version {
-        Version::Zero => b"/ostree/boot.0/",
-        Version::One => b"/ostree/boot.1/",
-    };
-    let mut text = Bytes::from_slice(alloc, front)?;
+    let mut text = Bytes::from_slice(alloc, named_version(version))?;
     text.append(item.id.os.as_slice())?;
     text.push(b'/')?;
     text.append(&item.kernel.bootcsum.to_hex())?;
     text.push(b'/')?;
-    text.append(number.to_string(alloc)?.as_bytes())?;
+    text.append(place.to_string(alloc)?.as_bytes())?;
     Ok(text)
 }
 
@@ -85,14 +91,14 @@ fn options_line(
     alloc: Global,
     version: Version,
     item: &BootItem,
-    number: usize,
+    place: usize,
 ) -> Result<Bytes, NoMemory>
-    ensures { IfOk result (λ t. t ≡ options_line (number version) item.now number) }
+    ensures { IfOk result (λ t. t ≡ options_line (number version) item.now place) }
 {
     let mut text = Bytes::from_slice(alloc, b"options ")?;
     text.append(spaced(alloc, item)?.as_slice())?;
     text.append(b"ostree=")?;
-    text.append(named_link(alloc, version, item, number)?.as_slice())?;
+    text.append(named_link(alloc, version, item, place)?.as_slice())?;
     text.push(b'\n')?;
     Ok(text)
 }
@@ -118,20 +124,36 @@ fn linux_line(alloc: Global, item: &BootItem) -> Result<Bytes, NoMemory>
     Ok(text)
 }
 
-fn initrd_lines(alloc: Global, item: &BootItem) -> Result<Bytes, NoMemory>
-    ensures { IfOk result (λ t. t ≡ initrd_lines item.now.kernel.initramfs item.now) }
+fn initrd_front(alloc: Global, item: &BootItem) -> Result<Bytes, NoMemory>
+    ensures { IfOk result (λ t. t ≡ initrd_front item.now) }
 {
-    if !item.kernel.initramfs {
-        return Ok(Bytes::new(alloc));
-    }
     let mut text = Bytes::from_slice(alloc, b"initrd ")?;
     text.append(kernel_text(alloc, item)?.as_slice())?;
     text.append(b"/initramfs-")?;
-    text.append(item.kernel.kver.as_slice())?;
-    text.append(b".img\n")?;
     Ok(text)
 }
 
+fn initrd_line(alloc: Global, item: &BootItem) -> Result<Bytes, NoMemory>
+    ensures { IfOk result (λ t. t ≡ initrd_line item.now) }
+{
+    let mut text = initrd_front(alloc, item)?;
+    text.append(item.kernel.kver.as_slice())?;
+    text.append(b".img")?;
+    text.push(b'\n')?;
+    Ok(text)
+}
+
+fn initrd_lines(alloc: Global, item: &BootItem) -> Result<Bytes, NoMemory>
+    ensures { IfOk result (λ t. t ≡ initrd_lines item.now.kernel.initramfs item.now) }
+{
+    if item.kernel.initramfs {
+        initrd_line(alloc, item)
+    } else {
+        Ok(Bytes::new(alloc))
+    }
+}
+
+#[tactic(auto, unfolding(crate::specs::Entries::entry_text))]
 /// The text of the entry of the member with this index, in the folder of a version of the boot loader.
 pub fn entry_text(
     alloc: Global,
@@ -143,10 +165,10 @@ pub fn entry_text(
     ensures { (item : Item) → IsAt items.now index item → IfOk result (λ t. t ≡ entry_text (number version) items.now index item) }
 {
     let item = &items[index];
-    let number = link_number(items, index);
+    let place = link_number(items, index);
     let mut text = title_line(alloc, item, index)?;
     text.append(version_line(alloc, items.len() - index)?.as_slice())?;
-    text.append(options_line(alloc, version, item, number)?.as_slice())?;
+    text.append(options_line(alloc, version, item, place)?.as_slice())?;
     text.append(linux_line(alloc, item)?.as_slice())?;
     text.append(initrd_lines(alloc, item)?.as_slice())?;
     Ok(text)

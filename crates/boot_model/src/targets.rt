@@ -22,14 +22,31 @@ pub fn loader_target(version: Version) -> &'static [u8]
 pub fn boot_target(version: Version, sub: Version) -> &'static [u8]
     ensures { result.now ≡ boot_target (number version) (number sub) }
 {
-    match (version, sub) {
-        (Version::Zero, Version::Zero) => b"boot.0.0",
-        (Version::Zero, Version::One) => b"boot.0.1",
-        (Version::One, Version::Zero) => b"boot.1.0",
-        (Version::One, Version::One) => b"boot.1.1",
+    match version {
+        Version::Zero => first_target(sub),
+        Version::One => second_target(sub),
     }
 }
 
+fn first_target(sub: Version) -> &'static [u8]
+    ensures { result.now ≡ boot_target 0 (number sub) }
+{
+    match sub {
+        Version::Zero => b"boot.0.0",
+        Version::One => b"boot.0.1",
+    }
+}
+
+fn second_target(sub: Version) -> &'static [u8]
+    ensures { result.now ≡ boot_target 1 (number sub) }
+{
+    match sub {
+        Version::Zero => b"boot.1.0",
+        Version::One => b"boot.1.1",
+    }
+}
+
+#[tactic(auto, unfolding(crate::specs::Entries::deploy_target))]
 /// What the link of a member holds: `../../../deploy/<stateroot>/deploy/<commit>.<serial>`.
 pub fn deploy_target(alloc: Global, id: &DepId) -> Result<Bytes, NoMemory>
     ensures { IfOk result (λ t. t ≡ deploy_target id.now) }
