@@ -87,3 +87,17 @@ IsList R d members = ((shows d loader_path ≡ Vacant) × (members ≡ []))
 -- the members of a list that is to boot
 abbrev pub member_of : BootItem → Member
 member_of item = record { id = item.id; kargs = item.kargs }
+
+-- ---- what a list is read from
+
+-- All that the list of a version is read from shows the same: the entries, the links and which deployments are there.
+pub record SameVersion (loader : ℕ) (d e : Disk) : Type 0 where
+  pub entries : (file : Name) → shows e (entry_path loader file) ≡ shows d (entry_path loader file)
+  pub link : shows e (boot_link_path loader) ≡ shows d (boot_link_path loader)
+  pub links : (sub : ℕ) (rest : Path) → sub < 2 → shows e (boot_folder_path loader sub ++ rest) ≡ shows d (boot_folder_path loader sub ++ rest)
+  pub deployments : (id : DepId) → shows e (deploy_path id.os id.commit id.serial) ≡ shows d (deploy_path id.os id.commit id.serial)
+
+-- The boot loader's link and all that the list of the version is read from which it selects show the same.
+pub record SameList (d e : Disk) : Type 0 where
+  pub loader : shows e loader_path ≡ shows d loader_path
+  pub version : (loader : ℕ) → Selects d loader → SameVersion loader d e
