@@ -1,3 +1,4 @@
 pub mod Nodes
 pub mod Making
 pub mod Clearing
+pub mod Linking
