@@ -2,3 +2,4 @@ pub mod Nodes
 pub mod Making
 pub mod Clearing
 pub mod Linking
+pub mod Lying

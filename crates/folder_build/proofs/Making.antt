@@ -300,12 +300,13 @@ module _ (n : ℕ) (t u : Building) (same : t ≡ u) (v : View) (tree : IsTree v
   pub kept_at : e.what ≡ Folder → (shows v.now e.at ≡ Vacant → ⊥) → Needs (reached n t) v
   kept_at what there = kept_step n t e needs.made number v tree needs.home built_now what there
 
-pub write_at : (n : ℕ) (t u : Building) → t ≡ u → (v : View) → IsTree v.now → Needs t v → t.phase ≡ phase.Write n → (e : NewNode) → IsNumber t.nodes n e → (bytes : List ℕ) → e.what ≡ File bytes
-    → Step (WritesOf u v) (Needs (reached n t)) v (no_file e.at v.now) (extended (inode_of (v.now.at e.at)) bytes v)
-write_at n t u same v tree needs is e number bytes what =
-    as_is t u same v (Needs (reached n t)) (no_file e.at v.now) (extended (inode_of (v.now.at e.at)) bytes v)
+pub write_at : (n : ℕ) (t u : Building) → t ≡ u → (v : View) → IsTree v.now → Needs t v → t.phase ≡ phase.Write n → (e : NewNode) → IsNumber t.nodes n e → (bytes : List ℕ) → e.what ≡ File bytes → (read : List ℕ) → read ≡ bytes
+    → Step (WritesOf u v) (Needs (reached n t)) v (no_file e.at v.now) (extended (inode_of (v.now.at e.at)) read v)
+write_at n t u same v tree needs is e number bytes what read here =
+    subst (λ b. Step (WritesOf u v) (Needs (reached n t)) v (no_file e.at v.now) (extended (inode_of (v.now.at e.at)) b v)) (sym here)
+    (as_is t u same v (Needs (reached n t)) (no_file e.at v.now) (extended (inode_of (v.now.at e.at)) bytes v)
     (subst (λ ph. Step (writes_in ph t v) (Needs (reached n t)) v (no_file e.at v.now) (extended (inode_of (v.now.at e.at)) bytes v)) (sym is)
-    (write_step n t v tree needs.made needs.home (subst (λ ph. needs_in ph t v) is needs.meets) e number bytes what))
+    (write_step n t v tree needs.made needs.home (subst (λ ph. needs_in ph t v) is needs.meets) e number bytes what)))
 
 -- the node that was read
 pub number_make : (t : Building) (n : ℕ) → IsMade t → t.phase ≡ phase.Make n → (e : NewNode) → e ≡ get_or t.nodes n e → IsNumber t.nodes n e
@@ -314,17 +315,9 @@ number_make t n made is e read = (subst (λ ph. IsWithin ph t.top t.nodes) is ma
 pub number_write : (t : Building) (n : ℕ) → IsMade t → t.phase ≡ phase.Write n → (e : NewNode) → e ≡ get_or t.nodes n e → IsNumber t.nodes n e
 number_write t n made is e read = ((subst (λ ph. IsWithin ph t.top t.nodes) is made.within).0, sym read)
 
-pub same_bytes : (what : Content) (a b : List ℕ) → what ≡ File a → what ≡ File b → a ≡ b
-same_bytes what a b one two = let e : File a ≡ File b = sym one ∙ two in cc
-
--- the bytes that were read are the node's
-pub write_with : {u t : Building} {n : ℕ} {v : View} {at : Path} {k : ℕ} {bytes : List ℕ} (read : List ℕ) → read ≡ bytes
-    → Step (WritesOf u v) (Needs (reached n t)) v (no_file at v.now) (extended k bytes v) → Step (WritesOf u v) (Needs (reached n t)) v (no_file at v.now) (extended k read v)
-write_with {u} {t} {n} {v} {at} {k} {bytes} read is step = subst (λ b. Step (WritesOf u v) (Needs (reached n t)) v (no_file at v.now) (extended k b v)) (sym is) step
-
 -- a call that wants for memory leaves the view as it was
 pub unchanged_as : {T : Type 0} (e : FsErr) (r : Result T FsErr) → r ≡ Err e → (f : FsErr) → e ≡ f → IsErrOf r NoMemory → (refusal : Option FsErr) (v w : View) (view : Option View) → Fails refusal v w f view → view ≡ Some v
 unchanged_as {T} e r is f same memory refusal v w view fails =
-    let m : Err {T = T} e ≡ Err NoMemory = sym is ∙ memory in
+    let m : IsErrOf {T = T} (Err e) NoMemory = subst (λ x. IsErrOf x NoMemory) is memory in
     let n : e ≡ NoMemory = cc in
     subst (λ x. Fails refusal v w x view) (sym same ∙ n) fails

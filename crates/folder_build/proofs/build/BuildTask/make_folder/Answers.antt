@@ -43,7 +43,7 @@ pub returns-in_err-mkdir-clause-unchanged : goal.returns-in_err-mkdir-clause-unc
 returns-in_err-mkdir-clause-unchanged g c = λ v told memory.
     let still = c.in_ok-stat.ensures.quiet.view ∙ told in
     let error = err_from_is_err_and c.from_residual-in_err-mkdir.result c.from_residual-in_err-mkdir.ensures.1 in
-    unchanged_as error.0 _ error.1 error.2 memory _ _ _ _ (c.in_err-mkdir.ensures.effect v still)
+    unchanged_as error.0 _ error.1 _ error.2 memory _ _ _ _ (c.in_err-mkdir.ensures.effect v still)
 
 pub returns-clause-writes : goal.returns-clause-writes
 returns-clause-writes g c = λ v told.
