@@ -30,7 +30,7 @@ module _ (R : Reading) (d : Disk) (items : List BootItem) (boots : Boots d items
       let n : length items ≡ length front + suc (length rest) = ap length is ∙ length-append front (x ∷ rest) in
       (omega (arith, n), ap (λ (l : List BootItem). get_or l (length front) x) is ∙ last_of front x rest x)
 
-  row : (i : ℕ) (x : BootItem) → IsAt items i x → Row
+  abbrev row : (i : ℕ) (x : BootItem) → IsAt items i x → Row
   row i x at = record { file = (boots.entries.each i x at).0; version = length items - i; member = member_of x }
 
   row_is : (i : ℕ) (x : BootItem) (at : IsAt items i x) → IsRow R d boots.loader (row i x at)
@@ -50,7 +50,7 @@ module _ (R : Reading) (d : Disk) (items : List BootItem) (boots : Boots d items
   next : (front : List BootItem) (x : BootItem) (rest : List BootItem) → items ≡ front ++ x ∷ rest → items ≡ (front ++ x ∷ []) ++ rest
   next front x rest is = is ∙ sym (append_assoc front (x ∷ []) rest)
 
-  rows : (front rest : List BootItem) → items ≡ front ++ rest → List Row
+  abbrev rows : (front rest : List BootItem) → items ≡ front ++ rest → List Row
   rows front [] is = []
   rows front (x ∷ rest) is = row (length front) x (here front x rest is) ∷ rows (front ++ x ∷ []) rest (next front x rest is)
 
@@ -83,13 +83,13 @@ module _ (R : Reading) (d : Disk) (items : List BootItem) (boots : Boots d items
       → ((k : ℕ) (b : BootItem) (there : IsAt items k b) → k ≡ i → (row k b there).file ≡ file) → Contains (map (λ (r : Row). r.file) (rows front rest is)) file
   has front [] is i x at from file named =
       let n : length items ≡ length front + 0 = ap length is ∙ length-append front [] in absurd (omega (arith, n, from, at.0))
-  has front (y ∷ rest) is i x at from file named = by (leb_tells i (length front))
+  has front (y ∷ rest) is i x at from file named = by (⊎_elim (λ q. inl q.1) (λ q. inr q.1) (leb_tells i (length front))) (λ later. has (front ++ y ∷ []) rest (next front y rest is) i x at later file named)
     where
-      by : (i ≤ length front) ⊎ (length front < i) → Contains (map (λ (r : Row). r.file) (rows front (y ∷ rest) is)) file
-      by (inl le) = (0, omega arith, named (length front) y (here front y rest is) (omega (arith, le, from)))
-      by (inr later) =
+      by : (i ≤ length front) ⊎ (length front < i) → (length (front ++ y ∷ []) ≤ i → Contains (map (λ (r : Row). r.file) (rows (front ++ y ∷ []) rest (next front y rest is))) file) → Contains (map (λ (r : Row). r.file) (rows front (y ∷ rest) is)) file
+      by (inl le) more = (0, omega arith, named (length front) y (here front y rest is) (omega (arith, le, from)))
+      by (inr later) more =
           let m : length (front ++ y ∷ []) ≡ length front + 1 = length-append front (y ∷ []) in
-          let r = has (front ++ y ∷ []) rest (next front y rest is) i x at (omega (arith, m, later)) file named in
+          let r = more (omega (arith, m, later)) in
           (suc r.0, omega (arith, r.1), r.2)
 
   same_text : (i k : ℕ) (x b : BootItem) → IsAt items i x → IsAt items k b → k ≡ i → entry_text boots.loader items k b ≡ entry_text boots.loader items i x

@@ -59,9 +59,11 @@ fn check_entry(
     Ok(())
 }
 
-const ONLY: &[u8] = b"title demo (ostree:0)\nversion 1\noptions root=LABEL=r ostree=/ostree/boot.0/demo/290a3daa9b49526a2ed7352cd7f5e69c551a01e15de61fc04c43f780d7172b71/0\nlinux /ostree/demo-290a3daa9b49526a2ed7352cd7f5e69c551a01e15de61fc04c43f780d7172b71/vmlinuz-6.1\ninitrd /ostree/demo-290a3daa9b49526a2ed7352cd7f5e69c551a01e15de61fc04c43f780d7172b71/initramfs-6.1.img\n";
+const ONLY: &[u8] =
+    b"title demo (ostree:0)\nversion 1\noptions root=LABEL=r ostree=/ostree/boot.0/demo/290a3daa9b49526a2ed7352cd7f5e69c551a01e15de61fc04c43f780d7172b71/0\nlinux /ostree/demo-290a3daa9b49526a2ed7352cd7f5e69c551a01e15de61fc04c43f780d7172b71/vmlinuz-6.1\ninitrd /ostree/demo-290a3daa9b49526a2ed7352cd7f5e69c551a01e15de61fc04c43f780d7172b71/initramfs-6.1.img\n";
 
-const OLDER: &[u8] = b"title demo (ostree:1)\nversion 1\noptions root=LABEL=r ostree=/ostree/boot.1/demo/290a3daa9b49526a2ed7352cd7f5e69c551a01e15de61fc04c43f780d7172b71/1\nlinux /ostree/demo-290a3daa9b49526a2ed7352cd7f5e69c551a01e15de61fc04c43f780d7172b71/vmlinuz-6.1\ninitrd /ostree/demo-290a3daa9b49526a2ed7352cd7f5e69c551a01e15de61fc04c43f780d7172b71/initramfs-6.1.img\n";
+const OLDER: &[u8] =
+    b"title demo (ostree:1)\nversion 1\noptions root=LABEL=r ostree=/ostree/boot.1/demo/290a3daa9b49526a2ed7352cd7f5e69c551a01e15de61fc04c43f780d7172b71/1\nlinux /ostree/demo-290a3daa9b49526a2ed7352cd7f5e69c551a01e15de61fc04c43f780d7172b71/vmlinuz-6.1\ninitrd /ostree/demo-290a3daa9b49526a2ed7352cd7f5e69c551a01e15de61fc04c43f780d7172b71/initramfs-6.1.img\n";
 
 #[test]
 fn writes_entries(rt: HostRuntime) -> Result<(), Fail> {

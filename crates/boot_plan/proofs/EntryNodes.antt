@@ -122,7 +122,7 @@ module _ (loader : ℕ) (items : List BootItem) where
     goes_on = record {
       grown = grown_push (loader_folder_path loader) nodes (entry_node loader items k item) so.grown follows;
       inner = push_found nodes (entry_node loader items k item) (entries_path loader) Folder so.inner;
-      each = λ i a less here. each i a here (leb_tells k i) less;
+      each = λ i a less here. each i a here (⊎_elim (λ q. inl q.1) (λ q. inr q.1) (leb_tells k i)) less;
       only = λ file c has. only file c (push_cases nodes (entry_node loader items k item) (entry_path loader file) c has);
     }
       where

@@ -24,7 +24,7 @@ grown_push top m e grown follows n a number = by (less_or_last n)
     whole = length-append m (e ∷ [])
 
     less_or_last : (n : ℕ) → (n < length m) ⊎ (length m ≤ n)
-    less_or_last n = ⊎_elim (λ a. inr a) (λ a. inl a) (leb_tells (length m) n)
+    less_or_last n = ⊎_elim (λ a. inr a.1) (λ a. inl a.1) (leb_tells (length m) n)
 
     last : n ≡ length m → MayFollow top (take n (m ++ e ∷ [])) a
     last is =

@@ -170,7 +170,7 @@ module _ (version sub : ℕ) (items : List BootItem) where
             target = target;
           });
       first = push_found nodes link (boot_folder_path version sub) Folder so.first;
-      each = λ i a less here. each i a here (leb_tells k i) less;
+      each = λ i a less here. each i a here (⊎_elim (λ q. inl q.1) (λ q. inr q.1) (leb_tells k i)) less;
       only = λ p c there. only p c (push_cases nodes link p c there);
     }
       where
