@@ -6,4 +6,8 @@ either true x e = refl
 either false x e = e
 
 pub returns-in_ok-insert-clause-keeps : goal.returns-in_ok-insert-clause-keeps
-returns-in_ok-insert-clause-keeps c = λ other was. c.in_ok-insert.ensures.updates.0 other ∙ either _ _ was
+returns-in_ok-insert-clause-keeps c = record {
+  notes = λ other was. c.in_ok-insert.ensures.updates.0 other ∙ either _ _ was;
+  short = λ s. s;
+  lost = λ l. l;
+}
