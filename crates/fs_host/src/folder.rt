@@ -22,7 +22,7 @@ use crate::leaf::{Opened, extend_leaf, open_leaf};
 use crate::links::link_or_copy;
 use crate::place::{PLACE, rename, show_folder, withdraw};
 use crate::private::{new_folder, sync};
-use crate::standing::{ATTRIBUTES, spell, spell_parent, walk};
+use crate::standing::{ATTRIBUTES, has_reserved, spell, spell_parent, walk};
 use crate::start::{NoStart, start};
 use crate::{
     Fault, FileHeader, HostKind, HostPath, Known, Leaf, Machine, Mark, Recent, Refusal, Standing,
@@ -232,9 +232,11 @@ impl<R: Machine> CurrentFolder<R> {
         self.begin()?;
         self.known.forget(self.path.as_str());
         let removed = self.remove_folder(at);
+        if removed.is_ok() {
+            self.changed.forget(self.path.as_str());
+        }
         self.note_parent(at);
         removed?;
-        self.changed.forget(self.path.as_str());
         Ok(())
     }
 
@@ -480,6 +482,9 @@ impl<R: Machine> CurrentFolder<R> {
         ensures short { OnOk result (length self.new.path ≤ 2049) }
         ensures changed { self.new.changed ≡ self.old.changed }
     {
+        if has_reserved(at) {
+            return Err(FsErr::Failed);
+        }
         spell(at, &mut self.path);
         if let Some(opened) = self.recent.take(self.path.as_str()) {
             return Ok(opened);
@@ -638,7 +643,6 @@ impl<R: Machine> CurrentFolder<R> {
     fn keep_parent(&mut self, at: &FsPath) -> Result<(), FsErr>
         ensures notes { NotesFolder at.now result self.new.changed }
         ensures path { self.new.path ≡ self.old.path }
-        ensures young { self.new.young ≡ self.old.young }
         ensures named { IfErr result OfNone }
         ensures keeps { KeepsNotes self.old.changed self.new.changed }
     {

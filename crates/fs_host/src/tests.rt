@@ -5,7 +5,7 @@ use ost_types::{
 };
 use std::alloc::{AllocError, Allocator, Global};
 use std::cell::Cell;
-use std::fs::{File, Metadata, OpenOptions};
+use std::fs::{Metadata, OpenFile, OpenOptions};
 use std::io::{ErrorKind, Read};
 use std::os::unix::fs::MetadataExt;
 use std::process::Abort;
@@ -535,7 +535,11 @@ fn reads_no_file_that_is_too_long(rt: HostRuntime) {
     let long = file.expect(&rt, "open").set_len(1 << 40);
     long.expect(&rt, "set_len");
     let mut fs = open(&rt);
-    calls(&rt, &mut fs, "failed read /long/leaf;ok read_part /long/leaf");
+    calls(
+        &rt,
+        &mut fs,
+        "failed read /long/leaf;ok read_part /long/leaf",
+    );
     let node = fs.stat(&path(&rt, "/long/leaf"));
     assert!(rt; matches!(node, Ok(Some(Node::File { .. }))));
     clear(&rt, "long");
@@ -574,14 +578,14 @@ fn follows_no_links(rt: HostRuntime) {
 
 // A machine whose answer to a link is given, and whose opens of one file are counted.
 #[derive(Drop)]
-struct Watched<'a> {
-    rt: HostRuntime,
+struct Watched<'a, R> {
+    rt: R,
     link: Option<ErrorKind>,
     watched: &'a str,
     opens: &'a Cell<u32>,
 }
 
-impl Clone for Watched<'_> {
+impl<R: Clone> Clone for Watched<'_, R> {
     fn clone(&self) -> Result<Self, AllocError> {
         Ok(Watched {
             rt: self.rt.clone()?,
@@ -592,7 +596,7 @@ impl Clone for Watched<'_> {
     }
 }
 
-impl Alloc for Watched<'_> {
+impl<R: Machine> Alloc for Watched<'_, R> {
     type A = Global;
 
     fn alloc(&self) -> Global {
@@ -600,12 +604,12 @@ impl Alloc for Watched<'_> {
     }
 }
 
-impl Files for Watched<'_> {
-    type File = File;
+impl<R: Machine> Files for Watched<'_, R> {
+    type File = R::File;
 
-    type Dir = <HostRuntime as Files>::Dir;
+    type Dir = R::Dir;
 
-    fn open_file(&self, how: &OpenOptions, path: &str) -> io::Result<File> {
+    fn open_file(&self, how: &OpenOptions, path: &str) -> io::Result<R::File> {
         if path == self.watched {
             self.opens.set(self.opens.get().saturating_add(1));
         }
@@ -660,18 +664,18 @@ impl Files for Watched<'_> {
     }
 }
 
-impl Machine for Watched<'_> {
-    fn take_lock(&self, folder: &File) -> bool {
+impl<R: Machine> Machine for Watched<'_, R> {
+    fn take_lock(&self, folder: &R::File) -> bool {
         self.rt.take_lock(folder)
     }
 }
 
-fn watch<'a>(
-    rt: &HostRuntime,
+fn watch<'a, R: Abort + Machine>(
+    rt: &R,
     link: Option<ErrorKind>,
     watched: &'a str,
     opens: &'a Cell<u32>,
-) -> HostFs<Watched<'a>> {
+) -> HostFs<Watched<'a, R>> {
     let host = Watched {
         rt: rt.clone().expect(rt, "memory"),
         link,
@@ -692,7 +696,7 @@ const LINK_ERRORS: [(ErrorKind, &str); 8] = [
     (ErrorKind::Other, "failed"),
 ];
 
-fn check_link(rt: &HostRuntime, kind: ErrorKind, wanted: &str) {
+fn check_answer_to<R: Abort + Machine>(rt: &R, kind: ErrorKind, wanted: &str) {
     let opens = Cell::new(0);
     fresh(rt, "copied");
     put(rt, "copied/one", WITH_ATTRIBUTES.as_slice());
@@ -711,12 +715,12 @@ fn check_link(rt: &HostRuntime, kind: ErrorKind, wanted: &str) {
 #[test]
 fn copies_where_there_are_no_hard_links(rt: HostRuntime) {
     for (kind, wanted) in LINK_ERRORS {
-        check_link(&rt, kind, wanted);
+        check_answer_to(&rt, kind, wanted);
     }
 }
 
 // How often a start opens the file of a folder.
-fn opens_at_start(rt: &HostRuntime) -> u32 {
+fn opens_at_start<R: Abort + Machine>(rt: &R) -> u32 {
     let opens = Cell::new(0);
     drop(watch(rt, None, "./killed/leaf", &opens));
     opens.get()
