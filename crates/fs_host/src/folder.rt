@@ -560,6 +560,7 @@ impl<R: Machine> CurrentFolder<R> {
     }
 
     fn settle_if_heavy(&mut self) -> Result<(), Fault>
+        ensures same { OnOk result (self.new.changed ≡ self.old.changed) }
         ensures keeps { KeepsNotes self.old.changed self.new.changed }
     {
         if self.young.is_heavy() {

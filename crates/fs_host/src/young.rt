@@ -1,5 +1,6 @@
 //! Young leaves: made in the reserved place, and not yet synced and shown under their names.
-ghost use Rattle.std.specs.Prelude.{◌≡◌, ◌<◌, ◌≤◌, ◌↔◌, vec_len, IsTrue, OnOk};
+ghost use Rattle.std.specs.Prelude.{◌≡◌, ◌<◌, ◌≤◌, ◌↔◌, vec_len, IsTrue, IfErr, OnOk};
+ghost use Rattle.fs_trait.specs.Effect.{OfNone};
 ghost use Rattle.fs_host.specs.Young.{AreSynced, IsSettled};
 
 use crate::leaf::{extend, extend_leaf};
@@ -100,6 +101,7 @@ impl<F: OpenFile + Write + Drop> Young<F> {
         is_link: bool,
     ) -> Result<(), FsErr>
         requires { vec_len self.old.files < 1024 }
+        ensures { IfErr result OfNone }
     {
         let number = self.files.len() as u32;
         self.give(name, number)?;
