@@ -87,6 +87,29 @@ none stat /table/n
 ok rename /table/m /table/f
 link stat /table/f
 none stat /table/m
+ok create /table/y
+ok append /table/y one
+ok link /table/y /table/z
+yes same /table/y /table/z
+ok append /table/z two
+yes holds /table/y onetwo
+ok sync_file /table/y
+ok unlink /table/y
+none stat /table/y
+yes holds /table/z onetwo
+not_folder create /table/z/q
+none stat /table/z/q
+ok rename /table/z /table/d/z
+yes holds /table/d/z onetwo
+missing unlink,sync_file /table/z
+ok append /table/d/z x
+ok create /table/z
+ok rename /table/d/z /table/z
+yes holds /table/z onetwox
+ok unlink /table/z
+ok symlink /table/s
+missing append,read /table/s
+ok unlink /table/s
 ok unlink /table/f
 ok unlink /table/l
 ok unlink /table/d/g

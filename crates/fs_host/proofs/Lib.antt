@@ -1,3 +1,4 @@
 mod Forms
 mod Headers
+mod Notes
 mod Texts

@@ -50,9 +50,16 @@ front_short p n path = omega (arith, joined_shorter p n, path_short p path)
 pub part_longest : (text : List ℕ) (p : Path) (n i : ℕ) → text ≡ host_text (take i (take n p)) → IsPath p → length text ≤ 2049
 part_longest text p n i is path = omega (arith, ap (λ (t : List ℕ). length t) is, joined_shorter (take n p) i, front_short p n path)
 
+-- all of so many names were spelled
+pub front_text : (text : List ℕ) (all : Path) (n i : ℕ) → text ≡ host_text (take i (take n all)) → length (take n all) ≤ i → text ≡ host_text (take n all)
+front_text text all n i is end = is ∙ ap host_text (take_all i (take n all) end)
+
 -- all names but the last are the folder's
-pub parent_text : (text : List ℕ) (all : Path) (n i : ℕ) (p : Path) (x : Name) → text ≡ host_text (take i (take n all)) → length (take n all) ≤ i → n ≡ length all - 1 → all ≡ under p x → text ≡ host_text p
-parent_text text all n i p x is end count whole =
+pub parent_text : (text : List ℕ) (all : Path) (n : ℕ) (p : Path) (x : Name) → text ≡ host_text (take n all) → n ≡ length all - 1 → all ≡ under p x → text ≡ host_text p
+parent_text text all n p x is count whole =
     let n_is : n ≡ length p = count ∙ ap (λ (q : Path). length q - 1) whole ∙ ap (λ (k : ℕ). k - 1) (length-append p (x ∷ [])) ∙ omega arith in
     let front : take n all ≡ p = ap (λ (q : Path). take n q) whole ∙ take_at p (x ∷ []) n (sym n_is) in
-    is ∙ ap host_text (take_all i (take n all) end ∙ front)
+    is ∙ ap host_text front
+
+pub whole_text : (text : List ℕ) (all : Path) (n : ℕ) → text ≡ host_text (take n all) → n ≡ length all → text ≡ host_text all
+whole_text text all n is count = is ∙ ap host_text (take_all n all (omega (arith, count)))

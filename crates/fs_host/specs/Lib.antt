@@ -6,3 +6,4 @@ pub mod HostPath
 pub mod Laws
 pub mod Refusal
 pub mod Reserved
+pub mod Young

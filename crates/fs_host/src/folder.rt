@@ -1,5 +1,5 @@
 //! The current folder of the machine: what each call does there. Nothing is counted here.
-ghost use Rattle.std.specs.Prelude.{◌≡◌, ◌≢◌, ◌≤◌, [], length, Err, IsTrue, IsErr, OnOk, IfOk, IfErr};
+ghost use Rattle.std.specs.Prelude.{◌≡◌, ◌≢◌, ◌⊎◌, ◌≤◌, ◌<◌, [], length, vec_len, Err, IsTrue, IsFalse, IsErr, IsNone, OnOk, OnErr, IfOk, IfErr};
 ghost use Rattle.std.specs.Cmp.Lexicographic.{slice_cmp};
 ghost use Rattle.std.specs.List.Sorted.{IsStrictlySortedBy};
 ghost use Rattle.std.specs.Ordering.{nat_cmp};
@@ -11,13 +11,23 @@ ghost use Rattle.fs_trait.specs.declared.types.FsErr.TheVariants as error;
 ghost use Rattle.ost_types.specs.Mode.{IsFolderMode, IsFileMode, IsLinkMode};
 ghost use Rattle.ost_types.specs.Path.{Name, Path, under};
 ghost use Rattle.fs_host.specs.HostPath.{host_text};
+ghost use Rattle.fs_host.specs.Changed.{IsNoted, IsSeenTo, KeepsNotes, NotesFolder};
+ghost use Rattle.fs_host.specs.Young.{IsSettled};
+ghost use Rattle.std.specs.BTreeSet.{contains_text};
 
 use crate::attributes::{attributes_bytes, is_plain, plain_attributes, read_attributes};
-use crate::changed::{Changed, sync};
+use crate::changed::Changed;
 use crate::front::{file_front, link_front};
-use crate::leaf::extend_leaf;
-use crate::standing::{ATTRIBUTES, is_reserved, walk};
-use crate::{Fault, FileHeader, HostKind, HostPath, Leaf, Refusal, Staging, Standing};
+use crate::leaf::{Opened, extend_leaf, open_leaf};
+use crate::links::link_or_copy;
+use crate::place::{PLACE, rename, show_folder, withdraw};
+use crate::private::{new_folder, sync};
+use crate::standing::{ATTRIBUTES, has_reserved, spell, spell_parent, walk};
+use crate::start::{NoStart, start};
+use crate::{
+    Fault, FileHeader, HostKind, HostPath, Known, Leaf, Machine, Mark, Recent, Refusal, Standing,
+    Young,
+};
 use fs_trait::{FsErr, Node};
 use ost_forms::{OBJECT_LIMIT, ObjFault};
 use ost_types::{Bytes, FsPath, Meta, Name, Names, NoMemory, Text};
@@ -28,26 +38,57 @@ use std::io::{ErrorKind, Read};
 use std::rt::Files;
 
 /// The current folder, with room for the texts of paths.
-#[derive(Drop)]
-pub struct CurrentFolder<R: Files + AllocGlobal + Clone + Drop> {
+pub struct CurrentFolder<R: Machine> {
     rt: R,
+    // The folder itself, whose lock is held while it is open. None where there was no start: each call fails then.
+    top: Option<R::File>,
+    mark: Mark,
     path: HostPath,
     other: HostPath,
     parent: HostPath,
-    staging: Staging,
+    known: Known,
+    young: Young<R::File>,
     changed: Changed,
+    recent: Recent<R::File>,
 }
 
-impl<R: Files + AllocGlobal + Clone + Drop> CurrentFolder<R> {
+impl<R: Machine> Drop for CurrentFolder<R> {
+    fn drop(mut self) {
+        self.end();
+        let CurrentFolder {
+            rt: _,
+            top: _,
+            mark: _,
+            path: _,
+            other: _,
+            parent: _,
+            known: _,
+            young: _,
+            changed: _,
+            recent: _,
+        } = self;
+    }
+}
+
+impl<R: Machine> CurrentFolder<R> {
     pub fn new(rt: R) -> Result<CurrentFolder<R>, NoMemory> {
+        let (top, mark) = match start(&rt) {
+            Ok((top, mark)) => (Some(top), mark),
+            Err(NoStart::Failed) => (None, Mark::Open),
+            Err(NoStart::NoMemory) => return Err(NoMemory),
+        };
         let alloc = rt.alloc();
         Ok(CurrentFolder {
             rt,
+            top,
+            mark,
             path: HostPath::new(alloc)?,
             other: HostPath::new(alloc)?,
             parent: HostPath::new(alloc)?,
-            staging: Staging::new(alloc)?,
+            known: Known::new(alloc),
+            young: Young::new(alloc)?,
             changed: Changed::new(alloc),
+            recent: Recent::new(alloc)?,
         })
     }
 
@@ -55,48 +96,64 @@ impl<R: Files + AllocGlobal + Clone + Drop> CurrentFolder<R> {
         requires { IsFolderMode meta.now.mode }
         ensures reserved { HasReserved at.now → result ≡ Err error.Failed }
         ensures named { IfErr result OfPlacing }
+        ensures notes { NotesFolder at.now result self.new.changed }
+        ensures keeps { KeepsNotes self.old.changed self.new.changed }
     {
         self.walk_to_nothing(at)?;
-        let made = if is_plain(meta) {
-            fs::create_dir(&self.rt, self.path.as_str()).map_err(Fault::from)
+        if is_plain(meta) {
+            self.keep_parent(at)?;
+            new_folder(&self.rt, self.path.as_str()).map_err(Fault::from)?;
         } else {
             let attributes = attributes_bytes(self.rt.alloc(), meta)?;
-            self.show_folder(at, attributes.as_slice())
-        };
-        self.note_parent(at);
-        Ok(made?)
+            if attributes.as_slice().len() > OBJECT_LIMIT {
+                return Err(FsErr::Failed);
+            }
+            self.keep_parent(at)?;
+            show_folder(&self.rt, self.path.as_str(), attributes.as_slice())?;
+        }
+        Ok(())
     }
 
     pub fn create(&mut self, at: &FsPath, meta: &Meta) -> Result<(), FsErr>
         requires { IsFileMode meta.now.mode }
         ensures reserved { HasReserved at.now → result ≡ Err error.Failed }
         ensures named { IfErr result OfPlacing }
+        ensures notes { NotesFolder at.now result self.new.changed }
+        ensures keeps { KeepsNotes self.old.changed self.new.changed }
     {
         self.walk_to_nothing(at)?;
-        let shown = if meta.xattrs.as_slice().is_empty() {
+        if meta.xattrs.as_slice().is_empty() {
             let header = FileHeader {
                 uid: meta.uid,
                 gid: meta.gid,
                 mode: meta.mode,
             };
-            self.show_front(at, &header.to_bytes())
+            self.add_young(at, &header.to_bytes(), false)
         } else {
             let front = file_front(self.rt.alloc(), meta)?;
-            self.show_front(at, front.as_slice())
-        };
-        self.note_parent(at);
-        Ok(shown?)
+            self.add_young(at, front.as_slice(), false)
+        }
     }
 
     pub fn append(&mut self, at: &FsPath, bytes: &[u8]) -> Result<(), Refusal>
         ensures reserved { HasReserved at.now → result ≡ Err Failed }
         ensures named { IfErr (answered result) OfFinding }
+        ensures keeps { KeepsNotes self.old.changed self.new.changed }
     {
-        let leaf = self.walk_to_file(at)?;
-        let added = extend_leaf(&self.rt, self.path.as_str(), leaf.size(), bytes);
-        self.changed.note(&self.rt, self.path.as_str());
-        added?;
-        Ok(())
+        match self.walk(at)? {
+            Standing::Young(number) if !self.young.is_link(number) => {
+                self.recent.close();
+                self.young.append(&self.rt, number, bytes)?;
+                self.settle_if_heavy()?;
+                Ok(())
+            }
+            Standing::Leaf(leaf) if !leaf.is_link => {
+                self.begin()?;
+                self.extend(bytes)?;
+                Ok(())
+            }
+            _ => Err(Refusal::Missing),
+        }
     }
 
     pub fn symlink(&mut self, at: &FsPath, target: &Text, meta: &Meta) -> Result<(), FsErr>
@@ -104,47 +161,59 @@ impl<R: Files + AllocGlobal + Clone + Drop> CurrentFolder<R> {
         requires target { target.now ≢ [] }
         ensures reserved { HasReserved at.now → result ≡ Err error.Failed }
         ensures named { IfErr result OfPlacing }
+        ensures notes { NotesFolder at.now result self.new.changed }
+        ensures keeps { KeepsNotes self.old.changed self.new.changed }
     {
         self.walk_to_nothing(at)?;
         let front = link_front(self.rt.alloc(), meta, target)?;
-        let shown = self.show_front(at, front.as_slice());
-        self.note_parent(at);
-        Ok(shown?)
+        self.add_young(at, front.as_slice(), true)
     }
 
     pub fn link(&mut self, from: &FsPath, to: &FsPath) -> Result<(), Refusal>
         ensures reserved { HasReserved from.now → result ≡ Err Failed }
         ensures reserved_target { HasReserved to.now → IsErr result }
         ensures named { IfErr (answered result) OfPlacing }
+        ensures notes { NotesFolder to.now result self.new.changed }
+        ensures keeps { KeepsNotes self.old.changed self.new.changed }
     {
-        let alloc = self.rt.alloc();
-        let Standing::Leaf(leaf) = walk(&self.rt, alloc, from, &mut self.path)? else {
-            return Err(Refusal::Missing);
+        let number = match self.walk(from)? {
+            Standing::Young(number) => Some(number),
+            Standing::Leaf(_) => None,
+            _ => return Err(Refusal::Missing),
         };
-        let Standing::Absent = walk(&self.rt, alloc, to, &mut self.other)? else {
+        let Standing::Absent = self.walk_other(to)? else {
             return Err(Refusal::Exists);
         };
-        let linked = fs::hard_link(&self.rt, self.path.as_str(), self.other.as_str());
-        let there = match linked {
-            Ok(()) => Ok(()),
-            Err(_) => self.show_copy(to, leaf),
-        };
-        if self.changed.contains(self.path.as_str()) {
-            self.changed.note(&self.rt, self.other.as_str());
+        if let Some(number) = number {
+            if self.link_young(number, to) {
+                return Ok(());
+            }
+            self.settle()?;
         }
+        self.begin()?;
+        let linked = link_or_copy(&self.rt, self.path.as_str(), self.other.as_str());
         self.note_parent(to);
-        Ok(there?)
+        linked?;
+        Ok(())
     }
 
     pub fn unlink(&mut self, at: &FsPath) -> Result<(), Refusal>
         ensures reserved { HasReserved at.now → result ≡ Err Failed }
         ensures named { IfErr (answered result) OfFinding }
+        ensures notes { NotesFolder at.now result self.new.changed }
+        ensures keeps { KeepsNotes self.old.changed self.new.changed }
     {
-        let Standing::Leaf(leaf) = walk(&self.rt, self.rt.alloc(), at, &mut self.path)? else {
-            return Err(Refusal::Missing);
-        };
-        settle(&mut self.changed, &leaf, self.path.as_str())?;
-        fs::remove_file(&self.rt, self.path.as_str())?;
+        match self.walk(at)? {
+            Standing::Young(_) => {
+                self.recent.close();
+                self.young.take(&self.rt, self.path.as_str())?;
+            }
+            Standing::Leaf(_) => {
+                self.begin()?;
+                fs::remove_file(&self.rt, self.path.as_str())?;
+            }
+            _ => return Err(Refusal::Missing),
+        }
         self.note_parent(at);
         Ok(())
     }
@@ -153,15 +222,21 @@ impl<R: Files + AllocGlobal + Clone + Drop> CurrentFolder<R> {
         ensures reserved { HasReserved at.now → result ≡ Err Failed }
         ensures root { at.now ≡ [] → IsErr result }
         ensures named { IfErr (answered result) OfEmptying }
+        ensures notes { NotesFolder at.now result self.new.changed }
     {
-        walk_to_folder(&self.rt, self.rt.alloc(), at, &mut self.path)?;
+        self.walk_to_folder(at)?;
+        self.settle()?;
         if at.names().is_empty() || has_names(&self.rt, self.path.as_str())? {
             return Err(Refusal::NotEmpty);
         }
+        self.begin()?;
+        self.known.forget(self.path.as_str());
         let removed = self.remove_folder(at);
+        if removed.is_ok() {
+            self.changed.forget(self.path.as_str());
+        }
         self.note_parent(at);
         removed?;
-        self.changed.forget(self.path.as_str());
         Ok(())
     }
 
@@ -169,22 +244,20 @@ impl<R: Files + AllocGlobal + Clone + Drop> CurrentFolder<R> {
         ensures reserved { HasReserved from.now → result ≡ Err Failed }
         ensures reserved_target { HasReserved to.now → IsErr result }
         ensures named { IfErr (answered result) OfPlacing }
+        ensures notes { NotesFolder from.now result self.new.changed }
+        ensures notes_target { NotesFolder to.now result self.new.changed }
+        ensures keeps { KeepsNotes self.old.changed self.new.changed }
     {
-        let alloc = self.rt.alloc();
-        let Standing::Leaf(_) = walk(&self.rt, alloc, from, &mut self.path)? else {
-            return Err(Refusal::Missing);
-        };
-        match walk(&self.rt, alloc, to, &mut self.other)? {
-            Standing::Folder => return Err(Refusal::Exists),
-            Standing::Leaf(leaf) => settle(&mut self.changed, &leaf, self.other.as_str())?,
-            Standing::Absent => {}
+        match self.walk(from)? {
+            Standing::Young(_) | Standing::Leaf(_) => {}
+            _ => return Err(Refusal::Missing),
         }
-        let (source, target) = (self.path.as_str(), self.other.as_str());
-        fs::rename(&self.rt, source, target)?;
-        if self.changed.contains(source) {
-            self.changed.forget(source);
-            self.changed.note(&self.rt, target);
+        if let Standing::Folder = self.walk_other(to)? {
+            return Err(Refusal::Exists);
         }
+        self.settle()?;
+        self.begin()?;
+        rename(&self.rt, self.path.as_str(), self.other.as_str())?;
         self.note_parent(from);
         self.note_parent(to);
         Ok(())
@@ -193,27 +266,45 @@ impl<R: Files + AllocGlobal + Clone + Drop> CurrentFolder<R> {
     pub fn sync_file(&mut self, at: &FsPath) -> Result<(), Refusal>
         ensures reserved { HasReserved at.now → result ≡ Err Failed }
         ensures named { IfErr (answered result) OfFinding }
+        ensures lost { IsTrue self.old.changed.is_lost → IsErr result }
     {
-        let leaf = self.walk_to_file(at)?;
-        leaf.file.sync_all()?;
-        self.changed.forget(self.path.as_str());
-        Ok(())
+        match self.walk(at)? {
+            Standing::Young(number) if !self.young.is_link(number) && !self.changed.is_lost() => {
+                Ok(())
+            }
+            Standing::Leaf(leaf) if !leaf.is_link && !self.changed.is_lost() => {
+                self.sync_path()?;
+                Ok(())
+            }
+            Standing::Young(number) if !self.young.is_link(number) => Err(Refusal::Failed),
+            Standing::Leaf(leaf) if !leaf.is_link => Err(Refusal::Failed),
+            _ => Err(Refusal::Missing),
+        }
     }
 
     pub fn sync_dir(&mut self, at: &FsPath) -> Result<(), Refusal>
         ensures reserved { HasReserved at.now → result ≡ Err Failed }
         ensures named { IfErr (answered result) OfFinding }
+        ensures ok { OnOk result (IsFalse (contains_text self.new.changed.texts (host_text at.now))) }
+        ensures settled { OnOk result (IsSettled self.new.young) }
+        ensures lost { IsTrue self.old.changed.is_lost → IsErr result }
     {
-        walk_to_folder(&self.rt, self.rt.alloc(), at, &mut self.path)?;
-        sync(&self.rt, self.path.as_str())?;
-        self.changed.forget(self.path.as_str());
+        self.walk_to_folder(at)?;
+        self.settle()?;
+        self.changed.sync_one(&self.rt, self.path.as_str())?;
         Ok(())
     }
 
     pub fn sync_all(&mut self) -> Result<(), Fault>
         ensures ok { OnOk result (self.new.changed.texts.keys ≡ []) }
         ensures lost { IsTrue self.old.changed.is_lost → IsErr result }
+        ensures settled { OnOk result (IsSettled self.new.young) }
+        ensures err { OnErr result (IsTrue self.new.changed.is_lost ⊎ IsNone self.old.top) }
     {
+        if self.top.is_none() {
+            return Err(Fault);
+        }
+        self.settle()?;
         self.changed.sync_all(&self.rt)
     }
 
@@ -221,18 +312,24 @@ impl<R: Files + AllocGlobal + Clone + Drop> CurrentFolder<R> {
         ensures reserved { HasReserved at.now → result ≡ Err error.Failed }
         ensures named { IfErr result OfNone }
     {
-        let alloc = self.rt.alloc();
-        match walk(&self.rt, alloc, at, &mut self.path) {
-            Ok(Standing::Absent) | Err(Refusal::Missing | Refusal::NotFolder) => Ok(None),
+        self.recent.close();
+        match self.walk_to_leaf(at) {
             Ok(Standing::Folder) => {
                 self.path.push(ATTRIBUTES);
-                let meta = folder_attributes(&self.rt, alloc, self.path.as_str())?;
+                let meta = folder_attributes(&self.rt, self.rt.alloc(), self.path.as_str())?;
                 Ok(Some(Node::Folder(meta)))
             }
-            Ok(Standing::Leaf(leaf)) => match leaf.into_node() {
-                Some(node) => Ok(Some(node)),
-                None => Err(FsErr::NoMemory),
-            },
+            Ok(Standing::Leaf(leaf)) => {
+                let (node, opened) = leaf.into_node();
+                let Some(node) = node else {
+                    return Err(FsErr::NoMemory);
+                };
+                if let Node::File { .. } = &node {
+                    self.recent.keep(self.path.as_str(), opened);
+                }
+                Ok(Some(node))
+            }
+            Ok(_) | Err(Refusal::Missing | Refusal::NotFolder) => Ok(None),
             Err(_) => Err(FsErr::Failed),
         }
     }
@@ -241,8 +338,8 @@ impl<R: Files + AllocGlobal + Clone + Drop> CurrentFolder<R> {
         ensures reserved { HasReserved at.now → result ≡ Err error.Failed }
         ensures named { IfErr result OfFinding }
     {
-        let leaf = self.walk_to_file(at)?;
-        leaf.whole_content(self.rt.alloc())
+        let mut opened = self.open_file(at)?;
+        opened.whole_content(self.rt.alloc())
     }
 
     pub fn read_part(&mut self, at: &FsPath, from: u64, max: u32) -> Result<Bytes, FsErr>
@@ -250,8 +347,10 @@ impl<R: Files + AllocGlobal + Clone + Drop> CurrentFolder<R> {
         ensures most { IfOk result (λ b. length b ≤ max) }
         ensures named { IfErr result OfFinding }
     {
-        let leaf = self.walk_to_file(at)?;
-        leaf.content(self.rt.alloc(), from, u64::from(max))
+        let mut opened = self.open_file(at)?;
+        let part = opened.content(self.rt.alloc(), from, u64::from(max));
+        self.recent.keep(self.path.as_str(), opened);
+        part
     }
 
     pub fn list(&mut self, at: &FsPath) -> Result<Names, FsErr>
@@ -259,8 +358,9 @@ impl<R: Files + AllocGlobal + Clone + Drop> CurrentFolder<R> {
         ensures ascending { IfOk result (IsStrictlySortedBy (slice_cmp nat_cmp)) }
         ensures named { IfErr result OfFinding }
     {
-        walk_to_folder(&self.rt, self.rt.alloc(), at, &mut self.path)?;
-        names_in(&self.rt, self.path.as_str())
+        self.walk_to_folder(at)?;
+        self.settle()?;
+        names_in(&self.rt, self.path.as_str(), at.names().is_empty())
     }
 
     pub fn same(&mut self, a: &FsPath, b: &FsPath) -> Result<bool, FsErr>
@@ -268,67 +368,254 @@ impl<R: Files + AllocGlobal + Clone + Drop> CurrentFolder<R> {
         ensures reserved_other { HasReserved b.now → IsErr result }
         ensures named { IfErr result OfNone }
     {
-        let alloc = self.rt.alloc();
-        let one = file_at(&self.rt, alloc, a, &mut self.path)?;
-        let two = file_at(&self.rt, alloc, b, &mut self.other)?;
+        let one = self.file_at(a)?;
+        let two = self.file_at(b)?;
         match (one, two) {
             (Some(one), Some(two)) => Ok(one.is_equal(two)?),
             _ => Ok(false),
         }
     }
 
+    // What stands at a path, whose text is spelled.
+    fn walk(&mut self, at: &FsPath) -> Result<Standing<R::File>, Refusal>
+        ensures reserved { HasReserved at.now → result ≡ Err Failed }
+        ensures spelled { OnOk result (self.new.path ≡ host_text at.now) }
+        ensures short { OnOk result (length self.new.path ≤ 2049) }
+        ensures changed { self.new.changed ≡ self.old.changed }
+        ensures placing { IfErr (answered result) OfPlacing }
+        ensures finding { IfErr (answered result) OfFinding }
+        ensures emptying { IfErr (answered result) OfEmptying }
+    {
+        if self.top.is_none() {
+            return Err(Refusal::Failed);
+        }
+        let alloc = self.rt.alloc();
+        walk(
+            &self.rt,
+            alloc,
+            &mut self.known,
+            &self.young,
+            at,
+            &mut self.path,
+        )
+    }
+
+    // What stands at a path, whose text is spelled as the other.
+    fn walk_other(&mut self, at: &FsPath) -> Result<Standing<R::File>, Refusal>
+        ensures reserved { HasReserved at.now → result ≡ Err Failed }
+        ensures path { self.new.path ≡ self.old.path }
+        ensures changed { self.new.changed ≡ self.old.changed }
+        ensures placing { IfErr (answered result) OfPlacing }
+    {
+        if self.top.is_none() {
+            return Err(Refusal::Failed);
+        }
+        let alloc = self.rt.alloc();
+        walk(
+            &self.rt,
+            alloc,
+            &mut self.known,
+            &self.young,
+            at,
+            &mut self.other,
+        )
+    }
+
+    // What stands at a path; a young leaf is opened.
+    fn walk_to_leaf(&mut self, at: &FsPath) -> Result<Standing<R::File>, Refusal>
+        ensures reserved { HasReserved at.now → result ≡ Err Failed }
+        ensures spelled { OnOk result (self.new.path ≡ host_text at.now) }
+        ensures short { OnOk result (length self.new.path ≤ 2049) }
+        ensures changed { self.new.changed ≡ self.old.changed }
+        ensures placing { IfErr (answered result) OfPlacing }
+        ensures finding { IfErr (answered result) OfFinding }
+        ensures emptying { IfErr (answered result) OfEmptying }
+    {
+        match self.walk(at)? {
+            Standing::Young(number) => Ok(Standing::Leaf(self.open_young(number)?)),
+            standing => Ok(standing),
+        }
+    }
+
+    fn open_young(&mut self, number: u32) -> Result<Leaf<R::File>, Fault>
+        ensures path { self.new.path ≡ self.old.path }
+        ensures changed { self.new.changed ≡ self.old.changed }
+    {
+        let alloc = self.rt.alloc();
+        let text = self.young.text_of(number);
+        match HostKind::of(&self.rt, text)? {
+            HostKind::File(size) => open_leaf(&self.rt, alloc, text, size),
+            _ => Err(Fault),
+        }
+    }
+
     fn walk_to_nothing(&mut self, at: &FsPath) -> Result<(), Refusal>
         ensures reserved { HasReserved at.now → result ≡ Err Failed }
         ensures named { IfErr (answered result) OfPlacing }
+        ensures changed { self.new.changed ≡ self.old.changed }
     {
-        match walk(&self.rt, self.rt.alloc(), at, &mut self.path)? {
+        match self.walk(at)? {
             Standing::Absent => Ok(()),
             _ => Err(Refusal::Exists),
         }
     }
 
-    fn walk_to_file(&mut self, at: &FsPath) -> Result<Leaf<R::File>, Refusal>
+    fn walk_to_folder(&mut self, at: &FsPath) -> Result<(), Refusal>
         ensures reserved { HasReserved at.now → result ≡ Err Failed }
-        ensures named { IfErr (answered result) OfFinding }
+        ensures short { OnOk result (length self.new.path ≤ 2049) }
+        ensures finding { IfErr (answered result) OfFinding }
+        ensures emptying { IfErr (answered result) OfEmptying }
+        ensures spelled { OnOk result (self.new.path ≡ host_text at.now) }
+        ensures changed { self.new.changed ≡ self.old.changed }
     {
-        match walk(&self.rt, self.rt.alloc(), at, &mut self.path)? {
-            Standing::Leaf(leaf) if !leaf.is_link => Ok(leaf),
-            _ => Err(Refusal::Missing),
+        match self.walk(at)? {
+            Standing::Folder => Ok(()),
+            Standing::Absent => Err(Refusal::Missing),
+            Standing::Young(_) | Standing::Leaf(_) => Err(Refusal::NotFolder),
         }
     }
 
-    // Makes a leaf that is no more than its front at a path, whose text is spelled.
-    fn show_front(&mut self, at: &FsPath, front: &[u8]) -> Result<(), Fault> {
+    // The regular file at a path, whose text is spelled, open. The one that was looked at last is open already.
+    fn open_file(&mut self, at: &FsPath) -> Result<Opened<R::File>, FsErr>
+        ensures reserved { HasReserved at.now → result ≡ Err error.Failed }
+        ensures named { IfErr result OfFinding }
+        ensures short { OnOk result (length self.new.path ≤ 2049) }
+        ensures changed { self.new.changed ≡ self.old.changed }
+    {
+        if has_reserved(at) {
+            return Err(FsErr::Failed);
+        }
+        spell(at, &mut self.path);
+        if let Some(opened) = self.recent.take(self.path.as_str()) {
+            return Ok(opened);
+        }
+        match self.walk_to_leaf(at)? {
+            Standing::Leaf(leaf) if !leaf.is_link => leaf.into_read(),
+            _ => Err(FsErr::Missing),
+        }
+    }
+
+    // The regular file at a path, if one is there.
+    fn file_at(&mut self, at: &FsPath) -> Result<Option<Leaf<R::File>>, FsErr>
+        ensures reserved { HasReserved at.now → result ≡ Err error.Failed }
+        ensures named { IfErr result OfNone }
+        ensures changed { self.new.changed ≡ self.old.changed }
+    {
+        match self.walk_to_leaf(at) {
+            Ok(Standing::Leaf(leaf)) if !leaf.is_read() => Err(FsErr::NoMemory),
+            Ok(Standing::Leaf(leaf)) if !leaf.is_link => Ok(Some(leaf)),
+            Ok(_) | Err(Refusal::Missing | Refusal::NotFolder) => Ok(None),
+            Err(_) => Err(FsErr::Failed),
+        }
+    }
+
+    // Before a change of the host: the mark is taken away.
+    fn begin(&mut self) -> Result<(), Fault>
+        ensures path { self.new.path ≡ self.old.path }
+        ensures changed { self.new.changed ≡ self.old.changed }
+    {
+        self.recent.close();
+        self.mark.open(&self.rt)
+    }
+
+    // Makes a leaf of these bytes at a path, whose text is spelled, young.
+    fn add_young(&mut self, at: &FsPath, front: &[u8], is_link: bool) -> Result<(), FsErr>
+        ensures notes { NotesFolder at.now result self.new.changed }
+        ensures named { IfErr result OfNone }
+        ensures keeps { KeepsNotes self.old.changed self.new.changed }
+    {
         if front.len().saturating_sub(8) > OBJECT_LIMIT {
-            return Err(Fault);
+            return Err(FsErr::Failed);
         }
-        let mut front = front;
-        self.stage_beside(at);
-        self.staging
-            .show_leaf(&self.rt, self.path.as_str(), &mut front)
+        self.keep_parent(at)?;
+        self.make_room()?;
+        self.young
+            .add(&self.rt, self.path.as_str(), front, is_link)?;
+        Ok(self.settle_if_heavy()?)
     }
 
-    // Makes a folder at a path, whose text is spelled.
-    fn show_folder(&mut self, at: &FsPath, attributes: &[u8]) -> Result<(), Fault> {
-        if attributes.len() > OBJECT_LIMIT {
-            return Err(Fault);
-        }
-        self.stage_beside(at);
-        self.staging
-            .show_folder(&self.rt, self.path.as_str(), attributes)
+    // Gives a young leaf the path whose text is spelled as the other. False where there is no memory for it.
+    fn link_young(&mut self, number: u32, to: &FsPath) -> bool
+        ensures ok { (p : Path) (x : Name) → to.now ≡ under p x → IsTrue result → IsSeenTo (host_text p) self.new.changed }
+        ensures path { self.new.path ≡ self.old.path }
+        ensures keeps { KeepsNotes self.old.changed self.new.changed }
+    {
+        self.recent.close();
+        spell_parent(to, &mut self.parent);
+        self.changed.keep(self.parent.as_str()).is_ok()
+            && self.young.link(number, self.other.as_str()).is_ok()
     }
 
-    // Copies a leaf to a path, whose text is spelled as the other.
-    fn show_copy(&mut self, to: &FsPath, leaf: Leaf<R::File>) -> Result<(), Fault> {
-        let mut file = leaf.into_file()?;
-        self.stage_beside(to);
-        self.staging
-            .show_leaf(&self.rt, self.other.as_str(), &mut file)
+    // Sees to it that a file can be added to the young ones.
+    fn make_room(&mut self) -> Result<(), Fault>
+        ensures room { OnOk result (vec_len self.new.young.files < 1024) }
+        ensures path { self.new.path ≡ self.old.path }
+        ensures same { OnOk result (self.new.changed ≡ self.old.changed) }
+        ensures keeps { KeepsNotes self.old.changed self.new.changed }
+    {
+        if self.young.is_full() {
+            self.settle()?;
+        }
+        Ok(())
+    }
+
+    fn settle_if_heavy(&mut self) -> Result<(), Fault>
+        ensures same { OnOk result (self.new.changed ≡ self.old.changed) }
+        ensures keeps { KeepsNotes self.old.changed self.new.changed }
+    {
+        if self.young.is_heavy() {
+            self.settle()?;
+        }
+        Ok(())
+    }
+
+    // Syncs the young leaves and gives them their names. After a sync that failed none is given any more.
+    fn settle(&mut self) -> Result<(), Fault>
+        ensures ok { OnOk result (IsSettled self.new.young) }
+        ensures err { OnErr result (IsTrue self.new.changed.is_lost) }
+        ensures lost { IsTrue self.old.changed.is_lost → IsErr result }
+        ensures path { self.new.path ≡ self.old.path }
+        ensures same { OnOk result (self.new.changed ≡ self.old.changed) }
+        ensures keeps { KeepsNotes self.old.changed self.new.changed }
+    {
+        if self.changed.is_lost() {
+            return Err(Fault);
+        }
+        self.recent.close();
+        let settled = self.young.settle(&self.rt);
+        if settled.is_err() {
+            self.changed.lose();
+        }
+        settled
+    }
+
+    // Adds bytes to the host file whose text is spelled, and waits for them.
+    fn extend(&mut self, bytes: &[u8]) -> Result<(), Fault>
+        ensures keeps { KeepsNotes self.old.changed self.new.changed }
+    {
+        let file = extend_leaf(&self.rt, self.path.as_str(), bytes)?;
+        if file.sync_all().is_err() {
+            self.changed.lose();
+            return Err(Fault);
+        }
+        Ok(())
+    }
+
+    fn sync_path(&mut self) -> Result<(), Fault>
+        ensures keeps { KeepsNotes self.old.changed self.new.changed }
+    {
+        let synced = sync(&self.rt, self.path.as_str());
+        if synced.is_err() {
+            self.changed.lose();
+        }
+        synced
     }
 
     // Removes the folder at a path, whose text is spelled, with what it has of reserved names.
     fn remove_folder(&mut self, at: &FsPath) -> Result<(), Fault>
         requires { length self.old.path ≤ 2049 }
+        ensures path { self.new.path ≡ self.old.path }
+        ensures changed { self.new.changed ≡ self.old.changed }
     {
         match fs::remove_dir(&self.rt, self.path.as_str()) {
             Ok(()) => Ok(()),
@@ -340,32 +627,47 @@ impl<R: Files + AllocGlobal + Clone + Drop> CurrentFolder<R> {
     // A folder is out of sight before its attributes are removed.
     fn withdraw(&mut self, at: &FsPath) -> Result<(), Fault>
         requires { length self.old.path ≤ 2049 }
+        ensures path { self.new.path ≡ self.old.path }
+        ensures changed { self.new.changed ≡ self.old.changed }
     {
         self.other.set(self.path.as_str());
         self.other.push(ATTRIBUTES);
         if HostKind::of(&self.rt, self.other.as_str())? == HostKind::Folder {
             return Err(Fault);
         }
-        self.staging.go_to(self.path.as_str());
-        self.staging.clear(&self.rt)?;
         sync(&self.rt, self.path.as_str())?;
-        self.stage_beside(at);
-        self.staging
-            .withdraw(&self.rt, self.path.as_str(), self.parent.as_str())
+        spell_parent(at, &mut self.parent);
+        withdraw(&self.rt, self.path.as_str(), self.parent.as_str())
     }
 
-    // Goes to the reserved name in the folder that the last name of a path stands in.
-    fn stage_beside(&mut self, at: &FsPath)
-        ensures { self.new.path ≡ self.old.path }
+    // Begins a change of the names in the folder that the last name of a path stands in.
+    fn keep_parent(&mut self, at: &FsPath) -> Result<(), FsErr>
+        ensures notes { NotesFolder at.now result self.new.changed }
+        ensures path { self.new.path ≡ self.old.path }
+        ensures named { IfErr result OfNone }
+        ensures keeps { KeepsNotes self.old.changed self.new.changed }
     {
+        self.begin()?;
         spell_parent(at, &mut self.parent);
-        self.staging.go_to(self.parent.as_str());
+        self.changed.keep(self.parent.as_str())?;
+        Ok(())
     }
 
     // Notes that names changed in the folder that the last name of a path stands in.
-    fn note_parent(&mut self, at: &FsPath) {
+    fn note_parent(&mut self, at: &FsPath)
+        ensures notes { (p : Path) (x : Name) → at.now ≡ under p x → IsSeenTo (host_text p) self.new.changed }
+        ensures path { self.new.path ≡ self.old.path }
+        ensures keeps { KeepsNotes self.old.changed self.new.changed }
+    {
         spell_parent(at, &mut self.parent);
         self.changed.note(&self.rt, self.parent.as_str());
+    }
+
+    // Leaves nothing young or unsynced, and the mark that says so.
+    fn end(&mut self) {
+        if self.sync_all().is_ok() {
+            let _ = self.mark.close(&self.rt);
+        }
     }
 }
 
@@ -375,7 +677,7 @@ fn folder_attributes<R: Files>(rt: &R, alloc: Global, text: &str) -> Result<Meta
 {
     match HostKind::of(rt, text)? {
         HostKind::Absent => Ok(plain_attributes(alloc)),
-        HostKind::File => stored_attributes(rt, alloc, text),
+        HostKind::File(_) => stored_attributes(rt, alloc, text),
         HostKind::Folder => Err(FsErr::Failed),
     }
 }
@@ -397,62 +699,22 @@ fn stored_attributes<R: Files>(rt: &R, alloc: Global, text: &str) -> Result<Meta
     }
 }
 
-// Before a leaf loses a name by which its change is noted, its bytes are synced: it may have other names.
-fn settle<F: OpenFile>(changed: &mut Changed, leaf: &Leaf<F>, text: &str) -> Result<(), Fault> {
-    if changed.contains(text) {
-        leaf.file.sync_all()?;
-        changed.forget(text);
-    }
-    Ok(())
-}
-
-fn walk_to_folder<R: Files>(
-    rt: &R,
-    alloc: Global,
-    at: &FsPath,
-    text: &mut HostPath,
-) -> Result<(), Refusal>
-    ensures reserved { HasReserved at.now → result ≡ Err Failed }
-    ensures short { OnOk result (length text.new ≤ 2049) }
-    ensures finding { IfErr (answered result) OfFinding }
-    ensures emptying { IfErr (answered result) OfEmptying }
-{
-    match walk(rt, alloc, at, text)? {
-        Standing::Folder => Ok(()),
-        Standing::Absent => Err(Refusal::Missing),
-        Standing::Leaf(_) => Err(Refusal::NotFolder),
-    }
-}
-
-// The regular file at a path, if one is there.
-fn file_at<R: Files>(
-    rt: &R,
-    alloc: Global,
-    at: &FsPath,
-    text: &mut HostPath,
-) -> Result<Option<Leaf<R::File>>, FsErr>
-    ensures reserved { HasReserved at.now → result ≡ Err error.Failed }
-    ensures named { IfErr result OfNone }
-{
-    match walk(rt, alloc, at, text) {
-        Ok(Standing::Leaf(leaf)) if !leaf.is_read() => Err(FsErr::NoMemory),
-        Ok(Standing::Leaf(leaf)) if !leaf.is_link => Ok(Some(leaf)),
-        Ok(_) | Err(Refusal::Missing | Refusal::NotFolder) => Ok(None),
-        Err(_) => Err(FsErr::Failed),
-    }
-}
-
-fn has_names<R: Files + AllocGlobal + Clone + Drop>(rt: &R, text: &str) -> Result<bool, Fault> {
+fn has_names<R: Machine>(rt: &R, text: &str) -> Result<bool, Fault> {
     for entry in fs::read_dir(rt, text)? {
-        if !is_reserved(entry?.file_name()) {
+        if entry?.file_name() != ATTRIBUTES {
             return Ok(true);
         }
     }
     Ok(false)
 }
 
+// Whether a host name of a folder stands for no node.
+fn is_hidden(name: &str, is_top: bool) -> bool {
+    name == ATTRIBUTES || (is_top && name == PLACE)
+}
+
 // The names of a folder, each once, ascending by their bytes.
-fn names_in<R: Files + AllocGlobal + Clone + Drop>(rt: &R, text: &str) -> Result<Names, FsErr>
+fn names_in<R: Machine>(rt: &R, text: &str, is_top: bool) -> Result<Names, FsErr>
     ensures ascending { IfOk result (IsStrictlySortedBy (slice_cmp nat_cmp)) }
     ensures named { IfErr result OfFinding }
 {
@@ -460,7 +722,7 @@ fn names_in<R: Files + AllocGlobal + Clone + Drop>(rt: &R, text: &str) -> Result
     let mut names = Vec::new(alloc);
     for entry in fs::read_dir(rt, text).map_err(Fault::from)? {
         let entry = entry.map_err(Fault::from)?;
-        if is_reserved(entry.file_name()) {
+        if is_hidden(entry.file_name(), is_top) {
             continue;
         }
         let Some(name) = Name::parse(alloc, entry.file_name().as_bytes())? else {
@@ -478,16 +740,4 @@ fn ascending(names: Vec<Name>) -> Names
     names.sort_unstable();
     names.dedup();
     Names::from_vec(names)
-}
-
-// The text of the folder that the last name of a path stands in.
-fn spell_parent(at: &FsPath, text: &mut HostPath)
-    ensures text { (p : Path) (x : Name) → at.now ≡ under p x → text.new ≡ host_text p }
-    ensures short { length text.new ≤ 2049 }
-{
-    let names = at.names();
-    text.restart();
-    for name in &names[..names.len().saturating_sub(1)] {
-        text.push(name.as_str());
-    }
 }

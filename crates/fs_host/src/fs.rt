@@ -5,10 +5,9 @@ ghost use Rattle.fs_trait.specs.Effect.{Next, HasCause, IsCounted};
 ghost use Rattle.fs_host.specs.Laws.{not_told};
 ghost use Rattle.fs_host.specs.Refusal.{answered, IsClockAfter};
 
-use crate::{CurrentFolder, Refusal};
+use crate::{CurrentFolder, Machine, Refusal};
 use fs_trait::{Fs, FsErr, Node};
 use ost_types::{Bytes, FsPath, Meta, Names, NoMemory, Text};
-use std::rt::Files;
 
 /// The current folder of the machine. It tells nothing of what it holds.
 ///
@@ -17,13 +16,13 @@ use std::rt::Files;
 /// has owner 0, group 0 and mode 0o040755. Any other host file, a link of the host, a device, and the names `.ost-folder`
 /// and `.ost-new` are `Failed` and counted, as is every error of the machine, and attributes of more than 64 MiB.
 #[derive(Drop)]
-pub struct HostFs<R: Files + AllocGlobal + Clone + Drop> {
+pub struct HostFs<R: Machine> {
     folder: CurrentFolder<R>,
     clock: u64,
     faults: u64,
 }
 
-impl<R: Files + AllocGlobal + Clone + Drop> HostFs<R> {
+impl<R: Machine> HostFs<R> {
     ghost use Rattle.fs_host.specs.Counts.{clock_of, faults_of};
 
     /// The file system, with room for the texts of paths.
@@ -98,7 +97,7 @@ impl<R: Files + AllocGlobal + Clone + Drop> HostFs<R> {
     }
 }
 
-impl<R: Files + AllocGlobal + Clone + Drop> Fs for HostFs<R> {
+impl<R: Machine> Fs for HostFs<R> {
     ghost view = { λ _. None };
 
     ghost clock = { λ s. s.clock };

@@ -9,7 +9,8 @@ use std::rt::Files;
 pub enum HostKind {
     Absent,
     Folder,
-    File,
+    /// A file of so many bytes.
+    File(u64),
 }
 
 impl HostKind {
@@ -17,7 +18,7 @@ impl HostKind {
     pub fn of<R: Files>(rt: &R, text: &str) -> Result<HostKind, Fault> {
         match fs::symlink_metadata(rt, text) {
             Ok(metadata) if metadata.is_dir() => Ok(HostKind::Folder),
-            Ok(metadata) if metadata.is_file() => Ok(HostKind::File),
+            Ok(metadata) if metadata.is_file() => Ok(HostKind::File(metadata.len())),
             Err(e) if e.kind() == ErrorKind::NotFound => Ok(HostKind::Absent),
             _ => Err(Fault),
         }

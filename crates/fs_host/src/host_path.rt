@@ -67,7 +67,8 @@ impl HostPath {
         self.add(name);
     }
 
-    fn add(&mut self, text: &str)
+    /// Adds a text behind it.
+    pub fn add(&mut self, text: &str)
         requires { length self.old + length text.now ≤ 2080 }
         ensures { self.new ≡ self.old ++ text.now }
     {

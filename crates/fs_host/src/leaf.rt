@@ -1,7 +1,8 @@
 //! A leaf of the host: a file that holds a content stream.
-ghost use Rattle.std.specs.Prelude.{◌≡◌, ◌≢◌, ◌-◌, ◌+◌, ◌≤◌, ◌<◌, ◌^◌, Ok, IfOk, IfErr, false, length, min, option_map};
+ghost use Rattle.std.specs.Prelude.{◌≡◌, ◌≢◌, ◌-◌, ◌+◌, ◌≤◌, ◌<◌, ◌^◌, Ok, Err, IfOk, IfErr, false, length, min, option_map};
 ghost use Rattle.std.specs.Option.{is_some};
 ghost use Rattle.fs_trait.specs.Effect.{OfFinding};
+ghost use Rattle.fs_trait.specs.declared.types.FsErr.TheVariants as error;
 ghost use Rattle.fs_host.specs.Front.{node_of};
 
 use crate::front::read_front;
@@ -17,27 +18,64 @@ use std::rt::Files;
 
 const PIECE: usize = 8192;
 
-/// A leaf that is open for reading.
+/// No longer file of the host is read whole: the most bytes of a content, and of a front.
+pub const MOST_READ: u64 = 268_435_456 + 67_108_872;
+
+/// A file that holds a leaf, open for reading.
 #[derive(Drop)]
-pub struct Leaf<F> {
-    pub file: F,
-    pub is_link: bool,
-    // What its front says. None where there was no memory to read it.
-    node: Option<Content>,
+pub struct Opened<F> {
+    file: F,
     // The number of bytes of its front, and of its content.
     start: u64,
     len: u64,
     ghost whole: { start + len < 2 ^ 64 },
 }
 
-impl<F: Read + Seek + Drop> Leaf<F> {
+/// A leaf that is open for reading.
+#[derive(Drop)]
+pub struct Leaf<F> {
+    pub opened: Opened<F>,
+    pub is_link: bool,
+    // What its front says. None where there was no memory to read it.
+    node: Option<Content>,
+}
+
+impl<F: Read + Seek + Drop> Opened<F> {
+    /// The content from one place on, at most so many bytes.
+    pub fn content(&mut self, alloc: Global, from: u64, max: u64) -> Result<Bytes, FsErr>
+        ensures length { IfOk result (λ b. length b ≡ min max (self.old.len - from)) }
+        ensures named { IfErr result OfFinding }
+    {
+        let count = max.min(self.len.saturating_sub(from));
+        let mut bytes = Vec::from_elem(alloc, 0u8, count as usize)?;
+        if count > 0 && read_at(&mut self.file, from + self.start, &mut bytes).is_err() {
+            return Err(FsErr::Failed);
+        }
+        Ok(Bytes::from_vec(bytes))
+    }
+
+    /// The whole content. One of a file that is too long is `Failed` before memory is taken for it.
+    pub fn whole_content(&mut self, alloc: Global) -> Result<Bytes, FsErr>
+        ensures length { IfOk result (λ b. length b ≡ self.old.len) }
+        ensures bounded { 335544328 < self.old.start + self.old.len → result ≡ Err error.Failed }
+        ensures named { IfErr result OfFinding }
+    {
+        if self.size() > MOST_READ {
+            return Err(FsErr::Failed);
+        }
+        let len = self.len;
+        self.content(alloc, 0, len)
+    }
+
     /// The number of bytes of the host's file.
     pub fn size(&self) -> u64
         ensures { result ≡ self.now.start + self.now.len }
     {
         self.start + self.len
     }
+}
 
+impl<F: Read + Seek + Drop> Leaf<F> {
     /// Whether there was memory to read its front.
     pub fn is_read(&self) -> bool
         ensures { result ≡ is_some self.now.node }
@@ -45,70 +83,57 @@ impl<F: Read + Seek + Drop> Leaf<F> {
         self.node.is_some()
     }
 
-    /// What `stat` tells of it. None where there was no memory to read it.
-    pub fn into_node(self) -> Option<Node>
-        ensures { result ≡ option_map (λ c. node_of self.len c.meta c.body) self.node }
+    /// What `stat` tells of it, None where there was no memory to read it; and the open file.
+    pub fn into_node(self) -> (Option<Node>, Opened<F>)
+        ensures { result.0 ≡ option_map (λ c. node_of self.opened.len c.meta c.body) self.node }
     {
-        let Leaf { node, len, .. } = self;
-        let Content { meta, body } = node?;
-        match body {
-            Body::Regular(_) => Some(Node::File { meta, len }),
-            Body::Symlink(target) => Some(Node::Link { meta, target }),
-        }
+        let Leaf { opened, node, .. } = self;
+        let len = opened.len;
+        (node.map(|content| node_of(content, len)), opened)
     }
 
-    /// The content from one place on, at most so many bytes.
-    pub fn content(self, alloc: Global, from: u64, max: u64) -> Result<Bytes, FsErr>
-        ensures length { IfOk result (λ b. length b ≡ min max (self.len - from)) }
-        ensures named { IfErr result OfFinding }
+    /// The file, where there was memory to read its front.
+    pub fn into_read(self) -> Result<Opened<F>, FsErr>
+        ensures { IfErr result OfFinding }
     {
         let Leaf {
-            mut file,
+            opened,
             node: Some(_),
-            start,
-            len,
             ..
         } = self
         else {
             return Err(FsErr::NoMemory);
         };
-        let count = max.min(len.saturating_sub(from));
-        let mut bytes = Vec::from_elem(alloc, 0u8, count as usize)?;
-        if count > 0 {
-            match read_at(&mut file, from + start, &mut bytes) {
-                Ok(()) => {}
-                Err(_) => return Err(FsErr::Failed),
-            }
-        }
-        Ok(Bytes::from_vec(bytes))
-    }
-
-    /// The whole content.
-    pub fn whole_content(self, alloc: Global) -> Result<Bytes, FsErr>
-        ensures length { IfOk result (λ b. length b ≡ self.len) }
-        ensures named { IfErr result OfFinding }
-    {
-        let len = self.len;
-        self.content(alloc, 0, len)
+        Ok(opened)
     }
 
     /// Whether two leaves have the same bytes, and so the same attributes and content.
     pub fn is_equal(self, other: Leaf<F>) -> Result<bool, Fault>
-        ensures { self.start + self.len ≢ other.start + other.len → result ≡ Ok false }
+        ensures { self.opened.start + self.opened.len ≢ other.opened.start + other.opened.len → result ≡ Ok false }
     {
-        let size = self.size();
-        if other.size() != size {
+        let size = self.opened.size();
+        if other.opened.size() != size {
             return Ok(false);
         }
         let (mut one, mut two) = (self.into_file()?, other.into_file()?);
         are_equal(&mut one, &mut two, size)
     }
 
-    /// The host's file, at its first byte.
-    pub fn into_file(self) -> Result<F, Fault> {
-        let Leaf { mut file, .. } = self;
+    // The host's file, at its first byte.
+    fn into_file(self) -> Result<F, Fault> {
+        let Opened { mut file, .. } = self.opened;
         file.seek(SeekFrom::Start(0))?;
         Ok(file)
+    }
+}
+
+fn node_of(content: Content, len: u64) -> Node
+    ensures { result ≡ node_of len content.meta content.body }
+{
+    let Content { meta, body } = content;
+    match body {
+        Body::Regular(_) => Node::File { meta, len },
+        Body::Symlink(target) => Node::Link { meta, target },
     }
 }
 
@@ -134,11 +159,15 @@ fn read_at<F: Read + Seek>(file: &mut F, at: u64, into: &mut [u8]) -> io::Result
     file.read_exact(into)
 }
 
-/// Opens a regular file of the host for reading. One that holds no content stream is no leaf; where there is no memory
+/// Opens a regular file of the host, of so many bytes, for reading. One that holds no content stream is no leaf; where there is no memory
 /// to read its front, it is judged by the first 26 bytes.
-pub fn open_leaf<R: Files>(rt: &R, alloc: Global, text: &str) -> Result<Leaf<R::File>, Fault> {
+pub fn open_leaf<R: Files>(
+    rt: &R,
+    alloc: Global,
+    text: &str,
+    size: u64,
+) -> Result<Leaf<R::File>, Fault> {
     let mut file = File::open(rt, text)?;
-    let size = file.metadata()?.len();
     let mut first = [0u8; HEADER_LEN];
     file.read_exact(&mut first)?;
     let Some(
@@ -159,11 +188,9 @@ pub fn open_leaf<R: Files>(rt: &R, alloc: Global, text: &str) -> Result<Leaf<R::
     }
     let node = read_node(alloc, &mut file, &first, start as usize)?;
     Ok(Leaf {
-        file,
+        opened: Opened { file, start, len },
         is_link,
         node,
-        start,
-        len,
     })
 }
 
@@ -188,13 +215,20 @@ fn read_node<F: Read + Seek>(
     }
 }
 
-/// Adds bytes to a host file of so many bytes. Where they can't be written whole, it is cut back to these.
-pub fn extend_leaf<R: Files>(rt: &R, text: &str, size: u64, bytes: &[u8]) -> Result<(), Fault> {
+/// Adds bytes to a host file. Where they can't be written whole, it is cut back to what it was.
+pub fn extend_leaf<R: Files>(rt: &R, text: &str, bytes: &[u8]) -> Result<R::File, Fault> {
     let mut file = OpenOptions::new().append(true).open(rt, text)?;
+    let len = file.metadata()?.len();
+    extend(&mut file, len, bytes)?;
+    Ok(file)
+}
+
+/// Adds bytes to a file of so many bytes that is open at its end. Where they can't be written whole, it is cut back.
+pub fn extend<F: OpenFile + Write>(file: &mut F, len: u64, bytes: &[u8]) -> Result<(), Fault> {
     match file.write_all(bytes) {
         Ok(()) => Ok(()),
         Err(e) => {
-            let _ = file.set_len(size);
+            let _ = file.set_len(len);
             Err(Fault::from(e))
         }
     }

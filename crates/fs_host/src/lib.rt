@@ -9,11 +9,19 @@ mod fs;
 mod header;
 mod host_kind;
 mod host_path;
+mod known;
 mod leaf;
+mod links;
+mod machine;
+mod mark;
+mod place;
+mod private;
+mod recent;
 mod refusal;
-mod staging;
 mod standing;
+mod start;
 mod streams;
+mod young;
 
 use folder::CurrentFolder;
 use front::Start;
@@ -21,11 +29,15 @@ pub use fs::HostFs;
 use header::{FileHeader, HEADER_LEN};
 use host_kind::HostKind;
 use host_path::HostPath;
+use known::Known;
 use leaf::Leaf;
+pub use machine::Machine;
+use mark::Mark;
+use recent::Recent;
 use refusal::{Fault, Refusal};
-use staging::Staging;
 use standing::Standing;
 pub use streams::{StdSink, StdSource};
+use young::Young;
 
 #[cfg(test)]
 mod tests;

@@ -1,11 +1,13 @@
-use crate::{HostFs, StdSink, StdSource};
+use crate::{HostFs, Machine, StdSink, StdSource};
 use fs_trait::{Fs, FsErr, Node, Sink, Source, SourceErr};
 use ost_types::{
     Bytes, FsPath, Meta, Text, Xattr, Xattrs, is_file_mode, is_folder_mode, is_link_mode,
 };
 use std::alloc::{AllocError, Allocator, Global};
-use std::fs::{File, Metadata, OpenOptions};
+use std::cell::Cell;
+use std::fs::{Metadata, OpenFile, OpenOptions};
 use std::io::{ErrorKind, Read};
+use std::os::unix::fs::MetadataExt;
 use std::process::Abort;
 use std::rt::Files;
 use std::{fs, io};
@@ -31,30 +33,25 @@ const LINK: &[u8; 33] =
 const FOLDER: &[u8; 24] = b"\0\0\0\x01\0\0\x01\x02\0\0\x43\xffuser.dir\0v\x09\x0b";
 
 // A folder of this name with nothing in it.
-fn fresh<R: Abort + Files + AllocGlobal + Clone + Drop>(rt: &R, name: &str) {
+fn fresh<R: Abort + Machine>(rt: &R, name: &str) {
     let _ = fs::remove_dir_all(rt, name);
     folder(rt, name);
 }
 
-fn folder<R: Abort + Files + AllocGlobal + Clone + Drop>(rt: &R, name: &str) {
+fn folder<R: Abort + Machine>(rt: &R, name: &str) {
     fs::create_dir(rt, name).expect(rt, name);
 }
 
-fn clear<R: Abort + Files + AllocGlobal + Clone + Drop>(rt: &R, name: &str) {
+fn clear<R: Abort + Machine>(rt: &R, name: &str) {
     fs::remove_dir_all(rt, name).expect(rt, name);
 }
 
-fn put<R: Abort + Files + AllocGlobal + Clone + Drop>(rt: &R, name: &str, bytes: &[u8]) {
+fn put<R: Abort + Machine>(rt: &R, name: &str, bytes: &[u8]) {
     fs::write(rt, name, bytes).expect(rt, name);
 }
 
 // The bytes of a file of the host: a front and the rest.
-fn check_stored<R: Abort + Files + AllocGlobal + Clone + Drop>(
-    rt: &R,
-    name: &str,
-    front: &[u8],
-    rest: &[u8],
-) {
+fn check_stored<R: Abort + Machine>(rt: &R, name: &str, front: &[u8], rest: &[u8]) {
     let stored = fs::read(rt, name).expect(rt, name);
     let Some((start, end)) = stored.as_slice().split_at_checked(front.len()) else {
         panic!(rt; "{name} is short");
@@ -63,24 +60,19 @@ fn check_stored<R: Abort + Files + AllocGlobal + Clone + Drop>(
     assert!(rt; end == rest, "of {name}");
 }
 
-fn open<R: Abort + Files + AllocGlobal + Clone + Drop>(rt: &R) -> HostFs<R> {
+fn open<R: Abort + Machine>(rt: &R) -> HostFs<R> {
     HostFs::new(rt.clone().expect(rt, "memory")).expect(rt, "memory")
 }
 
-fn path<R: Abort + Files + AllocGlobal + Clone + Drop>(rt: &R, text: &str) -> FsPath {
+fn path<R: Abort + Machine>(rt: &R, text: &str) -> FsPath {
     FsPath::parse(rt.alloc(), text.as_bytes()).expect(rt, text)
 }
 
-fn bytes<R: Abort + Files + AllocGlobal + Clone + Drop>(rt: &R, text: &str) -> Bytes {
+fn bytes<R: Abort + Machine>(rt: &R, text: &str) -> Bytes {
     Bytes::from_slice(rt.alloc(), text.as_bytes()).expect(rt, "memory")
 }
 
-fn owned<R: Abort + Files + AllocGlobal + Clone + Drop>(
-    rt: &R,
-    uid: u32,
-    gid: u32,
-    mode: u32,
-) -> Meta {
+fn owned<R: Abort + Machine>(rt: &R, uid: u32, gid: u32, mode: u32) -> Meta {
     Meta {
         uid,
         gid,
@@ -89,7 +81,7 @@ fn owned<R: Abort + Files + AllocGlobal + Clone + Drop>(
     }
 }
 
-fn mkdir<R: Abort + Files + AllocGlobal + Clone + Drop>(
+fn mkdir<R: Abort + Machine>(
     rt: &R,
     fs: &mut HostFs<R>,
     at: &str,
@@ -99,7 +91,7 @@ fn mkdir<R: Abort + Files + AllocGlobal + Clone + Drop>(
     fs.mkdir(&path(rt, at), meta)
 }
 
-fn create<R: Abort + Files + AllocGlobal + Clone + Drop>(
+fn create<R: Abort + Machine>(
     rt: &R,
     fs: &mut HostFs<R>,
     at: &str,
@@ -109,7 +101,7 @@ fn create<R: Abort + Files + AllocGlobal + Clone + Drop>(
     fs.create(&path(rt, at), meta)
 }
 
-fn symlink<R: Abort + Files + AllocGlobal + Clone + Drop>(
+fn symlink<R: Abort + Machine>(
     rt: &R,
     fs: &mut HostFs<R>,
     at: &str,
@@ -124,7 +116,7 @@ fn symlink<R: Abort + Files + AllocGlobal + Clone + Drop>(
 }
 
 // A call by its name. The second is a path, or bytes.
-fn call<R: Abort + Files + AllocGlobal + Clone + Drop>(
+fn call<R: Abort + Machine>(
     rt: &R,
     fs: &mut HostFs<R>,
     name: &str,
@@ -143,11 +135,7 @@ fn call<R: Abort + Files + AllocGlobal + Clone + Drop>(
     }
 }
 
-fn call_of_one<R: Files + AllocGlobal + Clone + Drop>(
-    fs: &mut HostFs<R>,
-    name: &str,
-    at: &FsPath,
-) -> Result<(), FsErr> {
+fn call_of_one<R: Machine>(fs: &mut HostFs<R>, name: &str, at: &FsPath) -> Result<(), FsErr> {
     match name {
         "unlink" => fs.unlink(at),
         "rmdir" => fs.rmdir(at),
@@ -157,11 +145,7 @@ fn call_of_one<R: Files + AllocGlobal + Clone + Drop>(
     }
 }
 
-fn look<R: Files + AllocGlobal + Clone + Drop>(
-    fs: &mut HostFs<R>,
-    name: &str,
-    at: &FsPath,
-) -> Result<(), FsErr> {
+fn look<R: Machine>(fs: &mut HostFs<R>, name: &str, at: &FsPath) -> Result<(), FsErr> {
     match name {
         "read" => fs.read(at).map(|_| ()),
         "read_part" => fs.read_part(at, 0, 1).map(|_| ()),
@@ -182,7 +166,7 @@ fn told(answer: Result<(), FsErr>) -> &'static str {
 }
 
 // Each line is an answer, a call, a path, and a second path or bytes.
-fn calls<R: Abort + Files + AllocGlobal + Clone + Drop>(rt: &R, fs: &mut HostFs<R>, lines: &str) {
+fn calls<R: Abort + Machine>(rt: &R, fs: &mut HostFs<R>, lines: &str) {
     for line in lines.split(';') {
         let (wanted, rest) = line.split_once(' ').unwrap_or(("", line));
         let (name, rest) = rest.split_once(' ').unwrap_or((rest, "/"));
@@ -192,7 +176,7 @@ fn calls<R: Abort + Files + AllocGlobal + Clone + Drop>(rt: &R, fs: &mut HostFs<
 }
 
 // Makes each of these calls, which answer alike.
-fn each<R: Abort + Files + AllocGlobal + Clone + Drop>(
+fn each<R: Abort + Machine>(
     rt: &R,
     fs: &mut HostFs<R>,
     names: &str,
@@ -209,17 +193,12 @@ fn each<R: Abort + Files + AllocGlobal + Clone + Drop>(
     }
 }
 
-fn check_read<R: Abort + Files + AllocGlobal + Clone + Drop>(
-    rt: &R,
-    fs: &mut HostFs<R>,
-    at: &str,
-    wanted: &str,
-) {
+fn check_read<R: Abort + Machine>(rt: &R, fs: &mut HostFs<R>, at: &str, wanted: &str) {
     let whole = fs.read(&path(rt, at)).expect(rt, at);
     assert!(rt; whole.as_slice() == wanted.as_bytes(), "of {at}");
 }
 
-fn check_part<R: Abort + Files + AllocGlobal + Clone + Drop>(
+fn check_part<R: Abort + Machine>(
     rt: &R,
     fs: &mut HostFs<R>,
     at: &str,
@@ -231,7 +210,7 @@ fn check_part<R: Abort + Files + AllocGlobal + Clone + Drop>(
     assert!(rt; part.as_slice() == wanted.as_bytes(), "from {from}");
 }
 
-fn check_parts<R: Abort + Files + AllocGlobal + Clone + Drop>(rt: &R, fs: &mut HostFs<R>) {
+fn check_parts<R: Abort + Machine>(rt: &R, fs: &mut HostFs<R>) {
     for (range, wanted) in [
         ((0, 3), "one"),
         ((4, 9), "two"),
@@ -250,12 +229,7 @@ fn check_owner(rt: &impl Abort, meta: &Meta, uid: u32, gid: u32, mode: u32) {
 }
 
 // Names, each followed by a line feed.
-fn check_list<R: Abort + Files + AllocGlobal + Clone + Drop>(
-    rt: &R,
-    fs: &mut HostFs<R>,
-    at: &str,
-    wanted: &str,
-) {
+fn check_list<R: Abort + Machine>(rt: &R, fs: &mut HostFs<R>, at: &str, wanted: &str) {
     let names = fs.list(&path(rt, at)).expect(rt, at);
     let mut rest = wanted;
     for name in names.as_slice() {
@@ -298,12 +272,7 @@ fn keeps_owner_and_mode(rt: HostRuntime) {
 }
 
 // Adds an extended attribute.
-fn with_xattr<R: Abort + Files + AllocGlobal + Clone + Drop>(
-    rt: &R,
-    mut meta: Meta,
-    name: &str,
-    value: &str,
-) -> Meta {
+fn with_xattr<R: Abort + Machine>(rt: &R, mut meta: Meta, name: &str, value: &str) -> Meta {
     let xattr = Xattr {
         name: bytes(rt, name),
         value: bytes(rt, value),
@@ -312,17 +281,17 @@ fn with_xattr<R: Abort + Files + AllocGlobal + Clone + Drop>(
     meta
 }
 
-fn folder_meta<R: Abort + Files + AllocGlobal + Clone + Drop>(rt: &R) -> Meta {
+fn folder_meta<R: Abort + Machine>(rt: &R) -> Meta {
     with_xattr(rt, owned(rt, 1, 258, 0o041777), "user.dir\0", "v")
 }
 
-fn file_meta<R: Abort + Files + AllocGlobal + Clone + Drop>(rt: &R) -> Meta {
+fn file_meta<R: Abort + Machine>(rt: &R) -> Meta {
     let first = with_xattr(rt, owned(rt, 1, 258, 0o104755), "user.a\0", "x");
     with_xattr(rt, first, "user.b\0", "yz")
 }
 
 // A folder, a file and a link with attributes.
-fn make_forms<R: Abort + Files + AllocGlobal + Clone + Drop>(rt: &R) {
+fn make_forms<R: Abort + Machine>(rt: &R) {
     fresh(rt, "forms");
     let mut fs = open(rt);
     mkdir(rt, &mut fs, "/forms/folder", &folder_meta(rt)).expect(rt, "mkdir");
@@ -332,13 +301,13 @@ fn make_forms<R: Abort + Files + AllocGlobal + Clone + Drop>(rt: &R) {
     symlink(rt, &mut fs, "/forms/folder/link", "usr/bin", &link).expect(rt, "symlink");
 }
 
-fn check_written<R: Abort + Files + AllocGlobal + Clone + Drop>(rt: &R) {
+fn check_written<R: Abort + Machine>(rt: &R) {
     check_stored(rt, "forms/folder/file", WITH_ATTRIBUTES, b"hello\n");
     check_stored(rt, "forms/folder/link", LINK, b"");
     check_stored(rt, "forms/folder/.ost-folder", FOLDER, b"");
 }
 
-fn node<R: Abort + Files + AllocGlobal + Clone + Drop>(rt: &R, at: &str) -> Node {
+fn node<R: Abort + Machine>(rt: &R, at: &str) -> Node {
     open(rt).stat(&path(rt, at)).expect(rt, at).expect(rt, at)
 }
 
@@ -348,7 +317,7 @@ fn check_xattr(rt: &impl Abort, found: Option<&Xattr>, name: &str, value: &str) 
     assert!(rt; xattr.value.as_slice() == value.as_bytes());
 }
 
-fn check_folder<R: Abort + Files + AllocGlobal + Clone + Drop>(rt: &R) {
+fn check_folder<R: Abort + Machine>(rt: &R) {
     let Node::Folder(meta) = node(rt, "/forms/folder") else {
         panic!(rt; "no folder");
     };
@@ -357,7 +326,7 @@ fn check_folder<R: Abort + Files + AllocGlobal + Clone + Drop>(rt: &R) {
     check_xattr(rt, meta.xattrs.as_slice().first(), "user.dir\0", "v");
 }
 
-fn check_file<R: Abort + Files + AllocGlobal + Clone + Drop>(rt: &R) {
+fn check_file<R: Abort + Machine>(rt: &R) {
     let Node::File { meta, len } = node(rt, "/forms/folder/file") else {
         panic!(rt; "no file");
     };
@@ -369,7 +338,7 @@ fn check_file<R: Abort + Files + AllocGlobal + Clone + Drop>(rt: &R) {
     check_read(rt, &mut open(rt), "/forms/folder/file", "hello\n");
 }
 
-fn check_link<R: Abort + Files + AllocGlobal + Clone + Drop>(rt: &R) {
+fn check_link<R: Abort + Machine>(rt: &R) {
     let Node::Link { meta, target } = node(rt, "/forms/folder/link") else {
         panic!(rt; "no link");
     };
@@ -393,13 +362,7 @@ fn keeps_all_forms(rt: HostRuntime) {
     );
 }
 
-fn check_same<R: Abort + Files + AllocGlobal + Clone + Drop>(
-    rt: &R,
-    fs: &mut HostFs<R>,
-    at: &str,
-    other: &str,
-    wanted: bool,
-) {
+fn check_same<R: Abort + Machine>(rt: &R, fs: &mut HostFs<R>, at: &str, other: &str, wanted: bool) {
     let same = fs.same(&path(rt, at), &path(rt, other)).expect(rt, at);
     assert_eq!(rt; same, wanted, "{at} {other}");
 }
@@ -431,7 +394,7 @@ fn links_moves_and_removes(rt: HostRuntime) {
 }
 
 // What isn't a node here answers `Failed` to each call.
-fn check_failing<R: Abort + Files + AllocGlobal + Clone + Drop>(rt: &R, leaf: &str, at: &str) {
+fn check_failing<R: Abort + Machine>(rt: &R, leaf: &str, at: &str) {
     let mut fs = open(rt);
     each(
         rt,
@@ -484,7 +447,7 @@ fn leaves_reserved_names_alone(rt: HostRuntime) {
     put(&rt, "reserved/leaf", PLAIN.as_slice());
     folder(&rt, "reserved/kept");
     put(&rt, "reserved/kept/.ost-folder", b"attributes");
-    for at in "/reserved/kept/.ost-folder;/reserved/kept/.ost-new;/reserved/no/.ost-folder/x;/reserved/no/x/.ost-new".split(
+    for at in "/reserved/kept/.ost-folder;/.ost-new;/reserved/no/.ost-folder/x;/.ost-new/x".split(
         ';',
     ) {
         check_failing(&rt, "/reserved/leaf", at);
@@ -496,27 +459,97 @@ fn leaves_reserved_names_alone(rt: HostRuntime) {
     clear(&rt, "reserved");
 }
 
-// A call that was cut off may have left a file or a folder under the name for what is new.
+// Below the top that name is one like any other.
 #[test]
-fn goes_on_after_a_call_that_was_cut_off(rt: HostRuntime) {
-    fresh(&rt, "cut");
-    folder(&rt, "cut/folder");
-    put(&rt, "cut/folder/.ost-folder", FOLDER.as_slice());
-    put(&rt, "cut/folder/.ost-new", b"cut");
-    folder(&rt, "cut/.ost-new");
-    put(&rt, "cut/.ost-new/.ost-folder", b"");
+fn reserves_its_place_at_the_top_alone(rt: HostRuntime) {
+    fresh(&rt, "below");
     calls(
         &rt,
         &mut open(&rt),
-        "ok create /cut/leaf;ok unlink /cut/leaf;ok rmdir /cut/folder;ok rmdir /cut",
+        "ok mkdir /below/.ost-new;ok create /below/.ost-new/.ost-new;ok append /below/.ost-new/.ost-new bytes;ok sync_all",
+    );
+    let mut fs = open(&rt);
+    check_list(&rt, &mut fs, "/below", ".ost-new\n");
+    check_read(&rt, &mut fs, "/below/.ost-new/.ost-new", "bytes");
+    calls(
+        &rt,
+        &mut fs,
+        "ok unlink /below/.ost-new/.ost-new;ok rmdir /below/.ost-new;ok rmdir /below",
     );
 }
 
-fn host_link<R: Abort + Files + AllocGlobal + Clone + Drop>(rt: &R, target: &str, link: &str) {
+fn check_mode<R: Abort + Machine>(rt: &R, name: &str, wanted: u32) {
+    let metadata = fs::symlink_metadata(rt, name).expect(rt, name);
+    assert_eq!(rt; metadata.mode() & 0o777, wanted, "of {name}");
+}
+
+// Whatever their own modes are.
+#[test]
+fn keeps_other_users_out(rt: HostRuntime) {
+    fresh(&rt, "private");
+    let mut fs = open(&rt);
+    mkdir(&rt, &mut fs, "/private/folder", &folder_meta(&rt)).expect(&rt, "mkdir");
+    create(&rt, &mut fs, "/private/folder/file", &file_meta(&rt)).expect(&rt, "create");
+    calls(
+        &rt,
+        &mut fs,
+        "ok mkdir /private/plain;ok symlink /private/plain/link;ok sync_all",
+    );
+    for (name, wanted) in [
+        ("private/folder", 0o700),
+        ("private/folder/.ost-folder", 0o600),
+        ("private/folder/file", 0o600),
+        ("private/plain", 0o700),
+        ("private/plain/link", 0o600),
+        (".ost-new", 0o700),
+    ] {
+        check_mode(&rt, name, wanted);
+    }
+    clear(&rt, "private");
+}
+
+// While one has the folder, another does nothing there.
+#[test]
+fn has_the_folder_alone(rt: HostRuntime) {
+    fresh(&rt, "alone");
+    let mut first = open(&rt);
+    let mut second = open(&rt);
+    each(
+        &rt,
+        &mut second,
+        "mkdir;create;symlink;rmdir;sync_dir;list;sync_all",
+        ("/alone", "/"),
+        "failed",
+    );
+    let node = second.stat(&path(&rt, "/alone"));
+    assert!(rt; matches!(node, Err(FsErr::Failed)));
+    assert_eq!(rt; second.faults(), 8);
+    calls(&rt, &mut first, "ok rmdir /alone;ok sync_all");
+}
+
+#[test]
+fn reads_no_file_that_is_too_long(rt: HostRuntime) {
+    fresh(&rt, "long");
+    put(&rt, "long/leaf", PLAIN.as_slice());
+    let file = OpenOptions::new().write(true).open(&rt, "long/leaf");
+    let long = file.expect(&rt, "open").set_len(1 << 40);
+    long.expect(&rt, "set_len");
+    let mut fs = open(&rt);
+    calls(
+        &rt,
+        &mut fs,
+        "failed read /long/leaf;ok read_part /long/leaf",
+    );
+    let node = fs.stat(&path(&rt, "/long/leaf"));
+    assert!(rt; matches!(node, Ok(Some(Node::File { .. }))));
+    clear(&rt, "long");
+}
+
+fn host_link<R: Abort + Machine>(rt: &R, target: &str, link: &str) {
     std::os::unix::fs::symlink(rt, target, link).expect(rt, link);
 }
 
-fn check_host_link<R: Abort + Files + AllocGlobal + Clone + Drop>(rt: &R, link: &str) {
+fn check_host_link<R: Abort + Machine>(rt: &R, link: &str) {
     let metadata = fs::symlink_metadata(rt, link).expect(rt, link);
     assert!(rt; metadata.is_symlink());
 }
@@ -543,82 +576,190 @@ fn follows_no_links(rt: HostRuntime) {
     clear(&rt, "outside");
 }
 
-// A machine without hard links.
+// A machine whose answer to a link is given, and whose opens of one file are counted.
 #[derive(Drop)]
-struct Unlinked(HostRuntime);
+struct Watched<'a, R> {
+    rt: R,
+    link: Option<ErrorKind>,
+    watched: &'a str,
+    opens: &'a Cell<u32>,
+}
 
-impl Clone for Unlinked {
-    fn clone(&self) -> Result<Unlinked, AllocError> {
-        Ok(Unlinked(self.0.clone()?))
+impl<R: Clone> Clone for Watched<'_, R> {
+    fn clone(&self) -> Result<Self, AllocError> {
+        Ok(Watched {
+            rt: self.rt.clone()?,
+            link: self.link,
+            watched: self.watched,
+            opens: self.opens,
+        })
     }
 }
 
-impl Alloc for Unlinked {
+impl<R: Machine> Alloc for Watched<'_, R> {
     type A = Global;
 
     fn alloc(&self) -> Global {
-        self.0.alloc()
+        self.rt.alloc()
     }
 }
 
-impl Files for Unlinked {
-    type File = File;
+impl<R: Machine> Files for Watched<'_, R> {
+    type File = R::File;
 
-    type Dir = <HostRuntime as Files>::Dir;
+    type Dir = R::Dir;
 
-    fn open_file(&self, how: &OpenOptions, path: &str) -> io::Result<File> {
-        self.0.open_file(how, path)
+    fn open_file(&self, how: &OpenOptions, path: &str) -> io::Result<R::File> {
+        if path == self.watched {
+            self.opens.set(self.opens.get().saturating_add(1));
+        }
+        self.rt.open_file(how, path)
     }
 
     fn open_dir(&self, path: &str) -> io::Result<Self::Dir> {
-        self.0.open_dir(path)
+        self.rt.open_dir(path)
     }
 
     fn metadata(&self, path: &str) -> io::Result<Metadata> {
-        self.0.metadata(path)
+        self.rt.metadata(path)
     }
 
     fn symlink_metadata(&self, path: &str) -> io::Result<Metadata> {
-        self.0.symlink_metadata(path)
+        self.rt.symlink_metadata(path)
     }
 
     fn copy(&self, from: &str, to: &str) -> io::Result<u64> {
-        self.0.copy(from, to)
+        self.rt.copy(from, to)
     }
 
     fn rename(&self, from: &str, to: &str) -> io::Result<()> {
-        self.0.rename(from, to)
+        self.rt.rename(from, to)
     }
 
     fn remove_file(&self, path: &str) -> io::Result<()> {
-        self.0.remove_file(path)
+        self.rt.remove_file(path)
     }
 
     fn create_dir(&self, path: &str) -> io::Result<()> {
-        self.0.create_dir(path)
+        self.rt.create_dir(path)
     }
 
     fn remove_dir(&self, path: &str) -> io::Result<()> {
-        self.0.remove_dir(path)
+        self.rt.remove_dir(path)
     }
 
     fn remove_dir_all<B: Allocator>(&self, alloc: B, path: &str) -> io::Result<()> {
-        self.0.remove_dir_all(alloc, path)
+        self.rt.remove_dir_all(alloc, path)
     }
+
+    fn hard_link(&self, original: &str, link: &str) -> io::Result<()> {
+        match self.link {
+            None => self.rt.hard_link(original, link),
+            Some(kind) => Err(io::Error::from(kind)),
+        }
+    }
+
+    fn create_dir_with_mode(&self, path: &str, mode: u32) -> io::Result<()> {
+        self.rt.create_dir_with_mode(path, mode)
+    }
+}
+
+impl<R: Machine> Machine for Watched<'_, R> {
+    fn take_lock(&self, folder: &R::File) -> bool {
+        self.rt.take_lock(folder)
+    }
+}
+
+fn watch<'a, R: Abort + Machine>(
+    rt: &R,
+    link: Option<ErrorKind>,
+    watched: &'a str,
+    opens: &'a Cell<u32>,
+) -> HostFs<Watched<'a, R>> {
+    let host = Watched {
+        rt: rt.clone().expect(rt, "memory"),
+        link,
+        watched,
+        opens,
+    };
+    HostFs::new(host).expect(rt, "memory")
+}
+
+const LINK_ERRORS: [(ErrorKind, &str); 8] = [
+    (ErrorKind::CrossesDevices, "ok"),
+    (ErrorKind::TooManyLinks, "ok"),
+    (ErrorKind::PermissionDenied, "ok"),
+    (ErrorKind::Unsupported, "ok"),
+    (ErrorKind::StorageFull, "failed"),
+    (ErrorKind::ReadOnlyFilesystem, "failed"),
+    (ErrorKind::NotFound, "failed"),
+    (ErrorKind::Other, "failed"),
+];
+
+fn check_answer_to<R: Abort + Machine>(rt: &R, kind: ErrorKind, wanted: &str) {
+    let opens = Cell::new(0);
+    fresh(rt, "copied");
+    put(rt, "copied/one", WITH_ATTRIBUTES.as_slice());
+    let mut fs = watch(rt, Some(kind), "", &opens);
+    let one = path(rt, "/copied/one");
+    fs.append(&one, b"bytes").expect(rt, "append");
+    let linked = fs.link(&one, &path(rt, "/copied/two"));
+    assert_eq!(rt; told(linked), wanted);
+    fs.append(&one, b" more").expect(rt, "append");
+    if wanted == "ok" {
+        check_stored(rt, "copied/two", WITH_ATTRIBUTES, b"bytes");
+    }
+    clear(rt, "copied");
 }
 
 #[test]
 fn copies_where_there_are_no_hard_links(rt: HostRuntime) {
-    fresh(&rt, "copied");
-    put(&rt, "copied/one", WITH_ATTRIBUTES.as_slice());
-    let host = Unlinked(rt.clone().expect(&rt, "memory"));
-    let mut fs = HostFs::new(host).expect(&rt, "memory");
-    let one = path(&rt, "/copied/one");
-    fs.append(&one, b"bytes").expect(&rt, "append");
-    fs.link(&one, &path(&rt, "/copied/two")).expect(&rt, "link");
-    fs.append(&one, b" more").expect(&rt, "append");
-    check_stored(&rt, "copied/two", WITH_ATTRIBUTES, b"bytes");
-    clear(&rt, "copied");
+    for (kind, wanted) in LINK_ERRORS {
+        check_answer_to(&rt, kind, wanted);
+    }
+}
+
+// How often a start opens the file of a folder.
+fn opens_at_start<R: Abort + Machine>(rt: &R) -> u32 {
+    let opens = Cell::new(0);
+    drop(watch(rt, None, "./killed/leaf", &opens));
+    opens.get()
+}
+
+// A process that was killed left no mark; what stood there is synced once, and not again after a run that ended.
+#[test]
+fn syncs_what_a_killed_process_left(rt: HostRuntime) {
+    fresh(&rt, "killed");
+    put(&rt, "killed/leaf", PLAIN.as_slice());
+    put(&rt, "killed/.ost-new", b"cut");
+    let _ = fs::remove_dir_all(&rt, ".ost-new");
+    assert_eq!(rt; opens_at_start(&rt), 1);
+    calls(&rt, &mut open(&rt), "ok mkdir /killed/folder;ok sync_all");
+    check_list(&rt, &mut open(&rt), "/killed", "folder\nleaf\n");
+    assert_eq!(rt; opens_at_start(&rt), 0);
+    fs::remove_file(&rt, ".ost-new/clean").expect(&rt, "clean");
+    put(&rt, ".ost-new/0000", b"cut");
+    assert_eq!(rt; opens_at_start(&rt), 1);
+    clear(&rt, "killed");
+}
+
+// What isn't synced yet is found, and a value that is dropped shows it.
+#[test]
+fn shows_young_leaves_at_its_end(rt: HostRuntime) {
+    fresh(&rt, "young");
+    let mut fs = open(&rt);
+    calls(
+        &rt,
+        &mut fs,
+        "ok create /young/one;ok append /young/one bytes;ok sync_file /young/one;ok link /young/one /young/two;not_folder create /young/two/x;exists create /young/two;ok append /young/two more;ok unlink /young/one;missing read /young/one;ok symlink /young/link;missing append /young/link x",
+    );
+    check_read(&rt, &mut fs, "/young/two", "bytesmore");
+    assert!(rt; fs::symlink_metadata(&rt, "young/two").is_err());
+    drop(fs);
+    check_stored(&rt, "young/two", PLAIN, b"bytesmore");
+    assert!(rt; fs::symlink_metadata(&rt, "young/one").is_err());
+    check_list(&rt, &mut open(&rt), "/young", "link\ntwo\n");
+    clear(&rt, "young");
 }
 
 // A reader that is interrupted once, gives some bytes, and then fails.

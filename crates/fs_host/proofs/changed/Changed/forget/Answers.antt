@@ -1,7 +1,6 @@
 use Rattle.std.proofs.Common.{◌≡◌, ◌∙◌, sym, Bool, true, false, cond, refl}
-use Rattle.std.proofs.lemmas.Map.Views.{tells_apart}
-use Rattle.std.specs.FinMap.{slice_cmp-IsAntisymmetric, nat_cmp-IsAntisymmetric}
-use Rattle.std.specs.String.{string_bytes}
+use Rattle.std.proofs.lemmas.Map.Text.{btree_set_updates_text}
+use Rattle.std.proofs.lemmas.Slice.Eq.{bytes_eq-Decides}
 use Rattle.fs_host.proofs.changed.Changed.forget.Goals as goal
 
 -- what is there no more was the one that was taken out
@@ -13,5 +12,5 @@ pub returns-clause-only : goal.returns-clause-only
 returns-clause-only c = record {
   gone = c.remove.ensures.updates.1;
   others = λ other was now.
-      sym (tells_apart (slice_cmp-IsAntisymmetric nat_cmp-IsAntisymmetric) c.args.text.now (string_bytes other) (taken _ _ _ (c.remove.ensures.updates.0 other) was now));
+      sym ((bytes_eq-Decides c.args.text.now other).0 (taken _ _ _ (btree_set_updates_text c.args.text.now _ _ _ c.remove.ensures.updates other) was now));
 }

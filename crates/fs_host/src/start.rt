@@ -1,0 +1,128 @@
+//! What is done before the first call: the folder is locked, and what an earlier process left unsynced is synced.
+use crate::place::{PLACE, PLACE_TEXT};
+use crate::{Fault, HostKind, Machine, Mark};
+use std::alloc::AllocError;
+use std::fs::{File, OpenFile};
+use std::io::ErrorKind;
+use std::{fs, io};
+
+/// Why there is no start.
+#[derive(Clone, Copy, Debug, PartialEq, Eq)]
+pub enum NoStart {
+    Failed,
+    NoMemory,
+}
+
+impl From<io::Error> for NoStart {
+    fn from(error: io::Error) -> NoStart {
+        match error.kind() {
+            ErrorKind::OutOfMemory => NoStart::NoMemory,
+            _ => NoStart::Failed,
+        }
+    }
+}
+
+impl From<Fault> for NoStart {
+    fn from(_: Fault) -> NoStart {
+        NoStart::Failed
+    }
+}
+
+impl From<AllocError> for NoStart {
+    fn from(_: AllocError) -> NoStart {
+        NoStart::NoMemory
+    }
+}
+
+/// Locks the current folder, and syncs all below it unless the mark says that nothing is unsynced there. Gives the open
+/// folder, which holds the lock, and whether there is a reserved place.
+pub fn start<R: Machine>(rt: &R) -> Result<(R::File, Mark), NoStart> {
+    let top = File::open(rt, ".")?;
+    if !rt.take_lock(&top) {
+        return Err(NoStart::Failed);
+    }
+    let mark = Mark::find(rt)?;
+    match mark {
+        Mark::Clean => return Ok((top, mark)),
+        Mark::Open => fs::remove_dir_all(rt, PLACE_TEXT)?,
+        Mark::NoPlace => {}
+    }
+    sync_below(rt, mark == Mark::NoPlace)?;
+    Ok((top, Mark::NoPlace))
+}
+
+// Syncs each file and folder below the current one. Where a folder of the first version is found, what a call of it that
+// was cut off left under the name that was reserved in each folder is removed.
+fn sync_below<R: Machine>(rt: &R, is_first: bool) -> Result<(), NoStart> {
+    let mut folders = Vec::new(rt.alloc());
+    let top = String::from_str(rt.alloc(), ".")?;
+    add(&mut folders, top)?;
+    for _ in 0..u64::MAX {
+        let Some(folder) = folders.pop() else {
+            return Ok(());
+        };
+        sync_folder(rt, folder.as_str(), &mut folders, is_first)?;
+    }
+    Err(NoStart::Failed)
+}
+
+fn add(folders: &mut Vec<String>, folder: String) -> Result<(), NoStart> {
+    match folders.push(folder) {
+        Ok(()) => Ok(()),
+        Err(_) => Err(NoStart::NoMemory),
+    }
+}
+
+fn sync_folder<R: Machine>(
+    rt: &R,
+    folder: &str,
+    folders: &mut Vec<String>,
+    is_first: bool,
+) -> Result<(), NoStart> {
+    let entries = match fs::read_dir(rt, folder) {
+        Ok(entries) => entries,
+        Err(e) if e.kind() == ErrorKind::PermissionDenied => return Ok(()),
+        Err(e) => return Err(NoStart::from(e)),
+    };
+    for entry in entries {
+        match entry {
+            Ok(entry) if is_first && entry.file_name() == PLACE => remove(
+                rt,
+                entry.path().as_str(),
+            )?,
+            Ok(entry) => sync_entry(rt, entry.path().as_str(), folders)?,
+            Err(e) if e.kind() == ErrorKind::InvalidFilename => {}
+            Err(e) => return Err(NoStart::from(e)),
+        }
+    }
+    sync_readable(rt, folder)
+}
+
+// What isn't a file or a folder, and what may not be read, stands for no node.
+fn sync_entry<R: Machine>(rt: &R, text: &str, folders: &mut Vec<String>) -> Result<(), NoStart> {
+    let metadata = fs::symlink_metadata(rt, text)?;
+    if metadata.is_dir() {
+        add(folders, String::from_str(rt.alloc(), text)?)
+    } else if metadata.is_file() {
+        sync_readable(rt, text)
+    } else {
+        Ok(())
+    }
+}
+
+fn sync_readable<R: Machine>(rt: &R, text: &str) -> Result<(), NoStart> {
+    match File::open(rt, text) {
+        Ok(file) => Ok(file.sync_all()?),
+        Err(e) if e.kind() == ErrorKind::PermissionDenied => Ok(()),
+        Err(e) => Err(NoStart::from(e)),
+    }
+}
+
+fn remove<R: Machine>(rt: &R, text: &str) -> Result<(), NoStart> {
+    match HostKind::of(rt, text)? {
+        HostKind::Folder => fs::remove_dir_all(rt, text)?,
+        HostKind::File(_) => fs::remove_file(rt, text)?,
+        HostKind::Absent => {}
+    }
+    Ok(())
+}
