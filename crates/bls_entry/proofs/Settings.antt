@@ -1,5 +1,7 @@
 -- A line is a key, blanks and a value in one way.
-use Rattle.std.proofs.Common.{◌≡◌, ◌≢◌, ◌<◌, ℕ, Bool, true, false, not, List, [], ◌∷◌, ◌++◌, All, length, refl, sym, ◌∙◌, ap, subst, arith}
+use Rattle.std.proofs.Common.{◌≡◌, ◌≢◌, ◌<◌, ℕ, Bool, true, false, not, List, [], ◌∷◌, ◌++◌, ◌==◌, All, length, refl, sym, ◌∙◌, ap, subst, arith}
+use Rattle.std.proofs.lemmas.List.{nil_from_length}
+use Rattle.std.proofs.lemmas.Bool.Decides.{nat_tests}
 use Rattle.std.proofs.lemmas.List.Elements.{All-head, All-tail, All-cons}
 use Rattle.bls_entry.specs.Line.{is_blank, BeginsSetting, BeginsPlain, EndsOrBegins, IsKey, IsOneLine, AreBlanks, IsValue, IsSetting}
 
@@ -90,3 +92,11 @@ module _ (line key behind blanks value : List ℕ) (whole : line ≡ key ++ behi
 
   pub no_value_there : value ≡ [] → (k b v : List ℕ) → IsSetting k b v → line ≡ k ++ (b ++ v) → ⊥
   no_value_there none k b v is e = subst BeginsPlain ((same_setting k b v is e).1 ∙ none) is.behind.begins
+
+-- ---- tests of emptiness
+
+pub empty_is : {X : Type 0} (xs : List X) (b : Bool) → b ≡ (length xs == 0) → b ≡ true → xs ≡ []
+empty_is xs b is holds = nil_from_length xs (grind (arith, nat_tests, is, holds))
+
+pub some_is : {X : Type 0} (xs : List X) (b : Bool) → b ≡ (length xs == 0) → b ≡ false → xs ≢ []
+some_is xs b is fails e = let h : length xs ≡ 0 = ap length e in grind (arith, nat_tests, is, fails, h)

@@ -1,7 +1,7 @@
 -- The words of a text, one after the other.
-use Rattle.std.proofs.Common.{◌≡◌, ◌<◌, ℕ, Bool, true, false, if◌then◌else◌, List, [], ◌∷◌, ◌++◌, All, length, take, drop, refl, sym, append-nil, ◌∙◌, ap, subst, arith, filter, not, Option, Some, None}
+use Rattle.std.proofs.Common.{◌≡◌, ◌<◌, ◌-◌, ℕ, Bool, true, false, if◌then◌else◌, List, [], ◌∷◌, ◌++◌, All, length, take, drop, refl, sym, append-nil, ◌∙◌, ap, subst, arith, length-drop, filter, not, Option, Some, None}
 use Rattle.std.specs.List.{slice_split}
-use Rattle.std.proofs.lemmas.List.{take-append-drop}
+use Rattle.std.proofs.lemmas.List.{take-append-drop, take_all}
 use Rattle.std.proofs.lemmas.Slice.Eq.{bytes_eq-Decides}
 use Rattle.std.proofs.lemmas.List.Splits.{slice_split_at, slice_split_none}
 use Rattle.bls_entry.specs.Line.{is_blank, EndsOrBegins}
@@ -49,3 +49,12 @@ Found v options found rest = ostree_words options ≡ found_words v found ++ ost
 -- the word has the prefix
 word_is : (word value : List ℕ) → same_name (take 7 word) ostree_key ≡ true → value ≡ drop 7 word → ostree_key ++ value ≡ word
 word_is word value is e = ap (λ v. ostree_key ++ v) e ∙ ap (λ f. f ++ drop 7 word) (sym ((bytes_eq-Decides (take 7 word) ostree_key).0 is)) ∙ take-append-drop 7 word
+
+-- the words where the text ends with the word
+pub words_end : (text word rest : List ℕ) → text ≡ word ++ rest → All (λ x. is_blank x ≡ false) word → length rest < 1 → ostree_words text ≡ alone_if word ++ ostree_words rest
+words_end text word [] cut plain less = words_cut text word [] cut plain tt
+words_end text word (b ∷ rest) cut plain less = absurd (omega (arith, less))
+
+pub words_more : (text word rest : List ℕ) → text ≡ word ++ rest → All (λ x. is_blank x ≡ false) word → EndsOrBegins true rest → ostree_words text ≡ alone_if word ++ ostree_words (take (length rest - 1) (drop 1 rest))
+words_more text word rest cut plain ends =
+    words_cut text word rest cut plain ends ∙ ap (λ r. alone_if word ++ ostree_words r) (sym (take_all (length rest - 1) (drop 1 rest) (omega (arith, length-drop 1 rest))))

@@ -2,6 +2,7 @@
 use Rattle.std.specs.Prelude.{◌≡◌, ◌≢◌, ◌<◌, ◌^◌, ℕ, List, [], ◌∷◌, ◌++◌, if◌then◌else◌, Option, Some, None, MatchOption, IfSome, unwrap_or}
 use Rattle.std.specs.Fmt.{decimal}
 use Rattle.ost_types.specs.Path.{same_name}
+use Rattle.ost_types.specs.Text.{IsText}
 use Rattle.bls_entry.specs.declared.entry.BlsEntry.{BlsEntry}
 use Rattle.bls_entry.specs.declared.key.Key.{Key}
 use Rattle.bls_entry.specs.declared.key.Key.TheVariants.{Title, Version, Options, Linux, Initrd}
@@ -41,6 +42,10 @@ abbrev pub IsVersionOf : ℕ → Option (List ℕ) → Type 0
 IsVersionOf n None = n ≡ 0
 IsVersionOf n (Some value) = (n < 2 ^ 32) × (value ≡ decimal n)
 
+-- the options name one deployment
+abbrev pub NamesOne : List ℕ → Type 0
+NamesOne options = (value : List ℕ) × HasOstree options value
+
 -- what the lines say: a title or a kernel that isn't said is the empty text, and options name a deployment
 pub record AreLinesOf (e : BlsEntry) (lines : List Line) : Type 0 where
   pub title : e.title ≡ unwrap_or (value_of Title lines) []
@@ -48,15 +53,21 @@ pub record AreLinesOf (e : BlsEntry) (lines : List Line) : Type 0 where
   pub options : value_of Options lines ≡ Some e.options
   pub linux : e.linux ≡ unwrap_or (value_of Linux lines) []
   pub initrd : e.initrd ≡ value_of Initrd lines
-  pub ostree : (value : List ℕ) × HasOstree e.options value
+  pub ostree : NamesOne e.options
+
+-- a text that a line may have as its value
+pub record MayStand (value : List ℕ) : Type 0 where
+  pub text : IsText value
+  pub line : IsValue value
 
 -- What a boot entry can say: values as lines have them, and options that name a deployment.
 pub record CanBeWritten (e : BlsEntry) : Type 0 where
-  pub title : IsValue e.title
-  pub options : IsValue e.options
-  pub ostree : (value : List ℕ) × HasOstree e.options value
-  pub linux : IsValue e.linux
-  pub initrd : IfSome e.initrd IsValue
+  pub title : MayStand e.title
+  pub version : e.version < 2 ^ 32
+  pub options : MayStand e.options
+  pub ostree : NamesOne e.options
+  pub linux : MayStand e.linux
+  pub initrd : IfSome e.initrd MayStand
 
 -- a key with one space behind it
 abbrev pub line_of : Key → List ℕ → Line

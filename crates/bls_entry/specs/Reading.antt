@@ -5,8 +5,7 @@ use Rattle.bls_entry.specs.declared.fault.BlsFault.{BlsFault}
 use Rattle.bls_entry.specs.declared.fault.BlsFault.TheVariants.{BadLine, NoOptions, NoOstree, NoMemory}
 use Rattle.bls_entry.specs.declared.key.Key.TheVariants.{Options}
 use Rattle.bls_entry.specs.Line.{Line, line_text, file_text}
-use Rattle.bls_entry.specs.Options.{HasOstree}
-use Rattle.bls_entry.specs.Entry.{AreLinesOf, AreSound, MayFollow, value_of}
+use Rattle.bls_entry.specs.Entry.{AreLinesOf, AreSound, MayFollow, NamesOne, value_of}
 
 -- the text is these lines, and nothing is wrong with them
 pub record IsWhole (text : List ℕ) (lines : List Line) : Type 0 where
@@ -30,7 +29,7 @@ pub record IsBadAt (text : List ℕ) (number : ℕ) : Type 0 where
 -- the options name no deployment, or several
 abbrev pub NamesNone : Option (List ℕ) → Type 0
 NamesNone None = ⊥
-NamesNone (Some options) = (value : List ℕ) → ¬ (HasOstree options value)
+NamesNone (Some options) = ¬ (NamesOne options)
 
 -- Each answer of `read_entry`. Beside want of memory no two hold of one text.
 abbrev pub Reads : List ℕ → Result BlsEntry BlsFault → Type 0

@@ -1,17 +1,17 @@
 //! The values that lines gave, each by its key.
-ghost use Rattle.std.specs.Prelude.{◌≡◌, ◌<◌, ◌^◌, [], List, None, IfOk, IfSome, MatchOption, MatchResult};
+ghost use Rattle.std.specs.Prelude.{◌≡◌, ◌<◌, ◌^◌, [], List, None, IfOk, IfSome, MatchBool, MatchOption, MatchResult, unwrap_or};
 ghost use Rattle.std.specs.Fmt.{decimal};
-ghost use Rattle.std.specs.Option.{option_copied};
+ghost use Rattle.std.specs.Option.{option_copied, option_map};
 ghost use Rattle.ost_types.specs.Text.{IsText};
 ghost use Rattle.bls_entry.specs.Line.{BeginsSetting, IsOneLine, IsVersion, Line};
-ghost use Rattle.bls_entry.specs.Entry.{AreLinesOf};
+ghost use Rattle.bls_entry.specs.Entry.{AreLinesOf, IsVersionOf};
 ghost use Rattle.bls_entry.specs.Tracks.{AreTexts, Follows, IsNone, MayNot, Refuses, Takes, Tracks, shown};
 
 use crate::entry::BlsEntry;
 use crate::fault::BlsFault;
 use crate::key::{Key, key_of};
 use crate::number::read_version;
-use crate::options::ostree_value;
+use crate::options::names_one;
 use crate::setting::read_setting;
 use crate::text::{as_text, text_from};
 use ost_types::{NoMemory, Text};
@@ -39,15 +39,32 @@ impl<'a> Found<'a> {
         }
     }
 
+    /// Takes the line, or answers false where it may not follow, and takes nothing.
+    pub fn take(&mut self, line: &'a [u8]) -> bool
+        requires { IsOneLine line.now }
+        ensures { (before : List Line) → Tracks self.old before → MatchBool result (Follows before line.now self.new) (MayNot before line.now) }
+    {
+        match self.with_line(line) {
+            Some(found) => {
+                *self = found;
+                true
+            }
+            None => false,
+        }
+    }
+
     /// With the line more, or None where it may not follow.
-    pub fn with_line(self, line: &'a [u8]) -> Option<Found<'a>>
+    fn with_line(self, line: &'a [u8]) -> Option<Found<'a>>
         requires { IsOneLine line.now }
         ensures { (before : List Line) → Tracks self.entry before → MatchOption result (MayNot before line.now) (Follows before line.now) }
     {
-        match line {
-            [] | [b'#', ..] => Some(self),
-            _ => self.with_setting(line),
+        let Some((first, _)) = line.split_first() else {
+            return Some(self);
+        };
+        if *first == b'#' {
+            return Some(self);
         }
+        self.with_setting(line)
     }
 
     fn with_setting(self, line: &'a [u8]) -> Option<Found<'a>>
@@ -98,14 +115,14 @@ impl<'a> Found<'a> {
         let Some(options) = self.options else {
             return Err(BlsFault::NoOptions);
         };
-        if ostree_value(options.as_bytes()).is_none() {
+        if !names_one(options.as_bytes()) {
             return Err(BlsFault::NoOstree);
         }
         Ok(BlsEntry {
-            title: text_from(alloc, self.title.unwrap_or(""))?,
-            version: self.version.unwrap_or(0),
+            title: text_or_empty(alloc, self.title)?,
+            version: version_or_zero(self.version),
             options: text_from(alloc, options)?,
-            linux: text_from(alloc, self.linux.unwrap_or(""))?,
+            linux: text_or_empty(alloc, self.linux)?,
             initrd: text_if_some(alloc, self.initrd)?,
         })
     }
@@ -128,6 +145,25 @@ fn version_once(there: Option<u32>, value: &[u8]) -> Option<u32>
     match there {
         Some(_) => None,
         None => read_version(value),
+    }
+}
+
+fn version_or_zero(version: Option<u32>) -> u32
+    ensures { IsVersionOf result (option_map decimal version) }
+{
+    match version {
+        Some(number) => number,
+        None => 0,
+    }
+}
+
+fn text_or_empty(alloc: Global, text: Option<&str>) -> Result<Text, NoMemory>
+    requires { IfSome (option_copied text) IsText }
+    ensures { IfOk result (λ t. t ≡ unwrap_or (option_copied text.entry) []) }
+{
+    match text {
+        Some(text) => text_from(alloc, text),
+        None => text_from(alloc, ""),
     }
 }
 

@@ -1,5 +1,6 @@
 //! The word of options that names a deployment.
-ghost use Rattle.std.specs.Prelude.{◌≡◌, ◌<◌, ◌⊎◌, ◌++◌, ◌∷◌, ℕ, List, if◌then◌else◌, [], MatchOption, length};
+ghost use Rattle.std.specs.Prelude.{◌≡◌, ◌<◌, ◌⊎◌, ◌++◌, ◌∷◌, ◌↔◌, ℕ, List, IsTrue, if◌then◌else◌, [], MatchOption, length};
+ghost use Rattle.bls_entry.specs.Entry.{NamesOne};
 ghost use Rattle.bls_entry.specs.Options.{HasOstree, is_ostree, ostree_words};
 
 use crate::blank::split_at_blank;
@@ -21,6 +22,13 @@ pub fn ostree_value(options: &[u8]) -> Option<&[u8]>
         rest = behind;
     }
     found
+}
+
+/// Whether the options name one deployment.
+pub fn names_one(options: &[u8]) -> bool
+    ensures { IsTrue result ↔ NamesOne options.now }
+{
+    ostree_value(options).is_some()
 }
 
 /// The bytes before the first blank, and those behind it.

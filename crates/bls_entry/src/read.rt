@@ -20,10 +20,9 @@ pub fn read_entry(alloc: Global, bytes: &[u8]) -> Result<BlsEntry, BlsFault>
         let Some((line, behind)) = split_line(rest) else {
             return Err(BlsFault::BadLine(number));
         };
-        let Some(more) = found.with_line(line) else {
+        if !found.take(line) {
             return Err(BlsFault::BadLine(number));
-        };
-        found = more;
+        }
         rest = behind;
     }
     found.into_entry(alloc)

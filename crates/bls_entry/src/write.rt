@@ -2,13 +2,13 @@
 ghost use Rattle.std.specs.Prelude.{◌≡◌, ◌++◌, ◌∷◌, ◌↔◌, [], Ok, IfOk, OnOk, IfSome, IsTrue};
 ghost use Rattle.std.specs.Fmt.{decimal};
 ghost use Rattle.bls_entry.specs.declared.key.Key.TheVariants.{Initrd, Version};
-ghost use Rattle.bls_entry.specs.Line.{IsValue, file_text, line_text, spelled};
-ghost use Rattle.bls_entry.specs.Entry.{CanBeWritten, entry_text, initrd_lines, line_of};
+ghost use Rattle.bls_entry.specs.Line.{file_text, line_text, spelled};
+ghost use Rattle.bls_entry.specs.Entry.{CanBeWritten, MayStand, entry_text, initrd_lines, line_of};
 ghost use Rattle.bls_entry.specs.Reading.{Reads};
 
 use crate::entry::BlsEntry;
 use crate::key::Key;
-use crate::options::ostree_value;
+use crate::options::names_one;
 use crate::setting::is_value;
 use ost_types::{Bytes, NoMemory, Text};
 use std::alloc::Global;
@@ -18,18 +18,26 @@ use std::alloc::Global;
 pub fn can_be_written(entry: &BlsEntry) -> bool
     ensures { IsTrue result ↔ CanBeWritten entry.now }
 {
-    is_value(entry.title.as_slice())
-        && is_value(entry.options.as_slice())
-        && ostree_value(entry.options.as_slice()).is_some()
-        && is_value(entry.linux.as_slice())
-        && may_be_written(&entry.initrd)
+    // it is below 2^32, as its type says
+    let _version = entry.version;
+    may_stand(&entry.title)
+        && may_stand(&entry.options)
+        && names_one(entry.options.as_slice())
+        && may_stand(&entry.linux)
+        && may_stand_if_some(&entry.initrd)
 }
 
-fn may_be_written(initrd: &Option<Text>) -> bool
-    ensures { IsTrue result ↔ IfSome initrd.now IsValue }
+fn may_stand(text: &Text) -> bool
+    ensures { IsTrue result ↔ MayStand text.now }
 {
-    match initrd {
-        Some(path) => is_value(path.as_slice()),
+    is_value(text.as_slice())
+}
+
+fn may_stand_if_some(text: &Option<Text>) -> bool
+    ensures { IsTrue result ↔ IfSome text.now MayStand }
+{
+    match text {
+        Some(text) => may_stand(text),
         None => true,
     }
 }

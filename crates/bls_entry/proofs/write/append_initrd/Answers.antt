@@ -1,6 +1,6 @@
-use Rattle.std.proofs.Common.{◌≡◌, ◌++◌, OnOk, sym, ap, ◌∙◌, subst, append-nil}
+use Rattle.std.proofs.Common.{◌≡◌, ◌∷◌, [], ◌++◌, OnOk, sym, ap, ◌∙◌, subst, append-nil}
 use Rattle.bls_entry.specs.declared.key.Key.TheVariants.{Initrd}
-use Rattle.bls_entry.specs.Line.{file_text, line_text}
+use Rattle.bls_entry.specs.Line.{file_text}
 use Rattle.bls_entry.specs.Entry.{initrd_lines, line_of}
 use Rattle.bls_entry.proofs.write.append_initrd.Goals as goal
 

@@ -1,0 +1,40 @@
+//! What stays behind a new deployment.
+ghost use Rattle.std.specs.Prelude.{◌≡◌, ◌||◌, not, IfOk};
+ghost use Rattle.deploy_list.specs.Lists.{is_used, places_kept};
+
+use crate::dep::Dep;
+use crate::serial::is_id;
+use boot_model::DepId;
+use ost_types::NoMemory;
+use repo_layout::OsName;
+use std::alloc::Global;
+
+/// The places, in their order, of the deployments that stay listed behind a new one of this stateroot: all of other stateroots,
+/// those that are in use, and the first of this stateroot.
+pub fn kept_behind(
+    alloc: Global,
+    list: &[Dep],
+    os: &OsName,
+    used: &[DepId],
+) -> Result<Vec<usize>, NoMemory>
+    ensures { IfOk result (λ places. places.items ≡ places_kept list.now os.now used.now) }
+{
+    let mut places = Vec::new(alloc);
+    let mut has_source = false;
+    for place in 0..list.len() {
+        let id = &list[place].id;
+        let is_of = id.os == *os;
+        if !is_of || is_used(used, id) || !has_source {
+            places.push(place)?;
+        }
+        has_source = has_source || is_of;
+    }
+    Ok(places)
+}
+
+fn is_used(used: &[DepId], id: &DepId) -> bool
+    ensures { result ≡ is_used used.now id.now }
+{
+    used.iter()
+        .any(|other| is_id(other, &id.os, &id.commit, id.serial))
+}

@@ -1,0 +1,22 @@
+//! Versions of kernels.
+ghost use Rattle.std.specs.Prelude.{◌≡◌, ◌↔◌, IsTrue};
+ghost use Rattle.boot_model.specs.Items.{is_kver_byte};
+ghost use Rattle.deploy_list.specs.Kernels.{is_kver};
+
+/// Whether the name of a folder is a kernel's version: 1 to 241 bytes of `A-Z a-z 0-9 - _ . + ~`.
+pub fn is_kver(name: &[u8]) -> bool
+    ensures { result ≡ is_kver name.now }
+{
+    !name.is_empty() && name.len() <= 241 && name.iter().all(|byte| is_kver_byte(*byte))
+}
+
+fn is_kver_byte(byte: u8) -> bool
+    ensures { result ≡ is_kver_byte byte }
+{
+    byte.is_ascii_alphanumeric()
+        || byte == b'-'
+        || byte == b'_'
+        || byte == b'.'
+        || byte == b'+'
+        || byte == b'~'
+}
