@@ -1,0 +1,3 @@
+pub mod Node
+pub mod Build
+pub mod Steps
