@@ -107,9 +107,12 @@ module _ (title : List ℕ) (version : ℕ) (options linux : List ℕ) where
       → AreSound (line_of Title title ∷ line_of Version (decimal version) ∷ line_of Options options ∷ line_of Linux linux ∷ initrd_lines initrd)
   unfolding value_of
   lines_go t v o l initrd i = (
-    line_may [] Title title t.text t.line refl, (
-      line_may (line_of Title title ∷ []) Version (decimal version) (version, v, refl) (version_value version v) refl, (
-        line_may (line_of Title title ∷ line_of Version (decimal version) ∷ []) Options options o.text o.line refl, (
+    line_may [] Title title t.text t.line refl,
+    (
+      line_may (line_of Title title ∷ []) Version (decimal version) (version, v, refl) (version_value version v) refl,
+      (
+        line_may (line_of Title title ∷ line_of Version (decimal version) ∷ []) Options options o.text o.line refl,
+        (
           line_may (line_of Title title ∷ line_of Version (decimal version) ∷ line_of Options options ∷ []) Linux linux l.text l.line refl,
           initrd_goes initrd i,
         ),

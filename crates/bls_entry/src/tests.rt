@@ -1,5 +1,4 @@
-use crate::{BlsEntry, BlsFault, can_be_written, ostree_value, read_entry, write_entry};
-use ost_types::Text;
+use crate::{BlsFault, can_be_written, ostree_value, read_entry, write_entry};
 use std::alloc::{AllocError, Global};
 use std::test::Fail;
 
@@ -17,21 +16,20 @@ fn fault_of(alloc: Global, text: &[u8]) -> Option<BlsFault> {
     }
 }
 
-/// A part of each text stands before `|`, and the fault behind it.
 fn is_fault(fault: Option<BlsFault>, word: &str) -> bool {
     match fault {
         None => word == "none",
         Some(BlsFault::BadLine(1)) => word == "line 1",
         Some(BlsFault::BadLine(2)) => word == "line 2",
         Some(BlsFault::BadLine(3)) => word == "line 3",
-        Some(BlsFault::BadLine(9)) => word == "line 9",
+        Some(BlsFault::BadLine(5)) => word == "line 5",
         Some(BlsFault::NoOptions) => word == "options",
         Some(BlsFault::NoOstree) => word == "ostree",
         Some(_) => false,
     }
 }
 
-/// Texts, each with `;` for its newlines, `_` for a tab and its fault behind `|`.
+// texts with `;` for newlines and `_` for tabs, and behind `|` what is wrong with each
 const ROWS: &str = "|options
 ;|options
 #;#\u{7f};|options
@@ -57,11 +55,12 @@ title a;title a;|line 2
 linux a;linux b;|line 2
 initrd a;initrd a;|line 2
 machine-id 4098b3f6;machine-id 4098b3f6;options ostree=a;|none
-grub_class;|line 1
+grubclass;|line 1
 Options ostree=a;|options
 title Fedora Linux;version 6.1;|line 2
-title Fedora 19 (Rawhide);sort-key fedora;machine-id 6a9857a393724b7a981ebb5b8495b9ea;version 3;options root=UUID=6d3376e4 quiet;|ostree
-# /boot/loader/entries/6a98.conf;title x;sort-key fedora;machine-id 6a;version 1;options root=UUID=6d quiet;architecture x64;linux /6a/linux;initrd /6a/initrd;initrd /b;|none
+# /boot/loader/entries/6a9857a3-3.8.0-2.fc19.x86_64.conf;title        Fedora 19 (Rawhide);sort-key     fedora;machine-id   6a9857a3;version      3.8.0-2.fc19.x86_64;options      root=UUID=6d3376e4 quiet;architecture x64;|line 5
+title        Fedora 19 (Rawhide);machine-id   6a9857a3;options      root=UUID=6d3376e4 quiet;linux        /6a9857a3/linux;|ostree
+title Fedora CoreOS 38 (ostree:0);version 1;options $ignition_firstboot console=tty0 ostree=/ostree/boot.1/fedora-coreos/e/0;linux /ostree/fedora-coreos-e/vmlinuz-6.2.9-300.fc38.x86_64;aboot /a;abootcfg /b;|none
 ";
 
 fn with_bytes(alloc: Global, row: &str) -> Result<Vec<u8>, AllocError> {
@@ -84,6 +83,25 @@ fn tells_faults(rt: HostRuntime) -> Result<(), Fail> {
         };
         let text = with_bytes(rt.alloc(), text)?;
         assert!(&rt; is_fault(fault_of(rt.alloc(), &text), word), "of {row}");
+    }
+    Ok(())
+}
+
+#[test]
+fn reads_and_writes(rt: HostRuntime) -> Result<(), Fail> {
+    let alloc = rt.alloc();
+    let entry = read_entry(alloc, ENTRY)?;
+    assert_eq!(&rt; entry.title.as_str(), "demo (ostree:0)");
+    assert_eq!(&rt; entry.version, 1);
+    assert_eq!(&rt; entry.linux.as_str(), "/ostree/demo-K/vmlinuz-6.1");
+    assert!(&rt;
+        ostree_value(entry.options.as_slice()) == Some(b"/ostree/boot.0/demo/K/0".as_slice())
+    );
+    if can_be_written(&entry) {
+        let text = write_entry(alloc, &entry)?;
+        assert!(&rt; text.as_slice() == ENTRY);
+    } else {
+        assert!(&rt; false, "it can't be written");
     }
     Ok(())
 }

@@ -60,7 +60,11 @@ pub fn write_entry(alloc: Global, entry: &BlsEntry) -> Result<Bytes, NoMemory>
 fn append_version(alloc: Global, text: &mut Bytes, version: u32) -> Result<(), NoMemory>
     ensures { OnOk result (text.new ≡ text.old ++ (line_text (line_of Version (decimal version)) ++ 10 ∷ [])) }
 {
-    append_line(text, Key::Version, format!(in alloc; "{version}")?.as_bytes())
+    append_line(
+        text,
+        Key::Version,
+        format!(in alloc; "{version}")?.as_bytes(),
+    )
 }
 
 fn append_initrd(text: &mut Bytes, initrd: &Option<Text>) -> Result<(), NoMemory>

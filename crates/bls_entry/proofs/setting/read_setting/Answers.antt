@@ -16,10 +16,10 @@ pub returns : goal.returns
 returns c = (
   c.split_blanks.result.0.now,
   setting_there c.args.line.now c.split_at_blank.result.0.now c.split_at_blank.result.1.now c.split_blanks.result.0.now c.split_blanks.result.1.now
-    c.split_at_blank.ensures.whole c.split_blanks.ensures.whole c.split_at_blank.ensures.word c.split_at_blank.ensures.rest c.split_blanks.ensures.blanks c.split_blanks.ensures.rest
-    c.requires.one c.requires.begins
-    (some_is c.split_at_blank.result.0.now c.is_empty.result c.is_empty.ensures c.if-is_empty.false)
-    (some_is c.split_blanks.result.1.now c.is_empty-else-is_empty.result c.is_empty-else-is_empty.ensures c.if-is_empty-2.false),
+      c.split_at_blank.ensures.whole c.split_blanks.ensures.whole c.split_at_blank.ensures.word c.split_at_blank.ensures.rest c.split_blanks.ensures.blanks c.split_blanks.ensures.rest
+      c.requires.one c.requires.begins
+      (some_is c.split_at_blank.result.0.now c.is_empty.result c.is_empty.ensures c.if-is_empty.false)
+      (some_is c.split_blanks.result.1.now c.is_empty-else-is_empty.result c.is_empty-else-is_empty.ensures c.if-is_empty-2.false),
   cut_line c.args.line.now c.split_at_blank.result.0.now c.split_at_blank.result.1.now c.split_blanks.result.0.now c.split_blanks.result.1.now
-    c.split_at_blank.ensures.whole c.split_blanks.ensures.whole c.split_at_blank.ensures.word c.split_at_blank.ensures.rest c.split_blanks.ensures.blanks c.split_blanks.ensures.rest,
+      c.split_at_blank.ensures.whole c.split_blanks.ensures.whole c.split_at_blank.ensures.word c.split_at_blank.ensures.rest c.split_blanks.ensures.blanks c.split_blanks.ensures.rest,
 )
