@@ -1,3 +1,3 @@
 mod Numbered
 mod Places
-mod Kernel
+mod Versions

@@ -1,6 +1,7 @@
 //! The kernel of a tree.
-ghost use Rattle.std.specs.Prelude.{◌≡◌, ◌∷◌, [], IfOk, MatchResult, Ok, Err};
-ghost use Rattle.deploy_list.specs.Kernels.{Finds, IsNotOne, has_defaults, has_etc, kernels_of};
+ghost use Rattle.std.specs.Prelude.{◌≡◌, ◌≤◌, ◌∷◌, [], length, IfOk, IfErr, MatchResult, Ok, Err};
+ghost use Rattle.std.specs.Option.{option_copied};
+ghost use Rattle.deploy_list.specs.Kernels.{Finds, IsNotOne, as_list, has_defaults, has_etc, kernels_of, with_node};
 
 use crate::fault::KernelFault;
 use crate::place::{is_defaults, is_etc, kernel_at};
@@ -48,12 +49,25 @@ fn only_kernel(nodes: &[(FsPath, NodeName)]) -> Result<&Name, KernelFault>
 {
     let mut found = None;
     for node in nodes {
-        if let Some(kver) = kernel_at(&node.0, &node.1) {
-            if found.is_some() {
-                return Err(KernelFault::TwoKernels);
-            }
-            found = Some(kver);
-        }
+        found = with_node(found, &node.0, &node.1)?;
     }
     found.ok_or(KernelFault::NoKernel)
+}
+
+/// The kernel that was found, or that this node is, and a fault where both are.
+fn with_node<'a>(
+    found: Option<&'a Name>,
+    path: &'a FsPath,
+    node: &NodeName,
+) -> Result<Option<&'a Name>, KernelFault>
+    ensures ok { IfOk result (λ new. as_list (option_copied new) ≡ with_node (option_copied found.entry) path.now node.now) }
+    ensures err { IfErr result (λ fault. (fault ≡ KernelFault.TwoKernels) × (2 ≤ length (with_node (option_copied found.entry) path.now node.now))) }
+{
+    let Some(kver) = kernel_at(path, node) else {
+        return Ok(found);
+    };
+    match found {
+        None => Ok(Some(kver)),
+        Some(_) => Err(KernelFault::TwoKernels),
+    }
 }

@@ -1,5 +1,6 @@
 //! Versions of kernels.
-ghost use Rattle.std.specs.Prelude.{◌≡◌, ◌↔◌, IsTrue};
+ghost use Rattle.std.specs.Prelude.{◌≡◌, ◌&&◌, nat_le};
+ghost use Rattle.std.specs.List.{list_all};
 ghost use Rattle.boot_model.specs.Items.{is_kver_byte};
 ghost use Rattle.deploy_list.specs.Kernels.{is_kver};
 
@@ -7,7 +8,19 @@ ghost use Rattle.deploy_list.specs.Kernels.{is_kver};
 pub fn is_kver(name: &[u8]) -> bool
     ensures { result ≡ is_kver name.now }
 {
-    !name.is_empty() && name.len() <= 241 && name.iter().all(|byte| is_kver_byte(*byte))
+    is_kver_len(name.len()) && are_kver_bytes(name)
+}
+
+fn is_kver_len(len: usize) -> bool
+    ensures { result ≡ (nat_le 1 len && nat_le len 241) }
+{
+    1 <= len && len <= 241
+}
+
+fn are_kver_bytes(name: &[u8]) -> bool
+    ensures { result ≡ list_all is_kver_byte name.now }
+{
+    name.iter().all(|byte| is_kver_byte(*byte))
 }
 
 fn is_kver_byte(byte: u8) -> bool
