@@ -1,2 +1,3 @@
 pub mod Before
 pub mod Lists
+pub mod Booted

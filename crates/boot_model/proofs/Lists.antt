@@ -1,5 +1,5 @@
 -- Disks that show the same where a list is read have the same list.
-use Rattle.std.proofs.Common.{◌≡◌, ◌⊎◌, inl, inr, ⊎_elim, ℕ, true, refl, sym, ◌∙◌, ap, subst, List, [], ◌∷◌, ◌++◌, length, map, Some, All}
+use Rattle.std.proofs.Common.{◌≡◌, ◌⊎◌, inl, inr, ⊎_elim, ℕ, true, false, refl, sym, ◌∙◌, ap, subst, List, [], ◌∷◌, ◌++◌, length, map, Some, All}
 use Rattle.std.specs.Fmt.{decimal}
 use Rattle.std.specs.List.{Contains}
 use Rattle.std.proofs.lemmas.List.Elements.{All-weaker}
@@ -22,9 +22,9 @@ same_reads d e p same = reads_shows e p ∙ ap bytes_in same ∙ sym (reads_show
 
 folder_directory : (d : Disk) (z : Value) → is_folder z ≡ true → IsDirectory (seen d z)
 folder_directory d (Folder m) is = tt
-folder_directory d Absent is = absurd is
-folder_directory d (Link m t) is = absurd is
-folder_directory d (File n) is = absurd is
+folder_directory d Absent is = let n : false ≡ true = is in cc
+folder_directory d (Link m t) is = let n : false ≡ true = is in cc
+folder_directory d (File k) is = let n : false ≡ true = is in cc
 
 same_folder : (d e : Disk) (p : Path) → shows e p ≡ shows d p → is_folder (d.at p) ≡ true → is_folder (e.at p) ≡ true
 same_folder d e p same is = folder_shows e p (subst IsDirectory (sym same) (folder_directory d (d.at p) is))

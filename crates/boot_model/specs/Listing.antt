@@ -13,7 +13,8 @@ use Rattle.repo_layout.specs.BootPaths.{boot_folder_path, boot_link_path, entry_
 use Rattle.repo_layout.specs.Paths.{deploy_path}
 use Rattle.boot_model.specs.declared.item.DepId.{DepId}
 use Rattle.boot_model.specs.declared.item.BootItem.{BootItem}
-use Rattle.boot_model.specs.Entries.{boot_target, deploy_target, loader_target, named_link}
+use Rattle.boot_model.specs.Items.{IsAt, link_number}
+use Rattle.boot_model.specs.Entries.{boot_target, deploy_target, entry_text, loader_target, named_link}
 
 -- a symbolic link with this target
 abbrev pub IsLinkTo : List ℕ → Seen → Type 0
@@ -101,3 +102,23 @@ pub record SameVersion (loader : ℕ) (d e : Disk) : Type 0 where
 pub record SameList (d e : Disk) : Type 0 where
   pub loader : shows e loader_path ≡ shows d loader_path
   pub version : (loader : ℕ) → Selects d loader → SameVersion loader d e
+
+-- ---- a list that boots
+
+-- The entries of a version are those of the items: each text stands in one file, and no other entry is there. As each text has its
+-- version, this says in which order they come.
+pub record ShowsEntries (d : Disk) (loader : ℕ) (items : List BootItem) : Type 0 where
+  pub each : (i : ℕ) (item : BootItem) → IsAt items i item → (file : Name) × HasEntry d loader file (entry_text loader items i item)
+  pub only : (file : Name) (bytes : List ℕ) → HasEntry d loader file bytes → (i : ℕ) × (item : BootItem) × IsAt items i item × (bytes ≡ entry_text loader items i item)
+  pub once : (f g : Name) (bytes : List ℕ) → HasEntry d loader f bytes → HasEntry d loader g bytes → f ≡ g
+
+-- each item's link leads to its deployment
+abbrev pub LeadsEach : Disk → ℕ → List BootItem → Type 0
+LeadsEach d loader items = (i : ℕ) (item : BootItem) → IsAt items i item → Leads d loader item.id.os item.kernel.bootcsum (link_number items i item) item.id
+
+-- The disk boots the items: the boot loader's link selects their entries, of which each leads to its deployment.
+pub record Boots (d : Disk) (items : List BootItem) : Type 0 where
+  pub loader : ℕ
+  pub selects : Selects d loader
+  pub entries : ShowsEntries d loader items
+  pub leads : LeadsEach d loader items

@@ -1,7 +1,8 @@
 -- The steps that remove what stood at the folder's path.
-use Rattle.std.proofs.Common.{◌≡◌, ◌≢◌, inl, inr, ⊎_elim, ℕ, ◌+◌, ◌<◌, arith, Bool, true, false, ◌&&◌, refl, sym, ◌∙◌, ap, subst, List, [], ◌∷◌, ◌++◌, length, take, Option, None, Result, Ok}
+use Rattle.std.proofs.Common.{◌≡◌, ◌≢◌, inl, inr, ⊎_elim, ℕ, ◌+◌, ◌<◌, arith, Bool, true, false, ◌&&◌, refl, sym, ◌∙◌, ap, subst, List, [], ◌∷◌, ◌++◌, length, take, Option, Some, None, Result, Ok}
 use Rattle.ost_types.specs.Path.{Path, is_below}
 use Rattle.fs_trait.specs.declared.types.FsErr.{FsErr}
+use Rattle.fs_trait.specs.declared.task.Turn.{Turn}
 use Rattle.fs_trait.specs.declared.task.Turn.TheVariants.{More, Done}
 use Rattle.fs_trait.specs.declared.types.Value.TheVariants.{Absent}
 use Rattle.fs_trait.specs.View.{Disk, View}
@@ -67,14 +68,14 @@ module _ (c : Removing) (t : Building) (is : t.phase ≡ phase.Clear c) (v : Vie
   clear_needs = subst (λ ph. needs_in ph t v) is needs.meets
 
   at : c.at ≡ t.top
-  at = (subst (λ ph. IsWithin ph t.top t.nodes) is needs.made.within).0
+  at = subst (λ ph. IsWithin ph t.top t.nodes) is needs.made.within
 
   home_after : (w : View) → Writes (steps.WritesOf c v) v w → HasHome t.top w.now
   home_after w writes = home_kept t.top (steps.WritesOf c v) v w writes (λ p s a. subst (λ r. is_below r p ≡ true) at a.0.below) needs.home
 
   pub clear_goes : (d : Removing) → removal.Follows (removal.act c) c d → (w : View) → Writes (steps.WritesOf c v) v w → steps.Needs d w → Needs (record t { phase = phase.Clear d }) w
   clear_goes d follows w writes after = record {
-    made = record { plan = needs.made.plan; within = (same_at c d follows ∙ at, after.made) };
+    made = record { plan = needs.made.plan; within = same_at c d follows ∙ at };
     home = home_after w writes;
     meets = after;
   }
@@ -94,3 +95,15 @@ told_both P Q R view both a b = let same : b.0 ≡ a.0 = cc (a.1, b.1) in (a.0, 
 
 pub written_as : (t u : Building) → t ≡ u → (ph : Phase) → t.phase ≡ ph → (v : View) (view : Option View) → Told view (λ w. Writes (writes_in ph t v) v w) → Told view (λ w. Writes (WritesOf u v) v w)
 written_as t u e ph is v view told = (told.0, told.1, subst (λ x. Writes (WritesOf x v) v told.0) e (subst (λ f. Writes (writes_in f t v) v told.0) (sym is) told.2))
+
+pub told_with : (P Q R : View → Type 0) (view : Option View) → ((w : View) → view ≡ Some w → P w → Q w → R w) → Told view P → Told view Q → Told view R
+told_with P Q R view both a b = let same : b.0 ≡ a.0 = cc (a.1, b.1) in (a.0, a.1, both a.0 a.1 a.2 (subst Q same b.2))
+
+pub stepped_more : (c d : Removing) (r : Result (Turn (Unit {0})) FsErr) → r ≡ Ok More → removal.IsStepped c r d → removal.Follows (removal.act c) c d
+stepped_more c d r is s = (subst (λ x. removal.IsStepped c x d) is s).0
+
+pub stepped_done : (c d : Removing) (r : Result (Turn (Unit {0})) FsErr) → r ≡ Ok (Done tt) → removal.IsStepped c r d → removal.Follows (removal.act c) c d × (Done tt ≡ turn_in d.phase)
+stepped_done c d r is s = subst (λ x. removal.IsStepped c x d) is s
+
+pub made_goes : (t : Building) (c d : Removing) → t.phase ≡ phase.Clear c → IsMade t → removal.Follows (removal.act c) c d → IsMade (record t { phase = phase.Clear d })
+made_goes t c d is made follows = record { plan = made.plan; within = same_at c d follows ∙ subst (λ ph. IsWithin ph t.top t.nodes) is made.within }

@@ -1,3 +1,5 @@
 pub mod Nodes
 pub mod Making
 pub mod Clearing
+pub mod Linking
+pub mod Lying

@@ -1,5 +1,5 @@
 -- What a step that makes a node writes and leaves.
-use Rattle.std.proofs.Common.{◌≡◌, ◌≢◌, ◌⊎◌, inl, inr, ⊎_elim, ℕ, zero, suc, ◌+◌, ◌<◌, arith, Bool, true, false, refl, sym, ◌∙◌, ap, subst, List, [], ◌∷◌, ◌++◌, length, take, get_or, Option, Some, None, if◌then◌else◌, ltb-true, ltb-false}
+use Rattle.std.proofs.Common.{◌≡◌, ◌≢◌, ◌⊎◌, inl, inr, ⊎_elim, ℕ, zero, suc, ◌+◌, ◌<◌, arith, Bool, true, false, refl, sym, ◌∙◌, ap, subst, List, [], ◌∷◌, ◌++◌, length, take, get_or, Option, Some, None, Result, Err, if◌then◌else◌, ltb-true, ltb-false}
 use Rattle.std.specs.Prelude.{nat_lt}
 use Rattle.std.proofs.lemmas.List.{take_all, take_more, get_or_default}
 use Rattle.ost_types.specs.Path.{Name, Path, under, is_in, is_below}
@@ -9,8 +9,10 @@ use Rattle.fs_trait.specs.declared.types.Value.TheVariants as value
 use Rattle.fs_trait.specs.declared.types.FsErr.{FsErr}
 use Rattle.fs_trait.specs.declared.types.FsErr.TheVariants.{Failed, NoMemory}
 use Rattle.fs_trait.specs.View.{Disk, View, named, created, extended}
-use Rattle.fs_trait.specs.Image.{Holds, is_folder, IsTree}
-use Rattle.fs_trait.specs.Effect.{IsFresh, inode_of, no_file, no_new}
+use Rattle.ost_types.specs.declared.meta.Meta.{Meta}
+use Rattle.fs_trait.specs.Image.{Holds, is_folder, IsTree, Told}
+use Rattle.std.specs.Prelude.{IsErrOf}
+use Rattle.fs_trait.specs.Effect.{Fails, IsFresh, inode_of, no_file, no_new}
 use Rattle.fs_trait.specs.Seen.{Seen, Vacant, Directory, Symlink, Leaf, seen, shows, MayShow, MayBe, IsDirectory}
 use Rattle.fs_trait.specs.Change.{Writes, At, OfInode, Own}
 use Rattle.fs_trait.proofs.Kept.{weaker, firm_kept}
@@ -27,7 +29,7 @@ use Rattle.folder_build.specs.declared.node.NewNode.{NewNode}
 use Rattle.folder_build.specs.declared.phase.Phase.{Phase}
 use Rattle.folder_build.specs.declared.phase.Phase.TheVariants as phase
 use Rattle.folder_build.specs.Node.{IsBuilt, IsContent, content_at, file_meta, folder_meta, link_meta}
-use Rattle.folder_build.specs.Build.{Building, IsFile, IsMade, IsNumber, MayFollow, reached, reached_phase}
+use Rattle.folder_build.specs.Build.{Building, IsFile, IsMade, IsNumber, IsWithin, MayFollow, reached, reached_phase}
 use Rattle.folder_build.specs.Steps.{HasHome, IsBegun, IsOpen, IsPart, Needs, WritesOf, needs_in, refuses_in, writes_in}
 use Rattle.folder_build.proofs.Nodes.{push_here, push_apart, push_found}
 
@@ -240,7 +242,7 @@ module _ (n : ℕ) (t : Building) (v : View) (tree : IsTree v.now) (made : IsMad
       let own : (q : Path) → Holds v q (value.File k) → q ≡ e.at = λ q held. begun.own q _ (may_held v q k held) (v.now.meta k) (v.now.bytes k) refl in
       let writes : Writes (writes_in (phase.Write n) t v) v w =
       weaker (At e.at (OfInode k (v.now.meta k))) (writes_in (phase.Write n) t v) v w
-          (λ p s a. (e, begun.number, a.0, (k, subst (λ m. OfInode k m s) meta a.1, ap v.now.at a.0 ∙ file.0))) (extended-writes_own v k bytes e.at own) in
+      (λ p s a. (e, begun.number, a.0, (k, subst (λ m. OfInode k m s) meta a.1, ap v.now.at a.0 ∙ file.0))) (extended-writes_own v k bytes e.at own) in
       let follow = made.plan.each n e begun.number in
       let here : shows w.now e.at ≡ Leaf k file_meta bytes =
       shows_extended v k bytes e.at file.0 ∙ ap (λ c. Leaf k (v.now.meta k) (c ++ bytes)) file.1 ∙ ap (λ m. Leaf k m bytes) meta in
@@ -266,3 +268,56 @@ module _ (n : ℕ) (t : Building) (v : View) (tree : IsTree v.now) (made : IsMad
       subst (λ i. Step (writes_in (phase.Write n) t v) (Needs (reached n t)) v (no_file e.at v.now) (extended i bytes v)) k
       (subst (λ (y : NewNode). Step (writes_in (phase.Write n) t v) (Needs (reached n t)) v (no_file y.at v.now) (extended begun.inode bytes v)) same
       (write_inode bytes (ap (λ (y : NewNode). y.what) same ∙ is)))
+
+-- ---- the steps, by what the calls before gave
+
+pub needs_as : (t u got : Building) (n : ℕ) → t ≡ u → got ≡ reached n u → (view : Option View) → Told view (Needs (reached n t)) → Told view (λ w. Needs got w)
+needs_as t u got n same is view told = (told.0, told.1, subst (λ a. Needs a told.0) (ap (reached n) same ∙ sym is) told.2)
+
+module _ (n : ℕ) (t u : Building) (same : t ≡ u) (v : View) (tree : IsTree v.now) (needs : Needs t v) (is : t.phase ≡ phase.Make n) (e : NewNode) (number : IsNumber t.nodes n e) where
+  built_now : IsBuilt v.now t.top (take n t.nodes)
+  built_now = subst (λ ph. needs_in ph t v) is needs.meets
+
+  in_phase : (After : View → Type 0) (refusal : Option FsErr) (w : View) → Step (writes_in (phase.Make n) t v) After v refusal w → Step (WritesOf u v) After v refusal w
+  in_phase After refusal w step = as_is t u same v After refusal w (subst (λ ph. Step (writes_in ph t v) After v refusal w) (sym is) step)
+
+  pub folder_at : e.what ≡ Folder → shows v.now e.at ≡ Vacant → (m : Meta) → m ≡ folder_meta → Step (WritesOf u v) (Needs (reached n t)) v (no_new e.at v.now) (named e.at (value.Folder m) v)
+  folder_at what vacant m plain =
+      subst (λ k. Step (WritesOf u v) (Needs (reached n t)) v (no_new e.at v.now) (named e.at (value.Folder k) v)) (sym plain)
+      (in_phase (Needs (reached n t)) (no_new e.at v.now) (named e.at (value.Folder folder_meta) v) (folder_step n t e needs.made number v tree needs.home built_now what vacant))
+
+  pub link_at : (target : List ℕ) → e.what ≡ Link target → (m : Meta) → m ≡ link_meta → Step (WritesOf u v) (Needs (reached n t)) v (no_new e.at v.now) (named e.at (value.Link m target) v)
+  link_at target what m plain =
+      subst (λ k. Step (WritesOf u v) (Needs (reached n t)) v (no_new e.at v.now) (named e.at (value.Link k target) v)) (sym plain)
+      (in_phase (Needs (reached n t)) (no_new e.at v.now) (named e.at (value.Link link_meta target) v) (link_step n t e needs.made number v tree needs.home built_now target what))
+
+  pub file_at : (bytes : List ℕ) → e.what ≡ File bytes → (m : Meta) → m ≡ file_meta → (k : ℕ) → IsFresh k v
+      → Step (WritesOf u v) (Needs (record t { phase = phase.Write n })) v (no_new e.at v.now) (created e.at m k v)
+  file_at bytes what m plain k fresh =
+      subst (λ a. Step (WritesOf u v) (Needs (record t { phase = phase.Write n })) v (no_new e.at v.now) (created e.at a k v)) (sym plain)
+      (in_phase (Needs (record t { phase = phase.Write n })) (no_new e.at v.now) (created e.at file_meta k v) (file_step n t e needs.made number v tree needs.home built_now bytes what k fresh))
+
+  pub kept_at : e.what ≡ Folder → (shows v.now e.at ≡ Vacant → ⊥) → Needs (reached n t) v
+  kept_at what there = kept_step n t e needs.made number v tree needs.home built_now what there
+
+pub write_at : (n : ℕ) (t u : Building) → t ≡ u → (v : View) → IsTree v.now → Needs t v → t.phase ≡ phase.Write n → (e : NewNode) → IsNumber t.nodes n e → (bytes : List ℕ) → e.what ≡ File bytes → (read : List ℕ) → read ≡ bytes
+    → Step (WritesOf u v) (Needs (reached n t)) v (no_file e.at v.now) (extended (inode_of (v.now.at e.at)) read v)
+write_at n t u same v tree needs is e number bytes what read here =
+    subst (λ b. Step (WritesOf u v) (Needs (reached n t)) v (no_file e.at v.now) (extended (inode_of (v.now.at e.at)) b v)) (sym here)
+    (as_is t u same v (Needs (reached n t)) (no_file e.at v.now) (extended (inode_of (v.now.at e.at)) bytes v)
+    (subst (λ ph. Step (writes_in ph t v) (Needs (reached n t)) v (no_file e.at v.now) (extended (inode_of (v.now.at e.at)) bytes v)) (sym is)
+    (write_step n t v tree needs.made needs.home (subst (λ ph. needs_in ph t v) is needs.meets) e number bytes what)))
+
+-- the node that was read
+pub number_make : (t : Building) (n : ℕ) → IsMade t → t.phase ≡ phase.Make n → (e : NewNode) → e ≡ get_or t.nodes n e → IsNumber t.nodes n e
+number_make t n made is e read = (subst (λ ph. IsWithin ph t.top t.nodes) is made.within, sym read)
+
+pub number_write : (t : Building) (n : ℕ) → IsMade t → t.phase ≡ phase.Write n → (e : NewNode) → e ≡ get_or t.nodes n e → IsNumber t.nodes n e
+number_write t n made is e read = ((subst (λ ph. IsWithin ph t.top t.nodes) is made.within).0, sym read)
+
+-- a call that wants for memory leaves the view as it was
+pub unchanged_as : {T : Type 0} (e : FsErr) (r : Result T FsErr) → r ≡ Err e → (f : FsErr) → e ≡ f → IsErrOf r NoMemory → (refusal : Option FsErr) (v w : View) (view : Option View) → Fails refusal v w f view → view ≡ Some v
+unchanged_as {T} e r is f same memory refusal v w view fails =
+    let m : IsErrOf {T = T} (Err e) NoMemory = subst (λ x. IsErrOf x NoMemory) is memory in
+    let n : e ≡ NoMemory = cc in
+    subst (λ x. Fails refusal v w x view) (sym same ∙ n) fails

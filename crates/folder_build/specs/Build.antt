@@ -50,7 +50,7 @@ IsFile nodes n = (e : NewNode) → IsNumber nodes n e → (b : List ℕ) × (e.w
 
 -- how far it is
 abbrev pub IsWithin : Phase → Path → List NewNode → Type 0
-IsWithin (Clear c) top nodes = (c.at ≡ top) × removal.IsMade c
+IsWithin (Clear c) top nodes = c.at ≡ top
 IsWithin (Make n) top nodes = n < length nodes
 IsWithin (Write n) top nodes = (n < length nodes) × IsFile nodes n
 IsWithin Ended top nodes = Unit {0}

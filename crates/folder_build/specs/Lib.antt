@@ -1,3 +1,5 @@
 pub mod Node
 pub mod Build
 pub mod Steps
+pub mod Link
+pub mod LinkSteps

@@ -113,9 +113,10 @@ impl BuildTask {
         ensures room { F.spare fs.old ≤ F.spare fs.new + 1 }
     {
         let node = &self.nodes[number];
-        if fs.stat(&node.at)?.is_none() {
-            fs.mkdir(&node.at, &folder_meta(self.alloc))?;
+        if fs.stat(&node.at)?.is_some() {
+            return Ok(self.reached(number));
         }
+        fs.mkdir(&node.at, &folder_meta(self.alloc))?;
         Ok(self.reached(number))
     }
 

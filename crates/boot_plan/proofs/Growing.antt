@@ -1,0 +1,70 @@
+-- A plan that grows at its end.
+use Rattle.std.proofs.Common.{◌≡◌, ◌≢◌, ◌⊎◌, inl, inr, ⊎_elim, ℕ, ◌+◌, ◌<◌, ◌≤◌, arith, Bool, true, false, List, [], ◌∷◌, ◌++◌, length, take, get_or, Option, Some, None, if◌then◌else◌, refl, sym, ◌∙◌, ap, subst, length-append}
+use Rattle.std.proofs.lemmas.Bool.Decides.{leb_tells}
+use Rattle.std.proofs.lemmas.List.{take-append-le, get_or_append_left}
+use Rattle.std.proofs.Math.Seq.{take-append_seam}
+use Rattle.ost_types.specs.Path.{Path, same_path}
+use Rattle.ost_types.proofs.Paths.{same_or_apart, same_path-self, same_path-apart}
+use Rattle.folder_build.specs.declared.node.Content.{Content}
+use Rattle.folder_build.specs.declared.node.NewNode.{NewNode}
+use Rattle.folder_build.specs.Node.{content_at}
+use Rattle.folder_build.specs.Build.{IsNumber, IsPlan, MayFollow}
+
+-- each node may follow those before it
+pub Grown : Path → List NewNode → Type 0
+Grown top nodes = (n : ℕ) (e : NewNode) → IsNumber nodes n e → MayFollow top (take n nodes) e
+
+pub grown_none : (top : Path) → Grown top []
+grown_none top n e number = absurd (omega (arith, number.0))
+
+pub grown_push : (top : Path) (m : List NewNode) (e : NewNode) → Grown top m → MayFollow top m e → Grown top (m ++ e ∷ [])
+grown_push top m e grown follows n a number = by (less_or_last n)
+  where
+    whole : length (m ++ e ∷ []) ≡ length m + 1
+    whole = length-append m (e ∷ [])
+
+    less_or_last : (n : ℕ) → (n < length m) ⊎ (length m ≤ n)
+    less_or_last n = ⊎_elim (λ a. inr a.1) (λ a. inl a.1) (leb_tells (length m) n)
+
+    last : n ≡ length m → MayFollow top (take n (m ++ e ∷ [])) a
+    last is =
+        let here : get_or (m ++ e ∷ []) n a ≡ e = ap (λ k. get_or (m ++ e ∷ []) k a) is ∙ get_or-append_seam m e a in
+        let same : e ≡ a = sym here ∙ number.1 in
+        subst (MayFollow top (take n (m ++ e ∷ []))) same (subst (λ l. MayFollow top l e) (sym (ap (λ k. take k (m ++ e ∷ [])) is ∙ take-append_seam m (e ∷ []))) follows)
+      where
+        get_or-append_seam : (m : List NewNode) (e a : NewNode) → get_or (m ++ e ∷ []) (length m) a ≡ e
+        get_or-append_seam [] e a = refl
+        get_or-append_seam (x ∷ m) e a = get_or-append_seam m e a
+
+    by : (n < length m) ⊎ (length m ≤ n) → MayFollow top (take n (m ++ e ∷ [])) a
+    by (inl less) =
+        let at : get_or (m ++ e ∷ []) n a ≡ get_or m n a = get_or_append_left m (e ∷ []) n a less in
+        subst (λ l. MayFollow top l a) (sym (take-append-le n m (e ∷ []) (omega (arith, less)))) (grown n a (less, sym at ∙ number.1))
+    by (inr more) = last (omega (arith, more, number.0, whole))
+
+pub plan_of : (top : Path) (m : List NewNode) → top ≢ [] → m ≢ [] → Grown top m → IsPlan top m
+plan_of top m root some grown = record { below_root = root; some = some; each = grown }
+
+-- ---- what is found after a push
+
+-- what is found there was there before, or is the new node's
+pub push_cases : (m : List NewNode) (e : NewNode) (p : Path) (c : Content) → content_at (m ++ e ∷ []) p ≡ Some c → (content_at m p ≡ Some c) ⊎ ((e.at ≡ p) × (e.what ≡ c) × (content_at m p ≡ None))
+push_cases [] e p c has = by (same_or_apart e.at p)
+  where
+    by : (e.at ≡ p) ⊎ (e.at ≢ p) → (None ≡ Some c) ⊎ ((e.at ≡ p) × (e.what ≡ c) × (None ≡ None))
+    by (inl same) =
+        let h : Some e.what ≡ Some c = sym (ap (λ b. if b then Some e.what else None) (ap (λ q. same_path q p) same ∙ same_path-self p)) ∙ has in
+        inr (same, cc, refl)
+    by (inr apart) =
+        let h : None ≡ Some c = sym (ap (λ b. if b then Some e.what else None) (same_path-apart e.at p apart)) ∙ has in cc
+push_cases (x ∷ m) e p c has = pick (same_path x.at p) has (push_cases m e p c)
+  where
+    pick : (b : Bool) → (if b then Some x.what else content_at (m ++ e ∷ []) p) ≡ Some c
+        → (content_at (m ++ e ∷ []) p ≡ Some c → (content_at m p ≡ Some c) ⊎ ((e.at ≡ p) × (e.what ≡ c) × (content_at m p ≡ None)))
+        → ((if b then Some x.what else content_at m p) ≡ Some c) ⊎ ((e.at ≡ p) × (e.what ≡ c) × ((if b then Some x.what else content_at m p) ≡ None))
+    pick true is rest = inl is
+    pick false is rest = rest is
+
+pub none_or_some : (c : Option Content) → (c ≡ None) ⊎ ((x : Content) × (c ≡ Some x))
+none_or_some None = inl refl
+none_or_some (Some x) = inr (x, refl)

@@ -1,0 +1,4 @@
+pub mod Plain
+pub mod Growing
+pub mod EntryNodes
+pub mod LinkNodes

@@ -1,0 +1,32 @@
+use Rattle.std.proofs.Common.{sym, ◌∙◌, ap, subst}
+use Rattle.std.proofs.lemmas.Result.{err_from_is_err_and}
+use Rattle.ref_room.proofs.Answering.{ok_writes, ok_after, err_writes, err_fails}
+use Rattle.folder_build.specs.Link.{Linking}
+use Rattle.folder_build.specs.LinkSteps.{Needs, Refuses}
+use Rattle.folder_build.proofs.Linking.{failed, make_at, no_memory}
+use Rattle.folder_build.proofs.link.LinkTask.make.Goals as goal
+
+pub returns-in_err-symlink-clause-writes : goal.returns-in_err-symlink-clause-writes
+returns-in_err-symlink-clause-writes g c = λ v told.
+    let needs = subst (λ t. Needs t v) (sym c.self.view_is) (c.requires.needs v told) in
+    let is = ap (λ (t : Linking). t.phase) c.self.view_is ∙ c.requires.phase in
+    err_writes _ _ v _ _ (make_at _ _ c.self.view_is v (g.met.F.Fs.tree c.args.fs.now v told) needs is _ c.link_meta.ensures.value) _ _ (c.in_err-symlink.ensures.effect v told)
+
+pub returns-in_err-symlink-clause-fails : goal.returns-in_err-symlink-clause-fails
+returns-in_err-symlink-clause-fails g c = λ v told.
+    let needs = subst (λ t. Needs t v) (sym c.self.view_is) (c.requires.needs v told) in
+    let is = ap (λ (t : Linking). t.phase) c.self.view_is ∙ c.requires.phase in
+    let error = err_from_is_err_and c.from_residual.result c.from_residual.ensures.1 in
+    rw (error.1, error.2) (err_fails _ _ v _ _ (make_at _ _ c.self.view_is v (g.met.F.Fs.tree c.args.fs.now v told) needs is _ c.link_meta.ensures.value) (Refuses c.args.self.now v) (failed c.args.self.now.phase c.args.self.now v) (no_memory c.args.self.now.phase c.args.self.now v) _ _ (c.in_err-symlink.ensures.effect v told))
+
+pub returns-clause-writes : goal.returns-clause-writes
+returns-clause-writes g c = λ v told.
+    let needs = subst (λ t. Needs t v) (sym c.self.view_is) (c.requires.needs v told) in
+    let is = ap (λ (t : Linking). t.phase) c.self.view_is ∙ c.requires.phase in
+    ok_writes _ _ v _ _ (make_at _ _ c.self.view_is v (g.met.F.Fs.tree c.args.fs.now v told) needs is _ c.link_meta.ensures.value) _ (c.in_ok-symlink.ensures.effect v told)
+
+pub returns-clause-after : goal.returns-clause-after
+returns-clause-after g c = λ v told.
+    let needs = subst (λ t. Needs t v) (sym c.self.view_is) (c.requires.needs v told) in
+    let is = ap (λ (t : Linking). t.phase) c.self.view_is ∙ c.requires.phase in
+    ok_after _ _ v _ _ (make_at _ _ c.self.view_is v (g.met.F.Fs.tree c.args.fs.now v told) needs is _ c.link_meta.ensures.value) _ (c.in_ok-symlink.ensures.effect v told)
