@@ -1,3 +1,5 @@
 mod Numbered
 mod Places
 mod Versions
+mod Words
+pub mod EntryReads

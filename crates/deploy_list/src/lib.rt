@@ -8,6 +8,7 @@ mod fault;
 mod kept;
 mod kernel;
 mod kver;
+mod laws;
 mod place;
 mod serial;
 
@@ -16,6 +17,7 @@ pub use dep::Dep;
 pub use fault::KernelFault;
 pub use kept::kept_behind;
 pub use kernel::kver_of;
+pub use laws::entries_are_read;
 pub use serial::serial_for;
 
 #[cfg(test)]
