@@ -1,5 +1,5 @@
 -- Texts in one line, and words without blanks.
-use Rattle.std.proofs.Common.{◌≡◌, ◌≢◌, ◌<◌, ◌≤◌, ◌+◌, ◌^◌, ◌%◌, ◌&&◌, ◌⊎◌, inl, inr, not, nat_le, ℕ, zero, suc, Bool, true, false, IsTrue, List, [], ◌∷◌, ◌++◌, All, length, take, filter, codes, refl, sym, ◌∙◌, ap, subst, append_assoc, arith}
+use Rattle.std.proofs.Common.{◌≡◌, ◌≢◌, ◌<◌, ◌≤◌, ◌+◌, ◌^◌, ◌%◌, ◌&&◌, ◌⊎◌, inl, inr, not, nat_le, ℕ, zero, suc, Bool, true, false, IsTrue, cond, List, [], ◌∷◌, ◌++◌, All, length, take, filter, codes, refl, sym, ◌∙◌, ap, subst, append_assoc, arith}
 use Rattle.std.specs.Fmt.{decimal}
 use Rattle.std.specs.List.{flat_map, list_all, slice_split}
 use Rattle.std.proofs.lemmas.Bool.{and_parts}
@@ -143,14 +143,13 @@ not_ostree word other = by (is_ostree word) refl
     by true e = absurd (other ((bytes_eq-Decides (take 7 word) ostree_key).0 e))
     by false e = e
 
+skipped : {X : Type 0} (p : X → Bool) (x : X) (xs : List X) → p x ≡ false → filter p (x ∷ xs) ≡ filter p xs
+skipped p x xs e = ap (λ t. cond t (x ∷ filter p xs) (filter p xs)) e
+
 ostree_last : (kargs : List (List ℕ)) (value : List ℕ) → All IsKarg kargs → filter is_ostree (kargs ++ (ostree_key ++ value) ∷ []) ≡ (ostree_key ++ value) ∷ []
 ostree_last [] value are = refl
 ostree_last (k ∷ kargs) value are =
-    ap (λ t. filter_at t) (not_ostree k (All-head IsKarg k kargs are).no_deployment) ∙ ostree_last kargs value (All-tail IsKarg k kargs are)
-  where
-    filter_at : Bool → List (List ℕ)
-    filter_at true = k ∷ filter is_ostree (kargs ++ (ostree_key ++ value) ∷ [])
-    filter_at false = filter is_ostree (kargs ++ (ostree_key ++ value) ∷ [])
+    skipped is_ostree k (kargs ++ (ostree_key ++ value) ∷ []) (not_ostree k (All-head IsKarg k kargs are).no_deployment) ∙ ostree_last kargs value (All-tail IsKarg k kargs are)
 
 pub one_ostree : (kargs : List (List ℕ)) (value : List ℕ) → All IsKarg kargs → All (λ b. is_blank b ≡ false) (ostree_key ++ value) → HasOstree (spaced kargs ++ (ostree_key ++ value)) value
 one_ostree kargs value are plain =
