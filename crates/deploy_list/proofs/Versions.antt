@@ -1,12 +1,17 @@
 -- The names of a path, and the kernels of a tree, one node after the other.
-use Rattle.std.proofs.Common.{◌≡◌, ◌≢◌, ◌+◌, ◌<◌, ◌≤◌, ℕ, Bool, true, false, List, [], ◌∷◌, ◌++◌, length, take, drop, get_or, Option, Some, None, refl, sym, ◌∙◌, ap, subst, arith, append-nil, length-append}
-use Rattle.std.specs.List.{cons_option, filter_map}
+use Rattle.std.proofs.Common.{◌≡◌, ◌≢◌, ◌+◌, ◌<◌, ◌≤◌, ℕ, Bool, true, false, List, [], ◌∷◌, ◌++◌, length, take, drop, get_or, codes, nat_le, ◌&&◌, if◌then◌else◌, IsTrue, Ok, Option, Some, None, refl, sym, ◌∙◌, ap, subst, arith, rules, append-nil, length-append}
+use Rattle.std.specs.List.{cons_option, filter_map, list_all}
+use Rattle.std.proofs.lemmas.Bool.{and_parts}
+use Rattle.std.proofs.lemmas.Bool.Decides.{nat_tests}
 use Rattle.std.proofs.lemmas.List.{take_more, take_all, take-append-drop}
 use Rattle.std.proofs.lemmas.List.Elements.{filter_map-append}
-use Rattle.ost_types.specs.Path.{Name, Path}
+use Rattle.ost_types.specs.Path.{Name, Path, same_name}
 use Rattle.ost_types.specs.PathMap.{Nodes}
 use Rattle.ost_types.specs.declared.node.NodeName.{NodeName}
-use Rattle.deploy_list.specs.Kernels.{as_list, is_etc, is_usr_etc, kernel_at, kernel_named, kernels_of}
+use Rattle.ost_types.specs.declared.node.NodeName.TheVariants.{Folder, Leaf}
+use Rattle.boot_model.specs.Items.{IsKver, is_kver_byte}
+use Rattle.deploy_list.proofs.Words.{by_test}
+use Rattle.deploy_list.specs.Kernels.{Finds, as_list, is_kver, is_modules, is_etc, is_usr_etc, kernel_at, kernel_named, kernels_of}
 
 -- ---- paths of one, two and five names
 
@@ -81,3 +86,50 @@ kernels_all tree n found past so = ap kernels_of (sym (take_all n tree past)) �
 
 pub kept_none : (found : List Name) (k : Option Name) → None ≡ k → found ≡ found ++ as_list k
 kept_none found k is = sym (ap (λ o. found ++ as_list o) (sym is) ∙ append-nil found)
+
+-- ---- what is found is a version
+
+abbrev IsFound : Bool → Bool → Name → Option Name
+IsFound a b v = if a && b then Some v else nothing
+
+one_found : (a b : Bool) (v k : Name) → b ≡ is_kver v → IsFound a b v ≡ Some k → is_kver k ≡ true
+one_found true true v k is e = let same : v ≡ k = cc in subst (λ x. is_kver x ≡ true) same (sym is)
+one_found true false v k is e = absurd (let n : nothing ≡ Some k = e in cc)
+one_found false b v k is e = absurd (let n : nothing ≡ Some k = e in cc)
+
+named_version : (p : Path) (k : Name) → kernel_named p ≡ Some k → is_kver k ≡ true
+named_version [] k e = absurd (let n : nothing ≡ Some k = e in cc)
+named_version (a ∷ []) k e = absurd (let n : nothing ≡ Some k = e in cc)
+named_version (a ∷ b ∷ []) k e = absurd (let n : nothing ≡ Some k = e in cc)
+named_version (a ∷ b ∷ c ∷ []) k e = absurd (let n : nothing ≡ Some k = e in cc)
+named_version (a ∷ b ∷ c ∷ d ∷ []) k e = absurd (let n : nothing ≡ Some k = e in cc)
+named_version (a ∷ b ∷ c ∷ d ∷ f ∷ []) k e = one_found (is_modules a b c && same_name f (codes "vmlinuz")) (is_kver d) d k refl e
+named_version (a ∷ b ∷ c ∷ d ∷ f ∷ g ∷ p) k e = absurd (let n : nothing ≡ Some k = e in cc)
+
+at_version : (p : Path) (n : NodeName) (k : Name) → kernel_at p n ≡ Some k → is_kver k ≡ true
+at_version p (Folder meta) k e = absurd (let n : nothing ≡ Some k = e in cc)
+at_version p (Leaf csum) k e = named_version p k e
+
+first_version : (tree : Nodes) (k : Name) (ks : List Name) → kernels_of tree ≡ k ∷ ks → is_kver k ≡ true
+first_version [] k ks e = absurd (let n : [] ≡ k ∷ ks = e in cc)
+first_version (x ∷ tree) k ks e = by (kernel_at x.0 x.1) refl e (first_version tree k ks)
+  where
+    by : (o : Option Name) → kernel_at x.0 x.1 ≡ o → cons_option (kernel_at x.0 x.1) (kernels_of tree) ≡ k ∷ ks → (kernels_of tree ≡ k ∷ ks → is_kver k ≡ true) → is_kver k ≡ true
+    by None is whole rest = rest (sym (ap (λ o. cons_option o (kernels_of tree)) is) ∙ whole)
+    by (Some v) is whole rest =
+        let e : v ∷ kernels_of tree ≡ k ∷ ks = sym (ap (λ o. cons_option o (kernels_of tree)) is) ∙ whole in
+        let same : v ≡ k = cc in
+        at_version x.0 x.1 k (is ∙ ap Some same)
+
+pub kver_found : (tree : Nodes) (kver : Name) → Finds tree (Ok kver) → IsKver kver
+kver_found tree kver found =
+    let is = first_version tree kver [] found.2 in
+    let parts = and_parts (nat_le 1 (length kver) && nat_le (length kver) 241) (list_all is_kver_byte kver) is in
+    let sizes = and_parts (nat_le 1 (length kver)) (nat_le (length kver) 241) parts.0 in
+    let low : 1 ≤ length kver = grind (arith, nat_tests, sizes) in
+    let high : length kver ≤ 241 = grind (arith, nat_tests, sizes) in
+    record {
+      not_empty = λ e. omega (arith, low, ap length e);
+      bytes = by_test is_kver_byte (λ b. IsTrue (is_kver_byte b)) (λ b t. subst IsTrue (sym t) (search rules)) kver parts.1;
+      short = high;
+    }

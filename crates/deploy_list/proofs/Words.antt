@@ -62,7 +62,7 @@ is_printed b = nat_le 32 b && nat_le b 126
 abbrev is_shown : ℕ → Bool
 is_shown b = nat_le 33 b && nat_le b 126
 
-by_test : (p : ℕ → Bool) (P : ℕ → Type 0) → ((b : ℕ) → p b ≡ true → P b) → (xs : List ℕ) → list_all p xs ≡ true → All P xs
+pub by_test : (p : ℕ → Bool) (P : ℕ → Type 0) → ((b : ℕ) → p b ≡ true → P b) → (xs : List ℕ) → list_all p xs ≡ true → All P xs
 by_test p P gives [] e = none P
 by_test p P gives (x ∷ xs) e = let h = and_parts (p x) (list_all p xs) e in All-cons P x xs (gives x h.0) (by_test p P gives xs h.1)
 

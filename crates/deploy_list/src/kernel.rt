@@ -1,6 +1,8 @@
 //! The kernel of a tree.
 ghost use Rattle.std.specs.Prelude.{◌≡◌, ◌≤◌, ◌∷◌, [], length, IfOk, IfErr, MatchResult, Ok, Err};
 ghost use Rattle.std.specs.Option.{option_copied};
+ghost use Rattle.ost_types.specs.Path.{Name};
+ghost use Rattle.boot_model.specs.Items.{IsKver};
 ghost use Rattle.deploy_list.specs.Kernels.{Finds, IsNotOne, as_list, has_defaults, has_etc, kernels_of, with_node};
 
 use crate::fault::KernelFault;
@@ -12,7 +14,9 @@ use ost_types::{FsPath, Name, NoMemory, NodeName, PathMap, TryCopy};
 ///
 /// A tree names its leaves by their sums, so whether this one is a symbolic link is for the caller to see.
 pub fn kver_of(tree: &PathMap) -> Result<Result<Name, KernelFault>, NoMemory>
-    ensures { IfOk result (Finds tree.now) }
+    ensures kernel { IfOk result (Finds tree.now) }
+    ensures version { IfOk result (λ found. IfOk found IsKver) }
+    ensures memory { IfErr result (λ _. (kver : Name) × Finds tree.now (Ok kver)) }
 {
     match find_kernel(tree.as_slice()) {
         Ok(kver) => Ok(Ok(kver.copy()?)),

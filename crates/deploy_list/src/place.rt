@@ -11,7 +11,13 @@ use ost_types::{FsPath, Name, NodeName};
 pub fn is_etc(path: &FsPath) -> bool
     ensures { result ≡ is_etc path.now }
 {
-    let [etc] = path.names() else {
+    is_etc_alone(path.names())
+}
+
+fn is_etc_alone(names: &[Name]) -> bool
+    ensures { result ≡ is_etc names.now }
+{
+    let [etc] = names else {
         return false;
     };
     is(etc, b"etc")

@@ -1,31 +1,42 @@
 use crate::{Dep, KernelFault, bootcsum, kept_behind, kver_of, serial_for};
 use boot_model::DepId;
-use ost_types::{Csum, FsPath, Meta, NoMemory, NodeName, PathMap, Texts, Xattrs};
+use ost_types::{Csum, FsPath, Meta, NoMemory, NodeName, PathMap, Texts, Xattrs, is_folder_mode};
 use repo_layout::OsName;
 use std::alloc::Global;
 use std::test::Fail;
 
-fn folder(alloc: Global) -> NodeName {
-    NodeName::Folder(Meta {
-        uid: 0,
-        gid: 0,
-        mode: 0o040755,
-        xattrs: Xattrs::new(alloc),
-    })
+fn add_folder(alloc: Global, tree: &mut PathMap, path: FsPath) -> Result<(), NoMemory> {
+    let mode = 0o040755;
+    if is_folder_mode(mode) && tree.fits(&path) {
+        let folder = NodeName::Folder(Meta {
+            uid: 0,
+            gid: 0,
+            mode,
+            xattrs: Xattrs::new(alloc),
+        });
+        tree.push(path, folder)?;
+    }
+    Ok(())
+}
+
+fn add_leaf(tree: &mut PathMap, path: FsPath) -> Result<(), NoMemory> {
+    if tree.fits(&path) {
+        tree.push(path, NodeName::Leaf(Csum::from_bytes([0; 32])))?;
+    }
+    Ok(())
 }
 
 /// A tree of these paths in their order. One that ends with `/` is a folder.
 fn tree_of(alloc: Global, paths: &str) -> Result<PathMap, NoMemory> {
     let mut tree = PathMap::new(alloc);
     for text in paths.split(' ') {
-        let (text, node) = match text.strip_suffix('/') {
-            Some(text) => (text, folder(alloc)),
-            None => (text, NodeName::Leaf(Csum::from_bytes([0; 32]))),
-        };
-        if let Ok(path) = FsPath::parse(alloc, text.as_bytes())
-            && tree.fits(&path)
-        {
-            tree.push(path, node)?;
+        let end = text.strip_suffix('/');
+        if let Ok(path) = FsPath::parse(alloc, end.unwrap_or(text).as_bytes()) {
+            if end.is_some() {
+                add_folder(alloc, &mut tree, path)?;
+            } else {
+                add_leaf(&mut tree, path)?;
+            }
         }
     }
     Ok(tree)
