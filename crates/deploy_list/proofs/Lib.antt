@@ -3,3 +3,4 @@ mod Places
 mod Versions
 mod Words
 pub mod EntryReads
+pub mod HasKernels

@@ -1,9 +1,9 @@
 -- The names of a path, and the kernels of a tree, one node after the other.
-use Rattle.std.proofs.Common.{◌≡◌, ◌≢◌, ◌+◌, ◌<◌, ◌≤◌, ℕ, Bool, true, false, List, [], ◌∷◌, ◌++◌, length, take, drop, get_or, codes, nat_le, ◌&&◌, if◌then◌else◌, IsTrue, Ok, Option, Some, None, refl, sym, ◌∙◌, ap, subst, arith, rules, append-nil, length-append}
+use Rattle.std.proofs.Common.{◌≡◌, ◌+◌, ◌<◌, ◌≤◌, ℕ, Bool, true, false, List, [], ◌∷◌, ◌++◌, length, take, drop, get_or, codes, nat_le, ◌&&◌, if◌then◌else◌, IsTrue, Ok, Option, Some, None, refl, sym, ◌∙◌, ap, subst, arith, rules, append-nil, length-append}
 use Rattle.std.specs.List.{cons_option, filter_map, list_all}
 use Rattle.std.proofs.lemmas.Bool.{and_parts}
 use Rattle.std.proofs.lemmas.Bool.Decides.{nat_tests}
-use Rattle.std.proofs.lemmas.List.{take_more, take_all, take-append-drop}
+use Rattle.std.proofs.lemmas.List.{take_more, take-append-drop}
 use Rattle.std.proofs.lemmas.List.Elements.{filter_map-append}
 use Rattle.ost_types.specs.Path.{Name, Path, same_name}
 use Rattle.ost_types.specs.PathMap.{Nodes}
@@ -11,9 +11,9 @@ use Rattle.ost_types.specs.declared.node.NodeName.{NodeName}
 use Rattle.ost_types.specs.declared.node.NodeName.TheVariants.{Folder, Leaf}
 use Rattle.boot_model.specs.Items.{IsKver, is_kver_byte}
 use Rattle.deploy_list.proofs.Words.{by_test}
-use Rattle.deploy_list.specs.Kernels.{Finds, as_list, is_kver, is_modules, is_etc, is_usr_etc, kernel_at, kernel_named, kernels_of}
+use Rattle.deploy_list.specs.Kernels.{Finds, as_list, is_kver, is_modules, kernel_at, kernel_named, kernels_of}
 
--- ---- paths of one, two and five names
+-- ---- paths of one and two names
 
 pub one_name : (p : Path) (a : Name) → 1 ≤ length p → length p < 2 → a ≡ get_or p 0 a → p ≡ a ∷ []
 one_name [] a low high x = absurd (omega (arith, low))
@@ -26,38 +26,8 @@ two_names (v ∷ []) a b low high x y = absurd (omega (arith, low))
 two_names (v ∷ w ∷ []) a b low high x y = ap (λ n. n ∷ w ∷ []) (sym x) ∙ ap (λ n. a ∷ n ∷ []) (sym y)
 two_names (u ∷ v ∷ w ∷ p) a b low high x y = absurd (omega (arith, high))
 
-pub five_names : (p : Path) (a b c d e : Name) → 5 ≤ length p → length p < 6 → a ≡ get_or p 0 a → b ≡ get_or p 1 b → c ≡ get_or p 2 c → d ≡ get_or p 3 d → e ≡ get_or p 4 e → p ≡ a ∷ b ∷ c ∷ d ∷ e ∷ []
-five_names [] a b c d e low high i j k l m = absurd (omega (arith, low))
-five_names (q ∷ []) a b c d e low high i j k l m = absurd (omega (arith, low))
-five_names (q ∷ r ∷ []) a b c d e low high i j k l m = absurd (omega (arith, low))
-five_names (q ∷ r ∷ s ∷ []) a b c d e low high i j k l m = absurd (omega (arith, low))
-five_names (q ∷ r ∷ s ∷ t ∷ []) a b c d e low high i j k l m = absurd (omega (arith, low))
-five_names (q ∷ r ∷ s ∷ t ∷ u ∷ []) a b c d e low high i j k l m =
-    ap (λ n. n ∷ r ∷ s ∷ t ∷ u ∷ []) (sym i) ∙ ap (λ n. a ∷ n ∷ s ∷ t ∷ u ∷ []) (sym j) ∙ ap (λ n. a ∷ b ∷ n ∷ t ∷ u ∷ []) (sym k) ∙ ap (λ n. a ∷ b ∷ c ∷ n ∷ u ∷ []) (sym l) ∙ ap (λ n. a ∷ b ∷ c ∷ d ∷ n ∷ []) (sym m)
-five_names (q ∷ r ∷ s ∷ t ∷ u ∷ v ∷ p) a b c d e low high i j k l m = absurd (omega (arith, high))
-
-pub not_one : (p : Path) → length p ≢ 1 → false ≡ is_etc p
-not_one [] n = refl
-not_one (a ∷ []) n = absurd (n refl)
-not_one (a ∷ b ∷ p) n = refl
-
-pub not_two : (p : Path) → length p ≢ 2 → false ≡ is_usr_etc p
-not_two [] n = refl
-not_two (a ∷ []) n = refl
-not_two (a ∷ b ∷ []) n = absurd (n refl)
-not_two (a ∷ b ∷ c ∷ p) n = refl
-
 abbrev nothing : Option Name
 nothing = None
-
-pub not_five : (p : Path) → length p ≢ 5 → nothing ≡ kernel_named p
-not_five [] n = refl
-not_five (a ∷ []) n = refl
-not_five (a ∷ b ∷ []) n = refl
-not_five (a ∷ b ∷ c ∷ []) n = refl
-not_five (a ∷ b ∷ c ∷ d ∷ []) n = refl
-not_five (a ∷ b ∷ c ∷ d ∷ e ∷ []) n = absurd (n refl)
-not_five (a ∷ b ∷ c ∷ d ∷ e ∷ f ∷ p) n = refl
 
 -- ---- kernels
 
@@ -78,9 +48,6 @@ pub several : (tree : Nodes) (n : ℕ) (found : List Name) → first_kernels tre
 several tree n found is two =
     let whole : kernels_of tree ≡ first_kernels tree n ++ kernels_of (drop n tree) = ap kernels_of (sym (take-append-drop n tree)) ∙ filter_map-append (λ x. kernel_at x.0 x.1) (take n tree) (drop n tree) in
     omega (arith, ap length whole, length-append (first_kernels tree n) (kernels_of (drop n tree)), ap length is, two)
-
-pub kernels_all : (tree : Nodes) (n : ℕ) (found : List Name) → length tree ≤ n → first_kernels tree n ≡ found → kernels_of tree ≡ found
-kernels_all tree n found past so = ap kernels_of (sym (take_all n tree past)) ∙ so
 
 -- ---- one node more
 

@@ -1,5 +1,5 @@
 -- The kernel of a tree, and why a tree can't be deployed.
-use Rattle.std.specs.Prelude.{◌≡◌, ◌≤◌, ◌&&◌, nat_le, ℕ, Bool, true, false, if◌then◌else◌, List, [], ◌∷◌, ◌++◌, length, codes, Option, Some, None, Result, Ok, Err}
+use Rattle.std.specs.Prelude.{◌≡◌, ◌≤◌, ◌&&◌, nat_le, ℕ, Bool, true, false, if◌then◌else◌, List, [], ◌∷◌, ◌++◌, length, codes, Contains, Option, Some, None, Result, Ok, Err}
 use Rattle.std.specs.List.{filter_map, list_all, list_any}
 use Rattle.ost_types.specs.Path.{Name, Path, same_name}
 use Rattle.ost_types.specs.PathMap.{Nodes}
@@ -45,6 +45,15 @@ kernel_at path (Leaf csum) = kernel_named path
 -- the versions of a tree's kernels, in their order
 abbrev pub kernels_of : Nodes → List Name
 kernels_of tree = filter_map (λ e. kernel_at e.0 e.1) tree
+
+-- where the kernel of a version is
+abbrev pub kernel_path : Name → Path
+kernel_path kver = codes "usr" ∷ codes "lib" ∷ codes "modules" ∷ kver ∷ codes "vmlinuz" ∷ []
+
+-- the tree has a kernel of this version
+pub record HasKernel (tree : Nodes) (kver : Name) : Type 0 where
+  pub version : is_kver kver ≡ true
+  pub leaf : (csum : List ℕ) × Contains tree (kernel_path kver, Leaf csum)
 
 -- one, or none
 abbrev pub as_list : Option Name → List Name

@@ -17,7 +17,7 @@ pub use dep::Dep;
 pub use fault::KernelFault;
 pub use kept::kept_behind;
 pub use kernel::kver_of;
-pub use laws::entries_are_read;
+pub use laws::{entries_are_read, kernels_are_found};
 pub use serial::serial_for;
 
 #[cfg(test)]

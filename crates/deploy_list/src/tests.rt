@@ -125,14 +125,18 @@ fn id_of(alloc: Global, word: &str) -> Result<Option<DepId>, NoMemory> {
     Ok(Some(DepId { os, commit, serial }))
 }
 
+fn serial_is(list: &[Dep], os: &OsName, commit: u8, wanted: u32) -> bool {
+    list.len() < 8 && serial_for(list, os, &Csum::from_bytes([commit; 32])) == wanted
+}
+
 #[test]
 fn goes_on_in_a_list(rt: HostRuntime) -> Result<(), Fail> {
     let alloc = rt.alloc();
     let list = list_of(alloc, "b.0 a.1 a.0 a.3 b.2")?;
     let mut used = Vec::new(alloc);
     if let (Some(a), Some(last)) = (OsName::parse(alloc, b"a")?, id_of(alloc, "a.3")?) {
-        assert_eq!(&rt; serial_for(&list, &a, &Csum::from_bytes([0; 32])), 2);
-        assert_eq!(&rt; serial_for(&list, &a, &Csum::from_bytes([1; 32])), 0);
+        assert!(&rt; serial_is(&list, &a, 0, 2));
+        assert!(&rt; serial_is(&list, &a, 1, 0));
         used.push(last)?;
         let kept = kept_behind(alloc, &list, &a, &used)?;
         assert!(&rt; kept.as_slice() == [0, 1, 3, 4].as_slice());
