@@ -1,5 +1,5 @@
 -- The entry of a member is a boot entry.
-use Rattle.std.proofs.Common.{◌≡◌, ◌≢◌, ◌<◌, ◌≤◌, ◌-◌, ◌^◌, ℕ, Bool, true, false, List, [], ◌∷◌, ◌++◌, All, length, take, get_or, codes, Option, Some, None, IfSome, Ok, refl, sym, ◌∙◌, ap, subst, append_assoc, arith, min}
+use Rattle.std.proofs.Common.{◌≡◌, ◌≢◌, ◌<◌, ◌≤◌, ◌-◌, ◌^◌, ℕ, Bool, true, false, List, [], ◌∷◌, ◌++◌, All, length, take, get_or, codes, Option, Some, None, IfSome, Result, Ok, Err, refl, sym, ◌∙◌, ap, subst, append_assoc, arith, min}
 use Rattle.std.specs.Fmt.{decimal}
 use Rattle.std.specs.List.{count_by, slice_index_or}
 use Rattle.std.proofs.lemmas.List.{length-take}
@@ -11,13 +11,16 @@ use Rattle.boot_model.specs.Entries.{entry_lines, entry_text, initrd_lines, kern
 use Rattle.boot_model.specs.Items.{AreItems, IsAt, IsItem, is_like, link_number}
 use Rattle.boot_model.specs.Listing.{names_link}
 use Rattle.bls_entry.specs.declared.entry.BlsEntry.{BlsEntry}
+use Rattle.bls_entry.specs.declared.fault.BlsFault.{BlsFault}
+use Rattle.bls_entry.specs.declared.fault.BlsFault.TheVariants.{NoMemory}
 use Rattle.bls_entry.specs.Line.{BeginsPlain, file_text, is_blank}
 use Rattle.bls_entry.specs.Entry.{CanBeWritten, MayStand}
 use Rattle.bls_entry.specs.Entry as bls
-use Rattle.bls_entry.specs.Options.{ostree_key}
+use Rattle.bls_entry.specs.Options.{ostree_key, words_of}
 use Rattle.bls_entry.specs.Reading.{Reads}
+use Rattle.bls_entry.proofs.OneReading.{one_reading}
 use Rattle.bls_entry.proofs.Written.{read_back}
-use Rattle.deploy_list.specs.EntryReads.{EntriesAreRead, IsReadAs}
+use Rattle.deploy_list.specs.EntryReads.{EntriesAreRead, IsReadAs, ReadOnce}
 use Rattle.deploy_list.proofs.Words.{IsPiece, IsShown, begins_front, begins_spaced, decimal_shown, hex_shown, kver_shown, one_ostree, parts_shown, piece_append, shown_append, shown_piece, shown_plain, spaced_piece, words_spaced, written, written_word}
 
 abbrev initrd_of : Bool → BootItem → Option (List ℕ)
@@ -142,3 +145,18 @@ unfolding entry_text
 entries_read loader items i item small are at texts =
     read_as loader i (length items - i) item (link_number items i item) (member_is items i item are at) texts small
     (omega (arith, at.0, are.few)) (omega (arith, are.few)) (link_small items i item are)
+
+abbrev ok : BlsEntry → Result BlsEntry BlsFault
+ok e = Ok e
+
+abbrev memory : Result BlsEntry BlsFault
+memory = Err NoMemory
+
+told : (e : BlsEntry) → ok e ≢ memory
+told e same = let n : ok e ≡ memory = same in cc
+
+pub read_once : ReadOnce
+read_once bytes v w vs ws a b =
+    let both : ok a.entry ≡ ok b.entry = one_reading bytes (ok a.entry) (ok b.entry) a.reads b.reads (told a.entry) (told b.entry) in
+    let same : a.entry ≡ b.entry = cc in
+    (sym a.version_is ∙ ap (λ e. e.version) same ∙ b.version_is, sym a.words_are ∙ ap (λ e. words_of e.options) same ∙ b.words_are)

@@ -20,3 +20,7 @@ pub record IsReadAs (bytes : List ℕ) (version : ℕ) (words : List (List ℕ))
 abbrev pub EntriesAreRead : Type 0
 EntriesAreRead = (loader : ℕ) (items : List BootItem) (i : ℕ) (item : BootItem) → loader < 2 → AreItems items → IsAt items i item → All IsText item.kargs
     → IsReadAs (entry_text loader items i item) (length items - i) (item.kargs ++ names_link loader item.id.os item.kernel.bootcsum (link_number items i item) ∷ [])
+
+-- Bytes are read in one way.
+abbrev pub ReadOnce : Type 0
+ReadOnce = (bytes : List ℕ) (v w : ℕ) (vs ws : List (List ℕ)) → IsReadAs bytes v vs → IsReadAs bytes w ws → (v ≡ w) × (vs ≡ ws)

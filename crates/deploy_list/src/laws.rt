@@ -2,13 +2,14 @@
 ghost use Rattle.std.specs.Prelude.{◌↔◌, Contains};
 ghost use Rattle.ost_types.specs.Path.{Name};
 ghost use Rattle.ost_types.specs.PathMap.{Nodes};
-ghost use Rattle.deploy_list.specs.EntryReads.{EntriesAreRead};
+ghost use Rattle.deploy_list.specs.EntryReads.{EntriesAreRead, ReadOnce};
 ghost use Rattle.deploy_list.specs.Kernels.{HasKernel, kernels_of};
 
 /// The boot entry of each member of a list that may boot is read as one of its version, with the words of its kernel and the one that
-/// names its link.
+/// names its link, and in no other way.
 pub fn entries_are_read()
-    ensures { EntriesAreRead }
+    ensures read { EntriesAreRead }
+    ensures once { ReadOnce }
 {}
 
 /// The versions that are found of a tree are those of which it has a kernel.
