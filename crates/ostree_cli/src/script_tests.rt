@@ -1,7 +1,3 @@
-use crate::asked::asked_lanes;
-use crate::lanes::run_lanes;
-use crate::text::output_of;
-use crate::top::{Ended, ostree};
 use fs_host::HostFs;
 use fs_memory::{MemFs, MemSink, MemSource};
 use fs_trait::{Fs, Source};
@@ -10,6 +6,7 @@ use std::alloc::Global;
 use std::fs;
 use std::process::Abort;
 use std::test::Fail;
+use top_call::{Ended, asked_lanes, ostree, output_of, run_lanes};
 
 // A tree of two folders, and one commit of it.
 const FIRST: &[u8] = b"ostree-script 1

@@ -1,9 +1,5 @@
 ghost use Rattle.ost_types.specs.Mode.{IsFolderMode, IsFileMode};
 
-use crate::asked::asked_lanes;
-use crate::lanes::run_lanes;
-use crate::text::output_of;
-use crate::top::{Ended, ostree};
 use fs_host::HostFs;
 use fs_memory::{Choice, FailAt, MemFs, MemSink, MemSource};
 use fs_trait::Fs;
@@ -12,6 +8,7 @@ use std::alloc::Global;
 use std::fs;
 use std::process::Abort;
 use std::test::Fail;
+use top_call::{Ended, asked_lanes, ostree, output_of, run_lanes};
 
 // A commit of the disks here, and none.
 const COMMIT: &str = "b30605ed9370a39846c77ee0fc427b9e07ef40432f45037c89db106f36e49623";
