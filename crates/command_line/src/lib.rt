@@ -3,9 +3,7 @@
 
 mod fault;
 mod line;
-mod read;
 mod split;
 
 pub use fault::LineFault;
 pub use line::Line;
-pub use read::read_words;
