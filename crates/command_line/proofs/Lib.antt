@@ -1,0 +1,5 @@
+pub mod Looks
+pub mod Rows
+pub mod Turns
+pub mod Walks
+pub mod Completes
