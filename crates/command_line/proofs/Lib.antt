@@ -3,3 +3,4 @@ pub mod Rows
 pub mod Turns
 pub mod Walks
 pub mod Completes
+pub mod Cuts

@@ -21,15 +21,15 @@ abbrev pub final : Walk → List Word → List Row
 final w [] = rows_then w.held.rows w.held.pending
 final w (word ∷ words) = final (walked rules_built [] w word) words
 
-or_first : (a b : Kinds) → or_else a b ≡ [] → a ≡ []
+pub or_first : (a b : Kinds) → or_else a b ≡ [] → a ≡ []
 or_first [] b e = refl
 or_first (k ∷ a) b e = e
 
-or_second : (a b : Kinds) → or_else a b ≡ [] → b ≡ []
+pub or_second : (a b : Kinds) → or_else a b ≡ [] → b ≡ []
 or_second [] b e = e
 or_second (k ∷ a) b e = cc
 
-or_both : (a b : Kinds) → a ≡ [] → b ≡ [] → or_else a b ≡ []
+pub or_both : (a b : Kinds) → a ≡ [] → b ≡ [] → or_else a b ≡ []
 or_both a b first second = ap (λ k. or_else k b) first ∙ second
 
 -- the words are these fields behind `--`, or parts and maybe that

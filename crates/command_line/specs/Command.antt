@@ -1,11 +1,12 @@
 -- The command as `clap` is told it: two options with a value each, and fields.
-use Rattle.std.specs.Prelude.{◌≡◌, List, [], ◌∷◌, ◌++◌, codes, option_map, unwrap_or, Some, true}
+use Rattle.std.specs.Prelude.{◌≡◌, ◌≢◌, ℕ, List, [], ◌∷◌, ◌++◌, codes, option_map, unwrap_or, Option, Some, true}
 use Rattle.clap.specs.Matches.{found_of, matched_of, raw_values}
+use Rattle.schedule.specs.declared.turns.Turns.{Turns}
 use Rattle.clap.specs.Simple.{App, new_rule, new_shape, with_rule}
 use Rattle.clap.specs.Walk.{Rule}
 use Rattle.clap.specs.declared.builder.action.ArgAction.TheVariants.{Append, Set}
 use Rattle.clap.specs.declared.parser.matches.ArgMatches.{ArgMatches}
-use Rattle.command_line.specs.Words.{AreCut, IsPlain, Part, Word, field, fields_in, helpers, helpers_in, schedule, schedules_in}
+use Rattle.command_line.specs.Words.{AreCut, AreHelpers, AreSchedule, IsPlain, Part, Word, field, fields_in, helpers, helpers_in, schedule, schedules_in}
 
 abbrev pub option_rule : Word → Rule
 option_rule name = record (new_rule name) {
@@ -57,3 +58,14 @@ pub record IsSplit (words : List Word) (m : ArgMatches) : Type 0 where
 -- no cut of the words is meant
 abbrev pub IsNoSplit : List Word → Type 0
 IsNoSplit words = (parts : List Part) (behind : List Word) → AreCut words parts behind → ¬ (IsMeant [] [] parts)
+
+-- what the values that were found say
+pub record IsLine (m : ArgMatches) (count : ℕ) (turns : Option (List Turns)) (fields : List Word) : Type 0 where
+  pub helpers_are : AreHelpers (values_of (codes "helpers") m) count
+  pub schedule_is : AreSchedule (values_of (codes "schedule") m) turns
+  pub fields_are : fields ≡ values_of (codes "fields") m
+  pub some : fields ≢ []
+
+-- they say nothing
+abbrev pub AreNoLine : ArgMatches → Type 0
+AreNoLine m = (count : ℕ) (turns : Option (List Turns)) (fields : List Word) → ¬ (IsLine m count turns fields)

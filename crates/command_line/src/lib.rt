@@ -3,7 +3,13 @@
 
 mod fault;
 mod line;
+mod read;
 mod split;
+mod values;
 
 pub use fault::LineFault;
 pub use line::Line;
+pub use read::read_words;
+
+#[cfg(test)]
+mod tests;

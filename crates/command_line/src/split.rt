@@ -1,12 +1,37 @@
 //! The words as `clap` splits them.
-ghost use Rattle.std.specs.Prelude.{◌≡◌, ◌⊎◌, IfOk, MatchResult, codes, false, map};
+ghost use Rattle.std.specs.Prelude.{◌≡◌, ◌≢◌, ◌⊎◌, IfOk, MatchResult, false, map};
 ghost use Rattle.std.specs.String.{string_bytes};
 ghost use Rattle.clap.specs.Simple.{app_of};
+ghost use Rattle.clap.specs.Values.{kind_of};
 ghost use Rattle.clap.specs.Walk.{rule_of};
-ghost use Rattle.command_line.specs.Command.{app, bare, fields_rule, option_rule};
+ghost use Rattle.clap.specs.declared.error.kind.ErrorKind.TheVariants.{OutOfMemory};
+ghost use Rattle.command_line.specs.Command.{IsNoSplit, IsSplit, app, bare, fields_rule, option_rule};
+ghost use Rattle.command_line.specs.declared.fault.LineFault.TheVariants as fault;
 
-use clap::{Arg, ArgAction, Command};
+use crate::LineFault;
+use clap::error::ErrorKind;
+use clap::{Arg, ArgAction, ArgMatches, Command, Error};
 use std::alloc::{AllocError, Global};
+
+/// What `clap` finds in the words.
+pub fn split<'a>(alloc: Global, words: &'a [String]) -> Result<ArgMatches<'a>, LineFault>
+    ensures { MatchResult result (IsSplit (map (λ word. string_bytes word) words.now)) (λ e. (e ≡ fault.NoMemory) ⊎ ((e ≡ fault.Usage) × IsNoSplit (map (λ word. string_bytes word) words.now))) }
+{
+    match command(alloc)?.try_get_matches_from(words) {
+        Ok(matches) => Ok(matches),
+        Err(error) => Err(fault_of(&error)),
+    }
+}
+
+fn fault_of(error: &Error) -> LineFault
+    ensures memory { kind_of error.now ≡ OutOfMemory → result ≡ fault.NoMemory }
+    ensures usage { kind_of error.now ≢ OutOfMemory → result ≡ fault.Usage }
+{
+    match error.kind() {
+        ErrorKind::OutOfMemory => LineFault::NoMemory,
+        _ => LineFault::Usage,
+    }
+}
 
 fn command<'a>(alloc: Global) -> Result<Command<'a>, AllocError>
     ensures { IfOk result (λ c. app_of c ≡ app) }

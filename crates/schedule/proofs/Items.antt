@@ -1,9 +1,10 @@
 -- Items of a schedule, one after the other.
 use Rattle.std.proofs.Common.{◌≡◌, ◌≢◌, ◌<◌, ◌≤◌, ◌+◌, ◌^◌, ◌⊎◌, inl, inr, ℕ, zero, suc, List, [], ◌∷◌, ◌++◌, length, take, get_or, map, Option, Some, None, MatchOption, refl, sym, ◌∙◌, ap, subst, arith, rules}
 use Rattle.std.specs.Fmt.{decimal}
-use Rattle.std.proofs.lemmas.Fmt.{decimal_digit, decimal_injective}
+use Rattle.std.specs.List.{onto_first}
+use Rattle.std.proofs.lemmas.Fmt.{decimal_digit, first_decimal}
 use Rattle.std.proofs.lemmas.List.{take_more, take_all, map_push}
-use Rattle.schedule.specs.Schedule.{AreItems, Gives, IsItem, pieces}
+use Rattle.schedule.specs.Schedule.{AreItems, Gives, IsItem, IsSchedule, pieces}
 use Rattle.schedule.specs.declared.turns.Turns.{Turns}
 
 push_item : (items : List (List ℕ)) (ts : List Turns) (item : List ℕ) (t : Turns) → AreItems items ts → IsItem item t → AreItems (items ++ item ∷ []) (ts ++ t ∷ [])
@@ -31,3 +32,32 @@ gives_some P o x g is = subst (Gives P) is g
 
 pub gives_none : {X : Type 0} (P : X → Type 0) (o : Option X) → Gives P o → o ≡ None → (x : X) → ¬ (P x)
 gives_none P o g is = subst (Gives P) is g
+
+first_stays : (x : ℕ) (parts : List (List ℕ)) → (q : List ℕ) × (qs : List (List ℕ)) × (onto_first x parts ≡ (x ∷ q) ∷ qs)
+first_stays x [] = ([], [], refl)
+first_stays x (p ∷ ps) = (p, ps, refl)
+
+decimal_no_dash : (n : ℕ) → n < 2 ^ 64 → (rest : List ℕ) → 45 ∷ rest ≢ decimal n
+decimal_no_dash zero small rest same = let is : 45 ≡ 48 = ap (λ t. get_or t 0 0) (same ∙ decimal_digit 0 (omega arith)) in omega (arith, is)
+decimal_no_dash (suc n) small rest same =
+    let first = first_decimal (suc n) (omega arith) small in
+    let is : 45 ≡ get_or (decimal (suc n)) 0 0 = ap (λ t. get_or t 0 0) same in
+    omega (arith, first, is)
+
+item_no_dash : (q : List ℕ) (t : Turns) → ¬ (IsItem (45 ∷ q) t)
+item_no_dash q t is = go (first_stays 45 (pieces 42 q)) is
+  where
+    no : (r : List ℕ) (rs ds : List (List ℕ)) → onto_first 45 (pieces 42 q) ≡ (45 ∷ r) ∷ rs → onto_first 45 (pieces 42 q) ≡ decimal t.actor ∷ ds → ⊥
+    no r rs ds a b = let e : (45 ∷ r) ∷ rs ≡ decimal t.actor ∷ ds = sym a ∙ b in let same : 45 ∷ r ≡ decimal t.actor = cc in decimal_no_dash t.actor (omega (arith, t.known)) r same
+
+    go : (r : List ℕ) × (rs : List (List ℕ)) × (onto_first 45 (pieces 42 q) ≡ (45 ∷ r) ∷ rs) → IsItem (45 ∷ q) t → ⊥
+    go (r, rs, begins) (inl alone) = no r rs [] begins alone.0
+    go (r, rs, begins) (inr both) = no r rs (decimal t.count ∷ []) begins both
+
+-- a schedule doesn't begin with `-`
+pub no_dash : (rest : List ℕ) (schedule : List Turns) → ¬ (IsSchedule (45 ∷ rest) schedule)
+no_dash rest schedule is = go (first_stays 45 (pieces 44 rest)) schedule is
+  where
+    go : (q : List ℕ) × (qs : List (List ℕ)) × (onto_first 45 (pieces 44 rest) ≡ (45 ∷ q) ∷ qs) → (turns : List Turns) → AreItems (onto_first 45 (pieces 44 rest)) turns → ⊥
+    go (q, qs, begins) [] are = subst (λ t. AreItems t []) begins are
+    go (q, qs, begins) (t ∷ turns) are = item_no_dash q t (subst (λ ps. AreItems ps (t ∷ turns)) begins are).0
