@@ -16,6 +16,8 @@ use Rattle.clap.specs.declared.parser.matches.ArgMatches.{ArgMatches}
 use Rattle.clap.proofs.FaultLemmas.{leaf_fault}
 use Rattle.clap.proofs.WalkLemmas.{raw_values-rows}
 use Rattle.command_line.specs.Command.{Finds, IsMeant, IsNoSplit, IsSplit, app, values_of}
+use Rattle.command_line.specs.declared.fault.LineFault.{LineFault}
+use Rattle.command_line.specs.declared.fault.LineFault.TheVariants as fault
 use Rattle.command_line.specs.Words.{AreCut, Part, Word, fields_in, helpers_in, schedules_in}
 use Rattle.command_line.proofs.Rows.{Shows, fields_built, opt, option_built, rules_built}
 use Rattle.command_line.proofs.Turns.{at, pending_fault, rows_then, whole}
@@ -144,3 +146,9 @@ split_ok words m passes has = split_from _ m (texts_of words) has passes
 pub split_err : (words : List Word) (e : Error) → FailsBy {T = ArgMatches} (fault_of app words) (Err e) → kind_of e ≢ OutOfMemory → IsNoSplit words
 split_err words e (inl memory) other = absurd (other memory)
 split_err words e (inr among) other = no_split words (λ none. subst (IsAmong (kind_of e)) none among)
+
+pub fault_case : (words : List Word) (e : Error) (result : LineFault) → FailsBy {T = ArgMatches} (fault_of app words) (Err e)
+    → ((kind_of e ≡ OutOfMemory) × (result ≡ fault.NoMemory)) ⊎ ((kind_of e ≢ OutOfMemory) × (result ≡ fault.Usage))
+    → (result ≡ fault.NoMemory) ⊎ ((result ≡ fault.Usage) × IsNoSplit words)
+fault_case words e result fails (inl memory) = inl memory.1
+fault_case words e result fails (inr other) = inr (other.1, split_err words e fails other.0)

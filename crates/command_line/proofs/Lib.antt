@@ -4,3 +4,4 @@ pub mod Turns
 pub mod Walks
 pub mod Completes
 pub mod Cuts
+pub mod Lines

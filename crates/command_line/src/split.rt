@@ -24,8 +24,7 @@ pub fn split<'a>(alloc: Global, words: &'a [String]) -> Result<ArgMatches<'a>, L
 }
 
 fn fault_of(error: &Error) -> LineFault
-    ensures memory { kind_of error.now ≡ OutOfMemory → result ≡ fault.NoMemory }
-    ensures usage { kind_of error.now ≢ OutOfMemory → result ≡ fault.Usage }
+    ensures { ((kind_of error.now ≡ OutOfMemory) × (result ≡ fault.NoMemory)) ⊎ ((kind_of error.now ≢ OutOfMemory) × (result ≡ fault.Usage)) }
 {
     match error.kind() {
         ErrorKind::OutOfMemory => LineFault::NoMemory,

@@ -14,13 +14,10 @@ use schedule::{ScheduleFault, Turns, number_within, read_schedule};
 use std::alloc::Global;
 
 /// The values that were found for an argument.
-pub fn values<'m, 'a>(matches: &'m ArgMatches<'a>, id: &str) -> &'m [&'a str]
+pub fn values<'m, 'a: 'm>(matches: &'m ArgMatches<'a>, id: &str) -> &'m [&'a str]
     ensures { map (λ value. value.now) result.now ≡ values_of id.now matches.now }
 {
-    match matches.get_strs(id) {
-        Some(values) => values,
-        None => &[],
-    }
+    matches.get_strs(id).unwrap_or(&[])
 }
 
 /// The number of helpers: 4 without a value, else one from 0 to 8.
