@@ -1,5 +1,6 @@
 -- From the values that were found to what the words say.
-use Rattle.std.proofs.Common.{◌≡◌, ◌≢◌, ◌<◌, ◌≤◌, ◌⊎◌, inl, inr, ℕ, List, [], ◌∷◌, ◌++◌, length, Option, Some, None, codes, refl, sym, ◌∙◌, ap, subst, arith}
+use Rattle.std.proofs.Common.{◌≡◌, ◌≢◌, ◌<◌, ◌≤◌, ◌⊎◌, inl, inr, ℕ, List, [], ◌∷◌, ◌++◌, length, Option, Some, None, codes, refl, sym, ◌∙◌, ap, subst, arith, rules, Result, Ok, Err, IfOk, MatchResult}
+use Rattle.std.specs.Prelude.{unwrap_or}
 use Rattle.std.specs.Fmt.{decimal}
 use Rattle.std.proofs.lemmas.Fmt.{decimal_digit}
 use Rattle.clap.specs.declared.parser.matches.ArgMatches.{ArgMatches}
@@ -98,3 +99,23 @@ line_is m hs ss fs n t f h s g count turns words = record {
   fields_are = words.1 ∙ g;
   some = λ none. words.0 (sym words.1 ∙ none);
 }
+
+-- the values that an argument has
+pub given_some : (vs : List Word) (o : Option (List Word)) → Some vs ≡ o → vs ≡ unwrap_or o []
+given_some vs o is = ap (λ x. unwrap_or x []) is
+
+pub given_none : (o : Option (List Word)) → None ≡ o → [] ≡ unwrap_or o []
+given_none o is = ap (λ x. unwrap_or x []) is
+
+-- the answer of a reading
+pub read_is : {L : Type 0} (n : L → ℕ) (t : L → Option (List Turns)) (f : L → List Word) (words : List Word) (m : ArgMatches) (r : Result L LineFault) → IsSplit words m
+    → MatchResult r (λ l. IsLine m (n l) (t l) (f l)) (λ e. (e ≡ fault.NoMemory) ⊎ ((e ≡ fault.Usage) × AreNoLine m))
+    → MatchResult r (λ l. Says words (n l) (t l) (f l)) (λ e. (e ≡ fault.NoMemory) ⊎ ((e ≡ fault.Usage) × SayNothing words))
+read_is n t f words m (Ok l) split line = says_from words m (n l) (t l) (f l) split line
+read_is n t f words m (Err e) split none = says_nothing words m e split none
+
+pub only_is : {L : Type 0} (n : L → ℕ) (t : L → Option (List Turns)) (f : L → List Word) (words : List Word) (m : ArgMatches) (r : Result L LineFault) → IsSplit words m
+    → MatchResult r (λ l. IsLine m (n l) (t l) (f l)) (λ e. (e ≡ fault.NoMemory) ⊎ ((e ≡ fault.Usage) × AreNoLine m))
+    → IfOk r (λ l. (k : ℕ) (u : Option (List Turns)) (g : List Word) → Says words k u g → g ≡ f l)
+only_is n t f words m (Ok l) split line = λ k u g says. same_fields words m (n l) k (t l) u (f l) g split line says
+only_is n t f words m (Err e) split none = search rules

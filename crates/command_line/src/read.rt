@@ -6,7 +6,7 @@ ghost use Rattle.command_line.specs.Words.{Says, SayNothing};
 ghost use Rattle.command_line.specs.declared.fault.LineFault.TheVariants as fault;
 
 use crate::split::split;
-use crate::values::{fields_of, helpers_of, schedule_of, values};
+use crate::values::{fields_in, helpers_in, schedule_in};
 use crate::{Line, LineFault};
 use clap::ArgMatches;
 use std::alloc::Global;
@@ -27,14 +27,14 @@ pub fn read_words(alloc: Global, words: &[String]) -> Result<Line, LineFault>
 fn line_of(alloc: Global, matches: &ArgMatches) -> Result<Line, LineFault>
     ensures { MatchResult result (λ l. IsLine matches.now l.helpers (option_map (λ v. v.items) l.schedule) (map (λ word. string_bytes word) l.fields.items)) (λ e. (e ≡ fault.NoMemory) ⊎ ((e ≡ fault.Usage) × AreNoLine matches.now)) }
 {
-    let Some(helpers) = helpers_of(values(matches, "helpers")) else {
+    let Some(helpers) = helpers_in(matches) else {
         return Err(LineFault::Usage);
     };
-    let schedule = match schedule_of(alloc, values(matches, "schedule")) {
+    let schedule = match schedule_in(alloc, matches) {
         Ok(schedule) => schedule,
         Err(fault) => return Err(fault),
     };
-    match fields_of(alloc, values(matches, "fields")) {
+    match fields_in(alloc, matches) {
         Ok(fields) => Ok(Line {
             helpers,
             schedule,
