@@ -69,7 +69,7 @@ finished_is : (h : Held) → finished rules_built h ≡ (settled rules_built h).
 finished_is h =
     default_adds _ fields_built refl ∙ default_adds _ (option_built (codes "schedule")) refl ∙ default_adds _ (option_built (codes "helpers")) refl
 
-abbrev start : Walk
+abbrev pub start : Walk
 start = at [] None idle false
 
 fault_is : (words : List Word) → fault_of app words ≡ or_else (walk_fault whole [] start words)
@@ -104,7 +104,7 @@ rows_are : (words : List Word) (m : ArgMatches) → HasMatchesOf app words m →
 rows_are words m has = (has refl).0 ∙ finished_is (end start words).held ∙ sym (final_is start words)
 
 -- the values that the rows show
-opt_back : (vs : List Word) → unwrap_or (opt vs) [] ≡ vs
+pub opt_back : (vs : List Word) → unwrap_or (opt vs) [] ≡ vs
 opt_back [] = refl
 opt_back (v ∷ vs) = refl
 

@@ -3,6 +3,7 @@ use Rattle.std.proofs.Common.{◌≡◌, ◌≢◌, ◌<◌, ◌≤◌, ◌⊎�
 use Rattle.std.specs.Prelude.{unwrap_or}
 use Rattle.std.specs.Fmt.{decimal}
 use Rattle.std.proofs.lemmas.Fmt.{decimal_digit}
+use Rattle.clap.specs.Walk.{all_of}
 use Rattle.clap.specs.declared.parser.matches.ArgMatches.{ArgMatches}
 use Rattle.schedule.specs.Schedule.{IsSchedule}
 use Rattle.schedule.specs.declared.turns.Turns.{Turns}
@@ -11,6 +12,10 @@ use Rattle.command_line.specs.Command.{AreNoLine, IsLine, IsMeant, IsNoSplit, Is
 use Rattle.command_line.specs.Words.{AreHelpers, AreSchedule, IsPlain, Part, SayNothing, Says, Word, field, fields_in, helpers, helpers_in, schedule, schedules_in}
 use Rattle.command_line.specs.declared.fault.LineFault.{LineFault}
 use Rattle.command_line.specs.declared.fault.LineFault.TheVariants as fault
+use Rattle.command_line.proofs.Completes.{complete}
+use Rattle.command_line.proofs.Cuts.{opt_back, start}
+use Rattle.command_line.proofs.Rows.{opt}
+use Rattle.command_line.proofs.Walks.{final}
 
 -- none, or one that may stand for itself
 abbrev AreOne : List Word → Type 0
@@ -119,3 +124,15 @@ pub only_is : {L : Type 0} (n : L → ℕ) (t : L → Option (List Turns)) (f : 
     → IfOk r (λ l. (k : ℕ) (u : Option (List Turns)) (g : List Word) → Says words k u g → g ≡ f l)
 only_is n t f words m (Ok l) split line = λ k u g says. same_fields words m (n l) k (t l) u (f l) g split line says
 only_is n t f words m (Err e) split none = search rules
+
+-- the words have the fields of one command line
+opt_same : (a b : List Word) → opt a ≡ opt b → a ≡ b
+opt_same a b e = sym (opt_back a) ∙ ap (λ o. unwrap_or o []) e ∙ opt_back b
+
+shown_of : (words : List Word) (n : ℕ) (t : Option (List Turns)) (f : List Word) → Says words n t f → all_of (codes "fields") (final start words) ≡ opt f
+shown_of words n t f says =
+    let d = complete words says.parts says.behind says.cut (meant_from says.parts [] [] (one_helpers (helpers_in says.parts) n says.helpers) (one_schedule (schedules_in says.parts) t says.schedule)) in
+    d.1.fields ∙ ap opt (sym says.fields_are)
+
+pub fields_once : (words : List Word) (n k : ℕ) (t u : Option (List Turns)) (f g : List Word) → Says words n t f → Says words k u g → f ≡ g
+fields_once words n k t u f g a b = opt_same f g (sym (shown_of words n t f a) ∙ shown_of words k u g b)

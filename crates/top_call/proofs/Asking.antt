@@ -1,6 +1,10 @@
 -- What the words and the input ask for, from what was read of them.
 use Rattle.std.proofs.Common.{◌≡◌, ◌≢◌, ◌⊎◌, inr, ℕ, List, Option, Some, Result, Ok, Err, IfErr, refl, sym, ◌∙◌, subst, arith}
 use Rattle.std.proofs.lemmas.List.{take_all}
+use Rattle.command_line.specs.Words.{SayNothing}
+use Rattle.command_line.specs.declared.fault.LineFault.{LineFault}
+use Rattle.command_line.specs.declared.fault.LineFault.TheVariants as line
+use Rattle.command_line.proofs.Lines.{fields_once}
 use Rattle.script.proofs.Alone.{commit_alone}
 use Rattle.script.specs.Words.{ReadsWords, IsUnknown, IsWritten}
 use Rattle.script.specs.declared.command.Command.{Command}
@@ -12,7 +16,7 @@ use Rattle.script_reader.specs.Script.{Commands, IsFault, IsScript}
 use Rattle.top_call.specs.declared.fault.TopFault.{TopFault}
 use Rattle.top_call.specs.declared.fault.TopFault.TheVariants as fault
 use Rattle.top_call.specs.Input.{input_limit, IsRead, TookFront}
-use Rattle.top_call.specs.Words.{AreNoLone, Heard, IsMisread, IsUnread}
+use Rattle.top_call.specs.Words.{AreNoLine, AreNoLone, AreNoRequest, AreRefused, HasFields, Heard, IsMisread, IsRefused, IsUnread, Runs, run}
 use Rattle.top_call.proofs.Reading.{front_of}
 
 -- a commit is written by no words of another command
@@ -60,3 +64,33 @@ whole_script left bytes slice all lanes r heard same told script exact =
     either : {X : Type 0} (r : Result X TopFault) → IfErr r (λ e. e ≡ fault.NoMemory) → IfErr r (λ e. (e ≡ fault.Input) ⊎ (e ≡ fault.NoMemory))
     either (Ok x) is = tt
     either (Err e) is = inr is
+
+-- ---- the words
+
+-- the fields of words are one list
+pub one_line : (words a b : List (List ℕ)) → HasFields words a → HasFields words b → a ≡ b
+one_line words a b x y = fields_once words x.0 y.0 x.1 y.1 a b x.2 y.2
+
+refused : (left : Option (List ℕ)) (words fields : List (List ℕ)) (before now : ℕ) (f : TopFault) → HasFields words fields → AreRefused left fields before now f → IsRefused left words before now f
+refused left words fields before now fault.Usage has none = λ other is. subst AreNoRequest (one_line words fields other has is) none
+refused left words fields before now (fault.Script e) has is = (subst (HasFields words) is.0 has, is.1)
+refused left words fields before now fault.Input has is = (subst (HasFields words) is.0 has, is.1)
+refused left words fields before now (fault.Open e) has is = is
+refused left words fields before now fault.NoMemory has is = tt
+
+pub refused_from : {X : Type 0} (left : Option (List ℕ)) (words fields : List (List ℕ)) (before now : ℕ) (r : Result X TopFault) → HasFields words fields → IfErr r (AreRefused left fields before now) → IfErr r (IsRefused left words before now)
+refused_from left words fields before now (Ok x) has is = tt
+refused_from left words fields before now (Err f) has is = refused left words fields before now f has is
+
+-- words that say nothing are refused
+pub usage_from : (words : List (List ℕ)) → (line.Usage ≡ line.NoMemory) ⊎ ((line.Usage ≡ line.Usage) × SayNothing words) → AreNoLine words
+usage_from words (inl memory) = cc
+usage_from words (inr none) = λ fields has. absurd (none.1 has.0 has.1 fields has.2)
+
+pub refusal_is : (left : Option (List ℕ)) (words : List (List ℕ)) (before now : ℕ) (f : TopFault) → (f ≡ fault.NoMemory) ⊎ ((f ≡ fault.Usage) × AreNoLine words) → IsRefused left words before now f
+refusal_is left words before now f (inl is) = subst (IsRefused left words before now) (sym is) tt
+refusal_is left words before now f (inr is) = subst (IsRefused left words before now) (sym is.0) is.1
+
+pub refusal_exact : (words : List (List ℕ)) (f : TopFault) → (f ≡ fault.NoMemory) ⊎ ((f ≡ fault.Usage) × AreNoLine words) → Runs words → (f ≡ fault.Input) ⊎ (f ≡ fault.NoMemory)
+refusal_exact words f (inl is) runs = inr is
+refusal_exact words f (inr is) runs = absurd ((is.1 run runs).1 refl)

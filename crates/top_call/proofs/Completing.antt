@@ -17,10 +17,11 @@ use Rattle.sys_open.specs.declared.fault.OpenFault.TheVariants as opening
 use Rattle.sys_open.proofs.Exclusive.{fault_good}
 use Rattle.top_call.specs.declared.fault.TopFault.{TopFault}
 use Rattle.top_call.specs.declared.fault.TopFault.TheVariants.{Usage, Script, Input, Open, NoMemory}
-use Rattle.top_call.specs.Complete.{AreCausedBy, IsAsked, IsComplete, IsGoodHere}
+use Rattle.top_call.specs.Complete.{AreCausedBy, Ask, IsAsked, IsComplete, IsGoodHere}
 use Rattle.top_call.specs.Status.{has_risen, status_of}
 use Rattle.top_call.specs.Top.{IsStopped}
-use Rattle.top_call.specs.Words.{AreNoLine, IsEarly, IsRefused, init, run}
+use Rattle.top_call.specs.Words.{AreNoLine, AreNoRequest, IsEarly, IsRefused, Runs, init, run}
+use Rattle.top_call.proofs.Asking.{one_line}
 use Rattle.top_call.proofs.Statuses.{replies_small, status_small}
 
 risen_tested : (before now : ℕ) → has_risen before now ≡ true → Rose before now
@@ -38,16 +39,22 @@ not_run (command.Reset branch commit) fields is = let e = is.line in cc
 not_run (command.DropRef branch) fields is = let e = is.line in cc
 not_run (command.Commit branch tree subject body time) fields is = let e = is.line in cc
 
+a_request : (left : Option (List ℕ)) (fields : List (List ℕ)) → Ask left fields → AreNoRequest fields → ⊥
+a_request left fields (inl is) none = none.0 is
+a_request left fields (inr (inl is)) none = none.1 is.0
+a_request left fields (inr (inr is)) none = none.2 is.0 is.1
+
 a_line : (left : Option (List ℕ)) (words : List (List ℕ)) → IsAsked left words → AreNoLine words → ⊥
-a_line left words (inl is) none = none.0 is
-a_line left words (inr (inl is)) none = none.1 is.0
-a_line left words (inr (inr is)) none = none.2 is.0 is.1
+a_line left words asked none = a_request left asked.0 asked.2 (none asked.0 asked.1)
 
 -- the script that is asked for
-its_script : (left : Option (List ℕ)) (words : List (List ℕ)) → IsAsked left words → words ≡ run → (all : List ℕ) × (lanes : List Commands) × (left ≡ Some all) × IsScript all lanes
-its_script left words (inl is) run_is = let e : init ≡ run = sym is ∙ run_is in absurd cc
-its_script left words (inr (inl is)) run_is = (is.1, is.2, is.3, is.4)
-its_script left words (inr (inr is)) run_is = absurd (not_run is.0 [] (subst (λ w. IsCommand w is.0) run_is is.1))
+script_of : (left : Option (List ℕ)) (fields : List (List ℕ)) → Ask left fields → fields ≡ run → (all : List ℕ) × (lanes : List Commands) × (left ≡ Some all) × IsScript all lanes
+script_of left fields (inl is) run_is = let e : init ≡ run = sym is ∙ run_is in absurd cc
+script_of left fields (inr (inl is)) run_is = (is.1, is.2, is.3, is.4)
+script_of left fields (inr (inr is)) run_is = absurd (not_run is.0 [] (subst (λ w. IsCommand w is.0) run_is is.1))
+
+its_script : (left : Option (List ℕ)) (words : List (List ℕ)) → IsAsked left words → Runs words → (all : List ℕ) × (lanes : List Commands) × (left ≡ Some all) × IsScript all lanes
+its_script left words asked runs = script_of left asked.0 asked.2 (one_line words asked.0 run asked.1 runs)
 
 -- what an opening tells isn't told of a good disk
 opened : (d : Disk) (f : OpenFault) (before now : ℕ) → IsGoodHere d → ¬ (Rose before now) → (Open f ≡ Open opening.Disk → Rose before now) → IsStopped d (Open f) → ⊥

@@ -9,12 +9,15 @@ use Rattle.script_reader.specs.Script.{Commands}
 use Rattle.top_call.specs.declared.fault.TopFault.{TopFault}
 use Rattle.top_call.specs.declared.fault.TopFault.TheVariants.{Usage, Script, Input, NoMemory}
 use Rattle.top_call.specs.Top.{IsUnused}
-use Rattle.top_call.specs.Words.{AreNoLine, IsEarly, IsLine, IsRefused, run}
+use Rattle.top_call.specs.Words.{AreNoLine, AreNoRequest, AskFor, IsEarly, IsLine, IsRefused, Runs}
+
+no_request : (left : Option (List ℕ)) (fields : List (List ℕ)) (lanes : List Commands) → AskFor left fields lanes → AreNoRequest fields → ⊥
+no_request left fields lanes (inl is) none = none.0 is.0
+no_request left fields lanes (inr (inl is)) none = none.1 is.0
+no_request left fields lanes (inr (inr is)) none = none.2 is.0 is.2
 
 pub no_line : (left : Option (List ℕ)) (words : List (List ℕ)) (lanes : List Commands) → IsLine left words lanes → AreNoLine words → ⊥
-no_line left words lanes (inl is) none = none.0 is.0
-no_line left words lanes (inr (inl is)) none = none.1 is.0
-no_line left words lanes (inr (inr is)) none = none.2 is.0 is.2
+no_line left words lanes is none = no_request left is.0 lanes is.2 (none is.0 is.1)
 
 pub usage_early : (Q : Type 0) (left : Option (List ℕ)) (words : List (List ℕ)) (before now : ℕ) (fault : Option TopFault) → IfSome fault (λ f. IsEarly f → Q × IsRefused left words before now f) → fault ≡ Some Usage → AreNoLine words
 usage_early Q left words before now None early is = let n : None ≡ Some Usage = is in cc
@@ -36,7 +39,7 @@ other_fault : (e : ScriptFault) (f : TopFault) → f ≡ Script e → (f ≡ Inp
 other_fault e f is (inl input) = let n : Script e ≡ Input = sym is ∙ input in cc
 other_fault e f is (inr memory) = let n : Script e ≡ NoMemory = sym is ∙ memory in cc
 
-pub no_script : (left : Option (List ℕ)) (words : List (List ℕ)) (before now : ℕ) (f : TopFault) (e : ScriptFault) → IsRefused left words before now f → (words ≡ run → (f ≡ Input) ⊎ (f ≡ NoMemory)) → f ≡ Script e → ⊥
+pub no_script : (left : Option (List ℕ)) (words : List (List ℕ)) (before now : ℕ) (f : TopFault) (e : ScriptFault) → IsRefused left words before now f → (Runs words → (f ≡ Input) ⊎ (f ≡ NoMemory)) → f ≡ Script e → ⊥
 no_script left words before now f e refused exact is = other_fault e f is (exact (subst (IsRefused left words before now) is refused).0)
 
 pub same_fault : (f g : TopFault) → Some f ≡ Some g → f ≡ g

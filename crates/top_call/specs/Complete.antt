@@ -13,18 +13,22 @@ use Rattle.sys_open.specs.Damages.{IsGood}
 use Rattle.top_call.specs.declared.fault.TopFault.{TopFault}
 use Rattle.top_call.specs.declared.fault.TopFault.TheVariants.{NoMemory}
 use Rattle.top_call.specs.Top.{AreStandard}
-use Rattle.top_call.specs.Words.{init, run}
+use Rattle.top_call.specs.Words.{HasFields, init, run}
 
 -- a reply tells of a call that failed only where the count of failed calls rose
 abbrev pub AreCausedBy : ℕ → ℕ → List (List Reply) → Type 0
 AreCausedBy before now replies = (lane number : ℕ) (r : Reply) → IsTo replies lane number r → IsFailure r.answer → Rose before now
 
--- The words are ones, and so is the script, where they are `run`.
+-- The fields ask for something, and the script is one, where they are `run`.
+abbrev pub Ask : Option (List ℕ) → List (List ℕ) → Type 0
+Ask left fields =
+    (fields ≡ init)
+    ⊎ ((fields ≡ run) × (all : List ℕ) × (lanes : List Commands) × (left ≡ Some all) × IsScript all lanes)
+    ⊎ ((command : Command) × IsCommand fields command)
+
+-- the words are a command line whose fields do so
 abbrev pub IsAsked : Option (List ℕ) → List (List ℕ) → Type 0
-IsAsked left words =
-    (words ≡ init)
-    ⊎ ((words ≡ run) × (all : List ℕ) × (lanes : List Commands) × (left ≡ Some all) × IsScript all lanes)
-    ⊎ ((command : Command) × IsCommand words command)
+IsAsked left words = (fields : List (List ℕ)) × HasFields words fields × Ask left fields
 
 -- the disk passes all checks of an opening, within the limits of the program
 abbrev pub IsGoodHere : Disk → Type 0

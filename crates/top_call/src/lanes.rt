@@ -29,16 +29,18 @@ ghost use Rattle.script_trees.specs.Fit.{AreFit, IsWide};
 use crate::fault::TopFault;
 use fs_trait::Fs;
 use ost_types::{Limits, NoMemory};
+use schedule::Turns;
 use script_reader::Lane;
 use std::alloc::Global;
 use sys_core::{Parts, System};
 use sys_open::{OpenFault, Opened, adopt};
 
-/// Opens the repository, and runs all commands of the lanes. Where no lane is run the file system comes back.
+/// Opens the repository, and runs all commands of the lanes, as the schedule says and then in turn. Where no lane is run the file system comes back.
 pub fn run_lanes<F: Fs>(
     alloc: Global,
     fs: F,
     lanes: Vec<Lane>,
+    schedule: &[Turns],
     limits: Limits,
 ) -> Result<Parts<F>, (F, TopFault)>
     requires wide { IsWide limits }
@@ -52,7 +54,7 @@ pub fn run_lanes<F: Fs>(
     ensures disk { IfErr result (λ e. e.1 ≡ fault.Open opening.Disk → Rose (F.faults fs) (F.faults e.0)) }
 {
     match adopt(alloc, fs, limits) {
-        Ok(opened) => run_opened(alloc, opened, lanes),
+        Ok(opened) => run_opened(alloc, opened, lanes, schedule),
         Err((fs, OpenFault::NoMemory)) => Err((fs, TopFault::NoMemory)),
         Err((fs, fault)) => Err((fs, TopFault::Open(fault))),
     }
@@ -63,6 +65,7 @@ fn run_opened<F: Fs>(
     alloc: Global,
     opened: Opened<F>,
     lanes: Vec<Lane>,
+    schedule: &[Turns],
 ) -> Result<Parts<F>, (F, TopFault)>
     requires few { length lanes.items ≤ lane_limit }
     requires short { (l : ℕ) (d : Lane) → l < length lanes.items → length (slice_index_or lanes.items l d).commands.items ≤ command_limit }
@@ -82,7 +85,7 @@ fn run_opened<F: Fs>(
     match System::new(alloc, opened, lanes) {
         Ok(system) => {
             let mut system = system;
-            system.drive(&[]);
+            system.drive(schedule);
             Ok(system.into_parts())
         }
         Err((opened, NoMemory)) => Err((opened.into_fs(), TopFault::NoMemory)),

@@ -12,11 +12,11 @@ mod top;
 mod why;
 mod words;
 
-pub use asked::asked_lanes;
+pub use asked::{Asked, asked_lanes};
 pub use fault::TopFault;
 pub use lanes::run_lanes;
 pub use output::write_all;
 pub use status::{has_risen, status_of};
 pub use text::{MEMORY_LINE, USAGE_LINE, output_of};
 pub use top::{Ended, ostree};
-pub use words::{Request, read_line};
+pub use words::{Request, read_request};

@@ -9,12 +9,12 @@ ghost use Rattle.script_reader.specs.Script.{Commands, IsScript};
 ghost use Rattle.script.specs.declared.fault.ScriptFault.{ScriptFault};
 ghost use Rattle.top_call.specs.Complete.{AreCausedBy, IsAsked, IsComplete, IsGoodHere};
 ghost use Rattle.top_call.specs.Input.{TookFront};
-ghost use Rattle.top_call.specs.Words.{AreNoLine, IsEarly, IsRefused, run};
+ghost use Rattle.top_call.specs.Words.{AreNoLine, IsEarly, IsRefused, Runs};
 ghost use Rattle.top_call.specs.Status.{has_risen, status_of};
 ghost use Rattle.top_call.specs.Text.{output_of};
 ghost use Rattle.top_call.specs.Top.{IsStopped, IsUnused, Prints, RanBy, StaysOn, event_of};
 
-use crate::asked::asked_lanes;
+use crate::asked::{Asked, asked_lanes};
 use crate::fault::TopFault;
 use crate::lanes::run_lanes;
 use crate::output::write_all;
@@ -120,13 +120,13 @@ fn run<F: Fs, S: Source>(alloc: Global, words: &[String], fs: F, input: &mut S) 
     ensures ran { (v : View) → F.view fs ≡ Some v → result.fault ≡ None → Told (F.view result.fs) (RanBy (S.left input.old) (map (λ word. string_bytes word) words.now) F.view F.clock F.was v (F.clock fs) result.fs result.history.items result.pending (map (λ lane. lane.items) result.replies.items)) }
     ensures caused { (v : View) → F.view fs ≡ Some v → AreCausedBy (F.faults fs) (F.faults result.fs) (map (λ lane. lane.items) result.replies.items) }
     ensures read { (all : List ℕ) → S.left input.old ≡ Some all → TookFront all (S.left input.new) }
-    ensures unread { (map (λ word. string_bytes word) words.now) ≢ run → input.new ≡ input.old }
+    ensures unread { ¬ (Runs (map (λ word. string_bytes word) words.now)) → input.new ≡ input.old }
     ensures later { S.faults input.old ≤ S.faults input.new }
     ensures quiet { result.fault ≡ None → S.faults input.new ≡ S.faults input.old }
     ensures failed { (result.fault ≡ Some TopFault.Input) ⊎ (S.faults input.new ≡ S.faults input.old) }
 {
     match asked_lanes(alloc, words, input) {
-        Ok(lanes) => match run_lanes(alloc, fs, lanes, Limits::standard()) {
+        Ok(Asked { lanes, schedule }) => match run_lanes(alloc, fs, lanes, &schedule, Limits::standard()) {
             Ok(parts) => outcome_of(parts),
             Err((fs, fault)) => stopped(alloc, fs, fault),
         },
@@ -175,7 +175,7 @@ fn print<K: Sink>(
 /// Does all that the program does: reads the words, and the input where they are `run`, opens the repository, runs the commands,
 /// prints their replies or the line of the fault, and tells the exit status.
 ///
-/// The words are those behind the program's name: `init`, `run`, or a command and its fields.
+/// The words are those behind the program's name: options, and `init`, `run`, or a command and its fields.
 pub fn ostree<F: Fs, S: Source, K: Sink>(
     alloc: Global,
     words: &[String],
@@ -204,7 +204,7 @@ pub fn ostree<F: Fs, S: Source, K: Sink>(
 
     // What is read. Only `run` reads, and no lane runs where a call of the source failed: this is told.
     ensures read { (all : List ℕ) → S.left input.old ≡ Some all → TookFront all (S.left input.new) }
-    ensures unread { (map (λ word. string_bytes word) words.now) ≢ run → input.new ≡ input.old }
+    ensures unread { ¬ (Runs (map (λ word. string_bytes word) words.now)) → input.new ≡ input.old }
     ensures source_count { S.faults input.old ≤ S.faults input.new }
     ensures quiet { (result.fault ≡ None) ⊎ (result.replies.items ≢ []) → S.faults input.new ≡ S.faults input.old }
     ensures failed { (result.fault ≡ Some TopFault.Input) ⊎ (result.fault ≡ Some TopFault.NoMemory) ⊎ (S.faults input.new ≡ S.faults input.old) }

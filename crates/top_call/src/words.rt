@@ -1,17 +1,17 @@
-//! The command line.
+//! What the fields of a command line ask for.
 ghost use Rattle.std.specs.Prelude.{◌≡◌, ◌⊎◌, ◌↔◌, ◌∷◌, List, [], ℕ, map, All, IfOk, IsTrue, MatchOption, MatchResult, Ok, Err};
 ghost use Rattle.std.specs.String.{string_bytes};
 ghost use Rattle.ost_types.specs.Text.{IsText};
 ghost use Rattle.script.specs.Words.{ReadsWords};
 ghost use Rattle.top_call.specs.declared.fault.TopFault.TheVariants as fault;
-ghost use Rattle.top_call.specs.Words.{AreNoLine, AreNoLone, IsRequest, commands_of};
+ghost use Rattle.top_call.specs.Words.{AreNoLone, AreNoRequest, IsRequest, commands_of};
 
 use crate::fault::TopFault;
 use ost_types::{NoMemory, Text};
 use script_reader::{Lane, ScriptFault, read_words};
 use std::alloc::Global;
 
-/// What a command line asks for.
+/// What the fields of a command line ask for.
 #[derive(Drop)]
 pub enum Request {
     /// These lanes. `init` opens the repository and ends, so it has none; any other command is a lane of its own.
@@ -20,9 +20,9 @@ pub enum Request {
     Script,
 }
 
-/// What the words ask for.
-pub fn read_line(alloc: Global, words: &[String]) -> Result<Request, TopFault>
-    ensures { MatchResult result (IsRequest (map (λ word. string_bytes word) words.now)) (λ e. (e ≡ fault.NoMemory) ⊎ ((e ≡ fault.Usage) × AreNoLine (map (λ word. string_bytes word) words.now))) }
+/// What the command and its fields ask for.
+pub fn read_request(alloc: Global, words: &[String]) -> Result<Request, TopFault>
+    ensures { MatchResult result (IsRequest (map (λ word. string_bytes word) words.now)) (λ e. (e ≡ fault.NoMemory) ⊎ ((e ≡ fault.Usage) × AreNoRequest (map (λ word. string_bytes word) words.now))) }
 {
     if is_alone(words, "init") {
         return Ok(Request::Lanes(Vec::new(alloc)));
