@@ -7,6 +7,8 @@ mod help;
 #[cfg(test)]
 mod look_tests;
 #[cfg(test)]
+mod schedule_tests;
+#[cfg(test)]
 mod script_tests;
 #[cfg(test)]
 mod tests;

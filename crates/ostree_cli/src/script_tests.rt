@@ -6,7 +6,7 @@ use std::alloc::Global;
 use std::fs;
 use std::process::Abort;
 use std::test::Fail;
-use top_call::{Ended, asked_lanes, ostree, output_of, run_lanes};
+use top_call::{Ended, asked_lanes, ostree, output_of, run_asked};
 
 // A tree of two folders, and one commit of it.
 const FIRST: &[u8] = b"ostree-script 1
@@ -374,8 +374,8 @@ fn refuses_an_object_too_many(rt: HostRuntime) -> Result<(), Fail> {
         content: 268_435_456,
     };
     let mut input = source(alloc, FIRST, Vec::new(alloc))?;
-    let lanes = asked_lanes(alloc, &run_word(alloc)?, &mut input).expect(&rt, "a script");
-    let parts = run_lanes(alloc, MemFs::new(alloc)?, lanes, limits)
+    let asked = asked_lanes(alloc, &run_word(alloc)?, &mut input).expect(&rt, "a script");
+    let parts = run_asked(alloc, MemFs::new(alloc)?, asked, limits)
         .ok()
         .expect(&rt, "a run");
     let text = output_of(alloc, &None, &parts.replies)?;

@@ -1,5 +1,5 @@
 -- What the words and the input ask for, from what was read of them.
-use Rattle.std.proofs.Common.{◌≡◌, ◌≢◌, ◌⊎◌, inr, ℕ, List, Option, Some, Result, Ok, Err, IfErr, refl, sym, ◌∙◌, subst, arith}
+use Rattle.std.proofs.Common.{◌≡◌, ◌≢◌, ◌⊎◌, inl, inr, ℕ, List, Option, Some, Result, Ok, Err, IfErr, refl, sym, ◌∙◌, subst, arith}
 use Rattle.std.proofs.lemmas.List.{take_all}
 use Rattle.command_line.specs.Words.{SayNothing}
 use Rattle.command_line.specs.declared.fault.LineFault.{LineFault}
@@ -83,9 +83,12 @@ refused_from left words fields before now (Ok x) has is = tt
 refused_from left words fields before now (Err f) has is = refused left words fields before now f has is
 
 -- words that say nothing are refused
-pub usage_from : (words : List (List ℕ)) → (line.Usage ≡ line.NoMemory) ⊎ ((line.Usage ≡ line.Usage) × SayNothing words) → AreNoLine words
-usage_from words (inl memory) = cc
-usage_from words (inr none) = λ fields has. absurd (none.1 has.0 has.1 fields has.2)
+pub usage_from : (words : List (List ℕ)) (why : LineFault) → why ≡ line.Usage → (why ≡ line.NoMemory) ⊎ ((why ≡ line.Usage) × SayNothing words) → AreNoLine words
+usage_from words why is (inl memory) = let n : line.Usage ≡ line.NoMemory = sym is ∙ memory in absurd (no_memory n)
+  where
+    no_memory : line.Usage ≡ line.NoMemory → ⊥
+    no_memory e = cc
+usage_from words why is (inr none) = λ fields has. absurd (none.1 has.0 has.1 fields has.2)
 
 pub refusal_is : (left : Option (List ℕ)) (words : List (List ℕ)) (before now : ℕ) (f : TopFault) → (f ≡ fault.NoMemory) ⊎ ((f ≡ fault.Usage) × AreNoLine words) → IsRefused left words before now f
 refusal_is left words before now f (inl is) = subst (IsRefused left words before now) (sym is) tt

@@ -1,15 +1,18 @@
 -- What the whole call tells of its words and of its input.
-use Rattle.std.proofs.Common.{◌≡◌, ◌≢◌, ◌⊎◌, inl, inr, ⊎_elim, ℕ, List, [], ◌∷◌, map, Option, Some, None, IfSome, Result, Ok, Err, IfErr, refl, sym, ◌∙◌, subst}
+use Rattle.std.proofs.Common.{◌≡◌, ◌≢◌, ◌⊎◌, inl, inr, ⊎_elim, ℕ, List, [], ◌∷◌, map, Option, Some, None, IfSome, Result, Ok, Err, IfErr, refl, sym, ◌∙◌, subst, arith}
 use Rattle.std.specs.Global.{Vec}
+use Rattle.fs_trait.specs.View.{View}
+use Rattle.fs_trait.proofs.Kept.{same_view}
+use Rattle.sys_open.specs.Changes.{Changes, Works}
 use Rattle.rely.specs.declared.books.Entry.{Entry}
 use Rattle.rely.specs.declared.event.Event.{Event}
 use Rattle.script.specs.declared.answer.Reply.{Reply}
 use Rattle.script.specs.declared.fault.ScriptFault.{ScriptFault}
 use Rattle.script_reader.specs.Script.{Commands}
 use Rattle.top_call.specs.declared.fault.TopFault.{TopFault}
-use Rattle.top_call.specs.declared.fault.TopFault.TheVariants.{Usage, Script, Input, NoMemory}
+use Rattle.top_call.specs.declared.fault.TopFault.TheVariants.{Usage, Script, Input, Open, NoMemory}
 use Rattle.top_call.specs.Top.{IsUnused}
-use Rattle.top_call.specs.Words.{AreNoLine, AreNoRequest, AskFor, IsEarly, IsLine, IsRefused, Runs}
+use Rattle.top_call.specs.Words.{AreNoLine, AreNoRequest, AskFor, IsEarly, IsLine, IsRefused, Runs, run}
 
 no_request : (left : Option (List ℕ)) (fields : List (List ℕ)) (lanes : List Commands) → AskFor left fields lanes → AreNoRequest fields → ⊥
 no_request left fields lanes (inl is) none = none.0 is.0
@@ -70,3 +73,18 @@ some_fault P (Some f) holds some = holds
 pub back_from : {X F : Type 0} (Q : TopFault → Type 0) (P : F → Type 0) (opened : F) (r : Result X (F × TopFault)) → IfErr r (λ e. (e.0 ≡ opened) × Q e.1) → P opened → IfErr r (λ e. P e.0)
 back_from Q P opened (Ok x) back holds = tt
 back_from Q P opened (Err e) back holds = subst P (sym back.0) holds
+
+-- words that are no command line are told so
+pub told_usage : (left : Option (List ℕ)) (words : List (List ℕ)) (before now : ℕ) (f : TopFault) (o : Option TopFault) → o ≡ Some f → IsRefused left words before now f → AreNoLine words → (o ≡ Some Usage) ⊎ (o ≡ Some NoMemory)
+told_usage left words before now Usage o is refused none = inl is
+told_usage left words before now (Script e) o is refused none = absurd ((none run refused.0).1 refl)
+told_usage left words before now Input o is refused none = absurd ((none run refused.0).1 refl)
+told_usage left words before now (Open e) o is refused none = absurd refused
+told_usage left words before now NoMemory o is refused none = inr is
+
+-- where nothing was done
+pub works_same : {F : Type 0} (view : F → Option View) (clock : F → ℕ) (was : F → ℕ → View → Type 0) (f g : F) (v : View) → g ≡ f → view f ≡ Some v
+    → (fault : Option TopFault) → IfSome fault (λ _. Works (Changes v.now) v (clock f) (clock g) (was f) (was g) (view g))
+works_same view clock was f g v same told None = tt
+works_same view clock was f g v same told (Some fault) = subst (λ h. Works (Changes v.now) v (clock f) (clock h) (was f) (was h) (view h)) (sym same)
+    (record { later = omega arith; left = (v, told, same_view (Changes v.now) v); nothing_else = λ t w is. inl is; keeps = λ t w le past. past })

@@ -26,14 +26,37 @@ ghost use Rattle.top_call.specs.Words.{IsEarly, commands_of};
 ghost use Rattle.script_reader.specs.Script.{command_limit, lane_limit};
 ghost use Rattle.script_trees.specs.Fit.{AreFit, IsWide};
 
+use crate::asked::Asked;
 use crate::fault::TopFault;
 use fs_trait::Fs;
 use ost_types::{Limits, NoMemory};
 use schedule::Turns;
+use schedule_run::run_by;
 use script_reader::Lane;
 use std::alloc::Global;
 use sys_core::{Parts, System};
 use sys_open::{OpenFault, Opened, adopt};
+
+/// Opens the repository, and runs what is asked for. Where no lane is run the file system comes back.
+pub fn run_asked<F: Fs>(
+    alloc: Global,
+    fs: F,
+    asked: Asked,
+    limits: Limits,
+) -> Result<Parts<F>, (F, TopFault)>
+    requires wide { IsWide limits }
+    requires fit { AreFit (commands_of asked.lanes.items) }
+    ensures ran { (v : View) → F.view fs ≡ Some v → IfOk result (λ p. Told (F.view p.fs) (Ran limits F.view F.clock F.was v (F.clock fs) (commands_of asked.lanes.items) p.fs p.history.items (event_of p.pending) (map (λ replies. replies.items) p.replies.items))) }
+    ensures told { (v : View) → F.view fs ≡ Some v → IfErr result (λ e. IsStop limits v.now e.1) }
+    ensures still { (v : View) → F.view fs ≡ Some v → IfErr result (λ e. StaysOn e.1 (F.view e.0 ≡ Some (all_synced v))) }
+    ensures undone { (v : View) → F.view fs ≡ Some v → IfErr result (λ e. Works (Changes v.now) v (F.clock fs) (F.clock e.0) (F.was fs) (F.was e.0) (F.view e.0)) }
+    ensures caused { (v : View) → F.view fs ≡ Some v → IfOk result (λ p. AreCausedBy (F.faults fs) (F.faults p.fs) (map (λ replies. replies.items) p.replies.items)) }
+    ensures late { IfErr result (λ e. IsEarly e.1 → ⊥) }
+    ensures disk { IfErr result (λ e. e.1 ≡ fault.Open opening.Disk → Rose (F.faults fs) (F.faults e.0)) }
+{
+    let Asked { lanes, schedule } = asked;
+    run_lanes(alloc, fs, lanes, &schedule, limits)
+}
 
 /// Opens the repository, and runs all commands of the lanes, as the schedule says and then in turn. Where no lane is run the file system comes back.
 pub fn run_lanes<F: Fs>(
@@ -85,7 +108,7 @@ fn run_opened<F: Fs>(
     match System::new(alloc, opened, lanes) {
         Ok(system) => {
             let mut system = system;
-            system.drive(schedule);
+            run_by(&mut system, schedule);
             Ok(system.into_parts())
         }
         Err((opened, NoMemory)) => Err((opened.into_fs(), TopFault::NoMemory)),

@@ -14,9 +14,9 @@ ghost use Rattle.top_call.specs.Status.{has_risen, status_of};
 ghost use Rattle.top_call.specs.Text.{output_of};
 ghost use Rattle.top_call.specs.Top.{IsStopped, IsUnused, Prints, RanBy, StaysOn, event_of};
 
-use crate::asked::{Asked, asked_lanes};
+use crate::asked::asked_lanes;
 use crate::fault::TopFault;
-use crate::lanes::run_lanes;
+use crate::lanes::run_asked;
 use crate::output::write_all;
 use crate::status::{has_risen, status_of};
 use crate::text::{MEMORY_LINE, output_of};
@@ -126,7 +126,7 @@ fn run<F: Fs, S: Source>(alloc: Global, words: &[String], fs: F, input: &mut S) 
     ensures failed { (result.fault ≡ Some TopFault.Input) ⊎ (S.faults input.new ≡ S.faults input.old) }
 {
     match asked_lanes(alloc, words, input) {
-        Ok(Asked { lanes, schedule }) => match run_lanes(alloc, fs, lanes, &schedule, Limits::standard()) {
+        Ok(asked) => match run_asked(alloc, fs, asked, Limits::standard()) {
             Ok(parts) => outcome_of(parts),
             Err((fs, fault)) => stopped(alloc, fs, fault),
         },
