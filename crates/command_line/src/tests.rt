@@ -89,7 +89,11 @@ fn text_of(alloc: Global, line: &Line) -> Result<String, Fail> {
     }
     for field in &line.fields {
         text.push(' ')?;
-        text.push_str(if field.is_empty() { "_" } else { field.as_str() })?;
+        text.push_str(if field.is_empty() {
+            "_"
+        } else {
+            field.as_str()
+        })?;
     }
     Ok(text)
 }

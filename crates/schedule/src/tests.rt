@@ -13,16 +13,15 @@ const ROWS: &[(&str, &[(u8, u32)])] = &[
 ];
 
 // Texts that are none, split at the spaces; the first is empty.
-const NONE: &str = " , 0, ,0 0,,1 16 00 01 +1 -1 0*0 0*01 0*+1 0*100001 0*99999999999999999999 0*1*1 *1 0* * 0x1 0;1 a 1* 1**2";
+const NONE: &str =
+    " , 0, ,0 0,,1 16 00 01 +1 -1 0*0 0*01 0*+1 0*100001 0*99999999999999999999 0*1*1 *1 0* * 0x1 0;1 a 1* 1**2";
 
 fn says(alloc: Global, text: &str, wanted: &[(u8, u32)]) -> bool {
     match read_schedule(alloc, text.as_bytes()) {
         Ok(schedule) => {
             schedule.len() == wanted.len()
-                && schedule
-                    .iter()
-                    .zip(wanted)
-                    .all(|(turns, (actor, count))| turns.actor == *actor && turns.count == *count)
+                && schedule.iter().zip(wanted).all(|(turns, (actor, count))| turns.actor == *actor
+                    && turns.count == *count)
         }
         Err(_) => false,
     }
