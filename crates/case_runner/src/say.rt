@@ -106,22 +106,22 @@ fn append_output(
     append_lines(said, text)
 }
 
-// Each line behind a bar; a last one without its end behind `>`.
+// Each line behind a bar.
 fn append_lines(said: &mut Bytes, text: &[u8]) -> Result<(), Stop> {
-    let mut rest = text;
-    while let Some(end) = rest.iter().position(|byte| *byte == b'\n') {
-        let (line, behind) = rest.split_at(end);
+    match text.split_last() {
+        None => Ok(()),
+        Some((b'\n', lines)) => append_pieces(said, lines),
+        Some(_) => {
+            append_pieces(said, text)?;
+            Ok(said.append(b"  whose last line has no end\n")?)
+        }
+    }
+}
+
+fn append_pieces(said: &mut Bytes, lines: &[u8]) -> Result<(), Stop> {
+    for line in lines.split(|byte| *byte == b'\n') {
         said.append(b"  |")?;
         said.append(line)?;
-        said.push(b'\n')?;
-        rest = match behind {
-            [_, behind @ ..] => behind,
-            [] => behind,
-        };
-    }
-    if !rest.is_empty() {
-        said.append(b"  >")?;
-        said.append(rest)?;
         said.push(b'\n')?;
     }
     Ok(())
