@@ -29,6 +29,8 @@ pub struct Case {
     pub name: Bytes,
     /// None is the disk of the root alone.
     pub disk: Option<Bytes>,
+    /// It is run over the host's file system, too.
+    pub is_host: bool,
     pub steps: Vec<Step>,
 }
 

@@ -51,6 +51,10 @@ impl Draft {
             Keyword::Disk => self.take_disk(fields, block),
             Keyword::Case => self.take_case(fields),
             Keyword::On => self.take_on(fields),
+            Keyword::Host => {
+                self.last_case()?.is_host = true;
+                Ok(())
+            }
             Keyword::Add => self.take_add(block),
             Keyword::Remove => self.take_remove(fields),
             Keyword::Call => self.take_call(fields, block),
@@ -127,6 +131,7 @@ impl Draft {
         let case = Case {
             name: only_name(self.alloc, fields)?,
             disk: None,
+            is_host: false,
             steps: Vec::new(self.alloc),
         };
         Ok(self.book.cases.push(case)?)

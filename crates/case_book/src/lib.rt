@@ -17,6 +17,3 @@ pub use book::{
 };
 pub use fault::BookFault;
 pub use read::read_book;
-
-#[cfg(test)]
-mod tests;

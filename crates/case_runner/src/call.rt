@@ -1,7 +1,7 @@
 //! One call of the program.
 use crate::stop::Stop;
 use case_book::Plan;
-use fs_memory::{MemFs, MemSink, MemSource};
+use fs_memory::{MemSink, MemSource};
 use fs_trait::Fs;
 use ost_types::{Bytes, Limits};
 use std::alloc::Global;
@@ -10,8 +10,8 @@ use top_call::{Ended, TopFault, asked_lanes, ostree, output_of, run_lanes, statu
 
 /// What came of a call.
 #[derive(Drop)]
-pub struct Ran {
-    pub fs: MemFs,
+pub struct Ran<F> {
+    pub fs: F,
     pub status: u8,
     pub output: Vec<u8>,
     /// How many changes of refs last.
@@ -22,10 +22,10 @@ pub struct Ran {
     pub begun: u64,
 }
 
-impl Ran {
+impl<F: Fs> Ran<F> {
     /// How many changes of the disk the call made.
     pub fn changes(&self) -> u64 {
-        self.fs.moments().saturating_sub(self.begun)
+        self.fs.clock().saturating_sub(self.begun)
     }
 }
 
@@ -33,14 +33,14 @@ impl Ran {
 const ROOM: usize = 200_000;
 
 /// Calls the program with these words and this input.
-pub fn call_program(
+pub fn call_program<F: Fs>(
     alloc: Global,
-    fs: MemFs,
+    fs: F,
     words: &[String],
     input: Bytes,
     plan: &Plan,
-) -> Result<Ran, Stop> {
-    let begun = fs.moments();
+) -> Result<Ran<F>, Stop> {
+    let begun = fs.clock();
     let mut input = MemSource::new(input, Vec::from_slice(alloc, &plan.source)?);
     match plan.objects {
         Some(objects) => call_within(alloc, fs, words, &mut input, objects),
@@ -53,7 +53,7 @@ pub fn call_program(
     }
 }
 
-fn ran_of(alloc: Global, ended: Ended<MemFs>, output: &[u8], begun: u64) -> Result<Ran, Stop> {
+fn ran_of<F: Fs>(alloc: Global, ended: Ended<F>, output: &[u8], begun: u64) -> Result<Ran<F>, Stop> {
     Ok(Ran {
         fs: ended.fs,
         status: ended.status,
@@ -65,14 +65,14 @@ fn ran_of(alloc: Global, ended: Ended<MemFs>, output: &[u8], begun: u64) -> Resu
 }
 
 // The parts of a call, where the repository may have no more objects than this.
-fn call_within(
+fn call_within<F: Fs>(
     alloc: Global,
-    fs: MemFs,
+    fs: F,
     words: &[String],
     input: &mut MemSource,
     objects: u32,
-) -> Result<Ran, Stop> {
-    let begun = fs.moments();
+) -> Result<Ran<F>, Stop> {
+    let begun = fs.clock();
     let mut limits = Limits::standard();
     limits.objects = objects;
     match asked_lanes(alloc, words, input) {
@@ -84,7 +84,7 @@ fn call_within(
     }
 }
 
-fn ended_within(alloc: Global, parts: Parts<MemFs>, begun: u64) -> Result<Ran, Stop> {
+fn ended_within<F: Fs>(alloc: Global, parts: Parts<F>, begun: u64) -> Result<Ran<F>, Stop> {
     let output = output_of(alloc, &None, &parts.replies)?;
     Ok(Ran {
         fs: parts.fs,
@@ -96,7 +96,7 @@ fn ended_within(alloc: Global, parts: Parts<MemFs>, begun: u64) -> Result<Ran, S
     })
 }
 
-fn stopped_within(alloc: Global, fs: MemFs, fault: TopFault, begun: u64) -> Result<Ran, Stop> {
+fn stopped_within<F: Fs>(alloc: Global, fs: F, fault: TopFault, begun: u64) -> Result<Ran<F>, Stop> {
     let fault = Some(fault);
     let replies = Vec::new(alloc);
     let output = output_of(alloc, &fault, &replies)?;

@@ -2,22 +2,22 @@
 use crate::bench::Bench;
 use crate::call::Ran;
 use crate::nodes::{check_nodes, lists, stands_at};
-use crate::say::{say_other, say_outcomes};
+use crate::disk::CaseDisk;
+use crate::say::{say_crash, say_other, say_outcomes};
 use crate::stop::Stop;
 use case_book::{Check, Crash, Outcome, Plan, Printed};
-use fs_memory::{Choice, MemFs};
-use fs_trait::Fs;
-use ost_types::Bytes;
+use fs_memory::Choice;
+use ost_types::{Bytes, FsPath};
 use std::alloc::Global;
 
 impl<'a> Bench<'a> {
     /// Whether what came of a call is one of these, and all holds that it says; where the number of its outcome is told, that one.
-    pub fn check_outcomes(
+    pub fn check_outcomes<D: CaseDisk>(
         &mut self,
         outcomes: &[Outcome],
-        ran: Ran,
+        ran: Ran<D>,
         wanted: Option<usize>,
-    ) -> Result<MemFs, Stop> {
+    ) -> Result<D, Stop> {
         let mut ran = ran;
         match place_of(outcomes, &ran, wanted) {
             Some(outcome) => self.check_all(&outcome.checks, &mut ran)?,
@@ -26,14 +26,14 @@ impl<'a> Bench<'a> {
         Ok(ran.fs)
     }
 
-    fn check_all(&mut self, checks: &[Check], ran: &mut Ran) -> Result<(), Stop> {
+    fn check_all<D: CaseDisk>(&mut self, checks: &[Check], ran: &mut Ran<D>) -> Result<(), Stop> {
         for check in checks {
-            self.check(check, ran)?;
+            self.check_one(check, ran)?;
         }
         Ok(())
     }
 
-    fn check(&mut self, check: &Check, ran: &mut Ran) -> Result<(), Stop> {
+    fn check_one<D: CaseDisk>(&mut self, check: &Check, ran: &mut Ran<D>) -> Result<(), Stop> {
         match check {
             Check::Holds(nodes) => check_nodes(self.alloc, &mut ran.fs, nodes),
             Check::There(at) => wanted(
@@ -69,7 +69,7 @@ impl<'a> Bench<'a> {
     }
 
     // From the last moment back.
-    fn check_crash(&mut self, crash: &Crash, ran: &Ran) -> Result<(), Stop> {
+    fn check_crash<D: CaseDisk>(&mut self, crash: &Crash, ran: &Ran<D>) -> Result<(), Stop> {
         let changes = ran.changes();
         for back in crash.backs.first..=crash.backs.last.unwrap_or(changes) {
             for picks in &crash.choices {
@@ -79,10 +79,11 @@ impl<'a> Bench<'a> {
         Ok(())
     }
 
-    fn check_image(
+    // On what is left, where a crash is to be had.
+    fn check_image<D: CaseDisk>(
         &mut self,
         crash: &Crash,
-        ran: &Ran,
+        ran: &Ran<D>,
         back: u64,
         picks: &[u32],
     ) -> Result<(), Stop> {
@@ -90,18 +91,27 @@ impl<'a> Bench<'a> {
             picks: Vec::from_slice(self.alloc, picks)?,
             fill: 1,
         };
-        let moment = ran.fs.moments().saturating_sub(back);
-        let left = ran.fs.image(moment, &choice)?;
+        let Some(left) = ran.fs.left(back, &choice)? else {
+            return Ok(());
+        };
         let input = self.input(&crash.asked)?;
         let plan = no_plan(self.alloc);
         let again = self.call(left, &crash.asked, input, &plan)?;
-        if crash.printed.iter().any(|printed| is_printed(printed, &again)) {
+        if is_one_printed(&crash.printed, &again) {
             return Ok(());
         }
-        Err(Stop::Differs(crate::say::say_crash(
-            self.alloc, crash, &again, back, picks,
-        )?))
+        let text = say_crash(self.alloc, crash, &again, back, picks)?;
+        Err(Stop::Differs(text))
     }
+}
+
+fn is_one_printed<F>(printed: &[Printed], ran: &Ran<F>) -> bool {
+    for printed in printed {
+        if is_printed(printed, ran) {
+            return true;
+        }
+    }
+    false
 }
 
 fn no_plan(alloc: Global) -> Plan {
@@ -113,7 +123,7 @@ fn no_plan(alloc: Global) -> Plan {
     }
 }
 
-fn place_of<'a>(outcomes: &'a [Outcome], ran: &Ran, wanted: Option<usize>) -> Option<&'a Outcome> {
+fn place_of<'a, F>(outcomes: &'a [Outcome], ran: &Ran<F>, wanted: Option<usize>) -> Option<&'a Outcome> {
     match wanted {
         Some(place) => match outcomes.get(place) {
             Some(outcome) if is_printed(&outcome.printed, ran) => Some(outcome),
@@ -131,7 +141,7 @@ fn place_of<'a>(outcomes: &'a [Outcome], ran: &Ran, wanted: Option<usize>) -> Op
 }
 
 /// Whether the call printed this, with this status.
-fn is_printed(printed: &Printed, ran: &Ran) -> bool {
+fn is_printed<F>(printed: &Printed, ran: &Ran<F>) -> bool {
     let text = printed.text.as_slice();
     let is_text = if printed.is_front {
         ran.output.starts_with(text)
@@ -145,7 +155,7 @@ fn wanted(
     alloc: Global,
     holds: bool,
     what: &str,
-    at: &ost_types::FsPath,
+    at: &FsPath,
 ) -> Result<(), Stop> {
     if holds {
         return Ok(());

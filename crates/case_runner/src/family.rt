@@ -1,6 +1,5 @@
 //! Families of calls, each on a copy of one disk.
 use crate::bench::Bench;
-use crate::call::Ran;
 use crate::disk::copy_of;
 use crate::say::Member;
 use crate::stop::Stop;
@@ -14,19 +13,19 @@ impl<'a> Bench<'a> {
     /// With each of the calls of the disk failing.
     pub fn run_failing(
         &mut self,
-        fs: MemFs,
+        fs: &MemFs,
         call: &Call,
         failing: &FailingCalls,
-    ) -> Result<MemFs, Stop> {
+    ) -> Result<(), Stop> {
         for range in &failing.ranges {
             if failing.ways != Ways::Done {
-                self.run_range(&fs, call, *range, false)?;
+                self.run_range(fs, call, *range, false)?;
             }
             if failing.ways != Ways::Undone {
-                self.run_range(&fs, call, *range, true)?;
+                self.run_range(fs, call, *range, true)?;
             }
         }
-        Ok(fs)
+        Ok(())
     }
 
     // Up to the last number, or to one that no call has.
@@ -47,7 +46,7 @@ impl<'a> Bench<'a> {
 
     // Whether there was such a call.
     fn run_failing_at(&mut self, fs: &MemFs, call: &Call, plan: FailAt) -> Result<bool, Stop> {
-        let mut copy = copy_of(self.alloc, fs)?;
+        let mut copy = fresh(self.alloc, fs)?;
         copy.fail_at(vec![in self.alloc; plan]?);
         let input = self.input(&call.asked)?;
         let ran = self.call(copy, &call.asked, input, &call.plan)?;
@@ -57,17 +56,17 @@ impl<'a> Bench<'a> {
     }
 
     /// With each line of the text in the place of `$`.
-    pub fn run_lines(&mut self, fs: MemFs, call: &Call, name: &Bytes) -> Result<MemFs, Stop> {
+    pub fn run_lines(&mut self, fs: &MemFs, call: &Call, name: &Bytes) -> Result<(), Stop> {
         let text = self.text(name)?;
         let lines = without_last(text.as_slice());
         for line in lines.split(|byte| *byte == b'\n') {
-            self.run_line(&fs, call, line)?;
+            self.run_line(fs, call, line)?;
         }
-        Ok(fs)
+        Ok(())
     }
 
     fn run_line(&mut self, fs: &MemFs, call: &Call, line: &[u8]) -> Result<(), Stop> {
-        let copy = copy_of(self.alloc, fs)?;
+        let copy = fresh(self.alloc, fs)?;
         let input = self.input(&call.asked)?;
         let input = replaced(self.alloc, input.as_slice(), line)?;
         let asked = asked_with(self.alloc, &call.asked, line)?;
@@ -79,19 +78,19 @@ impl<'a> Bench<'a> {
     /// With each byte of the input left out.
     pub fn run_bytes(
         &mut self,
-        fs: MemFs,
+        fs: &MemFs,
         call: &Call,
         map: &Option<Bytes>,
-    ) -> Result<MemFs, Stop> {
+    ) -> Result<(), Stop> {
         let input = self.input(&call.asked)?;
         for place in 0..input.as_slice().len() {
             let outcome = match map {
                 Some(name) => Some(outcome_at(self.text(name)?.as_slice(), place)),
                 None => None,
             };
-            self.run_byte(&fs, call, &input, place, outcome)?;
+            self.run_byte(fs, call, &input, place, outcome)?;
         }
-        Ok(fs)
+        Ok(())
     }
 
     fn run_byte(
@@ -102,7 +101,7 @@ impl<'a> Bench<'a> {
         place: usize,
         outcome: Option<usize>,
     ) -> Result<(), Stop> {
-        let copy = copy_of(self.alloc, fs)?;
+        let copy = fresh(self.alloc, fs)?;
         let input = without(self.alloc, input.as_slice(), place)?;
         let ran = self.call(copy, &call.asked, input, &call.plan)?;
         let _ = self.check_member(call, ran, outcome, &Member::Byte(place))?;
@@ -112,18 +111,18 @@ impl<'a> Bench<'a> {
     /// By each schedule of up to two switches.
     pub fn run_schedules(
         &mut self,
-        fs: MemFs,
+        fs: &MemFs,
         call: &Call,
         schedules: Schedules,
-    ) -> Result<MemFs, Stop> {
+    ) -> Result<(), Stop> {
         for first in 0..schedules.lanes {
             for second in 0..schedules.lanes {
                 if first != second {
-                    self.run_switches(&fs, call, schedules.acts, first, second)?;
+                    self.run_switches(fs, call, schedules.acts, first, second)?;
                 }
             }
         }
-        Ok(fs)
+        Ok(())
     }
 
     // One lane acts so many times, the other so many times, and then each in turn.
@@ -145,12 +144,20 @@ impl<'a> Bench<'a> {
     }
 
     fn run_schedule(&mut self, fs: &MemFs, call: &Call, schedule: &str) -> Result<(), Stop> {
-        let copy = copy_of(self.alloc, fs)?;
+        let copy = fresh(self.alloc, fs)?;
         let input = self.input(&call.asked)?;
         let asked = asked_with(self.alloc, &call.asked, schedule.as_bytes())?;
         let ran = self.call(copy, &asked, input, &call.plan)?;
         let _ = self.check_member(call, ran, None, &Member::Line(schedule.as_bytes()))?;
         Ok(())
+    }
+}
+
+// A copy of the disk.
+fn fresh(alloc: Global, fs: &MemFs) -> Result<MemFs, Stop> {
+    match copy_of(alloc, fs)? {
+        Some(copy) => Ok(copy),
+        None => Err(Stop::NoMemory),
     }
 }
 

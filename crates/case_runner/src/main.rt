@@ -12,6 +12,8 @@ mod stop;
 
 use bench::Bench;
 use case_book::{Book, BookFault, Case, read_book};
+use fs_host::HostFs;
+use ost_types::NoMemory;
 use std::io;
 use std::process::ExitCode;
 use std::{env, fs};
@@ -62,9 +64,32 @@ fn run_case(rt: &HostRuntime, book: &Book, case: &Case) -> io::Result<bool> {
     let mut bench = Bench::new(rt.alloc(), book);
     let ended = bench.run_case(case);
     print_bytes(rt, case.name.as_slice())?;
+    let is_so = tell(rt, ended, bench.calls)?;
+    if case.is_host {
+        Ok(run_over_host(rt, book, case)? && is_so)
+    } else {
+        Ok(is_so)
+    }
+}
+
+// The same over the host's current folder.
+fn run_over_host(rt: &HostRuntime, book: &Book, case: &Case) -> io::Result<bool> {
+    for folder in ["ostree", "checkout"] {
+        let _ = fs::remove_dir_all(rt, folder);
+    }
+    let mut bench = Bench::new(rt.alloc(), book);
+    let ended = match HostFs::new(rt.clone()?) {
+        Ok(host) => bench.run_over(host, case),
+        Err(NoMemory) => Err(Stop::NoMemory),
+    };
+    print!(rt; "  over the host")?;
+    tell(rt, ended, bench.calls)
+}
+
+fn tell(rt: &HostRuntime, ended: Result<(), Stop>, calls: u64) -> io::Result<bool> {
     match ended {
         Ok(()) => {
-            println!(rt; ": {}", bench.calls)?;
+            println!(rt; ": {calls}")?;
             Ok(true)
         }
         Err(stop) => {

@@ -2,14 +2,13 @@
 use crate::disk::filled;
 use crate::say::say_other;
 use crate::stop::Stop;
-use fs_memory::MemFs;
 use fs_trait::{Fs, Node};
 use ost_forms::{BodySpec, TreeItem};
 use ost_types::{Bytes, FsPath, Meta, Xattrs};
 use std::alloc::Global;
 
 /// Whether the disk has all the nodes.
-pub fn check_nodes(alloc: Global, fs: &mut MemFs, nodes: &[TreeItem]) -> Result<(), Stop> {
+pub fn check_nodes<F: Fs>(alloc: Global, fs: &mut F, nodes: &[TreeItem]) -> Result<(), Stop> {
     for node in nodes {
         if !has_node(alloc, fs, node)? {
             return Err(Stop::Differs(say_other(alloc, "another node stands at", &node.path)?));
@@ -18,12 +17,12 @@ pub fn check_nodes(alloc: Global, fs: &mut MemFs, nodes: &[TreeItem]) -> Result<
     Ok(())
 }
 
-pub fn stands_at(fs: &mut MemFs, at: &FsPath) -> Result<bool, Stop> {
+pub fn stands_at<F: Fs>(fs: &mut F, at: &FsPath) -> Result<bool, Stop> {
     Ok(fs.stat(at)?.is_some())
 }
 
 /// Whether these are the names in the folder.
-pub fn lists(fs: &mut MemFs, at: &FsPath, names: &[Bytes]) -> Result<bool, Stop> {
+pub fn lists<F: Fs>(fs: &mut F, at: &FsPath, names: &[Bytes]) -> Result<bool, Stop> {
     let found = fs.list(at)?;
     let found = found.as_slice();
     if found.len() != names.len() {
@@ -35,7 +34,7 @@ pub fn lists(fs: &mut MemFs, at: &FsPath, names: &[Bytes]) -> Result<bool, Stop>
         .all(|(name, wanted)| name.as_slice() == wanted.as_slice()))
 }
 
-fn has_node(alloc: Global, fs: &mut MemFs, node: &TreeItem) -> Result<bool, Stop> {
+fn has_node<F: Fs>(alloc: Global, fs: &mut F, node: &TreeItem) -> Result<bool, Stop> {
     match fs.stat(&node.path)? {
         None => Ok(false),
         Some(Node::Folder(meta)) => Ok(node.body.is_none() && is_meta(&meta, &node.meta)),
@@ -68,7 +67,7 @@ fn are_xattrs(found: &Xattrs, wanted: &Xattrs) -> bool {
             .all(|(one, other)| one.name == other.name && one.value == other.value)
 }
 
-fn has_bytes(alloc: Global, fs: &mut MemFs, node: &TreeItem) -> Result<bool, Stop> {
+fn has_bytes<F: Fs>(alloc: Global, fs: &mut F, node: &TreeItem) -> Result<bool, Stop> {
     match &node.body {
         Some(BodySpec::Given(bytes)) => Ok(fs.read(&node.path)?.as_slice() == bytes.as_slice()),
         Some(BodySpec::Fill { len, byte }) => {

@@ -2,7 +2,8 @@
 use crate::call::Ran;
 use crate::stop::Stop;
 use case_book::{Call, Crash, Outcome, Printed};
-use fs_memory::FailAt;
+use fs_memory::{FailAt, MemFs};
+use fs_trait::Fs;
 use ost_types::{Bytes, FsPath};
 use std::alloc::Global;
 
@@ -53,7 +54,7 @@ fn append_member(alloc: Global, said: &mut Bytes, member: &Member) -> Result<(),
 }
 
 /// What came of a call, and what was expected.
-pub fn say_outcomes(alloc: Global, outcomes: &[Outcome], ran: &Ran) -> Result<Bytes, Stop> {
+pub fn say_outcomes<F: Fs>(alloc: Global, outcomes: &[Outcome], ran: &Ran<F>) -> Result<Bytes, Stop> {
     let mut said = Bytes::new(alloc);
     append_output(alloc, &mut said, "printed, with", ran.status, &ran.output)?;
     for outcome in outcomes {
@@ -66,7 +67,7 @@ pub fn say_outcomes(alloc: Global, outcomes: &[Outcome], ran: &Ran) -> Result<By
 pub fn say_crash(
     alloc: Global,
     crash: &Crash,
-    ran: &Ran,
+    ran: &Ran<MemFs>,
     back: u64,
     picks: &[u32],
 ) -> Result<Bytes, Stop> {
