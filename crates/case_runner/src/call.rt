@@ -53,7 +53,12 @@ pub fn call_program<F: Fs>(
     }
 }
 
-fn ran_of<F: Fs>(alloc: Global, ended: Ended<F>, output: &[u8], begun: u64) -> Result<Ran<F>, Stop> {
+fn ran_of<F: Fs>(
+    alloc: Global,
+    ended: Ended<F>,
+    output: &[u8],
+    begun: u64,
+) -> Result<Ran<F>, Stop> {
     Ok(Ran {
         fs: ended.fs,
         status: ended.status,
@@ -96,7 +101,12 @@ fn ended_within<F: Fs>(alloc: Global, parts: Parts<F>, begun: u64) -> Result<Ran
     })
 }
 
-fn stopped_within<F: Fs>(alloc: Global, fs: F, fault: TopFault, begun: u64) -> Result<Ran<F>, Stop> {
+fn stopped_within<F: Fs>(
+    alloc: Global,
+    fs: F,
+    fault: TopFault,
+    begun: u64,
+) -> Result<Ran<F>, Stop> {
     let fault = Some(fault);
     let replies = Vec::new(alloc);
     let output = output_of(alloc, &fault, &replies)?;

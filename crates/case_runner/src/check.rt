@@ -1,8 +1,8 @@
 //! What is expected of a call.
 use crate::bench::Bench;
 use crate::call::Ran;
-use crate::nodes::{check_nodes, lists, stands_at};
 use crate::disk::CaseDisk;
+use crate::nodes::{check_nodes, lists, stands_at};
 use crate::say::{say_crash, say_other, say_outcomes};
 use crate::stop::Stop;
 use case_book::{Check, Crash, Outcome, Plan, Printed};
@@ -123,7 +123,11 @@ fn no_plan(alloc: Global) -> Plan {
     }
 }
 
-fn place_of<'a, F>(outcomes: &'a [Outcome], ran: &Ran<F>, wanted: Option<usize>) -> Option<&'a Outcome> {
+fn place_of<'a, F>(
+    outcomes: &'a [Outcome],
+    ran: &Ran<F>,
+    wanted: Option<usize>,
+) -> Option<&'a Outcome> {
     match wanted {
         Some(place) => match outcomes.get(place) {
             Some(outcome) if is_printed(&outcome.printed, ran) => Some(outcome),
@@ -151,12 +155,7 @@ fn is_printed<F>(printed: &Printed, ran: &Ran<F>) -> bool {
     is_text && ran.status == printed.status
 }
 
-fn wanted(
-    alloc: Global,
-    holds: bool,
-    what: &str,
-    at: &FsPath,
-) -> Result<(), Stop> {
+fn wanted(alloc: Global, holds: bool, what: &str, at: &FsPath) -> Result<(), Stop> {
     if holds {
         return Ok(());
     }

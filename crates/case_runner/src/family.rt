@@ -29,15 +29,11 @@ impl<'a> Bench<'a> {
     }
 
     // Up to the last number, or to one that no call has.
-    fn run_range(
-        &mut self,
-        fs: &MemFs,
-        call: &Call,
-        range: Range,
-        done: bool,
-    ) -> Result<(), Stop> {
+    fn run_range(&mut self, fs: &MemFs, call: &Call, range: Range, done: bool) -> Result<(), Stop> {
         for number in range.first..=range.last.unwrap_or(CALLS) {
-            if !self.run_failing_at(fs, call, FailAt { call: number, done })? && range.last.is_none() {
+            if !self.run_failing_at(fs, call, FailAt { call: number, done })?
+                && range.last.is_none()
+            {
                 return Ok(());
             }
         }
@@ -76,12 +72,7 @@ impl<'a> Bench<'a> {
     }
 
     /// With each byte of the input left out.
-    pub fn run_bytes(
-        &mut self,
-        fs: &MemFs,
-        call: &Call,
-        map: &Option<Bytes>,
-    ) -> Result<(), Stop> {
+    pub fn run_bytes(&mut self, fs: &MemFs, call: &Call, map: &Option<Bytes>) -> Result<(), Stop> {
         let input = self.input(&call.asked)?;
         for place in 0..input.as_slice().len() {
             let outcome = match map {

@@ -14,9 +14,8 @@ use bench::Bench;
 use case_book::{Book, BookFault, Case, read_book};
 use fs_host::HostFs;
 use ost_types::NoMemory;
-use std::io;
 use std::process::ExitCode;
-use std::{env, fs};
+use std::{env, fs, io};
 use stop::Stop;
 
 fn main(rt: HostRuntime) -> io::Result<ExitCode> {

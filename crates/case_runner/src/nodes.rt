@@ -28,10 +28,12 @@ pub fn lists<F: Fs>(fs: &mut F, at: &FsPath, names: &[Bytes]) -> Result<bool, St
     if found.len() != names.len() {
         return Ok(false);
     }
-    Ok(found
-        .iter()
-        .zip(names)
-        .all(|(name, wanted)| name.as_slice() == wanted.as_slice()))
+    Ok(
+        found
+            .iter()
+            .zip(names)
+            .all(|(name, wanted)| name.as_slice() == wanted.as_slice()),
+    )
 }
 
 fn has_node<F: Fs>(alloc: Global, fs: &mut F, node: &TreeItem) -> Result<bool, Stop> {
@@ -61,10 +63,8 @@ fn are_xattrs(found: &Xattrs, wanted: &Xattrs) -> bool {
     let found = found.as_slice();
     let wanted = wanted.as_slice();
     found.len() == wanted.len()
-        && found
-            .iter()
-            .zip(wanted)
-            .all(|(one, other)| one.name == other.name && one.value == other.value)
+        && found.iter().zip(wanted).all(|(one, other)| one.name == other.name
+            && one.value == other.value)
 }
 
 fn has_bytes<F: Fs>(alloc: Global, fs: &mut F, node: &TreeItem) -> Result<bool, Stop> {

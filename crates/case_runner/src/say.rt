@@ -54,7 +54,11 @@ fn append_member(alloc: Global, said: &mut Bytes, member: &Member) -> Result<(),
 }
 
 /// What came of a call, and what was expected.
-pub fn say_outcomes<F: Fs>(alloc: Global, outcomes: &[Outcome], ran: &Ran<F>) -> Result<Bytes, Stop> {
+pub fn say_outcomes<F: Fs>(
+    alloc: Global,
+    outcomes: &[Outcome],
+    ran: &Ran<F>,
+) -> Result<Bytes, Stop> {
     let mut said = Bytes::new(alloc);
     append_output(alloc, &mut said, "printed, with", ran.status, &ran.output)?;
     for outcome in outcomes {
