@@ -1,7 +1,8 @@
+//! What no words of the program ask for so far: a checkout that is removed. What a checkout leaves is told by the cases of `case_runner`.
 ghost use Rattle.ost_types.specs.Mode.{IsFileMode, IsFolderMode};
 
 use crate::Sketch;
-use checkout::{DestExists, remove_tree};
+use checkout::remove_tree;
 use fs_memory::MemFs;
 use fs_trait::{Fs, Node};
 use ost_types::{Csum, FsPath, Kind, Meta, Name, NodeName, ObjName, Text, Xattrs, is_link_mode};
@@ -100,36 +101,11 @@ fn small_tree(rt: &impl Abort, alloc: Global) -> Result<Sketch, Fail> {
     Ok(tree)
 }
 
-fn owner_of(fs: &mut MemFs, alloc: Global, at: &[u8]) -> Result<u32, Fail> {
-    match fs.stat(&FsPath::parse(alloc, at)?)? {
-        Some(Node::Folder(meta)) => Ok(meta.uid),
-        _ => Err("no folder")?,
-    }
-}
-
 fn is_link(fs: &mut MemFs, alloc: Global, at: &[u8]) -> Result<bool, Fail> {
     match fs.stat(&FsPath::parse(alloc, at)?)? {
         Some(Node::Link { target, .. }) => Ok(target.as_slice() == b"usr/bin".as_slice()),
         _ => Ok(false),
     }
-}
-
-#[test]
-fn a_small_tree(rt: HostRuntime) -> Result<(), Fail> {
-    let alloc = rt.alloc();
-    let mut fs = laid_out(alloc)?;
-    put_file(&mut fs, alloc)?;
-    put_link(&rt, &mut fs, alloc)?;
-    let answer = small_tree(&rt, alloc)?.check_out(alloc, &mut fs)?;
-    assert!(rt; answer == Some(Ok(())));
-    let file = FsPath::parse(alloc, b"/checkout/a/usr/hello")?;
-    assert!(rt; fs.same(&object_at(alloc, FILE)?, &file)?);
-    assert!(rt; is_link(&mut fs, alloc, b"/checkout/a/bin")?);
-    assert_eq!(rt; owner_of(&mut fs, alloc, b"/checkout/a")?, 7);
-    assert_eq!(rt; owner_of(&mut fs, alloc, b"/checkout/a/usr")?, 9);
-    let again = small_tree(&rt, alloc)?.check_out(alloc, &mut fs)?;
-    assert!(rt; again == Some(Err(DestExists)));
-    Ok(())
 }
 
 /// Removes what stands under a name of a folder.
@@ -166,15 +142,5 @@ fn removed_again(rt: HostRuntime) -> Result<(), Fail> {
     removed(&mut fs, alloc, &home, &into)?;
     let again = small_tree(&rt, alloc)?.check_out(alloc, &mut fs)?;
     assert!(rt; again == Some(Ok(())));
-    Ok(())
-}
-
-#[test]
-fn none_without_its_objects(rt: HostRuntime) -> Result<(), Fail> {
-    let alloc = rt.alloc();
-    let mut fs = laid_out(alloc)?;
-    put_file(&mut fs, alloc)?;
-    let answer = small_tree(&rt, alloc)?.check_out(alloc, &mut fs)?;
-    assert!(rt; answer.is_none());
     Ok(())
 }

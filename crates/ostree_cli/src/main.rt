@@ -1,19 +1,7 @@
 //! The program `ostree_cli`: an OSTree bare repository in the current folder.
 #![tactic(auto)]
 
-#[cfg(test)]
-mod checkout_tests;
 mod help;
-#[cfg(test)]
-mod look_tests;
-#[cfg(test)]
-mod schedule_tests;
-#[cfg(test)]
-mod script_tests;
-#[cfg(test)]
-mod tests;
-#[cfg(test)]
-mod tree_tests;
 
 use fs_host::{HostFs, StdSink, StdSource};
 use help::{USAGE, VERSION};

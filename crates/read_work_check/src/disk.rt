@@ -1,11 +1,11 @@
 //! A disk whose objects are written as they come.
-ghost use Rattle.ost_types.specs.Mode.{IsFileMode, IsFolderMode, IsLinkMode};
+ghost use Rattle.ost_types.specs.Mode.{IsFileMode, IsFolderMode};
 
 use fs_memory::MemFs;
 use fs_trait::{Fs, FsErr};
 use ost_forms::sum_of;
-use ost_types::{Bytes, Csum, FsPath, Kind, Meta, ObjName, Text, Xattrs};
-use repo_layout::{Folder, folder_path, mark_path, object_path, objects_folder_path};
+use ost_types::{Bytes, Csum, FsPath, Kind, Meta, ObjName, Xattrs};
+use repo_layout::{Folder, folder_path, object_path, objects_folder_path};
 use std::alloc::Global;
 use std::test::Fail;
 
@@ -27,17 +27,6 @@ fn file_meta(alloc: Global) -> Meta
         uid: 0,
         gid: 0,
         mode: 0o100644,
-        xattrs: Xattrs::new(alloc),
-    }
-}
-
-fn link_meta(alloc: Global) -> Meta
-    ensures { IsLinkMode result.mode }
-{
-    Meta {
-        uid: 0,
-        gid: 0,
-        mode: 0o120777,
         xattrs: Xattrs::new(alloc),
     }
 }
@@ -67,28 +56,11 @@ pub fn put_bytes(fs: &mut MemFs, alloc: Global, name: &ObjName, bytes: &[u8]) ->
     fs.append(&at, bytes)
 }
 
-/// A symbolic link there.
-pub fn put_link(fs: &mut MemFs, alloc: Global, csum: Csum, target: &[u8]) -> Result<(), Fail> {
-    make_folder(fs, alloc, &objects_folder_path(alloc, &csum)?)?;
-    let kind = Kind::File;
-    let at = object_path(alloc, &ObjName { csum, kind })?;
-    let target = Text::parse(alloc, target)?.ok_or("no text")?;
-    if target.as_slice().is_empty() {
-        return Err("no target")?;
-    }
-    Ok(fs.symlink(&at, &target, &link_meta(alloc))?)
-}
-
 /// The same under the name of the bytes.
 pub fn put_named(fs: &mut MemFs, alloc: Global, kind: Kind, bytes: &[u8]) -> Result<Csum, FsErr> {
     let csum = sum_of(bytes);
     put_bytes(fs, alloc, &ObjName { csum, kind }, bytes)?;
     Ok(csum)
-}
-
-/// A mark of the commit.
-pub fn put_mark(fs: &mut MemFs, alloc: Global, commit: &Csum) -> Result<(), FsErr> {
-    fs.create(&mark_path(alloc, commit)?, &file_meta(alloc))
 }
 
 /// The entries of an empty folder, and a folder's attributes: owner 0, group 0 and mode 0755.
@@ -105,16 +77,6 @@ pub fn put_root(fs: &mut MemFs, alloc: Global) -> Result<(Csum, Csum), Fail> {
     bytes.append(meta.bytes())?;
     bytes.append(&[34, 2, 68, 0])?;
     Ok((put_named(fs, alloc, Kind::DirTree, bytes.as_slice())?, meta))
-}
-
-/// A commit of the subject `first` at the second 1,700,000,000, without a parent.
-pub fn put_first(fs: &mut MemFs, alloc: Global, root: &(Csum, Csum)) -> Result<Csum, Fail> {
-    let mut bytes = Bytes::from_slice(alloc, b"first\0\0\0")?;
-    bytes.append(&[0, 0, 0, 0, 0x65, 0x53, 0xf1, 0])?;
-    bytes.append(root.0.bytes())?;
-    bytes.append(root.1.bytes())?;
-    bytes.append(&[0x30, 0x07, 0x06, 0, 0, 0])?;
-    Ok(put_named(fs, alloc, Kind::Commit, bytes.as_slice())?)
 }
 
 /// A commit of the subject `second` at the second 1,700,000,001, with this parent.

@@ -7,16 +7,4 @@ mod running;
 pub use running::{NotRun, run};
 
 #[cfg(test)]
-mod checkout_tests;
-#[cfg(test)]
-mod crash_tests;
-#[cfg(test)]
-mod disks;
-#[cfg(test)]
-mod read_tests;
-#[cfg(test)]
-mod stores;
-#[cfg(test)]
-mod tests;
-#[cfg(test)]
 mod turn_tests;

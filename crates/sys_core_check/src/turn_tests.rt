@@ -1,13 +1,14 @@
-//! Lanes whose acts come one after the other.
+//! Lanes whose acts come one after the other. What a run of the program leaves is told by the cases of `case_runner`.
 ghost use Rattle.std.specs.Prelude.{◌≡◌, IfOk};
 
-use crate::disks::{lane, says, tree_lane};
 use crate::fit::are_fit;
+use crate::run;
 use crate::running::long_lane;
-use crate::stores::{COMMIT, with_commit};
 use fs_memory::MemFs;
-use ost_types::{Csum, Limits};
-use script::{Answer, Lane, Reply};
+use ost_forms::TreeItem;
+use ost_types::{FsPath, Limits, Meta, Text, Xattrs};
+use repo_layout::RefName;
+use script::{Command, Lane, Reply, Rev, write_replies};
 use std::alloc::Global;
 use std::process::Abort;
 use std::test::Fail;
@@ -17,13 +18,13 @@ use sys_open::{Opened, adopt};
 fn open_disk(alloc: Global, limits: Limits) -> Result<Opened<MemFs>, Fail>
     ensures { IfOk result (λ o. o.limits ≡ limits) }
 {
-    match adopt(alloc, with_commit(alloc)?, limits) {
+    match adopt(alloc, MemFs::new(alloc)?, limits) {
         Ok(opened) => Ok(opened),
         Err(_) => Err("not opened")?,
     }
 }
 
-pub fn system_of(alloc: Global, lanes: Vec<Lane>, limits: Limits) -> Result<System<MemFs>, Fail> {
+fn system_of(alloc: Global, lanes: Vec<Lane>, limits: Limits) -> Result<System<MemFs>, Fail> {
     if lanes.len() > 8 {
         return Err("too many lanes")?;
     }
@@ -39,41 +40,70 @@ pub fn system_of(alloc: Global, lanes: Vec<Lane>, limits: Limits) -> Result<Syst
     }
 }
 
-fn two_lanes(alloc: Global, first: &[u8], second: &[u8]) -> Result<System<MemFs>, Fail> {
-    let lanes = vec![in alloc; lane(alloc, first)?, lane(alloc, second)?]?;
-    system_of(alloc, lanes, Limits::standard())
+fn name(alloc: Global, text: &[u8]) -> Result<RefName, Fail> {
+    Ok(RefName::parse(alloc, text)?.ok_or("no name")?)
 }
 
-/// Whether another lane was in the way, in so many rounds of one act each.
-pub fn interleave(system: &mut System<MemFs>, rounds: u32) -> bool {
-    let mut blocked = false;
-    for _ in 0..rounds {
-        for lane in 0..2 {
-            if system.act(lane) == Ask::Blocked {
-                blocked = true;
-            }
-        }
-    }
-    blocked
+fn text(alloc: Global, text: &[u8]) -> Result<Text, Fail> {
+    Ok(Text::parse(alloc, text)?.ok_or("no text")?)
+}
+
+// A commit of an empty folder.
+fn commit(alloc: Global, branch: &[u8]) -> Result<Command, Fail> {
+    let root = TreeItem {
+        path: FsPath::root(alloc),
+        meta: Meta {
+            uid: 0,
+            gid: 0,
+            mode: 0o040755,
+            xattrs: Xattrs::new(alloc),
+        },
+        body: None,
+    };
+    Ok(Command::Commit {
+        branch: name(alloc, branch)?,
+        tree: vec![in alloc; root]?,
+        subject: text(alloc, b"first")?,
+        body: text(alloc, b"")?,
+        time: 1_700_000_000,
+    })
+}
+
+fn says(alloc: Global, replies: &[Vec<Reply>], wanted: &str) -> Result<bool, Fail> {
+    Ok(write_replies(alloc, replies)?.as_slice() == wanted.as_bytes())
+}
+
+fn lists(alloc: Global) -> Result<Lane, Fail> {
+    Ok(Lane {
+        commands: vec![in alloc; Command::Refs]?,
+    })
 }
 
 #[test]
-fn interleaves_two_lanes(rt: HostRuntime) -> Result<(), Fail> {
+fn runs_lanes(rt: HostRuntime) -> Result<(), Fail> {
     let alloc = rt.alloc();
-    let mut system = two_lanes(alloc, b"reset a X|drop a", b"reset b X|refs")?;
-    assert!(rt; interleave(&mut system, 100));
-    assert!(rt; system.act(0) == Ask::Ended && system.act(1) == Ask::Ended);
-    assert!(rt; system.history().len() == 3 && system.pending().is_none());
-    let parts = system.into_parts();
-    for row in &parts.replies {
-        assert!(rt; row.len() == 2);
+    let lanes = vec![in alloc; lists(alloc)?, lists(alloc)?]?;
+    match &run(alloc, MemFs::new(alloc)?, lanes) {
+        Ok(parts) => assert!(rt; says(alloc, &parts.replies, "0 0 ok 0\n1 0 ok 0\n")?),
+        Err(_) => return Err("not run")?,
     }
+    Ok(())
+}
+
+#[test]
+fn acts_for_no_other_lane(rt: HostRuntime) -> Result<(), Fail> {
+    let alloc = rt.alloc();
+    let lanes = vec![in alloc; lists(alloc)?, lists(alloc)?]?;
+    let mut system = system_of(alloc, lanes, Limits::standard())?;
+    assert!(rt; system.act(2) == Ask::Ended && system.act(255) == Ask::Ended);
+    system.drive(&[1, 1, 0]);
+    assert!(rt; says(alloc, system.replies(), "0 0 ok 0\n1 0 ok 0\n")?);
     Ok(())
 }
 
 // The lane's acts till its change is shown.
 fn act_till_pending(system: &mut System<MemFs>, lane: u8) {
-    for _ in 0..100 {
+    for _ in 0..200 {
         if system.pending().is_some() {
             break;
         }
@@ -83,7 +113,7 @@ fn act_till_pending(system: &mut System<MemFs>, lane: u8) {
 
 // Whether it goes on with no act of another till it is held off.
 fn is_held_off(system: &mut System<MemFs>, lane: u8) -> bool {
-    for _ in 0..100 {
+    for _ in 0..200 {
         match system.act(lane) {
             Ask::Blocked => return true,
             Ask::More => {}
@@ -93,10 +123,27 @@ fn is_held_off(system: &mut System<MemFs>, lane: u8) -> bool {
     false
 }
 
+// The same commit for two refs, with the name that OSTree's formats give a commit of an empty folder.
+const REPLIES: &str =
+    "0 0 ok b30605ed9370a39846c77ee0fc427b9e07ef40432f45037c89db106f36e49623
+1 0 ok b30605ed9370a39846c77ee0fc427b9e07ef40432f45037c89db106f36e49623
+1 1 ok b30605ed9370a39846c77ee0fc427b9e07ef40432f45037c89db106f36e49623
+";
+
 #[test]
 fn waits_for_the_turn(rt: HostRuntime) -> Result<(), Fail> {
     let alloc = rt.alloc();
-    let mut system = two_lanes(alloc, b"reset a X", b"reset b X|rev-parse a|refs")?;
+    let seen = Command::RevParse {
+        rev: Rev::Ref(name(alloc, b"a")?),
+    };
+    let first = Lane {
+        commands: vec![in alloc; commit(alloc, b"a")?]?,
+    };
+    let second = Lane {
+        commands: vec![in alloc; commit(alloc, b"b")?, seen]?,
+    };
+    let lanes = vec![in alloc; first, second]?;
+    let mut system = system_of(alloc, lanes, Limits::standard())?;
     act_till_pending(&mut system, 0);
     assert!(rt; is_held_off(&mut system, 1));
     assert!(rt; system.act(1) == Ask::Blocked);
@@ -109,82 +156,8 @@ fn waits_for_the_turn(rt: HostRuntime) -> Result<(), Fail> {
     );
     assert!(rt; system.pending().is_none());
     assert!(rt; system.act(1) == Ask::More);
-    assert!(rt; !interleave(&mut system, 100));
-    let wanted = format!(in alloc;
-        "0 0 ok\n1 0 ok\n1 1 ok {COMMIT}\n1 2 ok 2\n a {COMMIT}\n b {COMMIT}\n"
-    )?;
-    assert!(rt; says(alloc, system.replies(), wanted.as_str())?);
-    Ok(())
-}
-
-#[test]
-fn tells_a_ref_that_moved(rt: HostRuntime) -> Result<(), Fail> {
-    let alloc = rt.alloc();
-    let mut system = two_lanes(alloc, b"reset a X", b"reset a X")?;
-    assert!(rt; interleave(&mut system, 100));
-    let wanted = format!(in alloc; "0 0 ok\n1 0 refused RefMoved none {COMMIT}\n")?;
-    assert!(rt; says(alloc, system.replies(), wanted.as_str())?);
-    assert!(rt; system.history().len() == 1);
-    Ok(())
-}
-
-#[test]
-fn acts_for_no_other_lane(rt: HostRuntime) -> Result<(), Fail> {
-    let alloc = rt.alloc();
-    let mut system = two_lanes(alloc, b"refs", b"refs")?;
-    assert!(rt; system.act(2) == Ask::Ended && system.act(255) == Ask::Ended);
-    system.drive(&[1, 1, 0]);
-    assert!(rt; says(alloc, system.replies(), "0 0 ok 0\n1 0 ok 0\n")?);
-    Ok(())
-}
-
-/// The commit of a reply.
-pub fn commit_in(system: &System<MemFs>, lane: usize, number: usize) -> Option<Csum> {
-    match system.replies().get(lane).and_then(|row| row.get(number)) {
-        Some(
-            Reply {
-                answer: Answer::Commit(commit),
-                ..
-            },
-        ) => Some(*commit),
-        _ => None,
-    }
-}
-
-#[test]
-fn commits_a_tree(rt: HostRuntime) -> Result<(), Fail> {
-    let alloc = rt.alloc();
-    let lanes = vec![in alloc; tree_lane(alloc, b"main", b"rev-parse main|reset other X")?]?;
-    let mut system = system_of(alloc, lanes, Limits::standard())?;
     system.drive(&[]);
-    let commit = commit_in(&system, 0, 0);
-    assert!(rt; commit.is_some() && commit_in(&system, 0, 1) == commit);
-    assert!(rt; system.history().len() == 2 && system.pending().is_none());
-    Ok(())
-}
-
-#[test]
-fn commits_one_of_two(rt: HostRuntime) -> Result<(), Fail> {
-    let alloc = rt.alloc();
-    let lanes = vec![in alloc;
-        tree_lane(alloc, b"main", b"refs")?,
-        tree_lane(alloc, b"main", b"refs")?,
-    ]?;
-    let mut system = system_of(alloc, lanes, Limits::standard())?;
-    system.drive(&[0, 1]);
-    assert!(rt; commit_in(&system, 0, 0).is_some() != commit_in(&system, 1, 0).is_some());
-    assert!(rt; system.history().len() == 1);
-    Ok(())
-}
-
-#[test]
-fn commits_no_more_than_may_be(rt: HostRuntime) -> Result<(), Fail> {
-    let alloc = rt.alloc();
-    let lanes = vec![in alloc; tree_lane(alloc, b"main", b"refs")?]?;
-    let mut limits = Limits::standard();
-    limits.objects = 5;
-    let mut system = system_of(alloc, lanes, limits)?;
-    system.drive(&[]);
-    assert!(rt; says(alloc, system.replies(), "0 0 refused TooMany 6\n0 1 ok 0\n")?);
+    assert!(rt; says(alloc, system.replies(), REPLIES)?);
+    assert!(rt; system.history().len() == 2);
     Ok(())
 }

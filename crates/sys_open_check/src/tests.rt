@@ -1,402 +1,102 @@
-use crate::disks::{ONES, add_file, add_folder, add_link, with_folders, with_refs};
-use crate::stores::{COMMIT, COMMIT_BYTES, COMMIT_REF, EMPTY, META, META_BYTES, with_files};
-use crate::{Found, open_again};
-use fs_memory::{Choice, FailAt, MemFs};
-use fs_trait::{Fs, Node};
-use ost_types::{FsPath, Limits};
+//! What no words of the program ask for: an opening under other limits. What else an opening tells is told by the cases of `case_runner`.
+ghost use Rattle.ost_types.specs.Mode.{IsFileMode, IsFolderMode};
+
+use crate::open_again;
+use fs_memory::MemFs;
+use fs_trait::Fs;
+use ost_types::{Csum, FsPath, Kind, Limits, Meta, ObjName, Xattrs};
 use std::alloc::Global;
 use std::process::Abort;
 use std::test::Fail;
 use sys_open::{OpenFault, Why};
 
-fn opened(alloc: Global, fs: MemFs) -> Result<Found<MemFs>, Fail> {
-    match open_again(alloc, fs, Limits::standard()) {
-        Ok(found) => Ok(found),
-        Err(_) => Err("not opened")?,
+fn folder_meta(alloc: Global) -> Meta
+    ensures { IsFolderMode result.mode }
+{
+    Meta {
+        uid: 0,
+        gid: 0,
+        mode: 0o040755,
+        xattrs: Xattrs::new(alloc),
     }
 }
 
-fn check_told(
-    rt: &impl Abort,
-    alloc: Global,
-    fs: MemFs,
-    at: &[u8],
-    wanted: Why,
-) -> Result<(), Fail> {
-    let path = FsPath::parse(alloc, at)?;
-    match &open_again(alloc, fs, Limits::standard()) {
-        Err((_, OpenFault::Damaged(found, why))) => assert!(rt; *found == path && *why == wanted),
-        _ => return Err("another end")?,
+fn file_meta(alloc: Global) -> Meta
+    ensures { IsFileMode result.mode }
+{
+    Meta {
+        uid: 0,
+        gid: 0,
+        mode: 0o100644,
+        xattrs: Xattrs::new(alloc),
     }
-    Ok(())
 }
 
-// These folders and links are there; the least path is told at which the layout doesn't allow them.
-fn check_places(
-    rt: &impl Abort,
-    alloc: Global,
-    folders: &[&[u8]],
-    links: &[&[u8]],
-    told: &[u8],
-) -> Result<(), Fail> {
-    let mut fs = with_folders(alloc, folders)?;
-    for link in links {
-        add_link(&mut fs, alloc, link)?;
-    }
-    check_told(rt, alloc, fs, told, Why::WrongKind)
+fn add_file(fs: &mut MemFs, alloc: Global, at: &[u8], bytes: &[u8]) -> Result<(), Fail> {
+    let at = FsPath::parse(alloc, at)?;
+    fs.create(&at, &file_meta(alloc))?;
+    Ok(fs.append(&at, bytes)?)
 }
 
-// Something else than a folder stands at these places; the least is told.
-fn check_kind(rt: &impl Abort, alloc: Global, leaves: &[&[u8]], told: &[u8]) -> Result<(), Fail> {
-    let folders: [&[u8]; 2] = [b"/ostree", b"/ostree/repo"];
-    check_places(rt, alloc, &folders, leaves, told)
-}
+const COMMIT: &[u8] =
+    b"/ostree/repo/objects/b3/0605ed9370a39846c77ee0fc427b9e07ef40432f45037c89db106f36e49623.commit";
 
-#[test]
-fn tells_what_is_no_folder(rt: HostRuntime) -> Result<(), Fail> {
-    let alloc = rt.alloc();
-    let leaves: [&[u8]; 1] = [b"/ostree/repo/tmp"];
-    check_kind(&rt, alloc, &leaves, b"/ostree/repo/tmp")?;
-    let leaves: [&[u8]; 2] = [b"/ostree/repo/state", b"/ostree/repo/objects"];
-    check_kind(&rt, alloc, &leaves, b"/ostree/repo/objects")?;
-    let mut fs = MemFs::new(alloc)?;
-    add_file(&mut fs, alloc, b"/ostree", b"")?;
-    check_told(&rt, alloc, fs, b"/ostree", Why::WrongKind)
-}
+const EMPTY: &[u8] =
+    b"/ostree/repo/objects/6e/340b9cffb37a989ca544e6bb780a2c78901d3fb33738768511a30617afa01d.dirtree";
 
-const OBJECTS: [&[u8]; 3] = [b"/ostree", b"/ostree/repo", b"/ostree/repo/objects"];
+const META: &[u8] =
+    b"/ostree/repo/objects/44/6a0ef11b7cc167f3b603e585c7eeeeb675faa412d5ec73f62988eb0b6c5488.dirmeta";
 
-const MARKS: [&[u8]; 3] = [b"/ostree", b"/ostree/repo", b"/ostree/repo/state"];
+const COMMIT_BYTES: &[u8] =
+    b"first\x00\x00\x00\x00\x00\x00\x00eS\xf1\x00n4\x0b\x9c\xff\xb3z\x98\x9c\xa5D\xe6\xbbx\x0a,x\x90\x1d?\xb378v\x85\x11\xa3\x06\x17\xaf\xa0\x1dDj\x0e\xf1\x1b|\xc1g\xf3\xb6\x03\xe5\x85\xc7\xee\xee\xb6u\xfa\xa4\x12\xd5\xecs\xf6)\x88\xeb\x0blT\x880\x07\x06\x00\x00\x00";
 
-const KERNELS: [&[u8]; 2] = [b"/boot", b"/boot/ostree"];
-
-const STATEROOTS: [&[u8]; 2] = [b"/ostree", b"/ostree/deploy"];
-
-const MARK: &[u8] =
-    b"/ostree/repo/state/1111111111111111111111111111111111111111111111111111111111111111.commitpartial";
-
-const KERNEL: &[u8] =
-    b"/boot/ostree/os-1111111111111111111111111111111111111111111111111111111111111111";
-
-const VMLINUZ: &[u8] =
-    b"/boot/ostree/os-1111111111111111111111111111111111111111111111111111111111111111/vmlinuz-6.1+x~1";
-
-const INITRAMFS: &[u8] =
-    b"/boot/ostree/os-1111111111111111111111111111111111111111111111111111111111111111/initramfs-6.1.img";
-
-#[test]
-fn tells_wrong_kinds_in_the_repository(rt: HostRuntime) -> Result<(), Fail> {
-    let alloc = rt.alloc();
-    let links: [&[u8]; 1] = [b"/ostree/repo/objects/0f"];
-    check_places(&rt, alloc, &OBJECTS, &links, b"/ostree/repo/objects/0f")?;
-    let links: [&[u8]; 1] = [MARK];
-    check_places(&rt, alloc, &MARKS, &links, MARK)?;
-    let folders: [&[u8]; 4] = [b"/ostree", b"/ostree/repo", b"/ostree/repo/state", MARK];
-    check_places(&rt, alloc, &folders, &[], MARK)
-}
-
-#[test]
-fn tells_wrong_kinds_of_stateroots(rt: HostRuntime) -> Result<(), Fail> {
-    let alloc = rt.alloc();
-    let links: [&[u8]; 1] = [b"/ostree/deploy/os"];
-    check_places(&rt, alloc, &STATEROOTS, &links, b"/ostree/deploy/os")?;
-    let folders: [&[u8]; 3] = [b"/ostree", b"/ostree/deploy", b"/ostree/deploy/os"];
-    let links: [&[u8]; 1] = [b"/ostree/deploy/os/deploy"];
-    check_places(&rt, alloc, &folders, &links, b"/ostree/deploy/os/deploy")
-}
-
-#[test]
-fn tells_wrong_kinds_of_kernels(rt: HostRuntime) -> Result<(), Fail> {
-    let alloc = rt.alloc();
-    let links: [&[u8]; 1] = [KERNEL];
-    check_places(&rt, alloc, &KERNELS, &links, KERNEL)?;
-    let folders: [&[u8]; 4] = [b"/boot", b"/boot/ostree", KERNEL, VMLINUZ];
-    check_places(&rt, alloc, &folders, &[], VMLINUZ)?;
-    let folders: [&[u8]; 5] = [b"/boot", b"/boot/ostree", KERNEL, VMLINUZ, INITRAMFS];
-    check_places(&rt, alloc, &folders, &[], INITRAMFS)
-}
-
-// Of wrong places of one path and of many names the least is told.
-#[test]
-fn tells_the_least_wrong_kind(rt: HostRuntime) -> Result<(), Fail> {
-    let alloc = rt.alloc();
-    let links: [&[u8]; 2] = [b"/ostree/repo/objects/0f", b"/ostree/repo/tmp"];
-    check_places(&rt, alloc, &OBJECTS, &links, b"/ostree/repo/objects/0f")?;
-    let links: [&[u8]; 2] = [KERNEL, b"/ostree"];
-    check_places(&rt, alloc, &KERNELS, &links, KERNEL)?;
-    let links: [&[u8]; 2] = [KERNEL, b"/boot/loader.0"];
-    check_places(&rt, alloc, &KERNELS, &links, b"/boot/loader.0")
-}
-
-#[test]
-fn passes_over_other_names(rt: HostRuntime) -> Result<(), Fail> {
-    let alloc = rt.alloc();
-    let folders: [&[u8]; 7] = [
-        b"/boot",
-        b"/boot/ostree",
+// A commit of an empty folder, with its entries and its attributes.
+fn with_commit(alloc: Global) -> Result<MemFs, Fail> {
+    let folders: [&[u8]; 6] = [
         b"/ostree",
-        b"/ostree/deploy",
         b"/ostree/repo",
         b"/ostree/repo/objects",
-        b"/ostree/repo/state",
+        b"/ostree/repo/objects/b3",
+        b"/ostree/repo/objects/6e",
+        b"/ostree/repo/objects/44",
     ];
-    let mut fs = with_folders(alloc, &folders)?;
-    let links: [&[u8]; 5] = [
-        b"/boot/ostree/os-11",
-        b"/ostree/deploy/.os",
-        b"/ostree/repo/objects/0F",
-        b"/ostree/repo/objects/0f0",
-        b"/ostree/repo/state/1.commitpartial",
-    ];
-    for link in links {
-        add_link(&mut fs, alloc, link)?;
+    let mut fs = MemFs::new(alloc)?;
+    for at in folders {
+        fs.mkdir(&FsPath::parse(alloc, at)?, &folder_meta(alloc))?;
     }
-    let found = opened(alloc, fs)?;
-    assert!(&rt; found.refs.is_empty());
-    Ok(())
-}
-
-fn check_refs(
-    rt: &impl Abort,
-    alloc: Global,
-    files: &[(&[u8], &[u8])],
-    told: &[u8],
-) -> Result<(), Fail> {
-    check_told(rt, alloc, with_refs(alloc, files)?, told, Why::BadRef)
-}
-
-#[test]
-fn tells_bad_refs(rt: HostRuntime) -> Result<(), Fail> {
-    let alloc = rt.alloc();
-    // no file of a ref: too short, no digits, no newline
-    let files: [(&[u8], &[u8]); 1] = [(b"/ostree/repo/refs/heads/main", b"11\n")];
-    check_refs(&rt, alloc, &files, b"/ostree/repo/refs/heads/main")?;
-    // no name of a ref
-    let files: [(&[u8], &[u8]); 1] = [(b"/ostree/repo/refs/heads/.main", ONES)];
-    check_refs(&rt, alloc, &files, b"/ostree/repo/refs/heads/.main")?;
-    // the least by its path, not by the bytes of its name
-    let files: [(&[u8], &[u8]); 2] = [
-        (b"/ostree/repo/refs/heads/a-b", b""),
-        (b"/ostree/repo/refs/heads/a/b", b""),
-    ];
-    check_refs(&rt, alloc, &files, b"/ostree/repo/refs/heads/a/b")
-}
-
-#[test]
-fn tells_links_in_the_place_of_refs(rt: HostRuntime) -> Result<(), Fail> {
-    let alloc = rt.alloc();
-    let files: [(&[u8], &[u8]); 1] = [(b"/ostree/repo/refs/heads/main", ONES)];
-    let mut fs = with_refs(alloc, &files)?;
-    add_link(&mut fs, alloc, b"/ostree/repo/refs/heads/z")?;
-    check_told(&rt, alloc, fs, b"/ostree/repo/refs/heads/z", Why::BadRef)
-}
-
-#[test]
-fn tells_kinds_before_refs(rt: HostRuntime) -> Result<(), Fail> {
-    let alloc = rt.alloc();
-    let files: [(&[u8], &[u8]); 1] = [(b"/ostree/repo/refs/heads/main", b"")];
-    let mut fs = with_refs(alloc, &files)?;
-    add_link(&mut fs, alloc, b"/ostree/repo/tmp")?;
-    check_told(&rt, alloc, fs, b"/ostree/repo/tmp", Why::WrongKind)
-}
-
-fn is_there(fs: &mut MemFs, alloc: Global, at: &[u8]) -> Result<bool, Fail> {
-    Ok(fs.stat(&FsPath::parse(alloc, at)?)?.is_some())
-}
-
-// A commit, two refs, a staged file, a staged folder, and names of others.
-fn busy_disk(alloc: Global) -> Result<MemFs, Fail> {
-    let files: [(&[u8], &[u8]); 5] = [
-        (COMMIT, COMMIT_BYTES),
-        (EMPTY, b"\0"),
-        (META, META_BYTES),
-        (b"/ostree/repo/refs/heads/a/b", COMMIT_REF),
-        (b"/ostree/repo/refs/heads/a-b", COMMIT_REF),
-    ];
-    let mut fs = with_files(alloc, &files)?;
-    let folders: [&[u8]; 4] = [
-        b"/ostree/repo/tmp",
-        b"/ostree/repo/tmp/actor-12",
-        b"/ostree/repo/tmp/other",
-        b"/mine",
-    ];
-    for folder in folders {
-        add_folder(&mut fs, alloc, folder)?;
-    }
-    add_file(&mut fs, alloc, b"/ostree/repo/tmp/actor-12/part", b"x")?;
-    add_file(&mut fs, alloc, b"/ostree/repo/tmp/actor-3", b"x")?;
-    add_file(&mut fs, alloc, b"/ostree/repo/tmp/actor-16", b"x")?;
-    add_file(&mut fs, alloc, b"/mine/file", b"x")?;
-    add_file(&mut fs, alloc, b"/ostree/repo/refs/file", b"x")?;
-    add_file(&mut fs, alloc, b"/ostree/repo/.lock", b"")?;
-    add_file(&mut fs, alloc, b"/ostree/repo/objects/6e/other", b"x")?;
-    add_file(&mut fs, alloc, b"/ostree/repo/refs/remotes/main", ONES)?;
-    add_folder(&mut fs, alloc, b"/ostree/repo/extensions")?;
-    fs.sync_all()?;
+    add_file(&mut fs, alloc, COMMIT, COMMIT_BYTES)?;
+    add_file(&mut fs, alloc, EMPTY, b"\0")?;
+    add_file(
+        &mut fs,
+        alloc,
+        META,
+        b"\x00\x00\x00\x00\x00\x00\x00\x00\x00\x00A\xed",
+    )?;
     Ok(fs)
 }
 
-fn has_name(found: &Found<MemFs>, place: usize, wanted: &[u8]) -> bool {
-    match found.refs.get(place) {
-        Some((name, _)) => name.as_slice() == wanted,
-        None => false,
+const EMPTY_SUM: &[u8] = b"6e340b9cffb37a989ca544e6bb780a2c78901d3fb33738768511a30617afa01d";
+
+fn with_paths(paths: u32) -> Limits {
+    Limits {
+        objects: 100,
+        paths,
+        content: 1000,
     }
 }
 
-// The refs of that disk, by the bytes of their names.
-fn check_found(rt: &impl Abort, found: &Found<MemFs>) {
-    assert!(rt; found.refs.len() == 2);
-    assert!(rt; has_name(found, 0, b"a-b"));
-    assert!(rt; has_name(found, 1, b"a/b"));
-}
-
+// The root is a path, too.
 #[test]
-fn leaves_the_names_of_others(rt: HostRuntime) -> Result<(), Fail> {
+fn tells_a_commit_of_more_paths_than_the_limit(rt: HostRuntime) -> Result<(), Fail> {
     let alloc = rt.alloc();
-    let mut found = opened(alloc, busy_disk(alloc)?)?;
-    check_found(&rt, &found);
-    let kept: [&[u8]; 9] = [
-        b"/mine/file",
-        b"/ostree/repo/.lock",
-        b"/ostree/repo/extensions",
-        b"/ostree/repo/objects/6e/other",
-        b"/ostree/repo/refs/remotes/main",
-        b"/ostree/repo/refs/file",
-        b"/ostree/repo/tmp/actor-16",
-        b"/ostree/repo/tmp/other",
-        b"/ostree/repo/refs/heads/a-b",
-    ];
-    for at in kept {
-        assert!(&rt; is_there(&mut found.fs, alloc, at)?);
+    assert!(rt; open_again(alloc, with_commit(alloc)?, with_paths(1)).is_ok());
+    let at = FsPath::parse(alloc, COMMIT)?;
+    let csum = Csum::from_hex(EMPTY_SUM).ok_or("no sum")?;
+    let kind = Kind::DirTree;
+    let wanted = Why::Incomplete(ObjName { csum, kind });
+    match &open_again(alloc, with_commit(alloc)?, with_paths(0)) {
+        Err((_, OpenFault::Damaged(found, why))) => assert!(rt; *found == at && *why == wanted),
+        _ => return Err("another end")?,
     }
-    let gone: [&[u8]; 2] = [b"/ostree/repo/tmp/actor-12", b"/ostree/repo/tmp/actor-3"];
-    for at in gone {
-        assert!(&rt; !is_there(&mut found.fs, alloc, at)?);
-    }
-    Ok(())
-}
-
-#[test]
-fn lays_out_what_is_missing(rt: HostRuntime) -> Result<(), Fail> {
-    let alloc = rt.alloc();
-    let mut found = opened(alloc, MemFs::new(alloc)?)?;
-    assert!(&rt; found.refs.is_empty());
-    let folders: [&[u8]; 4] = [
-        b"/ostree/repo/objects",
-        b"/ostree/repo/refs/heads",
-        b"/ostree/repo/state",
-        b"/ostree/repo/tmp",
-    ];
-    for at in folders {
-        assert!(&rt; is_there(&mut found.fs, alloc, at)?);
-    }
-    let config = found
-        .fs
-        .read(&FsPath::parse(alloc, b"/ostree/repo/config")?)?;
-    assert!(&rt; config.as_slice() == b"[core]\nrepo_version=1\nmode=bare\n".as_slice());
-    assert!(&rt; !is_there(&mut found.fs, alloc, b"/ostree/repo/tmp/actor-0")?);
-    // what stands there already makes an opening one barrier
-    let before = found.fs.moments();
-    let again = opened(alloc, found.fs)?;
-    assert_eq!(&rt; again.fs.moments(), before.saturating_add(1));
-    Ok(())
-}
-
-// What a crash left so many changes before the end opens with the same refs.
-fn check_image(
-    rt: &impl Abort,
-    alloc: Global,
-    fs: &MemFs,
-    back: u64,
-    picks: Vec<u32>,
-) -> Result<(), Fail> {
-    let left = fs.image(
-        fs.moments().saturating_sub(back),
-        &Choice { picks, fill: 1 },
-    )?;
-    check_found(rt, &opened(alloc, left)?);
-    Ok(())
-}
-
-fn check_images(rt: &impl Abort, alloc: Global, fs: &MemFs, changes: u64) -> Result<(), Fail> {
-    for back in 0..=changes {
-        check_image(rt, alloc, fs, back, Vec::new(alloc))?;
-        check_image(rt, alloc, fs, back, vec![in alloc; 0]?)?;
-        check_image(rt, alloc, fs, back, vec![in alloc; 1, 0]?)?;
-    }
-    Ok(())
-}
-
-#[test]
-fn opens_what_a_crash_left(rt: HostRuntime) -> Result<(), Fail> {
-    let alloc = rt.alloc();
-    let fs = busy_disk(alloc)?;
-    let before = fs.moments();
-    let found = opened(alloc, fs)?;
-    let changes = found.fs.moments().saturating_sub(before);
-    assert!(&rt; changes > 5);
-    check_images(&rt, alloc, &found.fs, changes)
-}
-
-/// A disk after an opening with a call that fails.
-#[derive(Drop)]
-struct Tried {
-    fs: MemFs,
-    is_open: bool,
-}
-
-fn try_opening(alloc: Global, fs: MemFs) -> Result<Tried, Fail> {
-    match open_again(alloc, fs, Limits::standard()) {
-        Ok(found) => Ok(Tried {
-            fs: found.fs,
-            is_open: true,
-        }),
-        Err((fs, OpenFault::Disk)) => Ok(Tried { fs, is_open: false }),
-        Err(_) => Err("another fault")?,
-    }
-}
-
-// Whether it was opened though the call failed. What a crash leaves then opens with the refs, and so does what is there.
-fn opens_failing(rt: &impl Abort, alloc: Global, call: u64, done: bool) -> Result<bool, Fail> {
-    let mut fs = busy_disk(alloc)?;
-    fs.fail_at(vec![in alloc; FailAt { call, done }]?);
-    let mut tried = try_opening(alloc, fs)?;
-    tried.fs.fail_at(Vec::new(alloc));
-    check_image(rt, alloc, &tried.fs, 0, vec![in alloc; 0]?)?;
-    check_found(rt, &opened(alloc, tried.fs)?);
-    Ok(tried.is_open)
-}
-
-// How many of the openings failed in which one of these calls was to fail, every other one with its effect.
-fn count_failing(rt: &impl Abort, alloc: Global, first: u64, last: u64) -> Result<u32, Fail> {
-    let mut failed: u32 = 0;
-    for call in first..=last {
-        if !opens_failing(rt, alloc, call, call % 2 == 0)? {
-            failed = failed.saturating_add(1);
-        }
-    }
-    Ok(failed)
-}
-
-// The opening begins with the call 45: its barrier, the checks of places, of the configuration and of refs.
-#[test]
-fn tells_failed_calls_of_the_first_checks(rt: HostRuntime) -> Result<(), Fail> {
-    assert_eq!(&rt; count_failing(&rt, rt.alloc(), 45, 85)?, 41);
-    Ok(())
-}
-
-// The objects, some of them, and the commits.
-#[test]
-fn tells_failed_calls_of_the_store(rt: HostRuntime) -> Result<(), Fail> {
-    assert_eq!(&rt; count_failing(&rt, rt.alloc(), 350, 385)?, 36);
-    Ok(())
-}
-
-// What is staged, laid out, written and cleared, to the end.
-#[test]
-fn tells_failed_calls_of_changes(rt: HostRuntime) -> Result<(), Fail> {
-    let failed = count_failing(&rt, rt.alloc(), 386, 460)?;
-    assert!(&rt; failed > 30);
-    assert!(&rt; failed < 75);
     Ok(())
 }

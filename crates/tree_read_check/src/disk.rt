@@ -3,11 +3,10 @@ ghost use Rattle.ost_types.specs.Mode.{IsFileMode, IsFolderMode};
 
 use fs_memory::MemFs;
 use fs_trait::{Fs, FsErr};
-use ost_forms::{Body, Content, read_content, sum_of};
-use ost_types::{Csum, FsPath, Kind, Limits, Meta, ObjName, Xattrs, is_file_mode, is_link_mode};
+use ost_forms::sum_of;
+use ost_types::{Csum, FsPath, Kind, Meta, ObjName, Xattrs};
 use repo_layout::{Folder, folder_path, object_path, objects_folder_path};
 use std::alloc::Global;
-use std::test::Fail;
 
 fn folder_meta(alloc: Global) -> Meta
     ensures { IsFolderMode result.mode }
@@ -61,28 +60,4 @@ pub fn put_named(fs: &mut MemFs, alloc: Global, kind: Kind, bytes: &[u8]) -> Res
     let csum = sum_of(bytes);
     put_bytes(fs, alloc, &ObjName { csum, kind }, bytes)?;
     Ok(csum)
-}
-
-/// The object: a file's is the file itself.
-pub fn put_object(fs: &mut MemFs, alloc: Global, name: &ObjName, bytes: &[u8]) -> Result<(), Fail> {
-    match name.kind {
-        Kind::File => {
-            let content = read_content(alloc, bytes, &Limits::standard())?;
-            put_file(fs, &object_path(alloc, name)?, content)
-        }
-        _ => Ok(put_bytes(fs, alloc, name, bytes)?),
-    }
-}
-
-fn put_file(fs: &mut MemFs, at: &FsPath, content: Content) -> Result<(), Fail> {
-    let Content { meta, body } = content;
-    match body {
-        Body::Regular(bytes) if is_file_mode(meta.mode) => {
-            fs.create(at, &meta)?;
-            fs.append(at, bytes.as_slice())?;
-        }
-        Body::Symlink(target) if is_link_mode(meta.mode) => fs.symlink(at, &target, &meta)?,
-        _ => return Err("another mode")?,
-    }
-    Ok(())
 }

@@ -8,6 +8,4 @@ pub use first::{Wrong, first_wrong};
 #[cfg(test)]
 mod disk;
 #[cfg(test)]
-mod rows;
-#[cfg(test)]
 mod tests;

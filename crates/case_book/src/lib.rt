@@ -1,0 +1,19 @@
+//! The language of cases: what the program is run on, and what is expected. docs/cases.md defines it.
+#![tactic(auto)]
+
+mod block;
+mod book;
+mod check;
+mod draft;
+mod fault;
+mod fields;
+mod keyword;
+mod nodes;
+mod read;
+
+pub use book::{
+    Asked, Book, Call, Case, Check, Crash, Disk, FailingCalls, Family, NamedText, Outcome, Plan,
+    Printed, Range, Schedules, Step, Ways,
+};
+pub use fault::BookFault;
+pub use read::read_book;
