@@ -81,7 +81,7 @@ fn sync_folder<R: Machine>(
 ) -> Result<(), NoStart> {
     let entries = match fs::read_dir(rt, folder) {
         Ok(entries) => entries,
-        Err(e) if e.kind() == ErrorKind::PermissionDenied => return Ok(()),
+        Err(e) if is_no_node(&e) => return Ok(()),
         Err(e) => return Err(NoStart::from(e)),
     };
     for entry in entries {
@@ -98,22 +98,29 @@ fn sync_folder<R: Machine>(
     sync_readable(rt, folder)
 }
 
-// What isn't a file or a folder, and what may not be read, stands for no node.
+// What isn't a file or a folder stands for no node.
 fn sync_entry<R: Machine>(rt: &R, text: &str, folders: &mut Vec<String>) -> Result<(), NoStart> {
-    let metadata = fs::symlink_metadata(rt, text)?;
-    if metadata.is_dir() {
-        add(folders, String::from_str(rt.alloc(), text)?)
-    } else if metadata.is_file() {
-        sync_readable(rt, text)
-    } else {
-        Ok(())
+    match fs::symlink_metadata(rt, text) {
+        Ok(metadata) if metadata.is_dir() => add(folders, String::from_str(rt.alloc(), text)?),
+        Ok(metadata) if metadata.is_file() => sync_readable(rt, text),
+        Ok(_) => Ok(()),
+        Err(e) if is_no_node(&e) => Ok(()),
+        Err(e) => Err(NoStart::from(e)),
     }
+}
+
+// Whether an error says that what was found is gone since, or may not be read, and so stands for no node either.
+fn is_no_node(error: &io::Error) -> bool {
+    matches!(
+        error.kind(),
+        ErrorKind::NotFound | ErrorKind::PermissionDenied
+    )
 }
 
 fn sync_readable<R: Machine>(rt: &R, text: &str) -> Result<(), NoStart> {
     match File::open(rt, text) {
         Ok(file) => Ok(file.sync_all()?),
-        Err(e) if e.kind() == ErrorKind::PermissionDenied => Ok(()),
+        Err(e) if is_no_node(&e) => Ok(()),
         Err(e) => Err(NoStart::from(e)),
     }
 }
