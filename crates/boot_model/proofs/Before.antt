@@ -1,12 +1,12 @@
 -- What a crash leaves of a view, told by what it might have left of an earlier one, outside of what was written since.
-use Rattle.std.proofs.Common.{◌≡◌, ◌≢◌, ◌⊎◌, inl, inr, ⊎_elim, ℕ, Bool, true, false, IsTrue, refl, sym, ◌∙◌, ap, subst, List, [], ◌∷◌, ◌++◌, append-nil, append_assoc, if◌then◌else◌}
+use Rattle.std.proofs.Common.{◌≡◌, ◌⊎◌, inl, inr, ℕ, Bool, true, false, IsTrue, refl, sym, ◌∙◌, ap, subst, List, [], ◌∷◌, ◌++◌, append-nil, append_assoc, if◌then◌else◌}
 use Rattle.ost_types.specs.Path.{Name, Path, under}
 use Rattle.ost_types.proofs.Paths.{root_or_under, under-folder, under-not_root}
 use Rattle.fs_trait.specs.declared.types.Value.{Value}
 use Rattle.fs_trait.specs.declared.types.Value.TheVariants.{Absent, Folder, Link, File}
 use Rattle.fs_trait.specs.View.{Disk, View}
 use Rattle.fs_trait.specs.Image.{Holds, Image, crashed, is_folder}
-use Rattle.fs_trait.specs.Seen.{Seen, Vacant, Directory, Symlink, Leaf, seen, shows, MayShow, MayBe, IsDirectory}
+use Rattle.fs_trait.specs.Seen.{Vacant, Directory, Symlink, Leaf, seen, shows, MayShow, MayBe, IsDirectory}
 use Rattle.fs_trait.proofs.Crashes.{crashed-under, Image-crashed}
 use Rattle.fs_trait.proofs.Claims.{Image-under, folder_shows}
 use Rattle.fs_trait.proofs.Images.{folder_or_not, not_both}

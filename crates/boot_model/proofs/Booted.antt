@@ -1,5 +1,5 @@
 -- A disk that boots some items has their list, however their entries are read.
-use Rattle.std.proofs.Common.{◌≡◌, ◌≢◌, ◌⊎◌, inl, inr, ⊎_elim, ℕ, zero, suc, ◌+◌, ◌-◌, ◌<◌, ◌≤◌, arith, List, [], ◌∷◌, ◌++◌, length, map, get_or, Some, refl, sym, ◌∙◌, ap, subst, append-nil, append_assoc, length-append, All}
+use Rattle.std.proofs.Common.{◌≡◌, ◌⊎◌, inl, inr, ⊎_elim, ℕ, suc, ◌+◌, ◌-◌, ◌<◌, ◌≤◌, arith, List, [], ◌∷◌, ◌++◌, length, map, get_or, refl, sym, ◌∙◌, ap, subst, append-nil, append_assoc, length-append}
 use Rattle.std.specs.List.{AllByRecursion, Contains}
 use Rattle.std.specs.List.Sorted.{IsStrictlySortedBy}
 use Rattle.std.specs.Ordering.{nat_cmp}
@@ -13,7 +13,7 @@ use Rattle.fs_trait.specs.View.{Disk}
 use Rattle.boot_model.specs.declared.item.BootItem.{BootItem}
 use Rattle.boot_model.specs.Items.{IsAt, link_number}
 use Rattle.boot_model.specs.Entries.{entry_text}
-use Rattle.boot_model.specs.Listing.{AreRows, Boots, HasEntry, IsList, IsRow, Member, Reading, Row, member_of, names_link}
+use Rattle.boot_model.specs.Listing.{Boots, HasEntry, IsList, IsRow, Reading, Row, member_of, names_link}
 
 last_of : {X : Type 0} (front : List X) (x : X) (rest : List X) (d : X) → get_or (front ++ x ∷ rest) (length front) d ≡ x
 last_of [] x rest d = refl

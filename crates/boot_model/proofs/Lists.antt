@@ -1,7 +1,6 @@
 -- Disks that show the same where a list is read have the same list.
-use Rattle.std.proofs.Common.{◌≡◌, ◌⊎◌, inl, inr, ⊎_elim, ℕ, true, false, refl, sym, ◌∙◌, ap, subst, List, [], ◌∷◌, ◌++◌, length, map, Some, All}
+use Rattle.std.proofs.Common.{◌≡◌, inl, inr, ℕ, true, false, sym, ◌∙◌, ap, subst, List, [], ◌∷◌}
 use Rattle.std.specs.Fmt.{decimal}
-use Rattle.std.specs.List.{Contains}
 use Rattle.std.proofs.lemmas.List.Elements.{All-weaker}
 use Rattle.ost_types.specs.Path.{Name, Path}
 use Rattle.ost_types.specs.Csum.{hex_of}
@@ -9,13 +8,13 @@ use Rattle.fs_trait.specs.declared.types.Value.{Value}
 use Rattle.fs_trait.specs.declared.types.Value.TheVariants.{Absent, Folder, Link, File}
 use Rattle.fs_trait.specs.View.{Disk}
 use Rattle.fs_trait.specs.Image.{is_folder, reads}
-use Rattle.fs_trait.specs.Seen.{Seen, Vacant, shows, bytes_in, IsDirectory, seen}
+use Rattle.fs_trait.specs.Seen.{shows, bytes_in, IsDirectory, seen}
 use Rattle.fs_trait.proofs.Claims.{folder_shows, reads_shows}
-use Rattle.repo_layout.specs.BootPaths.{boot_folder_path, boot_link_path, entry_path, loader_path}
+use Rattle.repo_layout.specs.BootPaths.{entry_path}
 use Rattle.repo_layout.specs.Paths.{deploy_path}
 use Rattle.boot_model.specs.declared.item.DepId.{DepId}
 use Rattle.boot_model.specs.Entries.{boot_target, deploy_target, loader_target}
-use Rattle.boot_model.specs.Listing.{AreRows, HasEntry, IsLinkTo, IsList, IsRow, Leads, Member, Reading, Row, SameList, SameVersion, Selects}
+use Rattle.boot_model.specs.Listing.{AreRows, HasEntry, IsLinkTo, IsList, IsRow, Leads, Member, Reading, Row, SameList, SameVersion}
 
 same_reads : (d e : Disk) (p : Path) → shows e p ≡ shows d p → reads e p ≡ reads d p
 same_reads d e p same = reads_shows e p ∙ ap bytes_in same ∙ sym (reads_shows d p)

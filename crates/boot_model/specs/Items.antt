@@ -1,10 +1,9 @@
 -- Lists of what boots, and which may be (OSTree manual, "Deployments").
-use Rattle.std.specs.Prelude.{◌≡◌, ◌≢◌, ◌≤◌, ◌<◌, ◌==◌, ◌&&◌, ◌||◌, ℕ, Bool, IsTrue, List, [], ◌∷◌, length, take, count_by, codes, slice_index_or, All}
+use Rattle.std.specs.Prelude.{◌≡◌, ◌≢◌, ◌≤◌, ◌<◌, ◌==◌, ◌&&◌, ◌||◌, ℕ, Bool, IsTrue, List, [], length, take, count_by, codes, slice_index_or, All}
 use Rattle.ost_types.specs.Path.{Name, same_name}
 use Rattle.repo_layout.specs.OsName.{IsOsName}
 use Rattle.repo_layout.specs.RefName.{is_part_byte}
 use Rattle.repo_layout.specs.RefFile.{IsSum}
-use Rattle.boot_model.specs.declared.item.DepId.{DepId}
 use Rattle.boot_model.specs.declared.item.BootItem.{BootItem}
 
 -- the member of this number, from 0

@@ -1,9 +1,9 @@
 -- The nodes of the folder of entries, one entry after the other.
-use Rattle.std.proofs.Common.{◌≡◌, ◌≢◌, ◌⊎◌, inl, inr, ⊎_elim, ℕ, ◌+◌, ◌-◌, ◌<◌, ◌≤◌, arith, true, List, [], ◌∷◌, ◌++◌, length, get_or, codes, Some, None, if◌then◌else◌, refl, sym, ◌∙◌, ap, subst, length-append, append_assoc}
+use Rattle.std.proofs.Common.{◌≡◌, ◌≢◌, ◌⊎◌, inl, inr, ⊎_elim, ℕ, ◌+◌, ◌-◌, ◌<◌, ◌≤◌, arith, true, List, [], ◌∷◌, ◌++◌, length, codes, Some, None, if◌then◌else◌, refl, sym, ◌∙◌, ap, subst, length-append, append_assoc}
 use Rattle.std.proofs.lemmas.List.{append_cancel_left, get_or_default}
 use Rattle.std.proofs.lemmas.Bool.Decides.{leb_tells}
-use Rattle.ost_types.specs.Path.{Name, Path, is_below, same_path, under}
-use Rattle.ost_types.proofs.Paths.{is_below-self, is_below-under, same_path-apart, same_path-self, under-not_folder, under-not_root}
+use Rattle.ost_types.specs.Path.{Name, Path, is_below, under}
+use Rattle.ost_types.proofs.Paths.{is_below-self, is_below-under, same_path-apart, same_path-self, under-not_folder}
 use Rattle.repo_layout.specs.BootPaths.{entry_path, loader_folder_path}
 use Rattle.repo_layout.specs.Fixed.{entries_path}
 use Rattle.boot_model.specs.declared.item.BootItem.{BootItem}

@@ -1,5 +1,5 @@
 -- The nodes of the folder of links, one member after the other.
-use Rattle.std.proofs.Common.{◌≡◌, ◌≢◌, ◌⊎◌, inl, inr, ⊎_elim, ℕ, zero, suc, ◌+◌, ◌-◌, ◌<◌, ◌≤◌, arith, Bool, true, false, ◌&&◌, IsTrue, List, [], ◌∷◌, ◌++◌, length, take, drop, get_or, Ok, Option, Some, None, if◌then◌else◌, refl, sym, ◌∙◌, ap, subst, length-append, append_assoc}
+use Rattle.std.proofs.Common.{◌≡◌, ◌≢◌, ◌⊎◌, inl, inr, ⊎_elim, ℕ, zero, suc, ◌+◌, ◌-◌, ◌<◌, ◌≤◌, arith, Bool, true, false, ◌&&◌, List, [], ◌∷◌, ◌++◌, length, take, drop, get_or, Ok, Option, Some, None, if◌then◌else◌, refl, sym, ◌∙◌, ap, subst, length-append, append_assoc}
 use Rattle.std.specs.Prelude.{count_by}
 use Rattle.std.specs.Fmt.{decimal}
 use Rattle.std.proofs.lemmas.List.{append_cancel_left, get_or_default}
@@ -20,7 +20,7 @@ use Rattle.folder_build.specs.declared.node.Content.{Content}
 use Rattle.folder_build.specs.declared.node.Content.TheVariants.{Folder, Link}
 use Rattle.folder_build.specs.declared.node.NewNode.{NewNode}
 use Rattle.folder_build.specs.Node.{content_at}
-use Rattle.folder_build.specs.Build.{IsPlan, MayFollow}
+use Rattle.folder_build.specs.Build.{IsPlan}
 use Rattle.folder_build.proofs.Nodes.{push_here, push_found}
 use Rattle.boot_plan.specs.Plans.{AreLinks, kernel_links_path, link_nodes, link_path, os_path}
 use Rattle.boot_plan.proofs.Growing.{Grown, grown_none, grown_push, none_or_some, plan_of, push_cases}

@@ -19,7 +19,6 @@ use Rattle.ost_types.proofs.Splitting.{AreNames-append}
 use Rattle.repo_layout.specs.OsName.{IsOsName}
 use Rattle.repo_layout.specs.RefName.{IsPart, is_part_byte}
 use Rattle.repo_layout.specs.declared.folder.Folder.{Folder}
-use Rattle.repo_layout.specs.declared.fixed.Fixed.{Fixed}
 use Rattle.repo_layout.specs.declared.fixed.Version.{Version}
 use Rattle.repo_layout.specs.declared.fixed.Version.TheVariants.{Zero, One}
 use Rattle.repo_layout.specs.declared.fixed.Fixed.TheVariants.{Entries, BootFolder}

@@ -1,13 +1,12 @@
 -- The steps that remove what stood at the folder's path.
-use Rattle.std.proofs.Common.{◌≡◌, ◌≢◌, inl, inr, ⊎_elim, ℕ, ◌+◌, ◌<◌, arith, Bool, true, false, ◌&&◌, refl, sym, ◌∙◌, ap, subst, List, [], ◌∷◌, ◌++◌, length, take, Option, Some, None, Result, Ok}
+use Rattle.std.proofs.Common.{◌≡◌, ◌≢◌, ◌<◌, arith, Bool, true, false, ◌&&◌, refl, sym, ◌∙◌, ap, subst, List, [], ◌∷◌, ◌++◌, length, take, Option, Some, None, Result, Ok}
 use Rattle.ost_types.specs.Path.{Path, is_below}
 use Rattle.fs_trait.specs.declared.types.FsErr.{FsErr}
 use Rattle.fs_trait.specs.declared.task.Turn.{Turn}
 use Rattle.fs_trait.specs.declared.task.Turn.TheVariants.{More, Done}
-use Rattle.fs_trait.specs.declared.types.Value.TheVariants.{Absent}
 use Rattle.fs_trait.specs.View.{Disk, View}
 use Rattle.fs_trait.specs.Image.{IsTree, Told}
-use Rattle.fs_trait.specs.Seen.{Seen, Vacant, seen, shows}
+use Rattle.fs_trait.specs.Seen.{Vacant, seen, shows}
 use Rattle.fs_trait.specs.Change.{Writes}
 use Rattle.fs_trait.proofs.Facts.{vacant_absent}
 use Rattle.checkout.specs.declared.remove.phase.Phase as removing_phase
@@ -21,9 +20,9 @@ use Rattle.ost_types.proofs.Paths.{same_name-Decides}
 use Rattle.folder_build.specs.declared.node.NewNode.{NewNode}
 use Rattle.folder_build.specs.declared.phase.Phase.{Phase}
 use Rattle.folder_build.specs.declared.phase.Phase.TheVariants as phase
-use Rattle.folder_build.specs.Node.{IsBuilt, IsContent, content_at}
+use Rattle.folder_build.specs.Node.{IsContent, content_at}
 use Rattle.folder_build.specs.Build.{Building, IsClear, IsMade, IsWithin}
-use Rattle.folder_build.specs.Steps.{HasHome, Needs, WritesOf, needs_in, refuses_in, writes_in}
+use Rattle.folder_build.specs.Steps.{HasHome, Needs, WritesOf, needs_in, writes_in}
 use Rattle.folder_build.proofs.Making.{home_kept}
 
 both_true : (a b : Bool) → a && b ≡ true → (a ≡ true) × (b ≡ true)

@@ -1,11 +1,11 @@
 -- What a task needs stays true under what others may write.
-use Rattle.std.proofs.Common.{◌≡◌, ◌≢◌, ◌⊎◌, inl, inr, ⊎_elim, ℕ, true, sym, ◌∙◌, ap, subst, List, [], take}
+use Rattle.std.proofs.Common.{◌≡◌, ◌≢◌, ⊎_elim, ℕ, true, sym, ◌∙◌, subst, List, [], take}
 use Rattle.ost_types.specs.declared.meta.Meta.{Meta}
 use Rattle.ost_types.specs.Path.{Path, is_below, is_in}
 use Rattle.ost_types.proofs.Paths.{is_below-self}
 use Rattle.fs_trait.specs.declared.types.Value.TheVariants as value
 use Rattle.fs_trait.specs.View.{View}
-use Rattle.fs_trait.specs.Seen.{Seen, Leaf, shows, MayBe, IsDirectory}
+use Rattle.fs_trait.specs.Seen.{Seen, Leaf, shows, IsDirectory}
 use Rattle.fs_trait.specs.Change.{Writes, Own}
 use Rattle.fs_trait.proofs.Facts.{leaf_file, shows_kept}
 use Rattle.fs_trait.proofs.Kept.{firm_kept}

@@ -1,5 +1,5 @@
 -- What each step of putting a link at a path writes and leaves.
-use Rattle.std.proofs.Common.{◌≡◌, ◌≢◌, ◌⊎◌, inl, inr, ⊎_elim, ℕ, true, false, refl, sym, ◌∙◌, ap, subst, List, [], ◌∷◌, ◌++◌, Option, Some, None}
+use Rattle.std.proofs.Common.{◌≡◌, ◌≢◌, inl, inr, ⊎_elim, ℕ, true, false, refl, sym, ◌∙◌, ap, subst, List, Option, Some, None}
 use Rattle.ost_types.specs.declared.meta.Meta.{Meta}
 use Rattle.ost_types.specs.Path.{Name, Path, under, is_in, is_below}
 use Rattle.ost_types.proofs.Paths.{is_in-under, is_in-self, under-is_in, is_below-self, is_below-under}
@@ -7,7 +7,7 @@ use Rattle.fs_trait.specs.declared.types.Value.{Value}
 use Rattle.fs_trait.specs.declared.types.Value.TheVariants as value
 use Rattle.fs_trait.specs.declared.types.FsErr.{FsErr}
 use Rattle.fs_trait.specs.declared.types.FsErr.TheVariants.{Failed, Exists, Missing, NotFolder, NotEmpty, NoMemory}
-use Rattle.fs_trait.specs.declared.task.Turn.TheVariants.{More, Done}
+use Rattle.fs_trait.specs.declared.task.Turn.TheVariants.{Done}
 use Rattle.fs_trait.specs.View.{Disk, View, named, moved}
 use Rattle.fs_trait.specs.Image.{is_folder, IsTree, Told}
 use Rattle.fs_trait.specs.Effect.{Fails, if_folder, no_leaf, no_move, no_new, one_inode, unless_leaf, way}

@@ -1,5 +1,5 @@
 -- Where the writes of a task lie.
-use Rattle.std.proofs.Common.{◌≡◌, ◌⊎◌, inl, inr, ⊎_elim, true, sym, ap, subst}
+use Rattle.std.proofs.Common.{◌≡◌, ◌⊎◌, inl, inr, ⊎_elim, true, sym, subst}
 use Rattle.ost_types.specs.Path.{Path, is_below}
 use Rattle.fs_trait.specs.View.{View}
 use Rattle.fs_trait.specs.Seen.{Seen}

@@ -1,9 +1,9 @@
 -- What a step that makes a node writes and leaves.
-use Rattle.std.proofs.Common.{◌≡◌, ◌≢◌, ◌⊎◌, inl, inr, ⊎_elim, ℕ, zero, suc, ◌+◌, ◌<◌, arith, Bool, true, false, refl, sym, ◌∙◌, ap, subst, List, [], ◌∷◌, ◌++◌, length, take, get_or, Option, Some, None, Result, Err, if◌then◌else◌, ltb-true, ltb-false}
+use Rattle.std.proofs.Common.{◌≡◌, ◌≢◌, ◌⊎◌, inl, inr, ⊎_elim, ℕ, ◌+◌, Bool, true, false, refl, sym, ◌∙◌, ap, subst, List, [], ◌∷◌, ◌++◌, length, take, get_or, Option, Some, None, Result, Err, if◌then◌else◌, ltb-true, ltb-false}
 use Rattle.std.specs.Prelude.{nat_lt}
 use Rattle.std.proofs.lemmas.List.{take_all, take_more, get_or_default}
 use Rattle.ost_types.specs.Path.{Name, Path, under, is_in, is_below}
-use Rattle.ost_types.proofs.Paths.{root_or_under, same_or_apart, is_in-under, under-is_in, under-is_below, is_below-self}
+use Rattle.ost_types.proofs.Paths.{root_or_under, same_or_apart, is_in-under, under-is_in, under-is_below}
 use Rattle.fs_trait.specs.declared.types.Value.{Value}
 use Rattle.fs_trait.specs.declared.types.Value.TheVariants as value
 use Rattle.fs_trait.specs.declared.types.FsErr.{FsErr}
@@ -14,23 +14,21 @@ use Rattle.fs_trait.specs.Image.{Holds, is_folder, IsTree, Told}
 use Rattle.std.specs.Prelude.{IsErrOf}
 use Rattle.fs_trait.specs.Effect.{Fails, IsFresh, inode_of, no_file, no_new}
 use Rattle.fs_trait.specs.Seen.{Seen, Vacant, Directory, Symlink, Leaf, seen, shows, MayShow, MayBe, IsDirectory}
-use Rattle.fs_trait.specs.Change.{Writes, At, OfInode, Own}
-use Rattle.fs_trait.proofs.Kept.{weaker, firm_kept}
+use Rattle.fs_trait.specs.Change.{Writes, At, OfInode}
+use Rattle.fs_trait.proofs.Kept.{weaker}
 use Rattle.fs_trait.proofs.Effects.{named-writes, created-writes, extended-writes_own, shows_named, shows_named_apart, shows_created, shows_extended, leaf_held}
 use Rattle.fs_trait.proofs.Claims.{folder_shows}
 use Rattle.fs_trait.proofs.Facts.{vacant_absent, no_new-free, shows_kept, leaf_file, may_held, under-not_below}
-use Rattle.fs_trait.proofs.Images.{not_both}
 use Rattle.fs_trait.proofs.Refusals.{no_file-there}
 use Rattle.ref_room.proofs.Answering.{Step}
-use Rattle.checkout.proofs.RemoveBelow.{below_not_root, not_true}
-use Rattle.folder_build.specs.declared.node.Content.{Content}
+use Rattle.checkout.proofs.RemoveBelow.{not_true}
 use Rattle.folder_build.specs.declared.node.Content.TheVariants.{Folder, File, Link}
 use Rattle.folder_build.specs.declared.node.NewNode.{NewNode}
 use Rattle.folder_build.specs.declared.phase.Phase.{Phase}
 use Rattle.folder_build.specs.declared.phase.Phase.TheVariants as phase
 use Rattle.folder_build.specs.Node.{IsBuilt, IsContent, content_at, file_meta, folder_meta, link_meta}
-use Rattle.folder_build.specs.Build.{Building, IsFile, IsMade, IsNumber, IsWithin, MayFollow, reached, reached_phase}
-use Rattle.folder_build.specs.Steps.{HasHome, IsBegun, IsOpen, IsPart, Needs, WritesOf, needs_in, refuses_in, writes_in}
+use Rattle.folder_build.specs.Build.{Building, IsMade, IsNumber, IsWithin, MayFollow, reached}
+use Rattle.folder_build.specs.Steps.{HasHome, IsBegun, IsOpen, Needs, WritesOf, needs_in, refuses_in, writes_in}
 use Rattle.folder_build.proofs.Nodes.{push_here, push_apart, push_found}
 
 pub as_is : (t u : Building) → t ≡ u → (v : View) (After : View → Type 0) (refusal : Option FsErr) (w : View) → Step (WritesOf t v) After v refusal w → Step (WritesOf u v) After v refusal w

@@ -1,5 +1,5 @@
 -- What a list of nodes has at a path, and one more node.
-use Rattle.std.proofs.Common.{◌≡◌, ◌≢◌, ◌⊎◌, inl, inr, ℕ, Bool, true, false, List, [], ◌∷◌, ◌++◌, Option, Some, None, if◌then◌else◌, refl, sym, ◌∙◌, ap}
+use Rattle.std.proofs.Common.{◌≡◌, ◌≢◌, Bool, true, false, List, [], ◌∷◌, ◌++◌, Some, None, if◌then◌else◌, ap}
 use Rattle.ost_types.specs.Path.{Path, same_path}
 use Rattle.ost_types.proofs.Paths.{same_path-self, same_path-apart}
 use Rattle.folder_build.specs.declared.node.Content.{Content}

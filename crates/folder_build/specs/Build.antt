@@ -1,5 +1,5 @@
 -- A folder that is being made, and which step comes next.
-use Rattle.std.specs.Prelude.{◌≡◌, ◌≢◌, ◌⊎◌, ◌<◌, ◌+◌, ◌-◌, ◌*◌, nat_lt, ℕ, true, List, [], length, take, slice_index_or, Option, Some, None, Result, Ok, Err, if◌then◌else◌}
+use Rattle.std.specs.Prelude.{◌≡◌, ◌≢◌, ◌⊎◌, ◌<◌, ◌+◌, ◌-◌, ◌*◌, nat_lt, ℕ, true, List, [], length, take, slice_index_or, Some, None, Result, Ok, Err, if◌then◌else◌}
 use Rattle.ost_types.specs.Path.{Name, Path, is_below, under}
 use Rattle.fs_trait.specs.declared.types.FsErr.{FsErr}
 use Rattle.fs_trait.specs.declared.task.Turn.{Turn}

@@ -1,5 +1,5 @@
 -- What each step of making a folder needs, writes and is refused for.
-use Rattle.std.specs.Prelude.{◌≡◌, ◌≢◌, ℕ, true, List, [], take, None}
+use Rattle.std.specs.Prelude.{◌≡◌, ◌≢◌, ℕ, true, [], take, None}
 use Rattle.ost_types.specs.Path.{Path, is_below, is_in}
 use Rattle.fs_trait.specs.declared.types.FsErr.{FsErr}
 use Rattle.fs_trait.specs.declared.types.FsErr.TheVariants.{Failed, NoMemory}

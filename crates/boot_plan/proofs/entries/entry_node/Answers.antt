@@ -1,6 +1,5 @@
 use Rattle.std.proofs.Common.{sym, subst}
 use Rattle.ost_types.specs.Path.{IsPath, under}
-use Rattle.repo_layout.specs.Fixed.{entries_path, number}
 use Rattle.boot_plan.proofs.Plain.{entries_child}
 use Rattle.boot_plan.proofs.entries.entry_node.Goals as goal
 

@@ -1,4 +1,4 @@
-use Rattle.std.proofs.Common.{◌≡◌, ◌+◌, ◌∷◌, [], ◌++◌, ◌<◌, length, sym, ◌∙◌, ap, subst, arith}
+use Rattle.std.proofs.Common.{◌+◌, ◌∷◌, [], ◌++◌, ◌<◌, length, sym, ◌∙◌, ap, subst, arith}
 use Rattle.repo_layout.specs.Fixed.{number}
 use Rattle.boot_plan.proofs.EntryNodes.{SoFar, begins, goes_on, is_plan}
 use Rattle.boot_plan.proofs.Growing.{item_at}

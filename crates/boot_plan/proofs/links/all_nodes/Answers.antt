@@ -1,4 +1,4 @@
-use Rattle.std.proofs.Common.{◌≡◌, ◌+◌, ◌∷◌, [], ◌++◌, ◌<◌, length, sym, ◌∙◌, ap, subst, arith}
+use Rattle.std.proofs.Common.{◌+◌, ◌∷◌, [], ◌++◌, ◌<◌, length, sym, ◌∙◌, ap, subst, arith}
 use Rattle.repo_layout.specs.Fixed.{number}
 use Rattle.folder_build.specs.declared.node.Content.TheVariants.{Folder}
 use Rattle.boot_plan.proofs.LinkNodes.{SoFar, begins, goes_on, is_plan}

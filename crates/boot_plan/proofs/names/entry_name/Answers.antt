@@ -1,5 +1,4 @@
-use Rattle.std.proofs.Common.{◌≡◌, sym, ◌∙◌, ap, subst, ◌++◌, codes}
-use Rattle.std.proofs.lemmas.Result.{IfOk-equal}
+use Rattle.std.proofs.Common.{sym, ◌∙◌, subst}
 use Rattle.ost_types.specs.Text.{IsName}
 use Rattle.boot_plan.proofs.Plain.{entry_name-name, entry_name-text, if_ok_as}
 use Rattle.boot_plan.proofs.names.entry_name.Goals as goal

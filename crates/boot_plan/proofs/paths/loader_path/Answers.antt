@@ -1,4 +1,4 @@
-use Rattle.std.proofs.Common.{◌≡◌, [], ◌∷◌, sym, subst, ap}
+use Rattle.std.proofs.Common.{sym, subst}
 use Rattle.ost_types.specs.Path.{IsPath, under}
 use Rattle.repo_layout.specs.declared.folder.Folder.TheVariants.{Boot}
 use Rattle.repo_layout.specs.Paths.{folder_path}

@@ -1,4 +1,4 @@
-use Rattle.std.proofs.Common.{◌≡◌, refl, sym, ◌∙◌, ap, subst}
+use Rattle.std.proofs.Common.{sym, ◌∙◌, ap, subst}
 use Rattle.std.proofs.lemmas.Result.{err_from_is_err_and}
 use Rattle.ref_room.proofs.Answering.{ok_writes, ok_after, err_writes, err_fails}
 use Rattle.folder_build.specs.Build.{Building, IsNumber}
