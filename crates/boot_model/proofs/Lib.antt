@@ -1,3 +1,4 @@
 pub mod Before
 pub mod Lists
 pub mod Booted
+pub mod Distinct

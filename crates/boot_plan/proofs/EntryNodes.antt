@@ -38,12 +38,6 @@ unfolding loader_folder_path
 root_not loader e = cc
 
 module _ (loader : ℕ) (items : List BootItem) where
-
-
-
-
-
-
   entry_under : (file : Name) → entry_path loader file ≡ under (entries_path loader) file
   entry_under file = sym (append_assoc (loader_folder_path loader) (codes "entries" ∷ []) (file ∷ []))
 
@@ -58,19 +52,19 @@ module _ (loader : ℕ) (items : List BootItem) where
   off_inner : (file : Name) → entries_path loader ≢ entry_path loader file
   off_inner file e = under-not_folder (entries_path loader) file (sym (e ∙ entry_under file))
 
-  one two : NewNode
+  abbrev one : NewNode
   one = record { at = loader_folder_path loader; what = Folder }
+
+  abbrev two : NewNode
   two = record { at = entries_path loader; what = Folder }
 
   top_found : content_at (one ∷ []) (loader_folder_path loader) ≡ Some Folder
-  unfolding one
   top_found = first_here one []
 
   top_off : loader_folder_path loader ≢ entries_path loader
   top_off e = under-not_folder (loader_folder_path loader) (codes "entries") (sym e)
 
   grown_folders : Grown (loader_folder_path loader) (entry_folders loader)
-  unfolding one two
   grown_folders = grown_push (loader_folder_path loader) (one ∷ []) two
       (grown_push (loader_folder_path loader) [] one (grown_none (loader_folder_path loader)) (record { below = is_below-self (loader_folder_path loader); parent = inl refl; free = inl refl; target = tt }))
       (record {
@@ -81,11 +75,9 @@ module _ (loader : ℕ) (items : List BootItem) where
       })
 
   none_there : (file : Name) → content_at (entry_folders loader) (entry_path loader file) ≡ None
-  unfolding one two
   none_there file = first_apart one (two ∷ []) (entry_path loader file) (off_top file) ∙ first_apart two [] (entry_path loader file) (off_inner file)
 
   pub begins : SoFar loader items 0 (entry_folders loader)
-  unfolding one two
   begins = record {
     grown = grown_folders;
     inner = first_apart one (two ∷ []) (entries_path loader) top_off ∙ first_here two [];
@@ -94,9 +86,6 @@ module _ (loader : ℕ) (items : List BootItem) where
   }
 
   module _ (few : length items ≤ 8) (k : ℕ) (item : BootItem) (at : IsAt items k item) (nodes : List NewNode) (so : SoFar loader items k nodes) where
-
-
-
     not_yet : content_at nodes (entry_path loader (entry_name (length items - k))) ≡ None
     not_yet = by (none_or_some (content_at nodes (entry_path loader (entry_name (length items - k)))))
       where

@@ -1,5 +1,5 @@
 -- A plan that grows at its end.
-use Rattle.std.proofs.Common.{◌≡◌, ◌≢◌, ◌⊎◌, inl, inr, ⊎_elim, ℕ, ◌+◌, ◌<◌, ◌≤◌, arith, Bool, true, false, List, [], ◌∷◌, ◌++◌, length, take, get_or, Option, Some, None, if◌then◌else◌, refl, sym, ◌∙◌, ap, subst, length-append}
+use Rattle.std.proofs.Common.{◌≡◌, ◌≢◌, ◌⊎◌, inl, inr, ⊎_elim, ℕ, zero, suc, ◌+◌, ◌<◌, ◌≤◌, arith, Bool, true, false, List, [], ◌∷◌, ◌++◌, length, take, get_or, Option, Some, None, if◌then◌else◌, refl, sym, ◌∙◌, ap, subst, length-append}
 use Rattle.std.proofs.lemmas.Bool.Decides.{leb_tells}
 use Rattle.std.proofs.lemmas.List.{take-append-le, get_or_append_left}
 use Rattle.std.proofs.Math.Seq.{take-append_seam}
@@ -11,7 +11,7 @@ use Rattle.folder_build.specs.Node.{content_at}
 use Rattle.folder_build.specs.Build.{IsNumber, IsPlan, MayFollow}
 
 -- each node may follow those before it
-pub Grown : Path → List NewNode → Type 0
+abbrev pub Grown : Path → List NewNode → Type 0
 Grown top nodes = (n : ℕ) (e : NewNode) → IsNumber nodes n e → MayFollow top (take n nodes) e
 
 pub grown_none : (top : Path) → Grown top []
@@ -38,7 +38,7 @@ grown_push top m e grown follows n a number = by (less_or_last n)
 
     by : (n < length m) ⊎ (length m ≤ n) → MayFollow top (take n (m ++ e ∷ [])) a
     by (inl less) =
-        let at : get_or (m ++ e ∷ []) n a ≡ get_or m n a = get_or_append_left m (e ∷ []) n a less in
+        let at : get_or (m ++ e ∷ []) n a ≡ get_or m n a = get_or_append_left m (e ∷ []) a n less in
         subst (λ l. MayFollow top l a) (sym (take-append-le n m (e ∷ []) (omega (arith, less)))) (grown n a (less, sym at ∙ number.1))
     by (inr more) = last (omega (arith, more, number.0, whole))
 
@@ -51,12 +51,12 @@ plan_of top m root some grown = record { below_root = root; some = some; each = 
 pub push_cases : (m : List NewNode) (e : NewNode) (p : Path) (c : Content) → content_at (m ++ e ∷ []) p ≡ Some c → (content_at m p ≡ Some c) ⊎ ((e.at ≡ p) × (e.what ≡ c) × (content_at m p ≡ None))
 push_cases [] e p c has = by (same_or_apart e.at p)
   where
-    by : (e.at ≡ p) ⊎ (e.at ≢ p) → (None ≡ Some c) ⊎ ((e.at ≡ p) × (e.what ≡ c) × (None ≡ None))
+    by : (e.at ≡ p) ⊎ (e.at ≢ p) → (content_at [] p ≡ Some c) ⊎ ((e.at ≡ p) × (e.what ≡ c) × (content_at [] p ≡ None))
     by (inl same) =
         let h : Some e.what ≡ Some c = sym (ap (λ b. if b then Some e.what else None) (ap (λ q. same_path q p) same ∙ same_path-self p)) ∙ has in
         inr (same, cc, refl)
     by (inr apart) =
-        let h : None ≡ Some c = sym (ap (λ b. if b then Some e.what else None) (same_path-apart e.at p apart)) ∙ has in cc
+        let h : ◌≡◌ {A = Option Content} None (Some c) = sym (ap (λ b. if b then Some e.what else None) (same_path-apart e.at p apart)) ∙ has in cc
 push_cases (x ∷ m) e p c has = pick (same_path x.at p) has (push_cases m e p c)
   where
     pick : (b : Bool) → (if b then Some x.what else content_at (m ++ e ∷ []) p) ≡ Some c
@@ -68,3 +68,9 @@ push_cases (x ∷ m) e p c has = pick (same_path x.at p) has (push_cases m e p c
 pub none_or_some : (c : Option Content) → (c ≡ None) ⊎ ((x : Content) × (c ≡ Some x))
 none_or_some None = inl refl
 none_or_some (Some x) = inr (x, refl)
+
+-- the element of a number
+pub item_at : {X : Type 0} (xs : List X) (k : ℕ) → k < length xs → (x : X) × (get_or xs k x ≡ x)
+item_at [] k less = absurd (omega (arith, less))
+item_at (x ∷ xs) zero less = (x, refl)
+item_at (x ∷ xs) (suc k) less = item_at xs k (omega (arith, less))

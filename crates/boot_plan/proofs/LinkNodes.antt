@@ -1,9 +1,10 @@
 -- The nodes of the folder of links, one member after the other.
-use Rattle.std.proofs.Common.{◌≡◌, ◌≢◌, ◌⊎◌, inl, inr, ⊎_elim, ℕ, zero, suc, ◌+◌, ◌-◌, ◌<◌, ◌≤◌, arith, Bool, true, false, ◌&&◌, IsTrue, List, [], ◌∷◌, ◌++◌, length, take, get_or, Ok, Some, None, if◌then◌else◌, refl, sym, ◌∙◌, ap, subst, length-append, append_assoc}
+use Rattle.std.proofs.Common.{◌≡◌, ◌≢◌, ◌⊎◌, inl, inr, ⊎_elim, ℕ, zero, suc, ◌+◌, ◌-◌, ◌<◌, ◌≤◌, arith, Bool, true, false, ◌&&◌, IsTrue, List, [], ◌∷◌, ◌++◌, length, take, drop, get_or, Ok, Option, Some, None, if◌then◌else◌, refl, sym, ◌∙◌, ap, subst, length-append, append_assoc}
 use Rattle.std.specs.Prelude.{count_by}
 use Rattle.std.specs.Fmt.{decimal}
 use Rattle.std.proofs.lemmas.List.{append_cancel_left, get_or_default}
-use Rattle.std.proofs.lemmas.List.Sums.{count_by_more_yes, count_by-le-length}
+use Rattle.std.proofs.lemmas.List.Sums.{count_by_more_yes, count_by-le-length, sum_by-append}
+use Rattle.std.proofs.Math.Seq.{take-add}
 use Rattle.std.proofs.lemmas.Bool.Decides.{leb_tells}
 use Rattle.hex.proofs.HexLemmas.{decode_of-encode_lower}
 use Rattle.hex.specs.Hex.{decode_of}
@@ -28,14 +29,10 @@ use Rattle.boot_plan.proofs.Plain.{decimal-injective}
 -- ---- numbers
 
 count_more : {X : Type 0} (p : X → Bool) (xs : List X) (i d : ℕ) → count_by p (take i xs) ≤ count_by p (take (i + d) xs)
-count_more p [] zero d = omega arith
-count_more p [] (suc i) d = omega arith
-count_more p (x ∷ xs) zero d = omega arith
-count_more p (x ∷ xs) (suc i) d = by (p x)
-  where
-    by : (b : Bool) → (if b then suc (count_by p (take i xs)) else count_by p (take i xs)) ≤ (if b then suc (count_by p (take (i + d) xs)) else count_by p (take (i + d) xs))
-    by true = omega (arith, count_more p xs i d)
-    by false = count_more p xs i d
+count_more p xs i d =
+    let e : count_by p (take (i + d) xs) ≡ count_by p (take i xs ++ take d (drop i xs)) = ap (count_by p) (take-add i d xs) in
+    let f : count_by p (take i xs ++ take d (drop i xs)) ≡ count_by p (take i xs) + count_by p (take d (drop i xs)) = sum_by-append (λ x. if p x then 1 else 0) (take i xs) (take d (drop i xs)) in
+    omega (arith, e, f)
 
 hex-injective : (a b : List ℕ) → IsSum a → IsSum b → hex_of a ≡ hex_of b → a ≡ b
 hex-injective a b is has e =
@@ -228,7 +225,27 @@ module _ (version sub : ℕ) (items : List BootItem) where
     only = λ p c has. only p c (push_cases [] (record { at = boot_folder_path version sub; what = Folder }) p c has);
   }
     where
-      only : (p : Path) (c : Content) → (None ≡ Some c) ⊎ ((boot_folder_path version sub ≡ p) × (Folder ≡ c) × (None ≡ None))
+      only : (p : Path) (c : Content) → (content_at [] p ≡ Some c) ⊎ ((boot_folder_path version sub ≡ p) × (Folder ≡ c) × (content_at [] p ≡ None))
           → ((c ≡ Folder) × (length p ≤ length (boot_folder_path version sub) + 2)) ⊎ ((i : ℕ) × (a : BootItem) × (i < 0) × IsAt items i a × (p ≡ link_path version sub a (link_number items i a)))
-      only p c (inl no) = let n : None ≡ Some c = no in cc
+      only p c (inl none) = let n : ◌≡◌ {A = Option Content} None (Some c) = none in cc
       only p c (inr (same, what, none)) = inl (sym what, subst (λ q. length q ≤ length (boot_folder_path version sub) + 2) same (omega arith))
+
+-- as they are put together
+pub links_pushed : (version sub : ℕ) (items : List BootItem) (k : ℕ) (item x : BootItem) → IsAt items k item → x ≡ get_or items k x
+    → (top os kernel at : Path) (o s l : Name) (number : ℕ) (target : List ℕ) → top ≡ boot_folder_path version sub → o ≡ x.id.os → os ≡ under top o → s ≡ hex_of x.kernel.bootcsum → kernel ≡ under os s
+    → l ≡ decimal number → number ≡ link_number items k item → at ≡ under kernel l → target ≡ deploy_target x.id
+    → (a b c d : List NewNode) → b ≡ a ++ record { at = os; what = Folder } ∷ [] → c ≡ b ++ record { at = kernel; what = Folder } ∷ [] → d ≡ c ++ record { at = at; what = Link target } ∷ []
+    → d ≡ a ++ link_nodes version sub items k item
+links_pushed version sub items k item x is read top os kernel at o s l number target top_is o_is os_at s_is kernel_at l_is number_is at_is target_is a b c d first second third =
+    let same : x ≡ item = read ∙ get_or_default items k x item is.0 ∙ is.1 in
+    let os_is : os ≡ os_path version sub item = os_at ∙ ap (λ p. under p o) top_is ∙ ap (λ n. under (boot_folder_path version sub) n) (o_is ∙ ap (λ (y : BootItem). y.id.os) same) in
+    let kernel_is : kernel ≡ kernel_links_path version sub item = kernel_at ∙ ap (λ p. under p s) os_is ∙ ap (λ n. under (os_path version sub item) n) (s_is ∙ ap (λ (y : BootItem). hex_of y.kernel.bootcsum) same) in
+    let link_is : at ≡ link_path version sub item (link_number items k item) = at_is ∙ ap (λ p. under p l) kernel_is ∙ ap (λ n. under (kernel_links_path version sub item) n) (l_is ∙ ap decimal number_is) in
+    let what_is : target ≡ deploy_target item.id = target_is ∙ ap (λ (y : BootItem). deploy_target y.id) same in
+    third ∙ ap (λ m. m ++ record { at = at; what = Link target } ∷ []) (second ∙ ap (λ m. m ++ record { at = kernel; what = Folder } ∷ []) first)
+    ∙ append_assoc (a ++ record { at = os; what = Folder } ∷ []) (record { at = kernel; what = Folder } ∷ []) (record { at = at; what = Link target } ∷ [])
+    ∙ append_assoc a (record { at = os; what = Folder } ∷ []) (record { at = kernel; what = Folder } ∷ record { at = at; what = Link target } ∷ [])
+    ∙ ap (λ p. a ++ (record { at = p; what = Folder } ∷ record { at = kernel; what = Folder } ∷ record { at = at; what = Link target } ∷ [])) os_is
+    ∙ ap (λ p. a ++ (record { at = os_path version sub item; what = Folder } ∷ record { at = p; what = Folder } ∷ record { at = at; what = Link target } ∷ [])) kernel_is
+    ∙ ap (λ p. a ++ (record { at = os_path version sub item; what = Folder } ∷ record { at = kernel_links_path version sub item; what = Folder } ∷ record { at = p; what = Link target } ∷ [])) link_is
+    ∙ ap (λ t. a ++ (record { at = os_path version sub item; what = Folder } ∷ record { at = kernel_links_path version sub item; what = Folder } ∷ record { at = link_path version sub item (link_number items k item); what = Link t } ∷ [])) what_is

@@ -28,11 +28,7 @@ pub fn build_entries(
     BuildTask::new(alloc, top, nodes)
 }
 
-fn entry_nodes(
-    alloc: Global,
-    loader: Version,
-    items: &[BootItem],
-) -> Result<Vec<NewNode>, NoMemory>
+fn entry_nodes(alloc: Global, loader: Version, items: &[BootItem]) -> Result<Vec<NewNode>, NoMemory>
     requires { length items.now ≤ 8 }
     ensures plan { IfOk result (λ v. IsPlan (loader_folder_path (number loader)) v.items) }
     ensures entries { IfOk result (λ v. AreEntries (number loader) items.now v.items) }

@@ -9,7 +9,7 @@ ghost use Rattle.boot_model.specs.Entries.{deploy_target};
 ghost use Rattle.boot_plan.specs.Plans.{AreLinks, IsLinks, link_nodes};
 
 use crate::names::{known_text, link_name, os_name, sum_name};
-use boot_model::{BootItem, deploy_target, link_number};
+use boot_model::{BootItem, DepId, deploy_target, link_number};
 use folder_build::{BuildTask, Content, NewNode};
 use ost_types::{FsPath, NoMemory, Text};
 use repo_layout::{Fixed, Version, fixed_path};
@@ -88,5 +88,15 @@ fn push_links(
 fn target_text(alloc: Global, item: &BootItem) -> Result<Text, NoMemory>
     ensures { IfOk result (λ t. t ≡ deploy_target item.now.id) }
 {
-    known_text(alloc, deploy_target(alloc, &item.id)?.as_slice())
+    target_of(alloc, &item.id, item.id.serial)
+}
+
+// the serial by itself, since it is known to be small then
+fn target_of(alloc: Global, id: &DepId, serial: u32) -> Result<Text, NoMemory>
+    requires { serial ≡ id.now.serial }
+    ensures { IfOk result (λ t. t ≡ deploy_target id.now) }
+{
+    let _os = id.os.as_slice();
+    let _digits = id.commit.to_hex();
+    known_text(alloc, deploy_target(alloc, id)?.as_slice())
 }

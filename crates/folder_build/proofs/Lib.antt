@@ -3,3 +3,4 @@ pub mod Making
 pub mod Clearing
 pub mod Linking
 pub mod Lying
+pub mod Keeping

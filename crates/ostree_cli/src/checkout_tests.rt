@@ -1,5 +1,4 @@
 //! What `checkout` answers, and what it leaves. `tools/object_names.py` reckons the names of these objects from OSTree's formats.
-use crate::top::{Ended, ostree};
 use fs_host::HostFs;
 use fs_memory::{Choice, FailAt, MemFs, MemSink, MemSource};
 use fs_trait::{Fs, Node};
@@ -8,6 +7,7 @@ use std::alloc::Global;
 use std::fs;
 use std::process::Abort;
 use std::test::Fail;
+use top_call::{Ended, ostree};
 
 // What a call comes to that has these words and this input, and what it prints.
 fn call<F: Fs>(

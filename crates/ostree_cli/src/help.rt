@@ -3,12 +3,26 @@
 /// The program's name and version.
 pub const VERSION: &[u8] = b"ostree_cli 0.1.0\n";
 
-/// Each command with its fields, and what each exit status means.
+/// Each option, each command with its fields, and what each exit status means.
 pub const USAGE: &[u8] = b"\
-Usage: ostree_cli COMMAND [FIELD]...
+Usage: ostree_cli [--helpers N] [--schedule LIST] COMMAND [FIELD]...
 
 Works on the OSTree repository at ostree/repo below the current folder. Each
 command first checks all that is there, and lays out what is missing.
+
+Options, which may stand before, between or behind the fields, each once:
+  --helpers N           how many helpers pulls have: 0 to 8, by default 4. There
+                        are no pulls yet, so they have nothing to do.
+  --schedule LIST       which lane acts when: lanes joined by a comma, each a
+                        number from 0 to 15, or NUMBER*COUNT to act up to
+                        100,000 times. A lane that has nothing to do, or waits
+                        for another, is passed over. Behind the list the lanes
+                        act in turn. So by `--schedule 0,1*1000 run` lane 0 acts
+                        once, then lane 1 until its commands are done, and then
+                        lane 0 goes on.
+  --                    each word behind it is a field. Before it, a field of
+                        two or more bytes doesn't begin with -, which may be
+                        written as %2d.
 
 Commands:
   init                  check the repository, and lay out what is missing

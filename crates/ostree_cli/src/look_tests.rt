@@ -1,10 +1,10 @@
 //! What `log`, `ls` and `cat` print. `tools/object_names.py` reckons the names of these objects from OSTree's formats.
-use crate::top::{Ended, ostree};
 use fs_memory::{MemFs, MemSink, MemSource};
 use ost_types::Bytes;
 use std::alloc::Global;
 use std::process::Abort;
 use std::test::Fail;
+use top_call::{Ended, ostree};
 
 // What a call comes to that has these words and this input, and what it prints.
 fn call(

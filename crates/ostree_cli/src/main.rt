@@ -1,35 +1,25 @@
 //! The program `ostree_cli`: an OSTree bare repository in the current folder.
 #![tactic(auto)]
 
-mod asked;
 #[cfg(test)]
 mod checkout_tests;
-mod fault;
 mod help;
-mod input;
-mod lanes;
 #[cfg(test)]
 mod look_tests;
-mod output;
+#[cfg(test)]
+mod schedule_tests;
 #[cfg(test)]
 mod script_tests;
-mod status;
 #[cfg(test)]
 mod tests;
-mod text;
-mod top;
 #[cfg(test)]
 mod tree_tests;
-mod why;
-mod words;
 
 use fs_host::{HostFs, StdSink, StdSource};
 use help::{USAGE, VERSION};
-use output::write_all;
 use std::io::ErrorKind;
 use std::process::ExitCode;
-use text::{MEMORY_LINE, USAGE_LINE};
-use top::ostree;
+use top_call::{MEMORY_LINE, USAGE_LINE, ostree, write_all};
 
 fn main(rt: HostRuntime) -> ExitCode {
     ExitCode::from(run(rt))

@@ -1,7 +1,3 @@
-use crate::asked::asked_lanes;
-use crate::lanes::run_lanes;
-use crate::text::output_of;
-use crate::top::{Ended, ostree};
 use fs_host::HostFs;
 use fs_memory::{MemFs, MemSink, MemSource};
 use fs_trait::{Fs, Source};
@@ -10,6 +6,7 @@ use std::alloc::Global;
 use std::fs;
 use std::process::Abort;
 use std::test::Fail;
+use top_call::{Ended, asked_lanes, ostree, output_of, run_asked};
 
 // A tree of two folders, and one commit of it.
 const FIRST: &[u8] = b"ostree-script 1
@@ -377,8 +374,8 @@ fn refuses_an_object_too_many(rt: HostRuntime) -> Result<(), Fail> {
         content: 268_435_456,
     };
     let mut input = source(alloc, FIRST, Vec::new(alloc))?;
-    let lanes = asked_lanes(alloc, &run_word(alloc)?, &mut input).expect(&rt, "a script");
-    let parts = run_lanes(alloc, MemFs::new(alloc)?, lanes, limits)
+    let asked = asked_lanes(alloc, &run_word(alloc)?, &mut input).expect(&rt, "a script");
+    let parts = run_asked(alloc, MemFs::new(alloc)?, asked, limits)
         .ok()
         .expect(&rt, "a run");
     let text = output_of(alloc, &None, &parts.replies)?;

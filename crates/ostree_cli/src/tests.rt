@@ -1,9 +1,5 @@
 ghost use Rattle.ost_types.specs.Mode.{IsFolderMode, IsFileMode};
 
-use crate::asked::asked_lanes;
-use crate::lanes::run_lanes;
-use crate::text::output_of;
-use crate::top::{Ended, ostree};
 use fs_host::HostFs;
 use fs_memory::{Choice, FailAt, MemFs, MemSink, MemSource};
 use fs_trait::Fs;
@@ -12,6 +8,7 @@ use std::alloc::Global;
 use std::fs;
 use std::process::Abort;
 use std::test::Fail;
+use top_call::{Ended, asked_lanes, ostree, output_of, run_asked};
 
 // A commit of the disks here, and none.
 const COMMIT: &str = "b30605ed9370a39846c77ee0fc427b9e07ef40432f45037c89db106f36e49623";
@@ -37,6 +34,9 @@ const TABLE: &[(&str, &str, u8)] = &[
     ("drop main", "0 0 ok\n", 0),
     ("drop main", "0 0 refused NoRef\n", 1),
     ("refs", "0 0 ok 1\n a/b/c X\n", 0),
+    ("--helpers 3 refs", "0 0 ok 1\n a/b/c X\n", 0),
+    ("refs --schedule=0*100,15", "0 0 ok 1\n a/b/c X\n", 0),
+    ("rev-parse --helpers=0 -- a/b/c", "0 0 ok X\n", 0),
     ("drop a/b/c", "0 0 ok\n", 0),
     ("checkout main a", "0 0 refused NoRef\n", 1),
     ("checkout Y a", "0 0 refused NoCommit Y\n", 1),
@@ -52,6 +52,11 @@ const TABLE: &[(&str, &str, u8)] = &[
     ("checkout main", "fault usage\n", 2),
     ("checkout main a/b", "fault usage\n", 2),
     ("checkout main ..", "fault usage\n", 2),
+    ("--helpers 9 refs", "fault usage\n", 2),
+    ("--helpers 03 refs", "fault usage\n", 2),
+    ("--schedule 16 refs", "fault usage\n", 2),
+    ("--helpers 3 refs --helpers 3", "fault usage\n", 2),
+    ("rev-parse -main", "fault usage\n", 2),
     ("init now", "fault usage\n", 2),
     ("refs main", "fault usage\n", 2),
     ("commit main", "fault usage\n", 2),
@@ -338,8 +343,8 @@ fn tells_too_many_objects(rt: HostRuntime) -> Result<(), Fail> {
         content: 268_435_456,
     };
     let words = words_of(alloc, "init")?;
-    let lanes = asked_lanes(alloc, &words, &mut nothing(alloc)).expect(&rt, "no lanes");
-    let (_, fault) = run_lanes(alloc, with_commit(alloc)?, lanes, limits)
+    let asked = asked_lanes(alloc, &words, &mut nothing(alloc)).expect(&rt, "no lanes");
+    let (_, fault) = run_asked(alloc, with_commit(alloc)?, asked, limits)
         .err()
         .expect(&rt, "a fault");
     let text = output_of(alloc, &Some(fault), &Vec::new(alloc))?;

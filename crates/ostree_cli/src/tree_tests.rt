@@ -76,12 +76,12 @@
 //!     for n in $(seq -w 0 299); do printf $n >many/d/$n; done
 //!     commit many many 1700000006 --subject=many
 
-use crate::top::ostree;
 use fs_memory::{MemFs, MemSink, MemSource};
 use ost_types::{Bytes, NoMemory};
 use std::alloc::Global;
 use std::process::Abort;
 use std::test::Fail;
+use top_call::ostree;
 
 const TREES: &[u8] = b"ostree-script 1
 tree 0

@@ -1,0 +1,10 @@
+use Rattle.bls_entry.proofs.Words.{words_end, words_more}
+use Rattle.bls_entry.proofs.options.split_word.Goals as goal
+
+pub returns-in-len1-up-clause-words : goal.returns-in-len1-up-clause-words
+returns-in-len1-up-clause-words c =
+    words_more c.args.text.now c.split_at_blank.result.0.now c.split_at_blank.result.1.now c.split_at_blank.ensures.whole c.split_at_blank.ensures.word c.split_at_blank.ensures.rest
+
+pub returns-in-empty-clause-words : goal.returns-in-empty-clause-words
+returns-in-empty-clause-words c =
+    words_end c.args.text.now c.split_at_blank.result.0.now c.split_at_blank.result.1.now c.split_at_blank.ensures.whole c.split_at_blank.ensures.word c.in-empty.len_below

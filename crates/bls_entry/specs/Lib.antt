@@ -1,0 +1,5 @@
+pub mod Line
+pub mod Options
+pub mod Entry
+pub mod Reading
+pub mod Tracks

@@ -1,0 +1,12 @@
+use Rattle.std.proofs.Common.{◌≡◌, [], ◌∷◌, sym, subst, ap}
+use Rattle.ost_types.specs.Path.{IsPath, under}
+use Rattle.repo_layout.specs.declared.folder.Folder.TheVariants.{Ostree}
+use Rattle.repo_layout.specs.Paths.{folder_path}
+use Rattle.boot_plan.proofs.Plain.{boot_stage-name, folder_child}
+use Rattle.boot_plan.proofs.paths.boot_link_stage_path.Goals as goal
+
+pub known_name-requires : goal.known_name-requires
+known_name-requires c = boot_stage-name
+
+pub child-requires : goal.child-requires
+child-requires c = subst (λ f. IsPath (under f c.in_ok-known_name.field-0)) (sym c.in_ok-folder_path.ensures) (subst (λ n. IsPath (under (folder_path Ostree) n)) (sym c.in_ok-known_name.ensures) (folder_child Ostree _ (λ e. cc) boot_stage-name))

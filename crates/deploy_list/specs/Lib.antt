@@ -1,0 +1,4 @@
+pub mod Kernels
+pub mod Lists
+pub mod BootSum
+pub mod EntryReads

@@ -1,4 +1,0 @@
-use Rattle.ostree_cli.proofs.asked.asked_lanes.Goals as goal
-
-pub returns-in-Ok-Script-clause-exact : goal.returns-in-Ok-Script-clause-exact
-returns-in-Ok-Script-clause-exact g c = λ all lanes told script is. c.read_lanes.ensures.exact all lanes told script

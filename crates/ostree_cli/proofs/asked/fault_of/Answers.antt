@@ -1,5 +1,0 @@
-use Rattle.ostree_cli.proofs.Asking.{told_fault}
-use Rattle.ostree_cli.proofs.asked.fault_of.Goals as goal
-
-pub returns-in_default-clause-fault : goal.returns-in_default-clause-fault
-returns-in_default-clause-fault c = λ bytes is. told_fault bytes c.args.why c.in_default.not-NoMemory is

@@ -1,5 +1,0 @@
-use Rattle.ostree_cli.proofs.Reading.{front_any}
-use Rattle.ostree_cli.proofs.input.read_input.Goals as goal
-
-pub returns-then-before-faults-clause-read : goal.returns-then-before-faults-clause-read
-returns-then-before-faults-clause-read g c = λ all told. front_any all _ c.read_pieces-read.result (c.read_pieces-read.ensures.read all told)

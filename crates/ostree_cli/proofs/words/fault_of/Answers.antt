@@ -1,6 +1,0 @@
-use Rattle.std.proofs.Common.{inr, refl}
-use Rattle.ostree_cli.proofs.Asking.{no_lone}
-use Rattle.ostree_cli.proofs.words.fault_of.Goals as goal
-
-pub returns-in_default : goal.returns-in_default
-returns-in_default c = λ words reads. inr (refl, no_lone words c.args.why reads c.in_default.not-NoMemory)

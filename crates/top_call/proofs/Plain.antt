@@ -1,0 +1,53 @@
+-- The headline of a system in plain data.
+use Rattle.std.proofs.Common.{◌≡◌, ◌≤◌, ◌++◌, ℕ, List, length, take, Option, Some, None, refl, sym, ap, subst}
+use Rattle.fs_trait.specs.View.{View}
+use Rattle.rely.specs.declared.books.Base.{Base}
+use Rattle.rely.specs.declared.books.Entry.{Entry}
+use Rattle.rely.specs.declared.books.Pending.{Pending}
+use Rattle.rely.specs.declared.event.Event.{Event}
+use Rattle.rely.specs.State.{State, first, after, events_of, pending_of, IsRun}
+use Rattle.rely.specs.Headline as system
+use Rattle.top_call.specs.Headline.{Headline, shown, stored}
+use Rattle.top_call.specs.Top.{event_of}
+
+same_shown : (p : Option Pending) → shown (event_of p) ≡ pending_of p
+same_shown None = refl
+same_shown (Some p) = refl
+
+none_shown : (p : Option Pending) → event_of p ≡ None → p ≡ None
+none_shown None is = refl
+none_shown (Some p) is = cc
+
+module _ {F : Type 0} (clock : F → ℕ) (was : F → ℕ → View → Type 0) (base : Base F) (v : View) where
+  abbrev start : State
+  start = first base.books.start.items
+
+  abbrev events : List Event
+  events = events_of base.books.history.items ++ pending_of base.books.pending
+
+  same : stored base.books.history.items (event_of base.books.pending) ≡ events
+  same = ap (λ e. events_of base.books.history.items ++ e) (same_shown base.books.pending)
+
+  plain : system.Headline clock was base v → Headline clock was base.books.opened start base.fs base.books.history.items (event_of base.books.pending) v
+  plain h = record {
+    crash = λ t d later left. let f = h.crash t d later left in record {
+      count = f.count;
+      has_acked = f.has_acked;
+      within = subst (λ es. f.count ≤ length es) (sym same) f.within;
+      has = subst (λ es. system.Has d (after (take f.count es) start)) (sym same) f.has;
+    };
+    now = λ none. h.now (none_shown base.books.pending none);
+    run = subst (λ es. IsRun es start) (sym same) h.run;
+    moments = h.moments;
+  }
+
+  -- the same of what a system was taken apart into
+  pub parted : (opened : ℕ) (refs : List (List ℕ × List ℕ)) (fs : F) (history : List Entry) (pending : Option Event)
+      → base.books.opened ≡ opened → base.books.start.items ≡ refs → fs ≡ base.fs → history ≡ base.books.history.items → pending ≡ event_of base.books.pending
+      → system.Headline clock was base v → Headline clock was opened (first refs) fs history pending v
+  parted opened refs fs history pending at is disk entries shows h =
+      subst (λ o. Headline clock was o (first refs) fs history pending v) at
+      (subst (λ r. Headline clock was base.books.opened (first r) fs history pending v) is
+      (subst (λ x. Headline clock was base.books.opened start x history pending v) (sym disk)
+      (subst (λ x. Headline clock was base.books.opened start base.fs x pending v) (sym entries)
+      (subst (λ x. Headline clock was base.books.opened start base.fs base.books.history.items x v) (sym shows) (plain h)))))

@@ -1,0 +1,43 @@
+use Rattle.std.proofs.Common.{sym, ◌∙◌, ap, map}
+use Rattle.top_call.proofs.Completing.{caused_parts, caused_unused}
+use Rattle.top_call.proofs.Rans.{by_words, stop_at}
+use Rattle.top_call.proofs.Outcomes.{no_line, no_script, same_fault, told_usage, works_same}
+use Rattle.top_call.proofs.top.run.Goals as goal
+
+pub returns-in-Ok-run_asked-clause-words : goal.returns-in-Ok-run_asked-clause-words
+returns-in-Ok-run_asked-clause-words g c = λ none. absurd (no_line _ _ _ c.in-Ok.ensures.lanes none)
+
+pub returns-in-Err-run_asked-clause-words : goal.returns-in-Err-run_asked-clause-words
+returns-in-Err-run_asked-clause-words g c = λ none. absurd (no_line _ _ _ c.in-Ok.ensures.lanes none)
+
+pub returns-in-Ok-run_asked-clause-ran : goal.returns-in-Ok-run_asked-clause-ran
+returns-in-Ok-run_asked-clause-ran g c = λ v told fault.
+    let o = c.outcome_of.ensures in
+    by_words _ _ c.standard.result g.F.Fs.view g.F.Fs.clock g.F.Fs.was v (g.F.Fs.clock c.args.fs) _ c.in-Ok-run_asked.parts.fs c.outcome_of.result.fs _ _ _ _ _ _
+    (record { objects = c.standard.ensures.objects; paths = c.standard.ensures.paths; content = c.standard.ensures.content })
+    c.in-Ok.ensures.lanes o.fs o.history o.pending (ap (map (λ replies. replies.items)) o.replies) (c.in-Ok-run_asked.ensures.ran v told)
+
+pub returns-in-Err-clause-script : goal.returns-in-Err-clause-script
+returns-in-Err-clause-script g c = λ all lanes e told script is.
+    no_script _ _ _ _ c.in-Err.fault e c.in-Err.ensures.fault (c.in-Err.ensures.exact all lanes told script) (same_fault _ _ (sym c.stopped-in-Err.ensures.fault ∙ is))
+
+pub returns-in-Err-run_asked-clause-stop : goal.returns-in-Err-run_asked-clause-stop
+returns-in-Err-run_asked-clause-stop g c = λ v told.
+    stop_at c.stopped.result.fault c.in-Err-run_asked.fault c.standard.result v.now c.stopped.ensures.fault (record { objects = c.standard.ensures.objects; paths = c.standard.ensures.paths; content = c.standard.ensures.content }) (c.in-Err-run_asked.ensures.told v told)
+
+pub returns-in-Ok-run_asked-clause-caused : goal.returns-in-Ok-run_asked-clause-caused
+returns-in-Ok-run_asked-clause-caused g c = λ v told.
+    let o = c.outcome_of.ensures in
+    caused_parts g.F.Fs.faults (g.F.Fs.faults c.args.fs) c.in-Ok-run_asked.parts.fs c.outcome_of.result.fs _ _ o.fs (ap (map (λ replies. replies.items)) o.replies) (c.in-Ok-run_asked.ensures.caused v told)
+
+pub returns-in-Err-run_asked-clause-caused : goal.returns-in-Err-run_asked-clause-caused
+returns-in-Err-run_asked-clause-caused g c = λ v told. caused_unused _ _ _ c.stopped.ensures.unused.replies_are
+
+pub returns-in-Err-clause-caused : goal.returns-in-Err-clause-caused
+returns-in-Err-clause-caused g c = λ v told. caused_unused _ _ _ c.stopped-in-Err.ensures.unused.replies_are
+
+pub returns-in-Err-clause-words : goal.returns-in-Err-clause-words
+returns-in-Err-clause-words g c = λ none. told_usage _ _ _ _ c.in-Err.fault c.stopped-in-Err.result.fault c.stopped-in-Err.ensures.fault c.in-Err.ensures.fault none
+
+pub returns-in-Err-clause-undone : goal.returns-in-Err-clause-undone
+returns-in-Err-clause-undone g c = λ v told. works_same g.F.Fs.view g.F.Fs.clock g.F.Fs.was c.args.fs c.stopped-in-Err.result.fs v c.stopped-in-Err.ensures.fs told c.stopped-in-Err.result.fault
