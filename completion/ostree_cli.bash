@@ -1,6 +1,6 @@
 # bash completion of ostree_cli: commands, options, and the refs of the current folder.
 
-# The refs are looked up as files. The program itself would check the whole repository first, and clear what another run has staged.
+# The refs are looked up as files. The program itself would check the whole repository first, and meanwhile keep any other run out.
 # A name that begins with `-` stands only behind `--`, and isn't offered.
 _ostree_cli_refs() {
 	(cd ostree/repo/refs/heads 2>/dev/null && find . -type f ! -name '.*' 2>/dev/null | sed -n 's,^\./\([^-]\),\1,p')

@@ -31,8 +31,8 @@ NAMES_LIMIT = 64
 PATH_LIMIT = 1024
 CHUNK = 1 << 20
 FIRST_LINE = b"ostree-script 1\n"
-# Names that the program keeps for itself on the host.
-RESERVED = (b".ost-folder", b".ost-new")
+# The name that the program keeps for itself in each folder of the host.
+RESERVED = b".ost-folder"
 PLAIN = bytes(byte for byte in range(0x21, 0x7F) if byte != ord("%"))
 SPELLED = [bytes([byte]) if byte in PLAIN else b"%%%02x" % byte for byte in range(256)]
 PART = rb"[A-Za-z0-9_-][A-Za-z0-9_.-]*"
@@ -127,7 +127,7 @@ class Walk:
             return self.leave_out(path, error)
         except OSError as error:
             return self.leave_out(path, error.strerror)
-        if names and names[-1] in RESERVED:
+        if names and names[-1] == RESERVED:
             self.tell(path, "taken, but ostree_cli checks no tree out that has this name, which it keeps for itself")
         for name in below:
             self.take(os.path.join(place, name), names + [name])
