@@ -1,15 +1,15 @@
 -- What the grammar says, the walk of `clap` over the words finds.
-use Rattle.std.proofs.Common.{◌≡◌, ◌≢◌, ◌⊎◌, inl, inr, Bool, true, false, ℕ, List, [], ◌∷◌, ◌++◌, Option, Some, None, codes, refl, sym, ◌∙◌, ap, subst, append_assoc}
+use Rattle.std.proofs.Common.{◌≡◌, ◌⊎◌, inl, inr, true, false, List, [], ◌∷◌, ◌++◌, Option, Some, None, codes, refl, sym, ◌∙◌, ap, subst, append_assoc}
 use Rattle.std.proofs.lemmas.List.{append-nil}
 use Rattle.clap.specs.Faults.{turn_fault, use_fault}
-use Rattle.clap.specs.Kinds.{Kinds, or_else}
+use Rattle.clap.specs.Kinds.{Kinds}
 use Rattle.clap.specs.Lexer.{long_of}
 use Rattle.clap.specs.Walk.{Row, Waiting, Walk, idle, option, positional, used, walked}
 use Rattle.command_line.specs.Command.{IsMeant}
 use Rattle.command_line.specs.Words.{AreCut, AreParts, IsOption, IsPlain, Part, Word, field, fields_in, helpers, helpers_in, schedule, schedules_in}
 use Rattle.command_line.proofs.Looks.{Looks, LooksPlain, as_dash, as_long, as_plain, as_short, dashes, long_word, looks, not_plain}
 use Rattle.command_line.proofs.Rows.{Shows, field_used, first_passes, helpers_used, option_built, rules_built, schedule_used}
-use Rattle.command_line.proofs.Turns.{IsKnown, Pending, Rests, at, behind_next, behind_turn, dash_next, dash_turn, given_next, given_turn, helpers_known, named_next, named_turn, pending_fault, plain_next, plain_turn, rows_then, schedule_known, value_fault, value_next, value_rows, value_turn, whole}
+use Rattle.command_line.proofs.Turns.{Pending, Rests, at, behind_next, behind_turn, dash_next, dash_turn, given_next, given_turn, helpers_known, named_next, named_turn, pending_fault, plain_next, plain_turn, rows_then, schedule_known, value_fault, value_next, value_rows, value_turn, whole}
 use Rattle.command_line.proofs.Walks.{final, or_both, total}
 
 -- no fault, and rows with these values

@@ -1,26 +1,26 @@
 -- What a parse comes to, by the grammar.
-use Rattle.std.proofs.Common.{◌≡◌, ◌≢◌, ◌⊎◌, ◌||◌, inl, inr, Bool, true, false, ℕ, List, [], ◌∷◌, ◌++◌, map, Option, Some, None, codes, refl, sym, ◌∙◌, ap, subst, MatchResult, Result, Ok, Err, IsUtf8}
-use Rattle.std.specs.Prelude.{fold, option_map, unwrap_or, if◌then◌else◌}
+use Rattle.std.proofs.Common.{◌≡◌, ◌≢◌, ◌⊎◌, inl, inr, Bool, true, false, List, [], ◌∷◌, ◌++◌, map, None, codes, refl, sym, ◌∙◌, ap, subst, Ok, Err}
+use Rattle.std.specs.Prelude.{fold, unwrap_or}
 use Rattle.std.specs.Prelude.{String}
 use Rattle.std.specs.String.{string_bytes}
 use Rattle.std.proofs.lemmas.Str.{IsUtf8-string_bytes}
-use Rattle.clap.specs.Faults.{check_fault, default_fault, defaults_fault, fault_of, is_simple_and_free, settle_fault, turn_fault, walk_fault}
-use Rattle.clap.specs.Kinds.{FailsBy, HasKind, IsAmong, Kinds, or_else}
-use Rattle.clap.specs.Matches.{found_of, matched_of, raw_values}
-use Rattle.clap.specs.Simple.{HasMatchesOf, built, is_simple, matches_of}
+use Rattle.clap.specs.Faults.{default_fault, defaults_fault, fault_of, settle_fault, turn_fault, walk_fault}
+use Rattle.clap.specs.Kinds.{FailsBy, IsAmong, Kinds, or_else}
+use Rattle.clap.specs.Matches.{found_of}
+use Rattle.clap.specs.Simple.{HasMatchesOf}
 use Rattle.clap.specs.Values.{kind_of}
-use Rattle.clap.specs.Walk.{Held, Row, Rule, Walk, all_of, finished, has_row, idle, is_empty, nothing_held, rows_of, settled, walk, walk_from, walked, with_default}
+use Rattle.clap.specs.Walk.{Held, Row, Rule, Walk, all_of, finished, has_row, idle, nothing_held, rows_of, settled, walked, with_default}
 use Rattle.clap.specs.declared.error.Error.{Error}
 use Rattle.clap.specs.declared.error.kind.ErrorKind.TheVariants.{OutOfMemory}
 use Rattle.clap.specs.declared.parser.matches.ArgMatches.{ArgMatches}
 use Rattle.clap.proofs.FaultLemmas.{leaf_fault}
 use Rattle.clap.proofs.WalkLemmas.{raw_values-rows}
-use Rattle.command_line.specs.Command.{Finds, IsMeant, IsNoSplit, IsSplit, app, values_of}
+use Rattle.command_line.specs.Command.{Finds, IsNoSplit, IsSplit, app, values_of}
 use Rattle.command_line.specs.declared.fault.LineFault.{LineFault}
 use Rattle.command_line.specs.declared.fault.LineFault.TheVariants as fault
-use Rattle.command_line.specs.Words.{AreCut, Part, Word, fields_in, helpers_in, schedules_in}
+use Rattle.command_line.specs.Words.{Part, Word, fields_in, helpers_in, schedules_in}
 use Rattle.command_line.proofs.Rows.{Shows, fields_built, opt, option_built, rules_built}
-use Rattle.command_line.proofs.Turns.{at, pending_fault, rows_then, whole}
+use Rattle.command_line.proofs.Turns.{at, whole}
 use Rattle.command_line.proofs.Walks.{Texts, final, or_both, or_first, or_second, sound, total}
 use Rattle.command_line.proofs.Completes.{complete}
 

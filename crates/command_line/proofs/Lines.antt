@@ -1,7 +1,6 @@
 -- From the values that were found to what the words say.
-use Rattle.std.proofs.Common.{◌≡◌, ◌≢◌, ◌<◌, ◌≤◌, ◌⊎◌, inl, inr, ℕ, List, [], ◌∷◌, ◌++◌, length, Option, Some, None, codes, refl, sym, ◌∙◌, ap, subst, arith, rules, Result, Ok, Err, IfOk, MatchResult}
+use Rattle.std.proofs.Common.{◌≡◌, ◌≢◌, ◌⊎◌, inl, inr, ℕ, List, [], ◌∷◌, ◌++◌, length, Option, Some, None, codes, refl, sym, ◌∙◌, ap, subst, arith, rules, Result, Ok, Err, IfOk, MatchResult}
 use Rattle.std.specs.Prelude.{unwrap_or}
-use Rattle.std.specs.Fmt.{decimal}
 use Rattle.std.proofs.lemmas.Fmt.{decimal_digit}
 use Rattle.clap.specs.Walk.{all_of}
 use Rattle.clap.specs.declared.parser.matches.ArgMatches.{ArgMatches}
@@ -9,7 +8,7 @@ use Rattle.schedule.specs.Schedule.{IsSchedule}
 use Rattle.schedule.specs.declared.turns.Turns.{Turns}
 use Rattle.schedule.proofs.Items.{no_dash}
 use Rattle.command_line.specs.Command.{AreNoLine, IsLine, IsMeant, IsNoSplit, IsSplit, values_of}
-use Rattle.command_line.specs.Words.{AreHelpers, AreSchedule, IsPlain, Part, SayNothing, Says, Word, field, fields_in, helpers, helpers_in, schedule, schedules_in}
+use Rattle.command_line.specs.Words.{AreHelpers, AreSchedule, IsPlain, Part, SayNothing, Says, Word, field, helpers, helpers_in, schedule, schedules_in}
 use Rattle.command_line.specs.declared.fault.LineFault.{LineFault}
 use Rattle.command_line.specs.declared.fault.LineFault.TheVariants as fault
 use Rattle.command_line.proofs.Completes.{complete}

@@ -1,5 +1,5 @@
 -- What a word looks like to `clap`, by the bytes that it begins with.
-use Rattle.std.proofs.Common.{◌≡◌, ◌≢◌, ◌<◌, ◌==◌, ◌++◌, Bool, true, false, ℕ, zero, suc, List, [], ◌∷◌, length, get_or, Option, Some, None, codes, refl, sym, ◌∙◌, ap, subst, arith, rules, IsUtf8}
+use Rattle.std.proofs.Common.{◌≡◌, ◌≢◌, ◌==◌, ◌++◌, Bool, true, false, ℕ, zero, suc, List, [], ◌∷◌, Option, Some, None, refl, sym, ◌∙◌, ap, subst, arith, IsUtf8}
 use Rattle.std.specs.Str.{bytes_eq, chars, encode_utf8_all}
 use Rattle.std.proofs.lemmas.Str.{encodes-chars, chars_past_char}
 use Rattle.std.specs.Prelude.{slice_get}

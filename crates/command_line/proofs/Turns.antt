@@ -1,16 +1,16 @@
 -- What `clap` makes of one more word.
-use Rattle.std.proofs.Common.{◌≡◌, ◌≢◌, ◌&&◌, ◌⊎◌, inl, inr, Bool, true, false, ℕ, zero, suc, List, [], ◌∷◌, ◌++◌, length, Option, Some, None, codes, refl, sym, ◌∙◌, ap, subst, arith, rules, IsUtf8}
-use Rattle.std.specs.Prelude.{find, slice_get}
+use Rattle.std.proofs.Common.{◌≡◌, ◌≢◌, ◌&&◌, ◌⊎◌, inl, inr, Bool, true, false, ℕ, List, [], ◌∷◌, Option, Some, None, codes, refl, sym, subst, IsUtf8}
+use Rattle.std.specs.Prelude.{slice_get}
 use Rattle.std.specs.Str.{bytes_eq, chars}
 use Rattle.std.proofs.lemmas.Slice.Eq.{bytes_eq-Decides}
 use Rattle.clap.specs.Faults.{flags_fault, settle_fault, turn_fault, use_fault}
 use Rattle.clap.specs.Kinds.{Kinds, or_else}
 use Rattle.clap.specs.Lexer.{long_of}
-use Rattle.clap.specs.Simple.{App, Shape, built}
-use Rattle.clap.specs.Walk.{Held, Row, Rule, Text, Waiting, Walk, arg_by_id, arg_by_long, idle, is_pending, option, positional, settled_rows, used, walked}
+use Rattle.clap.specs.Simple.{Shape, built}
+use Rattle.clap.specs.Walk.{Held, Row, Text, Waiting, Walk, arg_by_id, arg_by_long, idle, is_pending, option, positional, settled_rows, used, walked}
 use Rattle.command_line.specs.Command.{app, bare}
 use Rattle.command_line.specs.Words.{Word}
-use Rattle.command_line.proofs.Looks.{LooksLong, LooksPlain, LooksShort, dashes, some_flag}
+use Rattle.command_line.proofs.Looks.{LooksPlain, LooksShort, dashes, some_flag}
 use Rattle.command_line.proofs.Rows.{fields_built, option_built, rules_built}
 
 -- the command as it is built

@@ -1,14 +1,14 @@
 -- The walk of `clap` over the words finds what the grammar says.
-use Rattle.std.proofs.Common.{◌≡◌, ◌≢◌, ◌≤◌, ◌⊎◌, inl, inr, Bool, true, false, ℕ, zero, suc, List, [], ◌∷◌, ◌++◌, length, Option, Some, None, codes, refl, sym, ◌∙◌, ap, subst, arith, rules, append_assoc, IsUtf8, All}
+use Rattle.std.proofs.Common.{◌≡◌, ◌≢◌, ◌≤◌, ◌⊎◌, inl, inr, Bool, true, false, ℕ, zero, suc, List, [], ◌∷◌, ◌++◌, length, Option, Some, None, codes, refl, sym, ◌∙◌, ap, subst, arith, append_assoc, IsUtf8}
 use Rattle.std.proofs.lemmas.List.{append-nil}
 use Rattle.std.specs.Str.{bytes_eq}
 use Rattle.clap.specs.Faults.{turn_fault, use_fault}
 use Rattle.clap.specs.Kinds.{Kinds, or_else}
 use Rattle.clap.specs.Lexer.{long_of}
 use Rattle.clap.specs.Walk.{Row, Waiting, Walk, arg_by_long, idle, option, positional, used, walked}
-use Rattle.command_line.specs.Words.{AreCut, AreParts, IsOption, IsPart, IsPlain, Part, Word, field, fields_in, helpers, helpers_in, schedule, schedules_in}
-use Rattle.command_line.proofs.Looks.{Looks, LooksLong, LooksPlain, LooksShort, as_dash, as_long, as_plain, as_short, dashes, long_word, looks}
-use Rattle.command_line.proofs.Rows.{Shows, field_used, fields_built, first_passes, first_use, helpers_used, option_built, rules_built, schedule_used}
+use Rattle.command_line.specs.Words.{AreCut, IsOption, IsPart, IsPlain, Part, Word, field, fields_in, helpers, helpers_in, schedule, schedules_in}
+use Rattle.command_line.proofs.Looks.{Looks, LooksLong, LooksPlain, as_dash, as_long, as_plain, as_short, dashes, long_word, looks}
+use Rattle.command_line.proofs.Rows.{Shows, field_used, first_use, helpers_used, option_built, rules_built, schedule_used}
 use Rattle.command_line.proofs.Turns.{IsKnown, Pending, Rests, at, behind_next, behind_turn, dash_next, dash_turn, flags_turn, given_next, given_turn, helpers_known, known, named_next, named_turn, no_value, pending_fault, plain_next, plain_turn, rows_then, schedule_known, unknown_turn, value_fault, value_next, value_rows, value_turn, whole}
 
 -- the faults of the words from here on, and of what is pending at their end

@@ -7,7 +7,6 @@ use Rattle.command_line.specs.declared.fault.LineFault.TheVariants as line
 use Rattle.command_line.proofs.Lines.{fields_once}
 use Rattle.script.proofs.Alone.{commit_alone}
 use Rattle.script.specs.Words.{ReadsWords, IsUnknown, IsWritten}
-use Rattle.script.specs.declared.command.Command.{Command}
 use Rattle.script.specs.declared.command.Written.{Written}
 use Rattle.script.specs.declared.command.Written.TheVariants as written
 use Rattle.script.specs.declared.fault.ScriptFault.{ScriptFault}

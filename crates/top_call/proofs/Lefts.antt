@@ -1,5 +1,5 @@
 -- What each crash leaves of the store, once each command has its reply.
-use Rattle.std.proofs.Common.{◌≡◌, ◌⊎◌, inl, inr, ⊎_elim, ◌<◌, ◌≤◌, ℕ, Bool, refl, sym, ◌∙◌, ap, subst, arith, List, [], length, map, get_or, Option}
+use Rattle.std.proofs.Common.{◌≡◌, inl, inr, ◌≤◌, ℕ, Bool, sym, ◌∙◌, ap, subst, arith, List, [], length, map, get_or, Option}
 use Rattle.std.proofs.lemmas.List.{get_or-map, length-map}
 use Rattle.ost_types.specs.declared.limits.Limits.{Limits}
 use Rattle.ost_forms.specs.declared.tree_item.TreeItem.{TreeItem}

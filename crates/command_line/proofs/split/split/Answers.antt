@@ -1,10 +1,9 @@
-use Rattle.std.proofs.Common.{◌≡◌, ◌≢◌, ◌⊎◌, inl, inr, true, map, refl, subst, Ok, Err}
+use Rattle.std.proofs.Common.{◌≡◌, true, map, refl, subst, Ok, Err}
 use Rattle.std.specs.String.{string_bytes}
 use Rattle.clap.specs.Faults.{fault_of, is_simple_and_free}
 use Rattle.clap.specs.Kinds.{FailsBy}
-use Rattle.clap.specs.Simple.{HasMatchesOf, app_of}
+use Rattle.clap.specs.Simple.{HasMatchesOf}
 use Rattle.clap.specs.declared.parser.matches.ArgMatches.{ArgMatches}
-use Rattle.command_line.specs.Command.{app}
 use Rattle.command_line.proofs.Cuts.{fault_case, split_ok}
 use Rattle.command_line.proofs.split.split.Goals as goal
 

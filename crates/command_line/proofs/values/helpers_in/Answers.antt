@@ -1,4 +1,4 @@
-use Rattle.std.proofs.Common.{ℕ, List, MatchOption, refl, subst}
+use Rattle.std.proofs.Common.{ℕ, MatchOption, refl, subst}
 use Rattle.command_line.specs.Words.{AreHelpers}
 use Rattle.command_line.proofs.Lines.{given_none, given_some}
 use Rattle.command_line.proofs.values.helpers_in.Goals as goal

@@ -1,4 +1,4 @@
-use Rattle.std.proofs.Common.{◌≡◌, ◌⊎◌, List, Option, None, MatchResult, map, subst}
+use Rattle.std.proofs.Common.{◌≡◌, ◌⊎◌, List, Option, None, MatchResult, subst}
 use Rattle.std.specs.Prelude.{option_map}
 use Rattle.schedule.specs.declared.turns.Turns.{Turns}
 use Rattle.command_line.specs.Words.{AreSchedule}

@@ -1,7 +1,5 @@
-use Rattle.std.proofs.Common.{map, subst}
-use Rattle.std.specs.Prelude.{option_map}
+use Rattle.std.proofs.Common.{map}
 use Rattle.std.specs.String.{string_bytes}
-use Rattle.top_call.specs.Words.{HasFields}
 use Rattle.top_call.proofs.Asking.{one_line, refusal_exact, refusal_is, refused_from}
 use Rattle.top_call.proofs.asked.asked_lanes.Goals as goal
 

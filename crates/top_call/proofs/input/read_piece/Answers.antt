@@ -1,4 +1,4 @@
-use Rattle.std.proofs.Common.{◌≡◌, ◌≤◌, arith, length-take, rules}
+use Rattle.std.proofs.Common.{arith, length-take}
 use Rattle.top_call.proofs.Reading.{shorter}
 use Rattle.top_call.proofs.input.read_piece.Goals as goal
 

@@ -1,4 +1,4 @@
-use Rattle.std.proofs.Common.{◌≡◌, ◌≤◌, ◌-◌, ◌∙◌, refl, sym, subst, arith}
+use Rattle.std.proofs.Common.{sym, subst, arith}
 use Rattle.top_call.specs.Input.{IsRead}
 use Rattle.top_call.proofs.Reading.{so_far_start, so_far_more, so_far_front, read_full, read_end, of_err}
 use Rattle.top_call.proofs.input.read_pieces.Goals as goal

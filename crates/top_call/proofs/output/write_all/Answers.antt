@@ -1,7 +1,6 @@
-use Rattle.std.proofs.Common.{◌≡◌, ◌≤◌, ◌+◌, ◌-◌, ℕ, List, ◌++◌, length, take, drop, Option, Some, refl, sym, ◌∙◌, ap, append_assoc, length-drop, arith, rules}
+use Rattle.std.proofs.Common.{◌≡◌, ◌+◌, ◌-◌, ℕ, List, ◌++◌, length, take, drop, Option, Some, sym, ◌∙◌, ap, append_assoc, length-drop, arith}
 use Rattle.std.proofs.Math.Seq.{take-add}
 use Rattle.std.proofs.lemmas.Slice.{between_to_end}
-use Rattle.top_call.proofs.output.write_all.Given as given
 use Rattle.top_call.proofs.output.write_all.Goals as goal
 
 -- a front, and a front of what is left, are one front

@@ -1,4 +1,4 @@
-use Rattle.std.proofs.Common.{rules, ◌≡◌, ◌∙◌, ap, sym, map}
+use Rattle.std.proofs.Common.{rules, ◌∙◌, ap, sym, map}
 use Rattle.std.proofs.lemmas.List.{take_all}
 use Rattle.std.proofs.lemmas.Simd.{map-map}
 use Rattle.top_call.specs.Status.{greatest, lane_status}

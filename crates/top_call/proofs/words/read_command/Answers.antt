@@ -1,4 +1,4 @@
-use Rattle.std.proofs.Common.{◌≡◌, ◌⊎◌, inr, refl, map, ℕ, List, Option, Some, None, MatchOption, subst, ◌∙◌}
+use Rattle.std.proofs.Common.{◌≡◌, ◌⊎◌, inr, refl, map, Option, Some, None, MatchOption, subst, ◌∙◌}
 use Rattle.std.specs.String.{string_bytes}
 use Rattle.top_call.specs.Words.{AreNoLone}
 use Rattle.top_call.specs.declared.fault.TopFault.TheVariants as fault

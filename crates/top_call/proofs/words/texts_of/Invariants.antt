@@ -1,6 +1,5 @@
-use Rattle.std.proofs.Common.{◌≡◌, map, take, All}
+use Rattle.std.proofs.Common.{◌≡◌, map, take}
 use Rattle.std.specs.String.{string_bytes}
-use Rattle.ost_types.specs.Text.{IsText}
 use Rattle.top_call.proofs.words.texts_of.Given as goal
 
 abbrev pub invariant-loop-word : goal.invariant-loop-word
