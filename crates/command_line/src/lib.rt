@@ -10,6 +10,3 @@ mod values;
 pub use fault::LineFault;
 pub use line::Line;
 pub use read::read_words;
-
-#[cfg(test)]
-mod tests;

@@ -12,6 +12,3 @@ pub use fault::ScheduleFault;
 pub use number::number_within;
 pub use read::read_schedule;
 pub use turns::Turns;
-
-#[cfg(test)]
-mod tests;
