@@ -10,11 +10,10 @@ PROGRAM = build/ostree_cli
 SOURCES = crates.txt HANDLES $(shell find crates -path '*/out' -prune -o -type f -print)
 
 $(PROGRAM): $(SOURCES)
-	cd crates/ostree_cli && rt run -- --version
-	mkdir -p build
-	cp crates/ostree_cli/out/ostree_cli $(PROGRAM)
+	tools/build.py
 
 check:
+	@echo "Proves every crate and every test, tries each edit and runs each program: from nothing two hours or more on four processors, later what changed."
 	rt ci
 
 demo: $(PROGRAM)
