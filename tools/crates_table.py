@@ -49,6 +49,17 @@ def first_sentence(name):
     return re.split(r"(?<=\.)\s", words)[0].rstrip(".")
 
 
+def page_of(name):
+    """The page of the crate, or the one that has a heading with its name."""
+    own = f"{TOP}/docs/proofs/{name}.md"
+    if os.path.exists(own):
+        return f"{name}.md"
+    for page in sorted(os.listdir(f"{TOP}/docs/proofs")):
+        if re.search(rf"^#+ .*\b{name}\b", text_of(f"{TOP}/docs/proofs/{page}"), re.M):
+            return page
+    return None
+
+
 def levels(known):
     """Lowest first: a crate stands behind all that it stands on."""
     return sorted(known, key=lambda it: (len(below(it, known)), it))
@@ -58,8 +69,9 @@ def table():
     known = crates()
     rows = ["| Crate | What it is | Stands on | Proved |", "|---|---|---|---|"]
     for name in levels(known):
-        page = f"[page](proofs/{name}.md)" if os.path.exists(f"{TOP}/docs/proofs/{name}.md") else ""
-        rows.append(f"| `{name}` | {first_sentence(name)} | {', '.join(f'`{it}`' for it in stands_on(name, known))} | {page} |")
+        page = page_of(name)
+        proved = f"[{page[:-3]}](proofs/{page})" if page else ""
+        rows.append(f"| `{name}` | {first_sentence(name)} | {', '.join(f'`{it}`' for it in stands_on(name, known))} | {proved} |")
     return "\n".join(rows) + "\n"
 
 
