@@ -124,8 +124,7 @@ fn is_held_off(system: &mut System<MemFs>, lane: u8) -> bool {
 }
 
 // The same commit for two refs, with the name that OSTree's formats give a commit of an empty folder.
-const REPLIES: &str =
-    "0 0 ok b30605ed9370a39846c77ee0fc427b9e07ef40432f45037c89db106f36e49623
+const REPLIES: &str = "0 0 ok b30605ed9370a39846c77ee0fc427b9e07ef40432f45037c89db106f36e49623
 1 0 ok b30605ed9370a39846c77ee0fc427b9e07ef40432f45037c89db106f36e49623
 1 1 ok b30605ed9370a39846c77ee0fc427b9e07ef40432f45037c89db106f36e49623
 ";
