@@ -51,11 +51,10 @@ def first_sentence(name):
 
 def page_of(name):
     """The page of the crate, or the one that has a heading with its name."""
-    own = f"{TOP}/docs/proofs/{name}.md"
-    if os.path.exists(own):
+    if os.path.exists(f"{TOP}/docs/proofs/{name}.md"):
         return f"{name}.md"
     for page in sorted(os.listdir(f"{TOP}/docs/proofs")):
-        if re.search(rf"^#+ .*\b{name}\b", text_of(f"{TOP}/docs/proofs/{page}"), re.M):
+        if re.search(rf"^(#+ .*|\\| `){name}\b", text_of(f"{TOP}/docs/proofs/{page}"), re.M):
             return page
     return None
 
