@@ -53,8 +53,10 @@ def page_of(name):
     """The page of the crate, or the one that has a heading with its name."""
     if os.path.exists(f"{TOP}/docs/proofs/{name}.md"):
         return f"{name}.md"
+    if name.endswith("_check"):
+        return "checks.md"
     for page in sorted(os.listdir(f"{TOP}/docs/proofs")):
-        if re.search(rf"^(#+ .*|\\| `){name}\b", text_of(f"{TOP}/docs/proofs/{page}"), re.M):
+        if re.search(rf"^#+ .*\b{name}\b", text_of(f"{TOP}/docs/proofs/{page}"), re.M):
             return page
     return None
 
