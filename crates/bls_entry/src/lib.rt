@@ -21,6 +21,3 @@ pub use laws::entry_readings;
 pub use options::ostree_value;
 pub use read::read_entry;
 pub use write::{can_be_written, write_entry};
-
-#[cfg(test)]
-mod tests;

@@ -9,6 +9,3 @@ mod targets;
 pub use item::{BootItem, DepId, Kernel};
 pub use lines::{entry_text, link_number};
 pub use targets::{boot_target, deploy_target, loader_target};
-
-#[cfg(test)]
-mod tests;

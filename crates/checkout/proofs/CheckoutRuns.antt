@@ -8,8 +8,8 @@ use Rattle.ost_types.specs.PathMap.{Nodes, node_at}
 use Rattle.ost_types.proofs.Paths.{same_name-Decides}
 use Rattle.fs_trait.specs.declared.types.Value.{Value}
 use Rattle.fs_trait.specs.declared.types.Value.TheVariants as value
-use Rattle.fs_trait.specs.declared.task.Turn.{Turn}
-use Rattle.fs_trait.specs.declared.task.Turn.TheVariants.{More, Done}
+use Rattle.fs_trait.specs.declared.task.StepResult.{StepResult}
+use Rattle.fs_trait.specs.declared.task.StepResult.TheVariants.{More, Done}
 use Rattle.fs_trait.specs.View.{View}
 use Rattle.fs_trait.specs.Image.{EachImage, Told}
 use Rattle.fs_trait.specs.Seen.{Seen, Vacant, seen, shows, MayShow, MayBe}
@@ -39,33 +39,33 @@ below_before (a ∷ g) rest = rw ((same_name-Decides a a).1 refl, below_before g
 
 -- ---- which step it was
 
-abbrev chosen : Bool → Turn Answer
+abbrev chosen : Bool → StepResult Answer
 chosen b = if b then More else Done (Ok tt)
 
-more_not : (x : Turn Answer) (a : Answer) → x ≡ More → x ≡ Done a → ⊥
+more_not : (x : StepResult Answer) (a : Answer) → x ≡ More → x ≡ Done a → ⊥
 more_not x a m d = let no : More ≡ Done a = sym m ∙ d in cc
 
-ok_not : (e : DestExists) (x : Turn Answer) → x ≡ Done (Err e) → (a : Unit {0}) → x ≡ Done (Ok a) → ⊥
+ok_not : (e : DestExists) (x : StepResult Answer) → x ≡ Done (Err e) → (a : Unit {0}) → x ≡ Done (Ok a) → ⊥
 ok_not e x err a ok = let same = sym err ∙ ok in cc
 
 reached_more : (n : ℕ) (u new : Checkout) → IsReached n u More new → new ≡ record u { phase = Make (n + 1) }
 reached_more n u new is = by (nat_lt (n + 1) (length u.tree)) More refl is.0 is.1
   where
-    by : (b : Bool) (turn : Turn Answer) → turn ≡ More → turn ≡ chosen b → new ≡ record u { phase = if b then Make (n + 1) else Ended } → new ≡ record u { phase = Make (n + 1) }
+    by : (b : Bool) (turn : StepResult Answer) → turn ≡ More → turn ≡ chosen b → new ≡ record u { phase = if b then Make (n + 1) else Ended } → new ≡ record u { phase = Make (n + 1) }
     by true turn more at is = is
     by false turn more at is = absurd (more_not turn (Ok tt) more at)
 
 reached_done : (n : ℕ) (u new : Checkout) (x : Unit {0}) → IsReached n u (Done (Ok x)) new → new ≡ record u { phase = Ended }
 reached_done n u new x is = by (nat_lt (n + 1) (length u.tree)) (Done (Ok x)) refl is.0 is.1
   where
-    by : (b : Bool) (turn : Turn Answer) → turn ≡ Done (Ok x) → turn ≡ chosen b → new ≡ record u { phase = if b then Make (n + 1) else Ended } → new ≡ record u { phase = Ended }
+    by : (b : Bool) (turn : StepResult Answer) → turn ≡ Done (Ok x) → turn ≡ chosen b → new ≡ record u { phase = if b then Make (n + 1) else Ended } → new ≡ record u { phase = Ended }
     by true turn done at is = absurd (more_not turn (Ok x) at done)
     by false turn done at is = is
 
 reached_not : (n : ℕ) (u new : Checkout) (e : DestExists) → IsReached n u (Done (Err e)) new → ⊥
 reached_not n u new e is = by (nat_lt (n + 1) (length u.tree)) (Done (Err e)) refl is.0
   where
-    by : (b : Bool) (turn : Turn Answer) → turn ≡ Done (Err e) → turn ≡ chosen b → ⊥
+    by : (b : Bool) (turn : StepResult Answer) → turn ≡ Done (Err e) → turn ≡ chosen b → ⊥
     by true turn err at = more_not turn (Err e) at err
     by false turn err at = ok_not e turn err tt at
 
@@ -145,10 +145,10 @@ module _ (t : Checkout) (v : View) (made : IsMade t) (may : MayBegin t.into t.tr
       step p s wrote =
           written_in t v made may.leaves w runs.writes u.phase (subst (λ a. Needs a w.now) runs.same needs) p s (subst (λ a. WritesOf a w p s) runs.same wrote)
 
-  in_phase : (ph : CheckoutPhase) → u.phase ≡ ph → (turn : Turn Answer) (new : Checkout) → steps_in u.phase u turn new → steps_in ph u turn new
+  in_phase : (ph : CheckoutPhase) → u.phase ≡ ph → (turn : StepResult Answer) (new : Checkout) → steps_in u.phase u turn new → steps_in ph u turn new
   in_phase ph is turn new stepped = subst (λ f. steps_in f u turn new) is stepped
 
-  vacant_first : (x : View) (turn : Turn Answer) → u.phase ≡ Begin → Tells u w x turn → tells_in Begin t.into v x turn
+  vacant_first : (x : View) (turn : StepResult Answer) → u.phase ≡ Begin → Tells u w x turn → tells_in Begin t.into v x turn
   vacant_first x turn is tells =
       let same : w ≡ v = subst (λ ph. Began ph t v w) is runs.began in
       let at : tells_in Begin u.into w x turn = subst (λ ph. tells_in ph u.into w x turn) is tells in

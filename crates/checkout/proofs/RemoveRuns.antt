@@ -5,7 +5,7 @@ use Rattle.ost_types.proofs.Paths.{same_name-Decides}
 use Rattle.fs_trait.specs.declared.types.FsErr.{FsErr}
 use Rattle.fs_trait.specs.declared.types.FsErr.TheVariants.{Failed, Exists, Missing, NotFolder, NotEmpty, NoMemory}
 use Rattle.fs_trait.specs.declared.types.Value.TheVariants.{Absent}
-use Rattle.fs_trait.specs.declared.task.Turn.TheVariants.{More, Done}
+use Rattle.fs_trait.specs.declared.task.StepResult.TheVariants.{More, Done}
 use Rattle.fs_trait.specs.View.{Disk, View, named}
 use Rattle.fs_trait.specs.Image.{EachImage, IsTree, Told}
 use Rattle.fs_trait.specs.Seen.{Vacant, seen, shows}

@@ -9,8 +9,8 @@ use Rattle.fs_trait.specs.declared.types.FsErr.{FsErr}
 use Rattle.fs_trait.specs.declared.types.FsErr.TheVariants.{Failed, NoMemory}
 use Rattle.fs_trait.specs.declared.types.Value.{Value}
 use Rattle.fs_trait.specs.declared.types.Value.TheVariants as value
-use Rattle.fs_trait.specs.declared.task.Turn.{Turn}
-use Rattle.fs_trait.specs.declared.task.Turn.TheVariants.{Done}
+use Rattle.fs_trait.specs.declared.task.StepResult.{StepResult}
+use Rattle.fs_trait.specs.declared.task.StepResult.TheVariants.{Done}
 use Rattle.fs_trait.specs.View.{Disk, View}
 use Rattle.fs_trait.specs.Effect.{no_new, no_link}
 use Rattle.fs_trait.specs.Seen.{Seen, Vacant, Directory, shows, MayShow, IsDirectory}
@@ -65,13 +65,13 @@ Needs t d = needs_in t.phase t d
 
 -- What the first step tells of the view before it: it is refused exactly where something stands at the folder's path, and then
 -- nothing is changed, nor by a step after the last one.
-abbrev pub tells_in : CheckoutPhase → Path → View → View → Turn Answer → Type 0
+abbrev pub tells_in : CheckoutPhase → Path → View → View → StepResult Answer → Type 0
 tells_in Begin into v w (Done (Err e)) = (shows v.now into ≢ Vacant) × (w ≡ v)
 tells_in Begin into v w turn = shows v.now into ≡ Vacant
 tells_in (Make n) into v w turn = Unit {0}
 tells_in ph into v w turn = w ≡ v
 
-abbrev pub Tells : Checkout → View → View → Turn Answer → Type 0
+abbrev pub Tells : Checkout → View → View → StepResult Answer → Type 0
 Tells t v w turn = tells_in t.phase t.into v w turn
 
 -- Why a step isn't done: the call failed or wanted for memory.

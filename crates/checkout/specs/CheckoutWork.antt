@@ -4,8 +4,8 @@ use Rattle.ost_types.specs.declared.node.NodeName.{NodeName}
 use Rattle.ost_types.specs.Path.{Path, IsPath}
 use Rattle.ost_types.specs.PathMap.{Nodes, IsPathMap}
 use Rattle.fs_trait.specs.declared.types.FsErr.{FsErr}
-use Rattle.fs_trait.specs.declared.task.Turn.{Turn}
-use Rattle.fs_trait.specs.declared.task.Turn.TheVariants.{More, Done}
+use Rattle.fs_trait.specs.declared.task.StepResult.{StepResult}
+use Rattle.fs_trait.specs.declared.task.StepResult.TheVariants.{More, Done}
 use Rattle.fs_trait.specs.Effect.{Next}
 use Rattle.checkout.specs.CheckoutFolder.{IsTreeMap}
 use Rattle.checkout.specs.declared.checkout_phase.DestExists.{DestExists}
@@ -49,15 +49,15 @@ pub record IsMade (t : Checkout) : Type 0 where
 abbrev pub reached : ℕ → Checkout → Checkout
 reached n t = record t { phase = if nat_lt (n + 1) (length t.tree) then Make (n + 1) else Ended }
 
-abbrev pub reached_turn : ℕ → Checkout → Turn Answer
+abbrev pub reached_turn : ℕ → Checkout → StepResult Answer
 reached_turn n t = if nat_lt (n + 1) (length t.tree) then More else Done (Ok tt)
 
 -- Which step it was, and what changed in the task: the next pair of the map was made, and after the last one the task is done; or
 -- it was refused at its beginning. One that wasn't done leaves the task as it was.
-abbrev pub IsReached : ℕ → Checkout → Turn Answer → Checkout → Type 0
+abbrev pub IsReached : ℕ → Checkout → StepResult Answer → Checkout → Type 0
 IsReached n old turn new = (turn ≡ reached_turn n old) × (new ≡ reached n old)
 
-abbrev pub steps_in : CheckoutPhase → Checkout → Turn Answer → Checkout → Type 0
+abbrev pub steps_in : CheckoutPhase → Checkout → StepResult Answer → Checkout → Type 0
 steps_in Begin old (Done (Err e)) new = new ≡ record old { phase = Refused }
 steps_in Begin old turn new = IsReached 0 old turn new
 steps_in (Make n) old turn new = IsReached n old turn new
@@ -65,7 +65,7 @@ steps_in Ended old turn new = (turn ≡ Done (Ok tt)) × (new ≡ old)
 steps_in Refused old (Done (Err e)) new = new ≡ old
 steps_in Refused old turn new = ⊥
 
-abbrev pub IsStepped : Checkout → Result (Turn Answer) FsErr → Checkout → Type 0
+abbrev pub IsStepped : Checkout → Result (StepResult Answer) FsErr → Checkout → Type 0
 IsStepped old (Ok turn) new = steps_in old.phase old turn new
 IsStepped old (Err e) new = new ≡ old
 
@@ -80,12 +80,12 @@ abbrev pub left : Checkout → ℕ
 left t = left_in t.phase (length t.tree)
 
 -- how a step moves the clock: by its one changing call, but a refusal calls none
-abbrev pub Takes : CheckoutPhase → Turn Answer → ℕ → ℕ → Type 0
+abbrev pub Takes : CheckoutPhase → StepResult Answer → ℕ → ℕ → Type 0
 Takes Begin (Done (Err e)) before now = now ≡ before
 Takes Begin turn before now = Next before now
 Takes (Make n) turn before now = Next before now
 Takes ph turn before now = now ≡ before
 
-abbrev pub OnMore : Result (Turn Answer) FsErr → Type 0 → Type 0
+abbrev pub OnMore : Result (StepResult Answer) FsErr → Type 0 → Type 0
 OnMore (Ok More) P = P
 OnMore r P = Unit {0}

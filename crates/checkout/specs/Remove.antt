@@ -2,8 +2,8 @@
 use Rattle.std.specs.Prelude.{◌≡◌, ◌≢◌, ◌⊎◌, ◌≤◌, ◌+◌, ◌-◌, ◌*◌, ℕ, List, [], ◌∷◌, length, Result, Ok, Err}
 use Rattle.ost_types.specs.Path.{Name, Path, under}
 use Rattle.fs_trait.specs.declared.types.FsErr.{FsErr}
-use Rattle.fs_trait.specs.declared.task.Turn.{Turn}
-use Rattle.fs_trait.specs.declared.task.Turn.TheVariants.{More, Done}
+use Rattle.fs_trait.specs.declared.task.StepResult.{StepResult}
+use Rattle.fs_trait.specs.declared.task.StepResult.TheVariants.{More, Done}
 use Rattle.fs_trait.specs.Effect.{Next}
 use Rattle.checkout.specs.declared.remove.phase.Phase.{Phase}
 use Rattle.checkout.specs.declared.remove.phase.Phase.TheVariants.{Look, Inside, Ended}
@@ -96,7 +96,7 @@ abbrev pub closed : Removing → Removing
 closed t = closed_to t.at t.outer t.room
 
 -- it is done once nothing is open any more
-abbrev pub turn_in : Phase → Turn (Unit {0})
+abbrev pub turn_in : Phase → StepResult (Unit {0})
 turn_in Ended = Done tt
 turn_in ph = More
 
@@ -107,7 +107,7 @@ Follows (Closes p) old new = new ≡ closed old
 Follows Ends old new = new ≡ old
 
 -- Which step it was. One that wasn't done leaves the task as it was.
-abbrev pub IsStepped : Removing → Result (Turn (Unit {0})) FsErr → Removing → Type 0
+abbrev pub IsStepped : Removing → Result (StepResult (Unit {0})) FsErr → Removing → Type 0
 IsStepped old (Ok turn) new = Follows (act old) old new × (turn ≡ turn_in new.phase)
 IsStepped old (Err e) new = new ≡ old
 
@@ -132,6 +132,6 @@ Takes (Closes p) before now = Next before now
 Takes Ends before now = now ≡ before
 
 -- where there is more to do
-abbrev pub OnMore : {T : Type 0} → Result (Turn T) FsErr → Type 0 → Type 0
+abbrev pub OnMore : {T : Type 0} → Result (StepResult T) FsErr → Type 0 → Type 0
 OnMore (Ok More) P = P
 OnMore r P = Unit {0}

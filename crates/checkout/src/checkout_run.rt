@@ -10,7 +10,7 @@ ghost use Rattle.checkout.specs.CheckoutRun.{Ends, Leaves, MayBegin, Written};
 
 use crate::checkout::CheckoutTask;
 use crate::checkout_phase::DestExists;
-use fs_trait::{Fs, FsErr, Turn};
+use fs_trait::{Fs, FsErr, StepResult};
 use ost_types::{FsPath, PathMap};
 use std::alloc::Global;
 
@@ -33,8 +33,8 @@ pub fn check_out<F: Fs>(
     let mut task = CheckoutTask::new(alloc, into, tree);
     'steps: loop {
         match task.step(fs)? {
-            Turn::More => {}
-            Turn::Done(answer) => return Ok(answer),
+            StepResult::More => {}
+            StepResult::Done(answer) => return Ok(answer),
         }
     }
 }

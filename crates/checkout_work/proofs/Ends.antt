@@ -3,8 +3,8 @@ use Rattle.std.proofs.Common.{◌≡◌, ◌≢◌, ◌⊎◌, inl, inr, ℕ, Op
 use Rattle.ost_types.specs.declared.object.ObjName.{ObjName}
 use Rattle.ost_types.specs.Path.{Name, Path}
 use Rattle.ost_types.proofs.Paths.{is_below-self}
-use Rattle.fs_trait.specs.declared.task.Turn.{Turn}
-use Rattle.fs_trait.specs.declared.task.Turn.TheVariants as turn
+use Rattle.fs_trait.specs.declared.task.StepResult.{StepResult}
+use Rattle.fs_trait.specs.declared.task.StepResult.TheVariants as turn
 use Rattle.fs_trait.specs.Seen.{shows}
 use Rattle.fs_trait.specs.View.{Disk, View}
 use Rattle.fs_trait.proofs.Effects.{may_now}
@@ -184,7 +184,7 @@ claimed_of lane t new v w b f leaves is = claimed_by lane t v b f (told lane t n
 
 -- ---- whether it has made its folder
 
-by_not_nothing : (x : Turn Answer) (k : Made) → IsMadeBy x k → k ≢ made.Nothing
+by_not_nothing : (x : StepResult Answer) (k : Made) → IsMadeBy x k → k ≢ made.Nothing
 by_not_nothing turn.More k is none = let no : made.Part ≡ made.Nothing = sym is ∙ none in cc
 by_not_nothing (turn.Done (Ok a)) k is none = let no : made.All ≡ made.Nothing = sym is ∙ none in cc
 by_not_nothing (turn.Done (Err e)) k is none = is

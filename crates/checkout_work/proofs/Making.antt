@@ -1,8 +1,8 @@
 -- What a step of the task that makes the tree tells, of the command.
 use Rattle.std.proofs.Common.{◌≡◌, ◌≢◌, Option, Err, refl, sym, ◌∙◌, subst}
 use Rattle.ost_types.specs.Path.{Path}
-use Rattle.fs_trait.specs.declared.task.Turn.{Turn}
-use Rattle.fs_trait.specs.declared.task.Turn.TheVariants as turn
+use Rattle.fs_trait.specs.declared.task.StepResult.{StepResult}
+use Rattle.fs_trait.specs.declared.task.StepResult.TheVariants as turn
 use Rattle.fs_trait.specs.Change.{Writes}
 use Rattle.fs_trait.specs.Image.{Told}
 use Rattle.fs_trait.specs.Seen.{Vacant, shows}
@@ -23,7 +23,7 @@ module _ (m : Make) (v : View) (going : IsGoing m.made) (needs : MakeNeeds m v.n
   pub told_writes : Told view (λ w. Writes (WritesOf m.task v) v w) → Told view (λ w. Writes (make_writes m v) v w)
   told_writes told = (told.0, told.1, weaker (WritesOf m.task v) (make_writes m v) v told.0 (writes_as m.made m v going needs.at needs.far) told.2)
 
-  pub told_makes : (u : Checkout) (k : Made) (r x : Turn Answer) → r ≡ x → IsMadeBy x k → steps_in m.task.phase m.task r u → Told view (λ w. Tells m.task v w r) → Told view (λ w. Needs u w.now)
+  pub told_makes : (u : Checkout) (k : Made) (r x : StepResult Answer) → r ≡ x → IsMadeBy x k → steps_in m.task.phase m.task r u → Told view (λ w. Tells m.task v w r) → Told view (λ w. Needs u w.now)
       → Told view (λ w. Writes (WritesOf m.task v) v w) → Told view (λ w. Makes m (record { request = m.request; task = u; made = k }) v w)
   told_makes u k r x is by steps tells after writes =
       let wrote = told_writes writes in (
@@ -41,7 +41,7 @@ module _ (m : Make) (v : View) (going : IsGoing m.made) (needs : MakeNeeds m v.n
         },
       )
 
-  pub told_refused : (u : Checkout) (e : DestExists) (r : Turn Answer) → r ≡ turn.Done (Err e) → steps_in m.task.phase m.task r u → Told view (λ w. Tells m.task v w r)
+  pub told_refused : (u : Checkout) (e : DestExists) (r : StepResult Answer) → r ≡ turn.Done (Err e) → steps_in m.task.phase m.task r u → Told view (λ w. Tells m.task v w r)
       → (p : Path) → p ≡ checkout_path m.request.name → Told view (λ w. (w ≡ v) × MakeSays m v.now (answer.DestExists p))
   told_refused u e r is steps tells p at =
       let of = refused m.made m.task u v tells.0 e going needs.far (subst (λ t. steps_in m.task.phase m.task t u) is steps) (subst (λ t. Tells m.task v tells.0 t) is tells.2) in

@@ -5,8 +5,8 @@ use Rattle.ost_types.specs.declared.limits.Limits.{Limits}
 use Rattle.ost_types.specs.declared.object.ObjName.{ObjName}
 use Rattle.ost_types.specs.Path.{Path}
 use Rattle.ost_types.specs.PathMap.{Nodes, IsPathMap}
-use Rattle.fs_trait.specs.declared.task.Turn.{Turn}
-use Rattle.fs_trait.specs.declared.task.Turn.TheVariants as turn
+use Rattle.fs_trait.specs.declared.task.StepResult.{StepResult}
+use Rattle.fs_trait.specs.declared.task.StepResult.TheVariants as turn
 use Rattle.fs_trait.specs.View.{Disk, View}
 use Rattle.repo_layout.specs.BootPaths.{checkout_path}
 use Rattle.repo_model.specs.Objects.{Stores, path_of}
@@ -34,7 +34,7 @@ use Rattle.checkout_work.specs.Reads.{Reads}
 use Rattle.checkout_work.specs.ReadSteps.{CanMake, IsToMake, Lacks, ReadEnds, ReadKnows, ReadTells}
 
 abbrev Turned : Type 0
-Turned = Turn (Result (Unit {0}) TreeFault)
+Turned = StepResult (Result (Unit {0}) TreeFault)
 
 module _ (d : Disk) (s : Reads) (reads : ReadKnows d s) (knows : Knows d s.task) (none : s.task.pending ≡ []) where
   pub complete : Complete (Stores d) s.request.limits s.request.commit
@@ -78,13 +78,13 @@ to_make d inside old same reads knows none request into tree m is asked at found
 
 -- ---- how the command goes on
 
-goes_as : (s : Reads) (v : View) (t new : CheckoutCommand) (u : Turn (Unit {0})) → (u ≡ turn_of t) × (new ≡ t) → checkout_leaves (command.Read s) (turn_of t) t v v → checkout_leaves (command.Read s) u new v v
+goes_as : (s : Reads) (v : View) (t new : CheckoutCommand) (u : StepResult (Unit {0})) → (u ≡ turn_of t) × (new ≡ t) → checkout_leaves (command.Read s) (turn_of t) t v v → checkout_leaves (command.Read s) u new v v
 goes_as s v t new u goes leaves = subst (λ x. checkout_leaves (command.Read s) x new v v) (sym goes.0) (subst (λ x. checkout_leaves (command.Read s) (turn_of t) x v v) (sym goes.1) leaves)
 
 ended_after : (s : Reads) (v : View) (a : CheckoutAnswer) → Tells (command.Read s) v.now a → checkout_leaves (command.Read s) (turn.Done tt) (command.Ended a) v v
 ended_after s v a told = (refl, a, refl, told)
 
-pub read_after : (s n : Reads) (v : View) (o : Option CheckoutCommand) (u : Turn (Unit {0})) (new : CheckoutCommand) → ReadTells v.now s n o → goes o (command.Read n) u new → checkout_leaves (command.Read s) u new v v
+pub read_after : (s n : Reads) (v : View) (o : Option CheckoutCommand) (u : StepResult (Unit {0})) (new : CheckoutCommand) → ReadTells v.now s n o → goes o (command.Read n) u new → checkout_leaves (command.Read s) u new v v
 read_after s n v None u new told go = goes_as s v (command.Read n) new u go (refl, told.0, told.1)
 read_after s n v (Some (command.Make m)) u new told go = goes_as s v (command.Make m) new u go (refl, told)
 read_after s n v (Some (command.Ended (answer.Lacking p))) u new told go = goes_as s v (command.Ended (answer.Lacking p)) new u go (ended_after s v (answer.Lacking p) told)

@@ -2,8 +2,8 @@
 use Rattle.std.specs.Prelude.{◌≡◌, ◌≢◌, ◌<◌, ◌+◌, ◌*◌, ℕ, Option, Some, None}
 use Rattle.ost_types.specs.Path.{Name, Path}
 use Rattle.ost_types.specs.PathMap.{IsPathMap}
-use Rattle.fs_trait.specs.declared.task.Turn.{Turn}
-use Rattle.fs_trait.specs.declared.task.Turn.TheVariants as turn
+use Rattle.fs_trait.specs.declared.task.StepResult.{StepResult}
+use Rattle.fs_trait.specs.declared.task.StepResult.TheVariants as turn
 use Rattle.fs_trait.specs.declared.types.FsErr.{FsErr}
 use Rattle.fs_trait.specs.Change.{Nothing}
 use Rattle.fs_trait.specs.Effect.{OfNone}
@@ -63,7 +63,7 @@ checkout_left (command.Make m) = make_left m.made m.task
 checkout_left (command.Ended a) = 0
 
 -- it goes on as what it was asked, with fewer steps; or it has an answer of its own
-abbrev pub checkout_stepped : CheckoutCommand → Turn (Unit {0}) → CheckoutCommand → Type 0
+abbrev pub checkout_stepped : CheckoutCommand → StepResult (Unit {0}) → CheckoutCommand → Type 0
 checkout_stepped t turn.More new = (asked new ≡ asked t) × (checkout_left new < checkout_left t)
 checkout_stepped t (turn.Done x) new = (a : CheckoutAnswer) × (new ≡ command.Ended a) × IsFitting (asked t) a
 
@@ -82,7 +82,7 @@ Tells (command.Read s) d (answer.Lacking p) = SaysLacking d s.request.limits s.r
 Tells (command.Make m) d a = MakeSays m d a
 Tells t d a = ⊥
 
-abbrev pub checkout_leaves : CheckoutCommand → Turn (Unit {0}) → CheckoutCommand → View → View → Type 0
+abbrev pub checkout_leaves : CheckoutCommand → StepResult (Unit {0}) → CheckoutCommand → View → View → Type 0
 checkout_leaves t turn.More new v w = Goes t new v w
 checkout_leaves t (turn.Done x) new v w = (w ≡ v) × (a : CheckoutAnswer) × (new ≡ command.Ended a) × Tells t v.now a
 
@@ -136,16 +136,16 @@ abbrev pub HasMade : CheckoutCommand → Name → Type 0
 HasMade (command.Make m) name = (m.made ≢ made.Nothing) × (m.request.name ≡ name)
 HasMade t name = ⊥
 
-abbrev pub turn_of : CheckoutCommand → Turn (Unit {0})
+abbrev pub turn_of : CheckoutCommand → StepResult (Unit {0})
 turn_of (command.Ended a) = turn.Done tt
 turn_of t = turn.More
 
 -- it goes on as this, if something else comes next
-abbrev pub goes : Option CheckoutCommand → CheckoutCommand → Turn (Unit {0}) → CheckoutCommand → Type 0
+abbrev pub goes : Option CheckoutCommand → CheckoutCommand → StepResult (Unit {0}) → CheckoutCommand → Type 0
 goes None old u new = (u ≡ turn.More) × (new ≡ old)
 goes (Some next) old u new = (u ≡ turn_of next) × (new ≡ next)
 
 -- it ends with the answer, if there is one
-abbrev pub ends : Option CheckoutAnswer → CheckoutCommand → Turn (Unit {0}) → CheckoutCommand → Type 0
+abbrev pub ends : Option CheckoutAnswer → CheckoutCommand → StepResult (Unit {0}) → CheckoutCommand → Type 0
 ends None old u new = (u ≡ turn.More) × (new ≡ old)
 ends (Some a) old u new = (u ≡ turn.Done tt) × (new ≡ command.Ended a)

@@ -1,7 +1,7 @@
 -- The laws of a checkout as a task.
 use Rattle.std.proofs.Common.{ℕ}
 use Rattle.ost_types.specs.Path.{Name}
-use Rattle.fs_trait.specs.declared.task.Turn.TheVariants as turn
+use Rattle.fs_trait.specs.declared.task.StepResult.TheVariants as turn
 use Rattle.fs_trait.specs.View.{View}
 use Rattle.rely.specs.Books.{Books}
 use Rattle.rely.specs.Laws.{Kind, Laws, Chain, Duty, IsBefore, IsLastly}

@@ -2,8 +2,8 @@
 use Rattle.std.specs.Prelude.{◌≡◌, ◌≢◌, ◌<◌, ◌+◌, ◌++◌, ◌∷◌, ℕ, Option, Some, None, Ok, Err}
 use Rattle.ost_types.specs.Path.{Name, Path}
 use Rattle.ost_types.specs.declared.meta.Meta.{Meta}
-use Rattle.fs_trait.specs.declared.task.Turn.{Turn}
-use Rattle.fs_trait.specs.declared.task.Turn.TheVariants as turn
+use Rattle.fs_trait.specs.declared.task.StepResult.{StepResult}
+use Rattle.fs_trait.specs.declared.task.StepResult.TheVariants as turn
 use Rattle.fs_trait.specs.Change.{Writes}
 use Rattle.fs_trait.specs.Seen.{Seen, Vacant, Directory, shows}
 use Rattle.fs_trait.specs.View.{Disk, View}
@@ -77,7 +77,7 @@ abbrev pub make_writes : Make → View → Path → Seen → Type 0
 make_writes m v = writes_by m.made m v
 
 -- how much is made behind a step
-abbrev pub IsMadeBy : Turn Answer → Made → Type 0
+abbrev pub IsMadeBy : StepResult Answer → Made → Type 0
 IsMadeBy turn.More m = m ≡ made.Part
 IsMadeBy (turn.Done (Ok x)) m = m ≡ made.All
 IsMadeBy (turn.Done (Err e)) m = ⊥
@@ -86,7 +86,7 @@ IsMadeBy (turn.Done (Err e)) m = ⊥
 pub record Makes (old new : Make) (v w : View) : Type 0 where
   pub going : IsGoing old.made
   pub request : new.request ≡ old.request
-  pub turn : Turn Answer
+  pub turn : StepResult Answer
   pub steps : steps_in old.task.phase old.task turn new.task
   pub made : IsMadeBy turn new.made
   pub tells : Tells old.task v w turn

@@ -2,8 +2,8 @@
 use Rattle.std.proofs.Common.{◌≡◌, ◌≢◌, ℕ, true, false, Ok, Err, refl, sym, ◌∙◌, ap, subst, ◌++◌}
 use Rattle.ost_types.specs.Path.{Name, Path}
 use Rattle.ost_types.specs.PathMap.{Nodes, IsPathMap}
-use Rattle.fs_trait.specs.declared.task.Turn.{Turn}
-use Rattle.fs_trait.specs.declared.task.Turn.TheVariants as turn
+use Rattle.fs_trait.specs.declared.task.StepResult.{StepResult}
+use Rattle.fs_trait.specs.declared.task.StepResult.TheVariants as turn
 use Rattle.fs_trait.specs.Change.{Writes}
 use Rattle.fs_trait.specs.Seen.{Seen, Vacant, shows}
 use Rattle.fs_trait.specs.View.{View}
@@ -180,12 +180,12 @@ facts_next lane (command.Ended a) new v w b b' f goes keeps own = absurd f.known
 
 -- ---- who makes a folder finds nothing there, and leaves it
 
-made_there : (x : Turn Answer) (j : Made) (n : Make) (w : View) → IsMadeBy x j → IsFar j n.task w.now → shows w.now n.task.into ≢ Vacant
+made_there : (x : StepResult Answer) (j : Made) (n : Make) (w : View) → IsMadeBy x j → IsFar j n.task w.now → shows w.now n.task.into ≢ Vacant
 made_there turn.More j n w is far = (subst (λ k. IsFar k n.task w.now) is far).1
 made_there (turn.Done (Ok a)) j n w is far = (subst (λ k. IsFar k n.task w.now) is far).1
 made_there (turn.Done (Err e)) j n w is far = absurd is
 
-was_vacant : (x : Turn Answer) (j : Made) (into : Path) (tree : Nodes) (v w : View) → IsMadeBy x j → task.Tells (beginning into tree) v w x → shows v.now into ≡ Vacant
+was_vacant : (x : StepResult Answer) (j : Made) (into : Path) (tree : Nodes) (v w : View) → IsMadeBy x j → task.Tells (beginning into tree) v w x → shows v.now into ≡ Vacant
 was_vacant turn.More j into tree v w is tells = tells
 was_vacant (turn.Done (Ok a)) j into tree v w is tells = tells
 was_vacant (turn.Done (Err e)) j into tree v w is tells = absurd is

@@ -6,8 +6,8 @@ use Rattle.ost_types.specs.declared.node.NodeName.TheVariants.{Folder}
 use Rattle.ost_types.specs.Path.{Name, Path, same_path}
 use Rattle.ost_types.specs.PathMap.{Nodes, IsPathMap, node_at}
 use Rattle.ost_types.proofs.Paths.{same_path-self}
-use Rattle.fs_trait.specs.declared.task.Turn.{Turn}
-use Rattle.fs_trait.specs.declared.task.Turn.TheVariants as turn
+use Rattle.fs_trait.specs.declared.task.StepResult.{StepResult}
+use Rattle.fs_trait.specs.declared.task.StepResult.TheVariants as turn
 use Rattle.fs_trait.specs.Seen.{Seen, Vacant, Directory, shows}
 use Rattle.fs_trait.specs.View.{Disk, View}
 use Rattle.repo_layout.specs.BootPaths.{checkout_path}
@@ -27,22 +27,22 @@ use Rattle.checkout_work.specs.MakeSteps.{IsFar, IsGoing, IsMadeBy, IsMaking, Ma
 
 -- ---- which phase comes next
 
-more_not : (x : Turn Answer) (a : Answer) → x ≡ turn.More → x ≡ turn.Done a → ⊥
+more_not : (x : StepResult Answer) (a : Answer) → x ≡ turn.More → x ≡ turn.Done a → ⊥
 more_not x a m d = let no : turn.More ≡ turn.Done a = sym m ∙ d in cc
 
-ok_not : (e : DestExists) (x : Turn Answer) → x ≡ turn.Done (Err e) → (a : Unit {0}) → x ≡ turn.Done (Ok a) → ⊥
+ok_not : (e : DestExists) (x : StepResult Answer) → x ≡ turn.Done (Err e) → (a : Unit {0}) → x ≡ turn.Done (Ok a) → ⊥
 ok_not e x err a ok = let same = sym err ∙ ok in cc
 
 -- the next pair comes, or all is made
-abbrev pub Came : Turn Answer → Checkout → Checkout → Type 0
+abbrev pub Came : StepResult Answer → Checkout → Checkout → Type 0
 Came turn.More t u = (n : ℕ) × (0 < n) × (u ≡ record t { phase = phase.Make n })
 Came (turn.Done (Ok x)) t u = u ≡ record t { phase = phase.Ended }
 Came (turn.Done (Err e)) t u = ⊥
 
-abbrev chosen : Bool → Turn Answer
+abbrev chosen : Bool → StepResult Answer
 chosen b = if b then turn.More else turn.Done (Ok tt)
 
-came_by : (n : ℕ) (t u : Checkout) (x : Turn Answer) (b : Bool) → x ≡ chosen b → u ≡ record t { phase = if b then phase.Make (n + 1) else phase.Ended } → Came x t u
+came_by : (n : ℕ) (t u : Checkout) (x : StepResult Answer) (b : Bool) → x ≡ chosen b → u ≡ record t { phase = if b then phase.Make (n + 1) else phase.Ended } → Came x t u
 came_by n t u turn.More true at is = (n + 1, omega arith, is)
 came_by n t u turn.More false at is = absurd (more_not turn.More (Ok tt) refl at)
 came_by n t u (turn.Done (Ok a)) true at is = absurd (more_not (turn.Done (Ok a)) (Ok a) at refl)
@@ -50,7 +50,7 @@ came_by n t u (turn.Done (Ok a)) false at is = is
 came_by n t u (turn.Done (Err e)) true at is = absurd (more_not (turn.Done (Err e)) (Err e) at refl)
 came_by n t u (turn.Done (Err e)) false at is = absurd (ok_not e (turn.Done (Err e)) refl tt at)
 
-came_reached : (n : ℕ) (t u : Checkout) (x : Turn Answer) → IsReached n t x u → Came x t u
+came_reached : (n : ℕ) (t u : Checkout) (x : StepResult Answer) → IsReached n t x u → Came x t u
 came_reached n t u x is = came_by n t u x (nat_lt (n + 1) (length t.tree)) is.0 is.1
 
 -- what is to be made wasn't refused
@@ -59,11 +59,11 @@ IsStep phase.Begin = Unit {0}
 IsStep (phase.Make n) = Unit {0}
 IsStep ph = ⊥
 
-abbrev IsGood : Turn Answer → Type 0
+abbrev IsGood : StepResult Answer → Type 0
 IsGood (turn.Done (Err e)) = ⊥
 IsGood x = Unit {0}
 
-came_in : (ph : CheckoutPhase) (t u : Checkout) (x : Turn Answer) → IsStep ph → IsGood x → steps_in ph t x u → Came x t u
+came_in : (ph : CheckoutPhase) (t u : Checkout) (x : StepResult Answer) → IsStep ph → IsGood x → steps_in ph t x u → Came x t u
 came_in phase.Begin t u turn.More step good is = came_reached 0 t u turn.More is
 came_in phase.Begin t u (turn.Done (Ok a)) step good is = came_reached 0 t u (turn.Done (Ok a)) is
 came_in phase.Begin t u (turn.Done (Err e)) step good is = absurd good
@@ -82,7 +82,7 @@ step_by made.Nothing t d going far = subst (λ (u : Checkout). IsStep u.phase) (
 step_by made.Part t d going far = making_step t.phase far.0
 step_by made.All t d going far = absurd going
 
-good_by : (x : Turn Answer) (k : Made) → IsMadeBy x k → IsGood x
+good_by : (x : StepResult Answer) (k : Made) → IsMadeBy x k → IsGood x
 good_by turn.More k is = tt
 good_by (turn.Done (Ok a)) k is = tt
 good_by (turn.Done (Err e)) k is = absurd is
@@ -91,7 +91,7 @@ pub came : (m n : Make) (v w : View) → MakeNeeds m v.now → (makes : Makes m 
 came m n v w needs makes = came_in m.task.phase m.task n.task makes.turn (step_by m.made m.task v.now makes.going needs.far) (good_by makes.turn n.made makes.made) makes.steps
 
 -- the task goes on with the same map at the same path
-came_tree : (x : Turn Answer) (t u : Checkout) → Came x t u → (u.into ≡ t.into) × (u.tree ≡ t.tree)
+came_tree : (x : StepResult Answer) (t u : Checkout) → Came x t u → (u.into ≡ t.into) × (u.tree ≡ t.tree)
 came_tree turn.More t u is = (ap (λ (c : Checkout). c.into) is.2, ap (λ (c : Checkout). c.tree) is.2)
 came_tree (turn.Done (Ok a)) t u is = (ap (λ (c : Checkout). c.into) is, ap (λ (c : Checkout). c.tree) is)
 came_tree (turn.Done (Err e)) t u is = absurd is
@@ -117,7 +117,7 @@ stands_part t n d map shape some is = directory_there d t.into shape.root.0 (sub
 stands_all : (t : Checkout) (d : Disk) → IsTreeMap t.tree → IsCheckout d t.into t.tree → shows d t.into ≢ Vacant
 stands_all t d shape is = directory_there d t.into shape.root.0 (subst (Stands d t.into []) shape.root.1 (is []))
 
-far_by : (x : Turn Answer) (t u : Checkout) (k : Made) (d : Disk) → IsPathMap t.tree → IsTreeMap t.tree → Came x t u → IsMadeBy x k → Needs u d → IsFar k u d
+far_by : (x : StepResult Answer) (t u : Checkout) (k : Made) (d : Disk) → IsPathMap t.tree → IsTreeMap t.tree → Came x t u → IsMadeBy x k → Needs u d → IsFar k u d
 far_by turn.More t u k d map shape is by needs =
     let now : Needs (record t { phase = phase.Make is.0 }) d = subst (λ (c : Checkout). Needs c d) is.2 needs in
     subst (λ j. IsFar j u d) (sym by) (subst (λ (c : Checkout). IsFar made.Part c d) (sym is.2) (tt, stands_part t is.0 d map shape is.1 now.made))

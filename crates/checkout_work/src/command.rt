@@ -5,7 +5,7 @@ ghost use Rattle.checkout_work.specs.Commands.{IsNew, answer_of, checkout_facts,
 ghost use Rattle.checkout_work.specs.Laws.{checkout_laws};
 
 use crate::{CheckoutAnswer, Make, Read, Request};
-use fs_trait::{Fs, FsErr, Turn};
+use fs_trait::{Fs, FsErr, StepResult};
 use ost_types::{Csum, Limits, Name, NoMemory};
 use read_work::{pin_wants, sum_of_commit};
 use rely::{Event, Step, Work};
@@ -63,15 +63,15 @@ impl CheckoutCommand {
     }
 
     /// It goes on as this, if something else comes next.
-    fn go(&mut self, next: Option<CheckoutCommand>) -> Turn<()>
+    fn go(&mut self, next: Option<CheckoutCommand>) -> StepResult<()>
         ensures { goes next self.old result self.new }
     {
         match next {
-            None => Turn::More,
+            None => StepResult::More,
             Some(next) => {
                 let turn = match &next {
-                    CheckoutCommand::Ended(_) => Turn::Done(()),
-                    _ => Turn::More,
+                    CheckoutCommand::Ended(_) => StepResult::Done(()),
+                    _ => StepResult::More,
                 };
                 *self = next;
                 turn
@@ -80,14 +80,14 @@ impl CheckoutCommand {
     }
 
     /// It ends with the answer, if there is one.
-    fn end(&mut self, answer: Option<CheckoutAnswer>) -> Turn<()>
+    fn end(&mut self, answer: Option<CheckoutAnswer>) -> StepResult<()>
         ensures { ends answer self.old result self.new }
     {
         match answer {
-            None => Turn::More,
+            None => StepResult::More,
             Some(answer) => {
                 *self = CheckoutCommand::Ended(answer);
-                Turn::Done(())
+                StepResult::Done(())
             }
         }
     }
@@ -133,7 +133,7 @@ impl Work for CheckoutCommand {
         0
     }
 
-    fn advance<F: Fs>(&mut self, actor: u8, fs: &mut F) -> Result<Turn<()>, FsErr> {
+    fn advance<F: Fs>(&mut self, actor: u8, fs: &mut F) -> Result<StepResult<()>, FsErr> {
         match self {
             CheckoutCommand::Look(request) => {
                 let next = request.look(actor, fs)?;
@@ -147,7 +147,7 @@ impl Work for CheckoutCommand {
                 let answer = make.step(fs)?;
                 Ok(self.end(answer))
             }
-            CheckoutCommand::Ended(_) => Ok(Turn::Done(())),
+            CheckoutCommand::Ended(_) => Ok(StepResult::Done(())),
         }
     }
 }

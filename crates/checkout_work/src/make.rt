@@ -13,7 +13,7 @@ ghost use Rattle.checkout_work.specs.MakeSteps.{IsGoing, IsMakeStepped, MakeNeed
 
 use crate::{CheckoutAnswer, Made, Request};
 use checkout::{CheckoutTask, DestExists};
-use fs_trait::{Fs, FsErr, Turn};
+use fs_trait::{Fs, FsErr, StepResult};
 use ost_types::{FsPath, Name, NoMemory, PathMap, TryCopy};
 use rely::Step;
 
@@ -96,15 +96,15 @@ impl Make {
         ensures room { F.spare fs.old ≤ F.spare fs.new + 1 }
     {
         match self.task.step(fs)? {
-            Turn::More => {
+            StepResult::More => {
                 self.made = Made::Part;
                 Ok(None)
             }
-            Turn::Done(Ok(())) => {
+            StepResult::Done(Ok(())) => {
                 self.made = Made::All;
                 Ok(None)
             }
-            Turn::Done(Err(DestExists)) => {
+            StepResult::Done(Err(DestExists)) => {
                 Ok(Some(CheckoutAnswer::DestExists(self.request.path()?)))
             }
         }

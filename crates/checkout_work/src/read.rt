@@ -9,7 +9,7 @@ ghost use Rattle.checkout_work.specs.ReadSteps.{CanMake, IsReadEnd, IsReadSteppe
 use crate::answer::lacking;
 use crate::placing::is_placed;
 use crate::{CheckoutCommand, Make, Request};
-use fs_trait::{Fs, FsErr, Turn};
+use fs_trait::{Fs, FsErr, StepResult};
 use ost_types::{FsPath, Kind, NoMemory, ObjName, PathMap};
 use std::marker::Model;
 use std::mem;
@@ -57,11 +57,11 @@ impl Read {
         ensures cause { HasCause (F.faults fs.old) (F.faults fs.new) result }
     {
         match self.task.step(fs)? {
-            Turn::More => Ok(None),
-            Turn::Done(Ok(())) => Ok(Some(self.whole()?)),
-            Turn::Done(Err(TreeFault::Absent(name))) => Ok(Some(self.lacks(&name)?)),
-            Turn::Done(Err(TreeFault::Damaged(name))) => Ok(Some(self.lacks(&name)?)),
-            Turn::Done(Err(TreeFault::Fs(_) | TreeFault::NoMemory)) => Err(FsErr::NoMemory),
+            StepResult::More => Ok(None),
+            StepResult::Done(Ok(())) => Ok(Some(self.whole()?)),
+            StepResult::Done(Err(TreeFault::Absent(name))) => Ok(Some(self.lacks(&name)?)),
+            StepResult::Done(Err(TreeFault::Damaged(name))) => Ok(Some(self.lacks(&name)?)),
+            StepResult::Done(Err(TreeFault::Fs(_) | TreeFault::NoMemory)) => Err(FsErr::NoMemory),
         }
     }
 

@@ -5,7 +5,7 @@ use Rattle.ost_types.specs.declared.object.ObjName.{ObjName}
 use Rattle.ost_types.specs.Path.{Path}
 use Rattle.fs_trait.specs.declared.types.Value.{Value}
 use Rattle.fs_trait.specs.declared.types.Value.TheVariants as value
-use Rattle.fs_trait.specs.declared.task.Turn.TheVariants.{More}
+use Rattle.fs_trait.specs.declared.task.StepResult.TheVariants.{More}
 use Rattle.fs_trait.specs.View.{Disk, View}
 use Rattle.fs_trait.specs.Image.{Image, EachImage}
 use Rattle.fs_trait.specs.Seen.{Seen, Vacant, seen, shows, MayBe, IsDirectory}

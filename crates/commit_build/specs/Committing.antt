@@ -6,8 +6,8 @@ use Rattle.ost_types.specs.declared.object.Kind.TheVariants as kinds
 use Rattle.ost_types.specs.declared.object.ObjName.{ObjName}
 use Rattle.ost_forms.specs.declared.tree_item.TreeItem.{TreeItem}
 use Rattle.ost_forms.specs.Commit.{CommitParts, ReadsCommit, commit_form}
-use Rattle.fs_trait.specs.declared.task.Turn.{Turn}
-use Rattle.fs_trait.specs.declared.task.Turn.TheVariants.{More, Done}
+use Rattle.fs_trait.specs.declared.task.StepResult.{StepResult}
+use Rattle.fs_trait.specs.declared.task.StepResult.TheVariants.{More, Done}
 use Rattle.fs_trait.specs.declared.task.Need.{Need}
 use Rattle.fs_trait.specs.declared.task.Need.TheVariants as need
 use Rattle.fs_trait.specs.Effect.{Next}
@@ -144,7 +144,7 @@ IsLate (phase.Made c) = ⊥
 IsLate (phase.Put p) = ⊥
 IsLate ph = Unit {0}
 
-abbrev pub IsAgain : Phase → Turn (Result (List ℕ) BuildRefusal) → Type 0
+abbrev pub IsAgain : Phase → StepResult (Result (List ℕ) BuildRefusal) → Type 0
 IsAgain (phase.Ended sum) turn = turn ≡ Done (Ok sum)
 IsAgain ph turn = ⊥
 
@@ -187,7 +187,7 @@ MayRefuse count t (BadTree p) = (t.phase ≡ phase.Check) × IsLeastBad t.items 
 MayRefuse count t (TooMany n) = Links t.phase × (t.limits.objects ≤ count) × (n ≡ t.limits.objects + 1)
 
 -- Which step it was, and what changed in the task. One that was refused leaves it as it was, but for what the last step met.
-abbrev pub IsStepped : {E : Type 0} → ℕ → Committing → Result (Turn (Result (List ℕ) BuildRefusal)) E → Committing → Type 0
+abbrev pub IsStepped : {E : Type 0} → ℕ → Committing → Result (StepResult (Result (List ℕ) BuildRefusal)) E → Committing → Type 0
 IsStepped count old (Ok More) new = (new ≡ record old { made = new.made; phase = new.phase; met = new.met }) × Follows old old.phase new.phase new.made new.met
 IsStepped count old (Ok (Done (Ok commit))) new = (new ≡ record old { phase = phase.Ended commit; met = None }) × IsEnd old.phase commit
 IsStepped count old (Ok (Done (Err refusal))) new = (new ≡ record old { met = None }) × MayRefuse count old refusal
@@ -250,6 +250,6 @@ Takes (phase.Unmark sum) before now = MayTick before now
 Takes (phase.SyncState sum) before now = Next before now
 Takes ph before now = now ≡ before
 
-abbrev pub OnMore : {T E : Type 0} → Result (Turn T) E → Type 0 → Type 0
+abbrev pub OnMore : {T E : Type 0} → Result (StepResult T) E → Type 0 → Type 0
 OnMore (Ok More) P = P
 OnMore r P = Unit {0}

@@ -8,8 +8,8 @@ use Rattle.fs_trait.specs.declared.types.Node.{Node}
 use Rattle.fs_trait.specs.declared.types.Node.TheVariants as node
 use Rattle.fs_trait.specs.declared.types.FsErr.TheVariants.{Failed, NoMemory}
 use Rattle.fs_trait.specs.declared.types.Value.TheVariants.{Absent}
-use Rattle.fs_trait.specs.declared.task.Turn.{Turn}
-use Rattle.fs_trait.specs.declared.task.Turn.TheVariants.{More, Done}
+use Rattle.fs_trait.specs.declared.task.StepResult.{StepResult}
+use Rattle.fs_trait.specs.declared.task.StepResult.TheVariants.{More, Done}
 use Rattle.fs_trait.specs.View.{Disk, View, named}
 use Rattle.fs_trait.specs.Effect.{OfNone, OfFinding}
 use Rattle.fs_trait.specs.Seen.{Seen, Vacant, Symlink, Leaf, shows, MayBe, IsDirectory, NotDirectory}
@@ -144,7 +144,7 @@ came_in count most ph met v w = Unit {0}
 
 -- What a step that is done tells of the view before it and the one after it: of an object, that it was put where nothing stood
 -- and there was room, or that something stood there; of a refusal, that nothing changed.
-abbrev pub Tells : ℕ → Committing → Committing → View → View → Turn (Result (List ℕ) BuildRefusal) → Type 0
+abbrev pub Tells : ℕ → Committing → Committing → View → View → StepResult (Result (List ℕ) BuildRefusal) → Type 0
 Tells count old new v w More = came_in count old.limits.objects old.phase new.met v w
 Tells count old new v w (Done (Ok commit)) = Unit {0}
 Tells count old new v w (Done (Err refusal)) = FullAt old.phase v × (w ≡ v)

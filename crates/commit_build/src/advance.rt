@@ -10,7 +10,7 @@ ghost use Rattle.obj_store.specs.Putting.{Takes, left};
 ghost use Rattle.obj_store.specs.Steps.{Needs, WritesOf, Refuses, would_store_in};
 ghost use Rattle.commit_build.specs.Advancing.{IsAdvanced, Tells, MayBeFull, MayRefuse, newly, OnFurther, WritesIn};
 
-use fs_trait::{Fs, FsErr, Turn};
+use fs_trait::{Fs, FsErr, StepResult};
 use obj_store::{Put, PutTask};
 
 /// What came of a step, and what it found or put at the object's path.
@@ -44,8 +44,8 @@ pub(crate) fn advance<F: Fs>(task: &mut PutTask, fs: &mut F, full: bool) -> Resu
     }
     let before = task.came();
     match task.step(fs)? {
-        Turn::More => Ok(Progress::Further(newly(before, task.came()))),
-        Turn::Done(put) => Ok(Progress::Over(newly(before, Some(put)))),
+        StepResult::More => Ok(Progress::Further(newly(before, task.came()))),
+        StepResult::Done(put) => Ok(Progress::Over(newly(before, Some(put)))),
     }
 }
 

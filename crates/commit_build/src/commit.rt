@@ -8,7 +8,7 @@ ghost use Rattle.commit_build.specs.Whole.{Ends, IsCounted, Leaves, MayBegin, St
 
 use crate::CommitTask;
 use crate::refusal::BuildRefusal;
-use fs_trait::{Fs, FsErr, Turn};
+use fs_trait::{Fs, FsErr, StepResult};
 use obj_store::Put;
 use ost_types::{Csum, ObjName};
 
@@ -30,8 +30,8 @@ pub fn commit_tree<F: Fs>(
     let mut count = count;
     'steps: loop {
         match task.step(fs, count)? {
-            Turn::More => count = counted(count, task.met()),
-            Turn::Done(answer) => return Ok(answer),
+            StepResult::More => count = counted(count, task.met()),
+            StepResult::Done(answer) => return Ok(answer),
         }
     }
 }

@@ -1,7 +1,7 @@
 -- What a commit has stored or found, it has behind it after each further step.
 use Rattle.std.proofs.Common.{◌≡◌, inl, inr, ⊎_elim, ℕ, ◌<◌, ◌+◌, suc, zero, pred, refl, sym, subst, arith, List, Option, Some, None}
 use Rattle.ost_types.specs.declared.object.ObjName.{ObjName}
-use Rattle.fs_trait.specs.declared.task.Turn.TheVariants as turn
+use Rattle.fs_trait.specs.declared.task.StepResult.TheVariants as turn
 use Rattle.tree_build.specs.Objects.{Object}
 use Rattle.obj_store.specs.declared.source.Source.{Source}
 use Rattle.obj_store.specs.declared.phase.Put.{Put}

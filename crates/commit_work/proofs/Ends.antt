@@ -3,7 +3,7 @@ use Rattle.std.proofs.Common.{◌≡◌, inl, inr, ◌<◌, ℕ, refl, sym, ◌�
 use Rattle.std.specs.Prelude.{IsSome}
 use Rattle.ost_types.specs.declared.object.ObjName.{ObjName}
 use Rattle.fs_trait.specs.declared.types.Value.TheVariants.{Absent}
-use Rattle.fs_trait.specs.declared.task.Turn.TheVariants as turn
+use Rattle.fs_trait.specs.declared.task.StepResult.TheVariants as turn
 use Rattle.fs_trait.specs.View.{View}
 use Rattle.repo_model.specs.Objects.{path_of}
 use Rattle.ref_room.proofs.Names.{length-ref_path}

@@ -2,7 +2,7 @@
 -- stored the object, or changed nothing.
 use Rattle.std.proofs.Common.{◌≡◌, ◌⊎◌, inl, inr, ⊎_elim, ◌<◌, ◌^◌, ℕ, refl, sym, ◌∙◌, ap, subst, List, Option, Some, None}
 use Rattle.ost_types.specs.declared.object.ObjName.{ObjName}
-use Rattle.fs_trait.specs.declared.task.Turn.TheVariants as turn
+use Rattle.fs_trait.specs.declared.task.StepResult.TheVariants as turn
 use Rattle.fs_trait.specs.View.{View}
 use Rattle.fs_trait.specs.Seen.{Seen}
 use Rattle.repo_layout.specs.RefFile.{IsSum}

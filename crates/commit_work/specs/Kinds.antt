@@ -2,8 +2,8 @@
 use Rattle.std.specs.Prelude.{◌≡◌, ◌⊎◌, ◌<◌, ◌+◌, ℕ, Bool, true, false, List, Option, Some, None, is_some, Ok, Err, if◌then◌else◌}
 use Rattle.ost_types.specs.declared.object.ObjName.{ObjName}
 use Rattle.ost_types.specs.Path.{Path}
-use Rattle.fs_trait.specs.declared.task.Turn.{Turn}
-use Rattle.fs_trait.specs.declared.task.Turn.TheVariants as turn
+use Rattle.fs_trait.specs.declared.task.StepResult.{StepResult}
+use Rattle.fs_trait.specs.declared.task.StepResult.TheVariants as turn
 use Rattle.fs_trait.specs.declared.types.FsErr.{FsErr}
 use Rattle.fs_trait.specs.Effect.{OfNone}
 use Rattle.fs_trait.specs.View.{View}
@@ -79,37 +79,37 @@ BuildLeaves objects old (Some refusal) new v w = FullAt old.phase v × (w ≡ v)
 abbrev pub built : CommitCommand → Committing → Option BuildRefusal → CommitCommand
 built t new refusal = record t { build = new; pinned = is_some (storing_in t.build.phase); refusal = refusal }
 
-abbrev pub stepped_build : CommitCommand → Turn (Unit {0}) → CommitCommand → Type 0
+abbrev pub stepped_build : CommitCommand → StepResult (Unit {0}) → CommitCommand → Type 0
 stepped_build t turn.More new = (new ≡ built t new.build t.refusal) × BuildSteps t.objects t.build None new.build
 stepped_build t (turn.Done x) new = (refusal : BuildRefusal) × (new ≡ built t new.build (Some refusal)) × BuildSteps t.objects t.build (Some refusal) new.build
 
 -- once the commit is built, the change of the ref begins, in a step that makes no call
-abbrev pub stepped_at : Option (List ℕ) → CommitCommand → Turn (Unit {0}) → CommitCommand → Type 0
+abbrev pub stepped_at : Option (List ℕ) → CommitCommand → StepResult (Unit {0}) → CommitCommand → Type 0
 stepped_at None t u new = stepped_build t u new
 stepped_at (Some commit) t turn.More new = new ≡ record t { change = Some (planned t commit) }
 stepped_at (Some commit) t (turn.Done x) new = ⊥
 
-abbrev pub stepped_by : Option Naming → CommitCommand → Turn (Unit {0}) → CommitCommand → Type 0
+abbrev pub stepped_by : Option Naming → CommitCommand → StepResult (Unit {0}) → CommitCommand → Type 0
 stepped_by None t u new = stepped_at (commit_in t.build.phase) t u new
 stepped_by (Some n) t u new = (next : RefWork) × (new ≡ record t { change = Some (record n { work = next }) }) × ref_stepped n.work u next
 
-abbrev pub commit_stepped : CommitCommand → Turn (Unit {0}) → CommitCommand → Type 0
+abbrev pub commit_stepped : CommitCommand → StepResult (Unit {0}) → CommitCommand → Type 0
 commit_stepped t u new = stepped_by t.change t u new
 
-abbrev pub leaves_build : CommitCommand → Turn (Unit {0}) → CommitCommand → View → View → Type 0
+abbrev pub leaves_build : CommitCommand → StepResult (Unit {0}) → CommitCommand → View → View → Type 0
 leaves_build t turn.More new v w = stepped_build t turn.More new × BuildLeaves t.objects t.build None new.build v w
 leaves_build t (turn.Done x) new v w = (refusal : BuildRefusal) × (new ≡ built t new.build (Some refusal)) × BuildSteps t.objects t.build (Some refusal) new.build × BuildLeaves t.objects t.build (Some refusal) new.build v w
 
-abbrev pub leaves_at : Option (List ℕ) → CommitCommand → Turn (Unit {0}) → CommitCommand → View → View → Type 0
+abbrev pub leaves_at : Option (List ℕ) → CommitCommand → StepResult (Unit {0}) → CommitCommand → View → View → Type 0
 leaves_at None t u new v w = leaves_build t u new v w
 leaves_at (Some commit) t turn.More new v w = (new ≡ record t { change = Some (planned t commit) }) × (w ≡ v)
 leaves_at (Some commit) t (turn.Done x) new v w = ⊥
 
-abbrev pub leaves_by : Option Naming → CommitCommand → Turn (Unit {0}) → CommitCommand → View → View → Type 0
+abbrev pub leaves_by : Option Naming → CommitCommand → StepResult (Unit {0}) → CommitCommand → View → View → Type 0
 leaves_by None t u new v w = leaves_at (commit_in t.build.phase) t u new v w
 leaves_by (Some n) t u new v w = (next : RefWork) × (new ≡ record t { change = Some (record n { work = next }) }) × ref_leaves n.work u next v w
 
-abbrev pub commit_leaves : CommitCommand → Turn (Unit {0}) → CommitCommand → View → View → Type 0
+abbrev pub commit_leaves : CommitCommand → StepResult (Unit {0}) → CommitCommand → View → View → Type 0
 commit_leaves t u new v w = leaves_by t.change t u new v w
 
 abbrev pub refuses_at : Option (List ℕ) → CommitCommand → View → FsErr → Type 0

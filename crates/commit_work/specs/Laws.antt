@@ -5,7 +5,7 @@ use Rattle.ost_types.specs.Path.{Path, is_below}
 use Rattle.fs_trait.specs.declared.types.FsErr.{FsErr}
 use Rattle.fs_trait.specs.declared.task.Need.{Need}
 use Rattle.fs_trait.specs.declared.task.Need.TheVariants as need
-use Rattle.fs_trait.specs.declared.task.Turn.TheVariants as turn
+use Rattle.fs_trait.specs.declared.task.StepResult.TheVariants as turn
 use Rattle.fs_trait.specs.View.{View}
 use Rattle.fs_trait.specs.Seen.{Seen, NotDirectory}
 use Rattle.fs_trait.specs.Change.{Writes, LeadsTo}
@@ -120,10 +120,10 @@ named_same need.Shared a name is = cc
 named_same need.Nothing a name is = (let n : None ≡ Some name = is in cc)
 named_same need.Pin a name is = (let n : None ≡ Some name = is in cc)
 named_same need.Exclusive a name is = (let n : None ≡ Some name = is in cc)
-named_same need.Turn a name is = (let n : None ≡ Some name = is in cc)
+named_same need.RefLock a name is = (let n : None ≡ Some name = is in cc)
 named_same need.Sysroot a name is = (let n : None ≡ Some name = is in cc)
 named_same need.Hold a name is = (let n : None ≡ Some name = is in cc)
-named_same need.TurnAtPlace a name is = (let n : None ≡ Some name = is in cc)
+named_same need.RefLockAtPlace a name is = (let n : None ≡ Some name = is in cc)
 named_same need.End a name is = (let n : None ≡ Some name = is in cc)
 
 put_on : (a q : put.Putting) → put.IsStepped a (Ok turn.More) q → (name : ObjName) → named_by (put.need_in q.phase) q.name ≡ Some name → named_by (put.need_in a.phase) a.name ≡ Some name

@@ -1,7 +1,7 @@
 -- Each object on which the build relies after a step, it relied on before, or the step was one of putting it.
 use Rattle.std.proofs.Common.{◌≡◌, ◌⊎◌, inl, inr, ⊎_elim, ℕ, ◌<◌, ◌+◌, suc, zero, pred, refl, sym, ◌∙◌, ap, subst, arith, List, Option, Some, Ok}
 use Rattle.ost_types.specs.declared.object.ObjName.{ObjName}
-use Rattle.fs_trait.specs.declared.task.Turn.TheVariants.{More}
+use Rattle.fs_trait.specs.declared.task.StepResult.TheVariants.{More}
 use Rattle.tree_build.specs.Objects.{Object, work}
 use Rattle.tree_build.specs.Building.{IsNumber}
 use Rattle.obj_store.specs.declared.source.Source.{Source}

@@ -8,7 +8,7 @@ ghost use Rattle.fs_trait.specs.Change.{Writes};
 ghost use Rattle.fs_trait.specs.Seen.{Seen};
 ghost use Rattle.repo_layout.specs.RefFile.{IsSum};
 ghost use Rattle.repo_model.specs.Objects.{path_of};
-ghost use Rattle.fs_trait.specs.declared.task.Turn.TheVariants as turn;
+ghost use Rattle.fs_trait.specs.declared.task.StepResult.TheVariants as turn;
 ghost use Rattle.rely.specs.declared.books.Entry.{Entry};
 ghost use Rattle.rely.specs.declared.books.Pending.{Pending};
 ghost use Rattle.rely.specs.declared.event.Event.{Event};

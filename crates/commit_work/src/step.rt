@@ -11,12 +11,12 @@ ghost use Rattle.commit_work.specs.Kinds.{BuildSteps, BuildLeaves, leaves_at, le
 
 use crate::CommitCommand;
 use commit_build::{BuildRefusal, CommitTask};
-use fs_trait::{Fs, FsErr, Turn};
+use fs_trait::{Fs, FsErr, StepResult};
 use ost_types::{Csum, NoMemory};
 
 impl CommitCommand {
     /// Does the next step of the build; once all is done the change of the ref begins.
-    pub(crate) fn build_on<F: Fs>(&mut self, fs: &mut F) -> Result<Turn<()>, FsErr>
+    pub(crate) fn build_on<F: Fs>(&mut self, fs: &mut F) -> Result<StepResult<()>, FsErr>
         requires needs { (v : View) → F.view fs.old ≡ Some v → Needs self.old.build v }
         ensures writes { (v : View) → F.view fs.old ≡ Some v → Told (F.view fs.new) (λ w. Writes (WritesIn self.old.objects self.old.build v) v w) }
         ensures unchanged { (v : View) → F.view fs.old ≡ Some v → IsErrOf result err.NoMemory → F.view fs.new ≡ Some v }
@@ -30,7 +30,7 @@ impl CommitCommand {
         match self.build.commit() {
             Some(commit) => {
                 self.begin_change(commit)?;
-                Ok(Turn::More)
+                Ok(StepResult::More)
             }
             None => self.go_on(fs),
         }
@@ -44,7 +44,7 @@ impl CommitCommand {
         Ok(())
     }
 
-    fn go_on<F: Fs>(&mut self, fs: &mut F) -> Result<Turn<()>, FsErr>
+    fn go_on<F: Fs>(&mut self, fs: &mut F) -> Result<StepResult<()>, FsErr>
         requires needs { (v : View) → F.view fs.old ≡ Some v → Needs self.old.build v }
         ensures writes { (v : View) → F.view fs.old ≡ Some v → Told (F.view fs.new) (λ w. Writes (WritesIn self.old.objects self.old.build v) v w) }
         ensures unchanged { (v : View) → F.view fs.old ≡ Some v → IsErrOf result err.NoMemory → F.view fs.new ≡ Some v }
@@ -59,10 +59,10 @@ impl CommitCommand {
         let refused = build_step(&mut self.build, fs, self.objects)?;
         self.pinned = storing;
         match refused {
-            None => Ok(Turn::More),
+            None => Ok(StepResult::More),
             Some(refusal) => {
                 self.refusal = Some(refusal);
-                Ok(Turn::Done(()))
+                Ok(StepResult::Done(()))
             }
         }
     }
@@ -85,8 +85,8 @@ fn build_step<F: Fs>(
     ensures room { F.spare fs.old ≤ F.spare fs.new + 1 }
 {
     match build.step(fs, objects)? {
-        Turn::More => Ok(None),
-        Turn::Done(Ok(_)) => Ok(None),
-        Turn::Done(Err(refusal)) => Ok(Some(refusal)),
+        StepResult::More => Ok(None),
+        StepResult::Done(Ok(_)) => Ok(None),
+        StepResult::Done(Err(refusal)) => Ok(Some(refusal)),
     }
 }

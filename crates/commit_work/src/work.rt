@@ -6,7 +6,7 @@ ghost use Rattle.commit_work.specs.Facts.{commit_facts};
 ghost use Rattle.commit_work.specs.Laws.{commit_laws};
 
 use crate::CommitCommand;
-use fs_trait::{Fs, FsErr, Turn};
+use fs_trait::{Fs, FsErr, StepResult};
 use ost_types::{Name, NoMemory, ObjName};
 use rely::{Event, Step, Wants, Work};
 
@@ -75,7 +75,7 @@ impl Work for CommitCommand {
         }
     }
 
-    fn advance<F: Fs>(&mut self, actor: u8, fs: &mut F) -> Result<Turn<()>, FsErr> {
+    fn advance<F: Fs>(&mut self, actor: u8, fs: &mut F) -> Result<StepResult<()>, FsErr> {
         match &mut self.change {
             None => self.build_on(fs),
             Some(naming) => naming.work.advance(actor, fs),

@@ -19,6 +19,3 @@ pub use kept::kept_behind;
 pub use kernel::kver_of;
 pub use laws::{entries_are_read, kernels_are_found};
 pub use serial::serial_for;
-
-#[cfg(test)]
-mod tests;

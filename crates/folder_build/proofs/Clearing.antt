@@ -2,8 +2,8 @@
 use Rattle.std.proofs.Common.{◌≡◌, ◌≢◌, ◌<◌, arith, Bool, true, false, ◌&&◌, refl, sym, ◌∙◌, ap, subst, List, [], ◌∷◌, ◌++◌, length, take, Option, Some, None, Result, Ok}
 use Rattle.ost_types.specs.Path.{Path, is_below}
 use Rattle.fs_trait.specs.declared.types.FsErr.{FsErr}
-use Rattle.fs_trait.specs.declared.task.Turn.{Turn}
-use Rattle.fs_trait.specs.declared.task.Turn.TheVariants.{More, Done}
+use Rattle.fs_trait.specs.declared.task.StepResult.{StepResult}
+use Rattle.fs_trait.specs.declared.task.StepResult.TheVariants.{More, Done}
 use Rattle.fs_trait.specs.View.{Disk, View}
 use Rattle.fs_trait.specs.Image.{IsTree, Told}
 use Rattle.fs_trait.specs.Seen.{Vacant, seen, shows}
@@ -98,10 +98,10 @@ written_as t u e ph is v view told = (told.0, told.1, subst (λ x. Writes (Write
 pub told_with : (P Q R : View → Type 0) (view : Option View) → ((w : View) → view ≡ Some w → P w → Q w → R w) → Told view P → Told view Q → Told view R
 told_with P Q R view both a b = let same : b.0 ≡ a.0 = cc (a.1, b.1) in (a.0, a.1, both a.0 a.1 a.2 (subst Q same b.2))
 
-pub stepped_more : (c d : Removing) (r : Result (Turn (Unit {0})) FsErr) → r ≡ Ok More → removal.IsStepped c r d → removal.Follows (removal.act c) c d
+pub stepped_more : (c d : Removing) (r : Result (StepResult (Unit {0})) FsErr) → r ≡ Ok More → removal.IsStepped c r d → removal.Follows (removal.act c) c d
 stepped_more c d r is s = (subst (λ x. removal.IsStepped c x d) is s).0
 
-pub stepped_done : (c d : Removing) (r : Result (Turn (Unit {0})) FsErr) → r ≡ Ok (Done tt) → removal.IsStepped c r d → removal.Follows (removal.act c) c d × (Done tt ≡ turn_in d.phase)
+pub stepped_done : (c d : Removing) (r : Result (StepResult (Unit {0})) FsErr) → r ≡ Ok (Done tt) → removal.IsStepped c r d → removal.Follows (removal.act c) c d × (Done tt ≡ turn_in d.phase)
 stepped_done c d r is s = subst (λ x. removal.IsStepped c x d) is s
 
 pub made_goes : (t : Building) (c d : Removing) → t.phase ≡ phase.Clear c → IsMade t → removal.Follows (removal.act c) c d → IsMade (record t { phase = phase.Clear d })

@@ -7,7 +7,7 @@ use Rattle.fs_trait.specs.declared.types.Value.{Value}
 use Rattle.fs_trait.specs.declared.types.Value.TheVariants as value
 use Rattle.fs_trait.specs.declared.types.FsErr.{FsErr}
 use Rattle.fs_trait.specs.declared.types.FsErr.TheVariants.{Failed, Exists, Missing, NotFolder, NotEmpty, NoMemory}
-use Rattle.fs_trait.specs.declared.task.Turn.TheVariants.{Done}
+use Rattle.fs_trait.specs.declared.task.StepResult.TheVariants.{Done}
 use Rattle.fs_trait.specs.View.{Disk, View, named, moved}
 use Rattle.fs_trait.specs.Image.{is_folder, IsTree, Told}
 use Rattle.fs_trait.specs.Effect.{Fails, if_folder, no_leaf, no_move, no_new, one_inode, unless_leaf, way}

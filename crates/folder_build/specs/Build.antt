@@ -2,8 +2,8 @@
 use Rattle.std.specs.Prelude.{◌≡◌, ◌≢◌, ◌⊎◌, ◌<◌, ◌+◌, ◌-◌, ◌*◌, nat_lt, ℕ, true, List, [], length, take, slice_index_or, Some, None, Result, Ok, Err, if◌then◌else◌}
 use Rattle.ost_types.specs.Path.{Name, Path, is_below, under}
 use Rattle.fs_trait.specs.declared.types.FsErr.{FsErr}
-use Rattle.fs_trait.specs.declared.task.Turn.{Turn}
-use Rattle.fs_trait.specs.declared.task.Turn.TheVariants.{More, Done}
+use Rattle.fs_trait.specs.declared.task.StepResult.{StepResult}
+use Rattle.fs_trait.specs.declared.task.StepResult.TheVariants.{More, Done}
 use Rattle.fs_trait.specs.Effect.{Next}
 use Rattle.checkout.specs.Remove as removal
 use Rattle.folder_build.specs.declared.node.Content.{Content}
@@ -71,11 +71,11 @@ reached_phase n nodes = if nat_lt (n + 1) (length nodes) then Make (n + 1) else 
 abbrev pub reached : ℕ → Building → Building
 reached n t = record t { phase = reached_phase n t.nodes }
 
-abbrev pub reached_turn : ℕ → Building → Turn (Unit {0})
+abbrev pub reached_turn : ℕ → Building → StepResult (Unit {0})
 reached_turn n t = if nat_lt (n + 1) (length t.nodes) then More else Done tt
 
 -- Which step it was, and what changed in the task.
-abbrev pub steps_in : Phase → Building → Turn (Unit {0}) → Building → Type 0
+abbrev pub steps_in : Phase → Building → StepResult (Unit {0}) → Building → Type 0
 steps_in (Clear c) old More new = ((d : removal.Removing) × (new ≡ record old { phase = Clear d })) ⊎ (new ≡ record old { phase = Make 0 })
 steps_in (Clear c) old (Done x) new = ⊥
 steps_in (Make n) old turn new = ((turn ≡ reached_turn n old) × (new ≡ reached n old)) ⊎ ((turn ≡ More) × (new ≡ record old { phase = Write n }))
@@ -83,7 +83,7 @@ steps_in (Write n) old turn new = (turn ≡ reached_turn n old) × (new ≡ reac
 steps_in Ended old turn new = (turn ≡ Done tt) × (new ≡ old)
 
 -- One that wasn't done leaves the task as it was.
-abbrev pub IsStepped : Building → Result (Turn (Unit {0})) FsErr → Building → Type 0
+abbrev pub IsStepped : Building → Result (StepResult (Unit {0})) FsErr → Building → Type 0
 IsStepped old (Ok turn) new = steps_in old.phase old turn new
 IsStepped old (Err e) new = new ≡ old
 
@@ -104,6 +104,6 @@ Takes (Make n) before now = Next before now ⊎ (now ≡ before)
 Takes (Write n) before now = Next before now
 Takes Ended before now = now ≡ before
 
-abbrev pub OnMore : Result (Turn (Unit {0})) FsErr → Type 0 → Type 0
+abbrev pub OnMore : Result (StepResult (Unit {0})) FsErr → Type 0 → Type 0
 OnMore (Ok More) P = P
 OnMore r P = Unit {0}

@@ -2,8 +2,8 @@
 use Rattle.std.specs.Prelude.{◌≡◌, ◌≢◌, ◌⊎◌, ◌≤◌, ◌+◌, ℕ, Bool, true, false, List, [], Result, Ok, Err, OnOk}
 use Rattle.ost_types.specs.Path.{Name, Path, is_below, under}
 use Rattle.fs_trait.specs.declared.types.FsErr.{FsErr}
-use Rattle.fs_trait.specs.declared.task.Turn.{Turn}
-use Rattle.fs_trait.specs.declared.task.Turn.TheVariants.{More, Done}
+use Rattle.fs_trait.specs.declared.task.StepResult.{StepResult}
+use Rattle.fs_trait.specs.declared.task.StepResult.TheVariants.{More, Done}
 use Rattle.fs_trait.specs.Effect.{Next}
 use Rattle.checkout.specs.Remove as removal
 use Rattle.folder_build.specs.declared.link.LinkPhase.{LinkPhase}
@@ -46,14 +46,14 @@ is_showing Replace = true
 is_showing ph = false
 
 -- Which step it was, and what changed in the task.
-abbrev pub steps_in : LinkPhase → Linking → Turn (Unit {0}) → Linking → Type 0
+abbrev pub steps_in : LinkPhase → Linking → StepResult (Unit {0}) → Linking → Type 0
 steps_in (Clear c) old More new = ((d : removal.Removing) × (new ≡ record old { phase = Clear d })) ⊎ (new ≡ record old { phase = Make })
 steps_in (Clear c) old (Done x) new = ⊥
 steps_in Make old turn new = (turn ≡ More) × (new ≡ record old { phase = Replace })
 steps_in Replace old turn new = (turn ≡ Done tt) × (new ≡ record old { phase = Ended })
 steps_in Ended old turn new = (turn ≡ Done tt) × (new ≡ old)
 
-abbrev pub IsStepped : Linking → Result (Turn (Unit {0})) FsErr → Linking → Type 0
+abbrev pub IsStepped : Linking → Result (StepResult (Unit {0})) FsErr → Linking → Type 0
 IsStepped old (Ok turn) new = steps_in old.phase old turn new
 IsStepped old (Err e) new = new ≡ old
 

@@ -6,6 +6,8 @@ mod words;
 pub use words::word;
 
 #[cfg(test)]
+mod memory;
+#[cfg(test)]
 mod table;
 #[cfg(test)]
 mod tests;

@@ -17,6 +17,3 @@ pub use memory_record::Choice;
 pub use plan::FailAt;
 pub use sink::MemSink;
 pub use source::MemSource;
-
-#[cfg(test)]
-mod tests;

@@ -2,15 +2,13 @@
 #![tactic(auto)]
 
 mod fs;
-mod gate;
 mod laws;
 mod streams;
 mod task;
 mod types;
 
 pub use fs::Fs;
-pub use gate::{Gate, Through};
 pub use laws::{image_of_image, left_since_now, settled_disk};
 pub use streams::{Sink, SinkErr, Source, SourceErr};
-pub use task::{Need, Turn};
+pub use task::{Need, StepResult};
 pub use types::{FsErr, Node, Value};

@@ -1,6 +1,6 @@
 /// What a step of a task came to: there is more to do, or the task is done.
 #[derive(Drop, Debug)]
-pub enum Turn<T> {
+pub enum StepResult<T> {
     More,
     Done(T),
 }
@@ -17,13 +17,13 @@ pub enum Need {
     /// The lock of the one that removes objects.
     Exclusive,
     /// The lock of the one that shows a change.
-    Turn,
+    RefLock,
     /// The lock of the one that works on the list of deployments.
     Sysroot,
     /// The hold on the deployment whose `etc` is read.
     Hold,
     /// The lock of the one that shows a change, at a deployment that nobody holds.
-    TurnAtPlace,
+    RefLockAtPlace,
     /// The end of a pull, when nobody has one of its wants in hand.
     End,
 }

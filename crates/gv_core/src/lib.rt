@@ -23,8 +23,3 @@ pub use measuring::fits;
 pub use text::{GvBytes, GvText};
 pub use type_string::{GvKind, parse_kind};
 pub use value::Value;
-
-#[cfg(test)]
-mod tests;
-#[cfg(test)]
-mod vectors;

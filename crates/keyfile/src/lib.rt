@@ -16,6 +16,3 @@ pub use fault::KeyFault;
 pub use laws::readings;
 pub use read::read_keyfile;
 pub use write::write_keyfile;
-
-#[cfg(test)]
-mod tests;

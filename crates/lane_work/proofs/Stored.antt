@@ -2,7 +2,7 @@
 -- stored the object, or changed nothing; and the last one changed nothing.
 use Rattle.std.proofs.Common.{◌≡◌, ⊎_elim, ℕ, sym, ◌∙◌}
 use Rattle.ost_types.specs.declared.object.ObjName.{ObjName}
-use Rattle.fs_trait.specs.declared.task.Turn.TheVariants as turn
+use Rattle.fs_trait.specs.declared.task.StepResult.TheVariants as turn
 use Rattle.fs_trait.specs.View.{View}
 use Rattle.fs_trait.specs.Seen.{Seen}
 use Rattle.repo_layout.specs.Place.{Object, Ref, Stage}

@@ -2,7 +2,7 @@
 use Rattle.std.specs.Prelude.{◌≡◌, ◌⊎◌, ◌<◌, ◌^◌, ℕ, List, Option, Some, None}
 use Rattle.ost_types.specs.declared.object.ObjName.{ObjName}
 use Rattle.ost_types.specs.Path.{Path}
-use Rattle.fs_trait.specs.declared.task.Turn.{Turn}
+use Rattle.fs_trait.specs.declared.task.StepResult.{StepResult}
 use Rattle.fs_trait.specs.declared.types.FsErr.{FsErr}
 use Rattle.fs_trait.specs.View.{View}
 use Rattle.fs_trait.specs.Seen.{Seen}
@@ -48,14 +48,14 @@ lane_writes actor (Commit t) v p s = commit_writes actor t v p s
 lane_writes actor (Read t) v p s = reads.read_writes actor t v p s
 lane_writes actor (Checkout t) v p s = checkouts.checkout_writes actor t v p s
 
-abbrev pub lane_stepped : LaneCommand → Turn (Unit {0}) → LaneCommand → Type 0
+abbrev pub lane_stepped : LaneCommand → StepResult (Unit {0}) → LaneCommand → Type 0
 lane_stepped (Ref t) u (Ref new) = refs.command_stepped t u new
 lane_stepped (Commit t) u (Commit new) = commit_stepped t u new
 lane_stepped (Read t) u (Read new) = reads.read_stepped t u new
 lane_stepped (Checkout t) u (Checkout new) = checkouts.checkout_stepped t u new
 lane_stepped old u new = ⊥
 
-abbrev pub lane_leaves : LaneCommand → Turn (Unit {0}) → LaneCommand → View → View → Type 0
+abbrev pub lane_leaves : LaneCommand → StepResult (Unit {0}) → LaneCommand → View → View → Type 0
 lane_leaves (Ref t) u (Ref new) v w = refs.command_leaves t u new v w
 lane_leaves (Commit t) u (Commit new) v w = commit_leaves t u new v w
 lane_leaves (Read t) u (Read new) v w = reads.read_leaves t u new v w

@@ -1,7 +1,7 @@
 -- The laws of the commands as tasks.
 use Rattle.std.specs.Prelude.{◌≡◌, ◌≢◌, ℕ, List}
 use Rattle.ost_types.specs.Path.{Path}
-use Rattle.fs_trait.specs.declared.task.Turn.TheVariants as turn
+use Rattle.fs_trait.specs.declared.task.StepResult.TheVariants as turn
 use Rattle.fs_trait.specs.View.{View}
 use Rattle.fs_trait.specs.Seen.{Seen, Vacant, shows}
 use Rattle.repo_layout.specs.BootPaths.{checkout_path}

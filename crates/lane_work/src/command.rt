@@ -8,7 +8,7 @@ use crate::checkout_answer::script_checkout;
 use crate::read_answer::script_read;
 use checkout_work::CheckoutCommand;
 use commit_work::CommitCommand;
-use fs_trait::{Fs, FsErr, Turn};
+use fs_trait::{Fs, FsErr, StepResult};
 use obj_store::Put;
 use ost_types::{Name, NoMemory, ObjName};
 use read_work::ReadCommand;
@@ -130,7 +130,7 @@ impl Work for LaneCommand {
         }
     }
 
-    fn advance<F: Fs>(&mut self, actor: u8, fs: &mut F) -> Result<Turn<()>, FsErr> {
+    fn advance<F: Fs>(&mut self, actor: u8, fs: &mut F) -> Result<StepResult<()>, FsErr> {
         match self {
             LaneCommand::Ref(work) => work.advance(actor, fs),
             LaneCommand::Commit(work) => work.advance(actor, fs),

@@ -9,7 +9,7 @@ ghost use Rattle.fs_trait.specs.Seen.{Seen};
 ghost use Rattle.repo_layout.specs.BootPaths.{checkout_path};
 ghost use Rattle.repo_layout.specs.RefFile.{IsSum};
 ghost use Rattle.repo_model.specs.Objects.{path_of};
-ghost use Rattle.fs_trait.specs.declared.task.Turn.TheVariants as turn;
+ghost use Rattle.fs_trait.specs.declared.task.StepResult.TheVariants as turn;
 ghost use Rattle.script.specs.declared.answer.Answer.{Answer};
 ghost use Rattle.ost_types.specs.declared.object.ObjName.{ObjName};
 ghost use Rattle.obj_store.specs.declared.phase.Put.TheVariants.{Stored};

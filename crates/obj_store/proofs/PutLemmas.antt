@@ -11,8 +11,8 @@ use Rattle.ost_types.specs.declared.object.Kind.TheVariants as kind
 use Rattle.staging.proofs.StepLemmas.{meta_shown}
 use Rattle.std.specs.Prelude.{codes}
 use Rattle.fs_trait.specs.declared.types.FsErr.TheVariants.{Failed, Exists, Missing, NotFolder, NotEmpty, NoMemory}
-use Rattle.fs_trait.specs.declared.task.Turn.{Turn}
-use Rattle.fs_trait.specs.declared.task.Turn.TheVariants.{More, Done}
+use Rattle.fs_trait.specs.declared.task.StepResult.{StepResult}
+use Rattle.fs_trait.specs.declared.task.StepResult.TheVariants.{More, Done}
 use Rattle.fs_trait.specs.View.{Disk, View, named}
 use Rattle.fs_trait.specs.Image.{IsTree, Told, is_folder}
 use Rattle.fs_trait.specs.Effect.{no_leaf, no_new, no_link, Fails}
@@ -166,7 +166,7 @@ module _ (t : Putting) (v : View) (needs : Needs t v) (d : Draft) (source : t.so
   }
 
   -- the look finds nothing, and clears the staging path
-  pub cleared : (e : Draft) (r : Turn (Unit {0})) → t.phase ≡ phase.Look → draft.IsStepped {T = Unit {0}} d (Ok r) e → (e ≡ draft.next d) × (draft.is_last d.phase ≡ false)
+  pub cleared : (e : Draft) (r : StepResult (Unit {0})) → t.phase ≡ phase.Look → draft.IsStepped {T = Unit {0}} d (Ok r) e → (e ≡ draft.next d) × (draft.is_last d.phase ≡ false)
   cleared e More is stepped = stepped
   cleared e (Done x) is stepped =
       let clear : d.phase ≡ stage.Clear = subst (λ f. IsStaged f (File d)) is (subst (λ s. IsStaged t.phase s) source needs.made.staged) in
@@ -443,5 +443,5 @@ module _ (t : Putting) (v : View) (needs : Needs t v) (is : t.phase ≡ phase.Li
   symlink_came_at m target e to other absent = rw other (symlink_came m target e (subst (λ q. v.now.at q ≡ Absent) other absent))
 
 -- what such a step tells, as its callee names what is left
-pub told_as : (t u new : Putting) (turn : Turn Put) (v w : View) → t ≡ u → new ≡ shown_next Stored t → turn ≡ shown_turn Stored t → Tells t (shown_next Stored t) v w (shown_turn Stored t) → Tells u new v w turn
+pub told_as : (t u new : Putting) (turn : StepResult Put) (v w : View) → t ≡ u → new ≡ shown_next Stored t → turn ≡ shown_turn Stored t → Tells t (shown_next Stored t) v w (shown_turn Stored t) → Tells u new v w turn
 told_as t u new turn v w same next is tells = rw (next, is) (subst (λ x. Tells x (shown_next Stored t) v w (shown_turn Stored t)) same tells)

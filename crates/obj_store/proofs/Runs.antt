@@ -6,8 +6,8 @@ use Rattle.ost_types.specs.Path.{Path}
 use Rattle.fs_trait.specs.declared.types.Value.TheVariants.{Absent}
 use Rattle.fs_trait.specs.declared.types.FsErr.{FsErr}
 use Rattle.fs_trait.specs.declared.types.FsErr.TheVariants.{Failed, NoMemory, Exists, Missing, NotFolder, NotEmpty}
-use Rattle.fs_trait.specs.declared.task.Turn.{Turn}
-use Rattle.fs_trait.specs.declared.task.Turn.TheVariants.{More, Done}
+use Rattle.fs_trait.specs.declared.task.StepResult.{StepResult}
+use Rattle.fs_trait.specs.declared.task.StepResult.TheVariants.{More, Done}
 use Rattle.fs_trait.specs.View.{View}
 use Rattle.fs_trait.specs.Image.{EachImage, Told}
 use Rattle.fs_trait.specs.Seen.{Seen, Vacant, Directory, Symlink, Leaf, seen, shows, IsDirectory, NotDirectory}
@@ -106,7 +106,7 @@ IsSame-refl t = record { actor = refl; name = refl; shown = refl }
 pub IsSame-trans : (t u x : Putting) → IsSame t u → IsSame u x → IsSame t x
 IsSame-trans t u x a b = record { actor = b.actor ∙ a.actor; name = b.name ∙ a.name; shown = b.shown ∙ a.shown }
 
-same_draft : {T : Type 0} (d e : Draft) (r : Turn T) → draft.IsStepped d (Ok r) e → Same d e
+same_draft : {T : Type 0} (d e : Draft) (r : StepResult T) → draft.IsStepped d (Ok r) e → Same d e
 same_draft d e More s = subst (Same d) (sym s.0) (next_same d d.phase)
 same_draft d e (Done x) s = subst (Same d) (sym s.0) (next_same d d.phase)
 

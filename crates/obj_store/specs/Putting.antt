@@ -5,8 +5,8 @@ use Rattle.ost_types.specs.declared.object.ObjName.{ObjName}
 use Rattle.ost_types.specs.Mode.{IsFileMode, IsLinkMode}
 use Rattle.ost_objects.specs.Object.{IsNamed}
 use Rattle.fs_trait.specs.declared.types.FsErr.{FsErr}
-use Rattle.fs_trait.specs.declared.task.Turn.{Turn}
-use Rattle.fs_trait.specs.declared.task.Turn.TheVariants.{More, Done}
+use Rattle.fs_trait.specs.declared.task.StepResult.{StepResult}
+use Rattle.fs_trait.specs.declared.task.StepResult.TheVariants.{More, Done}
 use Rattle.fs_trait.specs.declared.task.Need.{Need}
 use Rattle.fs_trait.specs.declared.task.Need.TheVariants as need
 use Rattle.fs_trait.specs.Effect.{Next}
@@ -116,7 +116,7 @@ IsLast (phase.Ended was) source put = put ≡ was
 IsLast ph source put = ⊥
 
 -- Which step it was, and what changed in the task. One that wasn't done leaves the task as it was.
-abbrev pub IsStepped : Putting → Result (Turn Put) FsErr → Putting → Type 0
+abbrev pub IsStepped : Putting → Result (StepResult Put) FsErr → Putting → Type 0
 IsStepped old (Ok More) new = (new ≡ record old { source = new.source; phase = new.phase }) × Follows old.phase new.phase old.source new.source
 IsStepped old (Ok (Done put)) new = (new ≡ record old { phase = phase.Ended put }) × IsLast old.phase old.source put
 IsStepped old (Err e) new = new ≡ old
@@ -129,11 +129,11 @@ shown_in (Link m target) put = phase.Ended put
 abbrev pub shown_next : Put → Putting → Putting
 shown_next put t = record t { phase = shown_in t.source put }
 
-abbrev pub turn_in : Source → Put → Turn Put
+abbrev pub turn_in : Source → Put → StepResult Put
 turn_in (File d) put = More
 turn_in (Link m target) put = Done put
 
-abbrev pub shown_turn : Put → Putting → Turn Put
+abbrev pub shown_turn : Put → Putting → StepResult Put
 shown_turn put t = turn_in t.source put
 
 -- no more steps than this are left: each byte of a file counts as one
@@ -175,6 +175,6 @@ abbrev pub IsUnlink : Phase → Type 0
 IsUnlink (phase.Unlink put) = Unit {0}
 IsUnlink ph = ⊥
 
-abbrev pub OnMore : {T : Type 0} → Result (Turn T) FsErr → Type 0 → Type 0
+abbrev pub OnMore : {T : Type 0} → Result (StepResult T) FsErr → Type 0 → Type 0
 OnMore (Ok More) P = P
 OnMore r P = Unit {0}

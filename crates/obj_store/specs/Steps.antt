@@ -5,8 +5,8 @@ use Rattle.fs_trait.specs.declared.types.FsErr.{FsErr}
 use Rattle.fs_trait.specs.declared.types.FsErr.TheVariants.{Failed, NoMemory, NotFolder}
 use Rattle.fs_trait.specs.declared.types.Value.{Value}
 use Rattle.fs_trait.specs.declared.types.Value.TheVariants.{Absent}
-use Rattle.fs_trait.specs.declared.task.Turn.{Turn}
-use Rattle.fs_trait.specs.declared.task.Turn.TheVariants.{More, Done}
+use Rattle.fs_trait.specs.declared.task.StepResult.{StepResult}
+use Rattle.fs_trait.specs.declared.task.StepResult.TheVariants.{More, Done}
 use Rattle.fs_trait.specs.View.{View}
 use Rattle.fs_trait.specs.Effect.{OfPlacing, OfFinding}
 use Rattle.fs_trait.specs.Seen.{Seen, Vacant, Symlink, Leaf, shows, IsDirectory}
@@ -101,7 +101,7 @@ ends phase.Look put t v w = Came put t v w
 ends phase.Link put t v w = Came put t v w
 ends ph put t v w = Unit {0}
 
-abbrev pub Tells : Putting → Putting → View → View → Turn Put → Type 0
+abbrev pub Tells : Putting → Putting → View → View → StepResult Put → Type 0
 Tells old new v w More = goes_on old.phase new.phase old v w
 Tells old new v w (Done put) = ends old.phase put old v w
 

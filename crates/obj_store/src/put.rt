@@ -8,7 +8,7 @@ ghost use Rattle.obj_store.specs.Whole.{Answers, Ends, Leaves, MayBegin, Stops, 
 
 use crate::PutTask;
 use crate::phase::Put;
-use fs_trait::{Fs, FsErr, Turn};
+use fs_trait::{Fs, FsErr, StepResult};
 
 /// Puts the object, where nothing stands at its path. A crash at any moment leaves there nothing, what stood there, or the whole
 /// object, and each other object as it was. That the object's name lasts is for a later sync.
@@ -25,8 +25,8 @@ pub fn put_object<F: Fs>(fs: &mut F, task: PutTask) -> Result<Put, FsErr>
     let mut task = task;
     'steps: loop {
         match task.step(fs)? {
-            Turn::More => {}
-            Turn::Done(put) => return Ok(put),
+            StepResult::More => {}
+            StepResult::Done(put) => return Ok(put),
         }
     }
 }

@@ -40,6 +40,3 @@ pub use items::{FileItems, FolderItems};
 pub use sum::sum_of;
 pub use tree_bytes::write_dirtree;
 pub use tree_item::{BodySpec, TreeItem};
-
-#[cfg(test)]
-mod tests;

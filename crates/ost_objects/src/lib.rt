@@ -22,8 +22,3 @@ pub use ost_forms::{
     write_commit, write_content, write_dirmeta, write_dirtree,
 };
 pub use testing::test_object;
-
-#[cfg(test)]
-mod tests;
-#[cfg(test)]
-mod vectors;

@@ -29,6 +29,3 @@ pub use object::{Kind, ObjName};
 pub use path::{FsPath, PathFault};
 pub use path_map::PathMap;
 pub use text::Text;
-
-#[cfg(test)]
-mod tests;

@@ -1,6 +1,6 @@
 -- Where a command begins, and what its answer says.
 use Rattle.std.proofs.Common.{◌≡◌, inl, ℕ, Option, Some, List, sym, ◌∙◌, ap, subst}
-use Rattle.fs_trait.specs.declared.task.Turn.TheVariants as turn
+use Rattle.fs_trait.specs.declared.task.StepResult.TheVariants as turn
 use Rattle.fs_trait.specs.Seen.{shows}
 use Rattle.fs_trait.specs.View.{Disk, View}
 use Rattle.fs_trait.proofs.Effects.{may_now}

@@ -6,8 +6,8 @@ use Rattle.ost_types.specs.declared.object.ObjName.{ObjName}
 use Rattle.ost_types.specs.Path.{Path, is_below, same_name, same_path}
 use Rattle.ost_types.specs.PathMap.{Nodes, node_at, paths_of}
 use Rattle.ost_types.proofs.Paths.{same_or_apart, same_path-self, same_path-apart}
-use Rattle.fs_trait.specs.declared.task.Turn.{Turn}
-use Rattle.fs_trait.specs.declared.task.Turn.TheVariants as turn
+use Rattle.fs_trait.specs.declared.task.StepResult.{StepResult}
+use Rattle.fs_trait.specs.declared.task.StepResult.TheVariants as turn
 use Rattle.fs_trait.specs.View.{Disk}
 use Rattle.repo_model.specs.Objects.{Stores, path_of}
 use Rattle.repo_model.specs.Trees.{Names, Shows}
@@ -98,7 +98,7 @@ module _ (d : Disk) (t : Reading) (knows : Knows d t) (all : t.pending ≡ []) (
   listed_says (answer.Lacking a) l = absurd l
 
 abbrev Turned : Type 0
-Turned = Turn (Result (Unit {0}) TreeFault)
+Turned = StepResult (Result (Unit {0}) TreeFault)
 
 -- what is told once all was read
 pub all_read : (d : Disk) (old new : Reading) (r : Turned) (path : Path) (a : ReadAnswer) → r ≡ turn.Done (Ok tt) → StepTells d old (Ok r) new → new ≡ old → IsListed path new.found a → SaysLs d old.limits old.commit path a

@@ -1,8 +1,8 @@
 -- The commands that read a commit, as tasks.
 use Rattle.std.specs.Prelude.{◌≡◌, ◌<◌, ℕ, length, Option, Some, None}
 use Rattle.ost_types.specs.Path.{Path}
-use Rattle.fs_trait.specs.declared.task.Turn.{Turn}
-use Rattle.fs_trait.specs.declared.task.Turn.TheVariants as turn
+use Rattle.fs_trait.specs.declared.task.StepResult.{StepResult}
+use Rattle.fs_trait.specs.declared.task.StepResult.TheVariants as turn
 use Rattle.fs_trait.specs.declared.types.FsErr.{FsErr}
 use Rattle.fs_trait.specs.Effect.{OfNone}
 use Rattle.fs_trait.specs.Image.{IsTree}
@@ -66,7 +66,7 @@ read_left (Log g) = log_left g.rows.items
 read_left (Ended a) = 0
 
 -- it goes on as what it was asked, with fewer steps; or it has an answer of its own
-abbrev pub read_stepped : ReadCommand → Turn (Unit {0}) → ReadCommand → Type 0
+abbrev pub read_stepped : ReadCommand → StepResult (Unit {0}) → ReadCommand → Type 0
 read_stepped t turn.More new = (asked new ≡ asked t) × (read_left new < read_left t)
 read_stepped t (turn.Done x) new = (a : ReadAnswer) × (new ≡ Ended a) × IsFitting (asked t) a
 
@@ -79,7 +79,7 @@ abbrev pub Tells : ReadCommand → Disk → ReadAnswer → Type 0
 Tells (Look l) d a = SaysStopped d l.commit a
 Tells t d a = Answers d (asked t) a
 
-abbrev pub read_leaves : ReadCommand → Turn (Unit {0}) → ReadCommand → View → View → Type 0
+abbrev pub read_leaves : ReadCommand → StepResult (Unit {0}) → ReadCommand → View → View → Type 0
 read_leaves t turn.More new v w = (w ≡ v) × (asked new ≡ asked t) × Knows w.now new × IsReading new × Goes t v.now
 read_leaves t (turn.Done x) new v w = (w ≡ v) × (a : ReadAnswer) × (new ≡ Ended a) × Tells t v.now a
 
@@ -98,11 +98,11 @@ abbrev pub IsNew : ReadCommand → Type 0
 IsNew (Look l) = IsSum l.commit
 IsNew t = ⊥
 
-abbrev pub turn_of : ReadCommand → Turn (Unit {0})
+abbrev pub turn_of : ReadCommand → StepResult (Unit {0})
 turn_of (Ended a) = turn.Done tt
 turn_of t = turn.More
 
 -- it ends with the answer, if there is one
-abbrev pub ends : Option ReadAnswer → ReadCommand → Turn (Unit {0}) → ReadCommand → Type 0
+abbrev pub ends : Option ReadAnswer → ReadCommand → StepResult (Unit {0}) → ReadCommand → Type 0
 ends None old u new = (u ≡ turn.More) × (new ≡ old)
 ends (Some a) old u new = (u ≡ turn.Done tt) × (new ≡ Ended a)

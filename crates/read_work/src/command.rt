@@ -1,6 +1,6 @@
 //! A command that reads a commit, as a task of the system.
 ghost use Rattle.std.specs.Prelude.{◌≡◌, ◌<◌, ◌^◌};
-ghost use Rattle.fs_trait.specs.declared.task.Turn.{Turn};
+ghost use Rattle.fs_trait.specs.declared.task.StepResult.{StepResult};
 ghost use Rattle.rely.specs.Laws.{step_of};
 ghost use Rattle.read_work.specs.declared.command.ReadCommand.TheVariants as command;
 ghost use Rattle.read_work.specs.Commands.{IsNew, answer_of, ends, read_facts, read_kind, read_leaves, read_left, read_needs, read_refuses, read_stepped, read_writes, turn_of};
@@ -9,7 +9,7 @@ ghost use Rattle.read_work.specs.declared.look.Ask.TheVariants as asks;
 
 use crate::commits::{pin_wants, sum_of_commit};
 use crate::{Ask, Cat, Log, Look, Ls, ReadAnswer};
-use fs_trait::{Fs, FsErr, Turn};
+use fs_trait::{Fs, FsErr, StepResult};
 use ost_types::{Csum, FsPath, Limits, Name, NoMemory};
 use rely::{Event, Step, Work};
 use std::alloc::Global;
@@ -83,27 +83,27 @@ impl ReadCommand {
     }
 
     /// It goes on so.
-    fn go(&mut self, next: ReadCommand) -> Turn<()>
+    fn go(&mut self, next: ReadCommand) -> StepResult<()>
         ensures turn { result ≡ turn_of next }
         ensures next { self.new ≡ next }
     {
         let turn = match &next {
-            ReadCommand::Ended(_) => Turn::Done(()),
-            _ => Turn::More,
+            ReadCommand::Ended(_) => StepResult::Done(()),
+            _ => StepResult::More,
         };
         *self = next;
         turn
     }
 
     /// It ends with the answer, if there is one.
-    fn end(&mut self, answer: Option<ReadAnswer>) -> Turn<()>
+    fn end(&mut self, answer: Option<ReadAnswer>) -> StepResult<()>
         ensures { ends answer self.old result self.new }
     {
         match answer {
-            None => Turn::More,
+            None => StepResult::More,
             Some(answer) => {
                 *self = ReadCommand::Ended(answer);
-                Turn::Done(())
+                StepResult::Done(())
             }
         }
     }
@@ -146,7 +146,7 @@ impl Work for ReadCommand {
         0
     }
 
-    fn advance<F: Fs>(&mut self, actor: u8, fs: &mut F) -> Result<Turn<()>, FsErr> {
+    fn advance<F: Fs>(&mut self, actor: u8, fs: &mut F) -> Result<StepResult<()>, FsErr> {
         match self {
             ReadCommand::Look(look) => {
                 let next = look.step(actor, fs)?;
@@ -164,7 +164,7 @@ impl Work for ReadCommand {
                 let answer = log.step(fs)?;
                 Ok(self.end(answer))
             }
-            ReadCommand::Ended(_) => Ok(Turn::Done(())),
+            ReadCommand::Ended(_) => Ok(StepResult::Done(())),
         }
     }
 }

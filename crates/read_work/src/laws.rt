@@ -2,7 +2,7 @@
 ghost use Rattle.std.specs.Prelude.{◌≡◌, ◌<◌, ℕ, List, Option, Some};
 ghost use Rattle.fs_trait.specs.View.{View};
 ghost use Rattle.fs_trait.specs.Change.{Writes};
-ghost use Rattle.fs_trait.specs.declared.task.Turn.TheVariants as turn;
+ghost use Rattle.fs_trait.specs.declared.task.StepResult.TheVariants as turn;
 ghost use Rattle.rely.specs.declared.books.Entry.{Entry};
 ghost use Rattle.rely.specs.declared.books.Pending.{Pending};
 ghost use Rattle.rely.specs.Books.{Books};

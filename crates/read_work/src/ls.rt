@@ -8,7 +8,7 @@ ghost use Rattle.read_work.specs.LsSteps.{IsListed, IsLsStepped, LsKnows, LsTell
 use crate::ReadAnswer;
 use crate::answer::lacking;
 use crate::rows::rows_below;
-use fs_trait::{Fs, FsErr, Turn};
+use fs_trait::{Fs, FsErr, StepResult};
 use ost_types::{Csum, FsPath, Limits, NoMemory, TryCopy};
 use std::alloc::Global;
 use tree_read::{TreeFault, TreeTask};
@@ -49,11 +49,13 @@ impl Ls {
         ensures cause { HasCause (F.faults fs.old) (F.faults fs.new) result }
     {
         match self.task.step(fs)? {
-            Turn::More => Ok(None),
-            Turn::Done(Ok(())) => Ok(Some(self.listed()?)),
-            Turn::Done(Err(TreeFault::Absent(name))) => Ok(Some(lacking(self.alloc, &name)?)),
-            Turn::Done(Err(TreeFault::Damaged(name))) => Ok(Some(lacking(self.alloc, &name)?)),
-            Turn::Done(Err(TreeFault::Fs(_) | TreeFault::NoMemory)) => Err(FsErr::NoMemory),
+            StepResult::More => Ok(None),
+            StepResult::Done(Ok(())) => Ok(Some(self.listed()?)),
+            StepResult::Done(Err(TreeFault::Absent(name))) => Ok(Some(lacking(self.alloc, &name)?)),
+            StepResult::Done(Err(TreeFault::Damaged(name))) => Ok(Some(lacking(
+                self.alloc, &name,
+            )?)),
+            StepResult::Done(Err(TreeFault::Fs(_) | TreeFault::NoMemory)) => Err(FsErr::NoMemory),
         }
     }
 

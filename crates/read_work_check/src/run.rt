@@ -5,7 +5,7 @@ ghost use Rattle.fs_trait.specs.Effect.{OfNone};
 ghost use Rattle.read_work.specs.Asked.{Answers, asked};
 ghost use Rattle.read_work.specs.Commands.{IsNew};
 
-use fs_trait::{Fs, FsErr, Turn};
+use fs_trait::{Fs, FsErr, StepResult};
 use read_work::{ReadAnswer, ReadCommand};
 use rely::Work;
 
@@ -19,8 +19,8 @@ pub fn run_alone<F: Fs>(fs: &mut F, command: ReadCommand) -> Result<Option<ReadA
     let mut command = command;
     'steps: loop {
         match command.advance(0, fs)? {
-            Turn::More => {}
-            Turn::Done(()) => return Ok(command.into_answer()),
+            StepResult::More => {}
+            StepResult::Done(()) => return Ok(command.into_answer()),
         }
     }
 }

@@ -4,6 +4,3 @@
 mod book;
 
 pub use book::RefBook;
-
-#[cfg(test)]
-mod tests;

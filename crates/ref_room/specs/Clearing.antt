@@ -6,8 +6,8 @@ use Rattle.std.specs.declared.cmp.Ordering.TheVariants.{Less}
 use Rattle.ost_types.specs.Path.{Name, Path, IsPath, under}
 use Rattle.fs_trait.specs.declared.types.FsErr.{FsErr}
 use Rattle.fs_trait.specs.declared.types.FsErr.TheVariants.{Failed, NoMemory, NotEmpty}
-use Rattle.fs_trait.specs.declared.task.Turn.{Turn}
-use Rattle.fs_trait.specs.declared.task.Turn.TheVariants.{More, Done}
+use Rattle.fs_trait.specs.declared.task.StepResult.{StepResult}
+use Rattle.fs_trait.specs.declared.task.StepResult.TheVariants.{More, Done}
 use Rattle.fs_trait.specs.declared.types.Value.TheVariants.{Absent}
 use Rattle.fs_trait.specs.View.{Disk, View}
 use Rattle.fs_trait.specs.Seen.{Seen, Vacant, Symlink, Leaf, shows, IsDirectory}
@@ -45,7 +45,7 @@ abbrev pub act : Cleared → Act
 act t = act_of t.pending t.folders t.least
 
 -- what a step changed in the task
-abbrev pub IsStepped : Cleared → Result (Turn (Option (List ℕ))) FsErr → Cleared → Type 0
+abbrev pub IsStepped : Cleared → Result (StepResult (Option (List ℕ))) FsErr → Cleared → Type 0
 IsStepped old (Ok More) new = (new.name ≡ old.name) × ((act old ≡ Looks) ⊎ ((act old ≡ Removes) × (new.pending ≡ []) × (new.least ≡ None) × ((f : Path) × (old.folders ≡ new.folders ++ f ∷ []))))
 IsStepped old (Ok (Done (Some other))) new = (new ≡ old) × (act old ≡ Says other)
 IsStepped old (Ok (Done None)) new = (new ≡ old) × (act old ≡ Ends)
@@ -147,7 +147,7 @@ pub record Needs (t : Cleared) (v : View) : Type 0 where
   pub here : (p : Path) → HereOf t p (shows v.now p)
 
 -- What a step tells of what reads see.
-abbrev pub Tells : Cleared → View → Turn (Option (List ℕ)) → Type 0
+abbrev pub Tells : Cleared → View → StepResult (Option (List ℕ)) → Type 0
 Tells t v More = Unit {0}
 Tells t v (Done (Some other)) = IsLeastClash v.now t.name other
 Tells t v (Done None) = shows v.now (ref_path t.name) ≡ Vacant

@@ -4,8 +4,8 @@ use Rattle.ost_types.specs.declared.meta.Meta.{Meta}
 use Rattle.ost_types.specs.Path.{Path}
 use Rattle.fs_trait.specs.declared.types.FsErr.{FsErr}
 use Rattle.fs_trait.specs.declared.types.FsErr.TheVariants.{Failed, NoMemory, Exists}
-use Rattle.fs_trait.specs.declared.task.Turn.{Turn}
-use Rattle.fs_trait.specs.declared.task.Turn.TheVariants.{More, Done}
+use Rattle.fs_trait.specs.declared.task.StepResult.{StepResult}
+use Rattle.fs_trait.specs.declared.task.StepResult.TheVariants.{More, Done}
 use Rattle.fs_trait.specs.View.{View}
 use Rattle.fs_trait.specs.Seen.{Seen, Vacant, Directory, shows, IsDirectory}
 use Rattle.fs_trait.specs.Effect.{Next}
@@ -57,7 +57,7 @@ is_over Over = true
 is_over leg = false
 
 -- what a step changed in the task
-abbrev pub IsStepped : Walked → Result (Turn (Option (List ℕ))) FsErr → Walked → Type 0
+abbrev pub IsStepped : Walked → Result (StepResult (Option (List ℕ))) FsErr → Walked → Type 0
 IsStepped old (Ok More) new = (new ≡ next old) × (is_over new.leg ≡ false)
 IsStepped old (Ok (Done None)) new = (new ≡ next old) × (is_over new.leg ≡ true)
 IsStepped old (Ok (Done (Some other))) new = (new ≡ old) × (old.leg ≡ Make) × IsRefName other × (ref_path other ≡ next_folder old)
@@ -109,7 +109,7 @@ pub record Needs (t : Walked) (v : View) : Type 0 where
   pub meets : Meets (FirmOf t) (HereOf t) v
 
 -- What a step tells of what reads see.
-abbrev pub Tells : Walked → View → Turn (Option (List ℕ)) → Type 0
+abbrev pub Tells : Walked → View → StepResult (Option (List ℕ)) → Type 0
 Tells t v More = Unit {0}
 Tells t v (Done (Some other)) = IsLeastClash v.now t.name other
 Tells t v (Done None) = IsFreeAbove v.now t.name

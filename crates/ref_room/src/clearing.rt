@@ -10,7 +10,7 @@ ghost use Rattle.ref_room.specs.Clearing.{Cleared, Act, Looks, Removes, Needs, W
 
 use crate::name::ref_at;
 use crate::stands::{Stands, look_at};
-use fs_trait::{Fs, FsErr, Turn};
+use fs_trait::{Fs, FsErr, StepResult};
 use ost_types::{FsPath, Names, NoMemory, TryCopy};
 use repo_layout::{RefName, ref_path};
 use std::alloc::Global;
@@ -75,7 +75,7 @@ impl Clearing {
     /// Does the next step: at most one changing call, or two reading calls. It is done with the least clash where refs stand
     /// below the path, or with None when nothing stands at the path. After an error the task is unchanged, so that the step may
     /// be tried again.
-    pub fn step<F: Fs>(&mut self, fs: &mut F) -> Result<Turn<Option<RefName>>, FsErr>
+    pub fn step<F: Fs>(&mut self, fs: &mut F) -> Result<StepResult<Option<RefName>>, FsErr>
         requires { (v : View) → F.view fs.old ≡ Some v → Needs self.old v }
         ensures writes { (v : View) → F.view fs.old ≡ Some v → Told (F.view fs.new) (λ w. Writes (WritesOf self.old v) v w) }
         ensures after { (v : View) → F.view fs.old ≡ Some v → OnOk result (Told (F.view fs.new) (λ w. Needs self.new w)) }
@@ -94,16 +94,16 @@ impl Clearing {
             return self.look(fs);
         }
         if let Some(other) = &self.least {
-            return Ok(Turn::Done(Some(other.copy()?)));
+            return Ok(StepResult::Done(Some(other.copy()?)));
         }
         if self.folders.is_empty() {
-            return Ok(Turn::Done(None));
+            return Ok(StepResult::Done(None));
         }
         self.remove(fs)
     }
 
     // looks at the path that was found last
-    fn look<F: Fs>(&mut self, fs: &mut F) -> Result<Turn<Option<RefName>>, FsErr>
+    fn look<F: Fs>(&mut self, fs: &mut F) -> Result<StepResult<Option<RefName>>, FsErr>
         requires act { act self.old ≡ Looks }
         requires needs { (v : View) → F.view fs.old ≡ Some v → Needs self.old v }
         ensures writes { (v : View) → F.view fs.old ≡ Some v → Told (F.view fs.new) (λ w. Writes (WritesOf self.old v) v w) }
@@ -122,17 +122,17 @@ impl Clearing {
         match look_at(fs, self.top())? {
             Stands::Nothing => {
                 self.pass();
-                Ok(Turn::More)
+                Ok(StepResult::More)
             }
             Stands::Leaf => {
                 let other = ref_at(self.alloc, self.top())?;
                 self.count(other);
-                Ok(Turn::More)
+                Ok(StepResult::More)
             }
             Stands::Folder => {
                 let names = fs.list(self.top())?;
                 self.open(&names)?;
-                Ok(Turn::More)
+                Ok(StepResult::More)
             }
         }
     }
@@ -199,7 +199,7 @@ impl Clearing {
     }
 
     // removes the last folder, which has no other below it
-    fn remove<F: Fs>(&mut self, fs: &mut F) -> Result<Turn<Option<RefName>>, FsErr>
+    fn remove<F: Fs>(&mut self, fs: &mut F) -> Result<StepResult<Option<RefName>>, FsErr>
         requires act { act self.old ≡ Removes }
         requires needs { (v : View) → F.view fs.old ≡ Some v → Needs self.old v }
         ensures writes { (v : View) → F.view fs.old ≡ Some v → Told (F.view fs.new) (λ w. Writes (WritesOf self.old v) v w) }
@@ -216,12 +216,12 @@ impl Clearing {
         ensures unchanged { (v : View) → F.view fs.old ≡ Some v → IsErrOf result err.NoMemory → F.view fs.new ≡ Some v }
     {
         let Some(folder) = self.folders.last() else {
-            return Ok(Turn::Done(None));
+            return Ok(StepResult::Done(None));
         };
         let _names = folder.names();
         fs.rmdir(folder)?;
         self.folders.pop_last();
-        Ok(Turn::More)
+        Ok(StepResult::More)
     }
 }
 

@@ -15,7 +15,7 @@ ghost use Rattle.ref_room.specs.Way.{Walked, Needs, NoClash, WritesOf, IsStepped
 use crate::folder::{HEADS, folder_meta};
 use crate::name::ref_at;
 use crate::stands::{Stands, look_at};
-use fs_trait::{Fs, FsErr, Turn};
+use fs_trait::{Fs, FsErr, StepResult};
 use ost_types::{FsPath, Meta, NoMemory};
 use repo_layout::{Folder, RefName, folder_path, ref_path};
 use std::alloc::Global;
@@ -113,7 +113,7 @@ impl Way {
     /// Does the next step: at most one changing call, and one reading call before it. It is done with the name of a ref that
     /// stands in a folder's place, which is the only one that clashes, or with None when the way is over. After an error the
     /// task is unchanged, so that the step may be tried again.
-    pub fn step<F: Fs>(&mut self, fs: &mut F) -> Result<Turn<Option<RefName>>, FsErr>
+    pub fn step<F: Fs>(&mut self, fs: &mut F) -> Result<StepResult<Option<RefName>>, FsErr>
         requires { (v : View) → F.view fs.old ≡ Some v → Needs self.old v }
         ensures writes { (v : View) → F.view fs.old ≡ Some v → Told (F.view fs.new) (λ w. Writes (WritesOf self.old v) v w) }
         ensures after { (v : View) → F.view fs.old ≡ Some v → OnOk result (Told (F.view fs.new) (λ w. Needs self.new w)) }
@@ -131,11 +131,11 @@ impl Way {
         match self.leg {
             Leg::Make => self.make(fs),
             Leg::Sync => self.sync(fs),
-            Leg::Over => Ok(Turn::Done(None)),
+            Leg::Over => Ok(StepResult::Done(None)),
         }
     }
 
-    fn make<F: Fs>(&mut self, fs: &mut F) -> Result<Turn<Option<RefName>>, FsErr>
+    fn make<F: Fs>(&mut self, fs: &mut F) -> Result<StepResult<Option<RefName>>, FsErr>
         requires leg { self.old.leg ≡ leg.Make }
         requires needs { (v : View) → F.view fs.old ≡ Some v → Needs self.old v }
         ensures writes { (v : View) → F.view fs.old ≡ Some v → Told (F.view fs.new) (λ w. Writes (WritesOf self.old v) v w) }
@@ -155,13 +155,13 @@ impl Way {
             Stands::Nothing => {
                 fs.mkdir(&self.next, &self.meta)?;
                 self.leg = Leg::Sync;
-                Ok(Turn::More)
+                Ok(StepResult::More)
             }
             Stands::Folder => {
                 self.leg = Leg::Sync;
-                Ok(Turn::More)
+                Ok(StepResult::More)
             }
-            Stands::Leaf => Ok(Turn::Done(Some(self.clash()?))),
+            Stands::Leaf => Ok(StepResult::Done(Some(self.clash()?))),
         }
     }
 
@@ -176,7 +176,7 @@ impl Way {
         }
     }
 
-    fn sync<F: Fs>(&mut self, fs: &mut F) -> Result<Turn<Option<RefName>>, FsErr>
+    fn sync<F: Fs>(&mut self, fs: &mut F) -> Result<StepResult<Option<RefName>>, FsErr>
         requires leg { self.old.leg ≡ leg.Sync }
         requires needs { (v : View) → F.view fs.old ≡ Some v → Needs self.old v }
         ensures writes { (v : View) → F.view fs.old ≡ Some v → Told (F.view fs.new) (λ w. Writes (WritesOf self.old v) v w) }
@@ -196,9 +196,9 @@ impl Way {
         fs.sync_dir(&self.folder)?;
         self.arrive(beyond);
         Ok(if self.is_over() {
-            Turn::Done(None)
+            StepResult::Done(None)
         } else {
-            Turn::More
+            StepResult::More
         })
     }
 

@@ -6,8 +6,8 @@ use Rattle.std.proofs.lemmas.List.{length-take}
 use Rattle.ost_types.specs.Path.{Path, is_in, is_below}
 use Rattle.ost_types.proofs.Paths.{under-is_in, under-folder, is_below-self}
 use Rattle.fs_trait.specs.declared.types.FsErr.{FsErr}
-use Rattle.fs_trait.specs.declared.task.Turn.{Turn}
-use Rattle.fs_trait.specs.declared.task.Turn.TheVariants.{More, Done}
+use Rattle.fs_trait.specs.declared.task.StepResult.{StepResult}
+use Rattle.fs_trait.specs.declared.task.StepResult.TheVariants.{More, Done}
 use Rattle.fs_trait.specs.View.{View}
 use Rattle.fs_trait.specs.Seen.{Seen, Vacant, Directory, shows, MayBe, IsDirectory, NotDirectory}
 use Rattle.fs_trait.specs.Effect.{Elapses}
@@ -198,26 +198,26 @@ pub left_small : (w : way.Walked) (name : List ℕ) → w.name ≡ name → way.
 left_small w name e = subst (λ n. way.left w + 9 ≤ left_way n) e (let h = left_bound w.leg w in omega (arith, h))
 
 -- the name stays
-pub way_name : (old : way.Walked) (result : Result (Turn (Option (List ℕ))) FsErr) (new : way.Walked) → way.IsStepped old result new → new.name ≡ old.name
+pub way_name : (old : way.Walked) (result : Result (StepResult (Option (List ℕ))) FsErr) (new : way.Walked) → way.IsStepped old result new → new.name ≡ old.name
 way_name old (Ok More) new s = same_name old new s.0
 way_name old (Ok (Done None)) new s = same_name old new s.0
 way_name old (Ok (Done (Some other))) new s = ap (λ (y : way.Walked). y.name) s.0
 way_name old (Err e) new s = ap (λ (y : way.Walked). y.name) s
 
-pub clear_name : (old : clearing.Cleared) (result : Result (Turn (Option (List ℕ))) FsErr) (new : clearing.Cleared) → clearing.IsStepped old result new → new.name ≡ old.name
+pub clear_name : (old : clearing.Cleared) (result : Result (StepResult (Option (List ℕ))) FsErr) (new : clearing.Cleared) → clearing.IsStepped old result new → new.name ≡ old.name
 clear_name old (Ok More) new s = s.0
 clear_name old (Ok (Done None)) new s = ap (λ (y : clearing.Cleared). y.name) s.0
 clear_name old (Ok (Done (Some other))) new s = ap (λ (y : clearing.Cleared). y.name) s.0
 clear_name old (Err e) new s = ap (λ (y : clearing.Cleared). y.name) s
 
 -- the last step of each part
-pub clear_told : (c : clearing.Cleared) (v : View) (result : Result (Turn (Option (List ℕ))) FsErr) → result ≡ Ok (Done None) → IfOk result (clearing.Tells c v) → shows v.now (ref_path c.name) ≡ Vacant
+pub clear_told : (c : clearing.Cleared) (v : View) (result : Result (StepResult (Option (List ℕ))) FsErr) → result ≡ Ok (Done None) → IfOk result (clearing.Tells c v) → shows v.now (ref_path c.name) ≡ Vacant
 clear_told c v result is tells = subst (λ r. IfOk r (clearing.Tells c v)) is tells
 
-pub clear_ends : (c d : clearing.Cleared) (result : Result (Turn (Option (List ℕ))) FsErr) → result ≡ Ok (Done None) → clearing.IsStepped c result d → clearing.act c ≡ clearing.Ends
+pub clear_ends : (c d : clearing.Cleared) (result : Result (StepResult (Option (List ℕ))) FsErr) → result ≡ Ok (Done None) → clearing.IsStepped c result d → clearing.act c ≡ clearing.Ends
 clear_ends c d result is stepped = (subst (λ r. clearing.IsStepped c r d) is stepped).1
 
-pub way_ends : (w x : way.Walked) (result : Result (Turn (Option (List ℕ))) FsErr) → result ≡ Ok (Done None) → way.IsStepped w result x → x.leg ≡ leg.Over
+pub way_ends : (w x : way.Walked) (result : Result (StepResult (Option (List ℕ))) FsErr) → result ≡ Ok (Done None) → way.IsStepped w result x → x.leg ≡ leg.Over
 way_ends w x result is stepped = is_over x.leg (subst (λ r. way.IsStepped w r x) is stepped).1
 
 -- where no changing call was made, the view stands

@@ -2,7 +2,7 @@
 use Rattle.std.proofs.Common.{◌≡◌, ⊎_elim, ℕ, true, false, refl, sym, ◌∙◌, ap, subst, List, [], append-nil, Option, Some, None, Ok}
 use Rattle.fs_trait.specs.declared.types.FsErr.{FsErr}
 use Rattle.fs_trait.specs.declared.types.FsErr.TheVariants.{Failed, NoMemory, Exists, Missing, NotFolder, NotEmpty}
-use Rattle.fs_trait.specs.declared.task.Turn.TheVariants.{More}
+use Rattle.fs_trait.specs.declared.task.StepResult.TheVariants.{More}
 use Rattle.ost_types.specs.Path.{Path}
 use Rattle.fs_trait.specs.View.{Disk, View}
 use Rattle.fs_trait.specs.Seen.{Seen, shows}

@@ -4,8 +4,8 @@ use Rattle.ost_types.specs.declared.meta.Meta.{Meta}
 use Rattle.ost_types.specs.Path.{Path}
 use Rattle.fs_trait.specs.declared.types.FsErr.{FsErr}
 use Rattle.fs_trait.specs.declared.types.FsErr.TheVariants as fs
-use Rattle.fs_trait.specs.declared.task.Turn.{Turn}
-use Rattle.fs_trait.specs.declared.task.Turn.TheVariants.{More, Done}
+use Rattle.fs_trait.specs.declared.task.StepResult.{StepResult}
+use Rattle.fs_trait.specs.declared.task.StepResult.TheVariants.{More, Done}
 use Rattle.fs_trait.specs.declared.task.Need.{Need}
 use Rattle.fs_trait.specs.declared.task.Need.TheVariants as need
 use Rattle.fs_trait.specs.Effect.{Next}
@@ -104,7 +104,7 @@ IsLast Ended = Unit {0}
 IsLast ph = ⊥
 
 -- Which step it was, and what changed in the task. A refused one and one that wasn't done leave the task as it was.
-abbrev pub IsStepped : Change → Result (Turn (Result (Unit {0}) RefRefusal)) FsErr → Change → Type 0
+abbrev pub IsStepped : Change → Result (StepResult (Result (Unit {0}) RefRefusal)) FsErr → Change → Type 0
 IsStepped old (Ok More) new = (new ≡ record old { phase = new.phase }) × Follows old.phase new.phase old
 IsStepped old (Ok (Done (Ok x))) new = (new ≡ record old { phase = Ended }) × IsLast old.phase
 IsStepped old (Ok (Done (Err refusal))) new = new ≡ old
@@ -117,11 +117,11 @@ IsRefusing (Clear c) = Unit {0}
 IsRefusing (Walk w) = Unit {0}
 IsRefusing ph = ⊥
 
-abbrev pub MayCome : Phase → Turn (Result (Unit {0}) RefRefusal) → Type 0
+abbrev pub MayCome : Phase → StepResult (Result (Unit {0}) RefRefusal) → Type 0
 MayCome ph (Done (Err refusal)) = IsRefusing ph
 MayCome ph turn = Unit {0}
 
-abbrev pub IsAccepted : Turn (Result (Unit {0}) RefRefusal) → Type 0
+abbrev pub IsAccepted : StepResult (Result (Unit {0}) RefRefusal) → Type 0
 IsAccepted (Done (Err refusal)) = ⊥
 IsAccepted turn = Unit {0}
 
@@ -177,7 +177,7 @@ left t = left_in t.phase t
 -- the lock under which a step stands: that of the one that shows a change, until the task has ended
 abbrev pub need_in : Phase → Need
 need_in Ended = need.Nothing
-need_in ph = need.Turn
+need_in ph = need.RefLock
 
 -- how a step moves the clock
 abbrev pub Takes : Phase → ℕ → ℕ → Type 0

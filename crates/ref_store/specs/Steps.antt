@@ -3,8 +3,8 @@ use Rattle.std.specs.Prelude.{◌≡◌, ◌≢◌, ◌<◌, ℕ, Bool, true, fa
 use Rattle.ost_types.specs.Path.{Path, is_in}
 use Rattle.fs_trait.specs.declared.types.FsErr.{FsErr}
 use Rattle.fs_trait.specs.declared.types.FsErr.TheVariants.{Failed, NoMemory, Exists}
-use Rattle.fs_trait.specs.declared.task.Turn.{Turn}
-use Rattle.fs_trait.specs.declared.task.Turn.TheVariants.{More, Done}
+use Rattle.fs_trait.specs.declared.task.StepResult.{StepResult}
+use Rattle.fs_trait.specs.declared.task.StepResult.TheVariants.{More, Done}
 use Rattle.fs_trait.specs.View.{Disk, View}
 use Rattle.fs_trait.specs.Seen.{Seen, Vacant, shows, MayBe, IsDirectory, NotDirectory, bytes_in}
 use Rattle.fs_trait.specs.Effect.{OfPlacing, OfEmptying, OfFinding}
@@ -120,7 +120,7 @@ MakesRoom (Clear c) = Unit {0}
 MakesRoom (Walk w) = Unit {0}
 MakesRoom ph = ⊥
 
-abbrev pub Tells : Change → Change → View → Turn (Result (Unit {0}) RefRefusal) → Type 0
+abbrev pub Tells : Change → Change → View → StepResult (Result (Unit {0}) RefRefusal) → Type 0
 Tells old new v More = goes_on old.phase new.phase old v
 Tells old new v (Done (Ok x)) = Unit {0}
 Tells old new v (Done (Err (RefMoved seen now))) = (old.phase ≡ Look) × (seen ≡ old.seen) × HasValue v.now old.name now × (now ≢ seen)

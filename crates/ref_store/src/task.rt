@@ -15,7 +15,7 @@ mod tells;
 
 use crate::RefRefusal;
 use crate::phase::Phase;
-use fs_trait::{Fs, FsErr, Need, Turn};
+use fs_trait::{Fs, FsErr, Need, StepResult};
 use ost_types::{Csum, FsPath};
 use repo_layout::RefName;
 use staged_file::Phase as FilePhase;
@@ -91,7 +91,7 @@ impl RefTask {
     {
         match self.phase {
             Phase::Ended => Need::Nothing,
-            _ => Need::Turn,
+            _ => Need::RefLock,
         }
     }
 
@@ -162,8 +162,8 @@ pub fn change_ref<F: Fs>(fs: &mut F, task: RefTask) -> Result<Result<(), RefRefu
     let mut task = task;
     'steps: loop {
         match task.step(fs)? {
-            Turn::More => {}
-            Turn::Done(answer) => return Ok(answer),
+            StepResult::More => {}
+            StepResult::Done(answer) => return Ok(answer),
         }
     }
 }

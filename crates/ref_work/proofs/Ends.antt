@@ -1,6 +1,6 @@
 -- What the last step's answer says, and that each other step leaves fewer.
 use Rattle.std.proofs.Common.{◌≡◌, ◌<◌, ◌≤◌, ◌^◌, ℕ, true, false, refl, sym, ◌∙◌, ap, subst, arith, List, length, Option, Some, None, Ok, Err}
-use Rattle.fs_trait.specs.declared.task.Turn.TheVariants as turn
+use Rattle.fs_trait.specs.declared.task.StepResult.TheVariants as turn
 use Rattle.fs_trait.specs.View.{View}
 use Rattle.fs_trait.specs.Seen.{shows}
 use Rattle.fs_trait.proofs.Effects.{may_now}

@@ -1,6 +1,6 @@
 -- The laws of the commands as tasks.
 use Rattle.std.proofs.Common.{◌≡◌, ℕ, true, false, sym, ap, subst, List, Option, Some, None}
-use Rattle.fs_trait.specs.declared.task.Turn.TheVariants as turn
+use Rattle.fs_trait.specs.declared.task.StepResult.TheVariants as turn
 use Rattle.fs_trait.specs.Image.{IsTree}
 use Rattle.fs_trait.specs.View.{View, all_synced}
 use Rattle.fs_trait.specs.Change.{LeadsTo, Nothing}

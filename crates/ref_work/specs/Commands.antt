@@ -1,8 +1,8 @@
 -- The commands that look a commit up or change a ref, as tasks, and what they answer.
 use Rattle.std.specs.Prelude.{◌≡◌, ℕ, false, List, Option, Some, None, Ok, Err}
 use Rattle.ost_types.specs.Path.{Path}
-use Rattle.fs_trait.specs.declared.task.Turn.{Turn}
-use Rattle.fs_trait.specs.declared.task.Turn.TheVariants as turn
+use Rattle.fs_trait.specs.declared.task.StepResult.{StepResult}
+use Rattle.fs_trait.specs.declared.task.StepResult.TheVariants as turn
 use Rattle.fs_trait.specs.declared.types.FsErr.{FsErr}
 use Rattle.fs_trait.specs.Effect.{OfNone}
 use Rattle.fs_trait.specs.Image.{IsTree}
@@ -61,13 +61,13 @@ abbrev pub IsStop : Found → Type 0
 IsStop Whole = ⊥
 IsStop found = Unit {0}
 
-abbrev pub reset_stepped : Option Found → LookUp → Plan → Turn (Unit {0}) → RefCommand → Type 0
+abbrev pub reset_stepped : Option Found → LookUp → Plan → StepResult (Unit {0}) → RefCommand → Type 0
 reset_stepped None look plan turn.More (Reset new next) = (new ≡ record look { found = Some Whole }) × (next ≡ plan)
 reset_stepped None look plan (turn.Done x) (Reset new next) = (found : Found) × IsStop found × (new ≡ record look { found = Some found }) × (next ≡ plan)
 reset_stepped (Some found) look plan turn.More (Change work) = work ≡ planned plan
 reset_stepped found look plan u new = ⊥
 
-abbrev pub command_stepped : RefCommand → Turn (Unit {0}) → RefCommand → Type 0
+abbrev pub command_stepped : RefCommand → StepResult (Unit {0}) → RefCommand → Type 0
 command_stepped (Parse look) (turn.Done x) (Parse new) = (found : Found) × (new ≡ record look { found = Some found })
 command_stepped (Reset look plan) u new = reset_stepped look.found look plan u new
 command_stepped (Change work) u (Change new) = ref_stepped work u new
@@ -77,13 +77,13 @@ command_stepped old u new = ⊥
 abbrev pub Finds : LookUp → LookUp → Found → View → View → Type 0
 Finds look new found v w = (w ≡ v) × (new ≡ record look { found = Some found }) × IsFound v.now look.commit found × IsTree v.now
 
-abbrev pub reset_leaves : Option Found → LookUp → Plan → Turn (Unit {0}) → RefCommand → View → View → Type 0
+abbrev pub reset_leaves : Option Found → LookUp → Plan → StepResult (Unit {0}) → RefCommand → View → View → Type 0
 reset_leaves None look plan turn.More (Reset new next) v w = Finds look new Whole v w × (next ≡ plan)
 reset_leaves None look plan (turn.Done x) (Reset new next) v w = (found : Found) × IsStop found × Finds look new found v w × (next ≡ plan)
 reset_leaves (Some found) look plan turn.More (Change work) v w = (work ≡ planned plan) × (w ≡ all_synced v)
 reset_leaves found look plan u new v w = ⊥
 
-abbrev pub command_leaves : RefCommand → Turn (Unit {0}) → RefCommand → View → View → Type 0
+abbrev pub command_leaves : RefCommand → StepResult (Unit {0}) → RefCommand → View → View → Type 0
 command_leaves (Parse look) (turn.Done x) (Parse new) v w = (found : Found) × Finds look new found v w
 command_leaves (Reset look plan) u new v w = reset_leaves look.found look plan u new v w
 command_leaves (Change work) u (Change new) v w = ref_leaves work u new v w

@@ -64,7 +64,7 @@ pub says_had : (name : List ℕ) (o : Option (List ℕ)) (s : Seen) → ShowsHad
 says_had name None s had = λ leaf. had (is_leaf s leaf)
 says_had name (Some commit) s had = had
 
--- what may be written under the Turn
+-- what may be written under the ref lock
 module _ (b : Books) (v : View) (lane : ℕ) (t : Change) (needs : Needs t v) (mine : t.actor ≡ lane) where
   stage : place (stage_path t.actor) ≡ Stage lane
   stage = stage_is t lane needs.actor mine

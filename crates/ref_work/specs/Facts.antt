@@ -12,7 +12,7 @@ use Rattle.rely.specs.Laws.{Kind, Quiet, Store, Take, Claim, Show, Shown, Settle
 use Rattle.ref_work.specs.declared.work.RefWork.{RefWork}
 use Rattle.ref_work.specs.Kinds.{event, kind_in}
 
--- the lane holds the Turn, once it has looked
+-- the lane holds the ref lock, once it has looked
 abbrev pub turn_in : Kind → ℕ → Books → Type 0
 turn_in (Take wants) lane b = Unit {0}
 turn_in Quiet lane b = b.turn ≡ Some lane

@@ -71,7 +71,7 @@ module _ (b : Books) (v : View) (actor lane mine : ℕ) (not : mine ≢ actor) (
   abbrev W : Path → Seen → Type 0
   W = May b v actor lane
 
-  -- nobody else writes below the folder of refs while the lane has the Turn
+  -- nobody else writes below the folder of refs while the lane has the ref lock
   heads_apart : b.turn ≡ Some mine → (rest : Path) (s : Seen) → W (heads ++ rest) s → ⊥
   heads_apart turn rest s wrote = ⊎_elim
       (λ is. not_other b v actor lane (heads ++ rest) s is wrote)
@@ -105,7 +105,7 @@ module _ (b : Books) (v : View) (actor lane mine : ℕ) (not : mine ≢ actor) (
       folders = λ k s less wrote. absurd (way_apart turn t.name k s wrote);
     }
 
-    -- before the look the Turn isn't needed
+    -- before the look the ref lock isn't needed
     begins_kept : (o : Option (List ℕ)) (w : View) → Writes W v w → begins o t.actor v → begins o t.actor w
     begins_kept None w writes was = tt
     begins_kept (Some commit) w writes was = meets_kept W (LeadsTo heads) (HereOfStage t.actor) v w writes

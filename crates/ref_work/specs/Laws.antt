@@ -1,7 +1,7 @@
 -- The laws of a change of a ref as a task.
 use Rattle.std.proofs.Common.{◌≡◌, ⊎_elim, ℕ, Bool, true, false, refl, sym, ◌∙◌, ap, subst, arith, length, Some, None, Ok, Err, if◌then◌else◌}
 use Rattle.std.specs.Prelude.{nat_lt}
-use Rattle.fs_trait.specs.declared.task.Turn.TheVariants as turn
+use Rattle.fs_trait.specs.declared.task.StepResult.TheVariants as turn
 use Rattle.fs_trait.specs.View.{View}
 use Rattle.staged_file.specs.declared.phase.Phase as staged
 use Rattle.staged_file.specs.declared.phase.Phase.TheVariants as file
@@ -203,7 +203,7 @@ any_turn (rely.Show e) lane b turn = turn
 any_turn (rely.Shown e owed) lane b turn = turn
 any_turn (rely.Settle e) lane b turn = turn
 
--- the lane has the Turn in each step
+-- the lane has the ref lock in each step
 turn_now : (ph : Phase) (e : Event) (actor lane : ℕ) (b : Books) → Stood (kind_in ph e) actor lane b → turn_in (kind_in ph e) lane b → b.turn ≡ Some lane
 turn_now phase.Look e actor lane b stood turn = stood.turn refl
 turn_now (phase.Clear c) e actor lane b stood turn = turn

@@ -13,7 +13,7 @@ ghost use Rattle.rely.specs.Laws.{step_of};
 use crate::RefWork;
 use crate::look_up::{Found, LookUp, commit_name};
 use crate::plan::Plan;
-use fs_trait::{Fs, FsErr, Turn};
+use fs_trait::{Fs, FsErr, StepResult};
 use ost_types::{Csum, Name, NoMemory};
 use ref_store::RefRefusal;
 use rely::{Event, Step, Wants, Work};
@@ -196,25 +196,25 @@ impl Work for RefCommand {
         }
     }
 
-    fn advance<F: Fs>(&mut self, actor: u8, fs: &mut F) -> Result<Turn<()>, FsErr> {
+    fn advance<F: Fs>(&mut self, actor: u8, fs: &mut F) -> Result<StepResult<()>, FsErr> {
         match self {
             RefCommand::Parse(look) => {
                 let _found = look.look(fs)?;
-                Ok(Turn::Done(()))
+                Ok(StepResult::Done(()))
             }
             RefCommand::Reset(look, plan) => {
                 if look.found().is_none() {
                     let found = look.look(fs)?;
                     return Ok(if found == Found::Whole {
-                        Turn::More
+                        StepResult::More
                     } else {
-                        Turn::Done(())
+                        StepResult::Done(())
                     });
                 }
                 let work = plan.work()?;
                 sync(fs)?;
                 *self = RefCommand::Change(work);
-                Ok(Turn::More)
+                Ok(StepResult::More)
             }
             RefCommand::Change(work) => work.advance(actor, fs),
         }

@@ -7,7 +7,7 @@ ghost use Rattle.ost_types.specs.Path.{Path};
 ghost use Rattle.fs_trait.specs.View.{View};
 ghost use Rattle.fs_trait.specs.Seen.{Seen};
 ghost use Rattle.fs_trait.specs.Change.{Writes};
-ghost use Rattle.fs_trait.specs.declared.task.Turn.TheVariants as turn;
+ghost use Rattle.fs_trait.specs.declared.task.StepResult.TheVariants as turn;
 ghost use Rattle.repo_layout.specs.Place.{Ref, Stage, place};
 ghost use Rattle.script.specs.declared.answer.Answer.{Answer};
 ghost use Rattle.rely.specs.declared.books.Entry.{Entry};

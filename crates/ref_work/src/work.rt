@@ -7,14 +7,14 @@ ghost use Rattle.ref_work.specs.Kinds.{kind_at, ref_kind, ref_needs, ref_writes,
 ghost use Rattle.ref_work.specs.Facts.{ref_facts};
 ghost use Rattle.ref_work.specs.Laws.{ref_laws};
 
-use fs_trait::{Fs, FsErr, Turn};
+use fs_trait::{Fs, FsErr, StepResult};
 use ost_types::{Csum, Name, NoMemory, TryCopy};
 use ref_store::{Progress, RefRefusal, RefTask};
 use rely::{Event, Step, Wants, Work};
 use repo_layout::RefName;
 use std::alloc::Global;
 
-/// The change of a ref, as a task of the system. It takes the Turn to look at the ref's value, and holds it until the change
+/// The change of a ref, as a task of the system. It takes the ref lock to look at the ref's value, and holds it until the change
 /// lasts.
 #[derive(Drop, Debug)]
 pub struct RefWork {
@@ -134,12 +134,12 @@ impl Work for RefWork {
         owed_at(self.task.progress())
     }
 
-    fn advance<F: Fs>(&mut self, _actor: u8, fs: &mut F) -> Result<Turn<()>, FsErr> {
+    fn advance<F: Fs>(&mut self, _actor: u8, fs: &mut F) -> Result<StepResult<()>, FsErr> {
         match self.task.step(fs) {
-            Ok(Turn::More) => Ok(Turn::More),
-            Ok(Turn::Done(answer)) => {
+            Ok(StepResult::More) => Ok(StepResult::More),
+            Ok(StepResult::Done(answer)) => {
                 self.answer = Some(answer);
-                Ok(Turn::Done(()))
+                Ok(StepResult::Done(()))
             }
             Err(e) => Err(e),
         }

@@ -1,8 +1,8 @@
 -- The one act of all tasks, from their laws.
 use Rattle.std.proofs.Common.{◌≡◌, ◌≢◌, ◌⊎◌, inl, ⊎_elim, arith, ◌<◌, ◌≤◌, ℕ, refl, sym, ◌∙◌, ap, subst, [], append-nil, Contains, Option, Some}
 use Rattle.ost_types.specs.Path.{Path}
-use Rattle.fs_trait.specs.declared.task.Turn.{Turn}
-use Rattle.fs_trait.specs.declared.task.Turn.TheVariants as turn
+use Rattle.fs_trait.specs.declared.task.StepResult.{StepResult}
+use Rattle.fs_trait.specs.declared.task.StepResult.TheVariants as turn
 use Rattle.fs_trait.specs.View.{View}
 use Rattle.fs_trait.specs.Image.{Told}
 use Rattle.fs_trait.specs.Seen.{Seen}
@@ -97,7 +97,7 @@ quiet_duty (Shown e owed) actor lane v b W Done is by d = absurd is
 quiet_duty (Settle e) actor lane v b W Done is by d = absurd is
 
 module _ {F : Type 0} (view : F → Option View) (clock spare : F → ℕ) (was : F → ℕ → View → Type 0) (fslaws : IsFs view clock was)
-    {T : Type 0} {kind : T → Kind} {needs : ℕ → T → View → Type 0} {writes : ℕ → T → View → Path → Seen → Type 0} {stepped : T → Turn (Unit {0}) → T → Type 0} {leaves : T → Turn (Unit {0}) → T → View → View → Type 0} {facts : ℕ → T → View → Books → Type 0}
+    {T : Type 0} {kind : T → Kind} {needs : ℕ → T → View → Type 0} {writes : ℕ → T → View → Path → Seen → Type 0} {stepped : T → StepResult (Unit {0}) → T → Type 0} {leaves : T → StepResult (Unit {0}) → T → View → View → Type 0} {facts : ℕ → T → View → Books → Type 0}
     (laws : Laws kind needs writes stepped leaves facts) where
   abbrev Calls : F → F → Type 0
   Calls old new = Elapses (clock old) (clock new) (was old) (was new) (view new)
@@ -182,7 +182,7 @@ module _ {F : Type 0} (view : F → Option View) (clock spare : F → ℕ) (was 
         tells = tells;
       }
 
-  pub quiet_tells : (old mid : Base F) (actor lane : ℕ) (t next : T) (u : Turn (Unit {0})) → mid ≡ record old { fs = mid.fs } → IsPlain (kind t) → Stood (kind t) actor lane (books_of old.books) → Ready view clock spare was (Runs kind facts lane t) old
+  pub quiet_tells : (old mid : Base F) (actor lane : ℕ) (t next : T) (u : StepResult (Unit {0})) → mid ≡ record old { fs = mid.fs } → IsPlain (kind t) → Stood (kind t) actor lane (books_of old.books) → Ready view clock spare was (Runs kind facts lane t) old
       → u ≡ turn.More → stepped t u next → ((v : View) → view old.fs ≡ Some v → Told (view mid.fs) (λ w. leaves t u next v w))
       → Runs kind facts lane next (view mid.fs) (books_of mid.books)
   quiet_tells old mid actor lane t next u only is stood ready more step after =
@@ -190,7 +190,7 @@ module _ {F : Type 0} (view : F → Option View) (clock spare : F → ℕ) (was 
       (quiet_runs old mid.fs actor lane t next is stood ready (subst (λ x. stepped t x next) more step) (λ v told. subst (λ x. Told (view mid.fs) (λ w. leaves t x next v w)) more (after v told)))
 
 -- What a lane's task needs survives what others do.
-module _ {T : Type 0} {kind : T → Kind} {needs : ℕ → T → View → Type 0} {writes : ℕ → T → View → Path → Seen → Type 0} {stepped : T → Turn (Unit {0}) → T → Type 0} {leaves : T → Turn (Unit {0}) → T → View → View → Type 0} {facts : ℕ → T → View → Books → Type 0}
+module _ {T : Type 0} {kind : T → Kind} {needs : ℕ → T → View → Type 0} {writes : ℕ → T → View → Path → Seen → Type 0} {stepped : T → StepResult (Unit {0}) → T → Type 0} {leaves : T → StepResult (Unit {0}) → T → View → View → Type 0} {facts : ℕ → T → View → Books → Type 0}
     (laws : Laws kind needs writes stepped leaves facts) where
   others_hold : (k : Kind) (actor lane mine : ℕ) (b b' : Books) → mine ≢ lane → Spared actor lane b b' → Holds k mine b → Holds k mine b'
   others_hold k actor lane mine b b' other spared holds = by k holds
@@ -252,7 +252,7 @@ none_stays view clock was only_now counts_now old new time err.NotFolder still u
 none_stays view clock was only_now counts_now old new time err.NotEmpty still unchanged named v told = absurd named
 
 -- what the views say of a step that was refused
-pub refused_tells : {T : Type 0} (leaves : T → Turn (Unit {0}) → T → View → View → Type 0) (refuses : T → View → FsErr → Type 0) (t new : T) (outcome : Outcome) (e : FsErr) (before now : Option View)
+pub refused_tells : {T : Type 0} (leaves : T → StepResult (Unit {0}) → T → View → View → Type 0) (refuses : T → View → FsErr → Type 0) (t new : T) (outcome : Outcome) (e : FsErr) (before now : Option View)
     → ((outcome ≡ came.Halted) × (e ≡ err.Failed)) ⊎ (outcome ≡ came.Refused e) → ((v : View) → before ≡ Some v → (e ≡ err.NoMemory) ⊎ refuses t v e) → (outcome ≡ came.Refused e → OfNone e → (v : View) → before ≡ Some v → now ≡ Some v)
     → exact.Tells leaves refuses t outcome new before now
 refused_tells leaves refuses t new outcome e before now answer why still = ⊎_elim

@@ -60,7 +60,7 @@ own_file v actor q n at is = (q, inl (sym is), λ a e. let k : Stage actor ≡ S
 pub stage_still : (W : Path → Seen → Type 0) (v : View) (actor : ℕ) → ((p : Path) (s : Seen) → W p s → place p ≡ Stage actor) → Still W v
 stage_still W v actor at t s wrote = absurd (stage_no_ref t (path_of t) actor (at (path_of t) s wrote) refl)
 
--- A write at a ref's path, or at a folder above refs, under the Turn.
+-- A write at a ref's path, or at a folder above refs, under the ref lock.
 pub ref_within : (b : Books) (v : View) (actor lane : ℕ) (name : List ℕ) (p : Path) (s : Seen) → p ≡ ref_path name → Free b.turn lane → Free b.exclusive lane → (s ≢ Vacant → IsPath (ref_path name))
     → ((n : ℕ) (m : Meta) (bytes : List ℕ) → s ≡ Leaf n m bytes → IsFresh n v ⊎ ((q : Path) × Holds v q (File n) × NotOthers actor (place q)))
     → IsDirectory s ⊎ NotDirectory (shows v.now p) ⊎ HasNoRefs v p → May b v actor lane p s

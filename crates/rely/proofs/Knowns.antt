@@ -68,7 +68,7 @@ module _ (W : Path → Seen → Type 0) (v w : View) (writes : Writes W v w) whe
     leads = leads_within b actor lane value within known;
   }
 
-  -- who writes a path of the state holds the Turn, so another's change isn't pending
+  -- who writes a path of the state holds the ref lock, so another's change isn't pending
   still_away : (b : Books) (actor lane : ℕ) (p : Pending) → b.pending ≡ Some p → b.turn ≡ Some p.lane → NotPending lane b → Within W (May b v actor lane) → Away W
   still_away b actor lane p is turn not within (RefOf name) s wrote = not p is (ref_turn b v actor lane name s (within (ref_path name) s wrote) p.lane turn)
 

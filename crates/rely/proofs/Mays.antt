@@ -90,7 +90,7 @@ module _ (b : Books) (v : View) (actor lane : ℕ) where
   pub not_other : (p : Path) (s : Seen) → place p ≡ Other p → M p s → ⊥
   not_other p s e m = at_place p s (Other p) e m
 
-  -- a ref is written under the Turn
+  -- a ref is written under the ref lock
   pub ref_turn : (name : List ℕ) (s : Seen) → M (ref_path name) s → Free b.turn lane
   ref_turn name s m = (at_place (ref_path name) s (Ref name) (place-ref name) m).0
 
@@ -109,7 +109,7 @@ module _ (b : Books) (v : View) (actor lane : ℕ) where
   reached_harmless p s m searched there = m.fits.bounds there
 
   -- Claims of a lane or an actor that isn't the one that writes.
-  -- folders to a ref, under the Turn
+  -- folders to a ref, under the ref lock
   pub ref_leads_harmless : (mine : ℕ) (name : List ℕ) (f : Path) → b.turn ≡ Some mine → mine ≢ lane → is_below f (ref_path name) ≡ true → Harmless M (LeadsTo f)
   ref_leads_harmless mine name f turn other above p s m below =
       let front = below_split p f below in
@@ -123,7 +123,7 @@ module _ (b : Books) (v : View) (actor lane : ℕ) where
       below_through : (p f rest : Path) → is_below p f ≡ true → is_below p (f ++ rest) ≡ true
       below_through p f rest below = let s = below_split p f below in subst (λ q. is_below p (q ++ rest) ≡ true) (sym s.1) (subst (λ q. is_below p q ≡ true) (sym (append_assoc p s.0 rest)) (split_below p (s.0 ++ rest)))
 
-  -- a ref and all that leads to it isn't written while another has the Turn
+  -- a ref and all that leads to it isn't written while another has the ref lock
   pub ref_apart : (mine : ℕ) (name : List ℕ) (p : Path) (s : Seen) → b.turn ≡ Some mine → mine ≢ lane → M p s → p ≡ ref_path name → ⊥
   ref_apart mine name p s turn other m e = other ((at_place p s (Ref name) (ap place e ∙ place-ref name) m).0 mine turn)
 

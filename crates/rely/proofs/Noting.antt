@@ -1,8 +1,8 @@
 -- The step that makes the folder of a checkout.
 use Rattle.std.proofs.Common.{◌≡◌, ◌≢◌, ◌⊎◌, ⊎_elim, inl, inr, ◌<◌, ◌≤◌, ℕ, refl, sym, ◌∙◌, ap, subst, List, [], ◌∷◌, ◌++◌, Contains, Option, Some}
 use Rattle.ost_types.specs.Path.{Name, Path}
-use Rattle.fs_trait.specs.declared.task.Turn.{Turn}
-use Rattle.fs_trait.specs.declared.task.Turn.TheVariants as turn
+use Rattle.fs_trait.specs.declared.task.StepResult.{StepResult}
+use Rattle.fs_trait.specs.declared.task.StepResult.TheVariants as turn
 use Rattle.fs_trait.specs.View.{View}
 use Rattle.fs_trait.specs.Image.{Told}
 use Rattle.fs_trait.specs.Seen.{Seen, Vacant, shows}
@@ -42,7 +42,7 @@ claim_quiet (Shown e owed) is = absurd is
 claim_quiet (Settle e) is = absurd is
 
 module _ {F : Type 0} (view : F → Option View) (clock spare : F → ℕ) (was : F → ℕ → View → Type 0) (fslaws : IsFs view clock was)
-    {T : Type 0} {kind : T → Kind} {needs : ℕ → T → View → Type 0} {writes : ℕ → T → View → Path → Seen → Type 0} {stepped : T → Turn (Unit {0}) → T → Type 0} {leaves : T → Turn (Unit {0}) → T → View → View → Type 0} {facts : ℕ → T → View → Books → Type 0}
+    {T : Type 0} {kind : T → Kind} {needs : ℕ → T → View → Type 0} {writes : ℕ → T → View → Path → Seen → Type 0} {stepped : T → StepResult (Unit {0}) → T → Type 0} {leaves : T → StepResult (Unit {0}) → T → View → View → Type 0} {facts : ℕ → T → View → Books → Type 0}
     (laws : Laws kind needs writes stepped leaves facts) where
   abbrev Calls : F → F → Type 0
   Calls old new = Elapses (clock old) (clock new) (was old) (was new) (view new)
@@ -164,7 +164,7 @@ module _ {F : Type 0} (view : F → Option View) (clock spare : F → ℕ) (was 
     }
 
   -- It goes on, and the claim is noted.
-  pub claim_acts : (old mid : Base F) (noted : rust.Books) (lane : ℕ) (t next : T) (u : Turn (Unit {0})) (name : Name) → mid ≡ record old { fs = mid.fs } → kind t ≡ Claim name
+  pub claim_acts : (old mid : Base F) (noted : rust.Books) (lane : ℕ) (t next : T) (u : StepResult (Unit {0})) (name : Name) → mid ≡ record old { fs = mid.fs } → kind t ≡ Claim name
       → noted ≡ record mid.books { claims = noted.claims } → noted.claims.items ≡ mid.books.claims.items ++ record { lane = lane; name = name } ∷ []
       → Ready view clock spare was (Runs kind facts lane t) old → Wrote old.fs mid.fs lane t → Calls old.fs mid.fs → old.books.owed ≤ spare mid.fs
       → u ≡ turn.More → stepped t u next → ((v : View) → view old.fs ≡ Some v → Told (view mid.fs) (λ w. leaves t u next v w))

@@ -2,8 +2,8 @@
 use Rattle.std.proofs.Common.{◌≡◌, inl, inr, ◌+◌, ◌-◌, ◌<◌, ◌≤◌, ℕ, refl, sym, ◌∙◌, ap, subst, arith, List, [], ◌∷◌, ◌++◌, append-nil, Bool, Contains, Option, Some, None}
 use Rattle.std.specs.Vec.{vec_len, vec_capacity}
 use Rattle.ost_types.specs.Path.{Path}
-use Rattle.fs_trait.specs.declared.task.Turn.{Turn}
-use Rattle.fs_trait.specs.declared.task.Turn.TheVariants as turn
+use Rattle.fs_trait.specs.declared.task.StepResult.{StepResult}
+use Rattle.fs_trait.specs.declared.task.StepResult.TheVariants as turn
 use Rattle.fs_trait.specs.declared.types.FsErr.{FsErr}
 use Rattle.fs_trait.specs.View.{View}
 use Rattle.fs_trait.specs.Image.{Told}
@@ -83,7 +83,7 @@ settle_is (Shown e owed) is = absurd is
 settle_is (Settle e) is = (e, refl)
 
 module _ {F : Type 0} (view : F → Option View) (clock spare : F → ℕ) (was : F → ℕ → View → Type 0) (fslaws : IsFs view clock was)
-    {T : Type 0} {kind : T → Kind} {needs : ℕ → T → View → Type 0} {writes : ℕ → T → View → Path → Seen → Type 0} {stepped : T → Turn (Unit {0}) → T → Type 0} {leaves : T → Turn (Unit {0}) → T → View → View → Type 0} {facts : ℕ → T → View → Books → Type 0}
+    {T : Type 0} {kind : T → Kind} {needs : ℕ → T → View → Type 0} {writes : ℕ → T → View → Path → Seen → Type 0} {stepped : T → StepResult (Unit {0}) → T → Type 0} {leaves : T → StepResult (Unit {0}) → T → View → View → Type 0} {facts : ℕ → T → View → Books → Type 0}
     (laws : Laws kind needs writes stepped leaves facts) where
   abbrev Calls : F → F → Type 0
   Calls old new = Elapses (clock old) (clock new) (was old) (was new) (view new)
@@ -132,12 +132,12 @@ module _ {F : Type 0} (view : F → Option View) (clock spare : F → ℕ) (was 
         tells = tt;
       }
 
-  more_of : (t next : T) (u : Turn (Unit {0})) → (IsLastly (kind t) → ⊥) → stepped t u next → u ≡ turn.More
+  more_of : (t next : T) (u : StepResult (Unit {0})) → (IsLastly (kind t) → ⊥) → stepped t u next → u ≡ turn.More
   more_of t next turn.More not step = refl
   more_of t next (turn.Done x) not step = absurd (not (laws.last t next step))
 
   -- what the views say of it
-  pub more_tells : (t next : T) (u : Turn (Unit {0})) → (IsLastly (kind t) → ⊥) → stepped t u next → (v : View) (now : Option View) → Told now (λ w. leaves t u next v w) → Told now (λ w. leaves t turn.More next v w)
+  pub more_tells : (t next : T) (u : StepResult (Unit {0})) → (IsLastly (kind t) → ⊥) → stepped t u next → (v : View) (now : Option View) → Told now (λ w. leaves t u next v w) → Told now (λ w. leaves t turn.More next v w)
   more_tells t next u not step v now told = subst (λ x. Told now (λ w. leaves t x next v w)) (more_of t next u not step) told
 
   -- the books while the change is shown
@@ -215,7 +215,7 @@ module _ {F : Type 0} (view : F → Option View) (clock spare : F → ℕ) (was 
         tells = tells;
       }
 
-  pub show_runs : (old : Base F) (fs : F) (lane command : ℕ) (t next : T) (u : Turn (Unit {0})) (e : Event) → kind t ≡ Show e → Free old.books.turn lane → Free old.books.exclusive lane → Ready view clock spare was (Runs kind facts lane t) old
+  pub show_runs : (old : Base F) (fs : F) (lane command : ℕ) (t next : T) (u : StepResult (Unit {0})) (e : Event) → kind t ≡ Show e → Free old.books.turn lane → Free old.books.exclusive lane → Ready view clock spare was (Runs kind facts lane t) old
       → stepped t u next → ((v : View) → view old.fs ≡ Some v → Told (view fs) (λ w. leaves t u next v w))
       → Runs kind facts lane next (view fs) (books_of (pending_books old.books lane command e (owed_by (kind next)) old.books.halted))
   show_runs old fs lane command t next u e is turn_free free ready step after =
@@ -302,7 +302,7 @@ module _ {F : Type 0} (view : F → Option View) (clock spare : F → ℕ) (was 
   pub shown_pending : (old : Base F) (lane : ℕ) (t : T) (e : Event) (n : ℕ) → kind t ≡ Shown e n → Ready view clock spare was (Runs kind facts lane t) old → IsPending e n lane (books_of old.books)
   shown_pending old lane t e n is ready = let h : IsPending e n lane (books_of old.books) × (0 < n) = subst (λ (k : Kind). Holds k lane (books_of old.books)) is ready.task.holds in h.0
 
-  pub shown_runs : (old : Base F) (fs : F) (paid : rust.Books) (lane : ℕ) (t next : T) (u : Turn (Unit {0})) (e : Event) (n : ℕ) → paid ≡ record old.books { owed = old.books.owed - 1 } → kind t ≡ Shown e n → Ready view clock spare was (Runs kind facts lane t) old
+  pub shown_runs : (old : Base F) (fs : F) (paid : rust.Books) (lane : ℕ) (t next : T) (u : StepResult (Unit {0})) (e : Event) (n : ℕ) → paid ≡ record old.books { owed = old.books.owed - 1 } → kind t ≡ Shown e n → Ready view clock spare was (Runs kind facts lane t) old
       → stepped t u next → ((v : View) → view old.fs ≡ Some v → Told (view fs) (λ w. leaves t u next v w))
       → Runs kind facts lane next (view fs) (books_of paid)
   shown_runs old fs paid lane t next u e n pays is ready step after =
@@ -335,7 +335,7 @@ module _ {F : Type 0} (view : F → Option View) (clock spare : F → ℕ) (was 
       → Within (writes lane t v) (May (books_of old.books) v lane lane) × Away (writes lane t v)
   settle_parts old lane t e is ready v told = let d = settle_duty old lane t t e is ready v told in ((λ p s wrote. absurd (d.0 p s wrote)), (λ q s wrote. absurd (d.0 _ s wrote)))
 
-  pub settle_more : (t next : T) (u : Turn (Unit {0})) (e : Event) → kind t ≡ Settle e → u ≡ turn.More → stepped t u next → ⊥
+  pub settle_more : (t next : T) (u : StepResult (Unit {0})) (e : Event) → kind t ≡ Settle e → u ≡ turn.More → stepped t u next → ⊥
   settle_more t next u e is more step = let bad : Chain (Settle e) (kind next) = subst (λ (k : Kind). Chain k (kind next)) is (laws.chain t next (subst (λ x. stepped t x next) more step)) in bad
 
   settle_spared : (b b' : rust.Books) (lane : ℕ) (en : Entry) (p : Pending) → b' ≡ record b { history = b'.history; pending = None; owed = 0 } → b'.history.items ≡ b.history.items ++ en ∷ [] → b.pending ≡ Some p → p.lane ≡ lane → Spared lane lane (books_of b) (books_of b')
@@ -365,7 +365,7 @@ module _ {F : Type 0} (view : F → Option View) (clock spare : F → ℕ) (was 
       })
 
   -- The step that makes the change last.
-  pub settle_acts : (old mid new : Base F) (lane : ℕ) (t next : T) (u : Turn (Unit {0})) (e : Event) (runs : Option View → Books → Type 0) → kind t ≡ Settle e
+  pub settle_acts : (old mid new : Base F) (lane : ℕ) (t next : T) (u : StepResult (Unit {0})) (e : Event) (runs : Option View → Books → Type 0) → kind t ≡ Settle e
       → mid.books ≡ record old.books { history = mid.books.history; pending = None; owed = 0 }
       → ((p : Pending) → old.books.pending ≡ Some p → mid.books.history.items ≡ old.books.history.items ++ record { lane = p.lane; command = p.command; event = p.event; moment = clock mid.fs } ∷ [])
       → Ends lane lane mid new → Ready view clock spare was (Runs kind facts lane t) old → Wrote old.fs mid.fs lane t → Calls old.fs mid.fs → Next (clock old.fs) (clock mid.fs)
@@ -431,7 +431,7 @@ module _ {F : Type 0} (view : F → Option View) (clock spare : F → ℕ) (was 
       (sym (books_shown old mid shown lane command e owed only shows))
       (show_acts old mid.fs lane command t next e owed h outcome is free.1 free.0 room ready wrote time owes) tells
 
-  pub show_tells : (old mid : Base F) (shown : rust.Books) (lane command : ℕ) (t next : T) (u : Turn (Unit {0})) (e : Event) (owed : ℕ) → mid ≡ record old { fs = mid.fs }
+  pub show_tells : (old mid : Base F) (shown : rust.Books) (lane command : ℕ) (t next : T) (u : StepResult (Unit {0})) (e : Event) (owed : ℕ) → mid ≡ record old { fs = mid.fs }
       → shown ≡ record mid.books { turn = Some lane; pending = Some (record { lane = lane; command = command; event = e }); owed = owed } → owed ≡ owed_by (kind next)
       → kind t ≡ Show e → Free old.books.exclusive lane × Free old.books.turn lane → Ready view clock spare was (Runs kind facts lane t) old
       → stepped t u next → ((v : View) → view old.fs ≡ Some v → Told (view mid.fs) (λ w. leaves t u next v w))

@@ -1,7 +1,7 @@
 -- Locks that a lane takes in the middle of its task.
 use Rattle.std.proofs.Common.{◌≡◌, ⊎_elim, inl, inr, ◌<◌, ℕ, refl, sym, ◌∙◌, ap, subst, List, [], ◌∷◌, Option, Some, Contains}
 use Rattle.ost_types.specs.Path.{Path}
-use Rattle.fs_trait.specs.declared.task.Turn.{Turn}
+use Rattle.fs_trait.specs.declared.task.StepResult.{StepResult}
 use Rattle.fs_trait.specs.View.{View}
 use Rattle.fs_trait.specs.Seen.{Seen}
 use Rattle.fs_trait.proofs.Kept.{weaker}
@@ -67,7 +67,7 @@ take_is wants (Shown e owed) is = absurd is
 take_is wants (Settle e) is = absurd is
 
 module _ {F : Type 0} (view : F → Option View) (clock spare : F → ℕ) (was : F → ℕ → View → Type 0)
-    {T : Type 0} {kind : T → Kind} {needs : ℕ → T → View → Type 0} {writes : ℕ → T → View → Path → Seen → Type 0} {stepped : T → Turn (Unit {0}) → T → Type 0} {leaves : T → Turn (Unit {0}) → T → View → View → Type 0} {facts : ℕ → T → View → Books → Type 0}
+    {T : Type 0} {kind : T → Kind} {needs : ℕ → T → View → Type 0} {writes : ℕ → T → View → Path → Seen → Type 0} {stepped : T → StepResult (Unit {0}) → T → Type 0} {leaves : T → StepResult (Unit {0}) → T → View → View → Type 0} {facts : ℕ → T → View → Books → Type 0}
     (laws : Laws kind needs writes stepped leaves facts) where
   -- with the locks it is ready
   pub take_ready : (old : Base F) (b : rust.Books) (lane : ℕ) (t : T) (wants : Wants) → kind t ≡ Take wants

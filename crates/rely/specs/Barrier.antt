@@ -1,8 +1,8 @@
 -- A sync of all as a task, and its laws.
 use Rattle.std.specs.Prelude.{◌≡◌, ℕ}
 use Rattle.ost_types.specs.Path.{Path}
-use Rattle.fs_trait.specs.declared.task.Turn.{Turn}
-use Rattle.fs_trait.specs.declared.task.Turn.TheVariants as turn
+use Rattle.fs_trait.specs.declared.task.StepResult.{StepResult}
+use Rattle.fs_trait.specs.declared.task.StepResult.TheVariants as turn
 use Rattle.fs_trait.specs.declared.types.FsErr.{FsErr}
 use Rattle.fs_trait.specs.Effect.{OfNone}
 use Rattle.fs_trait.specs.View.{View, all_synced}
@@ -22,11 +22,11 @@ abbrev pub barrier_writes : ℕ → Barrier → View → Path → Seen → Type 
 barrier_writes actor t v = Nothing
 
 -- it is done after its one step
-abbrev pub barrier_stepped : Barrier → Turn (Unit {0}) → Barrier → Type 0
+abbrev pub barrier_stepped : Barrier → StepResult (Unit {0}) → Barrier → Type 0
 barrier_stepped t turn.More new = ⊥
 barrier_stepped t (turn.Done x) new = Unit {0}
 
-abbrev pub barrier_leaves : Barrier → Turn (Unit {0}) → Barrier → View → View → Type 0
+abbrev pub barrier_leaves : Barrier → StepResult (Unit {0}) → Barrier → View → View → Type 0
 barrier_leaves t turn.More new v w = ⊥
 barrier_leaves t (turn.Done x) new v w = w ≡ all_synced v
 

@@ -1,8 +1,8 @@
 -- What each answer of an act says, exactly.
 use Rattle.std.specs.Prelude.{◌≡◌, ◌≢◌, ◌⊎◌, ◌≤◌, ℕ, ◌++◌, ◌∷◌, [], Bool, true, false, Option, Some, None}
 use Rattle.fs_trait.specs.Count.{Rose}
-use Rattle.fs_trait.specs.declared.task.Turn.{Turn}
-use Rattle.fs_trait.specs.declared.task.Turn.TheVariants as turn
+use Rattle.fs_trait.specs.declared.task.StepResult.{StepResult}
+use Rattle.fs_trait.specs.declared.task.StepResult.TheVariants as turn
 use Rattle.fs_trait.specs.declared.types.FsErr.{FsErr}
 use Rattle.fs_trait.specs.declared.types.FsErr.TheVariants as err
 use Rattle.fs_trait.specs.Effect.{OfNone}
@@ -27,7 +27,7 @@ Opens (Shown e owed) lane b = Unit {0}
 Opens (Settle e) lane b = Unit {0}
 
 -- how the task went on
-abbrev pub Steps : {T : Type 0} → (T → Turn (Unit {0}) → T → Type 0) → T → Outcome → T → Type 0
+abbrev pub Steps : {T : Type 0} → (T → StepResult (Unit {0}) → T → Type 0) → T → Outcome → T → Type 0
 Steps stepped old came.More new = stepped old turn.More new
 Steps stepped old came.Done new = stepped old (turn.Done tt) new
 Steps stepped old came.Blocked new = new ≡ old
@@ -35,7 +35,7 @@ Steps stepped old outcome new = Unit {0}
 
 -- What the views say of a step that goes on, of the last one, and of one that ended the command: this one, where it failed or wanted for
 -- memory, left the view as it was.
-abbrev pub Tells : {T : Type 0} → (T → Turn (Unit {0}) → T → View → View → Type 0) → (T → View → FsErr → Type 0) → T → Outcome → T → Option View → Option View → Type 0
+abbrev pub Tells : {T : Type 0} → (T → StepResult (Unit {0}) → T → View → View → Type 0) → (T → View → FsErr → Type 0) → T → Outcome → T → Option View → Option View → Type 0
 Tells leaves refuses old came.More new before now = (v : View) → before ≡ Some v → Told now (λ w. leaves old turn.More new v w)
 Tells leaves refuses old came.Done new before now = (v : View) → before ≡ Some v → Told now (λ w. leaves old (turn.Done tt) new v w)
 Tells leaves refuses old (came.Refused e) new before now = (v : View) → before ≡ Some v → ((e ≡ err.NoMemory) ⊎ refuses old v e) × (OfNone e → now ≡ Some v)
@@ -124,6 +124,6 @@ IsLeft lane came.Done old new = IsGivenUp lane old new
 IsLeft lane (came.Refused e) old new = IsGivenUp lane old new
 IsLeft lane outcome old new = Unit {0}
 
--- Whose the Turn is after an act that wasn't held off, and whose the lock of those that remove objects, unless no command goes on.
+-- Whose the ref lock is after an act that wasn't held off, and whose the lock of those that remove objects, unless no command goes on.
 abbrev pub Locks : Kind → ℕ → Outcome → rust.Books → rust.Books → Type 0
 Locks kind lane outcome old new = IsLeft lane outcome (turn_in kind lane old.turn) new.turn × IsLeft lane outcome (exclusive_in kind lane old.exclusive) new.exclusive

@@ -1,8 +1,8 @@
 -- What every kind of task tells of its steps, and the laws that the one act of all tasks stands on.
 use Rattle.std.specs.Prelude.{◌≡◌, ◌≢◌, ◌⊎◌, ◌≤◌, ◌<◌, ℕ, ◌+◌, suc, true, false, Contains, Option, Some, Result, IsErrOf, OnOk}
 use Rattle.ost_types.specs.Path.{Name, Path}
-use Rattle.fs_trait.specs.declared.task.Turn.{Turn}
-use Rattle.fs_trait.specs.declared.task.Turn.TheVariants as turn
+use Rattle.fs_trait.specs.declared.task.StepResult.{StepResult}
+use Rattle.fs_trait.specs.declared.task.StepResult.TheVariants as turn
 use Rattle.fs_trait.specs.declared.types.FsErr.{FsErr}
 use Rattle.fs_trait.specs.declared.types.FsErr.TheVariants as err
 use Rattle.fs_trait.specs.View.{View}
@@ -56,7 +56,7 @@ IsBy kind actor lane = (actor ≡ lane) ⊎ (kind ≡ Store)
 abbrev pub NotPending : ℕ → Books → Type 0
 NotPending lane b = (p : Pending) → b.pending ≡ Some p → p.lane ≢ lane
 
--- The change is pending, its lane holds the Turn, and room is kept for so many calls.
+-- The change is pending, its lane holds the ref lock, and room is kept for so many calls.
 pub record IsPending (e : Event) (owed lane : ℕ) (b : Books) : Type 0 where
   pub command : ℕ
   pub turn : b.turn ≡ Some lane
@@ -192,7 +192,7 @@ IsLastly (Shown e owed) = ⊥
 IsLastly (Settle e) = Unit {0}
 
 -- the laws of a kind of task
-pub record Laws {T : Type 0} (kind : T → Kind) (needs : ℕ → T → View → Type 0) (writes : ℕ → T → View → Path → Seen → Type 0) (stepped : T → Turn (Unit {0}) → T → Type 0) (leaves : T → Turn (Unit {0}) → T → View → View → Type 0) (facts : ℕ → T → View → Books → Type 0) : Type 0 where
+pub record Laws {T : Type 0} (kind : T → Kind) (needs : ℕ → T → View → Type 0) (writes : ℕ → T → View → Path → Seen → Type 0) (stepped : T → StepResult (Unit {0}) → T → Type 0) (leaves : T → StepResult (Unit {0}) → T → View → View → Type 0) (facts : ℕ → T → View → Books → Type 0) : Type 0 where
   -- the facts give what the step asks
   pub ready : (actor lane : ℕ) (t : T) (v : View) (b : Books) → IsBy (kind t) actor lane → facts lane t v b → needs actor t v
   -- they survive what others may do

@@ -2,8 +2,8 @@
 use Rattle.std.specs.Prelude.{◌≡◌, ℕ, Bool, true, false, Option, Some, None}
 use Rattle.std.proofs.Common.{sym, subst}
 use Rattle.ost_types.specs.Path.{Name, Path}
-use Rattle.fs_trait.specs.declared.task.Turn.{Turn}
-use Rattle.fs_trait.specs.declared.task.Turn.TheVariants as turn
+use Rattle.fs_trait.specs.declared.task.StepResult.{StepResult}
+use Rattle.fs_trait.specs.declared.task.StepResult.TheVariants as turn
 use Rattle.fs_trait.specs.declared.types.FsErr.{FsErr}
 use Rattle.fs_trait.specs.declared.types.FsErr.TheVariants.{NoMemory}
 use Rattle.fs_trait.specs.View.{View}
@@ -43,14 +43,14 @@ part_facts fa fb h lane (First a) v b = fa lane a v b
 part_facts fa fb h lane (Between a) v b = fb lane (h a) v b
 part_facts fa fb h lane (Second t) v b = fb lane t v b
 
-abbrev pub part_stepped : {A B : Type 0} → (A → Turn (Unit {0}) → A → Type 0) → (B → Turn (Unit {0}) → B → Type 0) → (A → B) → Part A B → Turn (Unit {0}) → Part A B → Type 0
+abbrev pub part_stepped : {A B : Type 0} → (A → StepResult (Unit {0}) → A → Type 0) → (B → StepResult (Unit {0}) → B → Type 0) → (A → B) → Part A B → StepResult (Unit {0}) → Part A B → Type 0
 part_stepped sa sb h (First a) turn.More (First new) = sa a turn.More new
 part_stepped sa sb h (First a) turn.More (Between new) = sa a (turn.Done tt) new
 part_stepped sa sb h (Between a) turn.More (Second b) = b ≡ h a
 part_stepped sa sb h (Second b) u (Second new) = sb b u new
 part_stepped sa sb h old u new = ⊥
 
-abbrev pub part_leaves : {A B : Type 0} → (A → Turn (Unit {0}) → A → View → View → Type 0) → (B → Turn (Unit {0}) → B → View → View → Type 0) → (A → B) → Part A B → Turn (Unit {0}) → Part A B → View → View → Type 0
+abbrev pub part_leaves : {A B : Type 0} → (A → StepResult (Unit {0}) → A → View → View → Type 0) → (B → StepResult (Unit {0}) → B → View → View → Type 0) → (A → B) → Part A B → StepResult (Unit {0}) → Part A B → View → View → Type 0
 part_leaves la lb h (First a) turn.More (First new) v w = la a turn.More new v w
 part_leaves la lb h (First a) turn.More (Between new) v w = la a (turn.Done tt) new v w
 part_leaves la lb h (Between a) turn.More (Second b) v w = (w ≡ v) × (b ≡ h a)
@@ -64,7 +64,7 @@ part_refuses ra rb (Second b) v e = rb b v e
 
 -- The first shows no change, and its last step makes no folder of a checkout. When it is done the second's facts hold, and nothing of
 -- it is shown.
-pub record Hands {A B : Type 0} (ka : A → Kind) (sa : A → Turn (Unit {0}) → A → Type 0) (la : A → Turn (Unit {0}) → A → View → View → Type 0) (fa : ℕ → A → View → Books → Type 0)
+pub record Hands {A B : Type 0} (ka : A → Kind) (sa : A → StepResult (Unit {0}) → A → Type 0) (la : A → StepResult (Unit {0}) → A → View → View → Type 0) (fa : ℕ → A → View → Books → Type 0)
     (kb : B → Kind) (fb : ℕ → B → View → Books → Type 0) (h : A → B) : Type 0 where
   pub plain : (t new : A) → sa t (turn.Done tt) new → IsPlain (ka t)
   pub before : (t : A) → IsBefore (kb (h t))
@@ -101,8 +101,8 @@ not_pending (Show e) lane b is none = none
 not_pending (Shown e owed) lane b is none = absurd is
 not_pending (Settle e) lane b is none = absurd is
 
-module _ {A B : Type 0} {ka : A → Kind} {na : ℕ → A → View → Type 0} {wa : ℕ → A → View → Path → Seen → Type 0} {sa : A → Turn (Unit {0}) → A → Type 0} {la : A → Turn (Unit {0}) → A → View → View → Type 0} {fa : ℕ → A → View → Books → Type 0}
-    {kb : B → Kind} {nb : ℕ → B → View → Type 0} {wb : ℕ → B → View → Path → Seen → Type 0} {sb : B → Turn (Unit {0}) → B → Type 0} {lb : B → Turn (Unit {0}) → B → View → View → Type 0} {fb : ℕ → B → View → Books → Type 0} {h : A → B} where
+module _ {A B : Type 0} {ka : A → Kind} {na : ℕ → A → View → Type 0} {wa : ℕ → A → View → Path → Seen → Type 0} {sa : A → StepResult (Unit {0}) → A → Type 0} {la : A → StepResult (Unit {0}) → A → View → View → Type 0} {fa : ℕ → A → View → Books → Type 0}
+    {kb : B → Kind} {nb : ℕ → B → View → Type 0} {wb : ℕ → B → View → Path → Seen → Type 0} {sb : B → StepResult (Unit {0}) → B → Type 0} {lb : B → StepResult (Unit {0}) → B → View → View → Type 0} {fb : ℕ → B → View → Books → Type 0} {h : A → B} where
   pub part_laws : Laws ka na wa sa la fa → Laws kb nb wb sb lb fb → Hands ka sa la fa kb fb h
       → Laws (part_kind ka kb) (part_needs na nb) (part_writes wa wb) (part_stepped sa sb h) (part_leaves la lb h) (part_facts fa fb h)
   part_laws one two hands = record {
@@ -165,7 +165,7 @@ module _ {A B : Type 0} {ka : A → Kind} {na : ℕ → A → View → Type 0} {
   }
 
 -- laws of what a task is seen as are laws of the task
-pub laws_along : {T P : Type 0} (f : T → P) {k : P → Kind} {n : ℕ → P → View → Type 0} {w : ℕ → P → View → Path → Seen → Type 0} {s : P → Turn (Unit {0}) → P → Type 0} {l : P → Turn (Unit {0}) → P → View → View → Type 0} {fs : ℕ → P → View → Books → Type 0}
+pub laws_along : {T P : Type 0} (f : T → P) {k : P → Kind} {n : ℕ → P → View → Type 0} {w : ℕ → P → View → Path → Seen → Type 0} {s : P → StepResult (Unit {0}) → P → Type 0} {l : P → StepResult (Unit {0}) → P → View → View → Type 0} {fs : ℕ → P → View → Books → Type 0}
     → Laws k n w s l fs → Laws (λ t. k (f t)) (λ actor t. n actor (f t)) (λ actor t. w actor (f t)) (λ t u new. s (f t) u (f new)) (λ t u new. l (f t) u (f new)) (λ lane t. fs lane (f t))
 laws_along f laws = record {
   ready = λ actor lane t. laws.ready actor lane (f t);

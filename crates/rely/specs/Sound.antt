@@ -67,7 +67,7 @@ pub record Crash (left : ℕ → Disk → Type 0) (opened : ℕ) (start : State)
   pub each : (t : ℕ) (d : Disk) → opened ≤ t → left t d → Fits start entries (stored entries pending) t d
 
 -- What is so of the books, whether or not the view is told: no two locks that exclude each other are held, what is pending
--- belongs to the holder of the Turn, the moments of the history don't fall, there is room for each owed call and, while one
+-- belongs to the holder of the ref lock, the moments of the history don't fall, there is room for each owed call and, while one
 -- is owed, for one more entry.
 pub record Ordered {F : Type 0} (clock spare : F → ℕ) (base : Base F) : Type 0 where
   pub agrees : Agrees (books_of base.books)

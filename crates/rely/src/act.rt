@@ -16,7 +16,7 @@ ghost use Rattle.rely.specs.Claiming.{AreClaimed, claim_in, of_others};
 ghost use Rattle.rely.specs.Laws.{IsShow, IsShown, IsOwing, IsSettle, IsPlain, IsStore, IsTake, IsClaim, KeepsRoom, owed_by, Ready, Runs, IsBy, Stood, Acts, Ends, IsEnd, Claim, Show, Shown, Settle};
 
 use crate::{Base, Event, Outcome, Step, Wants, Work, is_free};
-use fs_trait::{Fs, FsErr, Turn};
+use fs_trait::{Fs, FsErr, StepResult};
 use ost_types::Name;
 
 /// Takes a step that isn't owed, once there is room for it and for all calls that are owed.
@@ -24,7 +24,7 @@ fn advance_with_room<T: Work, F: Fs>(
     base: &mut Base<F>,
     actor: u8,
     task: &mut T,
-) -> Result<Turn<()>, FsErr>
+) -> Result<StepResult<()>, FsErr>
     requires needs { (v : View) → F.view base.old.fs ≡ Some v → T.needs actor task.old v }
     requires room { base.old.books.owed ≤ F.spare base.old.fs }
     ensures books { base.new ≡ record base.old { fs = base.new.fs } }
@@ -98,8 +98,8 @@ fn quiet<T: Work, F: Fs>(base: &mut Base<F>, actor: u8, lane: u8, task: &mut T) 
 {
     let before = base.fs.clock();
     match advance_with_room(base, actor, task) {
-        Ok(Turn::More) => Outcome::More,
-        Ok(Turn::Done(())) => {
+        Ok(StepResult::More) => Outcome::More,
+        Ok(StepResult::Done(())) => {
             end(base, actor, lane);
             Outcome::Done
         }
@@ -226,7 +226,7 @@ fn settle<T: Work, F: Fs>(base: &mut Base<F>, lane: u8, task: &mut T) -> Outcome
     ensures live { IsLive result base.old.books.halted base.new.books.halted }
 {
     match task.advance(lane, &mut base.fs) {
-        Ok(Turn::Done(())) => {
+        Ok(StepResult::Done(())) => {
             let moment = base.fs.clock();
             if !base.books.acknowledge(moment) {
                 base.books.halted = true;
@@ -235,7 +235,7 @@ fn settle<T: Work, F: Fs>(base: &mut Base<F>, lane: u8, task: &mut T) -> Outcome
             end(base, lane, lane);
             Outcome::Done
         }
-        Ok(Turn::More) => Outcome::More,
+        Ok(StepResult::More) => Outcome::More,
         Err(_) => {
             base.books.pay();
             base.books.halted = true;
@@ -344,14 +344,14 @@ fn claim_named<T: Work, F: Fs>(base: &mut Base<F>, lane: u8, name: Name, task: &
 {
     let before = base.fs.clock();
     match advance_with_room(base, lane, task) {
-        Ok(Turn::More) => {
+        Ok(StepResult::More) => {
             if !base.books.note_claim(lane, name) {
                 base.books.halted = true;
                 return Outcome::Halted;
             }
             Outcome::More
         }
-        Ok(Turn::Done(())) => {
+        Ok(StepResult::Done(())) => {
             end(base, lane, lane);
             Outcome::Done
         }

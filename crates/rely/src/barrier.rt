@@ -1,7 +1,7 @@
 ghost use Rattle.rely.specs.Barrier.{barrier_kind, barrier_needs, barrier_writes, barrier_stepped, barrier_leaves, barrier_refuses, barrier_facts, barrier_laws};
 
 use crate::{Event, Step, Work};
-use fs_trait::{Fs, FsErr, Turn};
+use fs_trait::{Fs, FsErr, StepResult};
 use ost_types::{Name, NoMemory};
 
 /// A task of one step, which makes outlast a crash all that is there.
@@ -41,9 +41,9 @@ impl Work for Barrier {
         0
     }
 
-    fn advance<F: Fs>(&mut self, _actor: u8, fs: &mut F) -> Result<Turn<()>, FsErr> {
+    fn advance<F: Fs>(&mut self, _actor: u8, fs: &mut F) -> Result<StepResult<()>, FsErr> {
         match fs.sync_all() {
-            Ok(()) => Ok(Turn::Done(())),
+            Ok(()) => Ok(StepResult::Done(())),
             Err(e) => Err(e),
         }
     }

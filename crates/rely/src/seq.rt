@@ -1,13 +1,13 @@
 ghost use Rattle.std.specs.Prelude.{◌≡◌, ℕ, IfOk};
 ghost use Rattle.ost_types.specs.Path.{Path};
-ghost use Rattle.fs_trait.specs.declared.task.Turn.{Turn};
+ghost use Rattle.fs_trait.specs.declared.task.StepResult.{StepResult};
 ghost use Rattle.fs_trait.specs.View.{View};
 ghost use Rattle.fs_trait.specs.Seen.{Seen};
 ghost use Rattle.rely.specs.Books.{Books};
 ghost use Rattle.rely.specs.Part.{Hands, part_at, part_kind, part_needs, part_writes, part_stepped, part_leaves, part_refuses, part_facts, part_laws, laws_along};
 
 use crate::{Event, Step, Work};
-use fs_trait::{Fs, FsErr, Turn};
+use fs_trait::{Fs, FsErr, StepResult};
 use ost_types::{Name, NoMemory};
 
 /// A task that hands over to another one when it is done.
@@ -86,14 +86,14 @@ impl<A: Work + Then<B> + Drop, B: Work + Drop> Work for Seq<A, B> {
         }
     }
 
-    fn advance<F: Fs>(&mut self, actor: u8, fs: &mut F) -> Result<Turn<()>, FsErr> {
+    fn advance<F: Fs>(&mut self, actor: u8, fs: &mut F) -> Result<StepResult<()>, FsErr> {
         if !self.over {
             return match self.first.advance(actor, fs) {
-                Ok(Turn::More) => Ok(Turn::More),
-                Ok(Turn::Done(())) => {
+                Ok(StepResult::More) => Ok(StepResult::More),
+                Ok(StepResult::Done(())) => {
                     self.over = true;
                     self.second = None;
-                    Ok(Turn::More)
+                    Ok(StepResult::More)
                 }
                 Err(e) => Err(e),
             };
@@ -103,7 +103,7 @@ impl<A: Work + Then<B> + Drop, B: Work + Drop> Work for Seq<A, B> {
             None => match self.first.then() {
                 Ok(task) => {
                     self.second = Some(task);
-                    Ok(Turn::More)
+                    Ok(StepResult::More)
                 }
                 Err(_) => Err(FsErr::NoMemory),
             },

@@ -2,7 +2,7 @@ ghost use Rattle.std.specs.Prelude.{◌≡◌, ℕ, Option, Some, IfOk, IfErr, O
 ghost use Rattle.fs_trait.specs.declared.types.FsErr.{FsErr};
 ghost use Rattle.fs_trait.specs.declared.types.FsErr.TheVariants as err;
 ghost use Rattle.ost_types.specs.Path.{Name, Path};
-ghost use Rattle.fs_trait.specs.declared.task.Turn.{Turn};
+ghost use Rattle.fs_trait.specs.declared.task.StepResult.{StepResult};
 ghost use Rattle.fs_trait.specs.View.{View};
 ghost use Rattle.fs_trait.specs.Image.{Told};
 ghost use Rattle.fs_trait.specs.Seen.{Seen};
@@ -13,7 +13,7 @@ ghost use Rattle.rely.specs.Books.{Books};
 ghost use Rattle.rely.specs.Laws.{Kind, Claim, Show, IsOwing, IsSettle, KeepsRoom, Laws, step_of, owed_by};
 
 use crate::{Event, Step};
-use fs_trait::{Fs, FsErr, Turn};
+use fs_trait::{Fs, FsErr, StepResult};
 use ost_types::{Name, NoMemory};
 
 /// The running task of a command, as the system sees it.
@@ -27,10 +27,10 @@ pub trait Work {
     ghost writes_of: { ℕ → Self → View → Path → Seen → Type 0 };
 
     /// What changes in the task itself.
-    ghost stepped: { Self → Turn (Unit {0}) → Self → Type 0 };
+    ghost stepped: { Self → StepResult (Unit {0}) → Self → Type 0 };
 
     /// What is so of the view before and after such a step.
-    ghost leaves: { Self → Turn (Unit {0}) → Self → View → View → Type 0 };
+    ghost leaves: { Self → StepResult (Unit {0}) → Self → View → View → Type 0 };
 
     /// Why such a step isn't done, by the view before it.
     ghost refuses: { Self → View → FsErr → Type 0 };
@@ -54,7 +54,7 @@ pub trait Work {
         ensures { result ≡ owed_by (kind_of self.now) };
 
     /// Takes the next step: at most one changing call.
-    fn advance<F: Fs>(&mut self, actor: u8, fs: &mut F) -> Result<Turn<()>, FsErr>
+    fn advance<F: Fs>(&mut self, actor: u8, fs: &mut F) -> Result<StepResult<()>, FsErr>
         requires { (v : View) → F.view fs.old ≡ Some v → needs actor self.old v }
         ensures writes { (v : View) → F.view fs.old ≡ Some v → Told (F.view fs.new) (λ w. Writes (writes_of actor self.old v) v w) }
         ensures unchanged { (v : View) → F.view fs.old ≡ Some v → IsErrOf result err.NoMemory → F.view fs.new ≡ Some v }

@@ -6,6 +6,3 @@ mod laws;
 
 pub use config::{config_text, is_config};
 pub use laws::new_config;
-
-#[cfg(test)]
-mod tests;

@@ -21,6 +21,3 @@ pub use paths::{
 };
 pub use ref_file::{read_ref, ref_text};
 pub use ref_name::RefName;
-
-#[cfg(test)]
-mod tests;

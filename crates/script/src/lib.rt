@@ -26,6 +26,3 @@ pub use number::{number_of, read_text, read_u32, read_u64};
 pub use path::read_path;
 pub use rows::{LogRow, LsRow};
 pub use words::{read_words, read_written};
-
-#[cfg(test)]
-mod tests;

@@ -23,6 +23,3 @@ pub use script::{
     append_bytes, append_field, read_words, write_replies,
 };
 pub use step::LANE_LIMIT;
-
-#[cfg(test)]
-mod tests;

@@ -4,8 +4,8 @@ use Rattle.ost_types.specs.declared.meta.Meta.{Meta}
 use Rattle.ost_types.specs.Path.{Path}
 use Rattle.fs_trait.specs.declared.types.FsErr.{FsErr}
 use Rattle.fs_trait.specs.declared.types.FsErr.TheVariants.{Failed, Exists, Missing, NotFolder, NotEmpty, NoMemory}
-use Rattle.fs_trait.specs.declared.task.Turn.{Turn}
-use Rattle.fs_trait.specs.declared.task.Turn.TheVariants.{More, Done}
+use Rattle.fs_trait.specs.declared.task.StepResult.{StepResult}
+use Rattle.fs_trait.specs.declared.task.StepResult.TheVariants.{More, Done}
 use Rattle.fs_trait.specs.View.{Disk, View}
 use Rattle.fs_trait.specs.Image.{Image, EachImage, Told, reads}
 use Rattle.fs_trait.specs.Seen.{Seen, shows, MayBe, IsDirectory, NotDirectory, bytes_in}
@@ -53,7 +53,7 @@ same_next Unlink t = record { stage = refl; folder = refl; at = refl; meta = ref
 same_next SyncFolder t = record { stage = refl; folder = refl; at = refl; meta = refl; bytes = refl; show = refl }
 same_next Ended t = record { stage = refl; folder = refl; at = refl; meta = refl; bytes = refl; show = refl }
 
-pub same_stepped : {T : Type 0} (old : Staged) (result : Result (Turn T) FsErr) (new : Staged) → IsStepped old result new → IsSame old new
+pub same_stepped : {T : Type 0} (old : Staged) (result : Result (StepResult T) FsErr) (new : Staged) → IsStepped old result new → IsSame old new
 same_stepped old (Ok More) new s = subst (IsSame old) (sym s.0) (same_next old.phase old)
 same_stepped old (Ok (Done x)) new s = subst (IsSame old) (sym s.0) (same_next old.phase old)
 same_stepped old (Err e) new s = subst (IsSame old) (sym s) (IsSame-refl old)

@@ -4,8 +4,8 @@ use Rattle.ost_types.specs.declared.meta.Meta.{Meta}
 use Rattle.ost_types.specs.Path.{Path}
 use Rattle.fs_trait.specs.declared.types.FsErr.{FsErr}
 use Rattle.fs_trait.specs.declared.types.FsErr.TheVariants.{NoMemory}
-use Rattle.fs_trait.specs.declared.task.Turn.{Turn}
-use Rattle.fs_trait.specs.declared.task.Turn.TheVariants.{More, Done}
+use Rattle.fs_trait.specs.declared.task.StepResult.{StepResult}
+use Rattle.fs_trait.specs.declared.task.StepResult.TheVariants.{More, Done}
 use Rattle.fs_trait.specs.declared.task.Need.{Need}
 use Rattle.fs_trait.specs.declared.task.Need.TheVariants as need
 use Rattle.fs_trait.specs.declared.types.Node.{Node}
@@ -71,7 +71,7 @@ is_last Ended = true
 is_last ph = false
 
 -- which step it was, and what changed in the task
-abbrev pub IsStepped : {T : Type 0} → Staged → Result (Turn T) FsErr → Staged → Type 0
+abbrev pub IsStepped : {T : Type 0} → Staged → Result (StepResult T) FsErr → Staged → Type 0
 IsStepped old (Ok More) new = (new ≡ next old) × (is_last old.phase ≡ false)
 IsStepped old (Ok (Done x)) new = (new ≡ next old) × (is_last old.phase ≡ true)
 IsStepped old (Err e) new = new ≡ old

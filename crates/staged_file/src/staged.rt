@@ -12,7 +12,7 @@ ghost use Rattle.staged_file.specs.Whole.{Written, Leaves, LeavesSynced, IsThere
 mod steps;
 
 use crate::{Phase, Show};
-use fs_trait::{Fs, FsErr, Need, Turn};
+use fs_trait::{Fs, FsErr, Need, StepResult};
 use ost_types::{Bytes, FsPath, Meta};
 use std::marker::Model;
 

@@ -53,7 +53,7 @@ fn plan(alloc: Global, bytes: &[u8], show: Show) -> Result<Option<Plan>, NoMemor
         meta: file_meta(alloc),
         bytes: Bytes::from_slice(alloc, bytes)?,
         show,
-        lock: Need::Turn,
+        lock: Need::RefLock,
     }))
 }
 

@@ -3,8 +3,8 @@ use Rattle.std.specs.Prelude.{◌≡◌, ◌⊎◌, ◌+◌, ◌-◌, nat_lt, �
 use Rattle.ost_types.specs.declared.meta.Meta.{Meta}
 use Rattle.ost_types.specs.Path.{Path}
 use Rattle.fs_trait.specs.declared.types.FsErr.{FsErr}
-use Rattle.fs_trait.specs.declared.task.Turn.{Turn}
-use Rattle.fs_trait.specs.declared.task.Turn.TheVariants.{More, Done}
+use Rattle.fs_trait.specs.declared.task.StepResult.{StepResult}
+use Rattle.fs_trait.specs.declared.task.StepResult.TheVariants.{More, Done}
 use Rattle.fs_trait.specs.Effect.{Next}
 use Rattle.staging.specs.declared.phase.Phase.{Phase}
 use Rattle.staging.specs.declared.phase.Phase.TheVariants.{Clear, Create, Append, SyncFile, Ended}
@@ -46,7 +46,7 @@ is_last Ended = true
 is_last ph = false
 
 -- which step it was, and what changed in the task
-abbrev pub IsStepped : {T : Type 0} → Draft → Result (Turn T) FsErr → Draft → Type 0
+abbrev pub IsStepped : {T : Type 0} → Draft → Result (StepResult T) FsErr → Draft → Type 0
 IsStepped old (Ok More) new = (new ≡ next old) × (is_last old.phase ≡ false)
 IsStepped old (Ok (Done x)) new = (new ≡ next old) × (is_last old.phase ≡ true)
 IsStepped old (Err e) new = new ≡ old

@@ -4,7 +4,7 @@ ghost use Rattle.std.specs.Prelude.{◌≡◌, ◌⊎◌, ◌≤◌, ℕ, List, 
 ghost use Rattle.ost_types.specs.declared.limits.Limits.{Limits};
 ghost use Rattle.ost_types.specs.declared.object.ObjName.{ObjName};
 ghost use Rattle.ost_forms.specs.declared.tree_item.TreeItem.{TreeItem};
-ghost use Rattle.fs_trait.specs.declared.task.Turn.TheVariants as turn;
+ghost use Rattle.fs_trait.specs.declared.task.StepResult.TheVariants as turn;
 ghost use Rattle.fs_trait.specs.View.{Disk, View};
 ghost use Rattle.fs_trait.specs.Image.{Image, IsTree};
 ghost use Rattle.fs_trait.specs.Seen.{Seen, shows};

@@ -1,4 +1,4 @@
--- Which lane holds the Turn, of all.
+-- Which lane holds the ref lock, of all.
 use Rattle.std.proofs.Common.{◌≡◌, ◌≢◌, ◌<◌, ℕ, Bool, nat_eq, true, false, refl, sym, ◌∙◌, ap, subst, arith, List, length, get_or, set, length-set, get_or-set_same, get_or-set_other, Some, None}
 use Rattle.std.proofs.lemmas.Bool.Decides.{nat_tests}
 use Rattle.std.specs.Global.{Vec}
@@ -68,7 +68,7 @@ was_live old new stays live = at old.halted refl
     at true is = let z : true ≡ false = sym is ∙ ap (λ (b : rust.Books). b.halted) (sym (stays is)) ∙ live in cc
 
 module _ {F : Type 0} (base : Base F) (lanes : List Lane) (runs : List Run) (replies : List (Vec Reply)) (limits : Limits) (objects : ℕ) (booked : Booked lanes runs replies) (o : Ordered base.books lanes runs) where
-  -- the lane that holds the Turn has a command
+  -- the lane that holds the ref lock has a command
   pub holder_has : (x : ℕ) → base.books.turn ≡ Some x → HasCommand (system_of base lanes runs replies limits objects) x
   holder_has x is =
       let w = o.only x is in

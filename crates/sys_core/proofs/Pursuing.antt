@@ -4,7 +4,7 @@ use Rattle.ost_types.specs.declared.limits.Limits.{Limits}
 use Rattle.ost_types.specs.declared.object.ObjName.{ObjName}
 use Rattle.ost_forms.specs.declared.tree_item.TreeItem.{TreeItem}
 use Rattle.fs_trait.specs.declared.types.FsErr.{FsErr}
-use Rattle.fs_trait.specs.declared.task.Turn.TheVariants as turn
+use Rattle.fs_trait.specs.declared.task.StepResult.TheVariants as turn
 use Rattle.ref_store.specs.Change.{Change as Changing, IsStepped, progress_in}
 use Rattle.ref_work.specs.declared.work.RefWork.{RefWork}
 use Rattle.ref_work.specs.declared.look_up.LookUp.{LookUp}

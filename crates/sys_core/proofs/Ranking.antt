@@ -217,7 +217,7 @@ module _ {F : Type 0} where
       (λ still. still.none refl l (omega (arith, has.0, few)) (subst (λ x. HasCommand x l) still.same has))
       p
 
-  -- and one in which some had: the lane that holds the Turn isn't held off
+  -- and one in which some had: the lane that holds the ref lock isn't held off
   pub round_falls : (old now : System F) (n : ℕ) → length old.lanes ≤ n → Progress old now n true → left_in_all now < left_in_all old
   round_falls old now n few p = ⊎_elim
       (λ far. far.0)

@@ -1,6 +1,6 @@
 -- What a step of a command keeps of the room for its ref, and what of its lane.
 use Rattle.std.proofs.Common.{◌≡◌, ℕ, Bool, refl, sym, ◌∙◌, ap, subst, List, [], ◌∷◌, Option, Some, None}
-use Rattle.fs_trait.specs.declared.task.Turn.TheVariants as turn
+use Rattle.fs_trait.specs.declared.task.StepResult.TheVariants as turn
 use Rattle.ref_store.specs.declared.progress.Progress.{Progress}
 use Rattle.ref_store.specs.declared.progress.Progress.TheVariants as progress
 use Rattle.ref_store.specs.Change.{Change, progress_in}

@@ -1,6 +1,6 @@
 -- What a refused change tells of the state, where the view is told.
 use Rattle.std.proofs.Common.{◌≡◌, ◌≢◌, ⊎_elim, ℕ, true, false, refl, sym, ◌∙◌, ap, subst, List, ◌∷◌, ◌++◌, append_assoc, Option, Some, None, Err, IsSome}
-use Rattle.fs_trait.specs.declared.task.Turn.TheVariants as turn
+use Rattle.fs_trait.specs.declared.task.StepResult.TheVariants as turn
 use Rattle.ost_types.specs.Path.{Name, Path}
 use Rattle.fs_trait.specs.declared.types.Value.{Value}
 use Rattle.fs_trait.specs.declared.types.Value.TheVariants.{Absent, Folder, Link, File}

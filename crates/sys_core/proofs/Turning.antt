@@ -1,6 +1,6 @@
--- What a step of a command's task leaves of the Turn, and of the acts that its command may need.
+-- What a step of a command's task leaves of the ref lock, and of the acts that its command may need.
 use Rattle.std.proofs.Common.{◌≡◌, ◌≢◌, ◌<◌, ◌≤◌, ℕ, Bool, true, false, refl, sym, ◌∙◌, ap, subst, arith, List, [], ◌∷◌, Option, Some, None}
-use Rattle.fs_trait.specs.declared.task.Turn.TheVariants as turn
+use Rattle.fs_trait.specs.declared.task.StepResult.TheVariants as turn
 use Rattle.fs_trait.specs.View.{View}
 use Rattle.ref_store.specs.declared.phase.Phase.{Phase}
 use Rattle.ref_store.specs.declared.phase.Phase.TheVariants as phase
@@ -374,14 +374,14 @@ opens_asks q (Show e) asks lane b nobody = absurd asks
 opens_asks q (Shown e owed) asks lane b nobody = absurd asks
 opens_asks q (Settle e) asks lane b nobody = absurd asks
 
--- a step is held off only by another lane that has the Turn
+-- a step is held off only by another lane that has the ref lock
 pub held_off : (lane : ℕ) (t : LaneCommand) (b : rust.Books) → b.exclusive ≡ None → (Opens (lane_kind t) lane (books_of b) → ⊥) → IsOthers lane b.turn
 held_off lane (lane_work.Ref t) b nobody shut = ref_held lane t b nobody shut
 held_off lane (lane_work.Commit t) b nobody shut = commit_held lane t.change t b nobody shut
 held_off lane (lane_work.Read t) b nobody shut = absurd (shut (opens_read t lane b nobody))
 held_off lane (lane_work.Checkout t) b nobody shut = absurd (shut (opens_asks (checking.asked t) (checkout_kind t) (checkout_asks t) lane b nobody))
 
--- a look that is taken found the Turn free
+-- a look that is taken found the ref lock free
 look_waits : (ph : Phase) (e : Event) (lane : ℕ) (b : rust.Books) → IsLook ph → Opens (kind_in ph e) lane (books_of b) → IsOthers lane b.turn → ⊥
 look_waits phase.Look e lane b look opens off = off.1 ((opens.turn refl).1 off.0 off.2)
 look_waits (phase.Clear c) e lane b look opens off = look

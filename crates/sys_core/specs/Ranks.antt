@@ -35,7 +35,7 @@ pub record Ranked {F : Type 0} (old new : System F) (actor : ℕ) (ask : Ask) : 
   pub done : (lane command : ℕ) → ask ≡ Done lane command → (to_come new actor + 1 ≡ to_come old actor) × (rank new actor ≤ most)
   pub others : (l : ℕ) → l ≢ actor → IsAsFar old new l
 
--- another lane, which has a command without a reply, holds the Turn
+-- another lane, which has a command without a reply, holds the ref lock
 abbrev pub IsHeldOff : {F : Type 0} → System F → ℕ → Type 0
 IsHeldOff s l = (other : ℕ) × (other ≢ l) × (s.base.books.turn ≡ Some other) × HasCommand s other
 

@@ -1,4 +1,4 @@
--- Which lane holds the Turn.
+-- Which lane holds the ref lock.
 use Rattle.std.specs.Prelude.{◌≡◌, ◌≢◌, ◌<◌, ℕ, List, length, map, slice_index_or, Option, Some, None, false}
 use Rattle.ref_store.specs.declared.phase.Phase.{Phase}
 use Rattle.ref_store.specs.declared.phase.Phase.TheVariants as phase
@@ -48,7 +48,7 @@ abbrev pub RunsBehind : Option Running → Type 0
 RunsBehind None = ⊥
 RunsBehind (Some r) = HasLooked r.work
 
--- one that has yet to look, and so asks for the Turn
+-- one that has yet to look, and so asks for the ref lock
 abbrev pub IsLook : Phase → Type 0
 IsLook phase.Look = Unit {0}
 IsLook ph = ⊥
@@ -68,7 +68,7 @@ AsksTurn (Some (Commit t)) = NamingAsksTurn t.change
 AsksTurn (Some (Read t)) = ⊥
 AsksTurn (Some (Checkout t)) = ⊥
 
--- A lane has the Turn exactly where its command has looked. Nobody removes objects.
+-- A lane has the ref lock exactly where its command has looked. Nobody removes objects.
 pub record HasTurn (lane : ℕ) (b : rust.Books) (Looked : Type 0) : Type 0 where
   pub nobody : b.exclusive ≡ None
   pub has : Looked → b.turn ≡ Some lane
@@ -78,8 +78,8 @@ pub record HasTurn (lane : ℕ) (b : rust.Books) (Looked : Type 0) : Type 0 wher
 abbrev pub IsOthers : ℕ → Option ℕ → Type 0
 IsOthers lane lock = (other : ℕ) × (other ≢ lane) × (lock ≡ Some other)
 
--- What an act of the lane leaves of the Turn, and of the acts that its command may need. It is held off only where another lane has the
--- Turn, and wherever the command asks for it then.
+-- What an act of the lane leaves of the ref lock, and of the acts that its command may need. It is held off only where another lane has the
+-- StepResult, and wherever the command asks for it then.
 pub record Turns (lane : ℕ) (old new : rust.Books) (task task' : Option Running) (result : Came) : Type 0 where
   pub mine : new.halted ≡ false → HasTurn lane new (RunsBehind task')
   pub others : new.halted ≡ false → (x : ℕ) → x ≢ lane → new.turn ≡ Some x → old.turn ≡ Some x
@@ -87,7 +87,7 @@ pub record Turns (lane : ℕ) (old new : rust.Books) (task task' : Option Runnin
   pub held : result ≡ came.Blocked → IsOthers lane old.turn
   pub waits : result ≢ came.Blocked → AsksTurn (work_in task) → IsOthers lane old.turn → ⊥
 
--- The Turn is held by a lane whose command has looked, and each such lane holds it; its command has no reply. Nobody removes objects.
+-- The ref lock is held by a lane whose command has looked, and each such lane holds it; its command has no reply. Nobody removes objects.
 pub record Ordered (b : rust.Books) (lanes : List Lane) (runs : List Run) : Type 0 where
   pub nobody : b.exclusive ≡ None
   pub has : (l : ℕ) (r : Run) → l < length runs → RunsBehind (slice_index_or runs l r).task → b.turn ≡ Some l

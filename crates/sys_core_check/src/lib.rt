@@ -7,4 +7,6 @@ mod running;
 pub use running::{NotRun, run};
 
 #[cfg(test)]
+mod refs;
+#[cfg(test)]
 mod turn_tests;

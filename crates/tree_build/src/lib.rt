@@ -18,6 +18,3 @@ pub use build::TreeBuild;
 pub use commit::commit_object;
 pub use laws::tree_is_whole;
 pub use order::are_items;
-
-#[cfg(test)]
-mod tests;

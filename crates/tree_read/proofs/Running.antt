@@ -1,7 +1,7 @@
 -- From the steps to the whole.
 use Rattle.std.proofs.Common.{◌≡◌, List, ℕ, Ok, Err, subst}
 use Rattle.ost_types.specs.declared.limits.Limits.{Limits}
-use Rattle.fs_trait.specs.declared.task.Turn.TheVariants as turn
+use Rattle.fs_trait.specs.declared.task.StepResult.TheVariants as turn
 use Rattle.fs_trait.specs.View.{Disk}
 use Rattle.tree_read.specs.declared.fault.TreeFault.{TreeFault}
 use Rattle.tree_read.specs.declared.fault.TreeFault.TheVariants as fault

@@ -13,8 +13,8 @@ use Rattle.ost_forms.specs.Commit.{CommitParts}
 use Rattle.ost_forms.specs.DirMeta.{ReadsDirMeta}
 use Rattle.ost_forms.specs.DirTree.{Entries}
 use Rattle.fs_trait.specs.declared.types.FsErr.{FsErr}
-use Rattle.fs_trait.specs.declared.task.Turn.{Turn}
-use Rattle.fs_trait.specs.declared.task.Turn.TheVariants as turn
+use Rattle.fs_trait.specs.declared.task.StepResult.{StepResult}
+use Rattle.fs_trait.specs.declared.task.StepResult.TheVariants as turn
 use Rattle.fs_trait.specs.View.{Disk}
 use Rattle.repo_model.specs.Objects.{Stores, Has}
 use Rattle.repo_model.specs.Trees.{HasCommit, HasEntries, HasMeta, name_of}
@@ -33,7 +33,7 @@ use Rattle.tree_read.proofs.Steps.{at_item, absent_here, damaged_here, full_here
 use Rattle.tree_read.proofs.Stops.{first_of}
 
 abbrev Turned : Type 0
-Turned = Turn (Result (Unit {0}) TreeFault)
+Turned = StepResult (Result (Unit {0}) TreeFault)
 
 module _ {T : Type 0} (d : Disk) (content : ℕ) (name : ObjName) (P : T → Type 0) (looked : Looked T) where
   pub is_here : (x : T) → looked ≡ Here x → Looks d content name P (Ok looked) → P x

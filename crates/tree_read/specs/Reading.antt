@@ -10,8 +10,8 @@ use Rattle.ost_types.specs.PathMap.{Nodes, IsAscending, paths_of}
 use Rattle.ost_forms.specs.Commit.{CommitParts}
 use Rattle.ost_forms.specs.DirTree.{Entries}
 use Rattle.fs_trait.specs.declared.types.FsErr.{FsErr}
-use Rattle.fs_trait.specs.declared.task.Turn.{Turn}
-use Rattle.fs_trait.specs.declared.task.Turn.TheVariants as turn
+use Rattle.fs_trait.specs.declared.task.StepResult.{StepResult}
+use Rattle.fs_trait.specs.declared.task.StepResult.TheVariants as turn
 use Rattle.fs_trait.specs.Effect.{OfNone}
 use Rattle.fs_trait.specs.View.{Disk}
 use Rattle.repo_model.specs.Objects.{Stores}
@@ -52,7 +52,7 @@ abbrev pub IsSoFar : Disk → Reading → Type 0
 IsSoFar d t = t.begun ≡ true → Knows d t
 
 -- Each answer of a step over a disk: it goes on, has read all, or tells the first object that is missing or damaged.
-abbrev pub StepTells : Disk → Reading → Result (Turn (Result (Unit {0}) TreeFault)) FsErr → Reading → Type 0
+abbrev pub StepTells : Disk → Reading → Result (StepResult (Result (Unit {0}) TreeFault)) FsErr → Reading → Type 0
 StepTells d old (Ok turn.More) new = Knows d new
 StepTells d old (Ok (turn.Done (Ok x))) new = Knows d old × (old.pending ≡ [])
 StepTells d old (Ok (turn.Done (Err (fault.Absent o)))) new =
@@ -81,7 +81,7 @@ abbrev pub left_of : Reading → ℕ
 left_of t = left_in t.begun t.limits.paths (length t.found) t.pending
 
 -- What a step does to the task, told or not: only one that goes on changes it, and then fewer are left.
-abbrev pub IsStepped : Reading → Result (Turn (Result (Unit {0}) TreeFault)) FsErr → Reading → Type 0
+abbrev pub IsStepped : Reading → Result (StepResult (Result (Unit {0}) TreeFault)) FsErr → Reading → Type 0
 IsStepped old (Ok turn.More) new = (new.commit ≡ old.commit) × (new.limits ≡ old.limits) × (left_of new < left_of old)
 IsStepped old (Ok (turn.Done (Ok x))) new = new ≡ old
 IsStepped old (Ok (turn.Done (Err (fault.Absent o)))) new = new ≡ old
@@ -150,7 +150,7 @@ pub record OpensAt (old : Reading) (owner tree meta : List ℕ) (e : Entries) (n
   pub opens : Opens old below new
 
 -- Each answer of opening the next item, a folder with these entries.
-abbrev pub IsOpened : Reading → List ℕ → List ℕ → List ℕ → Entries → Result (Turn (Result (Unit {0}) TreeFault)) NoMemory → Reading → Type 0
+abbrev pub IsOpened : Reading → List ℕ → List ℕ → List ℕ → Entries → Result (StepResult (Result (Unit {0}) TreeFault)) NoMemory → Reading → Type 0
 IsOpened old owner tree meta e (Ok turn.More) new = OpensAt old owner tree meta e new
 IsOpened old owner tree meta e (Ok (turn.Done (Err (fault.Damaged o)))) new = (new ≡ old) × (o ≡ name_of kind.DirTree tree) × IsFarBelow old e
 IsOpened old owner tree meta e (Ok r) new = ⊥

@@ -6,7 +6,7 @@ ghost use Rattle.tree_read.specs.Whole.{HasCauseOf, ReadsTree};
 
 use crate::fault::TreeFault;
 use crate::task::TreeTask;
-use fs_trait::{Fs, Turn};
+use fs_trait::{Fs, StepResult};
 use ost_types::{Csum, Limits, PathMap};
 use std::alloc::Global;
 
@@ -25,9 +25,9 @@ pub fn tree_of<F: Fs>(
     let mut task = TreeTask::new(alloc, *commit, *limits);
     'steps: loop {
         match task.step(fs)? {
-            Turn::More => {}
-            Turn::Done(Ok(())) => return Ok(task.into_found()),
-            Turn::Done(Err(fault)) => return Err(fault),
+            StepResult::More => {}
+            StepResult::Done(Ok(())) => return Ok(task.into_found()),
+            StepResult::Done(Err(fault)) => return Err(fault),
         }
     }
 }

@@ -3,7 +3,7 @@ ghost use Rattle.std.specs.Prelude.{◌≡◌, ◌≤◌, [], true, false, Some,
 ghost use Rattle.fs_trait.specs.View.{View};
 ghost use Rattle.fs_trait.specs.Effect.{HasCause, IsQuiet};
 ghost use Rattle.fs_trait.specs.declared.task.Need.TheVariants as need;
-ghost use Rattle.fs_trait.specs.declared.task.Turn.TheVariants.{Done};
+ghost use Rattle.fs_trait.specs.declared.task.StepResult.TheVariants.{Done};
 ghost use Rattle.ost_types.specs.PathMap.{IsNode};
 ghost use Rattle.repo_model.specs.Trees.{name_of};
 ghost use Rattle.tree_read.specs.declared.fault.TreeFault.TheVariants as faults;
@@ -15,7 +15,7 @@ use crate::fault::TreeFault;
 use crate::item::{Item, Named};
 use crate::looked::Looked;
 use crate::objects::{look_at_attributes, look_at_commit, look_at_entries, look_at_file};
-use fs_trait::{Fs, FsErr, Need, Turn};
+use fs_trait::{Fs, FsErr, Need, StepResult};
 use ost_forms::DirTree;
 use ost_types::{Csum, FsPath, Kind, Limits, NoMemory, NodeName, ObjName, PathMap, TryCopy};
 use std::alloc::Global;
@@ -47,7 +47,7 @@ impl Model for TreeTask {
 }
 
 /// What a step came to.
-type Step = Result<Turn<Result<(), TreeFault>>, FsErr>;
+type Step = Result<StepResult<Result<(), TreeFault>>, FsErr>;
 
 impl TreeTask {
     pub fn new(alloc: Global, commit: Csum, limits: Limits) -> TreeTask
@@ -137,7 +137,7 @@ impl TreeTask {
         match look_at_commit(self.alloc, fs, &self.commit, &self.limits)? {
             Looked::Here(root) => {
                 self.begin(root.0, root.1)?;
-                Ok(Turn::More)
+                Ok(StepResult::More)
             }
             Looked::Absent => Ok(absent(self.commit, Kind::Commit)),
             Looked::Damaged => Ok(damaged(self.commit, Kind::Commit)),
@@ -167,7 +167,7 @@ impl TreeTask {
         ensures cause { HasCause (F.faults fs.old) (F.faults fs.new) result }
     {
         let Some((next, _)) = self.pending.split_last() else {
-            return Ok(Turn::Done(Ok(())));
+            return Ok(StepResult::Done(Ok(())));
         };
         let owner = next.owner;
         let named = next.named;
@@ -203,7 +203,7 @@ impl TreeTask {
         tree: Csum,
         meta: Csum,
         entries: &DirTree,
-    ) -> Result<Turn<Result<(), TreeFault>>, NoMemory>
+    ) -> Result<StepResult<Result<(), TreeFault>>, NoMemory>
         requires { IsNext self.old (named.Folder tree meta) owner }
         ensures { IsOpened self.old owner tree meta (record { files = entries.now.files; folders = entries.now.folders }) result self.new }
     {
@@ -211,7 +211,7 @@ impl TreeTask {
         match self.below(owner, tree, meta, entries)? {
             Some(below) => {
                 self.replace_next(below)?;
-                Ok(Turn::More)
+                Ok(StepResult::More)
             }
             None => Ok(damaged(tree, Kind::DirTree)),
         }
@@ -267,7 +267,7 @@ impl TreeTask {
         match look_at_attributes(self.alloc, fs, &meta, &self.limits)? {
             Looked::Here(attributes) => {
                 self.take(NodeName::Folder(attributes))?;
-                Ok(Turn::More)
+                Ok(StepResult::More)
             }
             Looked::Absent => Ok(absent(meta, Kind::DirMeta)),
             Looked::Damaged => Ok(damaged(meta, Kind::DirMeta)),
@@ -285,7 +285,7 @@ impl TreeTask {
         match look_at_file(self.alloc, fs, &file, &self.limits)? {
             Looked::Here(()) => {
                 self.take(NodeName::Leaf(file))?;
-                Ok(Turn::More)
+                Ok(StepResult::More)
             }
             Looked::Absent => Ok(absent(file, Kind::File)),
             Looked::Damaged => Ok(damaged(file, Kind::File)),
@@ -319,14 +319,14 @@ fn are_short(items: &[Item]) -> bool
     true
 }
 
-fn absent(csum: Csum, kind: Kind) -> Turn<Result<(), TreeFault>>
+fn absent(csum: Csum, kind: Kind) -> StepResult<Result<(), TreeFault>>
     ensures { result ≡ Done (Err (faults.Absent (name_of kind csum))) }
 {
-    Turn::Done(Err(TreeFault::Absent(ObjName { csum, kind })))
+    StepResult::Done(Err(TreeFault::Absent(ObjName { csum, kind })))
 }
 
-fn damaged(csum: Csum, kind: Kind) -> Turn<Result<(), TreeFault>>
+fn damaged(csum: Csum, kind: Kind) -> StepResult<Result<(), TreeFault>>
     ensures { result ≡ Done (Err (faults.Damaged (name_of kind csum))) }
 {
-    Turn::Done(Err(TreeFault::Damaged(ObjName { csum, kind })))
+    StepResult::Done(Err(TreeFault::Damaged(ObjName { csum, kind })))
 }

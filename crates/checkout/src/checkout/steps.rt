@@ -12,7 +12,7 @@ ghost use Rattle.checkout.specs.CheckoutSteps.{Makes, Needs, Ready, Refuses, Tel
 
 use super::CheckoutTask;
 use crate::checkout_phase::{CheckoutPhase, DestExists};
-use fs_trait::{Fs, FsErr, Turn};
+use fs_trait::{Fs, FsErr, StepResult};
 use ost_types::{FsPath, Kind, NodeName, ObjName};
 use repo_layout::object_path;
 use std::alloc::Global;
@@ -20,7 +20,7 @@ use std::alloc::Global;
 impl CheckoutTask {
     /// Does the next step: at most one changing call, and one reading call before it. After an error the task is unchanged; where
     /// memory was wanting the step may be tried again.
-    pub fn step<F: Fs>(&mut self, fs: &mut F) -> Result<Turn<Result<(), DestExists>>, FsErr>
+    pub fn step<F: Fs>(&mut self, fs: &mut F) -> Result<StepResult<Result<(), DestExists>>, FsErr>
         requires { (v : View) → F.view fs.old ≡ Some v → Needs self.old v.now }
         ensures writes { (v : View) → F.view fs.old ≡ Some v → Told (F.view fs.new) (λ w. Writes (WritesOf self.old v) v w) }
         ensures after { (v : View) → F.view fs.old ≡ Some v → OnOk result (Told (F.view fs.new) (λ w. Needs self.new w.now)) }
@@ -38,12 +38,12 @@ impl CheckoutTask {
         match self.phase {
             CheckoutPhase::Begin => self.begin(fs),
             CheckoutPhase::Make(number) => self.make(fs, number),
-            CheckoutPhase::Ended => Ok(Turn::Done(Ok(()))),
-            CheckoutPhase::Refused => Ok(Turn::Done(Err(DestExists))),
+            CheckoutPhase::Ended => Ok(StepResult::Done(Ok(()))),
+            CheckoutPhase::Refused => Ok(StepResult::Done(Err(DestExists))),
         }
     }
 
-    fn begin<F: Fs>(&mut self, fs: &mut F) -> Result<Turn<Result<(), DestExists>>, FsErr>
+    fn begin<F: Fs>(&mut self, fs: &mut F) -> Result<StepResult<Result<(), DestExists>>, FsErr>
         requires phase { self.old.phase ≡ phase.Begin }
         requires needs { (v : View) → F.view fs.old ≡ Some v → Needs self.old v.now }
         ensures writes { (v : View) → F.view fs.old ≡ Some v → Told (F.view fs.new) (λ w. Writes (WritesOf self.old v) v w) }
@@ -61,7 +61,7 @@ impl CheckoutTask {
     {
         if fs.stat(&self.into)?.is_some() {
             self.phase = CheckoutPhase::Refused;
-            return Ok(Turn::Done(Err(DestExists)));
+            return Ok(StepResult::Done(Err(DestExists)));
         }
         self.make(fs, 0)
     }
@@ -71,7 +71,7 @@ impl CheckoutTask {
         &mut self,
         fs: &mut F,
         number: usize,
-    ) -> Result<Turn<Result<(), DestExists>>, FsErr>
+    ) -> Result<StepResult<Result<(), DestExists>>, FsErr>
         requires inside { number < length self.old.tree }
         requires ready { (v : View) → F.view fs.old ≡ Some v → Ready number self.old v.now }
         ensures writes { (v : View) → F.view fs.old ≡ Some v → Told (F.view fs.new) (λ w. Writes (Makes number self.old v) v w) }
@@ -93,7 +93,7 @@ impl CheckoutTask {
     }
 
     // that pair of the map is made
-    fn reached(&mut self, number: usize) -> Turn<Result<(), DestExists>>
+    fn reached(&mut self, number: usize) -> StepResult<Result<(), DestExists>>
         requires { number < length self.old.tree }
         ensures next { self.new ≡ reached number self.old }
         ensures turn { result ≡ reached_turn number self.old }
@@ -101,10 +101,10 @@ impl CheckoutTask {
         let count = self.tree.len();
         if number + 1 < count {
             self.phase = CheckoutPhase::Make(number + 1);
-            return Turn::More;
+            return StepResult::More;
         }
         self.phase = CheckoutPhase::Ended;
-        Turn::Done(Ok(()))
+        StepResult::Done(Ok(()))
     }
 }
 

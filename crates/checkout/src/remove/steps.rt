@@ -13,14 +13,14 @@ use super::RemoveTask;
 use super::folder::OpenFolder;
 use super::look::{Found, take_leaf};
 use super::phase::Phase;
-use fs_trait::{Fs, FsErr, Turn};
+use fs_trait::{Fs, FsErr, StepResult};
 use ost_types::{FsPath, Names, NoMemory, TryCopy};
 use std::mem;
 
 impl RemoveTask {
     /// Does the next step: at most one changing call and two reading ones. It is done once nothing stands at the path. After an
     /// error the task is unchanged, so that the step may be tried again.
-    pub fn step<F: Fs>(&mut self, fs: &mut F) -> Result<Turn<()>, FsErr>
+    pub fn step<F: Fs>(&mut self, fs: &mut F) -> Result<StepResult<()>, FsErr>
         requires { (v : View) → F.view fs.old ≡ Some v → Needs self.old v }
         ensures writes { (v : View) → F.view fs.old ≡ Some v → Told (F.view fs.new) (λ w. Writes (WritesOf self.old v) v w) }
         ensures leaves { (v : View) → F.view fs.old ≡ Some v → Told (F.view fs.new) (Leaves self.old v) }
@@ -45,12 +45,12 @@ impl RemoveTask {
                     self.close(fs)
                 }
             }
-            Phase::Ended => Ok(Turn::Done(())),
+            Phase::Ended => Ok(StepResult::Done(())),
         }
     }
 
     // looks at the next path
-    fn look<F: Fs>(&mut self, fs: &mut F) -> Result<Turn<()>, FsErr>
+    fn look<F: Fs>(&mut self, fs: &mut F) -> Result<StepResult<()>, FsErr>
         requires act { (p : Path) × (act self.old ≡ Looks p) }
         requires needs { (v : View) → F.view fs.old ≡ Some v → Needs self.old v }
         ensures writes { (v : View) → F.view fs.old ≡ Some v → Told (F.view fs.new) (λ w. Writes (WritesOf self.old v) v w) }
@@ -75,13 +75,13 @@ impl RemoveTask {
             }
             Found::Folder(names) => {
                 self.enter(at, names)?;
-                Ok(Turn::More)
+                Ok(StepResult::More)
             }
         }
     }
 
     // removes the innermost folder
-    fn close<F: Fs>(&mut self, fs: &mut F) -> Result<Turn<()>, FsErr>
+    fn close<F: Fs>(&mut self, fs: &mut F) -> Result<StepResult<()>, FsErr>
         requires act { (p : Path) × (act self.old ≡ Closes p) }
         requires needs { (v : View) → F.view fs.old ≡ Some v → Needs self.old v }
         ensures writes { (v : View) → F.view fs.old ≡ Some v → Told (F.view fs.new) (λ w. Writes (WritesOf self.old v) v w) }
@@ -107,11 +107,11 @@ impl RemoveTask {
         match self.outer.pop() {
             Some(outer) => {
                 self.phase = Phase::Inside(outer);
-                Ok(Turn::More)
+                Ok(StepResult::More)
             }
             None => {
                 self.phase = Phase::Ended;
-                Ok(Turn::Done(()))
+                Ok(StepResult::Done(()))
             }
         }
     }
@@ -172,12 +172,12 @@ impl RemoveTask {
     }
 
     // whether there is more to do
-    fn turn(&self) -> Turn<()>
+    fn turn(&self) -> StepResult<()>
         ensures { result ≡ turn_in self.now.phase }
     {
         match self.phase {
-            Phase::Ended => Turn::Done(()),
-            _ => Turn::More,
+            Phase::Ended => StepResult::Done(()),
+            _ => StepResult::More,
         }
     }
 }

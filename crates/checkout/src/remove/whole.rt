@@ -7,7 +7,7 @@ ghost use Rattle.fs_trait.specs.Change.{Writes};
 ghost use Rattle.checkout.specs.RemoveWhole.{Clears, IsCleared, Leaves, Stops};
 
 use super::RemoveTask;
-use fs_trait::{Fs, FsErr, Turn};
+use fs_trait::{Fs, FsErr, StepResult};
 use ost_types::FsPath;
 use std::alloc::Global;
 
@@ -25,8 +25,8 @@ pub fn remove_tree<F: Fs>(alloc: Global, fs: &mut F, at: FsPath) -> Result<(), F
     let mut task = RemoveTask::new(alloc, at);
     'steps: loop {
         match task.step(fs)? {
-            Turn::More => {}
-            Turn::Done(()) => return Ok(()),
+            StepResult::More => {}
+            StepResult::Done(()) => return Ok(()),
         }
     }
 }

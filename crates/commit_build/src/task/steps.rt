@@ -7,7 +7,7 @@ ghost use Rattle.fs_trait.specs.Change.{Writes};
 ghost use Rattle.fs_trait.specs.declared.types.FsErr.TheVariants as err;
 ghost use Rattle.commit_build.specs.declared.phase.Phase.TheVariants as phase;
 ghost use Rattle.commit_build.specs.declared.refusal.BuildRefusal.TheVariants as refusal;
-ghost use Rattle.fs_trait.specs.declared.task.Turn.TheVariants as turn;
+ghost use Rattle.fs_trait.specs.declared.task.StepResult.TheVariants as turn;
 ghost use Rattle.commit_build.specs.Committing.{Committing, IsPut, IsPutCommit, IsSyncCommit, IsUnmark, IsSyncState, IsStepped, MayTick, OnMore, Takes, left, met_of};
 ghost use Rattle.commit_build.specs.Steps.{Needs, WritesOf, WritesIn, Refuses, Tells, OfPhase, TakesLeaf, is_leaf_node};
 
@@ -15,7 +15,7 @@ use super::CommitTask;
 use crate::advance::{Progress, advance};
 use crate::phase::Phase;
 use crate::refusal::BuildRefusal;
-use fs_trait::{Fs, FsErr, Node, Turn};
+use fs_trait::{Fs, FsErr, Node, StepResult};
 use obj_store::Put;
 use ost_types::{Csum, FsPath, ObjName};
 use repo_layout::{Folder, folder_path, mark_path};
@@ -27,7 +27,7 @@ impl CommitTask {
         &mut self,
         fs: &mut F,
         count: u32,
-    ) -> Result<Turn<Result<Csum, BuildRefusal>>, FsErr>
+    ) -> Result<StepResult<Result<Csum, BuildRefusal>>, FsErr>
         requires { (v : View) → F.view fs.old ≡ Some v → Needs self.old v }
         ensures writes { (v : View) → F.view fs.old ≡ Some v → Told (F.view fs.new) (λ w. Writes (WritesOf self.old v) v w) }
         ensures few { (v : View) → F.view fs.old ≡ Some v → Told (F.view fs.new) (λ w. Writes (WritesIn count self.old v) v w) }
@@ -58,7 +58,7 @@ impl CommitTask {
         &mut self,
         fs: &mut F,
         count: u32,
-    ) -> Result<Turn<Result<Csum, BuildRefusal>>, FsErr>
+    ) -> Result<StepResult<Result<Csum, BuildRefusal>>, FsErr>
         requires phase { IsPut self.old.phase }
         requires needs { (v : View) → F.view fs.old ≡ Some v → Needs self.old v }
         ensures writes { (v : View) → F.view fs.old ≡ Some v → Told (F.view fs.new) (λ w. Writes (WritesOf self.old v) v w) }
@@ -84,12 +84,12 @@ impl CommitTask {
             Progress::Full => Ok(self.full()),
             Progress::Further(end) => {
                 self.met = met_of(name, end);
-                Ok(Turn::More)
+                Ok(StepResult::More)
             }
             Progress::Over(end) => {
                 self.met = met_of(name, end);
                 self.phase = Phase::Make;
-                Ok(Turn::More)
+                Ok(StepResult::More)
             }
         }
     }
@@ -98,7 +98,7 @@ impl CommitTask {
         &mut self,
         fs: &mut F,
         count: u32,
-    ) -> Result<Turn<Result<Csum, BuildRefusal>>, FsErr>
+    ) -> Result<StepResult<Result<Csum, BuildRefusal>>, FsErr>
         requires phase { IsPutCommit self.old.phase }
         requires needs { (v : View) → F.view fs.old ≡ Some v → Needs self.old v }
         ensures writes { (v : View) → F.view fs.old ≡ Some v → Told (F.view fs.new) (λ w. Writes (WritesOf self.old v) v w) }
@@ -125,26 +125,29 @@ impl CommitTask {
             Progress::Full => Ok(self.full()),
             Progress::Further(end) => {
                 self.met = met_of(name, end);
-                Ok(Turn::More)
+                Ok(StepResult::More)
             }
             Progress::Over(end) => {
                 self.met = met_of(name, end);
                 self.phase = Phase::SyncCommit(commit);
-                Ok(Turn::More)
+                Ok(StepResult::More)
             }
         }
     }
 
     // there is no room for the object
-    fn full(&mut self) -> Turn<Result<Csum, BuildRefusal>>
+    fn full(&mut self) -> StepResult<Result<Csum, BuildRefusal>>
         ensures task { self.new ≡ record self.old { met = None } }
         ensures turn { result ≡ turn.Done (Err (refusal.TooMany (self.old.limits.objects + 1))) }
     {
         self.met = None;
-        Turn::Done(Err(BuildRefusal::TooMany(self.limits.objects as u64 + 1)))
+        StepResult::Done(Err(BuildRefusal::TooMany(self.limits.objects as u64 + 1)))
     }
 
-    fn sync_objects<F: Fs>(&mut self, fs: &mut F) -> Result<Turn<Result<Csum, BuildRefusal>>, FsErr>
+    fn sync_objects<F: Fs>(
+        &mut self,
+        fs: &mut F,
+    ) -> Result<StepResult<Result<Csum, BuildRefusal>>, FsErr>
         requires phase { self.old.phase ≡ phase.SyncObjects }
         requires needs { (v : View) → F.view fs.old ≡ Some v → Needs self.old v }
         ensures writes { (v : View) → F.view fs.old ≡ Some v → Told (F.view fs.new) (λ w. Writes (WritesOf self.old v) v w) }
@@ -163,10 +166,13 @@ impl CommitTask {
         fs.sync_all()?;
         self.phase = Phase::MakeCommit;
         self.met = None;
-        Ok(Turn::More)
+        Ok(StepResult::More)
     }
 
-    fn sync_commit<F: Fs>(&mut self, fs: &mut F) -> Result<Turn<Result<Csum, BuildRefusal>>, FsErr>
+    fn sync_commit<F: Fs>(
+        &mut self,
+        fs: &mut F,
+    ) -> Result<StepResult<Result<Csum, BuildRefusal>>, FsErr>
         requires phase { IsSyncCommit self.old.phase }
         requires needs { (v : View) → F.view fs.old ≡ Some v → Needs self.old v }
         ensures writes { (v : View) → F.view fs.old ≡ Some v → Told (F.view fs.new) (λ w. Writes (WritesOf self.old v) v w) }
@@ -189,10 +195,10 @@ impl CommitTask {
         fs.sync_all()?;
         self.phase = Phase::Unmark(commit);
         self.met = None;
-        Ok(Turn::More)
+        Ok(StepResult::More)
     }
 
-    fn unmark<F: Fs>(&mut self, fs: &mut F) -> Result<Turn<Result<Csum, BuildRefusal>>, FsErr>
+    fn unmark<F: Fs>(&mut self, fs: &mut F) -> Result<StepResult<Result<Csum, BuildRefusal>>, FsErr>
         requires phase { IsUnmark self.old.phase }
         requires needs { (v : View) → F.view fs.old ≡ Some v → Needs self.old v }
         ensures writes { (v : View) → F.view fs.old ≡ Some v → Told (F.view fs.new) (λ w. Writes (WritesOf self.old v) v w) }
@@ -216,10 +222,13 @@ impl CommitTask {
         take_mark(fs, &mark)?;
         self.phase = Phase::SyncState(commit);
         self.met = None;
-        Ok(Turn::More)
+        Ok(StepResult::More)
     }
 
-    fn sync_state<F: Fs>(&mut self, fs: &mut F) -> Result<Turn<Result<Csum, BuildRefusal>>, FsErr>
+    fn sync_state<F: Fs>(
+        &mut self,
+        fs: &mut F,
+    ) -> Result<StepResult<Result<Csum, BuildRefusal>>, FsErr>
         requires phase { IsSyncState self.old.phase }
         requires needs { (v : View) → F.view fs.old ≡ Some v → Needs self.old v }
         ensures writes { (v : View) → F.view fs.old ≡ Some v → Told (F.view fs.new) (λ w. Writes (WritesOf self.old v) v w) }
@@ -243,7 +252,7 @@ impl CommitTask {
         fs.sync_dir(&state)?;
         self.phase = Phase::Ended(commit);
         self.met = None;
-        Ok(Turn::Done(Ok(commit)))
+        Ok(StepResult::Done(Ok(commit)))
     }
 }
 

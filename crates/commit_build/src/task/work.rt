@@ -11,14 +11,14 @@ ghost use Rattle.commit_build.specs.Steps.{Needs, OfPhase};
 use super::CommitTask;
 use crate::phase::Phase;
 use crate::refusal::BuildRefusal;
-use fs_trait::{FsErr, Turn};
+use fs_trait::{FsErr, StepResult};
 use obj_store::PutTask;
 use ost_types::{Csum, NoMemory, TryCopy};
 use std::mem;
 use tree_build::{TreeBuild, commit_object};
 
 impl CommitTask {
-    pub(super) fn work(&mut self) -> Result<Turn<Result<Csum, BuildRefusal>>, FsErr>
+    pub(super) fn work(&mut self) -> Result<StepResult<Result<Csum, BuildRefusal>>, FsErr>
         requires { IsWork self.old.phase }
         ensures after { (v : View) → Needs self.old v → OnOk result (Needs self.new v) }
         ensures stepped { (count : ℕ) → IsStepped count self.old result self.new }
@@ -34,7 +34,7 @@ impl CommitTask {
         }
     }
 
-    fn check(&mut self) -> Result<Turn<Result<Csum, BuildRefusal>>, FsErr>
+    fn check(&mut self) -> Result<StepResult<Result<Csum, BuildRefusal>>, FsErr>
         requires { self.old.phase ≡ phase.Check }
         ensures after { (v : View) → Needs self.old v → OnOk result (Needs self.new v) }
         ensures stepped { (count : ℕ) → IsStepped count self.old result self.new }
@@ -44,14 +44,14 @@ impl CommitTask {
         if let Some(path) = self.build.bad_path() {
             let path = path.copy()?;
             self.met = None;
-            return Ok(Turn::Done(Err(BuildRefusal::BadTree(path))));
+            return Ok(StepResult::Done(Err(BuildRefusal::BadTree(path))));
         }
         self.phase = Phase::Make;
         self.met = None;
-        Ok(Turn::More)
+        Ok(StepResult::More)
     }
 
-    fn make(&mut self) -> Result<Turn<Result<Csum, BuildRefusal>>, FsErr>
+    fn make(&mut self) -> Result<StepResult<Result<Csum, BuildRefusal>>, FsErr>
         requires { self.old.phase ≡ phase.Make }
         ensures after { (v : View) → Needs self.old v → OnOk result (Needs self.new v) }
         ensures stepped { (count : ℕ) → IsStepped count self.old result self.new }
@@ -60,10 +60,10 @@ impl CommitTask {
     {
         self.phase = next_phase(&mut self.build)?;
         self.met = None;
-        Ok(Turn::More)
+        Ok(StepResult::More)
     }
 
-    fn begin(&mut self) -> Result<Turn<Result<Csum, BuildRefusal>>, FsErr>
+    fn begin(&mut self) -> Result<StepResult<Result<Csum, BuildRefusal>>, FsErr>
         requires { IsBegin self.old.phase }
         ensures after { (v : View) → Needs self.old v → OnOk result (Needs self.new v) }
         ensures stepped { (count : ℕ) → IsStepped count self.old result self.new }
@@ -78,7 +78,7 @@ impl CommitTask {
                 let _left = put.left();
                 self.phase = Phase::Put(put);
                 self.met = None;
-                Ok(Turn::More)
+                Ok(StepResult::More)
             }
             Err(back) => {
                 self.phase = Phase::Made(back);
@@ -87,7 +87,7 @@ impl CommitTask {
         }
     }
 
-    fn make_commit(&mut self) -> Result<Turn<Result<Csum, BuildRefusal>>, FsErr>
+    fn make_commit(&mut self) -> Result<StepResult<Result<Csum, BuildRefusal>>, FsErr>
         requires { self.old.phase ≡ phase.MakeCommit }
         ensures after { (v : View) → Needs self.old v → OnOk result (Needs self.new v) }
         ensures stepped { (count : ℕ) → IsStepped count self.old result self.new }
@@ -112,11 +112,11 @@ impl CommitTask {
         let _left = put.left();
         self.phase = Phase::PutCommit(put);
         self.met = None;
-        Ok(Turn::More)
+        Ok(StepResult::More)
     }
 
     // nothing is left to do
-    fn again(&mut self) -> Turn<Result<Csum, BuildRefusal>>
+    fn again(&mut self) -> StepResult<Result<Csum, BuildRefusal>>
         requires { IsEnded self.old.phase }
         ensures task { self.new ≡ record self.old { met = None } }
         ensures turn { IsAgain self.old.phase result }
@@ -126,7 +126,7 @@ impl CommitTask {
         };
         let commit = *commit;
         self.met = None;
-        Turn::Done(Ok(commit))
+        StepResult::Done(Ok(commit))
     }
 }
 

@@ -15,12 +15,12 @@ use super::BuildTask;
 use crate::metas::{file_meta, folder_meta, link_meta};
 use crate::node::{Content, NewNode};
 use crate::phase::Phase;
-use fs_trait::{Fs, FsErr, Turn};
+use fs_trait::{Fs, FsErr, StepResult};
 
 impl BuildTask {
     /// Does the next step: at most one changing call, and two reading ones before it. It is done with the last node. After an
     /// error the task is unchanged, so that the step may be tried again.
-    pub fn step<F: Fs>(&mut self, fs: &mut F) -> Result<Turn<()>, FsErr>
+    pub fn step<F: Fs>(&mut self, fs: &mut F) -> Result<StepResult<()>, FsErr>
         requires { (v : View) → F.view fs.old ≡ Some v → Needs self.old v }
         ensures writes { (v : View) → F.view fs.old ≡ Some v → Told (F.view fs.new) (λ w. Writes (WritesOf self.old v) v w) }
         ensures after { (v : View) → F.view fs.old ≡ Some v → OnOk result (Told (F.view fs.new) (λ w. Needs self.new w)) }
@@ -43,12 +43,12 @@ impl BuildTask {
                 let number = *number;
                 self.write(fs, number)
             }
-            Phase::Ended => Ok(Turn::Done(())),
+            Phase::Ended => Ok(StepResult::Done(())),
         }
     }
 
     // removes what stands at the path
-    fn clear<F: Fs>(&mut self, fs: &mut F) -> Result<Turn<()>, FsErr>
+    fn clear<F: Fs>(&mut self, fs: &mut F) -> Result<StepResult<()>, FsErr>
         requires phase { IsClear self.old.phase }
         requires needs { (v : View) → F.view fs.old ≡ Some v → Needs self.old v }
         ensures writes { (v : View) → F.view fs.old ≡ Some v → Told (F.view fs.new) (λ w. Writes (WritesOf self.old v) v w) }
@@ -66,16 +66,16 @@ impl BuildTask {
             unreachable!()
         };
         match removing.step(fs)? {
-            Turn::More => Ok(Turn::More),
-            Turn::Done(()) => {
+            StepResult::More => Ok(StepResult::More),
+            StepResult::Done(()) => {
                 self.phase = Phase::Make(0);
-                Ok(Turn::More)
+                Ok(StepResult::More)
             }
         }
     }
 
     // makes the node of this number
-    fn make<F: Fs>(&mut self, fs: &mut F, number: usize) -> Result<Turn<()>, FsErr>
+    fn make<F: Fs>(&mut self, fs: &mut F, number: usize) -> Result<StepResult<()>, FsErr>
         requires phase { self.old.phase ≡ phase.Make number }
         requires needs { (v : View) → F.view fs.old ≡ Some v → Needs self.old v }
         ensures writes { (v : View) → F.view fs.old ≡ Some v → Told (F.view fs.new) (λ w. Writes (WritesOf self.old v) v w) }
@@ -97,7 +97,7 @@ impl BuildTask {
     }
 
     // makes a folder, unless it is there
-    fn make_folder<F: Fs>(&mut self, fs: &mut F, number: usize) -> Result<Turn<()>, FsErr>
+    fn make_folder<F: Fs>(&mut self, fs: &mut F, number: usize) -> Result<StepResult<()>, FsErr>
         requires phase { self.old.phase ≡ phase.Make number }
         requires what { (e : New) → IsNumber self.old.nodes number e → e.what ≡ content.Folder }
         requires needs { (v : View) → F.view fs.old ≡ Some v → Needs self.old v }
@@ -121,7 +121,7 @@ impl BuildTask {
     }
 
     // makes a symbolic link
-    fn make_link<F: Fs>(&mut self, fs: &mut F, number: usize) -> Result<Turn<()>, FsErr>
+    fn make_link<F: Fs>(&mut self, fs: &mut F, number: usize) -> Result<StepResult<()>, FsErr>
         requires phase { self.old.phase ≡ phase.Make number }
         requires what { (e : New) → IsNumber self.old.nodes number e → (t : List ℕ) × (e.what ≡ content.Link t) }
         requires needs { (v : View) → F.view fs.old ≡ Some v → Needs self.old v }
@@ -145,7 +145,7 @@ impl BuildTask {
     }
 
     // makes a file, without its bytes
-    fn make_file<F: Fs>(&mut self, fs: &mut F, number: usize) -> Result<Turn<()>, FsErr>
+    fn make_file<F: Fs>(&mut self, fs: &mut F, number: usize) -> Result<StepResult<()>, FsErr>
         requires phase { self.old.phase ≡ phase.Make number }
         requires what { (e : New) → IsNumber self.old.nodes number e → (b : List ℕ) × (e.what ≡ content.File b) }
         requires needs { (v : View) → F.view fs.old ≡ Some v → Needs self.old v }
@@ -162,11 +162,11 @@ impl BuildTask {
     {
         fs.create(&self.nodes[number].at, &file_meta(self.alloc))?;
         self.phase = Phase::Write(number);
-        Ok(Turn::More)
+        Ok(StepResult::More)
     }
 
     // writes the bytes of the file of this number
-    fn write<F: Fs>(&mut self, fs: &mut F, number: usize) -> Result<Turn<()>, FsErr>
+    fn write<F: Fs>(&mut self, fs: &mut F, number: usize) -> Result<StepResult<()>, FsErr>
         requires phase { self.old.phase ≡ phase.Write number }
         requires needs { (v : View) → F.view fs.old ≡ Some v → Needs self.old v }
         ensures writes { (v : View) → F.view fs.old ≡ Some v → Told (F.view fs.new) (λ w. Writes (WritesOf self.old v) v w) }
@@ -189,7 +189,7 @@ impl BuildTask {
     }
 
     // the node of this number is whole
-    fn reached(&mut self, number: usize) -> Turn<()>
+    fn reached(&mut self, number: usize) -> StepResult<()>
         requires { number < length self.old.nodes }
         ensures next { self.new ≡ reached number self.old }
         ensures turn { result ≡ reached_turn number self.old }
@@ -197,9 +197,9 @@ impl BuildTask {
         let count = self.nodes.len();
         if number + 1 < count {
             self.phase = Phase::Make(number + 1);
-            return Turn::More;
+            return StepResult::More;
         }
         self.phase = Phase::Ended;
-        Turn::Done(())
+        StepResult::Done(())
     }
 }

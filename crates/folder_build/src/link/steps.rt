@@ -12,12 +12,12 @@ ghost use Rattle.folder_build.specs.LinkSteps.{Needs, Refuses, WritesOf};
 
 use super::{LinkPhase, LinkTask};
 use crate::metas::link_meta;
-use fs_trait::{Fs, FsErr, Turn};
+use fs_trait::{Fs, FsErr, StepResult};
 
 impl LinkTask {
     /// Does the next step: at most one changing call, and two reading ones before it. It is done once the link is at its path.
     /// After an error the task is unchanged, so that the step may be tried again.
-    pub fn step<F: Fs>(&mut self, fs: &mut F) -> Result<Turn<()>, FsErr>
+    pub fn step<F: Fs>(&mut self, fs: &mut F) -> Result<StepResult<()>, FsErr>
         requires { (v : View) → F.view fs.old ≡ Some v → Needs self.old v }
         ensures writes { (v : View) → F.view fs.old ≡ Some v → Told (F.view fs.new) (λ w. Writes (WritesOf self.old v) v w) }
         ensures after { (v : View) → F.view fs.old ≡ Some v → OnOk result (Told (F.view fs.new) (λ w. Needs self.new w)) }
@@ -34,12 +34,12 @@ impl LinkTask {
             LinkPhase::Clear(_) => self.clear(fs),
             LinkPhase::Make => self.make(fs),
             LinkPhase::Replace => self.replace(fs),
-            LinkPhase::Ended => Ok(Turn::Done(())),
+            LinkPhase::Ended => Ok(StepResult::Done(())),
         }
     }
 
     // removes what stands at the staging path
-    fn clear<F: Fs>(&mut self, fs: &mut F) -> Result<Turn<()>, FsErr>
+    fn clear<F: Fs>(&mut self, fs: &mut F) -> Result<StepResult<()>, FsErr>
         requires phase { IsClear self.old.phase }
         requires needs { (v : View) → F.view fs.old ≡ Some v → Needs self.old v }
         ensures writes { (v : View) → F.view fs.old ≡ Some v → Told (F.view fs.new) (λ w. Writes (WritesOf self.old v) v w) }
@@ -57,16 +57,16 @@ impl LinkTask {
             unreachable!()
         };
         match removing.step(fs)? {
-            Turn::More => Ok(Turn::More),
-            Turn::Done(()) => {
+            StepResult::More => Ok(StepResult::More),
+            StepResult::Done(()) => {
                 self.phase = LinkPhase::Make;
-                Ok(Turn::More)
+                Ok(StepResult::More)
             }
         }
     }
 
     // makes the link at the staging path
-    fn make<F: Fs>(&mut self, fs: &mut F) -> Result<Turn<()>, FsErr>
+    fn make<F: Fs>(&mut self, fs: &mut F) -> Result<StepResult<()>, FsErr>
         requires phase { self.old.phase ≡ phase.Make }
         requires needs { (v : View) → F.view fs.old ≡ Some v → Needs self.old v }
         ensures writes { (v : View) → F.view fs.old ≡ Some v → Told (F.view fs.new) (λ w. Writes (WritesOf self.old v) v w) }
@@ -82,11 +82,11 @@ impl LinkTask {
     {
         fs.symlink(&self.stage, &self.target, &link_meta(self.alloc))?;
         self.phase = LinkPhase::Replace;
-        Ok(Turn::More)
+        Ok(StepResult::More)
     }
 
     // renames the link to its path
-    fn replace<F: Fs>(&mut self, fs: &mut F) -> Result<Turn<()>, FsErr>
+    fn replace<F: Fs>(&mut self, fs: &mut F) -> Result<StepResult<()>, FsErr>
         requires phase { self.old.phase ≡ phase.Replace }
         requires needs { (v : View) → F.view fs.old ≡ Some v → Needs self.old v }
         ensures writes { (v : View) → F.view fs.old ≡ Some v → Told (F.view fs.new) (λ w. Writes (WritesOf self.old v) v w) }
@@ -103,6 +103,6 @@ impl LinkTask {
         fs.reserve(2)?;
         fs.rename(&self.stage, &self.at)?;
         self.phase = LinkPhase::Ended;
-        Ok(Turn::Done(()))
+        Ok(StepResult::Done(()))
     }
 }

@@ -13,14 +13,14 @@ ghost use Rattle.obj_store.specs.Steps.{Needs, WritesOf, Refuses, Tells, OfPhase
 use super::PutTask;
 use crate::phase::{Phase, Put};
 use crate::source::Source;
-use fs_trait::{Fs, FsErr, Node, Turn};
+use fs_trait::{Fs, FsErr, Node, StepResult};
 use ost_types::{Meta, Xattrs};
 use std::alloc::Global;
 
 impl PutTask {
     /// Does the next step: at most one changing call and two reading ones. After an error the task is unchanged, so that the
     /// step may be tried again.
-    pub fn step<F: Fs>(&mut self, fs: &mut F) -> Result<Turn<Put>, FsErr>
+    pub fn step<F: Fs>(&mut self, fs: &mut F) -> Result<StepResult<Put>, FsErr>
         requires { (v : View) → F.view fs.old ≡ Some v → Needs self.old v }
         ensures writes { (v : View) → F.view fs.old ≡ Some v → Told (F.view fs.new) (λ w. Writes (WritesOf self.old v) v w) }
         ensures after { (v : View) → F.view fs.old ≡ Some v → OnOk result (Told (F.view fs.new) (λ w. Needs self.new w)) }
@@ -41,11 +41,11 @@ impl PutTask {
             Phase::Folder => self.make_folder(fs),
             Phase::Link => self.link(fs),
             Phase::Unlink(_) => self.unlink(fs),
-            Phase::Ended(put) => Ok(Turn::Done(put)),
+            Phase::Ended(put) => Ok(StepResult::Done(put)),
         }
     }
 
-    fn look<F: Fs>(&mut self, fs: &mut F) -> Result<Turn<Put>, FsErr>
+    fn look<F: Fs>(&mut self, fs: &mut F) -> Result<StepResult<Put>, FsErr>
         requires phase { self.old.phase ≡ phase.Look }
         requires needs { (v : View) → F.view fs.old ≡ Some v → Needs self.old v }
         ensures writes { (v : View) → F.view fs.old ≡ Some v → Told (F.view fs.new) (λ w. Writes (WritesOf self.old v) v w) }
@@ -63,7 +63,7 @@ impl PutTask {
     {
         if fs.stat(&self.at)?.is_some() {
             self.phase = Phase::Ended(Put::Present);
-            return Ok(Turn::Done(Put::Present));
+            return Ok(StepResult::Done(Put::Present));
         }
         match &mut self.source {
             Source::File(staging) => {
@@ -72,10 +72,10 @@ impl PutTask {
             }
             Source::Link { .. } => self.phase = Phase::Folder,
         }
-        Ok(Turn::More)
+        Ok(StepResult::More)
     }
 
-    fn stage<F: Fs>(&mut self, fs: &mut F) -> Result<Turn<Put>, FsErr>
+    fn stage<F: Fs>(&mut self, fs: &mut F) -> Result<StepResult<Put>, FsErr>
         requires phase { self.old.phase ≡ phase.Stage }
         requires needs { (v : View) → F.view fs.old ≡ Some v → Needs self.old v }
         ensures writes { (v : View) → F.view fs.old ≡ Some v → Told (F.view fs.new) (λ w. Writes (WritesOf self.old v) v w) }
@@ -95,13 +95,13 @@ impl PutTask {
             unreachable!()
         };
         match staging.step(fs)? {
-            Turn::More => {}
-            Turn::Done(()) => self.phase = Phase::Folder,
+            StepResult::More => {}
+            StepResult::Done(()) => self.phase = Phase::Folder,
         }
-        Ok(Turn::More)
+        Ok(StepResult::More)
     }
 
-    fn make_folder<F: Fs>(&mut self, fs: &mut F) -> Result<Turn<Put>, FsErr>
+    fn make_folder<F: Fs>(&mut self, fs: &mut F) -> Result<StepResult<Put>, FsErr>
         requires phase { self.old.phase ≡ phase.Folder }
         requires needs { (v : View) → F.view fs.old ≡ Some v → Needs self.old v }
         ensures writes { (v : View) → F.view fs.old ≡ Some v → Told (F.view fs.new) (λ w. Writes (WritesOf self.old v) v w) }
@@ -123,10 +123,10 @@ impl PutTask {
             Some(_) => return Err(FsErr::NotFolder),
         }
         self.phase = Phase::Link;
-        Ok(Turn::More)
+        Ok(StepResult::More)
     }
 
-    fn link<F: Fs>(&mut self, fs: &mut F) -> Result<Turn<Put>, FsErr>
+    fn link<F: Fs>(&mut self, fs: &mut F) -> Result<StepResult<Put>, FsErr>
         requires phase { self.old.phase ≡ phase.Link }
         requires needs { (v : View) → F.view fs.old ≡ Some v → Needs self.old v }
         ensures writes { (v : View) → F.view fs.old ≡ Some v → Told (F.view fs.new) (λ w. Writes (WritesOf self.old v) v w) }
@@ -153,7 +153,7 @@ impl PutTask {
         Ok(self.shown(Put::Stored))
     }
 
-    fn unlink<F: Fs>(&mut self, fs: &mut F) -> Result<Turn<Put>, FsErr>
+    fn unlink<F: Fs>(&mut self, fs: &mut F) -> Result<StepResult<Put>, FsErr>
         requires phase { IsUnlink self.old.phase }
         requires needs { (v : View) → F.view fs.old ≡ Some v → Needs self.old v }
         ensures writes { (v : View) → F.view fs.old ≡ Some v → Told (F.view fs.new) (λ w. Writes (WritesOf self.old v) v w) }
@@ -177,11 +177,11 @@ impl PutTask {
         };
         fs.unlink(staging.stage())?;
         self.phase = Phase::Ended(put);
-        Ok(Turn::Done(put))
+        Ok(StepResult::Done(put))
     }
 
     // the object's path is seen to; a file's staging path is still there
-    fn shown(&mut self, put: Put) -> Turn<Put>
+    fn shown(&mut self, put: Put) -> StepResult<Put>
         requires { self.old.phase ≡ phase.Link }
         ensures next { self.new ≡ shown_next put self.old }
         ensures turn { result ≡ shown_turn put self.old }
@@ -189,11 +189,11 @@ impl PutTask {
         match self.source {
             Source::File(_) => {
                 self.phase = Phase::Unlink(put);
-                Turn::More
+                StepResult::More
             }
             Source::Link { .. } => {
                 self.phase = Phase::Ended(put);
-                Turn::Done(put)
+                StepResult::Done(put)
             }
         }
     }

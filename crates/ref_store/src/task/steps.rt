@@ -14,7 +14,7 @@ use super::RefTask;
 use crate::RefRefusal;
 use crate::lookup::{There, look};
 use crate::phase::Phase;
-use fs_trait::{Fs, FsErr, Need, Turn};
+use fs_trait::{Fs, FsErr, Need, StepResult};
 use ost_types::{Bytes, Csum, Meta, NoMemory, TryCopy, Xattrs};
 use ref_room::{Clearing, Way, ref_folder};
 use repo_layout::{ref_path, ref_text, stage_path};
@@ -24,7 +24,7 @@ use std::alloc::Global;
 impl RefTask {
     /// Does the next step: at most one changing call, or two reading calls. After an error and after a refusal the task is
     /// unchanged, so that the step may be tried again.
-    pub fn step<F: Fs>(&mut self, fs: &mut F) -> Result<Turn<Result<(), RefRefusal>>, FsErr>
+    pub fn step<F: Fs>(&mut self, fs: &mut F) -> Result<StepResult<Result<(), RefRefusal>>, FsErr>
         requires { (v : View) → F.view fs.old ≡ Some v → Needs self.old v }
         ensures writes { (v : View) → F.view fs.old ≡ Some v → Told (F.view fs.new) (λ w. Writes (WritesOf self.old v) v w) }
         ensures after { (v : View) → F.view fs.old ≡ Some v → OnOk result (Told (F.view fs.new) (λ w. Needs self.new w)) }
@@ -47,11 +47,11 @@ impl RefTask {
             Phase::Put(_) => self.put(fs),
             Phase::Unlink => self.unlink(fs),
             Phase::SyncFolder => self.sync_folder(fs),
-            Phase::Ended => Ok(Turn::Done(Ok(()))),
+            Phase::Ended => Ok(StepResult::Done(Ok(()))),
         }
     }
 
-    fn look<F: Fs>(&mut self, fs: &mut F) -> Result<Turn<Result<(), RefRefusal>>, FsErr>
+    fn look<F: Fs>(&mut self, fs: &mut F) -> Result<StepResult<Result<(), RefRefusal>>, FsErr>
         requires phase { IsLook self.old.phase }
         requires needs { (v : View) → F.view fs.old ≡ Some v → Needs self.old v }
         ensures writes { (v : View) → F.view fs.old ≡ Some v → Told (F.view fs.new) (λ w. Writes (WritesOf self.old v) v w) }
@@ -75,10 +75,10 @@ impl RefTask {
         let now = commit_of(there);
         if now != self.seen {
             let seen = self.seen;
-            return Ok(Turn::Done(Err(RefRefusal::RefMoved { seen, now })));
+            return Ok(StepResult::Done(Err(RefRefusal::RefMoved { seen, now })));
         }
         self.phase = self.begun(there)?;
-        Ok(Turn::More)
+        Ok(StepResult::More)
     }
 
     // what follows the look
@@ -95,7 +95,7 @@ impl RefTask {
         })
     }
 
-    fn clear<F: Fs>(&mut self, fs: &mut F) -> Result<Turn<Result<(), RefRefusal>>, FsErr>
+    fn clear<F: Fs>(&mut self, fs: &mut F) -> Result<StepResult<Result<(), RefRefusal>>, FsErr>
         requires phase { IsClear self.old.phase }
         requires needs { (v : View) → F.view fs.old ≡ Some v → Needs self.old v }
         ensures writes { (v : View) → F.view fs.old ≡ Some v → Told (F.view fs.new) (λ w. Writes (WritesOf self.old v) v w) }
@@ -115,16 +115,16 @@ impl RefTask {
             unreachable!()
         };
         match clearing.step(fs)? {
-            Turn::More => Ok(Turn::More),
-            Turn::Done(Some(other)) => Ok(Turn::Done(Err(RefRefusal::RefClash(other)))),
-            Turn::Done(None) => {
+            StepResult::More => Ok(StepResult::More),
+            StepResult::Done(Some(other)) => Ok(StepResult::Done(Err(RefRefusal::RefClash(other)))),
+            StepResult::Done(None) => {
                 self.phase = Phase::Walk(Way::new(self.alloc, self.name.copy()?)?);
-                Ok(Turn::More)
+                Ok(StepResult::More)
             }
         }
     }
 
-    fn walk<F: Fs>(&mut self, fs: &mut F) -> Result<Turn<Result<(), RefRefusal>>, FsErr>
+    fn walk<F: Fs>(&mut self, fs: &mut F) -> Result<StepResult<Result<(), RefRefusal>>, FsErr>
         requires phase { IsWalk self.old.phase }
         requires needs { (v : View) → F.view fs.old ≡ Some v → Needs self.old v }
         ensures writes { (v : View) → F.view fs.old ≡ Some v → Told (F.view fs.new) (λ w. Writes (WritesOf self.old v) v w) }
@@ -145,14 +145,14 @@ impl RefTask {
         };
         let was_over = way.is_over();
         match way.step(fs)? {
-            Turn::More => Ok(Turn::More),
-            Turn::Done(Some(other)) => Ok(Turn::Done(Err(RefRefusal::RefClash(other)))),
-            Turn::Done(None) => {
+            StepResult::More => Ok(StepResult::More),
+            StepResult::Done(Some(other)) => Ok(StepResult::Done(Err(RefRefusal::RefClash(other)))),
+            StepResult::Done(None) => {
                 if !was_over {
-                    return Ok(Turn::More);
+                    return Ok(StepResult::More);
                 }
                 self.phase = Phase::Put(self.new_file()?);
-                Ok(Turn::More)
+                Ok(StepResult::More)
             }
         }
     }
@@ -172,11 +172,11 @@ impl RefTask {
             meta: file_meta(self.alloc),
             bytes: file_bytes(self.alloc, commit)?,
             show: Show::Rename,
-            lock: Need::Turn,
+            lock: Need::RefLock,
         }))
     }
 
-    fn put<F: Fs>(&mut self, fs: &mut F) -> Result<Turn<Result<(), RefRefusal>>, FsErr>
+    fn put<F: Fs>(&mut self, fs: &mut F) -> Result<StepResult<Result<(), RefRefusal>>, FsErr>
         requires phase { IsPut self.old.phase }
         requires needs { (v : View) → F.view fs.old ≡ Some v → Needs self.old v }
         ensures writes { (v : View) → F.view fs.old ≡ Some v → Told (F.view fs.new) (λ w. Writes (WritesOf self.old v) v w) }
@@ -197,15 +197,15 @@ impl RefTask {
             unreachable!()
         };
         match file.step(fs)? {
-            Turn::More => Ok(Turn::More),
-            Turn::Done(()) => {
+            StepResult::More => Ok(StepResult::More),
+            StepResult::Done(()) => {
                 self.phase = Phase::Ended;
-                Ok(Turn::Done(Ok(())))
+                Ok(StepResult::Done(Ok(())))
             }
         }
     }
 
-    fn unlink<F: Fs>(&mut self, fs: &mut F) -> Result<Turn<Result<(), RefRefusal>>, FsErr>
+    fn unlink<F: Fs>(&mut self, fs: &mut F) -> Result<StepResult<Result<(), RefRefusal>>, FsErr>
         requires phase { IsUnlink self.old.phase }
         requires needs { (v : View) → F.view fs.old ≡ Some v → Needs self.old v }
         ensures writes { (v : View) → F.view fs.old ≡ Some v → Told (F.view fs.new) (λ w. Writes (WritesOf self.old v) v w) }
@@ -228,10 +228,13 @@ impl RefTask {
         fs.unlink(&at)?;
         self.folder = Some(folder);
         self.phase = Phase::SyncFolder;
-        Ok(Turn::More)
+        Ok(StepResult::More)
     }
 
-    fn sync_folder<F: Fs>(&mut self, fs: &mut F) -> Result<Turn<Result<(), RefRefusal>>, FsErr>
+    fn sync_folder<F: Fs>(
+        &mut self,
+        fs: &mut F,
+    ) -> Result<StepResult<Result<(), RefRefusal>>, FsErr>
         requires phase { IsSyncFolder self.old.phase }
         requires needs { (v : View) → F.view fs.old ≡ Some v → Needs self.old v }
         ensures writes { (v : View) → F.view fs.old ≡ Some v → Told (F.view fs.new) (λ w. Writes (WritesOf self.old v) v w) }
@@ -253,7 +256,7 @@ impl RefTask {
         };
         fs.sync_dir(folder)?;
         self.phase = Phase::Ended;
-        Ok(Turn::Done(Ok(())))
+        Ok(StepResult::Done(Ok(())))
     }
 }
 

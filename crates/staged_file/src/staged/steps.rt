@@ -11,7 +11,7 @@ ghost use Rattle.staged_file.specs.Steps.{Needs, WritesOf, Refuses};
 
 use super::StagedFile;
 use crate::Phase;
-use fs_trait::{Fs, FsErr, Node, Turn};
+use fs_trait::{Fs, FsErr, Node, StepResult};
 
 /// The most bytes that one step appends.
 const PIECE: usize = 1 << 20;
@@ -25,7 +25,7 @@ fn is_folder(node: &Option<Node>) -> bool
 impl StagedFile {
     /// Does the next step: at most one changing call, and one reading call before it. After an error the task is
     /// unchanged, so that the step may be tried again.
-    pub fn step<F: Fs>(&mut self, fs: &mut F) -> Result<Turn<()>, FsErr>
+    pub fn step<F: Fs>(&mut self, fs: &mut F) -> Result<StepResult<()>, FsErr>
         requires { (v : View) → F.view fs.old ≡ Some v → Needs self.old v }
         ensures writes { (v : View) → F.view fs.old ≡ Some v → Told (F.view fs.new) (λ w. Writes (WritesOf self.old v) v w) }
         ensures after { (v : View) → F.view fs.old ≡ Some v → OnOk result (Told (F.view fs.new) (λ w. Needs self.new w)) }
@@ -49,7 +49,7 @@ impl StagedFile {
             Phase::Add => self.add(fs),
             Phase::Unlink => self.unlink(fs),
             Phase::SyncFolder => self.sync_folder(fs),
-            Phase::Ended => Ok(Turn::Done(())),
+            Phase::Ended => Ok(StepResult::Done(())),
         }
     }
 
@@ -79,7 +79,7 @@ impl StagedFile {
         }
     }
 
-    fn clear<F: Fs>(&mut self, fs: &mut F) -> Result<Turn<()>, FsErr>
+    fn clear<F: Fs>(&mut self, fs: &mut F) -> Result<StepResult<()>, FsErr>
         requires phase { self.old.phase ≡ phase.Clear }
         requires needs { (v : View) → F.view fs.old ≡ Some v → Needs self.old v }
         ensures writes { (v : View) → F.view fs.old ≡ Some v → Told (F.view fs.new) (λ w. Writes (WritesOf self.old v) v w) }
@@ -98,10 +98,10 @@ impl StagedFile {
             fs.unlink(&self.plan.stage)?;
         }
         self.phase = Phase::Create;
-        Ok(Turn::More)
+        Ok(StepResult::More)
     }
 
-    fn create<F: Fs>(&mut self, fs: &mut F) -> Result<Turn<()>, FsErr>
+    fn create<F: Fs>(&mut self, fs: &mut F) -> Result<StepResult<()>, FsErr>
         requires phase { self.old.phase ≡ phase.Create }
         requires needs { (v : View) → F.view fs.old ≡ Some v → Needs self.old v }
         ensures writes { (v : View) → F.view fs.old ≡ Some v → Told (F.view fs.new) (λ w. Writes (WritesOf self.old v) v w) }
@@ -118,10 +118,10 @@ impl StagedFile {
     {
         fs.create(&self.plan.stage, &self.plan.meta)?;
         self.filled(0);
-        Ok(Turn::More)
+        Ok(StepResult::More)
     }
 
-    fn append<F: Fs>(&mut self, fs: &mut F) -> Result<Turn<()>, FsErr>
+    fn append<F: Fs>(&mut self, fs: &mut F) -> Result<StepResult<()>, FsErr>
         requires phase { self.old.phase ≡ phase.Append }
         requires needs { (v : View) → F.view fs.old ≡ Some v → Needs self.old v }
         ensures writes { (v : View) → F.view fs.old ≡ Some v → Told (F.view fs.new) (λ w. Writes (WritesOf self.old v) v w) }
@@ -140,10 +140,10 @@ impl StagedFile {
         let piece = &self.plan.bytes.as_slice()[self.written..end];
         fs.append(&self.plan.stage, piece)?;
         self.filled(end);
-        Ok(Turn::More)
+        Ok(StepResult::More)
     }
 
-    fn sync_file<F: Fs>(&mut self, fs: &mut F) -> Result<Turn<()>, FsErr>
+    fn sync_file<F: Fs>(&mut self, fs: &mut F) -> Result<StepResult<()>, FsErr>
         requires phase { self.old.phase ≡ phase.SyncFile }
         requires needs { (v : View) → F.view fs.old ≡ Some v → Needs self.old v }
         ensures writes { (v : View) → F.view fs.old ≡ Some v → Told (F.view fs.new) (λ w. Writes (WritesOf self.old v) v w) }
@@ -160,10 +160,10 @@ impl StagedFile {
     {
         fs.sync_file(&self.plan.stage)?;
         self.phase = self.plan.show.first_phase();
-        Ok(Turn::More)
+        Ok(StepResult::More)
     }
 
-    fn look<F: Fs>(&mut self, fs: &mut F) -> Result<Turn<()>, FsErr>
+    fn look<F: Fs>(&mut self, fs: &mut F) -> Result<StepResult<()>, FsErr>
         requires phase { self.old.phase ≡ phase.Look }
         requires needs { (v : View) → F.view fs.old ≡ Some v → Needs self.old v }
         ensures writes { (v : View) → F.view fs.old ≡ Some v → Told (F.view fs.new) (λ w. Writes (WritesOf self.old v) v w) }
@@ -182,10 +182,10 @@ impl StagedFile {
             return Err(FsErr::Exists);
         }
         self.phase = Phase::Replace;
-        Ok(Turn::More)
+        Ok(StepResult::More)
     }
 
-    fn replace<F: Fs>(&mut self, fs: &mut F) -> Result<Turn<()>, FsErr>
+    fn replace<F: Fs>(&mut self, fs: &mut F) -> Result<StepResult<()>, FsErr>
         requires phase { self.old.phase ≡ phase.Replace }
         requires needs { (v : View) → F.view fs.old ≡ Some v → Needs self.old v }
         ensures writes { (v : View) → F.view fs.old ≡ Some v → Told (F.view fs.new) (λ w. Writes (WritesOf self.old v) v w) }
@@ -203,10 +203,10 @@ impl StagedFile {
         fs.reserve(2)?;
         fs.rename(&self.plan.stage, &self.plan.at)?;
         self.phase = Phase::SyncFolder;
-        Ok(Turn::More)
+        Ok(StepResult::More)
     }
 
-    fn add<F: Fs>(&mut self, fs: &mut F) -> Result<Turn<()>, FsErr>
+    fn add<F: Fs>(&mut self, fs: &mut F) -> Result<StepResult<()>, FsErr>
         requires phase { self.old.phase ≡ phase.Add }
         requires needs { (v : View) → F.view fs.old ≡ Some v → Needs self.old v }
         ensures writes { (v : View) → F.view fs.old ≡ Some v → Told (F.view fs.new) (λ w. Writes (WritesOf self.old v) v w) }
@@ -227,10 +227,10 @@ impl StagedFile {
             fs.link(&self.plan.stage, &self.plan.at)?;
         }
         self.phase = Phase::Unlink;
-        Ok(Turn::More)
+        Ok(StepResult::More)
     }
 
-    fn unlink<F: Fs>(&mut self, fs: &mut F) -> Result<Turn<()>, FsErr>
+    fn unlink<F: Fs>(&mut self, fs: &mut F) -> Result<StepResult<()>, FsErr>
         requires phase { self.old.phase ≡ phase.Unlink }
         requires needs { (v : View) → F.view fs.old ≡ Some v → Needs self.old v }
         ensures writes { (v : View) → F.view fs.old ≡ Some v → Told (F.view fs.new) (λ w. Writes (WritesOf self.old v) v w) }
@@ -247,10 +247,10 @@ impl StagedFile {
     {
         fs.unlink(&self.plan.stage)?;
         self.phase = Phase::SyncFolder;
-        Ok(Turn::More)
+        Ok(StepResult::More)
     }
 
-    fn sync_folder<F: Fs>(&mut self, fs: &mut F) -> Result<Turn<()>, FsErr>
+    fn sync_folder<F: Fs>(&mut self, fs: &mut F) -> Result<StepResult<()>, FsErr>
         requires phase { self.old.phase ≡ phase.SyncFolder }
         requires needs { (v : View) → F.view fs.old ≡ Some v → Needs self.old v }
         ensures writes { (v : View) → F.view fs.old ≡ Some v → Told (F.view fs.new) (λ w. Writes (WritesOf self.old v) v w) }
@@ -267,6 +267,6 @@ impl StagedFile {
     {
         fs.sync_dir(&self.plan.folder)?;
         self.phase = Phase::Ended;
-        Ok(Turn::Done(()))
+        Ok(StepResult::Done(()))
     }
 }

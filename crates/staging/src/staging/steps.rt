@@ -11,7 +11,7 @@ ghost use Rattle.staging.specs.Steps.{Needs, WritesOf, Refuses};
 
 use super::Staging;
 use crate::Phase;
-use fs_trait::{Fs, FsErr, Turn};
+use fs_trait::{Fs, FsErr, StepResult};
 
 /// The most bytes that one step appends.
 const PIECE: usize = 1 << 20;
@@ -19,7 +19,7 @@ const PIECE: usize = 1 << 20;
 impl Staging {
     /// Does the next step: at most one changing call, and one reading call before it. After an error the task is
     /// unchanged, so that the step may be tried again.
-    pub fn step<F: Fs>(&mut self, fs: &mut F) -> Result<Turn<()>, FsErr>
+    pub fn step<F: Fs>(&mut self, fs: &mut F) -> Result<StepResult<()>, FsErr>
         requires { (v : View) → F.view fs.old ≡ Some v → Needs self.old v }
         ensures writes { (v : View) → F.view fs.old ≡ Some v → Told (F.view fs.new) (λ w. Writes (WritesOf self.old v) v w) }
         ensures after { (v : View) → F.view fs.old ≡ Some v → OnOk result (Told (F.view fs.new) (λ w. Needs self.new w)) }
@@ -38,7 +38,7 @@ impl Staging {
             Phase::Create => self.create(fs),
             Phase::Append => self.append(fs),
             Phase::SyncFile => self.sync_file(fs),
-            Phase::Ended => Ok(Turn::Done(())),
+            Phase::Ended => Ok(StepResult::Done(())),
         }
     }
 
@@ -68,7 +68,7 @@ impl Staging {
         }
     }
 
-    fn clear<F: Fs>(&mut self, fs: &mut F) -> Result<Turn<()>, FsErr>
+    fn clear<F: Fs>(&mut self, fs: &mut F) -> Result<StepResult<()>, FsErr>
         requires phase { self.old.phase ≡ phase.Clear }
         requires needs { (v : View) → F.view fs.old ≡ Some v → Needs self.old v }
         ensures writes { (v : View) → F.view fs.old ≡ Some v → Told (F.view fs.new) (λ w. Writes (WritesOf self.old v) v w) }
@@ -87,10 +87,10 @@ impl Staging {
             fs.unlink(&self.plan.stage)?;
         }
         self.phase = Phase::Create;
-        Ok(Turn::More)
+        Ok(StepResult::More)
     }
 
-    fn create<F: Fs>(&mut self, fs: &mut F) -> Result<Turn<()>, FsErr>
+    fn create<F: Fs>(&mut self, fs: &mut F) -> Result<StepResult<()>, FsErr>
         requires phase { self.old.phase ≡ phase.Create }
         requires needs { (v : View) → F.view fs.old ≡ Some v → Needs self.old v }
         ensures writes { (v : View) → F.view fs.old ≡ Some v → Told (F.view fs.new) (λ w. Writes (WritesOf self.old v) v w) }
@@ -107,10 +107,10 @@ impl Staging {
     {
         fs.create(&self.plan.stage, &self.plan.meta)?;
         self.filled(0);
-        Ok(Turn::More)
+        Ok(StepResult::More)
     }
 
-    fn append<F: Fs>(&mut self, fs: &mut F) -> Result<Turn<()>, FsErr>
+    fn append<F: Fs>(&mut self, fs: &mut F) -> Result<StepResult<()>, FsErr>
         requires phase { self.old.phase ≡ phase.Append }
         requires needs { (v : View) → F.view fs.old ≡ Some v → Needs self.old v }
         ensures writes { (v : View) → F.view fs.old ≡ Some v → Told (F.view fs.new) (λ w. Writes (WritesOf self.old v) v w) }
@@ -129,10 +129,10 @@ impl Staging {
         let piece = &self.plan.bytes.as_slice()[self.written..end];
         fs.append(&self.plan.stage, piece)?;
         self.filled(end);
-        Ok(Turn::More)
+        Ok(StepResult::More)
     }
 
-    fn sync_file<F: Fs>(&mut self, fs: &mut F) -> Result<Turn<()>, FsErr>
+    fn sync_file<F: Fs>(&mut self, fs: &mut F) -> Result<StepResult<()>, FsErr>
         requires phase { self.old.phase ≡ phase.SyncFile }
         requires needs { (v : View) → F.view fs.old ≡ Some v → Needs self.old v }
         ensures writes { (v : View) → F.view fs.old ≡ Some v → Told (F.view fs.new) (λ w. Writes (WritesOf self.old v) v w) }
@@ -149,6 +149,6 @@ impl Staging {
     {
         fs.sync_file(&self.plan.stage)?;
         self.phase = Phase::Ended;
-        Ok(Turn::Done(()))
+        Ok(StepResult::Done(()))
     }
 }

@@ -1,6 +1,6 @@
 use Rattle.std.proofs.Common.{◌≡◌, true, false, Ok, sym, ◌∙◌, ap, subst, arith}
 use Rattle.std.proofs.lemmas.Result.{err_from_is_err_and}
-use Rattle.fs_trait.specs.declared.task.Turn.TheVariants.{Done}
+use Rattle.fs_trait.specs.declared.task.StepResult.TheVariants.{Done}
 use Rattle.fs_trait.proofs.Quiet.{IsQuiet-refl, IsQuiet-trans}
 use Rattle.tree_read.specs.Reading.{IsStepped, StepTells}
 use Rattle.tree_read.specs.Whole.{ReadsTree}

@@ -1,5 +1,5 @@
 use Rattle.std.proofs.Common.{refl, ◌∙◌, ap}
-use Rattle.fs_trait.specs.declared.task.Turn.TheVariants.{More, Done}
+use Rattle.fs_trait.specs.declared.task.StepResult.TheVariants.{More, Done}
 use Rattle.checkout_work.specs.declared.made.Made.TheVariants as made
 use Rattle.checkout_work.proofs.Making.{told_makes, told_refused, told_writes}
 use Rattle.checkout_work.proofs.make.Make.make.Goals as goal

@@ -1,5 +1,5 @@
 use Rattle.std.proofs.Common.{Err, ◌∙◌, ap}
-use Rattle.fs_trait.specs.declared.task.Turn.TheVariants.{Done}
+use Rattle.fs_trait.specs.declared.task.StepResult.TheVariants.{Done}
 use Rattle.checkout_work.proofs.Reading.{damaged_told}
 use Rattle.checkout_work.proofs.read.Read.step.Goals as goal
 

@@ -1,5 +1,5 @@
 use Rattle.std.proofs.Common.{◌≡◌, Ok, sym, ◌∙◌, ap, subst}
-use Rattle.fs_trait.specs.declared.task.Turn.TheVariants.{More, Done}
+use Rattle.fs_trait.specs.declared.task.StepResult.TheVariants.{More, Done}
 use Rattle.folder_build.specs.Steps.{Needs}
 use Rattle.folder_build.proofs.Clearing.{clear_ends, clear_goes, clear_needs, made_goes, stepped_done, stepped_more, told_both, told_with}
 use Rattle.folder_build.proofs.build.BuildTask.clear.Goals as goal

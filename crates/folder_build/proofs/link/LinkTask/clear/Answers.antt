@@ -1,5 +1,5 @@
 use Rattle.std.proofs.Common.{◌≡◌, Ok, sym, ◌∙◌, ap, subst}
-use Rattle.fs_trait.specs.declared.task.Turn.TheVariants.{More, Done}
+use Rattle.fs_trait.specs.declared.task.StepResult.TheVariants.{More, Done}
 use Rattle.folder_build.specs.LinkSteps.{Needs}
 use Rattle.folder_build.proofs.Clearing.{stepped_done, stepped_more, told_both}
 use Rattle.folder_build.proofs.Linking.{clear_ends, clear_goes, clear_needs, made_goes}

@@ -1,5 +1,5 @@
 use Rattle.std.proofs.Common.{Ok, Err, ◌∙◌, ap, subst}
-use Rattle.fs_trait.specs.declared.task.Turn.TheVariants.{Done}
+use Rattle.fs_trait.specs.declared.task.StepResult.TheVariants.{Done}
 use Rattle.tree_read.specs.Reading.{IsStepped}
 use Rattle.read_work.proofs.Lists.{all_read, damaged_listed}
 use Rattle.read_work.proofs.ls.Ls.step.Goals as goal

@@ -1,7 +1,7 @@
 //! Values as GLib makes them, and the cases that the format singles out.
 
-use super::*;
-use crate::vectors::VECTORS;
+use crate::gvariant_vectors::VECTORS;
+use gv_core::*;
 use std::alloc::Global;
 use std::process::Abort;
 use std::test::Fail;

@@ -2,10 +2,10 @@
 
 ghost use Rattle.std.specs.Prelude.{◌≡◌, []};
 
-use crate::TreeBuild;
 use ost_forms::TreeItem;
 use ost_types::{FsPath, Limits};
 use std::alloc::Global;
+use tree_build::TreeBuild;
 
 fn nothing(alloc: Global) -> Vec<TreeItem>
     ensures { result.items ≡ [] }

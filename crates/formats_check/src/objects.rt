@@ -1,11 +1,11 @@
 //! Objects as ostree makes them, the worked examples, and each fault of the check.
 
-use super::*;
-use crate::vectors::{MANY, OBJECTS};
+use crate::objects_vectors::{MANY, OBJECTS};
 use ost_forms::{
     BodySpec, Commit, ObjFault, TreeItem, read_commit, read_content, read_dirmeta, read_dirtree,
     sum_of, write_commit,
 };
+use ost_objects::*;
 use ost_types::{Bytes, Csum, FsPath, Kind, Limits, Meta, ObjName, Text, TryCopy, Xattrs};
 use std::alloc::Global;
 use std::process::Abort;

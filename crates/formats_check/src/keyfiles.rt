@@ -1,4 +1,4 @@
-use crate::{KeyFault, KeyLine, read_keyfile, write_keyfile};
+use keyfile::{KeyFault, KeyLine, read_keyfile, write_keyfile};
 use std::alloc::{AllocError, Global};
 use std::test::Fail;
 

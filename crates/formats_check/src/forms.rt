@@ -1,4 +1,4 @@
-use crate::{
+use ost_forms::{
     ObjFault, read_content, read_dirmeta, read_dirtree, sum_of, write_content, write_dirmeta,
     write_dirtree,
 };

@@ -1,8 +1,8 @@
-use crate::{
-    Answer, Command, Lane, LogRow, LsRow, Reply, Rev, ScriptFault, read_words, write_replies,
-};
 use ost_types::{Bytes, Csum, FsPath, NoMemory, Text};
 use repo_layout::RefName;
+use script::{
+    Answer, Command, Lane, LogRow, LsRow, Reply, Rev, ScriptFault, read_words, write_replies,
+};
 use std::alloc::Global;
 use std::process::Abort;
 use std::test::Fail;

@@ -1,9 +1,9 @@
-use crate::{
+use ost_types::{Csum, FsPath, Kind, NoMemory, ObjName, TryCopy};
+use repo_layout::{
     Folder, OsName, RefName, config_path, deploy_path, folder_path, mark_path, names_of_paths,
     object_path, objects_folder_path, places_of_boots, places_of_things, read_ref, ref_path,
     ref_text, stage_path,
 };
-use ost_types::{Csum, FsPath, Kind, NoMemory, ObjName, TryCopy};
 use std::alloc::{AllocError, Global};
 use std::process::Abort;
 use std::test::Fail;

@@ -1,4 +1,4 @@
-use crate::{
+use ost_types::{
     Bytes, Csum, FsPath, Kind, Limits, Meta, Name, Names, NodeName, ObjName, PathFault, PathMap,
     Text, TryCopy, Xattrs, is_file_mode, is_folder_mode, is_link_mode,
 };

@@ -1,4 +1,4 @@
-use crate::{BlsFault, can_be_written, ostree_value, read_entry, write_entry};
+use bls_entry::{BlsFault, can_be_written, ostree_value, read_entry, write_entry};
 use std::alloc::{AllocError, Global};
 use std::test::Fail;
 

@@ -1,4 +1,4 @@
-use crate::{config_text, is_config};
+use repo_config::{config_text, is_config};
 use std::test::Fail;
 
 #[test]

@@ -1,6 +1,6 @@
 ghost use Rattle.std.specs.Prelude.{◌≡◌};
 
-use crate::{Choice, FailAt, MemFs, MemSink, MemSource};
+use fs_memory::{Choice, FailAt, MemFs, MemSink, MemSource};
 use fs_trait::{Fs, FsErr, Node, Sink, SinkErr, Source, SourceErr};
 use ost_types::{Bytes, FsPath, Meta, Text, Xattrs, is_file_mode, is_folder_mode, is_link_mode};
 use std::alloc::Global;

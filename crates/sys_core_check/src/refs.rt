@@ -1,5 +1,5 @@
-use crate::RefBook;
 use ost_types::{Csum, NoMemory};
+use ref_book::RefBook;
 use rely::Event;
 use repo_layout::RefName;
 use std::alloc::Global;

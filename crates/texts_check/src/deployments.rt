@@ -1,5 +1,5 @@
-use crate::{Dep, KernelFault, bootcsum, kept_behind, kver_of, serial_for};
 use boot_model::DepId;
+use deploy_list::{Dep, KernelFault, bootcsum, kept_behind, kver_of, serial_for};
 use ost_types::{Csum, FsPath, Meta, NoMemory, NodeName, PathMap, Texts, Xattrs, is_folder_mode};
 use repo_layout::OsName;
 use std::alloc::Global;

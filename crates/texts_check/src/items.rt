@@ -1,4 +1,4 @@
-use crate::{BootItem, DepId, Kernel, entry_text};
+use boot_model::{BootItem, DepId, Kernel, entry_text};
 use ost_types::{Csum, Name, Text, Texts};
 use repo_layout::{OsName, Version};
 use std::alloc::Global;

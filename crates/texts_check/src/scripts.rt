@@ -1,5 +1,5 @@
-use crate::{Command, ScriptFault, read_script};
 use ost_types::NoMemory;
+use script_reader::{Command, ScriptFault, read_script};
 use std::alloc::Global;
 use std::process::Abort;
 use std::test::Fail;
