@@ -9,9 +9,9 @@ use Rattle.std.specs.Bool.{Decides}
 use Rattle.std.specs.Cmp.Lexicographic.{slice_cmp, texts_ties}
 use Rattle.ost_types.specs.Path.{same_name}
 use Rattle.ost_types.proofs.Paths.{same_name-Decides}
-use Rattle.rely.specs.State.{State, RefOf, first, next}
-use Rattle.rely.specs.declared.event.Event.{Event}
-use Rattle.rely.specs.declared.event.Event.TheVariants.{SetRef, DropRef}
+use Rattle.rely_guarantee.specs.State.{State, RefOf, first, next}
+use Rattle.rely_guarantee.specs.declared.event.Event.{Event}
+use Rattle.rely_guarantee.specs.declared.event.Event.TheVariants.{SetRef, DropRef}
 use Rattle.ref_book.specs.Tracks.{Tracks, said, said_at, name_of}
 use Rattle.ref_book.specs.declared.book.RefBook.{RefBook}
 

@@ -13,7 +13,7 @@ use Rattle.std.proofs.lemmas.List.Elements.{All-contains, All-cons, All-nil, fil
 use Rattle.std.proofs.lemmas.Map.Keys.{IsDistinct-from_sorted}
 use Rattle.std.proofs.lemmas.Map.Views.{Contains-from_lookup, lookup-from_Contains}
 use Rattle.ost_types.proofs.Paths.{same_name-Decides}
-use Rattle.rely.specs.State.{State, RefOf}
+use Rattle.rely_guarantee.specs.State.{State, RefOf}
 use Rattle.ref_book.specs.Tracks.{Tracks, Lists, said, said_at}
 use Rattle.ref_book.specs.Rows.{row, rows_of}
 use Rattle.ref_book.specs.declared.book.RefBook.{RefBook}

@@ -4,9 +4,9 @@ use Rattle.std.specs.BTreeMap.{get}
 use Rattle.std.specs.Cmp.Lexicographic.{slice_cmp}
 use Rattle.std.specs.List.Sorted.{IsStrictlySortedBy}
 use Rattle.std.specs.Ordering.{nat_cmp}
-use Rattle.rely.specs.declared.event.Event.{Event}
-use Rattle.rely.specs.declared.event.Event.TheVariants.{SetRef, DropRef}
-use Rattle.rely.specs.State.{State, RefOf}
+use Rattle.rely_guarantee.specs.declared.event.Event.{Event}
+use Rattle.rely_guarantee.specs.declared.event.Event.TheVariants.{SetRef, DropRef}
+use Rattle.rely_guarantee.specs.State.{State, RefOf}
 use Rattle.ref_book.specs.declared.book.RefBook.{RefBook}
 
 -- what stands there, if there is room

@@ -1,10 +1,10 @@
 ghost use Rattle.std.specs.Prelude.{◌≡◌, ℕ, List, Some, IfOk, OnOk, if◌then◌else◌};
 ghost use Rattle.ost_types.specs.Path.{same_name};
-ghost use Rattle.rely.specs.State.{State, RefOf, first, next};
+ghost use Rattle.rely_guarantee.specs.State.{State, RefOf, first, next};
 ghost use Rattle.ref_book.specs.Tracks.{Tracks, HasRoom, Lists, name_of, said_at};
 
 use ost_types::{Csum, NoMemory, TryCopy};
-use rely::Event;
+use rely_guarantee::Event;
 use repo_layout::RefName;
 use std::alloc::Global;
 use std::collections::BTreeMap;

@@ -2,7 +2,7 @@ ghost use Rattle.std.specs.Prelude.{◌≡◌, ◌⊎◌, ◌∷◌, [], ℕ, tr
 ghost use Rattle.std.specs.List.{repeat};
 ghost use Rattle.fs_trait.specs.Image.{Told};
 ghost use Rattle.fs_trait.specs.View.{Disk, View};
-ghost use Rattle.rely.specs.Headline.{Headline};
+ghost use Rattle.rely_guarantee.specs.Headline.{Headline};
 ghost use Rattle.schedule.specs.Schedule.{acts_of};
 ghost use Rattle.schedule_run.specs.Driven.{ActsOf, Driven};
 ghost use Rattle.sys_core.specs.Booked.{IsReplied};

@@ -4,10 +4,10 @@ use Rattle.std.specs.Prelude.{unwrap_or}
 use Rattle.std.proofs.lemmas.List.{map-set, get_or-map, length-map}
 use Rattle.fs_trait.specs.View.{View}
 use Rattle.ost_types.specs.declared.limits.Limits.{Limits}
-use Rattle.rely.specs.declared.books.Base.{Base}
-use Rattle.rely.specs.declared.books.Entry.{Entry}
-use Rattle.rely.specs.declared.books.Pending.{Pending}
-use Rattle.rely.specs.State.{State, first, after, events_of}
+use Rattle.rely_guarantee.specs.declared.books.Base.{Base}
+use Rattle.rely_guarantee.specs.declared.books.Entry.{Entry}
+use Rattle.rely_guarantee.specs.declared.books.Pending.{Pending}
+use Rattle.rely_guarantee.specs.State.{State, first, after, events_of}
 use Rattle.script.specs.declared.answer.Answer.{Answer}
 use Rattle.script.specs.declared.answer.Answer.TheVariants as answer
 use Rattle.script.specs.declared.answer.Reply.{Reply}

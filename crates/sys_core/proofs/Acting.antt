@@ -6,7 +6,7 @@ use Rattle.std.specs.Global.{Vec}
 use Rattle.script.specs.declared.answer.Reply.{Reply}
 use Rattle.script.specs.declared.command.Lane.{Lane}
 use Rattle.ost_types.specs.declared.limits.Limits.{Limits}
-use Rattle.rely.specs.declared.books.Base.{Base}
+use Rattle.rely_guarantee.specs.declared.books.Base.{Base}
 use Rattle.sys_core.specs.declared.run.Run.{Run}
 use Rattle.sys_core.specs.System.{System}
 use Rattle.sys_core.specs.Booked.{Booked, HasCommand, given, replies_of}

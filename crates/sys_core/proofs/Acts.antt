@@ -4,9 +4,9 @@ use Rattle.std.proofs.lemmas.List.{length-map, set-get_or}
 use Rattle.std.specs.Global.{Vec}
 use Rattle.fs_trait.specs.View.{View}
 use Rattle.ost_types.specs.declared.limits.Limits.{Limits}
-use Rattle.rely.specs.declared.books.Base.{Base}
-use Rattle.rely.specs.declared.books.Pending.{Pending}
-use Rattle.rely.specs.State.{first}
+use Rattle.rely_guarantee.specs.declared.books.Base.{Base}
+use Rattle.rely_guarantee.specs.declared.books.Pending.{Pending}
+use Rattle.rely_guarantee.specs.State.{first}
 use Rattle.script.specs.declared.answer.Reply.{Reply}
 use Rattle.script.specs.declared.command.Command.{Command}
 use Rattle.script.specs.declared.command.Lane.{Lane}

@@ -11,60 +11,60 @@ use Rattle.ref_store.specs.declared.phase.Phase.TheVariants as phase
 use Rattle.ref_store.specs.declared.refusal.RefRefusal.{RefRefusal}
 use Rattle.ref_store.specs.declared.refusal.RefRefusal.TheVariants as refusal
 use Rattle.ref_store.specs.Change.{Change as Changing, IsRefusing}
-use Rattle.ref_work.specs.declared.work.RefWork.{RefWork}
-use Rattle.ref_work.specs.declared.look_up.LookUp.{LookUp}
-use Rattle.ref_work.specs.declared.look_up.Found.{Found}
-use Rattle.ref_work.specs.declared.look_up.Found.TheVariants.{Missing, Partial, Whole}
-use Rattle.ref_work.specs.declared.plan.Plan.{Plan}
-use Rattle.ref_work.specs.declared.command.RefCommand.{RefCommand}
-use Rattle.ref_work.specs.declared.command.RefCommand.TheVariants.{Parse, Reset, Change}
-use Rattle.ref_work.specs.Commands.{IsStop, answer_of, change_answer, command_kind, command_stepped, found_kind, parse_answer, reset_answer, reset_stepped}
-use Rattle.ref_work.specs.Kinds.{Answer as Came, event, kind_in, stepped_in}
-use Rattle.ref_work.proofs.Ends.{settles_in}
+use Rattle.ref_command.specs.declared.work.RefWork.{RefWork}
+use Rattle.ref_command.specs.declared.look_up.LookUp.{LookUp}
+use Rattle.ref_command.specs.declared.look_up.Found.{Found}
+use Rattle.ref_command.specs.declared.look_up.Found.TheVariants.{Missing, Partial, Whole}
+use Rattle.ref_command.specs.declared.plan.Plan.{Plan}
+use Rattle.ref_command.specs.declared.command.RefCommand.{RefCommand}
+use Rattle.ref_command.specs.declared.command.RefCommand.TheVariants.{Parse, Reset, Change}
+use Rattle.ref_command.specs.Commands.{IsStop, answer_of, change_answer, command_kind, command_stepped, found_kind, parse_answer, reset_answer, reset_stepped}
+use Rattle.ref_command.specs.Kinds.{Answer as Came, event, kind_in, stepped_in}
+use Rattle.ref_command.proofs.Ends.{settles_in}
 use Rattle.tree_build.specs.Items.{IsLeastBad}
 use Rattle.commit_build.specs.declared.refusal.BuildRefusal.{BuildRefusal}
 use Rattle.commit_build.specs.declared.refusal.BuildRefusal.TheVariants as built
 use Rattle.commit_build.specs.Committing.{Committing, commit_in, storing_in}
-use Rattle.commit_work.specs.declared.answer.CommitAnswer.{CommitAnswer}
-use Rattle.commit_work.specs.declared.answer.CommitAnswer.TheVariants as committed
-use Rattle.commit_work.specs.declared.naming.Naming.{Naming}
-use Rattle.commit_work.specs.declared.command.CommitCommand.{CommitCommand}
-use Rattle.commit_work.specs.Answers as commits
-use Rattle.commit_work.specs.Kinds as kinds
-use Rattle.commit_work.specs.Kinds.{BuildSteps, build_kind, kind_by, stepped_at, stepped_by}
-use Rattle.commit_work.proofs.Ends.{answered}
+use Rattle.commit_command.specs.declared.answer.CommitAnswer.{CommitAnswer}
+use Rattle.commit_command.specs.declared.answer.CommitAnswer.TheVariants as committed
+use Rattle.commit_command.specs.declared.naming.Naming.{Naming}
+use Rattle.commit_command.specs.declared.command.CommitCommand.{CommitCommand}
+use Rattle.commit_command.specs.Answers as commits
+use Rattle.commit_command.specs.Kinds as kinds
+use Rattle.commit_command.specs.Kinds.{BuildSteps, build_kind, kind_by, stepped_at, stepped_by}
+use Rattle.commit_command.proofs.Ends.{answered}
 use Rattle.script.specs.declared.rows.LogRow.{LogRow}
-use Rattle.read_work.specs.declared.answer.ReadAnswer.{ReadAnswer}
-use Rattle.read_work.specs.declared.answer.ReadAnswer.TheVariants as given
-use Rattle.read_work.specs.declared.command.ReadCommand.{ReadCommand}
-use Rattle.read_work.specs.declared.command.ReadCommand.TheVariants as read
-use Rattle.read_work.specs.declared.look.Ask.TheVariants as ask
-use Rattle.read_work.specs.Asked.{Asked, asked}
-use Rattle.read_work.specs.Fits.{Fits, IsFitting}
-use Rattle.read_work.specs.Commands.{answer_of as read_answer_of, read_kind, read_stepped}
-use Rattle.read_work.specs.LogSteps.{log_kind}
-use Rattle.checkout_work.specs.declared.answer.CheckoutAnswer.{CheckoutAnswer}
-use Rattle.checkout_work.specs.declared.answer.CheckoutAnswer.TheVariants as checkout
-use Rattle.checkout_work.specs.declared.command.CheckoutCommand.{CheckoutCommand}
-use Rattle.checkout_work.specs.Asked as checking
-use Rattle.checkout_work.specs.Fits as checkouts
-use Rattle.checkout_work.specs.Commands.{answer_of as checkout_answer_of, checkout_kind, checkout_stepped}
-use Rattle.checkout_work.proofs.Ends.{answered as checkout_answered}
-use Rattle.lane_work.specs.declared.command.LaneCommand.{LaneCommand}
-use Rattle.lane_work.specs.declared.command.LaneCommand.TheVariants as lane_work
-use Rattle.lane_work.specs.Commands as lanes
-use Rattle.lane_work.specs.Commands.{checkout_answer, lane_kind, lane_stepped, read_answer, script_answer, script_checkout, script_read}
-use Rattle.rely.specs.declared.books.Books as rust
-use Rattle.rely.specs.declared.books.Entry.{Entry}
-use Rattle.rely.specs.declared.books.Pending.{Pending}
-use Rattle.rely.specs.declared.event.Event.{Event}
-use Rattle.rely.specs.declared.event.Event.TheVariants as made
-use Rattle.rely.specs.declared.kind.Outcome.TheVariants as came
-use Rattle.rely.specs.Books.{books_of}
-use Rattle.rely.specs.Exact.{IsBooked}
-use Rattle.rely.specs.Laws.{Kind, Settle, Holds}
-use Rattle.rely.specs.State.{State, RefOf, next, after, events_of}
-use Rattle.rely.proofs.States.{after_push, events_push, next_here, topic_self}
+use Rattle.read_command.specs.declared.answer.ReadAnswer.{ReadAnswer}
+use Rattle.read_command.specs.declared.answer.ReadAnswer.TheVariants as given
+use Rattle.read_command.specs.declared.command.ReadCommand.{ReadCommand}
+use Rattle.read_command.specs.declared.command.ReadCommand.TheVariants as read
+use Rattle.read_command.specs.declared.look.Ask.TheVariants as ask
+use Rattle.read_command.specs.Asked.{Asked, asked}
+use Rattle.read_command.specs.Fits.{Fits, IsFitting}
+use Rattle.read_command.specs.Commands.{answer_of as read_answer_of, read_kind, read_stepped}
+use Rattle.read_command.specs.LogSteps.{log_kind}
+use Rattle.checkout_command.specs.declared.answer.CheckoutAnswer.{CheckoutAnswer}
+use Rattle.checkout_command.specs.declared.answer.CheckoutAnswer.TheVariants as checkout
+use Rattle.checkout_command.specs.declared.command.CheckoutCommand.{CheckoutCommand}
+use Rattle.checkout_command.specs.Asked as checking
+use Rattle.checkout_command.specs.Fits as checkouts
+use Rattle.checkout_command.specs.Commands.{answer_of as checkout_answer_of, checkout_kind, checkout_stepped}
+use Rattle.checkout_command.proofs.Ends.{answered as checkout_answered}
+use Rattle.lane_command.specs.declared.command.LaneCommand.{LaneCommand}
+use Rattle.lane_command.specs.declared.command.LaneCommand.TheVariants as lane_command
+use Rattle.lane_command.specs.Commands as lanes
+use Rattle.lane_command.specs.Commands.{checkout_answer, lane_kind, lane_stepped, read_answer, script_answer, script_checkout, script_read}
+use Rattle.rely_guarantee.specs.declared.books.Books as rust
+use Rattle.rely_guarantee.specs.declared.books.Entry.{Entry}
+use Rattle.rely_guarantee.specs.declared.books.Pending.{Pending}
+use Rattle.rely_guarantee.specs.declared.event.Event.{Event}
+use Rattle.rely_guarantee.specs.declared.event.Event.TheVariants as made
+use Rattle.rely_guarantee.specs.declared.kind.Outcome.TheVariants as came
+use Rattle.rely_guarantee.specs.Books.{books_of}
+use Rattle.rely_guarantee.specs.Exact.{IsBooked}
+use Rattle.rely_guarantee.specs.Laws.{Kind, Settle, Holds}
+use Rattle.rely_guarantee.specs.State.{State, RefOf, next, after, events_of}
+use Rattle.rely_guarantee.proofs.States.{after_push, events_push, next_here, topic_self}
 use Rattle.script.specs.declared.answer.Answer.{Answer}
 use Rattle.script.specs.declared.answer.Answer.TheVariants as answer
 use Rattle.script.specs.declared.command.Command.{Command}
@@ -72,7 +72,7 @@ use Rattle.script.specs.declared.command.Command.TheVariants as command
 use Rattle.script.specs.declared.command.Rev.{Rev}
 use Rattle.sys_core.specs.Reading.{ChecksOut, IsRev, Reads}
 use Rattle.sys_core.specs.Answers.{Answers, HasMade, HasMoved, IsChangeOf, IsFreeIn, IsHalted, LeastClashIn, Makes}
-use Rattle.commit_lasts.specs.Lasting.{sum_of}
+use Rattle.commit_durability.specs.Lasting.{sum_of}
 use Rattle.sys_core.specs.Commits.{message_in}
 use Rattle.sys_core.specs.Pursues.{Commits, Grows, IsChanging, IsNaming, NamesIn, Pursues, RefPursues}
 use Rattle.sys_core.proofs.Checkouts.{asks_same, checkout_asks}
@@ -89,8 +89,8 @@ NamingTells told p (Some n) (Some new) = told → (r : RefRefusal) → new.work.
 NamingTells told p n new = Unit {0}
 
 abbrev pub Tells : Type 0 → State → LaneCommand → LaneCommand → Type 0
-Tells told p (lane_work.Ref t) (lane_work.Ref new) = RefTells told p t new
-Tells told p (lane_work.Commit t) (lane_work.Commit new) = NamingTells told p t.change new.change
+Tells told p (lane_command.Ref t) (lane_command.Ref new) = RefTells told p t new
+Tells told p (lane_command.Commit t) (lane_command.Commit new) = NamingTells told p t.change new.change
 Tells told p t new = Unit {0}
 
 found_same : (found : Option Found) (commit : List ℕ) (lane number moment : ℕ) (old new : rust.Books) → IsBooked (found_kind found commit) lane number moment came.Done old new → new.history.items ≡ old.history.items
@@ -420,31 +420,31 @@ module _ (told : Type 0) (limits : Limits) (first : State) (lane number moment :
 
     -- what the answer of a command that is done says, and whether its change is the last one
     pub done_gives : (c : Command) (t next : LaneCommand) (a : Answer) → Pursues limits s c t → lane_stepped t (turn.Done tt) next → Holds (lane_kind t) lane (books_of old) → IsBooked (lane_kind t) lane number moment came.Done old new → Tells told p t next → lanes.answer_of next ≡ Some a → Gives c a
-    done_gives c (lane_work.Ref t) (lane_work.Ref next) a is step holds booked says e = ref_gives c t next a is step holds booked says e
-    done_gives c (lane_work.Read t) (lane_work.Read next) a is step holds booked says e = read_gives c t next a is step (read_same t lane number moment old new booked) e
-    done_gives c (lane_work.Checkout t) (lane_work.Checkout next) a is step holds booked says e = out_gives c t next a is step (asks_same (checking.asked t) (checkout_kind t) (checkout_asks t) lane number moment old new booked) e
-    done_gives c (lane_work.Ref t) (lane_work.Commit next) a is step holds booked says e = absurd step
-    done_gives c (lane_work.Ref t) (lane_work.Read next) a is step holds booked says e = absurd step
-    done_gives c (lane_work.Ref t) (lane_work.Checkout next) a is step holds booked says e = absurd step
-    done_gives c (lane_work.Commit t) (lane_work.Ref next) a is step holds booked says e = absurd step
-    done_gives c (lane_work.Commit t) (lane_work.Read next) a is step holds booked says e = absurd step
-    done_gives c (lane_work.Commit t) (lane_work.Checkout next) a is step holds booked says e = absurd step
-    done_gives c (lane_work.Read t) (lane_work.Ref next) a is step holds booked says e = absurd step
-    done_gives c (lane_work.Read t) (lane_work.Commit next) a is step holds booked says e = absurd step
-    done_gives c (lane_work.Read t) (lane_work.Checkout next) a is step holds booked says e = absurd step
-    done_gives c (lane_work.Checkout t) (lane_work.Ref next) a is step holds booked says e = absurd step
-    done_gives c (lane_work.Checkout t) (lane_work.Commit next) a is step holds booked says e = absurd step
-    done_gives c (lane_work.Checkout t) (lane_work.Read next) a is step holds booked says e = absurd step
-    done_gives (command.Commit branch tree subject body time) (lane_work.Commit t) (lane_work.Commit next) a is step holds booked says e =
+    done_gives c (lane_command.Ref t) (lane_command.Ref next) a is step holds booked says e = ref_gives c t next a is step holds booked says e
+    done_gives c (lane_command.Read t) (lane_command.Read next) a is step holds booked says e = read_gives c t next a is step (read_same t lane number moment old new booked) e
+    done_gives c (lane_command.Checkout t) (lane_command.Checkout next) a is step holds booked says e = out_gives c t next a is step (asks_same (checking.asked t) (checkout_kind t) (checkout_asks t) lane number moment old new booked) e
+    done_gives c (lane_command.Ref t) (lane_command.Commit next) a is step holds booked says e = absurd step
+    done_gives c (lane_command.Ref t) (lane_command.Read next) a is step holds booked says e = absurd step
+    done_gives c (lane_command.Ref t) (lane_command.Checkout next) a is step holds booked says e = absurd step
+    done_gives c (lane_command.Commit t) (lane_command.Ref next) a is step holds booked says e = absurd step
+    done_gives c (lane_command.Commit t) (lane_command.Read next) a is step holds booked says e = absurd step
+    done_gives c (lane_command.Commit t) (lane_command.Checkout next) a is step holds booked says e = absurd step
+    done_gives c (lane_command.Read t) (lane_command.Ref next) a is step holds booked says e = absurd step
+    done_gives c (lane_command.Read t) (lane_command.Commit next) a is step holds booked says e = absurd step
+    done_gives c (lane_command.Read t) (lane_command.Checkout next) a is step holds booked says e = absurd step
+    done_gives c (lane_command.Checkout t) (lane_command.Ref next) a is step holds booked says e = absurd step
+    done_gives c (lane_command.Checkout t) (lane_command.Commit next) a is step holds booked says e = absurd step
+    done_gives c (lane_command.Checkout t) (lane_command.Read next) a is step holds booked says e = absurd step
+    done_gives (command.Commit branch tree subject body time) (lane_command.Commit t) (lane_command.Commit next) a is step holds booked says e =
         gives_by branch tree subject body time t is t.change next a refl is.names step holds booked says e
-    done_gives (command.RevParse rev) (lane_work.Commit t) (lane_work.Commit next) a is step holds booked says e = absurd is
-    done_gives (command.Reset branch commit) (lane_work.Commit t) (lane_work.Commit next) a is step holds booked says e = absurd is
-    done_gives (command.DropRef branch) (lane_work.Commit t) (lane_work.Commit next) a is step holds booked says e = absurd is
-    done_gives (command.Log rev) (lane_work.Commit t) (lane_work.Commit next) a is step holds booked says e = absurd is
-    done_gives (command.Ls rev path) (lane_work.Commit t) (lane_work.Commit next) a is step holds booked says e = absurd is
-    done_gives (command.Cat rev path) (lane_work.Commit t) (lane_work.Commit next) a is step holds booked says e = absurd is
-    done_gives (command.Checkout rev name) (lane_work.Commit t) (lane_work.Commit next) a is step holds booked says e = absurd is
-    done_gives command.Refs (lane_work.Commit t) (lane_work.Commit next) a is step holds booked says e = absurd is
+    done_gives (command.RevParse rev) (lane_command.Commit t) (lane_command.Commit next) a is step holds booked says e = absurd is
+    done_gives (command.Reset branch commit) (lane_command.Commit t) (lane_command.Commit next) a is step holds booked says e = absurd is
+    done_gives (command.DropRef branch) (lane_command.Commit t) (lane_command.Commit next) a is step holds booked says e = absurd is
+    done_gives (command.Log rev) (lane_command.Commit t) (lane_command.Commit next) a is step holds booked says e = absurd is
+    done_gives (command.Ls rev path) (lane_command.Commit t) (lane_command.Commit next) a is step holds booked says e = absurd is
+    done_gives (command.Cat rev path) (lane_command.Commit t) (lane_command.Commit next) a is step holds booked says e = absurd is
+    done_gives (command.Checkout rev name) (lane_command.Commit t) (lane_command.Commit next) a is step holds booked says e = absurd is
+    done_gives command.Refs (lane_command.Commit t) (lane_command.Commit next) a is step holds booked says e = absurd is
 
 change_has : (r : Came) (old new : Changing) → stepped_in (turn.Done tt) r old new → IsSome (change_answer r)
 change_has None old new step = absurd step
@@ -489,19 +489,19 @@ script_has (Some committed.NoRef) some = refl
 
 -- a command that is done has an answer
 pub done_has : (t next : LaneCommand) → lane_stepped t (turn.Done tt) next → IsSome (lanes.answer_of next)
-done_has (lane_work.Ref t) (lane_work.Ref next) step = ref_has t next step
-done_has (lane_work.Commit t) (lane_work.Commit next) step = script_has (commits.answer_of next) (answered t next step)
-done_has (lane_work.Read t) (lane_work.Read next) step = subst (λ x. IsSome (script_read (read_answer_of x))) (sym step.1) refl
-done_has (lane_work.Checkout t) (lane_work.Checkout next) step = let r = checkout_answered t next step in subst (λ o. IsSome (script_checkout o)) (sym r.1) refl
-done_has (lane_work.Ref t) (lane_work.Commit next) step = absurd step
-done_has (lane_work.Ref t) (lane_work.Read next) step = absurd step
-done_has (lane_work.Ref t) (lane_work.Checkout next) step = absurd step
-done_has (lane_work.Commit t) (lane_work.Ref next) step = absurd step
-done_has (lane_work.Commit t) (lane_work.Read next) step = absurd step
-done_has (lane_work.Commit t) (lane_work.Checkout next) step = absurd step
-done_has (lane_work.Read t) (lane_work.Ref next) step = absurd step
-done_has (lane_work.Read t) (lane_work.Commit next) step = absurd step
-done_has (lane_work.Read t) (lane_work.Checkout next) step = absurd step
-done_has (lane_work.Checkout t) (lane_work.Ref next) step = absurd step
-done_has (lane_work.Checkout t) (lane_work.Commit next) step = absurd step
-done_has (lane_work.Checkout t) (lane_work.Read next) step = absurd step
+done_has (lane_command.Ref t) (lane_command.Ref next) step = ref_has t next step
+done_has (lane_command.Commit t) (lane_command.Commit next) step = script_has (commits.answer_of next) (answered t next step)
+done_has (lane_command.Read t) (lane_command.Read next) step = subst (λ x. IsSome (script_read (read_answer_of x))) (sym step.1) refl
+done_has (lane_command.Checkout t) (lane_command.Checkout next) step = let r = checkout_answered t next step in subst (λ o. IsSome (script_checkout o)) (sym r.1) refl
+done_has (lane_command.Ref t) (lane_command.Commit next) step = absurd step
+done_has (lane_command.Ref t) (lane_command.Read next) step = absurd step
+done_has (lane_command.Ref t) (lane_command.Checkout next) step = absurd step
+done_has (lane_command.Commit t) (lane_command.Ref next) step = absurd step
+done_has (lane_command.Commit t) (lane_command.Read next) step = absurd step
+done_has (lane_command.Commit t) (lane_command.Checkout next) step = absurd step
+done_has (lane_command.Read t) (lane_command.Ref next) step = absurd step
+done_has (lane_command.Read t) (lane_command.Commit next) step = absurd step
+done_has (lane_command.Read t) (lane_command.Checkout next) step = absurd step
+done_has (lane_command.Checkout t) (lane_command.Ref next) step = absurd step
+done_has (lane_command.Checkout t) (lane_command.Commit next) step = absurd step
+done_has (lane_command.Checkout t) (lane_command.Read next) step = absurd step

@@ -6,14 +6,14 @@ use Rattle.ost_forms.specs.declared.tree_item.TreeItem.{TreeItem}
 use Rattle.commit_build.specs.declared.message.Message.{Message}
 use Rattle.commit_build.specs.declared.phase.Phase.TheVariants as phase
 use Rattle.commit_build.specs.Committing.{Committing}
-use Rattle.commit_work.specs.declared.command.CommitCommand.{CommitCommand}
-use Rattle.commit_work.specs.Answers as commits
-use Rattle.lane_work.specs.declared.command.LaneCommand.TheVariants as lane_work
-use Rattle.rely.specs.State.{State, RefOf}
+use Rattle.commit_command.specs.declared.command.CommitCommand.{CommitCommand}
+use Rattle.commit_command.specs.Answers as commits
+use Rattle.lane_command.specs.declared.command.LaneCommand.TheVariants as lane_command
+use Rattle.rely_guarantee.specs.State.{State, RefOf}
 use Rattle.script.specs.declared.command.Command.TheVariants as command
-use Rattle.ref_work.specs.declared.command.RefCommand.{RefCommand}
-use Rattle.ref_work.specs.declared.command.RefCommand.TheVariants.{Parse, Reset, Change}
-use Rattle.ref_work.specs.Commands.{IsReset}
+use Rattle.ref_command.specs.declared.command.RefCommand.{RefCommand}
+use Rattle.ref_command.specs.declared.command.RefCommand.TheVariants.{Parse, Reset, Change}
+use Rattle.ref_command.specs.Commands.{IsReset}
 use Rattle.sys_core.specs.Begins.{RunsBy, RunsRefBy}
 use Rattle.sys_core.specs.Commits.{message_by}
 
@@ -27,7 +27,7 @@ first_of lane limits items message = record { actor = lane; items = items; limit
 
 pub commit_by : (limits : Limits) (lane : ℕ) (s : State) (branch : List ℕ) (tree : Vec TreeItem) (subject body : List ℕ) (time : ℕ) (name : List ℕ) (seen : Option (List ℕ)) (items : List TreeItem) (sub bod : List ℕ) (t : CommitCommand)
     → commits.IsCommitOf name (first_of lane limits items (message_by seen sub bod time)) t → commits.Begins lane t → name ≡ branch → seen ≡ s (RefOf branch) → items ≡ tree.items → sub ≡ subject → bod ≡ body
-    → RunsBy limits lane s (command.Commit branch tree subject body time) (lane_work.Commit t)
+    → RunsBy limits lane s (command.Commit branch tree subject body time) (lane_command.Commit t)
 commit_by limits lane s branch tree subject body time name seen items sub bod t is begins named had all said told =
     let build : t.build ≡ first_of lane limits tree.items (message_by (s (RefOf branch)) subject body time) =
     is.build

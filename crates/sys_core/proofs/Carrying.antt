@@ -2,18 +2,18 @@
 use Rattle.std.proofs.Common.{◌≡◌, ◌⊎◌, inl, inr, ⊎_elim, ◌≤◌, ℕ, refl, sym, subst, arith, List, ◌∷◌, ◌++◌, [], length, Bool, Option, Some}
 use Rattle.fs_trait.specs.View.{View}
 use Rattle.fs_trait.specs.Effect.{Elapses}
-use Rattle.rely.specs.declared.books.Base.{Base}
-use Rattle.rely.specs.declared.books.Books as rust
-use Rattle.rely.specs.declared.books.Entry.{Entry}
-use Rattle.rely.specs.declared.event.Event.{Event}
-use Rattle.rely.specs.declared.kind.Outcome.{Outcome}
-use Rattle.rely.specs.declared.kind.Outcome.TheVariants as came
-use Rattle.rely.specs.Books.{books_of}
-use Rattle.rely.specs.Exact.{Causes, IsBooked, IsLive}
-use Rattle.rely.specs.Lasting.{Lasts}
-use Rattle.rely.specs.Laws.{Kind, Quiet, Store, Take, Claim, Show, Shown, Settle, Holds}
-use Rattle.rely.proofs.Lasting.{lasts_refl}
-use Rattle.rely.proofs.Sounds.{IsFs}
+use Rattle.rely_guarantee.specs.declared.books.Base.{Base}
+use Rattle.rely_guarantee.specs.declared.books.Books as rust
+use Rattle.rely_guarantee.specs.declared.books.Entry.{Entry}
+use Rattle.rely_guarantee.specs.declared.event.Event.{Event}
+use Rattle.rely_guarantee.specs.declared.kind.Outcome.{Outcome}
+use Rattle.rely_guarantee.specs.declared.kind.Outcome.TheVariants as came
+use Rattle.rely_guarantee.specs.Books.{books_of}
+use Rattle.rely_guarantee.specs.Exact.{Causes, IsBooked, IsLive}
+use Rattle.rely_guarantee.specs.Lasting.{Lasts}
+use Rattle.rely_guarantee.specs.Laws.{Kind, Quiet, Store, Take, Claim, Show, Shown, Settle, Holds}
+use Rattle.rely_guarantee.proofs.Lasting.{lasts_refl}
+use Rattle.rely_guarantee.proofs.Sounds.{IsFs}
 use Rattle.sys_core.specs.Causes.{Fails}
 use Rattle.sys_core.specs.Lasting.{IsCarried}
 use Rattle.sys_core.specs.Replied.{IsAt}

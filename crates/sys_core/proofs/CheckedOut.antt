@@ -22,12 +22,12 @@ use Rattle.repo_model.proofs.Named.{IsSum-named}
 use Rattle.repo_model.proofs.Stored.{stores_map, stores_one}
 use Rattle.checkout.specs.CheckoutFolder.{Stands, leaf_path}
 use Rattle.checkout.proofs.CheckoutLemmas.{Stands-kept}
-use Rattle.checkout_work.specs.Answers.{IsCheckedOut}
-use Rattle.read_work.specs.Stored.{stored_kept}
-use Rattle.read_work.specs.WayLaws.{shown_leaf}
-use Rattle.rely.specs.Books.{Books, Unclaimed}
-use Rattle.rely.specs.Rely.{Does}
-use Rattle.rely.proofs.Claiming.{checkout_stays}
+use Rattle.checkout_command.specs.Answers.{IsCheckedOut}
+use Rattle.read_command.specs.Stored.{stored_kept}
+use Rattle.read_command.specs.WayLaws.{shown_leaf}
+use Rattle.rely_guarantee.specs.Books.{Books, Unclaimed}
+use Rattle.rely_guarantee.specs.Rely.{Interference}
+use Rattle.rely_guarantee.proofs.Claiming.{checkout_stays}
 
 -- a commit that is whole has a folder at its root,
 root_shown : (S : Store) (limits : Limits) (commit : List ℕ) → Complete S limits commit → ((k : Meta) → TreeShows S commit [] (Folder k) → ⊥) → ⊥
@@ -44,7 +44,7 @@ not_folder d p k none is = let n : Vacant ≡ Directory k = sym none ∙ is in c
 pub stands_there : (limits : Limits) (d : Disk) (name : Name) (commit : List ℕ) → IsCheckedOut d limits commit name → shows d (checkout_path name) ≢ Vacant
 stands_there limits d name commit is none = root_shown (Stores d) limits commit is.whole (λ k shown. not_folder d (checkout_path name) k none (is.folder.each [] (Folder k) shown))
 
-module _ (actor lane : ℕ) (v w : View) (b b' : Books) (does : Does actor lane v b w b') where
+module _ (actor lane : ℕ) (v w : View) (b b' : Books) (does : Interference actor lane v b w b') where
   more : (o : ObjName) (bytes : List ℕ) → Stores v.now o bytes → Stores w.now o bytes
   more = stored_kept b actor lane v w does.writes
 

@@ -1,22 +1,22 @@
 -- A step of a checkout asks for no more than a pin of its commit, and shows no change.
 use Rattle.std.proofs.Common.{◌≡◌, ℕ, refl, sym, ◌∙◌, ap, List, Option, Some, None}
 use Rattle.ost_types.specs.declared.object.ObjName.{ObjName}
-use Rattle.rely.specs.declared.books.Books as rust
-use Rattle.rely.specs.declared.event.Event.{Event}
-use Rattle.rely.specs.declared.kind.Outcome.TheVariants as came
-use Rattle.rely.specs.Books.{Books}
-use Rattle.rely.specs.Exact.{IsBooked, exclusive_in, turn_in}
-use Rattle.rely.specs.Laws.{Kind, Quiet, Store, Take, Claim, Show, Shown, Settle, Holds, NotPending}
-use Rattle.rely.specs.Pinning.{pin_in}
-use Rattle.ref_work.specs.Commands.{pin_wants}
-use Rattle.ref_work.specs.Found.{commit_name}
-use Rattle.checkout_work.specs.declared.command.CheckoutCommand.{CheckoutCommand}
-use Rattle.checkout_work.specs.declared.command.CheckoutCommand.TheVariants as command
-use Rattle.checkout_work.specs.declared.made.Made.{Made}
-use Rattle.checkout_work.specs.declared.made.Made.TheVariants as made
-use Rattle.checkout_work.specs.Asked.{Asked, asked as asked_by}
-use Rattle.checkout_work.specs.Commands.{checkout_kind}
-use Rattle.checkout_work.specs.MakeSteps.{make_kind}
+use Rattle.rely_guarantee.specs.declared.books.Books as rust
+use Rattle.rely_guarantee.specs.declared.event.Event.{Event}
+use Rattle.rely_guarantee.specs.declared.kind.Outcome.TheVariants as came
+use Rattle.rely_guarantee.specs.Books.{Books}
+use Rattle.rely_guarantee.specs.Exact.{IsBooked, exclusive_in, turn_in}
+use Rattle.rely_guarantee.specs.Laws.{Kind, Quiet, Store, Take, Claim, Show, Shown, Settle, Holds, NotPending}
+use Rattle.rely_guarantee.specs.Pinning.{pin_in}
+use Rattle.ref_command.specs.Commands.{pin_wants}
+use Rattle.ref_command.specs.Found.{commit_name}
+use Rattle.checkout_command.specs.declared.command.CheckoutCommand.{CheckoutCommand}
+use Rattle.checkout_command.specs.declared.command.CheckoutCommand.TheVariants as command
+use Rattle.checkout_command.specs.declared.made.Made.{Made}
+use Rattle.checkout_command.specs.declared.made.Made.TheVariants as made
+use Rattle.checkout_command.specs.Asked.{Asked, asked as asked_by}
+use Rattle.checkout_command.specs.Commands.{checkout_kind}
+use Rattle.checkout_command.specs.MakeSteps.{make_kind}
 
 abbrev pub AsksPin : Option Asked → Kind → Type 0
 AsksPin asked Quiet = Unit {0}

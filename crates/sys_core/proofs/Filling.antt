@@ -5,33 +5,33 @@ use Rattle.fs_trait.specs.declared.task.StepResult.TheVariants as turn
 use Rattle.fs_trait.specs.declared.types.FsErr.{FsErr}
 use Rattle.fs_trait.specs.declared.types.FsErr.TheVariants as err
 use Rattle.ref_store.specs.declared.refusal.RefRefusal.TheVariants as refusal
-use Rattle.ref_work.specs.declared.look_up.Found.{Found}
-use Rattle.ref_work.specs.declared.look_up.Found.TheVariants.{Missing, Partial, Whole}
-use Rattle.ref_work.specs.declared.command.RefCommand.{RefCommand}
-use Rattle.ref_work.specs.declared.command.RefCommand.TheVariants.{Parse, Reset, Change}
-use Rattle.ref_work.specs.Commands as refs
-use Rattle.ref_work.specs.Kinds.{Answer as Came}
+use Rattle.ref_command.specs.declared.look_up.Found.{Found}
+use Rattle.ref_command.specs.declared.look_up.Found.TheVariants.{Missing, Partial, Whole}
+use Rattle.ref_command.specs.declared.command.RefCommand.{RefCommand}
+use Rattle.ref_command.specs.declared.command.RefCommand.TheVariants.{Parse, Reset, Change}
+use Rattle.ref_command.specs.Commands as refs
+use Rattle.ref_command.specs.Kinds.{Answer as Came}
 use Rattle.commit_build.specs.declared.refusal.BuildRefusal.{BuildRefusal}
 use Rattle.commit_build.specs.declared.refusal.BuildRefusal.TheVariants as built
 use Rattle.commit_build.specs.Committing.{Committing, commit_in}
-use Rattle.commit_work.specs.declared.naming.Naming.{Naming}
-use Rattle.commit_work.specs.declared.command.CommitCommand.{CommitCommand}
-use Rattle.commit_work.specs.Answers as commits
-use Rattle.commit_work.specs.Kinds as kinds
-use Rattle.commit_work.specs.Kinds.{BuildSteps, stepped_at, stepped_by}
-use Rattle.read_work.specs.declared.answer.ReadAnswer.{ReadAnswer}
-use Rattle.read_work.specs.declared.answer.ReadAnswer.TheVariants as given
-use Rattle.read_work.specs.Commands.{answer_of as read_answer_of}
-use Rattle.checkout_work.specs.declared.answer.CheckoutAnswer.{CheckoutAnswer}
-use Rattle.checkout_work.specs.declared.answer.CheckoutAnswer.TheVariants as checkout
-use Rattle.checkout_work.specs.Commands.{answer_of as checkout_answer_of}
-use Rattle.lane_work.specs.declared.command.LaneCommand.{LaneCommand}
-use Rattle.lane_work.specs.declared.command.LaneCommand.TheVariants as lane_work
-use Rattle.lane_work.specs.Commands.{answer_of, checkout_answer, lane_stepped, read_answer, script_answer, script_checkout, script_read, told}
-use Rattle.rely.specs.declared.kind.Outcome.{Outcome}
-use Rattle.rely.specs.declared.kind.Outcome.TheVariants as came
-use Rattle.rely.specs.Exact.{Steps}
-use Rattle.rely.specs.State.{State}
+use Rattle.commit_command.specs.declared.naming.Naming.{Naming}
+use Rattle.commit_command.specs.declared.command.CommitCommand.{CommitCommand}
+use Rattle.commit_command.specs.Answers as commits
+use Rattle.commit_command.specs.Kinds as kinds
+use Rattle.commit_command.specs.Kinds.{BuildSteps, stepped_at, stepped_by}
+use Rattle.read_command.specs.declared.answer.ReadAnswer.{ReadAnswer}
+use Rattle.read_command.specs.declared.answer.ReadAnswer.TheVariants as given
+use Rattle.read_command.specs.Commands.{answer_of as read_answer_of}
+use Rattle.checkout_command.specs.declared.answer.CheckoutAnswer.{CheckoutAnswer}
+use Rattle.checkout_command.specs.declared.answer.CheckoutAnswer.TheVariants as checkout
+use Rattle.checkout_command.specs.Commands.{answer_of as checkout_answer_of}
+use Rattle.lane_command.specs.declared.command.LaneCommand.{LaneCommand}
+use Rattle.lane_command.specs.declared.command.LaneCommand.TheVariants as lane_command
+use Rattle.lane_command.specs.Commands.{answer_of, checkout_answer, lane_stepped, read_answer, script_answer, script_checkout, script_read, told}
+use Rattle.rely_guarantee.specs.declared.kind.Outcome.{Outcome}
+use Rattle.rely_guarantee.specs.declared.kind.Outcome.TheVariants as came
+use Rattle.rely_guarantee.specs.Exact.{Steps}
+use Rattle.rely_guarantee.specs.State.{State}
 use Rattle.script.specs.declared.answer.Answer.{Answer}
 use Rattle.script.specs.declared.answer.Answer.TheVariants as answer
 use Rattle.script.specs.declared.command.Command.{Command}
@@ -182,7 +182,7 @@ module _ (limits : Limits) (t : CommitCommand) (is : t.build.limits ≡ limits) 
   full_by None next a at step e = full_at (commit_in t.build.phase) next a at step e
   full_by (Some n) next a at step e = naming_full limits t.objects n.commit step.0.answer a (sym (ap (λ (x : CommitCommand). script_answer (commits.answer_of x)) step.1) ∙ e)
 
-bounds_of : (limits : Limits) (s : State) (c : Command) (t : CommitCommand) → Pursues limits s c (lane_work.Commit t) → t.build.limits ≡ limits
+bounds_of : (limits : Limits) (s : State) (c : Command) (t : CommitCommand) → Pursues limits s c (lane_command.Commit t) → t.build.limits ≡ limits
 bounds_of limits s (command.Commit branch tree subject body time) t is = is.bounds
 bounds_of limits s (command.RevParse rev) t is = absurd is
 bounds_of limits s (command.Reset branch commit) t is = absurd is
@@ -195,22 +195,22 @@ bounds_of limits s command.Refs t is = absurd is
 
 module _ (limits : Limits) (s : State) (c : Command) (objects : ℕ) where
   done_full : (t next : LaneCommand) (a : Answer) → Pursues limits s c t → lane_stepped (told objects t) (turn.Done tt) next → answer_of next ≡ Some a → IsFull limits objects a
-  done_full (lane_work.Ref t) (lane_work.Ref next) a is step e = ref_full limits objects next a e
-  done_full (lane_work.Read t) (lane_work.Read next) a is step e = read_full limits objects (read_answer_of next) a e
-  done_full (lane_work.Checkout t) (lane_work.Checkout next) a is step e = checkout_full limits objects (checkout_answer_of next) a e
-  done_full (lane_work.Ref t) (lane_work.Commit next) a is step e = absurd step
-  done_full (lane_work.Ref t) (lane_work.Read next) a is step e = absurd step
-  done_full (lane_work.Ref t) (lane_work.Checkout next) a is step e = absurd step
-  done_full (lane_work.Commit t) (lane_work.Ref next) a is step e = absurd step
-  done_full (lane_work.Commit t) (lane_work.Read next) a is step e = absurd step
-  done_full (lane_work.Commit t) (lane_work.Checkout next) a is step e = absurd step
-  done_full (lane_work.Read t) (lane_work.Ref next) a is step e = absurd step
-  done_full (lane_work.Read t) (lane_work.Commit next) a is step e = absurd step
-  done_full (lane_work.Read t) (lane_work.Checkout next) a is step e = absurd step
-  done_full (lane_work.Checkout t) (lane_work.Ref next) a is step e = absurd step
-  done_full (lane_work.Checkout t) (lane_work.Commit next) a is step e = absurd step
-  done_full (lane_work.Checkout t) (lane_work.Read next) a is step e = absurd step
-  done_full (lane_work.Commit t) (lane_work.Commit next) a is step e = full_by limits (record t { objects = objects }) (bounds_of limits s c t is) t.change next a refl step e
+  done_full (lane_command.Ref t) (lane_command.Ref next) a is step e = ref_full limits objects next a e
+  done_full (lane_command.Read t) (lane_command.Read next) a is step e = read_full limits objects (read_answer_of next) a e
+  done_full (lane_command.Checkout t) (lane_command.Checkout next) a is step e = checkout_full limits objects (checkout_answer_of next) a e
+  done_full (lane_command.Ref t) (lane_command.Commit next) a is step e = absurd step
+  done_full (lane_command.Ref t) (lane_command.Read next) a is step e = absurd step
+  done_full (lane_command.Ref t) (lane_command.Checkout next) a is step e = absurd step
+  done_full (lane_command.Commit t) (lane_command.Ref next) a is step e = absurd step
+  done_full (lane_command.Commit t) (lane_command.Read next) a is step e = absurd step
+  done_full (lane_command.Commit t) (lane_command.Checkout next) a is step e = absurd step
+  done_full (lane_command.Read t) (lane_command.Ref next) a is step e = absurd step
+  done_full (lane_command.Read t) (lane_command.Commit next) a is step e = absurd step
+  done_full (lane_command.Read t) (lane_command.Checkout next) a is step e = absurd step
+  done_full (lane_command.Checkout t) (lane_command.Ref next) a is step e = absurd step
+  done_full (lane_command.Checkout t) (lane_command.Commit next) a is step e = absurd step
+  done_full (lane_command.Checkout t) (lane_command.Read next) a is step e = absurd step
+  done_full (lane_command.Commit t) (lane_command.Commit next) a is step e = full_by limits (record t { objects = objects }) (bounds_of limits s c t is) t.change next a refl step e
 
   -- whatever ended the command
   pub ended_full : (t next : LaneCommand) (outcome : Outcome) (faults : ℕ) (a : Answer) → Pursues limits s c t → Steps lane_stepped (told objects t) outcome next → IsEndedAs outcome c next faults a → IsFull limits objects a

@@ -7,11 +7,11 @@ use Rattle.fs_trait.specs.Image.{Told}
 use Rattle.fs_trait.specs.Seen.{Vacant, shows}
 use Rattle.fs_trait.specs.View.{Disk, View}
 use Rattle.repo_layout.specs.BootPaths.{checkout_path}
-use Rattle.checkout_work.specs.Answers.{IsCheckedOut}
-use Rattle.lane_work.specs.declared.command.LaneCommand.{LaneCommand}
-use Rattle.rely.specs.declared.books.Base.{Base}
-use Rattle.rely.specs.Books.{books_of, Unclaimed}
-use Rattle.rely.specs.State.{State, first}
+use Rattle.checkout_command.specs.Answers.{IsCheckedOut}
+use Rattle.lane_command.specs.declared.command.LaneCommand.{LaneCommand}
+use Rattle.rely_guarantee.specs.declared.books.Base.{Base}
+use Rattle.rely_guarantee.specs.Books.{books_of, Unclaimed}
+use Rattle.rely_guarantee.specs.State.{State, first}
 use Rattle.script.specs.declared.answer.Answer.{Answer}
 use Rattle.script.specs.declared.answer.Answer.TheVariants as answer
 use Rattle.script.specs.declared.answer.Reply.{Reply}

@@ -11,22 +11,22 @@ use Rattle.fs_trait.specs.Image.{IsTree, Told}
 use Rattle.fs_trait.specs.Seen.{Vacant, shows}
 use Rattle.fs_trait.specs.View.{View}
 use Rattle.repo_layout.specs.BootPaths.{checkout_path}
-use Rattle.lane_work.specs.declared.command.LaneCommand.{LaneCommand}
-use Rattle.lane_work.specs.Commands.{IsCheckoutOf, lane_facts, lane_kind, lane_leaves, lane_refuses, lane_writes, told}
-use Rattle.lane_work.proofs.Claims.{claims_of}
-use Rattle.lane_work.proofs.Ends.{refused_of, told_facts, told_kind}
-use Rattle.rely.specs.declared.books.Base.{Base}
-use Rattle.rely.specs.declared.books.Claim.{Claim}
-use Rattle.rely.specs.declared.kind.Outcome.{Outcome}
-use Rattle.rely.specs.declared.kind.Outcome.TheVariants as came
-use Rattle.rely.specs.Books.{Books, books_of, Unclaimed}
-use Rattle.rely.specs.Claiming.{AreClaimed, claim_in}
-use Rattle.rely.specs.Exact.{Tells}
-use Rattle.rely.specs.Laws as laws
-use Rattle.rely.specs.Rely.{Does}
-use Rattle.rely.specs.Sound.{Stands}
-use Rattle.rely.specs.State.{State, first}
-use Rattle.rely.proofs.Acting.{ends_refl}
+use Rattle.lane_command.specs.declared.command.LaneCommand.{LaneCommand}
+use Rattle.lane_command.specs.Commands.{IsCheckoutOf, lane_facts, lane_kind, lane_leaves, lane_refuses, lane_writes, told}
+use Rattle.lane_command.proofs.Claims.{claims_of}
+use Rattle.lane_command.proofs.Ends.{refused_of, told_facts, told_kind}
+use Rattle.rely_guarantee.specs.declared.books.Base.{Base}
+use Rattle.rely_guarantee.specs.declared.books.Claim.{Claim}
+use Rattle.rely_guarantee.specs.declared.kind.Outcome.{Outcome}
+use Rattle.rely_guarantee.specs.declared.kind.Outcome.TheVariants as came
+use Rattle.rely_guarantee.specs.Books.{Books, books_of, Unclaimed}
+use Rattle.rely_guarantee.specs.Claiming.{AreClaimed, claim_in}
+use Rattle.rely_guarantee.specs.Exact.{Tells}
+use Rattle.rely_guarantee.specs.Laws as laws
+use Rattle.rely_guarantee.specs.Rely.{Interference}
+use Rattle.rely_guarantee.specs.SystemInvariant.{Stands}
+use Rattle.rely_guarantee.specs.State.{State, first}
+use Rattle.rely_guarantee.proofs.Acting.{ends_refl}
 use Rattle.script.specs.declared.answer.Answer.{Answer}
 use Rattle.script.specs.declared.answer.Answer.TheVariants as answer
 use Rattle.script.specs.declared.command.Command.{Command}
@@ -73,7 +73,7 @@ module _ {F : Type 0} (limits : Limits) (lane : ℕ) (s : State) (c : Command) (
   abbrev pub b : Books
   b = books_of base.books
 
-  does_nothing : Does lane lane v b v b
+  does_nothing : Interference lane lane v b v b
   does_nothing = record {
     writes = record { only = λ p s may. inl may; now = λ p. inl refl };
     books = (ends_refl lane lane base).spared;
@@ -125,7 +125,7 @@ other_by s (answer.TooMany many) rev name by = absurd by
 -- A step that was taken, where the view is told. The command's task was this one, unless it began with it.
 module _ {F : Type 0} (view : F → Option View) (limits : Limits) (lane number moment objects : ℕ) (s : State) (c : Command) (old new : Base F) (t t' : LaneCommand) (work : Option LaneCommand) (was : (name : Name) → HasMadeBy work name → HasMadeFolder t name)
     (outcome : Outcome) (after : Pursues limits s c t) (did : Did view lane number moment outcome (told objects t) t' old new) (v : View) (is : view old.fs ≡ Some v) (facts : lane_facts lane t v (books_of old.books))
-    (does : Told (view new.fs) (λ w. Does lane lane v (books_of old.books) w (books_of new.books))) (wrote : Told (view new.fs) (λ w. Writes (lane_writes lane (told objects t) v) v w)) where
+    (does : Told (view new.fs) (λ w. Interference lane lane v (books_of old.books) w (books_of new.books))) (wrote : Told (view new.fs) (λ w. Writes (lane_writes lane (told objects t) v) v w)) where
   abbrev pub x : LaneCommand
   x = told objects t
 

@@ -17,26 +17,26 @@ use Rattle.repo_layout.specs.RefFile.{IsSum}
 use Rattle.repo_model.specs.Objects.{path_of}
 use Rattle.repo_model.specs.Trees.{name_of}
 use Rattle.commit_build.specs.declared.message.Message.{Message}
-use Rattle.ref_work.specs.declared.look_up.Found.TheVariants.{Missing, Partial}
-use Rattle.ref_work.specs.Found.{IsFound}
-use Rattle.rely.specs.declared.books.Entry.{Entry}
-use Rattle.rely.specs.declared.books.Pending.{Pending}
-use Rattle.rely.specs.declared.event.Event.{Event}
-use Rattle.rely.specs.declared.event.Event.TheVariants.{SetRef, DropRef}
-use Rattle.rely.specs.Disks.{IsLeaf}
-use Rattle.rely.specs.Lasting.{Outlasts, StaysFinished}
-use Rattle.rely.specs.Opening.{IsOpening}
-use Rattle.rely.specs.State.{State, first}
-use Rattle.rely.proofs.Beginnings.{opened_unmarked}
-use Rattle.rely.proofs.Finished.{finished_stays}
-use Rattle.rely.proofs.Lasting.{object_under, tail_of}
-use Rattle.rely.proofs.Openings.{leads_there}
+use Rattle.ref_command.specs.declared.look_up.Found.TheVariants.{Missing, Partial}
+use Rattle.ref_command.specs.Found.{IsFound}
+use Rattle.rely_guarantee.specs.declared.books.Entry.{Entry}
+use Rattle.rely_guarantee.specs.declared.books.Pending.{Pending}
+use Rattle.rely_guarantee.specs.declared.event.Event.{Event}
+use Rattle.rely_guarantee.specs.declared.event.Event.TheVariants.{SetRef, DropRef}
+use Rattle.rely_guarantee.specs.Disks.{IsLeaf}
+use Rattle.rely_guarantee.specs.Lasting.{Outlasts, StaysFinished}
+use Rattle.rely_guarantee.specs.Opening.{IsOpening}
+use Rattle.rely_guarantee.specs.State.{State, first}
+use Rattle.rely_guarantee.proofs.Beginnings.{opened_unmarked}
+use Rattle.rely_guarantee.proofs.Finished.{finished_stays}
+use Rattle.rely_guarantee.proofs.Lasting.{object_under, tail_of}
+use Rattle.rely_guarantee.proofs.Openings.{leads_there}
 use Rattle.script.specs.declared.answer.Answer.{Answer}
 use Rattle.script.specs.declared.answer.Answer.TheVariants as answer
 use Rattle.script.specs.declared.answer.Reply.{Reply}
 use Rattle.script.specs.declared.command.Command.{Command}
 use Rattle.store_check.specs.Commits.{IsFinished}
-use Rattle.store_lasts.specs.Standing.{StoreStands}
+use Rattle.store_durability.specs.Standing.{StoreStands}
 use Rattle.sys_core.specs.declared.ask.Ask.TheVariants.{More, Done}
 use Rattle.sys_core.specs.Answers.{IsSeen, state_after}
 use Rattle.sys_core.specs.Booked.{Acted, AnswerTells, IsLater, IsReplied, given, start_of}

@@ -10,32 +10,32 @@ use Rattle.fs_trait.specs.declared.task.StepResult.TheVariants as turn
 use Rattle.fs_trait.specs.declared.types.FsErr.{FsErr}
 use Rattle.fs_trait.specs.declared.types.FsErr.TheVariants as err
 use Rattle.ref_store.specs.declared.refusal.RefRefusal.{RefRefusal}
-use Rattle.ref_work.specs.declared.command.RefCommand.{RefCommand}
-use Rattle.ref_work.specs.declared.command.RefCommand.TheVariants.{Parse, Reset, Change}
-use Rattle.ref_work.specs.declared.work.RefWork.{RefWork}
-use Rattle.ref_work.specs.Facts as refs
-use Rattle.ref_work.specs.Kinds.{event, kind_in, leaves_in}
-use Rattle.commit_work.specs.declared.naming.Naming.{Naming}
-use Rattle.commit_work.specs.declared.command.CommitCommand.{CommitCommand}
-use Rattle.commit_work.specs.Facts.{facts_by}
-use Rattle.commit_work.specs.Kinds.{commit_leaves, kind_by, leaves_by}
-use Rattle.lane_work.specs.declared.command.LaneCommand.{LaneCommand}
-use Rattle.lane_work.specs.declared.command.LaneCommand.TheVariants as lane_work
-use Rattle.lane_work.specs.Commands.{IsMadeIn, lane_facts, lane_kind, lane_leaves, lane_refuses, lane_stepped}
-use Rattle.lane_work.proofs.Ends.{refused_of}
-use Rattle.rely.specs.declared.books.Base.{Base}
-use Rattle.rely.specs.declared.books.Books as rust
-use Rattle.rely.specs.declared.books.Entry.{Entry}
-use Rattle.rely.specs.declared.books.Pending.{Pending}
-use Rattle.rely.specs.declared.kind.Outcome.{Outcome}
-use Rattle.rely.specs.declared.kind.Outcome.TheVariants as came
-use Rattle.rely.specs.Books.{books_of}
-use Rattle.rely.specs.Exact.{IsBooked, Opens, Steps, Tells}
-use Rattle.rely.specs.Laws as laws
-use Rattle.rely.specs.Laws.{NotPending, Ready, Runs}
-use Rattle.rely.specs.Sound.{Sound, Stands}
-use Rattle.rely.specs.State.{State, RefOf, first, after, events_of}
-use Rattle.rely.proofs.Goods.{fits_all}
+use Rattle.ref_command.specs.declared.command.RefCommand.{RefCommand}
+use Rattle.ref_command.specs.declared.command.RefCommand.TheVariants.{Parse, Reset, Change}
+use Rattle.ref_command.specs.declared.work.RefWork.{RefWork}
+use Rattle.ref_command.specs.Facts as refs
+use Rattle.ref_command.specs.Kinds.{event, kind_in, leaves_in}
+use Rattle.commit_command.specs.declared.naming.Naming.{Naming}
+use Rattle.commit_command.specs.declared.command.CommitCommand.{CommitCommand}
+use Rattle.commit_command.specs.Facts.{facts_by}
+use Rattle.commit_command.specs.Kinds.{commit_leaves, kind_by, leaves_by}
+use Rattle.lane_command.specs.declared.command.LaneCommand.{LaneCommand}
+use Rattle.lane_command.specs.declared.command.LaneCommand.TheVariants as lane_command
+use Rattle.lane_command.specs.Commands.{IsMadeIn, lane_facts, lane_kind, lane_leaves, lane_refuses, lane_stepped}
+use Rattle.lane_command.proofs.Ends.{refused_of}
+use Rattle.rely_guarantee.specs.declared.books.Base.{Base}
+use Rattle.rely_guarantee.specs.declared.books.Books as rust
+use Rattle.rely_guarantee.specs.declared.books.Entry.{Entry}
+use Rattle.rely_guarantee.specs.declared.books.Pending.{Pending}
+use Rattle.rely_guarantee.specs.declared.kind.Outcome.{Outcome}
+use Rattle.rely_guarantee.specs.declared.kind.Outcome.TheVariants as came
+use Rattle.rely_guarantee.specs.Books.{books_of}
+use Rattle.rely_guarantee.specs.Exact.{IsBooked, Opens, Steps, Tells}
+use Rattle.rely_guarantee.specs.Laws as laws
+use Rattle.rely_guarantee.specs.Laws.{NotPending, Ready, Runs}
+use Rattle.rely_guarantee.specs.SystemInvariant.{SystemInvariant, Stands}
+use Rattle.rely_guarantee.specs.State.{State, RefOf, first, after, events_of}
+use Rattle.rely_guarantee.proofs.Goods.{fits_all}
 use Rattle.script.specs.declared.answer.Answer.{Answer}
 use Rattle.script.specs.declared.answer.Answer.TheVariants as answer
 use Rattle.script.specs.declared.command.Command.{Command}
@@ -209,10 +209,10 @@ module _ {F : Type 0} (view : F → Option View) (clock spare : F → ℕ) (was 
       let w = tells v.0 v.1 in
       refused_told from h old.books.pending lane work next v.0 w.0 (books_of old.books) r (ready.sound.stands v.0 v.1) (trees old.fs v.0 v.1) (facts v.0 v.1) (leaves v.0 w.0 v.1 w.2) err_is opens holds refl ready.sound.ordered.owner
 
-  says_ref : (x y : RefCommand) → t ≡ lane_work.Ref x → t' ≡ lane_work.Ref y → Tells lane_leaves lane_refuses t came.Done t' (view old.fs) (view new.fs) → Opens (lane_kind t) lane (books_of old.books) → done.RefTells (IsTold view) (now_of old.books) x y
+  says_ref : (x y : RefCommand) → t ≡ lane_command.Ref x → t' ≡ lane_command.Ref y → Tells lane_leaves lane_refuses t came.Done t' (view old.fs) (view new.fs) → Opens (lane_kind t) lane (books_of old.books) → done.RefTells (IsTold view) (now_of old.books) x y
   says_ref (Change work) (Change next) is then tells opens =
       says_change work next
-      (λ v w told l. subst (λ x. lane_leaves x (turn.Done tt) (lane_work.Ref (Change next)) v w) is (subst (λ y. lane_leaves t (turn.Done tt) y v w) then l))
+      (λ v w told l. subst (λ x. lane_leaves x (turn.Done tt) (lane_command.Ref (Change next)) v w) is (subst (λ y. lane_leaves t (turn.Done tt) y v w) then l))
       (λ v told. (subst (λ x. lane_facts lane x v (books_of old.books)) is (ready.task.facts v told)).ref)
       tells
       (subst (λ x. Opens (lane_kind x) lane (books_of old.books)) is opens)
@@ -222,10 +222,10 @@ module _ {F : Type 0} (view : F → Option View) (clock spare : F → ℕ) (was 
   says_ref (Parse look) y is then tells opens = tt
   says_ref (Reset look plan) y is then tells opens = tt
 
-  says_naming : (x y : CommitCommand) (o p : Option Naming) → t ≡ lane_work.Commit x → t' ≡ lane_work.Commit y → x.change ≡ o → y.change ≡ p → Tells lane_leaves lane_refuses t came.Done t' (view old.fs) (view new.fs) → Opens (lane_kind t) lane (books_of old.books) → done.NamingTells (IsTold view) (now_of old.books) o p
+  says_naming : (x y : CommitCommand) (o p : Option Naming) → t ≡ lane_command.Commit x → t' ≡ lane_command.Commit y → x.change ≡ o → y.change ≡ p → Tells lane_leaves lane_refuses t came.Done t' (view old.fs) (view new.fs) → Opens (lane_kind t) lane (books_of old.books) → done.NamingTells (IsTold view) (now_of old.books) o p
   says_naming x y (Some n) (Some m) is then at now tells opens =
       says_change n.work m.work
-      (λ v w told l. naming_leaves v w (subst (λ z. lane_leaves z (turn.Done tt) (lane_work.Commit y) v w) is (subst (λ z. lane_leaves t (turn.Done tt) z v w) then l)))
+      (λ v w told l. naming_leaves v w (subst (λ z. lane_leaves z (turn.Done tt) (lane_command.Commit y) v w) is (subst (λ z. lane_leaves t (turn.Done tt) z v w) then l)))
       (λ v told. (subst (λ z. facts_by z lane x v (books_of old.books)) at (subst (λ z. lane_facts lane z v (books_of old.books)) is (ready.task.facts v told))).ref)
       tells
       (subst (λ z. Opens (kind_by z x) lane (books_of old.books)) at (subst (λ z. Opens (lane_kind z) lane (books_of old.books)) is opens))
@@ -241,16 +241,16 @@ module _ {F : Type 0} (view : F → Option View) (clock spare : F → ℕ) (was 
   says_naming x y (Some n) None is then at now tells opens = tt
 
   says : (x y : LaneCommand) → t ≡ x → t' ≡ y → Tells lane_leaves lane_refuses t came.Done t' (view old.fs) (view new.fs) → Opens (lane_kind t) lane (books_of old.books) → done.Tells (IsTold view) (now_of old.books) x y
-  says (lane_work.Ref x) (lane_work.Ref y) is then tells opens = says_ref x y is then tells opens
-  says (lane_work.Commit x) (lane_work.Commit y) is then tells opens = says_naming x y x.change y.change is then refl refl tells opens
-  says (lane_work.Ref x) (lane_work.Commit y) is then tells opens = tt
-  says (lane_work.Ref x) (lane_work.Read y) is then tells opens = tt
-  says (lane_work.Ref x) (lane_work.Checkout y) is then tells opens = tt
-  says (lane_work.Commit x) (lane_work.Ref y) is then tells opens = tt
-  says (lane_work.Commit x) (lane_work.Read y) is then tells opens = tt
-  says (lane_work.Commit x) (lane_work.Checkout y) is then tells opens = tt
-  says (lane_work.Read x) y is then tells opens = tt
-  says (lane_work.Checkout x) y is then tells opens = tt
+  says (lane_command.Ref x) (lane_command.Ref y) is then tells opens = says_ref x y is then tells opens
+  says (lane_command.Commit x) (lane_command.Commit y) is then tells opens = says_naming x y x.change y.change is then refl refl tells opens
+  says (lane_command.Ref x) (lane_command.Commit y) is then tells opens = tt
+  says (lane_command.Ref x) (lane_command.Read y) is then tells opens = tt
+  says (lane_command.Ref x) (lane_command.Checkout y) is then tells opens = tt
+  says (lane_command.Commit x) (lane_command.Ref y) is then tells opens = tt
+  says (lane_command.Commit x) (lane_command.Read y) is then tells opens = tt
+  says (lane_command.Commit x) (lane_command.Checkout y) is then tells opens = tt
+  says (lane_command.Read x) y is then tells opens = tt
+  says (lane_command.Checkout x) y is then tells opens = tt
 
   -- a step is refused for nothing else
   none_told : (f : FsErr) → Tells lane_leaves lane_refuses t (came.Refused f) t' (view old.fs) (view new.fs) → IsTold view → OfNone f
@@ -261,7 +261,7 @@ module _ {F : Type 0} (view : F → Option View) (clock spare : F → ℕ) (was 
       (λ why. refused_of from h old.books.pending lane v.0 (books_of old.books) t f (trees old.fs v.0 v.1) (ready.sound.stands v.0 v.1) (ready.task.facts v.0 v.1) why)
       (tells v.0 v.1).0
 
-  module _ (sound : Sound view clock spare was new) (same_start : new.books.start.items ≡ old.books.start.items) where
+  module _ (sound : SystemInvariant view clock spare was new) (same_start : new.books.start.items ≡ old.books.start.items) where
     -- where nothing is pending, the disk shows that no ref clashes with another
     apart_new : IsTold view → new.books.pending ≡ None → (name : List ℕ) → IsSome (after_new (RefOf name)) → IsFreeIn after_new name
     apart_new told none name some =

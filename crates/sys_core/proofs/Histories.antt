@@ -1,16 +1,16 @@
 -- How the history and what is pending go on in a step of a task.
 use Rattle.std.proofs.Common.{◌≡◌, ◌⊎◌, inl, inr, ◌<◌, ◌≤◌, ◌+◌, ℕ, refl, sym, ◌∙◌, ap, subst, arith, List, [], ◌∷◌, ◌++◌, drop, length, length-append, slice_index_or, Some, None}
 use Rattle.std.proofs.lemmas.List.{drop_at, drop_all}
-use Rattle.rely.specs.declared.books.Books as rust
-use Rattle.rely.specs.declared.books.Entry.{Entry}
-use Rattle.rely.specs.declared.event.Event.{Event}
-use Rattle.rely.specs.declared.kind.Outcome.{Outcome}
-use Rattle.rely.specs.declared.kind.Outcome.TheVariants as came
-use Rattle.rely.specs.Books.{books_of}
-use Rattle.rely.specs.Exact.{IsBooked}
-use Rattle.rely.specs.Laws.{Kind, Quiet, Store, Take, Claim, Show, Shown, Settle, Holds, NotPending}
-use Rattle.rely.specs.State.{first, after, events_of}
-use Rattle.rely.proofs.States.{after_push, events_push}
+use Rattle.rely_guarantee.specs.declared.books.Books as rust
+use Rattle.rely_guarantee.specs.declared.books.Entry.{Entry}
+use Rattle.rely_guarantee.specs.declared.event.Event.{Event}
+use Rattle.rely_guarantee.specs.declared.kind.Outcome.{Outcome}
+use Rattle.rely_guarantee.specs.declared.kind.Outcome.TheVariants as came
+use Rattle.rely_guarantee.specs.Books.{books_of}
+use Rattle.rely_guarantee.specs.Exact.{IsBooked}
+use Rattle.rely_guarantee.specs.Laws.{Kind, Quiet, Store, Take, Claim, Show, Shown, Settle, Holds, NotPending}
+use Rattle.rely_guarantee.specs.State.{first, after, events_of}
+use Rattle.rely_guarantee.proofs.States.{after_push, events_push}
 use Rattle.sys_core.specs.Lanes.{EndsUnshown, now_of}
 
 -- one more entry, of the change that a step made to last

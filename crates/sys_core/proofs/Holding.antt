@@ -4,19 +4,19 @@ use Rattle.std.proofs.lemmas.List.{get_or-map, length-map}
 use Rattle.std.specs.Global.{Vec}
 use Rattle.fs_trait.specs.View.{View}
 use Rattle.ost_types.specs.declared.limits.Limits.{Limits}
-use Rattle.commit_work.specs.declared.command.CommitCommand.{CommitCommand}
-use Rattle.commit_work.specs.Held.{AreHeld}
-use Rattle.commit_work.proofs.Holding.{held_of}
-use Rattle.lane_work.specs.declared.command.LaneCommand.{LaneCommand}
-use Rattle.lane_work.specs.declared.command.LaneCommand.TheVariants.{Commit}
-use Rattle.lane_work.specs.Commands.{lane_facts, lane_kind}
+use Rattle.commit_command.specs.declared.command.CommitCommand.{CommitCommand}
+use Rattle.commit_command.specs.Held.{AreHeld}
+use Rattle.commit_command.proofs.Holding.{held_of}
+use Rattle.lane_command.specs.declared.command.LaneCommand.{LaneCommand}
+use Rattle.lane_command.specs.declared.command.LaneCommand.TheVariants.{Commit}
+use Rattle.lane_command.specs.Commands.{lane_facts, lane_kind}
 use Rattle.ref_book.specs.declared.book.RefBook.{RefBook}
-use Rattle.rely.specs.declared.books.Base.{Base}
-use Rattle.rely.specs.declared.books.Entry.{Entry}
-use Rattle.rely.specs.declared.books.Pin.{Pin}
-use Rattle.rely.specs.Books.{Books, books_of}
-use Rattle.rely.specs.Laws.{Runs}
-use Rattle.rely.specs.State.{State, first}
+use Rattle.rely_guarantee.specs.declared.books.Base.{Base}
+use Rattle.rely_guarantee.specs.declared.books.Entry.{Entry}
+use Rattle.rely_guarantee.specs.declared.books.Pin.{Pin}
+use Rattle.rely_guarantee.specs.Books.{Books, books_of}
+use Rattle.rely_guarantee.specs.Laws.{Runs}
+use Rattle.rely_guarantee.specs.State.{State, first}
 use Rattle.script.specs.declared.answer.Reply.{Reply}
 use Rattle.script.specs.declared.command.Command.{Command}
 use Rattle.script.specs.declared.command.Lane.{Lane}

@@ -7,18 +7,18 @@ use Rattle.fs_trait.specs.Effect.{Elapses}
 use Rattle.fs_trait.specs.Image.{IsTree}
 use Rattle.fs_trait.specs.View.{View}
 use Rattle.fs_trait.proofs.Images.{Image-now}
-use Rattle.read_work.specs.declared.answer.ReadAnswer.{ReadAnswer}
-use Rattle.read_work.specs.declared.answer.ReadAnswer.TheVariants as read
-use Rattle.read_work.specs.declared.look.Ask.{Ask as ReadAsk}
-use Rattle.read_work.specs.declared.look.Ask.TheVariants as ask
-use Rattle.read_work.specs.Answers.{Says}
-use Rattle.checkout_work.specs.declared.answer.CheckoutAnswer.{CheckoutAnswer}
-use Rattle.checkout_work.specs.declared.answer.CheckoutAnswer.TheVariants as checkout
-use Rattle.checkout_work.specs.Answers as checkouts
-use Rattle.lane_work.specs.Commands.{checkout_answer, read_answer}
-use Rattle.rely.specs.declared.books.Entry.{Entry}
-use Rattle.rely.specs.Lasting.{IsFinishedNow}
-use Rattle.rely.specs.State.{Ascends, State, first}
+use Rattle.read_command.specs.declared.answer.ReadAnswer.{ReadAnswer}
+use Rattle.read_command.specs.declared.answer.ReadAnswer.TheVariants as read
+use Rattle.read_command.specs.declared.look.Ask.{Ask as ReadAsk}
+use Rattle.read_command.specs.declared.look.Ask.TheVariants as ask
+use Rattle.read_command.specs.Answers.{Says}
+use Rattle.checkout_command.specs.declared.answer.CheckoutAnswer.{CheckoutAnswer}
+use Rattle.checkout_command.specs.declared.answer.CheckoutAnswer.TheVariants as checkout
+use Rattle.checkout_command.specs.Answers as checkouts
+use Rattle.lane_command.specs.Commands.{checkout_answer, read_answer}
+use Rattle.rely_guarantee.specs.declared.books.Entry.{Entry}
+use Rattle.rely_guarantee.specs.Lasting.{IsFinishedNow}
+use Rattle.rely_guarantee.specs.State.{Ascends, State, first}
 use Rattle.script.specs.declared.answer.Answer.{Answer}
 use Rattle.script.specs.declared.answer.Answer.TheVariants as answer
 use Rattle.script.specs.declared.answer.Reply.{Reply}
@@ -27,8 +27,8 @@ use Rattle.script.specs.declared.command.Command.TheVariants as command
 use Rattle.script.specs.declared.command.Rev.{Rev}
 use Rattle.store_check.specs.Commits.{IsWhole}
 use Rattle.store_check.specs.Objects.{IsSound}
-use Rattle.store_lasts.specs.Standing.{AreAlone}
-use Rattle.store_lasts.proofs.Lackings.{lacking_never}
+use Rattle.store_durability.specs.Standing.{AreAlone}
+use Rattle.store_durability.proofs.Lackings.{lacking_never}
 use Rattle.sys_core.specs.declared.ask.Ask.{Ask}
 use Rattle.sys_core.specs.declared.ask.Ask.TheVariants.{More, Done}
 use Rattle.sys_core.specs.Answers.{IsSeen, state_after}

@@ -4,13 +4,13 @@ use Rattle.std.proofs.lemmas.Bool.Decides.{nat_tests}
 use Rattle.fs_trait.specs.View.{View}
 use Rattle.fs_trait.specs.Image.{Told}
 use Rattle.ref_book.specs.declared.book.RefBook.{RefBook}
-use Rattle.rely.specs.declared.books.Base.{Base}
-use Rattle.rely.specs.Books.{Books, books_of, Spared}
-use Rattle.rely.specs.Laws.{NotPending}
-use Rattle.rely.proofs.Acting.{runs_kept}
-use Rattle.lane_work.specs.Laws.{lane_laws}
-use Rattle.ref_work.specs.Facts.{Home}
-use Rattle.ref_work.specs.Kept.{home_kept}
+use Rattle.rely_guarantee.specs.declared.books.Base.{Base}
+use Rattle.rely_guarantee.specs.Books.{Books, books_of, Spared}
+use Rattle.rely_guarantee.specs.Laws.{NotPending}
+use Rattle.rely_guarantee.proofs.Acting.{runs_kept}
+use Rattle.lane_command.specs.Laws.{lane_laws}
+use Rattle.ref_command.specs.Facts.{StagingPathFree}
+use Rattle.ref_command.specs.Kept.{home_kept}
 use Rattle.sys_core.specs.declared.run.Run.{Run}
 use Rattle.sys_core.specs.declared.run.Running.{Running}
 use Rattle.sys_core.specs.Lanes.{Facts, Kept, LaneActs, RunsIn}
@@ -21,13 +21,13 @@ others_idle lane mine b b' other spared none p is = ⊎_elim (λ was. none p was
 
 module _ {F : Type 0} (view : F → Option View) (clock spare : F → ℕ) (was : F → ℕ → View → Type 0) (told : (fs gs : F) (v : View) → view fs ≡ Some v → Told (view gs) (λ w. Unit {0})) where
   module _ (lane mine : ℕ) (old new : Base F) (refs refs' : RefBook) (task : Option Running) (acts : LaneActs view clock spare was lane refs refs' task old new) (other : mine ≢ lane) (few : mine < 16) where
-    others_home : ((v : View) → view old.fs ≡ Some v → Home mine v) → (w : View) → view new.fs ≡ Some w → Home mine w
+    others_home : ((v : View) → view old.fs ≡ Some v → StagingPathFree mine v) → (w : View) → view new.fs ≡ Some w → StagingPathFree mine w
     others_home home w told_w =
         let v = told new.fs old.fs w told_w in
         let d = acts.does v.0 v.1 in
         let one : Some d.0 ≡ Some w = sym d.1 ∙ told_w in
         let k : d.0 ≡ w = cc in
-        subst (Home mine) k (home_kept (books_of old.books) v.0 lane lane mine other other few d.0 (books_of new.books) d.2 (home v.0 v.1))
+        subst (StagingPathFree mine) k (home_kept (books_of old.books) v.0 lane lane mine other other few d.0 (books_of new.books) d.2 (home v.0 v.1))
 
     others_run : (r : Option Running) → RunsIn mine refs r (view old.fs) (books_of old.books) → RunsIn mine refs' r (view new.fs) (books_of new.books)
     others_run None runs = others_idle lane mine (books_of old.books) (books_of new.books) other acts.books runs

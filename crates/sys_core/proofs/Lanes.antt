@@ -2,36 +2,36 @@
 use Rattle.std.proofs.Common.{◌≡◌, inl, ℕ, true, false, refl, sym, ◌∙◌, ap, subst, List, Option, Some, None}
 use Rattle.fs_trait.specs.View.{View}
 use Rattle.ref_store.specs.Change.{Change as Changing}
-use Rattle.rely.specs.declared.books.Base.{Base}
-use Rattle.rely.specs.declared.kind.Outcome.{Outcome}
-use Rattle.rely.specs.declared.kind.Outcome.TheVariants as came
-use Rattle.rely.specs.Books.{Books, books_of}
-use Rattle.rely.specs.Laws.{Holds, NotPending, Ready, Runs, Acts}
-use Rattle.rely.specs.Sound.{Sound}
-use Rattle.rely.proofs.Acting.{ends_refl}
+use Rattle.rely_guarantee.specs.declared.books.Base.{Base}
+use Rattle.rely_guarantee.specs.declared.kind.Outcome.{Outcome}
+use Rattle.rely_guarantee.specs.declared.kind.Outcome.TheVariants as came
+use Rattle.rely_guarantee.specs.Books.{Books, books_of}
+use Rattle.rely_guarantee.specs.Laws.{Holds, NotPending, Ready, Runs, Acts}
+use Rattle.rely_guarantee.specs.SystemInvariant.{SystemInvariant}
+use Rattle.rely_guarantee.proofs.Acting.{ends_refl}
 use Rattle.ref_book.specs.declared.book.RefBook.{RefBook}
 use Rattle.ref_book.specs.Tracks.{Tracks, HasRoom}
-use Rattle.ref_work.specs.declared.look_up.Found.{Found}
-use Rattle.ref_work.specs.declared.command.RefCommand.{RefCommand}
-use Rattle.ref_work.specs.declared.work.RefWork.{RefWork}
-use Rattle.ref_work.specs.declared.command.RefCommand.TheVariants.{Parse, Reset, Change}
-use Rattle.ref_work.specs.Answers as refs
-use Rattle.ref_work.specs.Kinds.{event, kind_in}
-use Rattle.ref_work.specs.Commands.{command_kind, found_kind}
+use Rattle.ref_command.specs.declared.look_up.Found.{Found}
+use Rattle.ref_command.specs.declared.command.RefCommand.{RefCommand}
+use Rattle.ref_command.specs.declared.work.RefWork.{RefWork}
+use Rattle.ref_command.specs.declared.command.RefCommand.TheVariants.{Parse, Reset, Change}
+use Rattle.ref_command.specs.Answers as refs
+use Rattle.ref_command.specs.Kinds.{event, kind_in}
+use Rattle.ref_command.specs.Commands.{command_kind, found_kind}
 use Rattle.commit_build.specs.Committing.{storing_in}
-use Rattle.commit_work.specs.declared.command.CommitCommand.{CommitCommand}
-use Rattle.commit_work.specs.Answers as commits
-use Rattle.commit_work.specs.Kinds.{build_kind, commit_kind, kind_by}
-use Rattle.read_work.specs.declared.command.ReadCommand.{ReadCommand}
-use Rattle.read_work.specs.declared.command.ReadCommand.TheVariants as read
-use Rattle.read_work.specs.Commands.{IsNew, read_kind}
-use Rattle.checkout_work.specs.Asked as checking
-use Rattle.checkout_work.specs.Commands.{checkout_kind}
-use Rattle.lane_work.specs.declared.command.LaneCommand.{LaneCommand}
-use Rattle.lane_work.specs.declared.command.LaneCommand.TheVariants as lane_work
-use Rattle.lane_work.specs.Answers.{Begins}
-use Rattle.lane_work.specs.Commands.{lane_facts, lane_kind, told}
-use Rattle.lane_work.proofs.Ends.{begins_of, told_facts, told_kind}
+use Rattle.commit_command.specs.declared.command.CommitCommand.{CommitCommand}
+use Rattle.commit_command.specs.Answers as commits
+use Rattle.commit_command.specs.Kinds.{build_kind, commit_kind, kind_by}
+use Rattle.read_command.specs.declared.command.ReadCommand.{ReadCommand}
+use Rattle.read_command.specs.declared.command.ReadCommand.TheVariants as read
+use Rattle.read_command.specs.Commands.{IsNew, read_kind}
+use Rattle.checkout_command.specs.Asked as checking
+use Rattle.checkout_command.specs.Commands.{checkout_kind}
+use Rattle.lane_command.specs.declared.command.LaneCommand.{LaneCommand}
+use Rattle.lane_command.specs.declared.command.LaneCommand.TheVariants as lane_command
+use Rattle.lane_command.specs.Answers.{Begins}
+use Rattle.lane_command.specs.Commands.{lane_facts, lane_kind, told}
+use Rattle.lane_command.proofs.Ends.{begins_of, told_facts, told_kind}
 use Rattle.sys_core.specs.declared.run.Running.{Running}
 use Rattle.sys_core.specs.Lanes.{Facts, IsHome, EndsUnshown, LaneActs, RunsIn, now_of}
 use Rattle.sys_core.proofs.Checkouts.{asks_holds, checkout_asks}
@@ -59,10 +59,10 @@ read_holds lane (read.Log g) b new none = absurd new
 read_holds lane (read.Ended a) b new none = absurd new
 
 begin_holds : (lane : ℕ) (t : LaneCommand) (b : Books) → Begins lane t → NotPending lane b → Holds (lane_kind t) lane b
-begin_holds lane (lane_work.Ref t) b begins none = ref_holds lane t b begins none
-begin_holds lane (lane_work.Commit t) b begins none = commit_holds lane t b begins none
-begin_holds lane (lane_work.Read t) b begins none = read_holds lane t b begins none
-begin_holds lane (lane_work.Checkout t) b begins none = asks_holds (checking.asked t) (checkout_kind t) (checkout_asks t) lane b none
+begin_holds lane (lane_command.Ref t) b begins none = ref_holds lane t b begins none
+begin_holds lane (lane_command.Commit t) b begins none = commit_holds lane t b begins none
+begin_holds lane (lane_command.Read t) b begins none = read_holds lane t b begins none
+begin_holds lane (lane_command.Checkout t) b begins none = asks_holds (checking.asked t) (checkout_kind t) (checkout_asks t) lane b none
 
 -- what a task is told is no matter to its facts
 pub runs_told : (lane objects : ℕ) (t : LaneCommand) (view : Option View) (b : Books) → Runs lane_kind lane_facts lane t view b → Runs lane_kind lane_facts lane (told objects t) view b
@@ -72,7 +72,7 @@ runs_told lane objects t view b runs = record {
 }
 
 module _ {F : Type 0} (view : F → Option View) (clock spare : F → ℕ) (was : F → ℕ → View → Type 0) where
-  pub begin_ready : (lane : ℕ) (base : Base F) (refs : RefBook) (t : LaneCommand) → Sound view clock spare was base → base.books.halted ≡ false → Facts lane refs None (view base.fs) (books_of base.books) → Begins lane t
+  pub begin_ready : (lane : ℕ) (base : Base F) (refs : RefBook) (t : LaneCommand) → SystemInvariant view clock spare was base → base.books.halted ≡ false → Facts lane refs None (view base.fs) (books_of base.books) → Begins lane t
       → Ready view clock spare was (Runs lane_kind lane_facts lane t) base
   begin_ready lane base refs t sound live facts begins = record {
     sound = sound;
@@ -84,7 +84,7 @@ module _ {F : Type 0} (view : F → Option View) (clock spare : F → ℕ) (was 
   }
 
   -- nothing was done
-  pub nothing_acts : (lane : ℕ) (base : Base F) (refs refs' : RefBook) → Sound view clock spare was base → Tracks refs' (now_of base.books) → ((name : List ℕ) → HasRoom refs name → HasRoom refs' name)
+  pub nothing_acts : (lane : ℕ) (base : Base F) (refs refs' : RefBook) → SystemInvariant view clock spare was base → Tracks refs' (now_of base.books) → ((name : List ℕ) → HasRoom refs name → HasRoom refs' name)
       → Facts lane refs None (view base.fs) (books_of base.books) → LaneActs view clock spare was lane refs refs' None base base
   nothing_acts lane base refs refs' sound tracks rooms facts = record {
     sound = sound;

@@ -10,12 +10,12 @@ use Rattle.fs_trait.specs.View.{View}
 use Rattle.fs_trait.specs.Image.{Told}
 use Rattle.tree_build.specs.Items.{IsTree}
 use Rattle.commit_build.specs.declared.message.Message.{Message}
-use Rattle.commit_lasts.specs.Lasting.{sum_of}
-use Rattle.commit_lasts.proofs.Lasting.{lasts_made, kept_begins, kept_on}
-use Rattle.rely.specs.declared.books.Entry.{Entry}
-use Rattle.rely.specs.declared.event.Event.TheVariants as event
-use Rattle.rely.specs.Lasting.{IsRight, Outlasts}
-use Rattle.rely.specs.State.{State, RefOf, first}
+use Rattle.commit_durability.specs.Lasting.{sum_of}
+use Rattle.commit_durability.proofs.Lasting.{lasts_made, kept_begins, kept_on}
+use Rattle.rely_guarantee.specs.declared.books.Entry.{Entry}
+use Rattle.rely_guarantee.specs.declared.event.Event.TheVariants as event
+use Rattle.rely_guarantee.specs.Lasting.{IsRight, Outlasts}
+use Rattle.rely_guarantee.specs.State.{State, RefOf, first}
 use Rattle.script.specs.declared.answer.Answer.{Answer}
 use Rattle.script.specs.declared.answer.Answer.TheVariants as answer
 use Rattle.script.specs.declared.answer.Reply.{Reply}

@@ -12,43 +12,43 @@ use Rattle.tree_build.specs.Building.{IsNumber}
 use Rattle.tree_build.specs.Objects.{Object, work}
 use Rattle.commit_build.specs.Committing.{commit_of}
 use Rattle.commit_build.specs.Whole.{IsOfCommit}
-use Rattle.commit_work.specs.declared.command.CommitCommand.{CommitCommand}
-use Rattle.commit_work.proofs.Pinning.{pin_of, ref_no_pin}
-use Rattle.read_work.specs.declared.command.ReadCommand.{ReadCommand}
-use Rattle.read_work.specs.declared.command.ReadCommand.TheVariants as read
-use Rattle.read_work.specs.declared.log.Log as logging
-use Rattle.read_work.specs.declared.look.Ask.{Ask}
-use Rattle.read_work.specs.declared.look.Ask.TheVariants as ask
-use Rattle.read_work.specs.declared.look.Look as looking
-use Rattle.read_work.specs.Asked.{Asked, asked}
-use Rattle.read_work.specs.Chains.{IsChain}
-use Rattle.read_work.specs.Commands.{read_kind}
-use Rattle.read_work.specs.Kept.{chain_up}
-use Rattle.read_work.specs.LogSteps.{log_kind}
-use Rattle.checkout_work.specs.declared.command.CheckoutCommand.{CheckoutCommand}
-use Rattle.checkout_work.specs.Asked as checking
-use Rattle.checkout_work.specs.Commands.{checkout_kind}
-use Rattle.lane_work.specs.declared.command.LaneCommand.{LaneCommand}
-use Rattle.lane_work.specs.declared.command.LaneCommand.TheVariants as lane_work
-use Rattle.lane_work.specs.Commands.{lane_facts, lane_kind, told}
-use Rattle.lane_work.proofs.Ends.{told_kind}
+use Rattle.commit_command.specs.declared.command.CommitCommand.{CommitCommand}
+use Rattle.commit_command.proofs.Pinning.{pin_of, ref_no_pin}
+use Rattle.read_command.specs.declared.command.ReadCommand.{ReadCommand}
+use Rattle.read_command.specs.declared.command.ReadCommand.TheVariants as read
+use Rattle.read_command.specs.declared.log.Log as logging
+use Rattle.read_command.specs.declared.look.Ask.{Ask}
+use Rattle.read_command.specs.declared.look.Ask.TheVariants as ask
+use Rattle.read_command.specs.declared.look.Look as looking
+use Rattle.read_command.specs.Asked.{Asked, asked}
+use Rattle.read_command.specs.Chains.{IsChain}
+use Rattle.read_command.specs.Commands.{read_kind}
+use Rattle.read_command.specs.Kept.{chain_up}
+use Rattle.read_command.specs.LogSteps.{log_kind}
+use Rattle.checkout_command.specs.declared.command.CheckoutCommand.{CheckoutCommand}
+use Rattle.checkout_command.specs.Asked as checking
+use Rattle.checkout_command.specs.Commands.{checkout_kind}
+use Rattle.lane_command.specs.declared.command.LaneCommand.{LaneCommand}
+use Rattle.lane_command.specs.declared.command.LaneCommand.TheVariants as lane_command
+use Rattle.lane_command.specs.Commands.{lane_facts, lane_kind, told}
+use Rattle.lane_command.proofs.Ends.{told_kind}
 use Rattle.ref_store.specs.Change.{progress_in}
-use Rattle.ref_work.specs.declared.command.RefCommand.{RefCommand}
-use Rattle.ref_work.specs.declared.command.RefCommand.TheVariants as task
-use Rattle.ref_work.specs.declared.look_up.Found.{Found}
-use Rattle.ref_work.specs.Commands.{command_kind, found_kind, pin_wants}
-use Rattle.ref_work.specs.Found.{commit_name}
-use Rattle.ref_work.specs.Kinds.{event}
-use Rattle.rely.specs.declared.books.Books as rust
-use Rattle.rely.specs.declared.books.Entry.{Entry}
-use Rattle.rely.specs.declared.books.Pin.{Pin}
-use Rattle.rely.specs.declared.kind.Outcome.{Outcome}
-use Rattle.rely.specs.declared.kind.Outcome.TheVariants as came
-use Rattle.rely.specs.Books.{Books}
-use Rattle.rely.specs.Laws.{Take}
-use Rattle.rely.specs.Pinning.{ArePinned, pin_in, without}
-use Rattle.rely.specs.State.{State, first}
-use Rattle.rely.proofs.Pinning.{with_cases, without_cases}
+use Rattle.ref_command.specs.declared.command.RefCommand.{RefCommand}
+use Rattle.ref_command.specs.declared.command.RefCommand.TheVariants as task
+use Rattle.ref_command.specs.declared.look_up.Found.{Found}
+use Rattle.ref_command.specs.Commands.{command_kind, found_kind, pin_wants}
+use Rattle.ref_command.specs.Found.{commit_name}
+use Rattle.ref_command.specs.Kinds.{event}
+use Rattle.rely_guarantee.specs.declared.books.Books as rust
+use Rattle.rely_guarantee.specs.declared.books.Entry.{Entry}
+use Rattle.rely_guarantee.specs.declared.books.Pin.{Pin}
+use Rattle.rely_guarantee.specs.declared.kind.Outcome.{Outcome}
+use Rattle.rely_guarantee.specs.declared.kind.Outcome.TheVariants as came
+use Rattle.rely_guarantee.specs.Books.{Books}
+use Rattle.rely_guarantee.specs.Laws.{Take}
+use Rattle.rely_guarantee.specs.Pinning.{ArePinned, pin_in, without}
+use Rattle.rely_guarantee.specs.State.{State, first}
+use Rattle.rely_guarantee.proofs.Pinning.{with_cases, without_cases}
 use Rattle.script.specs.declared.command.Command.{Command}
 use Rattle.script.specs.declared.command.Command.TheVariants as command
 use Rattle.script.specs.declared.command.Lane.{Lane}
@@ -109,7 +109,7 @@ commit_pin known limits s branch tree subject body time t name is has = (
 
 -- where a log has come to a commit, the chain leads there
 abbrev pub Chained : Type 0 → LaneCommand → Type 0
-Chained known (lane_work.Read (read.Log g)) = known → Reaches g.commit g.next
+Chained known (lane_command.Read (read.Log g)) = known → Reaches g.commit g.next
 Chained known t = Unit {0}
 
 same_commit : (l : looking.Look) (q : Asked) → asked (read.Look l) ≡ Some q → l.commit ≡ q.commit
@@ -160,7 +160,7 @@ log_pin known limits s (command.DropRef branch) g name leads after is = absurd a
 log_pin known limits s (command.Commit branch tree subject body time) g name leads after is = absurd after
 log_pin known limits s command.Refs g name leads after is = absurd after
 
-read_pin : (known : Type 0) (limits : Limits) (s : State) (c : Command) (t : ReadCommand) (name : ObjName) → Chained known (lane_work.Read t) → Reads limits s c (asked t) → pin_in (read_kind t) ≡ Some name → IsWorkOf known s c name
+read_pin : (known : Type 0) (limits : Limits) (s : State) (c : Command) (t : ReadCommand) (name : ObjName) → Chained known (lane_command.Read t) → Reads limits s c (asked t) → pin_in (read_kind t) ≡ Some name → IsWorkOf known s c name
 read_pin known limits s c (read.Look l) name chained after is = look_pin known limits s c l name after is
 read_pin known limits s c (read.Log g) name chained after is = log_pin known limits s c g name chained after is
 read_pin known limits s c (read.Cat x) name chained after is = absurd (none_some name is)
@@ -184,31 +184,31 @@ out_pin known limits s (command.Commit branch tree subject body time) t name aft
 out_pin known limits s command.Refs t name after is = absurd after
 
 pub pin_work : (known : Type 0) (limits : Limits) (s : State) (c : Command) (t : LaneCommand) (name : ObjName) → Chained known t → Pursues limits s c t → pin_in (lane_kind t) ≡ Some name → IsWorkOf known s c name
-pin_work known limits s c (lane_work.Ref t) name chained after is = ref_pin known s c t name after is
-pin_work known limits s (command.Commit branch tree subject body time) (lane_work.Commit t) name chained after is = commit_pin known limits s branch tree subject body time t name after (pin_of t name after.made is)
-pin_work known limits s (command.RevParse rev) (lane_work.Commit t) name chained after is = absurd after
-pin_work known limits s (command.Log rev) (lane_work.Commit t) name chained after is = absurd after
-pin_work known limits s (command.Ls rev path) (lane_work.Commit t) name chained after is = absurd after
-pin_work known limits s (command.Cat rev path) (lane_work.Commit t) name chained after is = absurd after
-pin_work known limits s (command.Checkout rev folder) (lane_work.Commit t) name chained after is = absurd after
-pin_work known limits s (command.Reset branch commit) (lane_work.Commit t) name chained after is = absurd after
-pin_work known limits s (command.DropRef branch) (lane_work.Commit t) name chained after is = absurd after
-pin_work known limits s command.Refs (lane_work.Commit t) name chained after is = absurd after
-pin_work known limits s c (lane_work.Read t) name chained after is = read_pin known limits s c t name chained after is
-pin_work known limits s c (lane_work.Checkout t) name chained after is = out_pin known limits s c t name after is
+pin_work known limits s c (lane_command.Ref t) name chained after is = ref_pin known s c t name after is
+pin_work known limits s (command.Commit branch tree subject body time) (lane_command.Commit t) name chained after is = commit_pin known limits s branch tree subject body time t name after (pin_of t name after.made is)
+pin_work known limits s (command.RevParse rev) (lane_command.Commit t) name chained after is = absurd after
+pin_work known limits s (command.Log rev) (lane_command.Commit t) name chained after is = absurd after
+pin_work known limits s (command.Ls rev path) (lane_command.Commit t) name chained after is = absurd after
+pin_work known limits s (command.Cat rev path) (lane_command.Commit t) name chained after is = absurd after
+pin_work known limits s (command.Checkout rev folder) (lane_command.Commit t) name chained after is = absurd after
+pin_work known limits s (command.Reset branch commit) (lane_command.Commit t) name chained after is = absurd after
+pin_work known limits s (command.DropRef branch) (lane_command.Commit t) name chained after is = absurd after
+pin_work known limits s command.Refs (lane_command.Commit t) name chained after is = absurd after
+pin_work known limits s c (lane_command.Read t) name chained after is = read_pin known limits s c t name chained after is
+pin_work known limits s c (lane_command.Checkout t) name chained after is = out_pin known limits s c t name after is
 
 -- so it does where the view is told, since the store has each of its commits
 pub chained_of : {F : Type 0} (view : F → Option View) → ((fs gs : F) (v : View) → view fs ≡ Some v → Told (view gs) (λ w. Unit {0})) → (fs : F) (lane : ℕ) (t : LaneCommand) (b : Books) → ((v : View) → view fs ≡ Some v → lane_facts lane t v b) → Chained (IsTold view) t
-chained_of view always fs lane (lane_work.Read (read.Log g)) b facts = λ known.
+chained_of view always fs lane (lane_command.Read (read.Log g)) b facts = λ known.
     let v = always known.0 fs known.1 known.2 in
     (g.rows.items, chain_up (Stores v.0.now) IsNamed (λ name bytes stored. stored.named) g.commit g.rows.items g.next (facts v.0 v.1).0)
-chained_of view always fs lane (lane_work.Read (read.Look x)) b facts = tt
-chained_of view always fs lane (lane_work.Read (read.Cat x)) b facts = tt
-chained_of view always fs lane (lane_work.Read (read.Ls x)) b facts = tt
-chained_of view always fs lane (lane_work.Read (read.Ended x)) b facts = tt
-chained_of view always fs lane (lane_work.Ref x) b facts = tt
-chained_of view always fs lane (lane_work.Commit x) b facts = tt
-chained_of view always fs lane (lane_work.Checkout x) b facts = tt
+chained_of view always fs lane (lane_command.Read (read.Look x)) b facts = tt
+chained_of view always fs lane (lane_command.Read (read.Cat x)) b facts = tt
+chained_of view always fs lane (lane_command.Read (read.Ls x)) b facts = tt
+chained_of view always fs lane (lane_command.Read (read.Ended x)) b facts = tt
+chained_of view always fs lane (lane_command.Ref x) b facts = tt
+chained_of view always fs lane (lane_command.Commit x) b facts = tt
+chained_of view always fs lane (lane_command.Checkout x) b facts = tt
 
 -- ---- what an act of the lane leaves
 pub pins_told : (lane objects : ℕ) (t u : LaneCommand) (o x : Outcome) (old new : List Pin) → u ≡ told objects t → o ≡ x → ArePinned (pin_in (lane_kind u)) lane o old new → ArePinned (pin_in (lane_kind t)) lane x old new

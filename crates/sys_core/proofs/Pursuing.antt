@@ -6,13 +6,13 @@ use Rattle.ost_forms.specs.declared.tree_item.TreeItem.{TreeItem}
 use Rattle.fs_trait.specs.declared.types.FsErr.{FsErr}
 use Rattle.fs_trait.specs.declared.task.StepResult.TheVariants as turn
 use Rattle.ref_store.specs.Change.{Change as Changing, IsStepped, progress_in}
-use Rattle.ref_work.specs.declared.work.RefWork.{RefWork}
-use Rattle.ref_work.specs.declared.look_up.LookUp.{LookUp}
-use Rattle.ref_work.specs.declared.look_up.Found.{Found}
-use Rattle.ref_work.specs.declared.plan.Plan.{Plan}
-use Rattle.ref_work.specs.declared.command.RefCommand.{RefCommand}
-use Rattle.ref_work.specs.declared.command.RefCommand.TheVariants.{Parse, Reset, Change}
-use Rattle.ref_work.specs.Commands.{command_kind, command_stepped, found_kind, reset_stepped}
+use Rattle.ref_command.specs.declared.work.RefWork.{RefWork}
+use Rattle.ref_command.specs.declared.look_up.LookUp.{LookUp}
+use Rattle.ref_command.specs.declared.look_up.Found.{Found}
+use Rattle.ref_command.specs.declared.plan.Plan.{Plan}
+use Rattle.ref_command.specs.declared.command.RefCommand.{RefCommand}
+use Rattle.ref_command.specs.declared.command.RefCommand.TheVariants.{Parse, Reset, Change}
+use Rattle.ref_command.specs.Commands.{command_kind, command_stepped, found_kind, reset_stepped}
 use Rattle.tree_build.specs.Items.{IsTree}
 use Rattle.commit_build.specs.declared.message.Message.{Message}
 use Rattle.commit_build.specs.declared.phase.Phase.{Phase}
@@ -20,36 +20,36 @@ use Rattle.commit_build.specs.declared.phase.Phase.TheVariants as phase
 use Rattle.commit_build.specs.Committing.{Committing, IsMade, commit_in, storing_in, ReadsBack}
 use Rattle.commit_build.proofs.PutSteps.{kept_as}
 use Rattle.commit_build.proofs.Wholes.{IsSame, same_more}
-use Rattle.commit_work.specs.declared.naming.Naming.{Naming}
-use Rattle.commit_work.specs.declared.command.CommitCommand.{CommitCommand}
-use Rattle.commit_work.specs.Kinds.{BuildSteps, build_kind, kind_by, planned, stepped_at, stepped_by}
+use Rattle.commit_command.specs.declared.naming.Naming.{Naming}
+use Rattle.commit_command.specs.declared.command.CommitCommand.{CommitCommand}
+use Rattle.commit_command.specs.Kinds.{BuildSteps, build_kind, kind_by, planned, stepped_at, stepped_by}
 use Rattle.script.specs.declared.rows.LogRow.{LogRow}
-use Rattle.read_work.specs.declared.command.ReadCommand.{ReadCommand}
-use Rattle.read_work.specs.declared.command.ReadCommand.TheVariants as reading
-use Rattle.read_work.specs.Commands.{read_kind}
-use Rattle.read_work.specs.LogSteps.{log_kind}
-use Rattle.checkout_work.specs.Asked as checking
-use Rattle.checkout_work.specs.Commands.{checkout_kind}
-use Rattle.lane_work.specs.declared.command.LaneCommand.{LaneCommand}
-use Rattle.lane_work.specs.declared.command.LaneCommand.TheVariants as lane_work
-use Rattle.lane_work.specs.Commands.{IsMadeIn, lane_kind, lane_stepped, told}
-use Rattle.ref_work.specs.Kinds.{event, event_of}
-use Rattle.ref_work.specs.Laws.{runs_in}
-use Rattle.ref_work.proofs.Steps.{kind_shows}
-use Rattle.rely.specs.declared.books.Books as rust
-use Rattle.rely.specs.declared.books.Pending.{Pending}
-use Rattle.rely.specs.declared.event.Event.{Event}
-use Rattle.rely.specs.declared.event.Event.TheVariants as event
-use Rattle.rely.specs.declared.kind.Outcome.{Outcome}
-use Rattle.rely.specs.declared.kind.Outcome.TheVariants as came
-use Rattle.rely.specs.Exact.{IsBooked}
-use Rattle.rely.specs.Laws.{Kind, Quiet, Store, Take, Claim, Show, Shown, Settle}
-use Rattle.rely.specs.State.{State, RefOf}
+use Rattle.read_command.specs.declared.command.ReadCommand.{ReadCommand}
+use Rattle.read_command.specs.declared.command.ReadCommand.TheVariants as reading
+use Rattle.read_command.specs.Commands.{read_kind}
+use Rattle.read_command.specs.LogSteps.{log_kind}
+use Rattle.checkout_command.specs.Asked as checking
+use Rattle.checkout_command.specs.Commands.{checkout_kind}
+use Rattle.lane_command.specs.declared.command.LaneCommand.{LaneCommand}
+use Rattle.lane_command.specs.declared.command.LaneCommand.TheVariants as lane_command
+use Rattle.lane_command.specs.Commands.{IsMadeIn, lane_kind, lane_stepped, told}
+use Rattle.ref_command.specs.Kinds.{event, event_of}
+use Rattle.ref_command.specs.Laws.{runs_in}
+use Rattle.ref_command.proofs.Steps.{kind_shows}
+use Rattle.rely_guarantee.specs.declared.books.Books as rust
+use Rattle.rely_guarantee.specs.declared.books.Pending.{Pending}
+use Rattle.rely_guarantee.specs.declared.event.Event.{Event}
+use Rattle.rely_guarantee.specs.declared.event.Event.TheVariants as event
+use Rattle.rely_guarantee.specs.declared.kind.Outcome.{Outcome}
+use Rattle.rely_guarantee.specs.declared.kind.Outcome.TheVariants as came
+use Rattle.rely_guarantee.specs.Exact.{IsBooked}
+use Rattle.rely_guarantee.specs.Laws.{Kind, Quiet, Store, Take, Claim, Show, Shown, Settle}
+use Rattle.rely_guarantee.specs.State.{State, RefOf}
 use Rattle.script.specs.declared.command.Command.{Command}
 use Rattle.script.specs.declared.command.Command.TheVariants as command
 use Rattle.sys_core.specs.Answers.{IsChangeOf}
 use Rattle.sys_core.specs.Begins.{RunsBy, RunsRefBy}
-use Rattle.commit_lasts.specs.Lasting.{sum_of}
+use Rattle.commit_durability.specs.Lasting.{sum_of}
 use Rattle.sys_core.specs.Commits.{message_in}
 use Rattle.sys_core.specs.Pursues.{Commits, IsChanging, IsNaming, NamesIn, Pursues, RefPursues, IsPendingBy, ReadsIn}
 use Rattle.sys_core.specs.Reading.{ChecksOut, Reads}
@@ -76,10 +76,10 @@ ref_begins lane s (command.Checkout rev name) t by = absurd by
 ref_begins lane s command.Refs t by = absurd by
 
 pub pursues_begins : (limits : Limits) (lane : ℕ) (s : State) (c : Command) (t : LaneCommand) → RunsBy limits lane s c t → Pursues limits s c t
-pursues_begins limits lane s c (lane_work.Ref t) by = ref_begins lane s c t by
-pursues_begins limits lane s c (lane_work.Read t) by = by
-pursues_begins limits lane s c (lane_work.Checkout t) by = by
-pursues_begins limits lane s (command.Commit branch tree subject body time) (lane_work.Commit t) by = record {
+pursues_begins limits lane s c (lane_command.Ref t) by = ref_begins lane s c t by
+pursues_begins limits lane s c (lane_command.Read t) by = by
+pursues_begins limits lane s c (lane_command.Checkout t) by = by
+pursues_begins limits lane s (command.Commit branch tree subject body time) (lane_command.Commit t) by = record {
   name = by.0.name;
   items = ap (λ (x : Committing). x.items) by.0.build;
   bounds = ap (λ (x : Committing). x.limits) by.0.build;
@@ -88,29 +88,29 @@ pursues_begins limits lane s (command.Commit branch tree subject body time) (lan
   names = subst (NamesIn branch (s (RefOf branch)) tree.items (sum_of tree.items (message_in s branch subject body time))) (sym by.0.change) tt;
   reads = subst (ReadsIn tree.items (message_in s branch subject body time)) (sym by.0.change) tt;
 }
-pursues_begins limits lane s (command.RevParse rev) (lane_work.Commit t) by = absurd by
-pursues_begins limits lane s (command.Reset branch commit) (lane_work.Commit t) by = absurd by
-pursues_begins limits lane s (command.DropRef branch) (lane_work.Commit t) by = absurd by
-pursues_begins limits lane s (command.Log rev) (lane_work.Commit t) by = absurd by
-pursues_begins limits lane s (command.Ls rev path) (lane_work.Commit t) by = absurd by
-pursues_begins limits lane s (command.Cat rev path) (lane_work.Commit t) by = absurd by
-pursues_begins limits lane s (command.Checkout rev name) (lane_work.Commit t) by = absurd by
-pursues_begins limits lane s command.Refs (lane_work.Commit t) by = absurd by
+pursues_begins limits lane s (command.RevParse rev) (lane_command.Commit t) by = absurd by
+pursues_begins limits lane s (command.Reset branch commit) (lane_command.Commit t) by = absurd by
+pursues_begins limits lane s (command.DropRef branch) (lane_command.Commit t) by = absurd by
+pursues_begins limits lane s (command.Log rev) (lane_command.Commit t) by = absurd by
+pursues_begins limits lane s (command.Ls rev path) (lane_command.Commit t) by = absurd by
+pursues_begins limits lane s (command.Cat rev path) (lane_command.Commit t) by = absurd by
+pursues_begins limits lane s (command.Checkout rev name) (lane_command.Commit t) by = absurd by
+pursues_begins limits lane s command.Refs (lane_command.Commit t) by = absurd by
 
 -- whatever the task is told
 pub pursues_told : (limits : Limits) (s : State) (c : Command) (objects : ℕ) (t : LaneCommand) → Pursues limits s c t → Pursues limits s c (told objects t)
-pursues_told limits s c objects (lane_work.Ref t) is = is
-pursues_told limits s c objects (lane_work.Read t) is = is
-pursues_told limits s c objects (lane_work.Checkout t) is = is
-pursues_told limits s (command.Commit branch tree subject body time) objects (lane_work.Commit t) is = record { name = is.name; items = is.items; bounds = is.bounds; says = is.says; made = is.made; names = is.names; reads = is.reads }
-pursues_told limits s (command.RevParse rev) objects (lane_work.Commit t) is = absurd is
-pursues_told limits s (command.Reset branch commit) objects (lane_work.Commit t) is = absurd is
-pursues_told limits s (command.DropRef branch) objects (lane_work.Commit t) is = absurd is
-pursues_told limits s (command.Log rev) objects (lane_work.Commit t) is = absurd is
-pursues_told limits s (command.Ls rev path) objects (lane_work.Commit t) is = absurd is
-pursues_told limits s (command.Cat rev path) objects (lane_work.Commit t) is = absurd is
-pursues_told limits s (command.Checkout rev name) objects (lane_work.Commit t) is = absurd is
-pursues_told limits s command.Refs objects (lane_work.Commit t) is = absurd is
+pursues_told limits s c objects (lane_command.Ref t) is = is
+pursues_told limits s c objects (lane_command.Read t) is = is
+pursues_told limits s c objects (lane_command.Checkout t) is = is
+pursues_told limits s (command.Commit branch tree subject body time) objects (lane_command.Commit t) is = record { name = is.name; items = is.items; bounds = is.bounds; says = is.says; made = is.made; names = is.names; reads = is.reads }
+pursues_told limits s (command.RevParse rev) objects (lane_command.Commit t) is = absurd is
+pursues_told limits s (command.Reset branch commit) objects (lane_command.Commit t) is = absurd is
+pursues_told limits s (command.DropRef branch) objects (lane_command.Commit t) is = absurd is
+pursues_told limits s (command.Log rev) objects (lane_command.Commit t) is = absurd is
+pursues_told limits s (command.Ls rev path) objects (lane_command.Commit t) is = absurd is
+pursues_told limits s (command.Cat rev path) objects (lane_command.Commit t) is = absurd is
+pursues_told limits s (command.Checkout rev name) objects (lane_command.Commit t) is = absurd is
+pursues_told limits s command.Refs objects (lane_command.Commit t) is = absurd is
 
 changing_step : (name : List ℕ) (seen value : Option (List ℕ)) (t new : Changing) → IsStepped t (Ok turn.More) new → IsChanging name seen value t → IsChanging name seen value new
 changing_step name seen value t new step is = (
@@ -236,31 +236,31 @@ module _ (limits : Limits) (branch : List ℕ) (tree : List TreeItem) (message :
 
 -- and at each step
 pub pursues_step : (limits : Limits) (s : State) (c : Command) (t new : LaneCommand) → lane_stepped t turn.More new → IsMadeIn new → Pursues limits s c t → Pursues limits s c new
-pursues_step limits s c (lane_work.Ref t) (lane_work.Ref new) step made is = ref_step s c t new step is
-pursues_step limits s c (lane_work.Read t) (lane_work.Read new) step made is = subst (Reads limits s c) (sym step.0) is
-pursues_step limits s c (lane_work.Checkout t) (lane_work.Checkout new) step made is = subst (ChecksOut limits s c) (sym step.0) is
-pursues_step limits s c (lane_work.Ref t) (lane_work.Commit new) step made is = absurd step
-pursues_step limits s c (lane_work.Ref t) (lane_work.Read new) step made is = absurd step
-pursues_step limits s c (lane_work.Ref t) (lane_work.Checkout new) step made is = absurd step
-pursues_step limits s c (lane_work.Commit t) (lane_work.Ref new) step made is = absurd step
-pursues_step limits s c (lane_work.Commit t) (lane_work.Read new) step made is = absurd step
-pursues_step limits s c (lane_work.Commit t) (lane_work.Checkout new) step made is = absurd step
-pursues_step limits s c (lane_work.Read t) (lane_work.Ref new) step made is = absurd step
-pursues_step limits s c (lane_work.Read t) (lane_work.Commit new) step made is = absurd step
-pursues_step limits s c (lane_work.Read t) (lane_work.Checkout new) step made is = absurd step
-pursues_step limits s c (lane_work.Checkout t) (lane_work.Ref new) step made is = absurd step
-pursues_step limits s c (lane_work.Checkout t) (lane_work.Commit new) step made is = absurd step
-pursues_step limits s c (lane_work.Checkout t) (lane_work.Read new) step made is = absurd step
-pursues_step limits s (command.Commit branch tree subject body time) (lane_work.Commit t) (lane_work.Commit new) step made is =
+pursues_step limits s c (lane_command.Ref t) (lane_command.Ref new) step made is = ref_step s c t new step is
+pursues_step limits s c (lane_command.Read t) (lane_command.Read new) step made is = subst (Reads limits s c) (sym step.0) is
+pursues_step limits s c (lane_command.Checkout t) (lane_command.Checkout new) step made is = subst (ChecksOut limits s c) (sym step.0) is
+pursues_step limits s c (lane_command.Ref t) (lane_command.Commit new) step made is = absurd step
+pursues_step limits s c (lane_command.Ref t) (lane_command.Read new) step made is = absurd step
+pursues_step limits s c (lane_command.Ref t) (lane_command.Checkout new) step made is = absurd step
+pursues_step limits s c (lane_command.Commit t) (lane_command.Ref new) step made is = absurd step
+pursues_step limits s c (lane_command.Commit t) (lane_command.Read new) step made is = absurd step
+pursues_step limits s c (lane_command.Commit t) (lane_command.Checkout new) step made is = absurd step
+pursues_step limits s c (lane_command.Read t) (lane_command.Ref new) step made is = absurd step
+pursues_step limits s c (lane_command.Read t) (lane_command.Commit new) step made is = absurd step
+pursues_step limits s c (lane_command.Read t) (lane_command.Checkout new) step made is = absurd step
+pursues_step limits s c (lane_command.Checkout t) (lane_command.Ref new) step made is = absurd step
+pursues_step limits s c (lane_command.Checkout t) (lane_command.Commit new) step made is = absurd step
+pursues_step limits s c (lane_command.Checkout t) (lane_command.Read new) step made is = absurd step
+pursues_step limits s (command.Commit branch tree subject body time) (lane_command.Commit t) (lane_command.Commit new) step made is =
     step_by limits branch tree.items (message_in s branch subject body time) t is t.change new refl step made is.names
-pursues_step limits s (command.RevParse rev) (lane_work.Commit t) (lane_work.Commit new) step made is = absurd is
-pursues_step limits s (command.Reset branch commit) (lane_work.Commit t) (lane_work.Commit new) step made is = absurd is
-pursues_step limits s (command.DropRef branch) (lane_work.Commit t) (lane_work.Commit new) step made is = absurd is
-pursues_step limits s (command.Log rev) (lane_work.Commit t) (lane_work.Commit new) step made is = absurd is
-pursues_step limits s (command.Ls rev path) (lane_work.Commit t) (lane_work.Commit new) step made is = absurd is
-pursues_step limits s (command.Cat rev path) (lane_work.Commit t) (lane_work.Commit new) step made is = absurd is
-pursues_step limits s (command.Checkout rev name) (lane_work.Commit t) (lane_work.Commit new) step made is = absurd is
-pursues_step limits s command.Refs (lane_work.Commit t) (lane_work.Commit new) step made is = absurd is
+pursues_step limits s (command.RevParse rev) (lane_command.Commit t) (lane_command.Commit new) step made is = absurd is
+pursues_step limits s (command.Reset branch commit) (lane_command.Commit t) (lane_command.Commit new) step made is = absurd is
+pursues_step limits s (command.DropRef branch) (lane_command.Commit t) (lane_command.Commit new) step made is = absurd is
+pursues_step limits s (command.Log rev) (lane_command.Commit t) (lane_command.Commit new) step made is = absurd is
+pursues_step limits s (command.Ls rev path) (lane_command.Commit t) (lane_command.Commit new) step made is = absurd is
+pursues_step limits s (command.Cat rev path) (lane_command.Commit t) (lane_command.Commit new) step made is = absurd is
+pursues_step limits s (command.Checkout rev name) (lane_command.Commit t) (lane_command.Commit new) step made is = absurd is
+pursues_step limits s command.Refs (lane_command.Commit t) (lane_command.Commit new) step made is = absurd is
 
 drop_event : (seen : Option (List ℕ)) (branch : List ℕ) → IsSome seen → (x : List ℕ) × (seen ≡ Some x) × (event_of None branch seen ≡ event.DropRef branch x)
 drop_event (Some x) branch some = (x, refl, refl)
@@ -315,19 +315,19 @@ read_shows (reading.Log g) e is = log_shows g.rows.items g.next e is
 read_shows (reading.Ended a) e is = cc
 
 shows_change : (limits : Limits) (s : State) (c : Command) (t : LaneCommand) (e : Event) → Pursues limits s c t → lane_kind t ≡ Show e → IsChangeOf s c e
-shows_change limits s c (lane_work.Ref t) e is k = ref_shows s c t e is k
-shows_change limits s c (lane_work.Read t) e is k = read_shows t e k
-shows_change limits s c (lane_work.Checkout t) e is k = absurd (asks_no_show (checking.asked t) (checkout_kind t) (checkout_asks t) e k)
-shows_change limits s (command.Commit branch tree subject body time) (lane_work.Commit t) e is k =
+shows_change limits s c (lane_command.Ref t) e is k = ref_shows s c t e is k
+shows_change limits s c (lane_command.Read t) e is k = read_shows t e k
+shows_change limits s c (lane_command.Checkout t) e is k = absurd (asks_no_show (checking.asked t) (checkout_kind t) (checkout_asks t) e k)
+shows_change limits s (command.Commit branch tree subject body time) (lane_command.Commit t) e is k =
     commit_shows branch (s (RefOf branch)) tree.items (sum_of tree.items (message_in s branch subject body time)) t t.change e is.names k
-shows_change limits s (command.RevParse rev) (lane_work.Commit t) e is k = absurd is
-shows_change limits s (command.Reset branch commit) (lane_work.Commit t) e is k = absurd is
-shows_change limits s (command.DropRef branch) (lane_work.Commit t) e is k = absurd is
-shows_change limits s (command.Log rev) (lane_work.Commit t) e is k = absurd is
-shows_change limits s (command.Ls rev path) (lane_work.Commit t) e is k = absurd is
-shows_change limits s (command.Cat rev path) (lane_work.Commit t) e is k = absurd is
-shows_change limits s (command.Checkout rev name) (lane_work.Commit t) e is k = absurd is
-shows_change limits s command.Refs (lane_work.Commit t) e is k = absurd is
+shows_change limits s (command.RevParse rev) (lane_command.Commit t) e is k = absurd is
+shows_change limits s (command.Reset branch commit) (lane_command.Commit t) e is k = absurd is
+shows_change limits s (command.DropRef branch) (lane_command.Commit t) e is k = absurd is
+shows_change limits s (command.Log rev) (lane_command.Commit t) e is k = absurd is
+shows_change limits s (command.Ls rev path) (lane_command.Commit t) e is k = absurd is
+shows_change limits s (command.Cat rev path) (lane_command.Commit t) e is k = absurd is
+shows_change limits s (command.Checkout rev name) (lane_command.Commit t) e is k = absurd is
+shows_change limits s command.Refs (lane_command.Commit t) e is k = absurd is
 
 module _ (lane number moment : ℕ) (old new : rust.Books) (Its : Event → Type 0) where
   same_shown : new.pending ≡ old.pending → IsPendingBy lane number (λ p. Its p.event) old new

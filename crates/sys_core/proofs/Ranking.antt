@@ -4,11 +4,11 @@ use Rattle.std.proofs.lemmas.Bool.Decides.{nat_tests}
 use Rattle.std.proofs.lemmas.List.{ext_get_or, get_or-map, get_or_default, get_or_past, length-map, set-get_or}
 use Rattle.std.specs.Global.{Vec}
 use Rattle.ost_types.specs.declared.limits.Limits.{Limits}
-use Rattle.rely.specs.declared.books.Base.{Base}
+use Rattle.rely_guarantee.specs.declared.books.Base.{Base}
 use Rattle.script.specs.declared.answer.Answer.{Answer}
 use Rattle.script.specs.declared.answer.Reply.{Reply}
 use Rattle.script.specs.declared.command.Lane.{Lane}
-use Rattle.lane_work.specs.declared.command.LaneCommand.{LaneCommand}
+use Rattle.lane_command.specs.declared.command.LaneCommand.{LaneCommand}
 use Rattle.sys_core.specs.declared.ask.Ask.{Ask}
 use Rattle.sys_core.specs.declared.ask.Ask.TheVariants.{More, Blocked, Done, Ended}
 use Rattle.sys_core.specs.declared.run.Run.{Run}

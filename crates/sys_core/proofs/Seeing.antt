@@ -8,44 +8,44 @@ use Rattle.fs_trait.specs.Count.{Rose}
 use Rattle.fs_trait.specs.Effect.{OfNone}
 use Rattle.fs_trait.specs.declared.types.FsErr.{FsErr}
 use Rattle.fs_trait.specs.declared.types.FsErr.TheVariants as err
-use Rattle.ref_work.specs.declared.command.RefCommand.{RefCommand}
-use Rattle.ref_work.specs.declared.look_up.Found.TheVariants.{Missing, Partial, Whole}
-use Rattle.ref_work.specs.Found.{IsFound}
-use Rattle.ref_work.specs.Answers as refs
+use Rattle.ref_command.specs.declared.command.RefCommand.{RefCommand}
+use Rattle.ref_command.specs.declared.look_up.Found.TheVariants.{Missing, Partial, Whole}
+use Rattle.ref_command.specs.Found.{IsFound}
+use Rattle.ref_command.specs.Answers as refs
 use Rattle.tree_build.specs.Building.{IsNumber}
 use Rattle.tree_build.specs.Objects.{work}
 use Rattle.commit_build.specs.Committing.{commit_of, named_commit, ReadsBack, storing_in}
 use Rattle.commit_build.specs.Steps.{AreSure, IsSure, NeverMarked}
-use Rattle.commit_work.specs.declared.answer.CommitAnswer.{CommitAnswer}
-use Rattle.commit_work.specs.declared.answer.CommitAnswer.TheVariants as committed
-use Rattle.commit_work.specs.declared.command.CommitCommand.{CommitCommand}
-use Rattle.commit_work.specs.Answers as commits
-use Rattle.read_work.specs.declared.answer.ReadAnswer.{ReadAnswer}
-use Rattle.read_work.specs.declared.answer.ReadAnswer.TheVariants as given
-use Rattle.read_work.specs.declared.look.Ask.{Ask}
-use Rattle.read_work.specs.declared.look.Ask.TheVariants as ask
-use Rattle.read_work.specs.Answers.{SaysOf}
-use Rattle.read_work.specs.Asked as reads
-use Rattle.read_work.specs.Asked.{Asked, asked}
-use Rattle.read_work.specs.Founded.{IsFinishedOf, IsRead}
-use Rattle.checkout_work.specs.declared.answer.CheckoutAnswer.{CheckoutAnswer}
-use Rattle.checkout_work.specs.declared.answer.CheckoutAnswer.TheVariants as checkout
-use Rattle.checkout_work.specs.Asked as checking
-use Rattle.checkout_work.specs.Founded as checked
-use Rattle.lane_work.specs.declared.command.LaneCommand.{LaneCommand}
-use Rattle.lane_work.specs.declared.command.LaneCommand.TheVariants as lane_work
-use Rattle.lane_work.specs.Answers.{Says}
-use Rattle.lane_work.specs.Commands.{checkout_answer, lane_facts, lane_leaves, lane_refuses, read_answer, script_answer}
-use Rattle.lane_work.proofs.Ends.{refused_of, says_of}
-use Rattle.rely.specs.declared.books.Entry.{Entry}
-use Rattle.rely.specs.declared.books.Pending.{Pending}
-use Rattle.rely.specs.Sound.{Stands}
+use Rattle.commit_command.specs.declared.answer.CommitAnswer.{CommitAnswer}
+use Rattle.commit_command.specs.declared.answer.CommitAnswer.TheVariants as committed
+use Rattle.commit_command.specs.declared.command.CommitCommand.{CommitCommand}
+use Rattle.commit_command.specs.Answers as commits
+use Rattle.read_command.specs.declared.answer.ReadAnswer.{ReadAnswer}
+use Rattle.read_command.specs.declared.answer.ReadAnswer.TheVariants as given
+use Rattle.read_command.specs.declared.look.Ask.{Ask}
+use Rattle.read_command.specs.declared.look.Ask.TheVariants as ask
+use Rattle.read_command.specs.Answers.{SaysOf}
+use Rattle.read_command.specs.Asked as reads
+use Rattle.read_command.specs.Asked.{Asked, asked}
+use Rattle.read_command.specs.Founded.{IsFinishedOf, IsRead}
+use Rattle.checkout_command.specs.declared.answer.CheckoutAnswer.{CheckoutAnswer}
+use Rattle.checkout_command.specs.declared.answer.CheckoutAnswer.TheVariants as checkout
+use Rattle.checkout_command.specs.Asked as checking
+use Rattle.checkout_command.specs.Founded as checked
+use Rattle.lane_command.specs.declared.command.LaneCommand.{LaneCommand}
+use Rattle.lane_command.specs.declared.command.LaneCommand.TheVariants as lane_command
+use Rattle.lane_command.specs.Answers.{Says}
+use Rattle.lane_command.specs.Commands.{checkout_answer, lane_facts, lane_leaves, lane_refuses, read_answer, script_answer}
+use Rattle.lane_command.proofs.Ends.{refused_of, says_of}
+use Rattle.rely_guarantee.specs.declared.books.Entry.{Entry}
+use Rattle.rely_guarantee.specs.declared.books.Pending.{Pending}
+use Rattle.rely_guarantee.specs.SystemInvariant.{Stands}
 use Rattle.fs_trait.specs.Image.{IsTree}
-use Rattle.rely.specs.declared.kind.Outcome.{Outcome}
-use Rattle.rely.specs.declared.kind.Outcome.TheVariants as came
-use Rattle.rely.specs.Books.{Books}
-use Rattle.rely.specs.Exact.{Causes, Tells}
-use Rattle.rely.specs.State.{State}
+use Rattle.rely_guarantee.specs.declared.kind.Outcome.{Outcome}
+use Rattle.rely_guarantee.specs.declared.kind.Outcome.TheVariants as came
+use Rattle.rely_guarantee.specs.Books.{Books}
+use Rattle.rely_guarantee.specs.Exact.{Causes, Tells}
+use Rattle.rely_guarantee.specs.State.{State}
 use Rattle.script.specs.declared.answer.Answer.{Answer}
 use Rattle.script.specs.declared.answer.Answer.TheVariants as answer
 use Rattle.script.specs.declared.command.Command.{Command}
@@ -58,10 +58,10 @@ use Rattle.sys_core.specs.Begins.{AnswersBy}
 use Rattle.sys_core.specs.Reading.{ChecksOut, Reads, SaysBy}
 use Rattle.ost_types.specs.declared.object.ObjName.{ObjName}
 use Rattle.tree_build.specs.Items.{AreTyped}
-use Rattle.commit_work.specs.Kinds.{build_kind, commit_kind, kind_by}
-use Rattle.commit_work.specs.declared.naming.Naming.{Naming}
-use Rattle.rely.specs.Laws.{Settle}
-use Rattle.rely.specs.declared.event.Event.{Event}
+use Rattle.commit_command.specs.Kinds.{build_kind, commit_kind, kind_by}
+use Rattle.commit_command.specs.declared.naming.Naming.{Naming}
+use Rattle.rely_guarantee.specs.Laws.{Settle}
+use Rattle.rely_guarantee.specs.declared.event.Event.{Event}
 use Rattle.sys_core.specs.Pursues.{Commits, IsEndedAs, IsRefusedAs, Pursues, RefPursues, ReadsIn}
 
 module _ (limits : Limits) (v : View) (s : State) (halted : Bool) (before now : ℕ) where
@@ -225,18 +225,18 @@ module _ (limits : Limits) (v : View) (s : State) (halted : Bool) (before now : 
   checkout_shown command.Refs q said is says finished = absurd is
 
   said_shown : (a : Answer) (c : Command) (t : LaneCommand) (w : View) → Pursues limits s c t → Says a t v w → Says_so a c
-  said_shown a c (lane_work.Ref t) w is says = ref_shown a c t w is says
-  said_shown a c (lane_work.Read t) w is says = subst (λ x. Says_so x c) says.1 (read_shown c (asked t) says.0 is says.2 says.3)
-  said_shown a c (lane_work.Checkout t) w is says = subst (λ x. Says_so x c) says.2 (checkout_shown c (checking.asked t) says.1 is says.3 says.4)
-  said_shown a (command.Commit branch tree subject body time) (lane_work.Commit t) w is says = made_shown branch tree subject body time t w is says.0 a says.1 says.2
-  said_shown a (command.RevParse rev) (lane_work.Commit t) w is says = absurd is
-  said_shown a (command.Reset branch commit) (lane_work.Commit t) w is says = absurd is
-  said_shown a (command.DropRef branch) (lane_work.Commit t) w is says = absurd is
-  said_shown a (command.Log rev) (lane_work.Commit t) w is says = absurd is
-  said_shown a (command.Ls rev path) (lane_work.Commit t) w is says = absurd is
-  said_shown a (command.Cat rev path) (lane_work.Commit t) w is says = absurd is
-  said_shown a (command.Checkout rev name) (lane_work.Commit t) w is says = absurd is
-  said_shown a command.Refs (lane_work.Commit t) w is says = absurd is
+  said_shown a c (lane_command.Ref t) w is says = ref_shown a c t w is says
+  said_shown a c (lane_command.Read t) w is says = subst (λ x. Says_so x c) says.1 (read_shown c (asked t) says.0 is says.2 says.3)
+  said_shown a c (lane_command.Checkout t) w is says = subst (λ x. Says_so x c) says.2 (checkout_shown c (checking.asked t) says.1 is says.3 says.4)
+  said_shown a (command.Commit branch tree subject body time) (lane_command.Commit t) w is says = made_shown branch tree subject body time t w is says.0 a says.1 says.2
+  said_shown a (command.RevParse rev) (lane_command.Commit t) w is says = absurd is
+  said_shown a (command.Reset branch commit) (lane_command.Commit t) w is says = absurd is
+  said_shown a (command.DropRef branch) (lane_command.Commit t) w is says = absurd is
+  said_shown a (command.Log rev) (lane_command.Commit t) w is says = absurd is
+  said_shown a (command.Ls rev path) (lane_command.Commit t) w is says = absurd is
+  said_shown a (command.Cat rev path) (lane_command.Commit t) w is says = absurd is
+  said_shown a (command.Checkout rev name) (lane_command.Commit t) w is says = absurd is
+  said_shown a command.Refs (lane_command.Commit t) w is says = absurd is
 
   pub by_shown : (p : State) (a : Answer) (c : Command) → AnswersBy p a c → IsSeen limits v s a c × IsCaused halted before now a
   by_shown p (answer.Refs rows) c by = (tt, tt)

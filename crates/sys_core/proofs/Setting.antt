@@ -1,19 +1,19 @@
 -- A change that a step of a task shows sets its ref to no commit but one that lasts.
 use Rattle.std.proofs.Common.{◌≡◌, ⊎_elim, ℕ, refl, sym, ◌∙◌, subst, List, ◌∷◌, ◌++◌, [], Option, Some, None}
 use Rattle.fs_trait.specs.View.{View}
-use Rattle.rely.specs.declared.books.Books as rust
-use Rattle.rely.specs.declared.books.Entry.{Entry}
-use Rattle.rely.specs.declared.books.Pending.{Pending}
-use Rattle.rely.specs.declared.event.Event.{Event}
-use Rattle.rely.specs.declared.event.Event.TheVariants.{SetRef, DropRef}
-use Rattle.rely.specs.declared.kind.Outcome.{Outcome}
-use Rattle.rely.specs.declared.kind.Outcome.TheVariants as came
-use Rattle.rely.specs.Books.{Books, books_of}
-use Rattle.rely.specs.Exact.{IsBooked, IsNoted, IsUnbooked}
-use Rattle.rely.specs.Laws.{Kind, Quiet, Store, Take, Claim, Show, Shown, Settle, Holds}
-use Rattle.lane_work.specs.declared.command.LaneCommand.{LaneCommand}
-use Rattle.lane_work.specs.Commands.{lane_facts, lane_kind}
-use Rattle.lane_work.proofs.Founded.{lane_founded}
+use Rattle.rely_guarantee.specs.declared.books.Books as rust
+use Rattle.rely_guarantee.specs.declared.books.Entry.{Entry}
+use Rattle.rely_guarantee.specs.declared.books.Pending.{Pending}
+use Rattle.rely_guarantee.specs.declared.event.Event.{Event}
+use Rattle.rely_guarantee.specs.declared.event.Event.TheVariants.{SetRef, DropRef}
+use Rattle.rely_guarantee.specs.declared.kind.Outcome.{Outcome}
+use Rattle.rely_guarantee.specs.declared.kind.Outcome.TheVariants as came
+use Rattle.rely_guarantee.specs.Books.{Books, books_of}
+use Rattle.rely_guarantee.specs.Exact.{IsBooked, IsNoted, IsUnbooked}
+use Rattle.rely_guarantee.specs.Laws.{Kind, Quiet, Store, Take, Claim, Show, Shown, Settle, Holds}
+use Rattle.lane_command.specs.declared.command.LaneCommand.{LaneCommand}
+use Rattle.lane_command.specs.Commands.{lane_facts, lane_kind}
+use Rattle.lane_command.proofs.Founded.{lane_founded}
 use Rattle.sys_core.specs.Founded.{EachChange, SetsFinished}
 use Rattle.sys_core.specs.Replied.{IsAt}
 use Rattle.sys_core.proofs.Places.{at_split}

@@ -18,7 +18,7 @@ use Rattle.ost_forms.proofs.Types.{if_then}
 use Rattle.ost_objects.specs.Object.{HasForm}
 use Rattle.fs_trait.specs.Seen.{Seen, Vacant, Directory, Symlink, Leaf, bytes_in}
 use Rattle.repo_model.specs.Trees.{name_of}
-use Rattle.store_lasts.specs.Standing.{IsSoundSeen}
+use Rattle.store_durability.specs.Standing.{IsSoundSeen}
 
 -- the bytes of all members
 abbrev total : List (List ℕ) → ℕ

@@ -7,12 +7,12 @@ use Rattle.fs_trait.specs.View.{View}
 use Rattle.fs_trait.specs.Seen.{NotDirectory}
 use Rattle.ost_types.proofs.Paths.{is_below-self}
 use Rattle.repo_layout.specs.Paths.{stage_path}
-use Rattle.rely.specs.declared.books.Base.{Base}
-use Rattle.rely.specs.Books.{books_of}
-use Rattle.rely.specs.Sound.{Sound}
+use Rattle.rely_guarantee.specs.declared.books.Base.{Base}
+use Rattle.rely_guarantee.specs.Books.{books_of}
+use Rattle.rely_guarantee.specs.SystemInvariant.{SystemInvariant}
 use Rattle.ref_book.specs.declared.book.RefBook.{RefBook}
 use Rattle.ref_book.specs.Tracks.{Tracks}
-use Rattle.ref_work.specs.Facts.{Home}
+use Rattle.ref_command.specs.Facts.{StagingPathFree}
 use Rattle.sys_open.specs.Opened.{IsOpened}
 use Rattle.sys_core.specs.declared.run.Running.{Running}
 use Rattle.std.proofs.lemmas.List.{get_or_default}
@@ -41,12 +41,12 @@ idle_none lane d lt = absurd (omega (arith, lt))
 
 -- no folder stands where a lane stages
 pub home_of : {F : Type 0} (view : F → Option View) (clock : F → ℕ) (was : F → ℕ → View → Type 0) (fs : F) (opened : ℕ) (refs : List (List ℕ × List ℕ)) → IsOpened view clock was fs opened refs
-    → (w : View) (lane : ℕ) → view fs ≡ Some w → lane < 8 → Home lane w
+    → (w : View) (lane : ℕ) → view fs ≡ Some w → lane < 8 → StagingPathFree lane w
 home_of view clock was fs opened refs is w lane told few = subst NotDirectory (sym (is.staging w told lane (omega (arith, few)) (stage_path lane) (is_below-self (stage_path lane)))) tt
 
 -- where nothing is pending, lanes that haven't begun have their facts
 pub kept_new : {F : Type 0} (view : F → Option View) (clock spare : F → ℕ) (was : F → ℕ → View → Type 0) (base : Base F) (book : RefBook) (runs : List Run)
-    → Sound view clock spare was base → Tracks book (now_of base.books) → length runs ≤ 8 → AreIdle runs → base.books.pending ≡ None → ((w : View) (lane : ℕ) → view base.fs ≡ Some w → lane < 8 → Home lane w)
+    → SystemInvariant view clock spare was base → Tracks book (now_of base.books) → length runs ≤ 8 → AreIdle runs → base.books.pending ≡ None → ((w : View) (lane : ℕ) → view base.fs ≡ Some w → lane < 8 → StagingPathFree lane w)
     → Kept view clock spare was base book runs
 kept_new view clock spare was base book runs sound tracks few idle none home = record {
   sound = sound;

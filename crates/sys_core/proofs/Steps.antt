@@ -4,33 +4,33 @@ use Rattle.fs_trait.specs.declared.task.StepResult.TheVariants as turn
 use Rattle.ref_store.specs.declared.progress.Progress.{Progress}
 use Rattle.ref_store.specs.declared.progress.Progress.TheVariants as progress
 use Rattle.ref_store.specs.Change.{Change, progress_in}
-use Rattle.rely.specs.declared.event.Event.{Event}
-use Rattle.rely.specs.Laws.{Settle}
+use Rattle.rely_guarantee.specs.declared.event.Event.{Event}
+use Rattle.rely_guarantee.specs.Laws.{Settle}
 use Rattle.ref_book.specs.declared.book.RefBook.{RefBook}
 use Rattle.ref_book.specs.Tracks.{HasRoom, name_of}
-use Rattle.ref_work.specs.declared.work.RefWork.{RefWork}
-use Rattle.ref_work.specs.declared.look_up.LookUp.{LookUp}
-use Rattle.ref_work.specs.declared.look_up.Found.{Found}
-use Rattle.ref_work.specs.declared.plan.Plan.{Plan}
-use Rattle.ref_work.specs.declared.command.RefCommand.{RefCommand}
-use Rattle.ref_work.specs.declared.command.RefCommand.TheVariants.{Parse, Reset, Change as Changes}
-use Rattle.ref_work.specs.Kinds.{event, event_of, kind_at}
-use Rattle.ref_work.specs.Commands.{command_kind, command_stepped, found_kind, reset_stepped}
+use Rattle.ref_command.specs.declared.work.RefWork.{RefWork}
+use Rattle.ref_command.specs.declared.look_up.LookUp.{LookUp}
+use Rattle.ref_command.specs.declared.look_up.Found.{Found}
+use Rattle.ref_command.specs.declared.plan.Plan.{Plan}
+use Rattle.ref_command.specs.declared.command.RefCommand.{RefCommand}
+use Rattle.ref_command.specs.declared.command.RefCommand.TheVariants.{Parse, Reset, Change as Changes}
+use Rattle.ref_command.specs.Kinds.{event, event_of, kind_at}
+use Rattle.ref_command.specs.Commands.{command_kind, command_stepped, found_kind, reset_stepped}
 use Rattle.ost_types.specs.declared.object.ObjName.{ObjName}
 use Rattle.commit_build.specs.Committing.{commit_in, storing_in}
-use Rattle.commit_work.specs.declared.naming.Naming.{Naming}
-use Rattle.commit_work.specs.declared.command.CommitCommand.{CommitCommand}
-use Rattle.commit_work.specs.Kinds.{build_kind, built, kind_by, stepped_at, stepped_by}
+use Rattle.commit_command.specs.declared.naming.Naming.{Naming}
+use Rattle.commit_command.specs.declared.command.CommitCommand.{CommitCommand}
+use Rattle.commit_command.specs.Kinds.{build_kind, built, kind_by, stepped_at, stepped_by}
 use Rattle.script.specs.declared.rows.LogRow.{LogRow}
-use Rattle.read_work.specs.declared.command.ReadCommand.{ReadCommand}
-use Rattle.read_work.specs.declared.command.ReadCommand.TheVariants as read
-use Rattle.read_work.specs.Commands.{read_kind}
-use Rattle.read_work.specs.LogSteps.{log_kind}
-use Rattle.checkout_work.specs.Asked.{asked}
-use Rattle.checkout_work.specs.Commands.{checkout_kind}
-use Rattle.lane_work.specs.declared.command.LaneCommand.{LaneCommand}
-use Rattle.lane_work.specs.declared.command.LaneCommand.TheVariants.{Ref, Commit, Read, Checkout}
-use Rattle.lane_work.specs.Commands.{lane_kind, lane_stepped, told}
+use Rattle.read_command.specs.declared.command.ReadCommand.{ReadCommand}
+use Rattle.read_command.specs.declared.command.ReadCommand.TheVariants as read
+use Rattle.read_command.specs.Commands.{read_kind}
+use Rattle.read_command.specs.LogSteps.{log_kind}
+use Rattle.checkout_command.specs.Asked.{asked}
+use Rattle.checkout_command.specs.Commands.{checkout_kind}
+use Rattle.lane_command.specs.declared.command.LaneCommand.{LaneCommand}
+use Rattle.lane_command.specs.declared.command.LaneCommand.TheVariants.{Ref, Commit, Read, Checkout}
+use Rattle.lane_command.specs.Commands.{lane_kind, lane_stepped, told}
 use Rattle.sys_core.specs.Lanes.{HasCommitRoom, HasRefRoom, HasRoomFor}
 use Rattle.sys_core.proofs.Checkouts.{asks_no_settle, checkout_asks}
 

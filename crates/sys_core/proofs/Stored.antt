@@ -11,22 +11,22 @@ use Rattle.fs_trait.specs.Effect.{Elapses}
 use Rattle.repo_layout.specs.declared.folder.Folder.{Folder}
 use Rattle.repo_layout.specs.Paths.{folder_path}
 use Rattle.commit_build.specs.declared.message.Message.{Message}
-use Rattle.lane_work.specs.declared.command.LaneCommand.{LaneCommand}
-use Rattle.lane_work.specs.declared.command.LaneCommand.TheVariants as work
-use Rattle.lane_work.specs.Commands.{lane_writes, told}
-use Rattle.rely.specs.Books.{books_of}
-use Rattle.rely.specs.Lasting.{Outlasts}
-use Rattle.rely.specs.Sound.{Leads}
-use Rattle.rely.specs.State.{State, first}
+use Rattle.lane_command.specs.declared.command.LaneCommand.{LaneCommand}
+use Rattle.lane_command.specs.declared.command.LaneCommand.TheVariants as work
+use Rattle.lane_command.specs.Commands.{lane_writes, told}
+use Rattle.rely_guarantee.specs.Books.{books_of}
+use Rattle.rely_guarantee.specs.Lasting.{Outlasts}
+use Rattle.rely_guarantee.specs.SystemInvariant.{Leads}
+use Rattle.rely_guarantee.specs.State.{State, first}
 use Rattle.script.specs.declared.answer.Answer.{Answer}
 use Rattle.script.specs.declared.command.Command.{Command}
 use Rattle.script.specs.declared.command.Command.TheVariants as command
-use Rattle.store_lasts.specs.Keeping.{KeepsGood}
-use Rattle.store_lasts.specs.Standing.{StoreStands}
-use Rattle.store_lasts.specs.Writing as writing
-use Rattle.store_lasts.proofs.Growing.{adds_still}
-use Rattle.store_lasts.proofs.Keepings.{good_on, good_wider}
-use Rattle.store_lasts.proofs.Lanes.{stands_step}
+use Rattle.store_durability.specs.Keeping.{KeepsGood}
+use Rattle.store_durability.specs.Standing.{StoreStands}
+use Rattle.store_durability.specs.Writing as writing
+use Rattle.store_durability.proofs.Growing.{adds_still}
+use Rattle.store_durability.proofs.Keepings.{good_on, good_wider}
+use Rattle.store_durability.proofs.Lanes.{stands_step}
 use Rattle.sys_core.specs.declared.ask.Ask.{Ask}
 use Rattle.sys_core.specs.declared.ask.Ask.TheVariants.{Blocked, Ended}
 use Rattle.sys_core.specs.Answers.{state_after}

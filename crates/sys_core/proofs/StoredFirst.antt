@@ -6,13 +6,13 @@ use Rattle.ost_types.specs.declared.limits.Limits.{Limits}
 use Rattle.ost_types.specs.declared.object.ObjName.{ObjName}
 use Rattle.fs_trait.specs.View.{View}
 use Rattle.fs_trait.specs.Image.{IsTree}
-use Rattle.rely.specs.declared.books.Entry.{Entry}
-use Rattle.rely.specs.Opening.{IsOpening}
-use Rattle.rely.specs.State.{State, first}
+use Rattle.rely_guarantee.specs.declared.books.Entry.{Entry}
+use Rattle.rely_guarantee.specs.Opening.{IsOpening}
+use Rattle.rely_guarantee.specs.State.{State, first}
 use Rattle.script.specs.declared.answer.Reply.{Reply}
 use Rattle.script.specs.declared.command.Lane.{Lane}
 use Rattle.store_check.specs.Listing.{AreAll}
-use Rattle.store_lasts.proofs.Starts.{few_all, stands_begin}
+use Rattle.store_durability.proofs.Starts.{few_all, stands_begin}
 use Rattle.sys_open.specs.Opened as opening
 use Rattle.sys_open.proofs.Goods.{config_of, store_of}
 use Rattle.sys_core.specs.Storing.{AreStoredIn, IsBegunIn, IsConfigured}

@@ -7,32 +7,32 @@ use Rattle.fs_trait.specs.View.{View}
 use Rattle.obj_store.specs.declared.phase.Put.{Put}
 use Rattle.obj_store.specs.declared.phase.Put.TheVariants.{Stored, Present}
 use Rattle.commit_build.specs.Whole.{IsCounted}
-use Rattle.lane_work.specs.declared.command.LaneCommand.{LaneCommand}
-use Rattle.lane_work.specs.declared.command.LaneCommand.TheVariants as lane_work
-use Rattle.lane_work.specs.Commands.{WasLacking, lane_leaves, lane_refuses, met_by, told}
-use Rattle.lane_work.proofs.Ends.{stored_of}
-use Rattle.rely.specs.declared.kind.Outcome.{Outcome}
-use Rattle.rely.specs.declared.kind.Outcome.TheVariants as came
-use Rattle.rely.specs.Exact.{Tells}
-use Rattle.rely.specs.State.{State}
+use Rattle.lane_command.specs.declared.command.LaneCommand.{LaneCommand}
+use Rattle.lane_command.specs.declared.command.LaneCommand.TheVariants as lane_command
+use Rattle.lane_command.specs.Commands.{WasLacking, lane_leaves, lane_refuses, met_by, told}
+use Rattle.lane_command.proofs.Ends.{stored_of}
+use Rattle.rely_guarantee.specs.declared.kind.Outcome.{Outcome}
+use Rattle.rely_guarantee.specs.declared.kind.Outcome.TheVariants as came
+use Rattle.rely_guarantee.specs.Exact.{Tells}
+use Rattle.rely_guarantee.specs.State.{State}
 use Rattle.script.specs.declared.command.Command.{Command}
 use Rattle.script.specs.declared.command.Command.TheVariants as command
 use Rattle.sys_core.specs.Counts.{HadRoom}
 use Rattle.sys_core.specs.Pursues.{Pursues}
 
 lacking_in : (limits : Limits) (s : State) (c : Command) (objects : ℕ) (t : LaneCommand) (name : ObjName) (v : View) → Pursues limits s c t → WasLacking (told objects t) name v → HadRoom limits objects v name
-lacking_in limits s c objects (lane_work.Ref t) name v after lacks = absurd lacks
-lacking_in limits s c objects (lane_work.Read t) name v after lacks = absurd lacks
-lacking_in limits s c objects (lane_work.Checkout t) name v after lacks = absurd lacks
-lacking_in limits s (command.Commit branch tree subject body time) objects (lane_work.Commit t) name v after lacks = (subst (λ (l : Limits). objects < l.objects) after.bounds lacks.0, lacks.1)
-lacking_in limits s (command.RevParse rev) objects (lane_work.Commit t) name v after lacks = absurd after
-lacking_in limits s (command.Reset branch commit) objects (lane_work.Commit t) name v after lacks = absurd after
-lacking_in limits s (command.DropRef branch) objects (lane_work.Commit t) name v after lacks = absurd after
-lacking_in limits s (command.Log rev) objects (lane_work.Commit t) name v after lacks = absurd after
-lacking_in limits s (command.Ls rev path) objects (lane_work.Commit t) name v after lacks = absurd after
-lacking_in limits s (command.Cat rev path) objects (lane_work.Commit t) name v after lacks = absurd after
-lacking_in limits s (command.Checkout rev folder) objects (lane_work.Commit t) name v after lacks = absurd after
-lacking_in limits s command.Refs objects (lane_work.Commit t) name v after lacks = absurd after
+lacking_in limits s c objects (lane_command.Ref t) name v after lacks = absurd lacks
+lacking_in limits s c objects (lane_command.Read t) name v after lacks = absurd lacks
+lacking_in limits s c objects (lane_command.Checkout t) name v after lacks = absurd lacks
+lacking_in limits s (command.Commit branch tree subject body time) objects (lane_command.Commit t) name v after lacks = (subst (λ (l : Limits). objects < l.objects) after.bounds lacks.0, lacks.1)
+lacking_in limits s (command.RevParse rev) objects (lane_command.Commit t) name v after lacks = absurd after
+lacking_in limits s (command.Reset branch commit) objects (lane_command.Commit t) name v after lacks = absurd after
+lacking_in limits s (command.DropRef branch) objects (lane_command.Commit t) name v after lacks = absurd after
+lacking_in limits s (command.Log rev) objects (lane_command.Commit t) name v after lacks = absurd after
+lacking_in limits s (command.Ls rev path) objects (lane_command.Commit t) name v after lacks = absurd after
+lacking_in limits s (command.Cat rev path) objects (lane_command.Commit t) name v after lacks = absurd after
+lacking_in limits s (command.Checkout rev folder) objects (lane_command.Commit t) name v after lacks = absurd after
+lacking_in limits s command.Refs objects (lane_command.Commit t) name v after lacks = absurd after
 
 pub stores_more : (limits : Limits) (s : State) (c : Command) (objects : ℕ) (t new : LaneCommand) (o : Outcome) (before now : Option View) → o ≡ came.More → Pursues limits s c t → Tells lane_leaves lane_refuses (told objects t) o new before now
     → (v : View) → before ≡ Some v → (name : ObjName) → met_by new ≡ Some (name, Stored) → HadRoom limits objects v name

@@ -22,20 +22,20 @@ use Rattle.ref_store.specs.declared.refusal.RefRefusal.{RefRefusal}
 use Rattle.ref_store.specs.declared.refusal.RefRefusal.TheVariants as refusal
 use Rattle.ref_store.specs.Change.{Change as Changing, IsRefusing, made_in}
 use Rattle.ref_store.specs.Steps.{HasValue, MakesRoom}
-use Rattle.ref_work.specs.declared.work.RefWork.{RefWork}
-use Rattle.ref_work.specs.Facts.{Facts, turn_in}
-use Rattle.ref_work.specs.Kinds.{Answer, event, kind_in, leaves_in, Leaves}
-use Rattle.rely.specs.declared.books.Entry.{Entry}
-use Rattle.rely.specs.declared.books.Pending.{Pending}
-use Rattle.rely.specs.declared.event.Event.{Event}
-use Rattle.rely.specs.Books.{Books}
-use Rattle.rely.specs.Disks.{IsLeaf, Logical, Says}
-use Rattle.rely.specs.Exact.{Opens}
-use Rattle.rely.specs.Laws.{Holds}
-use Rattle.rely.specs.Sound.{Stands}
-use Rattle.rely.specs.State.{State, RefOf, Said, after, events_of}
-use Rattle.rely.proofs.Goods.{fits_all}
-use Rattle.rely.proofs.States.{says_one}
+use Rattle.ref_command.specs.declared.work.RefWork.{RefWork}
+use Rattle.ref_command.specs.Facts.{Facts, turn_in}
+use Rattle.ref_command.specs.Kinds.{Answer, event, kind_in, leaves_in, Leaves}
+use Rattle.rely_guarantee.specs.declared.books.Entry.{Entry}
+use Rattle.rely_guarantee.specs.declared.books.Pending.{Pending}
+use Rattle.rely_guarantee.specs.declared.event.Event.{Event}
+use Rattle.rely_guarantee.specs.Books.{Books}
+use Rattle.rely_guarantee.specs.Disks.{IsLeaf, Logical, Says}
+use Rattle.rely_guarantee.specs.Exact.{Opens}
+use Rattle.rely_guarantee.specs.Laws.{Holds}
+use Rattle.rely_guarantee.specs.SystemInvariant.{Stands}
+use Rattle.rely_guarantee.specs.State.{State, RefOf, Said, after, events_of}
+use Rattle.rely_guarantee.proofs.Goods.{fits_all}
+use Rattle.rely_guarantee.proofs.States.{says_one}
 use Rattle.sys_core.specs.Answers.{ClashIn, IsFreeIn, LeastClashIn}
 
 -- what a refusal says of the state in which it came

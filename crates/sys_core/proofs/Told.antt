@@ -1,15 +1,15 @@
 -- A step of a task that was told how many objects are in the store.
 use Rattle.std.proofs.Common.{◌≡◌, ℕ, refl, sym, ◌∙◌, ap, subst, Option}
 use Rattle.fs_trait.specs.View.{View}
-use Rattle.lane_work.specs.declared.command.LaneCommand.{LaneCommand}
-use Rattle.lane_work.specs.Commands.{lane_facts, lane_kind, lane_leaves, lane_refuses, lane_stepped, told, told_in}
-use Rattle.lane_work.proofs.Ends.{told_back, told_kind}
-use Rattle.rely.specs.declared.books.Base.{Base}
-use Rattle.rely.specs.declared.kind.Outcome.{Outcome}
-use Rattle.rely.specs.declared.kind.Outcome.TheVariants as came
-use Rattle.rely.specs.Books.{Books, books_of}
-use Rattle.rely.specs.Exact.{IsBooked, Locks, Opens, Steps, Tells}
-use Rattle.rely.specs.Laws.{Acts, Ready, Runs}
+use Rattle.lane_command.specs.declared.command.LaneCommand.{LaneCommand}
+use Rattle.lane_command.specs.Commands.{lane_facts, lane_kind, lane_leaves, lane_refuses, lane_stepped, told, told_in}
+use Rattle.lane_command.proofs.Ends.{told_back, told_kind}
+use Rattle.rely_guarantee.specs.declared.books.Base.{Base}
+use Rattle.rely_guarantee.specs.declared.kind.Outcome.{Outcome}
+use Rattle.rely_guarantee.specs.declared.kind.Outcome.TheVariants as came
+use Rattle.rely_guarantee.specs.Books.{Books, books_of}
+use Rattle.rely_guarantee.specs.Exact.{IsBooked, Locks, Opens, Steps, Tells}
+use Rattle.rely_guarantee.specs.Laws.{Acts, Ready, Runs}
 use Rattle.ref_book.specs.declared.book.RefBook.{RefBook}
 use Rattle.sys_core.specs.Counts.{CountsAt}
 use Rattle.sys_core.specs.Did.{Did}

@@ -7,42 +7,42 @@ use Rattle.ref_store.specs.declared.phase.Phase.TheVariants as phase
 use Rattle.ref_store.specs.declared.progress.Progress.{Progress}
 use Rattle.ref_store.specs.declared.progress.Progress.TheVariants as progress
 use Rattle.ref_store.specs.Change.{Change as Changing, Follows, left, left_in, left_way, progress_in}
-use Rattle.rely.specs.declared.books.Books as rust
-use Rattle.rely.specs.declared.event.Event.{Event}
-use Rattle.rely.specs.declared.kind.Outcome.{Outcome}
-use Rattle.rely.specs.declared.kind.Outcome.TheVariants as came
-use Rattle.rely.specs.declared.books.Base.{Base}
-use Rattle.rely.specs.Books.{Books, books_of, Free, Frees}
-use Rattle.rely.specs.Exact.{IsGivenUp, Locks, Opens, Steps, exclusive_in, lock_taken, turn_in}
-use Rattle.rely.specs.Laws.{Kind, Quiet, Store, Take, Claim, Show, Shown, Settle, Tells}
-use Rattle.ref_work.specs.declared.work.RefWork.{RefWork}
-use Rattle.ref_work.specs.declared.look_up.LookUp.{LookUp}
-use Rattle.ref_work.specs.declared.look_up.Found.{Found}
-use Rattle.ref_work.specs.declared.plan.Plan.{Plan}
-use Rattle.ref_work.specs.declared.command.RefCommand.{RefCommand}
-use Rattle.ref_work.specs.declared.command.RefCommand.TheVariants.{Parse, Reset, Change}
+use Rattle.rely_guarantee.specs.declared.books.Books as rust
+use Rattle.rely_guarantee.specs.declared.event.Event.{Event}
+use Rattle.rely_guarantee.specs.declared.kind.Outcome.{Outcome}
+use Rattle.rely_guarantee.specs.declared.kind.Outcome.TheVariants as came
+use Rattle.rely_guarantee.specs.declared.books.Base.{Base}
+use Rattle.rely_guarantee.specs.Books.{Books, books_of, Free, Frees}
+use Rattle.rely_guarantee.specs.Exact.{IsGivenUp, Locks, Opens, Steps, exclusive_in, lock_taken, turn_in}
+use Rattle.rely_guarantee.specs.Laws.{Kind, Quiet, Store, Take, Claim, Show, Shown, Settle, Tells}
+use Rattle.ref_command.specs.declared.work.RefWork.{RefWork}
+use Rattle.ref_command.specs.declared.look_up.LookUp.{LookUp}
+use Rattle.ref_command.specs.declared.look_up.Found.{Found}
+use Rattle.ref_command.specs.declared.plan.Plan.{Plan}
+use Rattle.ref_command.specs.declared.command.RefCommand.{RefCommand}
+use Rattle.ref_command.specs.declared.command.RefCommand.TheVariants.{Parse, Reset, Change}
 use Rattle.ost_types.specs.declared.object.ObjName.{ObjName}
-use Rattle.ref_work.specs.Answers as refs
-use Rattle.ref_work.specs.Kinds.{event, kind_at, kind_in, ref_stepped, turn_wants}
-use Rattle.ref_work.specs.Commands.{command_kind, command_stepped, found_kind, pin_wants, reset_stepped}
+use Rattle.ref_command.specs.Answers as refs
+use Rattle.ref_command.specs.Kinds.{event, kind_at, kind_in, ref_stepped, turn_wants}
+use Rattle.ref_command.specs.Commands.{command_kind, command_stepped, found_kind, pin_wants, reset_stepped}
 use Rattle.commit_build.specs.Committing.{commit_in, storing_in}
-use Rattle.commit_work.specs.declared.naming.Naming.{Naming}
-use Rattle.commit_work.specs.declared.command.CommitCommand.{CommitCommand}
-use Rattle.commit_work.specs.Answers as commits
-use Rattle.commit_work.specs.Kinds.{build_kind, kind_by, put_wants, stepped_at, stepped_by}
+use Rattle.commit_command.specs.declared.naming.Naming.{Naming}
+use Rattle.commit_command.specs.declared.command.CommitCommand.{CommitCommand}
+use Rattle.commit_command.specs.Answers as commits
+use Rattle.commit_command.specs.Kinds.{build_kind, kind_by, put_wants, stepped_at, stepped_by}
 use Rattle.script.specs.declared.rows.LogRow.{LogRow}
-use Rattle.read_work.specs.declared.command.ReadCommand.{ReadCommand}
-use Rattle.read_work.specs.declared.command.ReadCommand.TheVariants as read
-use Rattle.read_work.specs.Commands.{read_kind}
-use Rattle.read_work.specs.LogSteps.{log_kind}
-use Rattle.checkout_work.specs.Asked as checking
-use Rattle.checkout_work.specs.Asked.{Asked}
-use Rattle.checkout_work.specs.Commands.{checkout_kind}
-use Rattle.lane_work.specs.declared.command.LaneCommand.{LaneCommand}
-use Rattle.lane_work.specs.declared.command.LaneCommand.TheVariants as lane_work
-use Rattle.lane_work.specs.Answers.{Begins}
-use Rattle.lane_work.specs.Commands.{lane_kind, lane_left, lane_stepped, told}
-use Rattle.lane_work.proofs.Ends.{falls_of}
+use Rattle.read_command.specs.declared.command.ReadCommand.{ReadCommand}
+use Rattle.read_command.specs.declared.command.ReadCommand.TheVariants as read
+use Rattle.read_command.specs.Commands.{read_kind}
+use Rattle.read_command.specs.LogSteps.{log_kind}
+use Rattle.checkout_command.specs.Asked as checking
+use Rattle.checkout_command.specs.Asked.{Asked}
+use Rattle.checkout_command.specs.Commands.{checkout_kind}
+use Rattle.lane_command.specs.declared.command.LaneCommand.{LaneCommand}
+use Rattle.lane_command.specs.declared.command.LaneCommand.TheVariants as lane_command
+use Rattle.lane_command.specs.Answers.{Begins}
+use Rattle.lane_command.specs.Commands.{lane_kind, lane_left, lane_stepped, told}
+use Rattle.lane_command.proofs.Ends.{falls_of}
 use Rattle.sys_core.specs.declared.lane.Came.{Came}
 use Rattle.sys_core.specs.declared.lane.Came.TheVariants.{Blocked, More}
 use Rattle.sys_core.specs.declared.run.Running.{Running}
@@ -116,10 +116,10 @@ read_nobody (read.Log g) lane = log_nobody g.rows.items g.next lane
 read_nobody (read.Ended a) lane = refl
 
 nobody_in : (t : LaneCommand) (lane : ℕ) → exclusive_in (lane_kind t) lane None ≡ None
-nobody_in (lane_work.Ref t) lane = ref_nobody t lane
-nobody_in (lane_work.Commit t) lane = commit_nobody t.change t lane
-nobody_in (lane_work.Read t) lane = read_nobody t lane
-nobody_in (lane_work.Checkout t) lane = asks_nobody (checking.asked t) (checkout_kind t) (checkout_asks t) lane
+nobody_in (lane_command.Ref t) lane = ref_nobody t lane
+nobody_in (lane_command.Commit t) lane = commit_nobody t.change t lane
+nobody_in (lane_command.Read t) lane = read_nobody t lane
+nobody_in (lane_command.Checkout t) lane = asks_nobody (checking.asked t) (checkout_kind t) (checkout_asks t) lane
 
 -- behind the look
 look_left : (t u : Changing) → t.phase ≡ phase.Look → u ≡ record t { phase = u.phase } → u.phase ≡ phase.Look → left u < left t → ⊥
@@ -193,22 +193,22 @@ commit_has lane None t new lock is step has looked = absurd (build_unlooked (com
 commit_has lane (Some n) t new lock is step has looked = change_has n.work.task.phase (event n.work.task) lane lock has
 
 step_has : (lane : ℕ) (t new : LaneCommand) (lock : Option ℕ) → lane_stepped t turn.More new → (HasLooked t → lock ≡ Some lane) → HasLooked new → turn_in (lane_kind t) lane lock ≡ Some lane
-step_has lane (lane_work.Ref t) (lane_work.Ref new) lock step has looked = ref_has lane t new lock step has looked
-step_has lane (lane_work.Commit t) (lane_work.Commit new) lock step has looked = commit_has lane t.change t new lock refl step has looked
-step_has lane (lane_work.Read t) (lane_work.Read new) lock step has looked = absurd looked
-step_has lane (lane_work.Checkout t) (lane_work.Checkout new) lock step has looked = absurd looked
-step_has lane (lane_work.Ref t) (lane_work.Commit new) lock step has looked = absurd step
-step_has lane (lane_work.Ref t) (lane_work.Read new) lock step has looked = absurd step
-step_has lane (lane_work.Ref t) (lane_work.Checkout new) lock step has looked = absurd step
-step_has lane (lane_work.Commit t) (lane_work.Ref new) lock step has looked = absurd step
-step_has lane (lane_work.Commit t) (lane_work.Read new) lock step has looked = absurd step
-step_has lane (lane_work.Commit t) (lane_work.Checkout new) lock step has looked = absurd step
-step_has lane (lane_work.Read t) (lane_work.Ref new) lock step has looked = absurd step
-step_has lane (lane_work.Read t) (lane_work.Commit new) lock step has looked = absurd step
-step_has lane (lane_work.Read t) (lane_work.Checkout new) lock step has looked = absurd step
-step_has lane (lane_work.Checkout t) (lane_work.Ref new) lock step has looked = absurd step
-step_has lane (lane_work.Checkout t) (lane_work.Commit new) lock step has looked = absurd step
-step_has lane (lane_work.Checkout t) (lane_work.Read new) lock step has looked = absurd step
+step_has lane (lane_command.Ref t) (lane_command.Ref new) lock step has looked = ref_has lane t new lock step has looked
+step_has lane (lane_command.Commit t) (lane_command.Commit new) lock step has looked = commit_has lane t.change t new lock refl step has looked
+step_has lane (lane_command.Read t) (lane_command.Read new) lock step has looked = absurd looked
+step_has lane (lane_command.Checkout t) (lane_command.Checkout new) lock step has looked = absurd looked
+step_has lane (lane_command.Ref t) (lane_command.Commit new) lock step has looked = absurd step
+step_has lane (lane_command.Ref t) (lane_command.Read new) lock step has looked = absurd step
+step_has lane (lane_command.Ref t) (lane_command.Checkout new) lock step has looked = absurd step
+step_has lane (lane_command.Commit t) (lane_command.Ref new) lock step has looked = absurd step
+step_has lane (lane_command.Commit t) (lane_command.Read new) lock step has looked = absurd step
+step_has lane (lane_command.Commit t) (lane_command.Checkout new) lock step has looked = absurd step
+step_has lane (lane_command.Read t) (lane_command.Ref new) lock step has looked = absurd step
+step_has lane (lane_command.Read t) (lane_command.Commit new) lock step has looked = absurd step
+step_has lane (lane_command.Read t) (lane_command.Checkout new) lock step has looked = absurd step
+step_has lane (lane_command.Checkout t) (lane_command.Ref new) lock step has looked = absurd step
+step_has lane (lane_command.Checkout t) (lane_command.Commit new) lock step has looked = absurd step
+step_has lane (lane_command.Checkout t) (lane_command.Read new) lock step has looked = absurd step
 
 change_behind : (work next : RefWork) → ref_stepped work turn.More next → IsBehind next.task.phase
 change_behind work next step = next_behind work.task.phase next.task.phase work.task step.0.1 (λ was look. look_left work.task next.task was step.0.0 look step.1)
@@ -236,29 +236,29 @@ read_keeps (read.Log g) lane lock = log_keeps g.rows.items g.next lane lock
 read_keeps (read.Ended a) lane lock = refl
 
 step_only : (lane : ℕ) (t new : LaneCommand) (lock : Option ℕ) → lane_stepped t turn.More new → (lock ≡ Some lane → HasLooked t) → turn_in (lane_kind t) lane lock ≡ Some lane → HasLooked new
-step_only lane (lane_work.Ref t) (lane_work.Ref new) lock step only is = ref_only lane t new lock step only is
-step_only lane (lane_work.Commit t) (lane_work.Commit new) lock step only is = commit_only lane t.change t new lock step only is
-step_only lane (lane_work.Read t) (lane_work.Read new) lock step only is = only (sym (read_keeps t lane lock) ∙ is)
-step_only lane (lane_work.Checkout t) (lane_work.Checkout new) lock step only is = only (sym (asks_keeps (checking.asked t) (checkout_kind t) (checkout_asks t) lane lock) ∙ is)
-step_only lane (lane_work.Ref t) (lane_work.Commit new) lock step only is = absurd step
-step_only lane (lane_work.Ref t) (lane_work.Read new) lock step only is = absurd step
-step_only lane (lane_work.Ref t) (lane_work.Checkout new) lock step only is = absurd step
-step_only lane (lane_work.Commit t) (lane_work.Ref new) lock step only is = absurd step
-step_only lane (lane_work.Commit t) (lane_work.Read new) lock step only is = absurd step
-step_only lane (lane_work.Commit t) (lane_work.Checkout new) lock step only is = absurd step
-step_only lane (lane_work.Read t) (lane_work.Ref new) lock step only is = absurd step
-step_only lane (lane_work.Read t) (lane_work.Commit new) lock step only is = absurd step
-step_only lane (lane_work.Read t) (lane_work.Checkout new) lock step only is = absurd step
-step_only lane (lane_work.Checkout t) (lane_work.Ref new) lock step only is = absurd step
-step_only lane (lane_work.Checkout t) (lane_work.Commit new) lock step only is = absurd step
-step_only lane (lane_work.Checkout t) (lane_work.Read new) lock step only is = absurd step
+step_only lane (lane_command.Ref t) (lane_command.Ref new) lock step only is = ref_only lane t new lock step only is
+step_only lane (lane_command.Commit t) (lane_command.Commit new) lock step only is = commit_only lane t.change t new lock step only is
+step_only lane (lane_command.Read t) (lane_command.Read new) lock step only is = only (sym (read_keeps t lane lock) ∙ is)
+step_only lane (lane_command.Checkout t) (lane_command.Checkout new) lock step only is = only (sym (asks_keeps (checking.asked t) (checkout_kind t) (checkout_asks t) lane lock) ∙ is)
+step_only lane (lane_command.Ref t) (lane_command.Commit new) lock step only is = absurd step
+step_only lane (lane_command.Ref t) (lane_command.Read new) lock step only is = absurd step
+step_only lane (lane_command.Ref t) (lane_command.Checkout new) lock step only is = absurd step
+step_only lane (lane_command.Commit t) (lane_command.Ref new) lock step only is = absurd step
+step_only lane (lane_command.Commit t) (lane_command.Read new) lock step only is = absurd step
+step_only lane (lane_command.Commit t) (lane_command.Checkout new) lock step only is = absurd step
+step_only lane (lane_command.Read t) (lane_command.Ref new) lock step only is = absurd step
+step_only lane (lane_command.Read t) (lane_command.Commit new) lock step only is = absurd step
+step_only lane (lane_command.Read t) (lane_command.Checkout new) lock step only is = absurd step
+step_only lane (lane_command.Checkout t) (lane_command.Ref new) lock step only is = absurd step
+step_only lane (lane_command.Checkout t) (lane_command.Commit new) lock step only is = absurd step
+step_only lane (lane_command.Checkout t) (lane_command.Read new) lock step only is = absurd step
 
 -- whatever the task is told
 pub turn_told : (lane objects : ℕ) (t : LaneCommand) (b : rust.Books) → HasTurn lane b (HasLooked t) → HasTurn lane b (HasLooked (told objects t))
-turn_told lane objects (lane_work.Ref t) b h = h
-turn_told lane objects (lane_work.Commit t) b h = h
-turn_told lane objects (lane_work.Read t) b h = h
-turn_told lane objects (lane_work.Checkout t) b h = h
+turn_told lane objects (lane_command.Ref t) b h = h
+turn_told lane objects (lane_command.Commit t) b h = h
+turn_told lane objects (lane_command.Read t) b h = h
+turn_told lane objects (lane_command.Checkout t) b h = h
 
 none_left : (lane : ℕ) (new : Option ℕ) → IsGivenUp lane None new → new ≡ None
 none_left lane None gone = refl
@@ -281,10 +281,10 @@ begins_turn lane t b begins h = record {
 }
   where
     unlooked : (t : LaneCommand) → Begins lane t → HasLooked t → ⊥
-    unlooked (lane_work.Ref t) begins looked = ref_unlooked lane t begins looked
-    unlooked (lane_work.Commit t) begins looked = commit_unlooked lane t begins looked
-    unlooked (lane_work.Read t) begins looked = looked
-    unlooked (lane_work.Checkout t) begins looked = looked
+    unlooked (lane_command.Ref t) begins looked = ref_unlooked lane t begins looked
+    unlooked (lane_command.Commit t) begins looked = commit_unlooked lane t begins looked
+    unlooked (lane_command.Read t) begins looked = looked
+    unlooked (lane_command.Checkout t) begins looked = looked
 
 free_none : (lock : Option ℕ) (lane : ℕ) → lock ≡ None → Free lock lane
 free_none lock lane is = λ x e. absurd (let z : None ≡ Some x = sym is ∙ e in cc)
@@ -376,10 +376,10 @@ opens_asks q (Settle e) asks lane b nobody = absurd asks
 
 -- a step is held off only by another lane that has the ref lock
 pub held_off : (lane : ℕ) (t : LaneCommand) (b : rust.Books) → b.exclusive ≡ None → (Opens (lane_kind t) lane (books_of b) → ⊥) → IsOthers lane b.turn
-held_off lane (lane_work.Ref t) b nobody shut = ref_held lane t b nobody shut
-held_off lane (lane_work.Commit t) b nobody shut = commit_held lane t.change t b nobody shut
-held_off lane (lane_work.Read t) b nobody shut = absurd (shut (opens_read t lane b nobody))
-held_off lane (lane_work.Checkout t) b nobody shut = absurd (shut (opens_asks (checking.asked t) (checkout_kind t) (checkout_asks t) lane b nobody))
+held_off lane (lane_command.Ref t) b nobody shut = ref_held lane t b nobody shut
+held_off lane (lane_command.Commit t) b nobody shut = commit_held lane t.change t b nobody shut
+held_off lane (lane_command.Read t) b nobody shut = absurd (shut (opens_read t lane b nobody))
+held_off lane (lane_command.Checkout t) b nobody shut = absurd (shut (opens_asks (checking.asked t) (checkout_kind t) (checkout_asks t) lane b nobody))
 
 -- a look that is taken found the ref lock free
 look_waits : (ph : Phase) (e : Event) (lane : ℕ) (b : rust.Books) → IsLook ph → Opens (kind_in ph e) lane (books_of b) → IsOthers lane b.turn → ⊥
@@ -401,10 +401,10 @@ commit_waits lane None t b opens asks off = asks
 commit_waits lane (Some n) t b opens asks off = look_waits n.work.task.phase (event n.work.task) lane b asks opens off
 
 pub asks_waits : (lane objects : ℕ) (t : LaneCommand) (b : rust.Books) → Opens (lane_kind (told objects t)) lane (books_of b) → AsksTurn (Some t) → IsOthers lane b.turn → ⊥
-asks_waits lane objects (lane_work.Ref t) b opens asks off = ref_waits lane t b opens asks off
-asks_waits lane objects (lane_work.Commit t) b opens asks off = commit_waits lane t.change (record t { objects = objects }) b opens asks off
-asks_waits lane objects (lane_work.Read t) b opens asks off = asks
-asks_waits lane objects (lane_work.Checkout t) b opens asks off = asks
+asks_waits lane objects (lane_command.Ref t) b opens asks off = ref_waits lane t b opens asks off
+asks_waits lane objects (lane_command.Commit t) b opens asks off = commit_waits lane t.change (record t { objects = objects }) b opens asks off
+asks_waits lane objects (lane_command.Read t) b opens asks off = asks
+asks_waits lane objects (lane_command.Checkout t) b opens asks off = asks
 
 less_most : (a b c : ℕ) → a < b → b ≤ c → a < c
 less_most a b c less most = omega (arith, less, most)

@@ -16,19 +16,19 @@ use Rattle.repo_model.specs.Objects.{path_of}
 use Rattle.obj_store.specs.declared.phase.Put.{Put}
 use Rattle.obj_store.specs.declared.phase.Put.TheVariants.{Stored}
 use Rattle.commit_build.specs.Whole.{IsCounted}
-use Rattle.lane_work.specs.declared.command.LaneCommand.{LaneCommand}
-use Rattle.lane_work.specs.declared.command.LaneCommand.TheVariants as work
-use Rattle.lane_work.specs.Commands.{KnewRoom, lane_facts, lane_leaves, lane_refuses, lane_writes, met_by, told}
-use Rattle.lane_work.proofs.Ends.{refused_of, told_facts}
-use Rattle.lane_work.proofs.Stored.{lane_done, lane_room, lane_stored}
-use Rattle.rely.specs.declared.books.Base.{Base}
-use Rattle.rely.specs.declared.books.Books as rust
-use Rattle.rely.specs.declared.kind.Outcome.{Outcome}
-use Rattle.rely.specs.declared.kind.Outcome.TheVariants as came
-use Rattle.rely.specs.Books.{books_of}
-use Rattle.rely.specs.Exact.{Tells}
-use Rattle.rely.specs.Sound.{Stands}
-use Rattle.rely.specs.State.{State, first}
+use Rattle.lane_command.specs.declared.command.LaneCommand.{LaneCommand}
+use Rattle.lane_command.specs.declared.command.LaneCommand.TheVariants as work
+use Rattle.lane_command.specs.Commands.{KnewRoom, lane_facts, lane_leaves, lane_refuses, lane_writes, met_by, told}
+use Rattle.lane_command.proofs.Ends.{refused_of, told_facts}
+use Rattle.lane_command.proofs.Stored.{lane_done, lane_room, lane_stored}
+use Rattle.rely_guarantee.specs.declared.books.Base.{Base}
+use Rattle.rely_guarantee.specs.declared.books.Books as rust
+use Rattle.rely_guarantee.specs.declared.kind.Outcome.{Outcome}
+use Rattle.rely_guarantee.specs.declared.kind.Outcome.TheVariants as came
+use Rattle.rely_guarantee.specs.Books.{books_of}
+use Rattle.rely_guarantee.specs.Exact.{Tells}
+use Rattle.rely_guarantee.specs.SystemInvariant.{Stands}
+use Rattle.rely_guarantee.specs.State.{State, first}
 use Rattle.script.specs.declared.command.Command.{Command}
 use Rattle.script.specs.declared.command.Command.TheVariants as command
 use Rattle.sys_core.specs.Counts.{CountsAt}

@@ -7,17 +7,17 @@ use Rattle.ost_types.specs.declared.limits.Limits.{Limits}
 use Rattle.fs_trait.specs.View.{View}
 use Rattle.fs_trait.specs.Count.{Rose}
 use Rattle.repo_layout.specs.BootPaths.{checkout_path}
-use Rattle.ref_work.specs.declared.look_up.Found.TheVariants.{Missing, Partial, Whole}
-use Rattle.ref_work.specs.Found.{IsFound}
+use Rattle.ref_command.specs.declared.look_up.Found.TheVariants.{Missing, Partial, Whole}
+use Rattle.ref_command.specs.Found.{IsFound}
 use Rattle.ref_room.specs.Clash.{Clashes}
 use Rattle.tree_build.specs.Items.{IsTree, IsLeastBad}
-use Rattle.commit_lasts.specs.Lasting.{sum_of}
-use Rattle.commit_work.specs.Answers.{IsLacking}
+use Rattle.commit_durability.specs.Lasting.{sum_of}
+use Rattle.commit_command.specs.Answers.{IsLacking}
 use Rattle.ref_book.specs.Tracks.{Lists}
-use Rattle.rely.specs.declared.books.Entry.{Entry}
-use Rattle.rely.specs.declared.event.Event.{Event}
-use Rattle.rely.specs.declared.event.Event.TheVariants as event
-use Rattle.rely.specs.State.{State, RefOf, after, events_of}
+use Rattle.rely_guarantee.specs.declared.books.Entry.{Entry}
+use Rattle.rely_guarantee.specs.declared.event.Event.{Event}
+use Rattle.rely_guarantee.specs.declared.event.Event.TheVariants as event
+use Rattle.rely_guarantee.specs.State.{State, RefOf, after, events_of}
 use Rattle.script.specs.declared.answer.Answer.{Answer}
 use Rattle.script.specs.declared.answer.Answer.TheVariants as answer
 use Rattle.script.specs.declared.answer.Reply.{Reply}

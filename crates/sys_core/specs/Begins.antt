@@ -4,22 +4,22 @@ use Rattle.script.specs.declared.answer.Answer.{Answer}
 use Rattle.script.specs.declared.answer.Answer.TheVariants as answer
 use Rattle.script.specs.declared.command.Command.{Command}
 use Rattle.script.specs.declared.command.Command.TheVariants.{Refs, RevParse, Log, Ls, Cat, Checkout, Reset, DropRef, Commit}
-use Rattle.rely.specs.State.{State, RefOf}
+use Rattle.rely_guarantee.specs.State.{State, RefOf}
 use Rattle.ref_book.specs.Tracks.{Lists}
-use Rattle.ref_work.specs.declared.command.RefCommand.{RefCommand}
-use Rattle.ref_work.specs.declared.command.RefCommand.TheVariants as task
-use Rattle.ref_work.specs.Commands.{removal}
+use Rattle.ref_command.specs.declared.command.RefCommand.{RefCommand}
+use Rattle.ref_command.specs.declared.command.RefCommand.TheVariants as task
+use Rattle.ref_command.specs.Commands.{removal}
 use Rattle.ost_types.specs.declared.limits.Limits.{Limits}
 use Rattle.commit_build.specs.declared.phase.Phase.TheVariants as phase
 use Rattle.commit_build.specs.Committing.{IsMade}
-use Rattle.commit_work.specs.Answers.{IsCommitOf}
-use Rattle.read_work.specs.Asked.{asked}
-use Rattle.checkout_work.specs.Asked as checking
-use Rattle.lane_work.specs.declared.command.LaneCommand.{LaneCommand}
-use Rattle.lane_work.specs.declared.command.LaneCommand.TheVariants as lane_work
-use Rattle.lane_work.specs.Commands.{lane_left}
+use Rattle.commit_command.specs.Answers.{IsCommitOf}
+use Rattle.read_command.specs.Asked.{asked}
+use Rattle.checkout_command.specs.Asked as checking
+use Rattle.lane_command.specs.declared.command.LaneCommand.{LaneCommand}
+use Rattle.lane_command.specs.declared.command.LaneCommand.TheVariants as lane_command
+use Rattle.lane_command.specs.Commands.{lane_left}
 use Rattle.ref_book.specs.declared.book.RefBook.{RefBook}
-use Rattle.lane_work.specs.Answers as work
+use Rattle.lane_command.specs.Answers as work
 use Rattle.sys_core.specs.declared.begin.Begun.{Begun}
 use Rattle.sys_core.specs.declared.begin.Begun.TheVariants.{Answered, Runs}
 use Rattle.sys_core.specs.Lanes.{HasRoomFor}
@@ -59,12 +59,12 @@ RunsRefBy lane s (DropRef branch) (task.Change work) = (seen : List ℕ) × (s (
 RunsRefBy lane s c t = LooksUp s c t
 
 abbrev pub RunsBy : Limits → ℕ → State → Command → LaneCommand → Type 0
-RunsBy limits lane s c (lane_work.Ref t) = RunsRefBy lane s c t
-RunsBy limits lane s (Commit branch tree subject body time) (lane_work.Commit t) =
+RunsBy limits lane s c (lane_command.Ref t) = RunsRefBy lane s c t
+RunsBy limits lane s (Commit branch tree subject body time) (lane_command.Commit t) =
     IsCommitOf branch (record { actor = lane; items = tree.items; limits = limits; message = message_in s branch subject body time; made = 0; phase = phase.Check; met = None }) t × IsMade t.build
-RunsBy limits lane s c (lane_work.Commit t) = ⊥
-RunsBy limits lane s c (lane_work.Read t) = Reads limits s c (asked t)
-RunsBy limits lane s c (lane_work.Checkout t) = ChecksOut limits s c (checking.asked t)
+RunsBy limits lane s c (lane_command.Commit t) = ⊥
+RunsBy limits lane s c (lane_command.Read t) = Reads limits s c (asked t)
+RunsBy limits lane s c (lane_command.Checkout t) = ChecksOut limits s c (checking.asked t)
 
 abbrev pub IsBy : Limits → ℕ → State → Command → Begun → Type 0
 IsBy limits lane s c (Answered answer) = AnswersBy s answer c

@@ -13,8 +13,8 @@ use Rattle.sys_core.specs.Counts.{IsFull}
 use Rattle.sys_core.specs.Replied.{IsCommand, Replied, count_of}
 use Rattle.script.specs.declared.command.Command.{Command}
 use Rattle.script.specs.declared.answer.Answer.{Answer}
-use Rattle.rely.specs.declared.books.Entry.{Entry}
-use Rattle.rely.specs.State.{first}
+use Rattle.rely_guarantee.specs.declared.books.Entry.{Entry}
+use Rattle.rely_guarantee.specs.State.{first}
 use Rattle.fs_trait.specs.View.{View}
 
 -- Each lane has at most 64 commands, one reply to each that has ended, and room for those to come.

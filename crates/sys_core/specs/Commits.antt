@@ -9,7 +9,7 @@ use Rattle.tree_build.specs.Makeable.{AreMakeable, IsSmall}
 use Rattle.commit_build.specs.declared.message.Message.{Message}
 use Rattle.commit_build.specs.Committing.{named_commit, parts_of, ReadsBack}
 use Rattle.commit_build.specs.Steps.{AreSure, IsSure, NeverMarked}
-use Rattle.rely.specs.State.{State, RefOf}
+use Rattle.rely_guarantee.specs.State.{State, RefOf}
 use Rattle.script.specs.declared.command.Command.{Command}
 use Rattle.script.specs.declared.command.Command.TheVariants.{Commit}
 

@@ -8,10 +8,10 @@ use Rattle.repo_model.specs.Objects.{path_of}
 use Rattle.obj_store.specs.declared.phase.Put.{Put}
 use Rattle.obj_store.specs.declared.phase.Put.TheVariants.{Stored}
 use Rattle.commit_build.specs.Whole.{IsCounted}
-use Rattle.lane_work.specs.declared.command.LaneCommand.{LaneCommand}
-use Rattle.lane_work.specs.Commands.{met_by}
-use Rattle.rely.specs.declared.kind.Outcome.{Outcome}
-use Rattle.rely.specs.declared.kind.Outcome.TheVariants as outcome
+use Rattle.lane_command.specs.declared.command.LaneCommand.{LaneCommand}
+use Rattle.lane_command.specs.Commands.{met_by}
+use Rattle.rely_guarantee.specs.declared.kind.Outcome.{Outcome}
+use Rattle.rely_guarantee.specs.declared.kind.Outcome.TheVariants as outcome
 use Rattle.script.specs.declared.answer.Answer.{Answer}
 use Rattle.script.specs.declared.answer.Answer.TheVariants as answer
 use Rattle.sys_core.specs.declared.ask.Ask.{Ask}

@@ -1,12 +1,12 @@
 -- What an act did of its lane's task.
 use Rattle.std.specs.Prelude.{ℕ, Option}
 use Rattle.fs_trait.specs.View.{View}
-use Rattle.lane_work.specs.declared.command.LaneCommand.{LaneCommand}
-use Rattle.lane_work.specs.Commands.{lane_kind, lane_leaves, lane_refuses, lane_stepped}
-use Rattle.rely.specs.declared.books.Base.{Base}
-use Rattle.rely.specs.declared.kind.Outcome.{Outcome}
-use Rattle.rely.specs.Books.{books_of}
-use Rattle.rely.specs.Exact.{IsBooked, Locks, Opens, Steps, Tells}
+use Rattle.lane_command.specs.declared.command.LaneCommand.{LaneCommand}
+use Rattle.lane_command.specs.Commands.{lane_kind, lane_leaves, lane_refuses, lane_stepped}
+use Rattle.rely_guarantee.specs.declared.books.Base.{Base}
+use Rattle.rely_guarantee.specs.declared.kind.Outcome.{Outcome}
+use Rattle.rely_guarantee.specs.Books.{books_of}
+use Rattle.rely_guarantee.specs.Exact.{IsBooked, Locks, Opens, Steps, Tells}
 
 -- A step of this task that wasn't held off: how the task went on, what the views say, what others left free for it, whose the locks
 -- are, and what the books have of it.

@@ -5,13 +5,13 @@ use Rattle.ost_types.specs.Path.{Name, Path}
 use Rattle.fs_trait.specs.Seen.{Vacant, shows}
 use Rattle.fs_trait.specs.View.{Disk, View}
 use Rattle.repo_layout.specs.BootPaths.{checkout_path}
-use Rattle.checkout_work.specs.Answers.{IsCheckedOut}
-use Rattle.checkout_work.specs.Commands.{HasMade}
-use Rattle.lane_work.specs.declared.command.LaneCommand.{LaneCommand}
-use Rattle.lane_work.specs.declared.command.LaneCommand.TheVariants as lane_work
-use Rattle.rely.specs.declared.books.Entry.{Entry}
-use Rattle.rely.specs.Books.{books_of, Unclaimed}
-use Rattle.rely.specs.State.{State, first}
+use Rattle.checkout_command.specs.Answers.{IsCheckedOut}
+use Rattle.checkout_command.specs.Commands.{HasMade}
+use Rattle.lane_command.specs.declared.command.LaneCommand.{LaneCommand}
+use Rattle.lane_command.specs.declared.command.LaneCommand.TheVariants as lane_command
+use Rattle.rely_guarantee.specs.declared.books.Entry.{Entry}
+use Rattle.rely_guarantee.specs.Books.{books_of, Unclaimed}
+use Rattle.rely_guarantee.specs.State.{State, first}
 use Rattle.script.specs.declared.answer.Answer.TheVariants as answer
 use Rattle.script.specs.declared.answer.Reply.{Reply}
 use Rattle.script.specs.declared.command.Command.TheVariants.{Checkout}
@@ -40,10 +40,10 @@ AreFree s = EachDone s.lanes s.replies (λ r rev name. Unclaimed name (books_of 
 
 -- the task has made the folder of this name
 abbrev pub HasMadeFolder : LaneCommand → Name → Type 0
-HasMadeFolder (lane_work.Ref t) name = ⊥
-HasMadeFolder (lane_work.Commit t) name = ⊥
-HasMadeFolder (lane_work.Read t) name = ⊥
-HasMadeFolder (lane_work.Checkout t) name = HasMade t name
+HasMadeFolder (lane_command.Ref t) name = ⊥
+HasMadeFolder (lane_command.Commit t) name = ⊥
+HasMadeFolder (lane_command.Read t) name = ⊥
+HasMadeFolder (lane_command.Checkout t) name = HasMade t name
 
 -- a command of a lane with this number, which checks out to this name
 abbrev pub IsCheckoutBy : List Lane → ℕ → ℕ → Name → Type 0

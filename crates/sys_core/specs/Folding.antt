@@ -5,10 +5,10 @@ use Rattle.ost_types.specs.Path.{Name, Path}
 use Rattle.fs_trait.specs.Seen.{Vacant, shows}
 use Rattle.fs_trait.specs.View.{View}
 use Rattle.repo_layout.specs.BootPaths.{checkout_path}
-use Rattle.lane_work.specs.declared.command.LaneCommand.{LaneCommand}
-use Rattle.rely.specs.Books.{Books, Unclaimed}
-use Rattle.rely.specs.Rely.{Does}
-use Rattle.rely.specs.State.{State}
+use Rattle.lane_command.specs.declared.command.LaneCommand.{LaneCommand}
+use Rattle.rely_guarantee.specs.Books.{Books, Unclaimed}
+use Rattle.rely_guarantee.specs.Rely.{Interference}
+use Rattle.rely_guarantee.specs.State.{State}
 use Rattle.script.specs.declared.answer.Answer.TheVariants as answer
 use Rattle.script.specs.declared.command.Command.{Command}
 use Rattle.script.specs.declared.command.Command.TheVariants.{Checkout}
@@ -36,7 +36,7 @@ IsCheckoutTo c name = (rev : Rev) × (c ≡ Checkout rev name)
 -- done has left the commit's tree, and nobody claims it any more; and what is told to stand in the way stood there, and wasn't the
 -- command's.
 pub record Folds (limits : Limits) (lane : ℕ) (s : State) (c : Command) (work work' : Option LaneCommand) (result : Came) (b b' : Books) (v w : View) : Type 0 where
-  pub does : Does lane lane v b w b'
+  pub does : Interference lane lane v b w b'
   pub comes : (name : Name) → (shows w.now (checkout_path name) ≡ shows v.now (checkout_path name)) ⊎ (IsCheckoutTo c name × EndsMade result work' name)
   pub goes_on : (name : Name) → HasMadeBy work name → EndsMade result work' name
   pub done : (rev : Rev) (name : Name) (start : ℕ) → c ≡ Checkout rev name → result ≡ Answered answer.Nothing start → HoldsTree limits w.now s rev name × Unclaimed name b'

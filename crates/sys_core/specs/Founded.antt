@@ -1,11 +1,11 @@
 -- That commits which were there at the opening, and those that refs were set to, stay; and that no reply says otherwise.
 use Rattle.std.specs.Prelude.{◌≡◌, ◌<◌, ℕ, List, Option, Some}
 use Rattle.fs_trait.specs.View.{View}
-use Rattle.rely.specs.declared.books.Entry.{Entry}
-use Rattle.rely.specs.declared.books.Pending.{Pending}
-use Rattle.rely.specs.declared.event.Event.{Event}
-use Rattle.rely.specs.declared.event.Event.TheVariants.{SetRef, DropRef}
-use Rattle.rely.specs.Lasting.{StaysFinished}
+use Rattle.rely_guarantee.specs.declared.books.Entry.{Entry}
+use Rattle.rely_guarantee.specs.declared.books.Pending.{Pending}
+use Rattle.rely_guarantee.specs.declared.event.Event.{Event}
+use Rattle.rely_guarantee.specs.declared.event.Event.TheVariants.{SetRef, DropRef}
+use Rattle.rely_guarantee.specs.Lasting.{StaysFinished}
 use Rattle.script.specs.declared.answer.Reply.{Reply}
 use Rattle.sys_core.specs.Faults.{IsAbsence}
 use Rattle.sys_core.specs.Replied.{IsAt, IsTo}

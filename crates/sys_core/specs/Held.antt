@@ -1,13 +1,13 @@
 -- What the commands that run are after, what they have pinned, and what each commit among them holds of its objects.
 use Rattle.std.specs.Prelude.{◌≡◌, ℕ, length, false, Contains, Option, Some}
 use Rattle.fs_trait.specs.View.{View}
-use Rattle.commit_work.specs.declared.command.CommitCommand.{CommitCommand}
-use Rattle.commit_work.specs.Held.{AreHeld}
-use Rattle.lane_work.specs.declared.command.LaneCommand.{LaneCommand}
-use Rattle.lane_work.specs.declared.command.LaneCommand.TheVariants.{Commit}
-use Rattle.rely.specs.declared.books.Pin.{Pin}
-use Rattle.rely.specs.Books.{books_of}
-use Rattle.rely.specs.State.{first}
+use Rattle.commit_command.specs.declared.command.CommitCommand.{CommitCommand}
+use Rattle.commit_command.specs.Held.{AreHeld}
+use Rattle.lane_command.specs.declared.command.LaneCommand.{LaneCommand}
+use Rattle.lane_command.specs.declared.command.LaneCommand.TheVariants.{Commit}
+use Rattle.rely_guarantee.specs.declared.books.Pin.{Pin}
+use Rattle.rely_guarantee.specs.Books.{books_of}
+use Rattle.rely_guarantee.specs.State.{first}
 use Rattle.script.specs.declared.command.Command.{Command}
 use Rattle.sys_core.specs.Answers.{IsTold, state_after}
 use Rattle.sys_core.specs.Booked.{given}

@@ -4,7 +4,7 @@ use Rattle.ost_forms.specs.declared.tree_item.TreeItem.{TreeItem}
 use Rattle.fs_trait.specs.View.{View}
 use Rattle.commit_build.specs.declared.message.Message.{Message}
 use Rattle.script.specs.declared.answer.Reply.{Reply}
-use Rattle.store_lasts.specs.Standing.{AreAlone}
+use Rattle.store_durability.specs.Standing.{AreAlone}
 use Rattle.sys_core.specs.Faults.{IsOutside}
 use Rattle.sys_core.specs.Replied.{IsTo}
 use Rattle.sys_core.specs.Storing.{WasBegun}

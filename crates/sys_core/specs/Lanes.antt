@@ -3,23 +3,23 @@ use Rattle.std.specs.Prelude.{◌≡◌, ◌<◌, ◌≤◌, ℕ, false, List, l
 use Rattle.fs_trait.specs.View.{View}
 use Rattle.ref_book.specs.declared.book.RefBook.{RefBook}
 use Rattle.ref_book.specs.Tracks.{Tracks, HasRoom}
-use Rattle.ref_work.specs.declared.command.RefCommand.{RefCommand}
-use Rattle.ref_work.specs.declared.command.RefCommand.TheVariants.{Parse, Reset, Change}
-use Rattle.commit_work.specs.declared.command.CommitCommand.{CommitCommand}
-use Rattle.commit_work.specs.declared.naming.Naming.{Naming}
-use Rattle.lane_work.specs.declared.command.LaneCommand.{LaneCommand}
-use Rattle.lane_work.specs.declared.command.LaneCommand.TheVariants.{Ref, Commit, Read, Checkout}
-use Rattle.lane_work.specs.Commands.{lane_kind, lane_facts}
-use Rattle.ref_work.specs.Facts.{Home}
-use Rattle.rely.specs.declared.books.Base.{Base}
-use Rattle.rely.specs.declared.books.Books as rust
-use Rattle.rely.specs.declared.kind.Outcome.{Outcome}
-use Rattle.rely.specs.declared.kind.Outcome.TheVariants as came
-use Rattle.rely.specs.Books.{Books, books_of, Spared}
-use Rattle.rely.specs.Laws.{NotPending, Runs}
-use Rattle.rely.specs.Rely.{Does}
-use Rattle.rely.specs.Sound.{Sound}
-use Rattle.rely.specs.State.{State, first, after, events_of}
+use Rattle.ref_command.specs.declared.command.RefCommand.{RefCommand}
+use Rattle.ref_command.specs.declared.command.RefCommand.TheVariants.{Parse, Reset, Change}
+use Rattle.commit_command.specs.declared.command.CommitCommand.{CommitCommand}
+use Rattle.commit_command.specs.declared.naming.Naming.{Naming}
+use Rattle.lane_command.specs.declared.command.LaneCommand.{LaneCommand}
+use Rattle.lane_command.specs.declared.command.LaneCommand.TheVariants.{Ref, Commit, Read, Checkout}
+use Rattle.lane_command.specs.Commands.{lane_kind, lane_facts}
+use Rattle.ref_command.specs.Facts.{StagingPathFree}
+use Rattle.rely_guarantee.specs.declared.books.Base.{Base}
+use Rattle.rely_guarantee.specs.declared.books.Books as rust
+use Rattle.rely_guarantee.specs.declared.kind.Outcome.{Outcome}
+use Rattle.rely_guarantee.specs.declared.kind.Outcome.TheVariants as came
+use Rattle.rely_guarantee.specs.Books.{Books, books_of, Spared}
+use Rattle.rely_guarantee.specs.Laws.{NotPending, Runs}
+use Rattle.rely_guarantee.specs.Rely.{Interference}
+use Rattle.rely_guarantee.specs.SystemInvariant.{SystemInvariant}
+use Rattle.rely_guarantee.specs.State.{State, first, after, events_of}
 use Rattle.sys_core.specs.declared.run.Run.{Run}
 use Rattle.sys_core.specs.declared.run.Running.{Running}
 
@@ -50,7 +50,7 @@ RunsIn lane refs (Some r) view b = Runs lane_kind lane_facts lane r.work view b 
 
 -- the lane's staging path shows no folder
 abbrev pub IsHome : ℕ → Option View → Type 0
-IsHome lane view = (v : View) → view ≡ Some v → Home lane v
+IsHome lane view = (v : View) → view ≡ Some v → StagingPathFree lane v
 
 pub record Facts (lane : ℕ) (refs : RefBook) (task : Option Running) (view : Option View) (b : Books) : Type 0 where
   pub home : IsHome lane view
@@ -58,8 +58,8 @@ pub record Facts (lane : ℕ) (refs : RefBook) (task : Option Running) (view : O
 
 -- One act of a lane: what every value keeps, what others may rely on, and the lane's facts.
 pub record LaneActs {F : Type 0} (view : F → Option View) (clock spare : F → ℕ) (was : F → ℕ → View → Type 0) (lane : ℕ) (refs refs' : RefBook) (task : Option Running) (old new : Base F) : Type 0 where
-  pub sound : Sound view clock spare was new
-  pub does : (v : View) → view old.fs ≡ Some v → (w : View) × (view new.fs ≡ Some w) × Does lane lane v (books_of old.books) w (books_of new.books)
+  pub sound : SystemInvariant view clock spare was new
+  pub does : (v : View) → view old.fs ≡ Some v → (w : View) × (view new.fs ≡ Some w) × Interference lane lane v (books_of old.books) w (books_of new.books)
   pub books : Spared lane lane (books_of old.books) (books_of new.books)
   pub tracks : Tracks refs' (now_of new.books)
   pub rooms : (name : List ℕ) → HasRoom refs name → HasRoom refs' name
@@ -67,7 +67,7 @@ pub record LaneActs {F : Type 0} (view : F → Option View) (clock spare : F →
 
 -- What the whole system keeps.
 pub record Kept {F : Type 0} (view : F → Option View) (clock spare : F → ℕ) (was : F → ℕ → View → Type 0) (base : Base F) (refs : RefBook) (runs : List Run) : Type 0 where
-  pub sound : Sound view clock spare was base
+  pub sound : SystemInvariant view clock spare was base
   pub tracks : Tracks refs (now_of base.books)
   pub few : length runs ≤ 8
   pub facts : base.books.halted ≡ false → (lane : ℕ) (d : Run) → lane < length runs → Facts lane refs (slice_index_or runs lane d).task (view base.fs) (books_of base.books)

@@ -6,11 +6,11 @@ use Rattle.ost_types.specs.declared.object.ObjName.{ObjName}
 use Rattle.ost_forms.specs.declared.tree_item.TreeItem.{TreeItem}
 use Rattle.fs_trait.specs.View.{View}
 use Rattle.fs_trait.specs.Effect.{Elapses}
-use Rattle.commit_lasts.specs.Lasting.{AreRight, IsKept, sum_of}
-use Rattle.rely.specs.declared.books.Base.{Base}
-use Rattle.rely.specs.declared.books.Entry.{Entry}
-use Rattle.rely.specs.declared.event.Event.TheVariants as event
-use Rattle.rely.specs.Lasting.{IsRight, Lasts}
+use Rattle.commit_durability.specs.Lasting.{AreRight, IsKept, sum_of}
+use Rattle.rely_guarantee.specs.declared.books.Base.{Base}
+use Rattle.rely_guarantee.specs.declared.books.Entry.{Entry}
+use Rattle.rely_guarantee.specs.declared.event.Event.TheVariants as event
+use Rattle.rely_guarantee.specs.Lasting.{IsRight, Lasts}
 use Rattle.script.specs.declared.command.Command.TheVariants.{Commit}
 use Rattle.script.specs.declared.command.Lane.{Lane}
 use Rattle.sys_core.specs.Causes.{Fails}

@@ -1,7 +1,7 @@
 -- How many acts a command may still need at most.
 use Rattle.std.specs.Prelude.{ℕ, Option, Some, None}
-use Rattle.lane_work.specs.declared.command.LaneCommand.{LaneCommand}
-use Rattle.lane_work.specs.Commands.{lane_left}
+use Rattle.lane_command.specs.declared.command.LaneCommand.{LaneCommand}
+use Rattle.lane_command.specs.Commands.{lane_left}
 
 -- no command needs more acts than this
 abbrev pub most : ℕ

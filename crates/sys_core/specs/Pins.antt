@@ -2,14 +2,14 @@
 use Rattle.std.specs.Prelude.{◌≡◌, ◌⊎◌, ◌<◌, ◌≤◌, ℕ, false, List, length, slice_index_or, Contains, Option, Some, None}
 use Rattle.ost_types.specs.declared.object.ObjName.{ObjName}
 use Rattle.ost_objects.specs.Object.{IsNamed}
-use Rattle.commit_lasts.specs.Lasting.{IsOf}
+use Rattle.commit_durability.specs.Lasting.{IsOf}
 use Rattle.tree_build.specs.Objects.{Object}
-use Rattle.read_work.specs.Chains.{IsChain}
-use Rattle.ref_work.specs.Found.{commit_name}
-use Rattle.rely.specs.declared.books.Books as rust
-use Rattle.rely.specs.declared.books.Pin.{Pin}
-use Rattle.rely.specs.Pinning.{with_pin, without}
-use Rattle.rely.specs.State.{State, first}
+use Rattle.read_command.specs.Chains.{IsChain}
+use Rattle.ref_command.specs.Found.{commit_name}
+use Rattle.rely_guarantee.specs.declared.books.Books as rust
+use Rattle.rely_guarantee.specs.declared.books.Pin.{Pin}
+use Rattle.rely_guarantee.specs.Pinning.{with_pin, without}
+use Rattle.rely_guarantee.specs.State.{State, first}
 use Rattle.script.specs.declared.command.Command.{Command}
 use Rattle.script.specs.declared.command.Command.TheVariants.{RevParse, Log, Ls, Cat, Checkout, Reset, Commit}
 use Rattle.script.specs.declared.command.Lane.{Lane}
@@ -49,9 +49,9 @@ IsWorkOf told s c name = ⊥
 -- What an act of a lane leaves of the pins: at most one more of the lane's, in the work of its command; or none of the lane's, once the
 -- command has ended. One that ended at its first act, by the books alone, left them.
 abbrev pub PinsBy : (ℕ → ObjName → Type 0) → ℕ → Option Running → Option Running → Came → List Pin → List Pin → Type 0
-PinsBy Work lane task task' Blocked old new = new ≡ old
-PinsBy Work lane task task' More old new = (pin : Option ObjName) × (new ≡ with_pin pin lane old) × ((name : ObjName) → pin ≡ Some name → (r : Running) × (task' ≡ Some r) × Work r.start name)
-PinsBy Work lane task task' (Answered a start) old new = (new ≡ without lane old) ⊎ ((new ≡ old) × (task ≡ None))
+PinsBy CommandTask lane task task' Blocked old new = new ≡ old
+PinsBy CommandTask lane task task' More old new = (pin : Option ObjName) × (new ≡ with_pin pin lane old) × ((name : ObjName) → pin ≡ Some name → (r : Running) × (task' ≡ Some r) × CommandTask r.start name)
+PinsBy CommandTask lane task task' (Answered a start) old new = (new ≡ without lane old) ⊎ ((new ≡ old) × (task ≡ None))
 
 abbrev pub Pins : Type 0 → ℕ → Command → rust.Books → rust.Books → Option Running → Option Running → Came → Type 0
 Pins told lane c old new task task' result = new.halted ≡ false → PinsBy (λ start. IsWorkOf told (state_after (first old.start.items) old.history.items start) c) lane task task' result old.pins.items new.pins.items

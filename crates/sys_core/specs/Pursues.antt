@@ -5,27 +5,27 @@ use Rattle.ost_forms.specs.declared.tree_item.TreeItem.{TreeItem}
 use Rattle.fs_trait.specs.declared.types.FsErr.{FsErr}
 use Rattle.fs_trait.specs.declared.types.FsErr.TheVariants as err
 use Rattle.ref_store.specs.Change.{Change, progress_in}
-use Rattle.ref_work.specs.declared.command.RefCommand.{RefCommand}
-use Rattle.ref_work.specs.declared.command.RefCommand.TheVariants as task
+use Rattle.ref_command.specs.declared.command.RefCommand.{RefCommand}
+use Rattle.ref_command.specs.declared.command.RefCommand.TheVariants as task
 use Rattle.tree_build.specs.Items.{IsTree}
 use Rattle.commit_build.specs.declared.message.Message.{Message}
 use Rattle.commit_build.specs.Committing.{IsMade, ReadsBack}
-use Rattle.commit_lasts.specs.Lasting.{sum_of}
-use Rattle.commit_work.specs.declared.command.CommitCommand.{CommitCommand}
-use Rattle.commit_work.specs.declared.naming.Naming.{Naming}
-use Rattle.read_work.specs.Asked.{asked}
-use Rattle.checkout_work.specs.Asked as checking
-use Rattle.lane_work.specs.declared.command.LaneCommand.{LaneCommand}
-use Rattle.lane_work.specs.declared.command.LaneCommand.TheVariants as lane_work
-use Rattle.lane_work.specs.Commands.{answer_of}
-use Rattle.ref_work.specs.Facts.{IsRunning}
-use Rattle.rely.specs.declared.books.Books as rust
-use Rattle.rely.specs.declared.books.Entry.{Entry}
-use Rattle.rely.specs.declared.books.Pending.{Pending}
-use Rattle.rely.specs.declared.kind.Outcome.{Outcome}
-use Rattle.rely.specs.declared.kind.Outcome.TheVariants as came
-use Rattle.rely.specs.declared.books.Base.{Base}
-use Rattle.rely.specs.State.{State, RefOf, first, after, events_of}
+use Rattle.commit_durability.specs.Lasting.{sum_of}
+use Rattle.commit_command.specs.declared.command.CommitCommand.{CommitCommand}
+use Rattle.commit_command.specs.declared.naming.Naming.{Naming}
+use Rattle.read_command.specs.Asked.{asked}
+use Rattle.checkout_command.specs.Asked as checking
+use Rattle.lane_command.specs.declared.command.LaneCommand.{LaneCommand}
+use Rattle.lane_command.specs.declared.command.LaneCommand.TheVariants as lane_command
+use Rattle.lane_command.specs.Commands.{answer_of}
+use Rattle.ref_command.specs.Facts.{IsRunning}
+use Rattle.rely_guarantee.specs.declared.books.Books as rust
+use Rattle.rely_guarantee.specs.declared.books.Entry.{Entry}
+use Rattle.rely_guarantee.specs.declared.books.Pending.{Pending}
+use Rattle.rely_guarantee.specs.declared.kind.Outcome.{Outcome}
+use Rattle.rely_guarantee.specs.declared.kind.Outcome.TheVariants as came
+use Rattle.rely_guarantee.specs.declared.books.Base.{Base}
+use Rattle.rely_guarantee.specs.State.{State, RefOf, first, after, events_of}
 use Rattle.fs_trait.specs.View.{View}
 use Rattle.script.specs.declared.answer.Reply.{Reply}
 use Rattle.script.specs.declared.command.Lane.{Lane}
@@ -80,11 +80,11 @@ pub record Commits (limits : Limits) (branch : List ℕ) (tree : List TreeItem) 
 
 -- What a command is after, which begins in this state, at each of its steps.
 abbrev pub Pursues : Limits → State → Command → LaneCommand → Type 0
-Pursues limits s c (lane_work.Ref t) = RefPursues s c t
-Pursues limits s (Commit branch tree subject body time) (lane_work.Commit t) = Commits limits branch tree.items (message_in s branch subject body time) t
-Pursues limits s c (lane_work.Commit t) = ⊥
-Pursues limits s c (lane_work.Read t) = Reads limits s c (asked t)
-Pursues limits s c (lane_work.Checkout t) = ChecksOut limits s c (checking.asked t)
+Pursues limits s c (lane_command.Ref t) = RefPursues s c t
+Pursues limits s (Commit branch tree subject body time) (lane_command.Commit t) = Commits limits branch tree.items (message_in s branch subject body time) t
+Pursues limits s c (lane_command.Commit t) = ⊥
+Pursues limits s c (lane_command.Read t) = Reads limits s c (asked t)
+Pursues limits s c (lane_command.Checkout t) = ChecksOut limits s c (checking.asked t)
 
 -- how many changes lasted when the command began, or do now where it hasn't begun
 abbrev pub task_start : List Entry → Option Running → ℕ

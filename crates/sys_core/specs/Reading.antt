@@ -3,17 +3,17 @@ use Rattle.std.specs.Prelude.{◌≡◌, ℕ, List, Option, Some, None}
 use Rattle.ost_types.specs.declared.limits.Limits.{Limits}
 use Rattle.ost_types.specs.Path.{Name}
 use Rattle.fs_trait.specs.View.{View}
-use Rattle.read_work.specs.declared.answer.ReadAnswer.{ReadAnswer}
-use Rattle.read_work.specs.declared.look.Ask.{Ask}
-use Rattle.read_work.specs.declared.look.Ask.TheVariants as ask
-use Rattle.read_work.specs.Answers.{Says}
-use Rattle.read_work.specs.Asked.{Asked}
-use Rattle.checkout_work.specs.declared.answer.CheckoutAnswer.{CheckoutAnswer}
-use Rattle.checkout_work.specs.Answers as checkouts
-use Rattle.checkout_work.specs.Asked as checking
-use Rattle.lane_work.specs.Commands.{checkout_answer, read_answer}
-use Rattle.rely.specs.Lasting.{IsFinishedNow}
-use Rattle.rely.specs.State.{State, RefOf}
+use Rattle.read_command.specs.declared.answer.ReadAnswer.{ReadAnswer}
+use Rattle.read_command.specs.declared.look.Ask.{Ask}
+use Rattle.read_command.specs.declared.look.Ask.TheVariants as ask
+use Rattle.read_command.specs.Answers.{Says}
+use Rattle.read_command.specs.Asked.{Asked}
+use Rattle.checkout_command.specs.declared.answer.CheckoutAnswer.{CheckoutAnswer}
+use Rattle.checkout_command.specs.Answers as checkouts
+use Rattle.checkout_command.specs.Asked as checking
+use Rattle.lane_command.specs.Commands.{checkout_answer, read_answer}
+use Rattle.rely_guarantee.specs.Lasting.{IsFinishedNow}
+use Rattle.rely_guarantee.specs.State.{State, RefOf}
 use Rattle.script.specs.declared.answer.Answer.{Answer}
 use Rattle.script.specs.declared.command.Command.{Command}
 use Rattle.script.specs.declared.command.Command.TheVariants.{Log, Ls, Cat, Checkout}

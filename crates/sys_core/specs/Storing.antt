@@ -10,17 +10,17 @@ use Rattle.std.specs.Global.{Vec}
 use Rattle.repo_layout.specs.RefFile.{IsSum}
 use Rattle.repo_model.specs.Objects.{path_of}
 use Rattle.commit_build.specs.declared.message.Message.{Message}
-use Rattle.lane_work.specs.declared.command.LaneCommand.{LaneCommand}
-use Rattle.lane_work.specs.Commands.{lane_facts, lane_writes, told}
-use Rattle.rely.specs.declared.books.Books as rust
-use Rattle.rely.specs.declared.books.Entry.{Entry}
-use Rattle.rely.specs.Books.{books_of}
-use Rattle.rely.specs.State.{State, first}
+use Rattle.lane_command.specs.declared.command.LaneCommand.{LaneCommand}
+use Rattle.lane_command.specs.Commands.{lane_facts, lane_writes, told}
+use Rattle.rely_guarantee.specs.declared.books.Books as rust
+use Rattle.rely_guarantee.specs.declared.books.Entry.{Entry}
+use Rattle.rely_guarantee.specs.Books.{books_of}
+use Rattle.rely_guarantee.specs.State.{State, first}
 use Rattle.script.specs.declared.answer.Reply.{Reply}
 use Rattle.script.specs.declared.command.Command.{Command}
 use Rattle.script.specs.declared.command.Command.TheVariants.{Commit}
 use Rattle.script.specs.declared.command.Lane.{Lane}
-use Rattle.store_lasts.specs.Keeping.{KeepsGood}
+use Rattle.store_durability.specs.Keeping.{KeepsGood}
 use Rattle.sys_open.specs.Damages.{ShowsConfig}
 use Rattle.sys_core.specs.Answers.{state_after}
 use Rattle.sys_core.specs.Commits.{message_in}

@@ -4,8 +4,8 @@ use Rattle.std.specs.Prelude.{ℕ, List, Option}
 use Rattle.ost_types.specs.declared.limits.Limits.{Limits}
 use Rattle.script.specs.declared.answer.Reply.{Reply}
 use Rattle.script.specs.declared.command.Lane.{Lane}
-use Rattle.lane_work.specs.declared.command.LaneCommand.{LaneCommand}
-use Rattle.rely.specs.declared.books.Base.{Base}
+use Rattle.lane_command.specs.declared.command.LaneCommand.{LaneCommand}
+use Rattle.rely_guarantee.specs.declared.books.Base.{Base}
 
 pub record System (F : Type 0) : Type 0 where
   pub base : Base F

@@ -2,12 +2,12 @@
 use Rattle.std.specs.Prelude.{◌≡◌, ◌≢◌, ◌<◌, ℕ, List, length, map, slice_index_or, Option, Some, None, false}
 use Rattle.ref_store.specs.declared.phase.Phase.{Phase}
 use Rattle.ref_store.specs.declared.phase.Phase.TheVariants as phase
-use Rattle.ref_work.specs.declared.command.RefCommand.{RefCommand}
-use Rattle.ref_work.specs.declared.command.RefCommand.TheVariants.{Parse, Reset, Change}
-use Rattle.commit_work.specs.declared.naming.Naming.{Naming}
-use Rattle.lane_work.specs.declared.command.LaneCommand.{LaneCommand}
-use Rattle.lane_work.specs.declared.command.LaneCommand.TheVariants.{Ref, Commit, Read, Checkout}
-use Rattle.rely.specs.declared.books.Books as rust
+use Rattle.ref_command.specs.declared.command.RefCommand.{RefCommand}
+use Rattle.ref_command.specs.declared.command.RefCommand.TheVariants.{Parse, Reset, Change}
+use Rattle.commit_command.specs.declared.naming.Naming.{Naming}
+use Rattle.lane_command.specs.declared.command.LaneCommand.{LaneCommand}
+use Rattle.lane_command.specs.declared.command.LaneCommand.TheVariants.{Ref, Commit, Read, Checkout}
+use Rattle.rely_guarantee.specs.declared.books.Books as rust
 use Rattle.script.specs.declared.command.Lane.{Lane}
 use Rattle.sys_core.specs.declared.lane.Came.{Came}
 use Rattle.sys_core.specs.declared.lane.Came.TheVariants as came

@@ -1,17 +1,17 @@
 ghost use Rattle.std.specs.Prelude.{◌<◌, ℕ, List, Some, IfOk};
 ghost use Rattle.ref_book.specs.Tracks.{Tracks, HasRoom};
-ghost use Rattle.rely.specs.State.{State};
+ghost use Rattle.rely_guarantee.specs.State.{State};
 ghost use Rattle.sys_core.specs.Begins.{IsBegun, IsBy, IsFew};
 ghost use Rattle.sys_core.specs.Commits.{IsFit};
 ghost use Rattle.ost_types.specs.declared.limits.Limits.{Limits};
 ghost use Rattle.script.specs.declared.command.Command.TheVariants as Command;
 
 use crate::reading::{cat, checkout, commit_of, log, ls};
-use commit_work::CommitCommand;
-use lane_work::LaneCommand;
+use commit_command::CommitCommand;
+use lane_command::LaneCommand;
 use ost_types::{Limits, NoMemory, TryCopy, copy_all};
 use ref_book::RefBook;
-use ref_work::RefCommand;
+use ref_command::RefCommand;
 use script::{Answer, Command, Rev};
 use std::alloc::Global;
 

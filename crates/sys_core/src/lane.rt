@@ -5,18 +5,18 @@ ghost use Rattle.fs_trait.specs.View.{View};
 ghost use Rattle.fs_trait.specs.Image.{Told};
 ghost use Rattle.fs_trait.specs.Change.{Writes};
 ghost use Rattle.ref_book.specs.Tracks.{Tracks, HasRoom, name_of};
-ghost use Rattle.lane_work.specs.declared.command.LaneCommand.{LaneCommand};
-ghost use Rattle.lane_work.specs.Commands.{answer_of as told_by, IsMadeIn, lane_facts, lane_kind, lane_leaves, lane_refuses, lane_stepped, lane_writes, met_by, told};
+ghost use Rattle.lane_command.specs.declared.command.LaneCommand.{LaneCommand};
+ghost use Rattle.lane_command.specs.Commands.{answer_of as told_by, IsMadeIn, lane_facts, lane_kind, lane_leaves, lane_refuses, lane_stepped, lane_writes, met_by, told};
 ghost use Rattle.commit_build.specs.Whole.{IsCounted};
-ghost use Rattle.rely.specs.declared.books.Entry.{Entry};
-ghost use Rattle.rely.specs.declared.kind.Outcome.TheVariants as came;
-ghost use Rattle.rely.specs.Books.{books_of};
-ghost use Rattle.rely.specs.Laws.{NotPending, Ready, Runs, Acts};
-ghost use Rattle.rely.specs.State.{State, after, events_of};
-ghost use Rattle.rely.specs.Sound.{Sound};
-ghost use Rattle.rely.specs.State.{first};
-ghost use Rattle.rely.specs.declared.books.Pending.{Pending};
-ghost use Rattle.rely.specs.Exact.{Causes, IsBooked, IsLive, Locks, Opens, Steps, Tells};
+ghost use Rattle.rely_guarantee.specs.declared.books.Entry.{Entry};
+ghost use Rattle.rely_guarantee.specs.declared.kind.Outcome.TheVariants as came;
+ghost use Rattle.rely_guarantee.specs.Books.{books_of};
+ghost use Rattle.rely_guarantee.specs.Laws.{NotPending, Ready, Runs, Acts};
+ghost use Rattle.rely_guarantee.specs.State.{State, after, events_of};
+ghost use Rattle.rely_guarantee.specs.SystemInvariant.{SystemInvariant};
+ghost use Rattle.rely_guarantee.specs.State.{first};
+ghost use Rattle.rely_guarantee.specs.declared.books.Pending.{Pending};
+ghost use Rattle.rely_guarantee.specs.Exact.{Causes, IsBooked, IsLive, Locks, Opens, Steps, Tells};
 ghost use Rattle.script.specs.declared.answer.Answer.{Answer};
 ghost use Rattle.script.specs.declared.answer.Answer.TheVariants as answer;
 ghost use Rattle.sys_core.specs.Answers.{IsHalted, IsTold, Shown, state_after};
@@ -27,8 +27,8 @@ ghost use Rattle.sys_core.specs.Folding.{Folds};
 ghost use Rattle.sys_core.specs.Lanes.{Facts, HasRoomFor, IsHome, EndsUnshown, LaneActs, now_of};
 ghost use Rattle.sys_core.specs.Pursues.{Goes, HasAnswer, IsAfter, IsEndedAs, IsFaulty, task_start};
 ghost use Rattle.sys_core.specs.Storing.{HasWritten};
-ghost use Rattle.rely.specs.Claiming.{AreClaimed, claim_in};
-ghost use Rattle.rely.specs.Pinning.{ArePinned, pin_in};
+ghost use Rattle.rely_guarantee.specs.Claiming.{AreClaimed, claim_in};
+ghost use Rattle.rely_guarantee.specs.Pinning.{ArePinned, pin_in};
 ghost use Rattle.sys_core.specs.Pins.{Pins};
 ghost use Rattle.sys_core.specs.Turns.{HasTurn, RunsBehind, Turns, work_in};
 
@@ -36,11 +36,11 @@ use crate::answer::answer_of;
 use crate::begin::{Begun, begin};
 use crate::run::{Run, Running};
 use fs_trait::Fs;
-use lane_work::LaneCommand;
+use lane_command::LaneCommand;
 use obj_store::Put;
 use ost_types::Limits;
 use ref_book::RefBook;
-use rely::{Base, Entry, Outcome, task_act};
+use rely_guarantee::{Base, Entry, Outcome, task_act};
 use script::{Answer, Command};
 use std::alloc::Global;
 
@@ -65,7 +65,7 @@ pub(crate) fn lane_act<F: Fs>(
 ) -> Came
     requires few { lane < 8 }
     requires live { base.old.books.halted ≡ false }
-    requires sound { Sound F.view F.clock F.spare F.was base.old }
+    requires sound { SystemInvariant F.view F.clock F.spare F.was base.old }
     requires tracks { Tracks refs.old (now_of base.old.books) }
     requires facts { Facts lane refs.old run.old.task (F.view base.old.fs) (books_of base.old.books) }
     requires mine { (p : Pending) → base.old.books.pending ≡ Some p → p.lane ≡ lane → p.command ≡ run.old.command }
@@ -108,7 +108,7 @@ fn begins<F: Fs>(
 ) -> Came
     requires few { lane < 8 }
     requires live { base.old.books.halted ≡ false }
-    requires sound { Sound F.view F.clock F.spare F.was base.old }
+    requires sound { SystemInvariant F.view F.clock F.spare F.was base.old }
     requires tracks { Tracks refs.old (now_of base.old.books) }
     requires facts { Facts lane refs.old None (F.view base.old.fs) (books_of base.old.books) }
     requires idle { run.old.task ≡ None }
@@ -162,7 +162,7 @@ fn goes_on<F: Fs>(
     running: Running,
 ) -> Came
     requires live { base.old.books.halted ≡ false }
-    requires sound { Sound F.view F.clock F.spare F.was base.old }
+    requires sound { SystemInvariant F.view F.clock F.spare F.was base.old }
     requires tracks { Tracks refs.old (now_of base.old.books) }
     requires facts { Facts lane refs.old (Some running) (F.view base.old.fs) (books_of base.old.books) }
     requires idle { run.old.task ≡ None }

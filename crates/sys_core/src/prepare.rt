@@ -1,5 +1,5 @@
 ghost use Rattle.std.specs.Prelude.{◌≡◌, IfOk, length};
-ghost use Rattle.rely.specs.State.{first};
+ghost use Rattle.rely_guarantee.specs.State.{first};
 ghost use Rattle.ref_book.specs.Tracks.{Tracks};
 ghost use Rattle.sys_core.specs.Lanes.{AreIdle};
 ghost use Rattle.sys_core.specs.Booked.{HasReplyRoom};

@@ -1,16 +1,16 @@
 //! A command that reads a commit or checks it out begins: with the commit that its revision names, or there is no such ref.
 ghost use Rattle.std.specs.Prelude.{ℕ, IfOk};
 ghost use Rattle.ref_book.specs.Tracks.{Tracks};
-ghost use Rattle.rely.specs.State.{State};
+ghost use Rattle.rely_guarantee.specs.State.{State};
 ghost use Rattle.script.specs.declared.command.Command.TheVariants as Command;
 ghost use Rattle.sys_core.specs.Begins.{IsBegun, IsBy, IsFew};
 ghost use Rattle.sys_core.specs.Reading.{IsNamed};
 
 use crate::begin::Begun;
-use checkout_work::CheckoutCommand;
-use lane_work::LaneCommand;
+use checkout_command::CheckoutCommand;
+use lane_command::LaneCommand;
 use ost_types::{Csum, FsPath, Limits, Name, NoMemory, TryCopy};
-use read_work::ReadCommand;
+use read_command::ReadCommand;
 use ref_book::RefBook;
 use script::{Answer, Rev};
 use std::alloc::Global;

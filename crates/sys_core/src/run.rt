@@ -2,7 +2,7 @@ ghost use Rattle.std.specs.Prelude.{◌≡◌};
 ghost use Rattle.sys_core.specs.Left.{left_of};
 ghost use Rattle.sys_core.specs.Turns.{work_in};
 
-use lane_work::LaneCommand;
+use lane_command::LaneCommand;
 
 /// How far a lane is.
 #[derive(Drop)]

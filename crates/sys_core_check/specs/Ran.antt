@@ -4,9 +4,9 @@ use Rattle.ost_types.specs.declared.limits.Limits.{Limits}
 use Rattle.fs_trait.specs.View.{Disk, View}
 use Rattle.fs_trait.specs.Effect.{Next}
 use Rattle.fs_trait.specs.Image.{Told}
-use Rattle.rely.specs.declared.books.Base.{Base}
-use Rattle.rely.specs.Headline.{Headline}
-use Rattle.rely.specs.State.{first}
+use Rattle.rely_guarantee.specs.declared.books.Base.{Base}
+use Rattle.rely_guarantee.specs.Headline.{Headline}
+use Rattle.rely_guarantee.specs.State.{first}
 use Rattle.script.specs.declared.command.Lane.{Lane}
 use Rattle.sys_core.specs.Answers.{IsTold}
 use Rattle.sys_core.specs.Booked.{replies_of}

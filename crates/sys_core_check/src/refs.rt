@@ -1,6 +1,6 @@
 use ost_types::{Csum, NoMemory};
 use ref_book::RefBook;
-use rely::Event;
+use rely_guarantee::Event;
 use repo_layout::RefName;
 use std::alloc::Global;
 use std::process::Abort;

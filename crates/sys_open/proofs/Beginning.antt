@@ -12,8 +12,8 @@ use Rattle.repo_layout.specs.RefName.{parts_of}
 use Rattle.repo_layout.specs.Refs.{is_leaf}
 use Rattle.repo_layout.specs.RefFile.{ref_text}
 use Rattle.ref_room.specs.Way.{folder_meta}
-use Rattle.rely.specs.State.{RefOf, Said, first}
-use Rattle.rely.specs.Disks.{IsLeaf, Says, Logical}
+use Rattle.rely_guarantee.specs.State.{RefOf, Said, first}
+use Rattle.rely_guarantee.specs.Disks.{IsLeaf, Says, Logical}
 use Rattle.sys_open.specs.declared.fault.OpenFault.{OpenFault}
 use Rattle.sys_open.specs.declared.fault.OpenFault.TheVariants as fault
 use Rattle.sys_open.specs.Faults.{IsInterruption}

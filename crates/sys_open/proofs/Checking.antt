@@ -15,8 +15,8 @@ use Rattle.fs_trait.proofs.Claims.{reads_shows, is_below-before}
 use Rattle.repo_layout.specs.Paths.{config_path, heads, ref_path}
 use Rattle.repo_layout.specs.RefName.{parts_of}
 use Rattle.repo_layout.specs.Refs.{is_leaf}
-use Rattle.rely.specs.State.{RefOf, Said, first}
-use Rattle.rely.specs.Disks.{IsLeaf, Says, Logical}
+use Rattle.rely_guarantee.specs.State.{RefOf, Said, first}
+use Rattle.rely_guarantee.specs.Disks.{IsLeaf, Says, Logical}
 use Rattle.sys_open.specs.declared.fault.OpenFault.{OpenFault}
 use Rattle.sys_open.specs.declared.fault.OpenFault.TheVariants as fault
 use Rattle.sys_open.specs.declared.fault.Why.TheVariants.{BadConfig, BadRef, WrongKind}

@@ -8,8 +8,8 @@ use Rattle.fs_trait.specs.View.{Disk, View}
 use Rattle.fs_trait.specs.Image.{IsTree, Told, is_folder}
 use Rattle.fs_trait.specs.Change.{Left}
 use Rattle.repo_layout.specs.declared.folder.Folder.{Folder}
-use Rattle.rely.specs.State.{first}
-use Rattle.rely.specs.Disks.{Logical}
+use Rattle.rely_guarantee.specs.State.{first}
+use Rattle.rely_guarantee.specs.Disks.{Logical}
 use Rattle.fs_trait.specs.Seen.{Always, seen, shows}
 use Rattle.fs_trait.proofs.Facts.{vacant_absent}
 use Rattle.repo_layout.specs.Paths.{folder_path, stage_path}

@@ -16,9 +16,9 @@ use Rattle.fs_trait.specs.Seen.{shows}
 use Rattle.fs_trait.proofs.Claims.{reads_shows}
 use Rattle.repo_layout.specs.Paths.{ref_path}
 use Rattle.repo_layout.specs.Refs.{Names}
-use Rattle.rely.specs.State.{RefOf, Said, first}
-use Rattle.rely.specs.Disks.{Logical, Says}
-use Rattle.rely.proofs.States.{says_one}
+use Rattle.rely_guarantee.specs.State.{RefOf, Said, first}
+use Rattle.rely_guarantee.specs.Disks.{Logical, Says}
+use Rattle.rely_guarantee.proofs.States.{says_one}
 use Rattle.store_check.specs.Refs as listed
 use Rattle.store_check.specs.Refs.{Ref}
 use Rattle.sys_open.specs.Damages.{AreFounded, IsFirstUnfounded}

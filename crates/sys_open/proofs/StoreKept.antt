@@ -19,7 +19,7 @@ use Rattle.store_check.specs.Commits.{IsFinished, IsWhole}
 use Rattle.store_check.specs.Good.{IsGoodStore}
 use Rattle.store_check.specs.Listing.{AreAll, IsThere}
 use Rattle.store_check.specs.Objects.{IsSound}
-use Rattle.rely.specs.Disks.{IsLeaf}
+use Rattle.rely_guarantee.specs.Disks.{IsLeaf}
 use Rattle.layout_rules.specs.Checks.{IsSane}
 use Rattle.layout_rules.proofs.Sanes.{ref_below}
 use Rattle.sys_open.specs.Changes.{Changes, Keeps}

@@ -7,8 +7,8 @@ use Rattle.fs_trait.specs.declared.types.FsErr.{FsErr}
 use Rattle.fs_trait.specs.declared.types.FsErr.TheVariants as err
 use Rattle.fs_trait.specs.Effect.{OfNone}
 use Rattle.fs_trait.specs.View.{Disk}
-use Rattle.rely.specs.State.{first}
-use Rattle.rely.specs.Disks.{Logical}
+use Rattle.rely_guarantee.specs.State.{first}
+use Rattle.rely_guarantee.specs.Disks.{Logical}
 use Rattle.store_check.specs.declared.fault.ObjectsFault.{ObjectsFault}
 use Rattle.store_check.specs.declared.fault.ObjectsFault.TheVariants as objects
 use Rattle.store_check.specs.declared.fault.CommitsFault.{CommitsFault}

@@ -11,8 +11,8 @@ use Rattle.repo_layout.specs.declared.folder.Folder.TheVariants.{Checkouts}
 use Rattle.repo_layout.specs.Paths.{config_path, folder_path}
 use Rattle.store_check.specs.Good.{IsGoodStore}
 use Rattle.store_check.specs.Listing.{AreAll}
-use Rattle.rely.specs.State.{first}
-use Rattle.rely.specs.Opening.{IsOpening, HasSince}
+use Rattle.rely_guarantee.specs.State.{first}
+use Rattle.rely_guarantee.specs.Opening.{IsOpening, HasSince}
 use Rattle.sys_open.specs.Damages.{ShowsConfig}
 use Rattle.sys_open.specs.Opening.{AreAscending, HasNoStages, IsGoodSince}
 

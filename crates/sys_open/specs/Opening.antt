@@ -8,9 +8,9 @@ use Rattle.ost_types.specs.Path.{Path, is_below}
 use Rattle.fs_trait.specs.View.{Disk, View}
 use Rattle.fs_trait.specs.Seen.{Vacant, shows}
 use Rattle.repo_layout.specs.Paths.{config_path, stage_path}
-use Rattle.rely.specs.State.{State, first}
-use Rattle.rely.specs.Disks.{Logical}
-use Rattle.rely.specs.Opening.{IsOpening}
+use Rattle.rely_guarantee.specs.State.{State, first}
+use Rattle.rely_guarantee.specs.Disks.{Logical}
+use Rattle.rely_guarantee.specs.Opening.{IsOpening}
 use Rattle.sys_open.specs.declared.fault.OpenFault.{OpenFault}
 use Rattle.sys_open.specs.declared.fault.OpenFault.TheVariants as fault
 use Rattle.sys_open.specs.Changes.{Keeps}

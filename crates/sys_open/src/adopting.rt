@@ -5,7 +5,7 @@ ghost use Rattle.fs_trait.specs.Count.{Rose};
 ghost use Rattle.fs_trait.specs.Effect.{IsQuiet, Next};
 ghost use Rattle.obj_store.specs.Lookup.{HasCauseOf, Loads};
 ghost use Rattle.fs_trait.specs.Change.{Left};
-ghost use Rattle.rely.specs.State.{first};
+ghost use Rattle.rely_guarantee.specs.State.{first};
 ghost use Rattle.sys_open.specs.declared.fault.OpenFault.TheVariants as fault;
 ghost use Rattle.store_check.specs.Listing.{AreAll};
 ghost use Rattle.sys_open.specs.Changes.{Changes, Works};

@@ -11,8 +11,8 @@ use Rattle.repo_layout.specs.Paths.{config_path, folder_path, stage_path}
 use Rattle.repo_layout.specs.Place.{Checkout, Config, Other, Stage, place}
 use Rattle.repo_layout.proofs.Places.{place-checkout, place-config, place-stage}
 use Rattle.layout_rules.proofs.Layouts.{fixed_other}
-use Rattle.rely.specs.declared.books.Entry.{Entry}
-use Rattle.rely.specs.State.{State}
+use Rattle.rely_guarantee.specs.declared.books.Entry.{Entry}
+use Rattle.rely_guarantee.specs.State.{State}
 use Rattle.script.specs.declared.answer.Reply.{Reply}
 use Rattle.script.specs.declared.command.Lane.{Lane}
 use Rattle.sys_core.specs.Folders.{AreFoldersIn, IsNamed, IsTaken}

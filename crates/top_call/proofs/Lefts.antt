@@ -6,12 +6,12 @@ use Rattle.ost_forms.specs.declared.tree_item.TreeItem.{TreeItem}
 use Rattle.fs_trait.specs.Change.{Left}
 use Rattle.fs_trait.specs.View.{Disk, View}
 use Rattle.commit_build.specs.declared.message.Message.{Message}
-use Rattle.rely.specs.declared.books.Entry.{Entry}
-use Rattle.rely.specs.State.{State}
+use Rattle.rely_guarantee.specs.declared.books.Entry.{Entry}
+use Rattle.rely_guarantee.specs.State.{State}
 use Rattle.script.specs.declared.answer.Reply.{Reply}
 use Rattle.script.specs.declared.command.Command.{Command}
 use Rattle.script.specs.declared.command.Lane.{Lane}
-use Rattle.store_lasts.specs.Keeping.{IsGoodDisk}
+use Rattle.store_durability.specs.Keeping.{IsGoodDisk}
 use Rattle.sys_core.specs.Inside.{AreInsideIn}
 use Rattle.sys_core.specs.Replied.{IsAt, IsCommand, row}
 use Rattle.sys_core.specs.Storing.{AreStoredIn, HasBegun, IsBegunIn, IsConfigured}

@@ -4,8 +4,8 @@ use Rattle.std.specs.Global.{Vec}
 use Rattle.fs_trait.specs.View.{View}
 use Rattle.fs_trait.proofs.Kept.{same_view}
 use Rattle.sys_open.specs.Changes.{Changes, Works}
-use Rattle.rely.specs.declared.books.Entry.{Entry}
-use Rattle.rely.specs.declared.event.Event.{Event}
+use Rattle.rely_guarantee.specs.declared.books.Entry.{Entry}
+use Rattle.rely_guarantee.specs.declared.event.Event.{Event}
 use Rattle.script.specs.declared.answer.Reply.{Reply}
 use Rattle.script.specs.declared.fault.ScriptFault.{ScriptFault}
 use Rattle.script_reader.specs.Script.{Commands}

@@ -1,12 +1,12 @@
 -- The headline of a system in plain data.
 use Rattle.std.proofs.Common.{◌≡◌, ◌≤◌, ◌++◌, ℕ, List, length, take, Option, Some, None, refl, sym, ap, subst}
 use Rattle.fs_trait.specs.View.{View}
-use Rattle.rely.specs.declared.books.Base.{Base}
-use Rattle.rely.specs.declared.books.Entry.{Entry}
-use Rattle.rely.specs.declared.books.Pending.{Pending}
-use Rattle.rely.specs.declared.event.Event.{Event}
-use Rattle.rely.specs.State.{State, first, after, events_of, pending_of, IsRun}
-use Rattle.rely.specs.Headline as system
+use Rattle.rely_guarantee.specs.declared.books.Base.{Base}
+use Rattle.rely_guarantee.specs.declared.books.Entry.{Entry}
+use Rattle.rely_guarantee.specs.declared.books.Pending.{Pending}
+use Rattle.rely_guarantee.specs.declared.event.Event.{Event}
+use Rattle.rely_guarantee.specs.State.{State, first, after, events_of, pending_of, IsRun}
+use Rattle.rely_guarantee.specs.Headline as system
 use Rattle.top_call.specs.Headline.{Headline, shown, stored}
 use Rattle.top_call.specs.Top.{event_of}
 

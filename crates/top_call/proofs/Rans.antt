@@ -5,12 +5,12 @@ use Rattle.fs_trait.specs.View.{Disk, View}
 use Rattle.fs_trait.specs.Image.{Told}
 use Rattle.repo_layout.specs.RefFile.{IsSum}
 use Rattle.store_check.specs.Commits.{IsFinished}
-use Rattle.rely.specs.State.{State, first}
-use Rattle.rely.specs.Disks.{Logical}
-use Rattle.rely.specs.Lasting.{StaysFinished}
-use Rattle.rely.specs.declared.books.Entry.{Entry}
-use Rattle.rely.specs.declared.books.Pending.{Pending}
-use Rattle.rely.specs.declared.event.Event.{Event}
+use Rattle.rely_guarantee.specs.State.{State, first}
+use Rattle.rely_guarantee.specs.Disks.{Logical}
+use Rattle.rely_guarantee.specs.Lasting.{StaysFinished}
+use Rattle.rely_guarantee.specs.declared.books.Entry.{Entry}
+use Rattle.rely_guarantee.specs.declared.books.Pending.{Pending}
+use Rattle.rely_guarantee.specs.declared.event.Event.{Event}
 use Rattle.ost_types.specs.declared.limits.Limits.{Limits}
 use Rattle.script.specs.declared.answer.Reply.{Reply}
 use Rattle.script.specs.declared.command.Command.{Command}

@@ -3,10 +3,10 @@
 use Rattle.std.specs.Prelude.{◌≡◌, ◌≤◌, ℕ, List, [], ◌∷◌, ◌++◌, length, take, Option, Some, None}
 use Rattle.fs_trait.specs.View.{Disk, View}
 use Rattle.fs_trait.specs.Change.{Left}
-use Rattle.rely.specs.declared.books.Entry.{Entry}
-use Rattle.rely.specs.declared.event.Event.{Event}
-use Rattle.rely.specs.State.{State, after, events_of, acked, IsRun, Ascends}
-use Rattle.rely.specs.Headline.{Has}
+use Rattle.rely_guarantee.specs.declared.books.Entry.{Entry}
+use Rattle.rely_guarantee.specs.declared.event.Event.{Event}
+use Rattle.rely_guarantee.specs.State.{State, after, events_of, acked, IsRun, Ascends}
+use Rattle.rely_guarantee.specs.Headline.{Has}
 
 abbrev pub shown : Option Event → List Event
 shown None = []

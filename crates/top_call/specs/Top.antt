@@ -3,12 +3,12 @@ use Rattle.std.specs.Prelude.{◌≡◌, ◌⊎◌, ◌≤◌, ◌+◌, ℕ, Lis
 use Rattle.fs_trait.specs.Count.{Rose}
 use Rattle.fs_trait.specs.Change.{Left}
 use Rattle.fs_trait.specs.View.{Disk, View}
-use Rattle.rely.specs.declared.books.Entry.{Entry}
-use Rattle.rely.specs.declared.books.Pending.{Pending}
-use Rattle.rely.specs.declared.event.Event.{Event}
-use Rattle.rely.specs.Disks.{Logical}
-use Rattle.rely.specs.Opening.{IsOpening}
-use Rattle.rely.specs.State.{State}
+use Rattle.rely_guarantee.specs.declared.books.Entry.{Entry}
+use Rattle.rely_guarantee.specs.declared.books.Pending.{Pending}
+use Rattle.rely_guarantee.specs.declared.event.Event.{Event}
+use Rattle.rely_guarantee.specs.Disks.{Logical}
+use Rattle.rely_guarantee.specs.Opening.{IsOpening}
+use Rattle.rely_guarantee.specs.State.{State}
 use Rattle.ost_types.specs.declared.limits.Limits.{Limits}
 use Rattle.script.specs.declared.answer.Reply.{Reply}
 use Rattle.script.specs.declared.command.Command.{Command}
@@ -26,8 +26,8 @@ use Rattle.repo_layout.specs.RefFile.{IsSum}
 use Rattle.store_check.specs.Commits.{IsFinished}
 use Rattle.ost_forms.specs.declared.tree_item.TreeItem.{TreeItem}
 use Rattle.commit_build.specs.declared.message.Message.{Message}
-use Rattle.store_lasts.specs.Keeping.{IsGoodDisk}
-use Rattle.store_lasts.specs.Standing.{AreAlone}
+use Rattle.store_durability.specs.Keeping.{IsGoodDisk}
+use Rattle.store_durability.specs.Standing.{AreAlone}
 use Rattle.sys_core.specs.Storing.{IsBegunIn, IsConfigured}
 use Rattle.sys_open.specs.Damages.{IsGood}
 use Rattle.sys_open.specs.Changes.{Keeps}

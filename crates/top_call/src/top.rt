@@ -22,7 +22,7 @@ use crate::status::{has_risen, status_of};
 use crate::text::{MEMORY_LINE, output_of};
 use fs_trait::{Fs, Sink, Source};
 use ost_types::{Limits, NoMemory};
-use rely::{Entry, Event, Pending};
+use rely_guarantee::{Entry, Event, Pending};
 use script_reader::Reply;
 use std::alloc::Global;
 use sys_core::Parts;

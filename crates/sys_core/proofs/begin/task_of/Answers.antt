@@ -1,7 +1,7 @@
 use Rattle.std.proofs.Common.{rules, sym, subst}
 use Rattle.std.specs.Prelude.{IfOk}
 use Rattle.script.specs.declared.command.Command.{Command}
-use Rattle.lane_work.specs.declared.command.LaneCommand.TheVariants.{Commit}
+use Rattle.lane_command.specs.declared.command.LaneCommand.TheVariants.{Commit}
 use Rattle.sys_core.specs.Begins.{IsBy, RunsBy, RunsRefBy}
 use Rattle.sys_core.proofs.Beginning.{commit_by, reset_by}
 use Rattle.sys_core.proofs.begin.task_of.Goals as goal

@@ -1,13 +1,13 @@
 use Rattle.std.proofs.Common.{rules, ◌≡◌, ◌≤◌, ◌∙◌, ℕ, arith, inr, refl, sym, subst, ap, length, [], Option, Some, None}
 use Rattle.fs_trait.specs.Image.{Told}
-use Rattle.rely.specs.declared.books.Books as rust
-use Rattle.rely.specs.declared.kind.Outcome.{Outcome}
-use Rattle.rely.specs.declared.kind.Outcome.TheVariants as came
-use Rattle.rely.specs.Books.{books_of}
-use Rattle.rely.specs.Laws.{NotPending, Ready, Runs}
-use Rattle.rely.specs.State.{State, first}
-use Rattle.lane_work.specs.Commands.{lane_facts, lane_kind, lane_left, told}
-use Rattle.lane_work.proofs.Ends.{told_left}
+use Rattle.rely_guarantee.specs.declared.books.Books as rust
+use Rattle.rely_guarantee.specs.declared.kind.Outcome.{Outcome}
+use Rattle.rely_guarantee.specs.declared.kind.Outcome.TheVariants as came
+use Rattle.rely_guarantee.specs.Books.{books_of}
+use Rattle.rely_guarantee.specs.Laws.{NotPending, Ready, Runs}
+use Rattle.rely_guarantee.specs.State.{State, first}
+use Rattle.lane_command.specs.Commands.{lane_facts, lane_kind, lane_left, told}
+use Rattle.lane_command.proofs.Ends.{told_left}
 use Rattle.sys_core.specs.declared.lane.Came.{Came}
 use Rattle.sys_core.specs.declared.lane.Came.TheVariants.{Answered, Blocked, More}
 use Rattle.sys_core.specs.declared.run.Running.{Running}
@@ -29,7 +29,7 @@ use Rattle.sys_core.proofs.Pursuing.{pursues_begins, pursues_told}
 use Rattle.sys_core.proofs.Seeing.{by_shown, ended_shown}
 use Rattle.sys_core.proofs.Storing.{stores_more}
 use Rattle.sys_core.proofs.Turning.{begins_turn, halts_of, turn_told, turns_answered, turns_held, turns_more, turns_over}
-use Rattle.rely.proofs.Sounds.{IsFs}
+use Rattle.rely_guarantee.proofs.Sounds.{IsFs}
 use Rattle.sys_core.proofs.Carrying.{same_carried}
 use Rattle.sys_core.proofs.Written.{nothing_written, step_written}
 use Rattle.sys_core.proofs.lane.begins.Goals as goal

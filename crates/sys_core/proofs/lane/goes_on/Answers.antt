@@ -1,13 +1,13 @@
 use Rattle.std.proofs.Common.{◌≡◌, ◌∙◌, arith, sym, subst, ap, refl, Option, Some, None}
 use Rattle.fs_trait.specs.Image.{Told}
-use Rattle.rely.specs.declared.kind.Outcome.{Outcome}
-use Rattle.rely.specs.declared.kind.Outcome.TheVariants as came
-use Rattle.rely.specs.Books.{books_of}
-use Rattle.rely.specs.Laws.{Ready, Runs}
-use Rattle.rely.specs.State.{first}
-use Rattle.lane_work.specs.declared.command.LaneCommand.{LaneCommand}
-use Rattle.lane_work.specs.Commands.{lane_facts, lane_kind, told}
-use Rattle.lane_work.proofs.Ends.{told_left}
+use Rattle.rely_guarantee.specs.declared.kind.Outcome.{Outcome}
+use Rattle.rely_guarantee.specs.declared.kind.Outcome.TheVariants as came
+use Rattle.rely_guarantee.specs.Books.{books_of}
+use Rattle.rely_guarantee.specs.Laws.{Ready, Runs}
+use Rattle.rely_guarantee.specs.State.{first}
+use Rattle.lane_command.specs.declared.command.LaneCommand.{LaneCommand}
+use Rattle.lane_command.specs.Commands.{lane_facts, lane_kind, told}
+use Rattle.lane_command.proofs.Ends.{told_left}
 use Rattle.sys_core.specs.declared.lane.Came.{Came}
 use Rattle.sys_core.specs.declared.lane.Came.TheVariants.{Answered, Blocked, More}
 use Rattle.sys_core.specs.declared.run.Running.{Running}

@@ -1,6 +1,6 @@
 use Rattle.std.proofs.Common.{sym, subst, ◌∙◌, Option}
-use Rattle.rely.specs.Books.{books_of}
-use Rattle.rely.specs.State.{first}
+use Rattle.rely_guarantee.specs.Books.{books_of}
+use Rattle.rely_guarantee.specs.State.{first}
 use Rattle.sys_core.specs.declared.run.Running.{Running}
 use Rattle.sys_core.specs.Answers.{IsTold, state_after}
 use Rattle.sys_core.specs.Pursues.{Goes, task_start}

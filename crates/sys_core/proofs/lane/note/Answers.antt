@@ -1,6 +1,6 @@
 use Rattle.std.proofs.Common.{rules, ◌≡◌, ◌<◌, subst, length, slice_index_or}
 use Rattle.ref_book.specs.Tracks.{HasRoom, name_of}
-use Rattle.rely.specs.declared.books.Entry.{Entry}
+use Rattle.rely_guarantee.specs.declared.books.Entry.{Entry}
 use Rattle.sys_core.proofs.lane.note.Goals as goal
 
 pub change-requires : goal.change-requires

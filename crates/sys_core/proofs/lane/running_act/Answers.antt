@@ -1,12 +1,12 @@
 use Rattle.std.proofs.Common.{rules, ◌≡◌, ◌⊎◌, ◌<◌, sym, ◌∙◌, ap, subst, arith, List, Some, drop, length, slice_index_or}
-use Rattle.rely.specs.declared.books.Entry.{Entry}
-use Rattle.rely.specs.declared.kind.Outcome.{Outcome}
-use Rattle.rely.specs.Exact.{Steps}
-use Rattle.rely.specs.State.{after, events_of}
+use Rattle.rely_guarantee.specs.declared.books.Entry.{Entry}
+use Rattle.rely_guarantee.specs.declared.kind.Outcome.{Outcome}
+use Rattle.rely_guarantee.specs.Exact.{Steps}
+use Rattle.rely_guarantee.specs.State.{after, events_of}
 use Rattle.ref_book.specs.Tracks.{Tracks, HasRoom, name_of}
-use Rattle.lane_work.specs.Commands.{lane_kind, lane_stepped}
-use Rattle.ref_work.specs.Facts.{Home}
-use Rattle.lane_work.proofs.Ends.{own_of}
+use Rattle.lane_command.specs.Commands.{lane_kind, lane_stepped}
+use Rattle.ref_command.specs.Facts.{StagingPathFree}
+use Rattle.lane_command.proofs.Ends.{own_of}
 use Rattle.sys_core.specs.Lanes.{now_of}
 use Rattle.sys_core.proofs.Histories.{IsLonger, grown, now_goes, few_more, added}
 use Rattle.sys_core.proofs.Steps.{room_settles, room_step, room_more}
@@ -60,7 +60,7 @@ returns-clause-home g c = λ w told.
     let k = c.task_act-outcome.ensures.wrote v.0 v.1 in
     let one : Some k.0 ≡ Some w = sym k.1 ∙ told in
     let e : k.0 ≡ w = cc in
-    subst (Home c.args.lane) e (own_of c.args.lane c.args.lane c.args.work.now v.0 k.0 _ (c.requires.ready.task.facts v.0 v.1) k.2 (c.requires.home v.0 v.1))
+    subst (StagingPathFree c.args.lane) e (own_of c.args.lane c.args.lane c.args.work.now v.0 k.0 _ (c.requires.ready.task.facts v.0 v.1) k.2 (c.requires.home v.0 v.1))
 
 pub returns-clause-carried : goal.returns-clause-carried
 returns-clause-carried g c = step_carried g.F.Fs.view g.F.Fs.clock g.F.Fs.was g.F.Fs.faults c.args.lane c.args.number c.args.base.now c.task_act-outcome.new.base (lane_kind c.args.work.now) c.task_act-outcome.result c.task_act-outcome.ensures.outlasts c.task_act-outcome.ensures.time c.requires.ready.task.holds c.task_act-outcome.ensures.booked c.task_act-outcome.ensures.cause c.task_act-outcome.ensures.live

@@ -1,7 +1,7 @@
 use Rattle.std.proofs.Common.{arith, ◌≡◌, ◌∙◌, ap, sym, subst, refl}
-use Rattle.rely.specs.declared.kind.Outcome.TheVariants as came
-use Rattle.rely.specs.Books.{books_of}
-use Rattle.lane_work.specs.Commands.{told}
+use Rattle.rely_guarantee.specs.declared.kind.Outcome.TheVariants as came
+use Rattle.rely_guarantee.specs.Books.{books_of}
+use Rattle.lane_command.specs.Commands.{told}
 use Rattle.sys_core.specs.Did.{Did}
 use Rattle.sys_core.proofs.Folding.{claims_told}
 use Rattle.sys_core.proofs.Pinning.{pins_told}

@@ -1,7 +1,7 @@
 use Rattle.std.proofs.Common.{◌≡◌, ◌∙◌, arith, refl, sym, subst, get_or, set, get_or-set_same}
 use Rattle.std.proofs.lemmas.List.{get_or_default}
-use Rattle.rely.specs.Books.{books_of}
-use Rattle.rely.specs.State.{first}
+use Rattle.rely_guarantee.specs.Books.{books_of}
+use Rattle.rely_guarantee.specs.State.{first}
 use Rattle.script.specs.declared.answer.Answer.TheVariants as answer
 use Rattle.sys_core.specs.declared.run.Run.{Run}
 use Rattle.sys_core.specs.Answers.{IsTold, state_after}
@@ -12,7 +12,7 @@ use Rattle.sys_core.specs.Pins.{Pins}
 use Rattle.sys_core.specs.Turns.{work_in}
 use Rattle.sys_core.proofs.Folding.{folds_answered, other_halted}
 use Rattle.sys_core.proofs.Keeping.{kept_act}
-use Rattle.rely.proofs.Sounds.{IsFs}
+use Rattle.rely_guarantee.proofs.Sounds.{IsFs}
 use Rattle.sys_core.proofs.Carrying.{same_carried}
 use Rattle.fs_trait.specs.Image.{Told}
 use Rattle.sys_core.specs.Storing.{HasWritten}

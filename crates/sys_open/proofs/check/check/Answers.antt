@@ -2,8 +2,8 @@ use Rattle.std.proofs.Common.{◌∙◌, sym, subst, List, ℕ}
 use Rattle.std.proofs.lemmas.Result.{err_from_is_err_and}
 use Rattle.std.specs.Global.{Vec}
 use Rattle.ost_types.specs.declared.object.ObjName.{ObjName}
-use Rattle.rely.specs.State.{first}
-use Rattle.rely.specs.Disks.{Logical}
+use Rattle.rely_guarantee.specs.State.{first}
+use Rattle.rely_guarantee.specs.Disks.{Logical}
 use Rattle.sys_open.specs.declared.check.Contents.{Contents}
 use Rattle.sys_open.specs.Damages.{Places, Config, RefFiles, Staging}
 use Rattle.sys_open.specs.Opening.{AreAscending}

@@ -4,8 +4,8 @@ use Rattle.ost_types.specs.Path.{Path}
 use Rattle.fs_trait.specs.View.{View, all_synced}
 use Rattle.fs_trait.specs.Seen.{Always, shows}
 use Rattle.fs_trait.specs.Change.{Left, Nothing, Writes}
-use Rattle.rely.specs.State.{first}
-use Rattle.rely.specs.Disks.{Logical}
+use Rattle.rely_guarantee.specs.State.{first}
+use Rattle.rely_guarantee.specs.Disks.{Logical}
 use Rattle.store_check.specs.Listing.{AreAll}
 use Rattle.layout_rules.specs.Checks.{IsSane}
 use Rattle.sys_open.specs.declared.check.Contents.{Contents}

@@ -1,5 +1,5 @@
 use Rattle.std.proofs.Common.{sym, subst}
-use Rattle.rely.specs.State.{first}
+use Rattle.rely_guarantee.specs.State.{first}
 use Rattle.sys_core.specs.Fit.{AreFit}
 use Rattle.sys_core.proofs.Founding.{finished_opened}
 use Rattle.top_call.proofs.Completing.{caused_since}

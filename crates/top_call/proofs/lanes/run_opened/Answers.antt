@@ -5,7 +5,7 @@ use Rattle.top_call.specs.Top.{event_of}
 use Rattle.sys_core.specs.Answers.{IsTold}
 use Rattle.top_call.proofs.Plain.{parted}
 use Rattle.top_call.proofs.Rans.{kept_parts, replied_parts, said_parts}
-use Rattle.rely.specs.State.{first}
+use Rattle.rely_guarantee.specs.State.{first}
 use Rattle.sys_core.specs.Storing.{AreStored}
 use Rattle.top_call.proofs.Checkouts.{folders_left}
 use Rattle.top_call.proofs.Lefts.{inside_left, left_good}

@@ -1,5 +1,5 @@
 use Rattle.std.proofs.Common.{rules, ◌≡◌, ◌∙◌, ◌-◌, ◌∷◌, ap, sym, arith, drop, Some}
-use Rattle.rely.specs.State.{RefOf, first}
+use Rattle.rely_guarantee.specs.State.{RefOf, first}
 use Rattle.ref_book.proofs.Keyed.{updated, one_more, one_back}
 use Rattle.ref_book.proofs.book.RefBook.new.Goals as goal
 

@@ -1,6 +1,6 @@
 use Rattle.std.proofs.Common.{◌≡◌, ◌≤◌, ℕ, List, drop, length}
 use Rattle.std.specs.BTreeMap.{get}
-use Rattle.rely.specs.State.{RefOf, first}
+use Rattle.rely_guarantee.specs.State.{RefOf, first}
 use Rattle.ref_book.specs.Tracks.{said}
 use Rattle.ref_book.proofs.Keyed.{order}
 use Rattle.ref_book.proofs.book.RefBook.new.Given as goal

@@ -4,7 +4,7 @@ use Rattle.script.specs.declared.answer.Reply.{Reply}
 use Rattle.script.specs.declared.command.Lane.{Lane}
 use Rattle.sys_core.specs.declared.ask.Ask.TheVariants.{More, Blocked, Done, Ended}
 use Rattle.sys_core.specs.declared.run.Run.{Run}
-use Rattle.rely.specs.State.{first}
+use Rattle.rely_guarantee.specs.State.{first}
 use Rattle.commit_build.specs.Whole.{IsCounted}
 use Rattle.sys_core.specs.Answers.{IsTold, Shown, state_after}
 use Rattle.sys_core.specs.Counts.{Counted, HadRoom, met_of}

@@ -1,8 +1,8 @@
 use Rattle.std.proofs.Common.{rules, ◌≡◌, ◌∙◌, ℕ, List, length, ap, sym, subst, arith, Some}
 use Rattle.std.specs.Prelude.{min}
 use Rattle.ost_types.specs.declared.limits.Limits.{Limits}
-use Rattle.rely.specs.declared.books.Entry.{Entry}
-use Rattle.rely.specs.State.{State, after, events_of, first}
+use Rattle.rely_guarantee.specs.declared.books.Entry.{Entry}
+use Rattle.rely_guarantee.specs.State.{State, after, events_of, first}
 use Rattle.ref_book.specs.Tracks.{Tracks}
 use Rattle.sys_core.specs.Answers.{IsTold}
 use Rattle.sys_core.specs.Fit.{AreFit}

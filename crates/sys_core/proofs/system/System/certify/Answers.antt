@@ -2,8 +2,8 @@ use Rattle.std.proofs.Common.{rules, ◌≡◌, ◌∙◌, arith, subst, sym, So
 use Rattle.std.proofs.lemmas.List.{length-map}
 use Rattle.std.specs.Global.{Vec}
 use Rattle.fs_trait.specs.View.{View}
-use Rattle.rely.specs.declared.books.Base.{Base}
-use Rattle.rely.specs.Headline.{Headline}
+use Rattle.rely_guarantee.specs.declared.books.Base.{Base}
+use Rattle.rely_guarantee.specs.Headline.{Headline}
 use Rattle.script.specs.declared.answer.Answer.TheVariants as answer
 use Rattle.sys_core.specs.Booked.{IsReplied}
 use Rattle.script.specs.declared.answer.Reply.{Reply}

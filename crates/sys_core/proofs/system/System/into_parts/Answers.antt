@@ -1,6 +1,6 @@
 use Rattle.std.proofs.Common.{subst}
 use Rattle.fs_trait.specs.View.{Disk, View}
-use Rattle.rely.specs.State.{first}
+use Rattle.rely_guarantee.specs.State.{first}
 use Rattle.sys_core.specs.Booked.{replies_of}
 use Rattle.sys_core.specs.Folders.{AreFolders, AreFoldersIn}
 use Rattle.sys_core.specs.Founded.{AreFounded, AreFoundedIn}

@@ -1,0 +1,153 @@
+-- What is known stays so, whoever writes what the rules let him.
+use Rattle.std.proofs.Common.{◌≡◌, ◌≢◌, ⊎_elim, ℕ, List, ◌++◌, true, None, Some, sym, ◌∙◌, ap, subst}
+use Rattle.ost_types.specs.declared.limits.Limits.{Limits}
+use Rattle.ost_types.specs.declared.node.NodeName.TheVariants.{Leaf}
+use Rattle.ost_types.specs.declared.object.Kind.TheVariants as kind
+use Rattle.ost_types.specs.declared.object.ObjName.{ObjName}
+use Rattle.ost_types.specs.Path.{Name, Path, is_in, is_below}
+use Rattle.ost_types.specs.PathMap.{Nodes, IsPathMap, node_at}
+use Rattle.ost_types.proofs.Paths.{is_below-self, under-folder, under-is_in}
+use Rattle.ost_forms.specs.Commit.{CommitParts}
+use Rattle.ost_forms.proofs.Parted.{one_commit}
+use Rattle.fs_trait.specs.Change.{Writes}
+use Rattle.fs_trait.specs.Seen.{Seen, IsDirectory, Vacant, shows}
+use Rattle.fs_trait.specs.View.{Disk, View}
+use Rattle.repo_layout.specs.declared.folder.Folder.TheVariants.{Checkouts}
+use Rattle.repo_layout.specs.BootPaths.{checkout_path}
+use Rattle.repo_layout.specs.Paths.{folder_path}
+use Rattle.repo_layout.specs.RefFile.{IsSum}
+use Rattle.repo_layout.proofs.Places.{place-object}
+use Rattle.layout_rules.proofs.Layouts.{below_split, fixed_other}
+use Rattle.repo_model.specs.Objects.{Stores}
+use Rattle.repo_model.specs.Trees.{HasCommit, Shows, TreeShows, name_of}
+use Rattle.repo_model.specs.Whole.{Complete}
+use Rattle.repo_model.proofs.Grown.{complete_up, shows_down, tree_up}
+use Rattle.repo_model.proofs.Named.{IsSum-named}
+use Rattle.repo_model.proofs.Stored.{stores_map, stores_one}
+use Rattle.rely_guarantee.specs.Books.{Books}
+use Rattle.rely_guarantee.specs.Rely.{Guarantee}
+use Rattle.rely_guarantee.proofs.Claiming.{folder_stands}
+use Rattle.rely_guarantee.proofs.Finished.{finished_now}
+use Rattle.rely_guarantee.proofs.Mays.{not_other}
+use Rattle.ref_command.specs.Founding.{known_kept}
+use Rattle.read_command.specs.Kept.{reading_up}
+use Rattle.read_command.specs.Stored.{stored_kept}
+use Rattle.read_command.specs.WayLaws.{shown_leaf}
+use Rattle.checkout.specs.CheckoutFolder.{HasLeaves, IsLeaf, leaf_path}
+use Rattle.checkout.specs.CheckoutWork.{Checkout}
+use Rattle.checkout.specs.CheckoutSteps.{HasHome, Needs}
+use Rattle.checkout.proofs.CheckoutMaps.{found_back}
+use Rattle.checkout.proofs.CheckoutStable.{Spares, checkout_kept}
+use Rattle.commit_checkout.specs.TreeFolder.{IsTreeOf}
+use Rattle.commit_checkout.proofs.TreeMaps.{leaves_there}
+use Rattle.checkout_command.specs.declared.command.CheckoutCommand.{CheckoutCommand}
+use Rattle.checkout_command.specs.declared.command.CheckoutCommand.TheVariants as command
+use Rattle.checkout_command.specs.declared.made.Made.{Made}
+use Rattle.checkout_command.specs.declared.made.Made.TheVariants as made
+use Rattle.checkout_command.specs.Reads.{Reads}
+use Rattle.checkout_command.specs.Commands.{IsHome}
+use Rattle.checkout_command.specs.Founded.{IsFounded}
+use Rattle.checkout_command.specs.MakeSteps.{IsFar}
+use Rattle.checkout_command.specs.ReadSteps.{ReadKnows}
+
+-- of one name the store has one commit
+one_parts : (d : Disk) (commit : List ℕ) (c e : CommitParts) → HasCommit (Stores d) commit c → HasCommit (Stores d) commit e → c ≡ e
+one_parts d commit c e has here =
+    let same : has.bytes ≡ here.bytes = stores_one d (name_of kind.Commit commit) has.bytes here.bytes has.stored here.stored in
+    one_commit c e here.bytes has.reads.0.time here.reads.0.time (has.reads.0.form ∙ ap Some same) here.reads.0.form
+
+-- the folder of all checkouts is the one above
+pub home_above : (name : Name) (d : Disk) → IsDirectory (shows d (folder_path Checkouts)) → HasHome (checkout_path name) d
+home_above name d is p in_ =
+    let at = under-is_in p (checkout_path name) in_ in
+    subst (λ q. IsDirectory (shows d q)) (under-folder (folder_path Checkouts) p name at.0 at.1) is
+
+home_only : (name : Name) (p : Path) → is_in p (checkout_path name) ≡ true → folder_path Checkouts ≡ p
+home_only name p in_ = let at = under-is_in p (checkout_path name) in_ in under-folder (folder_path Checkouts) p name at.0 at.1
+
+-- the leaves of a commit's tree are named by sums
+leaf_sum : (d : Disk) (limits : Limits) (commit : List ℕ) (tree : Nodes) → Complete (Stores d) limits commit → IsTreeOf (Stores d) commit tree → (p : Path) (sum : List ℕ) → node_at tree p ≡ Some (Leaf sum) → IsSum sum
+leaf_sum d limits commit tree whole is p sum has =
+    let shown = (is p (Leaf sum)).0 (found_back tree p (Leaf sum) has) in
+    let same = one_parts d commit shown.0 whole.parts shown.1 whole.here in
+    let named = shown_leaf (Stores d) whole.parts.tree whole.parts.meta p sum (subst (λ (e : CommitParts). Shows (Stores d) e.tree e.meta p (Leaf sum)) same shown.2) in
+    let object = whole.objects p (name_of kind.File sum) named in
+    IsSum-named (name_of kind.File sum) object.bytes object.stored.named
+
+-- the folder and a part of what is in it is made
+abbrev pub IsBegun : Made → Type 0
+IsBegun made.Nothing = ⊥
+IsBegun k = Unit {0}
+
+no_leaf : (s : Seen) → s ≡ Vacant → IsLeaf s → ⊥
+no_leaf s is leaf = subst IsLeaf is leaf
+
+module _ (b : Books) (v w : View) (actor lane : ℕ) (writes : Writes (Guarantee b v actor lane) v w) where
+  more : (name : ObjName) (bytes : List ℕ) → Stores v.now name bytes → Stores w.now name bytes
+  more = stored_kept b actor lane v w writes
+
+  pub whole_kept : (limits : Limits) (commit : List ℕ) → Complete (Stores v.now) limits commit → Complete (Stores w.now) limits commit
+  whole_kept limits commit whole = complete_up (Stores v.now) (Stores w.now) more (stores_map w.now) limits commit whole
+
+  -- a whole commit shows nothing more
+  pub tree_kept : (limits : Limits) (commit : List ℕ) (tree : Nodes) → Complete (Stores v.now) limits commit → IsTreeOf (Stores v.now) commit tree → IsTreeOf (Stores w.now) commit tree
+  tree_kept limits commit tree whole is p n = (
+    λ has. tree_up (Stores v.now) (Stores w.now) more commit p n ((is p n).0 has),
+    λ shown. (is p n).1 (down shown),
+  )
+    where
+      down : TreeShows (Stores w.now) commit p n → TreeShows (Stores v.now) commit p n
+      down (c, has, shown) =
+          let was = whole.here in
+          let here : HasCommit (Stores w.now) commit whole.parts = record { bytes = was.bytes; stored = more (name_of kind.Commit commit) was.bytes was.stored; reads = was.reads } in
+          let same : c ≡ whole.parts = one_parts w.now commit c whole.parts has here in (
+            whole.parts,
+            whole.here,
+            shows_down (Stores v.now) (Stores w.now) more (stores_map w.now) limits.content whole.parts.tree whole.parts.meta p n whole.objects
+                (subst (λ (e : CommitParts). Shows (Stores w.now) e.tree e.meta p n) same shown),
+          )
+
+  pub home_kept : IsHome v → IsHome w
+  home_kept home = ⊎_elim
+      (λ same. subst IsDirectory (sym same) home)
+      (λ m. absurd (not_other b v actor lane (folder_path Checkouts) (shows w.now (folder_path Checkouts)) (fixed_other Checkouts (folder_path Checkouts) (is_below-self (folder_path Checkouts))) m))
+      (writes.now (folder_path Checkouts))
+
+  pub founded_kept : (t : CheckoutCommand) → IsFounded t v → IsFounded t w
+  founded_kept (command.Look r) f = (f.0, known_kept b v w actor lane writes None r.commit f.1)
+  founded_kept (command.Read s) f = finished_now b v w actor lane writes s.request.commit f
+  founded_kept (command.Make m) f = finished_now b v w actor lane writes m.request.commit f
+  founded_kept (command.Ended a) f = f
+
+  pub reading_kept : (s : Reads) → ReadKnows v.now s → ReadKnows w.now s
+  reading_kept s k = record { commit = k.commit; limits = k.limits; so_far = λ begun. reading_up v.now w.now more s.task (k.so_far begun) }
+
+  -- what the next step needs, where nobody writes in a folder that is made
+  module _ (t : Checkout) (limits : Limits) (commit : List ℕ) (map : IsPathMap t.tree) (whole : Complete (Stores v.now) limits commit) (is : IsTreeOf (Stores v.now) commit t.tree) (name : Name) (at : t.into ≡ checkout_path name) (home : IsHome v) where
+    leaves : HasLeaves w.now t.tree
+    leaves = leaves_there w.now limits commit t.tree map (whole_kept limits commit whole) (tree_kept limits commit t.tree whole is)
+
+    home_there : HasHome t.into w.now
+    home_there = subst (λ q. HasHome q w.now) (sym at) (home_above name w.now (home_kept home))
+
+    spares : ((rest : Path) (s : Seen) → Guarantee b v actor lane (checkout_path name ++ rest) s → ⊥) → Spares (Guarantee b v actor lane) t v
+    spares none = record {
+      below = λ p s below m.
+          let rest = below_split t.into p below in
+          none rest.0 s (subst (λ q. Guarantee b v actor lane q s) (rest.1 ∙ ap (λ q. q ++ rest.0) at) m);
+      leaves = λ p sum s has m. no_leaf (shows v.now (leaf_path sum)) (m.objects kind.File sum (place-object kind.File sum (leaf_sum v.now limits commit t.tree whole is p sum has))).0 (leaves_there v.now limits commit t.tree map whole is p sum has);
+      parents = λ p s in_ dir m. absurd (not_other b v actor lane p s (fixed_other Checkouts p (subst (λ q. is_below q (folder_path Checkouts) ≡ true) (home_only name p (subst (λ q. is_in p q ≡ true) at in_)) (is_below-self (folder_path Checkouts)))) m);
+    }
+
+    pub needs_kept : (k : Made) → IsFar k t v.now → Needs t v.now → (IsBegun k → (rest : Path) (s : Seen) → Guarantee b v actor lane (checkout_path name ++ rest) s → ⊥) → Needs t w.now
+    needs_kept made.Nothing far needs none = subst (λ (c : Checkout). Needs c w.now) (sym far) (home_there, leaves)
+    needs_kept made.Part far needs none = checkout_kept (Guarantee b v actor lane) t v (spares (none tt)) w writes needs
+    needs_kept made.All far needs none = checkout_kept (Guarantee b v actor lane) t v (spares (none tt)) w writes needs
+
+    stands : shows v.now t.into ≢ Vacant → shows w.now t.into ≢ Vacant
+    stands there = subst (λ q. shows w.now q ≢ Vacant) (sym at) (folder_stands b v w actor lane writes name (subst (λ q. shows v.now q ≢ Vacant) at there))
+
+    pub far_kept : (k : Made) → IsFar k t v.now → IsFar k t w.now
+    far_kept made.Nothing far = far
+    far_kept made.Part far = (far.0, stands far.1)
+    far_kept made.All far = (far.0, stands far.1)

@@ -1,5 +1,0 @@
-use Rattle.commit_work.proofs.Ends.{shown_of}
-use Rattle.commit_work.proofs.laws.shown_commits_last.Goals as goal
-
-pub returns : goal.returns
-returns c = shown_of

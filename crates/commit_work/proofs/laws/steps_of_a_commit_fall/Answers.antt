@@ -1,5 +1,0 @@
-use Rattle.commit_work.proofs.Ends.{falls_of}
-use Rattle.commit_work.proofs.laws.steps_of_a_commit_fall.Goals as goal
-
-pub returns : goal.returns
-returns c = falls_of

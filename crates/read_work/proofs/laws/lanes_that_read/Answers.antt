@@ -1,5 +1,0 @@
-use Rattle.read_work.proofs.Ends.{begins_of}
-use Rattle.read_work.proofs.laws.lanes_that_read.Goals as goal
-
-pub returns-clause-begins : goal.returns-clause-begins
-returns-clause-begins c = begins_of

@@ -1,6 +1,0 @@
-use Rattle.std.proofs.Common.{◌≡◌, take}
-use Rattle.read_work.specs.Listing.{rows_below}
-use Rattle.read_work.proofs.rows.rows_below.Given as goal
-
-abbrev pub invariant-loop-at : goal.invariant-loop-at
-invariant-loop-at l = l.rows.items ≡ rows_below l.path (take l.at-index l.at-items)

@@ -1,0 +1,249 @@
+-- What stays of the objects of the store: in a later view, on a disk that a crash left since, and over many acts.
+use Rattle.std.proofs.Common.{◌≡◌, ◌⊎◌, inl, inr, ⊎_elim, ◌≤◌, ℕ, true, refl, sym, ◌∙◌, ap, subst, arith, List, ◌++◌, drop, take, Option, Some, None}
+use Rattle.ost_types.specs.declared.limits.Limits.{Limits}
+use Rattle.ost_types.specs.declared.object.Kind.TheVariants.{Commit}
+use Rattle.ost_types.specs.declared.object.ObjName.{ObjName}
+use Rattle.ost_types.specs.Csum.{hex_of}
+use Rattle.ost_types.specs.Path.{Path, under, is_below}
+use Rattle.ost_types.proofs.Paths.{under-is_below}
+use Rattle.ost_objects.specs.Object.{IsNamed}
+use Rattle.fs_trait.specs.View.{Disk, View}
+use Rattle.fs_trait.specs.Image.{Image, EachImage}
+use Rattle.fs_trait.specs.Seen.{Seen, Vacant, shows, MayBe}
+use Rattle.fs_trait.specs.Change.{Writes, Harmless, LeadsTo, Left}
+use Rattle.fs_trait.specs.Effect.{Elapses}
+use Rattle.fs_trait.proofs.Claims.{Image-may, Image-under, Image-folder, claim_each, passes}
+use Rattle.fs_trait.proofs.Converse.{each_firm, image_shows}
+use Rattle.fs_trait.proofs.Effects.{may_now}
+use Rattle.fs_trait.proofs.Kept.{firm_kept}
+use Rattle.repo_layout.specs.declared.folder.Folder.TheVariants.{Objects}
+use Rattle.repo_layout.specs.Paths.{ending, folder_path, mark_path, object_path, objects_folder_path}
+use Rattle.repo_layout.specs.Place.{ObjectsFolder, place}
+use Rattle.repo_layout.proofs.Places.{place-mark, place-object, place-objects_folder}
+use Rattle.repo_model.specs.Objects.{Stores, Marked, IsMap, object_in, path_of}
+use Rattle.repo_model.specs.Trees.{name_of}
+use Rattle.repo_model.specs.Whole.{Complete}
+use Rattle.repo_model.proofs.Grown.{complete_up}
+use Rattle.repo_model.proofs.Named.{IsSum-named}
+use Rattle.repo_model.proofs.Stored.{stores_map}
+use Rattle.rely_guarantee.specs.Books.{Books}
+use Rattle.rely_guarantee.specs.Disks.{IsLeaf}
+use Rattle.rely_guarantee.specs.Objects.{IsObjectSeen}
+use Rattle.rely_guarantee.specs.Lasting.{AlwaysStores, IsRight, IsSafe, Lasts, NeverMarked, Stays, StaysOn}
+use Rattle.rely_guarantee.specs.Rely.{Guarantee, Interference}
+use Rattle.rely_guarantee.specs.SystemInvariant.{Leads}
+use Rattle.rely_guarantee.proofs.Goods.{leaf_seen}
+use Rattle.rely_guarantee.proofs.Mays.{at_place, folders_harmless}
+use Rattle.rely_guarantee.proofs.Sounds.{IsFs}
+
+-- an object's path ends in a folder of objects
+pub tail_of : ObjName → List ℕ
+tail_of name = drop 2 (hex_of name.csum) ++ ending name.kind
+
+pub object_under : (name : ObjName) → path_of name ≡ under (objects_folder_path name.csum) (tail_of name)
+unfolding object_path objects_folder_path tail_of
+object_under name = refl
+
+pub above_objects : (sum : List ℕ) (p : Path) → is_below p (objects_folder_path sum) ≡ true → (is_below p (folder_path Objects) ≡ true) ⊎ (p ≡ objects_folder_path sum)
+unfolding objects_folder_path
+above_objects sum p below = under-is_below p (folder_path Objects) (take 2 (hex_of sum)) below
+
+pub no_vacant_leaf : (s : Seen) → IsLeaf s → s ≡ Vacant → ⊥
+no_vacant_leaf s leaf e = let k : IsLeaf Vacant = subst IsLeaf e leaf in k
+
+-- One act.
+module _ (b : Books) (v w : View) (actor lane : ℕ) (writes : Writes (Guarantee b v actor lane) v w) where
+  -- what leads to the objects stays
+  pub leads_harmless : (sum : List ℕ) → Harmless (Guarantee b v actor lane) (LeadsTo (objects_folder_path sum))
+  leads_harmless sum p s m below = ⊎_elim
+      (λ above. folders_harmless b v actor lane Objects p s m above)
+      (λ is. at_place b v actor lane p s (ObjectsFolder (take 2 (hex_of sum))) (ap place is ∙ place-objects_folder sum) m)
+      (above_objects sum p below)
+
+  -- nothing is written where something stands, so nothing else comes to the path of an object that is safe
+  safe_apart : (name : ObjName) → IsSafe v name → (s : Seen) → Guarantee b v actor lane (path_of name) s → ⊥
+  safe_apart name safe s m = safe.there (shows v.now (path_of name)) (may_now v (path_of name)) (m.objects name.kind name.csum (place-object name.kind name.csum safe.sum)).0
+
+  safe_same : (name : ObjName) → IsSafe v name → (s : Seen) → MayBe w (path_of name) s → MayBe v (path_of name) s
+  safe_same name safe s may = ⊎_elim (λ was. was) (λ m. absurd (safe_apart name safe s m)) (writes.only (path_of name) s may)
+
+  safe_stays : (name : ObjName) → IsSafe v name → IsSafe w name
+  safe_stays name safe = record {
+    sum = safe.sum;
+    there = λ s may. safe.there s (safe_same name safe s may);
+    above = firm_kept (Guarantee b v actor lane) (LeadsTo (objects_folder_path name.csum)) v w writes (leads_harmless name.csum) safe.above;
+  }
+
+  right_stays : (name : ObjName) → IsRight v name → IsRight w name
+  right_stays name right = record {
+    sum = right.sum;
+    each = λ s may. ⊎_elim (right.each s) (λ m. inr (m.objects name.kind name.csum (place-object name.kind name.csum right.sum)).1) (writes.only (path_of name) s may);
+  }
+
+  -- a mark comes only where its commit isn't
+  unmarked_stays : (commit : List ℕ) → IsSafe v (name_of Commit commit) → NeverMarked commit v → NeverMarked commit w
+  unmarked_stays commit safe none = record {
+    each = λ s may leaf. ⊎_elim
+        (λ was. none.each s was leaf)
+        (λ m. safe.there (shows v.now (object_path Commit commit)) (may_now v (object_path Commit commit)) (m.marks commit (place-mark commit safe.sum) (no_vacant_leaf s leaf)))
+        (writes.only (mark_path commit) s may);
+  }
+
+  pub stays_act : Stays v w
+  stays_act = record { safe = safe_stays; same = safe_same; right = right_stays; unmarked = unmarked_stays }
+
+pub stays_refl : (v : View) → Stays v v
+stays_refl v = record { safe = λ name safe. safe; same = λ name safe s may. may; right = λ name right. right; unmarked = λ commit safe none. none }
+
+pub stays_then : (u v w : View) → Stays u v → Stays v w → Stays u w
+stays_then u v w a b = record {
+  safe = λ name safe. b.safe name (a.safe name safe);
+  same = λ name safe s may. a.same name safe s (b.same name (a.safe name safe) s may);
+  right = λ name right. b.right name (a.right name right);
+  unmarked = λ commit safe none. b.unmarked commit (a.safe (name_of Commit commit) safe) (a.unmarked commit safe none);
+}
+
+-- A disk that a crash leaves now.
+module _ (v : View) (d : Disk) (i : Image v d) where
+  same_image : (name : ObjName) → Leads v (objects_folder_path name.csum) → MayBe v (path_of name) (shows d (path_of name))
+  same_image name above = subst (λ p. MayBe v p (shows d p)) (sym (object_under name))
+      (Image-under v d i (objects_folder_path name.csum) (tail_of name) (Image-folder v d i (objects_folder_path name.csum) above))
+
+  right_image : (name : ObjName) → IsRight v name → (shows d (path_of name) ≡ Vacant) ⊎ IsObjectSeen name.kind name.csum (shows d (path_of name))
+  right_image name right = ⊎_elim (right.each (shows d (path_of name))) (λ none. inl none) (Image-may v d i (path_of name))
+
+  unmarked_image : (commit : List ℕ) → NeverMarked commit v → Marked d commit → ⊥
+  unmarked_image commit none marked =
+      let leaf = leaf_seen d (d.at (mark_path commit)) marked in
+      ⊎_elim (λ may. none.each (shows d (mark_path commit)) may leaf) (no_vacant_leaf (shows d (mark_path commit)) leaf) (Image-may v d i (mark_path commit))
+
+  pub stays_image : StaysOn v d
+  stays_image = record { same = λ name safe. same_image name safe.above; right = right_image; unmarked = λ commit safe none. unmarked_image commit none }
+
+pub stays_later : (v w : View) (d : Disk) → Stays v w → StaysOn w d → StaysOn v d
+stays_later v w d now on = record {
+  same = λ name safe. now.same name safe (shows d (path_of name)) (on.same name (now.safe name safe));
+  right = λ name right. on.right name (now.right name right);
+  unmarked = λ commit safe none. on.unmarked commit (now.safe (name_of Commit commit) safe) (now.unmarked commit safe none);
+}
+
+-- Runs of acts.
+module _ {F : Type 0} (view : F → Option View) (clock : F → ℕ) (was : F → ℕ → View → Type 0) (laws : IsFs view clock was) where
+  same_told : (fs : F) (v w : View) → view fs ≡ Some v → view fs ≡ Some w → v ≡ w
+  same_told fs v w a b = let e : Some v ≡ Some w = sym a ∙ b in cc
+
+  -- what a crash leaves now
+  left_now : (fs : F) (v : View) → view fs ≡ Some v → (t : ℕ) (d : Disk) → clock fs ≤ t → Left (was fs) t d → StaysOn v d
+  left_now fs v told t d late left =
+      let is : left.0 ≡ v = same_told fs left.0 v (laws.only_now fs t left.0 late left.1) told in
+      stays_image v d (subst (λ u. Image u d) is left.2)
+
+  pub lasts_refl : (fs : F) → Lasts view clock was fs fs
+  lasts_refl fs v told = (v, told, record { later = omega arith; now = stays_refl v; since = left_now fs v told; earlier = λ t d left. inl left })
+
+  pub lasts_then : (a b c : F) → Lasts view clock was a b → Lasts view clock was b c → Lasts view clock was a c
+  lasts_then a b c one two u told =
+      let x = one u told in
+      let v = x.0 in
+      let y = two v x.1 in
+      let w = y.0 in
+      let o = x.2 in
+      let p = y.2 in
+      let first : clock a ≤ clock b = o.later in
+      let then_ : clock b ≤ clock c = p.later in (
+        w,
+        y.1,
+        record {
+          later = omega (arith, first, then_);
+          now = stays_then u v w o.now p.now;
+          since = λ t d late left. ⊎_elim (λ was_left. o.since t d late was_left) (λ on. stays_later u v d o.now on) (p.earlier t d left);
+          earlier = λ t d left. ⊎_elim (λ was_left. o.earlier t d was_left) (λ on. inr (stays_later u v d o.now on)) (p.earlier t d left);
+        },
+      )
+
+  -- A claim that no actor breaks holds of what each path may show after an act, and of what each disk that a crash left meanwhile
+  -- shows, where a vacant path meets it or each crash leaves the folders above.
+  pub claim_lasts : (C : Path → Seen → Type 0) (old new : F) (b : Books) (actor lane : ℕ) (v w : View) → view new ≡ Some w → Writes (Guarantee b v actor lane) v w → Elapses (clock old) (clock new) (was old) (was new) (view new)
+      → Harmless (Guarantee b v actor lane) C → ((p : Path) (s : Seen) → MayBe v p s → C p s)
+      → ((p : Path) (s : Seen) → MayBe w p s → C p s)
+      × ((f : Path) (x : List ℕ) → C (under f x) Vacant ⊎ Leads w f → (t : ℕ) (d : Disk) → Left (was new) t d → Left (was old) t d ⊎ C (under f x) (shows d (under f x)))
+  claim_lasts C old new b actor lane v w told writes time harmless claim =
+      let now : (p : Path) (s : Seen) → MayBe w p s → C p s = firm_kept (Guarantee b v actor lane) C v w writes harmless claim in (
+        now,
+        λ f x above t d left. ⊎_elim
+            (λ was_left. inl was_left)
+            (λ here. inr (claim_each (C (under f x)) w f x (now (under f x)) above d (subst (λ u. Image u d) (same_told new here.0 w here.1 told) here.2)))
+            ((passes (clock old) (clock new) (was old) (was new) (view new) (laws.only_now new) time).nothing_else t d left),
+      )
+
+  -- one act
+  pub lasts_act : (old new : F) (b b' : Books) (actor lane : ℕ) → ((v : View) → view old ≡ Some v → (w : View) × (view new ≡ Some w) × Interference actor lane v b w b')
+      → Elapses (clock old) (clock new) (was old) (was new) (view new) → Lasts view clock was old new
+  lasts_act old new b b' actor lane does time v told =
+      let x = does v told in
+      let w = x.0 in
+      let now = stays_act b v w actor lane x.2.writes in
+      let earlier : (t : ℕ) (d : Disk) → Left (was new) t d → Left (was old) t d ⊎ StaysOn v d =
+      λ t d left. ⊎_elim
+      (λ was_left. inl was_left)
+      (λ here. inr (stays_later v w d now (stays_image w d (subst (λ u. Image u d) (same_told new here.0 w here.1 x.1) here.2))))
+      ((passes (clock old) (clock new) (was old) (was new) (view new) (laws.only_now new) time).nothing_else t d left)
+      in (
+        w,
+        x.1,
+        record {
+          later = time.later;
+          now = now;
+          since = λ t d late left. ⊎_elim (λ was_left. left_now old v told t d late was_left) (λ on. on) (earlier t d left);
+          earlier = earlier;
+        },
+      )
+
+-- Bytes that each crash leaves as an object.
+pub always_safe : (v : View) (name : ObjName) (bytes : List ℕ) → AlwaysStores v name bytes → IsSafe v name
+always_safe v name bytes has = record {
+  sum = IsSum-named name bytes has.named;
+  there = λ s may e. (let n : None ≡ Some bytes = sym (ap (object_in name.kind) e) ∙ has.holds s may in cc);
+  above = has.above;
+}
+
+pub always_one : (v : View) → IsMap (AlwaysStores v)
+always_one v = record { one = λ name b c one two. (let e : Some b ≡ Some c = sym (one.holds (shows v.now (path_of name)) (may_now v (path_of name))) ∙ two.holds (shows v.now (path_of name)) (may_now v (path_of name)) in cc) }
+
+pub always_stays : (v w : View) → Stays v w → (name : ObjName) (bytes : List ℕ) → AlwaysStores v name bytes → AlwaysStores w name bytes
+always_stays v w stays name bytes has =
+    let safe = always_safe v name bytes has in
+    record { holds = λ s may. has.holds s (stays.same name safe s may); above = (stays.safe name safe).above; named = has.named }
+
+pub always_left : (v : View) (d : Disk) → StaysOn v d → (name : ObjName) (bytes : List ℕ) → AlwaysStores v name bytes → Stores d name bytes
+always_left v d on name bytes has = record { there = has.holds (shows d (path_of name)) (on.same name (always_safe v name bytes has)); named = has.named }
+
+pub always_from : (v : View) (name : ObjName) (bytes : List ℕ) → Leads v (objects_folder_path name.csum) → EachImage v (λ d. Stores d name bytes) → AlwaysStores v name bytes
+always_from v name bytes above each = record { holds = λ s may. holds s (subst (λ p. MayBe v p s) (object_under name) may); above = above; named = (each image.0 image.1).named }
+  where
+    f : Path
+    f = objects_folder_path name.csum
+
+    there : (d : Disk) → Image v d → object_in name.kind (shows d (under f (tail_of name))) ≡ Some bytes
+    there d i = subst (λ p. object_in name.kind (shows d p) ≡ Some bytes) (object_under name) (each d i).there
+
+    holds : (s : Seen) → MayBe v (under f (tail_of name)) s → object_in name.kind s ≡ Some bytes
+    holds s may = each_firm (λ x. object_in name.kind x ≡ Some bytes) v f (tail_of name) above there s may
+
+    image : (d : Disk) × Image v d × (shows d (under f (tail_of name)) ≡ shows v.now (under f (tail_of name)))
+    image = image_shows v f (tail_of name) (shows v.now (under f (tail_of name))) (may_now v (under f (tail_of name))) above
+
+-- What has its name there is what was made, where nothing else of that name is.
+pub always_named : (v : View) (name : ObjName) (bytes : List ℕ) → IsSafe v name → IsRight v name → IsNamed name bytes
+    → ((s : Seen) (b : List ℕ) → MayBe v (path_of name) s → object_in name.kind s ≡ Some b → IsNamed name b → b ≡ bytes) → AlwaysStores v name bytes
+always_named v name bytes safe right named one = record {
+  holds = λ s may. ⊎_elim (λ none. absurd (safe.there s may none)) (λ is. is.holds ∙ ap Some (one s is.bytes may is.holds is.named)) (right.each s may);
+  above = safe.above;
+  named = named;
+}
+
+pub always_whole : (v w : View) (limits : Limits) (commit : List ℕ) → Stays v w → Complete (AlwaysStores v) limits commit → Complete (AlwaysStores w) limits commit
+always_whole v w limits commit stays whole = complete_up (AlwaysStores v) (AlwaysStores w) (always_stays v w stays) (always_one w) limits commit whole
+
+pub always_complete : (v : View) (d : Disk) (limits : Limits) (commit : List ℕ) → StaysOn v d → Complete (AlwaysStores v) limits commit → Complete (Stores d) limits commit
+always_complete v d limits commit on whole = complete_up (AlwaysStores v) (Stores d) (always_left v d on) (stores_map d) limits commit whole

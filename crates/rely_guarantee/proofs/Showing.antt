@@ -1,0 +1,489 @@
+-- The step that shows a change, those behind it, and the one that makes it last.
+use Rattle.std.proofs.Common.{◌≡◌, inl, inr, ◌+◌, ◌-◌, ◌<◌, ◌≤◌, ℕ, refl, sym, ◌∙◌, ap, subst, arith, List, [], ◌∷◌, ◌++◌, append-nil, Bool, Contains, Option, Some, None}
+use Rattle.std.specs.Vec.{vec_len, vec_capacity}
+use Rattle.ost_types.specs.Path.{Path}
+use Rattle.fs_trait.specs.declared.task.StepResult.{StepResult}
+use Rattle.fs_trait.specs.declared.task.StepResult.TheVariants as turn
+use Rattle.fs_trait.specs.declared.types.FsErr.{FsErr}
+use Rattle.fs_trait.specs.View.{View}
+use Rattle.fs_trait.specs.Image.{Told}
+use Rattle.fs_trait.specs.Seen.{Seen}
+use Rattle.fs_trait.specs.Change.{Writes, Nothing}
+use Rattle.fs_trait.specs.Effect.{Elapses, Next}
+use Rattle.fs_trait.proofs.Kept.{weaker, same_view}
+use Rattle.rely_guarantee.specs.declared.books.Base.{Base}
+use Rattle.rely_guarantee.specs.declared.books.Books as rust
+use Rattle.rely_guarantee.specs.declared.books.Claim as claim
+use Rattle.rely_guarantee.specs.declared.books.Entry.{Entry}
+use Rattle.rely_guarantee.specs.declared.books.Pending.{Pending}
+use Rattle.rely_guarantee.specs.declared.event.Event.{Event}
+use Rattle.rely_guarantee.specs.declared.kind.Outcome.{Outcome}
+use Rattle.rely_guarantee.specs.declared.kind.Outcome.TheVariants as came
+use Rattle.rely_guarantee.specs.State.{first, events_of, stored}
+use Rattle.rely_guarantee.specs.Books.{Books, books_of, Free, Agrees, Spared}
+use Rattle.rely_guarantee.specs.Rely.{Guarantee, Interference}
+use Rattle.rely_guarantee.specs.SystemInvariant.{AreThere, Stands, SystemInvariant}
+use Rattle.rely_guarantee.specs.Change.{Away, Shows, Final}
+use Rattle.rely_guarantee.specs.Laws.{Kind, Quiet, Store, Take, Claim, Show, Shown, Settle, Laws, StepObligation, Within, Owned, IsShow, IsShown, IsSettle, IsLastly, Chain, Follows, Holds, Stood, NotPending, IsPending, Runs, Ready, Tells, Acts, Ends, owed_by}
+use Rattle.rely_guarantee.proofs.States.{ascends_later, ascends_push, events_push, acked_late}
+use Rattle.rely_guarantee.proofs.Knowns.{stands_show, stands_away, stands_settle}
+use Rattle.rely_guarantee.proofs.Claiming.{claims_stand}
+use Rattle.rely_guarantee.proofs.Locking.{spared_refl, spared_then}
+use Rattle.rely_guarantee.proofs.Sounds.{IsFs, sound_goes}
+use Rattle.rely_guarantee.proofs.Acting.{told_same, ended_claims, ends_ordered}
+
+pub no_pending : (o : Option Pending) → ((p : Pending) → o ≡ Some p → ⊥) → o ≡ None
+no_pending None none = refl
+no_pending (Some p) none = absurd (none p refl)
+
+-- what is to be held for the next step
+pub follows_holds : (e : Event) (most : ℕ) (next : Kind) (lane : ℕ) (b : Books) → Follows e most next → IsPending e (owed_by next) lane b → Holds next lane b
+follows_holds e most Quiet lane b c h = absurd c
+follows_holds e most Store lane b c h = absurd c
+follows_holds e most (Take wants) lane b c h = absurd c
+follows_holds e most (Claim name) lane b c h = absurd c
+follows_holds e most (Show d) lane b c h = absurd c
+follows_holds e most (Shown d owed) lane b c h = (subst (λ (x : Event). IsPending x owed lane b) (sym c.0) h, c.2)
+follows_holds e most (Settle d) lane b c h = subst (λ (x : Event). IsPending x 1 lane b) (sym c.0) h
+
+pub follows_owed : (e : Event) (most : ℕ) (next : Kind) → Follows e most next → owed_by next ≤ most
+follows_owed e most Quiet c = absurd c
+follows_owed e most Store c = absurd c
+follows_owed e most (Take wants) c = absurd c
+follows_owed e most (Claim name) c = absurd c
+follows_owed e most (Show d) c = absurd c
+follows_owed e most (Shown d owed) c = c.1
+follows_owed e most (Settle d) c = c.1
+
+pub show_is : (k : Kind) → IsShow k → (e : Event) × (k ≡ Show e)
+show_is Quiet is = absurd is
+show_is Store is = absurd is
+show_is (Take wants) is = absurd is
+show_is (Claim name) is = absurd is
+show_is (Show e) is = (e, refl)
+show_is (Shown e owed) is = absurd is
+show_is (Settle e) is = absurd is
+
+pub shown_is : (k : Kind) → IsShown k → (e : Event) × (owed : ℕ) × (k ≡ Shown e owed)
+shown_is Quiet is = absurd is
+shown_is Store is = absurd is
+shown_is (Take wants) is = absurd is
+shown_is (Claim name) is = absurd is
+shown_is (Show e) is = absurd is
+shown_is (Shown e owed) is = (e, owed, refl)
+shown_is (Settle e) is = absurd is
+
+pub settle_is : (k : Kind) → IsSettle k → (e : Event) × (k ≡ Settle e)
+settle_is Quiet is = absurd is
+settle_is Store is = absurd is
+settle_is (Take wants) is = absurd is
+settle_is (Claim name) is = absurd is
+settle_is (Show e) is = absurd is
+settle_is (Shown e owed) is = absurd is
+settle_is (Settle e) is = (e, refl)
+
+module _ {F : Type 0} (view : F → Option View) (clock spare : F → ℕ) (was : F → ℕ → View → Type 0) (fslaws : IsFs view clock was)
+    {T : Type 0} {kind : T → Kind} {needs : ℕ → T → View → Type 0} {writes : ℕ → T → View → Path → Seen → Type 0} {stepped : T → StepResult (Unit {0}) → T → Type 0} {leaves : T → StepResult (Unit {0}) → T → View → View → Type 0} {facts : ℕ → T → View → Books → Type 0}
+    (laws : Laws kind needs writes stepped leaves facts) where
+  abbrev Calls : F → F → Type 0
+  Calls old new = Elapses (clock old) (clock new) (was old) (was new) (view new)
+
+  abbrev Wrote : F → F → ℕ → T → Type 0
+  Wrote old new actor t = (v : View) → view old ≡ Some v → Told (view new) (λ w. Writes (writes actor t v) v w)
+
+  pub no_time : (fs : F) → Calls fs fs
+  no_time fs = record { later = omega arith; soon = omega arith; nothing_else = λ t w le is. inl is; keeps = λ t w le is. is }
+
+  -- nothing was done, since another holds it off
+  pub blocked_acts : (base : Base F) (actor lane : ℕ) (t : T) → Ready view clock spare was (Runs kind facts lane t) base → Acts view clock spare was actor lane came.Blocked (Runs kind facts lane t) base base
+  blocked_acts base actor lane t ready = record {
+    sound = ready.sound;
+    does = λ v told. (v, told, record { writes = same_view (Guarantee (books_of base.books) v actor lane) v; books = spared_refl actor lane (books_of base.books); claims = λ c has. inl has });
+    books = spared_refl actor lane (books_of base.books);
+    tells = ready.task;
+  }
+
+  -- the command ended, and the view is as it was
+  pub still_acts : (old mid new : Base F) (actor lane : ℕ) (runs after : Option View → Books → Type 0) (e : FsErr) → mid ≡ record old { fs = mid.fs } → ((v : View) → view old.fs ≡ Some v → view mid.fs ≡ Some v) → Calls old.fs mid.fs → old.books.owed ≤ spare mid.fs → Ends actor lane mid new → NotPending lane (books_of old.books)
+      → Ready view clock spare was runs old → Acts view clock spare was actor lane (came.Refused e) after old new
+  still_acts old mid new actor lane runs after e only unchanged time room ends none ready =
+      let same : mid.books ≡ old.books = ap (λ b. b.books) only in
+      let history : new.books.history ≡ old.books.history = ends.history ∙ ap (λ b. b.history) same in
+      let pending : new.books.pending ≡ old.books.pending = ends.pending ∙ ap (λ b. b.pending) same in
+      let spared = subst (λ b. Spared actor lane (books_of b) (books_of new.books)) same ends.spared in
+      let fewer = ended_claims view clock spare was fslaws laws old mid new actor lane same ends in
+      record {
+        sound = sound_goes view clock spare was fslaws old new [] ready.sound (subst (Calls old.fs) (sym ends.fs) time)
+            (ends_ordered view clock spare was fslaws laws old mid new actor lane same ends none time.later room ready.sound.ordered)
+            (ends.opened ∙ ap (λ b. b.opened) same)
+            (ap (λ v. v.items) (ends.start ∙ ap (λ b. b.start) same))
+            (rw (history, pending) (sym (append-nil (stored old.books.history.items old.books.pending))))
+            (λ t le. rw history refl)
+            (λ v w told_v told_w stands.
+            let one : Some v ≡ Some w = sym (unchanged v told_v) ∙ sym (ap view ends.fs) ∙ told_w in
+            let k : v ≡ w = cc in
+            rw (history, pending) (subst (λ x. Stands (first old.books.start.items) old.books.history.items old.books.pending x) k stands))
+            (λ v w told_v told_w there.
+            let one : Some v ≡ Some w = sym (unchanged v told_v) ∙ sym (ap view ends.fs) ∙ told_w in
+            let k : v ≡ w = cc in
+            subst (λ x. AreThere new.books.claims.items x) k (λ c has. there c (fewer c has)));
+        does = λ v told. (v, ap view ends.fs ∙ unchanged v told, record { writes = same_view (Guarantee (books_of old.books) v actor lane) v; books = spared; claims = λ c has. inl (fewer c has) });
+        books = spared;
+        tells = tt;
+      }
+
+  more_of : (t next : T) (u : StepResult (Unit {0})) → (IsLastly (kind t) → ⊥) → stepped t u next → u ≡ turn.More
+  more_of t next turn.More not step = refl
+  more_of t next (turn.Done x) not step = absurd (not (laws.last t next step))
+
+  -- what the views say of it
+  pub more_tells : (t next : T) (u : StepResult (Unit {0})) → (IsLastly (kind t) → ⊥) → stepped t u next → (v : View) (now : Option View) → Told now (λ w. leaves t u next v w) → Told now (λ w. leaves t turn.More next v w)
+  more_tells t next u not step v now told = subst (λ x. Told now (λ w. leaves t x next v w)) (more_of t next u not step) told
+
+  -- the books while the change is shown
+  abbrev pub pending_books : rust.Books → ℕ → ℕ → Event → ℕ → Bool → rust.Books
+  pending_books b lane command e owed halted = record b { turn = Some lane; pending = Some (record { lane = lane; command = command; event = e }); owed = owed; halted = halted }
+
+  show_duty : (old : Base F) (lane : ℕ) (t : T) (e : Event) → kind t ≡ Show e → Free old.books.turn lane → Free old.books.exclusive lane → Ready view clock spare was (Runs kind facts lane t) old → (v : View) → view old.fs ≡ Some v
+      → Within (writes lane t v) (Guarantee (books_of old.books) v lane lane) × Shows (writes lane t v) v e
+  show_duty old lane t e is turn_free free ready v told =
+      subst (λ (k : Kind). StepObligation k lane lane v (books_of old.books) (writes lane t v) (leaves t (turn.Done tt) t v)) is
+      (laws.duty lane lane t t v (books_of old.books) ready.sound.ordered.agrees (inl refl) (subst (λ (k : Kind). Stood k lane lane (books_of old.books)) (sym is) (turn_free, free)) (ready.task.facts v told))
+
+  show_none : (old : Base F) (lane : ℕ) (t : T) (e : Event) → kind t ≡ Show e → Free old.books.turn lane → Ready view clock spare was (Runs kind facts lane t) old → old.books.pending ≡ None
+  show_none old lane t e is turn_free ready =
+      let none : NotPending lane (books_of old.books) = subst (λ (k : Kind). Holds k lane (books_of old.books)) is ready.task.holds in
+      no_pending old.books.pending (λ p has. none p has (turn_free p.lane (ready.sound.ordered.owner p has)))
+
+  show_spared : (b : rust.Books) (lane command : ℕ) (e : Event) (owed : ℕ) (h : Bool) → b.pending ≡ None → Free b.turn lane → Spared lane lane (books_of b) (books_of (pending_books b lane command e owed h))
+  show_spared b lane command e owed h none turn_free =
+      let p : Pending = record { lane = lane; command = command; event = e } in
+      let s = spared_refl lane lane (books_of b) in
+      record {
+        shared = s.shared;
+        exclusive = s.exclusive;
+        turn = λ x other is. absurd (other (turn_free x is));
+        sysroot = s.sysroot;
+        holds = s.holds;
+        wants = s.wants;
+        pins = s.pins;
+        claims = s.claims;
+        claimers = s.claimers;
+        uses = s.uses;
+        pending = λ q other is. absurd (let z : None ≡ Some q = sym none ∙ is in cc);
+        shown = λ q is. inr (let k : p ≡ q = cc in ap (λ (x : Pending). x.lane) (sym k));
+        owed = λ q other is. absurd (let z : None ≡ Some q = sym none ∙ is in cc);
+        more = s.more;
+        grows = s.grows;
+        replies = s.replies;
+        opened = refl;
+        start = refl;
+      }
+
+  pub show_acts : (old : Base F) (fs : F) (lane command : ℕ) (t next : T) (e : Event) (owed : ℕ) (h : Bool) (outcome : Outcome) → kind t ≡ Show e → Free old.books.turn lane → Free old.books.exclusive lane → vec_len old.books.history < vec_capacity old.books.history
+      → Ready view clock spare was (Runs kind facts lane t) old → Wrote old.fs fs lane t → Calls old.fs fs → owed ≤ spare fs
+      → Tells view (Runs kind facts lane next) outcome (record { fs = fs; books = pending_books old.books lane command e owed h })
+      → Acts view clock spare was lane lane outcome (Runs kind facts lane next) old (record { fs = fs; books = pending_books old.books lane command e owed h })
+  show_acts old fs lane command t next e owed h outcome is turn_free free room ready wrote time owes tells =
+      let p : Pending = record { lane = lane; command = command; event = e } in
+      let none = show_none old lane t e is turn_free ready in
+      let ord = ready.sound.ordered in
+      let spared = show_spared old.books lane command e owed h none turn_free in
+      record {
+        sound = sound_goes view clock spare was fslaws old (record { fs = fs; books = pending_books old.books lane command e owed h }) (e ∷ []) ready.sound time
+            (record {
+              agrees = record { turn = λ x y ex tu. (let k : lane ≡ y = cc in sym k ∙ sym (free x ex)); shared = ord.agrees.shared };
+              owner = λ q has. (let k : p ≡ q = cc in ap (λ (x : Pending). Some x.lane) k);
+              ascends = ascends_later old.books.opened old.books.history.items (clock old.fs) (clock fs) ord.ascends time.later;
+              idle = λ bad. absurd (let z : Some p ≡ None = bad in cc);
+              room = owes;
+              entry = λ more. room;
+            })
+            refl refl
+            (rw none (ap (λ (l : List Event). l ++ e ∷ []) (sym (append-nil (events_of old.books.history.items)))))
+            (λ t le. refl)
+            (λ v w told_v told_w stands.
+            let d = show_duty old lane t e is turn_free free ready v told_v in
+            stands_show (first old.books.start.items) old.books.history.items (books_of old.books) lane lane p (writes lane t v) v w (told_same (view fs) w told_w (wrote v told_v)) d.0 d.1
+            (subst (λ (o : Option Pending). Stands (first old.books.start.items) old.books.history.items o v) none stands))
+            (λ v w told_v told_w there.
+            let d = show_duty old lane t e is turn_free free ready v told_v in
+            claims_stand (books_of old.books) v w lane lane (weaker (writes lane t v) (Guarantee (books_of old.books) v lane lane) v w d.0 (told_same (view fs) w told_w (wrote v told_v))) old.books.claims.items old.books.claims.items (λ c has. has) there);
+        does = λ v told. let w = wrote v told in let d = show_duty old lane t e is turn_free free ready v told in
+            (w.0, w.1, record { writes = weaker (writes lane t v) (Guarantee (books_of old.books) v lane lane) v w.0 d.0 w.2; books = spared; claims = λ c has. inl has });
+        books = spared;
+        tells = tells;
+      }
+
+  pub show_runs : (old : Base F) (fs : F) (lane command : ℕ) (t next : T) (u : StepResult (Unit {0})) (e : Event) → kind t ≡ Show e → Free old.books.turn lane → Free old.books.exclusive lane → Ready view clock spare was (Runs kind facts lane t) old
+      → stepped t u next → ((v : View) → view old.fs ≡ Some v → Told (view fs) (λ w. leaves t u next v w))
+      → Runs kind facts lane next (view fs) (books_of (pending_books old.books lane command e (owed_by (kind next)) old.books.halted))
+  show_runs old fs lane command t next u e is turn_free free ready step after =
+      let more : u ≡ turn.More = more_of t next u (λ last. let bad : IsLastly (Show e) = subst IsLastly is last in bad) step in
+      let b : Books = books_of (pending_books old.books lane command e (owed_by (kind next)) old.books.halted) in
+      let chain : Follows e (owed_by (kind next)) (kind next) = subst (λ (k : Kind). Chain k (kind next)) is (laws.chain t next (subst (λ x. stepped t x next) more step)) in
+      record {
+        facts = λ w told_w.
+            let v = fslaws.told fs old.fs w told_w in
+            laws.next lane lane t next v.0 w (books_of old.books) b (subst (λ (k : Kind). Stood k lane lane (books_of old.books)) (sym is) (turn_free, free)) (ready.task.facts v.0 v.1)
+            (told_same (view fs) w told_w (subst (λ x. Told (view fs) (λ w. leaves t x next v.0 w)) more (after v.0 v.1)))
+            (record { exclusive = λ k. k; turn = λ k. refl; sysroot = λ k. k; shared = λ x l k. k; holds = λ x l k. k; wants = λ x l k. k; pins = λ x l k. k; claims = λ c k. k; others = λ c l k. k })
+            (subst (λ (k : Kind). Owned k lane b) (sym is) tt);
+        holds = follows_holds e (owed_by (kind next)) (kind next) lane b chain (record { command = command; turn = refl; pending = refl; owes = omega arith });
+      }
+
+  -- a step that is owed: it writes nothing that the state speaks of, and pays for itself
+  owed_core : (old : Base F) (fs : F) (lane : ℕ) (t : T) (e : Event) (n : ℕ) (h : Bool) (runs : Option View → Books → Type 0) (outcome : Outcome) → IsPending e n lane (books_of old.books)
+      → ((v : View) → view old.fs ≡ Some v → Within (writes lane t v) (Guarantee (books_of old.books) v lane lane) × Away (writes lane t v))
+      → SystemInvariant view clock spare was old → Wrote old.fs fs lane t → Calls old.fs fs → spare old.fs ≤ spare fs + 1
+      → Tells view runs outcome (record { fs = fs; books = record old.books { owed = old.books.owed - 1; halted = h } })
+      → Acts view clock spare was lane lane outcome runs old (record { fs = fs; books = record old.books { owed = old.books.owed - 1; halted = h } })
+  owed_core old fs lane t e n h runs outcome pend parts sound wrote time room tells =
+      let p : Pending = record { lane = lane; command = pend.command; event = e } in
+      let ord = sound.ordered in
+      let s = spared_refl lane lane (books_of old.books) in
+      let spared : Spared lane lane (books_of old.books) (books_of (record old.books { owed = old.books.owed - 1; halted = h })) = record {
+        shared = s.shared;
+        exclusive = s.exclusive;
+        turn = s.turn;
+        sysroot = s.sysroot;
+        holds = s.holds;
+        wants = s.wants;
+        pins = s.pins;
+        claims = s.claims;
+        claimers = s.claimers;
+        uses = s.uses;
+        pending = s.pending;
+        shown = s.shown;
+        owed = λ q other is. absurd (other (let one : Some p ≡ Some q = sym pend.pending ∙ is in let k : p ≡ q = cc in ap (λ (x : Pending). x.lane) (sym k)));
+        more = s.more;
+        grows = s.grows;
+        replies = s.replies;
+        opened = refl;
+        start = refl;
+      } in
+      record {
+        sound = sound_goes view clock spare was fslaws old (record { fs = fs; books = record old.books { owed = old.books.owed - 1; halted = h } }) [] sound time
+            (record {
+              agrees = record { turn = ord.agrees.turn; shared = ord.agrees.shared };
+              owner = ord.owner;
+              ascends = ascends_later old.books.opened old.books.history.items (clock old.fs) (clock fs) ord.ascends time.later;
+              idle = λ bad. absurd (let z : Some p ≡ None = sym pend.pending ∙ bad in cc);
+              room = omega (arith, ord.room, room);
+              entry = λ more. ord.entry (omega (arith, more));
+            })
+            refl refl (sym (append-nil (stored old.books.history.items old.books.pending))) (λ t le. refl)
+            (λ v w told_v told_w stands.
+            let d = parts v told_v in
+            stands_away (first old.books.start.items) old.books.history.items (books_of old.books) lane lane (writes lane t v) v w (told_same (view fs) w told_w (wrote v told_v)) d.0 d.1 stands)
+            (λ v w told_v told_w there.
+            claims_stand (books_of old.books) v w lane lane (weaker (writes lane t v) (Guarantee (books_of old.books) v lane lane) v w (parts v told_v).0 (told_same (view fs) w told_w (wrote v told_v))) old.books.claims.items old.books.claims.items (λ c has. has) there);
+        does = λ v told. let w = wrote v told in let d = parts v told in
+            (w.0, w.1, record { writes = weaker (writes lane t v) (Guarantee (books_of old.books) v lane lane) v w.0 d.0 w.2; books = spared; claims = λ c has. inl has });
+        books = spared;
+        tells = tells;
+      }
+
+  pub owed_acts : (old : Base F) (fs : F) (paid : rust.Books) (lane : ℕ) (t : T) (e : Event) (n : ℕ) (h : Bool) (runs : Option View → Books → Type 0) (outcome : Outcome) → paid ≡ record old.books { owed = old.books.owed - 1 } → IsPending e n lane (books_of old.books)
+      → ((v : View) → view old.fs ≡ Some v → Within (writes lane t v) (Guarantee (books_of old.books) v lane lane) × Away (writes lane t v))
+      → SystemInvariant view clock spare was old → Wrote old.fs fs lane t → Calls old.fs fs → spare old.fs ≤ spare fs + 1
+      → Tells view runs outcome (record { fs = fs; books = record paid { halted = h } })
+      → Acts view clock spare was lane lane outcome runs old (record { fs = fs; books = record paid { halted = h } })
+  owed_acts old fs paid lane t e n h runs outcome pays pend parts sound wrote time room tells =
+      subst (λ (b : rust.Books). Tells view runs outcome (record { fs = fs; books = record b { halted = h } }) → Acts view clock spare was lane lane outcome runs old (record { fs = fs; books = record b { halted = h } }))
+      (sym pays) (owed_core old fs lane t e n h runs outcome pend parts sound wrote time room) tells
+
+  pub shown_parts : (old : Base F) (lane : ℕ) (t : T) (e : Event) (n : ℕ) → kind t ≡ Shown e n → Ready view clock spare was (Runs kind facts lane t) old → (v : View) → view old.fs ≡ Some v
+      → Within (writes lane t v) (Guarantee (books_of old.books) v lane lane) × Away (writes lane t v)
+  shown_parts old lane t e n is ready v told =
+      subst (λ (k : Kind). StepObligation k lane lane v (books_of old.books) (writes lane t v) (leaves t (turn.Done tt) t v)) is
+      (laws.duty lane lane t t v (books_of old.books) ready.sound.ordered.agrees (inl refl) (subst (λ (k : Kind). Stood k lane lane (books_of old.books)) (sym is) tt) (ready.task.facts v told))
+
+  pub shown_pending : (old : Base F) (lane : ℕ) (t : T) (e : Event) (n : ℕ) → kind t ≡ Shown e n → Ready view clock spare was (Runs kind facts lane t) old → IsPending e n lane (books_of old.books)
+  shown_pending old lane t e n is ready = let h : IsPending e n lane (books_of old.books) × (0 < n) = subst (λ (k : Kind). Holds k lane (books_of old.books)) is ready.task.holds in h.0
+
+  pub shown_runs : (old : Base F) (fs : F) (paid : rust.Books) (lane : ℕ) (t next : T) (u : StepResult (Unit {0})) (e : Event) (n : ℕ) → paid ≡ record old.books { owed = old.books.owed - 1 } → kind t ≡ Shown e n → Ready view clock spare was (Runs kind facts lane t) old
+      → stepped t u next → ((v : View) → view old.fs ≡ Some v → Told (view fs) (λ w. leaves t u next v w))
+      → Runs kind facts lane next (view fs) (books_of paid)
+  shown_runs old fs paid lane t next u e n pays is ready step after =
+      let more : u ≡ turn.More = more_of t next u (λ last. let bad : IsLastly (Shown e n) = subst IsLastly is last in bad) step in
+      let b : Books = books_of (record old.books { owed = old.books.owed - 1 }) in
+      let chain : Chain (Shown e n) (kind next) = subst (λ (k : Kind). Chain k (kind next)) is (laws.chain t next (subst (λ x. stepped t x next) more step)) in
+      let pend = shown_pending old lane t e n is ready in
+      subst (λ (x : rust.Books). Runs kind facts lane next (view fs) (books_of x)) (sym pays)
+      (record {
+        facts = λ w told_w.
+            let v = fslaws.told fs old.fs w told_w in
+            laws.next lane lane t next v.0 w (books_of old.books) b (subst (λ (k : Kind). Stood k lane lane (books_of old.books)) (sym is) tt) (ready.task.facts v.0 v.1)
+            (told_same (view fs) w told_w (subst (λ x. Told (view fs) (λ w. leaves t x next v.0 w)) more (after v.0 v.1)))
+            (record { exclusive = λ k. k; turn = λ k. k; sysroot = λ k. k; shared = λ x l k. k; holds = λ x l k. k; wants = λ x l k. k; pins = λ x l k. k; claims = λ c k. k; others = λ c l k. k })
+            (subst (λ (k : Kind). Owned k lane b) (sym is) tt);
+        holds = follows_holds e chain.0 (kind next) lane b chain.2
+            (record { command = pend.command; turn = pend.turn; pending = pend.pending; owes = omega (arith, follows_owed e chain.0 (kind next) chain.2, chain.1, pend.owes) });
+      })
+
+  pub settle_pending : (old : Base F) (lane : ℕ) (t : T) (e : Event) → kind t ≡ Settle e → Ready view clock spare was (Runs kind facts lane t) old → IsPending e 1 lane (books_of old.books)
+  settle_pending old lane t e is ready = subst (λ (k : Kind). Holds k lane (books_of old.books)) is ready.task.holds
+
+  settle_duty : (old : Base F) (lane : ℕ) (t next : T) (e : Event) → kind t ≡ Settle e → Ready view clock spare was (Runs kind facts lane t) old → (v : View) → view old.fs ≡ Some v
+      → Within (writes lane t v) Nothing × ((w : View) → leaves t (turn.Done tt) next v w → Final e w)
+  settle_duty old lane t next e is ready v told =
+      subst (λ (k : Kind). StepObligation k lane lane v (books_of old.books) (writes lane t v) (leaves t (turn.Done tt) next v)) is
+      (laws.duty lane lane t next v (books_of old.books) ready.sound.ordered.agrees (inl refl) (subst (λ (k : Kind). Stood k lane lane (books_of old.books)) (sym is) tt) (ready.task.facts v told))
+
+  pub settle_parts : (old : Base F) (lane : ℕ) (t : T) (e : Event) → kind t ≡ Settle e → Ready view clock spare was (Runs kind facts lane t) old → (v : View) → view old.fs ≡ Some v
+      → Within (writes lane t v) (Guarantee (books_of old.books) v lane lane) × Away (writes lane t v)
+  settle_parts old lane t e is ready v told = let d = settle_duty old lane t t e is ready v told in ((λ p s wrote. absurd (d.0 p s wrote)), (λ q s wrote. absurd (d.0 _ s wrote)))
+
+  pub settle_more : (t next : T) (u : StepResult (Unit {0})) (e : Event) → kind t ≡ Settle e → u ≡ turn.More → stepped t u next → ⊥
+  settle_more t next u e is more step = let bad : Chain (Settle e) (kind next) = subst (λ (k : Kind). Chain k (kind next)) is (laws.chain t next (subst (λ x. stepped t x next) more step)) in bad
+
+  settle_spared : (b b' : rust.Books) (lane : ℕ) (en : Entry) (p : Pending) → b' ≡ record b { history = b'.history; pending = None; owed = 0 } → b'.history.items ≡ b.history.items ++ en ∷ [] → b.pending ≡ Some p → p.lane ≡ lane → Spared lane lane (books_of b) (books_of b')
+  settle_spared b b' lane en p same grows pend own_p =
+      let s = spared_refl lane lane (books_of b) in
+      let mine : (q : Pending) → b.pending ≡ Some q → q.lane ≡ lane = (λ q is. let one : Some p ≡ Some q = sym pend ∙ is in let k : p ≡ q = cc in ap (λ (x : Pending). x.lane) (sym k) ∙ own_p) in
+      subst (λ (x : rust.Books). Spared lane lane (books_of b) (books_of x)) (sym same)
+      (record {
+        shared = s.shared;
+        exclusive = s.exclusive;
+        turn = s.turn;
+        sysroot = s.sysroot;
+        holds = s.holds;
+        wants = s.wants;
+        pins = s.pins;
+        claims = s.claims;
+        claimers = s.claimers;
+        uses = s.uses;
+        pending = λ q other is. absurd (other (mine q is));
+        shown = λ q is. absurd (let z : None ≡ Some q = is in cc);
+        owed = λ q other is. absurd (other (mine q is));
+        more = en ∷ [];
+        grows = grows;
+        replies = s.replies;
+        opened = refl;
+        start = refl;
+      })
+
+  -- The step that makes the change last.
+  pub settle_acts : (old mid new : Base F) (lane : ℕ) (t next : T) (u : StepResult (Unit {0})) (e : Event) (runs : Option View → Books → Type 0) → kind t ≡ Settle e
+      → mid.books ≡ record old.books { history = mid.books.history; pending = None; owed = 0 }
+      → ((p : Pending) → old.books.pending ≡ Some p → mid.books.history.items ≡ old.books.history.items ++ record { lane = p.lane; command = p.command; event = p.event; moment = clock mid.fs } ∷ [])
+      → Ends lane lane mid new → Ready view clock spare was (Runs kind facts lane t) old → Wrote old.fs mid.fs lane t → Calls old.fs mid.fs → Next (clock old.fs) (clock mid.fs)
+      → u ≡ turn.Done tt → ((v : View) → view old.fs ≡ Some v → Told (view mid.fs) (λ w. leaves t u next v w))
+      → Acts view clock spare was lane lane came.Done runs old new
+  settle_acts old mid new lane t next u e runs is same entry ends ready wrote time ticks done after =
+      let pend = settle_pending old lane t e is ready in
+      let p : Pending = record { lane = lane; command = pend.command; event = e } in
+      let en : Entry = record { lane = lane; command = pend.command; event = e; moment = clock mid.fs } in
+      let grows : mid.books.history.items ≡ old.books.history.items ++ en ∷ [] = entry p pend.pending in
+      let history : new.books.history.items ≡ old.books.history.items ++ en ∷ [] = ap (λ h. h.items) ends.history ∙ grows in
+      let none : new.books.pending ≡ None = ends.pending ∙ ap (λ b. b.pending) same in
+      let nothing : new.books.owed ≡ 0 = ends.owed ∙ ap (λ b. b.owed) same in
+      let opened : new.books.opened ≡ old.books.opened = ends.opened ∙ ap (λ b. b.opened) same in
+      let start : new.books.start.items ≡ old.books.start.items = ap (λ v. v.items) (ends.start ∙ ap (λ b. b.start) same) in
+      let now : clock new.fs ≡ clock mid.fs = ap clock ends.fs in
+      let fewer : (c : claim.Claim) → Contains new.books.claims.items c → Contains old.books.claims.items c = (λ c has. subst (λ (b : rust.Books). Contains b.claims.items c) same (ends.claims c has)) in
+      let ord = ready.sound.ordered in
+      let agrees : Agrees (books_of mid.books) = subst (λ (b : rust.Books). Agrees (books_of b)) (sym same) (record { turn = ord.agrees.turn; shared = ord.agrees.shared }) in
+      let spared = spared_then lane lane (books_of old.books) (books_of mid.books) (books_of new.books) (settle_spared old.books mid.books lane en p same grows pend.pending refl) ends.spared in
+      record {
+        sound = sound_goes view clock spare was fslaws old new [] ready.sound (subst (Calls old.fs) (sym ends.fs) time)
+            (record {
+              agrees = ends.agrees agrees;
+              owner = λ q bad. absurd (let z : None ≡ Some q = sym none ∙ bad in cc);
+              ascends = rw (opened, history, now) (ascends_push old.books.opened old.books.history.items en (ascends_later old.books.opened old.books.history.items (clock old.fs) (clock mid.fs) ord.ascends time.later));
+              idle = λ is. nothing;
+              room = rw nothing (omega arith);
+              entry = λ more. absurd (let z : 0 < 0 = subst (λ n. 0 < n) nothing more in omega (arith, z));
+            })
+            opened start
+            (rw (history, none) (append-nil (events_of (old.books.history.items ++ en ∷ [])) ∙ events_push old.books.history.items en ∙ sym (append-nil (events_of old.books.history.items ++ e ∷ [])) ∙ ap (λ (o : Option Pending). stored old.books.history.items o ++ []) (sym pend.pending)))
+            (λ t le. rw history (acked_late t old.books.history.items en (omega (arith, le, ticks.is))))
+            (λ v w told_v told_w stands.
+            let told_m : view mid.fs ≡ Some w = ap view (sym ends.fs) ∙ told_w in
+            let d = settle_duty old lane t next e is ready v told_v in
+            rw (history, none) (stands_settle (first old.books.start.items) old.books.history.items p en v w refl
+            (weaker (writes lane t v) Nothing v w d.0 (told_same (view mid.fs) w told_m (wrote v told_v)))
+            (d.1 w (told_same (view mid.fs) w told_m (subst (λ x. Told (view mid.fs) (λ w. leaves t x next v w)) done (after v told_v))))
+            (subst (λ (o : Option Pending). Stands (first old.books.start.items) old.books.history.items o v) pend.pending stands)))
+            (λ v w told_v told_w there.
+            let told_m : view mid.fs ≡ Some w = ap view (sym ends.fs) ∙ told_w in
+            let d = settle_duty old lane t next e is ready v told_v in
+            claims_stand (books_of old.books) v w lane lane (weaker (writes lane t v) (Guarantee (books_of old.books) v lane lane) v w (λ q s k. absurd (d.0 q s k)) (told_same (view mid.fs) w told_m (wrote v told_v))) old.books.claims.items new.books.claims.items fewer there);
+        does = λ v told. let w = wrote v told in let d = settle_duty old lane t next e is ready v told in
+            (w.0, ap view ends.fs ∙ w.1, record { writes = weaker (writes lane t v) (Guarantee (books_of old.books) v lane lane) v w.0 (λ q s k. absurd (d.0 q s k)) w.2; books = spared; claims = λ c has. inl (fewer c has) });
+        books = spared;
+        tells = tt;
+      }
+
+  -- what it comes to in the books
+  books_shown : (old mid : Base F) (shown : rust.Books) (lane command : ℕ) (e : Event) (owed : ℕ) → mid ≡ record old { fs = mid.fs }
+      → shown ≡ record mid.books { turn = Some lane; pending = Some (record { lane = lane; command = command; event = e }); owed = owed } → shown ≡ pending_books old.books lane command e owed old.books.halted
+  books_shown old mid shown lane command e owed only shows = shows ∙ ap (λ (m : Base F). record m.books { turn = Some lane; pending = Some (record { lane = lane; command = command; event = e }); owed = owed }) only
+
+  pub show_done : (old mid : Base F) (shown : rust.Books) (lane command : ℕ) (t next : T) (e : Event) (owed : ℕ) (h : Bool) (outcome : Outcome) → mid ≡ record old { fs = mid.fs }
+      → shown ≡ record mid.books { turn = Some lane; pending = Some (record { lane = lane; command = command; event = e }); owed = owed }
+      → kind t ≡ Show e → Free old.books.exclusive lane × Free old.books.turn lane → vec_len old.books.history < vec_capacity old.books.history → Ready view clock spare was (Runs kind facts lane t) old → Wrote old.fs mid.fs lane t → Calls old.fs mid.fs → owed ≤ spare mid.fs
+      → Tells view (Runs kind facts lane next) outcome (record { fs = mid.fs; books = record shown { halted = h } })
+      → Acts view clock spare was lane lane outcome (Runs kind facts lane next) old (record { fs = mid.fs; books = record shown { halted = h } })
+  show_done old mid shown lane command t next e owed h outcome only shows is free room ready wrote time owes tells =
+      subst (λ (b : rust.Books). Tells view (Runs kind facts lane next) outcome (record { fs = mid.fs; books = record b { halted = h } }) → Acts view clock spare was lane lane outcome (Runs kind facts lane next) old (record { fs = mid.fs; books = record b { halted = h } }))
+      (sym (books_shown old mid shown lane command e owed only shows))
+      (show_acts old mid.fs lane command t next e owed h outcome is free.1 free.0 room ready wrote time owes) tells
+
+  pub show_tells : (old mid : Base F) (shown : rust.Books) (lane command : ℕ) (t next : T) (u : StepResult (Unit {0})) (e : Event) (owed : ℕ) → mid ≡ record old { fs = mid.fs }
+      → shown ≡ record mid.books { turn = Some lane; pending = Some (record { lane = lane; command = command; event = e }); owed = owed } → owed ≡ owed_by (kind next)
+      → kind t ≡ Show e → Free old.books.exclusive lane × Free old.books.turn lane → Ready view clock spare was (Runs kind facts lane t) old
+      → stepped t u next → ((v : View) → view old.fs ≡ Some v → Told (view mid.fs) (λ w. leaves t u next v w))
+      → Runs kind facts lane next (view mid.fs) (books_of shown)
+  show_tells old mid shown lane command t next u e owed only shows owes is free ready step after =
+      subst (λ (b : rust.Books). Runs kind facts lane next (view mid.fs) (books_of b)) (sym (books_shown old mid shown lane command e owed only shows))
+      (subst (λ (n : ℕ). Runs kind facts lane next (view mid.fs) (books_of (pending_books old.books lane command e n old.books.halted))) (sym owes)
+      (show_runs old mid.fs lane command t next u e is free.1 free.0 ready step after))
+
+  pub show_not : (old : Base F) (lane : ℕ) (t : T) → IsShow (kind t) → Ready view clock spare was (Runs kind facts lane t) old → NotPending lane (books_of old.books)
+  show_not old lane t is ready = let e = show_is (kind t) is in subst (λ (k : Kind). Holds k lane (books_of old.books)) e.1 ready.task.holds
+
+  -- once there is room for an entry
+  room_only : (old mid : Base F) → mid.fs ≡ old.fs → mid.books ≡ record old.books { history = mid.books.history } → mid.books.history.items ≡ old.books.history.items → books_of mid.books ≡ books_of old.books
+  room_only old mid fs same items = ap books_of same ∙ ap (λ h. record (books_of old.books) { history = h }) items
+
+  pub room_ready : (old : Base F) (made : rust.Books) (runs : Option View → Books → Type 0) → made ≡ record old.books { history = made.history } → made.history.items ≡ old.books.history.items
+      → (vec_len old.books.history < vec_capacity old.books.history → vec_len made.history < vec_capacity made.history)
+      → Ready view clock spare was runs old → Ready view clock spare was runs (record { fs = old.fs; books = made })
+  room_ready old made runs same items more ready =
+      let eq : books_of made ≡ books_of old.books = ap books_of same ∙ ap (λ h. record (books_of old.books) { history = h }) items in
+      let ord = ready.sound.ordered in
+      let pending : made.pending ≡ old.books.pending = ap (λ b. b.pending) same in
+      let owed : made.owed ≡ old.books.owed = ap (λ b. b.owed) same in
+      let turn : made.turn ≡ old.books.turn = ap (λ b. b.turn) same in
+      let opened : made.opened ≡ old.books.opened = ap (λ b. b.opened) same in
+      let start : made.start.items ≡ old.books.start.items = ap (λ b. b.start.items) same in
+      record {
+        sound = record {
+          ordered = record {
+            agrees = subst Agrees (sym eq) ord.agrees;
+            owner = λ p is. turn ∙ ord.owner p (sym pending ∙ is);
+            ascends = rw (opened, items) ord.ascends;
+            idle = λ is. owed ∙ ord.idle (sym pending ∙ is);
+            room = rw owed ord.room;
+            entry = λ owes. more (ord.entry (subst (λ n. 0 < n) owed owes));
+          };
+          stands = rw (items, pending, start) ready.sound.stands;
+          crash = rw (items, pending, start, opened) ready.sound.crash;
+          claims = rw (ap (λ b. b.claims.items) same) ready.sound.claims;
+        };
+        live = ap (λ b. b.halted) same ∙ ready.live;
+        task = subst (runs (view old.fs)) (sym eq) ready.task;
+      }
+
+  pub room_acts : (old new : Base F) (made : rust.Books) (actor lane : ℕ) (outcome : Outcome) (runs : Option View → Books → Type 0) → made ≡ record old.books { history = made.history } → made.history.items ≡ old.books.history.items
+      → Acts view clock spare was actor lane outcome runs (record { fs = old.fs; books = made }) new → Acts view clock spare was actor lane outcome runs old new
+  room_acts old new made actor lane outcome runs same items acts =
+      let eq : books_of made ≡ books_of old.books = ap books_of same ∙ ap (λ h. record (books_of old.books) { history = h }) items in
+      record {
+        sound = acts.sound;
+        does = λ v told. let d = acts.does v told in (d.0, d.1, subst (λ b. Interference actor lane v b d.0 (books_of new.books)) eq d.2);
+        books = subst (λ b. Spared actor lane b (books_of new.books)) eq acts.books;
+        tells = acts.tells;
+      }

@@ -1,0 +1,114 @@
+-- Locks that a lane takes in the middle of its task.
+use Rattle.std.proofs.Common.{◌≡◌, ⊎_elim, inl, inr, ◌<◌, ℕ, refl, sym, ◌∙◌, ap, subst, List, [], ◌∷◌, Option, Some, Contains}
+use Rattle.ost_types.specs.Path.{Path}
+use Rattle.fs_trait.specs.declared.task.StepResult.{StepResult}
+use Rattle.fs_trait.specs.View.{View}
+use Rattle.fs_trait.specs.Seen.{Seen}
+use Rattle.fs_trait.proofs.Kept.{weaker}
+use Rattle.repo_layout.specs.Place.{Place, Config, Stage, Ref, ObjectsFolder, Object, Mark, Summary, Deployment, Etc, Origin, Staged, BootLink, BootLinkStage, BootFolder, Loader, LoaderStage, LoaderFolder, KernelCopy, Checkout, Other, place}
+use Rattle.rely_guarantee.specs.declared.books.Base.{Base}
+use Rattle.rely_guarantee.specs.declared.books.Books as rust
+use Rattle.rely_guarantee.specs.declared.books.Claim as claim
+use Rattle.rely_guarantee.specs.declared.books.Pin.{Pin}
+use Rattle.rely_guarantee.specs.declared.kind.Outcome.{Outcome}
+use Rattle.rely_guarantee.specs.declared.kind.Wants.{Wants}
+use Rattle.rely_guarantee.specs.Books.{Books, books_of, Agrees, Spared, Keeps}
+use Rattle.rely_guarantee.specs.Rely.{Guarantee, may_at, NotPinned}
+use Rattle.rely_guarantee.specs.Laws.{Kind, Quiet, Store, Take, Claim, Show, Shown, Settle, Laws, IsStore, IsTake, Holds, NotPending, Runs, Ready, Acts}
+use Rattle.rely_guarantee.proofs.Lists.{other_or_own}
+use Rattle.rely_guarantee.proofs.Locking.{free_before, spared_then}
+
+-- With more locks of its own a lane may write no more than before.
+may_before : (b b' : Books) (actor lane : ℕ) → Spared actor lane b b' → Keeps lane b b' → b'.claims ≡ b.claims → (x : Place) (s : Seen) → may_at b' actor lane x s → may_at b actor lane x s
+may_before b b' actor lane sp ke same Config s m = m
+may_before b b' actor lane sp ke same (Stage a) s m = m
+may_before b b' actor lane sp ke same (Ref n) s m = (free_before b.turn b'.turn lane sp.turn m.0, free_before b.exclusive b'.exclusive lane sp.exclusive m.1)
+may_before b b' actor lane sp ke same (ObjectsFolder d) s m = m
+may_before b b' actor lane sp ke same (Object k c) s m = (free_before b.exclusive b'.exclusive lane sp.exclusive m.0, m.1, λ none p has k e. pinned p (m.2 none) has k e)
+  where
+    pinned : (p : Pin) → NotPinned b'.pins lane k c → Contains b.pins p → p.object.kind ≡ k → p.object.csum ≡ c → p.lane ≡ lane
+    pinned p none has kk cc_ = other_or_own p.lane lane (λ other. none p (sp.pins p other has) kk cc_)
+may_before b b' actor lane sp ke same (Mark c) s m = m
+may_before b b' actor lane sp ke same Summary s m = (free_before b.turn b'.turn lane sp.turn m.0, free_before b.exclusive b'.exclusive lane sp.exclusive m.1)
+may_before b b' actor lane sp ke same (Deployment o c n r) s m = free_before b.sysroot b'.sysroot lane sp.sysroot m
+may_before b b' actor lane sp ke same (Etc o c n r) s m = m
+may_before b b' actor lane sp ke same (Origin o c n) s m = free_before b.sysroot b'.sysroot lane sp.sysroot m
+may_before b b' actor lane sp ke same Staged s m = free_before b.sysroot b'.sysroot lane sp.sysroot m
+may_before b b' actor lane sp ke same (BootLink n) s m = free_before b.sysroot b'.sysroot lane sp.sysroot m
+may_before b b' actor lane sp ke same BootLinkStage s m = free_before b.sysroot b'.sysroot lane sp.sysroot m
+may_before b b' actor lane sp ke same (BootFolder n k r) s m = free_before b.sysroot b'.sysroot lane sp.sysroot m
+may_before b b' actor lane sp ke same Loader s m = (free_before b.turn b'.turn lane sp.turn m.0, free_before b.exclusive b'.exclusive lane sp.exclusive m.1, free_before b.sysroot b'.sysroot lane sp.sysroot m.2)
+may_before b b' actor lane sp ke same LoaderStage s m = free_before b.sysroot b'.sysroot lane sp.sysroot m
+may_before b b' actor lane sp ke same (LoaderFolder n r) s m = free_before b.sysroot b'.sysroot lane sp.sysroot m
+may_before b b' actor lane sp ke same (KernelCopy o c r) s m = free_before b.sysroot b'.sysroot lane sp.sysroot m
+may_before b b' actor lane sp ke same (Checkout n []) s m = m
+may_before b b' actor lane sp ke same (Checkout n (x ∷ r)) s m = subst (λ (l : List claim.Claim). Contains l (record { lane = lane; name = n })) same m
+may_before b b' actor lane sp ke same (Other p) s m = m
+
+pub may_less : (b b' : Books) (v : View) (actor lane : ℕ) → Spared actor lane b b' → Keeps lane b b' → b'.claims ≡ b.claims → (p : Path) (s : Seen) → Guarantee b' v actor lane p s → Guarantee b v actor lane p s
+may_less b b' v actor lane sp ke same p s m = record { at = may_before b b' actor lane sp ke same (place p) s m.at; fits = m.fits; objects = m.objects; marks = m.marks; checkouts = m.checkouts; comes = m.comes; folders = m.folders }
+
+pub store_is : (k : Kind) → IsStore k → k ≡ Store
+store_is Quiet is = absurd is
+store_is Store is = refl
+store_is (Take wants) is = absurd is
+store_is (Claim name) is = absurd is
+store_is (Show e) is = absurd is
+store_is (Shown e owed) is = absurd is
+store_is (Settle e) is = absurd is
+
+pub take_is : (wants : Wants) (k : Kind) → IsTake wants k → k ≡ Take wants
+take_is wants Quiet is = absurd is
+take_is wants Store is = absurd is
+take_is wants (Take w) is = ap Take is
+take_is wants (Claim name) is = absurd is
+take_is wants (Show e) is = absurd is
+take_is wants (Shown e owed) is = absurd is
+take_is wants (Settle e) is = absurd is
+
+module _ {F : Type 0} (view : F → Option View) (clock spare : F → ℕ) (was : F → ℕ → View → Type 0)
+    {T : Type 0} {kind : T → Kind} {needs : ℕ → T → View → Type 0} {writes : ℕ → T → View → Path → Seen → Type 0} {stepped : T → StepResult (Unit {0}) → T → Type 0} {leaves : T → StepResult (Unit {0}) → T → View → View → Type 0} {facts : ℕ → T → View → Books → Type 0}
+    (laws : Laws kind needs writes stepped leaves facts) where
+  -- with the locks it is ready
+  pub take_ready : (old : Base F) (b : rust.Books) (lane : ℕ) (t : T) (wants : Wants) → kind t ≡ Take wants
+      → b ≡ record old.books { shared = b.shared; exclusive = b.exclusive; turn = b.turn; sysroot = b.sysroot; holds = b.holds; pins = b.pins }
+      → Spared lane lane (books_of old.books) (books_of b) → Keeps lane (books_of old.books) (books_of b) → (Agrees (books_of old.books) → Agrees (books_of b))
+      → Ready view clock spare was (Runs kind facts lane t) old → Ready view clock spare was (Runs kind facts lane t) (record old { books = b })
+  take_ready old b lane t wants is same spared keeps agrees ready =
+      let ord = ready.sound.ordered in
+      let none : NotPending lane (books_of old.books) = subst (λ (k : Kind). Holds k lane (books_of old.books)) is ready.task.holds in
+      let pending : b.pending ≡ old.books.pending = ap (λ x. x.pending) same in
+      let owed : b.owed ≡ old.books.owed = ap (λ x. x.owed) same in
+      let opened : b.opened ≡ old.books.opened = ap (λ x. x.opened) same in
+      let history : b.history ≡ old.books.history = ap (λ x. x.history) same in
+      let start : b.start ≡ old.books.start = ap (λ x. x.start) same in
+      record {
+        sound = record {
+          ordered = record {
+            agrees = agrees ord.agrees;
+            owner = λ p has. let before : old.books.pending ≡ Some p = sym pending ∙ has in spared.turn p.lane (none p before) (ord.owner p before);
+            ascends = rw (opened, history) ord.ascends;
+            idle = λ no. owed ∙ ord.idle (sym pending ∙ no);
+            room = rw owed ord.room;
+            entry = λ owes. rw history (ord.entry (subst (λ n. 0 < n) owed owes));
+          };
+          stands = rw (history, pending, start) ready.sound.stands;
+          crash = rw (history, pending, start, opened) ready.sound.crash;
+          claims = rw (ap (λ x. x.claims) same) ready.sound.claims;
+        };
+        live = ap (λ x. x.halted) same ∙ ready.live;
+        task = record {
+          facts = λ v told. laws.gains lane t v (books_of old.books) (books_of b) keeps (ready.task.facts v told);
+          holds = subst (λ (k : Kind). Holds k lane (books_of b)) (sym is) (λ p has. none p (sym pending ∙ has));
+        };
+      }
+
+  pub take_acts : (old new : Base F) (b : rust.Books) (lane : ℕ) (outcome : Outcome) (runs : Option View → Books → Type 0) → b.claims ≡ old.books.claims → Spared lane lane (books_of old.books) (books_of b) → Keeps lane (books_of old.books) (books_of b)
+      → Acts view clock spare was lane lane outcome runs (record old { books = b }) new → Acts view clock spare was lane lane outcome runs old new
+  take_acts old new b lane outcome runs same spared keeps acts = record {
+    sound = acts.sound;
+    does = λ v told. let d = acts.does v told in
+        (d.0, d.1, record { writes = weaker (Guarantee (books_of b) v lane lane) (Guarantee (books_of old.books) v lane lane) v d.0 (may_less (books_of old.books) (books_of b) v lane lane spared keeps (ap (λ l. l.items) same)) d.2.writes; books = spared_then lane lane (books_of old.books) (books_of b) (books_of new.books) spared d.2.books; claims = λ c has. ⊎_elim (λ was. inl (subst (λ l. Contains l.items c) same was)) (λ none. inr none) (d.2.claims c has) });
+    books = spared_then lane lane (books_of old.books) (books_of b) (books_of new.books) spared acts.books;
+    tells = acts.tells;
+  }

@@ -1,0 +1,35 @@
+use Rattle.std.proofs.Common.{refl}
+use Rattle.rely_guarantee.specs.Laws.{Runs}
+use Rattle.rely_guarantee.proofs.Sounds.{IsFs}
+use Rattle.rely_guarantee.proofs.Showing.{no_time, still_acts}
+use Rattle.rely_guarantee.proofs.Noting.{claim_not, roomy_acts, roomy_ready}
+use Rattle.rely_guarantee.proofs.act.claim.Given as given
+use Rattle.rely_guarantee.proofs.act.claim.Goals as goal
+
+module _ (g : given.Over) where
+  fs : IsFs g.F.Fs.view g.F.Fs.clock g.F.Fs.was
+  fs = record { only_now = g.met.F.Fs.only_now; bound = g.met.F.Fs.bound; told = g.met.F.Fs.told }
+
+pub returns-in_default-clause-acts : goal.returns-in_default-clause-acts
+returns-in_default-clause-acts g c =
+    let r = c.requires in
+    let old = c.args.base.now in
+    let t = c.args.task.now in
+    still_acts g.F.Fs.view g.F.Fs.clock g.F.Fs.spare g.F.Fs.was (fs g) g.met.T.CommandTask.laws old old c.end.new.base c.args.lane c.args.lane (Runs g.T.CommandTask.kind_of g.T.CommandTask.facts c.args.lane t) (Runs g.T.CommandTask.kind_of g.T.CommandTask.facts c.args.lane t) _
+    refl (λ v told. told) (no_time g.F.Fs.view g.F.Fs.clock g.F.Fs.spare g.F.Fs.was (fs g) g.met.T.CommandTask.laws old.fs) r.ready.sound.ordered.room c.end.ensures.ends
+    (claim_not g.F.Fs.view g.F.Fs.clock g.F.Fs.spare g.F.Fs.was (fs g) g.met.T.CommandTask.laws old c.args.lane t r.kind r.ready) r.ready
+
+pub returns-then-is_err-clause-acts : goal.returns-then-is_err-clause-acts
+returns-then-is_err-clause-acts g c =
+    let r = c.requires in
+    let old = c.args.base.now in
+    let t = c.args.task.now in
+    let made = c.make_claim_room.new.self in
+    let mid = record old { books = made } in
+    let runs = Runs g.T.CommandTask.kind_of g.T.CommandTask.facts c.args.lane t in
+    let m = c.make_claim_room.ensures in
+    let ready = roomy_ready g.F.Fs.view g.F.Fs.clock g.F.Fs.spare g.F.Fs.was (fs g) g.met.T.CommandTask.laws old made runs m.same m.items r.ready in
+    roomy_acts g.F.Fs.view g.F.Fs.clock g.F.Fs.spare g.F.Fs.was (fs g) g.met.T.CommandTask.laws old c.end-then-is_err.new.base made c.args.lane c.args.lane _ runs m.same m.items
+    (still_acts g.F.Fs.view g.F.Fs.clock g.F.Fs.spare g.F.Fs.was (fs g) g.met.T.CommandTask.laws mid mid c.end-then-is_err.new.base c.args.lane c.args.lane runs runs _
+    refl (λ v told. told) (no_time g.F.Fs.view g.F.Fs.clock g.F.Fs.spare g.F.Fs.was (fs g) g.met.T.CommandTask.laws old.fs) ready.sound.ordered.room c.end-then-is_err.ensures.ends
+    (claim_not g.F.Fs.view g.F.Fs.clock g.F.Fs.spare g.F.Fs.was (fs g) g.met.T.CommandTask.laws mid c.args.lane t r.kind ready) ready)

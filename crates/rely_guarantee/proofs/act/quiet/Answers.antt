@@ -1,0 +1,45 @@
+use Rattle.std.proofs.Common.{Err, ◌∙◌, ap}
+use Rattle.rely_guarantee.specs.Laws.{Runs}
+use Rattle.rely_guarantee.proofs.Sounds.{IsFs}
+use Rattle.rely_guarantee.proofs.Acting.{asks, ends_refl, none_stays, plain_quiet, quiet_acts, quiet_tells, refused_tells, tells_end}
+use Rattle.rely_guarantee.proofs.act.quiet.Given as given
+use Rattle.rely_guarantee.proofs.act.quiet.Goals as goal
+
+module _ (g : given.Over) where
+  fs : IsFs g.F.Fs.view g.F.Fs.clock g.F.Fs.was
+  fs = record { only_now = g.met.F.Fs.only_now; bound = g.met.F.Fs.bound; told = g.met.F.Fs.told }
+
+pub advance_with_room-requires-clause-needs : goal.advance_with_room-requires-clause-needs
+advance_with_room-requires-clause-needs g c = asks g.F.Fs.view g.F.Fs.clock g.F.Fs.spare g.F.Fs.was (fs g) g.met.T.CommandTask.laws c.args.base.now c.args.actor c.args.lane c.args.task.now c.requires.by c.requires.ready
+
+pub returns-in-Ok-More-clause-acts : goal.returns-in-Ok-More-clause-acts
+returns-in-Ok-More-clause-acts g c =
+    let e = c.in-Ok-More.ensures in
+    let r = c.requires in
+    let mid = c.advance_with_room.new.base in
+    quiet_acts g.F.Fs.view g.F.Fs.clock g.F.Fs.spare g.F.Fs.was (fs g) g.met.T.CommandTask.laws c.args.base.now mid mid c.args.actor c.args.lane c.args.task.now c.advance_with_room.new.task _
+    e.books (ends_refl c.args.actor c.args.lane mid) r.by (plain_quiet (g.T.CommandTask.kind_of c.args.task.now) r.plain) r.stood r.ready e.writes e.time e.room
+    (quiet_tells g.F.Fs.view g.F.Fs.clock g.F.Fs.spare g.F.Fs.was (fs g) g.met.T.CommandTask.laws c.args.base.now mid c.args.actor c.args.lane c.args.task.now c.advance_with_room.new.task c.in-Ok-More.field-0 e.books r.plain r.stood r.ready c.in-Ok-More.field-0-is e.stepped e.after)
+
+pub returns-in-Ok-Done-clause-acts : goal.returns-in-Ok-Done-clause-acts
+returns-in-Ok-Done-clause-acts g c =
+    let e = c.in-Ok-Done.ensures in
+    let r = c.requires in
+    quiet_acts g.F.Fs.view g.F.Fs.clock g.F.Fs.spare g.F.Fs.was (fs g) g.met.T.CommandTask.laws c.args.base.now c.advance_with_room.new.base c.end.new.base c.args.actor c.args.lane c.args.task.now c.advance_with_room.new.task _
+    e.books c.end.ensures.ends r.by (plain_quiet (g.T.CommandTask.kind_of c.args.task.now) r.plain) r.stood r.ready e.writes e.time e.room tt
+
+pub returns-in-Err-clause-acts : goal.returns-in-Err-clause-acts
+returns-in-Err-clause-acts g c =
+    let e = c.in-Err.ensures in
+    let r = c.requires in
+    quiet_acts g.F.Fs.view g.F.Fs.clock g.F.Fs.spare g.F.Fs.was (fs g) g.met.T.CommandTask.laws c.args.base.now c.advance_with_room.new.base c.refuse.new.base c.args.actor c.args.lane c.args.task.now c.advance_with_room.new.task c.refuse.result
+    e.books c.refuse.ensures.ends r.by (plain_quiet (g.T.CommandTask.kind_of c.args.task.now) r.plain) r.stood r.ready e.writes e.time e.room (tells_end g.F.Fs.view (Runs g.T.CommandTask.kind_of g.T.CommandTask.facts c.args.lane c.advance_with_room.new.task) c.refuse.result c.refuse.new.base c.refuse.ensures.told)
+
+pub returns-in-Err-clause-tells : goal.returns-in-Err-clause-tells
+returns-in-Err-clause-tells g c =
+    let e = c.in-Err.ensures in
+    let old = c.args.base.now.fs in
+    let mid = c.advance_with_room.new.base.fs in
+    refused_tells g.T.CommandTask.leaves g.T.CommandTask.refuses c.args.task.now c.advance_with_room.new.task c.refuse.result c.in-Err.e (g.F.Fs.view old) (g.F.Fs.view c.refuse.new.base.fs) c.refuse.ensures.answer e.refused
+    (λ is named v told. ap g.F.Fs.view c.refuse.ensures.ends.fs
+    ∙ none_stays g.F.Fs.view g.F.Fs.clock g.F.Fs.was g.met.F.Fs.only_now g.met.F.Fs.counts_now old mid e.time c.in-Err.e (λ failed. c.refuse.ensures.still is failed ∙ c.clock-before.ensures) (λ u told_u none. e.unchanged u told_u (ap Err none)) named v told)

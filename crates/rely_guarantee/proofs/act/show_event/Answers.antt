@@ -1,0 +1,51 @@
+use Rattle.std.proofs.Common.{ap, Err, inl, refl, subst, sym, true, arith, ◌≤◌}
+use Rattle.rely_guarantee.specs.Laws.{IsLastly, IsShow, Runs}
+use Rattle.rely_guarantee.proofs.Sounds.{IsFs}
+use Rattle.rely_guarantee.proofs.Acting.{asks}
+use Rattle.rely_guarantee.proofs.Showing.{more_tells, still_acts, show_done, show_tells, show_not}
+use Rattle.rely_guarantee.proofs.act.show_event.Given as given
+use Rattle.rely_guarantee.proofs.act.show_event.Goals as goal
+
+module _ (g : given.Over) where
+  fs : IsFs g.F.Fs.view g.F.Fs.clock g.F.Fs.was
+  fs = record { only_now = g.met.F.Fs.only_now; bound = g.met.F.Fs.bound; told = g.met.F.Fs.told }
+
+pub advance_with_room-requires-clause-needs : goal.advance_with_room-requires-clause-needs
+advance_with_room-requires-clause-needs g c = asks g.F.Fs.view g.F.Fs.clock g.F.Fs.spare g.F.Fs.was (fs g) g.met.T.CommandTask.laws c.args.base.now c.args.lane c.args.lane c.args.task.now (inl refl) c.requires.ready
+
+pub returns-in-Ok-clause-acts : goal.returns-in-Ok-clause-acts
+returns-in-Ok-clause-acts g c =
+    let e = c.in-Ok.ensures in
+    let r = c.requires in
+    let mid = c.advance_with_room.new.base in
+    let next = c.advance_with_room.new.task in
+    let old = c.args.base.now in
+    let is : IsShow (g.T.CommandTask.kind_of c.args.task.now) = subst IsShow (sym r.kind) tt in
+    let room : c.owes.result ≤ g.F.Fs.spare mid.fs = subst (λ n. n ≤ g.F.Fs.spare mid.fs) (sym c.owes.ensures) (e.ready is) in
+    show_done g.F.Fs.view g.F.Fs.clock g.F.Fs.spare g.F.Fs.was (fs g) g.met.T.CommandTask.laws old mid c.show.new.self c.args.lane c.args.command c.args.task.now next c.args.event c.owes.result c.show.new.self.halted _
+    e.books c.show.ensures r.kind r.free r.entry r.ready e.writes e.time room
+    (show_tells g.F.Fs.view g.F.Fs.clock g.F.Fs.spare g.F.Fs.was (fs g) g.met.T.CommandTask.laws old mid c.show.new.self c.args.lane c.args.command c.args.task.now next c.in-Ok.field-0 c.args.event c.owes.result e.books c.show.ensures c.owes.ensures r.kind r.free r.ready e.stepped e.after)
+
+pub returns-in-Err-NoMemory-clause-acts : goal.returns-in-Err-NoMemory-clause-acts
+returns-in-Err-NoMemory-clause-acts g c =
+    let e = c.in-Err-NoMemory.ensures in
+    let r = c.requires in
+    let mid = c.advance_with_room.new.base in
+    let old = c.args.base.now in
+    let is : IsShow (g.T.CommandTask.kind_of c.args.task.now) = subst IsShow (sym r.kind) tt in
+    still_acts g.F.Fs.view g.F.Fs.clock g.F.Fs.spare g.F.Fs.was (fs g) g.met.T.CommandTask.laws old mid c.end.new.base c.args.lane c.args.lane (Runs g.T.CommandTask.kind_of g.T.CommandTask.facts c.args.lane c.args.task.now) (Runs g.T.CommandTask.kind_of g.T.CommandTask.facts c.args.lane c.advance_with_room.new.task) _
+    e.books (λ v told. e.unchanged v told (ap Err c.in-Err-NoMemory.field-0-is)) e.time e.room c.end.ensures.ends (show_not g.F.Fs.view g.F.Fs.clock g.F.Fs.spare g.F.Fs.was (fs g) g.met.T.CommandTask.laws old c.args.lane c.args.task.now is r.ready) r.ready
+
+pub returns-in-Err-clause-acts : goal.returns-in-Err-clause-acts
+returns-in-Err-clause-acts g c =
+    let e = c.in-Err.ensures in
+    let r = c.requires in
+    let mid = c.advance_with_room.new.base in
+    let next = c.advance_with_room.new.task in
+    show_done g.F.Fs.view g.F.Fs.clock g.F.Fs.spare g.F.Fs.was (fs g) g.met.T.CommandTask.laws c.args.base.now mid c.show-in-Err.new.self c.args.lane c.args.command c.args.task.now next c.args.event 0 true _
+    e.books c.show-in-Err.ensures r.kind r.free r.entry r.ready e.writes e.time (omega arith) refl
+
+pub returns-in-Ok-clause-tells : goal.returns-in-Ok-clause-tells
+returns-in-Ok-clause-tells g c = λ v told.
+    let e = c.in-Ok.ensures in
+    more_tells g.F.Fs.view g.F.Fs.clock g.F.Fs.spare g.F.Fs.was (fs g) g.met.T.CommandTask.laws c.args.task.now c.advance_with_room.new.task c.in-Ok.field-0 (λ last. subst IsLastly c.requires.kind last) e.stepped v _ (e.after v told)

@@ -1,0 +1,130 @@
+-- Who holds what, and what was changed.
+use Rattle.std.specs.Prelude.{◌≡◌, ◌≢◌, ◌⊎◌, ◌≤◌, ℕ, Bool, IsTrue, IsSome, List, ◌++◌, All, Contains, Option, Some}
+use Rattle.ost_types.specs.declared.object.ObjName.{ObjName}
+use Rattle.ost_types.specs.Path.{Name}
+use Rattle.rely_guarantee.specs.declared.books.Books as rust
+use Rattle.rely_guarantee.specs.declared.books.Claim.{Claim}
+use Rattle.rely_guarantee.specs.declared.books.Entry.{Entry}
+use Rattle.rely_guarantee.specs.declared.books.Hold.{Hold}
+use Rattle.rely_guarantee.specs.declared.books.Pending.{Pending}
+use Rattle.rely_guarantee.specs.declared.books.Pin.{Pin}
+use Rattle.rely_guarantee.specs.declared.books.Share.{Share}
+use Rattle.rely_guarantee.specs.declared.books.Use.{Use}
+use Rattle.rely_guarantee.specs.declared.books.Want.{Want}
+use Rattle.rely_guarantee.specs.declared.kind.Wants.{Wants}
+
+-- the books as plain data: all that the system knows beside the disk
+pub record Books : Type 0 where
+  pub shared : List Share
+  pub exclusive : Option ℕ
+  pub turn : Option ℕ
+  pub sysroot : Option ℕ
+  pub holds : List Hold
+  pub wants : List Want
+  pub pins : List Pin
+  pub claims : List Claim
+  pub uses : List Use
+  pub history : List Entry
+  pub pending : Option Pending
+  pub replies : ℕ
+  pub owed : ℕ
+  pub halted : Bool
+  pub opened : ℕ
+  pub start : List (List ℕ × List ℕ)
+
+abbrev pub books_of : rust.Books → Books
+books_of b = record {
+  shared = b.shared.items;
+  exclusive = b.exclusive;
+  turn = b.turn;
+  sysroot = b.sysroot;
+  holds = b.holds.items;
+  wants = b.wants.items;
+  pins = b.pins.items;
+  claims = b.claims.items;
+  uses = b.uses.items;
+  history = b.history.items;
+  pending = b.pending;
+  replies = b.replies;
+  owed = b.owed;
+  halted = b.halted;
+  opened = b.opened;
+  start = b.start.items;
+}
+
+-- nobody else holds it
+abbrev pub Free : Option ℕ → ℕ → Type 0
+Free lock who = (b : ℕ) → lock ≡ Some b → b ≡ who
+
+-- no object is stored for another lane
+abbrev pub NoOther : List Share → ℕ → Type 0
+NoOther shares lane = All (λ x. x.lane ≡ lane) shares
+
+-- The lane may have what it asks for: each lock is held off by those of others that exclude it.
+pub record Frees (w : Wants) (lane : ℕ) (b : Books) : Type 0 where
+  pub exclusive : IsTrue w.exclusive → Free b.exclusive lane × Free b.turn lane × NoOther b.shared lane
+  pub turn : IsTrue w.turn → Free b.exclusive lane × Free b.turn lane
+  pub shared : IsTrue w.shared → Free b.exclusive lane
+  pub pin : IsSome w.pin → Free b.exclusive lane
+  pub sysroot : IsTrue w.sysroot → Free b.sysroot lane
+  pub hold : IsSome w.hold → Free b.turn lane
+
+-- The lane has what it asked for.
+pub record Granted (w : Wants) (actor lane : ℕ) (b : Books) : Type 0 where
+  pub exclusive : IsTrue w.exclusive → b.exclusive ≡ Some lane
+  pub turn : IsTrue w.turn → b.turn ≡ Some lane
+  pub shared : IsTrue w.shared → Contains b.shared (record { actor = actor; lane = lane })
+  pub pin : (o : ObjName) → w.pin ≡ Some o → Contains b.pins (record { lane = lane; object = o })
+  pub sysroot : IsTrue w.sysroot → b.sysroot ≡ Some lane
+  pub hold : (p : ℕ) → w.hold ≡ Some p → Contains b.holds (record { lane = lane; place = p })
+
+-- The checkout of that name is the lane's alone.
+pub record IsClaimed (name : Name) (lane : ℕ) (b : Books) : Type 0 where
+  pub mine : Contains b.claims (record { lane = lane; name = name })
+  pub alone : (c : Claim) → Contains b.claims c → c.name ≡ name → c.lane ≡ lane
+
+-- The checkout of that name is nobody's.
+abbrev pub Unclaimed : Name → Books → Type 0
+Unclaimed name b = (c : Claim) → Contains b.claims c → c.name ≢ name
+
+-- No two locks that exclude each other are held.
+pub record Agrees (b : Books) : Type 0 where
+  pub turn : (x y : ℕ) → b.exclusive ≡ Some x → b.turn ≡ Some y → y ≡ x
+  pub shared : (x : ℕ) → b.exclusive ≡ Some x → NoOther b.shared x
+
+-- What an act of this actor for this lane does to the books: all that others hold stays.
+pub record Spared (actor lane : ℕ) (b b' : Books) : Type 0 where
+  pub shared : (x : Share) → x.actor ≢ actor → x.lane ≢ lane → Contains b.shared x → Contains b'.shared x
+  pub exclusive : (x : ℕ) → x ≢ lane → b.exclusive ≡ Some x → b'.exclusive ≡ Some x
+  pub turn : (x : ℕ) → x ≢ lane → b.turn ≡ Some x → b'.turn ≡ Some x
+  pub sysroot : (x : ℕ) → x ≢ lane → b.sysroot ≡ Some x → b'.sysroot ≡ Some x
+  pub holds : (h : Hold) → h.lane ≢ lane → Contains b.holds h → Contains b'.holds h
+  pub wants : (w : Want) → w.actor ≢ actor → w.lane ≢ lane → Contains b.wants w → Contains b'.wants w
+  pub pins : (p : Pin) → p.lane ≢ lane → Contains b.pins p → Contains b'.pins p
+  pub uses : (u : Use) → u.lane ≢ lane → Contains b.uses u → Contains b'.uses u
+  -- the claims of others stay, and none comes
+  pub claims : (c : Claim) → c.lane ≢ lane → Contains b.claims c → Contains b'.claims c
+  pub claimers : (c : Claim) → c.lane ≢ lane → Contains b'.claims c → Contains b.claims c
+  -- what is pending comes and goes with its owner
+  pub pending : (p : Pending) → p.lane ≢ lane → b.pending ≡ Some p → b'.pending ≡ Some p
+  pub shown : (p : Pending) → b'.pending ≡ Some p → (b.pending ≡ Some p) ⊎ (p.lane ≡ lane)
+  -- the room of another's owed calls
+  pub owed : (p : Pending) → p.lane ≢ lane → b.pending ≡ Some p → b'.owed ≡ b.owed
+  -- the history and the replies only grow
+  pub more : List Entry
+  pub grows : b'.history ≡ b.history ++ more
+  pub replies : b.replies ≤ b'.replies
+  pub opened : b'.opened ≡ b.opened
+  pub start : b'.start ≡ b.start
+
+-- The lane goes on to have what it has.
+pub record Keeps (lane : ℕ) (b b' : Books) : Type 0 where
+  pub exclusive : b.exclusive ≡ Some lane → b'.exclusive ≡ Some lane
+  pub turn : b.turn ≡ Some lane → b'.turn ≡ Some lane
+  pub sysroot : b.sysroot ≡ Some lane → b'.sysroot ≡ Some lane
+  pub shared : (x : Share) → x.lane ≡ lane → Contains b.shared x → Contains b'.shared x
+  pub holds : (h : Hold) → h.lane ≡ lane → Contains b.holds h → Contains b'.holds h
+  pub wants : (w : Want) → w.lane ≡ lane → Contains b.wants w → Contains b'.wants w
+  pub pins : (p : Pin) → p.lane ≡ lane → Contains b.pins p → Contains b'.pins p
+  pub claims : (c : Claim) → Contains b.claims c → Contains b'.claims c
+  pub others : (c : Claim) → c.lane ≢ lane → Contains b'.claims c → Contains b.claims c

@@ -1,0 +1,29 @@
+-- The kinds of change that a step may make.
+use Rattle.std.specs.Prelude.{◌≡◌, ℕ, List, Some, None}
+use Rattle.ost_types.specs.Path.{Path, under}
+use Rattle.fs_trait.specs.View.{View}
+use Rattle.fs_trait.specs.Seen.{Seen, shows, MayBe}
+use Rattle.rely_guarantee.specs.declared.event.Event.{Event}
+use Rattle.rely_guarantee.specs.State.{Topic, target, before, gives, IsValid}
+use Rattle.rely_guarantee.specs.Disks.{path_of, Says}
+use Rattle.rely_guarantee.specs.SystemInvariant.{ShownBy, Leads}
+
+-- Nothing that the state speaks of changes: at its paths nothing is written but what has no value in the place of what has none.
+abbrev pub Still : (Path → Seen → Type 0) → View → Type 0
+Still W v = (t : Topic) (s : Seen) → W (path_of t) s → Says t None s × Says t None (shows v.now (path_of t))
+
+-- no path that the state speaks of is written
+abbrev pub Away : (Path → Seen → Type 0) → Type 0
+Away W = (t : Topic) (s : Seen) → W (path_of t) s → ⊥
+
+-- The event's value, and nothing else, is written at the paths that the state speaks of; the event can be, and what it
+-- changes shows now what it says that it was.
+pub record Shows (W : Path → Seen → Type 0) (v : View) (e : Event) : Type 0 where
+  pub writes : (t : Topic) (s : Seen) → W (path_of t) s → ShownBy e t s
+  pub valid : IsValid e
+  pub was : Says (target e) (before e) (shows v.now (path_of (target e)))
+
+-- Only the event's value is left at its path, and folders lead there, where there is one.
+pub record Final (e : Event) (w : View) : Type 0 where
+  pub only : (s : Seen) → MayBe w (path_of (target e)) s → Says (target e) (gives e) s
+  pub leads : (commit : List ℕ) → gives e ≡ Some commit → (f : Path) (x : List ℕ) → path_of (target e) ≡ under f x → Leads w f

@@ -1,0 +1,16 @@
+pub mod Books
+pub mod State
+pub mod Disks
+pub mod Objects
+pub mod Rely
+pub mod SystemInvariant
+pub mod Change
+pub mod Laws
+pub mod Headline
+pub mod Opening
+pub mod Barrier
+pub mod Exact
+pub mod Pinning
+pub mod Claiming
+pub mod Part
+pub mod Lasting

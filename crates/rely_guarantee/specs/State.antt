@@ -1,0 +1,93 @@
+-- What the stored history says: the state at the beginning, and after each event.
+use Rattle.std.specs.Prelude.{◌≡◌, ◌+◌, ◌≤◌, ℕ, Bool, List, [], ◌∷◌, ◌++◌, map, nat_le, Option, Some, None, if◌then◌else◌}
+use Rattle.ost_types.specs.Path.{same_name}
+use Rattle.repo_layout.specs.RefName.{IsRefName}
+use Rattle.repo_layout.specs.RefFile.{IsSum}
+use Rattle.rely_guarantee.specs.declared.books.Entry.{Entry}
+use Rattle.rely_guarantee.specs.declared.books.Pending.{Pending}
+use Rattle.rely_guarantee.specs.declared.event.Event.{Event}
+use Rattle.rely_guarantee.specs.declared.event.Event.TheVariants.{SetRef, DropRef}
+
+-- what the state speaks of: a ref, by its name
+pub data Topic : Type 0 where
+  RefOf : List ℕ → Topic
+
+-- what it says there: nothing, or for a ref the commit that it names
+abbrev pub Said : Type 0
+Said = Option (List ℕ)
+
+abbrev pub State : Type 0
+State = Topic → Said
+
+abbrev pub same_topic : Topic → Topic → Bool
+same_topic (RefOf a) (RefOf b) = same_name a b
+
+-- the state that these refs are
+abbrev pub first : List (List ℕ × List ℕ) → State
+first [] t = None
+first (r ∷ refs) t = if same_topic t (RefOf r.0) then Some r.1 else first refs t
+
+-- what an event changes, from what, and to what
+abbrev pub target : Event → Topic
+target (SetRef name seen commit) = RefOf name
+target (DropRef name seen) = RefOf name
+
+abbrev pub before : Event → Said
+before (SetRef name seen commit) = seen
+before (DropRef name seen) = Some seen
+
+abbrev pub gives : Event → Said
+gives (SetRef name seen commit) = Some commit
+gives (DropRef name seen) = None
+
+-- an event that can be at all
+abbrev pub IsValid : Event → Type 0
+IsValid (SetRef name seen commit) = IsRefName name × IsSum commit
+IsValid (DropRef name seen) = IsRefName name
+
+-- the state after an event
+abbrev pub next : Event → State → State
+next e s t = if same_topic t (target e) then gives e else s t
+
+-- the event may follow this state
+pub record Applies (e : Event) (s : State) : Type 0 where
+  pub valid : IsValid e
+  pub was : s (target e) ≡ before e
+
+-- the state after events
+abbrev pub after : List Event → State → State
+after [] s = s
+after (e ∷ es) s = after es (next e s)
+
+-- each may follow the state before it
+abbrev pub IsRun : List Event → State → Type 0
+IsRun [] s = Unit {0}
+IsRun (e ∷ es) s = Applies e s × IsRun es (next e s)
+
+-- only names of refs have a value
+abbrev pub IsNamed : State → Type 0
+IsNamed s = (name commit : List ℕ) → s (RefOf name) ≡ Some commit → IsRefName name
+
+abbrev pub event_of : Entry → Event
+event_of e = e.event
+
+abbrev pub events_of : List Entry → List Event
+events_of entries = map event_of entries
+
+abbrev pub pending_of : Option Pending → List Event
+pending_of None = []
+pending_of (Some p) = p.event ∷ []
+
+-- the stored history: the changes that last, and the one that is shown and doesn't last yet
+abbrev pub stored : List Entry → Option Pending → List Event
+stored entries pending = events_of entries ++ pending_of pending
+
+-- how many entries were acknowledged by that moment
+abbrev pub acked : ℕ → List Entry → ℕ
+acked t [] = 0
+acked t (e ∷ es) = (if nat_le e.moment t then 1 else 0) + acked t es
+
+-- the moments of the entries don't fall, from this one on to that one
+abbrev pub Ascends : ℕ → List Entry → ℕ → Type 0
+Ascends from [] to = from ≤ to
+Ascends from (e ∷ es) to = (from ≤ e.moment) × Ascends e.moment es to

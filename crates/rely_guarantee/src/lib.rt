@@ -1,0 +1,26 @@
+//! What a system of running commands keeps on a disk, what each of them may write, and the one act by which all of their
+//! tasks go on.
+#![tactic(auto)]
+
+mod act;
+mod barrier;
+mod books;
+mod crash;
+mod event;
+mod kind;
+mod last;
+mod locks;
+mod open;
+mod seq;
+mod work;
+
+pub use act::{help_act, task_act};
+pub use barrier::Barrier;
+pub use books::{Base, Books, Claim, Entry, Hold, Pending, Pin, Share, Use, Want};
+pub use crash::certify;
+pub use event::Event;
+pub use kind::{Outcome, Step, Wants};
+pub use last::{openings_last, runs_outlast, stores_that_last};
+pub(crate) use locks::is_free;
+pub use seq::{Seq, Then};
+pub use work::CommandTask;

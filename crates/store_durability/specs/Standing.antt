@@ -1,0 +1,71 @@
+-- What every view of a running system keeps of the store.
+use Rattle.std.specs.Prelude.{◌≡◌, ◌≢◌, ◌⊎◌, ℕ, List, Contains, Some}
+use Rattle.std.specs.List.Sorted.{IsStrictlySortedBy}
+use Rattle.ost_types.specs.declared.limits.Limits.{Limits}
+use Rattle.ost_types.specs.declared.object.Kind.TheVariants.{Commit}
+use Rattle.ost_types.specs.declared.object.ObjName.{ObjName}
+use Rattle.ost_forms.specs.declared.tree_item.TreeItem.{TreeItem}
+use Rattle.ost_objects.specs.Object.{IsNamed, HasForm}
+use Rattle.fs_trait.specs.View.{Disk, View}
+use Rattle.fs_trait.specs.Seen.{Seen, Vacant, MayBe}
+use Rattle.repo_layout.specs.Paths.{config_path, mark_path, ref_path}
+use Rattle.repo_layout.specs.RefFile.{IsSum}
+use Rattle.repo_model.specs.Objects.{object_in, path_of}
+use Rattle.repo_model.specs.Trees.{name_of}
+use Rattle.repo_model.specs.Whole.{Complete}
+use Rattle.tree_build.specs.Building.{IsNumber}
+use Rattle.tree_build.specs.Objects.{Object, work}
+use Rattle.commit_build.specs.declared.message.Message.{Message}
+use Rattle.commit_durability.specs.Lasting.{IsAloneOn, IsCommit, sum_of}
+use Rattle.obj_store.specs.Listing.{name_cmp}
+use Rattle.rely_guarantee.specs.Disks.{IsLeaf, Says}
+use Rattle.rely_guarantee.specs.Lasting.{AlwaysStores, IsSafe, StaysFinished}
+use Rattle.rely_guarantee.specs.State.{RefOf}
+
+-- What is shown is the object of that name, and reads as its kind, where content of a file has at most so many bytes.
+pub record IsSoundSeen (content : ℕ) (name : ObjName) (s : Seen) : Type 0 where
+  pub bytes : List ℕ
+  pub holds : object_in name.kind s ≡ Some bytes
+  pub named : IsNamed name bytes
+  pub formed : HasForm name.kind content bytes
+
+-- The names, each once and ascending, of all objects at whose paths a crash may leave something; and maybe of others.
+pub record AreListed (names : List ObjName) (v : View) : Type 0 where
+  pub ascending : IsStrictlySortedBy name_cmp names
+  pub sums : (name : ObjName) → Contains names name → IsSum name.csum
+  pub all : (name : ObjName) → IsSum name.csum → (s : Seen) → MayBe v (path_of name) s → s ≢ Vacant → Contains names name
+
+-- each crash leaves a mark of the commit,
+abbrev pub IsAlwaysMarked : View → List ℕ → Type 0
+IsAlwaysMarked v commit = (s : Seen) → MayBe v (mark_path commit) s → IsLeaf s
+
+-- and none leaves its object
+abbrev pub IsNeverThere : View → List ℕ → Type 0
+IsNeverThere v commit = (s : Seen) → MayBe v (path_of (name_of Commit commit)) s → s ≡ Vacant
+
+-- The commit is one that was begun, and no crash leaves an object of its tree away.
+pub record IsSealed (limits : Limits) (begun : List TreeItem → Message → Type 0) (v : View) (commit : List ℕ) : Type 0 where
+  pub tree : List TreeItem
+  pub message : Message
+  pub began : begun tree message
+  pub is : IsCommit limits tree message
+  pub sum : commit ≡ sum_of tree message
+  pub safe : (n : ℕ) (o : Object) → IsNumber (work tree) n o → IsSafe v o.name
+
+-- Wherever a crash leaves the commit without a mark, all that it names is there: it is whole in objects that each crash leaves, or
+-- was begun and its tree is there.
+abbrev pub IsKeptWhole : Limits → (List TreeItem → Message → Type 0) → View → List ℕ → Type 0
+IsKeptWhole limits begun v commit = IsAlwaysMarked v commit ⊎ IsNeverThere v commit ⊎ Complete (AlwaysStores v) limits commit ⊎ IsSealed limits begun v commit
+
+-- Whatever a crash leaves of the store is sound: each object is what its name says, and has one of these names; each commit without a
+-- mark is whole; each ref names a commit that lasts; and of the configuration this is so.
+pub record StoreStands (limits : Limits) (begun : List TreeItem → Message → Type 0) (config : Seen → Type 0) (names : List ObjName) (v : View) : Type 0 where
+  pub objects : (name : ObjName) → IsSum name.csum → (s : Seen) → MayBe v (path_of name) s → s ≢ Vacant → IsSoundSeen limits.content name s
+  pub listed : AreListed names v
+  pub commits : (commit : List ℕ) → IsSum commit → IsKeptWhole limits begun v commit
+  pub founded : (name commit : List ℕ) (s : Seen) → MayBe v (ref_path name) s → Says (RefOf name) (Some commit) s → StaysFinished v commit
+  pub settled : (s : Seen) → MayBe v config_path s → config s
+
+-- No other bytes on the disk have the name of an object of a commit that was begun, which is their SHA-256.
+abbrev pub AreAlone : (List TreeItem → Message → Type 0) → Disk → Type 0
+AreAlone begun d = (tree : List TreeItem) (message : Message) → begun tree message → IsAloneOn d tree message
