@@ -131,4 +131,5 @@ def main(words):
     print(last)
 
 
-main(sys.argv[1:])
+if __name__ == "__main__":
+    main(sys.argv[1:])
