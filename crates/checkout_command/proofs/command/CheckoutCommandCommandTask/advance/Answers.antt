@@ -2,7 +2,7 @@ use Rattle.std.proofs.Common.{sym, ◌∙◌, subst}
 use Rattle.std.proofs.lemmas.Result.{err_from_is_err_and}
 use Rattle.checkout_command.specs.Commands.{checkout_leaves, checkout_needs}
 use Rattle.checkout_command.proofs.Reading.{read_after}
-use Rattle.checkout_command.proofs.command.CheckoutCommandWork.advance.Goals as goal
+use Rattle.checkout_command.proofs.command.CheckoutCommandCommandTask.advance.Goals as goal
 
 pub returns-in_err-next-in-Read-clause-refused : goal.returns-in_err-next-in-Read-clause-refused
 returns-in_err-next-in-Read-clause-refused g c = λ v told.

@@ -5,7 +5,7 @@ use Rattle.commit_build.specs.Committing.{commit_in}
 use Rattle.commit_command.specs.declared.command.CommitCommand.{CommitCommand}
 use Rattle.commit_command.specs.Kinds.{needs_by, leaves_at, leaves_by, refuses_at, refuses_by, writes_by}
 use Rattle.commit_command.proofs.Steps.{same_parts, change_leaves}
-use Rattle.commit_command.proofs.work.CommitCommandWork.advance.Goals as goal
+use Rattle.commit_command.proofs.work.CommitCommandCommandTask.advance.Goals as goal
 
 pub build_on-requires : goal.build_on-requires
 build_on-requires g c = record { needs = λ v told. subst (λ o. needs_by o c.args.actor c.args.self.now v) c.in-None.is (c.requires v told) }

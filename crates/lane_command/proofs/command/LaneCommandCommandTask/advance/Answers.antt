@@ -1,6 +1,6 @@
 use Rattle.std.proofs.Common.{subst}
 use Rattle.lane_command.specs.Commands.{lane_needs}
-use Rattle.lane_command.proofs.command.LaneCommandWork.advance.Goals as goal
+use Rattle.lane_command.proofs.command.LaneCommandCommandTask.advance.Goals as goal
 
 pub advance-requires : goal.advance-requires
 advance-requires g c = λ v told. subst (λ t. lane_needs c.args.actor t v) c.in-Ref.is (c.requires v told)

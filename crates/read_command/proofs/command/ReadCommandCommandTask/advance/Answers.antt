@@ -2,7 +2,7 @@ use Rattle.std.proofs.Common.{sym, subst}
 use Rattle.read_command.specs.declared.command.ReadCommand.TheVariants.{Look}
 use Rattle.read_command.specs.Commands.{read_leaves, turn_of}
 use Rattle.read_command.proofs.Begun.{look_leaves}
-use Rattle.read_command.proofs.command.ReadCommandWork.advance.Goals as goal
+use Rattle.read_command.proofs.command.ReadCommandCommandTask.advance.Goals as goal
 
 pub returns-in_ok-next-in-Look-clause-after : goal.returns-in_ok-next-in-Look-clause-after
 returns-in_ok-next-in-Look-clause-after g c = λ v told.

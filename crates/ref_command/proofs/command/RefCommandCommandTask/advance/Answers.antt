@@ -1,7 +1,7 @@
 use Rattle.std.proofs.Common.{subst}
 use Rattle.ref_command.specs.Commands.{command_needs}
 use Rattle.ref_command.proofs.Steps.{found_room}
-use Rattle.ref_command.proofs.command.RefCommandWork.advance.Goals as goal
+use Rattle.ref_command.proofs.command.RefCommandCommandTask.advance.Goals as goal
 
 pub returns-in_err-sync-in-Reset-clause-room : goal.returns-in_err-sync-in-Reset-clause-room
 returns-in_err-sync-in-Reset-clause-room g c = rw c.in-Reset.is (found_room c.in-Reset.look.found c.in-Reset.look.commit _ _ _ _ c.sync.ensures.room)

@@ -5,7 +5,7 @@ use Rattle.fs_trait.specs.Effect.{Fails}
 use Rattle.fs_trait.specs.Change.{Nothing}
 use Rattle.fs_trait.proofs.Effects.{all_synced-writes}
 use Rattle.fs_trait.proofs.Facts.{Fails-writes}
-use Rattle.rely_guarantee.proofs.barrier.BarrierWork.advance.Goals as goal
+use Rattle.rely_guarantee.proofs.barrier.BarrierCommandTask.advance.Goals as goal
 
 pub returns-in-Ok-clause-writes : goal.returns-in-Ok-clause-writes
 returns-in-Ok-clause-writes g c = λ v told. (all_synced v, (c.in-Ok.ensures.effect v told).1, all_synced-writes v)

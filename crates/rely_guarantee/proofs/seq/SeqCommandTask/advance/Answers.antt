@@ -1,7 +1,7 @@
 use Rattle.std.proofs.Common.{Some, true, IfOk, subst, sym}
 use Rattle.fs_trait.specs.Image.{Told}
 use Rattle.rely_guarantee.specs.Part.{part_at, part_needs, part_leaves}
-use Rattle.rely_guarantee.proofs.seq.SeqWork.advance.Goals as goal
+use Rattle.rely_guarantee.proofs.seq.SeqCommandTask.advance.Goals as goal
 
 pub advance-requires : goal.advance-requires
 advance-requires g c = λ v told. subst (λ o. part_needs g.A.CommandTask.needs g.B.CommandTask.needs c.args.actor (part_at o c.args.self.now.second c.args.self.now.first) v) c.if-not-self.true (c.requires v told)
