@@ -8,6 +8,8 @@ pub mod Bads
 pub mod Children
 pub mod Smalls
 pub mod Places
+pub mod FolderEntries
+pub mod Readings
 pub mod Steps
 pub mod Looks
 pub mod Dones

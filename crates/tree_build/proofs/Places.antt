@@ -3,13 +3,14 @@ use Rattle.std.proofs.Common.{◌≡◌, inl, inr, List, [], ◌∷◌, ◌++◌
 use Rattle.std.specs.List.{filter_map, cons_option}
 use Rattle.std.specs.declared.cmp.Ordering.TheVariants.{Less}
 use Rattle.std.proofs.lemmas.List.{append_assoc}
-use Rattle.ost_types.specs.Path.{path_cmp}
+use Rattle.ost_types.specs.Path.{Name, path_cmp, under}
 use Rattle.ost_forms.specs.declared.tree_item.TreeItem.{TreeItem}
+use Rattle.tree_build.specs.Items.{HasFolder as ItemFolder}
 use Rattle.tree_build.specs.Objects.{Object, Made, made, made_of, work, objects_of}
-use Rattle.tree_build.proofs.Lists.{Among, among_left, among_right, all_at}
+use Rattle.tree_build.proofs.Lists.{Among, contained_among, among_left, among_right, all_at}
 use Rattle.tree_build.proofs.Works.{work_front, work_first}
 use Rattle.tree_build.proofs.Suffixes.{Rises}
-use Rattle.tree_build.proofs.Orders.{not_less_same}
+use Rattle.tree_build.proofs.Orders.{not_less_same, less_once, folder_first, none_before_root}
 
 -- the item stands among them, and these behind it
 pub record Stands (items : List TreeItem) (i : TreeItem) (behind : List TreeItem) : Type 0 where
@@ -87,3 +88,46 @@ one_at (k ∷ items) i j r (inl e) (inl f) same = sym e ∙ f
 one_at (k ∷ items) i j r (inl e) (inr b) same = absurd (not_less_same k.path j.path (ap (λ (t : TreeItem). t.path) e ∙ same) (all_at (λ (t : TreeItem). path_cmp k.path t.path ≡ Less) j items r.0 b))
 one_at (k ∷ items) i j r (inr a) (inl f) same = absurd (not_less_same k.path i.path (ap (λ (t : TreeItem). t.path) f ∙ sym same) (all_at (λ (t : TreeItem). path_cmp k.path t.path ≡ Less) i items r.0 a))
 one_at (k ∷ items) i j r (inr a) (inr b) same = one_at items i j r.1 a b same
+
+-- what comes after an item stands behind it
+after : (front : List TreeItem) (i j : TreeItem) (behind : List TreeItem) → Rises (front ++ i ∷ behind) → Among j (front ++ i ∷ behind) → path_cmp i.path j.path ≡ Less → Among j behind
+after [] i j behind r (inl e) less = absurd (not_less_same i.path j.path (ap (λ (k : TreeItem). k.path) e) less)
+after [] i j behind r (inr a) less = a
+after (k ∷ front) i j behind r (inr a) less = after front i j behind r.1 a less
+after (k ∷ front) i j behind r (inl e) less =
+    let first : path_cmp k.path i.path ≡ Less = all_at (λ (t : TreeItem). path_cmp k.path t.path ≡ Less) i (front ++ i ∷ behind) r.0 (among_right i front (i ∷ behind) (inl refl)) in
+    absurd (less_once i.path k.path (subst (λ (t : TreeItem). path_cmp i.path t.path ≡ Less) (sym e) less) first)
+
+pub stands_after : (items : List TreeItem) → Rises items → (i : TreeItem) (behind : List TreeItem) (j : TreeItem) (x : Name) → Stands items i behind → Among j items → j.path ≡ under i.path x → (last : List TreeItem) × Stands behind j last
+stands_after items rises i behind j x s a at =
+    stands_among j behind
+    (after s.front i j behind (subst Rises s.is rises) (subst (Among j) s.is a) (subst (λ p. path_cmp i.path p ≡ Less) (sym at) (folder_first i.path x)))
+
+-- an item stands at one place
+twice : (j : TreeItem) (xs : List TreeItem) (i : TreeItem) (g b : List TreeItem) → Rises (j ∷ xs) → j ≡ i → xs ≡ g ++ i ∷ b → ⊥
+twice j xs i g b r e q = not_less_same j.path i.path (ap (λ (t : TreeItem). t.path) e) (all_at (λ (t : TreeItem). path_cmp j.path t.path ≡ Less) i xs r.0 (subst (Among i) (sym q) (among_right i g (i ∷ b) (inl refl))))
+
+heads : (j k : TreeItem) (xs ys : List TreeItem) → j ∷ xs ≡ k ∷ ys → (j ≡ k) × (xs ≡ ys)
+heads j k xs ys e = (cc, cc)
+
+no_items : (j : TreeItem) (xs : List TreeItem) → [] ≡ j ∷ xs → ⊥
+no_items j xs e = cc
+
+behind_one : (xs : List TreeItem) (i : TreeItem) (f g a b : List TreeItem) → Rises xs → xs ≡ f ++ i ∷ a → xs ≡ g ++ i ∷ b → a ≡ b
+behind_one [] i [] g a b r x y = absurd (no_items i a x)
+behind_one [] i (k ∷ f) g a b r x y = absurd (no_items k (f ++ i ∷ a) x)
+behind_one (j ∷ xs) i [] [] a b r x y = sym (heads j i xs a x).1 ∙ (heads j i xs b y).1
+behind_one (j ∷ xs) i (k ∷ f) (l ∷ g) a b r x y = behind_one xs i f g a b r.1 (heads j k xs (f ++ i ∷ a) x).1 (heads j l xs (g ++ i ∷ b) y).1
+behind_one (j ∷ xs) i [] (l ∷ g) a b r x y = absurd (twice j xs i g b r (heads j i xs a x).0 (heads j l xs (g ++ i ∷ b) y).1)
+behind_one (j ∷ xs) i (k ∷ f) [] a b r x y = absurd (twice j xs i f a r (heads j i xs b y).0 (heads j k xs (f ++ i ∷ a) x).1)
+
+pub stands_once : (items : List TreeItem) → Rises items → (i : TreeItem) (a b : List TreeItem) → Stands items i a → Stands items i b → a ≡ b
+stands_once items rises i a b s t = behind_one items i s.front t.front a b rises s.is t.is
+
+-- the root comes first
+pub root_first : (i : TreeItem) (items : List TreeItem) → Rises (i ∷ items) → ItemFolder (i ∷ items) [] → (i.path ≡ []) × (i.body ≡ None)
+root_first i items r h = go (contained_among h.item (i ∷ items) h.among)
+  where
+    go : Among h.item (i ∷ items) → (i.path ≡ []) × (i.body ≡ None)
+    go (inl e) = (ap (λ (k : TreeItem). k.path) e ∙ h.at, ap (λ (k : TreeItem). k.body) e ∙ h.folder)
+    go (inr a) = absurd (none_before_root i.path (subst (λ p. path_cmp i.path p ≡ Less) h.at (all_at (λ (t : TreeItem). path_cmp i.path t.path ≡ Less) h.item items r.0 a)))

@@ -1,193 +1,38 @@
 -- A store that has the objects of a tree shows the tree, and all that a way down names is there.
-use Rattle.std.proofs.Common.{◌≡◌, ◌≢◌, ◌⊎◌, inl, inr, ℕ, ◌≤◌, ◌^◌, true, cond, ltb, List, [], ◌∷◌, ◌++◌, length, Option, Some, None, Ok, refl, sym, ◌∙◌, ap, ap₂, subst, ⊎_elim, arith}
-use Rattle.std.specs.Prelude.{◌↔◌, All, Contains, map, option_and_then}
-use Rattle.std.specs.Int.{w32, to_be_bytes}
-use Rattle.std.specs.List.{AllByRecursion}
-use Rattle.std.specs.declared.cmp.Ordering.TheVariants.{Less}
-use Rattle.std.proofs.lemmas.Bool.{lt-ltb}
+use Rattle.std.proofs.Common.{◌≡◌, ◌≢◌, ◌⊎◌, inl, inr, ℕ, ◌≤◌, true, List, [], ◌∷◌, ◌++◌, length, Some, None, Ok, refl, sym, ◌∙◌, ap, subst, ⊎_elim, arith}
+use Rattle.std.specs.Prelude.{◌↔◌, Contains, map}
 use Rattle.std.proofs.lemmas.List.{append_assoc, append-nil, length-map, length-append}
-use Rattle.std.proofs.lemmas.List.Elements.{All-contains, All-from_recursion, All-map}
+use Rattle.std.proofs.lemmas.List.Elements.{All-contains}
 use Rattle.sha2.specs.Sha256.{sha256}
-use Rattle.sha2.proofs.Facts256.{length-sha256}
 use Rattle.ost_types.specs.declared.limits.Limits.{Limits}
 use Rattle.ost_types.specs.declared.meta.Meta.{Meta}
 use Rattle.ost_types.specs.declared.node.NodeName.{NodeName}
 use Rattle.ost_types.specs.declared.node.NodeName.TheVariants as node
 use Rattle.ost_types.specs.declared.object.ObjName.{ObjName}
 use Rattle.ost_types.specs.declared.object.Kind.TheVariants as kinds
-use Rattle.ost_types.specs.Path.{Name, Path, AreNames, same_name, path_cmp, under, is_below, text_of}
-use Rattle.ost_types.specs.Text.{IsName}
+use Rattle.ost_types.specs.Path.{Name, Path, same_name, under, is_below, text_of}
 use Rattle.ost_types.proofs.Paths.{same_name-Decides}
-use Rattle.ost_forms.specs.declared.body.Body.{Body}
-use Rattle.ost_forms.specs.declared.entry.FileItem.{FileItem}
-use Rattle.ost_forms.specs.declared.entry.FolderItem.{FolderItem}
 use Rattle.ost_forms.specs.declared.tree_item.BodySpec.{BodySpec}
 use Rattle.ost_forms.specs.declared.tree_item.TreeItem.{TreeItem}
 use Rattle.ost_forms.specs.Commit.{CommitParts}
-use Rattle.ost_forms.specs.DirMeta.{object_limit, dirmeta_form, ReadsDirMeta}
-use Rattle.ost_forms.specs.DirTree.{Entries, HasSums, HasNames, IsSorted, ReadsDirTree, tree_form}
-use Rattle.ost_forms.specs.Stream.{content_form, bytes_of, framed, zeros, ReadsFile}
+use Rattle.ost_forms.specs.DirMeta.{dirmeta_form, ReadsDirMeta}
+use Rattle.ost_forms.specs.DirTree.{Entries, ReadsDirTree, tree_form}
 use Rattle.ost_forms.proofs.Laws.{one_tree}
 use Rattle.ost_forms.proofs.Parted.{one_dirmeta, one_commit}
-use Rattle.ost_forms.proofs.OwnStreams.{header_wide}
 use Rattle.repo_model.specs.Objects.{Store, IsMap, Has}
 use Rattle.repo_model.specs.Trees.{name_of, HasCommit, HasEntries, HasMeta, HasFolder, Shows, ShowsLeaf, Names, NamesFile, TreeShows}
 use Rattle.repo_model.specs.Whole.{Complete}
-use Rattle.tree_build.specs.declared.sums.Sums.{Sums}
-use Rattle.tree_build.specs.declared.sums.Sums.TheVariants as sums
-use Rattle.tree_build.specs.Items.{IsWide, FitsBody, body_of, paths_of, HasFolder as ItemFolder}
-use Rattle.tree_build.specs.Objects.{Object, Made, Child, made, made_of, sums_by, child_in, children, name_in, file_by, folder_by, files_of, folders_of, entries_of, tree_bytes, meta_bytes, file_bytes, work, node_by, file_object, tree_object, meta_object}
+use Rattle.tree_build.specs.Items.{body_of, paths_of, HasFolder as ItemFolder}
+use Rattle.tree_build.specs.Objects.{Object, made, tree_bytes, meta_bytes, file_bytes, work, node_by, file_object, tree_object, meta_object}
 use Rattle.tree_build.specs.Objects as objects
-use Rattle.tree_build.specs.Makeable.{IsSmall, IsSmallFile, IsSmallBy, AreSmall}
 use Rattle.tree_build.specs.Commits.{ItemShows, HasTree, CommitsTree}
-use Rattle.tree_build.proofs.Lists.{Among, contained_among, among_contained, among_right, all_from, all_at}
-use Rattle.tree_build.proofs.Names.{under-name_in, name_in-under}
-use Rattle.tree_build.proofs.Orders.{not_less_same, less_once, folder_first, none_before_root}
+use Rattle.tree_build.proofs.FolderEntries.{file_from, file_into, folder_from, folder_into}
+use Rattle.tree_build.proofs.Readings.{entries_in, file_reads, meta_reads, tree_reads, wide_of}
+use Rattle.tree_build.proofs.Lists.{Among, contained_among, among_contained}
 use Rattle.tree_build.proofs.Bads.{way_there}
-use Rattle.tree_build.proofs.Suffixes.{Rises, rises_from, rises_right}
-use Rattle.tree_build.proofs.Pendings.{AllMade, MadeRises}
-use Rattle.tree_build.proofs.Children.{children_ascend, files_ascend, folders_ascend, entries_apart}
-use Rattle.tree_build.proofs.Works.{objects_file, objects_folder}
-use Rattle.tree_build.proofs.Smalls.{small_at, small_form, small_short, file_within}
-use Rattle.tree_build.proofs.Places.{Stands, stands_first, stands_among, among_stands, stands_behind, made_stands, made_among, work_among, among_maps, maps_among, one_at}
-
-all_made : (Q : Path → Type 0) (items : List TreeItem) → AllByRecursion (λ i. Q i.path) items → AllMade Q (made items)
-unfolding made
-all_made Q [] h = tt
-all_made Q (i ∷ items) h = (h.0, all_made Q items h.1)
-
-made_rises : (items : List TreeItem) → Rises items → MadeRises (made items)
-unfolding made
-made_rises [] r = tt
-made_rises (i ∷ items) r = (all_made (λ q. path_cmp i.path q ≡ Less) items r.0, made_rises items r.1)
-
-last_is_name : (f : Path) (x : Name) → AreNames (under f x) → IsName x
-last_is_name [] x h = h.0
-last_is_name (a ∷ f) x h = last_is_name f x h.1
-
-all_by : {A : Type 0} (P : A → Type 0) (xs : List A) → ((x : A) → Among x xs → P x) → All P xs
-all_by P xs h = All-from_recursion P xs (all_from P xs h)
-
--- a file of these in the folder, and a folder
-record IsFileOf (items : List TreeItem) (f : Path) (x : Name) (sum : List ℕ) : Type 0 where
-  pub item : TreeItem
-  pub behind : List TreeItem
-  pub stands : Stands items item behind
-  pub at : item.path ≡ under f x
-  pub body : BodySpec
-  pub is : item.body ≡ Some body
-  pub sum_is : sum ≡ sha256 (file_bytes item.meta body)
-
-record IsFolderOf (items : List TreeItem) (f : Path) (x : Name) (tree meta : List ℕ) : Type 0 where
-  pub item : TreeItem
-  pub behind : List TreeItem
-  pub stands : Stands items item behind
-  pub at : item.path ≡ under f x
-  pub is : item.body ≡ None
-  pub tree_is : tree ≡ sha256 (tree_bytes (made behind) item.path)
-  pub meta_is : meta ≡ sha256 (meta_bytes item.meta)
-
-file_by_is : (x : Name) (s : Sums) (i : FileItem) → file_by x s ≡ Some i → (x ≡ i.name) × (s ≡ sums.File i.file)
-file_by_is x (sums.File sum) i e = let same : record { name = x; file = sum } ≡ i = some_same e in (ap (λ (i : FileItem). i.name) same, ap (λ (i : FileItem). sums.File i.file) same)
-  where
-    some_same : {A : Type 0} {a b : A} → Some a ≡ Some b → a ≡ b
-    some_same e = cc
-file_by_is x (sums.Folder tree meta) i e = cc
-
-folder_by_is : (x : Name) (s : Sums) (i : FolderItem) → folder_by x s ≡ Some i → (x ≡ i.name) × (s ≡ sums.Folder i.tree i.meta)
-folder_by_is x (sums.File sum) i e = cc
-folder_by_is x (sums.Folder tree meta) i e =
-    let same : record { name = x; tree = tree; meta = meta } ≡ i = some_same e in (ap (λ (i : FolderItem). i.name) same, ap (λ (i : FolderItem). sums.Folder i.tree i.meta) same)
-  where
-    some_same : {A : Type 0} {a b : A} → Some a ≡ Some b → a ≡ b
-    some_same e = cc
-
-child_in_is : (f : Path) (m : Made) (c : Child) → child_in f m ≡ Some c → (name_in f m.path ≡ Some c.name) × (m.sums ≡ c.sums)
-child_in_is f m c e = go (name_in f m.path) refl
-  where
-    go : (o : Option Name) → name_in f m.path ≡ o → (name_in f m.path ≡ Some c.name) × (m.sums ≡ c.sums)
-    go None n = let z : None ≡ Some c = sym (ap (λ o. objects.child_by m o) n) ∙ e in cc
-    go (Some x) n =
-        let z : Some (record { name = x; sums = m.sums }) ≡ Some c = sym (ap (λ o. objects.child_by m o) n) ∙ e in
-        let w : record { name = x; sums = m.sums } ≡ c = cc in
-        (n ∙ ap (λ (c : Child). Some c.name) w, ap (λ (c : Child). c.sums) w)
-
-child_in_at : (f : Path) (m : Made) (x : Name) → m.path ≡ under f x → child_in f m ≡ Some (record { name = x; sums = m.sums })
-child_in_at f m x at = ap (λ o. objects.child_by m o) (ap (name_in f) at ∙ name_in-under f x)
-
-sums_file : (ms : List Made) (p : Path) (m : Meta) (b : Option BodySpec) (sum : List ℕ) → sums_by ms p m b ≡ sums.File sum → (body : BodySpec) × (b ≡ Some body) × (sum ≡ sha256 (file_bytes m body))
-sums_file ms p m None sum e = cc
-sums_file ms p m (Some body) sum e = (body, refl, cc)
-
-sums_folder : (ms : List Made) (p : Path) (m : Meta) (b : Option BodySpec) (tree meta : List ℕ) → sums_by ms p m b ≡ sums.Folder tree meta → (b ≡ None) × (tree ≡ sha256 (tree_bytes ms p)) × (meta ≡ sha256 (meta_bytes m))
-sums_folder ms p m None tree meta e = (refl, cc, cc)
-sums_folder ms p m (Some body) tree meta e = cc
-
-file_from : (items : List TreeItem) (f : Path) (i : FileItem) → Among i (files_of (children f (made items))) → IsFileOf items f i.name i.file
-file_from items f i a =
-    let c = among_maps (λ (c : Child). file_by c.name c.sums) i (children f (made items)) a in
-    let m = among_maps (child_in f) c.0 (made items) c.1 in
-    let by = file_by_is c.0.name c.0.sums i c.2 in
-    let child = child_in_is f m.0 c.0 m.2 in
-    let j = made_stands items m.0 m.1 in
-    let body = sums_file (made j.1) j.0.path j.0.meta j.0.body i.file (ap (λ (m : Made). m.sums) (sym j.3) ∙ child.1 ∙ by.1) in
-    record {
-      item = j.0;
-      behind = j.1;
-      stands = j.2;
-      at = ap (λ (m : Made). m.path) (sym j.3) ∙ under-name_in f m.0.path c.0.name child.0 ∙ ap (under f) by.0;
-      body = body.0;
-      is = body.1;
-      sum_is = body.2;
-    }
-
-folder_from : (items : List TreeItem) (f : Path) (i : FolderItem) → Among i (folders_of (children f (made items))) → IsFolderOf items f i.name i.tree i.meta
-folder_from items f i a =
-    let c = among_maps (λ (c : Child). folder_by c.name c.sums) i (children f (made items)) a in
-    let m = among_maps (child_in f) c.0 (made items) c.1 in
-    let by = folder_by_is c.0.name c.0.sums i c.2 in
-    let child = child_in_is f m.0 c.0 m.2 in
-    let j = made_stands items m.0 m.1 in
-    let body = sums_folder (made j.1) j.0.path j.0.meta j.0.body i.tree i.meta (ap (λ (m : Made). m.sums) (sym j.3) ∙ child.1 ∙ by.1) in
-    record {
-      item = j.0;
-      behind = j.1;
-      stands = j.2;
-      at = ap (λ (m : Made). m.path) (sym j.3) ∙ under-name_in f m.0.path c.0.name child.0 ∙ ap (under f) by.0;
-      is = body.0;
-      tree_is = body.1;
-      meta_is = body.2;
-    }
-
-file_into : (items : List TreeItem) (f : Path) (x : Name) (sum : List ℕ) → IsFileOf items f x sum → Among (record { name = x; file = sum }) (files_of (children f (made items)))
-file_into items f x sum h =
-    let m = made_of (made h.behind) h.item in
-    let s : m.sums ≡ sums.File sum = ap (sums_by (made h.behind) h.item.path h.item.meta) h.is ∙ ap sums.File (sym h.sum_is) in
-    let c : Child = record { name = x; sums = m.sums } in
-    maps_among (λ (c : Child). file_by c.name c.sums) c (record { name = x; file = sum }) (children f (made items))
-    (maps_among (child_in f) m c (made items) (made_among items h.item h.behind h.stands) (child_in_at f m x h.at))
-    (ap (file_by x) s)
-
-folder_into : (items : List TreeItem) (f : Path) (x : Name) (tree meta : List ℕ) → IsFolderOf items f x tree meta → Among (record { name = x; tree = tree; meta = meta }) (folders_of (children f (made items)))
-folder_into items f x tree meta h =
-    let m = made_of (made h.behind) h.item in
-    let s : m.sums ≡ sums.Folder tree meta = ap (sums_by (made h.behind) h.item.path h.item.meta) h.is ∙ ap₂ sums.Folder (sym h.tree_is) (sym h.meta_is) in
-    let c : Child = record { name = x; sums = m.sums } in
-    maps_among (λ (c : Child). folder_by c.name c.sums) c (record { name = x; tree = tree; meta = meta }) (children f (made items))
-    (maps_among (child_in f) m c (made items) (made_among items h.item h.behind h.stands) (child_in_at f m x h.at))
-    (ap (folder_by x) s)
-
--- ---- the objects read as what they are
-
-framed_some : (header content : List ℕ) → length header ≤ object_limit → framed header content ≡ Some (objects.bytes_of (framed header content))
-framed_some header content short =
-    let b : ltb (length header) (2 ^ 32) ≡ true = lt-ltb (length header) (2 ^ 32) (omega (arith, short)) in
-    ap (λ b. cond b (Some (to_be_bytes w32 (length header) ++ (zeros ++ (header ++ content)))) None) b ∙ sym (ap (λ b. Some (objects.bytes_of (cond b (Some (to_be_bytes w32 (length header) ++ (zeros ++ (header ++ content)))) None))) b)
-
-content_some : (limit : ℕ) (m : Meta) (body : Body) → IsSmallFile limit m body → content_form m body ≡ Some (objects.bytes_of (content_form m body))
-content_some limit m body h =
-    let e : content_form m body ≡ framed h.header.bytes (bytes_of body) = ap (λ o. option_and_then (λ header. framed header (bytes_of body)) o) h.header.is in
-    e ∙ framed_some h.header.bytes (bytes_of body) h.header.short ∙ ap (λ o. Some (objects.bytes_of o)) (sym e)
+use Rattle.tree_build.proofs.Suffixes.{Rises, rises_from}
+use Rattle.tree_build.proofs.Works.{body_cases, objects_file, objects_folder}
+use Rattle.tree_build.proofs.Places.{Stands, root_first, stands_after, stands_first, among_stands, stands_behind, work_among, one_at}
 
 module _ (S : Store) (limits : Limits) (items : List TreeItem) (has : HasTree S limits items) where
   rises : Rises items
@@ -196,61 +41,14 @@ module _ (S : Store) (limits : Limits) (items : List TreeItem) (has : HasTree S 
   object_there : (i : TreeItem) (behind : List TreeItem) (o : Object) → Stands items i behind → Among o (objects.objects_of (made behind) i) → S o.name o.bytes
   object_there i behind o s a = has.objects o (among_contained o (work items) (work_among items i behind o s a))
 
-  small_of : (i : TreeItem) (behind : List TreeItem) → Stands items i behind → IsSmallBy limits.content (made behind) i.path i.meta i.body
-  small_of i behind s = small_at limits.content s.front i behind (subst (AreSmall limits.content) s.is has.makeable.small)
-
   contains : (i : TreeItem) (behind : List TreeItem) → Stands items i behind → Contains items i
   contains i behind s = among_contained i items (among_stands items i behind s)
 
-  mode_of : (i : TreeItem) (behind : List TreeItem) → Stands items i behind → FitsBody i.meta.mode i.body
-  mode_of i behind s = All-contains (λ (i : TreeItem). FitsBody i.meta.mode i.body) items i has.ordered.modes (contains i behind s)
+  reads_tree : (i : TreeItem) (behind : List TreeItem) → Stands items i behind → i.body ≡ None → ReadsDirTree (λ (x : Entries). x) (tree_bytes (made behind) i.path) (Ok (entries_in i behind))
+  reads_tree = tree_reads limits items has.ordered has.typed has.makeable
 
-  wide_of : (i : TreeItem) (behind : List TreeItem) → Stands items i behind → IsWide i.meta
-  wide_of i behind s = All-contains (λ (i : TreeItem). IsWide i.meta) items i has.typed.numbers (contains i behind s)
-
-  names_of_path : (i : TreeItem) (behind : List TreeItem) → Stands items i behind → AreNames i.path
-  names_of_path i behind s = All-contains (λ (i : TreeItem). AreNames i.path) items i has.typed.names (contains i behind s)
-
-  abbrev entries_in : TreeItem → List TreeItem → Entries
-  entries_in i behind = entries_of (children i.path (made behind))
-
-  sums_in : (i : TreeItem) (behind : List TreeItem) → HasSums (entries_in i behind)
-  sums_in i behind = record {
-    files = all_by (λ (e : FileItem). length e.file ≡ 32) _ (λ e a. let h = file_from behind i.path e a in ap length h.sum_is ∙ length-sha256 (file_bytes h.item.meta h.body));
-    trees = all_by (λ (e : FolderItem). length e.tree ≡ 32) _ (λ e a. let h = folder_from behind i.path e a in ap length h.tree_is ∙ length-sha256 (tree_bytes (made h.behind) h.item.path));
-    metas = all_by (λ (e : FolderItem). length e.meta ≡ 32) _ (λ e a. let h = folder_from behind i.path e a in ap length h.meta_is ∙ length-sha256 (meta_bytes h.item.meta));
-  }
-
-  name_by : (j : TreeItem) (last : List TreeItem) (f : Path) (x : Name) → Stands items j last → j.path ≡ under f x → IsName x
-  name_by j last f x s at = last_is_name f x (subst AreNames at (names_of_path j last s))
-
-  names_in : (i : TreeItem) (behind : List TreeItem) → Stands items i behind → HasNames (entries_in i behind)
-  names_in i behind s = record {
-    files = All-map IsName (λ (e : FileItem). e.name) _ (all_by (λ (e : FileItem). IsName e.name) _ (λ e a. let h = file_from behind i.path e a in name_by h.item h.behind i.path e.name (stands_behind items i behind h.item h.behind s h.stands) h.at));
-    folders = All-map IsName (λ (e : FolderItem). e.name) _ (all_by (λ (e : FolderItem). IsName e.name) _ (λ e a. let h = folder_from behind i.path e a in name_by h.item h.behind i.path e.name (stands_behind items i behind h.item h.behind s h.stands) h.at));
-  }
-
-  behind_rises : (i : TreeItem) (behind : List TreeItem) → Stands items i behind → Rises behind
-  behind_rises i behind s = (rises_right s.front (i ∷ behind) (subst Rises s.is rises)).1
-
-  sorted_in : (i : TreeItem) (behind : List TreeItem) → Stands items i behind → IsSorted (entries_in i behind)
-  sorted_in i behind s =
-      let ascending = children_ascend i.path (made behind) (made_rises behind (behind_rises i behind s)) in
-      record { files = files_ascend _ ascending; folders = folders_ascend _ ascending; apart = entries_apart _ ascending }
-
-  small_folder : (i : TreeItem) (behind : List TreeItem) → Stands items i behind → i.body ≡ None → IsSmall (tree_form (entries_in i behind)) × IsSmall (dirmeta_form i.meta)
-  small_folder i behind s folder = subst (IsSmallBy limits.content (made behind) i.path i.meta) folder (small_of i behind s)
-
-  tree_reads : (i : TreeItem) (behind : List TreeItem) → Stands items i behind → i.body ≡ None → ReadsDirTree (λ (x : Entries). x) (tree_bytes (made behind) i.path) (Ok (entries_in i behind))
-  tree_reads i behind s folder =
-      let h = small_folder i behind s folder in
-      (record { short = small_short _ h.0; form = small_form _ h.0 }, sums_in i behind, names_in i behind s, sorted_in i behind s)
-
-  meta_reads : (i : TreeItem) (behind : List TreeItem) → Stands items i behind → i.body ≡ None → ReadsDirMeta (λ (x : Meta). x) (meta_bytes i.meta) (Ok i.meta)
-  meta_reads i behind s folder =
-      let h = small_folder i behind s folder in
-      let w = wide_of i behind s in
-      (record { short = small_short _ h.1; uid = w.uid; gid = w.gid; mode = w.mode; form = small_form _ h.1 }, subst (FitsBody i.meta.mode) folder (mode_of i behind s))
+  reads_meta : (i : TreeItem) (behind : List TreeItem) → Stands items i behind → i.body ≡ None → ReadsDirMeta (λ (x : Meta). x) (meta_bytes i.meta) (Ok i.meta)
+  reads_meta = meta_reads limits items has.ordered has.typed has.makeable
 
   tree_there : (i : TreeItem) (behind : List TreeItem) → Stands items i behind → i.body ≡ None → S (name_of kinds.DirTree (sha256 (tree_bytes (made behind) i.path))) (tree_bytes (made behind) i.path)
   tree_there i behind s folder = object_there i behind (tree_object (tree_bytes (made behind) i.path)) s (subst (Among _) (sym (objects_folder (made behind) i folder)) (inl refl))
@@ -259,29 +57,22 @@ module _ (S : Store) (limits : Limits) (items : List TreeItem) (has : HasTree S 
   meta_there i behind s folder = object_there i behind (meta_object (meta_bytes i.meta)) s (subst (Among _) (sym (objects_folder (made behind) i folder)) (inr (inl refl)))
 
   has_entries : (i : TreeItem) (behind : List TreeItem) → Stands items i behind → i.body ≡ None → HasEntries S (sha256 (tree_bytes (made behind) i.path)) (entries_in i behind)
-  has_entries i behind s folder = record { bytes = tree_bytes (made behind) i.path; stored = tree_there i behind s folder; reads = tree_reads i behind s folder }
+  has_entries i behind s folder = record { bytes = tree_bytes (made behind) i.path; stored = tree_there i behind s folder; reads = reads_tree i behind s folder }
 
   has_meta : (i : TreeItem) (behind : List TreeItem) → Stands items i behind → i.body ≡ None → HasMeta S (sha256 (meta_bytes i.meta)) i.meta
-  has_meta i behind s folder = record { bytes = meta_bytes i.meta; stored = meta_there i behind s folder; reads = meta_reads i behind s folder }
+  has_meta i behind s folder = record { bytes = meta_bytes i.meta; stored = meta_there i behind s folder; reads = reads_meta i behind s folder }
 
   has_tree_object : (i : TreeItem) (behind : List TreeItem) → Stands items i behind → i.body ≡ None → Has S limits.content (name_of kinds.DirTree (sha256 (tree_bytes (made behind) i.path)))
-  has_tree_object i behind s folder = record { bytes = tree_bytes (made behind) i.path; stored = tree_there i behind s folder; formed = ∣ (entries_in i behind, tree_reads i behind s folder) ∣₁ }
+  has_tree_object i behind s folder = record { bytes = tree_bytes (made behind) i.path; stored = tree_there i behind s folder; formed = ∣ (entries_in i behind, reads_tree i behind s folder) ∣₁ }
 
   has_meta_object : (i : TreeItem) (behind : List TreeItem) → Stands items i behind → i.body ≡ None → Has S limits.content (name_of kinds.DirMeta (sha256 (meta_bytes i.meta)))
-  has_meta_object i behind s folder = record { bytes = meta_bytes i.meta; stored = meta_there i behind s folder; formed = ∣ (i.meta, meta_reads i behind s folder) ∣₁ }
-
-  file_reads : (i : TreeItem) (behind : List TreeItem) (body : BodySpec) → Stands items i behind → i.body ≡ Some body → ReadsFile limits.content (file_bytes i.meta body) (Ok (record { meta = i.meta; body = body_of body }))
-  file_reads i behind body s is =
-      let h = subst (IsSmallBy limits.content (made behind) i.path i.meta) is (small_of i behind s) in
-      let form = content_some limits.content i.meta (body_of body) h in
-      let w = wide_of i behind s in
-      (λ fits. file_within limits.content i.meta (body_of body) _ h form, form, subst (FitsBody i.meta.mode) is (mode_of i behind s), header_wide i.meta (body_of body) w.uid w.gid w.mode)
+  has_meta_object i behind s folder = record { bytes = meta_bytes i.meta; stored = meta_there i behind s folder; formed = ∣ (i.meta, reads_meta i behind s folder) ∣₁ }
 
   has_file_object : (i : TreeItem) (behind : List TreeItem) (body : BodySpec) → Stands items i behind → i.body ≡ Some body → Has S limits.content (name_of kinds.File (sha256 (file_bytes i.meta body)))
   has_file_object i behind body s is = record {
     bytes = file_bytes i.meta body;
     stored = object_there i behind (file_object (file_bytes i.meta body)) s (subst (Among _) (sym (objects_file (made behind) i body is)) (inl refl));
-    formed = ∣ (record { meta = i.meta; body = body_of body }, file_reads i behind body s is) ∣₁;
+    formed = ∣ (record { meta = i.meta; body = body_of body }, file_reads limits items has.ordered has.typed has.makeable i behind body s is) ∣₁;
   }
 
   -- ---- and as nothing else
@@ -290,15 +81,15 @@ module _ (S : Store) (limits : Limits) (items : List TreeItem) (has : HasTree S 
   entries_same i behind e s folder h =
       let bytes : h.bytes ≡ tree_bytes (made behind) i.path = has.one.one _ h.bytes (tree_bytes (made behind) i.path) h.stored (tree_there i behind s folder) in
       let form : tree_form e ≡ Some (tree_bytes (made behind) i.path) = h.reads.0.form ∙ ap Some bytes in
-      one_tree e (entries_in i behind) _ form (tree_reads i behind s folder).0.form
+      one_tree e (entries_in i behind) _ form (reads_tree i behind s folder).0.form
 
   meta_same : (i : TreeItem) (behind : List TreeItem) (m : Meta) → Stands items i behind → i.body ≡ None → HasMeta S (sha256 (meta_bytes i.meta)) m → m ≡ i.meta
   meta_same i behind m s folder h =
       let bytes : h.bytes ≡ meta_bytes i.meta = has.one.one _ h.bytes (meta_bytes i.meta) h.stored (meta_there i behind s folder) in
       let form : dirmeta_form m ≡ Some (meta_bytes i.meta) = h.reads.0.form ∙ ap Some bytes in
       let n = h.reads.0 in
-      let w = wide_of i behind s in
-      one_dirmeta m i.meta _ (record { uid = n.uid; gid = n.gid; mode = n.mode }) (record { uid = w.uid; gid = w.gid; mode = w.mode }) form (meta_reads i behind s folder).0.form
+      let w = wide_of limits items has.ordered has.typed has.makeable i behind s in
+      one_dirmeta m i.meta _ (record { uid = n.uid; gid = n.gid; mode = n.mode }) (record { uid = w.uid; gid = w.gid; mode = w.mode }) form (reads_meta i behind s folder).0.form
 
   -- ---- the tree that is shown
 
@@ -337,20 +128,6 @@ module _ (S : Store) (limits : Limits) (items : List TreeItem) (has : HasTree S 
       show_at _ _ n (deeper i.path w.item.path x q (w.at ∙ ap (under i.path) h.name)) (tree_up q n w.item w.behind stands w.is below))
       shown.2
 
-  -- what comes after an item stands behind it
-  after : (front : List TreeItem) (i j : TreeItem) (behind : List TreeItem) → Rises (front ++ i ∷ behind) → Among j (front ++ i ∷ behind) → path_cmp i.path j.path ≡ Less → Among j behind
-  after [] i j behind r (inl e) less = absurd (not_less_same i.path j.path (ap (λ (k : TreeItem). k.path) e) less)
-  after [] i j behind r (inr a) less = a
-  after (k ∷ front) i j behind r (inr a) less = after front i j behind r.1 a less
-  after (k ∷ front) i j behind r (inl e) less =
-      let first : path_cmp k.path i.path ≡ Less = all_at (λ (t : TreeItem). path_cmp k.path t.path ≡ Less) i (front ++ i ∷ behind) r.0 (among_right i front (i ∷ behind) (inl refl)) in
-      absurd (less_once i.path k.path (subst (λ (t : TreeItem). path_cmp i.path t.path ≡ Less) (sym e) less) first)
-
-  stands_after : (i : TreeItem) (behind : List TreeItem) (j : TreeItem) (x : Name) → Stands items i behind → Among j items → j.path ≡ under i.path x → (last : List TreeItem) × Stands behind j last
-  stands_after i behind j x s a at =
-      stands_among j behind
-      (after s.front i j behind (subst Rises s.is rises) (subst (Among j) s.is a) (subst (λ p. path_cmp i.path p ≡ Less) (sym at) (folder_first i.path x)))
-
   node_same : (i j : TreeItem) (n : NodeName) → i ≡ j → n ≡ node_by i.meta i.body → n ≡ node_by j.meta j.body
   node_same i j n e h = h ∙ ap (λ (k : TreeItem). node_by k.meta k.body) e
 
@@ -370,10 +147,6 @@ module _ (S : Store) (limits : Limits) (items : List TreeItem) (has : HasTree S 
       let sum = sha256 (file_bytes k.meta body) in
       let a = file_into behind i.path x sum (record { item = k; behind = last; stands = stands; at = at; body = body; is = is; sum_is = refl }) in
       (sum, record { item = record { name = x; file = sum }; among = among_contained _ _ a; name = refl; file = refl }, shown ∙ ap (node_by k.meta) is)
-
-  body_cases : (b : Option BodySpec) → (b ≡ None) ⊎ ((body : BodySpec) × (b ≡ Some body))
-  body_cases None = inl refl
-  body_cases (Some body) = inr (body, refl)
 
   longer : (p : Path) (y : Name) (r : Path) → p ≢ p ++ y ∷ r
   longer p y r e = omega (arith, ap length e, length-append p (y ∷ r))
@@ -399,7 +172,7 @@ module _ (S : Store) (limits : Limits) (items : List TreeItem) (has : HasTree S 
       (i.meta, has_meta i behind s folder, node_same shown.item i n same shown.node ∙ ap (node_by i.meta) folder)
   tree_down (x ∷ []) n i behind s folder shown =
       let j = shown.item in
-      let w = stands_after i behind j x s (contained_among j items shown.among) shown.at in
+      let w = stands_after items rises i behind j x s (contained_among j items shown.among) shown.at in
       let stands = stands_behind items i behind j w.0 s w.1 in (
         entries_in i behind,
         has_entries i behind s folder,
@@ -410,7 +183,7 @@ module _ (S : Store) (limits : Limits) (items : List TreeItem) (has : HasTree S 
       )
   tree_down (x ∷ y ∷ r) n i behind s folder shown =
       let k = first_folder i.path x y r n shown in
-      let w = stands_after i behind k.item x s (contained_among k.item items k.among) k.at in
+      let w = stands_after items rises i behind k.item x s (contained_among k.item items k.among) k.at in
       let stands = stands_behind items i behind k.item w.0 s w.1 in (
         entries_in i behind,
         has_entries i behind s folder,
@@ -454,13 +227,6 @@ path_contained items p i c e = among_contained p (paths_of items) (at items (con
     at [] a = absurd a
     at (j ∷ items) (inl same) = inl (ap (λ (k : TreeItem). k.path) same ∙ e)
     at (j ∷ items) (inr a) = inr (at items a)
-
-root_first : (i : TreeItem) (items : List TreeItem) → Rises (i ∷ items) → ItemFolder (i ∷ items) [] → (i.path ≡ []) × (i.body ≡ None)
-root_first i items r h = go (contained_among h.item (i ∷ items) h.among)
-  where
-    go : Among h.item (i ∷ items) → (i.path ≡ []) × (i.body ≡ None)
-    go (inl e) = (ap (λ (k : TreeItem). k.path) e ∙ h.at, ap (λ (k : TreeItem). k.body) e ∙ h.folder)
-    go (inr a) = absurd (none_before_root i.path (subst (λ p. path_cmp i.path p ≡ Less) h.at (all_at (λ (t : TreeItem). path_cmp i.path t.path ≡ Less) h.item items r.0 a)))
 
 commit_same : (S : Store) (commit : List ℕ) (c d : CommitParts) → IsMap S → HasCommit S commit c → HasCommit S commit d → c ≡ d
 commit_same S commit c d map g h =

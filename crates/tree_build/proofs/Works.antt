@@ -1,5 +1,5 @@
 -- The list of all objects in parts, and what is made as the way goes on.
-use Rattle.std.proofs.Common.{◌≡◌, ℕ, zero, suc, ◌<◌, ◌+◌, List, [], ◌∷◌, ◌++◌, length, get_or, take, drop, reverse, map, Some, None, refl, sym, ◌∙◌, ap, subst, arith}
+use Rattle.std.proofs.Common.{◌≡◌, ◌⊎◌, inl, inr, ℕ, zero, suc, ◌<◌, ◌+◌, List, [], ◌∷◌, ◌++◌, length, get_or, take, drop, reverse, map, Option, Some, None, refl, sym, ◌∙◌, ap, subst, arith}
 use Rattle.std.proofs.lemmas.List.{append-nil, append_assoc, map-append, reverse-append, take-append-drop, drop_more, length-append}
 use Rattle.sha2.specs.Sha256.{sha256}
 use Rattle.ost_forms.specs.declared.tree_item.BodySpec.{BodySpec}
@@ -41,6 +41,10 @@ number_second front i items o p os is =
     w.1 ∙ ap (λ r. r ++ w.0) (work_first i items ∙ ap (λ r. work items ++ r) is) ∙ append_assoc (work items) (o ∷ p ∷ os) w.0 ∙ sym (append_assoc (work items) (o ∷ []) (p ∷ (os ++ w.0)))
     in
     number_in _ _ _ p e (number_at (work items ++ o ∷ []) p (os ++ w.0) (length (work items) + 1) (sym (length-append (work items) (o ∷ []))))
+
+pub body_cases : (b : Option BodySpec) → (b ≡ None) ⊎ ((body : BodySpec) × (b ≡ Some body))
+body_cases None = inl refl
+body_cases (Some body) = inr (body, refl)
 
 pub objects_file : (ms : List Made) (i : TreeItem) (body : BodySpec) → i.body ≡ Some body → objects_of ms i ≡ file_object (file_bytes i.meta body) ∷ []
 objects_file ms i body is = ap (objects_by ms i.path i.meta) is

@@ -15,22 +15,18 @@ use Rattle.repo_model.specs.Whole.{Complete}
 use Rattle.tree_build.specs.Commits.{CommitsTree, HasTree}
 use Rattle.tree_build.specs.Items.{HasFolder as ItemFolder}
 use Rattle.tree_build.specs.Objects.{Object, file_bytes, file_object, made, meta_bytes, meta_object, root_of, tree_bytes, tree_object, work}
+use Rattle.tree_build.proofs.FolderEntries.{work_from}
 use Rattle.tree_build.proofs.Lists.{Among, contained_among}
-use Rattle.tree_build.proofs.Places.{stands_first}
+use Rattle.tree_build.proofs.Places.{root_first, stands_first}
 use Rattle.tree_build.proofs.Shown.{complete}
 use Rattle.tree_build.proofs.Suffixes.{rises_from}
-use Rattle.tree_build.proofs.Works.{objects_file, objects_folder}
+use Rattle.tree_build.proofs.Works.{body_cases, objects_file, objects_folder}
 use Rattle.reach.specs.Reach.{Is, IsIn, Reach, Refers, start, onward}
 use Rattle.reach.proofs.Reaching.{folder_kind, reach_back, reach_kind, reach_least, reach_stays, refers_where}
 use Rattle.tree_reach.specs.Trees.{CommitStore, Held, IsCommitOf, IsMadeTree, IsOfTree, IsRootOf, TreeStore}
-use Rattle.tree_reach.proofs.Entries.{work_from}
-use Rattle.tree_reach.proofs.Reached.{meta_there, only_work, root_first, tree_reached, tree_there}
+use Rattle.tree_reach.proofs.Reached.{meta_there, only_work, tree_reached, tree_there}
 
 -- ---- an object of a tree has its name
-
-body_cases : (b : Option BodySpec) → (b ≡ None) ⊎ ((body : BodySpec) × (b ≡ Some body))
-body_cases None = inl refl
-body_cases (Some body) = inr (body, refl)
 
 abbrev IsRight : Object → Type 0
 IsRight o = IsNamed o.name o.bytes

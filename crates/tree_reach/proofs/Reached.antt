@@ -1,39 +1,29 @@
 -- Each object of a tree is reached from its root, over the objects of the tree, and nothing else is.
-use Rattle.std.proofs.Common.{◌≡◌, ◌⊎◌, inl, inr, ℕ, zero, suc, ◌≤◌, ◌+◌, List, [], ◌∷◌, ◌++◌, length, Option, Some, None, Ok, refl, sym, ◌∙◌, ap, subst, ⊎_elim, arith}
+use Rattle.std.proofs.Common.{◌≡◌, ◌⊎◌, inl, inr, ℕ, zero, suc, ◌≤◌, ◌+◌, List, [], ◌∷◌, length, Some, None, Ok, refl, sym, ◌∙◌, ap, subst, ⊎_elim, arith}
 use Rattle.std.specs.Prelude.{Contains}
-use Rattle.std.specs.declared.cmp.Ordering.TheVariants.{Less}
 use Rattle.std.proofs.lemmas.List.{length-append}
-use Rattle.std.proofs.lemmas.List.Elements.{All-contains, All-map}
 use Rattle.sha2.specs.Sha256.{sha256}
-use Rattle.sha2.proofs.Facts256.{length-sha256}
 use Rattle.ost_types.specs.declared.limits.Limits.{Limits}
 use Rattle.ost_types.specs.declared.object.ObjName.{ObjName}
 use Rattle.ost_types.specs.declared.object.Kind.TheVariants as kinds
-use Rattle.ost_types.specs.Path.{Name, Path, AreNames, path_cmp, under}
-use Rattle.ost_types.specs.Text.{IsName}
-use Rattle.ost_forms.specs.declared.entry.FileItem.{FileItem}
-use Rattle.ost_forms.specs.declared.entry.FolderItem.{FolderItem}
+use Rattle.ost_types.specs.Path.{Name, under}
 use Rattle.ost_forms.specs.declared.tree_item.BodySpec.{BodySpec}
 use Rattle.ost_forms.specs.declared.tree_item.TreeItem.{TreeItem}
-use Rattle.ost_forms.specs.DirMeta.{dirmeta_form}
-use Rattle.ost_forms.specs.DirTree.{Entries, HasSums, HasNames, IsSorted, ReadsDirTree, tree_form}
+use Rattle.ost_forms.specs.DirTree.{Entries, ReadsDirTree}
 use Rattle.ost_forms.proofs.Laws.{one_tree}
 use Rattle.repo_model.specs.Objects.{Store}
 use Rattle.repo_model.specs.Trees.{name_of, HasEntries, HasFile, HasFolder}
-use Rattle.tree_build.specs.Items.{IsInFolder, HasFolder as ItemFolder}
-use Rattle.tree_build.specs.Objects.{Object, made, children, entries_of, tree_bytes, meta_bytes, file_bytes, work, file_object, tree_object, meta_object}
+use Rattle.tree_build.specs.Items.{IsInFolder}
+use Rattle.tree_build.specs.Objects.{Object, made, tree_bytes, meta_bytes, file_bytes, work, file_object, tree_object, meta_object}
 use Rattle.tree_build.specs.Objects as objects
-use Rattle.tree_build.specs.Makeable.{IsSmall, IsSmallBy, AreSmall}
-use Rattle.tree_build.proofs.Lists.{Among, contained_among, among_contained, among_right, all_at}
-use Rattle.tree_build.proofs.Orders.{not_less_same, less_once, folder_first, none_before_root}
-use Rattle.tree_build.proofs.Suffixes.{Rises, rises_from, rises_right}
-use Rattle.tree_build.proofs.Children.{children_ascend, files_ascend, folders_ascend, entries_apart}
-use Rattle.tree_build.proofs.Works.{objects_file, objects_folder}
-use Rattle.tree_build.proofs.Smalls.{small_at, small_form, small_short}
-use Rattle.tree_build.proofs.Places.{Stands, stands_first, stands_among, among_stands, stands_behind, work_among, one_at}
+use Rattle.tree_build.proofs.FolderEntries.{file_from, file_into, folder_from, folder_into, work_from}
+use Rattle.tree_build.proofs.Readings.{entries_in, tree_reads}
+use Rattle.tree_build.proofs.Lists.{Among, contained_among, among_contained}
+use Rattle.tree_build.proofs.Suffixes.{Rises, rises_from}
+use Rattle.tree_build.proofs.Works.{body_cases, objects_file, objects_folder}
+use Rattle.tree_build.proofs.Places.{Stands, root_first, stands_after, stands_first, stands_among, stands_once, among_stands, stands_behind, work_among, one_at}
 use Rattle.reach.specs.Reach.{ObjNames, IsEntry, IsIn, Reach, Refers, onward}
 use Rattle.tree_reach.specs.Trees.{IsMadeTree, TreeStore}
-use Rattle.tree_reach.proofs.Entries.{all_by, file_from, file_into, folder_from, folder_into, last_is_name, made_rises, work_from}
 
 module _ (limits : Limits) (items : List TreeItem) (has : IsMadeTree limits items) where
   abbrev S : Store
@@ -45,49 +35,11 @@ module _ (limits : Limits) (items : List TreeItem) (has : IsMadeTree limits item
   object_there : (i : TreeItem) (behind : List TreeItem) (o : Object) → Stands items i behind → Among o (objects.objects_of (made behind) i) → S o.name o.bytes
   object_there i behind o s a = (o, among_contained o (work items) (work_among items i behind o s a), refl, refl)
 
-  small_of : (i : TreeItem) (behind : List TreeItem) → Stands items i behind → IsSmallBy limits.content (made behind) i.path i.meta i.body
-  small_of i behind s = small_at limits.content s.front i behind (subst (AreSmall limits.content) s.is has.makeable.small)
-
   contains : (i : TreeItem) (behind : List TreeItem) → Stands items i behind → Contains items i
   contains i behind s = among_contained i items (among_stands items i behind s)
 
-  names_of_path : (i : TreeItem) (behind : List TreeItem) → Stands items i behind → AreNames i.path
-  names_of_path i behind s = All-contains (λ (i : TreeItem). AreNames i.path) items i has.typed.names (contains i behind s)
-
-  abbrev entries_in : TreeItem → List TreeItem → Entries
-  entries_in i behind = entries_of (children i.path (made behind))
-
-  sums_in : (i : TreeItem) (behind : List TreeItem) → HasSums (entries_in i behind)
-  sums_in i behind = record {
-    files = all_by (λ (e : FileItem). length e.file ≡ 32) _ (λ e a. let h = file_from behind i.path e a in ap length h.sum_is ∙ length-sha256 (file_bytes h.item.meta h.body));
-    trees = all_by (λ (e : FolderItem). length e.tree ≡ 32) _ (λ e a. let h = folder_from behind i.path e a in ap length h.tree_is ∙ length-sha256 (tree_bytes (made h.behind) h.item.path));
-    metas = all_by (λ (e : FolderItem). length e.meta ≡ 32) _ (λ e a. let h = folder_from behind i.path e a in ap length h.meta_is ∙ length-sha256 (meta_bytes h.item.meta));
-  }
-
-  name_by : (j : TreeItem) (last : List TreeItem) (f : Path) (x : Name) → Stands items j last → j.path ≡ under f x → IsName x
-  name_by j last f x s at = last_is_name f x (subst AreNames at (names_of_path j last s))
-
-  names_in : (i : TreeItem) (behind : List TreeItem) → Stands items i behind → HasNames (entries_in i behind)
-  names_in i behind s = record {
-    files = All-map IsName (λ (e : FileItem). e.name) _ (all_by (λ (e : FileItem). IsName e.name) _ (λ e a. let h = file_from behind i.path e a in name_by h.item h.behind i.path e.name (stands_behind items i behind h.item h.behind s h.stands) h.at));
-    folders = All-map IsName (λ (e : FolderItem). e.name) _ (all_by (λ (e : FolderItem). IsName e.name) _ (λ e a. let h = folder_from behind i.path e a in name_by h.item h.behind i.path e.name (stands_behind items i behind h.item h.behind s h.stands) h.at));
-  }
-
-  behind_rises : (i : TreeItem) (behind : List TreeItem) → Stands items i behind → Rises behind
-  behind_rises i behind s = (rises_right s.front (i ∷ behind) (subst Rises s.is rises)).1
-
-  sorted_in : (i : TreeItem) (behind : List TreeItem) → Stands items i behind → IsSorted (entries_in i behind)
-  sorted_in i behind s =
-      let ascending = children_ascend i.path (made behind) (made_rises behind (behind_rises i behind s)) in
-      record { files = files_ascend _ ascending; folders = folders_ascend _ ascending; apart = entries_apart _ ascending }
-
-  small_folder : (i : TreeItem) (behind : List TreeItem) → Stands items i behind → i.body ≡ None → IsSmall (tree_form (entries_in i behind)) × IsSmall (dirmeta_form i.meta)
-  small_folder i behind s folder = subst (IsSmallBy limits.content (made behind) i.path i.meta) folder (small_of i behind s)
-
-  tree_reads : (i : TreeItem) (behind : List TreeItem) → Stands items i behind → i.body ≡ None → ReadsDirTree (λ (x : Entries). x) (tree_bytes (made behind) i.path) (Ok (entries_in i behind))
-  tree_reads i behind s folder =
-      let h = small_folder i behind s folder in
-      (record { short = small_short _ h.0; form = small_form _ h.0 }, sums_in i behind, names_in i behind s, sorted_in i behind s)
+  reads_tree : (i : TreeItem) (behind : List TreeItem) → Stands items i behind → i.body ≡ None → ReadsDirTree (λ (x : Entries). x) (tree_bytes (made behind) i.path) (Ok (entries_in i behind))
+  reads_tree = tree_reads limits items has.ordered has.typed has.makeable
 
   pub tree_there : (i : TreeItem) (behind : List TreeItem) → Stands items i behind → i.body ≡ None → S (name_of kinds.DirTree (sha256 (tree_bytes (made behind) i.path))) (tree_bytes (made behind) i.path)
   tree_there i behind s folder = object_there i behind (tree_object (tree_bytes (made behind) i.path)) s (subst (Among _) (sym (objects_folder (made behind) i folder)) (inl refl))
@@ -96,46 +48,7 @@ module _ (limits : Limits) (items : List TreeItem) (has : IsMadeTree limits item
   meta_there i behind s folder = object_there i behind (meta_object (meta_bytes i.meta)) s (subst (Among _) (sym (objects_folder (made behind) i folder)) (inr (inl refl)))
 
   has_entries : (i : TreeItem) (behind : List TreeItem) → Stands items i behind → i.body ≡ None → HasEntries S (sha256 (tree_bytes (made behind) i.path)) (entries_in i behind)
-  has_entries i behind s folder = record { bytes = tree_bytes (made behind) i.path; stored = tree_there i behind s folder; reads = tree_reads i behind s folder }
-
-  -- what comes after an item stands behind it
-  after : (front : List TreeItem) (i j : TreeItem) (behind : List TreeItem) → Rises (front ++ i ∷ behind) → Among j (front ++ i ∷ behind) → path_cmp i.path j.path ≡ Less → Among j behind
-  after [] i j behind r (inl e) less = absurd (not_less_same i.path j.path (ap (λ (k : TreeItem). k.path) e) less)
-  after [] i j behind r (inr a) less = a
-  after (k ∷ front) i j behind r (inr a) less = after front i j behind r.1 a less
-  after (k ∷ front) i j behind r (inl e) less =
-      let first : path_cmp k.path i.path ≡ Less = all_at (λ (t : TreeItem). path_cmp k.path t.path ≡ Less) i (front ++ i ∷ behind) r.0 (among_right i front (i ∷ behind) (inl refl)) in
-      absurd (less_once i.path k.path (subst (λ (t : TreeItem). path_cmp i.path t.path ≡ Less) (sym e) less) first)
-
-  stands_after : (i : TreeItem) (behind : List TreeItem) (j : TreeItem) (x : Name) → Stands items i behind → Among j items → j.path ≡ under i.path x → (last : List TreeItem) × Stands behind j last
-  stands_after i behind j x s a at =
-      stands_among j behind
-      (after s.front i j behind (subst Rises s.is rises) (subst (Among j) s.is a) (subst (λ p. path_cmp i.path p ≡ Less) (sym at) (folder_first i.path x)))
-
-  -- an item stands at one place
-  twice : (j : TreeItem) (xs : List TreeItem) (i : TreeItem) (g b : List TreeItem) → Rises (j ∷ xs) → j ≡ i → xs ≡ g ++ i ∷ b → ⊥
-  twice j xs i g b r e q = not_less_same j.path i.path (ap (λ (t : TreeItem). t.path) e) (all_at (λ (t : TreeItem). path_cmp j.path t.path ≡ Less) i xs r.0 (subst (Among i) (sym q) (among_right i g (i ∷ b) (inl refl))))
-
-  heads : (j k : TreeItem) (xs ys : List TreeItem) → j ∷ xs ≡ k ∷ ys → (j ≡ k) × (xs ≡ ys)
-  heads j k xs ys e = (cc, cc)
-
-  no_items : (j : TreeItem) (xs : List TreeItem) → [] ≡ j ∷ xs → ⊥
-  no_items j xs e = cc
-
-  behind_one : (xs : List TreeItem) (i : TreeItem) (f g a b : List TreeItem) → Rises xs → xs ≡ f ++ i ∷ a → xs ≡ g ++ i ∷ b → a ≡ b
-  behind_one [] i [] g a b r x y = absurd (no_items i a x)
-  behind_one [] i (k ∷ f) g a b r x y = absurd (no_items k (f ++ i ∷ a) x)
-  behind_one (j ∷ xs) i [] [] a b r x y = sym (heads j i xs a x).1 ∙ (heads j i xs b y).1
-  behind_one (j ∷ xs) i (k ∷ f) (l ∷ g) a b r x y = behind_one xs i f g a b r.1 (heads j k xs (f ++ i ∷ a) x).1 (heads j l xs (g ++ i ∷ b) y).1
-  behind_one (j ∷ xs) i [] (l ∷ g) a b r x y = absurd (twice j xs i g b r (heads j i xs a x).0 (heads j l xs (g ++ i ∷ b) y).1)
-  behind_one (j ∷ xs) i (k ∷ f) [] a b r x y = absurd (twice j xs i f a r (heads j i xs b y).0 (heads j k xs (f ++ i ∷ a) x).1)
-
-  stands_once : (i : TreeItem) (a b : List TreeItem) → Stands items i a → Stands items i b → a ≡ b
-  stands_once i a b s t = behind_one items i s.front t.front a b rises s.is t.is
-
-  body_cases : (b : Option BodySpec) → (b ≡ None) ⊎ ((body : BodySpec) × (b ≡ Some body))
-  body_cases None = inl refl
-  body_cases (Some body) = inr (body, refl)
+  has_entries i behind s folder = record { bytes = tree_bytes (made behind) i.path; stored = tree_there i behind s folder; reads = reads_tree i behind s folder }
 
   -- what an item is named by is reached
   abbrev Named : ObjNames → TreeItem → List TreeItem → Type 0
@@ -160,8 +73,8 @@ module _ (limits : Limits) (items : List TreeItem) (has : IsMadeTree limits item
   in_folder : (from : ObjNames) (k : TreeItem) (above : List TreeItem) (i : TreeItem) (x : Name) → Stands items k above → k.body ≡ None → i.path ≡ under k.path x → Among i items → Reach S from (name_of kinds.DirTree (sha256 (tree_bytes (made above) k.path)))
       → (behind : List TreeItem) → Stands items i behind → Named from i behind
   in_folder from k above i x s folder at among tree behind stands =
-      let w = stands_after k above i x s among at in
-      let same : w.0 ≡ behind = stands_once i w.0 behind (stands_behind items k above i w.0 s w.1) stands in
+      let w = stands_after items rises k above i x s among at in
+      let same : w.0 ≡ behind = stands_once items rises i w.0 behind (stands_behind items k above i w.0 s w.1) stands in
       let entries = has_entries k above s folder in
       let parent = name_of kinds.DirTree (sha256 (tree_bytes (made above) k.path)) in
       subst (Named from i) same (⊎_elim
@@ -206,7 +119,7 @@ module _ (limits : Limits) (items : List TreeItem) (has : IsMadeTree limits item
   entries_of_work o i behind e s a kind reads = by (body_cases i.body)
     where
       same : i.body ≡ None → tree_object (tree_bytes (made behind) i.path) ≡ o → e ≡ entries_in i behind
-      same folder is = one_tree e (entries_in i behind) _ (reads.0.form ∙ ap Some (sym (ap (λ (x : Object). x.bytes) is))) (tree_reads i behind s folder).0.form
+      same folder is = one_tree e (entries_in i behind) _ (reads.0.form ∙ ap Some (sym (ap (λ (x : Object). x.bytes) is))) (reads_tree i behind s folder).0.form
 
       in_parts : i.body ≡ None → Among o (tree_object (tree_bytes (made behind) i.path) ∷ meta_object (meta_bytes i.meta) ∷ []) → (i.body ≡ None) × (e ≡ entries_in i behind)
       in_parts folder (inl is) = (folder, same folder is)
@@ -246,13 +159,6 @@ module _ (limits : Limits) (items : List TreeItem) (has : IsMadeTree limits item
       let parts = entries_of_work x.0 w.0 w.1 e w.2 w.3 k (subst (λ b. ReadsDirTree (λ (y : Entries). y) b (Ok e)) (sym x.3) here.reads) in
       entry_there w.0 w.1 next w.2 (subst (λ (y : Entries). IsEntry y next) parts.1 entry)
 
-pub root_first : (i : TreeItem) (items : List TreeItem) → Rises (i ∷ items) → ItemFolder (i ∷ items) [] → (i.path ≡ []) × (i.body ≡ None)
-root_first i items r h = go (contained_among h.item (i ∷ items) h.among)
-  where
-    go : Among h.item (i ∷ items) → (i.path ≡ []) × (i.body ≡ None)
-    go (inl e) = (ap (λ (k : TreeItem). k.path) e ∙ h.at, ap (λ (k : TreeItem). k.body) e ∙ h.folder)
-    go (inr a) = absurd (none_before_root i.path (subst (λ p. path_cmp i.path p ≡ Less) h.at (all_at (λ (t : TreeItem). path_cmp i.path t.path ≡ Less) h.item items r.0 a)))
-
 -- From the two names of the root all objects of the tree are reached.
 pub tree_reached : (limits : Limits) (i : TreeItem) (rest : List TreeItem) → IsMadeTree limits (i ∷ rest) → (from : ObjNames) → Reach (TreeStore (i ∷ rest)) from (name_of kinds.DirTree (objects.root_of (i ∷ rest)).0) → Reach (TreeStore (i ∷ rest)) from (name_of kinds.DirMeta (objects.root_of (i ∷ rest)).1)
     → (o : Object) → Contains (work (i ∷ rest)) o → Reach (TreeStore (i ∷ rest)) from o.name
@@ -268,6 +174,6 @@ tree_reached limits i rest has from tree meta = reached limits (i ∷ rest) has 
     root j behind s at o a =
         let same : i ≡ j = one_at (i ∷ rest) i j up (inl refl) (among_stands (i ∷ rest) j behind s) (is_root.0 ∙ sym at) in
         let t : Stands (i ∷ rest) i behind = subst (λ k. Stands (i ∷ rest) k behind) (sym same) s in
-        let back : rest ≡ behind = stands_once limits (i ∷ rest) has i rest behind (stands_first i rest) t in
+        let back : rest ≡ behind = stands_once (i ∷ rest) up i rest behind (stands_first i rest) t in
         by_parts limits (i ∷ rest) has from i rest is_root.1 tree meta o
         (subst (λ b. Among o (objects.objects_of (made b) i)) (sym back) (subst (λ k. Among o (objects.objects_of (made behind) k)) (sym same) a))
