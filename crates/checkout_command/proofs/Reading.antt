@@ -36,7 +36,7 @@ use Rattle.checkout_command.specs.ReadSteps.{CanMake, IsToMake, Lacks, ReadEnds,
 abbrev Turned : Type 0
 Turned = StepResult (Result (Unit {0}) TreeFault)
 
-module _ (d : Disk) (s : Reads) (reads : ReadKnows d s) (knows : Knows d s.task) (none : s.task.pending ≡ []) where
+module _ (d : Disk) (s : Reads) (reads : ReadKnows (Stores d) s) (knows : Knows (Stores d) s.task) (none : s.task.pending ≡ []) where
   pub complete : Complete (Stores d) s.request.limits s.request.commit
   complete = subst (λ l. Complete (Stores d) l s.request.commit) reads.limits (subst (Complete (Stores d) s.task.limits) reads.commit (whole d s.task knows none).0)
 
@@ -49,16 +49,16 @@ module _ (d : Disk) (s : Reads) (reads : ReadKnows d s) (knows : Knows d s.task)
   pub placed : (into : Path) → IsPathMap s.task.found → HasRoomBelow into → IsPlaced into s.task.found
   placed into map room = tree_placed d s.request.limits s.request.commit s.task.found map complete tree_is into room
 
-can_be_made : (d : Disk) (s : Reads) → ReadKnows d s → Knows d s.task → s.task.pending ≡ [] → (into : Path) → IsPathMap s.task.found → HasRoomBelow into → CanMake into s
+can_be_made : (d : Disk) (s : Reads) → ReadKnows (Stores d) s → Knows (Stores d) s.task → s.task.pending ≡ [] → (into : Path) → IsPathMap s.task.found → HasRoomBelow into → CanMake into s
 can_be_made d s reads knows none into map room = record { few = few d s reads knows none; placed = placed d s reads knows none into map room }
 
 -- so a tree that was read can be made
-pub not_refused : (d : Disk) (s : Reads) (into : Path) (b : Bool) → (IsTrue b ↔ CanMake into s) → b ≡ false → IsPathMap s.task.found → HasRoomBelow into → ReadKnows d s → Knows d s.task → s.task.pending ≡ [] → ⊥
+pub not_refused : (d : Disk) (s : Reads) (into : Path) (b : Bool) → (IsTrue b ↔ CanMake into s) → b ≡ false → IsPathMap s.task.found → HasRoomBelow into → ReadKnows (Stores d) s → Knows (Stores d) s.task → s.task.pending ≡ [] → ⊥
 not_refused d s into b iff off map room reads knows none =
     let on : true ≡ false = sym (iff.1 (can_be_made d s reads knows none into map room)) ∙ off in
     cc
 
-to_make_by : (d : Disk) (s : Reads) → ReadKnows d s → Knows d s.task → s.task.pending ≡ [] → (request : Request) (into : Path) (tree : Nodes) → request ≡ s.request → into ≡ checkout_path s.request.name → tree ≡ s.task.found → IsPathMap tree → IsPlaced into s.task.found
+to_make_by : (d : Disk) (s : Reads) → ReadKnows (Stores d) s → Knows (Stores d) s.task → s.task.pending ≡ [] → (request : Request) (into : Path) (tree : Nodes) → request ≡ s.request → into ≡ checkout_path s.request.name → tree ≡ s.task.found → IsPathMap tree → IsPlaced into s.task.found
     → IsToMake d s.request (record { request = request; task = beginning into tree; made = made.Nothing })
 to_make_by d s reads knows none request into tree asked at found map fits = record {
   request = asked;
@@ -70,7 +70,7 @@ to_make_by d s reads knows none request into tree asked at found map fits = reco
   tree = subst (IsTreeOf (Stores d) s.request.commit) (sym found) (tree_is d s reads knows none);
 }
 
-pub to_make : (d : Disk) (inside old : Reads) → inside ≡ old → ReadKnows d old → Knows d old.task → old.task.pending ≡ [] → (request : Request) (into : Path) (tree : Nodes) (m : Make) → m ≡ record { request = request; task = beginning into tree; made = made.Nothing }
+pub to_make : (d : Disk) (inside old : Reads) → inside ≡ old → ReadKnows (Stores d) old → Knows (Stores d) old.task → old.task.pending ≡ [] → (request : Request) (into : Path) (tree : Nodes) (m : Make) → m ≡ record { request = request; task = beginning into tree; made = made.Nothing }
     → request ≡ inside.request → into ≡ checkout_path inside.request.name → tree ≡ old.task.found → IsPathMap tree → CanMake into old → IsToMake d old.request m
 to_make d inside old same reads knows none request into tree m is asked at found map can =
     subst (IsToMake d old.request) (sym is)
@@ -119,9 +119,9 @@ left_small t = left_in_small t.begun t.limits.paths (length t.found) t.pending
 lacking_told : (d : Disk) (old : Reads) (o : ObjName) (t : CheckoutCommand) → t ≡ command.Ended (answer.Lacking (path_of o)) → IsFirstAbsent d old.request.limits old.request.commit o ⊎ IsFirstDamaged d old.request.limits old.request.commit o → ReadEnds d old t
 lacking_told d old o t is says = subst (ReadEnds d old) (sym is) (o, refl, says)
 
-pub damaged_told : (d : Disk) (old inside : Reads) (r : Turned) (o : ObjName) (t : CheckoutCommand) (after : Reading) → inside ≡ old → r ≡ turn.Done (Err (fault.Damaged o)) → (IsSoFar d inside.task → StepTells d inside.task (Ok r) after) → ReadKnows d old → Lacks o t → ReadEnds d old t
+pub damaged_told : (d : Disk) (old inside : Reads) (r : Turned) (o : ObjName) (t : CheckoutCommand) (after : Reading) → inside ≡ old → r ≡ turn.Done (Err (fault.Damaged o)) → (IsSoFar (Stores d) inside.task → StepTells d inside.task (Ok r) after) → ReadKnows (Stores d) old → Lacks o t → ReadEnds d old t
 damaged_told d old inside r o t after same is tells reads lacks =
-    let knows : ReadKnows d inside = subst (ReadKnows d) (sym same) reads in
+    let knows : ReadKnows (Stores d) inside = subst (ReadKnows (Stores d)) (sym same) reads in
     let told : IsFirstDamaged d inside.task.limits inside.task.commit o = subst (λ x. StepTells d inside.task (Ok x) after) is (tells knows.so_far) in
     let first : IsFirstDamaged d inside.request.limits inside.request.commit o = subst (λ c. IsFirstDamaged d inside.request.limits c o) knows.commit (subst (λ l. IsFirstDamaged d l inside.task.commit o) knows.limits told) in
     lacking_told d old o t lacks (inr (subst (λ (s : Reads). IsFirstDamaged d s.request.limits s.request.commit o) same first))

@@ -47,7 +47,7 @@ checkout_kind (command.Ended a) = Quiet
 -- what it knows of a disk; after its end nothing is asked of it
 abbrev pub checkout_needs : ℕ → CheckoutCommand → View → Type 0
 checkout_needs actor (command.Look r) v = Unit {0}
-checkout_needs actor (command.Read s) v = ReadKnows v.now s
+checkout_needs actor (command.Read s) v = ReadKnows (Stores v.now) s
 checkout_needs actor (command.Make m) v = MakeNeeds m v.now
 checkout_needs actor (command.Ended a) v = ⊥
 
@@ -70,7 +70,7 @@ checkout_stepped t (turn.Done x) new = (a : CheckoutAnswer) × (new ≡ command.
 -- how it goes on
 abbrev pub Goes : CheckoutCommand → CheckoutCommand → View → View → Type 0
 Goes (command.Look r) (command.Read s) v w = (w ≡ v) × (s ≡ reading r) × IsFound v.now r.commit Whole × IsTree v.now
-Goes (command.Read s) (command.Read n) v w = (w ≡ v) × (n.request ≡ s.request) × ReadKnows v.now n
+Goes (command.Read s) (command.Read n) v w = (w ≡ v) × (n.request ≡ s.request) × ReadKnows (Stores v.now) n
 Goes (command.Read s) (command.Make m) v w = (w ≡ v) × IsToMake v.now s.request m
 Goes (command.Make m) (command.Make n) v w = Makes m n v w
 Goes t new v w = ⊥
@@ -109,7 +109,7 @@ pub record Making (lane : ℕ) (m : Make) (v : View) (b : Books) : Type 0 where
 
 abbrev pub Known : ℕ → CheckoutCommand → View → Books → Type 0
 Known lane (command.Look r) v b = Unit {0}
-Known lane (command.Read s) v b = ReadKnows v.now s
+Known lane (command.Read s) v b = ReadKnows (Stores v.now) s
 Known lane (command.Make m) v b = Making lane m v b
 Known lane (command.Ended a) v b = ⊥
 

@@ -119,7 +119,7 @@ module _ (b : Books) (v w : View) (actor lane : ℕ) (writes : Writes (Guarantee
   founded_kept (command.Make m) f = finished_now b v w actor lane writes m.request.commit f
   founded_kept (command.Ended a) f = f
 
-  pub reading_kept : (s : Reads) → ReadKnows v.now s → ReadKnows w.now s
+  pub reading_kept : (s : Reads) → ReadKnows (Stores v.now) s → ReadKnows (Stores w.now) s
   reading_kept s k = record { commit = k.commit; limits = k.limits; so_far = λ begun. reading_up v.now w.now more s.task (k.so_far begun) }
 
   -- what the next step needs, where nobody writes in a folder that is made

@@ -137,7 +137,7 @@ module _ (lane : ℕ) (m n : Make) (v w : View) (b b' : Books) (making : Making 
     home = home_kept b v w lane lane writes home;
   }
 
-begins_to_read : (r : Request) (v : View) → ReadKnows v.now (reading r)
+begins_to_read : (r : Request) (v : View) → ReadKnows (Stores v.now) (reading r)
 begins_to_read r v = record { commit = refl; limits = refl; so_far = λ begun. absurd (let n : false ≡ true = begun in cc) }
 
 begins_to_make : (lane : ℕ) (r : Request) (m : Make) (v : View) (b : Books) → IsToMake v.now r m → IsHome v → Making lane m v b

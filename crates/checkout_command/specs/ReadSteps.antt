@@ -1,11 +1,11 @@
--- What is known of a disk while the tree is read, and what those steps tell and do.
+-- What is known of a store while the tree is read, and what those steps tell and do.
 use Rattle.std.specs.Prelude.{◌≡◌, ◌<◌, ◌≤◌, ◌+◌, ℕ, [], length, false, Option, Some, None}
 use Rattle.ost_types.specs.declared.object.ObjName.{ObjName}
 use Rattle.ost_types.specs.Path.{Path}
 use Rattle.ost_types.specs.PathMap.{IsPathMap}
 use Rattle.fs_trait.specs.View.{Disk}
 use Rattle.repo_layout.specs.BootPaths.{checkout_path}
-use Rattle.repo_model.specs.Objects.{Stores, path_of}
+use Rattle.repo_model.specs.Objects.{Store, Stores, path_of}
 use Rattle.repo_model.specs.Whole.{Complete}
 use Rattle.tree_read.specs.Reading.{IsSoFar, left_of}
 use Rattle.checkout.specs.CheckoutWork.{IsPlaced, beginning}
@@ -29,10 +29,10 @@ abbrev pub read_left : Reads → ℕ
 read_left s = left_of s.task + s.request.limits.paths + 2
 
 -- What was read so far is of the commit's tree.
-pub record ReadKnows (d : Disk) (s : Reads) : Type 0 where
+pub record ReadKnows (S : Store) (s : Reads) : Type 0 where
   pub commit : s.task.commit ≡ s.request.commit
   pub limits : s.task.limits ≡ s.request.limits
-  pub so_far : IsSoFar d s.task
+  pub so_far : IsSoFar S s.task
 
 -- All was read: the commit is whole, and its tree is to be made, of which nothing is made yet.
 pub record IsToMake (d : Disk) (r : Request) (m : Make) : Type 0 where
@@ -60,7 +60,7 @@ ReadEnds d old (command.Ended (answer.Lacking p)) = SaysLacking d old.request.li
 ReadEnds d old t = ⊥
 
 abbrev pub ReadTells : Disk → Reads → Reads → Option CheckoutCommand → Type 0
-ReadTells d old new None = (new.request ≡ old.request) × ReadKnows d new
+ReadTells d old new None = (new.request ≡ old.request) × ReadKnows (Stores d) new
 ReadTells d old new (Some t) = ReadEnds d old t
 
 -- The same, told or not.

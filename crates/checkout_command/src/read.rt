@@ -3,6 +3,7 @@ ghost use Rattle.std.specs.Prelude.{◌≡◌, ◌≤◌, ◌↔◌, [], Some, I
 ghost use Rattle.ost_types.specs.PathMap.{IsPathMap};
 ghost use Rattle.fs_trait.specs.View.{Disk, View};
 ghost use Rattle.fs_trait.specs.Effect.{HasCause, IsQuiet, OfNone};
+ghost use Rattle.repo_model.specs.Objects.{Stores};
 ghost use Rattle.tree_read.specs.Reading.{Knows};
 ghost use Rattle.checkout_command.specs.ReadSteps.{CanMake, IsReadEnd, IsReadStepped, Lacks, ReadEnds, ReadKnows, ReadTells, read_left, reading};
 
@@ -49,9 +50,9 @@ impl Read {
 
     /// Reads the next object. None where it goes on.
     pub(crate) fn step<F: Fs>(&mut self, fs: &mut F) -> Result<Option<CheckoutCommand>, FsErr>
-        ensures told { (v : View) → F.view fs.old ≡ Some v → ReadKnows v.now self.old → IfOk result (ReadTells v.now self.old self.new) }
+        ensures told { (v : View) → F.view fs.old ≡ Some v → ReadKnows (Stores v.now) self.old → IfOk result (ReadTells v.now self.old self.new) }
         ensures stepped { IfOk result (IsReadStepped self.old self.new) }
-        ensures named { (v : View) → F.view fs.old ≡ Some v → ReadKnows v.now self.old → IfErr result OfNone }
+        ensures named { (v : View) → F.view fs.old ≡ Some v → ReadKnows (Stores v.now) self.old → IfErr result OfNone }
         ensures quiet { IsQuiet (F.clock fs.old) (F.clock fs.new) (F.was fs.old) (F.was fs.new) (F.view fs.old) (F.view fs.new) }
         ensures keeps_room { F.spare fs.old ≤ F.spare fs.new }
         ensures cause { HasCause (F.faults fs.old) (F.faults fs.new) result }
@@ -67,7 +68,7 @@ impl Read {
 
     /// All was read, and is to be made. What isn't the tree of a commit isn't made.
     fn whole(&mut self) -> Result<CheckoutCommand, NoMemory>
-        ensures told { (d : Disk) → ReadKnows d self.old → Knows d self.old.task → self.old.task.pending ≡ [] → IfOk result (ReadEnds d self.old) }
+        ensures told { (d : Disk) → ReadKnows (Stores d) self.old → Knows (Stores d) self.old.task → self.old.task.pending ≡ [] → IfOk result (ReadEnds d self.old) }
         ensures stepped { IfOk result (IsReadEnd self.old) }
     {
         let request = self.request.copied()?;

@@ -26,15 +26,15 @@ begins_anew ask.Log l x begins = begins
 
 module _ (d : Disk) (l : look.Look) where
   abbrev Goes : ReadCommand → Type 0
-  Goes t = (asked t ≡ asked (Look l)) × Knows d t
+  Goes t = (asked t ≡ asked (Look l)) × Knows (Stores d) t
 
   begun : (a : Ask) → a ≡ l.ask → (t : ReadCommand) → BeginsBy a l t → Goes t
-  begun (ask.Cat path) is (Cat c) b = (ap (λ x. asked (Cat x)) b ∙ ap (λ x. Some (record { limits = l.limits; commit = l.commit; ask = x })) is, subst (CatKnows d) (sym b) tt)
+  begun (ask.Cat path) is (Cat c) b = (ap (λ x. asked (Cat x)) b ∙ ap (λ x. Some (record { limits = l.limits; commit = l.commit; ask = x })) is, subst (CatKnows (Stores d)) (sym b) tt)
   begun (ask.Cat path) is (Look x) b = absurd b
   begun (ask.Cat path) is (Ls x) b = absurd b
   begun (ask.Cat path) is (Log x) b = absurd b
   begun (ask.Cat path) is (Ended x) b = absurd b
-  begun (ask.Ls path) is (Ls s) b = (ap (λ x. asked (Ls x)) b ∙ ap (λ x. Some (record { limits = l.limits; commit = l.commit; ask = x })) is, subst (LsKnows d) (sym b) (λ begun. absurd (let n : false ≡ true = begun in cc)))
+  begun (ask.Ls path) is (Ls s) b = (ap (λ x. asked (Ls x)) b ∙ ap (λ x. Some (record { limits = l.limits; commit = l.commit; ask = x })) is, subst (LsKnows (Stores d)) (sym b) (λ begun. absurd (let n : false ≡ true = begun in cc)))
   begun (ask.Ls path) is (Look x) b = absurd b
   begun (ask.Ls path) is (Cat x) b = absurd b
   begun (ask.Ls path) is (Log x) b = absurd b

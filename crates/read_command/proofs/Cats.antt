@@ -113,7 +113,7 @@ file_at : (S : Store) (tree meta : List ℕ) (e : Entries) (x : Name) (sum : Lis
 unfolding Shows
 file_at S tree meta e x sum has file = (e, has, inl (sum, file, refl))
 
-pub come_first : (d : Disk) (commit : List ℕ) (path : Path) (parts : CommitParts) → HasCommit (Stores d) commit parts → HasCome d commit path parts.tree parts.meta 0
+pub come_first : (d : Disk) (commit : List ℕ) (path : Path) (parts : CommitParts) → HasCommit (Stores d) commit parts → HasCome (Stores d) commit path parts.tree parts.meta 0
 unfolding Way
 come_first d commit path parts has = record { deep = omega arith; parts = parts; here = has; way = (refl, refl) }
 
@@ -121,13 +121,13 @@ come_first d commit path parts has = record { deep = omega arith; parts = parts;
 pub no_commit : (d : Disk) (old new : Cat) (o : Option ReadAnswer) → o ≡ Some (answer.Lacking (path_of (name_of kind.Commit old.commit))) → IsAbsent d (name_of kind.Commit old.commit) ⊎ IsDamaged d old.limits.content (name_of kind.Commit old.commit) → CatTells d old new o
 no_commit d old new o is why = subst (CatTells d old new) (sym is) (name_of kind.Commit old.commit, refl, inl refl, why)
 
-module _ (d : Disk) (old : Cat) (tree meta : List ℕ) (depth : ℕ) (at : old.place ≡ place.Folder tree meta depth) (knows : CatKnows d old) where
-  come : HasCome d old.commit old.path tree meta depth
-  come = subst (λ p. KnowsAt p d old) at knows
+module _ (d : Disk) (old : Cat) (tree meta : List ℕ) (depth : ℕ) (at : old.place ≡ place.Folder tree meta depth) (knows : CatKnows (Stores d) old) where
+  come : HasCome (Stores d) old.commit old.path tree meta depth
+  come = subst (λ p. KnowsAt p (Stores d) old) at knows
 
   -- the entries of the folder are there
   pub entered : (e : Entries) → HasEntries (Stores d) tree e → (new : Cat) (o : Option ReadAnswer) → Enters e depth old new o → CatTells d old new o
-  entered e has new None (x, rest, splits, inl (t, m, folder, is)) = subst (CatKnows d) (sym is) (record {
+  entered e has new None (x, rest, splits, inl (t, m, folder, is)) = subst (CatKnows (Stores d)) (sym is) (record {
     deep = omega (arith, ap length splits.cut, length-append (take depth old.path) (x ∷ rest), length-take depth old.path, come.deep);
     parts = come.parts;
     here = come.here;
@@ -135,7 +135,7 @@ module _ (d : Disk) (old : Cat) (tree meta : List ℕ) (depth : ℕ) (at : old.p
   })
   entered e has new None (x, rest, splits, inr (sum, file, last, is)) =
       let path : old.path ≡ take depth old.path ++ x ∷ [] = splits.cut ∙ ap (λ r. take depth old.path ++ x ∷ r) last in
-      subst (CatKnows d) (sym is)
+      subst (CatKnows (Stores d)) (sym is)
       (come.parts, come.here, subst (λ p. Shows (Stores d) come.parts.tree come.parts.meta p (node.Leaf sum)) (sym path) (way_shows (Stores d) come.parts.tree come.parts.meta (take depth old.path) tree meta (x ∷ []) (node.Leaf sum) come.way (file_at (Stores d) tree meta e x sum has file)))
   entered e has new (Some (answer.NoPath p)) (same, x, rest, splits, stops) =
       (same, nowhere (Stores d) (stores_map d) old.limits.content tree meta e has x rest old.commit old.path (take depth old.path) come.parts splits.cut come.here come.way stops)
@@ -173,9 +173,9 @@ module _ (d : Disk) (old : Cat) (tree meta : List ℕ) (depth : ℕ) (at : old.p
       (same, node.Folder a, (come.parts, come.here, subst (λ q. Shows (Stores d) come.parts.tree come.parts.meta q (node.Folder a)) path (way_shows (Stores d) come.parts.tree come.parts.meta (take depth old.path) tree meta [] (node.Folder a) come.way (folder_at (Stores d) a has))), tt)
 
 -- the file at the path
-module _ (d : Disk) (old : Cat) (sum : List ℕ) (at : old.place ≡ place.File sum) (knows : CatKnows d old) where
+module _ (d : Disk) (old : Cat) (sum : List ℕ) (at : old.place ≡ place.File sum) (knows : CatKnows (Stores d) old) where
   pub file_shown : TreeShows (Stores d) old.commit old.path (node.Leaf sum)
-  file_shown = subst (λ p. KnowsAt p d old) at knows
+  file_shown = subst (λ p. KnowsAt p (Stores d) old) at knows
 
   pub no_file_there : (new : Cat) (o : Option ReadAnswer) → o ≡ Some (answer.Lacking (path_of (name_of kind.File sum))) → IsAbsent d (name_of kind.File sum) ⊎ IsDamaged d old.limits.content (name_of kind.File sum) → CatTells d old new o
   no_file_there new o is why = subst (CatTells d old new) (sym is) (name_of kind.File sum, refl, inr (file_shown.0, file_shown.1, old.path, shown_leaf (Stores d) file_shown.0.tree file_shown.0.meta old.path sum file_shown.2), why)

@@ -54,7 +54,7 @@ not_in (e ∷ m) p none q is has = by (same_or_apart e.0 p) (head_or_tail e.0 (p
     by (inr apart) (inr t) rest = rest (sym (ap (λ b. if b then Some e.1 else node_at m p) (same_path-apart e.0 p apart)) ∙ none) t
 
 -- what is listed of a map is what the disk shows
-module _ (d : Disk) (t : Reading) (knows : Knows d t) (all : t.pending ≡ []) (path : Path) where
+module _ (d : Disk) (t : Reading) (knows : Knows (Stores d) t) (all : t.pending ≡ []) (path : Path) where
   none_waits : (i : Item) → Contains t.pending i → ⊥
   none_waits i h = let k = subst (λ items. Contains items i) all h in omega (arith, k.1)
 

@@ -27,7 +27,7 @@ some_last [] r e = let n : r ∷ [] ≡ [] = e in cc
 some_last (q ∷ rows) r e = let n : q ∷ (rows ++ r ∷ []) ≡ [] = e in cc
 
 -- the next commit is there
-pub taken : (d : Disk) (old new : Log) (c : Commit) (o : Option ReadAnswer) → LogKnows d old → HasCommit (Stores d) old.next (parts_of c) → Takes c old new o → LogTells d old new o
+pub taken : (d : Disk) (old new : Log) (c : Commit) (o : Option ReadAnswer) → LogKnows (Stores d) old → HasCommit (Stores d) old.next (parts_of c) → Takes c old new o → LogTells d old new o
 taken d old new c None knows has (parent, is, commit, limits, rows, next) =
     let chain = chain_more (Stores d) old.commit old.rows.items old.next (record { commit = old.next; time = c.time; subject = c.subject }) (parts_of c) knows has refl refl refl in
     subst (λ f. IsChain (Stores d) f new.rows.items new.next) (sym commit)
@@ -49,7 +49,7 @@ taken d old new c (Some (answer.NoPath p)) knows has t = absurd t
 taken d old new c (Some (answer.NotFile p)) knows has t = absurd t
 taken d old new c (Some (answer.Lacking a)) knows has t = absurd t
 
-module _ (d : Disk) (old new : Log) (knows : LogKnows d old) (sum : IsSum old.next) where
+module _ (d : Disk) (old new : Log) (knows : LogKnows (Stores d) old) (sum : IsSum old.next) where
   -- the next commit is damaged
   pub damaged_next : (o : Option ReadAnswer) → o ≡ Some (answer.Lacking (path_of (name_of CommitKind old.next))) → IsDamaged d old.limits.content (name_of CommitKind old.next) → LogTells d old new o
   damaged_next o is damaged = subst (LogTells d old new) (sym is) (name_of CommitKind old.next, refl, (old.rows.items, old.next, sum, knows, refl, inr damaged))

@@ -1,4 +1,4 @@
--- What `cat` knows of a disk, and what its steps tell and do.
+-- What `cat` knows of a store, and what its steps tell and do.
 use Rattle.std.specs.Prelude.{◌≡◌, ◌≢◌, ◌⊎◌, ◌<◌, ◌≤◌, ◌+◌, ◌-◌, ℕ, List, [], ◌∷◌, ◌++◌, length, take, Option, Some, None}
 use Rattle.ost_types.specs.declared.node.NodeName.TheVariants.{Leaf}
 use Rattle.ost_types.specs.Path.{Name, Path}
@@ -7,7 +7,7 @@ use Rattle.ost_forms.specs.declared.body.Body.TheVariants.{Regular, Symlink}
 use Rattle.ost_forms.specs.Commit.{CommitParts}
 use Rattle.ost_forms.specs.DirTree.{Entries}
 use Rattle.fs_trait.specs.View.{Disk}
-use Rattle.repo_model.specs.Objects.{Stores}
+use Rattle.repo_model.specs.Objects.{Store, Stores}
 use Rattle.repo_model.specs.Trees.{HasCommit, HasFile, HasFolder, TreeShows}
 use Rattle.read_command.specs.declared.answer.ReadAnswer.{ReadAnswer}
 use Rattle.read_command.specs.declared.answer.ReadAnswer.TheVariants as answer
@@ -21,22 +21,22 @@ use Rattle.read_command.specs.Fits.{Fits}
 use Rattle.read_command.specs.Ways.{Way}
 
 -- the folder is the one at so many names of the path
-pub record HasCome (d : Disk) (commit : List ℕ) (path : Path) (tree meta : List ℕ) (depth : ℕ) : Type 0 where
+pub record HasCome (S : Store) (commit : List ℕ) (path : Path) (tree meta : List ℕ) (depth : ℕ) : Type 0 where
   pub deep : depth ≤ length path
   pub parts : CommitParts
-  pub here : HasCommit (Stores d) commit parts
-  pub way : Way (Stores d) parts.tree parts.meta (take depth path) tree meta
+  pub here : HasCommit S commit parts
+  pub way : Way S parts.tree parts.meta (take depth path) tree meta
 
-abbrev pub KnowsAt : Place → Disk → Cat → Type 0
-KnowsAt Commit d c = Unit {0}
-KnowsAt (Folder tree meta depth) d c = HasCome d c.commit c.path tree meta depth
-KnowsAt (File sum) d c = TreeShows (Stores d) c.commit c.path (Leaf sum)
+abbrev pub KnowsAt : Place → Store → Cat → Type 0
+KnowsAt Commit S c = Unit {0}
+KnowsAt (Folder tree meta depth) S c = HasCome S c.commit c.path tree meta depth
+KnowsAt (File sum) S c = TreeShows S c.commit c.path (Leaf sum)
 
-abbrev pub CatKnows : Disk → Cat → Type 0
-CatKnows d c = KnowsAt c.place d c
+abbrev pub CatKnows : Store → Cat → Type 0
+CatKnows S c = KnowsAt c.place S c
 
 abbrev pub CatTells : Disk → Cat → Cat → Option ReadAnswer → Type 0
-CatTells d old new None = CatKnows d new
+CatTells d old new None = CatKnows (Stores d) new
 CatTells d old new (Some a) = SaysCat d old.limits.content old.commit old.path a
 
 -- at most so many steps go on, where the path has so many names

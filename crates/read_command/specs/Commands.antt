@@ -10,6 +10,7 @@ use Rattle.fs_trait.specs.View.{Disk, View}
 use Rattle.fs_trait.specs.Seen.{Seen}
 use Rattle.fs_trait.specs.Change.{Nothing}
 use Rattle.repo_layout.specs.RefFile.{IsSum}
+use Rattle.repo_model.specs.Objects.{Store, Stores}
 use Rattle.tree_read.specs.Reading.{left_of}
 use Rattle.rely_guarantee.specs.Books.{Books}
 use Rattle.rely_guarantee.specs.Laws.{Kind, Quiet, Take}
@@ -43,15 +44,15 @@ IsReading (Ended a) = ⊥
 IsReading t = Unit {0}
 
 -- what it knows of a disk; after its end nothing is asked of it
-abbrev pub Knows : Disk → ReadCommand → Type 0
-Knows d (Look l) = Unit {0}
-Knows d (Cat c) = CatKnows d c
-Knows d (Ls s) = LsKnows d s
-Knows d (Log g) = LogKnows d g
-Knows d (Ended a) = ⊥
+abbrev pub Knows : Store → ReadCommand → Type 0
+Knows S (Look l) = Unit {0}
+Knows S (Cat c) = CatKnows S c
+Knows S (Ls s) = LsKnows S s
+Knows S (Log g) = LogKnows S g
+Knows S (Ended a) = ⊥
 
 abbrev pub read_needs : ℕ → ReadCommand → View → Type 0
-read_needs actor t v = Knows v.now t
+read_needs actor t v = Knows (Stores v.now) t
 
 -- nothing is ever written
 abbrev pub read_writes : ℕ → ReadCommand → View → Path → Seen → Type 0
@@ -80,14 +81,14 @@ Tells (Look l) d a = SaysStopped d l.commit a
 Tells t d a = Answers d (asked t) a
 
 abbrev pub read_leaves : ReadCommand → StepResult (Unit {0}) → ReadCommand → View → View → Type 0
-read_leaves t turn.More new v w = (w ≡ v) × (asked new ≡ asked t) × Knows w.now new × IsReading new × Goes t v.now
+read_leaves t turn.More new v w = (w ≡ v) × (asked new ≡ asked t) × Knows (Stores w.now) new × IsReading new × Goes t v.now
 read_leaves t (turn.Done x) new v w = (w ≡ v) × (a : ReadAnswer) × (new ≡ Ended a) × Tells t v.now a
 
 abbrev pub read_refuses : ReadCommand → View → FsErr → Type 0
 read_refuses t v e = OfNone e
 
 abbrev pub read_facts : ℕ → ReadCommand → View → Books → Type 0
-read_facts lane t v b = Knows v.now t × IsFounded t v
+read_facts lane t v b = Knows (Stores v.now) t × IsFounded t v
 
 -- what it answers, once it is done
 abbrev pub answer_of : ReadCommand → Option ReadAnswer

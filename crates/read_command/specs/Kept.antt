@@ -37,7 +37,7 @@ module _ (d e : Disk) (more : (name : ObjName) (b : List ℕ) → Stores d name 
   owner_up content tree meta [] o owner = owner
   owner_up content tree meta (x ∷ rest) o owner = (owner.0, owner.1, owner.2, names_up (Stores d) (Stores e) more (stores_map e) content tree meta owner.0 o owner.3, owner.4)
 
-  pub reading_up : (t : Reading) → Knows d t → Knows e t
+  pub reading_up : (t : Reading) → Knows (Stores d) t → Knows (Stores e) t
   reading_up t k = record {
     parts = k.parts;
     has = commit_up (Stores d) (Stores e) more t.commit k.parts k.has;
@@ -49,7 +49,7 @@ module _ (d e : Disk) (more : (name : ObjName) (b : List ℕ) → Stores d name 
     few = k.few;
   }
 
-  cat_up : (at : Place) (c : Cat) → KnowsAt at d c → KnowsAt at e c
+  cat_up : (at : Place) (c : Cat) → KnowsAt at (Stores d) c → KnowsAt at (Stores e) c
   cat_up place.Commit c k = k
   cat_up (place.Folder tree meta depth) c k = record {
     deep = k.deep;
@@ -59,7 +59,7 @@ module _ (d e : Disk) (more : (name : ObjName) (b : List ℕ) → Stores d name 
   }
   cat_up (place.File sum) c k = tree_up (Stores d) (Stores e) more c.commit c.path (Leaf sum) k
 
-  pub knows_up : (t : ReadCommand) → command.Knows d t → command.Knows e t
+  pub knows_up : (t : ReadCommand) → command.Knows (Stores d) t → command.Knows (Stores e) t
   knows_up (Look l) k = tt
   knows_up (CatCommand c) k = cat_up c.place c k
   knows_up (Ls s) k = λ begun. reading_up s.task (k begun)

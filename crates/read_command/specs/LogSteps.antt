@@ -1,9 +1,9 @@
--- What `log` knows of a disk, and what its steps tell and do.
+-- What `log` knows of a store, and what its steps tell and do.
 use Rattle.std.specs.Prelude.{◌≡◌, ◌≢◌, ◌<◌, ◌-◌, ℕ, List, [], ◌∷◌, ◌++◌, length, Option, Some, None}
 use Rattle.ost_types.specs.declared.object.Kind.TheVariants.{Commit as CommitKind}
 use Rattle.ost_forms.specs.declared.commit.Commit.{Commit}
 use Rattle.fs_trait.specs.View.{Disk}
-use Rattle.repo_model.specs.Objects.{Stores, path_of}
+use Rattle.repo_model.specs.Objects.{Store, Stores, path_of}
 use Rattle.repo_model.specs.Trees.{name_of}
 use Rattle.rely_guarantee.specs.Laws.{Kind, Quiet, Take}
 use Rattle.ref_command.specs.Commands.{pin_wants}
@@ -21,11 +21,11 @@ abbrev pub log_kind : List LogRow → List ℕ → Kind
 log_kind [] next = Quiet
 log_kind (r ∷ rows) next = Take (pin_wants next)
 
-abbrev pub LogKnows : Disk → Log → Type 0
-LogKnows d g = IsChain (Stores d) g.commit g.rows.items g.next
+abbrev pub LogKnows : Store → Log → Type 0
+LogKnows S g = IsChain S g.commit g.rows.items g.next
 
 abbrev pub LogTells : Disk → Log → Log → Option ReadAnswer → Type 0
-LogTells d old new None = LogKnows d new
+LogTells d old new None = LogKnows (Stores d) new
 LogTells d old new (Some a) = SaysLog d old.limits.content old.commit a
 
 -- at most so many steps go on: no list has so many rows

@@ -1,9 +1,10 @@
--- What `ls` knows of a disk, and what its steps tell and do.
+-- What `ls` knows of a store, and what its steps tell and do.
 use Rattle.std.specs.Prelude.{◌≡◌, ◌<◌, Option, Some, None}
 use Rattle.ost_types.specs.declared.node.NodeName.{NodeName}
 use Rattle.ost_types.specs.Path.{Path}
 use Rattle.ost_types.specs.PathMap.{Nodes, node_at}
 use Rattle.fs_trait.specs.View.{Disk}
+use Rattle.repo_model.specs.Objects.{Store, Stores}
 use Rattle.tree_read.specs.Reading.{IsSoFar, left_of}
 use Rattle.read_command.specs.declared.answer.ReadAnswer.{ReadAnswer}
 use Rattle.read_command.specs.declared.answer.ReadAnswer.TheVariants as answer
@@ -13,11 +14,11 @@ use Rattle.read_command.specs.Answers.{SaysLs}
 use Rattle.read_command.specs.Fits.{Fits}
 use Rattle.read_command.specs.Listing.{rows_below}
 
-abbrev pub LsKnows : Disk → Ls → Type 0
-LsKnows d s = IsSoFar d s.task
+abbrev pub LsKnows : Store → Ls → Type 0
+LsKnows S s = IsSoFar S s.task
 
 abbrev pub LsTells : Disk → Ls → Ls → Option ReadAnswer → Type 0
-LsTells d old new None = LsKnows d new
+LsTells d old new None = LsKnows (Stores d) new
 LsTells d old new (Some a) = SaysLs d old.task.limits old.task.commit old.path a
 
 abbrev pub IsLsStepped : Ls → Ls → Option ReadAnswer → Type 0

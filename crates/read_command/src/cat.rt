@@ -2,6 +2,7 @@
 ghost use Rattle.std.specs.Prelude.{◌≡◌, ◌<◌, ◌≤◌, ℕ, length, Some, None, IfOk, IfErr, OnErr};
 ghost use Rattle.fs_trait.specs.View.{View};
 ghost use Rattle.fs_trait.specs.Effect.{HasCause, IsQuiet, OfNone};
+ghost use Rattle.repo_model.specs.Objects.{Stores};
 ghost use Rattle.read_command.specs.declared.answer.ReadAnswer.TheVariants as answer;
 ghost use Rattle.read_command.specs.declared.cat.Place.TheVariants as place;
 ghost use Rattle.read_command.specs.CatSteps.{CatKnows, CatTells, Enters, IsCatStepped, TellsBody, cat_left};
@@ -67,7 +68,7 @@ impl Cat {
 
     /// Reads the next object. None where it goes on.
     pub(crate) fn step<F: Fs>(&mut self, fs: &mut F) -> Result<Option<ReadAnswer>, FsErr>
-        ensures told { (v : View) → F.view fs.old ≡ Some v → CatKnows v.now self.old → IfOk result (CatTells v.now self.old self.new) }
+        ensures told { (v : View) → F.view fs.old ≡ Some v → CatKnows (Stores v.now) self.old → IfOk result (CatTells v.now self.old self.new) }
         ensures stepped { IfOk result (IsCatStepped self.old self.new) }
         ensures stays { OnErr result (self.new ≡ self.old) }
         ensures named { (v : View) → F.view fs.old ≡ Some v → IfErr result OfNone }
@@ -85,7 +86,7 @@ impl Cat {
 
     fn read_commit<F: Fs>(&mut self, fs: &mut F) -> Result<Option<ReadAnswer>, FsErr>
         requires { self.old.place ≡ place.Commit }
-        ensures told { (v : View) → F.view fs.old ≡ Some v → CatKnows v.now self.old → IfOk result (CatTells v.now self.old self.new) }
+        ensures told { (v : View) → F.view fs.old ≡ Some v → CatKnows (Stores v.now) self.old → IfOk result (CatTells v.now self.old self.new) }
         ensures stepped { IfOk result (IsCatStepped self.old self.new) }
         ensures stays { OnErr result (self.new ≡ self.old) }
         ensures named { (v : View) → F.view fs.old ≡ Some v → IfErr result OfNone }
@@ -115,7 +116,7 @@ impl Cat {
         depth: usize,
     ) -> Result<Option<ReadAnswer>, FsErr>
         requires { self.old.place ≡ place.Folder tree meta depth }
-        ensures told { (v : View) → F.view fs.old ≡ Some v → CatKnows v.now self.old → IfOk result (CatTells v.now self.old self.new) }
+        ensures told { (v : View) → F.view fs.old ≡ Some v → CatKnows (Stores v.now) self.old → IfOk result (CatTells v.now self.old self.new) }
         ensures stepped { IfOk result (IsCatStepped self.old self.new) }
         ensures stays { OnErr result (self.new ≡ self.old) }
         ensures named { (v : View) → F.view fs.old ≡ Some v → IfErr result OfNone }
@@ -139,7 +140,7 @@ impl Cat {
     ) -> Result<Option<ReadAnswer>, FsErr>
         requires place { self.old.place ≡ place.Folder tree _meta depth }
         requires deep { depth < length self.old.path }
-        ensures told { (v : View) → F.view fs.old ≡ Some v → CatKnows v.now self.old → IfOk result (CatTells v.now self.old self.new) }
+        ensures told { (v : View) → F.view fs.old ≡ Some v → CatKnows (Stores v.now) self.old → IfOk result (CatTells v.now self.old self.new) }
         ensures stepped { IfOk result (IsCatStepped self.old self.new) }
         ensures stays { OnErr result (self.new ≡ self.old) }
         ensures named { (v : View) → F.view fs.old ≡ Some v → IfErr result OfNone }
@@ -196,7 +197,7 @@ impl Cat {
     ) -> Result<Option<ReadAnswer>, FsErr>
         requires place { self.old.place ≡ place.Folder _tree meta _depth }
         requires deep { length self.old.path ≤ _depth }
-        ensures told { (v : View) → F.view fs.old ≡ Some v → CatKnows v.now self.old → IfOk result (CatTells v.now self.old self.new) }
+        ensures told { (v : View) → F.view fs.old ≡ Some v → CatKnows (Stores v.now) self.old → IfOk result (CatTells v.now self.old self.new) }
         ensures stepped { IfOk result (IsCatStepped self.old self.new) }
         ensures stays { OnErr result (self.new ≡ self.old) }
         ensures named { (v : View) → F.view fs.old ≡ Some v → IfErr result OfNone }
@@ -216,7 +217,7 @@ impl Cat {
 
     fn read_file<F: Fs>(&mut self, fs: &mut F, file: Csum) -> Result<Option<ReadAnswer>, FsErr>
         requires { self.old.place ≡ place.File file }
-        ensures told { (v : View) → F.view fs.old ≡ Some v → CatKnows v.now self.old → IfOk result (CatTells v.now self.old self.new) }
+        ensures told { (v : View) → F.view fs.old ≡ Some v → CatKnows (Stores v.now) self.old → IfOk result (CatTells v.now self.old self.new) }
         ensures stepped { IfOk result (IsCatStepped self.old self.new) }
         ensures stays { OnErr result (self.new ≡ self.old) }
         ensures named { (v : View) → F.view fs.old ≡ Some v → IfErr result OfNone }

@@ -2,6 +2,7 @@
 ghost use Rattle.std.specs.Prelude.{◌≡◌, ◌≤◌, ◌-◌, ◌^◌, [], length, Some, None, IfOk, IfErr, OnErr};
 ghost use Rattle.fs_trait.specs.View.{View};
 ghost use Rattle.fs_trait.specs.Effect.{HasCause, IsQuiet, OfNone};
+ghost use Rattle.repo_model.specs.Objects.{Stores};
 ghost use Rattle.rely_guarantee.specs.Laws.{step_of};
 ghost use Rattle.read_command.specs.LogSteps.{IsAsBefore, IsLogStepped, LogKnows, LogTells, Stops, Takes, log_kind, log_left};
 
@@ -66,7 +67,7 @@ impl Log {
 
     /// Reads the next commit. None where it goes on.
     pub(crate) fn step<F: Fs>(&mut self, fs: &mut F) -> Result<Option<ReadAnswer>, FsErr>
-        ensures told { (v : View) → F.view fs.old ≡ Some v → LogKnows v.now self.old → IfOk result (LogTells v.now self.old self.new) }
+        ensures told { (v : View) → F.view fs.old ≡ Some v → LogKnows (Stores v.now) self.old → IfOk result (LogTells v.now self.old self.new) }
         ensures stepped { IfOk result (IsLogStepped self.old self.new) }
         ensures stays { OnErr result (IsAsBefore self.old self.new) }
         ensures named { (v : View) → F.view fs.old ≡ Some v → IfErr result OfNone }

@@ -2,6 +2,7 @@
 ghost use Rattle.std.specs.Prelude.{◌≡◌, ◌≤◌, Some, None, [], false, IfOk, IfErr, OnErr};
 ghost use Rattle.fs_trait.specs.View.{View};
 ghost use Rattle.fs_trait.specs.Effect.{HasCause, IsQuiet, OfNone};
+ghost use Rattle.repo_model.specs.Objects.{Stores};
 ghost use Rattle.tree_read.specs.Reading.{left_of};
 ghost use Rattle.read_command.specs.LsSteps.{IsListed, IsLsStepped, LsKnows, LsTells};
 
@@ -40,10 +41,10 @@ impl Ls {
 
     /// Reads the next object. None where it goes on.
     pub(crate) fn step<F: Fs>(&mut self, fs: &mut F) -> Result<Option<ReadAnswer>, FsErr>
-        ensures told { (v : View) → F.view fs.old ≡ Some v → LsKnows v.now self.old → IfOk result (LsTells v.now self.old self.new) }
+        ensures told { (v : View) → F.view fs.old ≡ Some v → LsKnows (Stores v.now) self.old → IfOk result (LsTells v.now self.old self.new) }
         ensures stepped { IfOk result (IsLsStepped self.old self.new) }
         ensures stays { OnErr result (self.new ≡ self.old) }
-        ensures named { (v : View) → F.view fs.old ≡ Some v → LsKnows v.now self.old → IfErr result OfNone }
+        ensures named { (v : View) → F.view fs.old ≡ Some v → LsKnows (Stores v.now) self.old → IfErr result OfNone }
         ensures quiet { IsQuiet (F.clock fs.old) (F.clock fs.new) (F.was fs.old) (F.was fs.new) (F.view fs.old) (F.view fs.new) }
         ensures keeps_room { F.spare fs.old ≤ F.spare fs.new }
         ensures cause { HasCause (F.faults fs.old) (F.faults fs.new) result }

@@ -1,6 +1,7 @@
 -- How a command begins that nobody interrupts, and what it answers at its end.
 use Rattle.std.proofs.Common.{◌≡◌, Option, Some, MatchOption, sym, ◌∙◌, ap, subst}
 use Rattle.fs_trait.specs.View.{Disk}
+use Rattle.repo_model.specs.Objects.{Stores}
 use Rattle.read_command.specs.declared.answer.ReadAnswer.{ReadAnswer}
 use Rattle.read_command.specs.declared.command.ReadCommand.{ReadCommand}
 use Rattle.read_command.specs.declared.command.ReadCommand.TheVariants.{Look, Cat, Ls, Log, Ended}
@@ -8,7 +9,7 @@ use Rattle.read_command.specs.Asked.{Answers, asked}
 use Rattle.read_command.specs.Commands.{IsNew, Knows, Tells, answer_of}
 use Rattle.read_command.proofs.Ends.{answers_by}
 
-pub new_knows : (d : Disk) (t : ReadCommand) → IsNew t → Knows d t
+pub new_knows : (d : Disk) (t : ReadCommand) → IsNew t → Knows (Stores d) t
 new_knows d (Look l) new = tt
 new_knows d (Cat c) new = absurd new
 new_knows d (Ls s) new = absurd new

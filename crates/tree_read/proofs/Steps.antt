@@ -52,7 +52,7 @@ owner_child : (S : Store) (content : ℕ) (tree meta : List ℕ) (at : Path) (y 
 owner_child S content tree meta [] y o names is = ([], y, refl, names, is)
 owner_child S content tree meta (x ∷ at) y o names is = (x ∷ at, y, refl, names, is)
 
-module _ (d : Disk) (t : Reading) (items : List Item) (next : Item) (cut : t.pending ≡ items ++ next ∷ []) (k : Knows d t) where
+module _ (d : Disk) (t : Reading) (items : List Item) (next : Item) (cut : t.pending ≡ items ++ next ∷ []) (k : Knows (Stores d) t) where
   walked : Walked (Stores d) t.limits.content k.parts.tree k.parts.meta t.found (items ++ next ∷ [])
   walked = subst (Walked (Stores d) t.limits.content k.parts.tree k.parts.meta t.found) cut k.walked
 
@@ -88,7 +88,7 @@ module _ (d : Disk) (t : Reading) (items : List Item) (next : Item) (cut : t.pen
 
   -- its path was found
   module _ (n : NodeName) (room : length t.found < t.limits.paths) (r : Replaces (Stores d) t.limits.content next ((next.path, n) ∷ []) []) where
-    pub takes_on : Knows d (after_take t items next.path n)
+    pub takes_on : Knows (Stores d) (after_take t items next.path n)
     takes_on = record {
       parts = k.parts;
       has = k.has;
@@ -101,10 +101,10 @@ module _ (d : Disk) (t : Reading) (items : List Item) (next : Item) (cut : t.pen
       few = omega (arith, room, length-append t.found ((next.path, n) ∷ []));
     }
 
-  pub takes_file : (sum : List ℕ) → next.named ≡ File sum → length t.found < t.limits.paths → Has (Stores d) t.limits.content (name_of kind.File sum) → Knows d (after_take t items next.path (node.Leaf sum))
+  pub takes_file : (sum : List ℕ) → next.named ≡ File sum → length t.found < t.limits.paths → Has (Stores d) t.limits.content (name_of kind.File sum) → Knows (Stores d) (after_take t items next.path (node.Leaf sum))
   takes_file sum is room has = takes_on (node.Leaf sum) room (file_replaces (Stores d) t.limits.content next sum is has)
 
-  pub takes_folder : (sum : List ℕ) (m : Meta) → next.named ≡ Attributes sum → length t.found < t.limits.paths → HasMeta (Stores d) sum m → Knows d (after_take t items next.path (node.Folder m))
+  pub takes_folder : (sum : List ℕ) (m : Meta) → next.named ≡ Attributes sum → length t.found < t.limits.paths → HasMeta (Stores d) sum m → Knows (Stores d) (after_take t items next.path (node.Folder m))
   takes_folder sum m is room has =
       takes_on (node.Folder m) room
       (attributes_replaces (Stores d) t.limits.content next sum m is has (λ x other. meta_one (Stores d) (stores_map d) sum x m other has) (record { bytes = has.bytes; stored = has.stored; formed = ∣ (m, has.reads) ∣₁ }))
@@ -175,7 +175,7 @@ module _ (d : Disk) (t : Reading) (items : List Item) (next : Item) (cut : t.pen
       all_owned i (inl h) = k.owned i (in_pending i (Contains-append_left items (next ∷ []) i h))
       all_owned i (inr h) = new_owned i (Contains-append_cases (map (item_of next.path tree) l.children) (itself ∷ []) i h)
 
-      opened_new : Knows d (after_open t items new)
+      opened_new : Knows (Stores d) (after_open t items new)
       unfolding new itself
       opened_new = record {
         parts = k.parts;
@@ -190,9 +190,9 @@ module _ (d : Disk) (t : Reading) (items : List Item) (next : Item) (cut : t.pen
         few = k.few;
       }
 
-      pub opened_on : Knows d (after_open t items below)
+      pub opened_on : Knows (Stores d) (after_open t items below)
       unfolding new itself
-      opened_on = subst (λ b. Knows d (after_open t items b)) (sym l.items_are) opened_new
+      opened_on = subst (λ b. Knows (Stores d) (after_open t items b)) (sym l.items_are) opened_new
 
 -- the line alone, without a disk
 pub line_open : (found : Nodes) (items : List Item) (next : Item) (tree meta owner : List ℕ) (e : Entries) (below : List Item) → next.named ≡ Folder tree meta → InLine found (items ++ next ∷ [])
@@ -207,7 +207,7 @@ none_ascend : IsAscending []
 unfolding IsStrictlySortedBy
 none_ascend = tt
 
-pub begun_on : (d : Disk) (t : Reading) (parts : CommitParts) (tree meta : List ℕ) → HasCommit (Stores d) t.commit parts → tree ≡ parts.tree → meta ≡ parts.meta → Knows d (begun_at t tree meta)
+pub begun_on : (d : Disk) (t : Reading) (parts : CommitParts) (tree meta : List ℕ) → HasCommit (Stores d) t.commit parts → tree ≡ parts.tree → meta ≡ parts.meta → Knows (Stores d) (begun_at t tree meta)
 begun_on d t parts tree meta has is_tree is_meta =
     let root : Item = at_item [] (Folder tree meta) tree in
     record {
@@ -222,7 +222,7 @@ begun_on d t parts tree meta has is_tree is_meta =
       few = omega arith;
     }
 
-pub whole : (d : Disk) (t : Reading) → Knows d t → t.pending ≡ [] → ReadsTree d t.limits t.commit (Ok t.found)
+pub whole : (d : Disk) (t : Reading) → Knows (Stores d) t → t.pending ≡ [] → ReadsTree d t.limits t.commit (Ok t.found)
 whole d t k none =
     let w = subst (Walked (Stores d) t.limits.content k.parts.tree k.parts.meta t.found) none k.walked in
     let all = walked_all (Stores d) t.limits.content k.parts.tree k.parts.meta t.found w in

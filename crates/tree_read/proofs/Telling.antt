@@ -54,7 +54,7 @@ of_reads bytes (Err e) reads = tt
 pub of_folder : (looked : Looked Meta) (m : Meta) → looked ≡ Here m → OfFolder (Ok looked) → IsFolderMode m.mode
 of_folder looked m is of = subst (λ l. OfFolder (Ok l)) is of
 
-module _ (d : Disk) (old : Reading) (named : Named) (owner : List ℕ) (n : IsNext old named owner) (so : IsSoFar d old) where
+module _ (d : Disk) (old : Reading) (named : Named) (owner : List ℕ) (n : IsNext old named owner) (so : IsSoFar (Stores d) old) where
   next : Item
   next = at_item n.path named owner
 
@@ -69,17 +69,17 @@ module _ (d : Disk) (old : Reading) (named : Named) (owner : List ℕ) (n : IsNe
       subst (λ r. StepTells d old (Ok r) old) (sym is)
       (inr (k.parts, k.has, damaged_here d old n.items (at_item n.path named owner) n.cut k o first n.room (subst (λ (l : Limits). IsDamaged d l.content o) same damaged)))
 
-pub more_file : (d : Disk) (old new : Reading) (limits : Limits) (file owner : List ℕ) → IsNext old (File file) owner → IsSoFar d old → limits ≡ old.limits
-    → Has (Stores d) limits.content (name_of kind.File file) → Takes old (node.Leaf file) new → Knows d new
+pub more_file : (d : Disk) (old new : Reading) (limits : Limits) (file owner : List ℕ) → IsNext old (File file) owner → IsSoFar (Stores d) old → limits ≡ old.limits
+    → Has (Stores d) limits.content (name_of kind.File file) → Takes old (node.Leaf file) new → Knows (Stores d) new
 more_file d old new limits file owner n so same has takes =
     let next = at_item n.path (File file) owner in
-    subst (Knows d) (sym (takes n.items next n.cut))
+    subst (Knows (Stores d)) (sym (takes n.items next n.cut))
     (takes_file d old n.items next n.cut (so n.begun) file refl n.room (subst (λ (l : Limits). Has (Stores d) l.content (name_of kind.File file)) same has))
 
-pub more_folder : (d : Disk) (old new : Reading) (meta owner : List ℕ) (m : Meta) → IsNext old (Attributes meta) owner → IsSoFar d old → HasMeta (Stores d) meta m → Takes old (node.Folder m) new → Knows d new
+pub more_folder : (d : Disk) (old new : Reading) (meta owner : List ℕ) (m : Meta) → IsNext old (Attributes meta) owner → IsSoFar (Stores d) old → HasMeta (Stores d) meta m → Takes old (node.Folder m) new → Knows (Stores d) new
 more_folder d old new meta owner m n so has takes =
     let next = at_item n.path (Attributes meta) owner in
-    subst (Knows d) (sym (takes n.items next n.cut)) (takes_folder d old n.items next n.cut (so n.begun) meta m refl n.room has)
+    subst (Knows (Stores d)) (sym (takes n.items next n.cut)) (takes_folder d old n.items next n.cut (so n.begun) meta m refl n.room has)
 
 abbrev Steps : Reading → Reading → Type 0
 Steps old new = (new.commit ≡ old.commit) × (new.limits ≡ old.limits) × (left_of new < left_of old)
@@ -89,10 +89,10 @@ stepped_taken old new named owner x n takes =
     let e = takes n.items (at_item n.path named owner) n.cut in
     (ap (λ t. t.commit) e, ap (λ t. t.limits) e, subst (λ t. left_of t < left_of old) (sym e) (falls_taken old n.items n.path x n.begun n.room))
 
-pub more_opened : (d : Disk) (old new : Reading) (tree meta owner : List ℕ) (e : Entries) → IsNext old (Folder tree meta) owner → IsSoFar d old → HasEntries (Stores d) tree e → OpensAt old owner tree meta e new → Knows d new
+pub more_opened : (d : Disk) (old new : Reading) (tree meta owner : List ℕ) (e : Entries) → IsNext old (Folder tree meta) owner → IsSoFar (Stores d) old → HasEntries (Stores d) tree e → OpensAt old owner tree meta e new → Knows (Stores d) new
 more_opened d old new tree meta owner e n so has o =
     let next = at_item n.path (Folder tree meta) owner in
-    subst (Knows d) (sym (o.opens n.items next n.cut)) (opened_on d old n.items next n.cut (so n.begun) tree meta refl e has owner refl o.below (o.lists n.items next n.cut))
+    subst (Knows (Stores d)) (sym (o.opens n.items next n.cut)) (opened_on d old n.items next n.cut (so n.begun) tree meta refl e has owner refl o.below (o.lists n.items next n.cut))
 
 pub stepped_opened : (old new : Reading) (tree meta owner : List ℕ) (e : Entries) → IsNext old (Folder tree meta) owner → OpensAt old owner tree meta e new → Steps old new
 stepped_opened old new tree meta owner e n o =
@@ -110,8 +110,8 @@ short_more items i x less is all s =
 
 -- ---- the commit
 
-pub more_commit : (d : Disk) (old new : Reading) (commit tree meta : List ℕ) → commit ≡ old.commit → (c : CommitParts) → HasCommit (Stores d) commit c → tree ≡ c.tree → meta ≡ c.meta → new ≡ begun_at old tree meta → Knows d new
-more_commit d old new commit tree meta same c has is_tree is_meta e = subst (Knows d) (sym e) (begun_on d old c tree meta (subst (λ s. HasCommit (Stores d) s c) same has) is_tree is_meta)
+pub more_commit : (d : Disk) (old new : Reading) (commit tree meta : List ℕ) → commit ≡ old.commit → (c : CommitParts) → HasCommit (Stores d) commit c → tree ≡ c.tree → meta ≡ c.meta → new ≡ begun_at old tree meta → Knows (Stores d) new
+more_commit d old new commit tree meta same c has is_tree is_meta e = subst (Knows (Stores d)) (sym e) (begun_on d old c tree meta (subst (λ s. HasCommit (Stores d) s c) same has) is_tree is_meta)
 
 pub commit_absent : (d : Disk) (old : Reading) (r : Turned) (commit : List ℕ) → r ≡ turn.Done (Err (fault.Absent (name_of kind.Commit commit))) → commit ≡ old.commit → IsAbsent d (name_of kind.Commit commit) → StepTells d old (Ok r) old
 commit_absent d old r commit is same absent = subst (λ r. StepTells d old (Ok r) old) (sym is) (inl (ap (name_of kind.Commit) same, absent))
@@ -123,7 +123,7 @@ commit_damaged d old r commit limits is same same_limits damaged =
 
 -- ---- a folder's entries
 
-pub opened_told : (d : Disk) (old new : Reading) (tree meta owner : List ℕ) (e : Entries) → IsNext old (Folder tree meta) owner → IsSoFar d old → HasEntries (Stores d) tree e
+pub opened_told : (d : Disk) (old new : Reading) (tree meta owner : List ℕ) (e : Entries) → IsNext old (Folder tree meta) owner → IsSoFar (Stores d) old → HasEntries (Stores d) tree e
     → (r : Turned) → IsOpened old owner tree meta e (Ok r) new → StepTells d old (Ok r) new
 opened_told d old new tree meta owner e n so has turn.More o = more_opened d old new tree meta owner e n so has o
 opened_told d old new tree meta owner e n so has (turn.Done (Ok x)) o = absurd o
@@ -154,5 +154,5 @@ next_of t rest last named cut is begun room = record {
   room = room;
 }
 
-pub stop_full : (d : Disk) (t : Reading) (rest : List Item) (last : Item) (r : Turned) → t.pending ≡ rest ++ last ∷ [] → Knows d t → r ≡ turn.Done (Err (fault.Damaged (name_of kind.DirTree last.owner))) → t.limits.paths ≤ length t.found → StepTells d t (Ok r) t
+pub stop_full : (d : Disk) (t : Reading) (rest : List Item) (last : Item) (r : Turned) → t.pending ≡ rest ++ last ∷ [] → Knows (Stores d) t → r ≡ turn.Done (Err (fault.Damaged (name_of kind.DirTree last.owner))) → t.limits.paths ≤ length t.found → StepTells d t (Ok r) t
 stop_full d t rest last r cut k is full = subst (λ r. StepTells d t (Ok r) t) (sym is) (inr (k.parts, k.has, full_here d t rest last cut k full))

@@ -1,4 +1,4 @@
--- The task that reads a tree, as plain data, what it knows of a disk, and what its steps do.
+-- The task that reads a tree, as plain data, what it knows of a store, and what its steps do.
 use Rattle.std.specs.Prelude.{◌≡◌, ◌≤◌, ◌<◌, ◌+◌, ◌*◌, ◌-◌, ℕ, Bool, true, false, List, [], ◌∷◌, ◌++◌, Contains, Result, Ok, Err, length, map}
 use Rattle.std.specs.List.{AllByRecursion}
 use Rattle.ost_types.specs.declared.limits.Limits.{Limits}
@@ -14,7 +14,7 @@ use Rattle.fs_trait.specs.declared.task.StepResult.{StepResult}
 use Rattle.fs_trait.specs.declared.task.StepResult.TheVariants as turn
 use Rattle.fs_trait.specs.Effect.{OfNone}
 use Rattle.fs_trait.specs.View.{Disk}
-use Rattle.repo_model.specs.Objects.{Stores}
+use Rattle.repo_model.specs.Objects.{Store, Stores}
 use Rattle.repo_model.specs.Trees.{HasCommit, name_of}
 use Rattle.tree_read.specs.declared.fault.TreeFault.{TreeFault}
 use Rattle.tree_read.specs.declared.fault.TreeFault.TheVariants as fault
@@ -37,24 +37,24 @@ pub record Reading : Type 0 where
   pub pending : List Item
   pub found : Nodes
 
--- What was found and what waits make up the tree that the disk has, and what was found comes before all that waits.
-pub record Knows (d : Disk) (t : Reading) : Type 0 where
+-- What was found and what waits make up the tree that the store has, and what was found comes before all that waits.
+pub record Knows (S : Store) (t : Reading) : Type 0 where
   pub parts : CommitParts
-  pub has : HasCommit (Stores d) t.commit parts
-  pub walked : Walked (Stores d) t.limits.content parts.tree parts.meta t.found t.pending
-  pub owned : (i : Item) → Contains t.pending i → IsOwner (Stores d) t.limits.content parts.tree parts.meta i.path (name_of kind.DirTree i.owner)
+  pub has : HasCommit S t.commit parts
+  pub walked : Walked S t.limits.content parts.tree parts.meta t.found t.pending
+  pub owned : (i : Item) → Contains t.pending i → IsOwner S t.limits.content parts.tree parts.meta i.path (name_of kind.DirTree i.owner)
   pub line : InLine t.found t.pending
   pub ascending : IsAscending (paths_of t.found)
   pub short : AllByRecursion IsShort (paths_of t.found)
   pub few : length t.found ≤ t.limits.paths
 
-abbrev pub IsSoFar : Disk → Reading → Type 0
-IsSoFar d t = t.begun ≡ true → Knows d t
+abbrev pub IsSoFar : Store → Reading → Type 0
+IsSoFar S t = t.begun ≡ true → Knows S t
 
 -- Each answer of a step over a disk: it goes on, has read all, or tells the first object that is missing or damaged.
 abbrev pub StepTells : Disk → Reading → Result (StepResult (Result (Unit {0}) TreeFault)) FsErr → Reading → Type 0
-StepTells d old (Ok turn.More) new = Knows d new
-StepTells d old (Ok (turn.Done (Ok x))) new = Knows d old × (old.pending ≡ [])
+StepTells d old (Ok turn.More) new = Knows (Stores d) new
+StepTells d old (Ok (turn.Done (Ok x))) new = Knows (Stores d) old × (old.pending ≡ [])
 StepTells d old (Ok (turn.Done (Err (fault.Absent o)))) new =
     AtCommitOr d old.commit ((o ≡ name_of kind.Commit old.commit) × IsAbsent d o) (λ tree meta. FirstAbsent d old.limits tree meta o)
 StepTells d old (Ok (turn.Done (Err (fault.Damaged o)))) new =

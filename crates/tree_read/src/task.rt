@@ -5,6 +5,7 @@ ghost use Rattle.fs_trait.specs.Effect.{HasCause, IsQuiet};
 ghost use Rattle.fs_trait.specs.declared.task.Need.TheVariants as need;
 ghost use Rattle.fs_trait.specs.declared.task.StepResult.TheVariants.{Done};
 ghost use Rattle.ost_types.specs.PathMap.{IsNode};
+ghost use Rattle.repo_model.specs.Objects.{Stores};
 ghost use Rattle.repo_model.specs.Trees.{name_of};
 ghost use Rattle.tree_read.specs.declared.fault.TreeFault.TheVariants as faults;
 ghost use Rattle.tree_read.specs.declared.item.Named.TheVariants as named;
@@ -113,7 +114,7 @@ impl TreeTask {
     /// Reads the next object. It is done when all was read, or with the first object that is missing or damaged. After an
     /// error the task is unchanged, so that the step may be tried again.
     pub fn step<F: Fs>(&mut self, fs: &mut F) -> Step
-        ensures told { (v : View) → F.view fs.old ≡ Some v → IsSoFar v.now self.old → StepTells v.now self.old result self.new }
+        ensures told { (v : View) → F.view fs.old ≡ Some v → IsSoFar (Stores v.now) self.old → StepTells v.now self.old result self.new }
         ensures stepped { IsStepped self.old result self.new }
         ensures quiet { IsQuiet (F.clock fs.old) (F.clock fs.new) (F.was fs.old) (F.was fs.new) (F.view fs.old) (F.view fs.new) }
         ensures keeps_room { F.spare fs.old ≤ F.spare fs.new }
@@ -160,7 +161,7 @@ impl TreeTask {
 
     fn read_next<F: Fs>(&mut self, fs: &mut F) -> Step
         requires { self.old.begun ≡ true }
-        ensures told { (v : View) → F.view fs.old ≡ Some v → IsSoFar v.now self.old → StepTells v.now self.old result self.new }
+        ensures told { (v : View) → F.view fs.old ≡ Some v → IsSoFar (Stores v.now) self.old → StepTells v.now self.old result self.new }
         ensures stepped { IsStepped self.old result self.new }
         ensures quiet { IsQuiet (F.clock fs.old) (F.clock fs.new) (F.was fs.old) (F.was fs.new) (F.view fs.old) (F.view fs.new) }
         ensures keeps_room { F.spare fs.old ≤ F.spare fs.new }
@@ -183,7 +184,7 @@ impl TreeTask {
 
     fn read_entries<F: Fs>(&mut self, fs: &mut F, owner: Csum, tree: Csum, meta: Csum) -> Step
         requires { IsNext self.old (named.Folder tree meta) owner }
-        ensures told { (v : View) → F.view fs.old ≡ Some v → IsSoFar v.now self.old → StepTells v.now self.old result self.new }
+        ensures told { (v : View) → F.view fs.old ≡ Some v → IsSoFar (Stores v.now) self.old → StepTells v.now self.old result self.new }
         ensures stepped { IsStepped self.old result self.new }
         ensures quiet { IsQuiet (F.clock fs.old) (F.clock fs.new) (F.was fs.old) (F.was fs.new) (F.view fs.old) (F.view fs.new) }
         ensures keeps_room { F.spare fs.old ≤ F.spare fs.new }
@@ -258,7 +259,7 @@ impl TreeTask {
 
     fn read_attributes<F: Fs>(&mut self, fs: &mut F, _owner: Csum, meta: Csum) -> Step
         requires { IsNext self.old (named.Attributes meta) _owner }
-        ensures told { (v : View) → F.view fs.old ≡ Some v → IsSoFar v.now self.old → StepTells v.now self.old result self.new }
+        ensures told { (v : View) → F.view fs.old ≡ Some v → IsSoFar (Stores v.now) self.old → StepTells v.now self.old result self.new }
         ensures stepped { IsStepped self.old result self.new }
         ensures quiet { IsQuiet (F.clock fs.old) (F.clock fs.new) (F.was fs.old) (F.was fs.new) (F.view fs.old) (F.view fs.new) }
         ensures keeps_room { F.spare fs.old ≤ F.spare fs.new }
@@ -276,7 +277,7 @@ impl TreeTask {
 
     fn read_file<F: Fs>(&mut self, fs: &mut F, _owner: Csum, file: Csum) -> Step
         requires { IsNext self.old (named.File file) _owner }
-        ensures told { (v : View) → F.view fs.old ≡ Some v → IsSoFar v.now self.old → StepTells v.now self.old result self.new }
+        ensures told { (v : View) → F.view fs.old ≡ Some v → IsSoFar (Stores v.now) self.old → StepTells v.now self.old result self.new }
         ensures stepped { IsStepped self.old result self.new }
         ensures quiet { IsQuiet (F.clock fs.old) (F.clock fs.new) (F.was fs.old) (F.was fs.new) (F.view fs.old) (F.view fs.new) }
         ensures keeps_room { F.spare fs.old ≤ F.spare fs.new }

@@ -1,6 +1,7 @@
 use Rattle.std.proofs.Common.{◌≡◌, ◌≤◌, Some}
 use Rattle.fs_trait.specs.View.{View}
 use Rattle.fs_trait.specs.Effect.{IsQuiet}
+use Rattle.repo_model.specs.Objects.{Stores}
 use Rattle.tree_read.specs.Reading.{IsSoFar, left_of}
 use Rattle.tree_read.proofs.run.tree_of.Given as goal
 
@@ -9,7 +10,7 @@ abbrev pub invariant-steps : goal.invariant-steps
 invariant-steps g l = record {
   commit_is : l.task.commit ≡ l.commit;
   limits_are : l.task.limits ≡ l.limits;
-  so_far : (v : View) → g.F.Fs.view l.fn.fs ≡ Some v → IsSoFar v.now l.task;
+  so_far : (v : View) → g.F.Fs.view l.fn.fs ≡ Some v → IsSoFar (Stores v.now) l.task;
   quiet : IsQuiet (g.F.Fs.clock l.fn.fs) (g.F.Fs.clock l.fs) (g.F.Fs.was l.fn.fs) (g.F.Fs.was l.fs) (g.F.Fs.view l.fn.fs) (g.F.Fs.view l.fs);
   room : g.F.Fs.spare l.fn.fs ≤ g.F.Fs.spare l.fs;
   faults : g.F.Fs.faults l.fn.fs ≤ g.F.Fs.faults l.fs;
