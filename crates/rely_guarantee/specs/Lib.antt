@@ -14,3 +14,4 @@ pub mod Pinning
 pub mod Claiming
 pub mod Part
 pub mod Lasting
+pub mod Either

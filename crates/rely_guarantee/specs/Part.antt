@@ -71,7 +71,7 @@ pub record Hands {A B : Type 0} (ka : A → Kind) (sa : A → StepResult (Unit {
   pub next : (actor lane : ℕ) (t new : A) (v w : View) (b b' : Books) → Stood (ka t) actor lane b → fa lane t v b → la t (turn.Done tt) new v w → Keeps lane b b' → fb lane (h new) w b'
 
 -- a step that isn't the last
-duty_more : (k : Kind) (actor lane : ℕ) (v : View) (b : Books) (W : Path → Seen → Type 0) (Done Never : View → Type 0) → ((w : View) → Never w → ⊥) → StepObligation k actor lane v b W Done → StepObligation k actor lane v b W Never
+pub duty_more : (k : Kind) (actor lane : ℕ) (v : View) (b : Books) (W : Path → Seen → Type 0) (Done Never : View → Type 0) → ((w : View) → Never w → ⊥) → StepObligation k actor lane v b W Done → StepObligation k actor lane v b W Never
 duty_more Quiet actor lane v b W Done Never none d = d
 duty_more Store actor lane v b W Done Never none d = d
 duty_more (Take wants) actor lane v b W Done Never none d = d
