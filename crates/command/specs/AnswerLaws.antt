@@ -1,0 +1,37 @@
+-- What a family proves of its answers.
+use Rattle.std.specs.Prelude.{◌≡◌, ◌≢◌, ◌≤◌, ◌++◌, ℕ, List, [], Some, IsSome}
+use Rattle.ost_types.specs.declared.object.Kind.TheVariants.{Commit}
+use Rattle.ost_types.specs.declared.object.ObjName.{ObjName}
+use Rattle.fs_trait.specs.declared.task.StepResult.TheVariants as turn
+use Rattle.fs_trait.specs.View.{Disk, View}
+use Rattle.fs_trait.specs.Seen.{Vacant, bytes_in, shows}
+use Rattle.repo_layout.specs.Paths.{object_path}
+use Rattle.repo_layout.specs.RefFile.{IsSum}
+use Rattle.rely_guarantee.specs.Books.{Books}
+use Rattle.rely_guarantee.specs.Lasting.{StaysFinished}
+use Rattle.rely_guarantee.specs.Rely.{Interference}
+use Rattle.rely_guarantee.specs.State.{State}
+use Rattle.command.specs.Doing.{Doing}
+use Rattle.command.specs.Meaning.{Meaning}
+use Rattle.command.specs.Removed.{removed_by}
+use Rattle.command.specs.Sees.{Sees}
+use Rattle.command.specs.Since.{Since, placed}
+use Rattle.command.specs.Tasks.{TaskSpec}
+
+-- nothing stands at the path of a commit's object, or a file
+abbrev pub CommitsAreFiles : Disk → Type 0
+CommitsAreFiles d = (commit : List ℕ) → IsSum commit → shows d (object_path Commit commit) ≢ Vacant → IsSome (bytes_in (shows d (object_path Commit commit)))
+
+pub record AnswerLaws {T W A : Type 0} (k : TaskSpec T) (m : Meaning W A) (d : Doing T W A) : Type 0 where
+  -- the last step has an answer, and what it says is so
+  pub answers : (since : Since) (c : W) (t new : T) → d.pursues since c t → k.stepped t (turn.Done tt) new → IsSome (d.answer new)
+  pub says : (since : Since) (p : State) (c : W) (t new : T) (a : A) → d.pursues since c t → k.stepped t (turn.Done tt) new → d.answer new ≡ Some a → m.says (placed since p) a c
+  pub shows : (since : Since) (lane : ℕ) (c : W) (t new : T) (v w : View) (b : Books) (a : A) → d.pursues since c t → k.facts lane t v b → k.leaves t (turn.Done tt) new v w → d.answer new ≡ Some a → m.shows since v a c
+  -- and so is what it says where the view is told: the last step sees a state
+  pub knows : (since : Since) (p : State) (lane : ℕ) (c : W) (t new : T) (v w : View) (b : Books) (a : A) → d.pursues since c t → k.facts lane t v b → k.leaves t (turn.Done tt) new v w → d.answer new ≡ Some a → Sees (k.kind t) lane b v w p → m.knows (placed since p) a c
+  -- no answer tells of a commit that lasts that it isn't there, where commits are files; and none that the store is full which isn't
+  pub lacks : (since : Since) (v : View) (a : A) (c : W) (commit : List ℕ) → CommitsAreFiles v.now → m.shows since v a c → m.lacks a commit → StaysFinished v commit → ⊥
+  pub full : (since : Since) (c : W) (t new : T) (a : A) → d.pursues since c t → k.stepped t (turn.Done tt) new → d.answer new ≡ Some a → m.full a → since.limits.objects ≤ (d.heard t).objects
+  -- what it leaves stands, and stays so while anyone acts
+  pub left : (since : Since) (actor lane : ℕ) (c : W) (t new : T) (v w : View) (b b' : Books) (a : A) → d.pursues since c t → k.facts lane t v b → k.leaves t (turn.Done tt) new v w → d.answer new ≡ Some a → Interference actor lane v b w b' → m.stays since [] a c w b'
+  pub stays : (since : Since) (actor lane : ℕ) (out : List ObjName) (a : A) (c : W) (v w : View) (b b' : Books) → Interference actor lane v b w b' → m.stays since out a c v b → m.stays since (removed_by b ++ out) a c w b'

@@ -1,0 +1,110 @@
+-- The laws of two families are those of both.
+use Rattle.std.specs.Prelude.{◌≡◌, Option, Some, None, IsSome, refl}
+use Rattle.std.proofs.Common.{ap}
+use Rattle.rely_guarantee.specs.declared.either.Either.{Either}
+use Rattle.rely_guarantee.specs.declared.either.Either.TheVariants.{Left, Right}
+use Rattle.command.specs.Doing.{Doing}
+use Rattle.command.specs.Meaning.{Meaning}
+use Rattle.command.specs.Tasks.{TaskSpec}
+use Rattle.command.specs.StepLaws.{StepLaws}
+use Rattle.command.specs.HearLaws.{HearLaws}
+use Rattle.command.specs.ChangeLaws.{ChangeLaws}
+use Rattle.command.specs.AnswerLaws.{AnswerLaws}
+use Rattle.command.specs.StoreLaws.{StoreLaws}
+use Rattle.command.specs.FolderLaws.{FolderLaws}
+use Rattle.command.specs.Laws.{CommandLaws}
+use Rattle.command.specs.EitherMeaning.{either_means, either_doing, either_tasks, wrapped}
+
+is_wrapped : {A B : Type 0} (f : A → B) (o : Option A) → IsSome o → IsSome (wrapped f o)
+is_wrapped f None is = is
+is_wrapped f (Some a) is = refl
+
+from_left : {A B : Type 0} (o : Option A) (a : A) → wrapped {A = A} {B = Either A B} Left o ≡ Some (Left a) → o ≡ Some a
+from_left None a is = cc
+from_left (Some x) a is = cc
+
+from_right : {A B : Type 0} (o : Option B) (b : B) → wrapped {A = B} {B = Either A B} Right o ≡ Some (Right b) → o ≡ Some b
+from_right None b is = cc
+from_right (Some x) b is = cc
+
+not_right : {A B : Type 0} (o : Option A) (b : B) → wrapped {A = A} {B = Either A B} Left o ≡ Some (Right b) → ⊥
+not_right None b is = cc
+not_right (Some x) b is = cc
+
+not_left : {A B : Type 0} (o : Option B) (a : A) → wrapped {A = B} {B = Either A B} Right o ≡ Some (Left a) → ⊥
+not_left None a is = cc
+not_left (Some x) a is = cc
+
+module _ {S T W V A B : Type 0} {k : TaskSpec S} {l : TaskSpec T} {m : Meaning W A} {n : Meaning V B} {d : Doing S W A} {e : Doing T V B} where
+  steps_laws : StepLaws k d → StepLaws l e → StepLaws (either_tasks k l) (either_doing d e)
+  steps_laws one two = record {
+    begun = λ start entries pending lane. elim [ Left t ↦ one.begun start entries pending lane t | Right t ↦ two.begun start entries pending lane t ];
+    quiet = λ lane. elim [ Left t ↦ one.quiet lane t | Right t ↦ two.quiet lane t ];
+    stages = λ who actor lane. elim [ Left t ↦ one.stages who actor lane t | Right t ↦ two.stages who actor lane t ];
+    goes_on = λ since. elim [ Left c ↦ elim [ Left t ↦ elim [ Left new ↦ one.goes_on since c t new | Right new ↦ λ after step. absurd step ] | Right t ↦ λ new after step. absurd after ] | Right c ↦ elim [ Left t ↦ λ new after step. absurd after | Right t ↦ elim [ Left new ↦ λ after step. absurd step | Right new ↦ two.goes_on since c t new ] ] ];
+    falls = elim [ Left t ↦ elim [ Left new ↦ one.falls t new | Right new ↦ λ step. absurd step ] | Right t ↦ elim [ Left new ↦ λ step. absurd step | Right new ↦ two.falls t new ] ];
+    refused = λ start entries pending lane. elim [ Left t ↦ one.refused start entries pending lane t | Right t ↦ two.refused start entries pending lane t ];
+  }
+
+  hear_laws : HearLaws k d → HearLaws l e → HearLaws (either_tasks k l) (either_doing d e)
+  hear_laws one two = record {
+    facts = λ told lane. elim [ Left t ↦ one.facts told lane t | Right t ↦ two.facts told lane t ];
+    holds = λ told lane. elim [ Left t ↦ one.holds told lane t | Right t ↦ two.holds told lane t ];
+    pursues = λ told since. elim [ Left c ↦ elim [ Left t ↦ one.pursues told since c t | Right t ↦ λ after. absurd after ] | Right c ↦ elim [ Left t ↦ λ after. absurd after | Right t ↦ two.pursues told since c t ] ];
+    left = λ told. elim [ Left t ↦ one.left told t | Right t ↦ two.left told t ];
+    back = λ told. elim [ Left t ↦ ap Left (one.back told t) | Right t ↦ ap Right (two.back told t) ];
+  }
+
+  change_laws : ChangeLaws k m d → ChangeLaws l n e → ChangeLaws (either_tasks k l) (either_means m n) (either_doing d e)
+  change_laws one two = record {
+    shown = λ since. elim [ Left c ↦ elim [ Left t ↦ one.shown since c t | Right t ↦ λ event after is. absurd after ] | Right c ↦ elim [ Left t ↦ λ event after is. absurd after | Right t ↦ two.shown since c t ] ];
+    settled = λ since. elim [ Left c ↦ elim [ Left t ↦ one.settled since c t | Right t ↦ λ event after is. absurd after ] | Right c ↦ elim [ Left t ↦ λ event after is. absurd after | Right t ↦ two.settled since c t ] ];
+    founds = λ lane. elim [ Left t ↦ one.founds lane t | Right t ↦ two.founds lane t ];
+    makes = λ since. elim [ Left c ↦ elim [ Left t ↦ elim [ Left new ↦ elim [ Left a ↦ λ after step is settles. one.makes since c t new a after step (from_left (d.answer new) a is) settles | Right a ↦ λ after step is settles. absurd (not_right (d.answer new) a is) ] | Right new ↦ λ a after step is settles. absurd step ] | Right t ↦ λ new a after step is settles. absurd after ] | Right c ↦ elim [ Left t ↦ λ new a after step is settles. absurd after | Right t ↦ elim [ Left new ↦ λ a after step is settles. absurd step | Right new ↦ elim [ Left a ↦ λ after step is settles. absurd (not_left (e.answer new) a is) | Right a ↦ λ after step is settles. two.makes since c t new a after step (from_right (e.answer new) a is) settles ] ] ] ];
+    makes_not = λ since. elim [ Left c ↦ elim [ Left t ↦ elim [ Left new ↦ elim [ Left a ↦ λ after step is. one.makes_not since c t new a after step (from_left (d.answer new) a is) | Right a ↦ λ after step is. absurd (not_right (d.answer new) a is) ] | Right new ↦ λ a after step is. absurd step ] | Right t ↦ λ new a after step is. absurd after ] | Right c ↦ elim [ Left t ↦ λ new a after step is. absurd after | Right t ↦ elim [ Left new ↦ λ a after step is. absurd step | Right new ↦ elim [ Left a ↦ λ after step is. absurd (not_left (e.answer new) a is) | Right a ↦ λ after step is. two.makes_not since c t new a after step (from_right (e.answer new) a is) ] ] ] ];
+    kept = λ since opening lane. elim [ Left c ↦ elim [ Left t ↦ elim [ Left new ↦ one.kept since opening lane c t new | Right new ↦ λ v w b right after f leaves settles. absurd leaves ] | Right t ↦ λ new v w b right after f leaves settles. absurd after ] | Right c ↦ elim [ Left t ↦ λ new v w b right after f leaves settles. absurd after | Right t ↦ elim [ Left new ↦ λ v w b right after f leaves settles. absurd leaves | Right new ↦ two.kept since opening lane c t new ] ] ];
+    keeps = λ since opening out removed. elim [ Left c ↦ one.keeps since opening out removed c | Right c ↦ two.keeps since opening out removed c ];
+    keeps_on = λ since opening out. elim [ Left c ↦ one.keeps_on since opening out c | Right c ↦ two.keeps_on since opening out c ];
+  }
+
+  answer_laws : AnswerLaws k m d → AnswerLaws l n e → AnswerLaws (either_tasks k l) (either_means m n) (either_doing d e)
+  answer_laws one two = record {
+    answers = λ since. elim [ Left c ↦ elim [ Left t ↦ elim [ Left new ↦ λ after step. is_wrapped Left (d.answer new) (one.answers since c t new after step) | Right new ↦ λ after step. absurd step ] | Right t ↦ λ new after step. absurd after ] | Right c ↦ elim [ Left t ↦ λ new after step. absurd after | Right t ↦ elim [ Left new ↦ λ after step. absurd step | Right new ↦ λ after step. is_wrapped Right (e.answer new) (two.answers since c t new after step) ] ] ];
+    says = λ since p. elim [ Left c ↦ elim [ Left t ↦ elim [ Left new ↦ elim [ Left a ↦ λ after step is. one.says since p c t new a after step (from_left (d.answer new) a is) | Right a ↦ λ after step is. absurd (not_right (d.answer new) a is) ] | Right new ↦ λ a after step is. absurd step ] | Right t ↦ λ new a after step is. absurd after ] | Right c ↦ elim [ Left t ↦ λ new a after step is. absurd after | Right t ↦ elim [ Left new ↦ λ a after step is. absurd step | Right new ↦ elim [ Left a ↦ λ after step is. absurd (not_left (e.answer new) a is) | Right a ↦ λ after step is. two.says since p c t new a after step (from_right (e.answer new) a is) ] ] ] ];
+    shows = λ since lane. elim [ Left c ↦ elim [ Left t ↦ elim [ Left new ↦ λ v w b. elim [ Left a ↦ λ after f leaves is. one.shows since lane c t new v w b a after f leaves (from_left (d.answer new) a is) | Right a ↦ λ after f leaves is. absurd (not_right (d.answer new) a is) ] | Right new ↦ λ v w b a after f leaves is. absurd leaves ] | Right t ↦ λ new v w b a after f leaves is. absurd after ] | Right c ↦ elim [ Left t ↦ λ new v w b a after f leaves is. absurd after | Right t ↦ elim [ Left new ↦ λ v w b a after f leaves is. absurd leaves | Right new ↦ λ v w b. elim [ Left a ↦ λ after f leaves is. absurd (not_left (e.answer new) a is) | Right a ↦ λ after f leaves is. two.shows since lane c t new v w b a after f leaves (from_right (e.answer new) a is) ] ] ] ];
+    knows = λ since p lane. elim [ Left c ↦ elim [ Left t ↦ elim [ Left new ↦ λ v w b. elim [ Left a ↦ λ after f leaves is sees. one.knows since p lane c t new v w b a after f leaves (from_left (d.answer new) a is) sees | Right a ↦ λ after f leaves is sees. absurd (not_right (d.answer new) a is) ] | Right new ↦ λ v w b a after f leaves is sees. absurd leaves ] | Right t ↦ λ new v w b a after f leaves is sees. absurd after ] | Right c ↦ elim [ Left t ↦ λ new v w b a after f leaves is sees. absurd after | Right t ↦ elim [ Left new ↦ λ v w b a after f leaves is sees. absurd leaves | Right new ↦ λ v w b. elim [ Left a ↦ λ after f leaves is sees. absurd (not_left (e.answer new) a is) | Right a ↦ λ after f leaves is sees. two.knows since p lane c t new v w b a after f leaves (from_right (e.answer new) a is) sees ] ] ] ];
+    lacks = λ since v. elim [ Left a ↦ elim [ Left c ↦ one.lacks since v a c | Right c ↦ λ commit files shown. absurd shown ] | Right a ↦ elim [ Left c ↦ λ commit files shown. absurd shown | Right c ↦ two.lacks since v a c ] ];
+    full = λ since. elim [ Left c ↦ elim [ Left t ↦ elim [ Left new ↦ elim [ Left a ↦ λ after step is full. one.full since c t new a after step (from_left (d.answer new) a is) full | Right a ↦ λ after step is full. absurd (not_right (d.answer new) a is) ] | Right new ↦ λ a after step is full. absurd step ] | Right t ↦ λ new a after step is full. absurd after ] | Right c ↦ elim [ Left t ↦ λ new a after step is full. absurd after | Right t ↦ elim [ Left new ↦ λ a after step is full. absurd step | Right new ↦ elim [ Left a ↦ λ after step is full. absurd (not_left (e.answer new) a is) | Right a ↦ λ after step is full. two.full since c t new a after step (from_right (e.answer new) a is) full ] ] ] ];
+    left = λ since actor lane. elim [ Left c ↦ elim [ Left t ↦ elim [ Left new ↦ λ v w b b'. elim [ Left a ↦ λ after f leaves is does. one.left since actor lane c t new v w b b' a after f leaves (from_left (d.answer new) a is) does | Right a ↦ λ after f leaves is does. absurd (not_right (d.answer new) a is) ] | Right new ↦ λ v w b b' a after f leaves is does. absurd leaves ] | Right t ↦ λ new v w b b' a after f leaves is does. absurd after ] | Right c ↦ elim [ Left t ↦ λ new v w b b' a after f leaves is does. absurd after | Right t ↦ elim [ Left new ↦ λ v w b b' a after f leaves is does. absurd leaves | Right new ↦ λ v w b b'. elim [ Left a ↦ λ after f leaves is does. absurd (not_left (e.answer new) a is) | Right a ↦ λ after f leaves is does. two.left since actor lane c t new v w b b' a after f leaves (from_right (e.answer new) a is) does ] ] ] ];
+    stays = λ since actor lane out. elim [ Left a ↦ elim [ Left c ↦ one.stays since actor lane out a c | Right c ↦ λ v w b b' does is. absurd is ] | Right a ↦ elim [ Left c ↦ λ v w b b' does is. absurd is | Right c ↦ two.stays since actor lane out a c ] ];
+  }
+
+  store_laws : StoreLaws k m d → StoreLaws l n e → StoreLaws (either_tasks k l) (either_means m n) (either_doing d e)
+  store_laws one two = record {
+    holds = λ lane. elim [ Left t ↦ one.holds lane t | Right t ↦ two.holds lane t ];
+    works = λ since. elim [ Left c ↦ elim [ Left t ↦ one.works since c t | Right t ↦ λ wants name after take pin. absurd after ] | Right c ↦ elim [ Left t ↦ λ wants name after take pin. absurd after | Right t ↦ two.works since c t ] ];
+    reaches = λ since lane. elim [ Left c ↦ elim [ Left t ↦ one.reaches since lane c t | Right t ↦ λ v b wants name after f take pin. absurd after ] | Right c ↦ elim [ Left t ↦ λ v b wants name after f take pin. absurd after | Right t ↦ two.reaches since lane c t ] ];
+    brings = λ since actor lane. elim [ Left c ↦ elim [ Left t ↦ one.brings since actor lane c t | Right t ↦ λ v b name s bytes after f sum writes holds. absurd after ] | Right c ↦ elim [ Left t ↦ λ v b name s bytes after f sum writes holds. absurd after | Right t ↦ two.brings since actor lane c t ] ];
+    room = λ since actor lane. elim [ Left c ↦ elim [ Left t ↦ one.room since actor lane c t | Right t ↦ λ v b name s after f sum writes. absurd after ] | Right c ↦ elim [ Left t ↦ λ v b name s after f sum writes. absurd after | Right t ↦ two.room since actor lane c t ] ];
+    stored = λ actor lane. elim [ Left t ↦ elim [ Left new ↦ one.stored actor lane t new | Right new ↦ λ v w b name s f leaves sum writes. absurd leaves ] | Right t ↦ elim [ Left new ↦ λ v w b name s f leaves sum writes. absurd leaves | Right new ↦ two.stored actor lane t new ] ];
+    done = λ actor lane. elim [ Left t ↦ elim [ Left new ↦ one.done actor lane t new | Right new ↦ λ v w b name s f leaves sum writes. absurd leaves ] | Right t ↦ elim [ Left new ↦ λ v w b name s f leaves sum writes. absurd leaves | Right new ↦ two.done actor lane t new ] ];
+    lacked = λ since. elim [ Left c ↦ elim [ Left t ↦ elim [ Left new ↦ one.lacked since c t new | Right new ↦ λ v w name after leaves met. absurd leaves ] | Right t ↦ λ new v w name after leaves met. absurd after ] | Right c ↦ elim [ Left t ↦ λ new v w name after leaves met. absurd after | Right t ↦ elim [ Left new ↦ λ v w name after leaves met. absurd leaves | Right new ↦ two.lacked since c t new ] ] ];
+  }
+
+  folder_laws : FolderLaws k m d → FolderLaws l n e → FolderLaws (either_tasks k l) (either_means m n) (either_doing d e)
+  folder_laws one two = record {
+    claims = λ actor lane. elim [ Left t ↦ one.claims actor lane t | Right t ↦ two.claims actor lane t ];
+    claimed = λ since. elim [ Left c ↦ elim [ Left t ↦ one.claimed since c t | Right t ↦ λ name after is. absurd after ] | Right c ↦ elim [ Left t ↦ λ name after is. absurd after | Right t ↦ two.claimed since c t ] ];
+    made = elim [ Left t ↦ elim [ Left new ↦ one.made t new | Right new ↦ λ name step is. absurd step ] | Right t ↦ elim [ Left new ↦ λ name step is. absurd step | Right new ↦ two.made t new ] ];
+    goes_on = elim [ Left t ↦ elim [ Left new ↦ one.goes_on t new | Right new ↦ λ name step made. absurd step ] | Right t ↦ elim [ Left new ↦ λ name step made. absurd step | Right new ↦ two.goes_on t new ] ];
+  }
+
+  pub either_command_laws : CommandLaws k m d → CommandLaws l n e → CommandLaws (either_tasks k l) (either_means m n) (either_doing d e)
+  either_command_laws one two = record {
+    steps = steps_laws one.steps two.steps;
+    hears = hear_laws one.hears two.hears;
+    changes = change_laws one.changes two.changes;
+    answers = answer_laws one.answers two.answers;
+    store = store_laws one.store two.store;
+    folders = folder_laws one.folders two.folders;
+  }

@@ -1,0 +1,22 @@
+-- What a family proves of the folders of checkouts that its tasks make.
+use Rattle.std.specs.Prelude.{◌≡◌, ℕ}
+use Rattle.ost_types.specs.Path.{Name}
+use Rattle.fs_trait.specs.declared.task.StepResult.TheVariants as turn
+use Rattle.fs_trait.specs.View.{View}
+use Rattle.fs_trait.specs.Seen.{Seen}
+use Rattle.repo_layout.specs.BootPaths.{checkout_path}
+use Rattle.rely_guarantee.specs.Books.{Books}
+use Rattle.rely_guarantee.specs.Laws.{Claim}
+use Rattle.command.specs.Doing.{Doing}
+use Rattle.command.specs.Meaning.{Meaning}
+use Rattle.command.specs.Since.{Since}
+use Rattle.command.specs.Tasks.{TaskSpec}
+
+pub record FolderLaws {T W A : Type 0} (k : TaskSpec T) (m : Meaning W A) (d : Doing T W A) : Type 0 where
+  -- a step that may write at a checkout's path claims it
+  pub claims : (actor lane : ℕ) (t : T) (v : View) (b : Books) (name : Name) (s : Seen) → k.facts lane t v b → k.writes actor t v (checkout_path name) s → k.kind t ≡ Claim name
+  -- what is claimed is a checkout that the command makes
+  pub claimed : (since : Since) (c : W) (t : T) (name : Name) → d.pursues since c t → k.kind t ≡ Claim name → m.claims c name
+  -- and from then on the task has made it
+  pub made : (t new : T) (name : Name) → k.stepped t turn.More new → k.kind t ≡ Claim name → d.made new name
+  pub goes_on : (t new : T) (name : Name) → k.stepped t turn.More new → d.made t name → d.made new name

@@ -1,0 +1,17 @@
+pub mod Since
+pub mod Revisions
+pub mod Removed
+pub mod Staging
+pub mod Sees
+pub mod Meaning
+pub mod Doing
+pub mod Tasks
+pub mod StepLaws
+pub mod HearLaws
+pub mod ChangeLaws
+pub mod AnswerLaws
+pub mod StoreLaws
+pub mod FolderLaws
+pub mod Laws
+pub mod EitherMeaning
+pub mod EitherLaws
