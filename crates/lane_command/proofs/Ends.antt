@@ -17,6 +17,11 @@ use Rattle.rely_guarantee.specs.State.{State}
 use Rattle.repo_layout.specs.Paths.{stage_path}
 use Rattle.script.specs.declared.answer.Answer.{Answer}
 use Rattle.ref_command.specs.Facts.{StagingPathFree}
+use Rattle.ref_command.specs.declared.answer.RefAnswer.{RefAnswer}
+use Rattle.ref_command.specs.declared.answer.RefAnswer.TheVariants as answers
+use Rattle.ref_command.specs.declared.command.RefCommand.{RefCommand}
+use Rattle.ref_command.specs.Answers as refs
+use Rattle.ref_command.specs.Commands.{answer_of as refs_of, command_facts, command_leaves}
 use Rattle.ref_command.proofs.Ends as ref_ends
 use Rattle.ref_command.proofs.Homes.{home_task}
 use Rattle.ref_command.proofs.Refusals as ref_refusals
@@ -41,6 +46,8 @@ use Rattle.checkout_command.proofs.Writing.{own_of as checkout_own}
 use Rattle.lane_command.specs.declared.command.LaneCommand.{LaneCommand}
 use Rattle.lane_command.specs.declared.command.LaneCommand.TheVariants.{Ref, Commit, Read, Checkout}
 use Rattle.lane_command.specs.Answers.{Begins, Says}
+use Rattle.lane_command.specs.RefAnswers as spoken
+use Rattle.lane_command.specs.RefAnswers.{ref_answer, script_ref}
 use Rattle.lane_command.specs.Commands.{answer_of, lane_facts, lane_kind, lane_leaves, lane_left, lane_refuses, lane_stepped, lane_writes, met_by, checkout_answer, read_answer, script_answer, script_checkout, script_read, told, told_in, WasLacking}
 
 pub begins_of : (start : State) (entries : List Entry) (pending : Option Pending) (lane : ℕ) (v : View) (b : Books) (t : LaneCommand) → Stands start entries pending v → StagingPathFree lane v → Begins lane t → lane_facts lane t v b
@@ -79,6 +86,25 @@ refused_of start entries pending lane v b (Commit t) e tree stands f why = commi
 refused_of start entries pending lane v b (Read t) e tree stands f why = why
 refused_of start entries pending lane v b (Checkout t) e tree stands f why = why
 
+-- the answer of a command on refs behind the script's
+ref_said : (o : Option RefAnswer) (a : Answer) → script_ref o ≡ Some a → (said : RefAnswer) × (o ≡ Some said) × (ref_answer said ≡ a)
+ref_said (Some said) a is = (said, refl, (let same : Some (ref_answer said) ≡ Some a = is in cc))
+ref_said None a is = (let n : None ≡ Some a = is in cc)
+
+ref_told : (said : RefAnswer) (t : RefCommand) (v w : View) → refs.Says said t v w → spoken.Says (ref_answer said) t v w
+ref_told answers.Changed t v w says = says
+ref_told (answers.Commit commit) t v w says = says
+ref_told (answers.NoCommit commit) t v w says = says
+ref_told (answers.Partial commit) t v w says = says
+ref_told answers.NoRef t v w says = says
+ref_told (answers.RefMoved seen now) t v w says = says
+ref_told (answers.RefClash other) t v w says = says
+
+ref_says : (lane : ℕ) (t new : RefCommand) (v w : View) (b : Books) (a : Answer) → command_facts lane t v b → command_leaves t (turn.Done tt) new v w → script_ref (refs_of new) ≡ Some a → Says a (Ref t) v w
+ref_says lane t new v w b a f l is =
+    let s = ref_said (refs_of new) a is in
+    subst (λ x. spoken.Says x t v w) s.2 (ref_told s.0 t v w (ref_ends.says_of lane t new v w b s.0 f l s.1))
+
 -- the answer of a commit behind the script's
 pub said_by : (o : Option CommitAnswer) (a : Answer) → script_answer o ≡ Some a → (said : CommitAnswer) × (o ≡ Some said) × (script_answer (Some said) ≡ Some a)
 said_by (Some said) a is = (said, refl, is)
@@ -111,7 +137,7 @@ checkout_says lane t new v w b a f l is =
     (told.0, s.0, s.2, told.1, checkout_ends.finished_of lane t new v w b s.0 f l s.1)
 
 pub says_of : (lane : ℕ) (t new : LaneCommand) (v w : View) (b : Books) (a : Answer) → lane_facts lane t v b → lane_leaves t (turn.Done tt) new v w → answer_of new ≡ Some a → Says a t v w
-says_of lane (Ref t) (Ref new) v w b a f l is = ref_ends.says_of lane t new v w b a f l is
+says_of lane (Ref t) (Ref new) v w b a f l is = ref_says lane t new v w b a f l is
 says_of lane (Commit t) (Commit new) v w b a f l is = commit_says lane t new v w b a f l is
 says_of lane (Read t) (Read new) v w b a f l is = read_says lane t new v w b a f l is
 says_of lane (Checkout t) (Checkout new) v w b a f l is = checkout_says lane t new v w b a f l is

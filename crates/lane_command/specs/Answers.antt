@@ -15,6 +15,7 @@ use Rattle.checkout_command.specs.Commands as checking
 use Rattle.checkout_command.specs.Founded as checked
 use Rattle.lane_command.specs.declared.command.LaneCommand.{LaneCommand}
 use Rattle.lane_command.specs.declared.command.LaneCommand.TheVariants.{Ref, Commit, Read, Checkout}
+use Rattle.lane_command.specs.RefAnswers as spoken
 use Rattle.lane_command.specs.Commands.{checkout_answer, read_answer, script_answer}
 
 abbrev pub Begins : ℕ → LaneCommand → Type 0
@@ -25,7 +26,7 @@ Begins lane (Checkout t) = checking.IsNew t
 
 -- Over the views before and after the last step. One that reads changes nothing, and the last step of a checkout neither.
 abbrev pub Says : Answer → LaneCommand → View → View → Type 0
-Says a (Ref t) v w = refs.Says a t v w
+Says a (Ref t) v w = spoken.Says a t v w
 Says a (Commit t) v w = (said : CommitAnswer) × (script_answer (Some said) ≡ Some a) × commits.Says said t v w
 Says a (Read t) v w = (said : ReadAnswer) × (read_answer said ≡ a) × reads.Answers v.now (reads.asked t) said × (IsRead said → IsFinishedOf (reads.asked t) v)
 Says a (Checkout t) v w = (w ≡ v) × (said : CheckoutAnswer) × (checkout_answer said ≡ a) × checkouts.Answers v.now (checkouts.asked t) said × (checked.IsOfFinished said → checked.IsFinishedOf (checkouts.asked t) v)

@@ -27,6 +27,7 @@ use Rattle.checkout_command.specs.declared.answer.CheckoutAnswer.{CheckoutAnswer
 use Rattle.checkout_command.specs.declared.answer.CheckoutAnswer.TheVariants as checkout
 use Rattle.checkout_command.specs.Asked.{HasName, asked}
 use Rattle.checkout_command.specs.Commands as checkouts
+use Rattle.lane_command.specs.RefAnswers.{script_ref}
 use Rattle.lane_command.specs.declared.command.LaneCommand.{LaneCommand}
 use Rattle.lane_command.specs.declared.command.LaneCommand.TheVariants.{Ref, Commit, Read, Checkout}
 
@@ -123,7 +124,7 @@ script_checkout (Some said) = Some (checkout_answer said)
 
 -- what a command answers, once it is done
 abbrev pub answer_of : LaneCommand → Option script.Answer
-answer_of (Ref t) = refs.answer_of t
+answer_of (Ref t) = script_ref (refs.answer_of t)
 answer_of (Commit t) = script_answer (commits.answer_of t)
 answer_of (Read t) = script_read (reads.answer_of t)
 answer_of (Checkout t) = script_checkout (checkouts.answer_of t)

@@ -1,3 +1,4 @@
+pub mod RefAnswers
 pub mod Commands
 pub mod Laws
 pub mod Answers

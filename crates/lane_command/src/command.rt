@@ -6,6 +6,7 @@ ghost use Rattle.lane_command.specs.Laws.{lane_laws};
 use crate::answer::script_answer;
 use crate::checkout_answer::script_checkout;
 use crate::read_answer::script_read;
+use crate::ref_answer::script_ref;
 use checkout_command::CheckoutCommand;
 use commit_command::CommitCommand;
 use fs_trait::{Fs, FsErr, StepResult};
@@ -57,7 +58,7 @@ impl LaneCommand {
         ensures { result ≡ answer_of self }
     {
         match self {
-            LaneCommand::Ref(work) => work.into_answer(),
+            LaneCommand::Ref(work) => script_ref(work.into_answer()),
             LaneCommand::Commit(work) => script_answer(work.into_answer()),
             LaneCommand::Read(work) => script_read(work.into_answer()),
             LaneCommand::Checkout(work) => script_checkout(work.into_answer()),

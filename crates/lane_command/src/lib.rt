@@ -6,6 +6,7 @@ mod checkout_answer;
 mod command;
 mod laws;
 mod read_answer;
+mod ref_answer;
 
 pub use command::LaneCommand;
 pub use laws::{

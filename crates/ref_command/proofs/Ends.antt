@@ -15,8 +15,8 @@ use Rattle.ref_store.specs.declared.phase.Phase.TheVariants as phase
 use Rattle.ref_store.specs.declared.refusal.RefRefusal.TheVariants as refusal
 use Rattle.ref_store.specs.Change as store
 use Rattle.ref_store.specs.Change.{IsLast, progress_in, progress_of}
-use Rattle.script.specs.declared.answer.Answer as script
-use Rattle.script.specs.declared.answer.Answer.TheVariants as answer
+use Rattle.ref_command.specs.declared.answer.RefAnswer.{RefAnswer}
+use Rattle.ref_command.specs.declared.answer.RefAnswer.TheVariants as answer
 use Rattle.rely_guarantee.specs.declared.event.Event.{Event}
 use Rattle.rely_guarantee.specs.Books.{Books}
 use Rattle.rely_guarantee.specs.SystemInvariant.{Stands}
@@ -39,12 +39,12 @@ use Rattle.ref_command.specs.Answers.{Begins, Says}
 use Rattle.ref_command.specs.Founded.{IsKnownBy}
 use Rattle.ref_command.proofs.Homes.{begins_change}
 
-parse_says : (found : Found) (commit : List ℕ) (a : script.Answer) (t : RefCommand) (v w : View) → parse_answer (Some found) commit ≡ Some a → IsFound v.now commit found → Says a t v w
+parse_says : (found : Found) (commit : List ℕ) (a : RefAnswer) (t : RefCommand) (v w : View) → parse_answer (Some found) commit ≡ Some a → IsFound v.now commit found → Says a t v w
 parse_says Missing commit a t v w e is = let k : answer.NoCommit commit ≡ a = cc in subst (λ x. Says x t v w) k is
 parse_says Partial commit a t v w e is = let k : answer.Partial commit ≡ a = cc in subst (λ x. Says x t v w) k is
 parse_says Whole commit a t v w e is = let k : answer.Commit commit ≡ a = cc in subst (λ x. Says x t v w) k is
 
-reset_says : (found : Found) (commit : List ℕ) (a : script.Answer) (t : RefCommand) (v w : View) → IsStop found → reset_answer (Some found) commit ≡ Some a → IsFound v.now commit found → Says a t v w
+reset_says : (found : Found) (commit : List ℕ) (a : RefAnswer) (t : RefCommand) (v w : View) → IsStop found → reset_answer (Some found) commit ≡ Some a → IsFound v.now commit found → Says a t v w
 reset_says Missing commit a t v w stop e is = let k : answer.NoCommit commit ≡ a = cc in subst (λ x. Says x t v w) k is
 reset_says Partial commit a t v w stop e is = let k : answer.Partial commit ≡ a = cc in subst (λ x. Says x t v w) k is
 reset_says Whole commit a t v w stop e is = absurd stop
@@ -70,10 +70,10 @@ settles_in phase.Unlink e last runs = absurd last
 settles_in phase.SyncFolder e last runs = refl
 settles_in phase.Ended e last runs = absurd runs
 
-change_says : (lane : ℕ) (work new : RefWork) (r : Answer) (v w : View) (b : Books) (a : script.Answer) → Facts lane work.task v b → leaves_in (turn.Done tt) r work.task new.task v w → change_answer r ≡ Some a → Says a (Change work) v w
+change_says : (lane : ℕ) (work new : RefWork) (r : Answer) (v w : View) (b : Books) (a : RefAnswer) → Facts lane work.task v b → leaves_in (turn.Done tt) r work.task new.task v w → change_answer r ≡ Some a → Says a (Change work) v w
 change_says lane work new None v w b a f l e = absurd l
 change_says lane work new (Some (Ok x)) v w b a f l e =
-    let k : answer.Nothing ≡ a = cc in
+    let k : answer.Changed ≡ a = cc in
     subst (λ y. Says y (Change work) v w) k (settles_in work.task.phase (event work.task) l.stepped.1 f.runs)
 change_says lane work new (Some (Err (refusal.RefMoved seen now))) v w b a f l e =
     let k : answer.RefMoved seen now ≡ a = cc in
@@ -83,7 +83,7 @@ change_says lane work new (Some (Err (refusal.RefClash other))) v w b a f l e =
     subst (λ y. Says y (Change work) v w) k (work.task.name, work.task.seen, (refl, refl), l.tells.1)
 change_says lane work new (Some (Err refusal.NoRef)) v w b a f l e = absurd l.tells
 
-stopped_says : (o : Option Found) (look : LookUp) (plan : Plan) (new : RefCommand) (v w : View) (a : script.Answer) → reset_leaves o look plan (turn.Done tt) new v w → answer_of new ≡ Some a → Says a (Reset look plan) v w
+stopped_says : (o : Option Found) (look : LookUp) (plan : Plan) (new : RefCommand) (v w : View) (a : RefAnswer) → reset_leaves o look plan (turn.Done tt) new v w → answer_of new ≡ Some a → Says a (Reset look plan) v w
 stopped_says None look plan (Reset next p) v w a l e =
     let at : reset_answer (Some l.0) look.commit ≡ Some a = sym (ap (λ (x : LookUp). reset_answer x.found x.commit) l.2.1) ∙ e in
     reset_says l.0 look.commit a (Reset look plan) v w l.1 at l.2.2
@@ -91,7 +91,7 @@ stopped_says None look plan (Parse next) v w a l e = absurd l
 stopped_says None look plan (Change work) v w a l e = absurd l
 stopped_says (Some found) look plan new v w a l e = absurd l
 
-pub says_of : (lane : ℕ) (t new : RefCommand) (v w : View) (b : Books) (a : script.Answer) → command_facts lane t v b → command_leaves t (turn.Done tt) new v w → answer_of new ≡ Some a → Says a t v w
+pub says_of : (lane : ℕ) (t new : RefCommand) (v w : View) (b : Books) (a : RefAnswer) → command_facts lane t v b → command_leaves t (turn.Done tt) new v w → answer_of new ≡ Some a → Says a t v w
 says_of lane (Parse look) (Parse new) v w b a f l e =
     let at : parse_answer (Some l.0) look.commit ≡ Some a = sym (ap (λ (x : LookUp). parse_answer x.found x.commit) l.1.1) ∙ e in
     parse_says l.0 look.commit a (Parse look) v w at l.1.2

@@ -4,8 +4,8 @@ use Rattle.fs_trait.specs.View.{View}
 use Rattle.repo_layout.specs.RefName.{IsRefName}
 use Rattle.ref_room.specs.Clash.{IsLeastClash}
 use Rattle.ref_store.specs.Steps.{HasValue}
-use Rattle.script.specs.declared.answer.Answer.{Answer}
-use Rattle.script.specs.declared.answer.Answer.TheVariants as answer
+use Rattle.ref_command.specs.declared.answer.RefAnswer.{RefAnswer}
+use Rattle.ref_command.specs.declared.answer.RefAnswer.TheVariants as answer
 use Rattle.rely_guarantee.specs.Laws.{Settle}
 use Rattle.ref_command.specs.declared.command.RefCommand.{RefCommand}
 use Rattle.ref_command.specs.declared.command.RefCommand.TheVariants.{Parse, Reset, Change}
@@ -32,11 +32,11 @@ Begins lane (Change work) = (name : List ℕ) × (seen : List ℕ) × (work ≡ 
 
 -- Over the view before the last step: what was found of the commit; the ref's value, which isn't the one
 -- that it was to have; the least ref that can't stand beside it; or, at the end of a change, that the step settled it.
-abbrev pub Says : Answer → RefCommand → View → View → Type 0
+abbrev pub Says : RefAnswer → RefCommand → View → View → Type 0
 Says (answer.Commit commit) t v w = IsFound v.now commit Whole
 Says (answer.NoCommit commit) t v w = IsFound v.now commit Missing
 Says (answer.Partial commit) t v w = IsFound v.now commit Partial
 Says (answer.RefMoved seen now) t v w = (name : List ℕ) × IsOf t name seen × HasValue v.now name now × (now ≢ seen)
 Says (answer.RefClash other) t v w = (name : List ℕ) × (seen : Option (List ℕ)) × IsOf t name seen × IsLeastClash v.now name other
-Says answer.Nothing t v w = Settles t
-Says a t v w = ⊥
+Says answer.Changed t v w = Settles t
+Says answer.NoRef t v w = ⊥

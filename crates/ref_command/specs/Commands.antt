@@ -11,8 +11,8 @@ use Rattle.fs_trait.specs.Seen.{Seen}
 use Rattle.ref_store.specs.declared.phase.Phase.TheVariants as phase
 use Rattle.ref_store.specs.declared.refusal.RefRefusal.TheVariants as refusal
 use Rattle.ref_store.specs.Change as store
-use Rattle.script.specs.declared.answer.Answer as script
-use Rattle.script.specs.declared.answer.Answer.TheVariants as answer
+use Rattle.ref_command.specs.declared.answer.RefAnswer.{RefAnswer}
+use Rattle.ref_command.specs.declared.answer.RefAnswer.TheVariants as answer
 use Rattle.rely_guarantee.specs.declared.kind.Wants.{Wants}
 use Rattle.rely_guarantee.specs.Books.{Books}
 use Rattle.rely_guarantee.specs.Laws.{Kind, Quiet, Take}
@@ -122,25 +122,25 @@ abbrev pub IsDrop : ℕ → List ℕ → List ℕ → RefCommand → Type 0
 IsDrop lane name seen t = t ≡ Change (removal lane name seen)
 
 -- what a command answers, once it is done
-abbrev pub parse_answer : Option Found → List ℕ → Option script.Answer
+abbrev pub parse_answer : Option Found → List ℕ → Option RefAnswer
 parse_answer None commit = None
 parse_answer (Some Missing) commit = Some (answer.NoCommit commit)
 parse_answer (Some Partial) commit = Some (answer.Partial commit)
 parse_answer (Some Whole) commit = Some (answer.Commit commit)
 
-abbrev pub reset_answer : Option Found → List ℕ → Option script.Answer
+abbrev pub reset_answer : Option Found → List ℕ → Option RefAnswer
 reset_answer (Some Missing) commit = Some (answer.NoCommit commit)
 reset_answer (Some Partial) commit = Some (answer.Partial commit)
 reset_answer found commit = None
 
-abbrev pub change_answer : Answer → Option script.Answer
+abbrev pub change_answer : Answer → Option RefAnswer
 change_answer None = None
-change_answer (Some (Ok x)) = Some answer.Nothing
+change_answer (Some (Ok x)) = Some answer.Changed
 change_answer (Some (Err (refusal.RefClash other))) = Some (answer.RefClash other)
 change_answer (Some (Err (refusal.RefMoved seen now))) = Some (answer.RefMoved seen now)
 change_answer (Some (Err refusal.NoRef)) = Some answer.NoRef
 
-abbrev pub answer_of : RefCommand → Option script.Answer
+abbrev pub answer_of : RefCommand → Option RefAnswer
 answer_of (Parse look) = parse_answer look.found look.commit
 answer_of (Reset look plan) = reset_answer look.found look.commit
 answer_of (Change work) = change_answer work.answer

@@ -10,7 +10,7 @@ ghost use Rattle.ref_command.specs.Answers.{Begins};
 ghost use Rattle.ref_command.specs.CommandLaws.{command_laws};
 ghost use Rattle.rely_guarantee.specs.Laws.{step_of};
 
-use crate::RefWork;
+use crate::{RefAnswer, RefWork};
 use crate::look_up::{Found, LookUp, commit_name};
 use crate::plan::Plan;
 use fs_trait::{Fs, FsErr, StepResult};
@@ -18,7 +18,6 @@ use ost_types::{Csum, Name, NoMemory};
 use ref_store::RefRefusal;
 use rely_guarantee::{CommandTask, Event, Step, Wants};
 use repo_layout::RefName;
-use script::Answer;
 use std::alloc::Global;
 
 /// What a command does that names a commit or changes a ref, once it knows what it is to do.
@@ -71,7 +70,7 @@ impl RefCommand {
     }
 
     /// What it answers, once it is done.
-    pub fn into_answer(self) -> Option<Answer>
+    pub fn into_answer(self) -> Option<RefAnswer>
         ensures { result ≡ answer_of self }
     {
         match self {
@@ -93,15 +92,15 @@ impl RefCommand {
     }
 }
 
-fn change_answer(answer: Option<Result<(), RefRefusal>>) -> Option<Answer>
+fn change_answer(answer: Option<Result<(), RefRefusal>>) -> Option<RefAnswer>
     ensures { result ≡ change_answer answer }
 {
     match answer {
         None => None,
-        Some(Ok(())) => Some(Answer::Nothing),
-        Some(Err(RefRefusal::RefClash(other))) => Some(Answer::RefClash(other)),
-        Some(Err(RefRefusal::RefMoved { seen, now })) => Some(Answer::RefMoved { seen, now }),
-        Some(Err(RefRefusal::NoRef)) => Some(Answer::NoRef),
+        Some(Ok(())) => Some(RefAnswer::Changed),
+        Some(Err(RefRefusal::RefClash(other))) => Some(RefAnswer::RefClash(other)),
+        Some(Err(RefRefusal::RefMoved { seen, now })) => Some(RefAnswer::RefMoved { seen, now }),
+        Some(Err(RefRefusal::NoRef)) => Some(RefAnswer::NoRef),
     }
 }
 

@@ -9,7 +9,7 @@ ghost use Rattle.fs_trait.specs.Seen.{Seen};
 ghost use Rattle.fs_trait.specs.Change.{Writes};
 ghost use Rattle.fs_trait.specs.declared.task.StepResult.TheVariants as turn;
 ghost use Rattle.repo_layout.specs.Place.{Ref, Stage, place};
-ghost use Rattle.script.specs.declared.answer.Answer.{Answer};
+ghost use Rattle.ref_command.specs.declared.answer.RefAnswer.{RefAnswer};
 ghost use Rattle.rely_guarantee.specs.declared.books.Entry.{Entry};
 ghost use Rattle.rely_guarantee.specs.declared.books.Pending.{Pending};
 ghost use Rattle.rely_guarantee.specs.State.{State};
@@ -34,7 +34,7 @@ pub fn lanes_without_a_task()
 
 /// What each answer says of the view before the step that gave it.
 pub fn answers_of_commands()
-    ensures { (lane : ℕ) (t new : RefCommand) (v w : View) (b : Books) (a : Answer) → command_facts lane t v b → command_leaves t (turn.Done tt) new v w → answer_of new ≡ Some a → Says a t v w }
+    ensures { (lane : ℕ) (t new : RefCommand) (v w : View) (b : Books) (a : RefAnswer) → command_facts lane t v b → command_leaves t (turn.Done tt) new v w → answer_of new ≡ Some a → Says a t v w }
 {}
 
 /// The step that sets a ref sets it to a commit that lasts: its object is left by each crash, and no mark of it is. All writes are

@@ -5,10 +5,10 @@ ghost use Rattle.fs_trait.specs.Effect.{HasCause, IsQuiet, OfNone};
 ghost use Rattle.ref_command.specs.Commands.{parse_answer, reset_answer};
 ghost use Rattle.ref_command.specs.Found.{IsFound, commit_name, is_regular};
 
+use crate::RefAnswer;
 use fs_trait::{Fs, FsErr, Node};
 use ost_types::{Csum, FsPath, Kind, ObjName};
 use repo_layout::{mark_path, object_path};
-use script::Answer;
 use std::alloc::Global;
 
 /// What stands where a commit's object would, and where its mark would. Only a regular file counts: a folder or a link there
@@ -55,24 +55,24 @@ impl LookUp {
     }
 
     /// What `rev-parse` answers.
-    pub(crate) fn into_parsed(self) -> Option<Answer>
+    pub(crate) fn into_parsed(self) -> Option<RefAnswer>
         ensures { result ≡ parse_answer self.found self.commit }
     {
         match self.found {
             None => None,
-            Some(Found::Missing) => Some(Answer::NoCommit(self.commit)),
-            Some(Found::Partial) => Some(Answer::Partial(self.commit)),
-            Some(Found::Whole) => Some(Answer::Commit(self.commit)),
+            Some(Found::Missing) => Some(RefAnswer::NoCommit(self.commit)),
+            Some(Found::Partial) => Some(RefAnswer::Partial(self.commit)),
+            Some(Found::Whole) => Some(RefAnswer::Commit(self.commit)),
         }
     }
 
     /// What `reset` answers where it ends with the look-up.
-    pub(crate) fn into_stopped(self) -> Option<Answer>
+    pub(crate) fn into_stopped(self) -> Option<RefAnswer>
         ensures { result ≡ reset_answer self.found self.commit }
     {
         match self.found {
-            Some(Found::Missing) => Some(Answer::NoCommit(self.commit)),
-            Some(Found::Partial) => Some(Answer::Partial(self.commit)),
+            Some(Found::Missing) => Some(RefAnswer::NoCommit(self.commit)),
+            Some(Found::Partial) => Some(RefAnswer::Partial(self.commit)),
             Some(Found::Whole) | None => None,
         }
     }

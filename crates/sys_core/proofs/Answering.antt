@@ -18,7 +18,8 @@ use Rattle.ref_command.specs.declared.look_up.Found.TheVariants.{Missing, Partia
 use Rattle.ref_command.specs.declared.plan.Plan.{Plan}
 use Rattle.ref_command.specs.declared.command.RefCommand.{RefCommand}
 use Rattle.ref_command.specs.declared.command.RefCommand.TheVariants.{Parse, Reset, Change}
-use Rattle.ref_command.specs.Commands.{IsStop, answer_of, change_answer, command_kind, command_stepped, found_kind, parse_answer, reset_answer, reset_stepped}
+use Rattle.ref_command.specs.Commands.{IsStop, command_kind, command_stepped, found_kind, reset_stepped}
+use Rattle.lane_command.specs.RefAnswers.{answer_of, change_answer, parse_answer, reset_answer}
 use Rattle.ref_command.specs.Kinds.{Answer as Came, event, kind_in, stepped_in}
 use Rattle.ref_command.proofs.Ends.{settles_in}
 use Rattle.tree_build.specs.Items.{IsLeastBad}

@@ -9,7 +9,7 @@ use Rattle.ref_command.specs.declared.look_up.Found.{Found}
 use Rattle.ref_command.specs.declared.look_up.Found.TheVariants.{Missing, Partial, Whole}
 use Rattle.ref_command.specs.declared.command.RefCommand.{RefCommand}
 use Rattle.ref_command.specs.declared.command.RefCommand.TheVariants.{Parse, Reset, Change}
-use Rattle.ref_command.specs.Commands as refs
+use Rattle.lane_command.specs.RefAnswers as refs
 use Rattle.ref_command.specs.Kinds.{Answer as Came}
 use Rattle.commit_build.specs.declared.refusal.BuildRefusal.{BuildRefusal}
 use Rattle.commit_build.specs.declared.refusal.BuildRefusal.TheVariants as built

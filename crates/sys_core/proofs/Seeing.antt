@@ -11,7 +11,7 @@ use Rattle.fs_trait.specs.declared.types.FsErr.TheVariants as err
 use Rattle.ref_command.specs.declared.command.RefCommand.{RefCommand}
 use Rattle.ref_command.specs.declared.look_up.Found.TheVariants.{Missing, Partial, Whole}
 use Rattle.ref_command.specs.Found.{IsFound}
-use Rattle.ref_command.specs.Answers as refs
+use Rattle.lane_command.specs.RefAnswers as refs
 use Rattle.tree_build.specs.Building.{IsNumber}
 use Rattle.tree_build.specs.Objects.{work}
 use Rattle.commit_build.specs.Committing.{commit_of, named_commit, ReadsBack, storing_in}
