@@ -1,0 +1,123 @@
+-- The laws of the commands on refs.
+use Rattle.std.proofs.Common.{◌≡◌, ⊎_elim, ℕ, refl, sym, ◌∙◌, subst, Option, Some, None, IsSome, arith}
+use Rattle.fs_trait.specs.declared.task.StepResult.TheVariants as turn
+use Rattle.fs_trait.specs.View.{View}
+use Rattle.rely_guarantee.specs.Books.{Books}
+use Rattle.rely_guarantee.specs.Laws.{Claim, IsClaim}
+use Rattle.rely_guarantee.specs.State.{State}
+use Rattle.ref_command.specs.declared.answer.RefAnswer.{RefAnswer}
+use Rattle.ref_command.specs.declared.answer.RefAnswer.TheVariants as answer
+use Rattle.ref_command.specs.declared.command.RefCommand.{RefCommand}
+use Rattle.ref_command.specs.Answers.{Says}
+use Rattle.ref_command.specs.Commands.{answer_of, command_facts, command_kind, command_leaves, command_refuses, command_stepped, command_writes}
+use Rattle.ref_command.specs.CommandLaws.{no_command_claim}
+use Rattle.ref_command.proofs.Ends.{begins_of, falls_always, says_of}
+use Rattle.ref_command.proofs.Homes.{home_task}
+use Rattle.ref_command.proofs.Refusals.{refused_of}
+use Rattle.command.specs.AnswerLaws.{AnswerLaws}
+use Rattle.command.specs.ChangeLaws.{ChangeLaws}
+use Rattle.command.specs.FolderLaws.{FolderLaws}
+use Rattle.command.specs.HearLaws.{HearLaws}
+use Rattle.command.specs.Laws.{CommandLaws}
+use Rattle.command.specs.Since.{Since}
+use Rattle.command.specs.Staging.{StagingPathFree}
+use Rattle.command.specs.StepLaws.{StepLaws}
+use Rattle.command.specs.StoreLaws.{StoreLaws}
+use Rattle.command.specs.Tasks.{TaskSpec, task_spec}
+use Rattle.ref_family.specs.declared.task.RefsTask.{RefsTask}
+use Rattle.ref_family.specs.declared.words.RefWords.{RefWords}
+use Rattle.ref_family.specs.declared.words.RefWords.TheVariants as words
+use Rattle.ref_family.specs.Ends.{ref_ends}
+use Rattle.ref_family.specs.Family.{ref_doing, ref_makes, ref_means, ref_says, ref_shows}
+use Rattle.ref_family.specs.Objects.{lacks_none, no_checkout, no_object, pins_work}
+use Rattle.ref_family.specs.Steps.{change_is, own_step, ref_founds, ref_holds, ref_settled, ref_shown, ref_step}
+use Rattle.ref_family.specs.Telling.{ref_tells}
+
+abbrev pub ref_tasks : TaskSpec RefsTask
+ref_tasks = task_spec (λ t. command_kind t.work) (λ actor t. command_writes actor t.work) (λ t u new. command_stepped t.work u new.work) (λ t u new. command_leaves t.work u new.work) (λ t. command_refuses t.work) (λ lane t. command_facts lane t.work)
+
+one : (o : Option RefAnswer) (x a : RefAnswer) → o ≡ Some x → o ≡ Some a → x ≡ a
+one o x a is given = let e : Some x ≡ Some a = sym is ∙ given in cc
+
+-- what it tells of the disk
+tells : (v w : View) (a : RefAnswer) (t : RefCommand) → Says a t v w → ref_shows v a
+tells v w (answer.Commit commit) t says = says
+tells v w (answer.NoCommit commit) t says = says
+tells v w (answer.Partial commit) t says = says
+tells v w (answer.RefMoved seen there) t says = tt
+tells v w (answer.RefClash other) t says = tt
+tells v w answer.Changed t says = tt
+tells v w answer.NoRef t says = tt
+
+step_laws : StepLaws ref_tasks ref_doing
+step_laws = record {
+  begun = λ start entries pending lane t v b. begins_of start entries pending lane v b t.work;
+  quiet = λ lane t. ref_holds lane t.work;
+  stages = λ who actor lane t v w b is by f wrote home. (let same : who ≡ lane = ⊎_elim (λ x. x ∙ own_step actor lane t.work by) (λ x. x) is in subst (λ k. StagingPathFree k w) (sym same) (home_task actor lane t.work v w b f wrote (subst (λ k. StagingPathFree k v) same home)));
+  goes_on = λ since c t new is step. ref_step since.start c t.work new.work step is;
+  falls = λ t new. falls_always t.work new.work;
+  refused = λ start entries pending lane t v b e. refused_of start entries pending lane v b t.work e;
+}
+
+hear_laws : HearLaws ref_tasks ref_doing
+hear_laws = record {
+  facts = λ told lane t v b f. f;
+  holds = λ told lane t b holds. holds;
+  pursues = λ told since c t is. is;
+  left = λ told t. omega arith;
+  back = λ told t. refl;
+}
+
+change_laws : ChangeLaws ref_tasks ref_means ref_doing
+change_laws = record {
+  shown = λ since c t. ref_shown since.start c t.work;
+  settled = λ since c t. ref_settled since.start c t.work;
+  founds = λ lane t. ref_founds lane t.work;
+  makes = λ since c t new a is step given k. (let e = ref_ends since.start c t.work new.work is step in subst (λ x. ref_makes x c) (one (answer_of new.work) e.given a e.answer given) (e.makes k));
+  makes_not = λ since c t new a is step given k m. (let e = ref_ends since.start c t.work new.work is step in e.makes_not k (subst (λ x. ref_makes x c) (sym (one (answer_of new.work) e.given a e.answer given)) m));
+  kept = λ since opening lane c t new v w b right is f leaves k. tt;
+  keeps = λ since opening out removed c v w right stays is. tt;
+  keeps_on = λ since opening out c v disk stays is. tt;
+}
+
+answer_laws : AnswerLaws ref_tasks ref_means ref_doing
+answer_laws = record {
+  answers = λ since c t new is step. subst IsSome (sym (ref_ends since.start c t.work new.work is step).answer) refl;
+  says = λ since p c t new a is step given. (let e = ref_ends since.start c t.work new.work is step in subst (λ x. ref_says since.start x c) (one (answer_of new.work) e.given a e.answer given) e.says);
+  shows = λ since lane c t new v w b a is f leaves given. tells v w a t.work (says_of lane t.work new.work v w b a f leaves given);
+  knows = λ since p lane c t new v w b a. ref_tells (λ s branch commit work is. change_is s (words.Reset branch commit) work is) lane since p c t.work new.work v w b a;
+  lacks = λ since v a c commit. lacks_none v a commit;
+  full = λ since c t new a is step given full. absurd full;
+  left = λ since actor lane c t new v w b b' a is f leaves given does. tt;
+  stays = λ since actor lane out a c v w b b' does is. tt;
+}
+
+store_laws : StoreLaws ref_tasks ref_means ref_doing
+store_laws = record {
+  holds = λ lane t v b f. tt;
+  works = λ since c t wants name. pins_work since.start c t.work wants name;
+  reaches = λ since lane c t v b wants name is f kind pin. tt;
+  brings = λ since actor lane c t v b name s bytes is f sum wrote reads. no_object actor lane t.work v b name s f sum wrote;
+  room = λ since actor lane c t v b name s is f sum wrote. no_object actor lane t.work v b name s f sum wrote;
+  stored = λ actor lane t new v w b name s f leaves sum wrote. no_object actor lane t.work v b name s f sum wrote;
+  done = λ actor lane t new v w b name s f leaves sum wrote. no_object actor lane t.work v b name s f sum wrote;
+  lacked = λ since c t new v w name is leaves met. cc;
+}
+
+folder_laws : FolderLaws ref_tasks ref_means ref_doing
+folder_laws = record {
+  claims = λ actor lane t v b name s f wrote. no_checkout actor lane t.work v b name s f wrote;
+  claimed = λ since c t name is kind. absurd (no_command_claim t.work (subst IsClaim (sym kind) tt));
+  made = λ t new name step kind. absurd (no_command_claim t.work (subst IsClaim (sym kind) tt));
+  goes_on = λ t new name step made. made;
+}
+
+pub ref_command_laws : CommandLaws ref_tasks ref_means ref_doing
+ref_command_laws = record {
+  steps = step_laws;
+  hears = hear_laws;
+  changes = change_laws;
+  answers = answer_laws;
+  store = store_laws;
+  folders = folder_laws;
+}

@@ -1,0 +1,7 @@
+pub mod Knows
+pub mod Family
+pub mod Telling
+pub mod Steps
+pub mod Ends
+pub mod Objects
+pub mod Laws

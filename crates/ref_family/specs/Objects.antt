@@ -1,0 +1,112 @@
+-- What the commands on refs pin, and that they write no object and no checkout.
+use Rattle.std.proofs.Common.{◌≡◌, ⊎_elim, ℕ, true, false, sym, ◌∙◌, ap, subst, List, [], Option, Some, None, IsSome}
+use Rattle.ost_types.specs.declared.object.Kind.TheVariants.{Commit}
+use Rattle.ost_types.specs.declared.object.ObjName.{ObjName}
+use Rattle.fs_trait.specs.Image.{reads}
+use Rattle.fs_trait.specs.Seen.{Seen, Vacant, Directory, Symlink, Leaf, bytes_in, shows}
+use Rattle.fs_trait.specs.View.{View}
+use Rattle.fs_trait.proofs.Claims.{reads_shows}
+use Rattle.fs_trait.proofs.Effects.{may_now}
+use Rattle.repo_layout.specs.BootPaths.{checkout_path}
+use Rattle.repo_layout.specs.Paths.{mark_path, object_path}
+use Rattle.repo_layout.specs.Place.{Checkout, Object, Ref, Stage}
+use Rattle.repo_layout.specs.RefFile.{IsSum}
+use Rattle.repo_layout.proofs.Places.{place-checkout, place-object}
+use Rattle.repo_model.specs.Objects.{path_of}
+use Rattle.ref_store.specs.declared.progress.Progress.{Progress}
+use Rattle.ref_store.specs.declared.progress.Progress.TheVariants as progress
+use Rattle.ref_store.specs.Change.{progress_in}
+use Rattle.rely_guarantee.specs.declared.event.Event.{Event}
+use Rattle.rely_guarantee.specs.declared.kind.Wants.{Wants}
+use Rattle.rely_guarantee.specs.Books.{Books}
+use Rattle.rely_guarantee.specs.Disks.{IsLeaf}
+use Rattle.rely_guarantee.specs.Lasting.{StaysFinished}
+use Rattle.rely_guarantee.specs.Laws.{Take}
+use Rattle.rely_guarantee.specs.State.{State}
+use Rattle.ref_command.specs.declared.answer.RefAnswer.{RefAnswer}
+use Rattle.ref_command.specs.declared.answer.RefAnswer.TheVariants as answer
+use Rattle.ref_command.specs.declared.command.RefCommand.{RefCommand}
+use Rattle.ref_command.specs.declared.command.RefCommand.TheVariants.{Parse, Reset, Change}
+use Rattle.ref_command.specs.declared.look_up.Found.{Found}
+use Rattle.ref_command.specs.declared.look_up.Found.TheVariants.{Missing, Partial}
+use Rattle.ref_command.specs.Commands.{command_facts, command_kind, command_writes, found_kind, pin_wants}
+use Rattle.ref_command.specs.Found.{IsFound, commit_name}
+use Rattle.ref_command.specs.Kinds.{event, kind_at, turn_wants}
+use Rattle.ref_command.proofs.Resets.{command_places}
+use Rattle.command.specs.AnswerLaws.{CommitsAreFiles}
+use Rattle.ref_family.specs.declared.words.RefWords.{RefWords}
+use Rattle.ref_family.specs.declared.words.RefWords.TheVariants as words
+use Rattle.ref_family.specs.Family.{ref_lacks, ref_pursues, ref_shows, ref_works}
+
+pinned : (commit : List ℕ) (wants : Wants) (name : ObjName) → Take (pin_wants commit) ≡ Take wants → wants.pin ≡ Some name → name ≡ commit_name commit
+pinned commit wants name is pin =
+    let same : pin_wants commit ≡ wants = cc in
+    let at : Some (commit_name commit) ≡ Some name = ap (λ (x : Wants). x.pin) same ∙ pin in
+    cc
+
+found_pins : (found : Option Found) (commit : List ℕ) (wants : Wants) (name : ObjName) → found_kind found commit ≡ Take wants → wants.pin ≡ Some name → name ≡ commit_name commit
+found_pins None commit wants name is pin = pinned commit wants name is pin
+found_pins (Some found) commit wants name is pin = cc
+
+no_pin : {P : Type 0} (p : Progress) (e : Event) (wants : Wants) (name : ObjName) → kind_at p e ≡ Take wants → wants.pin ≡ Some name → P
+no_pin progress.Looking e wants name is pin =
+    let same : turn_wants ≡ wants = cc in
+    let at : None ≡ Some name = ap (λ (x : Wants). x.pin) same ∙ pin in
+    cc
+no_pin progress.Preparing e wants name is pin = cc
+no_pin progress.Showing e wants name is pin = cc
+no_pin progress.Shown e wants name is pin = cc
+no_pin progress.Settling e wants name is pin = cc
+no_pin progress.Ended e wants name is pin = cc
+
+pub pins_work : (s : State) (c : RefWords) (t : RefCommand) (wants : Wants) (name : ObjName) → ref_pursues s c t → command_kind t ≡ Take wants → wants.pin ≡ Some name → ref_works s c name
+pins_work s (words.RevParse rev) (Parse look) wants name is kind pin = (look.commit, is, pinned look.commit wants name kind pin)
+pins_work s (words.Reset branch commit) (Parse look) wants name is kind pin = absurd is
+pins_work s (words.DropRef branch) (Parse look) wants name is kind pin = absurd is
+pins_work s (words.Reset branch commit) (Reset look plan) wants name is kind pin = found_pins look.found look.commit wants name kind pin ∙ ap commit_name is.0
+pins_work s (words.RevParse rev) (Reset look plan) wants name is kind pin = absurd is
+pins_work s (words.DropRef branch) (Reset look plan) wants name is kind pin = absurd is
+pins_work s c (Change work) wants name is kind pin = no_pin (progress_in work.task.phase) (event work.task) wants name kind pin
+
+-- nothing is written at an object's path, nor at a checkout's
+pub no_object : {P : Type 0} (actor lane : ℕ) (t : RefCommand) (v : View) (b : Books) (name : ObjName) (s : Seen) → command_facts lane t v b → IsSum name.csum → command_writes actor t v (path_of name) s → P
+no_object actor lane t v b name s f sum wrote = absurd (⊎_elim
+    (λ stage. (let n : Object name.kind name.csum ≡ Stage lane = sym (place-object name.kind name.csum sum) ∙ stage in cc))
+    (λ ref. (let n : Object name.kind name.csum ≡ Ref ref.0 = sym (place-object name.kind name.csum sum) ∙ ref.1 in cc))
+    (command_places actor lane t v b f (path_of name) s wrote))
+
+pub no_checkout : {P : Type 0} (actor lane : ℕ) (t : RefCommand) (v : View) (b : Books) (name : List ℕ) (s : Seen) → command_facts lane t v b → command_writes actor t v (checkout_path name) s → P
+no_checkout actor lane t v b name s f wrote = absurd (⊎_elim
+    (λ stage. (let n : Checkout name [] ≡ Stage lane = sym (place-checkout name []) ∙ stage in cc))
+    (λ ref. (let n : Checkout name [] ≡ Ref ref.0 = sym (place-checkout name []) ∙ ref.1 in cc))
+    (command_places actor lane t v b f (checkout_path name) s wrote))
+
+-- a commit that lasts is found, where commits are files
+leaf_file : (s : Seen) → IsSome (bytes_in s) → IsLeaf s
+leaf_file (Leaf n m bytes) is = tt
+leaf_file (Symlink m target) is = tt
+leaf_file Vacant is = let n : false ≡ true = is in cc
+leaf_file (Directory m) is = let n : false ≡ true = is in cc
+
+none_not : {A : Type 0} (o : Option A) → o ≡ None → IsSome o → ⊥
+none_not o none some = let n : false ≡ true = subst IsSome none some in cc
+
+found_there : (v : View) (commit : List ℕ) → CommitsAreFiles v.now → StaysFinished v commit → IsFound v.now commit Missing → ⊥
+found_there v commit files finished missing =
+    let at = object_path Commit commit in
+    none_not (reads v.now at) missing
+    (subst IsSome (sym (reads_shows v.now at)) (files commit finished.there.sum (finished.there.there (shows v.now at) (may_now v at))))
+
+found_unmarked : (v : View) (commit : List ℕ) → StaysFinished v commit → IsFound v.now commit Partial → ⊥
+found_unmarked v commit finished partial =
+    let at = mark_path commit in
+    finished.unmarked.each (shows v.now at) (may_now v at) (leaf_file (shows v.now at) (subst IsSome (reads_shows v.now at) partial.1))
+
+pub lacks_none : (v : View) (a : RefAnswer) (commit : List ℕ) → CommitsAreFiles v.now → ref_shows v a → ref_lacks a commit → StaysFinished v commit → ⊥
+lacks_none v (answer.NoCommit sum) commit files seen is finished = found_there v commit files finished (subst (λ x. IsFound v.now x Missing) is seen)
+lacks_none v (answer.Partial sum) commit files seen is finished = found_unmarked v commit finished (subst (λ x. IsFound v.now x Partial) is seen)
+lacks_none v (answer.Commit sum) commit files seen is finished = is
+lacks_none v answer.Changed commit files seen is finished = is
+lacks_none v answer.NoRef commit files seen is finished = is
+lacks_none v (answer.RefMoved was now) commit files seen is finished = is
+lacks_none v (answer.RefClash other) commit files seen is finished = is
