@@ -6,7 +6,17 @@ mod words;
 pub use words::word;
 
 #[cfg(test)]
+mod host;
+#[cfg(test)]
+mod host_folder;
+#[cfg(test)]
+mod host_forms;
+#[cfg(test)]
+mod host_start;
+#[cfg(test)]
 mod memory;
+#[cfg(test)]
+mod streams;
 #[cfg(test)]
 mod table;
 #[cfg(test)]

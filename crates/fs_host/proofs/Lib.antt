@@ -1,4 +1,1 @@
-mod Forms
-mod Headers
 mod Notes
-mod Texts

@@ -1,7 +1,7 @@
 -- What was seen to still is where notes are kept.
 use Rattle.std.proofs.Common.{◌≡◌, ◌⊎◌, subst, inl, inr, ⊎_elim, List, ℕ}
-use Rattle.fs_host.specs.declared.changed.Changed.{Changed}
-use Rattle.fs_host.specs.Changed.{IsSeenTo, KeepsNotes}
+use Rattle.host_files.specs.declared.changed.Changed.{Changed}
+use Rattle.host_files.specs.Changed.{IsSeenTo, KeepsNotes}
 
 pub seen_kept : (text : List ℕ) (old new : Changed) → KeepsNotes old new → IsSeenTo text old → IsSeenTo text new
 seen_kept text old new keeps (inl noted) = inl (keeps.notes text noted)

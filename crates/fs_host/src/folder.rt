@@ -4,31 +4,25 @@ ghost use Rattle.std.specs.Cmp.Lexicographic.{slice_cmp};
 ghost use Rattle.std.specs.List.Sorted.{IsStrictlySortedBy};
 ghost use Rattle.std.specs.Ordering.{nat_cmp};
 ghost use Rattle.fs_trait.specs.Effect.{OfPlacing, OfFinding, OfEmptying, OfNone};
-ghost use Rattle.fs_host.specs.Refusal.{answered};
-ghost use Rattle.fs_host.specs.Reserved.{HasReserved};
-ghost use Rattle.fs_host.specs.declared.refusal.Refusal.TheVariants.{Failed};
+ghost use Rattle.host_files.specs.Refusal.{answered};
+ghost use Rattle.host_files.specs.Reserved.{HasReserved};
+ghost use Rattle.host_files.specs.declared.refusal.Refusal.TheVariants.{Failed};
 ghost use Rattle.fs_trait.specs.declared.types.FsErr.TheVariants as error;
 ghost use Rattle.ost_types.specs.Mode.{IsFolderMode, IsFileMode, IsLinkMode};
 ghost use Rattle.ost_types.specs.Path.{Name, Path, under};
-ghost use Rattle.fs_host.specs.HostPath.{host_text};
-ghost use Rattle.fs_host.specs.Changed.{IsNoted, IsSeenTo, KeepsNotes, NotesFolder};
-ghost use Rattle.fs_host.specs.Young.{IsSettled};
+ghost use Rattle.host_files.specs.HostPath.{host_text};
+ghost use Rattle.host_files.specs.Changed.{IsNoted, IsSeenTo, KeepsNotes, NotesFolder};
+ghost use Rattle.host_files.specs.Young.{IsSettled};
 ghost use Rattle.std.specs.BTreeSet.{contains_text};
 
-use crate::attributes::{attributes_bytes, is_plain, plain_attributes, read_attributes};
-use crate::changed::Changed;
-use crate::front::{file_front, link_front};
-use crate::leaf::{Opened, extend_leaf, open_leaf};
-use crate::links::link_or_copy;
-use crate::place::{PLACE, rename, show_folder, withdraw};
-use crate::private::{new_folder, sync};
-use crate::standing::{ATTRIBUTES, has_reserved, spell, spell_parent, walk};
-use crate::start::{NoStart, start};
-use crate::{
-    Fault, FileHeader, HostKind, HostPath, Known, Leaf, Machine, Mark, Recent, Refusal, Standing,
-    Young,
-};
 use fs_trait::{FsErr, Node};
+use host_files::{
+    ATTRIBUTES, Changed, Fault, FileHeader, HostKind, HostPath, Known, Leaf, Machine, Mark,
+    NoStart, Opened, PLACE, Recent, Refusal, Standing, Young, attributes_bytes, extend_leaf,
+    file_front, has_reserved, is_plain, link_front, link_or_copy, new_folder, open_leaf,
+    plain_attributes, read_attributes, rename, show_folder, spell, spell_parent, start, sync, walk,
+    withdraw,
+};
 use ost_forms::{OBJECT_LIMIT, ObjFault};
 use ost_types::{Bytes, FsPath, Meta, Name, Names, NoMemory, Text};
 use std::alloc::Global;

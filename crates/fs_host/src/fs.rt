@@ -3,10 +3,11 @@ ghost use Rattle.std.specs.Prelude.{◌≡◌, ◌<◌, None, OnOk, OnErr, IfErr
 ghost use Rattle.fs_trait.specs.Count.{last, Rose};
 ghost use Rattle.fs_trait.specs.Effect.{Next, HasCause, IsCounted};
 ghost use Rattle.fs_host.specs.Laws.{not_told};
-ghost use Rattle.fs_host.specs.Refusal.{answered, IsClockAfter};
+ghost use Rattle.host_files.specs.Refusal.{answered, IsClockAfter};
 
-use crate::{CurrentFolder, Machine, Refusal};
+use crate::CurrentFolder;
 use fs_trait::{Fs, FsErr, Node};
+use host_files::{Machine, Refusal};
 use ost_types::{Bytes, FsPath, Meta, Names, NoMemory, Text};
 
 /// The current folder of the machine. It tells nothing of what it holds.

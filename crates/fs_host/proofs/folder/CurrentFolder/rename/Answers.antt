@@ -1,5 +1,5 @@
 use Rattle.std.proofs.Common.{rules, ◌≡◌, ◌∙◌}
-use Rattle.fs_host.specs.HostPath.{host_text}
+use Rattle.host_files.specs.HostPath.{host_text}
 use Rattle.fs_host.proofs.Notes.{seen_kept, keeps_both, keeps_from}
 use Rattle.fs_host.proofs.folder.CurrentFolder.rename.Goals as goal
 

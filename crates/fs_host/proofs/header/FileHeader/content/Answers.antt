@@ -1,5 +1,0 @@
-use Rattle.fs_host.proofs.Forms.{plain_form}
-use Rattle.fs_host.proofs.header.FileHeader.content.Goals as goal
-
-pub returns-clause-form : goal.returns-clause-form
-returns-clause-form c = rw (c.new.ensures, c.new-2.ensures) (plain_form c.args.self.uid c.args.self.gid c.args.self.mode)

@@ -1,0 +1,7 @@
+pub mod Changed
+pub mod Front
+pub mod Header
+pub mod HostPath
+pub mod Refusal
+pub mod Reserved
+pub mod Young
