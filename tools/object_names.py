@@ -101,5 +101,13 @@ def twice():
     return [commit((dirtree(files, [(b"d", below, dirmeta(5, 6, 0))]), dirmeta(1, 2, 0o1777)), b"", b"", b"", 0)]
 
 
-for sum in readme() + odd() + twice():
+def place():
+    """A commit of a tree whose names are those that a file system over the host keeps at its top."""
+    inside = dirtree([(b".ost-new", file(0, 0, 0o644, b"a"))], [])
+    beside = dirtree([(b".ost-new", link(0, 0, b"a"))], [])
+    root = dirtree([], [(b".ost-new", inside, PLAIN), (b"d", beside, dirmeta(0, 0, 0o700))])
+    return [file(0, 0, 0o644, b"a"), commit((root, PLAIN), b"", b"", b"", 0)]
+
+
+for sum in readme() + odd() + twice() + place():
     print(sum.hex())
