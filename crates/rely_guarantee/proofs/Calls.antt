@@ -17,7 +17,7 @@ use Rattle.repo_layout.proofs.Places.{place-checkout, place-ref, ref_path-inject
 use Rattle.layout_rules.specs.InLayout.{InLayout}
 use Rattle.layout_rules.proofs.RulePlaces.{no_checkout, no_ref, no_stage}
 use Rattle.rely_guarantee.specs.declared.event.Event.TheVariants.{SetRef, DropRef}
-use Rattle.rely_guarantee.specs.State.{Topic, RefOf}
+use Rattle.rely_guarantee.specs.State.{Topic, RefOf, Said}
 use Rattle.rely_guarantee.specs.Disks.{path_of, IsLeaf, Says}
 use Rattle.rely_guarantee.specs.Books.{Books, Free, IsClaimed}
 use Rattle.rely_guarantee.specs.Rely.{Guarantee, may_at, NotOthers, OwnTree, HasNoRefs}
@@ -87,6 +87,13 @@ folder_still W v shape (RefOf name) s wrote =
     let none : (x : Seen) → (x ≡ Vacant) ⊎ IsDirectory x → Says (RefOf name) None x = (λ x is. ⊎_elim (λ e. subst (λ y. Says (RefOf name) None y) (sym e) (says_vacant (RefOf name))) (λ d. no_leaf x d) is) in
     (none s k.0, none (shows v.now (ref_path name)) k.1)
 
+-- what is so of the topic that an event changes
+at_ref : (name : List ℕ) (t : Topic) (P : Topic → Type 0) → Some (RefOf name) ≡ Some t → P (RefOf name) → P t
+at_ref name t P at is = let e : RefOf name ≡ t = cc in subst P e is
+
+said_at : (name : List ℕ) (t : Topic) (said : Said) (v : View) → Some (RefOf name) ≡ Some t → Says (RefOf name) said (shows v.now (ref_path name)) → Says t said (shows v.now (path_of t))
+said_at name t said v at is = at_ref name t (λ r. Says r said (shows v.now (path_of r))) at is
+
 -- The rename of a ref's staged file to its path.
 pub set_shows : (W : Path → Seen → Type 0) (v : View) (actor : ℕ) (name commit : List ℕ) (seen : Option (List ℕ))
     → ((p : Path) (s : Seen) → W p s → (place p ≡ Stage actor) ⊎ ((p ≡ ref_path name) × (bytes_in s ≡ Some (ref_text commit))))
@@ -94,32 +101,38 @@ pub set_shows : (W : Path → Seen → Type 0) (v : View) (actor : ℕ) (name co
 set_shows W v actor name commit seen lies is sum was = record {
   writes = writes;
   valid = (is, sum);
-  was = was;
+  was = λ t at. said_at name t seen v at was;
 }
   where
     writes : (t : Topic) (s : Seen) → W (path_of t) s → ShownBy (SetRef name seen commit) t s
     writes (RefOf n) s wrote = ⊎_elim
         (λ at. absurd (stage_no_ref (RefOf n) (ref_path n) actor at refl))
-        (λ k. (ap RefOf (ref_path-injective n name k.0), (sum, k.1)))
+        (λ k. (ap (λ x. Some (RefOf x)) (sym (ref_path-injective n name k.0)), (sum, k.1)))
         (lies (ref_path n) s wrote)
 
 -- The unlink of a ref's file.
 pub drop_shows : (W : Path → Seen → Type 0) (v : View) (name seen : List ℕ) → ((p : Path) (s : Seen) → W p s → (p ≡ ref_path name) × (s ≡ Vacant))
     → IsRefName name → Says (RefOf name) (Some seen) (shows v.now (ref_path name)) → Shows W v (DropRef name seen)
-drop_shows W v name seen lies is was = record { writes = writes; valid = is; was = was }
+drop_shows W v name seen lies is was = record { writes = writes; valid = is; was = λ t at. said_at name t (Some seen) v at was }
   where
     writes : (t : Topic) (s : Seen) → W (path_of t) s → ShownBy (DropRef name seen) t s
     writes (RefOf n) s wrote =
         let k = lies (ref_path n) s wrote in
-        (ap RefOf (ref_path-injective n name k.0), subst (λ y. Says (RefOf n) None y) (sym k.1) (says_vacant (RefOf n)))
+        (ap (λ x. Some (RefOf x)) (sym (ref_path-injective n name k.0)), subst (λ y. Says (RefOf n) None y) (sym k.1) (says_vacant (RefOf n)))
 
 -- The sync that makes it last.
 pub set_final : (w : View) (name commit : List ℕ) (seen : Option (List ℕ)) → IsSum commit → ((s : Seen) → MayBe w (ref_path name) s → bytes_in s ≡ Some (ref_text commit))
     → ((f : Path) (x : List ℕ) → ref_path name ≡ under f x → Leads w f) → Final (SetRef name seen commit) w
-set_final w name commit seen sum only leads = record { only = λ s may. (sum, only s may); leads = λ c is. leads }
+set_final w name commit seen sum only leads = record {
+  only = λ t at s may. at_ref name t (λ r. MayBe w (path_of r) s → Says r (Some commit) s) at (λ m. (sum, only s m)) may;
+  leads = λ t c at is f x. at_ref name t (λ r. path_of r ≡ under f x → Leads w f) at (leads f x);
+}
 
 pub drop_final : (w : View) (name seen : List ℕ) → ((s : Seen) → MayBe w (ref_path name) s → IsLeaf s → ⊥) → Final (DropRef name seen) w
-drop_final w name seen only = record { only = only; leads = λ c is. absurd (let z : None ≡ Some c = is in cc) }
+drop_final w name seen only = record {
+  only = λ t at s may. at_ref name t (λ r. MayBe w (path_of r) s → Says r None s) at (only s) may;
+  leads = λ t c at is. absurd (let z : None ≡ Some c = is in cc);
+}
 
 -- No rule of the layout is for a path in a checkout.
 pub checkout_fits : (name : Name) (rest p : Path) (s : Seen) → place p ≡ Checkout name rest → (s ≢ Vacant → IsPath p) → InLayout p s

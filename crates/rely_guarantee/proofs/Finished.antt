@@ -1,5 +1,5 @@
 -- A commit that is whole stays so: whoever acts, and after each crash once all was synced.
-use Rattle.std.proofs.Common.{◌≡◌, ⊎_elim, ℕ, sym, ◌∙◌, ap, subst, List}
+use Rattle.std.proofs.Common.{◌≡◌, ⊎_elim, ℕ, sym, ◌∙◌, ap, subst, List, [], Contains}
 use Rattle.ost_types.specs.declared.object.Kind.TheVariants.{Commit}
 use Rattle.ost_types.specs.declared.object.ObjName.{ObjName}
 use Rattle.ost_types.specs.Path.{Path}
@@ -20,8 +20,8 @@ use Rattle.rely_guarantee.specs.Lasting.{IsFinishedNow, IsSafe, Stays, StaysFini
 use Rattle.rely_guarantee.specs.Rely.{Guarantee}
 use Rattle.rely_guarantee.proofs.Lasting.{above_objects, leads_harmless, no_vacant_leaf}
 
-pub finished_stays : (v w : View) (commit : List ℕ) → Stays v w → StaysFinished v commit → StaysFinished w commit
-finished_stays v w commit stays f = record { there = stays.safe (name_of Commit commit) f.there; unmarked = stays.unmarked commit f.there f.unmarked }
+pub finished_stays : (out : List ObjName) (v w : View) (commit : List ℕ) → Stays out v w → ¬ (Contains out (name_of Commit commit)) → StaysFinished v commit → StaysFinished w commit
+finished_stays out v w commit stays kept f = record { there = stays.safe (name_of Commit commit) kept f.there; unmarked = stays.unmarked commit kept f.there f.unmarked }
 
 -- a sync of all makes it last
 pub finished_synced : (v : View) (commit : List ℕ) → IsFinishedNow v commit → StaysFinished (all_synced v) commit
@@ -74,13 +74,13 @@ module _ (W : Path → Seen → Type 0) (v w : View) (writes : Writes W v w) (el
       (λ is. was p s (apart p (ObjectsFolder _) (ap place is ∙ place-objects_folder sum) (λ is. is) s may) below)
       (above_objects sum p below)
 
-  pub stays_apart : Stays v w
+  pub stays_apart : Stays [] v w
   stays_apart = record {
-    safe = λ name safe. record { sum = safe.sum; there = λ s may. safe.there s (object_apart name safe s may); above = leads_apart name.csum safe.above };
-    same = object_apart;
+    safe = λ name kept safe. record { sum = safe.sum; there = λ s may. safe.there s (object_apart name safe s may); above = leads_apart name.csum safe.above };
+    same = λ name kept. object_apart name;
     right = λ name right. record {
       sum = right.sum;
       each = λ s may. right.each s (apart (path_of name) (Object name.kind name.csum) (place-object name.kind name.csum right.sum) (λ is. is) s may);
     };
-    unmarked = λ commit safe none. record { each = λ s may. none.each s (apart (mark_path commit) (Mark commit) (place-mark commit safe.sum) (λ is. is) s may) };
+    unmarked = λ commit kept safe none. record { each = λ s may. none.each s (apart (mark_path commit) (Mark commit) (place-mark commit safe.sum) (λ is. is) s may) };
   }

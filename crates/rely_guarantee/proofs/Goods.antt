@@ -18,10 +18,10 @@ use Rattle.layout_rules.proofs.Suiting.{from_seen, vacant_suits}
 use Rattle.rely_guarantee.specs.declared.books.Entry.{Entry}
 use Rattle.rely_guarantee.specs.declared.books.Pending.{Pending}
 use Rattle.rely_guarantee.specs.declared.event.Event.{Event}
-use Rattle.rely_guarantee.specs.State.{Topic, RefOf, Said, State, same_topic, target, gives, next, after, IsNamed, events_of, stored, acked}
+use Rattle.rely_guarantee.specs.State.{Topic, RefOf, Said, State, is_topic, target, gives, next, after, IsNamed, events_of, stored, acked}
 use Rattle.rely_guarantee.specs.Disks.{path_of, IsLeaf, Says, Logical, HasRef, IsOther}
 use Rattle.rely_guarantee.specs.SystemInvariant.{ShownBy, Shown, Known, NoStray, Stands, Fits}
-use Rattle.rely_guarantee.proofs.States.{topic_same, topic_not, next_here, next_apart, after_push, run_front, after_named, length-events, acked_few, says_vacant}
+use Rattle.rely_guarantee.proofs.States.{topic_is, topic_none, next_here, next_apart, after_push, run_front, after_named, length-events, acked_few, says_vacant}
 
 no_root : (t : Topic) → path_of t ≡ [] → ⊥
 unfolding ref_path
@@ -87,7 +87,7 @@ few t entries = omega (arith, acked_few t entries, length-events entries)
 
 -- While a change is shown, a disk is before it or after it.
 shown_fits : (start : State) (entries : List Entry) (p : Pending) (v : View) → Stands start entries (Some p) v → (t : ℕ) (d : Disk) → Image v d → Fits start entries (events_of entries ++ p.event ∷ []) t d
-shown_fits start entries p v stands t d i = ⊎_elim old new (known (target p.event))
+shown_fits start entries p v stands t d i = by (target p.event) refl
   where
     events : List Event
     events = events_of entries
@@ -104,12 +104,12 @@ shown_fits start entries p v stands t d i = ⊎_elim old new (known (target p.ev
     both : IsNamed (after (events ++ p.event ∷ []) start)
     both = after_named (events ++ p.event ∷ []) start stands.run stands.named
 
-    old : Says (target p.event) (value (target p.event)) (shows d (path_of (target p.event))) → Fits start entries (events ++ p.event ∷ []) t d
+    old : ((q : Topic) → target p.event ≡ Some q → Says q (value q) (shows d (path_of q))) → Fits start entries (events ++ p.event ∷ []) t d
     old is =
-        let logical : Logical d value = λ q. ⊎_elim (λ k. k) (λ s. subst (λ r. Says r (value r) (shows d (path_of r))) (sym s.0) is) (known q) in
+        let logical : Logical d value = λ q. ⊎_elim (λ k. k) (λ s. is q s.0) (known q) in
         record { past = events; rest = p.event ∷ []; split = refl; has_acked = few t entries; shows = logical; sane = sane start entries (Some p) v stands d i value named logical }
 
-    new : ShownBy p.event (target p.event) (shows d (path_of (target p.event))) → Fits start entries (events ++ p.event ∷ []) t d
+    new : ((q : Topic) → target p.event ≡ Some q → Says q (gives p.event) (shows d (path_of q))) → Fits start entries (events ++ p.event ∷ []) t d
     new is = record {
       past = events ++ p.event ∷ [];
       rest = [];
@@ -119,15 +119,23 @@ shown_fits start entries p v stands t d i = ⊎_elim old new (known (target p.ev
       sane = sane start entries (Some p) v stands d i (after (events ++ p.event ∷ []) start) both logical;
     }
       where
-        at : (q : Topic) (b : Bool) → same_topic q (target p.event) ≡ b → Says q (next p.event value q) (shows d (path_of q))
-        at q true same =
-            let e = topic_same q (target p.event) same in
-            subst (λ y. Says q y (shows d (path_of q))) (sym (next_here p.event q value same)) (subst (λ r. Says r (gives p.event) (shows d (path_of r))) (sym e) is.1)
+        at : (q : Topic) (b : Bool) → is_topic (target p.event) q ≡ b → Says q (next p.event value q) (shows d (path_of q))
+        at q true same = subst (λ y. Says q y (shows d (path_of q))) (sym (next_here p.event q value same)) (is q (topic_is (target p.event) q same))
         at q false other =
-            subst (λ y. Says q y (shows d (path_of q))) (sym (next_apart p.event q value other)) (⊎_elim (λ k. k) (λ s. absurd (topic_not q (target p.event) other s.0)) (known q))
+            subst (λ y. Says q y (shows d (path_of q))) (sym (next_apart p.event q value other)) (⊎_elim (λ k. k) (λ s. absurd (topic_none (target p.event) q other s.0)) (known q))
 
         logical : Logical d (after (events ++ p.event ∷ []) start)
-        logical q = subst (λ (f : State). Says q (f q) (shows d (path_of q))) (sym (after_push events p.event start)) (at q (same_topic q (target p.event)) refl)
+        logical q = subst (λ (f : State). Says q (f q) (shows d (path_of q))) (sym (after_push events p.event start)) (at q (is_topic (target p.event) q) refl)
+
+    by : (o : Option Topic) → target p.event ≡ o → Fits start entries (events ++ p.event ∷ []) t d
+    by None e = old (λ q is. absurd (let z : None ≡ Some q = sym e ∙ is in cc))
+    by (Some x) e = ⊎_elim
+        (λ k. old (λ q is. subst (λ r. Says r (value r) (shows d (path_of r))) (one q is) k))
+        (λ s. new (λ q is. subst (λ r. Says r (gives p.event) (shows d (path_of r))) (one q is) s.1))
+        (known x)
+      where
+        one : (q : Topic) → target p.event ≡ Some q → x ≡ q
+        one q is = let z : Some x ≡ Some q = sym e ∙ is in cc
 
 -- what a crash leaves now
 pub fits_now : (start : State) (entries : List Entry) (pending : Option Pending) (v : View) → Stands start entries pending v → (t : ℕ) (d : Disk) → Image v d → Fits start entries (stored entries pending) t d

@@ -11,14 +11,14 @@ use Rattle.repo_layout.specs.Paths.{folder_path, ref_path}
 use Rattle.rely_guarantee.specs.declared.books.Entry.{Entry}
 use Rattle.rely_guarantee.specs.declared.books.Pending.{Pending}
 use Rattle.rely_guarantee.specs.declared.event.Event.{Event}
-use Rattle.rely_guarantee.specs.State.{Topic, RefOf, Said, State, same_topic, target, before, gives, next, after, IsRun, events_of}
+use Rattle.rely_guarantee.specs.State.{Topic, RefOf, Said, State, is_topic, target, before, gives, next, after, IsRun, events_of}
 use Rattle.rely_guarantee.specs.Disks.{path_of, IsLeaf, Says}
 use Rattle.rely_guarantee.specs.Books.{Books}
 use Rattle.rely_guarantee.specs.Rely.{Guarantee}
 use Rattle.rely_guarantee.specs.SystemInvariant.{Shown, Leads, NoStray, Known, Stands}
 use Rattle.rely_guarantee.specs.Change.{Still, Away, Shows, Final}
 use Rattle.rely_guarantee.specs.Laws.{Within, NotPending}
-use Rattle.rely_guarantee.proofs.States.{topic_same, topic_not, next_here, next_apart, after_push, events_push, run_push, says_leaf, says_one}
+use Rattle.rely_guarantee.proofs.States.{topic_is, topic_none, next_here, next_apart, after_push, events_push, run_push, says_leaf, says_one}
 use Rattle.layout_rules.specs.InLayout.{IsBounded, IsSuited}
 use Rattle.layout_rules.proofs.Layouts.{above_ref}
 use Rattle.rely_guarantee.proofs.Mays.{not_other, ref_turn, leads_stay, folders_harmless, kinds_harmless, reached_harmless, strays_harmless}
@@ -107,28 +107,24 @@ module _ (W : Path → Seen → Type 0) (v w : View) (writes : Writes W v w) whe
 -- the sync that makes it last
 pub known_settle : (value : State) (v w : View) (p : Pending) → Writes Nothing v w → Final p.event w → Known (Shown (Some p)) value v → Known (Shown None) (next p.event value) w
 known_settle value v w p writes final known = record {
-  each = λ t s may. inl (each t s may (same_topic t (target p.event)) refl);
-  leads = λ t f x e. leads t f x e (same_topic t (target p.event)) refl;
+  each = λ t s may. inl (each t s may (is_topic (target p.event) t) refl);
+  leads = λ t f x e. leads t f x e (is_topic (target p.event) t) refl;
 }
   where
     was : (q : Path) (s : Seen) → MayBe w q s → MayBe v q s
     was q s may = ⊎_elim (λ m. m) (λ bad. absurd bad) (writes.only q s may)
 
-    each : (t : Topic) (s : Seen) → MayBe w (path_of t) s → (b : Bool) → same_topic t (target p.event) ≡ b → Says t (next p.event value t) s
-    each t s may true same =
-        let e = topic_same t (target p.event) same in
-        subst (λ y. Says t y s) (sym (next_here p.event t value same)) (subst (λ r. Says r (gives p.event) s) (sym e) (final.only s (subst (λ r. MayBe w (path_of r) s) e may)))
+    each : (t : Topic) (s : Seen) → MayBe w (path_of t) s → (b : Bool) → is_topic (target p.event) t ≡ b → Says t (next p.event value t) s
+    each t s may true same = subst (λ y. Says t y s) (sym (next_here p.event t value same)) (final.only t (topic_is (target p.event) t same) s may)
     each t s may false other =
-        subst (λ y. Says t y s) (sym (next_apart p.event t value other)) (⊎_elim (λ k. k) (λ k. absurd (topic_not t (target p.event) other k.0)) (known.each t s (was (path_of t) s may)))
+        subst (λ y. Says t y s) (sym (next_apart p.event t value other)) (⊎_elim (λ k. k) (λ k. absurd (topic_none (target p.event) t other k.0)) (known.each t s (was (path_of t) s may)))
 
-    given : (said : Said) → gives p.event ≡ said → (f : Path) (x : List ℕ) → path_of (target p.event) ≡ under f x → (said ≡ None) ⊎ Leads w f
-    given None is f x e = inl refl
-    given (Some commit) is f x e = inr (final.leads commit is f x e)
+    given : (t : Topic) → target p.event ≡ Some t → (said : Said) → gives p.event ≡ said → (f : Path) (x : List ℕ) → path_of t ≡ under f x → (said ≡ None) ⊎ Leads w f
+    given t at None is f x e = inl refl
+    given t at (Some commit) is f x e = inr (final.leads t commit at is f x e)
 
-    leads : (t : Topic) (f : Path) (x : List ℕ) → path_of t ≡ under f x → (b : Bool) → same_topic t (target p.event) ≡ b → (next p.event value t ≡ None) ⊎ Leads w f
-    leads t f x e true same =
-        let at = topic_same t (target p.event) same in
-        ⊎_elim (λ none. inl (next_here p.event t value same ∙ none)) (λ l. inr l) (given (gives p.event) refl f x (ap path_of (sym at) ∙ e))
+    leads : (t : Topic) (f : Path) (x : List ℕ) → path_of t ≡ under f x → (b : Bool) → is_topic (target p.event) t ≡ b → (next p.event value t ≡ None) ⊎ Leads w f
+    leads t f x e true same = ⊎_elim (λ none. inl (next_here p.event t value same ∙ none)) (λ l. inr l) (given t (topic_is (target p.event) t same) (gives p.event) refl f x e)
     leads t f x e false other = ⊎_elim
         (λ none. inl (next_apart p.event t value other ∙ none))
         (λ l. inr (λ q s may. l q s (was q s may)))
@@ -174,11 +170,11 @@ stands_show start entries b actor lane p W v w writes within change was = record
     value : State
     value = after (events_of entries) start
 
-    seen_now : value (target p.event) ≡ before p.event
-    seen_now = ⊎_elim
-        (λ k. says_one (target p.event) (value (target p.event)) (before p.event) _ k change.was)
+    seen_now : (t : Topic) → target p.event ≡ Some t → value t ≡ before p.event
+    seen_now t at = ⊎_elim
+        (λ k. says_one t (value t) (before p.event) _ k (change.was t at))
         (λ bad. absurd bad)
-        (was.known.each (target p.event) _ (may_now v (path_of (target p.event))))
+        (was.known.each t _ (may_now v (path_of t)))
 
 pub stands_settle : (start : State) (entries : List Entry) (p : Pending) (e : Entry) (v w : View) → e.event ≡ p.event → Writes Nothing v w → Final p.event w
     → Stands start entries (Some p) v → Stands start (entries ++ e ∷ []) None w

@@ -1,5 +1,6 @@
 -- What stays of the objects of the store: in a later view, on a disk that a crash left since, and over many acts.
-use Rattle.std.proofs.Common.{◌≡◌, ◌⊎◌, inl, inr, ⊎_elim, ◌≤◌, ℕ, true, refl, sym, ◌∙◌, ap, subst, arith, List, ◌++◌, drop, take, Option, Some, None}
+use Rattle.std.proofs.Common.{◌≡◌, ◌⊎◌, inl, inr, ⊎_elim, ◌≤◌, ℕ, true, refl, sym, ◌∙◌, ap, subst, arith, List, [], ◌++◌, drop, take, Contains, Option, Some, None}
+use Rattle.std.proofs.lemmas.List.Elements.{Contains-append_left, Contains-append_right}
 use Rattle.ost_types.specs.declared.limits.Limits.{Limits}
 use Rattle.ost_types.specs.declared.object.Kind.TheVariants.{Commit}
 use Rattle.ost_types.specs.declared.object.ObjName.{ObjName}
@@ -51,6 +52,10 @@ above_objects sum p below = under-is_below p (folder_path Objects) (take 2 (hex_
 pub no_vacant_leaf : (s : Seen) → IsLeaf s → s ≡ Vacant → ⊥
 no_vacant_leaf s leaf e = let k : IsLeaf Vacant = subst IsLeaf e leaf in k
 
+-- nothing is removed
+pub none_out : (name : ObjName) → ¬ (Contains [] name)
+none_out name (k, less, is) = omega (arith, less)
+
 -- One act.
 module _ (b : Books) (v w : View) (actor lane : ℕ) (writes : Writes (Guarantee b v actor lane) v w) where
   -- what leads to the objects stays
@@ -89,19 +94,39 @@ module _ (b : Books) (v w : View) (actor lane : ℕ) (writes : Writes (Guarantee
         (writes.only (mark_path commit) s may);
   }
 
-  pub stays_act : Stays v w
-  stays_act = record { safe = safe_stays; same = safe_same; right = right_stays; unmarked = unmarked_stays }
+  pub stays_act : Stays [] v w
+  stays_act = record { safe = λ name kept. safe_stays name; same = λ name kept. safe_same name; right = right_stays; unmarked = λ commit kept. unmarked_stays commit }
 
-pub stays_refl : (v : View) → Stays v v
-stays_refl v = record { safe = λ name safe. safe; same = λ name safe s may. may; right = λ name right. right; unmarked = λ commit safe none. none }
+pub stays_refl : (v : View) → Stays [] v v
+stays_refl v = record { safe = λ name kept safe. safe; same = λ name kept safe s may. may; right = λ name right. right; unmarked = λ commit kept safe none. none }
 
-pub stays_then : (u v w : View) → Stays u v → Stays v w → Stays u w
-stays_then u v w a b = record {
-  safe = λ name safe. b.safe name (a.safe name safe);
-  same = λ name safe s may. a.same name safe s (b.same name (a.safe name safe) s may);
-  right = λ name right. b.right name (a.right name right);
-  unmarked = λ commit safe none. b.unmarked commit (a.safe (name_of Commit commit) safe) (a.unmarked commit safe none);
+-- where more may have been removed
+pub stays_more : (out more : List ObjName) (v w : View) → ((name : ObjName) → Contains out name → Contains more name) → Stays out v w → Stays more v w
+stays_more out more v w among stays = record {
+  safe = λ name kept. stays.safe name (λ is. kept (among name is));
+  same = λ name kept. stays.same name (λ is. kept (among name is));
+  right = stays.right;
+  unmarked = λ commit kept. stays.unmarked commit (λ is. kept (among (name_of Commit commit) is));
 }
+
+pub on_more : (out more : List ObjName) (v : View) (d : Disk) → ((name : ObjName) → Contains out name → Contains more name) → StaysOn out v d → StaysOn more v d
+on_more out more v d among on = record {
+  same = λ name kept. on.same name (λ is. kept (among name is));
+  right = on.right;
+  unmarked = λ commit kept. on.unmarked commit (λ is. kept (among (name_of Commit commit) is));
+}
+
+-- one after the other
+pub stays_then : (one two : List ObjName) (u v w : View) → Stays one u v → Stays two v w → Stays (one ++ two) u w
+stays_then one two u v w a b =
+    let x = stays_more one (one ++ two) u v (λ name is. Contains-append_left one two name is) a in
+    let y = stays_more two (one ++ two) v w (λ name is. Contains-append_right one two name is) b in
+    record {
+      safe = λ name kept safe. y.safe name kept (x.safe name kept safe);
+      same = λ name kept safe s may. x.same name kept safe s (y.same name kept (x.safe name kept safe) s may);
+      right = λ name right. y.right name (x.right name right);
+      unmarked = λ commit kept safe none. y.unmarked commit kept (x.safe (name_of Commit commit) kept safe) (x.unmarked commit kept safe none);
+    }
 
 -- A disk that a crash leaves now.
 module _ (v : View) (d : Disk) (i : Image v d) where
@@ -117,15 +142,22 @@ module _ (v : View) (d : Disk) (i : Image v d) where
       let leaf = leaf_seen d (d.at (mark_path commit)) marked in
       ⊎_elim (λ may. none.each (shows d (mark_path commit)) may leaf) (no_vacant_leaf (shows d (mark_path commit)) leaf) (Image-may v d i (mark_path commit))
 
-  pub stays_image : StaysOn v d
-  stays_image = record { same = λ name safe. same_image name safe.above; right = right_image; unmarked = λ commit safe none. unmarked_image commit none }
+  pub stays_image : StaysOn [] v d
+  stays_image = record { same = λ name kept safe. same_image name safe.above; right = right_image; unmarked = λ commit kept safe none. unmarked_image commit none }
 
-pub stays_later : (v w : View) (d : Disk) → Stays v w → StaysOn w d → StaysOn v d
-stays_later v w d now on = record {
-  same = λ name safe. now.same name safe (shows d (path_of name)) (on.same name (now.safe name safe));
-  right = λ name right. on.right name (now.right name right);
-  unmarked = λ commit safe none. on.unmarked commit (now.safe (name_of Commit commit) safe) (now.unmarked commit safe none);
-}
+pub stays_later : (one two : List ObjName) (v w : View) (d : Disk) → Stays one v w → StaysOn two w d → StaysOn (one ++ two) v d
+stays_later one two v w d now on =
+    let x = stays_more one (one ++ two) v w (λ name is. Contains-append_left one two name is) now in
+    let y = on_more two (one ++ two) w d (λ name is. Contains-append_right one two name is) on in
+    record {
+      same = λ name kept safe. x.same name kept safe (shows d (path_of name)) (y.same name kept (x.safe name kept safe));
+      right = λ name right. y.right name (x.right name right);
+      unmarked = λ commit kept safe none. y.unmarked commit kept (x.safe (name_of Commit commit) kept safe) (x.unmarked commit kept safe none);
+    }
+
+-- what a crash leaves then, where these may have been removed
+pub image_later : (out : List ObjName) (v w : View) (d : Disk) → Stays out v w → Image w d → StaysOn out v d
+image_later out v w d now i = subst (λ (l : List ObjName). StaysOn l v d) (append-nil out) (stays_later out [] v w d now (stays_image w d i))
 
 -- Runs of acts.
 module _ {F : Type 0} (view : F → Option View) (clock : F → ℕ) (was : F → ℕ → View → Type 0) (laws : IsFs view clock was) where
@@ -133,20 +165,21 @@ module _ {F : Type 0} (view : F → Option View) (clock : F → ℕ) (was : F �
   same_told fs v w a b = let e : Some v ≡ Some w = sym a ∙ b in cc
 
   -- what a crash leaves now
-  left_now : (fs : F) (v : View) → view fs ≡ Some v → (t : ℕ) (d : Disk) → clock fs ≤ t → Left (was fs) t d → StaysOn v d
+  left_now : (fs : F) (v : View) → view fs ≡ Some v → (t : ℕ) (d : Disk) → clock fs ≤ t → Left (was fs) t d → StaysOn [] v d
   left_now fs v told t d late left =
       let is : left.0 ≡ v = same_told fs left.0 v (laws.only_now fs t left.0 late left.1) told in
       stays_image v d (subst (λ u. Image u d) is left.2)
 
-  pub lasts_refl : (fs : F) → Lasts view clock was fs fs
+  pub lasts_refl : (fs : F) → Lasts [] view clock was fs fs
   lasts_refl fs v told = (v, told, record { later = omega arith; now = stays_refl v; since = left_now fs v told; earlier = λ t d left. inl left })
 
-  pub lasts_then : (a b c : F) → Lasts view clock was a b → Lasts view clock was b c → Lasts view clock was a c
-  lasts_then a b c one two u told =
-      let x = one u told in
+  pub lasts_then : (one two : List ObjName) (a b c : F) → Lasts one view clock was a b → Lasts two view clock was b c → Lasts (one ++ two) view clock was a c
+  lasts_then one two a b c before behind u told =
+      let x = before u told in
       let v = x.0 in
-      let y = two v x.1 in
+      let y = behind v x.1 in
       let w = y.0 in
+      let wider : (d : Disk) → StaysOn one u d → StaysOn (one ++ two) u d = λ d. on_more one (one ++ two) u d (λ name is. Contains-append_left one two name is) in
       let o = x.2 in
       let p = y.2 in
       let first : clock a ≤ clock b = o.later in
@@ -155,9 +188,12 @@ module _ {F : Type 0} (view : F → Option View) (clock : F → ℕ) (was : F �
         y.1,
         record {
           later = omega (arith, first, then_);
-          now = stays_then u v w o.now p.now;
-          since = λ t d late left. ⊎_elim (λ was_left. o.since t d late was_left) (λ on. stays_later u v d o.now on) (p.earlier t d left);
-          earlier = λ t d left. ⊎_elim (λ was_left. o.earlier t d was_left) (λ on. inr (stays_later u v d o.now on)) (p.earlier t d left);
+          now = stays_then one two u v w o.now p.now;
+          since = λ t d late left. ⊎_elim (λ was_left. wider d (o.since t d late was_left)) (λ on. stays_later one two u v d o.now on) (p.earlier t d left);
+          earlier = λ t d left. ⊎_elim
+              (λ was_left. ⊎_elim (λ longer. inl longer) (λ on. inr (wider d on)) (o.earlier t d was_left))
+              (λ on. inr (stays_later one two u v d o.now on))
+              (p.earlier t d left);
         },
       )
 
@@ -178,15 +214,15 @@ module _ {F : Type 0} (view : F → Option View) (clock : F → ℕ) (was : F �
 
   -- one act
   pub lasts_act : (old new : F) (b b' : Books) (actor lane : ℕ) → ((v : View) → view old ≡ Some v → (w : View) × (view new ≡ Some w) × Interference actor lane v b w b')
-      → Elapses (clock old) (clock new) (was old) (was new) (view new) → Lasts view clock was old new
+      → Elapses (clock old) (clock new) (was old) (was new) (view new) → Lasts [] view clock was old new
   lasts_act old new b b' actor lane does time v told =
       let x = does v told in
       let w = x.0 in
       let now = stays_act b v w actor lane x.2.writes in
-      let earlier : (t : ℕ) (d : Disk) → Left (was new) t d → Left (was old) t d ⊎ StaysOn v d =
+      let earlier : (t : ℕ) (d : Disk) → Left (was new) t d → Left (was old) t d ⊎ StaysOn [] v d =
       λ t d left. ⊎_elim
       (λ was_left. inl was_left)
-      (λ here. inr (stays_later v w d now (stays_image w d (subst (λ u. Image u d) (same_told new here.0 w here.1 x.1) here.2))))
+      (λ here. inr (image_later [] v w d now (subst (λ u. Image u d) (same_told new here.0 w here.1 x.1) here.2)))
       ((passes (clock old) (clock new) (was old) (was new) (view new) (laws.only_now new) time).nothing_else t d left)
       in (
         w,
@@ -210,13 +246,13 @@ always_safe v name bytes has = record {
 pub always_one : (v : View) → IsMap (AlwaysStores v)
 always_one v = record { one = λ name b c one two. (let e : Some b ≡ Some c = sym (one.holds (shows v.now (path_of name)) (may_now v (path_of name))) ∙ two.holds (shows v.now (path_of name)) (may_now v (path_of name)) in cc) }
 
-pub always_stays : (v w : View) → Stays v w → (name : ObjName) (bytes : List ℕ) → AlwaysStores v name bytes → AlwaysStores w name bytes
-always_stays v w stays name bytes has =
+pub always_stays : (out : List ObjName) (v w : View) → Stays out v w → (name : ObjName) (bytes : List ℕ) → ¬ (Contains out name) → AlwaysStores v name bytes → AlwaysStores w name bytes
+always_stays out v w stays name bytes kept has =
     let safe = always_safe v name bytes has in
-    record { holds = λ s may. has.holds s (stays.same name safe s may); above = (stays.safe name safe).above; named = has.named }
+    record { holds = λ s may. has.holds s (stays.same name kept safe s may); above = (stays.safe name kept safe).above; named = has.named }
 
-pub always_left : (v : View) (d : Disk) → StaysOn v d → (name : ObjName) (bytes : List ℕ) → AlwaysStores v name bytes → Stores d name bytes
-always_left v d on name bytes has = record { there = has.holds (shows d (path_of name)) (on.same name (always_safe v name bytes has)); named = has.named }
+pub always_left : (out : List ObjName) (v : View) (d : Disk) → StaysOn out v d → (name : ObjName) (bytes : List ℕ) → ¬ (Contains out name) → AlwaysStores v name bytes → Stores d name bytes
+always_left out v d on name bytes kept has = record { there = has.holds (shows d (path_of name)) (on.same name kept (always_safe v name bytes has)); named = has.named }
 
 pub always_from : (v : View) (name : ObjName) (bytes : List ℕ) → Leads v (objects_folder_path name.csum) → EachImage v (λ d. Stores d name bytes) → AlwaysStores v name bytes
 always_from v name bytes above each = record { holds = λ s may. holds s (subst (λ p. MayBe v p s) (object_under name) may); above = above; named = (each image.0 image.1).named }
@@ -242,8 +278,8 @@ always_named v name bytes safe right named one = record {
   named = named;
 }
 
-pub always_whole : (v w : View) (limits : Limits) (commit : List ℕ) → Stays v w → Complete (AlwaysStores v) limits commit → Complete (AlwaysStores w) limits commit
-always_whole v w limits commit stays whole = complete_up (AlwaysStores v) (AlwaysStores w) (always_stays v w stays) (always_one w) limits commit whole
+pub always_whole : (v w : View) (limits : Limits) (commit : List ℕ) → Stays [] v w → Complete (AlwaysStores v) limits commit → Complete (AlwaysStores w) limits commit
+always_whole v w limits commit stays whole = complete_up (AlwaysStores v) (AlwaysStores w) (λ name bytes has. always_stays [] v w stays name bytes (none_out name) has) (always_one w) limits commit whole
 
-pub always_complete : (v : View) (d : Disk) (limits : Limits) (commit : List ℕ) → StaysOn v d → Complete (AlwaysStores v) limits commit → Complete (Stores d) limits commit
-always_complete v d limits commit on whole = complete_up (AlwaysStores v) (Stores d) (always_left v d on) (stores_map d) limits commit whole
+pub always_complete : (v : View) (d : Disk) (limits : Limits) (commit : List ℕ) → StaysOn [] v d → Complete (AlwaysStores v) limits commit → Complete (Stores d) limits commit
+always_complete v d limits commit on whole = complete_up (AlwaysStores v) (Stores d) (λ name bytes has. always_left [] v d on name bytes (none_out name) has) (stores_map d) limits commit whole

@@ -1,5 +1,5 @@
 -- The state after events.
-use Rattle.std.proofs.Common.{◌≡◌, ◌+◌, ◌<◌, ◌≤◌, ℕ, suc, Bool, true, false, refl, sym, ◌∙◌, ap, subst, arith, List, [], ◌∷◌, ◌++◌, length, nat_le, Some, None, if◌then◌else◌, take, codes}
+use Rattle.std.proofs.Common.{◌≡◌, ◌+◌, ◌<◌, ◌≤◌, ℕ, suc, Bool, true, false, refl, sym, ◌∙◌, ap, subst, arith, List, [], ◌∷◌, ◌++◌, length, nat_le, Option, Some, None, if◌then◌else◌, take, codes}
 use Rattle.std.proofs.lemmas.Bool.Decides.{nat_tests}
 use Rattle.std.proofs.Math.Seq.{take-append_seam}
 use Rattle.ost_types.proofs.Paths.{same_name-Decides}
@@ -13,8 +13,8 @@ use Rattle.repo_layout.specs.Paths.{in_repo, mark_path}
 use Rattle.repo_layout.proofs.Places.{mark_path-injective}
 use Rattle.rely_guarantee.specs.declared.books.Entry.{Entry}
 use Rattle.rely_guarantee.specs.declared.event.Event.{Event}
-use Rattle.rely_guarantee.specs.declared.event.Event.TheVariants.{SetRef, DropRef}
-use Rattle.rely_guarantee.specs.State.{Topic, RefOf, Said, State, same_topic, target, gives, IsValid, next, Applies, after, IsRun, IsNamed, events_of, acked, Ascends}
+use Rattle.rely_guarantee.specs.declared.event.Event.TheVariants.{SetRef, DropRef, Pruned}
+use Rattle.rely_guarantee.specs.State.{Topic, RefOf, Said, State, same_topic, is_topic, target, gives, IsValid, next, Applies, after, IsRun, IsNamed, events_of, acked, Ascends}
 use Rattle.rely_guarantee.specs.Disks.{IsLeaf, Says}
 
 pub topic_same : (a b : Topic) → same_topic a b ≡ true → a ≡ b
@@ -26,10 +26,17 @@ topic_self (RefOf a) = (same_name-Decides a a).1 refl
 pub topic_not : (a b : Topic) → same_topic a b ≡ false → a ≡ b → ⊥
 topic_not a b f e = let z : true ≡ false = sym (topic_self a) ∙ ap (same_topic a) e ∙ f in cc
 
-pub next_here : (e : Event) (t : Topic) (s : State) → same_topic t (target e) ≡ true → next e s t ≡ gives e
+pub topic_is : (o : Option Topic) (t : Topic) → is_topic o t ≡ true → o ≡ Some t
+topic_is None t e = let z : false ≡ true = e in cc
+topic_is (Some x) t e = ap Some (sym (topic_same t x e))
+
+pub topic_none : (o : Option Topic) (t : Topic) → is_topic o t ≡ false → o ≡ Some t → ⊥
+topic_none o t f e = let k : same_topic t t ≡ false = subst (λ (x : Option Topic). is_topic x t ≡ false) e f in topic_not t t k refl
+
+pub next_here : (e : Event) (t : Topic) (s : State) → is_topic (target e) t ≡ true → next e s t ≡ gives e
 next_here e t s is = rw is refl
 
-pub next_apart : (e : Event) (t : Topic) (s : State) → same_topic t (target e) ≡ false → next e s t ≡ s t
+pub next_apart : (e : Event) (t : Topic) (s : State) → is_topic (target e) t ≡ false → next e s t ≡ s t
 next_apart e t s is = rw is refl
 
 pub after_push : (es : List Event) (e : Event) (s : State) → after (es ++ e ∷ []) s ≡ next e (after es s)
@@ -70,15 +77,16 @@ ascends_push from [] e a = (a, omega arith)
 ascends_push from (x ∷ es) e a = (a.0, ascends_push x.moment es e a.1)
 
 -- only names of refs have values
-event_named : (e : Event) (name commit : List ℕ) → IsValid e → RefOf name ≡ target e → gives e ≡ Some commit → IsRefName name
-event_named (SetRef n seen c) name commit valid at is = let e : RefOf name ≡ RefOf n = at in let k : n ≡ name = cc in subst IsRefName k valid.0
+event_named : (e : Event) (name commit : List ℕ) → IsValid e → target e ≡ Some (RefOf name) → gives e ≡ Some commit → IsRefName name
+event_named (SetRef n seen c) name commit valid at is = let e : Some (RefOf n) ≡ Some (RefOf name) = at in let k : n ≡ name = cc in subst IsRefName k valid.0
 event_named (DropRef n seen) name commit valid at is = let e : None ≡ Some commit = is in cc
+event_named (Pruned depth roots held removed) name commit valid at is = let e : None ≡ Some commit = is in cc
 
 next_named : (e : Event) (s : State) → Applies e s → IsNamed s → IsNamed (next e s)
-next_named e s one was name commit is = by (same_topic (RefOf name) (target e)) refl
+next_named e s one was name commit is = by (is_topic (target e) (RefOf name)) refl
   where
-    by : (b : Bool) → same_topic (RefOf name) (target e) ≡ b → IsRefName name
-    by true at = event_named e name commit one.valid (topic_same (RefOf name) (target e) at) (sym (next_here e (RefOf name) s at) ∙ is)
+    by : (b : Bool) → is_topic (target e) (RefOf name) ≡ b → IsRefName name
+    by true at = event_named e name commit one.valid (topic_is (target e) (RefOf name) at) (sym (next_here e (RefOf name) s at) ∙ is)
     by false at = was name commit (sym (next_apart e (RefOf name) s at) ∙ is)
 
 pub after_named : (es : List Event) (s : State) → IsRun es s → IsNamed s → IsNamed (after es s)

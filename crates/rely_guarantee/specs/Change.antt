@@ -21,9 +21,9 @@ Away W = (t : Topic) (s : Seen) → W (path_of t) s → ⊥
 pub record Shows (W : Path → Seen → Type 0) (v : View) (e : Event) : Type 0 where
   pub writes : (t : Topic) (s : Seen) → W (path_of t) s → ShownBy e t s
   pub valid : IsValid e
-  pub was : Says (target e) (before e) (shows v.now (path_of (target e)))
+  pub was : (t : Topic) → target e ≡ Some t → Says t (before e) (shows v.now (path_of t))
 
 -- Only the event's value is left at its path, and folders lead there, where there is one.
 pub record Final (e : Event) (w : View) : Type 0 where
-  pub only : (s : Seen) → MayBe w (path_of (target e)) s → Says (target e) (gives e) s
-  pub leads : (commit : List ℕ) → gives e ≡ Some commit → (f : Path) (x : List ℕ) → path_of (target e) ≡ under f x → Leads w f
+  pub only : (t : Topic) → target e ≡ Some t → (s : Seen) → MayBe w (path_of t) s → Says t (gives e) s
+  pub leads : (t : Topic) (commit : List ℕ) → target e ≡ Some t → gives e ≡ Some commit → (f : Path) (x : List ℕ) → path_of t ≡ under f x → Leads w f

@@ -1,5 +1,5 @@
 -- What stays of the objects of the store, whoever acts.
-use Rattle.std.specs.Prelude.{◌≡◌, ◌≢◌, ◌⊎◌, ◌≤◌, ℕ, List, Option, Some}
+use Rattle.std.specs.Prelude.{◌≡◌, ◌≢◌, ◌⊎◌, ◌≤◌, ℕ, List, Contains, Option, Some}
 use Rattle.ost_types.specs.declared.object.Kind.TheVariants.{Commit}
 use Rattle.ost_types.specs.declared.object.ObjName.{ObjName}
 use Rattle.ost_types.specs.Path.{Path}
@@ -49,28 +49,29 @@ pub record IsFinishedNow (v : View) (commit : List ℕ) : Type 0 where
   pub above : (p : Path) → LeadsTo (objects_folder_path commit) p (shows v.now p)
   pub unmarked : IsLeaf (shows v.now (mark_path commit)) → ⊥
 
--- From one view to a later one: an object that is safe goes on to be so, and nothing else comes to its path; what is right stays
--- right; and a commit that is safe and that no mark is of goes on so.
-pub record Stays (v w : View) : Type 0 where
-  pub safe : (name : ObjName) → IsSafe v name → IsSafe w name
-  pub same : (name : ObjName) → IsSafe v name → (s : Seen) → MayBe w (path_of name) s → MayBe v (path_of name) s
+-- From one view to a later one, where no objects but these may have been removed in between: any other that is safe goes on to be
+-- so, and nothing else comes to its path; what is right stays right; and any other commit that is safe and that no mark is of goes
+-- on so.
+pub record Stays (out : List ObjName) (v w : View) : Type 0 where
+  pub safe : (name : ObjName) → ¬ (Contains out name) → IsSafe v name → IsSafe w name
+  pub same : (name : ObjName) → ¬ (Contains out name) → IsSafe v name → (s : Seen) → MayBe w (path_of name) s → MayBe v (path_of name) s
   pub right : (name : ObjName) → IsRight v name → IsRight w name
-  pub unmarked : (commit : List ℕ) → IsSafe v (name_of Commit commit) → NeverMarked commit v → NeverMarked commit w
+  pub unmarked : (commit : List ℕ) → ¬ (Contains out (name_of Commit commit)) → IsSafe v (name_of Commit commit) → NeverMarked commit v → NeverMarked commit w
 
 -- From a view to a disk that a crash left later.
-pub record StaysOn (v : View) (d : Disk) : Type 0 where
-  pub same : (name : ObjName) → IsSafe v name → MayBe v (path_of name) (shows d (path_of name))
+pub record StaysOn (out : List ObjName) (v : View) (d : Disk) : Type 0 where
+  pub same : (name : ObjName) → ¬ (Contains out name) → IsSafe v name → MayBe v (path_of name) (shows d (path_of name))
   pub right : (name : ObjName) → IsRight v name → (shows d (path_of name) ≡ Vacant) ⊎ IsObjectSeen name.kind name.csum (shows d (path_of name))
-  pub unmarked : (commit : List ℕ) → IsSafe v (name_of Commit commit) → NeverMarked commit v → Marked d commit → ⊥
+  pub unmarked : (commit : List ℕ) → ¬ (Contains out (name_of Commit commit)) → IsSafe v (name_of Commit commit) → NeverMarked commit v → Marked d commit → ⊥
 
 -- From one moment, with this view, to a later one: what was so stays so now, and on each disk that a crash left since. A crash
 -- left no other disks but those that it had left before.
-pub record Outlasts {F : Type 0} (clock : F → ℕ) (was : F → ℕ → View → Type 0) (old new : F) (v w : View) : Type 0 where
+pub record Outlasts (out : List ObjName) {F : Type 0} (clock : F → ℕ) (was : F → ℕ → View → Type 0) (old new : F) (v w : View) : Type 0 where
   pub later : clock old ≤ clock new
-  pub now : Stays v w
-  pub since : (t : ℕ) (d : Disk) → clock old ≤ t → Left (was new) t d → StaysOn v d
-  pub earlier : (t : ℕ) (d : Disk) → Left (was new) t d → Left (was old) t d ⊎ StaysOn v d
+  pub now : Stays out v w
+  pub since : (t : ℕ) (d : Disk) → clock old ≤ t → Left (was new) t d → StaysOn out v d
+  pub earlier : (t : ℕ) (d : Disk) → Left (was new) t d → Left (was old) t d ⊎ StaysOn out v d
 
 -- so it is where the view is told
-abbrev pub Lasts : {F : Type 0} → (F → Option View) → (F → ℕ) → (F → ℕ → View → Type 0) → F → F → Type 0
-Lasts view clock was old new = (v : View) → view old ≡ Some v → Told (view new) (λ w. Outlasts clock was old new v w)
+abbrev pub Lasts : List ObjName → {F : Type 0} → (F → Option View) → (F → ℕ) → (F → ℕ → View → Type 0) → F → F → Type 0
+Lasts out view clock was old new = (v : View) → view old ≡ Some v → Told (view new) (λ w. Outlasts out clock was old new v w)

@@ -1,12 +1,12 @@
 -- What the stored history says: the state at the beginning, and after each event.
-use Rattle.std.specs.Prelude.{◌≡◌, ◌+◌, ◌≤◌, ℕ, Bool, List, [], ◌∷◌, ◌++◌, map, nat_le, Option, Some, None, if◌then◌else◌}
+use Rattle.std.specs.Prelude.{◌≡◌, ◌+◌, ◌≤◌, ℕ, Bool, false, List, [], ◌∷◌, ◌++◌, map, nat_le, Option, Some, None, if◌then◌else◌}
 use Rattle.ost_types.specs.Path.{same_name}
 use Rattle.repo_layout.specs.RefName.{IsRefName}
 use Rattle.repo_layout.specs.RefFile.{IsSum}
 use Rattle.rely_guarantee.specs.declared.books.Entry.{Entry}
 use Rattle.rely_guarantee.specs.declared.books.Pending.{Pending}
 use Rattle.rely_guarantee.specs.declared.event.Event.{Event}
-use Rattle.rely_guarantee.specs.declared.event.Event.TheVariants.{SetRef, DropRef}
+use Rattle.rely_guarantee.specs.declared.event.Event.TheVariants.{SetRef, DropRef, Pruned}
 
 -- what the state speaks of: a ref, by its name
 pub data Topic : Type 0 where
@@ -27,32 +27,46 @@ abbrev pub first : List (List ℕ × List ℕ) → State
 first [] t = None
 first (r ∷ refs) t = if same_topic t (RefOf r.0) then Some r.1 else first refs t
 
--- what an event changes, from what, and to what
-abbrev pub target : Event → Topic
-target (SetRef name seen commit) = RefOf name
-target (DropRef name seen) = RefOf name
+-- the commits that are named so
+abbrev pub commits_of : Said → List (List ℕ)
+commits_of None = []
+commits_of (Some commit) = commit ∷ []
+
+-- what an event changes, from what, and to what; a prune changes nothing that the state speaks of
+abbrev pub target : Event → Option Topic
+target (SetRef name seen commit) = Some (RefOf name)
+target (DropRef name seen) = Some (RefOf name)
+target (Pruned depth roots held removed) = None
 
 abbrev pub before : Event → Said
 before (SetRef name seen commit) = seen
 before (DropRef name seen) = Some seen
+before (Pruned depth roots held removed) = None
 
 abbrev pub gives : Event → Said
 gives (SetRef name seen commit) = Some commit
 gives (DropRef name seen) = None
+gives (Pruned depth roots held removed) = None
 
 -- an event that can be at all
 abbrev pub IsValid : Event → Type 0
 IsValid (SetRef name seen commit) = IsRefName name × IsSum commit
 IsValid (DropRef name seen) = IsRefName name
+IsValid (Pruned depth roots held removed) = Unit {0}
+
+-- whether it is this topic
+abbrev pub is_topic : Option Topic → Topic → Bool
+is_topic None t = false
+is_topic (Some x) t = same_topic t x
 
 -- the state after an event
 abbrev pub next : Event → State → State
-next e s t = if same_topic t (target e) then gives e else s t
+next e s t = if is_topic (target e) t then gives e else s t
 
 -- the event may follow this state
 pub record Applies (e : Event) (s : State) : Type 0 where
   pub valid : IsValid e
-  pub was : s (target e) ≡ before e
+  pub was : (t : Topic) → target e ≡ Some t → s t ≡ before e
 
 -- the state after events
 abbrev pub after : List Event → State → State

@@ -22,7 +22,7 @@ use Rattle.rely_guarantee.specs.Books.{books_of, Agrees}
 
 -- what is shown is the event's value
 abbrev pub ShownBy : Event → Topic → Seen → Type 0
-ShownBy e t s = (t ≡ target e) × Says t (gives e) s
+ShownBy e t s = (target e ≡ Some t) × Says t (gives e) s
 
 -- what is shown is the pending event's value
 abbrev pub Shown : Option Pending → Topic → Seen → Type 0

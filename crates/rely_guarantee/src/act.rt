@@ -1,4 +1,4 @@
-ghost use Rattle.std.specs.Prelude.{◌≡◌, ◌≢◌, ◌⊎◌, ◌≤◌, ◌<◌, ℕ, true, Option, Some, None, IfOk, IfErr, OnOk, IsErrOf};
+ghost use Rattle.std.specs.Prelude.{◌≡◌, ◌≢◌, ◌⊎◌, ◌≤◌, ◌<◌, ℕ, true, [], Option, Some, None, IfOk, IfErr, OnOk, IsErrOf};
 ghost use Rattle.fs_trait.specs.declared.types.FsErr.TheVariants.{NoMemory};
 ghost use Rattle.fs_trait.specs.View.{View};
 ghost use Rattle.fs_trait.specs.Image.{Told};
@@ -386,7 +386,7 @@ pub fn task_act<T: CommandTask, F: Fs>(
     ensures claimed { AreClaimed (claim_in (T.kind_of task.old)) lane result base.old.books.claims.items base.new.books.claims.items }
     ensures booked { IsBooked (T.kind_of task.old) lane command (F.clock base.new.fs) result base.old.books base.new.books }
     ensures time { Elapses (F.clock base.old.fs) (F.clock base.new.fs) (F.was base.old.fs) (F.was base.new.fs) (F.view base.new.fs) }
-    ensures outlasts { Lasts F.view F.clock F.was base.old.fs base.new.fs }
+    ensures outlasts { Lasts [] F.view F.clock F.was base.old.fs base.new.fs }
     ensures cause { (v : View) → F.view base.old.fs ≡ Some v → Causes (F.faults base.old.fs) (F.faults base.new.fs) result }
     ensures live { IsLive result base.old.books.halted base.new.books.halted }
 {
@@ -419,7 +419,7 @@ pub fn help_act<T: CommandTask, F: Fs>(
     ensures pins { ArePinned None lane result base.old.books.pins.items base.new.books.pins.items }
     ensures claimed { AreClaimed None lane result base.old.books.claims.items base.new.books.claims.items }
     ensures time { Elapses (F.clock base.old.fs) (F.clock base.new.fs) (F.was base.old.fs) (F.was base.new.fs) (F.view base.new.fs) }
-    ensures outlasts { Lasts F.view F.clock F.was base.old.fs base.new.fs }
+    ensures outlasts { Lasts [] F.view F.clock F.was base.old.fs base.new.fs }
     ensures cause { Causes (F.faults base.old.fs) (F.faults base.new.fs) result }
     ensures live { IsLive result base.old.books.halted base.new.books.halted }
 {

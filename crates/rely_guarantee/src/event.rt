@@ -1,4 +1,4 @@
-use ost_types::Csum;
+use ost_types::{Csum, ObjNames};
 use repo_layout::RefName;
 
 /// A change that a command makes, as the stored history has it.
@@ -14,5 +14,16 @@ pub enum Event {
     DropRef {
         name: RefName,
         seen: Csum,
+    },
+    /// A prune removed objects. No ref changes.
+    Pruned {
+        /// How many parents of each root it kept.
+        depth: u32,
+        /// The commits that refs named.
+        roots: ObjNames,
+        /// What running commands held.
+        held: ObjNames,
+        /// What it removed, in this order.
+        removed: ObjNames,
     },
 }

@@ -1,5 +1,6 @@
-ghost use Rattle.std.specs.Prelude.{◌≡◌, ◌⊎◌, ℕ, List, Some};
+ghost use Rattle.std.specs.Prelude.{◌≡◌, ◌⊎◌, ℕ, List, [], ◌++◌, Contains, Some};
 ghost use Rattle.ost_types.specs.declared.limits.Limits.{Limits};
+ghost use Rattle.ost_types.specs.declared.object.Kind.TheVariants.{Commit};
 ghost use Rattle.ost_types.specs.declared.object.ObjName.{ObjName};
 ghost use Rattle.ost_objects.specs.Object.{IsNamed};
 ghost use Rattle.fs_trait.specs.View.{Disk, View};
@@ -8,6 +9,7 @@ ghost use Rattle.fs_trait.specs.Seen.{Seen, Vacant, MayBe, shows};
 ghost use Rattle.repo_layout.specs.Paths.{objects_folder_path};
 ghost use Rattle.repo_layout.specs.RefFile.{IsSum};
 ghost use Rattle.repo_model.specs.Objects.{Stores, Marked, object_in, path_of};
+ghost use Rattle.repo_model.specs.Trees.{name_of};
 ghost use Rattle.repo_model.specs.Whole.{Complete};
 ghost use Rattle.rely_guarantee.specs.SystemInvariant.{Leads};
 ghost use Rattle.rely_guarantee.specs.State.{State};
@@ -17,10 +19,10 @@ ghost use Rattle.rely_guarantee.specs.Lasting.{AlwaysStores, IsRight, IsSafe, La
 
 use fs_trait::Fs;
 
-/// What an act tells of the objects of the store may be carried over any number of acts.
+/// What an act tells of the objects of the store may be carried over any number of acts, but for what any of them removed.
 pub fn runs_outlast<F: Fs>()
-    ensures begins { (fs : F) → Lasts F.view F.clock F.was fs fs }
-    ensures goes_on { (a b c : F) → Lasts F.view F.clock F.was a b → Lasts F.view F.clock F.was b c → Lasts F.view F.clock F.was a c }
+    ensures begins { (fs : F) → Lasts [] F.view F.clock F.was fs fs }
+    ensures goes_on { (one two : List ObjName) (a b c : F) → Lasts one F.view F.clock F.was a b → Lasts two F.view F.clock F.was b c → Lasts (one ++ two) F.view F.clock F.was a c }
 {}
 
 /// The bytes that each crash leaves as an object of their name are left so by each later crash; so a commit that is whole in
@@ -29,11 +31,11 @@ pub fn stores_that_last()
     ensures safe { (v : View) (name : ObjName) (bytes : List ℕ) → AlwaysStores v name bytes → IsSafe v name }
     ensures always { (v : View) (name : ObjName) (bytes : List ℕ) → Leads v (objects_folder_path name.csum) → EachImage v (λ d. Stores d name bytes) → AlwaysStores v name bytes }
     ensures named { (v : View) (name : ObjName) (bytes : List ℕ) → IsSafe v name → IsRight v name → IsNamed name bytes → ((s : Seen) (b : List ℕ) → MayBe v (path_of name) s → object_in name.kind s ≡ Some b → IsNamed name b → b ≡ bytes) → AlwaysStores v name bytes }
-    ensures stored { (v w : View) (name : ObjName) (bytes : List ℕ) → Stays v w → AlwaysStores v name bytes → AlwaysStores w name bytes }
-    ensures left { (v : View) (d : Disk) (name : ObjName) (bytes : List ℕ) → StaysOn v d → AlwaysStores v name bytes → Stores d name bytes }
-    ensures whole { (v w : View) (limits : Limits) (commit : List ℕ) → Stays v w → Complete (AlwaysStores v) limits commit → Complete (AlwaysStores w) limits commit }
-    ensures finished { (v w : View) (commit : List ℕ) → Stays v w → StaysFinished v commit → StaysFinished w commit }
-    ensures complete { (v : View) (d : Disk) (limits : Limits) (commit : List ℕ) → StaysOn v d → Complete (AlwaysStores v) limits commit → Complete (Stores d) limits commit }
+    ensures stored { (out : List ObjName) (v w : View) (name : ObjName) (bytes : List ℕ) → Stays out v w → ¬ (Contains out name) → AlwaysStores v name bytes → AlwaysStores w name bytes }
+    ensures left { (out : List ObjName) (v : View) (d : Disk) (name : ObjName) (bytes : List ℕ) → StaysOn out v d → ¬ (Contains out name) → AlwaysStores v name bytes → Stores d name bytes }
+    ensures whole { (v w : View) (limits : Limits) (commit : List ℕ) → Stays [] v w → Complete (AlwaysStores v) limits commit → Complete (AlwaysStores w) limits commit }
+    ensures finished { (out : List ObjName) (v w : View) (commit : List ℕ) → Stays out v w → ¬ (Contains out (name_of Commit commit)) → StaysFinished v commit → StaysFinished w commit }
+    ensures complete { (v : View) (d : Disk) (limits : Limits) (commit : List ℕ) → StaysOn [] v d → Complete (AlwaysStores v) limits commit → Complete (Stores d) limits commit }
 {}
 
 /// Each crash leaves what stands on the disk at an opening: an object there is always stored, a commit that is whole there is

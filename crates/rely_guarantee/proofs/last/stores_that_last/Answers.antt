@@ -12,10 +12,10 @@ pub returns-clause-named : goal.returns-clause-named
 returns-clause-named c = always_named
 
 pub returns-clause-stored : goal.returns-clause-stored
-returns-clause-stored c = λ v w name bytes stays has. always_stays v w stays name bytes has
+returns-clause-stored c = λ out v w name bytes stays kept has. always_stays out v w stays name bytes kept has
 
 pub returns-clause-left : goal.returns-clause-left
-returns-clause-left c = λ v d name bytes on has. always_left v d on name bytes has
+returns-clause-left c = λ out v d name bytes on kept has. always_left out v d on name bytes kept has
 
 pub returns-clause-whole : goal.returns-clause-whole
 returns-clause-whole c = always_whole
