@@ -4,7 +4,7 @@ use Rattle.ost_types.specs.declared.object.ObjName.{ObjName}
 use Rattle.fs_trait.specs.declared.task.StepResult.TheVariants as turn
 use Rattle.fs_trait.specs.View.{Disk, View}
 use Rattle.rely_guarantee.specs.declared.event.Event.{Event}
-use Rattle.rely_guarantee.specs.declared.event.Event.TheVariants.{SetRef, DropRef}
+use Rattle.rely_guarantee.specs.declared.event.Event.TheVariants.{SetRef, DropRef, Pruned}
 use Rattle.rely_guarantee.specs.Books.{Books}
 use Rattle.rely_guarantee.specs.Lasting.{IsRight, StaysFinished, StaysOn}
 use Rattle.rely_guarantee.specs.Laws.{Show, Settle, IsSettle}
@@ -18,6 +18,7 @@ use Rattle.command.specs.Tasks.{TaskSpec}
 abbrev pub Founds : View → Event → Type 0
 Founds v (SetRef name seen commit) = StaysFinished v commit
 Founds v (DropRef name seen) = Unit {0}
+Founds v (Pruned depth roots held removed) = Unit {0}
 
 -- what was right at the opening is so now
 abbrev pub IsRightSince : View → View → Type 0
@@ -34,4 +35,4 @@ pub record ChangeLaws {T W A : Type 0} (k : TaskSpec T) (m : Meaning W A) (d : D
   -- what a change that lasts leaves in the store stands, and stays so while the store's objects do, but for those that are removed
   pub kept : (since : Since) (opening : View) (lane : ℕ) (c : W) (t new : T) (v w : View) (b : Books) → IsRightSince opening v → d.pursues since c t → k.facts lane t v b → k.leaves t (turn.Done tt) new v w → IsSettle (k.kind t) → m.keeps since opening [] c w
   pub keeps : (since : Since) (opening : View) (out removed : List ObjName) (c : W) (v w : View) → IsRightSince opening v → StaysBut removed v w → m.keeps since opening out c v → m.keeps since opening (removed ++ out) c w
-  pub keeps_on : (since : Since) (opening : View) (out : List ObjName) (c : W) (v : View) (disk : Disk) → StaysOn v disk → m.keeps since opening out c v → m.keeps_on since opening out c disk
+  pub keeps_on : (since : Since) (opening : View) (out : List ObjName) (c : W) (v : View) (disk : Disk) → StaysOn [] v disk → m.keeps since opening out c v → m.keeps_on since opening out c disk

@@ -9,7 +9,7 @@ use Rattle.rely_guarantee.specs.declared.event.Event.{Event}
 use Rattle.rely_guarantee.specs.Books.{Books}
 use Rattle.rely_guarantee.specs.State.{State}
 use Rattle.ref_book.specs.declared.book.RefBook.{RefBook}
-use Rattle.ref_book.specs.Tracks.{HasRoom, name_of}
+use Rattle.ref_book.specs.Tracks.{HasEventRoom}
 use Rattle.command.specs.declared.begun.Begun.{Begun}
 use Rattle.command.specs.declared.begun.Begun.TheVariants.{Answered, Runs}
 use Rattle.command.specs.declared.query.Query.{Query}
@@ -44,7 +44,7 @@ most = 340282366920938463463374607431768211455
 
 -- there is room for the ref that the command changes
 abbrev pub HasRoomFor : {W A : Type 0} → Meaning W A → RefBook → Since → W → Type 0
-HasRoomFor m refs since c = (e : Event) → m.changes since c e → HasRoom refs (name_of e)
+HasRoomFor m refs since c = (e : Event) → m.changes since c e → HasEventRoom refs e
 
 -- an answer by the state alone: its command made no change, leaves nothing, and has stored nothing
 abbrev pub IsAnswer : {W A : Type 0} → Meaning W A → Since → W → A → Type 0

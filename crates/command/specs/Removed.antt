@@ -11,4 +11,4 @@ removed_by b = []
 
 -- what was so of the store's objects in the first view is so in the second, but for these
 abbrev pub StaysBut : List ObjName → View → View → Type 0
-StaysBut removed v w = Stays v w
+StaysBut removed v w = Stays removed v w

@@ -6,7 +6,7 @@ use Rattle.layout_rules.specs.Checks.{IsSane}
 use Rattle.rely_guarantee.specs.Books.{Books}
 use Rattle.rely_guarantee.specs.Disks.{Logical}
 use Rattle.rely_guarantee.specs.Laws.{Kind, Take, Settle}
-use Rattle.rely_guarantee.specs.State.{State, gives, target}
+use Rattle.rely_guarantee.specs.State.{State, Topic, gives, target}
 
 -- The disk is a sane tree, and has this state.
 pub record IsState (d : Disk) (p : State) : Type 0 where
@@ -26,5 +26,5 @@ HoldsOffIn kind lane b = HoldsOff lane b
 -- Behind a step that makes a change last, the disk has the state, and the state the change. Before another it has it where nobody else
 -- may show a change: else one may be shown.
 abbrev pub Sees : Kind → ℕ → Books → View → View → State → Type 0
-Sees (Settle e) lane b v w p = IsState w.now p × (p (target e) ≡ gives e)
+Sees (Settle e) lane b v w p = IsState w.now p × ((t : Topic) → target e ≡ Some t → p t ≡ gives e)
 Sees kind lane b v w p = HoldsOffIn kind lane b → IsState v.now p

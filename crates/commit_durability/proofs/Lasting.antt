@@ -1,5 +1,5 @@
 -- A commit that was made stays: by what each act keeps of the objects.
-use Rattle.std.proofs.Common.{◌≡◌, ◌⊎◌, inl, inr, ⊎_elim, ◌≤◌, ℕ, refl, sym, subst, arith, List}
+use Rattle.std.proofs.Common.{◌≡◌, ◌⊎◌, inl, inr, ⊎_elim, ◌≤◌, ℕ, refl, sym, subst, arith, List, []}
 use Rattle.ost_types.specs.declared.limits.Limits.{Limits}
 use Rattle.ost_types.specs.declared.object.Kind.TheVariants.{Commit}
 use Rattle.ost_forms.specs.declared.tree_item.TreeItem.{TreeItem}
@@ -24,7 +24,7 @@ use Rattle.rely_guarantee.specs.Objects.{IsObjectSeen}
 use Rattle.rely_guarantee.specs.Opening.{IsOpening}
 use Rattle.rely_guarantee.specs.State.{State}
 use Rattle.rely_guarantee.proofs.Beginnings.{opened_right}
-use Rattle.rely_guarantee.proofs.Lasting.{always_named, always_one}
+use Rattle.rely_guarantee.proofs.Lasting.{always_named, always_one, none_out}
 use Rattle.commit_durability.specs.Lasting.{AreRight, IsAloneIn, IsAloneOn, IsCommit, IsKept, IsOf, IsStored, LastsIn, StandsOn, sum_of}
 
 named_of : (tree : List TreeItem) (message : Message) (o : Object) → IsOf tree message o → IsNamed o.name o.bytes
@@ -74,19 +74,19 @@ module _ (limits : Limits) (tree : List TreeItem) (message : Message) where
   commit_safe : (v : View) → LastsIn limits tree message v → IsSafe v (name_of Commit (sum_of tree message))
   commit_safe v lasts = lasts.safe (commit_of tree message) (inr refl)
 
-  pub lasts_stays : (v w : View) → Stays v w → LastsIn limits tree message v → LastsIn limits tree message w
+  pub lasts_stays : (v w : View) → Stays [] v w → LastsIn limits tree message v → LastsIn limits tree message w
   lasts_stays v w stays lasts = lasts_from w lasts.commit
-      (λ o of. stays.safe o.name (lasts.safe o of))
+      (λ o of. stays.safe o.name (none_out o.name) (lasts.safe o of))
       (λ o of. stays.right o.name (lasts.right o of))
-      (stays.unmarked (sum_of tree message) (commit_safe v lasts) lasts.unmarked)
+      (stays.unmarked (sum_of tree message) (none_out (name_of Commit (sum_of tree message))) (commit_safe v lasts) lasts.unmarked)
 
   -- on a disk that a crash left since
-  pub lasts_left : (v : View) (d : Disk) → StaysOn v d → LastsIn limits tree message v → StandsOn limits tree message d
-  lasts_left v d on lasts = record { there = there; unmarked = on.unmarked (sum_of tree message) (commit_safe v lasts) lasts.unmarked; stored = disk_stored d lasts.commit there }
+  pub lasts_left : (v : View) (d : Disk) → StaysOn [] v d → LastsIn limits tree message v → StandsOn limits tree message d
+  lasts_left v d on lasts = record { there = there; unmarked = on.unmarked (sum_of tree message) (none_out (name_of Commit (sum_of tree message))) (commit_safe v lasts) lasts.unmarked; stored = disk_stored d lasts.commit there }
     where
       there : (o : Object) → IsOf tree message o → IsObjectSeen o.name.kind o.name.csum (shows d (path_of o.name))
       there o of = ⊎_elim
-          (λ none. absurd ((lasts.safe o of).there (shows d (path_of o.name)) (on.same o.name (lasts.safe o of)) none))
+          (λ none. absurd ((lasts.safe o of).there (shows d (path_of o.name)) (on.same o.name (none_out o.name) (lasts.safe o of)) none))
           (λ is. is)
           (on.right o.name (lasts.right o of))
 
@@ -107,7 +107,7 @@ module _ (limits : Limits) (tree : List TreeItem) (message : Message) where
       safe o (inl n) = from_sure o (inl n) (sure.each n.0 o n.1)
       safe o (inr e) = from_sure o (inr e) (subst (λ (x : Object). IsSure v x.name) (sym e) itself)
 
-  module _ {F : Type 0} (clock : F → ℕ) (was : F → ℕ → View → Type 0) (old new : F) (v w : View) (act : Outlasts clock was old new v w) where
+  module _ {F : Type 0} (clock : F → ℕ) (was : F → ℕ → View → Type 0) (old new : F) (v w : View) (act : Outlasts [] clock was old new v w) where
     -- from the act on that made it
     pub kept_begins : (moment : ℕ) → clock old ≤ moment → LastsIn limits tree message v → IsKept (was new) limits tree message moment w
     kept_begins moment late lasts = record {

@@ -1,6 +1,6 @@
 //! The laws of a commit that was made, as functions whose contracts are the laws.
 
-ghost use Rattle.std.specs.Prelude.{◌≡◌, ◌≤◌, ◌⊎◌, ℕ, List};
+ghost use Rattle.std.specs.Prelude.{◌≡◌, ◌≤◌, ◌⊎◌, ℕ, List, []};
 ghost use Rattle.ost_types.specs.declared.limits.Limits.{Limits};
 ghost use Rattle.ost_forms.specs.declared.tree_item.TreeItem.{TreeItem};
 ghost use Rattle.fs_trait.specs.View.{View};
@@ -25,6 +25,6 @@ use fs_trait::Fs;
 pub fn commits_last<F: Fs>()
     ensures opened { (state : State) (v : View) (tree : List TreeItem) (message : Message) → IsOpening state v → ((o : Object) → IsOf tree message o → (shows v.now (path_of o.name) ≡ Vacant) ⊎ IsObjectSeen o.name.kind o.name.csum (shows v.now (path_of o.name))) → AreRight v tree message }
     ensures made { (limits : Limits) (tree : List TreeItem) (message : Message) (v : View) → IsCommit limits tree message → AreSure tree v → IsSure v (named_commit (sum_of tree message)) → NeverMarked (sum_of tree message) v → AreRight v tree message → LastsIn limits tree message v }
-    ensures begins { (limits : Limits) (tree : List TreeItem) (message : Message) (old new : F) (v w : View) (moment : ℕ) → Outlasts F.clock F.was old new v w → F.clock old ≤ moment → LastsIn limits tree message v → IsKept (F.was new) limits tree message moment w }
-    ensures goes_on { (limits : Limits) (tree : List TreeItem) (message : Message) (old new : F) (v w : View) (moment : ℕ) → Outlasts F.clock F.was old new v w → IsKept (F.was old) limits tree message moment v → IsKept (F.was new) limits tree message moment w }
+    ensures begins { (limits : Limits) (tree : List TreeItem) (message : Message) (old new : F) (v w : View) (moment : ℕ) → Outlasts [] F.clock F.was old new v w → F.clock old ≤ moment → LastsIn limits tree message v → IsKept (F.was new) limits tree message moment w }
+    ensures goes_on { (limits : Limits) (tree : List TreeItem) (message : Message) (old new : F) (v w : View) (moment : ℕ) → Outlasts [] F.clock F.was old new v w → IsKept (F.was old) limits tree message moment v → IsKept (F.was new) limits tree message moment w }
 {}

@@ -12,7 +12,7 @@ use Rattle.ost_types.proofs.Paths.{same_name-Decides}
 use Rattle.rely_guarantee.specs.State.{State, RefOf, first, next}
 use Rattle.rely_guarantee.specs.declared.event.Event.{Event}
 use Rattle.rely_guarantee.specs.declared.event.Event.TheVariants.{SetRef, DropRef}
-use Rattle.ref_book.specs.Tracks.{Tracks, said, said_at, name_of}
+use Rattle.ref_book.specs.Tracks.{Tracks, said, said_at}
 use Rattle.ref_book.specs.declared.book.RefBook.{RefBook}
 
 abbrev pub order : List ℕ → List ℕ → Ordering

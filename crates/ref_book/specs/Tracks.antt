@@ -5,7 +5,7 @@ use Rattle.std.specs.Cmp.Lexicographic.{slice_cmp}
 use Rattle.std.specs.List.Sorted.{IsStrictlySortedBy}
 use Rattle.std.specs.Ordering.{nat_cmp}
 use Rattle.rely_guarantee.specs.declared.event.Event.{Event}
-use Rattle.rely_guarantee.specs.declared.event.Event.TheVariants.{SetRef, DropRef}
+use Rattle.rely_guarantee.specs.declared.event.Event.TheVariants.{SetRef, DropRef, Pruned}
 use Rattle.rely_guarantee.specs.State.{State, RefOf}
 use Rattle.ref_book.specs.declared.book.RefBook.{RefBook}
 
@@ -25,10 +25,11 @@ Tracks b s = (name : List ℕ) → said (said_at b name) ≡ s (RefOf name)
 abbrev pub HasRoom : RefBook → List ℕ → Type 0
 HasRoom b name = said_at b name ≢ None
 
--- the ref that an event changes
-abbrev pub name_of : Event → List ℕ
-name_of (SetRef name seen commit) = name
-name_of (DropRef name seen) = name
+-- there is room for the ref that an event changes, if it changes one
+abbrev pub HasEventRoom : RefBook → Event → Type 0
+HasEventRoom b (SetRef name seen commit) = HasRoom b name
+HasEventRoom b (DropRef name seen) = HasRoom b name
+HasEventRoom b (Pruned depth roots held removed) = Unit {0}
 
 -- the refs of a state, each once, ascending by their names
 pub record Lists (rows : List (List ℕ × List ℕ)) (s : State) : Type 0 where

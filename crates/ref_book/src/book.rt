@@ -1,7 +1,7 @@
 ghost use Rattle.std.specs.Prelude.{◌≡◌, ℕ, List, Some, IfOk, OnOk, if◌then◌else◌};
 ghost use Rattle.ost_types.specs.Path.{same_name};
 ghost use Rattle.rely_guarantee.specs.State.{State, RefOf, first, next};
-ghost use Rattle.ref_book.specs.Tracks.{Tracks, HasRoom, Lists, name_of, said_at};
+ghost use Rattle.ref_book.specs.Tracks.{Tracks, HasEventRoom, HasRoom, Lists, said_at};
 
 use ost_types::{Csum, NoMemory, TryCopy};
 use rely_guarantee::Event;
@@ -56,9 +56,9 @@ impl RefBook {
         Ok(())
     }
 
-    /// The ref changes, for which there is room.
+    /// The ref changes, for which there is room, if the event changes one.
     pub fn change(&mut self, event: &Event)
-        requires { HasRoom self.old (name_of event.now) }
+        requires { HasEventRoom self.old event.now }
         ensures refs { (s : State) → Tracks self.old s → Tracks self.new (next event.now s) }
         ensures keeps { (other : List ℕ) → HasRoom self.old other → HasRoom self.new other }
     {
@@ -69,6 +69,12 @@ impl RefBook {
                 commit,
             } => self.put(name, Some(*commit)),
             Event::DropRef { name, seen: _ } => self.put(name, None),
+            Event::Pruned {
+                depth: _,
+                roots: _,
+                held: _,
+                removed: _,
+            } => {}
         }
     }
 

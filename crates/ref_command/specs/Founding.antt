@@ -1,5 +1,5 @@
 -- What is known of a reset's commit goes on to be so, and comes to say that it lasts.
-use Rattle.std.proofs.Common.{◌≡◌, ◌≢◌, inr, ⊎_elim, ℕ, true, false, refl, sym, subst, List, Option, Some, None}
+use Rattle.std.proofs.Common.{◌≡◌, ◌≢◌, inr, ⊎_elim, ℕ, true, false, refl, sym, subst, List, [], Option, Some, None}
 use Rattle.std.specs.Prelude.{IsSome}
 use Rattle.ost_types.specs.declared.object.Kind.TheVariants.{Commit}
 use Rattle.ost_types.specs.Path.{Path}
@@ -24,7 +24,7 @@ use Rattle.rely_guarantee.specs.Disks.{IsLeaf}
 use Rattle.rely_guarantee.specs.Lasting.{IsFinishedNow}
 use Rattle.rely_guarantee.specs.Rely.{Guarantee}
 use Rattle.rely_guarantee.proofs.Finished.{IsElsewhere, finished_now, finished_stays, stays_apart}
-use Rattle.rely_guarantee.proofs.Lasting.{object_under, stays_act, tail_of}
+use Rattle.rely_guarantee.proofs.Lasting.{none_out, object_under, stays_act, tail_of}
 use Rattle.ref_command.specs.declared.look_up.Found.{Found}
 use Rattle.ref_command.specs.declared.look_up.Found.TheVariants.{Whole}
 use Rattle.ref_command.specs.Found.{IsFound, commit_name}
@@ -39,12 +39,12 @@ module _ (b : Books) (v w : View) (actor lane : ℕ) (writes : Writes (Guarantee
 
   pub founded_kept : (o : Option (List ℕ)) → IsFounded o v → IsFounded o w
   founded_kept None is = tt
-  founded_kept (Some commit) is = finished_stays v w commit (stays_act b v w actor lane writes) is
+  founded_kept (Some commit) is = finished_stays [] v w commit (stays_act b v w actor lane writes) (none_out (commit_name commit)) is
 
 -- the change of a ref writes no object and no mark
 pub founded_own : (t : Change) (v w : View) (lane : ℕ) → Needs t v → t.actor ≡ lane → Writes (WritesOf t v) v w → (o : Option (List ℕ)) → IsFounded o v → IsFounded o w
 founded_own t v w lane needs mine writes None is = tt
-founded_own t v w lane needs mine writes (Some commit) is = finished_stays v w commit (stays_apart (WritesOf t v) v w writes elsewhere) is
+founded_own t v w lane needs mine writes (Some commit) is = finished_stays [] v w commit (stays_apart (WritesOf t v) v w writes elsewhere) (none_out (commit_name commit)) is
   where
     elsewhere : (p : Path) (s : Seen) → WritesOf t v p s → IsElsewhere (place p)
     elsewhere p s wrote = ⊎_elim

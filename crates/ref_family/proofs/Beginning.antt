@@ -4,7 +4,7 @@ use Rattle.ost_types.specs.declared.limits.Limits.{Limits}
 use Rattle.rely_guarantee.specs.declared.event.Event.{Event}
 use Rattle.rely_guarantee.specs.State.{State, RefOf}
 use Rattle.ref_book.specs.declared.book.RefBook.{RefBook}
-use Rattle.ref_book.specs.Tracks.{HasRoom, name_of}
+use Rattle.ref_book.specs.Tracks.{HasEventRoom, HasRoom}
 use Rattle.ref_command.specs.declared.command.RefCommand.{RefCommand}
 use Rattle.ref_command.specs.declared.command.RefCommand.TheVariants.{Parse, Reset, Change}
 use Rattle.ref_command.specs.Answers.{Begins}
@@ -24,6 +24,6 @@ pub reset_begun : (limits : Limits) (lane : ℕ) (s : State) (branch commit name
 reset_begun limits lane s branch commit name seen named t refs is begins at had same room left = (
   begins,
   reset_by lane s branch commit name seen named t is at had same,
-  λ e changes. subst (HasRoom refs) (sym (ap name_of changes)) room,
+  λ e changes. subst (HasEventRoom refs) (sym changes) room,
   omega (arith, left),
 )

@@ -129,3 +129,4 @@ ref_settled s c (Change work) e is k = subst (ref_changes s c) (kind_settles (pr
 pub ref_founds : (lane : ℕ) (t : RefCommand) (v : View) (b : Books) (e : Event) → command_facts lane t v b → command_kind t ≡ Show e → Founds v e
 ref_founds lane t v b (event.SetRef name seen commit) f k = reset_founded lane t v b name seen commit f k
 ref_founds lane t v b (event.DropRef name seen) f k = tt
+ref_founds lane t v b (event.Pruned depth roots held removed) f k = tt

@@ -37,7 +37,7 @@ use Rattle.rely_guarantee.specs.declared.event.Event.TheVariants as event
 use Rattle.rely_guarantee.specs.Books.{Books}
 use Rattle.rely_guarantee.specs.Disks.{IsLeaf, Logical, Says}
 use Rattle.rely_guarantee.specs.Laws.{Settle}
-use Rattle.rely_guarantee.specs.State.{State, RefOf, Said, gives, target}
+use Rattle.rely_guarantee.specs.State.{State, Topic, RefOf, Said, gives, target}
 use Rattle.rely_guarantee.proofs.States.{says_one}
 use Rattle.command.specs.Sees.{IsState, Sees}
 use Rattle.command.specs.Since.{Since, placed}
@@ -151,8 +151,8 @@ module _ (lane : ℕ) (s p : State) (branch : List ℕ) (value : Option (List �
   -- a ref that was set is there, so that no other clashes with it
   set_free : (commit : List ℕ) → event work.task ≡ event.SetRef branch (s (RefOf branch)) commit → kind_in work.task.phase (event work.task) ≡ Settle (event work.task) → IsFreeIn p branch
   set_free commit sets settles =
-      let saw : IsState w.now p × (p (target (event work.task)) ≡ gives (event work.task)) = subst (λ k. Sees k lane b v w p) settles sees in
-      let there : p (RefOf branch) ≡ Some commit = subst (λ (e : Event). p (target e) ≡ gives e) sets saw.1 in
+      let saw : IsState w.now p × ((t : Topic) → target (event work.task) ≡ Some t → p t ≡ gives (event work.task)) = subst (λ k. Sees k lane b v w p) settles sees in
+      let there : p (RefOf branch) ≡ Some commit = subst (λ (e : Event). (t : Topic) → target e ≡ Some t → p t ≡ gives e) sets saw.1 (RefOf branch) refl in
       apart w.now p saw.0 branch (subst IsSome (sym there) refl)
 
   reset_tells : (commit : List ℕ) (r : Came) (a : RefAnswer) → event work.task ≡ event.SetRef branch (s (RefOf branch)) commit → leaves_in (turn.Done tt) r work.task new.task v w → change_answer r ≡ Some a → reset_knows s p branch a

@@ -1,5 +1,5 @@
 -- What a crash leaves of a store that stands so.
-use Rattle.std.proofs.Common.{◌≡◌, ◌≢◌, inl, inr, ⊎_elim, ℕ, ◌≤◌, Bool, true, false, refl, sym, ◌∙◌, ap, subst, arith, List, ◌++◌, length, Some}
+use Rattle.std.proofs.Common.{◌≡◌, ◌≢◌, inl, inr, ⊎_elim, ℕ, ◌≤◌, Bool, true, false, refl, sym, ◌∙◌, ap, subst, arith, List, [], ◌++◌, length, Some}
 use Rattle.std.specs.Prelude.{codes}
 use Rattle.std.specs.List.{filter}
 use Rattle.ost_types.specs.Csum.{hex_of}
@@ -67,7 +67,7 @@ module _ (limits : Limits) (begun : List TreeItem → Message → Type 0) (confi
   shown_there : (p : Path) → d.at p ≢ Absent → shows d p ≢ Vacant
   shown_there p there none = there (vacant_absent d p none)
 
-  on : StaysOn v d
+  on : StaysOn [] v d
   on = stays_image v d i
 
   pub sound_image : (name : ObjName) → IsSound d limits.content name

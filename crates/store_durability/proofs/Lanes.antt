@@ -1,5 +1,5 @@
 -- A step of any command of a lane keeps what a store keeps.
-use Rattle.std.proofs.Common.{◌≡◌, ℕ, List, Option, Some, None}
+use Rattle.std.proofs.Common.{◌≡◌, ℕ, List, [], Option, Some, None}
 use Rattle.ost_types.specs.declared.limits.Limits.{Limits}
 use Rattle.ost_types.specs.declared.object.ObjName.{ObjName}
 use Rattle.ost_forms.specs.declared.tree_item.TreeItem.{TreeItem}
@@ -45,6 +45,6 @@ module _ (limits : Limits) (begun : List TreeItem → Message → Type 0) (actor
   lane_keeps (Checkout t) f is founded = checkout_keeps limits begun v (lane_writes actor (Checkout t) v) (λ p s wrote. let k = writes_inside actor t v p s wrote in (k.0, k.1, k.3))
 
   pub stands_step : (t : LaneCommand) (config : Seen → Type 0) (names : List ObjName) (w : View) → lane_facts lane t v b → IsBegun limits begun t
-      → Stays v w → Writes (lane_writes actor t v) v w → StoreStands limits begun config names v → (next : List ObjName) × Grows (lane_writes actor t v) w names next × StoreStands limits begun config next w
+      → Stays [] v w → Writes (lane_writes actor t v) v w → StoreStands limits begun config names v → (next : List ObjName) × Grows (lane_writes actor t v) w names next × StoreStands limits begun config next w
   stands_step t config names w f is stays writes was = stands_kept limits begun v w stays (lane_writes actor t v) writes
       (lane_keeps t f is (λ name seen commit kind. lane_founded lane t v b name seen commit f kind)) config names was

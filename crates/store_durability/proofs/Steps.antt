@@ -22,7 +22,7 @@ use Rattle.rely_guarantee.proofs.Finished.{finished_stays}
 use Rattle.rely_guarantee.specs.Disks.{Says}
 use Rattle.rely_guarantee.specs.Lasting.{Stays, StaysFinished}
 use Rattle.rely_guarantee.specs.State.{RefOf}
-use Rattle.rely_guarantee.proofs.Lasting.{always_whole}
+use Rattle.rely_guarantee.proofs.Lasting.{always_whole, none_out}
 use Rattle.tree_build.proofs.Lists as lists
 use Rattle.tree_build.proofs.Lists.{contained_among, among_contained}
 use Rattle.store_durability.specs.Standing.{AreListed, IsAlwaysMarked, IsNeverThere, IsKeptWhole, IsSealed, IsSoundSeen, StoreStands}
@@ -58,7 +58,7 @@ nothing_or v p = ⊎_elim
     (λ w. inr (seen v.now w.0, record { value = w.0; held = w.1; shown = MayShow-now v w.0 }, seen_there v w.0 w.2))
     (some_value (v.now.at p ∷ v.older p))
 
-module _ (limits : Limits) (begun : List TreeItem → Message → Type 0) (v w : View) (stays : Stays v w) where
+module _ (limits : Limits) (begun : List TreeItem → Message → Type 0) (v w : View) (stays : Stays [] v w) where
   pub sealed_stays : (commit : List ℕ) → IsSealed limits begun v commit → IsSealed limits begun w commit
   sealed_stays commit sealed = record {
     tree = sealed.tree;
@@ -66,7 +66,7 @@ module _ (limits : Limits) (begun : List TreeItem → Message → Type 0) (v w :
     began = sealed.began;
     is = sealed.is;
     sum = sealed.sum;
-    safe = λ n o number. stays.safe o.name (sealed.safe n o number);
+    safe = λ n o number. stays.safe o.name (none_out o.name) (sealed.safe n o number);
   }
 
   module _ (W : Path → Seen → Type 0) (writes : Writes W v w) (does : KeepsStore limits begun v W) where
@@ -76,7 +76,7 @@ module _ (limits : Limits) (begun : List TreeItem → Message → Type 0) (v w :
 
     founded_kept : ((name commit : List ℕ) (s : Seen) → MayBe v (ref_path name) s → Says (RefOf name) (Some commit) s → StaysFinished v commit)
         → (name commit : List ℕ) (s : Seen) → MayBe w (ref_path name) s → Says (RefOf name) (Some commit) s → StaysFinished w commit
-    founded_kept was name commit s may says = finished_stays v w commit stays
+    founded_kept was name commit s may says = finished_stays [] v w commit stays (none_out (name_of Commit commit))
         (⊎_elim (λ old. was name commit s old says) (λ wrote. does.refs name commit s wrote says) (writes.only (ref_path name) s may))
 
     settled_kept : (config : Seen → Type 0) → ((s : Seen) → MayBe v config_path s → config s) → (s : Seen) → MayBe w config_path s → config s

@@ -1,6 +1,6 @@
 //! The laws of the store of a running system, as functions whose contracts are the laws.
 
-ghost use Rattle.std.specs.Prelude.{◌≡◌, ◌⊎◌, ◌≤◌, ℕ, List, length, Option, Some};
+ghost use Rattle.std.specs.Prelude.{◌≡◌, ◌⊎◌, ◌≤◌, ℕ, List, [], length, Option, Some};
 ghost use Rattle.ost_types.specs.declared.limits.Limits.{Limits};
 ghost use Rattle.ost_types.specs.declared.object.ObjName.{ObjName};
 ghost use Rattle.ost_forms.specs.declared.tree_item.TreeItem.{TreeItem};
@@ -32,7 +32,7 @@ use fs_trait::Fs;
 /// After the opening of a disk with a good store it stands so, and it goes on to, whichever command of a lane takes a step.
 pub fn stores_stand<B: Storing>()
     ensures begins { (state : State) (v : View) (limits : Limits) (names : List ObjName) → IsOpening state v → IsTree v.now → IsGoodStore limits v.now → AreAll v.now names → B.config (shows v.now config_path) → StoreStands limits B.begun B.config names v }
-    ensures goes_on { (limits : Limits) (names : List ObjName) (actor lane : ℕ) (t : LaneCommand) (v w : View) (b : Books) → lane_facts lane t v b → IsBegun limits B.begun t → Stays v w → Writes (lane_writes actor t v) v w → StoreStands limits B.begun B.config names v → (next : List ObjName) × Grows (lane_writes actor t v) w names next × StoreStands limits B.begun B.config next w }
+    ensures goes_on { (limits : Limits) (names : List ObjName) (actor lane : ℕ) (t : LaneCommand) (v w : View) (b : Books) → lane_facts lane t v b → IsBegun limits B.begun t → Stays [] v w → Writes (lane_writes actor t v) v w → StoreStands limits B.begun B.config names v → (next : List ObjName) × Grows (lane_writes actor t v) w names next × StoreStands limits B.begun B.config next w }
 {}
 
 /// The names grow only in a step that had room for one more by the count that it was told: in one that goes on only where it stored an

@@ -61,7 +61,7 @@ fails_by before now came.Done old new cause live = (cause.0, λ was is. cc)
 fails_by before now (came.Refused e) old new cause live = (cause.0, λ was is. cc)
 
 module _ {F : Type 0} (view : F → Option View) (clock : F → ℕ) (was : F → ℕ → View → Type 0) (faults : F → ℕ) where
-  pub step_carried : (lane command : ℕ) (old new : Base F) (kind : Kind) (outcome : Outcome) → Lasts view clock was old.fs new.fs → Elapses (clock old.fs) (clock new.fs) (was old.fs) (was new.fs) (view new.fs) → Holds kind lane (books_of old.books) → IsBooked kind lane command (clock new.fs) outcome old.books new.books
+  pub step_carried : (lane command : ℕ) (old new : Base F) (kind : Kind) (outcome : Outcome) → Lasts [] view clock was old.fs new.fs → Elapses (clock old.fs) (clock new.fs) (was old.fs) (was new.fs) (view new.fs) → Holds kind lane (books_of old.books) → IsBooked kind lane command (clock new.fs) outcome old.books new.books
       → ((v : View) → view old.fs ≡ Some v → Causes (faults old.fs) (faults new.fs) outcome) → IsLive outcome old.books.halted new.books.halted
       → ((v : View) → view old.fs ≡ Some v → ShowsFinished v kind) → IsCarried view clock was faults old new
   step_carried lane command old new kind outcome lasts time holds booked cause live shows = record {

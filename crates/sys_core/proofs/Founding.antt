@@ -22,13 +22,14 @@ use Rattle.ref_command.specs.Found.{IsFound}
 use Rattle.rely_guarantee.specs.declared.books.Entry.{Entry}
 use Rattle.rely_guarantee.specs.declared.books.Pending.{Pending}
 use Rattle.rely_guarantee.specs.declared.event.Event.{Event}
-use Rattle.rely_guarantee.specs.declared.event.Event.TheVariants.{SetRef, DropRef}
+use Rattle.rely_guarantee.specs.declared.event.Event.TheVariants.{SetRef, DropRef, Pruned}
 use Rattle.rely_guarantee.specs.Disks.{IsLeaf}
 use Rattle.rely_guarantee.specs.Lasting.{Outlasts, StaysFinished}
 use Rattle.rely_guarantee.specs.Opening.{IsOpening}
 use Rattle.rely_guarantee.specs.State.{State, first}
 use Rattle.rely_guarantee.proofs.Beginnings.{opened_unmarked}
 use Rattle.rely_guarantee.proofs.Finished.{finished_stays}
+use Rattle.rely_guarantee.proofs.Lasting.{none_out}
 use Rattle.rely_guarantee.proofs.Lasting.{object_under, tail_of}
 use Rattle.rely_guarantee.proofs.Openings.{leads_there}
 use Rattle.script.specs.declared.answer.Answer.{Answer}
@@ -54,6 +55,7 @@ use Rattle.sys_core.proofs.Standing.{commit_file}
 set_to : (v : View) (commit : List ℕ) (e : Event) → SetsFinished v e → Sets commit e → StaysFinished v commit
 set_to v commit (SetRef name seen to) finished is = subst (StaysFinished v) is finished
 set_to v commit (DropRef name seen) finished is = absurd is
+set_to v commit (Pruned depth roots held removed) finished is = absurd is
 
 leaf_file : (s : Seen) → IsSome (bytes_in s) → IsLeaf s
 leaf_file (Leaf n m bytes) is = tt
@@ -87,13 +89,14 @@ module _ (limits : Limits) (begun : List TreeItem → Message → Type 0) (confi
   absent_seen s c commit a is seen finished = absurd is
 
 module _ {F : Type 0} (view : F → Option View) (clock : F → ℕ) (was : F → ℕ → View → Type 0) (failed : F → ℕ) (faults faults' : ℕ) (old new : System F) (actor : ℕ) (rows : length old.replies ≡ length old.lanes) (replied : IsReplied view old)
-    (carried : IsCarried view clock was failed old.base new.base) (opening v w : View) (told : view old.base.fs ≡ Some v) (out : Outlasts clock was old.base.fs new.base.fs v w) (stored : AreStored was old v) (founded : AreFounded opening old v) where
+    (carried : IsCarried view clock was failed old.base new.base) (opening v w : View) (told : view old.base.fs ≡ Some v) (out : Outlasts [] clock was old.base.fs new.base.fs v w) (stored : AreStored was old v) (founded : AreFounded opening old v) where
   each_then : EachChange (SetsFinished v) new.base.books.history.items new.base.books.pending
   each_then = carried.founded v told founded.each
 
   on : (e : Event) → SetsFinished v e → SetsFinished w e
-  on (SetRef name seen commit) finished = finished_stays v w commit out.now finished
+  on (SetRef name seen commit) finished = finished_stays [] v w commit out.now (none_out (name_of Commit commit)) finished
   on (DropRef name seen) finished = tt
+  on (Pruned depth roots held removed) finished = tt
 
   -- what a reply that was given before doesn't tell
   set_before : IsLater old new → (lane number : ℕ) (r : Reply) (commit : List ℕ) → IsTo old.replies lane number r → IsAbsence commit r.answer → (k : ℕ) (e : Entry) → IsAt new.base.books.history.items k e → k < r.place → Sets commit e.event → ⊥
@@ -102,7 +105,7 @@ module _ {F : Type 0} (view : F → Option View) (clock : F → ℕ) (was : F �
 
   from_present : ArePresentIn (StaysFinished opening) new.base.books.history.items new.replies → AreFounded opening new w
   from_present present = record {
-    stays = λ commit finished. finished_stays v w commit out.now (founded.stays commit finished);
+    stays = λ commit finished. finished_stays [] v w commit out.now (none_out (name_of Commit commit)) (founded.stays commit finished);
     each = record { lasting = λ k e at. on e.event (each_then.lasting k e at); shown = λ p is. on p.event (each_then.shown p is) };
     present = present;
   }

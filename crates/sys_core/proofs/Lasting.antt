@@ -76,7 +76,7 @@ last_is before xs last e k is long at = ⊎_elim
     (λ here. here.1)
     (at_split before last e k (subst (λ (l : List Entry). IsAt l k e) is at))
 
-module _ {F : Type 0} (view : F → Option View) (clock : F → ℕ) (was : F → ℕ → View → Type 0) (start : View) (old new : System F) (v w : View) (out : Outlasts clock was old.base.fs new.base.fs v w) (kept : AreKept was start old v) where
+module _ {F : Type 0} (view : F → Option View) (clock : F → ℕ) (was : F → ℕ → View → Type 0) (start : View) (old new : System F) (v w : View) (out : Outlasts [] clock was old.base.fs new.base.fs v w) (kept : AreKept was start old v) where
   right_on : (name : ObjName) → IsRight start name → IsRight w name
   right_on name right = out.now.right name (kept.right name right)
 

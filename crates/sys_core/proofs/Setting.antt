@@ -5,7 +5,7 @@ use Rattle.rely_guarantee.specs.declared.books.Books as rust
 use Rattle.rely_guarantee.specs.declared.books.Entry.{Entry}
 use Rattle.rely_guarantee.specs.declared.books.Pending.{Pending}
 use Rattle.rely_guarantee.specs.declared.event.Event.{Event}
-use Rattle.rely_guarantee.specs.declared.event.Event.TheVariants.{SetRef, DropRef}
+use Rattle.rely_guarantee.specs.declared.event.Event.TheVariants.{SetRef, DropRef, Pruned}
 use Rattle.rely_guarantee.specs.declared.kind.Outcome.{Outcome}
 use Rattle.rely_guarantee.specs.declared.kind.Outcome.TheVariants as came
 use Rattle.rely_guarantee.specs.Books.{Books, books_of}
@@ -26,6 +26,7 @@ ShowsFinished v k = (e : Event) → k ≡ Show e → SetsFinished v e
 pub lane_shows : (lane : ℕ) (t : LaneCommand) (v : View) (b : Books) → lane_facts lane t v b → ShowsFinished v (lane_kind t)
 lane_shows lane t v b facts (SetRef name seen commit) is = lane_founded lane t v b name seen commit facts is
 lane_shows lane t v b facts (DropRef name seen) is = tt
+lane_shows lane t v b facts (Pruned depth roots held removed) is = tt
 
 -- of changes that are as they were
 each_same : (P : Event → Type 0) (old new : rust.Books) → IsUnbooked old new → EachChange P old.history.items old.pending → EachChange P new.history.items new.pending

@@ -7,7 +7,7 @@ use Rattle.ref_store.specs.Change.{Change, progress_in}
 use Rattle.rely_guarantee.specs.declared.event.Event.{Event}
 use Rattle.rely_guarantee.specs.Laws.{Settle}
 use Rattle.ref_book.specs.declared.book.RefBook.{RefBook}
-use Rattle.ref_book.specs.Tracks.{HasRoom, name_of}
+use Rattle.ref_book.specs.Tracks.{HasEventRoom, HasRoom}
 use Rattle.ref_command.specs.declared.work.RefWork.{RefWork}
 use Rattle.ref_command.specs.declared.look_up.LookUp.{LookUp}
 use Rattle.ref_command.specs.declared.look_up.Found.{Found}
@@ -35,10 +35,10 @@ use Rattle.sys_core.specs.Lanes.{HasCommitRoom, HasRefRoom, HasRoomFor}
 use Rattle.sys_core.proofs.Checkouts.{asks_no_settle, checkout_asks}
 
 -- the ref that a change of a ref changes
-event_name : (value : Option (List ℕ)) (name : List ℕ) (seen : Option (List ℕ)) → name_of (event_of value name seen) ≡ name
-event_name (Some commit) name seen = refl
-event_name None name (Some seen) = refl
-event_name None name None = refl
+event_room : (refs : RefBook) (value : Option (List ℕ)) (name : List ℕ) (seen : Option (List ℕ)) → HasRoom refs name → HasEventRoom refs (event_of value name seen)
+event_room refs (Some commit) name seen room = room
+event_room refs None name (Some seen) room = room
+event_room refs None name None room = room
 
 kind_settles : (p : Progress) (d e : Event) → kind_at p d ≡ Settle e → d ≡ e
 kind_settles progress.Settling d e is = cc
@@ -53,12 +53,12 @@ no_settle None commit e is = cc
 no_settle (Some f) commit e is = cc
 
 -- there is room for the change that a command makes to last
-change_settles : (refs : RefBook) (work : RefWork) (e : Event) → HasRoom refs work.task.name → command_kind (Changes work) ≡ Settle e → HasRoom refs (name_of e)
+change_settles : (refs : RefBook) (work : RefWork) (e : Event) → HasRoom refs work.task.name → command_kind (Changes work) ≡ Settle e → HasEventRoom refs e
 change_settles refs work e room is =
     let c = work.task in
-    subst (HasRoom refs) (sym (event_name c.value c.name c.seen) ∙ ap name_of (kind_settles (progress_in c.phase) (event c) e is)) room
+    subst (HasEventRoom refs) (kind_settles (progress_in c.phase) (event c) e is) (event_room refs c.value c.name c.seen room)
 
-ref_settles : (refs : RefBook) (t : RefCommand) (e : Event) → HasRefRoom refs t → command_kind t ≡ Settle e → HasRoom refs (name_of e)
+ref_settles : (refs : RefBook) (t : RefCommand) (e : Event) → HasRefRoom refs t → command_kind t ≡ Settle e → HasEventRoom refs e
 ref_settles refs (Parse look) e room is = cc
 ref_settles refs (Reset look plan) e room is = no_settle look.found look.commit e is
 ref_settles refs (Changes work) e room is = change_settles refs work e room is
@@ -67,7 +67,7 @@ build_settles : {P : Type 0} (pinned : Bool) (o : Option ObjName) (e : Event) �
 build_settles pinned None e is = cc
 build_settles pinned (Some name) e is = cc
 
-commit_settles : (refs : RefBook) (o : Option Naming) (t : CommitCommand) (e : Event) → HasCommitRoom o refs t → kind_by o t ≡ Settle e → HasRoom refs (name_of e)
+commit_settles : (refs : RefBook) (o : Option Naming) (t : CommitCommand) (e : Event) → HasCommitRoom o refs t → kind_by o t ≡ Settle e → HasEventRoom refs e
 commit_settles refs None t e room is = build_settles t.pinned (storing_in t.build.phase) e is
 commit_settles refs (Some n) t e room is = change_settles refs n.work e room is
 
@@ -82,7 +82,7 @@ read_settles (read.Ls s) e is = cc
 read_settles (read.Log g) e is = log_settles g.rows.items g.next e is
 read_settles (read.Ended a) e is = cc
 
-pub room_settles : (refs : RefBook) (t : LaneCommand) (e : Event) → HasRoomFor refs t → lane_kind t ≡ Settle e → HasRoom refs (name_of e)
+pub room_settles : (refs : RefBook) (t : LaneCommand) (e : Event) → HasRoomFor refs t → lane_kind t ≡ Settle e → HasEventRoom refs e
 room_settles refs (Ref t) e room is = ref_settles refs t e room is
 room_settles refs (Commit t) e room is = commit_settles refs t.change t e room is
 room_settles refs (Read t) e room is = read_settles t e is

@@ -1,5 +1,5 @@
 -- The store stays good over an act.
-use Rattle.std.proofs.Common.{◌≡◌, ◌≢◌, ◌⊎◌, ⊎_elim, ◌≤◌, ℕ, false, true, arith, refl, sym, ◌∙◌, subst, List, length, get_or, Option, Some, None}
+use Rattle.std.proofs.Common.{◌≡◌, ◌≢◌, ◌⊎◌, ⊎_elim, ◌≤◌, ℕ, false, true, arith, refl, sym, ◌∙◌, subst, List, [], length, get_or, Option, Some, None}
 use Rattle.ost_types.specs.declared.limits.Limits.{Limits}
 use Rattle.ost_types.specs.declared.object.ObjName.{ObjName}
 use Rattle.ost_types.specs.Path.{Path}
@@ -46,7 +46,7 @@ begin_of s actor = state_after (first s.base.books.start.items) s.base.books.his
 
 module _ {F : Type 0} (view : F → Option View) (clock : F → ℕ) (was : F → ℕ → View → Type 0) (only_now : (fs : F) (t : ℕ) (v : View) → clock fs ≤ t → was fs t v → view fs ≡ Some v) (Says : Answer → Type 0) (old new : System F) (actor : ℕ) (ask : Ask)
     (acted : Acted Says old new actor ask) (lanes : new.lanes ≡ old.lanes) (started : length old.started ≡ length old.lanes) (rows : length old.replies ≡ length old.lanes) (replied : IsReplied view old)
-    (limits : new.limits ≡ old.limits) (opened : new.base.books.opened ≡ old.base.books.opened) (v w : View) (now : view new.base.fs ≡ Some w) (out : Outlasts clock was old.base.fs new.base.fs v w)
+    (limits : new.limits ≡ old.limits) (opened : new.base.books.opened ≡ old.base.books.opened) (v w : View) (now : view new.base.fs ≡ Some w) (out : Outlasts [] clock was old.base.fs new.base.fs v w)
     (time : Elapses (clock old.base.fs) (clock new.base.fs) (was old.base.fs) (was new.base.fs) (view new.base.fs)) (leads : (f : Folder) → Leads w (folder_path f))
     (was_live : new.base.books.halted ≡ false → old.base.books.halted ≡ false) (no_fewer : old.objects ≤ new.objects) where
   wider : (tree : List TreeItem) (message : Message) → WasBegun old tree message → WasBegun new tree message

@@ -4,7 +4,7 @@ use Rattle.fs_trait.specs.View.{View}
 use Rattle.rely_guarantee.specs.declared.books.Entry.{Entry}
 use Rattle.rely_guarantee.specs.declared.books.Pending.{Pending}
 use Rattle.rely_guarantee.specs.declared.event.Event.{Event}
-use Rattle.rely_guarantee.specs.declared.event.Event.TheVariants.{SetRef, DropRef}
+use Rattle.rely_guarantee.specs.declared.event.Event.TheVariants.{SetRef, DropRef, Pruned}
 use Rattle.rely_guarantee.specs.Lasting.{StaysFinished}
 use Rattle.script.specs.declared.answer.Reply.{Reply}
 use Rattle.sys_core.specs.Faults.{IsAbsence}
@@ -15,11 +15,13 @@ use Rattle.sys_core.specs.System.{System}
 abbrev pub Sets : List ℕ → Event → Type 0
 Sets commit (SetRef name seen to) = to ≡ commit
 Sets commit (DropRef name seen) = ⊥
+Sets commit (Pruned depth roots held removed) = ⊥
 
 -- if it sets its ref to a commit, each crash leaves that one, without a mark
 abbrev pub SetsFinished : View → Event → Type 0
 SetsFinished v (SetRef name seen commit) = StaysFinished v commit
 SetsFinished v (DropRef name seen) = Unit {0}
+SetsFinished v (Pruned depth roots held removed) = Unit {0}
 
 -- Each change that lasts is so, and the one that is shown.
 pub record EachChange (P : Event → Type 0) (entries : List Entry) (pending : Option Pending) : Type 0 where

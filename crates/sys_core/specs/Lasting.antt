@@ -1,5 +1,5 @@
 -- That the commits which the changes made stay whole.
-use Rattle.std.specs.Prelude.{◌≡◌, ◌⊎◌, ◌≤◌, ℕ, List, length, Option, Some}
+use Rattle.std.specs.Prelude.{◌≡◌, ◌⊎◌, ◌≤◌, ℕ, List, [], length, Option, Some}
 use Rattle.std.specs.Global.{Vec}
 use Rattle.ost_types.specs.declared.limits.Limits.{Limits}
 use Rattle.ost_types.specs.declared.object.ObjName.{ObjName}
@@ -22,7 +22,7 @@ use Rattle.sys_core.specs.System.{System}
 -- What an act keeps of the objects of the store, how time goes on in it, and what it may count of failed calls; a change that it made
 -- to last has the moment behind it, and one that it shows names no commit but one that lasts.
 pub record IsCarried {F : Type 0} (view : F → Option View) (clock : F → ℕ) (was : F → ℕ → View → Type 0) (faults : F → ℕ) (old new : Base F) : Type 0 where
-  pub lasts : Lasts view clock was old.fs new.fs
+  pub lasts : Lasts [] view clock was old.fs new.fs
   pub time : Elapses (clock old.fs) (clock new.fs) (was old.fs) (was new.fs) (view new.fs)
   pub moments : (k : ℕ) (e : Entry) → IsAt new.books.history.items k e → IsAt old.books.history.items k e ⊎ ((length old.books.history.items ≤ k) × (e.moment ≡ clock new.fs))
   pub fails : (v : View) → view old.fs ≡ Some v → Fails (faults old.fs) (faults new.fs) old.books.halted new.books.halted

@@ -4,7 +4,7 @@ ghost use Rattle.std.specs.Prelude.{true, ◌≡◌, ◌≢◌, ◌<◌, ◌≤�
 ghost use Rattle.fs_trait.specs.View.{View};
 ghost use Rattle.fs_trait.specs.Image.{Told};
 ghost use Rattle.fs_trait.specs.Change.{Writes};
-ghost use Rattle.ref_book.specs.Tracks.{Tracks, HasRoom, name_of};
+ghost use Rattle.ref_book.specs.Tracks.{Tracks, HasEventRoom, HasRoom};
 ghost use Rattle.lane_command.specs.declared.command.LaneCommand.{LaneCommand};
 ghost use Rattle.lane_command.specs.Commands.{answer_of as told_by, IsMadeIn, lane_facts, lane_kind, lane_leaves, lane_refuses, lane_stepped, lane_writes, met_by, told};
 ghost use Rattle.commit_build.specs.Whole.{IsCounted};
@@ -351,7 +351,7 @@ fn count(objects: &mut u32, work: &LaneCommand)
 /// A change that was made to last since the history had so many is one of the refs.
 fn note(history: &[Entry], refs: &mut RefBook, before: usize)
     requires few { length history.now ≤ before + 1 }
-    requires room { (d : Entry) → before < length history.now → HasRoom refs.old (name_of (slice_index_or history.now before d).event) }
+    requires room { (d : Entry) → before < length history.now → HasEventRoom refs.old (slice_index_or history.now before d).event }
     ensures refs { (s : State) → Tracks refs.old s → Tracks refs.new (after (events_of (drop before history.now)) s) }
     ensures rooms { (name : List ℕ) → HasRoom refs.old name → HasRoom refs.new name }
 {

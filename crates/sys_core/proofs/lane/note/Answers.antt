@@ -1,5 +1,5 @@
 use Rattle.std.proofs.Common.{rules, ◌≡◌, ◌<◌, subst, length, slice_index_or}
-use Rattle.ref_book.specs.Tracks.{HasRoom, name_of}
+use Rattle.ref_book.specs.Tracks.{HasEventRoom}
 use Rattle.rely_guarantee.specs.declared.books.Entry.{Entry}
 use Rattle.sys_core.proofs.lane.note.Goals as goal
 
@@ -8,4 +8,4 @@ change-requires c =
     let entry = c.in-Some.entry.now in
     let few : c.args.before < length c.args.history.now = search rules in
     let is : slice_index_or c.args.history.now c.args.before entry ≡ entry = search rules in
-    subst (λ (e : Entry). HasRoom c.args.refs.now (name_of e.event)) is (c.requires.room entry few)
+    subst (λ (e : Entry). HasEventRoom c.args.refs.now e.event) is (c.requires.room entry few)

@@ -3,7 +3,7 @@ use Rattle.rely_guarantee.specs.declared.books.Entry.{Entry}
 use Rattle.rely_guarantee.specs.declared.kind.Outcome.{Outcome}
 use Rattle.rely_guarantee.specs.Exact.{Steps}
 use Rattle.rely_guarantee.specs.State.{after, events_of}
-use Rattle.ref_book.specs.Tracks.{Tracks, HasRoom, name_of}
+use Rattle.ref_book.specs.Tracks.{Tracks, HasEventRoom, HasRoom}
 use Rattle.lane_command.specs.Commands.{lane_kind, lane_stepped}
 use Rattle.ref_command.specs.Facts.{StagingPathFree}
 use Rattle.lane_command.proofs.Ends.{own_of}
@@ -34,9 +34,9 @@ note-requires-clause-room g c = λ d longer.
     let old = c.args.base.now.books.history.items in
     let new = c.task_act-outcome.new.base.books.history.items in
     let more : length old < length new = omega (arith, before g c, ap length (history g c), longer) in
-    subst (λ n. HasRoom refs (name_of (slice_index_or c.deref.result.now n d).event)) (sym (before g c))
-    (subst (λ (l : List Entry). HasRoom refs (name_of (slice_index_or l (length old) d).event)) (sym (history g c))
-    (added (lane_kind c.args.work.now) old new (λ x. HasRoom refs (name_of x.event)) (λ x is. room_settles refs c.args.work.now x.event c.requires.room is) (goes g c) d more))
+    subst (λ n. HasEventRoom refs (slice_index_or c.deref.result.now n d).event) (sym (before g c))
+    (subst (λ (l : List Entry). HasEventRoom refs (slice_index_or l (length old) d).event) (sym (history g c))
+    (added (lane_kind c.args.work.now) old new (λ x. HasEventRoom refs x.event) (λ x is. room_settles refs c.args.work.now x.event c.requires.room is) (goes g c) d more))
 
 pub returns-clause-tracks : goal.returns-clause-tracks
 returns-clause-tracks g c =
