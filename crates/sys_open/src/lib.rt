@@ -18,7 +18,7 @@ mod kinds;
 mod layout;
 mod least;
 mod opening;
-mod reach;
+mod reaching;
 mod refs;
 mod stages;
 mod store;

@@ -15,7 +15,7 @@ ghost use Rattle.sys_open.specs.Changes.{Clears, ClearsStages, Works};
 
 use crate::clear::clear;
 use crate::fault::OpenFault;
-use crate::reach::reach;
+use crate::reaching::reach;
 use fs_trait::Fs;
 use repo_layout::stage_path;
 use std::alloc::Global;

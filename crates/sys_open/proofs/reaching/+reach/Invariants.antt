@@ -3,7 +3,7 @@ use Rattle.fs_trait.specs.View.{View}
 use Rattle.fs_trait.specs.Effect.{IsQuiet}
 use Rattle.layout_rules.specs.Checks.{IsReached}
 use Rattle.sys_open.specs.Walk.{IsSoBelow}
-use Rattle.sys_open.proofs.reach.+reach.Given as goal
+use Rattle.sys_open.proofs.reaching.+reach.Given as goal
 
 abbrev pub decreases-reach : goal.decreases-reach
 decreases-reach g l = 2 * (80 - length l.at.now) + 1
