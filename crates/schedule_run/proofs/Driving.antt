@@ -11,34 +11,22 @@ use Rattle.sys_core.specs.declared.ask.Ask.TheVariants.{Blocked, Ended}
 use Rattle.sys_core.specs.Booked.{Acted, AnswerTells, HasCommand}
 use Rattle.schedule_run.specs.Driven.{ActsOf, Driven}
 use Rattle.sys_core.specs.System.{System}
-use Rattle.sys_core.proofs.Founding.{told_both}
 use Rattle.sys_core.proofs.Laters.{later_refl, later_trans}
+use Rattle.sys_core.proofs.Preserving.{preserves_nothing, preserves_then}
 
 module _ {F : Type 0} (view : F → Option View) (was : F → ℕ → View → Type 0) (faults : F → ℕ) where
   pub driven_nothing : (s : System F) → Driven view was faults s s
   driven_nothing s = record {
     lanes = refl;
     later = later_refl s;
-    lasts = λ opening v told kept. (v, told, kept);
-    good = λ v told stored. (v, told, stored);
-    caused = λ before v told was. was;
-    inside = λ v told stored was. was;
-    folders = λ opening v told was. (v, told, was);
-    said = λ v told said. said;
-    founded = λ opening v told stored founded. (v, told, founded);
+    preserves = preserves_nothing view was faults s;
   }
 
   pub driven_then : ((f g : F) (v : View) → view f ≡ Some v → Told (view g) (λ w. Unit {0})) → (a b c : System F) → Driven view was faults a b → Driven view was faults b c → Driven view was faults a c
   driven_then tells a b c i d = record {
     lanes = d.lanes ∙ i.lanes;
     later = later_trans a b c i.later d.later;
-    lasts = λ opening v told kept. (let x = i.lasts opening v told kept in d.lasts opening x.0 x.1 x.2);
-    good = λ v told stored. (let x = i.good v told stored in d.good x.0 x.1 x.2);
-    caused = λ before v told held. (let x = tells a.base.fs b.base.fs v told in d.caused before x.0 x.1 (i.caused before v told held));
-    inside = λ v told stored held. (let x = i.good v told stored in d.inside x.0 x.1 x.2 (i.inside v told stored held));
-    folders = λ opening v told held. (let x = i.folders opening v told held in d.folders opening x.0 x.1 x.2);
-    said = λ v told said. (let x = tells a.base.fs b.base.fs v told in d.said x.0 x.1 (i.said v told said));
-    founded = λ opening v told stored founded. (let x = told_both (view b.base.fs) _ _ (i.good v told stored) (i.founded opening v told stored founded) in d.founded opening x.0 x.1 x.2.0 x.2.1);
+    preserves = preserves_then view was faults tells a b c i.preserves d.preserves;
   }
 
   -- acts behind acts

@@ -42,3 +42,4 @@ pub mod Setting
 pub mod Saying
 pub mod Standing
 pub mod Founding
+pub mod Preserving

@@ -24,3 +24,4 @@ pub mod Inside
 pub mod Folders
 pub mod Folding
 pub mod Said
+pub mod Preserves

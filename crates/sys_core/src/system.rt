@@ -6,6 +6,7 @@ ghost use Rattle.sys_core.specs.Said.{AreSaid, AreSaidIn};
 ghost use Rattle.sys_core.specs.Inside.{AreInside, AreInsideIn};
 ghost use Rattle.sys_core.specs.Storing.{AreStored, AreStoredIn, IsBegunIn};
 ghost use Rattle.sys_core.specs.Lasting.{AreKept, AreKeptIn};
+ghost use Rattle.sys_core.specs.Preserves.{Preserves};
 ghost use Rattle.std.specs.Prelude.{true, false, ◌≡◌, ◌<◌, ◌≤◌, ℕ, length, min, slice_index_or, Some, None, IfOk, IfErr};
 ghost use Rattle.fs_trait.specs.View.{Disk, View};
 ghost use Rattle.rely_guarantee.specs.Headline.{Headline};
@@ -173,13 +174,7 @@ impl<F: Fs> System<F> {
         ensures stores { (v : View) → F.view self.old.base.fs ≡ Some v → Stores self.old self.new actor v result }
         ensures bounded { (v : View) → F.view self.old.base.fs ≡ Some v → self.old.objects ≤ self.old.limits.objects → self.new.objects ≤ self.new.limits.objects }
         ensures lanes { self.new.lanes ≡ self.old.lanes }
-        ensures lasts { (opening v : View) → F.view self.old.base.fs ≡ Some v → AreKept F.was opening self.old v → Told (F.view self.new.base.fs) (λ w. AreKept F.was opening self.new w) }
-        ensures good { (v : View) → F.view self.old.base.fs ≡ Some v → AreStored F.was self.old v → Told (F.view self.new.base.fs) (λ w. AreStored F.was self.new w) }
-        ensures caused { (before : ℕ) (v : View) → F.view self.old.base.fs ≡ Some v → AreCaused F.faults before self.old → AreCaused F.faults before self.new }
-        ensures inside { (v : View) → F.view self.old.base.fs ≡ Some v → AreStored F.was self.old v → AreInside F.was self.old → AreInside F.was self.new }
-        ensures folders { (opening : Disk) (v : View) → F.view self.old.base.fs ≡ Some v → AreFolders opening self.old v → Told (F.view self.new.base.fs) (λ w. AreFolders opening self.new w) }
-        ensures said { (v : View) → F.view self.old.base.fs ≡ Some v → AreSaid F.was self.old → AreSaid F.was self.new }
-        ensures founded { (opening v : View) → F.view self.old.base.fs ≡ Some v → AreStored F.was self.old v → AreFounded opening self.old v → Told (F.view self.new.base.fs) (λ w. AreFounded opening self.new w) }
+        ensures preserves { Preserves F.view F.was F.faults self.old self.new }
         ensures ranks { Ranked self.old self.new actor result }
         ensures held { result ≡ Ask.Blocked → IsHeldOff self.old actor }
         ensures waits { HasCommand self.old actor → self.old.base.books.halted ≡ false → AsksTurn (slice_index_or self.old.works actor None) → IsHeldOff self.old actor → result ≡ Ask.Blocked }
@@ -295,13 +290,7 @@ impl<F: Fs> System<F> {
         ensures ended { HasEnded self.new }
         ensures lanes { self.new.lanes ≡ self.old.lanes }
         ensures later { IsLater self.old self.new }
-        ensures lasts { (opening v : View) → F.view self.old.base.fs ≡ Some v → AreKept F.was opening self.old v → Told (F.view self.new.base.fs) (λ w. AreKept F.was opening self.new w) }
-        ensures good { (v : View) → F.view self.old.base.fs ≡ Some v → AreStored F.was self.old v → Told (F.view self.new.base.fs) (λ w. AreStored F.was self.new w) }
-        ensures caused { (before : ℕ) (v : View) → F.view self.old.base.fs ≡ Some v → AreCaused F.faults before self.old → AreCaused F.faults before self.new }
-        ensures inside { (v : View) → F.view self.old.base.fs ≡ Some v → AreStored F.was self.old v → AreInside F.was self.old → AreInside F.was self.new }
-        ensures folders { (opening : Disk) (v : View) → F.view self.old.base.fs ≡ Some v → AreFolders opening self.old v → Told (F.view self.new.base.fs) (λ w. AreFolders opening self.new w) }
-        ensures said { (v : View) → F.view self.old.base.fs ≡ Some v → AreSaid F.was self.old → AreSaid F.was self.new }
-        ensures founded { (opening v : View) → F.view self.old.base.fs ≡ Some v → AreStored F.was self.old v → AreFounded opening self.old v → Told (F.view self.new.base.fs) (λ w. AreFounded opening self.new w) }
+        ensures preserves { Preserves F.view F.was F.faults self.old self.new }
     {
         for actor in schedule {
             let _ = self.act(*actor);
@@ -316,13 +305,7 @@ impl<F: Fs> System<F> {
         ensures falls { result ≡ true → left_in_all self.new < left_in_all self.old }
         ensures lanes { self.new.lanes ≡ self.old.lanes }
         ensures later { IsLater self.old self.new }
-        ensures lasts { (opening v : View) → F.view self.old.base.fs ≡ Some v → AreKept F.was opening self.old v → Told (F.view self.new.base.fs) (λ w. AreKept F.was opening self.new w) }
-        ensures good { (v : View) → F.view self.old.base.fs ≡ Some v → AreStored F.was self.old v → Told (F.view self.new.base.fs) (λ w. AreStored F.was self.new w) }
-        ensures caused { (before : ℕ) (v : View) → F.view self.old.base.fs ≡ Some v → AreCaused F.faults before self.old → AreCaused F.faults before self.new }
-        ensures inside { (v : View) → F.view self.old.base.fs ≡ Some v → AreStored F.was self.old v → AreInside F.was self.old → AreInside F.was self.new }
-        ensures folders { (opening : Disk) (v : View) → F.view self.old.base.fs ≡ Some v → AreFolders opening self.old v → Told (F.view self.new.base.fs) (λ w. AreFolders opening self.new w) }
-        ensures said { (v : View) → F.view self.old.base.fs ≡ Some v → AreSaid F.was self.old → AreSaid F.was self.new }
-        ensures founded { (opening v : View) → F.view self.old.base.fs ≡ Some v → AreStored F.was self.old v → AreFounded opening self.old v → Told (F.view self.new.base.fs) (λ w. AreFounded opening self.new w) }
+        ensures preserves { Preserves F.view F.was F.faults self.old self.new }
     {
         let _few = self.lanes();
         let mut unfinished = false;

@@ -9,13 +9,13 @@ loop-turn-init g c = record { driven = driven_nothing g.F.Fs.view g.F.Fs.was g.F
 pub loop-turn-preserved : goal.loop-turn-preserved
 loop-turn-preserved g c = record {
   driven = driven_then g.F.Fs.view g.F.Fs.was g.F.Fs.faults g.met.F.Fs.told c.args.system.now c.loop-turn.system c.act-ask.new.self c.loop-turn.invariant.driven
-      (record { lanes = c.act-ask.ensures.lanes; later = acted_later _ c.loop-turn.system c.act-ask.new.self _ c.act-ask.result c.act-ask.ensures.acted; lasts = c.act-ask.ensures.lasts; good = c.act-ask.ensures.good; caused = c.act-ask.ensures.caused; inside = c.act-ask.ensures.inside; folders = c.act-ask.ensures.folders; said = c.act-ask.ensures.said; founded = c.act-ask.ensures.founded });
+      (record { lanes = c.act-ask.ensures.lanes; later = acted_later _ c.loop-turn.system c.act-ask.new.self _ c.act-ask.result c.act-ask.ensures.acted; preserves = c.act-ask.ensures.preserves });
   acts = one_more g.F.Fs.view g.F.Fs.was g.F.Fs.faults c.args.system.now c.loop-turn.system c.act-ask.new.self c.args.turns.actor c.act-ask.result c.loop-turn.turn c.loop-turn.invariant.acts c.act-ask.ensures.acted;
 }
 
 pub returns-then-is_rest-clause-driven : goal.returns-then-is_rest-clause-driven
 returns-then-is_rest-clause-driven g c = driven_then g.F.Fs.view g.F.Fs.was g.F.Fs.faults g.met.F.Fs.told c.args.system.now c.loop-turn.system c.act-ask.new.self c.loop-turn.invariant.driven
-    (record { lanes = c.act-ask.ensures.lanes; later = acted_later _ c.loop-turn.system c.act-ask.new.self _ c.act-ask.result c.act-ask.ensures.acted; lasts = c.act-ask.ensures.lasts; good = c.act-ask.ensures.good; caused = c.act-ask.ensures.caused; inside = c.act-ask.ensures.inside; folders = c.act-ask.ensures.folders; said = c.act-ask.ensures.said; founded = c.act-ask.ensures.founded })
+    (record { lanes = c.act-ask.ensures.lanes; later = acted_later _ c.loop-turn.system c.act-ask.new.self _ c.act-ask.result c.act-ask.ensures.acted; preserves = c.act-ask.ensures.preserves })
 
 pub returns-then-is_rest-clause-acts : goal.returns-then-is_rest-clause-acts
 returns-then-is_rest-clause-acts g c =

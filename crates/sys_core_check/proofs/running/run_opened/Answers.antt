@@ -29,5 +29,5 @@ returns-in-Ok-clause-ran g c =
           limits start (ap (λ h. h.items) e.history) e.pending lanes e.replies e.replied;
       ended = ap (λ (r : List (List Reply)). map (λ row. length row) r) e.replies ∙ c.drive.ensures.ended ∙ ap (λ (l : List Lane). map (λ lane. length lane.commands.items) l) lanes;
       kept = λ begun told. kept_parts g.F.Fs.view g.F.Fs.was begun s.base.fs p.fs s.limits o.limits s.lanes c.args.lanes.items s.base.books.history.items p.history.items
-          e.fs limits lanes (ap (λ h. h.items) e.history) (c.drive.ensures.lasts begun begun (ap g.F.Fs.view c.in-Ok.ensures.fs ∙ told) (c.in-Ok.ensures.begins begun));
+          e.fs limits lanes (ap (λ h. h.items) e.history) (c.drive.ensures.preserves.lasts begun begun (ap g.F.Fs.view c.in-Ok.ensures.fs ∙ told) (c.in-Ok.ensures.begins begun));
     }

@@ -41,7 +41,7 @@ returns-in-Ok-clause-kept g c = λ begun told.
     let parts = c.into_parts.ensures in
     kept_parts g.F.Fs.view g.F.Fs.was begun s.base.fs p.fs s.limits c.args.opened.limits s.lanes c.args.lanes.items s.base.books.history.items p.history.items
     parts.fs (c.run_by.ensures.driven.later.4 ∙ c.in-Ok.ensures.limits) (c.run_by.ensures.driven.lanes ∙ c.in-Ok.ensures.lanes) (ap (λ h. h.items) parts.history)
-    (c.run_by.ensures.driven.lasts begun begun (ap g.F.Fs.view c.in-Ok.ensures.fs ∙ told) (c.in-Ok.ensures.begins begun))
+    (c.run_by.ensures.driven.preserves.lasts begun begun (ap g.F.Fs.view c.in-Ok.ensures.fs ∙ told) (c.in-Ok.ensures.begins begun))
 
 pub returns-in-Ok-clause-stored : goal.returns-in-Ok-clause-stored
 returns-in-Ok-clause-stored g c = λ w t d told from left.
@@ -51,7 +51,7 @@ returns-in-Ok-clause-stored g c = λ w t d told from left.
     let first_view = g.met.F.Fs.told p.fs c.in-Ok.system.base.fs w told in
     let there = subst (λ f. g.F.Fs.view f ≡ Some w) parts.fs told in
     let at_start = c.in-Ok.ensures.good first_view.0 first_view.1 in
-    let after = c.run_by.ensures.driven.good first_view.0 first_view.1 at_start in
+    let after = c.run_by.ensures.driven.preserves.good first_view.0 first_view.1 at_start in
     let same : after.0 ≡ w = (let e : Some after.0 ≡ Some w = sym after.1 ∙ there in cc) in
     left_good (g.F.Fs.was p.fs) s.limits c.args.opened.limits (first s.base.books.start.items) (first c.args.opened.refs) s.base.books.opened c.args.opened.clock p.lanes.items c.args.lanes.items p.history.items s.started (map (λ replies. replies.items) p.replies.items) s.base.books.halted s.objects w
     (c.run_by.ensures.driven.later.4 ∙ c.in-Ok.ensures.limits) (ap first (c.run_by.ensures.driven.later.0 ∙ c.in-Ok.ensures.start)) (c.run_by.ensures.driven.later.1 ∙ c.in-Ok.ensures.opened) (parts.lanes ∙ c.run_by.ensures.driven.lanes ∙ c.in-Ok.ensures.lanes)
@@ -62,7 +62,7 @@ returns-in-Ok-clause-caused g c = λ v told lane number r to failed.
     let start = c.in-Ok.ensures in
     let parts = c.into_parts.ensures in
     let there = subst (λ f. g.F.Fs.view f ≡ Some v) (sym start.fs) told in
-    let all = parts.caused (g.F.Fs.faults c.args.opened.fs) (c.run_by.ensures.driven.caused (g.F.Fs.faults c.args.opened.fs) v there start.caused) in
+    let all = parts.caused (g.F.Fs.faults c.args.opened.fs) (c.run_by.ensures.driven.preserves.caused (g.F.Fs.faults c.args.opened.fs) v there start.caused) in
     all.each lane number r to failed
 
 pub returns-in-Ok-clause-inside : goal.returns-in-Ok-clause-inside
@@ -74,7 +74,7 @@ returns-in-Ok-clause-inside g c = λ w told.
     let at_start = c.in-Ok.ensures.good first_view.0 first_view.1 in
     inside_left (g.F.Fs.was p.fs) (first s.base.books.start.items) (first c.args.opened.refs) s.base.books.opened c.args.opened.clock p.lanes.items c.args.lanes.items p.history.items s.started (map (λ replies. replies.items) p.replies.items)
     (ap first (c.run_by.ensures.driven.later.0 ∙ c.in-Ok.ensures.start)) (c.run_by.ensures.driven.later.1 ∙ c.in-Ok.ensures.opened) (parts.lanes ∙ c.run_by.ensures.driven.lanes ∙ c.in-Ok.ensures.lanes)
-    (returns-in-Ok-clause-ended g c) (parts.inside (c.run_by.ensures.driven.inside first_view.0 first_view.1 at_start c.in-Ok.ensures.inside))
+    (returns-in-Ok-clause-ended g c) (parts.inside (c.run_by.ensures.driven.preserves.inside first_view.0 first_view.1 at_start c.in-Ok.ensures.inside))
 
 pub returns-in-Ok-clause-said : goal.returns-in-Ok-clause-said
 returns-in-Ok-clause-said g c = λ w told.
@@ -84,12 +84,12 @@ returns-in-Ok-clause-said g c = λ w told.
     let first_view = g.met.F.Fs.told p.fs c.in-Ok.system.base.fs w told in
     said_parts (g.F.Fs.was p.fs) s.base.books.opened c.args.opened.clock s.limits c.args.opened.limits (first s.base.books.start.items) (first c.args.opened.refs) p.history.items p.lanes.items c.args.lanes.items (map (λ replies. replies.items) p.replies.items)
     (c.run_by.ensures.driven.later.4 ∙ c.in-Ok.ensures.limits) (ap first (c.run_by.ensures.driven.later.0 ∙ c.in-Ok.ensures.start)) (c.run_by.ensures.driven.later.1 ∙ c.in-Ok.ensures.opened) (parts.lanes ∙ c.run_by.ensures.driven.lanes ∙ c.in-Ok.ensures.lanes)
-    (parts.said (c.run_by.ensures.driven.said first_view.0 first_view.1 c.in-Ok.ensures.said))
+    (parts.said (c.run_by.ensures.driven.preserves.said first_view.0 first_view.1 c.in-Ok.ensures.said))
 
 pub returns-in-Ok-clause-present : goal.returns-in-Ok-clause-present
 returns-in-Ok-clause-present g c = λ begun told.
     let there = ap g.F.Fs.view c.in-Ok.ensures.fs ∙ told in
-    let after = c.run_by.ensures.driven.founded begun begun there (c.in-Ok.ensures.good begun there) (c.in-Ok.ensures.founded begun) in
+    let after = c.run_by.ensures.driven.preserves.founded begun begun there (c.in-Ok.ensures.good begun there) (c.in-Ok.ensures.founded begun) in
     (c.into_parts.ensures.founded begun after.0 after.2).present
 
 pub returns-in-Ok-clause-folders : goal.returns-in-Ok-clause-folders
@@ -97,7 +97,7 @@ returns-in-Ok-clause-folders g c = λ begun told.
     let s = c.run_by.new.system in
     let p = c.into_parts.result in
     let parts = c.into_parts.ensures in
-    let after = c.run_by.ensures.driven.folders begun.now begun (ap g.F.Fs.view c.in-Ok.ensures.fs ∙ told) (c.in-Ok.ensures.folders begun) in (
+    let after = c.run_by.ensures.driven.preserves.folders begun.now begun (ap g.F.Fs.view c.in-Ok.ensures.fs ∙ told) (c.in-Ok.ensures.folders begun) in (
       after.0,
       ap g.F.Fs.view parts.fs ∙ after.1,
       folders_left s.limits c.args.opened.limits (first s.base.books.start.items) (first c.args.opened.refs) p.history.items p.lanes.items c.args.lanes.items (map (λ replies. replies.items) p.replies.items) begun.now after.0.now

@@ -417,75 +417,7 @@ returns-in-Answered-clause-counts g c =
     subst (λ s. c.turn-came.new.objects ≡ s.objects) (sym view) (e.counts r)
 
 -- the commits that were made are kept
-pub returns-in_default-clause-lasts : goal.returns-in_default-clause-lasts
-returns-in_default-clause-lasts g c = λ start v told kept. (v, told, kept)
-
-pub returns-in-Blocked-clause-lasts : goal.returns-in-Blocked-clause-lasts
-returns-in-Blocked-clause-lasts g c = λ start v told kept. held_keeps g.F.Fs.view g.F.Fs.was _ _ (returns-in-Blocked-clause-acted g c).1 start v told kept
-
-pub returns-in-More-clause-lasts : goal.returns-in-More-clause-lasts
-returns-in-More-clause-lasts g c =
-    let i = c.self.inside in
-    let new = c.turn-came.new.base in
-    let view : c.args.self.now ≡ system_of i.base i.lanes.items i.runs.items i.replies.items i.limits i.objects = search rules in
-    let acc = (invariant_of-self-in-More g c).2 in
-    act_keeps_of g.F.Fs.view g.F.Fs.clock g.F.Fs.was c.args.self.now (system_of i.base i.lanes.items i.runs.items i.replies.items i.limits i.objects) (system_of new i.lanes.items c.turn-came.new.runs.items i.replies.items i.limits c.turn-came.new.objects) (g.F.Fs.faults c.args.self.now.base.fs) (g.F.Fs.faults new.fs) c.args.actor More view refl c.self.invariant.4 (each_row i.lanes.items i.runs.items i.replies.items c.self.invariant.1)
-    c.self.invariant.2.replied acc.replied c.in-More.ensures.carried (returns-in-More-clause-acted g c)
-
-pub returns-in-Answered-clause-lasts : goal.returns-in-Answered-clause-lasts
-returns-in-Answered-clause-lasts g c =
-    let i = c.self.inside in
-    let new = c.turn-came.new.base in
-    let view : c.args.self.now ≡ system_of i.base i.lanes.items i.runs.items i.replies.items i.limits i.objects = search rules in
-    let acc = (invariant_of-self-in-Answered g c).2 in
-    act_keeps_of g.F.Fs.view g.F.Fs.clock g.F.Fs.was c.args.self.now (system_of i.base i.lanes.items i.runs.items i.replies.items i.limits i.objects) (system_of new i.lanes.items c.book.new.runs.items c.book.new.replies.items i.limits c.turn-came.new.objects) (g.F.Fs.faults c.args.self.now.base.fs) (g.F.Fs.faults new.fs) c.args.actor (Done c.args.actor c.index.result.now.command) view refl c.self.invariant.4 (each_row i.lanes.items i.runs.items i.replies.items c.self.invariant.1)
-    c.self.invariant.2.replied acc.replied c.in-Answered.ensures.carried (returns-in-Answered-clause-acted g c)
-
 -- the store stays good
-pub returns-in_default-clause-good : goal.returns-in_default-clause-good
-returns-in_default-clause-good g c = λ v told stored. (v, told, stored)
-
-pub returns-in-Blocked-clause-good : goal.returns-in-Blocked-clause-good
-returns-in-Blocked-clause-good g c = λ v told stored. held_stores g.F.Fs.view g.F.Fs.was _ _ (returns-in-Blocked-clause-acted g c).1 v told stored
-
-pub returns-in-More-clause-good : goal.returns-in-More-clause-good
-returns-in-More-clause-good g c =
-    let i = c.self.inside in
-    let r = c.index.result.now in
-    let new = c.turn-came.new.base in
-    let e = c.in-More.ensures in
-    let within : c.args.actor < length i.lanes.items = search rules in
-    let few : c.index.result.now.command < length c.deref.result.now = fewer _ _ c.in-Some.ensures.lookup.0 in
-    let at : get_or c.deref.result.now c.index.result.now.command c.in-Some.command.now ≡ c.in-Some.command.now = search rules in
-    let command = act_command i.lanes.items c.args.actor i.runs.items r c.index-2.result.now c.deref.result.now c.in-Some.command.now within c.index.ensures c.index-2.ensures c.deref.ensures.value few at in
-    let booked = c.self.invariant.1 in
-    let in_runs : c.args.actor < length i.runs.items = omega (arith, booked.each_runs, within) in
-    let view : c.args.self.now ≡ system_of i.base i.lanes.items i.runs.items i.replies.items i.limits i.objects = search rules in
-    act_stores_of g.F.Fs.view g.F.Fs.clock g.F.Fs.was g.met.F.Fs.only_now c.args.self.now (system_of i.base i.lanes.items i.runs.items i.replies.items i.limits i.objects) (system_of new i.lanes.items c.turn-came.new.runs.items i.replies.items i.limits c.turn-came.new.objects) (g.F.Fs.faults c.args.self.now.base.fs) (g.F.Fs.faults new.fs) c.args.actor More
-    view (returns-in-More-clause-acted g c) refl (length-map i.runs.items (λ (x : Run). start_in x.task) ∙ booked.each_runs) (each_row i.lanes.items i.runs.items i.replies.items booked) c.self.invariant.2.replied refl e.opened
-    e.carried (λ w told. (e.kept.sound.stands w told).folders) (λ live. e.live refl)
-    c.in-Some.command.now (subst (λ n. IsCommand i.lanes.items c.args.actor n c.in-Some.command.now) (sym (given_length i.base i.lanes.items i.runs.items i.replies.items i.limits i.objects c.args.actor booked within r)) command) (λ z. cc) (λ z. cc)
-    (λ v told. subst (λ n. Told (g.F.Fs.view new.fs) (HasWritten i.limits c.args.actor i.objects c.turn-came.new.objects (state_after (first i.base.books.start.items) i.base.books.history.items n) c.in-Some.command.now i.base.books new.books v)) (sym (start_view i.runs.items c.args.actor r i.base.books.history.items in_runs)) (e.wrote r v told))
-
-pub returns-in-Answered-clause-good : goal.returns-in-Answered-clause-good
-returns-in-Answered-clause-good g c =
-    let i = c.self.inside in
-    let r = c.index.result.now in
-    let new = c.turn-came.new.base in
-    let e = c.in-Answered.ensures in
-    let within : c.args.actor < length i.lanes.items = search rules in
-    let few : c.index.result.now.command < length c.deref.result.now = fewer _ _ c.in-Some.ensures.lookup.0 in
-    let at : get_or c.deref.result.now c.index.result.now.command c.in-Some.command.now ≡ c.in-Some.command.now = search rules in
-    let command = act_command i.lanes.items c.args.actor i.runs.items r c.index-2.result.now c.deref.result.now c.in-Some.command.now within c.index.ensures c.index-2.ensures c.deref.ensures.value few at in
-    let booked = c.self.invariant.1 in
-    let in_runs : c.args.actor < length i.runs.items = omega (arith, booked.each_runs, within) in
-    let view : c.args.self.now ≡ system_of i.base i.lanes.items i.runs.items i.replies.items i.limits i.objects = search rules in
-    act_stores_of g.F.Fs.view g.F.Fs.clock g.F.Fs.was g.met.F.Fs.only_now c.args.self.now (system_of i.base i.lanes.items i.runs.items i.replies.items i.limits i.objects) (system_of new i.lanes.items c.book.new.runs.items c.book.new.replies.items i.limits c.turn-came.new.objects) (g.F.Fs.faults c.args.self.now.base.fs) (g.F.Fs.faults new.fs) c.args.actor (Done c.args.actor c.index.result.now.command)
-    view (returns-in-Answered-clause-acted g c) refl (length-map i.runs.items (λ (x : Run). start_in x.task) ∙ booked.each_runs) (each_row i.lanes.items i.runs.items i.replies.items booked) c.self.invariant.2.replied refl e.opened
-    e.carried (λ w told. (e.kept.sound.stands w told).folders) (λ live. was_live i.base.books new.books (λ over. ap (λ b. b.books) (e.stays over)) live)
-    c.in-Some.command.now (subst (λ n. IsCommand i.lanes.items c.args.actor n c.in-Some.command.now) (sym (given_length i.base i.lanes.items i.runs.items i.replies.items i.limits i.objects c.args.actor booked within r)) command) (λ z. cc) (λ z. cc)
-    (λ v told. subst (λ n. Told (g.F.Fs.view new.fs) (HasWritten i.limits c.args.actor i.objects c.turn-came.new.objects (state_after (first i.base.books.start.items) i.base.books.history.items n) c.in-Some.command.now i.base.books new.books v)) (sym (start_view i.runs.items c.args.actor r i.base.books.history.items in_runs)) (e.wrote r v told))
-
 -- what was stored had room
 pub returns-in_default-clause-stores : goal.returns-in_default-clause-stores
 returns-in_default-clause-stores g c = λ v seen. tt
@@ -530,221 +462,256 @@ returns-in-Answered-clause-bounded g c = λ v seen within.
     subst (λ n. n ≤ i.limits.objects) (sym (c.in-Answered.ensures.counts r)) (subst (λ s. s.objects ≤ s.limits.objects) view within)
 
 -- what the replies tell of failed calls has its cause
-pub returns-in_default-clause-caused : goal.returns-in_default-clause-caused
-returns-in_default-clause-caused g c = λ before v told was. was
-
-pub returns-in-Blocked-clause-caused : goal.returns-in-Blocked-clause-caused
-returns-in-Blocked-clause-caused g c = λ before v told was. caused_same g.F.Fs.faults _ _ before (returns-in-Blocked-clause-acted g c).1 was
-
-pub returns-in-More-clause-caused : goal.returns-in-More-clause-caused
-returns-in-More-clause-caused g c = λ before v told was.
-    let i = c.self.inside in
-    let r = c.index.result.now in
-    let new = c.turn-came.new.base in
-    let within : c.args.actor < length i.lanes.items = search rules in
-    let few : c.index.result.now.command < length c.deref.result.now = fewer _ _ c.in-Some.ensures.lookup.0 in
-    let at : get_or c.deref.result.now c.index.result.now.command c.in-Some.command.now ≡ c.in-Some.command.now = search rules in
-    let command = act_command i.lanes.items c.args.actor i.runs.items r c.index-2.result.now c.deref.result.now c.in-Some.command.now within c.index.ensures c.index-2.ensures c.deref.ensures.value few at in
-    let booked = c.self.invariant.1 in
-    let view : c.args.self.now ≡ system_of i.base i.lanes.items i.runs.items i.replies.items i.limits i.objects = search rules in
-    let old = system_of i.base i.lanes.items i.runs.items i.replies.items i.limits i.objects in
-    let now = system_of new i.lanes.items c.turn-came.new.runs.items i.replies.items i.limits c.turn-came.new.objects in
-    caused_as g.F.Fs.faults c.args.self.now old now before view
-    (λ before_was. caused_more g.F.Fs.view g.F.Fs.faults old now c.args.actor (each_row i.lanes.items i.runs.items i.replies.items booked) c.in-More.ensures.carried.fails
-    c.in-Some.command.now (subst (λ n. IsCommand i.lanes.items c.args.actor n c.in-Some.command.now) (sym (given_length i.base i.lanes.items i.runs.items i.replies.items i.limits i.objects c.args.actor booked within r)) command)
-    before v (subst (λ s. g.F.Fs.view s.base.fs ≡ Some v) view told) before_was refl) was
-
-pub returns-in-Answered-clause-caused : goal.returns-in-Answered-clause-caused
-returns-in-Answered-clause-caused g c = λ before v told was.
-    let i = c.self.inside in
-    let r = c.index.result.now in
-    let new = c.turn-came.new.base in
-    let within : c.args.actor < length i.lanes.items = search rules in
-    let few : c.index.result.now.command < length c.deref.result.now = fewer _ _ c.in-Some.ensures.lookup.0 in
-    let at : get_or c.deref.result.now c.index.result.now.command c.in-Some.command.now ≡ c.in-Some.command.now = search rules in
-    let command = act_command i.lanes.items c.args.actor i.runs.items r c.index-2.result.now c.deref.result.now c.in-Some.command.now within c.index.ensures c.index-2.ensures c.deref.ensures.value few at in
-    let booked = c.self.invariant.1 in
-    let view : c.args.self.now ≡ system_of i.base i.lanes.items i.runs.items i.replies.items i.limits i.objects = search rules in
-    let old = system_of i.base i.lanes.items i.runs.items i.replies.items i.limits i.objects in
-    let now = system_of new i.lanes.items c.book.new.runs.items c.book.new.replies.items i.limits c.turn-came.new.objects in
-    caused_as g.F.Fs.faults c.args.self.now old now before view
-    (λ before_was. caused_done g.F.Fs.view g.F.Fs.faults old now c.args.actor (each_row i.lanes.items i.runs.items i.replies.items booked) c.in-Answered.ensures.carried.fails
-    c.in-Some.command.now (subst (λ n. IsCommand i.lanes.items c.args.actor n c.in-Some.command.now) (sym (given_length i.base i.lanes.items i.runs.items i.replies.items i.limits i.objects c.args.actor booked within r)) command)
-    before v (subst (λ s. g.F.Fs.view s.base.fs ≡ Some v) view told) before_was c.args.actor c.index.result.now.command
-    (subst (λ s. Acted (AnswerTells g.F.Fs.view (g.F.Fs.faults s.base.fs) (g.F.Fs.faults new.fs) s c.args.actor) s now c.args.actor (Done c.args.actor c.index.result.now.command)) view (returns-in-Answered-clause-acted g c))) was
-
 -- that something else changed the disk is never told
-pub returns-in_default-clause-inside : goal.returns-in_default-clause-inside
-returns-in_default-clause-inside g c = λ v told stored was. was
-
-pub returns-in-Blocked-clause-inside : goal.returns-in-Blocked-clause-inside
-returns-in-Blocked-clause-inside g c = λ v told stored was. inside_held g.F.Fs.was _ _ (returns-in-Blocked-clause-acted g c).1 was
-
-pub returns-in-More-clause-inside : goal.returns-in-More-clause-inside
-returns-in-More-clause-inside g c = λ v told stored was.
-    let i = c.self.inside in
-    let r = c.index.result.now in
-    let new = c.turn-came.new.base in
-    let within : c.args.actor < length i.lanes.items = search rules in
-    let few : c.index.result.now.command < length c.deref.result.now = fewer _ _ c.in-Some.ensures.lookup.0 in
-    let at : get_or c.deref.result.now c.index.result.now.command c.in-Some.command.now ≡ c.in-Some.command.now = search rules in
-    let command = act_command i.lanes.items c.args.actor i.runs.items r c.index-2.result.now c.deref.result.now c.in-Some.command.now within c.index.ensures c.index-2.ensures c.deref.ensures.value few at in
-    let booked = c.self.invariant.1 in
-    let view : c.args.self.now ≡ system_of i.base i.lanes.items i.runs.items i.replies.items i.limits i.objects = search rules in
-    let old = system_of i.base i.lanes.items i.runs.items i.replies.items i.limits i.objects in
-    let now = system_of new i.lanes.items c.turn-came.new.runs.items i.replies.items i.limits c.turn-came.new.objects in
-    let e = c.in-More.ensures in
-    let acted = subst (λ s. Acted (AnswerTells g.F.Fs.view (g.F.Fs.faults s.base.fs) (g.F.Fs.faults new.fs) s c.args.actor) s now c.args.actor (More)) view (returns-in-More-clause-acted g c) in
-    inside_as g.F.Fs.was c.args.self.now old now v view
-    (λ stored_here was_so. inside_more g.F.Fs.view g.F.Fs.clock g.F.Fs.was g.met.F.Fs.counts_now g.met.F.Fs.tree (g.F.Fs.faults old.base.fs) (g.F.Fs.faults new.fs) old now c.args.actor refl (length-map i.runs.items (λ (x : Run). start_in x.task) ∙ booked.each_runs) (each_row i.lanes.items i.runs.items i.replies.items booked) c.self.invariant.2.replied
-    e.opened c.self.invariant.0.sound.ordered.ascends e.carried.time v (subst (λ s. g.F.Fs.view s.base.fs ≡ Some v) view told) stored_here was_so acted) stored was
-
-pub returns-in-Answered-clause-inside : goal.returns-in-Answered-clause-inside
-returns-in-Answered-clause-inside g c = λ v told stored was.
-    let i = c.self.inside in
-    let r = c.index.result.now in
-    let new = c.turn-came.new.base in
-    let within : c.args.actor < length i.lanes.items = search rules in
-    let few : c.index.result.now.command < length c.deref.result.now = fewer _ _ c.in-Some.ensures.lookup.0 in
-    let at : get_or c.deref.result.now c.index.result.now.command c.in-Some.command.now ≡ c.in-Some.command.now = search rules in
-    let command = act_command i.lanes.items c.args.actor i.runs.items r c.index-2.result.now c.deref.result.now c.in-Some.command.now within c.index.ensures c.index-2.ensures c.deref.ensures.value few at in
-    let booked = c.self.invariant.1 in
-    let view : c.args.self.now ≡ system_of i.base i.lanes.items i.runs.items i.replies.items i.limits i.objects = search rules in
-    let old = system_of i.base i.lanes.items i.runs.items i.replies.items i.limits i.objects in
-    let now = system_of new i.lanes.items c.book.new.runs.items c.book.new.replies.items i.limits c.turn-came.new.objects in
-    let e = c.in-Answered.ensures in
-    let acted = subst (λ s. Acted (AnswerTells g.F.Fs.view (g.F.Fs.faults s.base.fs) (g.F.Fs.faults new.fs) s c.args.actor) s now c.args.actor (Done c.args.actor c.index.result.now.command)) view (returns-in-Answered-clause-acted g c) in
-    inside_as g.F.Fs.was c.args.self.now old now v view
-    (λ stored_here was_so. inside_done g.F.Fs.view g.F.Fs.clock g.F.Fs.was g.met.F.Fs.counts_now g.met.F.Fs.tree (g.F.Fs.faults old.base.fs) (g.F.Fs.faults new.fs) old now c.args.actor refl (length-map i.runs.items (λ (x : Run). start_in x.task) ∙ booked.each_runs) (each_row i.lanes.items i.runs.items i.replies.items booked) c.self.invariant.2.replied
-    e.opened c.self.invariant.0.sound.ordered.ascends e.carried.time v (subst (λ s. g.F.Fs.view s.base.fs ≡ Some v) view told) stored_here was_so c.args.actor c.index.result.now.command c.in-Some.command.now (subst (λ n. IsCommand i.lanes.items c.args.actor n c.in-Some.command.now) (sym (given_length i.base i.lanes.items i.runs.items i.replies.items i.limits i.objects c.args.actor booked within r)) command) acted) stored was
-
 -- what the replies say of the disk was so
-pub returns-in_default-clause-said : goal.returns-in_default-clause-said
-returns-in_default-clause-said g c = λ v told said. said
-
-pub returns-in-Blocked-clause-said : goal.returns-in-Blocked-clause-said
-returns-in-Blocked-clause-said g c = λ v told said. said_held g.F.Fs.was _ _ (returns-in-Blocked-clause-acted g c).1 said
-
-pub returns-in-More-clause-said : goal.returns-in-More-clause-said
-returns-in-More-clause-said g c = λ v told said.
-    let i = c.self.inside in
-    let new = c.turn-came.new.base in
-    let booked = c.self.invariant.1 in
-    let view : c.args.self.now ≡ system_of i.base i.lanes.items i.runs.items i.replies.items i.limits i.objects = search rules in
-    let old = system_of i.base i.lanes.items i.runs.items i.replies.items i.limits i.objects in
-    let now = system_of new i.lanes.items c.turn-came.new.runs.items i.replies.items i.limits c.turn-came.new.objects in
-    let e = c.in-More.ensures in
-    let acted = subst (λ s. Acted (AnswerTells g.F.Fs.view (g.F.Fs.faults s.base.fs) (g.F.Fs.faults new.fs) s c.args.actor) s now c.args.actor More) view (returns-in-More-clause-acted g c) in
-    said_as g.F.Fs.was c.args.self.now old now view
-    (λ said_so. said_more g.F.Fs.view g.F.Fs.clock g.F.Fs.was g.met.F.Fs.counts_now g.met.F.Fs.bound (g.F.Fs.faults old.base.fs) (g.F.Fs.faults new.fs) old now c.args.actor refl (each_row i.lanes.items i.runs.items i.replies.items booked) c.self.invariant.2.replied
-    c.self.invariant.0.sound.ordered.ascends e.carried.time v (subst (λ s. g.F.Fs.view s.base.fs ≡ Some v) view told) said_so acted) said
-
-pub returns-in-Answered-clause-said : goal.returns-in-Answered-clause-said
-returns-in-Answered-clause-said g c = λ v told said.
-    let i = c.self.inside in
-    let new = c.turn-came.new.base in
-    let booked = c.self.invariant.1 in
-    let view : c.args.self.now ≡ system_of i.base i.lanes.items i.runs.items i.replies.items i.limits i.objects = search rules in
-    let old = system_of i.base i.lanes.items i.runs.items i.replies.items i.limits i.objects in
-    let now = system_of new i.lanes.items c.book.new.runs.items c.book.new.replies.items i.limits c.turn-came.new.objects in
-    let e = c.in-Answered.ensures in
-    let acted = subst (λ s. Acted (AnswerTells g.F.Fs.view (g.F.Fs.faults s.base.fs) (g.F.Fs.faults new.fs) s c.args.actor) s now c.args.actor (Done c.args.actor c.index.result.now.command)) view (returns-in-Answered-clause-acted g c) in
-    said_as g.F.Fs.was c.args.self.now old now view
-    (λ said_so. said_done g.F.Fs.view g.F.Fs.clock g.F.Fs.was g.met.F.Fs.counts_now g.met.F.Fs.bound (g.F.Fs.faults old.base.fs) (g.F.Fs.faults new.fs) old now c.args.actor refl (each_row i.lanes.items i.runs.items i.replies.items booked) c.self.invariant.2.replied
-    c.self.invariant.0.sound.ordered.ascends e.carried.time v (subst (λ s. g.F.Fs.view s.base.fs ≡ Some v) view told) said_so c.args.actor c.index.result.now.command acted) said
-
 -- commits that were there stay, and so do those that refs are set to
-pub returns-in_default-clause-founded : goal.returns-in_default-clause-founded
-returns-in_default-clause-founded g c = λ opening v told stored founded. (v, told, founded)
-
-pub returns-in-Blocked-clause-founded : goal.returns-in-Blocked-clause-founded
-returns-in-Blocked-clause-founded g c = λ opening v told stored founded. founded_held g.F.Fs.view _ _ (returns-in-Blocked-clause-acted g c).1 opening v told founded
-
-pub returns-in-More-clause-founded : goal.returns-in-More-clause-founded
-returns-in-More-clause-founded g c =
-    let i = c.self.inside in
-    let new = c.turn-came.new.base in
-    let booked = c.self.invariant.1 in
-    let view : c.args.self.now ≡ system_of i.base i.lanes.items i.runs.items i.replies.items i.limits i.objects = search rules in
-    let old = system_of i.base i.lanes.items i.runs.items i.replies.items i.limits i.objects in
-    let now = system_of new i.lanes.items c.turn-came.new.runs.items i.replies.items i.limits c.turn-came.new.objects in
-    let e = c.in-More.ensures in
-    let acted = subst (λ s. Acted (AnswerTells g.F.Fs.view (g.F.Fs.faults s.base.fs) (g.F.Fs.faults new.fs) s c.args.actor) s now c.args.actor More) view (returns-in-More-clause-acted g c) in
-    founded_as g.F.Fs.view g.F.Fs.was c.args.self.now old now view
-    (act_founds_more g.F.Fs.view g.F.Fs.clock g.F.Fs.was g.F.Fs.faults (g.F.Fs.faults old.base.fs) (g.F.Fs.faults new.fs) old now c.args.actor (each_row i.lanes.items i.runs.items i.replies.items booked) c.self.invariant.2.replied e.carried acted)
-
-pub returns-in-Answered-clause-founded : goal.returns-in-Answered-clause-founded
-returns-in-Answered-clause-founded g c =
-    let i = c.self.inside in
-    let r = c.index.result.now in
-    let within : c.args.actor < length i.lanes.items = search rules in
-    let few : c.index.result.now.command < length c.deref.result.now = fewer _ _ c.in-Some.ensures.lookup.0 in
-    let at : get_or c.deref.result.now c.index.result.now.command c.in-Some.command.now ≡ c.in-Some.command.now = search rules in
-    let command = act_command i.lanes.items c.args.actor i.runs.items r c.index-2.result.now c.deref.result.now c.in-Some.command.now within c.index.ensures c.index-2.ensures c.deref.ensures.value few at in
-    let new = c.turn-came.new.base in
-    let booked = c.self.invariant.1 in
-    let view : c.args.self.now ≡ system_of i.base i.lanes.items i.runs.items i.replies.items i.limits i.objects = search rules in
-    let old = system_of i.base i.lanes.items i.runs.items i.replies.items i.limits i.objects in
-    let now = system_of new i.lanes.items c.book.new.runs.items c.book.new.replies.items i.limits c.turn-came.new.objects in
-    let e = c.in-Answered.ensures in
-    let acted = subst (λ s. Acted (AnswerTells g.F.Fs.view (g.F.Fs.faults s.base.fs) (g.F.Fs.faults new.fs) s c.args.actor) s now c.args.actor (Done c.args.actor c.index.result.now.command)) view (returns-in-Answered-clause-acted g c) in
-    founded_as g.F.Fs.view g.F.Fs.was c.args.self.now old now view
-    (act_founds_done g.F.Fs.view g.F.Fs.clock g.F.Fs.was g.F.Fs.faults (g.F.Fs.faults old.base.fs) (g.F.Fs.faults new.fs) old now c.args.actor (each_row i.lanes.items i.runs.items i.replies.items booked) c.self.invariant.2.replied e.carried
-    c.in-Some.command.now (subst (λ n. IsCommand i.lanes.items c.args.actor n c.in-Some.command.now) (sym (given_length i.base i.lanes.items i.runs.items i.replies.items i.limits i.objects c.args.actor booked within r)) command) c.args.actor c.index.result.now.command acted)
-
 -- the folders of checkouts
-pub returns-in_default-clause-folders : goal.returns-in_default-clause-folders
-returns-in_default-clause-folders g c = λ opening v told was. (v, told, was)
 
-pub returns-in-Blocked-clause-folders : goal.returns-in-Blocked-clause-folders
-returns-in-Blocked-clause-folders g c = λ opening v told was. folders_held g.F.Fs.view _ _ (returns-in-Blocked-clause-acted g c).1 opening v told was
+pub returns-in_default-clause-preserves : goal.returns-in_default-clause-preserves
+returns-in_default-clause-preserves g c = record {
+  lasts = λ start v told kept. (v, told, kept);
+  good = λ v told stored. (v, told, stored);
+  caused = λ before v told was. was;
+  inside = λ v told stored was. was;
+  folders = λ opening v told was. (v, told, was);
+  said = λ v told said. said;
+  founded = λ opening v told stored founded. (v, told, founded);
+}
 
-pub returns-in-More-clause-folders : goal.returns-in-More-clause-folders
-returns-in-More-clause-folders g c =
-    let i = c.self.inside in
-    let r = c.index.result.now in
-    let new = c.turn-came.new.base in
-    let h = i.base.books.history.items in
-    let within : c.args.actor < length i.lanes.items = search rules in
-    let few : c.index.result.now.command < length c.deref.result.now = fewer _ _ c.in-Some.ensures.lookup.0 in
-    let at : get_or c.deref.result.now c.index.result.now.command c.in-Some.command.now ≡ c.in-Some.command.now = search rules in
-    let command = act_command i.lanes.items c.args.actor i.runs.items r c.index-2.result.now c.deref.result.now c.in-Some.command.now within c.index.ensures c.index-2.ensures c.deref.ensures.value few at in
-    let booked = c.self.invariant.1 in
-    let in_runs : c.args.actor < length i.runs.items = omega (arith, booked.each_runs, within) in
-    let in_works : c.args.actor < length (works_of i.runs.items) = omega (arith, length-map i.runs.items (λ (x : Run). work_in x.task), in_runs) in
-    let run = get_or c.turn-came.new.runs.items c.args.actor r in
-    let view : c.args.self.now ≡ system_of i.base i.lanes.items i.runs.items i.replies.items i.limits i.objects = search rules in
-    let e = c.in-More.ensures in
-    λ opening v told was. folders_go_on g.F.Fs.view (g.F.Fs.faults c.args.self.now.base.fs) (g.F.Fs.faults new.fs) c.args.self.now (system_of i.base i.lanes.items i.runs.items i.replies.items i.limits i.objects) (system_of new i.lanes.items c.turn-came.new.runs.items i.replies.items i.limits c.turn-came.new.objects) c.args.actor view refl refl
-    (length-map i.runs.items (λ (x : Run). start_in x.task) ∙ booked.each_runs) (each_row i.lanes.items i.runs.items i.replies.items booked) c.self.invariant.2.replied within c.in-Some.command.now
-    (subst (λ n. IsCommand i.lanes.items c.args.actor n c.in-Some.command.now) (sym (given_length i.base i.lanes.items i.runs.items i.replies.items i.limits i.objects c.args.actor booked within r)) command)
-    (work_in run.task) (ap works_of (e.run r) ∙ map-set (λ (x : Run). work_in x.task) i.runs.items c.args.actor run) _ (folds_view g.F.Fs.view i.limits c.args.actor c.in-Some.command.now i.base new i.runs.items r (work_in run.task) _ in_runs (e.folds r))
-    opening v told was refl (returns-in-More-clause-acted g c) refl in_works
+pub returns-in-Blocked-clause-preserves : goal.returns-in-Blocked-clause-preserves
+returns-in-Blocked-clause-preserves g c = record {
+  lasts = λ start v told kept. held_keeps g.F.Fs.view g.F.Fs.was _ _ (returns-in-Blocked-clause-acted g c).1 start v told kept;
+  good = λ v told stored. held_stores g.F.Fs.view g.F.Fs.was _ _ (returns-in-Blocked-clause-acted g c).1 v told stored;
+  caused = λ before v told was. caused_same g.F.Fs.faults _ _ before (returns-in-Blocked-clause-acted g c).1 was;
+  inside = λ v told stored was. inside_held g.F.Fs.was _ _ (returns-in-Blocked-clause-acted g c).1 was;
+  folders = λ opening v told was. folders_held g.F.Fs.view _ _ (returns-in-Blocked-clause-acted g c).1 opening v told was;
+  said = λ v told said. said_held g.F.Fs.was _ _ (returns-in-Blocked-clause-acted g c).1 said;
+  founded = λ opening v told stored founded. founded_held g.F.Fs.view _ _ (returns-in-Blocked-clause-acted g c).1 opening v told founded;
+}
 
-pub returns-in-Answered-clause-folders : goal.returns-in-Answered-clause-folders
-returns-in-Answered-clause-folders g c =
-    let i = c.self.inside in
-    let r = c.index.result.now in
-    let new = c.turn-came.new.base in
-    let now = c.turn-came.new.runs.items in
-    let within : c.args.actor < length i.lanes.items = search rules in
-    let few : c.index.result.now.command < length c.deref.result.now = fewer _ _ c.in-Some.ensures.lookup.0 in
-    let at : get_or c.deref.result.now c.index.result.now.command c.in-Some.command.now ≡ c.in-Some.command.now = search rules in
-    let command = act_command i.lanes.items c.args.actor i.runs.items r c.index-2.result.now c.deref.result.now c.in-Some.command.now within c.index.ensures c.index-2.ensures c.deref.ensures.value few at in
-    let booked = c.self.invariant.1 in
-    let acc = c.self.invariant.2 in
-    let in_runs : c.args.actor < length i.runs.items = omega (arith, booked.each_runs, within) in
-    let next = next_of g.F.Fs.view g.F.Fs.faults i.limits i.base i.lanes.items i.runs.items i.replies.items i.given booked acc c.args.actor within r in
-    let run = get_or now c.args.actor r in
-    let view : c.args.self.now ≡ system_of i.base i.lanes.items i.runs.items i.replies.items i.limits i.objects = search rules in
-    let e = c.in-Answered.ensures in
-    let after : Run = record { command = run.command + 1; task = run.task } in
-    let all : c.book.new.runs.items ≡ set i.runs.items c.args.actor after =
-    c.book.ensures.tasks r ∙ ap (λ (l : List Run). set l c.args.actor after) (e.run r) ∙ set-set i.runs.items c.args.actor run after in
-    let begun = start_said g.F.Fs.view g.F.Fs.faults i.limits i.base new i.lanes.items i.runs.items (replies_of i.replies.items) i.given acc c.args.actor in_runs run r c.in-Some.command.now command next c.turn-came.ensures.start c.in-Answered.answer c.in-Answered.start (e.goes r) in
-    let reply : Reply = record { answer = c.in-Answered.answer; start = c.number_of.result; place = c.number_of-in-Answered.result; order = i.given; taken = None } in
-    λ opening v told was. folders_answered g.F.Fs.view (g.F.Fs.faults c.args.self.now.base.fs) (g.F.Fs.faults new.fs) c.args.self.now (system_of i.base i.lanes.items i.runs.items i.replies.items i.limits i.objects) (system_of new i.lanes.items c.book.new.runs.items c.book.new.replies.items i.limits c.turn-came.new.objects) c.args.actor view refl refl
-    (length-map i.runs.items (λ (x : Run). start_in x.task) ∙ booked.each_runs) (each_row i.lanes.items i.runs.items i.replies.items booked) acc.replied within c.in-Some.command.now
-    (subst (λ n. IsCommand i.lanes.items c.args.actor n c.in-Some.command.now) (sym (given_length i.base i.lanes.items i.runs.items i.replies.items i.limits i.objects c.args.actor booked within r)) command)
-    (work_in run.task) (ap works_of all ∙ map-set (λ (x : Run). work_in x.task) i.runs.items c.args.actor after) _ (folds_view g.F.Fs.view i.limits c.args.actor c.in-Some.command.now i.base new i.runs.items r (work_in run.task) _ in_runs (e.folds r))
-    opening v told was reply c.in-Answered.start c.args.actor c.index.result.now.command refl (returns-in-Answered-clause-acted g c) (c.number_of.ensures ∙ begun) c.book.ensures.replies
+pub returns-in-More-clause-preserves : goal.returns-in-More-clause-preserves
+returns-in-More-clause-preserves g c = record {
+  lasts =
+    (let i = c.self.inside in
+      let new = c.turn-came.new.base in
+      let view : c.args.self.now ≡ system_of i.base i.lanes.items i.runs.items i.replies.items i.limits i.objects = search rules in
+      let acc = (invariant_of-self-in-More g c).2 in
+      act_keeps_of g.F.Fs.view g.F.Fs.clock g.F.Fs.was c.args.self.now (system_of i.base i.lanes.items i.runs.items i.replies.items i.limits i.objects) (system_of new i.lanes.items c.turn-came.new.runs.items i.replies.items i.limits c.turn-came.new.objects) (g.F.Fs.faults c.args.self.now.base.fs) (g.F.Fs.faults new.fs) c.args.actor More view refl c.self.invariant.4 (each_row i.lanes.items i.runs.items i.replies.items c.self.invariant.1)
+      c.self.invariant.2.replied acc.replied c.in-More.ensures.carried (returns-in-More-clause-acted g c));
+  good =
+    (let i = c.self.inside in
+      let r = c.index.result.now in
+      let new = c.turn-came.new.base in
+      let e = c.in-More.ensures in
+      let within : c.args.actor < length i.lanes.items = search rules in
+      let few : c.index.result.now.command < length c.deref.result.now = fewer _ _ c.in-Some.ensures.lookup.0 in
+      let at : get_or c.deref.result.now c.index.result.now.command c.in-Some.command.now ≡ c.in-Some.command.now = search rules in
+      let command = act_command i.lanes.items c.args.actor i.runs.items r c.index-2.result.now c.deref.result.now c.in-Some.command.now within c.index.ensures c.index-2.ensures c.deref.ensures.value few at in
+      let booked = c.self.invariant.1 in
+      let in_runs : c.args.actor < length i.runs.items = omega (arith, booked.each_runs, within) in
+      let view : c.args.self.now ≡ system_of i.base i.lanes.items i.runs.items i.replies.items i.limits i.objects = search rules in
+      act_stores_of g.F.Fs.view g.F.Fs.clock g.F.Fs.was g.met.F.Fs.only_now c.args.self.now (system_of i.base i.lanes.items i.runs.items i.replies.items i.limits i.objects) (system_of new i.lanes.items c.turn-came.new.runs.items i.replies.items i.limits c.turn-came.new.objects) (g.F.Fs.faults c.args.self.now.base.fs) (g.F.Fs.faults new.fs) c.args.actor More
+      view (returns-in-More-clause-acted g c) refl (length-map i.runs.items (λ (x : Run). start_in x.task) ∙ booked.each_runs) (each_row i.lanes.items i.runs.items i.replies.items booked) c.self.invariant.2.replied refl e.opened
+      e.carried (λ w told. (e.kept.sound.stands w told).folders) (λ live. e.live refl)
+      c.in-Some.command.now (subst (λ n. IsCommand i.lanes.items c.args.actor n c.in-Some.command.now) (sym (given_length i.base i.lanes.items i.runs.items i.replies.items i.limits i.objects c.args.actor booked within r)) command) (λ z. cc) (λ z. cc)
+      (λ v told. subst (λ n. Told (g.F.Fs.view new.fs) (HasWritten i.limits c.args.actor i.objects c.turn-came.new.objects (state_after (first i.base.books.start.items) i.base.books.history.items n) c.in-Some.command.now i.base.books new.books v)) (sym (start_view i.runs.items c.args.actor r i.base.books.history.items in_runs)) (e.wrote r v told)));
+  caused =
+    (λ before v told was.
+      let i = c.self.inside in
+      let r = c.index.result.now in
+      let new = c.turn-came.new.base in
+      let within : c.args.actor < length i.lanes.items = search rules in
+      let few : c.index.result.now.command < length c.deref.result.now = fewer _ _ c.in-Some.ensures.lookup.0 in
+      let at : get_or c.deref.result.now c.index.result.now.command c.in-Some.command.now ≡ c.in-Some.command.now = search rules in
+      let command = act_command i.lanes.items c.args.actor i.runs.items r c.index-2.result.now c.deref.result.now c.in-Some.command.now within c.index.ensures c.index-2.ensures c.deref.ensures.value few at in
+      let booked = c.self.invariant.1 in
+      let view : c.args.self.now ≡ system_of i.base i.lanes.items i.runs.items i.replies.items i.limits i.objects = search rules in
+      let old = system_of i.base i.lanes.items i.runs.items i.replies.items i.limits i.objects in
+      let now = system_of new i.lanes.items c.turn-came.new.runs.items i.replies.items i.limits c.turn-came.new.objects in
+      caused_as g.F.Fs.faults c.args.self.now old now before view
+      (λ before_was. caused_more g.F.Fs.view g.F.Fs.faults old now c.args.actor (each_row i.lanes.items i.runs.items i.replies.items booked) c.in-More.ensures.carried.fails
+      c.in-Some.command.now (subst (λ n. IsCommand i.lanes.items c.args.actor n c.in-Some.command.now) (sym (given_length i.base i.lanes.items i.runs.items i.replies.items i.limits i.objects c.args.actor booked within r)) command)
+      before v (subst (λ s. g.F.Fs.view s.base.fs ≡ Some v) view told) before_was refl) was);
+  inside =
+    (λ v told stored was.
+      let i = c.self.inside in
+      let r = c.index.result.now in
+      let new = c.turn-came.new.base in
+      let within : c.args.actor < length i.lanes.items = search rules in
+      let few : c.index.result.now.command < length c.deref.result.now = fewer _ _ c.in-Some.ensures.lookup.0 in
+      let at : get_or c.deref.result.now c.index.result.now.command c.in-Some.command.now ≡ c.in-Some.command.now = search rules in
+      let command = act_command i.lanes.items c.args.actor i.runs.items r c.index-2.result.now c.deref.result.now c.in-Some.command.now within c.index.ensures c.index-2.ensures c.deref.ensures.value few at in
+      let booked = c.self.invariant.1 in
+      let view : c.args.self.now ≡ system_of i.base i.lanes.items i.runs.items i.replies.items i.limits i.objects = search rules in
+      let old = system_of i.base i.lanes.items i.runs.items i.replies.items i.limits i.objects in
+      let now = system_of new i.lanes.items c.turn-came.new.runs.items i.replies.items i.limits c.turn-came.new.objects in
+      let e = c.in-More.ensures in
+      let acted = subst (λ s. Acted (AnswerTells g.F.Fs.view (g.F.Fs.faults s.base.fs) (g.F.Fs.faults new.fs) s c.args.actor) s now c.args.actor (More)) view (returns-in-More-clause-acted g c) in
+      inside_as g.F.Fs.was c.args.self.now old now v view
+      (λ stored_here was_so. inside_more g.F.Fs.view g.F.Fs.clock g.F.Fs.was g.met.F.Fs.counts_now g.met.F.Fs.tree (g.F.Fs.faults old.base.fs) (g.F.Fs.faults new.fs) old now c.args.actor refl (length-map i.runs.items (λ (x : Run). start_in x.task) ∙ booked.each_runs) (each_row i.lanes.items i.runs.items i.replies.items booked) c.self.invariant.2.replied
+      e.opened c.self.invariant.0.sound.ordered.ascends e.carried.time v (subst (λ s. g.F.Fs.view s.base.fs ≡ Some v) view told) stored_here was_so acted) stored was);
+  folders =
+    (let i = c.self.inside in
+      let r = c.index.result.now in
+      let new = c.turn-came.new.base in
+      let h = i.base.books.history.items in
+      let within : c.args.actor < length i.lanes.items = search rules in
+      let few : c.index.result.now.command < length c.deref.result.now = fewer _ _ c.in-Some.ensures.lookup.0 in
+      let at : get_or c.deref.result.now c.index.result.now.command c.in-Some.command.now ≡ c.in-Some.command.now = search rules in
+      let command = act_command i.lanes.items c.args.actor i.runs.items r c.index-2.result.now c.deref.result.now c.in-Some.command.now within c.index.ensures c.index-2.ensures c.deref.ensures.value few at in
+      let booked = c.self.invariant.1 in
+      let in_runs : c.args.actor < length i.runs.items = omega (arith, booked.each_runs, within) in
+      let in_works : c.args.actor < length (works_of i.runs.items) = omega (arith, length-map i.runs.items (λ (x : Run). work_in x.task), in_runs) in
+      let run = get_or c.turn-came.new.runs.items c.args.actor r in
+      let view : c.args.self.now ≡ system_of i.base i.lanes.items i.runs.items i.replies.items i.limits i.objects = search rules in
+      let e = c.in-More.ensures in
+      λ opening v told was. folders_go_on g.F.Fs.view (g.F.Fs.faults c.args.self.now.base.fs) (g.F.Fs.faults new.fs) c.args.self.now (system_of i.base i.lanes.items i.runs.items i.replies.items i.limits i.objects) (system_of new i.lanes.items c.turn-came.new.runs.items i.replies.items i.limits c.turn-came.new.objects) c.args.actor view refl refl
+      (length-map i.runs.items (λ (x : Run). start_in x.task) ∙ booked.each_runs) (each_row i.lanes.items i.runs.items i.replies.items booked) c.self.invariant.2.replied within c.in-Some.command.now
+      (subst (λ n. IsCommand i.lanes.items c.args.actor n c.in-Some.command.now) (sym (given_length i.base i.lanes.items i.runs.items i.replies.items i.limits i.objects c.args.actor booked within r)) command)
+      (work_in run.task) (ap works_of (e.run r) ∙ map-set (λ (x : Run). work_in x.task) i.runs.items c.args.actor run) _ (folds_view g.F.Fs.view i.limits c.args.actor c.in-Some.command.now i.base new i.runs.items r (work_in run.task) _ in_runs (e.folds r))
+      opening v told was refl (returns-in-More-clause-acted g c) refl in_works);
+  said =
+    (λ v told said.
+      let i = c.self.inside in
+      let new = c.turn-came.new.base in
+      let booked = c.self.invariant.1 in
+      let view : c.args.self.now ≡ system_of i.base i.lanes.items i.runs.items i.replies.items i.limits i.objects = search rules in
+      let old = system_of i.base i.lanes.items i.runs.items i.replies.items i.limits i.objects in
+      let now = system_of new i.lanes.items c.turn-came.new.runs.items i.replies.items i.limits c.turn-came.new.objects in
+      let e = c.in-More.ensures in
+      let acted = subst (λ s. Acted (AnswerTells g.F.Fs.view (g.F.Fs.faults s.base.fs) (g.F.Fs.faults new.fs) s c.args.actor) s now c.args.actor More) view (returns-in-More-clause-acted g c) in
+      said_as g.F.Fs.was c.args.self.now old now view
+      (λ said_so. said_more g.F.Fs.view g.F.Fs.clock g.F.Fs.was g.met.F.Fs.counts_now g.met.F.Fs.bound (g.F.Fs.faults old.base.fs) (g.F.Fs.faults new.fs) old now c.args.actor refl (each_row i.lanes.items i.runs.items i.replies.items booked) c.self.invariant.2.replied
+      c.self.invariant.0.sound.ordered.ascends e.carried.time v (subst (λ s. g.F.Fs.view s.base.fs ≡ Some v) view told) said_so acted) said);
+  founded =
+    (let i = c.self.inside in
+      let new = c.turn-came.new.base in
+      let booked = c.self.invariant.1 in
+      let view : c.args.self.now ≡ system_of i.base i.lanes.items i.runs.items i.replies.items i.limits i.objects = search rules in
+      let old = system_of i.base i.lanes.items i.runs.items i.replies.items i.limits i.objects in
+      let now = system_of new i.lanes.items c.turn-came.new.runs.items i.replies.items i.limits c.turn-came.new.objects in
+      let e = c.in-More.ensures in
+      let acted = subst (λ s. Acted (AnswerTells g.F.Fs.view (g.F.Fs.faults s.base.fs) (g.F.Fs.faults new.fs) s c.args.actor) s now c.args.actor More) view (returns-in-More-clause-acted g c) in
+      founded_as g.F.Fs.view g.F.Fs.was c.args.self.now old now view
+      (act_founds_more g.F.Fs.view g.F.Fs.clock g.F.Fs.was g.F.Fs.faults (g.F.Fs.faults old.base.fs) (g.F.Fs.faults new.fs) old now c.args.actor (each_row i.lanes.items i.runs.items i.replies.items booked) c.self.invariant.2.replied e.carried acted));
+}
+
+pub returns-in-Answered-clause-preserves : goal.returns-in-Answered-clause-preserves
+returns-in-Answered-clause-preserves g c = record {
+  lasts =
+    (let i = c.self.inside in
+      let new = c.turn-came.new.base in
+      let view : c.args.self.now ≡ system_of i.base i.lanes.items i.runs.items i.replies.items i.limits i.objects = search rules in
+      let acc = (invariant_of-self-in-Answered g c).2 in
+      act_keeps_of g.F.Fs.view g.F.Fs.clock g.F.Fs.was c.args.self.now (system_of i.base i.lanes.items i.runs.items i.replies.items i.limits i.objects) (system_of new i.lanes.items c.book.new.runs.items c.book.new.replies.items i.limits c.turn-came.new.objects) (g.F.Fs.faults c.args.self.now.base.fs) (g.F.Fs.faults new.fs) c.args.actor (Done c.args.actor c.index.result.now.command) view refl c.self.invariant.4 (each_row i.lanes.items i.runs.items i.replies.items c.self.invariant.1)
+      c.self.invariant.2.replied acc.replied c.in-Answered.ensures.carried (returns-in-Answered-clause-acted g c));
+  good =
+    (let i = c.self.inside in
+      let r = c.index.result.now in
+      let new = c.turn-came.new.base in
+      let e = c.in-Answered.ensures in
+      let within : c.args.actor < length i.lanes.items = search rules in
+      let few : c.index.result.now.command < length c.deref.result.now = fewer _ _ c.in-Some.ensures.lookup.0 in
+      let at : get_or c.deref.result.now c.index.result.now.command c.in-Some.command.now ≡ c.in-Some.command.now = search rules in
+      let command = act_command i.lanes.items c.args.actor i.runs.items r c.index-2.result.now c.deref.result.now c.in-Some.command.now within c.index.ensures c.index-2.ensures c.deref.ensures.value few at in
+      let booked = c.self.invariant.1 in
+      let in_runs : c.args.actor < length i.runs.items = omega (arith, booked.each_runs, within) in
+      let view : c.args.self.now ≡ system_of i.base i.lanes.items i.runs.items i.replies.items i.limits i.objects = search rules in
+      act_stores_of g.F.Fs.view g.F.Fs.clock g.F.Fs.was g.met.F.Fs.only_now c.args.self.now (system_of i.base i.lanes.items i.runs.items i.replies.items i.limits i.objects) (system_of new i.lanes.items c.book.new.runs.items c.book.new.replies.items i.limits c.turn-came.new.objects) (g.F.Fs.faults c.args.self.now.base.fs) (g.F.Fs.faults new.fs) c.args.actor (Done c.args.actor c.index.result.now.command)
+      view (returns-in-Answered-clause-acted g c) refl (length-map i.runs.items (λ (x : Run). start_in x.task) ∙ booked.each_runs) (each_row i.lanes.items i.runs.items i.replies.items booked) c.self.invariant.2.replied refl e.opened
+      e.carried (λ w told. (e.kept.sound.stands w told).folders) (λ live. was_live i.base.books new.books (λ over. ap (λ b. b.books) (e.stays over)) live)
+      c.in-Some.command.now (subst (λ n. IsCommand i.lanes.items c.args.actor n c.in-Some.command.now) (sym (given_length i.base i.lanes.items i.runs.items i.replies.items i.limits i.objects c.args.actor booked within r)) command) (λ z. cc) (λ z. cc)
+      (λ v told. subst (λ n. Told (g.F.Fs.view new.fs) (HasWritten i.limits c.args.actor i.objects c.turn-came.new.objects (state_after (first i.base.books.start.items) i.base.books.history.items n) c.in-Some.command.now i.base.books new.books v)) (sym (start_view i.runs.items c.args.actor r i.base.books.history.items in_runs)) (e.wrote r v told)));
+  caused =
+    (λ before v told was.
+      let i = c.self.inside in
+      let r = c.index.result.now in
+      let new = c.turn-came.new.base in
+      let within : c.args.actor < length i.lanes.items = search rules in
+      let few : c.index.result.now.command < length c.deref.result.now = fewer _ _ c.in-Some.ensures.lookup.0 in
+      let at : get_or c.deref.result.now c.index.result.now.command c.in-Some.command.now ≡ c.in-Some.command.now = search rules in
+      let command = act_command i.lanes.items c.args.actor i.runs.items r c.index-2.result.now c.deref.result.now c.in-Some.command.now within c.index.ensures c.index-2.ensures c.deref.ensures.value few at in
+      let booked = c.self.invariant.1 in
+      let view : c.args.self.now ≡ system_of i.base i.lanes.items i.runs.items i.replies.items i.limits i.objects = search rules in
+      let old = system_of i.base i.lanes.items i.runs.items i.replies.items i.limits i.objects in
+      let now = system_of new i.lanes.items c.book.new.runs.items c.book.new.replies.items i.limits c.turn-came.new.objects in
+      caused_as g.F.Fs.faults c.args.self.now old now before view
+      (λ before_was. caused_done g.F.Fs.view g.F.Fs.faults old now c.args.actor (each_row i.lanes.items i.runs.items i.replies.items booked) c.in-Answered.ensures.carried.fails
+      c.in-Some.command.now (subst (λ n. IsCommand i.lanes.items c.args.actor n c.in-Some.command.now) (sym (given_length i.base i.lanes.items i.runs.items i.replies.items i.limits i.objects c.args.actor booked within r)) command)
+      before v (subst (λ s. g.F.Fs.view s.base.fs ≡ Some v) view told) before_was c.args.actor c.index.result.now.command
+      (subst (λ s. Acted (AnswerTells g.F.Fs.view (g.F.Fs.faults s.base.fs) (g.F.Fs.faults new.fs) s c.args.actor) s now c.args.actor (Done c.args.actor c.index.result.now.command)) view (returns-in-Answered-clause-acted g c))) was);
+  inside =
+    (λ v told stored was.
+      let i = c.self.inside in
+      let r = c.index.result.now in
+      let new = c.turn-came.new.base in
+      let within : c.args.actor < length i.lanes.items = search rules in
+      let few : c.index.result.now.command < length c.deref.result.now = fewer _ _ c.in-Some.ensures.lookup.0 in
+      let at : get_or c.deref.result.now c.index.result.now.command c.in-Some.command.now ≡ c.in-Some.command.now = search rules in
+      let command = act_command i.lanes.items c.args.actor i.runs.items r c.index-2.result.now c.deref.result.now c.in-Some.command.now within c.index.ensures c.index-2.ensures c.deref.ensures.value few at in
+      let booked = c.self.invariant.1 in
+      let view : c.args.self.now ≡ system_of i.base i.lanes.items i.runs.items i.replies.items i.limits i.objects = search rules in
+      let old = system_of i.base i.lanes.items i.runs.items i.replies.items i.limits i.objects in
+      let now = system_of new i.lanes.items c.book.new.runs.items c.book.new.replies.items i.limits c.turn-came.new.objects in
+      let e = c.in-Answered.ensures in
+      let acted = subst (λ s. Acted (AnswerTells g.F.Fs.view (g.F.Fs.faults s.base.fs) (g.F.Fs.faults new.fs) s c.args.actor) s now c.args.actor (Done c.args.actor c.index.result.now.command)) view (returns-in-Answered-clause-acted g c) in
+      inside_as g.F.Fs.was c.args.self.now old now v view
+      (λ stored_here was_so. inside_done g.F.Fs.view g.F.Fs.clock g.F.Fs.was g.met.F.Fs.counts_now g.met.F.Fs.tree (g.F.Fs.faults old.base.fs) (g.F.Fs.faults new.fs) old now c.args.actor refl (length-map i.runs.items (λ (x : Run). start_in x.task) ∙ booked.each_runs) (each_row i.lanes.items i.runs.items i.replies.items booked) c.self.invariant.2.replied
+      e.opened c.self.invariant.0.sound.ordered.ascends e.carried.time v (subst (λ s. g.F.Fs.view s.base.fs ≡ Some v) view told) stored_here was_so c.args.actor c.index.result.now.command c.in-Some.command.now (subst (λ n. IsCommand i.lanes.items c.args.actor n c.in-Some.command.now) (sym (given_length i.base i.lanes.items i.runs.items i.replies.items i.limits i.objects c.args.actor booked within r)) command) acted) stored was);
+  folders =
+    (let i = c.self.inside in
+      let r = c.index.result.now in
+      let new = c.turn-came.new.base in
+      let now = c.turn-came.new.runs.items in
+      let within : c.args.actor < length i.lanes.items = search rules in
+      let few : c.index.result.now.command < length c.deref.result.now = fewer _ _ c.in-Some.ensures.lookup.0 in
+      let at : get_or c.deref.result.now c.index.result.now.command c.in-Some.command.now ≡ c.in-Some.command.now = search rules in
+      let command = act_command i.lanes.items c.args.actor i.runs.items r c.index-2.result.now c.deref.result.now c.in-Some.command.now within c.index.ensures c.index-2.ensures c.deref.ensures.value few at in
+      let booked = c.self.invariant.1 in
+      let acc = c.self.invariant.2 in
+      let in_runs : c.args.actor < length i.runs.items = omega (arith, booked.each_runs, within) in
+      let next = next_of g.F.Fs.view g.F.Fs.faults i.limits i.base i.lanes.items i.runs.items i.replies.items i.given booked acc c.args.actor within r in
+      let run = get_or now c.args.actor r in
+      let view : c.args.self.now ≡ system_of i.base i.lanes.items i.runs.items i.replies.items i.limits i.objects = search rules in
+      let e = c.in-Answered.ensures in
+      let after : Run = record { command = run.command + 1; task = run.task } in
+      let all : c.book.new.runs.items ≡ set i.runs.items c.args.actor after =
+      c.book.ensures.tasks r ∙ ap (λ (l : List Run). set l c.args.actor after) (e.run r) ∙ set-set i.runs.items c.args.actor run after in
+      let begun = start_said g.F.Fs.view g.F.Fs.faults i.limits i.base new i.lanes.items i.runs.items (replies_of i.replies.items) i.given acc c.args.actor in_runs run r c.in-Some.command.now command next c.turn-came.ensures.start c.in-Answered.answer c.in-Answered.start (e.goes r) in
+      let reply : Reply = record { answer = c.in-Answered.answer; start = c.number_of.result; place = c.number_of-in-Answered.result; order = i.given; taken = None } in
+      λ opening v told was. folders_answered g.F.Fs.view (g.F.Fs.faults c.args.self.now.base.fs) (g.F.Fs.faults new.fs) c.args.self.now (system_of i.base i.lanes.items i.runs.items i.replies.items i.limits i.objects) (system_of new i.lanes.items c.book.new.runs.items c.book.new.replies.items i.limits c.turn-came.new.objects) c.args.actor view refl refl
+      (length-map i.runs.items (λ (x : Run). start_in x.task) ∙ booked.each_runs) (each_row i.lanes.items i.runs.items i.replies.items booked) acc.replied within c.in-Some.command.now
+      (subst (λ n. IsCommand i.lanes.items c.args.actor n c.in-Some.command.now) (sym (given_length i.base i.lanes.items i.runs.items i.replies.items i.limits i.objects c.args.actor booked within r)) command)
+      (work_in run.task) (ap works_of all ∙ map-set (λ (x : Run). work_in x.task) i.runs.items c.args.actor after) _ (folds_view g.F.Fs.view i.limits c.args.actor c.in-Some.command.now i.base new i.runs.items r (work_in run.task) _ in_runs (e.folds r))
+      opening v told was reply c.in-Answered.start c.args.actor c.index.result.now.command refl (returns-in-Answered-clause-acted g c) (c.number_of.ensures ∙ begun) c.book.ensures.replies);
+  said =
+    (λ v told said.
+      let i = c.self.inside in
+      let new = c.turn-came.new.base in
+      let booked = c.self.invariant.1 in
+      let view : c.args.self.now ≡ system_of i.base i.lanes.items i.runs.items i.replies.items i.limits i.objects = search rules in
+      let old = system_of i.base i.lanes.items i.runs.items i.replies.items i.limits i.objects in
+      let now = system_of new i.lanes.items c.book.new.runs.items c.book.new.replies.items i.limits c.turn-came.new.objects in
+      let e = c.in-Answered.ensures in
+      let acted = subst (λ s. Acted (AnswerTells g.F.Fs.view (g.F.Fs.faults s.base.fs) (g.F.Fs.faults new.fs) s c.args.actor) s now c.args.actor (Done c.args.actor c.index.result.now.command)) view (returns-in-Answered-clause-acted g c) in
+      said_as g.F.Fs.was c.args.self.now old now view
+      (λ said_so. said_done g.F.Fs.view g.F.Fs.clock g.F.Fs.was g.met.F.Fs.counts_now g.met.F.Fs.bound (g.F.Fs.faults old.base.fs) (g.F.Fs.faults new.fs) old now c.args.actor refl (each_row i.lanes.items i.runs.items i.replies.items booked) c.self.invariant.2.replied
+      c.self.invariant.0.sound.ordered.ascends e.carried.time v (subst (λ s. g.F.Fs.view s.base.fs ≡ Some v) view told) said_so c.args.actor c.index.result.now.command acted) said);
+  founded =
+    (let i = c.self.inside in
+      let r = c.index.result.now in
+      let within : c.args.actor < length i.lanes.items = search rules in
+      let few : c.index.result.now.command < length c.deref.result.now = fewer _ _ c.in-Some.ensures.lookup.0 in
+      let at : get_or c.deref.result.now c.index.result.now.command c.in-Some.command.now ≡ c.in-Some.command.now = search rules in
+      let command = act_command i.lanes.items c.args.actor i.runs.items r c.index-2.result.now c.deref.result.now c.in-Some.command.now within c.index.ensures c.index-2.ensures c.deref.ensures.value few at in
+      let new = c.turn-came.new.base in
+      let booked = c.self.invariant.1 in
+      let view : c.args.self.now ≡ system_of i.base i.lanes.items i.runs.items i.replies.items i.limits i.objects = search rules in
+      let old = system_of i.base i.lanes.items i.runs.items i.replies.items i.limits i.objects in
+      let now = system_of new i.lanes.items c.book.new.runs.items c.book.new.replies.items i.limits c.turn-came.new.objects in
+      let e = c.in-Answered.ensures in
+      let acted = subst (λ s. Acted (AnswerTells g.F.Fs.view (g.F.Fs.faults s.base.fs) (g.F.Fs.faults new.fs) s c.args.actor) s now c.args.actor (Done c.args.actor c.index.result.now.command)) view (returns-in-Answered-clause-acted g c) in
+      founded_as g.F.Fs.view g.F.Fs.was c.args.self.now old now view
+      (act_founds_done g.F.Fs.view g.F.Fs.clock g.F.Fs.was g.F.Fs.faults (g.F.Fs.faults old.base.fs) (g.F.Fs.faults new.fs) old now c.args.actor (each_row i.lanes.items i.runs.items i.replies.items booked) c.self.invariant.2.replied e.carried
+      c.in-Some.command.now (subst (λ n. IsCommand i.lanes.items c.args.actor n c.in-Some.command.now) (sym (given_length i.base i.lanes.items i.runs.items i.replies.items i.limits i.objects c.args.actor booked within r)) command) c.args.actor c.index.result.now.command acted));
+}

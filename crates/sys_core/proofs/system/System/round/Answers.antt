@@ -1,6 +1,6 @@
 use Rattle.std.proofs.Common.{◌≤◌, ◌+◌, ◌∙◌, Bool, ap, sym, subst, arith, length}
-use Rattle.sys_core.proofs.Founding.{told_both}
 use Rattle.sys_core.proofs.Laters.{acted_later, later_trans}
+use Rattle.sys_core.proofs.Preserving.{preserves_then}
 use Rattle.sys_core.proofs.Ranking.{Progress, progress_acted, progress_ended, round_falls, round_over}
 use Rattle.sys_core.proofs.system.System.round.Goals as goal
 use Rattle.sys_core.proofs.system.System.round.Goals.{in-Ended, in_default}
@@ -11,13 +11,7 @@ lanes-preserved g c =
     record {
       lanes = c.act.ensures.lanes ∙ i.lanes;
       later = later_trans c.args.self.now c.lanes.self c.act.new.self i.later (acted_later _ c.lanes.self c.act.new.self c.lanes.lane c.act.result c.act.ensures.acted);
-      lasts = λ start v told kept. (let x = i.lasts start v told kept in c.act.ensures.lasts start x.0 x.1 x.2);
-      good = λ v told stored. (let x = i.good v told stored in c.act.ensures.good x.0 x.1 x.2);
-      caused = λ before v told was. (let x = g.met.F.Fs.told c.args.self.now.base.fs c.lanes.self.base.fs v told in c.act.ensures.caused before x.0 x.1 (i.caused before v told was));
-      inside = λ v told stored was. (let y = i.good v told stored in c.act.ensures.inside y.0 y.1 y.2 (i.inside v told stored was));
-      folders = λ opening v told was. (let x = i.folders opening v told was in c.act.ensures.folders opening x.0 x.1 x.2);
-      said = λ v told said. (let x = g.met.F.Fs.told c.args.self.now.base.fs c.lanes.self.base.fs v told in c.act.ensures.said x.0 x.1 (i.said v told said));
-      founded = λ opening v told stored founded. (let x = told_both (g.F.Fs.view c.lanes.self.base.fs) _ _ (i.good v told stored) (i.founded opening v told stored founded) in c.act.ensures.founded opening x.0 x.1 x.2.0 x.2.1);
+      preserves = preserves_then g.F.Fs.view g.F.Fs.was g.F.Fs.faults g.met.F.Fs.told c.args.self.now c.lanes.self c.act.new.self i.preserves c.act.ensures.preserves;
       progress = elim c.match-act.branch [
         | in-Ended w ↦ subst (λ (b : Bool). Progress c.args.self.now c.act.new.self (c.lanes.lane + 1) b) (sym w.unfinished-is)
             (progress_ended _ c.args.self.now c.lanes.self c.act.new.self c.lanes.lane c.lanes.unfinished c.act.result w.in-Ended.is c.act.ensures.acted i.progress)
