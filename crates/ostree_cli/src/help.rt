@@ -1,7 +1,7 @@
 //! What `--help` and `--version` print.
 
-/// The program's name and version.
-pub const VERSION: &[u8] = b"ostree_cli 0.1.0\n";
+/// The program's name and version, and the sum of the logic in which it is proved, as `rt version` tells it.
+pub const VERSION: &[u8] = b"ostree_cli 0.1.0, proved in logic dac8208d650f15bf\n";
 
 /// Each option, each command with its fields, and what each exit status means.
 pub const USAGE: &[u8] = b"\

@@ -7,7 +7,7 @@ use fs_host::{HostFs, StdSink, StdSource};
 use help::{USAGE, VERSION};
 use std::io::ErrorKind;
 use std::process::ExitCode;
-use top_call::{MEMORY_LINE, USAGE_LINE, ostree, write_all};
+use top_call::{MEMORY_LINE, TopFault, USAGE_LINE, ostree, write_all};
 
 fn main(rt: HostRuntime) -> ExitCode {
     ExitCode::from(run(rt))
@@ -21,8 +21,18 @@ fn run(rt: HostRuntime) -> u8 {
     match words_of(&rt) {
         Ok(words) => obey(rt, &words, &mut out),
         Err(ErrorKind::OutOfMemory) => tell(&mut out, MEMORY_LINE, 3),
-        Err(_) => tell(&mut out, USAGE_LINE, 2),
+        Err(_) => {
+            hint(&rt);
+            tell(&mut out, USAGE_LINE, 2)
+        }
     }
+}
+
+// Says on standard error where the words are told that there are. Where nobody takes it, nothing else comes of that.
+fn hint(rt: &HostRuntime) {
+    let _ = eprintln!(rt;
+        "ostree_cli: these words are no command line; `ostree_cli --help` has those that are"
+    );
 }
 
 // The words behind the program's name.
@@ -44,10 +54,17 @@ fn obey(rt: HostRuntime, words: &[String], out: &mut StdSink<HostRuntime>) -> u8
         _ => {
             let alloc = rt.alloc();
             let mut input = StdSource::new(rt.reader());
-            match HostFs::new(rt) {
-                Ok(fs) => ostree(alloc, words, fs, &mut input, out).status,
-                Err(_) => tell(out, MEMORY_LINE, 3),
+            let Ok(other) = rt.clone() else {
+                return tell(out, MEMORY_LINE, 3);
+            };
+            let Ok(fs) = HostFs::new(other) else {
+                return tell(out, MEMORY_LINE, 3);
+            };
+            let ended = ostree(alloc, words, fs, &mut input, out);
+            if let Some(TopFault::Usage) = ended.fault {
+                hint(&rt);
             }
+            ended.status
         }
     }
 }
