@@ -1,5 +1,5 @@
 -- What stays of the objects of the store: in a later view, on a disk that a crash left since, and over many acts.
-use Rattle.std.proofs.Common.{◌≡◌, ◌⊎◌, inl, inr, ⊎_elim, ◌≤◌, ℕ, true, refl, sym, ◌∙◌, ap, subst, arith, List, [], ◌++◌, drop, take, Contains, Option, Some, None}
+use Rattle.std.proofs.Common.{◌≡◌, ◌⊎◌, inl, inr, ⊎_elim, ◌≤◌, ℕ, true, refl, sym, ◌∙◌, ap, subst, arith, List, [], ◌++◌, append-nil, drop, take, Contains, Option, Some, None}
 use Rattle.std.proofs.lemmas.List.Elements.{Contains-append_left, Contains-append_right}
 use Rattle.ost_types.specs.declared.limits.Limits.{Limits}
 use Rattle.ost_types.specs.declared.object.Kind.TheVariants.{Commit}
