@@ -1,26 +1,19 @@
 -- What a family proves of its answers.
-use Rattle.std.specs.Prelude.{◌≡◌, ◌≢◌, ◌≤◌, ◌++◌, ℕ, List, [], Some, IsSome}
-use Rattle.ost_types.specs.declared.object.Kind.TheVariants.{Commit}
+use Rattle.std.specs.Prelude.{◌≡◌, ◌≤◌, ◌++◌, ℕ, List, [], Some, IsSome}
 use Rattle.ost_types.specs.declared.object.ObjName.{ObjName}
 use Rattle.fs_trait.specs.declared.task.StepResult.TheVariants as turn
-use Rattle.fs_trait.specs.View.{Disk, View}
-use Rattle.fs_trait.specs.Seen.{Vacant, bytes_in, shows}
-use Rattle.repo_layout.specs.Paths.{object_path}
-use Rattle.repo_layout.specs.RefFile.{IsSum}
+use Rattle.fs_trait.specs.View.{View}
 use Rattle.rely_guarantee.specs.Books.{Books}
 use Rattle.rely_guarantee.specs.Lasting.{StaysFinished}
 use Rattle.rely_guarantee.specs.Rely.{Interference}
 use Rattle.rely_guarantee.specs.State.{State}
+use Rattle.command.specs.CommitFiles.{CommitsAreFiles}
 use Rattle.command.specs.Doing.{Doing}
 use Rattle.command.specs.Meaning.{Meaning}
 use Rattle.command.specs.Removed.{removed_by}
 use Rattle.command.specs.Sees.{Sees}
 use Rattle.command.specs.Since.{Since, placed}
 use Rattle.command.specs.Tasks.{TaskSpec}
-
--- nothing stands at the path of a commit's object, or a file
-abbrev pub CommitsAreFiles : Disk → Type 0
-CommitsAreFiles d = (commit : List ℕ) → IsSum commit → shows d (object_path Commit commit) ≢ Vacant → IsSome (bytes_in (shows d (object_path Commit commit)))
 
 pub record AnswerLaws {T W A : Type 0} (k : TaskSpec T) (m : Meaning W A) (d : Doing T W A) : Type 0 where
   -- the last step has an answer, and what it says is so

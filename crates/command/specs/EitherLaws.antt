@@ -35,7 +35,7 @@ not_left : {A B : Type 0} (o : Option B) (a : A) → wrapped {A = B} {B = Either
 not_left None a is = cc
 not_left (Some x) a is = cc
 
-module _ {S T W V A B : Type 0} {k : TaskSpec S} {l : TaskSpec T} {m : Meaning W A} {n : Meaning V B} {d : Doing S W A} {e : Doing T V B} where
+module _ {S T W V A B : Type 0} {k : TaskSpec S} {l : TaskSpec T} {d : Doing S W A} {e : Doing T V B} where
   steps_laws : StepLaws k d → StepLaws l e → StepLaws (either_tasks k l) (either_doing d e)
   steps_laws one two = record {
     begun = λ start entries pending lane. elim [ Left t ↦ one.begun start entries pending lane t | Right t ↦ two.begun start entries pending lane t ];
@@ -55,6 +55,7 @@ module _ {S T W V A B : Type 0} {k : TaskSpec S} {l : TaskSpec T} {m : Meaning W
     back = λ told. elim [ Left t ↦ ap Left (one.back told t) | Right t ↦ ap Right (two.back told t) ];
   }
 
+module _ {S T W V A B : Type 0} {k : TaskSpec S} {l : TaskSpec T} {m : Meaning W A} {n : Meaning V B} {d : Doing S W A} {e : Doing T V B} where
   change_laws : ChangeLaws k m d → ChangeLaws l n e → ChangeLaws (either_tasks k l) (either_means m n) (either_doing d e)
   change_laws one two = record {
     shown = λ since. elim [ Left c ↦ elim [ Left t ↦ one.shown since c t | Right t ↦ λ event after is. absurd after ] | Right c ↦ elim [ Left t ↦ λ event after is. absurd after | Right t ↦ two.shown since c t ] ];

@@ -2,6 +2,7 @@ pub mod Since
 pub mod Revisions
 pub mod Removed
 pub mod Staging
+pub mod CommitFiles
 pub mod Sees
 pub mod Meaning
 pub mod Doing

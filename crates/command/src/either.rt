@@ -36,7 +36,10 @@ impl<A: Command, B: Command> Command for Either<A, B> {
         }
     }
 
-    fn stray(alloc: Global, words: &Either<A::Words, B::Words>) -> Result<Option<FsPath>, NoMemory> {
+    fn stray(
+        alloc: Global,
+        words: &Either<A::Words, B::Words>,
+    ) -> Result<Option<FsPath>, NoMemory> {
         match words {
             Either::Left(words) => A::stray(alloc, words),
             Either::Right(words) => B::stray(alloc, words),

@@ -3,12 +3,10 @@ use Rattle.std.proofs.Common.{◌≡◌, ⊎_elim, ℕ, true, false, sym, ◌∙
 use Rattle.ost_types.specs.declared.object.Kind.TheVariants.{Commit}
 use Rattle.ost_types.specs.declared.object.ObjName.{ObjName}
 use Rattle.fs_trait.specs.Image.{reads}
-use Rattle.fs_trait.specs.Seen.{Seen, Vacant, Directory, Symlink, Leaf, bytes_in, shows}
+use Rattle.fs_trait.specs.Seen.{Seen}
 use Rattle.fs_trait.specs.View.{View}
-use Rattle.fs_trait.proofs.Claims.{reads_shows}
-use Rattle.fs_trait.proofs.Effects.{may_now}
 use Rattle.repo_layout.specs.BootPaths.{checkout_path}
-use Rattle.repo_layout.specs.Paths.{mark_path, object_path}
+use Rattle.repo_layout.specs.Paths.{object_path}
 use Rattle.repo_layout.specs.Place.{Checkout, Object, Ref, Stage}
 use Rattle.repo_layout.specs.RefFile.{IsSum}
 use Rattle.repo_layout.proofs.Places.{place-checkout, place-object}
@@ -19,7 +17,6 @@ use Rattle.ref_store.specs.Change.{progress_in}
 use Rattle.rely_guarantee.specs.declared.event.Event.{Event}
 use Rattle.rely_guarantee.specs.declared.kind.Wants.{Wants}
 use Rattle.rely_guarantee.specs.Books.{Books}
-use Rattle.rely_guarantee.specs.Disks.{IsLeaf}
 use Rattle.rely_guarantee.specs.Lasting.{StaysFinished}
 use Rattle.rely_guarantee.specs.Laws.{Take}
 use Rattle.rely_guarantee.specs.State.{State}
@@ -33,7 +30,7 @@ use Rattle.ref_command.specs.Commands.{command_facts, command_kind, command_writ
 use Rattle.ref_command.specs.Found.{IsFound, commit_name}
 use Rattle.ref_command.specs.Kinds.{event, kind_at, turn_wants}
 use Rattle.ref_command.proofs.Resets.{command_places}
-use Rattle.command.specs.AnswerLaws.{CommitsAreFiles}
+use Rattle.command.specs.CommitFiles.{CommitsAreFiles, commit_read, no_mark_read}
 use Rattle.ref_family.specs.declared.words.RefWords.{RefWords}
 use Rattle.ref_family.specs.declared.words.RefWords.TheVariants as words
 use Rattle.ref_family.specs.Family.{ref_lacks, ref_pursues, ref_shows, ref_works}
@@ -81,30 +78,17 @@ no_checkout actor lane t v b name s f wrote = absurd (⊎_elim
     (λ ref. (let n : Checkout name [] ≡ Ref ref.0 = sym (place-checkout name []) ∙ ref.1 in cc))
     (command_places actor lane t v b f (checkout_path name) s wrote))
 
--- a commit that lasts is found, where commits are files
-leaf_file : (s : Seen) → IsSome (bytes_in s) → IsLeaf s
-leaf_file (Leaf n m bytes) is = tt
-leaf_file (Symlink m target) is = tt
-leaf_file Vacant is = let n : false ≡ true = is in cc
-leaf_file (Directory m) is = let n : false ≡ true = is in cc
-
 none_not : {A : Type 0} (o : Option A) → o ≡ None → IsSome o → ⊥
 none_not o none some = let n : false ≡ true = subst IsSome none some in cc
 
-found_there : (v : View) (commit : List ℕ) → CommitsAreFiles v.now → StaysFinished v commit → IsFound v.now commit Missing → ⊥
-found_there v commit files finished missing =
-    let at = object_path Commit commit in
-    none_not (reads v.now at) missing
-    (subst IsSome (sym (reads_shows v.now at)) (files commit finished.there.sum (finished.there.there (shows v.now at) (may_now v at))))
-
-found_unmarked : (v : View) (commit : List ℕ) → StaysFinished v commit → IsFound v.now commit Partial → ⊥
-found_unmarked v commit finished partial =
-    let at = mark_path commit in
-    finished.unmarked.each (shows v.now at) (may_now v at) (leaf_file (shows v.now at) (subst IsSome (reads_shows v.now at) partial.1))
-
+-- a commit that lasts is found whole, where commits are files
 pub lacks_none : (v : View) (a : RefAnswer) (commit : List ℕ) → CommitsAreFiles v.now → ref_shows v a → ref_lacks a commit → StaysFinished v commit → ⊥
-lacks_none v (answer.NoCommit sum) commit files seen is finished = found_there v commit files finished (subst (λ x. IsFound v.now x Missing) is seen)
-lacks_none v (answer.Partial sum) commit files seen is finished = found_unmarked v commit finished (subst (λ x. IsFound v.now x Partial) is seen)
+lacks_none v (answer.NoCommit sum) commit files seen is finished =
+    let missing : IsFound v.now commit Missing = subst (λ x. IsFound v.now x Missing) is seen in
+    none_not (reads v.now (object_path Commit commit)) missing (commit_read v commit files finished)
+lacks_none v (answer.Partial sum) commit files seen is finished =
+    let partial : IsFound v.now commit Partial = subst (λ x. IsFound v.now x Partial) is seen in
+    no_mark_read v commit finished partial.1
 lacks_none v (answer.Commit sum) commit files seen is finished = is
 lacks_none v answer.Changed commit files seen is finished = is
 lacks_none v answer.NoRef commit files seen is finished = is

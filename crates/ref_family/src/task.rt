@@ -5,7 +5,7 @@ ghost use Rattle.ref_command.specs.CommandLaws.{command_laws};
 use fs_trait::{Fs, FsErr, StepResult};
 use ost_types::{Name, NoMemory};
 use ref_command::RefCommand;
-use rely_guarantee::{Event, Step, CommandTask};
+use rely_guarantee::{CommandTask, Event, Step};
 
 /// The task of a command that looks a commit up or changes a ref.
 #[derive(Drop)]

@@ -1,0 +1,4 @@
+pub mod Family
+pub mod Kinds
+pub mod Answering
+pub mod Laws
