@@ -1,5 +1,5 @@
 -- What the last step of a command sees of the state, in a system that keeps its invariant.
-use Rattle.std.proofs.Common.{◌≡◌, ◌≢◌, ⊎_elim, ℕ, refl, sym, ◌∙◌, ap, subst, List, [], ◌∷◌, ◌++◌, Option, Some, None}
+use Rattle.std.proofs.Common.{◌≡◌, ◌≢◌, ⊎_elim, ℕ, refl, sym, ◌∙◌, ap, subst, List, [], ◌∷◌, ◌++◌, Option, Some, None, true}
 use Rattle.fs_trait.specs.View.{View}
 use Rattle.fs_trait.specs.Image.{IsTree}
 use Rattle.fs_trait.proofs.Images.{Image-now}
@@ -12,7 +12,7 @@ use Rattle.rely_guarantee.specs.Books.{Agrees, Books, Free, books_of}
 use Rattle.rely_guarantee.specs.Exact.{IsBooked, IsUnbooked, Opens}
 use Rattle.rely_guarantee.specs.Laws.{Kind, Quiet, Store, Take, Claim, Show, Shown, Settle, Holds, NotPending}
 use Rattle.rely_guarantee.specs.SystemInvariant.{Stands}
-use Rattle.rely_guarantee.specs.State.{State, first, gives, target, after, events_of}
+use Rattle.rely_guarantee.specs.State.{State, Topic, first, gives, is_topic, target, after, events_of}
 use Rattle.rely_guarantee.proofs.Goods.{fits_all}
 use Rattle.rely_guarantee.proofs.States.{after_push, events_push, next_here, topic_self}
 use Rattle.command.specs.Sees.{HoldsOff, IsState, Sees}
@@ -43,14 +43,14 @@ module _ (lane command moment : ℕ) (old new : rust.Books) (start : new.start.i
       let is : now_of new ≡ now_of old = ap (λ (h : List Entry). after (events_of h) (first new.start.items)) same.0 ∙ ap (λ x. after (events_of old.history.items) (first x)) start in
       subst (IsState v.now) (sym is) (state_of (first old.start.items) old.history.items old.pending v stands (none_pending old.turn old.pending lane owner none free) tree)
 
-  entered : (x : Entry) → new.history.items ≡ old.history.items ++ x ∷ [] → now_of new (target x.event) ≡ gives x.event
-  entered x grows =
+  entered : (x : Entry) → new.history.items ≡ old.history.items ++ x ∷ [] → (t : Topic) → target x.event ≡ Some t → now_of new t ≡ gives x.event
+  entered x grows t is =
       let from : State = first new.start.items in
       let past : State = after (events_of old.history.items) from in
-      ap (λ (h : List Entry). after (events_of h) from (target x.event)) grows
-      ∙ ap (λ (l : List Event). after l from (target x.event)) (events_push old.history.items x)
-      ∙ ap (λ (s : State). s (target x.event)) (after_push (events_of old.history.items) x.event from)
-      ∙ next_here x.event (target x.event) past (topic_self (target x.event))
+      ap (λ (h : List Entry). after (events_of h) from t) grows
+      ∙ ap (λ (l : List Event). after l from t) (events_push old.history.items x)
+      ∙ ap (λ (s : State). s t) (after_push (events_of old.history.items) x.event from)
+      ∙ next_here x.event t past (subst (λ (o : Option Topic). is_topic o t ≡ true) (sym is) (topic_self t))
 
   pub sees_by : (k : Kind) → Holds k lane (books_of old) → Opens k lane (books_of old) → IsBooked k lane command moment came.Done old new → Sees k lane (books_of old) v w (now_of new)
   sees_by Quiet holds opens booked = λ has. before holds (free_of lane (books_of old) agrees has) booked

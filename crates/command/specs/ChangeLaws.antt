@@ -6,11 +6,10 @@ use Rattle.fs_trait.specs.View.{Disk, View}
 use Rattle.rely_guarantee.specs.declared.event.Event.{Event}
 use Rattle.rely_guarantee.specs.declared.event.Event.TheVariants.{SetRef, DropRef, Pruned}
 use Rattle.rely_guarantee.specs.Books.{Books}
-use Rattle.rely_guarantee.specs.Lasting.{IsRight, StaysFinished, StaysOn}
+use Rattle.rely_guarantee.specs.Lasting.{IsRight, Stays, StaysFinished, StaysOn}
 use Rattle.rely_guarantee.specs.Laws.{Show, Settle, IsSettle}
 use Rattle.command.specs.Doing.{Doing}
 use Rattle.command.specs.Meaning.{Meaning}
-use Rattle.command.specs.Removed.{StaysBut}
 use Rattle.command.specs.Since.{Since}
 use Rattle.command.specs.Tasks.{TaskSpec}
 
@@ -34,5 +33,5 @@ pub record ChangeLaws {T W A : Type 0} (k : TaskSpec T) (m : Meaning W A) (d : D
   pub makes_not : (since : Since) (c : W) (t new : T) (a : A) → d.pursues since c t → k.stepped t (turn.Done tt) new → d.answer new ≡ Some a → (IsSettle (k.kind t) → ⊥) → m.makes a c → ⊥
   -- what a change that lasts leaves in the store stands, and stays so while the store's objects do, but for those that are removed
   pub kept : (since : Since) (opening : View) (lane : ℕ) (c : W) (t new : T) (v w : View) (b : Books) → IsRightSince opening v → d.pursues since c t → k.facts lane t v b → k.leaves t (turn.Done tt) new v w → IsSettle (k.kind t) → m.keeps since opening [] c w
-  pub keeps : (since : Since) (opening : View) (out removed : List ObjName) (c : W) (v w : View) → IsRightSince opening v → StaysBut removed v w → m.keeps since opening out c v → m.keeps since opening (removed ++ out) c w
-  pub keeps_on : (since : Since) (opening : View) (out : List ObjName) (c : W) (v : View) (disk : Disk) → StaysOn [] v disk → m.keeps since opening out c v → m.keeps_on since opening out c disk
+  pub keeps : (since : Since) (opening : View) (out removed : List ObjName) (c : W) (v w : View) → IsRightSince opening v → Stays removed v w → m.keeps since opening out c v → m.keeps since opening (removed ++ out) c w
+  pub keeps_on : (since : Since) (opening : View) (out removed : List ObjName) (c : W) (v : View) (disk : Disk) → StaysOn removed v disk → m.keeps since opening out c v → m.keeps_on since opening (removed ++ out) c disk

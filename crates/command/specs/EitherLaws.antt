@@ -65,7 +65,7 @@ module _ {S T W V A B : Type 0} {k : TaskSpec S} {l : TaskSpec T} {m : Meaning W
     makes_not = λ since. elim [ Left c ↦ elim [ Left t ↦ elim [ Left new ↦ elim [ Left a ↦ λ after step is. one.makes_not since c t new a after step (from_left (d.answer new) a is) | Right a ↦ λ after step is. absurd (not_right (d.answer new) a is) ] | Right new ↦ λ a after step is. absurd step ] | Right t ↦ λ new a after step is. absurd after ] | Right c ↦ elim [ Left t ↦ λ new a after step is. absurd after | Right t ↦ elim [ Left new ↦ λ a after step is. absurd step | Right new ↦ elim [ Left a ↦ λ after step is. absurd (not_left (e.answer new) a is) | Right a ↦ λ after step is. two.makes_not since c t new a after step (from_right (e.answer new) a is) ] ] ] ];
     kept = λ since opening lane. elim [ Left c ↦ elim [ Left t ↦ elim [ Left new ↦ one.kept since opening lane c t new | Right new ↦ λ v w b right after f leaves settles. absurd leaves ] | Right t ↦ λ new v w b right after f leaves settles. absurd after ] | Right c ↦ elim [ Left t ↦ λ new v w b right after f leaves settles. absurd after | Right t ↦ elim [ Left new ↦ λ v w b right after f leaves settles. absurd leaves | Right new ↦ two.kept since opening lane c t new ] ] ];
     keeps = λ since opening out removed. elim [ Left c ↦ one.keeps since opening out removed c | Right c ↦ two.keeps since opening out removed c ];
-    keeps_on = λ since opening out. elim [ Left c ↦ one.keeps_on since opening out c | Right c ↦ two.keeps_on since opening out c ];
+    keeps_on = λ since opening out removed. elim [ Left c ↦ one.keeps_on since opening out removed c | Right c ↦ two.keeps_on since opening out removed c ];
   }
 
   answer_laws : AnswerLaws k m d → AnswerLaws l n e → AnswerLaws (either_tasks k l) (either_means m n) (either_doing d e)

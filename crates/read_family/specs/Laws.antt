@@ -58,7 +58,7 @@ change_laws = record {
   makes_not = λ since c t new a is step given settles made. made;
   kept = λ since opening lane c t new v w b right is f leaves settles. tt;
   keeps = λ since opening out removed c v w right stays is. tt;
-  keeps_on = λ since opening out c v disk stays is. tt;
+  keeps_on = λ since opening out removed c v disk stays is. tt;
 }
 
 answer_laws : AnswerLaws read_tasks read_means read_doing

@@ -77,7 +77,7 @@ change_laws = record {
   makes_not = λ since c t new a is step given k m. (let e = ref_ends since.start c t.work new.work is step in e.makes_not k (subst (λ x. ref_makes x c) (sym (one (answer_of new.work) e.given a e.answer given)) m));
   kept = λ since opening lane c t new v w b right is f leaves k. tt;
   keeps = λ since opening out removed c v w right stays is. tt;
-  keeps_on = λ since opening out c v disk stays is. tt;
+  keeps_on = λ since opening out removed c v disk stays is. tt;
 }
 
 answer_laws : AnswerLaws ref_tasks ref_means ref_doing
