@@ -1,0 +1,158 @@
+#!/usr/bin/env python3
+"""Tries what the machine does to ostree_cli's folder: two processes at once, odd files, limits, modes.
+
+Usage: tools/host_checks.py [pairs [N]] [fifo] [long] [limit] [modes]      from the top of the repository, after `make`; with no word all
+
+pairs   N times (300) two processes commit in one folder at once: at most one ends with a fault, and the folder opens then
+fifo    a FIFO where objects are staged: a fault that is told, and nothing waits for it
+long    a file of 1 TiB at an object's path, as the configuration and as a ref: a refusal that takes no memory
+limit   a limit of file sizes, whose signal is ignored: a fault that is told, and the folder opens without it
+modes   with no umask: files are 0600 and folders 0700
+
+Each check prints a line; any that fails ends the run with status 1.
+"""
+import os
+import resource
+import shutil
+import stat
+import subprocess
+import sys
+
+PROGRAM = os.path.join(os.getcwd(), "build", "ostree_cli")
+FOLDER = os.path.join(os.getcwd(), "build", "host_checks")
+REPOSITORY = os.path.join(FOLDER, "ostree", "repo")
+SECONDS = 60
+MEMORY = 64 << 20
+
+
+def script(number, content="a"):
+    lines = ["ostree-script 1", "tree 0", "folder / 0 0 755 ~", f"file /f 0 0 600 ~ ={content}{number}", "end"]
+    return "\n".join(lines + ["lane", f"commit os/main{number} 0 c{number} ~ {1700000000 + number}", "end", ""])
+
+
+def fresh():
+    shutil.rmtree(FOLDER, ignore_errors=True)
+    os.makedirs(FOLDER)
+
+
+def start(words, **more):
+    return subprocess.Popen([PROGRAM] + words, cwd=FOLDER, stdin=subprocess.PIPE, stdout=subprocess.PIPE, stderr=subprocess.PIPE, text=True, **more)
+
+
+def ask(words, text="", **more):
+    """The status and what was printed."""
+    with start(words, **more) as process:
+        printed, _ = process.communicate(text, timeout=SECONDS)
+        return process.returncode, printed
+
+
+def opens():
+    status, printed = ask(["refs"])
+    return None if status == 0 else f"the folder doesn't open: status {status}, {printed!r}"
+
+
+def pairs(count=300):
+    faults = 0
+    for number in range(count):
+        if number % 50 == 0:
+            fresh()
+        both = [start(["run"]), start(["run"])]
+        for at, process in enumerate(both):
+            process.stdin.write(script(2 * number + at))
+            process.stdin.close()
+        statuses = []
+        for process in both:
+            printed = process.stdout.read()
+            statuses.append(process.wait(timeout=SECONDS))
+            if statuses[-1] != 0 and printed != "fault open Disk\n":
+                return f"pair {number}: status {statuses[-1]}, {printed!r}"
+        failed = sum(status != 0 for status in statuses)
+        faults += failed
+        if failed > 1:
+            return f"pair {number}: both ended with a fault"
+        for at, status in enumerate(statuses):
+            if status == 0 and ask(["rev-parse", f"os/main{2 * number + at}"])[0] != 0:
+                return f"pair {number}: an acknowledged commit is gone"
+        wrong = opens()
+        if wrong:
+            return f"pair {number}: {wrong}"
+    return f"{count} pairs, {faults} faults", True
+
+
+def fifo():
+    fresh()
+    ask(["run"], script(0))
+    os.mkfifo(os.path.join(REPOSITORY, "tmp", "fifo"))
+    status, printed = ask(["run"], script(1))
+    told = status != 0 and printed.startswith("fault")
+    os.remove(os.path.join(REPOSITORY, "tmp", "fifo"))
+    wrong = opens()
+    return wrong or (f"status {status}, {printed!r}", told)
+
+
+def paths_that_are_read():
+    """An object, the configuration, and a ref."""
+    objects = os.path.join(REPOSITORY, "objects")
+    for at, _, names in sorted(os.walk(objects)):
+        for name in sorted(names):
+            if name.endswith(".commit"):
+                yield os.path.join(at, name)
+    yield os.path.join(REPOSITORY, "config")
+    yield os.path.join(REPOSITORY, "refs", "heads", "os", "main0")
+
+
+def long():
+    said = []
+    fresh()
+    ask(["run"], script(0))
+    kept = os.path.join(os.path.dirname(FOLDER), "host_checks_kept")
+    for path in list(paths_that_are_read()):
+        shutil.copyfile(path, kept)
+        os.truncate(path, 1 << 40)
+        limits = lambda: resource.setrlimit(resource.RLIMIT_AS, (MEMORY, MEMORY))
+        status, printed = ask(["refs"], preexec_fn=limits)
+        said.append(f"{os.path.basename(path)[-8:]}: {status} {printed.strip()!r}")
+        if status == 0 or "NoMemory" in printed:
+            return "; ".join(said)
+        shutil.copyfile(kept, path)
+    os.remove(kept)
+    return opens() or ("; ".join(said), True)
+
+
+def limit():
+    fresh()
+    ask(["run"], script(0))
+    limits = lambda: resource.setrlimit(resource.RLIMIT_FSIZE, (1 << 16, 1 << 16))
+    # Python ignores SIGXFSZ, and so does what it starts where it doesn't restore that.
+    status, printed = ask(["run"], script(1, "a" * (1 << 20)), preexec_fn=limits, restore_signals=False)
+    if status <= 0 or not printed:
+        return f"status {status}, {printed!r}"
+    return opens() or (f"status {status}, {printed.strip()!r}", True)
+
+
+def modes():
+    fresh()
+    ask(["run"], script(0), preexec_fn=lambda: os.umask(0))
+    for at, folders, files in os.walk(FOLDER):
+        for name, wanted in [(it, 0o700) for it in folders] + [(it, 0o600) for it in files]:
+            found = stat.S_IMODE(os.lstat(os.path.join(at, name)).st_mode)
+            if found != wanted:
+                return f"{os.path.join(at, name)} has mode {found:o}"
+    return "0600 and 0700", True
+
+
+def main():
+    checks = {"pairs": pairs, "fifo": fifo, "long": long, "limit": limit, "modes": modes}
+    words = [word for word in sys.argv[1:] if not word.isdigit()] or list(checks)
+    counts = [int(word) for word in sys.argv[1:] if word.isdigit()]
+    failed = 0
+    for word in words:
+        found = checks[word](*(counts if word == "pairs" else []))
+        good = isinstance(found, tuple) and found[1]
+        failed += not good
+        print(f"{word}: {'ok' if good else 'WRONG'}: {found[0] if isinstance(found, tuple) else found}")
+    shutil.rmtree(FOLDER, ignore_errors=True)
+    sys.exit(1 if failed else 0)
+
+
+main()
