@@ -7,7 +7,7 @@ set -e
 here=$(cd "$(dirname "$0")" && pwd)
 work=$(mktemp -d)
 mkdir "$work/crates"
-crates='ost_types gv_core ost_forms ost_objects fs_trait keyfile repo_layout repo_model staging obj_store tree_build commit_build fs_host'
+crates='ost_types gv_core ost_forms ost_objects fs_trait keyfile repo_layout repo_model staging obj_store tree_build commit_build host_files fs_host'
 for crate in $crates; do
     cp -r "$here/../crates/$crate" "$work/crates/"
 done

@@ -212,8 +212,7 @@ impl Run {
         after: &mut Moment,
     ) -> Result<(), Stop> {
         for image in images {
-            let (one, two) = (self.random.number(), self.random.number());
-            for loss in [Loss::Nothing, Loss::All, Loss::Some(one), Loss::Some(two)] {
+            for loss in self.losses() {
                 let tree = tree_on(self.alloc, image.after_loss(loss)?)?;
                 self.counts.cuts = self.counts.cuts.saturating_add(1);
                 if !after.may_leave(&self.mem, &tree)? && !before.may_leave(&self.mem, &tree)? {
@@ -222,6 +221,16 @@ impl Run {
             }
         }
         Ok(())
+    }
+
+    fn losses(&mut self) -> [Loss; 3] {
+        let (one, two) = (self.random.number(), self.random.number());
+        let third = if two % 4 == 0 {
+            Loss::Nothing
+        } else {
+            Loss::Some(two)
+        };
+        [Loss::All, Loss::Some(one), third]
     }
 
     fn lost(&self, loss: Loss) -> Result<Stop, Stop> {
@@ -235,7 +244,11 @@ impl Run {
     }
 
     // What the next run begins with: the image that the disk shows. None where it shows a file with bytes that weren't synced.
-    fn goes_on(&mut self, disk: &Disk, last: (Moment, Moment)) -> Result<Option<(MemFs, Moment)>, Stop> {
+    fn goes_on(
+        &mut self,
+        disk: &Disk,
+        last: (Moment, Moment),
+    ) -> Result<Option<(MemFs, Moment)>, Stop> {
         let (mut before, mut after) = last;
         let images = images_at_start(self.alloc, disk.copy()?)?;
         self.check(&images, &mut before, &mut after)?;

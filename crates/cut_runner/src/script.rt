@@ -56,7 +56,7 @@ impl Script {
 
     /// A few blocks of calls, by chance.
     pub fn add_blocks(&mut self) -> Result<(), Stop> {
-        for _ in 0..2 + self.random.below(3) {
+        for _ in 0..1 + self.random.below(3) {
             match self.random.below(5) {
                 0 => self.add_commit()?,
                 1 => self.add_ref()?,
