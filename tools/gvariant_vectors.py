@@ -1,7 +1,7 @@
 #!/usr/bin/python3
-"""Makes the table of crates/gv_core/src/vectors.rt with GLib, and compares GLib's verdict on damaged bytes with the table's.
+"""Makes the table of crates/formats_check/src/gvariant_vectors.rt with GLib, and compares GLib's verdict on damaged bytes with the table's.
 
-Needs GLib's Python binding (Debian: python3-gi). Run: /usr/bin/python3 tools/gvariant_vectors.py > crates/gv_core/src/vectors.rt
+Needs GLib's Python binding (Debian: python3-gi). Run: /usr/bin/python3 tools/gvariant_vectors.py > crates/formats_check/src/gvariant_vectors.rt
 
 Each line has a type string, bytes, and the value; `!` stands for bytes that aren't a normal form, and `*` for a value that isn't
 written out. Bytes are hexadecimal digits; `hh*n.` are n bytes hh. No bytes are written `-`.

@@ -1,7 +1,7 @@
 #!/usr/bin/python3
 """Prints objects that ostree (the Debian package) makes, a row each: kind, name, bytes in hexadecimal.
 
-The tests of ost_objects hold what it printed (crates/ost_objects/src/vectors.rt). Run it as root in an empty folder of a
+The tests of formats_check hold what it printed (crates/formats_check/src/objects_vectors.rt). Run it as root in an empty folder of a
 file system with extended attributes. ostree keeps a file of a bare repository as a file, so its content stream is laid
 out here from the file's attributes; that its SHA-256 is the name ostree gave it is asserted.
 """
