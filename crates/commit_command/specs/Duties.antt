@@ -163,7 +163,7 @@ module _ (b : Books) (v : View) (lane : ℕ) (t : CommitCommand) (f : Building l
       let n : OfBuild t.build.actor (Ref name) = subst (OfBuild t.build.actor) (place-ref name) (build_place t.build v f.needs.made.actor _ s (commit_lies t.build v f.needs _ s wrote.0)) in
       absurd n
 
-  -- each step of the build keeps the duty of its kind
+  -- each step of the build keeps the obligation of its kind
   pub build_duty : (actor : ℕ) (o : Option ObjName) → storing_in t.build.phase ≡ o → Agrees b → Stood (build_kind t.pinned o) actor lane b → (Done : View → Type 0)
       → StepObligation (build_kind t.pinned o) actor lane v b (WritesIn t.objects t.build v) Done
   build_duty actor None is agrees stood Done = (within (λ shared. absurd (stores t.build.phase shared is)), still)

@@ -1,4 +1,4 @@
--- What a change of a ref writes is what its lane may write, and each kind of step keeps its duty.
+-- What a change of a ref writes is what its lane may write, and each kind of step keeps its obligation.
 use Rattle.std.proofs.Common.{◌≡◌, ◌≢◌, ◌⊎◌, inl, inr, ⊎_elim, ℕ, true, refl, sym, ◌∙◌, ap, subst, List, [], Option, Some, None}
 use Rattle.ost_types.specs.declared.meta.Meta.{Meta}
 use Rattle.ost_types.specs.declared.object.Kind.{Kind}
@@ -213,7 +213,7 @@ module _ (b : Books) (v : View) (actor lane : ℕ) (t : Change) (f : Facts lane 
   duty_in agrees Done phase.SyncFolder done is stood turn = ((λ p s a. absurd a), (λ w last. sync_final is w (done tt w last)))
   duty_in agrees Done phase.Ended done is stood turn = ((λ p s a. absurd a), (λ q s a. absurd a))
 
--- each step of a change keeps the duty of its kind
+-- each step of a change keeps the obligation of its kind
 pub change_duty : (b : Books) (v : View) (actor lane : ℕ) (t : Change) → Facts lane t v b → Agrees b → (Done : View → Type 0) → (IsSettle (kind_in t.phase (event t)) → (w : View) → Done w → IsDone t w)
     → Stood (kind_in t.phase (event t)) actor lane b → StepObligation (kind_in t.phase (event t)) actor lane v b (WritesOf t v) Done
 change_duty b v actor lane t f agrees Done done stood = duty_in b v actor lane t f agrees Done t.phase done refl stood f.turn

@@ -10,9 +10,9 @@ ghost use Rattle.ref_command.specs.Answers.{Begins};
 ghost use Rattle.ref_command.specs.CommandLaws.{command_laws};
 ghost use Rattle.rely_guarantee.specs.Laws.{step_of};
 
-use crate::{RefAnswer, RefWork};
 use crate::look_up::{Found, LookUp, commit_name};
 use crate::plan::Plan;
+use crate::{RefAnswer, RefWork};
 use fs_trait::{Fs, FsErr, StepResult};
 use ost_types::{Csum, Name, NoMemory};
 use ref_store::RefRefusal;

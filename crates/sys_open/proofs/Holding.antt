@@ -24,7 +24,7 @@ use Rattle.layout_rules.specs.Checks.{HoldsRefs, IsRefAt, IsReached}
 use Rattle.sys_open.specs.Walk.{IsSoBelow, IsFirstBelow, Looked, Walked, paths_in}
 use Rattle.sys_open.specs.Gathered.{Refs, Has, HasAt, HasLeafAt, AreOf, HasAllBelow, Grows}
 use Rattle.sys_open.proofs.Walks.{leaf_walk, first_here}
-use Rattle.sys_open.proofs.Reaching.{leaf_no_folder, reached_vacant, walked_all}
+use Rattle.sys_open.proofs.ReachedPlaces.{leaf_no_folder, reached_vacant, walked_all}
 
 abbrev order : List ℕ → List ℕ → Ordering
 order = slice_cmp nat_cmp

@@ -3,7 +3,7 @@ mod Listed
 mod Lists
 mod Orders
 mod Walks
-mod Reaching
+mod ReachedPlaces
 mod Working
 mod Clearings
 mod Holding

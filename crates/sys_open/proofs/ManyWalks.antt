@@ -27,7 +27,7 @@ use Rattle.layout_rules.proofs.Suiting.{absent_suits}
 use Rattle.sys_open.proofs.FaultLemmas.{look_same}
 use Rattle.sys_open.proofs.ManyPaths.{OfKernel, copy_in, in_folder, kernel_in, mark_in, not_folder, not_named, rule_of_kernel, rule_of_mark, rule_of_object, rule_of_stateroot}
 use Rattle.sys_open.proofs.Orders.{not_less_itself}
-use Rattle.sys_open.proofs.Reaching.{walked_here, walked_later, walked_all}
+use Rattle.sys_open.proofs.ReachedPlaces.{walked_here, walked_later, walked_all}
 
 pub vacant : (d : Disk) (many : Many) (q : Path) → d.at q ≡ Absent → AsksIn many d q
 vacant d many q none = λ rule is. absent_suits rule (d.at q) none

@@ -2,7 +2,7 @@ use Rattle.std.proofs.Common.{sym, ◌∙◌, ap}
 use Rattle.fs_trait.specs.Image.{is_folder}
 use Rattle.ref_room.proofs.Disks.{looked_nothing, looked_leaf}
 use Rattle.sys_open.proofs.ManyWalks.{none_listed}
-use Rattle.sys_open.proofs.Reaching.{leaf_no_folder}
+use Rattle.sys_open.proofs.ReachedPlaces.{leaf_no_folder}
 use Rattle.sys_open.proofs.inside.names_in.Goals as goal
 
 pub returns-in-Ok-Leaf-clause-told : goal.returns-in-Ok-Leaf-clause-told

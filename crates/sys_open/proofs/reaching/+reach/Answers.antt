@@ -6,7 +6,7 @@ use Rattle.fs_trait.specs.Image.{is_folder}
 use Rattle.sys_open.specs.declared.fault.Why.TheVariants.{WrongKind}
 use Rattle.layout_rules.specs.Checks.{IsReached}
 use Rattle.ref_room.proofs.Disks.{looked_nothing, looked_leaf}
-use Rattle.sys_open.proofs.Reaching.{leaf_no_folder, reached_vacant, reached_leaf, walked_here, walked_later, walked_all}
+use Rattle.sys_open.proofs.ReachedPlaces.{leaf_no_folder, reached_vacant, reached_leaf, walked_here, walked_later, walked_all}
 use Rattle.sys_open.proofs.reaching.+reach.Goals as goal
 
 pub reach-returns-in-Ok-Nothing-clause-told : goal.reach-returns-in-Ok-Nothing-clause-told

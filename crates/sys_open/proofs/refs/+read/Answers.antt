@@ -8,7 +8,7 @@ use Rattle.sys_open.specs.declared.fault.Why.TheVariants.{BadRef}
 use Rattle.layout_rules.specs.Checks.{HoldsRefs, IsReached}
 use Rattle.sys_open.specs.Gathered.{AreOf}
 use Rattle.sys_open.proofs.FaultLemmas.{look_same}
-use Rattle.sys_open.proofs.Reaching.{walked_here, walked_later, walked_all}
+use Rattle.sys_open.proofs.ReachedPlaces.{walked_here, walked_later, walked_all}
 use Rattle.sys_open.proofs.Holding.{holds_vacant, holds_folder, folder_below, more_below, more_so, grows_trans, on_ok_then, on_ok_grows, still_walked}
 use Rattle.sys_open.proofs.refs.+read.Goals as goal
 

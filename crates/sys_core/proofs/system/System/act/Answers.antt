@@ -492,14 +492,14 @@ returns-in-Blocked-clause-preserves g c = record {
 pub returns-in-More-clause-preserves : goal.returns-in-More-clause-preserves
 returns-in-More-clause-preserves g c = record {
   lasts =
-    (let i = c.self.inside in
+      (let i = c.self.inside in
       let new = c.turn-came.new.base in
       let view : c.args.self.now ≡ system_of i.base i.lanes.items i.runs.items i.replies.items i.limits i.objects = search rules in
       let acc = (invariant_of-self-in-More g c).2 in
       act_keeps_of g.F.Fs.view g.F.Fs.clock g.F.Fs.was c.args.self.now (system_of i.base i.lanes.items i.runs.items i.replies.items i.limits i.objects) (system_of new i.lanes.items c.turn-came.new.runs.items i.replies.items i.limits c.turn-came.new.objects) (g.F.Fs.faults c.args.self.now.base.fs) (g.F.Fs.faults new.fs) c.args.actor More view refl c.self.invariant.4 (each_row i.lanes.items i.runs.items i.replies.items c.self.invariant.1)
       c.self.invariant.2.replied acc.replied c.in-More.ensures.carried (returns-in-More-clause-acted g c));
   good =
-    (let i = c.self.inside in
+      (let i = c.self.inside in
       let r = c.index.result.now in
       let new = c.turn-came.new.base in
       let e = c.in-More.ensures in
@@ -516,7 +516,7 @@ returns-in-More-clause-preserves g c = record {
       c.in-Some.command.now (subst (λ n. IsCommand i.lanes.items c.args.actor n c.in-Some.command.now) (sym (given_length i.base i.lanes.items i.runs.items i.replies.items i.limits i.objects c.args.actor booked within r)) command) (λ z. cc) (λ z. cc)
       (λ v told. subst (λ n. Told (g.F.Fs.view new.fs) (HasWritten i.limits c.args.actor i.objects c.turn-came.new.objects (state_after (first i.base.books.start.items) i.base.books.history.items n) c.in-Some.command.now i.base.books new.books v)) (sym (start_view i.runs.items c.args.actor r i.base.books.history.items in_runs)) (e.wrote r v told)));
   caused =
-    (λ before v told was.
+      (λ before v told was.
       let i = c.self.inside in
       let r = c.index.result.now in
       let new = c.turn-came.new.base in
@@ -533,7 +533,7 @@ returns-in-More-clause-preserves g c = record {
       c.in-Some.command.now (subst (λ n. IsCommand i.lanes.items c.args.actor n c.in-Some.command.now) (sym (given_length i.base i.lanes.items i.runs.items i.replies.items i.limits i.objects c.args.actor booked within r)) command)
       before v (subst (λ s. g.F.Fs.view s.base.fs ≡ Some v) view told) before_was refl) was);
   inside =
-    (λ v told stored was.
+      (λ v told stored was.
       let i = c.self.inside in
       let r = c.index.result.now in
       let new = c.turn-came.new.base in
@@ -551,7 +551,7 @@ returns-in-More-clause-preserves g c = record {
       (λ stored_here was_so. inside_more g.F.Fs.view g.F.Fs.clock g.F.Fs.was g.met.F.Fs.counts_now g.met.F.Fs.tree (g.F.Fs.faults old.base.fs) (g.F.Fs.faults new.fs) old now c.args.actor refl (length-map i.runs.items (λ (x : Run). start_in x.task) ∙ booked.each_runs) (each_row i.lanes.items i.runs.items i.replies.items booked) c.self.invariant.2.replied
       e.opened c.self.invariant.0.sound.ordered.ascends e.carried.time v (subst (λ s. g.F.Fs.view s.base.fs ≡ Some v) view told) stored_here was_so acted) stored was);
   folders =
-    (let i = c.self.inside in
+      (let i = c.self.inside in
       let r = c.index.result.now in
       let new = c.turn-came.new.base in
       let h = i.base.books.history.items in
@@ -571,7 +571,7 @@ returns-in-More-clause-preserves g c = record {
       (work_in run.task) (ap works_of (e.run r) ∙ map-set (λ (x : Run). work_in x.task) i.runs.items c.args.actor run) _ (folds_view g.F.Fs.view i.limits c.args.actor c.in-Some.command.now i.base new i.runs.items r (work_in run.task) _ in_runs (e.folds r))
       opening v told was refl (returns-in-More-clause-acted g c) refl in_works);
   said =
-    (λ v told said.
+      (λ v told said.
       let i = c.self.inside in
       let new = c.turn-came.new.base in
       let booked = c.self.invariant.1 in
@@ -584,7 +584,7 @@ returns-in-More-clause-preserves g c = record {
       (λ said_so. said_more g.F.Fs.view g.F.Fs.clock g.F.Fs.was g.met.F.Fs.counts_now g.met.F.Fs.bound (g.F.Fs.faults old.base.fs) (g.F.Fs.faults new.fs) old now c.args.actor refl (each_row i.lanes.items i.runs.items i.replies.items booked) c.self.invariant.2.replied
       c.self.invariant.0.sound.ordered.ascends e.carried.time v (subst (λ s. g.F.Fs.view s.base.fs ≡ Some v) view told) said_so acted) said);
   founded =
-    (let i = c.self.inside in
+      (let i = c.self.inside in
       let new = c.turn-came.new.base in
       let booked = c.self.invariant.1 in
       let view : c.args.self.now ≡ system_of i.base i.lanes.items i.runs.items i.replies.items i.limits i.objects = search rules in
@@ -599,14 +599,14 @@ returns-in-More-clause-preserves g c = record {
 pub returns-in-Answered-clause-preserves : goal.returns-in-Answered-clause-preserves
 returns-in-Answered-clause-preserves g c = record {
   lasts =
-    (let i = c.self.inside in
+      (let i = c.self.inside in
       let new = c.turn-came.new.base in
       let view : c.args.self.now ≡ system_of i.base i.lanes.items i.runs.items i.replies.items i.limits i.objects = search rules in
       let acc = (invariant_of-self-in-Answered g c).2 in
       act_keeps_of g.F.Fs.view g.F.Fs.clock g.F.Fs.was c.args.self.now (system_of i.base i.lanes.items i.runs.items i.replies.items i.limits i.objects) (system_of new i.lanes.items c.book.new.runs.items c.book.new.replies.items i.limits c.turn-came.new.objects) (g.F.Fs.faults c.args.self.now.base.fs) (g.F.Fs.faults new.fs) c.args.actor (Done c.args.actor c.index.result.now.command) view refl c.self.invariant.4 (each_row i.lanes.items i.runs.items i.replies.items c.self.invariant.1)
       c.self.invariant.2.replied acc.replied c.in-Answered.ensures.carried (returns-in-Answered-clause-acted g c));
   good =
-    (let i = c.self.inside in
+      (let i = c.self.inside in
       let r = c.index.result.now in
       let new = c.turn-came.new.base in
       let e = c.in-Answered.ensures in
@@ -623,7 +623,7 @@ returns-in-Answered-clause-preserves g c = record {
       c.in-Some.command.now (subst (λ n. IsCommand i.lanes.items c.args.actor n c.in-Some.command.now) (sym (given_length i.base i.lanes.items i.runs.items i.replies.items i.limits i.objects c.args.actor booked within r)) command) (λ z. cc) (λ z. cc)
       (λ v told. subst (λ n. Told (g.F.Fs.view new.fs) (HasWritten i.limits c.args.actor i.objects c.turn-came.new.objects (state_after (first i.base.books.start.items) i.base.books.history.items n) c.in-Some.command.now i.base.books new.books v)) (sym (start_view i.runs.items c.args.actor r i.base.books.history.items in_runs)) (e.wrote r v told)));
   caused =
-    (λ before v told was.
+      (λ before v told was.
       let i = c.self.inside in
       let r = c.index.result.now in
       let new = c.turn-came.new.base in
@@ -641,7 +641,7 @@ returns-in-Answered-clause-preserves g c = record {
       before v (subst (λ s. g.F.Fs.view s.base.fs ≡ Some v) view told) before_was c.args.actor c.index.result.now.command
       (subst (λ s. Acted (AnswerTells g.F.Fs.view (g.F.Fs.faults s.base.fs) (g.F.Fs.faults new.fs) s c.args.actor) s now c.args.actor (Done c.args.actor c.index.result.now.command)) view (returns-in-Answered-clause-acted g c))) was);
   inside =
-    (λ v told stored was.
+      (λ v told stored was.
       let i = c.self.inside in
       let r = c.index.result.now in
       let new = c.turn-came.new.base in
@@ -659,7 +659,7 @@ returns-in-Answered-clause-preserves g c = record {
       (λ stored_here was_so. inside_done g.F.Fs.view g.F.Fs.clock g.F.Fs.was g.met.F.Fs.counts_now g.met.F.Fs.tree (g.F.Fs.faults old.base.fs) (g.F.Fs.faults new.fs) old now c.args.actor refl (length-map i.runs.items (λ (x : Run). start_in x.task) ∙ booked.each_runs) (each_row i.lanes.items i.runs.items i.replies.items booked) c.self.invariant.2.replied
       e.opened c.self.invariant.0.sound.ordered.ascends e.carried.time v (subst (λ s. g.F.Fs.view s.base.fs ≡ Some v) view told) stored_here was_so c.args.actor c.index.result.now.command c.in-Some.command.now (subst (λ n. IsCommand i.lanes.items c.args.actor n c.in-Some.command.now) (sym (given_length i.base i.lanes.items i.runs.items i.replies.items i.limits i.objects c.args.actor booked within r)) command) acted) stored was);
   folders =
-    (let i = c.self.inside in
+      (let i = c.self.inside in
       let r = c.index.result.now in
       let new = c.turn-came.new.base in
       let now = c.turn-came.new.runs.items in
@@ -685,7 +685,7 @@ returns-in-Answered-clause-preserves g c = record {
       (work_in run.task) (ap works_of all ∙ map-set (λ (x : Run). work_in x.task) i.runs.items c.args.actor after) _ (folds_view g.F.Fs.view i.limits c.args.actor c.in-Some.command.now i.base new i.runs.items r (work_in run.task) _ in_runs (e.folds r))
       opening v told was reply c.in-Answered.start c.args.actor c.index.result.now.command refl (returns-in-Answered-clause-acted g c) (c.number_of.ensures ∙ begun) c.book.ensures.replies);
   said =
-    (λ v told said.
+      (λ v told said.
       let i = c.self.inside in
       let new = c.turn-came.new.base in
       let booked = c.self.invariant.1 in
@@ -698,7 +698,7 @@ returns-in-Answered-clause-preserves g c = record {
       (λ said_so. said_done g.F.Fs.view g.F.Fs.clock g.F.Fs.was g.met.F.Fs.counts_now g.met.F.Fs.bound (g.F.Fs.faults old.base.fs) (g.F.Fs.faults new.fs) old now c.args.actor refl (each_row i.lanes.items i.runs.items i.replies.items booked) c.self.invariant.2.replied
       c.self.invariant.0.sound.ordered.ascends e.carried.time v (subst (λ s. g.F.Fs.view s.base.fs ≡ Some v) view told) said_so c.args.actor c.index.result.now.command acted) said);
   founded =
-    (let i = c.self.inside in
+      (let i = c.self.inside in
       let r = c.index.result.now in
       let within : c.args.actor < length i.lanes.items = search rules in
       let few : c.index.result.now.command < length c.deref.result.now = fewer _ _ c.in-Some.ensures.lookup.0 in
