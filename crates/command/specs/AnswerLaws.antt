@@ -1,8 +1,9 @@
 -- What a family proves of its answers.
-use Rattle.std.specs.Prelude.{◌≡◌, ◌≤◌, ◌++◌, ℕ, List, [], Some, IsSome}
+use Rattle.std.specs.Prelude.{◌≡◌, ◌≢◌, ◌≤◌, ◌++◌, ℕ, List, [], Contains, Some, IsSome}
 use Rattle.ost_types.specs.declared.object.ObjName.{ObjName}
 use Rattle.fs_trait.specs.declared.task.StepResult.TheVariants as turn
 use Rattle.fs_trait.specs.View.{View}
+use Rattle.rely_guarantee.specs.declared.books.Claim.{Claim}
 use Rattle.rely_guarantee.specs.Books.{Books}
 use Rattle.rely_guarantee.specs.Lasting.{StaysFinished}
 use Rattle.rely_guarantee.specs.Rely.{Interference}
@@ -15,6 +16,10 @@ use Rattle.command.specs.Sees.{Sees}
 use Rattle.command.specs.Since.{Since, placed}
 use Rattle.command.specs.Tasks.{TaskSpec}
 
+-- the lane has no checkout claimed, as at the end of its command
+abbrev pub HasNoClaims : ℕ → Books → Type 0
+HasNoClaims lane b = (c : Claim) → Contains b.claims c → c.lane ≢ lane
+
 pub record AnswerLaws {T W A : Type 0} (k : TaskSpec T) (m : Meaning W A) (d : Doing T W A) : Type 0 where
   -- the last step has an answer, and what it says is so
   pub answers : (since : Since) (c : W) (t new : T) → d.pursues since c t → k.stepped t (turn.Done tt) new → IsSome (d.answer new)
@@ -26,5 +31,5 @@ pub record AnswerLaws {T W A : Type 0} (k : TaskSpec T) (m : Meaning W A) (d : D
   pub lacks : (since : Since) (v : View) (a : A) (c : W) (commit : List ℕ) → CommitsAreFiles v.now → m.shows since v a c → m.lacks a commit → StaysFinished v commit → ⊥
   pub full : (since : Since) (c : W) (t new : T) (a : A) → d.pursues since c t → k.stepped t (turn.Done tt) new → d.answer new ≡ Some a → m.full a → since.limits.objects ≤ (d.heard t).objects
   -- what it leaves stands, and stays so while anyone acts
-  pub left : (since : Since) (actor lane : ℕ) (c : W) (t new : T) (v w : View) (b b' : Books) (a : A) → d.pursues since c t → k.facts lane t v b → k.leaves t (turn.Done tt) new v w → d.answer new ≡ Some a → Interference actor lane v b w b' → m.stays since [] a c w b'
+  pub left : (since : Since) (actor lane : ℕ) (c : W) (t new : T) (v w : View) (b b' : Books) (a : A) → d.pursues since c t → k.facts lane t v b → k.leaves t (turn.Done tt) new v w → d.answer new ≡ Some a → Interference actor lane v b w b' → HasNoClaims lane b' → m.stays since [] a c w b'
   pub stays : (since : Since) (actor lane : ℕ) (out : List ObjName) (a : A) (c : W) (v w : View) (b b' : Books) → Interference actor lane v b w b' → m.stays since out a c v b → m.stays since (removed_by b ++ out) a c w b'

@@ -76,7 +76,7 @@ module _ {S T W V A B : Type 0} {k : TaskSpec S} {l : TaskSpec T} {m : Meaning W
     knows = λ since p lane. elim [ Left c ↦ elim [ Left t ↦ elim [ Left new ↦ λ v w b. elim [ Left a ↦ λ after f leaves is sees. one.knows since p lane c t new v w b a after f leaves (from_left (d.answer new) a is) sees | Right a ↦ λ after f leaves is sees. absurd (not_right (d.answer new) a is) ] | Right new ↦ λ v w b a after f leaves is sees. absurd leaves ] | Right t ↦ λ new v w b a after f leaves is sees. absurd after ] | Right c ↦ elim [ Left t ↦ λ new v w b a after f leaves is sees. absurd after | Right t ↦ elim [ Left new ↦ λ v w b a after f leaves is sees. absurd leaves | Right new ↦ λ v w b. elim [ Left a ↦ λ after f leaves is sees. absurd (not_left (e.answer new) a is) | Right a ↦ λ after f leaves is sees. two.knows since p lane c t new v w b a after f leaves (from_right (e.answer new) a is) sees ] ] ] ];
     lacks = λ since v. elim [ Left a ↦ elim [ Left c ↦ one.lacks since v a c | Right c ↦ λ commit files shown. absurd shown ] | Right a ↦ elim [ Left c ↦ λ commit files shown. absurd shown | Right c ↦ two.lacks since v a c ] ];
     full = λ since. elim [ Left c ↦ elim [ Left t ↦ elim [ Left new ↦ elim [ Left a ↦ λ after step is full. one.full since c t new a after step (from_left (d.answer new) a is) full | Right a ↦ λ after step is full. absurd (not_right (d.answer new) a is) ] | Right new ↦ λ a after step is full. absurd step ] | Right t ↦ λ new a after step is full. absurd after ] | Right c ↦ elim [ Left t ↦ λ new a after step is full. absurd after | Right t ↦ elim [ Left new ↦ λ a after step is full. absurd step | Right new ↦ elim [ Left a ↦ λ after step is full. absurd (not_left (e.answer new) a is) | Right a ↦ λ after step is full. two.full since c t new a after step (from_right (e.answer new) a is) full ] ] ] ];
-    left = λ since actor lane. elim [ Left c ↦ elim [ Left t ↦ elim [ Left new ↦ λ v w b b'. elim [ Left a ↦ λ after f leaves is does. one.left since actor lane c t new v w b b' a after f leaves (from_left (d.answer new) a is) does | Right a ↦ λ after f leaves is does. absurd (not_right (d.answer new) a is) ] | Right new ↦ λ v w b b' a after f leaves is does. absurd leaves ] | Right t ↦ λ new v w b b' a after f leaves is does. absurd after ] | Right c ↦ elim [ Left t ↦ λ new v w b b' a after f leaves is does. absurd after | Right t ↦ elim [ Left new ↦ λ v w b b' a after f leaves is does. absurd leaves | Right new ↦ λ v w b b'. elim [ Left a ↦ λ after f leaves is does. absurd (not_left (e.answer new) a is) | Right a ↦ λ after f leaves is does. two.left since actor lane c t new v w b b' a after f leaves (from_right (e.answer new) a is) does ] ] ] ];
+    left = λ since actor lane. elim [ Left c ↦ elim [ Left t ↦ elim [ Left new ↦ λ v w b b'. elim [ Left a ↦ λ after f leaves is does gone. one.left since actor lane c t new v w b b' a after f leaves (from_left (d.answer new) a is) does gone | Right a ↦ λ after f leaves is does gone. absurd (not_right (d.answer new) a is) ] | Right new ↦ λ v w b b' a after f leaves is does gone. absurd leaves ] | Right t ↦ λ new v w b b' a after f leaves is does gone. absurd after ] | Right c ↦ elim [ Left t ↦ λ new v w b b' a after f leaves is does gone. absurd after | Right t ↦ elim [ Left new ↦ λ v w b b' a after f leaves is does gone. absurd leaves | Right new ↦ λ v w b b'. elim [ Left a ↦ λ after f leaves is does gone. absurd (not_left (e.answer new) a is) | Right a ↦ λ after f leaves is does gone. two.left since actor lane c t new v w b b' a after f leaves (from_right (e.answer new) a is) does gone ] ] ] ];
     stays = λ since actor lane out. elim [ Left a ↦ elim [ Left c ↦ one.stays since actor lane out a c | Right c ↦ λ v w b b' does is. absurd is ] | Right a ↦ elim [ Left c ↦ λ v w b b' does is. absurd is | Right c ↦ two.stays since actor lane out a c ] ];
   }
 
@@ -96,8 +96,8 @@ module _ {S T W V A B : Type 0} {k : TaskSpec S} {l : TaskSpec T} {m : Meaning W
   folder_laws one two = record {
     claims = λ actor lane. elim [ Left t ↦ one.claims actor lane t | Right t ↦ two.claims actor lane t ];
     claimed = λ since. elim [ Left c ↦ elim [ Left t ↦ one.claimed since c t | Right t ↦ λ name after is. absurd after ] | Right c ↦ elim [ Left t ↦ λ name after is. absurd after | Right t ↦ two.claimed since c t ] ];
-    made = elim [ Left t ↦ elim [ Left new ↦ one.made t new | Right new ↦ λ name step is. absurd step ] | Right t ↦ elim [ Left new ↦ λ name step is. absurd step | Right new ↦ two.made t new ] ];
-    goes_on = elim [ Left t ↦ elim [ Left new ↦ one.goes_on t new | Right new ↦ λ name step made. absurd step ] | Right t ↦ elim [ Left new ↦ λ name step made. absurd step | Right new ↦ two.goes_on t new ] ];
+    made = elim [ Left t ↦ elim [ Left new ↦ one.made t new | Right new ↦ λ v w name leaves is. absurd leaves ] | Right t ↦ elim [ Left new ↦ λ v w name leaves is. absurd leaves | Right new ↦ two.made t new ] ];
+    goes_on = elim [ Left t ↦ elim [ Left new ↦ one.goes_on t new | Right new ↦ λ v w name leaves made. absurd leaves ] | Right t ↦ elim [ Left new ↦ λ v w name leaves made. absurd leaves | Right new ↦ two.goes_on t new ] ];
   }
 
   pub either_command_laws : CommandLaws k m d → CommandLaws l n e → CommandLaws (either_tasks k l) (either_means m n) (either_doing d e)

@@ -18,5 +18,5 @@ pub record FolderLaws {T W A : Type 0} (k : TaskSpec T) (m : Meaning W A) (d : D
   -- what is claimed is a checkout that the command makes
   pub claimed : (since : Since) (c : W) (t : T) (name : Name) → d.pursues since c t → k.kind t ≡ Claim name → m.claims c name
   -- and from then on the task has made it
-  pub made : (t new : T) (name : Name) → k.stepped t turn.More new → k.kind t ≡ Claim name → d.made new name
-  pub goes_on : (t new : T) (name : Name) → k.stepped t turn.More new → d.made t name → d.made new name
+  pub made : (t new : T) (v w : View) (name : Name) → k.leaves t turn.More new v w → k.kind t ≡ Claim name → d.made new name
+  pub goes_on : (t new : T) (v w : View) (name : Name) → k.leaves t turn.More new v w → d.made t name → d.made new name

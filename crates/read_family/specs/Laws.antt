@@ -69,7 +69,7 @@ answer_laws = record {
   knows = λ since p lane c t new v w b a is f leaves given sees. tt;
   lacks = lacks_none;
   full = λ since c t new a is step given full. absurd full;
-  left = λ since actor lane c t new v w b b' a is f leaves given does. tt;
+  left = λ since actor lane c t new v w b b' a is f leaves given does gone. tt;
   stays = λ since actor lane out a c v w b b' does is. tt;
 }
 
@@ -89,8 +89,8 @@ folder_laws : FolderLaws read_tasks read_means read_doing
 folder_laws = record {
   claims = λ actor lane t v b name s f wrote. absurd wrote;
   claimed = λ since c t name is kind. no_read_claim t.work (subst IsClaim (sym kind) tt);
-  made = λ t new name step kind. no_read_claim t.work (subst IsClaim (sym kind) tt);
-  goes_on = λ t new name step made. made;
+  made = λ t new v w name leaves kind. no_read_claim t.work (subst IsClaim (sym kind) tt);
+  goes_on = λ t new v w name leaves made. made;
 }
 
 pub read_command_laws : CommandLaws read_tasks read_means read_doing

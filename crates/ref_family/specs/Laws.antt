@@ -88,7 +88,7 @@ answer_laws = record {
   knows = λ since p lane c t new v w b a. ref_tells (λ s branch commit work is. change_is s (words.Reset branch commit) work is) lane since p c t.work new.work v w b a;
   lacks = λ since v a c commit. lacks_none v a commit;
   full = λ since c t new a is step given full. absurd full;
-  left = λ since actor lane c t new v w b b' a is f leaves given does. tt;
+  left = λ since actor lane c t new v w b b' a is f leaves given does gone. tt;
   stays = λ since actor lane out a c v w b b' does is. tt;
 }
 
@@ -108,8 +108,8 @@ folder_laws : FolderLaws ref_tasks ref_means ref_doing
 folder_laws = record {
   claims = λ actor lane t v b name s f wrote. no_checkout actor lane t.work v b name s f wrote;
   claimed = λ since c t name is kind. absurd (no_command_claim t.work (subst IsClaim (sym kind) tt));
-  made = λ t new name step kind. absurd (no_command_claim t.work (subst IsClaim (sym kind) tt));
-  goes_on = λ t new name step made. made;
+  made = λ t new v w name leaves kind. absurd (no_command_claim t.work (subst IsClaim (sym kind) tt));
+  goes_on = λ t new v w name leaves made. made;
 }
 
 pub ref_command_laws : CommandLaws ref_tasks ref_means ref_doing
