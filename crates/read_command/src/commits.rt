@@ -12,9 +12,8 @@ ghost use Rattle.read_command.specs.Finding.{found_in};
 
 use fs_trait::{Fs, FsErr};
 use ost_types::{Csum, Kind, ObjName};
-use ref_command::{Found, RefCommand};
+use ref_command::{Found, RefAnswer, RefCommand};
 use rely_guarantee::{CommandTask, Wants};
-use script::Answer;
 use std::alloc::Global;
 
 /// A pin of the commit.
@@ -58,12 +57,12 @@ pub fn look_up<F: Fs>(alloc: Global, actor: u8, fs: &mut F, commit: Csum) -> Res
     }
 }
 
-fn found_in(answer: Option<Answer>) -> Found
+fn found_in(answer: Option<RefAnswer>) -> Found
     ensures { result ≡ found_in answer }
 {
     match answer {
-        Some(Answer::NoCommit(_)) => Found::Missing,
-        Some(Answer::Partial(_)) => Found::Partial,
+        Some(RefAnswer::NoCommit(_)) => Found::Missing,
+        Some(RefAnswer::Partial(_)) => Found::Partial,
         _ => Found::Whole,
     }
 }
