@@ -47,6 +47,7 @@ begins_of start entries pending lane v b (command.Look r) stands sum = record {
   known = tt;
   founded = (sum, stands.kinds (mark_path r.commit) (shows v.now (mark_path r.commit)) (may_now v (mark_path r.commit)));
   home = stands.folders Checkouts (folder_path Checkouts) (shows v.now (folder_path Checkouts)) (may_now v (folder_path Checkouts)) (is_below-self (folder_path Checkouts));
+  pinned = tt;
 }
 begins_of start entries pending lane v b (command.Read s) stands new = absurd new
 begins_of start entries pending lane v b (command.Make m) stands new = absurd new

@@ -20,6 +20,7 @@ use Rattle.rely_guarantee.specs.Laws.{Kind, Quiet, Take}
 use Rattle.ref_command.specs.declared.look_up.Found.TheVariants.{Whole}
 use Rattle.ref_command.specs.Commands.{pin_wants}
 use Rattle.ref_command.specs.Found.{IsFound}
+use Rattle.ref_command.specs.Pins.{IsPinned}
 use Rattle.checkout.specs.CheckoutWork.{IsPlaced}
 use Rattle.commit_checkout.specs.TreeFolder.{IsTreeOf}
 use Rattle.checkout_command.specs.declared.answer.CheckoutAnswer.{CheckoutAnswer}
@@ -113,11 +114,18 @@ Known lane (command.Read s) v b = ReadKnows (Stores v.now) s
 Known lane (command.Make m) v b = Making lane m v b
 Known lane (command.Ended a) v b = ⊥
 
+-- behind the look the commit is pinned
+abbrev pub ArePinned : ℕ → CheckoutCommand → Books → Type 0
+ArePinned lane (command.Read s) b = IsPinned lane b s.request.commit
+ArePinned lane (command.Make m) b = IsPinned lane b m.request.commit
+ArePinned lane t b = Unit {0}
+
 -- What is so of the view and the books while others act.
 pub record Facts (lane : ℕ) (t : CheckoutCommand) (v : View) (b : Books) : Type 0 where
   pub known : Known lane t v b
   pub founded : IsFounded t v
   pub home : IsHome v
+  pub pinned : ArePinned lane t b
 
 abbrev pub checkout_facts : ℕ → CheckoutCommand → View → Books → Type 0
 checkout_facts lane t v b = Facts lane t v b

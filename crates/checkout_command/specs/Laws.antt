@@ -73,6 +73,6 @@ checkout_laws = record {
   duty = λ actor lane t new v b agrees by stood f. duty_of t actor lane v b (checkout_leaves t (turn.Done tt) new v) f;
   chain = λ t new step. chain_of t (checkout_kind new) (before new);
   last = λ t new step. last_of t;
-  next = λ actor lane t new v w b b' stood f leaves keeps own. facts_next lane t new v w b b' f leaves keeps own;
+  next = λ actor lane t new v w b b' stood f leaves keeps own. facts_next actor lane t new v w b b' stood f leaves keeps own;
   claims = λ lane t new v w b name kind step f leaves. claims_of lane t new v w b name kind f leaves;
 }

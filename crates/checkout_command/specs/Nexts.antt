@@ -12,12 +12,14 @@ use Rattle.repo_layout.specs.BootPaths.{checkout_path}
 use Rattle.repo_model.specs.Objects.{Stores}
 use Rattle.repo_model.specs.Whole.{Complete}
 use Rattle.rely_guarantee.specs.Books.{Books, IsClaimed, Keeps}
-use Rattle.rely_guarantee.specs.Laws.{Claim, Owned, Quiet, Take}
+use Rattle.rely_guarantee.specs.Laws.{Claim, Owned, Quiet, Stood, Take}
 use Rattle.rely_guarantee.specs.Lasting.{IsFinishedNow}
 use Rattle.rely_guarantee.specs.Rely.{Interference, Guarantee}
 use Rattle.rely_guarantee.proofs.Claiming.{claimed_gains, claimed_kept, others_spare}
 use Rattle.ref_command.specs.Commands.{pin_wants}
+use Rattle.ref_command.specs.Found.{commit_name}
 use Rattle.ref_command.specs.Founding.{found_now}
+use Rattle.ref_command.specs.Pins.{IsPinned, others_pins, pinned_on}
 use Rattle.checkout.specs.CheckoutWork.{Answer, Checkout, IsPlaced, beginning}
 use Rattle.checkout.specs.CheckoutSteps as task
 use Rattle.commit_checkout.specs.TreeFolder.{IsTreeOf}
@@ -76,9 +78,9 @@ module _ (actor lane mine : ℕ) (m : Make) (v w : View) (b b' : Books) (other :
   }
 
 pub facts_kept : (actor lane mine : ℕ) (t : CheckoutCommand) (v w : View) (b b' : Books) → mine ≢ lane → Interference actor lane v b w b' → Facts mine t v b → Facts mine t w b'
-facts_kept actor lane mine (command.Look r) v w b b' other does f = record { known = tt; founded = founded_kept b v w actor lane does.writes (command.Look r) f.founded; home = home_kept b v w actor lane does.writes f.home }
-facts_kept actor lane mine (command.Read s) v w b b' other does f = record { known = reading_kept b v w actor lane does.writes s f.known; founded = founded_kept b v w actor lane does.writes (command.Read s) f.founded; home = home_kept b v w actor lane does.writes f.home }
-facts_kept actor lane mine (command.Make m) v w b b' other does f = record { known = making_kept actor lane mine m v w b b' other does f.known f.home; founded = founded_kept b v w actor lane does.writes (command.Make m) f.founded; home = home_kept b v w actor lane does.writes f.home }
+facts_kept actor lane mine (command.Look r) v w b b' other does f = record { known = tt; founded = founded_kept b v w actor lane does.writes (command.Look r) f.founded; home = home_kept b v w actor lane does.writes f.home; pinned = tt }
+facts_kept actor lane mine (command.Read s) v w b b' other does f = record { known = reading_kept b v w actor lane does.writes s f.known; founded = founded_kept b v w actor lane does.writes (command.Read s) f.founded; home = home_kept b v w actor lane does.writes f.home; pinned = pinned_on mine b b' (others_pins actor lane mine v w b b' other does) s.request.commit f.pinned }
+facts_kept actor lane mine (command.Make m) v w b b' other does f = record { known = making_kept actor lane mine m v w b b' other does f.known f.home; founded = founded_kept b v w actor lane does.writes (command.Make m) f.founded; home = home_kept b v w actor lane does.writes f.home; pinned = pinned_on mine b b' (others_pins actor lane mine v w b b' other does) m.request.commit f.pinned }
 facts_kept actor lane mine (command.Ended a) v w b b' other does f = absurd f.known
 
 -- ---- what the lane gains
@@ -89,14 +91,15 @@ owned_gains made.Part name lane b b' keeps owned = claimed_gains lane b b' name 
 owned_gains made.All name lane b b' keeps owned = claimed_gains lane b b' name keeps owned
 
 pub facts_gain : (lane : ℕ) (t : CheckoutCommand) (v : View) (b b' : Books) → Keeps lane b b' → Facts lane t v b → Facts lane t v b'
-facts_gain lane (command.Look r) v b b' keeps f = record { known = tt; founded = f.founded; home = f.home }
-facts_gain lane (command.Read s) v b b' keeps f = record { known = f.known; founded = f.founded; home = f.home }
+facts_gain lane (command.Look r) v b b' keeps f = record { known = tt; founded = f.founded; home = f.home; pinned = tt }
+facts_gain lane (command.Read s) v b b' keeps f = record { known = f.known; founded = f.founded; home = f.home; pinned = pinned_on lane b b' keeps.pins s.request.commit f.pinned }
 facts_gain lane (command.Make m) v b b' keeps f =
     let k = f.known in
     record {
       known = record { map = k.map; placed = k.placed; whole = k.whole; tree = k.tree; needs = k.needs; owned = owned_gains m.made m.request.name lane b b' keeps k.owned };
       founded = f.founded;
       home = f.home;
+      pinned = pinned_on lane b b' keeps.pins m.request.commit f.pinned;
     }
 facts_gain lane (command.Ended a) v b b' keeps f = absurd f.known
 
@@ -130,11 +133,12 @@ module _ (lane : ℕ) (m n : Make) (v w : View) (b b' : Books) (making : Making 
     owned = subst (λ (r : Request). IsOwned n.made r.name lane b') (sym makes.request) (owned_next m.made n.made m.request.name lane b b' makes.going keeps own making.owned);
   }
 
-  pub make_next : IsFounded (command.Make m) v → IsHome v → Keeps lane b b' → Owned (make_kind m.made m.request.name) lane b' → Facts lane (command.Make n) w b'
-  make_next founded home keeps own = record {
+  pub make_next : IsFounded (command.Make m) v → IsHome v → IsPinned lane b m.request.commit → Keeps lane b b' → Owned (make_kind m.made m.request.name) lane b' → Facts lane (command.Make n) w b'
+  make_next founded home pin keeps own = record {
     known = making_next keeps own;
     founded = subst (λ (r : Request). IsFinishedNow w r.commit) (sym makes.request) (founded_kept b v w lane lane writes (command.Make m) founded);
     home = home_kept b v w lane lane writes home;
+    pinned = subst (λ (r : Request). IsPinned lane b' r.commit) (sym makes.request) (pinned_on lane b b' keeps.pins m.request.commit pin);
   }
 
 begins_to_read : (r : Request) (v : View) → ReadKnows (Stores v.now) (reading r)
@@ -157,26 +161,26 @@ begins_to_make lane r m v b is home =
       owned = subst (λ k. IsOwned k m.request.name lane b) (sym is.made) tt;
     }
 
-pub facts_next : (lane : ℕ) (t new : CheckoutCommand) (v w : View) (b b' : Books) → Facts lane t v b → Goes t new v w → Keeps lane b b' → Owned (checkout_kind t) lane b' → Facts lane new w b'
-facts_next lane (command.Look r) (command.Read s) v w b b' f (same, is, found, tree) keeps own =
-    let on : Facts lane (command.Read (reading r)) v b' = record { known = begins_to_read r v; founded = found_now v r.commit tree f.founded.0 f.founded.1 found; home = f.home } in
+pub facts_next : (actor lane : ℕ) (t new : CheckoutCommand) (v w : View) (b b' : Books) → Stood (checkout_kind t) actor lane b → Facts lane t v b → Goes t new v w → Keeps lane b b' → Owned (checkout_kind t) lane b' → Facts lane new w b'
+facts_next actor lane (command.Look r) (command.Read s) v w b b' stood f (same, is, found, tree) keeps own =
+    let on : Facts lane (command.Read (reading r)) v b' = record { known = begins_to_read r v; founded = found_now v r.commit tree f.founded.0 f.founded.1 found; home = f.home; pinned = pinned_on lane b b' keeps.pins r.commit (stood.pin (commit_name r.commit) refl) } in
     subst (λ u. Facts lane (command.Read s) u b') (sym same) (subst (λ (q : Reads). Facts lane (command.Read q) v b') (sym is) on)
-facts_next lane (command.Look r) (command.Look x) v w b b' f goes keeps own = absurd goes
-facts_next lane (command.Look r) (command.Make x) v w b b' f goes keeps own = absurd goes
-facts_next lane (command.Look r) (command.Ended x) v w b b' f goes keeps own = absurd goes
-facts_next lane (command.Read s) (command.Read n) v w b b' f (same, is, knows) keeps own =
-    let on : Facts lane (command.Read n) v b' = record { known = knows; founded = subst (λ (r : Request). IsFinishedNow v r.commit) (sym is) f.founded; home = f.home } in
+facts_next actor lane (command.Look r) (command.Look x) v w b b' stood f goes keeps own = absurd goes
+facts_next actor lane (command.Look r) (command.Make x) v w b b' stood f goes keeps own = absurd goes
+facts_next actor lane (command.Look r) (command.Ended x) v w b b' stood f goes keeps own = absurd goes
+facts_next actor lane (command.Read s) (command.Read n) v w b b' stood f (same, is, knows) keeps own =
+    let on : Facts lane (command.Read n) v b' = record { known = knows; founded = subst (λ (r : Request). IsFinishedNow v r.commit) (sym is) f.founded; home = f.home; pinned = subst (λ (r : Request). IsPinned lane b' r.commit) (sym is) (pinned_on lane b b' keeps.pins s.request.commit f.pinned) } in
     subst (λ u. Facts lane (command.Read n) u b') (sym same) on
-facts_next lane (command.Read s) (command.Make m) v w b b' f (same, is) keeps own =
-    let on : Facts lane (command.Make m) v b' = record { known = begins_to_make lane s.request m v b' is f.home; founded = subst (λ (r : Request). IsFinishedNow v r.commit) (sym is.request) f.founded; home = f.home } in
+facts_next actor lane (command.Read s) (command.Make m) v w b b' stood f (same, is) keeps own =
+    let on : Facts lane (command.Make m) v b' = record { known = begins_to_make lane s.request m v b' is f.home; founded = subst (λ (r : Request). IsFinishedNow v r.commit) (sym is.request) f.founded; home = f.home; pinned = subst (λ (r : Request). IsPinned lane b' r.commit) (sym is.request) (pinned_on lane b b' keeps.pins s.request.commit f.pinned) } in
     subst (λ u. Facts lane (command.Make m) u b') (sym same) on
-facts_next lane (command.Read s) (command.Look x) v w b b' f goes keeps own = absurd goes
-facts_next lane (command.Read s) (command.Ended x) v w b b' f goes keeps own = absurd goes
-facts_next lane (command.Make m) (command.Make n) v w b b' f makes keeps own = make_next lane m n v w b b' f.known makes f.founded f.home keeps own
-facts_next lane (command.Make m) (command.Look x) v w b b' f goes keeps own = absurd goes
-facts_next lane (command.Make m) (command.Read x) v w b b' f goes keeps own = absurd goes
-facts_next lane (command.Make m) (command.Ended x) v w b b' f goes keeps own = absurd goes
-facts_next lane (command.Ended a) new v w b b' f goes keeps own = absurd f.known
+facts_next actor lane (command.Read s) (command.Look x) v w b b' stood f goes keeps own = absurd goes
+facts_next actor lane (command.Read s) (command.Ended x) v w b b' stood f goes keeps own = absurd goes
+facts_next actor lane (command.Make m) (command.Make n) v w b b' stood f makes keeps own = make_next lane m n v w b b' f.known makes f.founded f.home f.pinned keeps own
+facts_next actor lane (command.Make m) (command.Look x) v w b b' stood f goes keeps own = absurd goes
+facts_next actor lane (command.Make m) (command.Read x) v w b b' stood f goes keeps own = absurd goes
+facts_next actor lane (command.Make m) (command.Ended x) v w b b' stood f goes keeps own = absurd goes
+facts_next actor lane (command.Ended a) new v w b b' stood f goes keeps own = absurd f.known
 
 -- ---- who makes a folder finds nothing there, and leaves it
 

@@ -20,7 +20,7 @@ use Rattle.read_command.specs.Commands.{IsNew, Tells, answer_of, read_facts, rea
 use Rattle.read_command.specs.Founded.{IsFinishedOf, IsRead}
 
 pub begins_of : (start : State) (entries : List Entry) (pending : Option Pending) (lane : ℕ) (v : View) (b : Books) (t : ReadCommand) → Stands start entries pending v → IsNew t → read_facts lane t v b
-begins_of start entries pending lane v b (Look l) stands sum = (tt, (sum, stands.kinds (mark_path l.commit) (shows v.now (mark_path l.commit)) (may_now v (mark_path l.commit))))
+begins_of start entries pending lane v b (Look l) stands sum = (tt, (sum, stands.kinds (mark_path l.commit) (shows v.now (mark_path l.commit)) (may_now v (mark_path l.commit))), tt)
 begins_of start entries pending lane v b (Cat c) stands new = absurd new
 begins_of start entries pending lane v b (Ls s) stands new = absurd new
 begins_of start entries pending lane v b (Log g) stands new = absurd new

@@ -17,11 +17,12 @@ use Rattle.rely_guarantee.specs.Laws.{Kind, Quiet, Take}
 use Rattle.ref_command.specs.declared.look_up.Found.TheVariants.{Whole}
 use Rattle.ref_command.specs.Commands.{pin_wants}
 use Rattle.ref_command.specs.Found.{IsFound}
+use Rattle.ref_command.specs.Pins.{IsPinned}
 use Rattle.read_command.specs.declared.answer.ReadAnswer.{ReadAnswer}
 use Rattle.read_command.specs.declared.command.ReadCommand.{ReadCommand}
 use Rattle.read_command.specs.declared.command.ReadCommand.TheVariants.{Look, Cat, Ls, Log, Ended}
 use Rattle.read_command.specs.Answers.{SaysStopped}
-use Rattle.read_command.specs.Asked.{Answers, asked}
+use Rattle.read_command.specs.Asked.{Answers, Asked, asked}
 use Rattle.read_command.specs.Fits.{IsFitting}
 use Rattle.read_command.specs.Founded.{IsFounded}
 use Rattle.read_command.specs.CatSteps.{CatKnows, cat_left}
@@ -87,8 +88,17 @@ read_leaves t (turn.Done x) new v w = (w ≡ v) × (a : ReadAnswer) × (new ≡ 
 abbrev pub read_refuses : ReadCommand → View → FsErr → Type 0
 read_refuses t v e = OfNone e
 
+-- behind the look the commit is pinned
+abbrev pub IsPinnedOf : Option Asked → ℕ → Books → Type 0
+IsPinnedOf None lane b = Unit {0}
+IsPinnedOf (Some q) lane b = IsPinned lane b q.commit
+
+abbrev pub ArePinned : ReadCommand → ℕ → Books → Type 0
+ArePinned (Look l) lane b = Unit {0}
+ArePinned t lane b = IsPinnedOf (asked t) lane b
+
 abbrev pub read_facts : ℕ → ReadCommand → View → Books → Type 0
-read_facts lane t v b = Knows (Stores v.now) t × IsFounded t v
+read_facts lane t v b = Knows (Stores v.now) t × IsFounded t v × ArePinned t lane b
 
 -- what it answers, once it is done
 abbrev pub answer_of : ReadCommand → Option ReadAnswer

@@ -19,4 +19,6 @@ pub mod Stored
 pub mod Onward
 pub mod Kept
 pub mod Founding
+pub mod Pinned
+pub mod Parts
 pub mod Laws

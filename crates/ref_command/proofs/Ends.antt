@@ -37,6 +37,7 @@ use Rattle.ref_command.specs.Facts.{Facts, IsRunning, StagingPathFree}
 use Rattle.ref_command.specs.Commands.{planned, IsStop, parse_answer, reset_answer, change_answer, answer_of, reset_stepped, reset_leaves, reset_left, Changing, command_facts, command_leaves, command_stepped, command_left, removal}
 use Rattle.ref_command.specs.Answers.{Begins, Says}
 use Rattle.ref_command.specs.Founded.{IsKnownBy}
+use Rattle.ref_command.specs.Pins.{IsPinnedBy}
 use Rattle.ref_command.proofs.Homes.{begins_change}
 
 parse_says : (found : Found) (commit : List ℕ) (a : RefAnswer) (t : RefCommand) (v w : View) → parse_answer (Some found) commit ≡ Some a → IsFound v.now commit found → Says a t v w
@@ -132,10 +133,11 @@ begins_of start entries pending lane v b (Reset look plan) stands home begins = 
       (begins_change start entries pending lane v b stands home begins.1 plan.name plan.seen (Some plan.commit) begins.2 (λ e. let n : Some plan.commit ≡ None = e in cc));
   same = begins.4;
   commit = subst (λ o. IsKnownBy o plan.commit v) (sym begins.3) (stands.kinds (mark_path plan.commit) (shows v.now (mark_path plan.commit)) (may_now v (mark_path plan.commit)));
+  pinned = subst (λ o. IsPinnedBy o lane b plan.commit) (sym begins.3) tt;
 }
 begins_of start entries pending lane v b (Change work) stands home begins =
     subst (λ (x : RefWork). Changing lane x v b) (sym begins.2)
-    (record { ref = begins_change start entries pending lane v b stands home begins.3 begins.0 (Some begins.1) None begins.4 (λ none. refl); founded = tt })
+    (record { ref = begins_change start entries pending lane v b stands home begins.3 begins.0 (Some begins.1) None begins.4 (λ none. refl); founded = tt; pinned = tt })
 
 -- a removal that hasn't begun has fewer steps before it than a number has bits for
 pub removal_left : (t : RefCommand) (lane : ℕ) (name seen : List ℕ) → t ≡ Change (removal lane name seen) → length (parts_of name) ≤ 12 → command_left t < 2 ^ 128

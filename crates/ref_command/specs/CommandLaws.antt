@@ -1,5 +1,5 @@
 -- The laws of the commands as tasks.
-use Rattle.std.proofs.Common.{◌≡◌, ℕ, true, false, sym, ap, subst, List, Option, Some, None}
+use Rattle.std.proofs.Common.{◌≡◌, ℕ, true, false, refl, sym, ap, subst, List, Option, Some, None}
 use Rattle.fs_trait.specs.declared.task.StepResult.TheVariants as turn
 use Rattle.fs_trait.specs.Image.{IsTree}
 use Rattle.fs_trait.specs.View.{View, all_synced}
@@ -21,11 +21,12 @@ use Rattle.ref_command.specs.declared.command.RefCommand.{RefCommand}
 use Rattle.ref_command.specs.declared.command.RefCommand.TheVariants.{Parse, Reset, Change}
 use Rattle.ref_command.specs.declared.look_up.Found.{Found}
 use Rattle.ref_command.specs.declared.look_up.Found.TheVariants.{Whole}
-use Rattle.ref_command.specs.Found.{IsFound}
+use Rattle.ref_command.specs.Found.{IsFound, commit_name}
 use Rattle.ref_command.specs.Founded.{IsFounded, IsKnownBy}
 use Rattle.ref_command.specs.Founding.{founded_kept, founded_own, found_now, known_kept}
 use Rattle.ref_command.specs.Kinds.{event, ref_kind, ref_leaves}
 use Rattle.ref_command.specs.Facts.{Facts}
+use Rattle.ref_command.specs.Pins.{IsPinned, IsPinnedBy, IsPinnedFor, others_pins, pinned_by_on, pinned_for_on, pinned_on}
 use Rattle.ref_command.specs.Kept.{facts_kept, facts_gain}
 use Rattle.ref_command.specs.Duties.{change_duty}
 use Rattle.ref_command.specs.Laws.{no_claim, ref_laws}
@@ -42,16 +43,18 @@ kept_of actor lane mine (Reset look plan) v w b b' not other does holds f = reco
   change = facts_kept b v actor lane mine not other (planned plan).task w b' f.change does;
   same = f.same;
   commit = known_kept b v w actor lane does.writes look.found plan.commit f.commit;
+  pinned = pinned_by_on mine b b' (others_pins actor lane mine v w b b' other does) look.found plan.commit f.pinned;
 }
 kept_of actor lane mine (Change work) v w b b' not other does holds f = record {
   ref = facts_kept b v actor lane mine not other work.task w b' f.ref does;
   founded = founded_kept b v w actor lane does.writes work.task.value f.founded;
+  pinned = pinned_for_on mine b b' (others_pins actor lane mine v w b b' other does) work.task.value f.pinned;
 }
 
 gains_of : (lane : ℕ) (t : RefCommand) (v : View) (b b' : Books) → Keeps lane b b' → command_facts lane t v b → command_facts lane t v b'
 gains_of lane (Parse look) v b b' keeps f = tt
-gains_of lane (Reset look plan) v b b' keeps f = record { change = facts_gain lane (planned plan).task v b b' keeps f.change; same = f.same; commit = f.commit }
-gains_of lane (Change work) v b b' keeps f = record { ref = facts_gain lane work.task v b b' keeps f.ref; founded = f.founded }
+gains_of lane (Reset look plan) v b b' keeps f = record { change = facts_gain lane (planned plan).task v b b' keeps f.change; same = f.same; commit = f.commit; pinned = pinned_by_on lane b b' keeps.pins look.found plan.commit f.pinned }
+gains_of lane (Change work) v b b' keeps f = record { ref = facts_gain lane work.task v b b' keeps f.ref; founded = f.founded; pinned = pinned_for_on lane b b' keeps.pins work.task.value f.pinned }
 
 -- a step that writes nothing and settles nothing
 found_duty : (found : Option Found) (commit : List ℕ) (actor lane : ℕ) (v : View) (b : Books) (Done : View → Type 0) → StepObligation (found_kind found commit) actor lane v b (λ p s. ⊥) Done
@@ -108,45 +111,48 @@ facts_synced lane plan v b f = record {
 }
 
 -- what was looked up was found whole
-looked : (lane : ℕ) (look : LookUp) (plan : Plan) (v : View) (b b' : Books) → Facts lane (planned plan).task v b → look.commit ≡ plan.commit → IsKnownBy None plan.commit v → IsFound v.now look.commit Whole → IsTree v.now → Keeps lane b b'
+looked : (lane : ℕ) (look : LookUp) (plan : Plan) (v : View) (b b' : Books) → Facts lane (planned plan).task v b → look.commit ≡ plan.commit → IsKnownBy None plan.commit v → IsFound v.now look.commit Whole → IsTree v.now → IsPinned lane b look.commit → Keeps lane b b'
     → Resetting lane (record look { found = Some Whole }) plan v b'
-looked lane look plan v b b' f same known found tree keeps = record {
+looked lane look plan v b b' f same known found tree pin keeps = record {
   change = facts_gain lane (planned plan).task v b b' keeps f;
   same = same;
   commit = found_now v plan.commit tree plan.sum known (subst (λ c. IsFound v.now c Whole) same found);
+  pinned = pinned_on lane b b' keeps.pins plan.commit (subst (IsPinned lane b) same pin);
 }
 
 -- and after the sync it lasts
-synced : (lane : ℕ) (plan : Plan) (v : View) (b b' : Books) → Facts lane (planned plan).task v b → IsFinishedNow v plan.commit → Keeps lane b b' → Changing lane (planned plan) (all_synced v) b'
-synced lane plan v b b' f finished keeps = record {
+synced : (lane : ℕ) (plan : Plan) (v : View) (b b' : Books) → Facts lane (planned plan).task v b → IsFinishedNow v plan.commit → IsPinned lane b plan.commit → Keeps lane b b' → Changing lane (planned plan) (all_synced v) b'
+synced lane plan v b b' f finished pin keeps = record {
   ref = facts_gain lane (planned plan).task (all_synced v) b b' keeps (facts_synced lane plan v b f);
   founded = finished_synced v plan.commit finished;
+  pinned = pinned_on lane b b' keeps.pins plan.commit pin;
 }
 
-reset_next : (found : Option Found) (lane : ℕ) (look : LookUp) (plan : Plan) (new : RefCommand) (v w : View) (b b' : Books) → Facts lane (planned plan).task v b → look.commit ≡ plan.commit → IsKnownBy found plan.commit v
+reset_next : (found : Option Found) (actor lane : ℕ) (look : LookUp) (plan : Plan) (new : RefCommand) (v w : View) (b b' : Books) → Facts lane (planned plan).task v b → look.commit ≡ plan.commit → IsKnownBy found plan.commit v → IsPinnedBy found lane b plan.commit → Stood (found_kind found look.commit) actor lane b
     → reset_leaves found look plan turn.More new v w → Keeps lane b b' → command_facts lane new w b'
-reset_next None lane look plan (Reset next p) v w b b' f same known l keeps =
+reset_next None actor lane look plan (Reset next p) v w b b' f same known pin stood l keeps =
     subst (λ (x : Plan). Resetting lane next x w b') (sym l.1)
     (subst (λ (x : LookUp). Resetting lane x plan w b') (sym l.0.1)
-    (subst (λ (x : View). Resetting lane (record look { found = Some Whole }) plan x b') (sym l.0.0) (looked lane look plan v b b' f same known l.0.2 l.0.3 keeps)))
-reset_next None lane look plan (Parse next) v w b b' f same known l keeps = absurd l
-reset_next None lane look plan (Change work) v w b b' f same known l keeps = absurd l
-reset_next (Some found) lane look plan (Change work) v w b b' f same known l keeps =
+    (subst (λ (x : View). Resetting lane (record look { found = Some Whole }) plan x b') (sym l.0.0) (looked lane look plan v b b' f same known l.0.2 l.0.3 (stood.pin (commit_name look.commit) refl) keeps)))
+reset_next None actor lane look plan (Parse next) v w b b' f same known pin stood l keeps = absurd l
+reset_next None actor lane look plan (Change work) v w b b' f same known pin stood l keeps = absurd l
+reset_next (Some found) actor lane look plan (Change work) v w b b' f same known pin stood l keeps =
     subst (λ (x : RefWork). Changing lane x w b') (sym l.0)
-    (subst (λ (x : View). Changing lane (planned plan) x b') (sym l.1) (synced lane plan v b b' f known keeps))
-reset_next (Some found) lane look plan (Parse next) v w b b' f same known l keeps = absurd l
-reset_next (Some found) lane look plan (Reset next p) v w b b' f same known l keeps = absurd l
+    (subst (λ (x : View). Changing lane (planned plan) x b') (sym l.1) (synced lane plan v b b' f known pin keeps))
+reset_next (Some found) actor lane look plan (Parse next) v w b b' f same known pin stood l keeps = absurd l
+reset_next (Some found) actor lane look plan (Reset next p) v w b b' f same known pin stood l keeps = absurd l
 
 -- a change names the same commit till its end
 change_next : (actor lane : ℕ) (work new : RefWork) (v w : View) (b b' : Books) → Stood (ref_kind work) actor lane b → Changing lane work v b → ref_leaves work turn.More new v w → Keeps lane b b' → Owned (ref_kind work) lane b' → Changing lane new w b'
 change_next actor lane work new v w b b' stood f l keeps own = record {
   ref = ref_laws.next actor lane work new v w b b' stood f.ref l keeps own;
   founded = subst (λ o. IsFounded o w) (sym (ap (λ (x : store.Change). x.value) l.stepped.0)) (founded_own work.task v w lane f.ref.needs f.ref.mine l.writes work.task.value f.founded);
+  pinned = subst (λ o. IsPinnedFor o lane b') (sym (ap (λ (x : store.Change). x.value) l.stepped.0)) (pinned_for_on lane b b' keeps.pins work.task.value f.pinned);
 }
 
 next_of : (actor lane : ℕ) (t new : RefCommand) (v w : View) (b b' : Books) → Stood (command_kind t) actor lane b → command_facts lane t v b → command_leaves t turn.More new v w → Keeps lane b b' → Owned (command_kind t) lane b' → command_facts lane new w b'
 next_of actor lane (Parse look) new v w b b' stood f l keeps own = absurd l
-next_of actor lane (Reset look plan) new v w b b' stood f l keeps own = reset_next look.found lane look plan new v w b b' f.change f.same f.commit l keeps
+next_of actor lane (Reset look plan) new v w b b' stood f l keeps own = reset_next look.found actor lane look plan new v w b b' f.change f.same f.commit f.pinned stood l keeps
 next_of actor lane (Change work) (Change new) v w b b' stood f l keeps own = change_next actor lane work new v w b b' stood f l keeps own
 next_of actor lane (Change work) (Parse look) v w b b' stood f l keeps own = absurd l
 next_of actor lane (Change work) (Reset look plan) v w b b' stood f l keeps own = absurd l

@@ -27,6 +27,7 @@ use Rattle.ref_command.specs.Found.{commit_name, IsFound}
 use Rattle.ref_command.specs.Founded.{IsFounded, IsKnownBy}
 use Rattle.ref_command.specs.Kinds.{Answer, ref_kind, ref_needs, ref_writes, ref_stepped, ref_leaves, ref_refuses}
 use Rattle.ref_command.specs.Facts.{ref_facts}
+use Rattle.ref_command.specs.Pins.{IsPinnedBy, IsPinnedFor}
 
 -- a pin of the commit, and nothing else
 abbrev pub pin_wants : List ℕ → Wants
@@ -94,16 +95,18 @@ command_refuses (Parse look) v e = OfNone e
 command_refuses (Reset look plan) v e = OfNone e
 command_refuses (Change work) v e = ref_refuses work v e
 
--- Before a reset changes its ref: what the change will need; and what is known of its commit.
+-- Before a reset changes its ref: what the change will need; what is known of its commit; and that this is pinned, once it was looked up.
 pub record Resetting (lane : ℕ) (look : LookUp) (plan : Plan) (v : View) (b : Books) : Type 0 where
   pub change : ref_facts lane (planned plan) v b
   pub same : look.commit ≡ plan.commit
   pub commit : IsKnownBy look.found plan.commit v
+  pub pinned : IsPinnedBy look.found lane b plan.commit
 
--- While a ref is changed: what the change needs; and that the commit that it is to name lasts.
+-- While a ref is changed: what the change needs; and that the commit that it is to name lasts and is pinned.
 pub record Changing (lane : ℕ) (work : RefWork) (v : View) (b : Books) : Type 0 where
   pub ref : ref_facts lane work v b
   pub founded : IsFounded work.task.value v
+  pub pinned : IsPinnedFor work.task.value lane b
 
 abbrev pub command_facts : ℕ → RefCommand → View → Books → Type 0
 command_facts lane (Parse look) v b = Unit {0}

@@ -8,6 +8,7 @@ pub mod Duties
 pub mod Laws
 pub mod Found
 pub mod Founded
+pub mod Pins
 pub mod Commands
 pub mod CommandLaws
 pub mod Answers
