@@ -25,6 +25,7 @@ use Rattle.rely_guarantee.specs.Opening.{IsOpening}
 use Rattle.rely_guarantee.specs.State.{State}
 use Rattle.rely_guarantee.proofs.Beginnings.{opened_right}
 use Rattle.rely_guarantee.proofs.Lasting.{always_named, always_one, none_out}
+use Rattle.commit_durability.proofs.Holding.{held_by_all}
 use Rattle.commit_durability.specs.Lasting.{AreRight, IsAloneIn, IsAloneOn, IsCommit, IsKept, IsOf, IsStored, LastsIn, StandsOn, sum_of}
 
 named_of : (tree : List TreeItem) (message : Message) (o : Object) → IsOf tree message o → IsNamed o.name o.bytes
@@ -69,7 +70,7 @@ module _ (limits : Limits) (tree : List TreeItem) (message : Message) where
       subst (Stores d o.name) (alone o of seen.bytes has) has)
 
   lasts_from : (v : View) → IsCommit limits tree message → ((o : Object) → IsOf tree message o → IsSafe v o.name) → AreRight v tree message → NeverMarked (sum_of tree message) v → LastsIn limits tree message v
-  lasts_from v is safe right unmarked = record { commit = is; safe = safe; right = right; unmarked = unmarked; stored = always_stored v is safe right }
+  lasts_from v is safe right unmarked = record { commit = is; safe = safe; right = right; unmarked = unmarked; held = held_by_all tree message limits v is (λ n o number. safe o (inl (n, number))); stored = always_stored v is safe right }
 
   commit_safe : (v : View) → LastsIn limits tree message v → IsSafe v (name_of Commit (sum_of tree message))
   commit_safe v lasts = lasts.safe (commit_of tree message) (inr refl)

@@ -1,7 +1,9 @@
 -- What is so of a commit from the moment on at which it was made.
-use Rattle.std.specs.Prelude.{◌≡◌, ◌⊎◌, ◌↔◌, ◌≤◌, ℕ, List, Some}
+use Rattle.std.specs.Prelude.{◌≡◌, ◌≢◌, ◌⊎◌, ◌↔◌, ◌≤◌, ℕ, List, Some}
 use Rattle.ost_types.specs.declared.limits.Limits.{Limits}
 use Rattle.ost_types.specs.declared.node.NodeName.{NodeName}
+use Rattle.ost_types.specs.declared.object.Kind.TheVariants.{Commit}
+use Rattle.ost_types.specs.declared.object.ObjName.{ObjName}
 use Rattle.ost_types.specs.Path.{Path}
 use Rattle.ost_forms.specs.declared.tree_item.TreeItem.{TreeItem}
 use Rattle.ost_objects.specs.Object.{IsNamed}
@@ -9,8 +11,9 @@ use Rattle.fs_trait.specs.View.{Disk, View}
 use Rattle.fs_trait.specs.Seen.{Seen, shows, MayBe}
 use Rattle.fs_trait.specs.Change.{Left}
 use Rattle.repo_model.specs.Objects.{Store, Stores, Marked, object_in, path_of}
-use Rattle.repo_model.specs.Trees.{TreeShows}
+use Rattle.repo_model.specs.Trees.{TreeShows, name_of}
 use Rattle.repo_model.specs.Whole.{Complete}
+use Rattle.reach.specs.Reach.{Is, Reach}
 use Rattle.tree_build.specs.Building.{IsNumber}
 use Rattle.tree_build.specs.Commits.{ItemShows}
 use Rattle.tree_build.specs.Items.{AreItems, AreTyped, IsTree}
@@ -54,6 +57,15 @@ IsAloneIn v tree message = (o : Object) → IsOf tree message o → (s : Seen) (
 abbrev pub AreRight : View → List TreeItem → Message → Type 0
 AreRight v tree message = (o : Object) → IsOf tree message o → IsRight v o.name
 
+-- the objects of the commit that a crash may leave with the right bytes
+abbrev pub MayRight : View → List TreeItem → Message → Store
+MayRight v tree message name bytes =
+    ((o : Object) × IsOf tree message o × (o.name ≡ name) × (o.bytes ≡ bytes)) × (s : Seen) × MayBe v (path_of name) s × (object_in name.kind s ≡ Some bytes)
+
+-- each object that is reached from the commit over right bytes no crash leaves away
+abbrev pub IsHeldUp : View → List TreeItem → Message → Type 0
+IsHeldUp v tree message = (o : ObjName) → o.kind ≢ Commit → Reach (MayRight v tree message) (Is (name_of Commit (sum_of tree message))) o → IsSafe v o
+
 -- Each crash leaves an object of each name of the commit's, and so the commit whole, where no other bytes have such a name; and
 -- none leaves a mark of it.
 pub record LastsIn (limits : Limits) (tree : List TreeItem) (message : Message) (v : View) : Type 0 where
@@ -61,6 +73,7 @@ pub record LastsIn (limits : Limits) (tree : List TreeItem) (message : Message) 
   pub safe : (o : Object) → IsOf tree message o → IsSafe v o.name
   pub right : AreRight v tree message
   pub unmarked : NeverMarked (sum_of tree message) v
+  pub held : IsHeldUp v tree message
   pub stored : IsAloneIn v tree message → IsStored (AlwaysStores v) limits tree message
 
 -- So it is on a disk.

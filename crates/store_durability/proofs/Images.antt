@@ -1,5 +1,5 @@
 -- What a crash leaves of a store that stands so.
-use Rattle.std.proofs.Common.{◌≡◌, ◌≢◌, inl, inr, ⊎_elim, ℕ, ◌≤◌, Bool, true, false, refl, sym, ◌∙◌, ap, subst, arith, List, [], ◌++◌, length, Some}
+use Rattle.std.proofs.Common.{◌≡◌, ◌≢◌, inl, inr, ⊎_elim, ℕ, ◌≤◌, Bool, true, false, refl, sym, ◌∙◌, ap, subst, arith, List, [], ◌++◌, length, Some, None}
 use Rattle.std.specs.Prelude.{codes}
 use Rattle.std.specs.List.{filter}
 use Rattle.ost_types.specs.Csum.{hex_of}
@@ -19,28 +19,32 @@ use Rattle.repo_layout.specs.declared.folder.Folder.TheVariants.{Repo, State}
 use Rattle.repo_layout.specs.Paths.{config_path, folder_path, mark_path, ref_path}
 use Rattle.repo_layout.specs.RefFile.{IsSum}
 use Rattle.repo_layout.specs.Refs.{Names}
-use Rattle.repo_model.specs.Objects.{Stores, path_of}
+use Rattle.repo_model.specs.Objects.{Store, Stores, object_in, path_of}
 use Rattle.repo_model.specs.Trees.{name_of}
 use Rattle.repo_model.specs.Whole.{Complete}
 use Rattle.repo_model.proofs.Stored.{stores_map}
 use Rattle.tree_build.specs.Objects.{Object}
-use Rattle.tree_build.specs.Commits.{HasTree, CommitsTree}
-use Rattle.tree_build.proofs.Shown.{complete}
+use Rattle.reach.specs.Reach.{Is, Reach}
+use Rattle.reach.proofs.Reaching.{reach_kind, reach_up}
+use Rattle.tree_reach.specs.Trees.{CommitStore, Held}
+use Rattle.tree_reach.proofs.Commits.{held_whole}
 use Rattle.obj_store.specs.Lookup.{is_there}
 use Rattle.store_check.specs.Listing.{IsThere, HasFew}
 use Rattle.store_check.specs.Objects.{IsSound}
 use Rattle.store_check.specs.Commits.{IsFinished, IsWhole}
 use Rattle.commit_build.specs.declared.message.Message.{Message}
-use Rattle.commit_build.specs.Committing.{commit_of, parts_of}
-use Rattle.commit_durability.specs.Lasting.{IsOf, sum_of}
+use Rattle.commit_build.specs.Committing.{commit_of}
+use Rattle.commit_durability.specs.Lasting.{IsOf, MayRight, sum_of}
+use Rattle.commit_durability.proofs.Holding.{its_commit, made_tree}
 use Rattle.rely_guarantee.specs.Disks.{IsLeaf, Says}
 use Rattle.rely_guarantee.specs.Lasting.{IsSafe, StaysOn}
 use Rattle.rely_guarantee.specs.SystemInvariant.{Leads}
 use Rattle.rely_guarantee.specs.State.{RefOf}
-use Rattle.rely_guarantee.proofs.Lasting.{stays_image, always_complete}
+use Rattle.rely_guarantee.proofs.Lasting.{none_out, stays_image}
 use Rattle.rely_guarantee.proofs.Openings.{leaf_value}
 use Rattle.rely_guarantee.proofs.States.{says_leaf}
-use Rattle.store_durability.specs.Standing.{AreAlone, IsKeptWhole, IsSealed, StoreStands}
+use Rattle.store_durability.specs.Standing.{AreAlone, IsHeld, IsKeptWhole, StoreStands}
+use Rattle.store_durability.proofs.Wholes.{whole_left}
 use Rattle.store_durability.proofs.Names.{kept_ascends, kept_contains, contains_kept, kept_few}
 
 -- whether something stands there
@@ -93,13 +97,13 @@ module _ (limits : Limits) (begun : List TreeItem → Message → Type 0) (confi
   }
 
   safe_there : (name : ObjName) → IsSafe v name → IsThere d name
-  safe_there name safe = record { sum = safe.sum; there = λ none. safe.there (shows d (path_of name)) (on.same name safe) (ap (seen d) none) }
+  safe_there name safe = record { sum = safe.sum; there = λ none. safe.there (shows d (path_of name)) (on.same name (none_out name) safe) (ap (seen d) none) }
 
   pub founded_image : (name commit : List ℕ) → Names d name commit → IsFinished d commit
   founded_image name commit names_it =
       let says : Says (RefOf name) (Some commit) (shows d (ref_path name)) = (names_it.sum, sym (reads_shows d (ref_path name)) ∙ names_it.file) in
       let finished = stands.founded name commit (shows d (ref_path name)) (may_show (ref_path name) (leaf_there (shows d (ref_path name)) (says_leaf name commit _ says))) says in
-      record { there = (safe_there (name_of Commit commit) finished.there).there; unmarked = on.unmarked commit finished.there finished.unmarked }
+      record { there = (safe_there (name_of Commit commit) finished.there).there; unmarked = on.unmarked commit (none_out (name_of Commit commit)) finished.there finished.unmarked }
 
   pub config_image : Leads v (folder_path Repo) → config (shows d config_path)
   config_image leads = stands.settled (shows d config_path) (Image-under v d i (folder_path Repo) (codes "config") (Image-folder v d i (folder_path Repo) leads))
@@ -108,36 +112,52 @@ module _ (limits : Limits) (begun : List TreeItem → Message → Type 0) (confi
   mark_may leads commit = subst (λ p. MayBe v p (shows d p)) (sym (mark_under commit)) (Image-under v d i (folder_path State) (hex_of commit ++ codes ".commitpartial") (Image-folder v d i (folder_path State) leads))
 
   -- a commit that was begun, on a disk where no other bytes have its objects' names
-  module _ (commit : List ℕ) (sum : IsSum commit) (sealed : IsSealed limits begun v commit) (alone : AreAlone begun d) (finished : IsFinished d commit) where
-    there_of : (o : Object) → IsOf sealed.tree sealed.message o → IsThere d o.name
-    there_of o (inl n) = safe_there o.name (sealed.safe n.0 o n.1)
-    there_of o (inr e) = subst (λ (x : Object). IsThere d x.name) (sym e) (subst (λ c. IsThere d (name_of Commit c)) sealed.sum (record { sum = sum; there = finished.there }))
+  module _ (commit : List ℕ) (sum : IsSum commit) (held : IsHeld limits begun v commit) (alone : AreAlone begun d) (finished : IsFinished d commit) where
+    abbrev tree : List TreeItem
+    tree = held.tree
 
-    stores : (o : Object) → IsOf sealed.tree sealed.message o → Stores d o.name o.bytes
-    stores o of =
-        let has = sound_image o.name (there_of o of) in
-        subst (Stores d o.name) (alone sealed.tree sealed.message sealed.began o of has.bytes has.stored) has.stored
+    abbrev message : Message
+    message = held.message
 
-    has_tree : HasTree (Stores d) limits sealed.tree
-    has_tree = record {
-      one = stores_map d;
-      ordered = sealed.is.items;
-      typed = sealed.is.typed;
-      tree = sealed.is.whole;
-      makeable = sealed.is.makeable;
-      objects = λ o among. stores o (inl (among.0, (among.1, among.2)));
-    }
+    abbrev bytes : List ℕ
+    bytes = (commit_of tree message).bytes
 
-    commits_tree : CommitsTree (Stores d) sealed.tree (sum_of sealed.tree sealed.message)
-    commits_tree = record {
-      parts = parts_of sealed.tree sealed.message;
-      here = record { bytes = (commit_of sealed.tree sealed.message).bytes; stored = stores (commit_of sealed.tree sealed.message) (inr refl); reads = sealed.is.reads };
-      tree = refl;
-      meta = refl;
-    }
+    abbrev itself : ObjName
+    itself = name_of Commit (sum_of tree message)
 
-    sealed_whole : Complete (Stores d) limits commit
-    sealed_whole = subst (Complete (Stores d) limits) (sym sealed.sum) (complete (Stores d) limits sealed.tree (sum_of sealed.tree sealed.message) has_tree commits_tree)
+    abbrev Here : Store
+    Here = Held (Stores d) tree (sum_of tree message) bytes
+
+    itself_there : IsThere d itself
+    itself_there = subst (λ c. IsThere d (name_of Commit c)) held.sum (record { sum = sum; there = finished.there })
+
+    stored_shown : (o : ObjName) (b : List ℕ) → Stores d o b → shows d (path_of o) ≢ Vacant
+    stored_shown o b has e = let n : None ≡ Some b = sym (ap (object_in o.kind) e) ∙ has.there in cc
+
+    part_of : (o : ObjName) (b : List ℕ) → CommitStore tree (sum_of tree message) bytes o b → (x : Object) × IsOf tree message x × (x.name ≡ o) × (x.bytes ≡ b)
+    part_of o b (inl (x, among, n, e)) = (x, inl (among.0, (among.1, among.2)), n, e)
+    part_of o b (inr (n, e)) = (commit_of tree message, inr refl, sym n, sym e)
+
+    -- what the disk has of the commit's objects is right, so what they lead to is there
+    right_here : (o : ObjName) (b : List ℕ) → Here o b → MayRight v tree message o b
+    right_here o b has = (part_of o b has.0, shows d (path_of o), may_show (path_of o) (stored_shown o b has.1), has.1.there)
+
+    reached_there : (o : ObjName) → Reach Here (Is itself) o → IsThere d o
+    reached_there o reached = ⊎_elim
+        (λ e. subst (IsThere d) (sym e) itself_there)
+        (λ kind. safe_there o (held.held o kind (reach_up Here (MayRight v tree message) (Is itself) (Is itself) (λ x e. e) right_here o reached)))
+        (reach_kind Here (Is itself) o reached)
+
+    reached_kept : (o : ObjName) (b : List ℕ) → Reach Here (Is itself) o → CommitStore tree (sum_of tree message) bytes o b → Stores d o b
+    reached_kept o b reached of =
+        let has = sound_image o (reached_there o reached) in
+        let x = part_of o b of in
+        let same : has.bytes ≡ b = alone tree message held.began x.0 x.1 has.bytes (subst (λ n. Stores d n has.bytes) (sym x.2) has.stored) ∙ x.3 in
+        subst (Stores d o) same has.stored
+
+    held_left : Complete (Stores d) limits commit
+    held_left = subst (Complete (Stores d) limits) (sym held.sum)
+        (held_whole (Stores d) limits tree (made_tree limits tree message held.is) (sum_of tree message) bytes (its_commit limits tree message held.is) reached_kept (stores_map d))
 
   pub whole_image : Leads v (folder_path State) → AreAlone begun d → (commit : List ℕ) → IsWhole d limits commit
   whole_image leads alone commit sum finished = by (stands.commits commit sum)
@@ -147,5 +167,7 @@ module _ (limits : Limits) (begun : List TreeItem → Message → Type 0) (confi
       by (inr (inl never)) =
           let there = shown_there (path_of (name_of Commit commit)) finished.there in
           absurd (there (never (shows d (path_of (name_of Commit commit))) (may_show (path_of (name_of Commit commit)) there)))
-      by (inr (inr (inl whole))) = always_complete v d limits commit on whole
-      by (inr (inr (inr sealed))) = sealed_whole commit sum sealed alone finished
+      by (inr (inr (inl whole))) =
+          let there = shown_there (path_of (name_of Commit commit)) finished.there in
+          whole_left limits commit v d on whole there (may_show (path_of (name_of Commit commit)) there)
+      by (inr (inr (inr held))) = held_left commit sum held alone finished

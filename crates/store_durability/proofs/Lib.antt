@@ -1,5 +1,6 @@
 pub mod Names
 pub mod Forms
+pub mod Wholes
 pub mod Steps
 pub mod Images
 pub mod Starts

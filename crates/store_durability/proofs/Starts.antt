@@ -29,6 +29,7 @@ use Rattle.store_check.specs.Good.{IsGoodStore}
 use Rattle.rely_guarantee.specs.Lasting.{StaysFinished}
 use Rattle.store_durability.specs.Standing.{IsKeptWhole, IsSoundSeen, StoreStands}
 use Rattle.store_durability.proofs.Names.{few_among}
+use Rattle.store_durability.proofs.Wholes.{whole_begins}
 
 nothing_there : (x : Value) → (x ≡ Absent) ⊎ (x ≢ Absent)
 nothing_there Absent = inl refl
@@ -52,8 +53,8 @@ module _ (state : State) (v : View) (limits : Limits) (names : List ObjName) (be
       by_mark : (b : Bool) → is_leaf (v.now.at (mark_path commit)) ≡ b → (v.now.at (path_of (name_of Commit commit)) ≡ Absent) ⊎ (v.now.at (path_of (name_of Commit commit)) ≢ Absent) → IsKeptWhole limits begun v commit
       by_mark true is there = inl (λ s may. subst IsLeaf (sym (only (mark_path commit) s may)) (leaf_seen v.now (v.now.at (mark_path commit)) is))
       by_mark false is (inl none) = inr (inl (λ s may. only (path_of (name_of Commit commit)) s may ∙ ap (seen v.now) none))
-      by_mark false is (inr there) = inr (inr (inl (opened_whole state v begins tree limits commit
-          (good.whole commit sum (record { there = there; unmarked = λ marked. (let n : true ≡ false = sym marked ∙ is in cc) })))))
+      by_mark false is (inr there) = inr (inr (inl (whole_begins limits v commit (opened_whole state v begins tree limits commit
+          (good.whole commit sum (record { there = there; unmarked = λ marked. (let n : true ≡ false = sym marked ∙ is in cc) }))))))
 
   founded_now : (name commit : List ℕ) (s : Seen) → MayBe v (ref_path name) s → Says (RefOf name) (Some commit) s → StaysFinished v commit
   founded_now name commit s may says =

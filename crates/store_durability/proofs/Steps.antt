@@ -22,12 +22,14 @@ use Rattle.rely_guarantee.proofs.Finished.{finished_stays}
 use Rattle.rely_guarantee.specs.Disks.{Says}
 use Rattle.rely_guarantee.specs.Lasting.{Stays, StaysFinished}
 use Rattle.rely_guarantee.specs.State.{RefOf}
-use Rattle.rely_guarantee.proofs.Lasting.{always_whole, none_out}
+use Rattle.rely_guarantee.proofs.Lasting.{none_out}
+use Rattle.commit_durability.proofs.Holding.{held_by_all, held_stays}
 use Rattle.tree_build.proofs.Lists as lists
 use Rattle.tree_build.proofs.Lists.{contained_among, among_contained}
-use Rattle.store_durability.specs.Standing.{AreListed, IsAlwaysMarked, IsNeverThere, IsKeptWhole, IsSealed, IsSoundSeen, StoreStands}
+use Rattle.store_durability.specs.Standing.{AreListed, IsAlwaysMarked, IsNeverThere, IsHeld, IsKeptWhole, IsSealed, IsSoundSeen, StoreStands}
 use Rattle.store_durability.specs.Writing.{Grows, KeepsStore, SparesCommit, StoresAtMostOne}
 use Rattle.store_durability.proofs.Names.{IsWith, with_name}
+use Rattle.store_durability.proofs.Wholes.{whole_stays}
 
 -- a crash may leave something at the path, or none does
 some_value : (xs : List Value) → ((x : Value) → Among xs x → x ≡ value.Absent) ⊎ ((x : Value) × Among xs x × (x ≢ value.Absent))
@@ -59,14 +61,26 @@ nothing_or v p = ⊎_elim
     (some_value (v.now.at p ∷ v.older p))
 
 module _ (limits : Limits) (begun : List TreeItem → Message → Type 0) (v w : View) (stays : Stays [] v w) where
-  pub sealed_stays : (commit : List ℕ) → IsSealed limits begun v commit → IsSealed limits begun w commit
-  sealed_stays commit sealed = record {
+  -- a commit whose objects no crash leaves away
+  held_new : (commit : List ℕ) → IsSealed limits begun v commit → IsHeld limits begun w commit
+  held_new commit sealed = record {
     tree = sealed.tree;
     message = sealed.message;
     began = sealed.began;
     is = sealed.is;
     sum = sealed.sum;
-    safe = λ n o number. stays.safe o.name (none_out o.name) (sealed.safe n o number);
+    held = held_by_all sealed.tree sealed.message limits w sealed.is (λ n o number. stays.safe o.name (none_out o.name) (sealed.safe n o number));
+  }
+
+  -- one that was held up, where nothing else comes to its path
+  held_on : (commit : List ℕ) → IsHeld limits begun v commit → ((s : Seen) → MayBe w (path_of (name_of Commit commit)) s → MayBe v (path_of (name_of Commit commit)) s) → IsHeld limits begun w commit
+  held_on commit is before = record {
+    tree = is.tree;
+    message = is.message;
+    began = is.began;
+    is = is.is;
+    sum = is.sum;
+    held = held_stays is.tree is.message v w stays is.held (subst (λ c. (s : Seen) → MayBe w (path_of (name_of Commit c)) s → MayBe v (path_of (name_of Commit c)) s) is.sum before);
   }
 
   module _ (W : Path → Seen → Type 0) (writes : Writes W v w) (does : KeepsStore limits begun v W) where
@@ -86,18 +100,21 @@ module _ (limits : Limits) (begun : List TreeItem → Message → Type 0) (v w :
     marked_kept : (commit : List ℕ) → SparesCommit W commit → IsAlwaysMarked v commit → IsAlwaysMarked w commit
     marked_kept commit spares was s may = ⊎_elim (was s) (spares.mark s) (writes.only (mark_path commit) s may)
 
+    object_before : (commit : List ℕ) → SparesCommit W commit → (s : Seen) → MayBe w (path_of (name_of Commit commit)) s → MayBe v (path_of (name_of Commit commit)) s
+    object_before commit spares s may = ⊎_elim (λ was. was) (λ wrote. absurd (spares.object s wrote)) (writes.only (path_of (name_of Commit commit)) s may)
+
     never_kept : (commit : List ℕ) → SparesCommit W commit → IsNeverThere v commit → IsNeverThere w commit
-    never_kept commit spares was s may = ⊎_elim (was s) (λ wrote. absurd (spares.object s wrote)) (writes.only (path_of (name_of Commit commit)) s may)
+    never_kept commit spares was s may = was s (object_before commit spares s may)
 
     spared_kept : (commit : List ℕ) → SparesCommit W commit → IsKeptWhole limits begun v commit → IsKeptWhole limits begun w commit
     spared_kept commit spares (inl marked) = inl (marked_kept commit spares marked)
     spared_kept commit spares (inr (inl never)) = inr (inl (never_kept commit spares never))
-    spared_kept commit spares (inr (inr (inl whole))) = inr (inr (inl (always_whole v w limits commit stays whole)))
-    spared_kept commit spares (inr (inr (inr sealed))) = inr (inr (inr (sealed_stays commit sealed)))
+    spared_kept commit spares (inr (inr (inl whole))) = inr (inr (inl (whole_stays limits commit v w stays (object_before commit spares) whole)))
+    spared_kept commit spares (inr (inr (inr held))) = inr (inr (inr (held_on commit held (object_before commit spares))))
 
     commits_kept : ((commit : List ℕ) → IsSum commit → IsKeptWhole limits begun v commit) → (commit : List ℕ) → IsSum commit → IsKeptWhole limits begun w commit
     commits_kept was commit sum = ⊎_elim
-        (λ sealed. inr (inr (inr (sealed_stays commit sealed))))
+        (λ sealed. inr (inr (inr (held_new commit sealed))))
         (λ spares. spared_kept commit spares (was commit sum))
         (does.commits commit sum)
 
@@ -189,11 +206,11 @@ stands_wider limits begun more config names v wider was = record {
     by commit (inl marked) = inl marked
     by commit (inr (inl never)) = inr (inl never)
     by commit (inr (inr (inl whole))) = inr (inr (inl whole))
-    by commit (inr (inr (inr sealed))) = inr (inr (inr (record {
-      tree = sealed.tree;
-      message = sealed.message;
-      began = wider sealed.tree sealed.message sealed.began;
-      is = sealed.is;
-      sum = sealed.sum;
-      safe = sealed.safe;
+    by commit (inr (inr (inr held))) = inr (inr (inr (record {
+      tree = held.tree;
+      message = held.message;
+      began = wider held.tree held.message held.began;
+      is = held.is;
+      sum = held.sum;
+      held = held.held;
     })))

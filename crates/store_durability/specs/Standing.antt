@@ -10,13 +10,13 @@ use Rattle.fs_trait.specs.View.{Disk, View}
 use Rattle.fs_trait.specs.Seen.{Seen, Vacant, MayBe}
 use Rattle.repo_layout.specs.Paths.{config_path, mark_path, ref_path}
 use Rattle.repo_layout.specs.RefFile.{IsSum}
-use Rattle.repo_model.specs.Objects.{object_in, path_of}
+use Rattle.repo_model.specs.Objects.{Store, object_in, path_of}
 use Rattle.repo_model.specs.Trees.{name_of}
 use Rattle.repo_model.specs.Whole.{Complete}
 use Rattle.tree_build.specs.Building.{IsNumber}
 use Rattle.tree_build.specs.Objects.{Object, work}
 use Rattle.commit_build.specs.declared.message.Message.{Message}
-use Rattle.commit_durability.specs.Lasting.{IsAloneOn, IsCommit, sum_of}
+use Rattle.commit_durability.specs.Lasting.{IsAloneOn, IsCommit, IsHeldUp, sum_of}
 use Rattle.obj_store.specs.Listing.{name_cmp}
 use Rattle.rely_guarantee.specs.Disks.{IsLeaf, Says}
 use Rattle.rely_guarantee.specs.Lasting.{AlwaysStores, IsSafe, StaysFinished}
@@ -52,10 +52,30 @@ pub record IsSealed (limits : Limits) (begun : List TreeItem → Message → Typ
   pub sum : commit ≡ sum_of tree message
   pub safe : (n : ℕ) (o : Object) → IsNumber (work tree) n o → IsSafe v o.name
 
+-- the objects other than commits that each crash leaves, and these bytes as the commit
+abbrev pub Below : View → List ℕ → List ℕ → Store
+Below v commit bytes name b = ((name.kind ≢ Commit) × AlwaysStores v name b) ⊎ ((name ≡ name_of Commit commit) × (b ≡ bytes))
+
+-- Where a crash leaves the commit at all it has these bytes, and with them it is whole in objects that each crash leaves.
+pub record IsWholeIfThere (limits : Limits) (v : View) (commit : List ℕ) : Type 0 where
+  pub bytes : List ℕ
+  pub only : (s : Seen) → MayBe v (path_of (name_of Commit commit)) s → s ≢ Vacant → object_in Commit s ≡ Some bytes
+  pub named : IsNamed (name_of Commit commit) bytes
+  pub whole : Complete (Below v commit bytes) limits commit
+
+-- The commit is one that was begun, and is held up.
+pub record IsHeld (limits : Limits) (begun : List TreeItem → Message → Type 0) (v : View) (commit : List ℕ) : Type 0 where
+  pub tree : List TreeItem
+  pub message : Message
+  pub began : begun tree message
+  pub is : IsCommit limits tree message
+  pub sum : commit ≡ sum_of tree message
+  pub held : IsHeldUp v tree message
+
 -- Wherever a crash leaves the commit without a mark, all that it names is there: it is whole in objects that each crash leaves, or
--- was begun and its tree is there.
+-- was begun and is held up. The commit itself needn't be there.
 abbrev pub IsKeptWhole : Limits → (List TreeItem → Message → Type 0) → View → List ℕ → Type 0
-IsKeptWhole limits begun v commit = IsAlwaysMarked v commit ⊎ IsNeverThere v commit ⊎ Complete (AlwaysStores v) limits commit ⊎ IsSealed limits begun v commit
+IsKeptWhole limits begun v commit = IsAlwaysMarked v commit ⊎ IsNeverThere v commit ⊎ IsWholeIfThere limits v commit ⊎ IsHeld limits begun v commit
 
 -- Whatever a crash leaves of the store is sound: each object is what its name says, and has one of these names; each commit without a
 -- mark is whole; each ref names a commit that lasts; and of the configuration this is so.
