@@ -19,19 +19,26 @@ use Rattle.repo_layout.specs.RefFile.{IsSum}
 use Rattle.repo_layout.proofs.Places.{place-object}
 use Rattle.layout_rules.proofs.Layouts.{below_split, fixed_other}
 use Rattle.repo_model.specs.Objects.{Stores}
-use Rattle.repo_model.specs.Trees.{HasCommit, Shows, TreeShows, name_of}
+use Rattle.repo_model.specs.Trees.{HasCommit, Names, Shows, name_of}
 use Rattle.repo_model.specs.Whole.{Complete}
-use Rattle.repo_model.proofs.Grown.{complete_up, shows_down, tree_up}
 use Rattle.repo_model.proofs.Named.{IsSum-named}
 use Rattle.repo_model.proofs.Stored.{stores_map, stores_one}
+use Rattle.reach.specs.Reach.{Is, Reach}
+use Rattle.reach.specs.Removed.{Part}
+use Rattle.reach.proofs.Commits.{named_reached}
+use Rattle.reach.proofs.Parts.{commit_shown, commit_shows, commit_whole}
+use Rattle.part_reach.proofs.Readings.{reading_part}
 use Rattle.rely_guarantee.specs.Books.{Books}
 use Rattle.rely_guarantee.specs.Rely.{Guarantee}
+use Rattle.rely_guarantee.specs.Removing.{IsGuarded}
 use Rattle.rely_guarantee.proofs.Claiming.{folder_stands}
 use Rattle.rely_guarantee.proofs.Finished.{finished_now}
 use Rattle.rely_guarantee.proofs.Mays.{not_other}
+use Rattle.rely_guarantee.proofs.Removing.{pinned_guards, pinned_stays}
 use Rattle.ref_command.specs.Founding.{known_kept}
+use Rattle.ref_command.specs.Pins.{IsPinned}
 use Rattle.read_command.specs.Kept.{reading_up}
-use Rattle.read_command.specs.Stored.{stored_kept}
+use Rattle.read_command.specs.Guarded.{held, part_stays}
 use Rattle.read_command.specs.WayLaws.{shown_leaf}
 use Rattle.checkout.specs.CheckoutFolder.{HasLeaves, IsLeaf, leaf_path}
 use Rattle.checkout.specs.CheckoutWork.{Checkout}
@@ -45,7 +52,7 @@ use Rattle.checkout_command.specs.declared.command.CheckoutCommand.TheVariants a
 use Rattle.checkout_command.specs.declared.made.Made.{Made}
 use Rattle.checkout_command.specs.declared.made.Made.TheVariants as made
 use Rattle.checkout_command.specs.Reads.{Reads}
-use Rattle.checkout_command.specs.Commands.{IsHome}
+use Rattle.checkout_command.specs.Commands.{ArePinned, IsHome}
 use Rattle.checkout_command.specs.Founded.{IsFounded}
 use Rattle.checkout_command.specs.MakeSteps.{IsFar}
 use Rattle.checkout_command.specs.ReadSteps.{ReadKnows}
@@ -65,13 +72,16 @@ home_above name d is p in_ =
 home_only : (name : Name) (p : Path) → is_in p (checkout_path name) ≡ true → folder_path Checkouts ≡ p
 home_only name p in_ = let at = under-is_in p (checkout_path name) in_ in under-folder (folder_path Checkouts) p name at.0 at.1
 
--- the leaves of a commit's tree are named by sums
-leaf_sum : (d : Disk) (limits : Limits) (commit : List ℕ) (tree : Nodes) → Complete (Stores d) limits commit → IsTreeOf (Stores d) commit tree → (p : Path) (sum : List ℕ) → node_at tree p ≡ Some (Leaf sum) → IsSum sum
-leaf_sum d limits commit tree whole is p sum has =
+-- the leaves of a commit's tree are objects that it names
+leaf_named : (d : Disk) (limits : Limits) (commit : List ℕ) (tree : Nodes) (whole : Complete (Stores d) limits commit) → IsTreeOf (Stores d) commit tree → (p : Path) (sum : List ℕ) → node_at tree p ≡ Some (Leaf sum) → Names (Stores d) whole.parts.tree whole.parts.meta p (name_of kind.File sum)
+leaf_named d limits commit tree whole is p sum has =
     let shown = (is p (Leaf sum)).0 (found_back tree p (Leaf sum) has) in
     let same = one_parts d commit shown.0 whole.parts shown.1 whole.here in
-    let named = shown_leaf (Stores d) whole.parts.tree whole.parts.meta p sum (subst (λ (e : CommitParts). Shows (Stores d) e.tree e.meta p (Leaf sum)) same shown.2) in
-    let object = whole.objects p (name_of kind.File sum) named in
+    shown_leaf (Stores d) whole.parts.tree whole.parts.meta p sum (subst (λ (e : CommitParts). Shows (Stores d) e.tree e.meta p (Leaf sum)) same shown.2)
+
+leaf_sum : (d : Disk) (limits : Limits) (commit : List ℕ) (tree : Nodes) → Complete (Stores d) limits commit → IsTreeOf (Stores d) commit tree → (p : Path) (sum : List ℕ) → node_at tree p ≡ Some (Leaf sum) → IsSum sum
+leaf_sum d limits commit tree whole is p sum has =
+    let object = whole.objects p (name_of kind.File sum) (leaf_named d limits commit tree whole is p sum has) in
     IsSum-named (name_of kind.File sum) object.bytes object.stored.named
 
 -- the folder and a part of what is in it is made
@@ -82,50 +92,63 @@ IsBegun k = Unit {0}
 no_leaf : (s : Seen) → s ≡ Vacant → IsLeaf s → ⊥
 no_leaf s is leaf = subst IsLeaf is leaf
 
-module _ (b : Books) (v w : View) (actor lane : ℕ) (writes : Writes (Guarantee b v actor lane) v w) where
-  more : (name : ObjName) (bytes : List ℕ) → Stores v.now name bytes → Stores w.now name bytes
-  more = stored_kept b actor lane v w writes
+-- all that is reached from the commit stays
+abbrev pub KeepsAll : View → View → List ℕ → Type 0
+KeepsAll v w commit = (o : ObjName) (c : List ℕ) → Reach (Stores v.now) (Is (name_of kind.Commit commit)) o → Stores v.now o c → Stores w.now o c
 
-  pub whole_kept : (limits : Limits) (commit : List ℕ) → Complete (Stores v.now) limits commit → Complete (Stores w.now) limits commit
-  whole_kept limits commit whole = complete_up (Stores v.now) (Stores w.now) more (stores_map w.now) limits commit whole
+module _ (v w : View) (commit : List ℕ) (keeps : KeepsAll v w commit) where
+  pub whole_kept : (limits : Limits) → Complete (Stores v.now) limits commit → Complete (Stores w.now) limits commit
+  whole_kept limits whole = commit_whole (Stores v.now) (Stores w.now) commit keeps (stores_map w.now) limits whole
 
   -- a whole commit shows nothing more
-  pub tree_kept : (limits : Limits) (commit : List ℕ) (tree : Nodes) → Complete (Stores v.now) limits commit → IsTreeOf (Stores v.now) commit tree → IsTreeOf (Stores w.now) commit tree
-  tree_kept limits commit tree whole is p n = (
-    λ has. tree_up (Stores v.now) (Stores w.now) more commit p n ((is p n).0 has),
-    λ shown. (is p n).1 (down shown),
+  pub tree_kept : (limits : Limits) (tree : Nodes) → Complete (Stores v.now) limits commit → IsTreeOf (Stores v.now) commit tree → IsTreeOf (Stores w.now) commit tree
+  tree_kept limits tree whole is p n = (
+    λ has. commit_shows (Stores v.now) (Stores w.now) commit keeps p n ((is p n).0 has),
+    λ shown. (is p n).1 (commit_shown (Stores v.now) (Stores w.now) commit keeps (stores_map w.now) limits whole p n shown),
   )
-    where
-      down : TreeShows (Stores w.now) commit p n → TreeShows (Stores v.now) commit p n
-      down (c, has, shown) =
-          let was = whole.here in
-          let here : HasCommit (Stores w.now) commit whole.parts = record { bytes = was.bytes; stored = more (name_of kind.Commit commit) was.bytes was.stored; reads = was.reads } in
-          let same : c ≡ whole.parts = one_parts w.now commit c whole.parts has here in (
-            whole.parts,
-            whole.here,
-            shows_down (Stores v.now) (Stores w.now) more (stores_map w.now) limits.content whole.parts.tree whole.parts.meta p n whole.objects
-                (subst (λ (e : CommitParts). Shows (Stores w.now) e.tree e.meta p n) same shown),
-          )
 
+module _ (b : Books) (v w : View) (actor lane : ℕ) (writes : Writes (Guarantee b v actor lane) v w) where
   pub home_kept : IsHome v → IsHome w
   home_kept home = ⊎_elim
       (λ same. subst IsDirectory (sym same) home)
       (λ m. absurd (not_other b v actor lane (folder_path Checkouts) (shows w.now (folder_path Checkouts)) (fixed_other Checkouts (folder_path Checkouts) (is_below-self (folder_path Checkouts))) m))
       (writes.now (folder_path Checkouts))
 
-  pub founded_kept : (t : CheckoutCommand) → IsFounded t v → IsFounded t w
-  founded_kept (command.Look r) f = (f.0, known_kept b v w actor lane writes None r.commit f.1)
-  founded_kept (command.Read s) f = finished_now b v w actor lane writes s.request.commit f
-  founded_kept (command.Make m) f = finished_now b v w actor lane writes m.request.commit f
-  founded_kept (command.Ended a) f = f
+  -- an act for another lane
+  module _ (mine : ℕ) (other : mine ≢ lane) where
+    pub founded_kept : (t : CheckoutCommand) → ArePinned mine t b → IsFounded t v → IsFounded t w
+    founded_kept (command.Look r) pin f = (f.0, known_kept b v w actor lane writes mine other None r.commit tt f.1)
+    founded_kept (command.Read s) pin f = finished_now b v w actor lane writes mine other s.request.commit pin f
+    founded_kept (command.Make m) pin f = finished_now b v w actor lane writes mine other m.request.commit pin f
+    founded_kept (command.Ended a) pin f = f
 
-  pub reading_kept : (s : Reads) → ReadKnows (Stores v.now) s → ReadKnows (Stores w.now) s
-  reading_kept s k = record { commit = k.commit; limits = k.limits; so_far = λ begun. reading_up v.now w.now more s.task (k.so_far begun) }
+    pub pinned_keeps : (commit : List ℕ) → IsPinned mine b commit → KeepsAll v w commit
+    pinned_keeps commit pin o c reached stored = pinned_stays b v w actor lane writes mine other (name_of kind.Commit commit) pin o c reached stored
+
+    pub reading_kept : (s : Reads) → IsPinned mine b s.request.commit → ReadKnows (Stores v.now) s → ReadKnows (Stores w.now) s
+    reading_kept s pin k = record {
+      commit = k.commit;
+      limits = k.limits;
+      so_far = λ begun.
+          reading_up (Part (Stores v.now) (IsGuarded b v lane)) (Stores w.now) (stores_map w.now) (part_stays b v w actor lane writes mine other) s.task
+          (reading_part (Stores v.now) (IsGuarded b v lane) (λ o next at refers. Reach.onward o next at refers) s.task
+          (subst (λ c. IsGuarded b v lane (name_of kind.Commit c)) (sym k.commit) (held b v w actor lane writes mine other s.request.commit pin)) (k.so_far begun));
+    }
 
   -- what the next step needs, where nobody writes in a folder that is made
-  module _ (t : Checkout) (limits : Limits) (commit : List ℕ) (map : IsPathMap t.tree) (whole : Complete (Stores v.now) limits commit) (is : IsTreeOf (Stores v.now) commit t.tree) (name : Name) (at : t.into ≡ checkout_path name) (home : IsHome v) where
+  module _ (mine : ℕ) (other : mine ≢ lane) (t : Checkout) (limits : Limits) (commit : List ℕ) (pin : IsPinned mine b commit) (map : IsPathMap t.tree) (whole : Complete (Stores v.now) limits commit) (is : IsTreeOf (Stores v.now) commit t.tree) (name : Name) (at : t.into ≡ checkout_path name) (home : IsHome v) where
     leaves : HasLeaves w.now t.tree
-    leaves = leaves_there w.now limits commit t.tree map (whole_kept limits commit whole) (tree_kept limits commit t.tree whole is)
+    leaves =
+        let keeps = pinned_keeps mine other commit pin in
+        leaves_there w.now limits commit t.tree map (whole_kept v w commit keeps limits whole) (tree_kept v w commit keeps limits t.tree whole is)
+
+    -- a leaf's object isn't removed
+    leaf_vacant : (p : Path) (sum : List ℕ) (s : Seen) → node_at t.tree p ≡ Some (Leaf sum) → Guarantee b v actor lane (leaf_path sum) s → shows v.now (leaf_path sum) ≡ Vacant
+    leaf_vacant p sum s has m = ⊎_elim
+        (λ comes. comes.0)
+        (λ goes. absurd (goes.2 (pinned_guards b v w actor lane writes mine other (name_of kind.Commit commit) pin (name_of kind.File sum)
+        (named_reached (Stores v.now) commit whole.parts whole.here p (name_of kind.File sum) (leaf_named v.now limits commit t.tree whole is p sum has)))))
+        (m.objects kind.File sum (place-object kind.File sum (leaf_sum v.now limits commit t.tree whole is p sum has)))
 
     home_there : HasHome t.into w.now
     home_there = subst (λ q. HasHome q w.now) (sym at) (home_above name w.now (home_kept home))
@@ -135,7 +158,7 @@ module _ (b : Books) (v w : View) (actor lane : ℕ) (writes : Writes (Guarantee
       below = λ p s below m.
           let rest = below_split t.into p below in
           none rest.0 s (subst (λ q. Guarantee b v actor lane q s) (rest.1 ∙ ap (λ q. q ++ rest.0) at) m);
-      leaves = λ p sum s has m. no_leaf (shows v.now (leaf_path sum)) (m.objects kind.File sum (place-object kind.File sum (leaf_sum v.now limits commit t.tree whole is p sum has))).0 (leaves_there v.now limits commit t.tree map whole is p sum has);
+      leaves = λ p sum s has m. no_leaf (shows v.now (leaf_path sum)) (leaf_vacant p sum s has m) (leaves_there v.now limits commit t.tree map whole is p sum has);
       parents = λ p s in_ dir m. absurd (not_other b v actor lane p s (fixed_other Checkouts p (subst (λ q. is_below q (folder_path Checkouts) ≡ true) (home_only name p (subst (λ q. is_in p q ≡ true) at in_)) (is_below-self (folder_path Checkouts)))) m);
     }
 

@@ -9,6 +9,7 @@ pub mod ReadSteps
 pub mod LookSteps
 pub mod Commands
 pub mod Phases
+pub mod Apart
 pub mod Kept
 pub mod Duties
 pub mod Nexts

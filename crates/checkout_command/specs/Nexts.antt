@@ -9,6 +9,7 @@ use Rattle.fs_trait.specs.Seen.{Seen, Vacant, shows}
 use Rattle.fs_trait.specs.View.{View}
 use Rattle.fs_trait.proofs.Kept.{weaker}
 use Rattle.repo_layout.specs.BootPaths.{checkout_path}
+use Rattle.repo_layout.specs.Place.{Checkout as Checkouts, place}
 use Rattle.repo_model.specs.Objects.{Stores}
 use Rattle.repo_model.specs.Whole.{Complete}
 use Rattle.rely_guarantee.specs.Books.{Books, IsClaimed, Keeps}
@@ -32,9 +33,10 @@ use Rattle.checkout_command.specs.declared.make.Make.{Make}
 use Rattle.checkout_command.specs.Reads.{Reads}
 use Rattle.checkout_command.specs.declared.request.Request.{Request}
 use Rattle.checkout_command.specs.Commands.{Facts, Goes, IsHome, IsOwned, Making, checkout_kind}
-use Rattle.checkout_command.specs.Duties.{may_make}
+use Rattle.checkout_command.specs.Apart.{finished_apart, stored_apart}
+use Rattle.checkout_command.specs.Duties.{may_make, place_in}
 use Rattle.checkout_command.specs.Founded.{IsFounded}
-use Rattle.checkout_command.specs.Kept.{IsBegun, far_kept, founded_kept, home_above, home_kept, needs_kept, reading_kept, tree_kept, whole_kept}
+use Rattle.checkout_command.specs.Kept.{IsBegun, KeepsAll, far_kept, founded_kept, home_above, home_kept, needs_kept, pinned_keeps, reading_kept, tree_kept, whole_kept}
 use Rattle.checkout_command.specs.MakeSteps.{IsFar, IsGoing, IsMadeBy, Makes, make_kind, make_writes}
 use Rattle.checkout_command.specs.Phases.{needs_next, same_task}
 use Rattle.checkout_command.specs.ReadSteps.{IsToMake, ReadKnows, reading}
@@ -51,7 +53,7 @@ begun_stands made.Nothing m v begun far = absurd begun
 begun_stands made.Part m v begun far = far.1
 begun_stands made.All m v begun far = far.1
 
-module _ (actor lane mine : ℕ) (m : Make) (v w : View) (b b' : Books) (other : mine ≢ lane) (does : Interference actor lane v b w b') (making : Making mine m v b) (home : IsHome v) where
+module _ (actor lane mine : ℕ) (m : Make) (v w : View) (b b' : Books) (other : mine ≢ lane) (does : Interference actor lane v b w b') (making : Making mine m v b) (home : IsHome v) (pin : IsPinned mine b m.request.commit) where
   there : IsBegun m.made → shows v.now (checkout_path m.request.name) ≢ Vacant
   there begun = subst (λ q. shows v.now q ≢ Vacant) making.needs.at (begun_stands m.made m v begun making.needs.far)
 
@@ -67,20 +69,20 @@ module _ (actor lane mine : ℕ) (m : Make) (v w : View) (b b' : Books) (other :
   making_kept = record {
     map = making.map;
     placed = making.placed;
-    whole = whole_kept b v w actor lane does.writes m.request.limits m.request.commit making.whole;
-    tree = tree_kept b v w actor lane does.writes m.request.limits m.request.commit m.task.tree making.whole making.tree;
+    whole = whole_kept v w m.request.commit (pinned_keeps b v w actor lane does.writes mine other m.request.commit pin) m.request.limits making.whole;
+    tree = tree_kept v w m.request.commit (pinned_keeps b v w actor lane does.writes mine other m.request.commit pin) m.request.limits m.task.tree making.whole making.tree;
     needs = record {
       at = making.needs.at;
-      far = far_kept b v w actor lane does.writes m.task m.request.limits m.request.commit making.map making.whole making.tree m.request.name making.needs.at home m.made making.needs.far;
-      needs = needs_kept b v w actor lane does.writes m.task m.request.limits m.request.commit making.map making.whole making.tree m.request.name making.needs.at home m.made making.needs.far making.needs.needs none;
+      far = far_kept b v w actor lane does.writes mine other m.task m.request.limits m.request.commit pin making.map making.whole making.tree m.request.name making.needs.at home m.made making.needs.far;
+      needs = needs_kept b v w actor lane does.writes mine other m.task m.request.limits m.request.commit pin making.map making.whole making.tree m.request.name making.needs.at home m.made making.needs.far making.needs.needs none;
     };
     owned = owned_by m.made refl making.owned;
   }
 
 pub facts_kept : (actor lane mine : ℕ) (t : CheckoutCommand) (v w : View) (b b' : Books) → mine ≢ lane → Interference actor lane v b w b' → Facts mine t v b → Facts mine t w b'
-facts_kept actor lane mine (command.Look r) v w b b' other does f = record { known = tt; founded = founded_kept b v w actor lane does.writes (command.Look r) f.founded; home = home_kept b v w actor lane does.writes f.home; pinned = tt }
-facts_kept actor lane mine (command.Read s) v w b b' other does f = record { known = reading_kept b v w actor lane does.writes s f.known; founded = founded_kept b v w actor lane does.writes (command.Read s) f.founded; home = home_kept b v w actor lane does.writes f.home; pinned = pinned_on mine b b' (others_pins actor lane mine v w b b' other does) s.request.commit f.pinned }
-facts_kept actor lane mine (command.Make m) v w b b' other does f = record { known = making_kept actor lane mine m v w b b' other does f.known f.home; founded = founded_kept b v w actor lane does.writes (command.Make m) f.founded; home = home_kept b v w actor lane does.writes f.home; pinned = pinned_on mine b b' (others_pins actor lane mine v w b b' other does) m.request.commit f.pinned }
+facts_kept actor lane mine (command.Look r) v w b b' other does f = record { known = tt; founded = founded_kept b v w actor lane does.writes mine other (command.Look r) f.pinned f.founded; home = home_kept b v w actor lane does.writes f.home; pinned = tt }
+facts_kept actor lane mine (command.Read s) v w b b' other does f = record { known = reading_kept b v w actor lane does.writes mine other s f.pinned f.known; founded = founded_kept b v w actor lane does.writes mine other (command.Read s) f.pinned f.founded; home = home_kept b v w actor lane does.writes f.home; pinned = pinned_on mine b b' (others_pins actor lane mine v w b b' other does) s.request.commit f.pinned }
+facts_kept actor lane mine (command.Make m) v w b b' other does f = record { known = making_kept actor lane mine m v w b b' other does f.known f.home f.pinned; founded = founded_kept b v w actor lane does.writes mine other (command.Make m) f.pinned f.founded; home = home_kept b v w actor lane does.writes f.home; pinned = pinned_on mine b b' (others_pins actor lane mine v w b b' other does) m.request.commit f.pinned }
 facts_kept actor lane mine (command.Ended a) v w b b' other does f = absurd f.known
 
 -- ---- what the lane gains
@@ -119,6 +121,12 @@ module _ (lane : ℕ) (m n : Make) (v w : View) (b b' : Books) (making : Making 
   writes : Writes (Guarantee b v lane lane) v w
   writes = weaker (make_writes m v) (Guarantee b v lane lane) v w (may_make lane m v b making) makes.writes
 
+  inside : (p : Path) (s : Seen) → make_writes m v p s → (name : Name) × (rest : Path) × (place p ≡ Checkouts name rest)
+  inside p s a = let at = place_in m.made m v p s a in (m.request.name, at.0, at.1)
+
+  own_keeps : KeepsAll v w m.request.commit
+  own_keeps o c reached stored = stored_apart (make_writes m v) v w makes.writes inside o c stored
+
   task_is : (n.task.into ≡ m.task.into) × (n.task.tree ≡ m.task.tree)
   task_is = same_task m n v w making.needs makes
 
@@ -126,9 +134,9 @@ module _ (lane : ℕ) (m n : Make) (v w : View) (b b' : Books) (making : Making 
   making_next keeps own = record {
     map = subst IsPathMap (sym task_is.1) making.map;
     placed = subst (λ q. IsPlaced q n.task.tree) (sym task_is.0) (subst (IsPlaced m.task.into) (sym task_is.1) making.placed);
-    whole = subst (λ (r : Request). Complete (Stores w.now) r.limits r.commit) (sym makes.request) (whole_kept b v w lane lane writes m.request.limits m.request.commit making.whole);
+    whole = subst (λ (r : Request). Complete (Stores w.now) r.limits r.commit) (sym makes.request) (whole_kept v w m.request.commit own_keeps m.request.limits making.whole);
     tree = subst (λ (r : Request). IsTreeOf (Stores w.now) r.commit n.task.tree) (sym makes.request)
-        (subst (IsTreeOf (Stores w.now) m.request.commit) (sym task_is.1) (tree_kept b v w lane lane writes m.request.limits m.request.commit m.task.tree making.whole making.tree));
+        (subst (IsTreeOf (Stores w.now) m.request.commit) (sym task_is.1) (tree_kept v w m.request.commit own_keeps m.request.limits m.task.tree making.whole making.tree));
     needs = needs_next m n v w making.map making.placed.shape making.needs makes;
     owned = subst (λ (r : Request). IsOwned n.made r.name lane b') (sym makes.request) (owned_next m.made n.made m.request.name lane b b' makes.going keeps own making.owned);
   }
@@ -136,7 +144,7 @@ module _ (lane : ℕ) (m n : Make) (v w : View) (b b' : Books) (making : Making 
   pub make_next : IsFounded (command.Make m) v → IsHome v → IsPinned lane b m.request.commit → Keeps lane b b' → Owned (make_kind m.made m.request.name) lane b' → Facts lane (command.Make n) w b'
   make_next founded home pin keeps own = record {
     known = making_next keeps own;
-    founded = subst (λ (r : Request). IsFinishedNow w r.commit) (sym makes.request) (founded_kept b v w lane lane writes (command.Make m) founded);
+    founded = subst (λ (r : Request). IsFinishedNow w r.commit) (sym makes.request) (finished_apart (make_writes m v) v w makes.writes inside m.request.commit founded);
     home = home_kept b v w lane lane writes home;
     pinned = subst (λ (r : Request). IsPinned lane b' r.commit) (sym makes.request) (pinned_on lane b b' keeps.pins m.request.commit pin);
   }

@@ -128,7 +128,7 @@ module _ (b : Books) (v : View) (lane : ℕ) (t : CommitCommand) (f : Building l
       l.place
 
   -- only the commit's own mark is written, and it goes
-  marks : (p : Path) (s : Seen) → Lies t.build v p s → (commit : List ℕ) → place p ≡ Mark commit → s ≢ Vacant → shows v.now (object_path Commit commit) ≡ Vacant
+  marks : (p : Path) (s : Seen) → Lies t.build v p s → (commit : List ℕ) → place p ≡ Mark commit → s ≢ Vacant → Free b.exclusive lane × (shows v.now (object_path Commit commit) ≡ Vacant)
   marks p s l commit is there = ⊎_elim
       (λ a. (let n : Stage lane ≡ Mark commit = sym (ap place a.0 ∙ stage) ∙ is in cc))
       (λ more. ⊎_elim
@@ -156,7 +156,7 @@ module _ (b : Books) (v : View) (lane : ℕ) (t : CommitCommand) (f : Building l
   within : (need_in t.build.phase ≡ Shared → Free b.exclusive lane) → Within (WritesIn t.objects t.build v) (Guarantee b v lane lane)
   within free p s wrote =
       let l = commit_lies t.build v f.needs p s wrote.0 in
-      record { at = at p s free l; comes = comes p s l; folders = inr (inl l.folders); fits = fits p s l; objects = objects p s l; marks = marks p s l; checkouts = checkouts p s l }
+      record { at = at p s free l; comes = comes p s l; folders = inr (inl l.folders); fits = fits p s l; objects = λ kind sum is. inl (objects p s l kind sum is); marks = marks p s l; checkouts = checkouts p s l }
 
   still : Still (WritesIn t.objects t.build v) v
   still (RefOf name) s wrote =

@@ -96,7 +96,7 @@ module _ (b : Books) (v : View) (actor lane mine : ℕ) (not : mine ≢ actor) (
 
   -- no mark comes where the commit is
   unmarked : (t : Committing) → IsSure v (its_commit t).name → (s : Seen) → W (mark_path (its_commit t).name.csum) s → NotLeaf s
-  unmarked t sure s wrote = not_leaf s (λ comes. sure.there _ (may_now v (path_of (its_commit t).name)) (wrote.marks (its_commit t).name.csum (mark_place t) comes))
+  unmarked t sure s wrote = not_leaf s (λ comes. sure.there _ (may_now v (path_of (its_commit t).name)) (wrote.marks (its_commit t).name.csum (mark_place t) comes).1)
 
   -- the commit is there, where its mark is away
   sure_in : (t : Committing) → Needs t v → (ph : Phase) → t.phase ≡ ph → no_mark_in ph → IsSure v (its_commit t).name

@@ -5,6 +5,7 @@ use Rattle.fs_trait.specs.View.{Disk, View}
 use Rattle.repo_model.specs.Objects.{Store, Stores}
 use Rattle.read_command.specs.declared.command.ReadCommand.{ReadCommand}
 use Rattle.read_command.specs.declared.command.ReadCommand.TheVariants.{Look, Cat, Ls, Log, Ended}
+use Rattle.read_command.specs.declared.log.Log.{Log as LogTask}
 use Rattle.read_command.specs.declared.look.Ask.{Ask}
 use Rattle.read_command.specs.declared.look.Ask.TheVariants as ask
 use Rattle.read_command.specs.declared.look.Look as look
@@ -50,9 +51,15 @@ module _ (d : Disk) (l : look.Look) where
   begun ask.Log is (Ls x) b = absurd b
   begun ask.Log is (Ended x) b = absurd b
 
+-- a log begins without rows
+no_rows_yet : (a : Ask) (l : look.Look) (g : LogTask) → BeginsBy a l (Log g) → g.rows.items ≡ []
+no_rows_yet ask.Log l g begins = begins.2
+no_rows_yet (ask.Cat path) l g begins = absurd begins
+no_rows_yet (ask.Ls path) l g begins = absurd begins
+
 pub look_leaves : (l : look.Look) (v : View) (next : ReadCommand) → IsTree v.now → LookTells v.now l next → read_leaves (Look l) (turn_of next) next v v
 look_leaves l v (Ended a) tree tells = (refl, a, refl, tells)
 look_leaves l v (Look x) tree tells = absurd (begins_anew l.ask l x tells.0)
-look_leaves l v (Cat x) tree tells = let goes = begun v.now l l.ask refl (Cat x) tells.0 in (refl, goes.0, goes.1, tt, (tells.1, tree))
-look_leaves l v (Ls x) tree tells = let goes = begun v.now l l.ask refl (Ls x) tells.0 in (refl, goes.0, goes.1, tt, (tells.1, tree))
-look_leaves l v (Log x) tree tells = let goes = begun v.now l l.ask refl (Log x) tells.0 in (refl, goes.0, goes.1, tt, (tells.1, tree))
+look_leaves l v (Cat x) tree tells = let goes = begun v.now l l.ask refl (Cat x) tells.0 in (refl, goes.0, goes.1, tt, (tells.1, tree), tt)
+look_leaves l v (Ls x) tree tells = let goes = begun v.now l l.ask refl (Ls x) tells.0 in (refl, goes.0, goes.1, tt, (tells.1, tree), tt)
+look_leaves l v (Log x) tree tells = let goes = begun v.now l l.ask refl (Log x) tells.0 in (refl, goes.0, goes.1, tt, (tells.1, tree), no_rows_yet l.ask l x tells.0)

@@ -29,10 +29,12 @@ some_last (q ∷ rows) r e = let n : q ∷ (rows ++ r ∷ []) ≡ [] = e in cc
 -- the next commit is there
 pub taken : (d : Disk) (old new : Log) (c : Commit) (o : Option ReadAnswer) → LogKnows (Stores d) old → HasCommit (Stores d) old.next (parts_of c) → Takes c old new o → LogTells d old new o
 taken d old new c None knows has (parent, is, commit, limits, rows, next) =
-    let chain = chain_more (Stores d) old.commit old.rows.items old.next (record { commit = old.next; time = c.time; subject = c.subject }) (parts_of c) knows has refl refl refl in
-    subst (λ f. IsChain (Stores d) f new.rows.items new.next) (sym commit)
-    (subst (λ r. IsChain (Stores d) old.commit r new.next) (sym rows)
-    (subst (λ n. IsChain (Stores d) old.commit (old.rows.items ++ record { commit = old.next; time = c.time; subject = c.subject } ∷ []) n) (ap parent_bytes is ∙ sym next) chain))
+    let chain = chain_more (Stores d) old.commit old.rows.items old.next (record { commit = old.next; time = c.time; subject = c.subject }) (parts_of c) knows has refl refl refl in (
+      subst (λ f. IsChain (Stores d) f new.rows.items new.next) (sym commit)
+          (subst (λ r. IsChain (Stores d) old.commit r new.next) (sym rows)
+          (subst (λ n. IsChain (Stores d) old.commit (old.rows.items ++ record { commit = old.next; time = c.time; subject = c.subject } ∷ []) n) (ap parent_bytes is ∙ sym next) chain)),
+      (record { commit = old.next; time = c.time; subject = c.subject }, rows, refl),
+    )
 taken d old new c (Some (answer.Log rows)) knows has (none, is) =
     let chain = chain_more (Stores d) old.commit old.rows.items old.next (record { commit = old.next; time = c.time; subject = c.subject }) (parts_of c) knows has refl refl refl in
     subst (IsLog d old.commit) (sym is) (record {

@@ -1,5 +1,6 @@
 -- The commands that read a commit, as tasks.
-use Rattle.std.specs.Prelude.{◌≡◌, ◌<◌, ℕ, length, Option, Some, None}
+use Rattle.std.specs.Prelude.{◌≡◌, ◌<◌, ℕ, [], length, Option, Some, None}
+use Rattle.std.specs.List.{AllByRecursion}
 use Rattle.ost_types.specs.Path.{Path}
 use Rattle.fs_trait.specs.declared.task.StepResult.{StepResult}
 use Rattle.fs_trait.specs.declared.task.StepResult.TheVariants as turn
@@ -17,6 +18,7 @@ use Rattle.rely_guarantee.specs.Laws.{Kind, Quiet, Take}
 use Rattle.ref_command.specs.declared.look_up.Found.TheVariants.{Whole}
 use Rattle.ref_command.specs.Commands.{pin_wants}
 use Rattle.ref_command.specs.Found.{IsFound}
+use Rattle.script.specs.declared.rows.LogRow.{LogRow}
 use Rattle.ref_command.specs.Pins.{IsPinned}
 use Rattle.read_command.specs.declared.answer.ReadAnswer.{ReadAnswer}
 use Rattle.read_command.specs.declared.command.ReadCommand.{ReadCommand}
@@ -27,7 +29,7 @@ use Rattle.read_command.specs.Fits.{IsFitting}
 use Rattle.read_command.specs.Founded.{IsFounded}
 use Rattle.read_command.specs.CatSteps.{CatKnows, cat_left}
 use Rattle.read_command.specs.LsSteps.{LsKnows}
-use Rattle.read_command.specs.LogSteps.{LogKnows, log_kind, log_left}
+use Rattle.read_command.specs.LogSteps.{IsLonger, LogKnows, log_kind, log_left}
 use Rattle.read_command.specs.LookSteps.{look_left}
 
 -- the look pins the commit; `log` pins each other one when it reads it
@@ -81,20 +83,28 @@ abbrev pub Tells : ReadCommand → Disk → ReadAnswer → Type 0
 Tells (Look l) d a = SaysStopped d l.commit a
 Tells t d a = Answers d (asked t) a
 
+-- a log has one row more at each step, and none at its beginning
+abbrev pub IsOnward : ReadCommand → ReadCommand → Type 0
+IsOnward (Look l) (Log g) = g.rows.items ≡ []
+IsOnward (Log g) (Log n) = IsLonger g n
+IsOnward t (Log g) = ⊥
+IsOnward t new = Unit {0}
+
 abbrev pub read_leaves : ReadCommand → StepResult (Unit {0}) → ReadCommand → View → View → Type 0
-read_leaves t turn.More new v w = (w ≡ v) × (asked new ≡ asked t) × Knows (Stores w.now) new × IsReading new × Goes t v.now
+read_leaves t turn.More new v w = (w ≡ v) × (asked new ≡ asked t) × Knows (Stores w.now) new × IsReading new × Goes t v.now × IsOnward t new
 read_leaves t (turn.Done x) new v w = (w ≡ v) × (a : ReadAnswer) × (new ≡ Ended a) × Tells t v.now a
 
 abbrev pub read_refuses : ReadCommand → View → FsErr → Type 0
 read_refuses t v e = OfNone e
 
--- behind the look the commit is pinned
+-- behind the look the commit is pinned, and each one that a log has read
 abbrev pub IsPinnedOf : Option Asked → ℕ → Books → Type 0
 IsPinnedOf None lane b = Unit {0}
 IsPinnedOf (Some q) lane b = IsPinned lane b q.commit
 
 abbrev pub ArePinned : ReadCommand → ℕ → Books → Type 0
 ArePinned (Look l) lane b = Unit {0}
+ArePinned (Log g) lane b = IsPinned lane b g.commit × AllByRecursion (λ (r : LogRow). IsPinned lane b r.commit) g.rows.items
 ArePinned t lane b = IsPinnedOf (asked t) lane b
 
 abbrev pub read_facts : ℕ → ReadCommand → View → Books → Type 0

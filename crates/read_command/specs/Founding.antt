@@ -1,5 +1,5 @@
 -- A commit that a look found whole is finished from then on.
-use Rattle.std.proofs.Common.{◌≡◌, ℕ, None, sym, subst}
+use Rattle.std.proofs.Common.{◌≡◌, ◌≢◌, ℕ, None, sym, subst}
 use Rattle.fs_trait.specs.View.{View}
 use Rattle.fs_trait.specs.Change.{Writes}
 use Rattle.rely_guarantee.specs.Books.{Books}
@@ -9,16 +9,16 @@ use Rattle.ref_command.specs.Founding.{found_now, known_kept}
 use Rattle.read_command.specs.declared.command.ReadCommand.{ReadCommand}
 use Rattle.read_command.specs.declared.command.ReadCommand.TheVariants.{Look, Cat, Ls, Log, Ended}
 use Rattle.read_command.specs.Asked.{asked}
-use Rattle.read_command.specs.Commands.{Goes, IsReading}
+use Rattle.read_command.specs.Commands.{ArePinned, Goes, IsReading}
 use Rattle.read_command.specs.Founded.{IsFinishedOf, IsFounded}
 
-module _ (b : Books) (v w : View) (actor lane : ℕ) (writes : Writes (Guarantee b v actor lane) v w) where
-  pub founded_kept : (t : ReadCommand) → IsFounded t v → IsFounded t w
-  founded_kept (Look l) f = (f.0, known_kept b v w actor lane writes None l.commit f.1)
-  founded_kept (Cat c) f = finished_now b v w actor lane writes c.commit f
-  founded_kept (Ls s) f = finished_now b v w actor lane writes s.task.commit f
-  founded_kept (Log g) f = finished_now b v w actor lane writes g.commit f
-  founded_kept (Ended a) f = f
+module _ (b : Books) (v w : View) (actor lane : ℕ) (writes : Writes (Guarantee b v actor lane) v w) (mine : ℕ) (other : mine ≢ lane) where
+  pub founded_kept : (t : ReadCommand) → ArePinned t mine b → IsFounded t v → IsFounded t w
+  founded_kept (Look l) pin f = (f.0, known_kept b v w actor lane writes mine other None l.commit tt f.1)
+  founded_kept (Cat c) pin f = finished_now b v w actor lane writes mine other c.commit pin f
+  founded_kept (Ls s) pin f = finished_now b v w actor lane writes mine other s.task.commit pin f
+  founded_kept (Log g) pin f = finished_now b v w actor lane writes mine other g.commit pin.0 f
+  founded_kept (Ended a) pin f = f
 
 -- a command that reads is founded where what it was asked is
 reading_founded : (v : View) (new : ReadCommand) → IsReading new → IsFinishedOf (asked new) v → IsFounded new v

@@ -5,11 +5,9 @@ use Rattle.ost_types.specs.declared.object.Kind.TheVariants as kind
 use Rattle.ost_types.specs.declared.object.ObjName.{ObjName}
 use Rattle.ost_types.specs.Path.{Path}
 use Rattle.ost_forms.specs.Commit.{CommitParts}
-use Rattle.fs_trait.specs.View.{Disk}
-use Rattle.repo_model.specs.Objects.{Store, Stores}
+use Rattle.repo_model.specs.Objects.{IsMap, Store}
 use Rattle.repo_model.specs.Trees.{HasCommit, name_of}
 use Rattle.repo_model.proofs.Grown.{tree_up}
-use Rattle.repo_model.proofs.Stored.{stores_map}
 use Rattle.tree_read.specs.Order.{IsOwner}
 use Rattle.tree_read.specs.Reading.{Knows, Reading}
 use Rattle.script.specs.declared.rows.LogRow.{LogRow}
@@ -32,16 +30,16 @@ module _ (S T : Store) (more : (name : ObjName) (b : List ℕ) → S name b → 
   chain_up commit [] next is = is
   chain_up commit (r ∷ rows) next (c, has, named, time, subject, chain) = (c, commit_up commit c has, named, time, subject, chain_up c.parent rows next chain)
 
-module _ (d e : Disk) (more : (name : ObjName) (b : List ℕ) → Stores d name b → Stores e name b) where
-  owner_up : (content : ℕ) (tree meta : List ℕ) (p : Path) (o : ObjName) → IsOwner (Stores d) content tree meta p o → IsOwner (Stores e) content tree meta p o
+module _ (S T : Store) (one : IsMap T) (more : (name : ObjName) (b : List ℕ) → S name b → T name b) where
+  owner_up : (content : ℕ) (tree meta : List ℕ) (p : Path) (o : ObjName) → IsOwner S content tree meta p o → IsOwner T content tree meta p o
   owner_up content tree meta [] o owner = owner
-  owner_up content tree meta (x ∷ rest) o owner = (owner.0, owner.1, owner.2, names_up (Stores d) (Stores e) more (stores_map e) content tree meta owner.0 o owner.3, owner.4)
+  owner_up content tree meta (x ∷ rest) o owner = (owner.0, owner.1, owner.2, names_up S T more one content tree meta owner.0 o owner.3, owner.4)
 
-  pub reading_up : (t : Reading) → Knows (Stores d) t → Knows (Stores e) t
+  pub reading_up : (t : Reading) → Knows S t → Knows T t
   reading_up t k = record {
     parts = k.parts;
-    has = commit_up (Stores d) (Stores e) more t.commit k.parts k.has;
-    walked = walked_up (Stores d) (Stores e) more (stores_map e) t.limits.content k.parts.tree k.parts.meta t.found t.pending k.walked;
+    has = commit_up S T more t.commit k.parts k.has;
+    walked = walked_up S T more one t.limits.content k.parts.tree k.parts.meta t.found t.pending k.walked;
     owned = λ i among. owner_up t.limits.content k.parts.tree k.parts.meta i.path (name_of kind.DirTree i.owner) (k.owned i among);
     line = k.line;
     ascending = k.ascending;
@@ -49,19 +47,19 @@ module _ (d e : Disk) (more : (name : ObjName) (b : List ℕ) → Stores d name 
     few = k.few;
   }
 
-  cat_up : (at : Place) (c : Cat) → KnowsAt at (Stores d) c → KnowsAt at (Stores e) c
+  cat_up : (at : Place) (c : Cat) → KnowsAt at S c → KnowsAt at T c
   cat_up place.Commit c k = k
   cat_up (place.Folder tree meta depth) c k = record {
     deep = k.deep;
     parts = k.parts;
-    here = commit_up (Stores d) (Stores e) more c.commit k.parts k.here;
-    way = way_up (Stores d) (Stores e) more (stores_map e) c.limits.content k.parts.tree k.parts.meta _ tree meta k.way;
+    here = commit_up S T more c.commit k.parts k.here;
+    way = way_up S T more one c.limits.content k.parts.tree k.parts.meta _ tree meta k.way;
   }
-  cat_up (place.File sum) c k = tree_up (Stores d) (Stores e) more c.commit c.path (Leaf sum) k
+  cat_up (place.File sum) c k = tree_up S T more c.commit c.path (Leaf sum) k
 
-  pub knows_up : (t : ReadCommand) → command.Knows (Stores d) t → command.Knows (Stores e) t
+  pub knows_up : (t : ReadCommand) → command.Knows S t → command.Knows T t
   knows_up (Look l) k = tt
   knows_up (CatCommand c) k = cat_up c.place c k
   knows_up (Ls s) k = λ begun. reading_up s.task (k begun)
-  knows_up (Log g) k = chain_up (Stores d) (Stores e) more g.commit g.rows.items g.next k
+  knows_up (Log g) k = chain_up S T more g.commit g.rows.items g.next k
   knows_up (Ended a) k = k

@@ -3,6 +3,7 @@ use Rattle.std.proofs.Common.{ℕ, List, [], ◌∷◌, sym, subst}
 use Rattle.fs_trait.specs.declared.task.StepResult.TheVariants as turn
 use Rattle.fs_trait.specs.View.{View}
 use Rattle.fs_trait.specs.Change.{Nothing}
+use Rattle.repo_model.specs.Objects.{Stores}
 use Rattle.rely_guarantee.specs.Books.{Books}
 use Rattle.rely_guarantee.specs.Laws.{Kind, Laws, IsBefore, IsClaim, IsLastly, Chain, StepObligation}
 use Rattle.script.specs.declared.rows.LogRow.{LogRow}
@@ -13,9 +14,8 @@ use Rattle.read_command.specs.Commands.{read_facts, read_kind, read_leaves, read
 use Rattle.read_command.specs.Founded.{IsFounded}
 use Rattle.read_command.specs.Founding.{founded_kept, founded_next}
 use Rattle.read_command.specs.Pinned.{are_pinned_on, pinned_next}
-use Rattle.read_command.specs.Kept.{knows_up}
+use Rattle.read_command.specs.Guarded.{knows_kept}
 use Rattle.read_command.specs.LogSteps.{log_kind}
-use Rattle.read_command.specs.Stored.{stored_kept}
 
 log_before : (rows : List LogRow) (next : List ℕ) → IsBefore (log_kind rows next)
 log_before [] next = tt
@@ -76,11 +76,11 @@ no_read_claim (Ended a) is = is
 pub read_laws : Laws read_kind read_needs read_writes read_stepped read_leaves read_facts
 read_laws = record {
   ready = λ actor lane t v b by f. f.0;
-  kept = λ actor lane mine t v w b b' not other does holds f. (knows_up v.now w.now (stored_kept b actor lane v w does.writes) t f.0, founded_kept b v w actor lane does.writes t f.1, are_pinned_on mine b b' (others_pins actor lane mine v w b b' other does) t f.2);
+  kept = λ actor lane mine t v w b b' not other does holds f. (knows_kept b v w actor lane does.writes mine other t f.2 f.0, founded_kept b v w actor lane does.writes mine other t f.2 f.1, are_pinned_on mine b b' (others_pins actor lane mine v w b b' other does) t f.2);
   gains = λ lane t v b b' keeps f. (f.0, f.1, are_pinned_on lane b b' keeps.pins t f.2);
   duty = λ actor lane t new v b agrees by stood f. duty_of t actor lane v b (read_leaves t (turn.Done tt) new v);
   chain = λ t new step. chain_of t (read_kind new) (before new);
   last = λ t new step. last_of t;
-  next = λ actor lane t new v w b b' stood f leaves keeps own. (leaves.2, subst (IsFounded new) (sym leaves.0) (founded_next v t new f.1 leaves.4 leaves.3 leaves.1), pinned_next t new actor lane b b' keeps.pins f.2 stood leaves.3 leaves.1);
+  next = λ actor lane t new v w b b' stood f leaves keeps own. (leaves.2, subst (IsFounded new) (sym leaves.0) (founded_next v t new f.1 leaves.4 leaves.3 leaves.1), pinned_next (Stores v.now) t new actor lane b b' keeps.pins f.0 f.2 stood leaves.5 leaves.3 leaves.1);
   claims = λ lane t new v w b name is step f leaves. absurd (no_read_claim t (subst IsClaim (sym is) tt));
 }

@@ -15,10 +15,10 @@ pub mod LsSteps
 pub mod LogSteps
 pub mod Commands
 pub mod WayLaws
-pub mod Stored
 pub mod Onward
 pub mod Kept
 pub mod Founding
 pub mod Pinned
 pub mod Parts
+pub mod Guarded
 pub mod Laws

@@ -24,8 +24,12 @@ log_kind (r ∷ rows) next = Take (pin_wants next)
 abbrev pub LogKnows : Store → Log → Type 0
 LogKnows S g = IsChain S g.commit g.rows.items g.next
 
+-- the commit that came next is one more row
+abbrev pub IsLonger : Log → Log → Type 0
+IsLonger old new = (r : LogRow) × (new.rows.items ≡ old.rows.items ++ r ∷ []) × (r.commit ≡ old.next)
+
 abbrev pub LogTells : Disk → Log → Log → Option ReadAnswer → Type 0
-LogTells d old new None = LogKnows (Stores d) new
+LogTells d old new None = LogKnows (Stores d) new × IsLonger old new
 LogTells d old new (Some a) = SaysLog d old.limits.content old.commit a
 
 -- at most so many steps go on: no list has so many rows

@@ -42,12 +42,12 @@ kept_of actor lane mine (Parse look) v w b b' not other does holds f = tt
 kept_of actor lane mine (Reset look plan) v w b b' not other does holds f = record {
   change = facts_kept b v actor lane mine not other (planned plan).task w b' f.change does;
   same = f.same;
-  commit = known_kept b v w actor lane does.writes look.found plan.commit f.commit;
+  commit = known_kept b v w actor lane does.writes mine other look.found plan.commit f.pinned f.commit;
   pinned = pinned_by_on mine b b' (others_pins actor lane mine v w b b' other does) look.found plan.commit f.pinned;
 }
 kept_of actor lane mine (Change work) v w b b' not other does holds f = record {
   ref = facts_kept b v actor lane mine not other work.task w b' f.ref does;
-  founded = founded_kept b v w actor lane does.writes work.task.value f.founded;
+  founded = founded_kept b v w actor lane does.writes mine other work.task.value f.pinned f.founded;
   pinned = pinned_for_on mine b b' (others_pins actor lane mine v w b b' other does) work.task.value f.pinned;
 }
 

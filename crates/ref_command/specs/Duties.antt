@@ -83,7 +83,7 @@ module _ (b : Books) (v : View) (lane : ℕ) (t : Change) (needs : Needs t v) (m
       (placed p s l).lies)
 
   -- and no mark is
-  marks : (p : Path) (s : Seen) → Lies t v p s → (commit : List ℕ) → place p ≡ Mark commit → s ≢ Vacant → shows v.now (object_path Commit commit) ≡ Vacant
+  marks : (p : Path) (s : Seen) → Lies t v p s → (commit : List ℕ) → place p ≡ Mark commit → s ≢ Vacant → Free b.exclusive lane × (shows v.now (object_path Commit commit) ≡ Vacant)
   marks p s l commit at there = ⊎_elim
       (λ e. (let k : Stage lane ≡ Mark commit = sym e ∙ at in cc))
       (λ r. (let k : Ref r.0 ≡ Mark commit = sym r.1 ∙ at in cc))
@@ -112,7 +112,7 @@ module _ (b : Books) (v : View) (lane : ℕ) (t : Change) (needs : Needs t v) (m
     within : (ph : Phase) → t.phase ≡ ph → Within (writes_in ph t v) (Guarantee b v lane lane)
     within ph is p s a =
         let l = ref_lies t v needs p s (subst (λ f. writes_in f t v p s) (sym is) a) in
-        record { at = at p s l; fits = fits p s l; objects = objects p s l; marks = marks p s l; checkouts = checkouts p s l; comes = comes p s l; folders = folders p s l }
+        record { at = at p s l; fits = fits p s l; objects = λ kind sum is. inl (objects p s l kind sum is); marks = marks p s l; checkouts = checkouts p s l; comes = comes p s l; folders = folders p s l }
 
 -- the change is done: the ref's path may show only its new file, or nothing, and folders lead there
 abbrev pub IsDone : Change → View → Type 0

@@ -23,23 +23,24 @@ use Rattle.rely_guarantee.specs.Books.{Books}
 use Rattle.rely_guarantee.specs.Disks.{IsLeaf}
 use Rattle.rely_guarantee.specs.Lasting.{IsFinishedNow}
 use Rattle.rely_guarantee.specs.Rely.{Guarantee}
-use Rattle.rely_guarantee.proofs.Finished.{IsElsewhere, finished_now, finished_stays, stays_apart}
-use Rattle.rely_guarantee.proofs.Lasting.{none_out, object_under, stays_act, tail_of}
+use Rattle.rely_guarantee.proofs.Finished.{IsElsewhere, finished_now, finished_pinned, finished_stays, stays_apart}
+use Rattle.rely_guarantee.proofs.Lasting.{none_out, object_under, tail_of}
 use Rattle.ref_command.specs.declared.look_up.Found.{Found}
 use Rattle.ref_command.specs.declared.look_up.Found.TheVariants.{Whole}
 use Rattle.ref_command.specs.Found.{IsFound, commit_name}
 use Rattle.ref_command.specs.Founded.{IsFounded, IsKnownBy}
+use Rattle.ref_command.specs.Pins.{IsPinnedBy, IsPinnedFor}
 use Rattle.ref_command.specs.Placed.{ref_places}
 
--- others write nothing but a mark where one may stand, no mark where its commit is, and over no object
-module _ (b : Books) (v w : View) (actor lane : ℕ) (writes : Writes (Guarantee b v actor lane) v w) where
-  pub known_kept : (found : Option Found) (commit : List ℕ) → IsKnownBy found commit v → IsKnownBy found commit w
-  known_kept None commit known = λ rule is. ⊎_elim (λ same. subst (SuitsSeen rule) (sym same) (known rule is)) (λ m. m.fits.suits rule is) (writes.now (mark_path commit))
-  known_kept (Some found) commit known = finished_now b v w actor lane writes commit known
+-- others write nothing but a mark where one may stand, no mark where its commit is, over no object, and remove none that is pinned
+module _ (b : Books) (v w : View) (actor lane : ℕ) (writes : Writes (Guarantee b v actor lane) v w) (mine : ℕ) (other : mine ≢ lane) where
+  pub known_kept : (found : Option Found) (commit : List ℕ) → IsPinnedBy found mine b commit → IsKnownBy found commit v → IsKnownBy found commit w
+  known_kept None commit pin known = λ rule is. ⊎_elim (λ same. subst (SuitsSeen rule) (sym same) (known rule is)) (λ m. m.fits.suits rule is) (writes.now (mark_path commit))
+  known_kept (Some found) commit pin known = finished_now b v w actor lane writes mine other commit pin known
 
-  pub founded_kept : (o : Option (List ℕ)) → IsFounded o v → IsFounded o w
-  founded_kept None is = tt
-  founded_kept (Some commit) is = finished_stays [] v w commit (stays_act b v w actor lane writes) (none_out (commit_name commit)) is
+  pub founded_kept : (o : Option (List ℕ)) → IsPinnedFor o mine b → IsFounded o v → IsFounded o w
+  founded_kept None pin is = tt
+  founded_kept (Some commit) pin is = finished_pinned b v w actor lane writes mine other commit pin is
 
 -- the change of a ref writes no object and no mark
 pub founded_own : (t : Change) (v w : View) (lane : ℕ) → Needs t v → t.actor ≡ lane → Writes (WritesOf t v) v w → (o : Option (List ℕ)) → IsFounded o v → IsFounded o w

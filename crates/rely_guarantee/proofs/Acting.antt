@@ -125,6 +125,7 @@ module _ {F : Type 0} (view : F → Option View) (clock spare : F → ℕ) (was 
     idle = λ is. ends.owed ∙ ap (λ b. b.owed) same ∙ was.idle (sym (ap (λ b. b.pending) same) ∙ sym ends.pending ∙ is);
     room = rw (ends.owed, ends.fs, same) room;
     entry = λ owes. rw (ends.history, same) (was.entry (subst (λ n. 0 < n) (ends.owed ∙ ap (λ b. b.owed) same) owes));
+    undoomed = λ o has. was.undoomed o (subst (λ (b : rust.Books). Contains b.doomed.items o) same (ends.doomed o has));
   }
 
   -- no claim comes
@@ -232,7 +233,7 @@ tells_end view runs came.More new is = absurd is
 tells_end view runs came.Done new is = tt
 
 pub ends_refl : {F : Type 0} (actor lane : ℕ) (base : Base F) → Ends actor lane base base
-ends_refl actor lane base = record { fs = refl; history = refl; pending = refl; owed = refl; opened = refl; start = refl; claims = λ c has. has; spared = spared_refl actor lane (books_of base.books); agrees = λ a. a }
+ends_refl actor lane base = record { fs = refl; history = refl; pending = refl; owed = refl; opened = refl; start = refl; claims = λ c has. has; doomed = λ o has. has; spared = spared_refl actor lane (books_of base.books); agrees = λ a. a }
 
 -- where no time goes by the view is as it was
 pub view_stays : {F : Type 0} (view : F → Option View) (clock : F → ℕ) (was : F → ℕ → View → Type 0) (only_now : (fs : F) (t : ℕ) (v : View) → clock fs ≤ t → was fs t v → view fs ≡ Some v) (counts_now : (fs : F) (t : ℕ) (v : View) → t ≤ clock fs → view fs ≡ Some v → was fs t v)

@@ -1,5 +1,5 @@
 -- A commit that is whole stays so: whoever acts, and after each crash once all was synced.
-use Rattle.std.proofs.Common.{◌≡◌, ⊎_elim, ℕ, sym, ◌∙◌, ap, subst, List, [], Contains}
+use Rattle.std.proofs.Common.{◌≡◌, ◌≢◌, ⊎_elim, ℕ, refl, sym, ◌∙◌, ap, subst, List, [], Contains}
 use Rattle.ost_types.specs.declared.object.Kind.TheVariants.{Commit}
 use Rattle.ost_types.specs.declared.object.ObjName.{ObjName}
 use Rattle.ost_types.specs.Path.{Path}
@@ -14,11 +14,14 @@ use Rattle.repo_layout.proofs.Places.{place-mark, place-object, place-objects_fo
 use Rattle.layout_rules.proofs.Layouts.{fixed_other}
 use Rattle.repo_model.specs.Objects.{path_of}
 use Rattle.repo_model.specs.Trees.{name_of}
+use Rattle.reach.specs.Reach.{Reach}
 use Rattle.rely_guarantee.specs.Books.{Books}
 use Rattle.rely_guarantee.specs.Disks.{IsLeaf}
 use Rattle.rely_guarantee.specs.Lasting.{IsFinishedNow, IsSafe, Stays, StaysFinished}
 use Rattle.rely_guarantee.specs.Rely.{Guarantee}
-use Rattle.rely_guarantee.proofs.Lasting.{above_objects, leads_harmless, no_vacant_leaf}
+use Rattle.rely_guarantee.specs.Removing.{IsPinned}
+use Rattle.rely_guarantee.proofs.Lasting.{above_objects, leads_harmless, no_vacant_leaf, unmarked_stays}
+use Rattle.rely_guarantee.proofs.Removing.{pinned_guards, pinned_safe}
 
 pub finished_stays : (out : List ObjName) (v w : View) (commit : List ℕ) → Stays out v w → ¬ (Contains out (name_of Commit commit)) → StaysFinished v commit → StaysFinished w commit
 finished_stays out v w commit stays kept f = record { there = stays.safe (name_of Commit commit) kept f.there; unmarked = stays.unmarked commit kept f.there f.unmarked }
@@ -34,13 +37,23 @@ finished_synced v commit f = record {
   unmarked = record { each = λ s may leaf. f.unmarked (subst IsLeaf ((all_synced-firm v (mark_path commit)).each s may) leaf) };
 }
 
--- nobody writes over an object, or brings a mark where its commit is
-pub finished_now : (b : Books) (v w : View) (actor lane : ℕ) → Writes (Guarantee b v actor lane) v w → (commit : List ℕ) → IsFinishedNow v commit → IsFinishedNow w commit
-finished_now b v w actor lane writes commit f = record {
+-- a commit that a running command has pinned stays so whoever acts
+pub finished_pinned : (b : Books) (v w : View) (actor lane : ℕ) → Writes (Guarantee b v actor lane) v w → (mine : ℕ) → mine ≢ lane → (commit : List ℕ) → IsPinned mine b (name_of Commit commit) → StaysFinished v commit → StaysFinished w commit
+finished_pinned b v w actor lane writes mine other commit pinned f = record {
+  there = pinned_safe b v w actor lane writes mine other (name_of Commit commit) pinned (name_of Commit commit) (Reach.start (name_of Commit commit) refl) f.there;
+  unmarked = unmarked_stays b v w actor lane writes commit f.there f.unmarked;
+}
+
+-- nobody removes it, or brings a mark where it is
+pub finished_now : (b : Books) (v w : View) (actor lane : ℕ) → Writes (Guarantee b v actor lane) v w → (mine : ℕ) → mine ≢ lane → (commit : List ℕ) → IsPinned mine b (name_of Commit commit) → IsFinishedNow v commit → IsFinishedNow w commit
+finished_now b v w actor lane writes mine other commit pinned f = record {
   sum = f.sum;
   there = λ e. ⊎_elim
       (λ same. f.there (sym same ∙ e))
-      (λ m. f.there (m.objects Commit commit (place-object Commit commit f.sum)).0)
+      (λ m. ⊎_elim
+      (λ comes. f.there comes.0)
+      (λ goes. goes.2 (pinned_guards b v w actor lane writes mine other (name_of Commit commit) pinned (name_of Commit commit) (Reach.start (name_of Commit commit) refl)))
+      (m.objects Commit commit (place-object Commit commit f.sum)))
       (writes.now (object_path Commit commit));
   above = λ p. ⊎_elim
       (λ same. subst (LeadsTo (objects_folder_path commit) p) (sym same) (f.above p))
@@ -48,7 +61,7 @@ finished_now b v w actor lane writes commit f = record {
       (writes.now p);
   unmarked = λ leaf. ⊎_elim
       (λ same. f.unmarked (subst IsLeaf same leaf))
-      (λ m. f.there (m.marks commit (place-mark commit f.sum) (no_vacant_leaf (shows w.now (mark_path commit)) leaf)))
+      (λ m. f.there (m.marks commit (place-mark commit f.sum) (no_vacant_leaf (shows w.now (mark_path commit)) leaf)).1)
       (writes.now (mark_path commit));
 }
 

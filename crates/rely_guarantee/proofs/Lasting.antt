@@ -1,5 +1,5 @@
 -- What stays of the objects of the store: in a later view, on a disk that a crash left since, and over many acts.
-use Rattle.std.proofs.Common.{◌≡◌, ◌⊎◌, inl, inr, ⊎_elim, ◌≤◌, ℕ, true, refl, sym, ◌∙◌, ap, subst, arith, List, [], ◌++◌, append-nil, drop, take, Contains, Option, Some, None}
+use Rattle.std.proofs.Common.{◌≡◌, ◌⊎◌, inl, inr, ⊎_elim, ◌≤◌, ℕ, true, refl, sym, ◌∙◌, ap, subst, arith, List, [], ◌++◌, append-nil, drop, take, take-append-drop, Contains, Option, Some, None}
 use Rattle.std.proofs.lemmas.List.Elements.{Contains-append_left, Contains-append_right}
 use Rattle.ost_types.specs.declared.limits.Limits.{Limits}
 use Rattle.ost_types.specs.declared.object.Kind.TheVariants.{Commit}
@@ -24,14 +24,16 @@ use Rattle.repo_layout.proofs.Places.{place-mark, place-object, place-objects_fo
 use Rattle.repo_model.specs.Objects.{Stores, Marked, IsMap, object_in, path_of}
 use Rattle.repo_model.specs.Trees.{name_of}
 use Rattle.repo_model.specs.Whole.{Complete}
-use Rattle.repo_model.proofs.Grown.{complete_up}
 use Rattle.repo_model.proofs.Named.{IsSum-named}
 use Rattle.repo_model.proofs.Stored.{stores_map}
+use Rattle.reach.specs.Reach.{Is, Reach}
+use Rattle.reach.proofs.Parts.{commit_whole}
 use Rattle.rely_guarantee.specs.Books.{Books}
 use Rattle.rely_guarantee.specs.Disks.{IsLeaf}
 use Rattle.rely_guarantee.specs.Objects.{IsObjectSeen}
 use Rattle.rely_guarantee.specs.Lasting.{AlwaysStores, IsRight, IsSafe, Lasts, NeverMarked, Stays, StaysOn}
 use Rattle.rely_guarantee.specs.Rely.{Guarantee, Interference}
+use Rattle.rely_guarantee.specs.Removing.{next_of}
 use Rattle.rely_guarantee.specs.SystemInvariant.{Leads}
 use Rattle.rely_guarantee.proofs.Goods.{leaf_seen}
 use Rattle.rely_guarantee.proofs.Mays.{at_place, folders_harmless}
@@ -52,6 +54,16 @@ above_objects sum p below = under-is_below p (folder_path Objects) (take 2 (hex_
 pub no_vacant_leaf : (s : Seen) → IsLeaf s → s ≡ Vacant → ⊥
 no_vacant_leaf s leaf e = let k : IsLeaf Vacant = subst IsLeaf e leaf in k
 
+-- what is removed next is one of those that are to be
+taken_of : (n : ℕ) (xs : List ObjName) (x : ObjName) → Contains (take n xs) x → Contains xs x
+taken_of n xs x has = subst (λ (l : List ObjName). Contains l x) (take-append-drop n xs) (Contains-append_left (take n xs) (drop n xs) x has)
+
+left_of : (n : ℕ) (xs : List ObjName) (x : ObjName) → Contains (drop n xs) x → Contains xs x
+left_of n xs x has = subst (λ (l : List ObjName). Contains l x) (take-append-drop n xs) (Contains-append_right (take n xs) (drop n xs) x has)
+
+pub next_doomed : (b : Books) (o : ObjName) → Contains (next_of b) o → Contains b.doomed o
+next_doomed b o is = left_of b.gone b.doomed o (taken_of 1 (drop b.gone b.doomed) o is)
+
 -- nothing is removed
 pub none_out : (name : ObjName) → ¬ (Contains [] name)
 none_out name (k, less, is) = omega (arith, less)
@@ -65,37 +77,40 @@ module _ (b : Books) (v w : View) (actor lane : ℕ) (writes : Writes (Guarantee
       (λ is. at_place b v actor lane p s (ObjectsFolder (take 2 (hex_of sum))) (ap place is ∙ place-objects_folder sum) m)
       (above_objects sum p below)
 
-  -- nothing is written where something stands, so nothing else comes to the path of an object that is safe
-  safe_apart : (name : ObjName) → IsSafe v name → (s : Seen) → Guarantee b v actor lane (path_of name) s → ⊥
-  safe_apart name safe s m = safe.there (shows v.now (path_of name)) (may_now v (path_of name)) (m.objects name.kind name.csum (place-object name.kind name.csum safe.sum)).0
+  -- nothing is written where something stands but where it is removed, so nothing else comes to the path of an object that is safe
+  safe_apart : (name : ObjName) → ¬ (Contains (next_of b) name) → IsSafe v name → (s : Seen) → Guarantee b v actor lane (path_of name) s → ⊥
+  safe_apart name kept safe s m = ⊎_elim
+      (λ comes. safe.there (shows v.now (path_of name)) (may_now v (path_of name)) comes.0)
+      (λ goes. kept goes.1)
+      (m.objects name.kind name.csum (place-object name.kind name.csum safe.sum))
 
-  safe_same : (name : ObjName) → IsSafe v name → (s : Seen) → MayBe w (path_of name) s → MayBe v (path_of name) s
-  safe_same name safe s may = ⊎_elim (λ was. was) (λ m. absurd (safe_apart name safe s m)) (writes.only (path_of name) s may)
+  safe_same : (name : ObjName) → ¬ (Contains (next_of b) name) → IsSafe v name → (s : Seen) → MayBe w (path_of name) s → MayBe v (path_of name) s
+  safe_same name kept safe s may = ⊎_elim (λ was. was) (λ m. absurd (safe_apart name kept safe s m)) (writes.only (path_of name) s may)
 
-  safe_stays : (name : ObjName) → IsSafe v name → IsSafe w name
-  safe_stays name safe = record {
+  safe_stays : (name : ObjName) → ¬ (Contains (next_of b) name) → IsSafe v name → IsSafe w name
+  safe_stays name kept safe = record {
     sum = safe.sum;
-    there = λ s may. safe.there s (safe_same name safe s may);
+    there = λ s may. safe.there s (safe_same name kept safe s may);
     above = firm_kept (Guarantee b v actor lane) (LeadsTo (objects_folder_path name.csum)) v w writes (leads_harmless name.csum) safe.above;
   }
 
   right_stays : (name : ObjName) → IsRight v name → IsRight w name
   right_stays name right = record {
     sum = right.sum;
-    each = λ s may. ⊎_elim (right.each s) (λ m. inr (m.objects name.kind name.csum (place-object name.kind name.csum right.sum)).1) (writes.only (path_of name) s may);
+    each = λ s may. ⊎_elim (right.each s) (λ m. ⊎_elim (λ comes. inr comes.1) (λ goes. inl goes.0) (m.objects name.kind name.csum (place-object name.kind name.csum right.sum))) (writes.only (path_of name) s may);
   }
 
   -- a mark comes only where its commit isn't
-  unmarked_stays : (commit : List ℕ) → IsSafe v (name_of Commit commit) → NeverMarked commit v → NeverMarked commit w
+  pub unmarked_stays : (commit : List ℕ) → IsSafe v (name_of Commit commit) → NeverMarked commit v → NeverMarked commit w
   unmarked_stays commit safe none = record {
     each = λ s may leaf. ⊎_elim
         (λ was. none.each s was leaf)
-        (λ m. safe.there (shows v.now (object_path Commit commit)) (may_now v (object_path Commit commit)) (m.marks commit (place-mark commit safe.sum) (no_vacant_leaf s leaf)))
+        (λ m. safe.there (shows v.now (object_path Commit commit)) (may_now v (object_path Commit commit)) (m.marks commit (place-mark commit safe.sum) (no_vacant_leaf s leaf)).1)
         (writes.only (mark_path commit) s may);
   }
 
-  pub stays_act : Stays [] v w
-  stays_act = record { safe = λ name kept. safe_stays name; same = λ name kept. safe_same name; right = right_stays; unmarked = λ commit kept. unmarked_stays commit }
+  pub stays_act : Stays (next_of b) v w
+  stays_act = record { safe = safe_stays; same = safe_same; right = right_stays; unmarked = λ commit kept. unmarked_stays commit }
 
 pub stays_refl : (v : View) → Stays [] v v
 stays_refl v = record { safe = λ name kept safe. safe; same = λ name kept safe s may. may; right = λ name right. right; unmarked = λ commit kept safe none. none }
@@ -212,17 +227,31 @@ module _ {F : Type 0} (view : F → Option View) (clock : F → ℕ) (was : F �
             ((passes (clock old) (clock new) (was old) (was new) (view new) (laws.only_now new) time).nothing_else t d left),
       )
 
+  -- where more may have been removed
+  pub lasts_more : (out more : List ObjName) (old new : F) → ((name : ObjName) → Contains out name → Contains more name) → Lasts out view clock was old new → Lasts more view clock was old new
+  lasts_more out more old new among lasts v told =
+      let x = lasts v told in (
+        x.0,
+        x.1,
+        record {
+          later = x.2.later;
+          now = stays_more out more v x.0 among x.2.now;
+          since = λ t d late left. on_more out more v d among (x.2.since t d late left);
+          earlier = λ t d left. ⊎_elim (λ was_left. inl was_left) (λ on. inr (on_more out more v d among on)) (x.2.earlier t d left);
+        },
+      )
+
   -- one act
   pub lasts_act : (old new : F) (b b' : Books) (actor lane : ℕ) → ((v : View) → view old ≡ Some v → (w : View) × (view new ≡ Some w) × Interference actor lane v b w b')
-      → Elapses (clock old) (clock new) (was old) (was new) (view new) → Lasts [] view clock was old new
+      → Elapses (clock old) (clock new) (was old) (was new) (view new) → Lasts (next_of b) view clock was old new
   lasts_act old new b b' actor lane does time v told =
       let x = does v told in
       let w = x.0 in
       let now = stays_act b v w actor lane x.2.writes in
-      let earlier : (t : ℕ) (d : Disk) → Left (was new) t d → Left (was old) t d ⊎ StaysOn [] v d =
+      let earlier : (t : ℕ) (d : Disk) → Left (was new) t d → Left (was old) t d ⊎ StaysOn (next_of b) v d =
       λ t d left. ⊎_elim
       (λ was_left. inl was_left)
-      (λ here. inr (image_later [] v w d now (subst (λ u. Image u d) (same_told new here.0 w here.1 x.1) here.2)))
+      (λ here. inr (image_later (next_of b) v w d now (subst (λ u. Image u d) (same_told new here.0 w here.1 x.1) here.2)))
       ((passes (clock old) (clock new) (was old) (was new) (view new) (laws.only_now new) time).nothing_else t d left)
       in (
         w,
@@ -230,10 +259,16 @@ module _ {F : Type 0} (view : F → Option View) (clock : F → ℕ) (was : F �
         record {
           later = time.later;
           now = now;
-          since = λ t d late left. ⊎_elim (λ was_left. left_now old v told t d late was_left) (λ on. on) (earlier t d left);
+          since = λ t d late left. ⊎_elim (λ was_left. on_more [] (next_of b) v d (λ name is. absurd (none_out name is)) (left_now old v told t d late was_left)) (λ on. on) (earlier t d left);
           earlier = earlier;
         },
       )
+
+  -- one where nothing is to be removed
+  pub lasts_undoomed : (old new : F) (b b' : Books) (actor lane : ℕ) → ((o : ObjName) → ¬ (Contains b.doomed o)) → ((v : View) → view old ≡ Some v → (w : View) × (view new ≡ Some w) × Interference actor lane v b w b')
+      → Elapses (clock old) (clock new) (was old) (was new) (view new) → Lasts [] view clock was old new
+  lasts_undoomed old new b b' actor lane none does time =
+      lasts_more (next_of b) [] old new (λ name is. absurd (none name (next_doomed b name is))) (lasts_act old new b b' actor lane does time)
 
 -- Bytes that each crash leaves as an object.
 pub always_safe : (v : View) (name : ObjName) (bytes : List ℕ) → AlwaysStores v name bytes → IsSafe v name
@@ -278,8 +313,8 @@ always_named v name bytes safe right named one = record {
   named = named;
 }
 
-pub always_whole : (v w : View) (limits : Limits) (commit : List ℕ) → Stays [] v w → Complete (AlwaysStores v) limits commit → Complete (AlwaysStores w) limits commit
-always_whole v w limits commit stays whole = complete_up (AlwaysStores v) (AlwaysStores w) (λ name bytes has. always_stays [] v w stays name bytes (none_out name) has) (always_one w) limits commit whole
+pub always_whole : (out : List ObjName) (v w : View) (limits : Limits) (commit : List ℕ) → Stays out v w → ((o : ObjName) → Reach (AlwaysStores v) (Is (name_of Commit commit)) o → ¬ (Contains out o)) → Complete (AlwaysStores v) limits commit → Complete (AlwaysStores w) limits commit
+always_whole out v w limits commit stays kept = commit_whole (AlwaysStores v) (AlwaysStores w) commit (λ o b reached has. always_stays out v w stays o b (kept o reached) has) (always_one w) limits
 
-pub always_complete : (v : View) (d : Disk) (limits : Limits) (commit : List ℕ) → StaysOn [] v d → Complete (AlwaysStores v) limits commit → Complete (Stores d) limits commit
-always_complete v d limits commit on whole = complete_up (AlwaysStores v) (Stores d) (λ name bytes has. always_left [] v d on name bytes (none_out name) has) (stores_map d) limits commit whole
+pub always_complete : (out : List ObjName) (v : View) (d : Disk) (limits : Limits) (commit : List ℕ) → StaysOn out v d → ((o : ObjName) → Reach (AlwaysStores v) (Is (name_of Commit commit)) o → ¬ (Contains out o)) → Complete (AlwaysStores v) limits commit → Complete (Stores d) limits commit
+always_complete out v d limits commit on kept = commit_whole (AlwaysStores v) (Stores d) commit (λ o b reached has. always_left out v d on o b (kept o reached) has) (stores_map d) limits

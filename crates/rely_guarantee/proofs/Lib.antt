@@ -15,5 +15,6 @@ pub mod Calls
 pub mod Headlines
 pub mod Openings
 pub mod Lasting
+pub mod Removing
 pub mod Finished
 pub mod Beginnings

@@ -1,19 +1,33 @@
 -- The table of locks, and what others hold.
-use Rattle.std.proofs.Common.{◌≡◌, ◌≢◌, ◌⊎◌, inl, inr, ⊎_elim, ℕ, Bool, true, false, nat_eq, refl, sym, ◌∙◌, ap, arith, List, [], ◌++◌, append-nil, append_assoc, Option, Some, IsTrue, Contains}
+use Rattle.std.proofs.Common.{◌≡◌, ◌≢◌, ◌⊎◌, inl, inr, ⊎_elim, ℕ, Bool, true, false, nat_eq, refl, sym, ◌∙◌, ap, subst, arith, List, [], ◌++◌, append-nil, append_assoc, Option, Some, None, IsTrue, IsSome, Contains}
 use Rattle.std.proofs.lemmas.Bool.Decides.{nat_tests}
 use Rattle.std.proofs.lemmas.List.Elements.{All-contains}
+use Rattle.ost_types.specs.declared.object.ObjName.{ObjName}
 use Rattle.rely_guarantee.specs.declared.books.Entry.{Entry}
 use Rattle.rely_guarantee.specs.declared.books.Share.{Share}
 use Rattle.rely_guarantee.specs.declared.kind.Wants.{Wants}
 use Rattle.rely_guarantee.specs.Books.{Books, Free, Frees, Agrees, Spared}
 use Rattle.rely_guarantee.proofs.Lists.{all_of}
 
-pub agrees_granted : (w : Wants) (lane : ℕ) (b b' : Books) → Frees w lane b
+-- what was free of others is, once the lane has more
+pub free_before : (lock lock' : Option ℕ) (lane : ℕ) → ((x : ℕ) → x ≢ lane → lock ≡ Some x → lock' ≡ Some x) → Free lock' lane → Free lock lane
+free_before lock lock' lane kept free x is = by (nat_eq x lane) refl
+  where
+    by : (t : Bool) → nat_eq x lane ≡ t → x ≡ lane
+    by true e = grind (arith, nat_tests)
+    by false e = let other : x ≢ lane = (λ same. let z : true ≡ false = sym (let k : nat_eq lane lane ≡ true = grind (arith, nat_tests) in k) ∙ ap (λ y. nat_eq y lane) (sym same) ∙ e in cc) in free x (kept x other is)
+
+-- who holds a lock goes on to
+some_stays : (lock lock' : Option ℕ) → ((x : ℕ) → lock ≡ Some x → lock' ≡ Some x) → IsSome lock → IsSome lock'
+some_stays None lock' kept is = absurd (let bad : false ≡ true = is in cc)
+some_stays (Some x) lock' kept is = subst (λ (o : Option ℕ). IsSome o) (sym (kept x refl)) refl
+
+pub agrees_granted : (w : Wants) (lane : ℕ) (b b' : Books) → Frees w lane b → b'.doomed ≡ b.doomed → ((x : ℕ) → b.exclusive ≡ Some x → b'.exclusive ≡ Some x)
     → ((x : ℕ) → b'.exclusive ≡ Some x → (b.exclusive ≡ Some x) ⊎ (IsTrue w.exclusive × (x ≡ lane)))
     → ((x : ℕ) → b'.turn ≡ Some x → (b.turn ≡ Some x) ⊎ (IsTrue w.turn × (x ≡ lane)))
     → ((x : Share) → Contains b'.shared x → Contains b.shared x ⊎ (IsTrue w.shared × (x.lane ≡ lane)))
     → Agrees b → Agrees b'
-agrees_granted w lane b b' frees alone turn shared agrees = record {
+agrees_granted w lane b b' frees same kept alone turn shared agrees = record {
   turn = λ x y ex tu. ⊎_elim
       (λ e. ⊎_elim (λ t. agrees.turn x y e t) (λ t. t.1 ∙ sym ((frees.turn t.0).0 x e)) (turn y tu))
       (λ e. ⊎_elim (λ t. (frees.exclusive e.0).1 y t ∙ sym e.1) (λ t. t.1 ∙ sym e.1) (turn y tu))
@@ -22,7 +36,26 @@ agrees_granted w lane b b' frees alone turn shared agrees = record {
       (λ e. ⊎_elim (λ h. All-contains (λ (s : Share). s.lane ≡ x) b.shared s (agrees.shared x e) h) (λ h. h.1 ∙ sym (frees.shared h.0 x e)) (shared s has))
       (λ e. ⊎_elim (λ h. All-contains (λ (s : Share). s.lane ≡ lane) b.shared s ((frees.exclusive e.0).2) h ∙ sym e.1) (λ h. h.1 ∙ sym e.1) (shared s has))
       (alone x ex));
+  doomed = λ o has. some_stays b.exclusive b'.exclusive kept (agrees.doomed o (subst (λ (l : List ObjName). Contains l o) same has));
 }
+
+-- what is to be removed belongs to the lock's holder, also once a lane has given up what it has
+pub released_doomed : (lane : ℕ) (lock lock' : Option ℕ) (doomed doomed' : List ObjName) → (lock ≡ Some lane → doomed' ≡ []) → ((o : ObjName) → Contains doomed' o → Contains doomed o) → ((x : ℕ) → x ≢ lane → lock ≡ Some x → lock' ≡ Some x)
+    → ((o : ObjName) → Contains doomed o → IsSome lock) → (o : ObjName) → Contains doomed' o → IsSome lock'
+released_doomed lane lock lock' doomed doomed' emptied fewer kept agrees o has = by lock refl
+  where
+    at : (x : ℕ) → lock ≡ Some x → (t : Bool) → nat_eq x lane ≡ t → IsSome lock'
+    at x is true e =
+        let same : x ≡ lane = grind (arith, nat_tests) in
+        let none : Contains [] o = subst (λ (l : List ObjName). Contains l o) (emptied (is ∙ ap Some same)) has in
+        absurd (omega (arith, none.1))
+    at x is false e =
+        let other : x ≢ lane = (λ same. let z : true ≡ false = sym (let k : nat_eq lane lane ≡ true = grind (arith, nat_tests) in k) ∙ ap (λ y. nat_eq y lane) (sym same) ∙ e in cc) in
+        subst (λ (l : Option ℕ). IsSome l) (sym (kept x other is)) refl
+
+    by : (l : Option ℕ) → lock ≡ l → IsSome lock'
+    by None is = absurd (let bad : false ≡ true = subst (λ (l : Option ℕ). IsSome l) is (agrees o (fewer o has)) in cc)
+    by (Some x) is = at x is (nat_eq x lane) refl
 
 pub spared_refl : (actor lane : ℕ) (b : Books) → Spared actor lane b b
 spared_refl actor lane b = record {
@@ -33,6 +66,8 @@ spared_refl actor lane b = record {
   holds = λ h other has. has;
   wants = λ w a l has. has;
   pins = λ p other has. has;
+  pinned = λ p has. inl has;
+  doomed = λ x other is. (refl, refl);
   claims = λ c other has. has;
   claimers = λ c other has. has;
   uses = λ u other has. has;
@@ -55,6 +90,11 @@ spared_then actor lane a b c p q = record {
   holds = λ h other has. q.holds h other (p.holds h other has);
   wants = λ w n l has. q.wants w n l (p.wants w n l has);
   pins = λ x other has. q.pins x other (p.pins x other has);
+  pinned = λ x has. ⊎_elim (λ was. p.pinned x was) (λ new. inr (new.0, free_before a.exclusive b.exclusive lane p.exclusive new.1)) (q.pinned x has);
+  doomed = λ x other is.
+      let one = p.doomed x other is in
+      let two = q.doomed x other (p.exclusive x other is) in
+      (two.0 ∙ one.0, two.1 ∙ one.1);
   claims = λ c other has. q.claims c other (p.claims c other has);
   claimers = λ c other has. p.claimers c other (q.claimers c other has);
   uses = λ u other has. q.uses u other (p.uses u other has);
@@ -67,11 +107,3 @@ spared_then actor lane a b c p q = record {
   opened = q.opened ∙ p.opened;
   start = q.start ∙ p.start;
 }
-
--- what was free of others is, once the lane has more
-pub free_before : (lock lock' : Option ℕ) (lane : ℕ) → ((x : ℕ) → x ≢ lane → lock ≡ Some x → lock' ≡ Some x) → Free lock' lane → Free lock lane
-free_before lock lock' lane kept free x is = by (nat_eq x lane) refl
-  where
-    by : (t : Bool) → nat_eq x lane ≡ t → x ≡ lane
-    by true e = grind (arith, nat_tests)
-    by false e = let other : x ≢ lane = (λ same. let z : true ≡ false = sym (let k : nat_eq lane lane ≡ true = grind (arith, nat_tests) in k) ∙ ap (λ y. nat_eq y lane) (sym same) ∙ e in cc) in free x (kept x other is)

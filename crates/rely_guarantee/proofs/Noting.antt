@@ -92,6 +92,8 @@ module _ {F : Type 0} (view : F → Option View) (clock spare : F → ℕ) (was 
           holds = s.holds;
           wants = s.wants;
           pins = s.pins;
+          pinned = s.pinned;
+          doomed = s.doomed;
           claims = λ c other has. claim_stays c has;
           claimers = no_others;
           uses = s.uses;
@@ -132,12 +134,13 @@ module _ {F : Type 0} (view : F → Option View) (clock spare : F → ℕ) (was 
     noted_sound : SystemInvariant view clock spare was (record { fs = fs; books = old.books }) → SystemInvariant view clock spare was (record { fs = fs; books = claimed_books old.books noted })
     noted_sound sound = record {
       ordered = record {
-        agrees = record { turn = sound.ordered.agrees.turn; shared = sound.ordered.agrees.shared };
+        agrees = record { turn = sound.ordered.agrees.turn; shared = sound.ordered.agrees.shared; doomed = sound.ordered.agrees.doomed };
         owner = sound.ordered.owner;
         ascends = sound.ordered.ascends;
         idle = sound.ordered.idle;
         room = sound.ordered.room;
         entry = sound.ordered.entry;
+        undoomed = sound.ordered.undoomed;
       };
       stands = sound.stands;
       crash = sound.crash;
@@ -203,6 +206,7 @@ module _ {F : Type 0} (view : F → Option View) (clock spare : F → ℕ) (was 
             idle = λ none. owed ∙ ord.idle (sym pending ∙ none);
             room = rw owed ord.room;
             entry = λ owes. rw history (ord.entry (subst (λ n. 0 < n) owed owes));
+            undoomed = λ o has. ord.undoomed o (subst (λ (b : rust.Books). Contains b.doomed.items o) same has);
           };
           stands = rw (history, pending, start) ready.sound.stands;
           crash = rw (history, pending, start, opened) ready.sound.crash;

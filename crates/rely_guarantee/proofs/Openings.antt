@@ -15,7 +15,6 @@ use Rattle.repo_layout.specs.Refs.{is_leaf}
 use Rattle.repo_layout.proofs.Places.{place-ref}
 use Rattle.rely_guarantee.specs.declared.books.Base.{Base}
 use Rattle.rely_guarantee.specs.declared.books.Books.{Books}
-use Rattle.rely_guarantee.specs.declared.books.Claim.{Claim}
 use Rattle.rely_guarantee.specs.State.{Topic, RefOf, Said, State, first, IsNamed}
 use Rattle.rely_guarantee.specs.Disks.{path_of, IsLeaf, Says, IsOther}
 use Rattle.rely_guarantee.specs.SystemInvariant.{Leads, NoStray, Stands, SystemInvariant}
@@ -90,22 +89,24 @@ module _ (start : State) (v : View) (tree : IsTree v.now) (begins : IsOpening st
     reached = within_bounds;
   }
 
-no_member : (claims : List Claim) → claims ≡ [] → (c : Claim) → Contains claims c → ⊥
-no_member [] none c (k, lt, e) = omega (arith, lt)
-no_member (x ∷ claims) none c has = let z : x ∷ claims ≡ [] = none in cc
+module _ {X : Type 0} where
+  no_member : (xs : List X) → xs ≡ [] → (x : X) → Contains xs x → ⊥
+  no_member [] none x (k, lt, e) = omega (arith, lt)
+  no_member (y ∷ xs) none x has = let z : y ∷ xs ≡ [] = none in cc
 
 pub sound_begins : {F : Type 0} (view : F → Option View) (clock spare : F → ℕ) (was : F → ℕ → View → Type 0) → ((fs : F) (v : View) → view fs ≡ Some v → IsTree v.now) → (base : Base F)
-    → base.books.exclusive ≡ None → base.books.turn ≡ None → base.books.history.items ≡ [] → base.books.claims.items ≡ [] → base.books.pending ≡ None → base.books.owed ≡ 0 → base.books.opened ≤ clock base.fs
+    → base.books.exclusive ≡ None → base.books.turn ≡ None → base.books.history.items ≡ [] → base.books.claims.items ≡ [] → base.books.doomed.items ≡ [] → base.books.pending ≡ None → base.books.owed ≡ 0 → base.books.opened ≤ clock base.fs
     → ((v : View) → view base.fs ≡ Some v → IsOpening (first base.books.start.items) v)
     → ((v : View) → view base.fs ≡ Some v → HasSince (Left (was base.fs)) base.books.opened (first base.books.start.items)) → SystemInvariant view clock spare was base
-sound_begins view clock spare was trees base alone turn empty unclaimed none nothing opened begins since = record {
+sound_begins view clock spare was trees base alone turn empty unclaimed undoomed none nothing opened begins since = record {
   ordered = record {
-    agrees = record { turn = λ x y ex. absurd (let z : None ≡ Some x = sym alone ∙ ex in cc); shared = λ x ex. absurd (let z : None ≡ Some x = sym alone ∙ ex in cc) };
+    agrees = record { turn = λ x y ex. absurd (let z : None ≡ Some x = sym alone ∙ ex in cc); shared = λ x ex. absurd (let z : None ≡ Some x = sym alone ∙ ex in cc); doomed = λ o has. absurd (no_member base.books.doomed.items undoomed o has) };
     owner = λ p is. absurd (let z : None ≡ Some p = sym none ∙ is in cc);
     ascends = rw empty opened;
     idle = λ is. nothing;
     room = rw nothing (omega arith);
     entry = λ more. absurd (let z : 0 < 0 = subst (λ n. 0 < n) nothing more in omega (arith, z));
+    undoomed = no_member base.books.doomed.items undoomed;
   };
   stands = λ v told. rw (empty, none) (stands_begins (first base.books.start.items) v (trees base.fs v told) (begins v told));
   crash = λ v told. rw (empty, none) (record {
@@ -118,11 +119,11 @@ sound_begins view clock spare was trees base alone turn empty unclaimed none not
 
 -- so it is of books that are new
 pub sound_new : {F : Type 0} (view : F → Option View) (clock spare : F → ℕ) (was : F → ℕ → View → Type 0) → ((fs : F) (v : View) → view fs ≡ Some v → IsTree v.now) → (fs : F) (books : Books) (opened : ℕ) (start : List (List ℕ × List ℕ))
-    → books.exclusive ≡ None → books.turn ≡ None → books.history.items ≡ [] → books.claims.items ≡ [] → books.pending ≡ None → books.owed ≡ 0 → books.opened ≡ opened → books.start.items ≡ start
+    → books.exclusive ≡ None → books.turn ≡ None → books.history.items ≡ [] → books.claims.items ≡ [] → books.doomed.items ≡ [] → books.pending ≡ None → books.owed ≡ 0 → books.opened ≡ opened → books.start.items ≡ start
     → opened ≤ clock fs → ((v : View) → view fs ≡ Some v → IsOpening (first start) v) → ((v : View) → view fs ≡ Some v → HasSince (Left (was fs)) opened (first start))
     → SystemInvariant view clock spare was (record { fs = fs; books = books })
-sound_new view clock spare was trees fs books opened start alone turn empty unclaimed none nothing at these past begins since =
-    sound_begins view clock spare was trees (record { fs = fs; books = books }) alone turn empty unclaimed none nothing
+sound_new view clock spare was trees fs books opened start alone turn empty unclaimed undoomed none nothing at these past begins since =
+    sound_begins view clock spare was trees (record { fs = fs; books = books }) alone turn empty unclaimed undoomed none nothing
     (subst (λ n. n ≤ clock fs) (sym at) past)
     (λ v told. subst (λ l. IsOpening (first l) v) (sym these) (begins v told))
     (λ v told. subst (λ n. HasSince (Left (was fs)) n (first books.start.items)) (sym at) (subst (λ l. HasSince (Left (was fs)) opened (first l)) (sym these) (since v told)))

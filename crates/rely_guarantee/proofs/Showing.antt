@@ -167,6 +167,8 @@ module _ {F : Type 0} (view : F → Option View) (clock spare : F → ℕ) (was 
         holds = s.holds;
         wants = s.wants;
         pins = s.pins;
+        pinned = s.pinned;
+        doomed = s.doomed;
         claims = s.claims;
         claimers = s.claimers;
         uses = s.uses;
@@ -192,12 +194,13 @@ module _ {F : Type 0} (view : F → Option View) (clock spare : F → ℕ) (was 
       record {
         sound = sound_goes view clock spare was fslaws old (record { fs = fs; books = pending_books old.books lane command e owed h }) (e ∷ []) ready.sound time
             (record {
-              agrees = record { turn = λ x y ex tu. (let k : lane ≡ y = cc in sym k ∙ sym (free x ex)); shared = ord.agrees.shared };
+              agrees = record { turn = λ x y ex tu. (let k : lane ≡ y = cc in sym k ∙ sym (free x ex)); shared = ord.agrees.shared; doomed = ord.agrees.doomed };
               owner = λ q has. (let k : p ≡ q = cc in ap (λ (x : Pending). Some x.lane) k);
               ascends = ascends_later old.books.opened old.books.history.items (clock old.fs) (clock fs) ord.ascends time.later;
               idle = λ bad. absurd (let z : Some p ≡ None = bad in cc);
               room = owes;
               entry = λ more. room;
+              undoomed = ord.undoomed;
             })
             refl refl
             (rw none (ap (λ (l : List Event). l ++ e ∷ []) (sym (append-nil (events_of old.books.history.items)))))
@@ -250,6 +253,8 @@ module _ {F : Type 0} (view : F → Option View) (clock spare : F → ℕ) (was 
         holds = s.holds;
         wants = s.wants;
         pins = s.pins;
+        pinned = s.pinned;
+        doomed = s.doomed;
         claims = s.claims;
         claimers = s.claimers;
         uses = s.uses;
@@ -265,12 +270,13 @@ module _ {F : Type 0} (view : F → Option View) (clock spare : F → ℕ) (was 
       record {
         sound = sound_goes view clock spare was fslaws old (record { fs = fs; books = record old.books { owed = old.books.owed - 1; halted = h } }) [] sound time
             (record {
-              agrees = record { turn = ord.agrees.turn; shared = ord.agrees.shared };
+              agrees = record { turn = ord.agrees.turn; shared = ord.agrees.shared; doomed = ord.agrees.doomed };
               owner = ord.owner;
               ascends = ascends_later old.books.opened old.books.history.items (clock old.fs) (clock fs) ord.ascends time.later;
               idle = λ bad. absurd (let z : Some p ≡ None = sym pend.pending ∙ bad in cc);
               room = omega (arith, ord.room, room);
               entry = λ more. ord.entry (omega (arith, more));
+              undoomed = ord.undoomed;
             })
             refl refl (sym (append-nil (stored old.books.history.items old.books.pending))) (λ t le. refl)
             (λ v w told_v told_w stands.
@@ -351,6 +357,8 @@ module _ {F : Type 0} (view : F → Option View) (clock spare : F → ℕ) (was 
         holds = s.holds;
         wants = s.wants;
         pins = s.pins;
+        pinned = s.pinned;
+        doomed = s.doomed;
         claims = s.claims;
         claimers = s.claimers;
         uses = s.uses;
@@ -384,7 +392,7 @@ module _ {F : Type 0} (view : F → Option View) (clock spare : F → ℕ) (was 
       let now : clock new.fs ≡ clock mid.fs = ap clock ends.fs in
       let fewer : (c : claim.Claim) → Contains new.books.claims.items c → Contains old.books.claims.items c = (λ c has. subst (λ (b : rust.Books). Contains b.claims.items c) same (ends.claims c has)) in
       let ord = ready.sound.ordered in
-      let agrees : Agrees (books_of mid.books) = subst (λ (b : rust.Books). Agrees (books_of b)) (sym same) (record { turn = ord.agrees.turn; shared = ord.agrees.shared }) in
+      let agrees : Agrees (books_of mid.books) = subst (λ (b : rust.Books). Agrees (books_of b)) (sym same) (record { turn = ord.agrees.turn; shared = ord.agrees.shared; doomed = ord.agrees.doomed }) in
       let spared = spared_then lane lane (books_of old.books) (books_of mid.books) (books_of new.books) (settle_spared old.books mid.books lane en p same grows pend.pending refl) ends.spared in
       record {
         sound = sound_goes view clock spare was fslaws old new [] ready.sound (subst (Calls old.fs) (sym ends.fs) time)
@@ -395,6 +403,7 @@ module _ {F : Type 0} (view : F → Option View) (clock spare : F → ℕ) (was 
               idle = λ is. nothing;
               room = rw nothing (omega arith);
               entry = λ more. absurd (let z : 0 < 0 = subst (λ n. 0 < n) nothing more in omega (arith, z));
+              undoomed = λ o has. ord.undoomed o (subst (λ (b : rust.Books). Contains b.doomed.items o) same (ends.doomed o has));
             })
             opened start
             (rw (history, none) (append-nil (events_of (old.books.history.items ++ en ∷ [])) ∙ events_push old.books.history.items en ∙ sym (append-nil (events_of old.books.history.items ++ e ∷ [])) ∙ ap (λ (o : Option Pending). stored old.books.history.items o ++ []) (sym pend.pending)))
@@ -468,6 +477,7 @@ module _ {F : Type 0} (view : F → Option View) (clock spare : F → ℕ) (was 
             idle = λ is. owed ∙ ord.idle (sym pending ∙ is);
             room = rw owed ord.room;
             entry = λ owes. more (ord.entry (subst (λ n. 0 < n) owed owes));
+            undoomed = λ o has. ord.undoomed o (subst (λ (b : rust.Books). Contains b.doomed.items o) same has);
           };
           stands = rw (items, pending, start) ready.sound.stands;
           crash = rw (items, pending, start, opened) ready.sound.crash;

@@ -1,11 +1,16 @@
 -- Locks that a lane takes in the middle of its task.
 use Rattle.std.proofs.Common.{◌≡◌, ⊎_elim, inl, inr, ◌<◌, ℕ, refl, sym, ◌∙◌, ap, subst, List, [], ◌∷◌, Option, Some, Contains}
+use Rattle.ost_types.specs.declared.object.Kind as object
+use Rattle.ost_types.specs.declared.object.ObjName.{ObjName}
 use Rattle.ost_types.specs.Path.{Path}
 use Rattle.fs_trait.specs.declared.task.StepResult.{StepResult}
 use Rattle.fs_trait.specs.View.{View}
 use Rattle.fs_trait.specs.Seen.{Seen}
 use Rattle.fs_trait.proofs.Kept.{weaker}
 use Rattle.repo_layout.specs.Place.{Place, Config, Stage, Ref, ObjectsFolder, Object, Mark, Summary, Deployment, Etc, Origin, Staged, BootLink, BootLinkStage, BootFolder, Loader, LoaderStage, LoaderFolder, KernelCopy, Checkout, Other, place}
+use Rattle.repo_model.specs.Objects.{Stores}
+use Rattle.repo_model.specs.Trees.{name_of}
+use Rattle.reach.proofs.Reaching.{reach_up}
 use Rattle.rely_guarantee.specs.declared.books.Base.{Base}
 use Rattle.rely_guarantee.specs.declared.books.Books as rust
 use Rattle.rely_guarantee.specs.declared.books.Claim as claim
@@ -14,6 +19,7 @@ use Rattle.rely_guarantee.specs.declared.kind.Outcome.{Outcome}
 use Rattle.rely_guarantee.specs.declared.kind.Wants.{Wants}
 use Rattle.rely_guarantee.specs.Books.{Books, books_of, Agrees, Spared, Keeps}
 use Rattle.rely_guarantee.specs.Rely.{Guarantee, may_at, NotPinned}
+use Rattle.rely_guarantee.specs.Removing.{Goes, IsGuarded, IsRoot, next_of}
 use Rattle.rely_guarantee.specs.Laws.{Kind, Quiet, Store, Take, Claim, Show, Shown, Settle, Laws, IsStore, IsTake, Holds, NotPending, Runs, Ready, Acts}
 use Rattle.rely_guarantee.proofs.Lists.{other_or_own}
 use Rattle.rely_guarantee.proofs.Locking.{free_before, spared_then}
@@ -45,8 +51,25 @@ may_before b b' actor lane sp ke same (Checkout n []) s m = m
 may_before b b' actor lane sp ke same (Checkout n (x ∷ r)) s m = subst (λ (l : List claim.Claim). Contains l (record { lane = lane; name = n })) same m
 may_before b b' actor lane sp ke same (Other p) s m = m
 
-pub may_less : (b b' : Books) (v : View) (actor lane : ℕ) → Spared actor lane b b' → Keeps lane b b' → b'.claims ≡ b.claims → (p : Path) (s : Seen) → Guarantee b' v actor lane p s → Guarantee b v actor lane p s
-may_less b b' v actor lane sp ke same p s m = record { at = may_before b b' actor lane sp ke same (place p) s m.at; fits = m.fits; objects = m.objects; marks = m.marks; checkouts = m.checkouts; comes = m.comes; folders = m.folders }
+pub may_less : (b b' : Books) (v : View) (actor lane : ℕ) → Spared actor lane b b' → Keeps lane b b' → b'.claims ≡ b.claims → next_of b' ≡ next_of b → (p : Path) (s : Seen) → Guarantee b' v actor lane p s → Guarantee b v actor lane p s
+may_less b b' v actor lane sp ke same next p s m = record {
+  at = may_before b b' actor lane sp ke same (place p) s m.at;
+  fits = m.fits;
+  objects = λ kind sum at. ⊎_elim (λ comes. inl comes) (λ goes. inr (goes_before kind sum goes)) (m.objects kind sum at);
+  marks = λ commit at there. let k = m.marks commit at there in (free_before b.exclusive b'.exclusive lane sp.exclusive k.0, k.1);
+  checkouts = m.checkouts;
+  comes = m.comes;
+  folders = m.folders;
+}
+  where
+    root_before : (o : ObjName) → IsRoot b v lane o → IsRoot b' v lane o
+    root_before o = ⊎_elim (λ pin. inl (pin.0, sp.pins pin.0 pin.2 pin.1, pin.2, pin.3)) (λ named. inr named)
+
+    guarded_before : (o : ObjName) → IsGuarded b v lane o → IsGuarded b' v lane o
+    guarded_before = reach_up (Stores v.now) (Stores v.now) (IsRoot b v lane) (IsRoot b' v lane) root_before (λ o c stored. stored)
+
+    goes_before : (kind : object.Kind) (sum : List ℕ) → Goes b' v lane kind sum s → Goes b v lane kind sum s
+    goes_before kind sum goes = (goes.0, subst (λ (l : List ObjName). Contains l (name_of kind sum)) next goes.1, λ guarded. goes.2 (guarded_before (name_of kind sum) guarded))
 
 pub store_is : (k : Kind) → IsStore k → k ≡ Store
 store_is Quiet is = absurd is
@@ -91,6 +114,7 @@ module _ {F : Type 0} (view : F → Option View) (clock spare : F → ℕ) (was 
             idle = λ no. owed ∙ ord.idle (sym pending ∙ no);
             room = rw owed ord.room;
             entry = λ owes. rw history (ord.entry (subst (λ n. 0 < n) owed owes));
+            undoomed = λ o has. ord.undoomed o (subst (λ (x : rust.Books). Contains x.doomed.items o) same has);
           };
           stands = rw (history, pending, start) ready.sound.stands;
           crash = rw (history, pending, start, opened) ready.sound.crash;
@@ -103,12 +127,12 @@ module _ {F : Type 0} (view : F → Option View) (clock spare : F → ℕ) (was 
         };
       }
 
-  pub take_acts : (old new : Base F) (b : rust.Books) (lane : ℕ) (outcome : Outcome) (runs : Option View → Books → Type 0) → b.claims ≡ old.books.claims → Spared lane lane (books_of old.books) (books_of b) → Keeps lane (books_of old.books) (books_of b)
+  pub take_acts : (old new : Base F) (b : rust.Books) (lane : ℕ) (outcome : Outcome) (runs : Option View → Books → Type 0) → b.claims ≡ old.books.claims → next_of (books_of b) ≡ next_of (books_of old.books) → Spared lane lane (books_of old.books) (books_of b) → Keeps lane (books_of old.books) (books_of b)
       → Acts view clock spare was lane lane outcome runs (record old { books = b }) new → Acts view clock spare was lane lane outcome runs old new
-  take_acts old new b lane outcome runs same spared keeps acts = record {
+  take_acts old new b lane outcome runs same next spared keeps acts = record {
     sound = acts.sound;
     does = λ v told. let d = acts.does v told in
-        (d.0, d.1, record { writes = weaker (Guarantee (books_of b) v lane lane) (Guarantee (books_of old.books) v lane lane) v d.0 (may_less (books_of old.books) (books_of b) v lane lane spared keeps (ap (λ l. l.items) same)) d.2.writes; books = spared_then lane lane (books_of old.books) (books_of b) (books_of new.books) spared d.2.books; claims = λ c has. ⊎_elim (λ was. inl (subst (λ l. Contains l.items c) same was)) (λ none. inr none) (d.2.claims c has) });
+        (d.0, d.1, record { writes = weaker (Guarantee (books_of b) v lane lane) (Guarantee (books_of old.books) v lane lane) v d.0 (may_less (books_of old.books) (books_of b) v lane lane spared keeps (ap (λ l. l.items) same) next) d.2.writes; books = spared_then lane lane (books_of old.books) (books_of b) (books_of new.books) spared d.2.books; claims = λ c has. ⊎_elim (λ was. inl (subst (λ l. Contains l.items c) same was)) (λ none. inr none) (d.2.claims c has) });
     books = spared_then lane lane (books_of old.books) (books_of b) (books_of new.books) spared acts.books;
     tells = acts.tells;
   }

@@ -22,6 +22,9 @@ pub record Books : Type 0 where
   pub holds : List Hold
   pub wants : List Want
   pub pins : List Pin
+  -- what the holder of Exclusive removes, in this order, and how many of these it has removed; none where nobody removes
+  pub doomed : List ObjName
+  pub gone : ℕ
   pub claims : List Claim
   pub uses : List Use
   pub history : List Entry
@@ -41,6 +44,8 @@ books_of b = record {
   holds = b.holds.items;
   wants = b.wants.items;
   pins = b.pins.items;
+  doomed = b.doomed.items;
+  gone = b.gone;
   claims = b.claims.items;
   uses = b.uses.items;
   history = b.history.items;
@@ -87,10 +92,11 @@ pub record IsClaimed (name : Name) (lane : ℕ) (b : Books) : Type 0 where
 abbrev pub Unclaimed : Name → Books → Type 0
 Unclaimed name b = (c : Claim) → Contains b.claims c → c.name ≢ name
 
--- No two locks that exclude each other are held.
+-- No two locks that exclude each other are held, and only who holds Exclusive removes objects.
 pub record Agrees (b : Books) : Type 0 where
   pub turn : (x y : ℕ) → b.exclusive ≡ Some x → b.turn ≡ Some y → y ≡ x
   pub shared : (x : ℕ) → b.exclusive ≡ Some x → NoOther b.shared x
+  pub doomed : (o : ObjName) → Contains b.doomed o → IsSome b.exclusive
 
 -- What an act of this actor for this lane does to the books: all that others hold stays.
 pub record Spared (actor lane : ℕ) (b b' : Books) : Type 0 where
@@ -101,6 +107,9 @@ pub record Spared (actor lane : ℕ) (b b' : Books) : Type 0 where
   pub holds : (h : Hold) → h.lane ≢ lane → Contains b.holds h → Contains b'.holds h
   pub wants : (w : Want) → w.actor ≢ actor → w.lane ≢ lane → Contains b.wants w → Contains b'.wants w
   pub pins : (p : Pin) → p.lane ≢ lane → Contains b.pins p → Contains b'.pins p
+  -- nothing is pinned while another lane may remove, and what that one removes stays as it is
+  pub pinned : (p : Pin) → Contains b'.pins p → Contains b.pins p ⊎ ((p.lane ≡ lane) × Free b.exclusive lane)
+  pub doomed : (x : ℕ) → x ≢ lane → b.exclusive ≡ Some x → (b'.doomed ≡ b.doomed) × (b'.gone ≡ b.gone)
   pub uses : (u : Use) → u.lane ≢ lane → Contains b.uses u → Contains b'.uses u
   -- the claims of others stay, and none comes
   pub claims : (c : Claim) → c.lane ≢ lane → Contains b.claims c → Contains b'.claims c

@@ -1,5 +1,6 @@
 -- What every kind of task tells of its steps, and the laws that the one act of all tasks stands on.
 use Rattle.std.specs.Prelude.{◌≡◌, ◌≢◌, ◌⊎◌, ◌≤◌, ◌<◌, ℕ, ◌+◌, suc, true, false, Contains, Option, Some, Result, IsErrOf, OnOk}
+use Rattle.ost_types.specs.declared.object.ObjName.{ObjName}
 use Rattle.ost_types.specs.Path.{Name, Path}
 use Rattle.fs_trait.specs.declared.task.StepResult.{StepResult}
 use Rattle.fs_trait.specs.declared.task.StepResult.TheVariants as turn
@@ -241,6 +242,7 @@ pub record Ends {F : Type 0} (actor lane : ℕ) (old new : Base F) : Type 0 wher
   pub opened : new.books.opened ≡ old.books.opened
   pub start : new.books.start ≡ old.books.start
   pub claims : (c : claim.Claim) → Contains new.books.claims.items c → Contains old.books.claims.items c
+  pub doomed : (o : ObjName) → Contains new.books.doomed.items o → Contains old.books.doomed.items o
   pub spared : Spared actor lane (books_of old.books) (books_of new.books)
   pub agrees : Agrees (books_of old.books) → Agrees (books_of new.books)
 

@@ -2,6 +2,7 @@ pub mod Books
 pub mod State
 pub mod Disks
 pub mod Objects
+pub mod Removing
 pub mod Rely
 pub mod SystemInvariant
 pub mod Change

@@ -18,7 +18,7 @@ use Rattle.rely_guarantee.specs.declared.books.Claim.{Claim}
 use Rattle.rely_guarantee.specs.declared.books.Pin.{Pin}
 use Rattle.rely_guarantee.specs.Disks.{IsLeaf}
 use Rattle.rely_guarantee.specs.Books.{Books, Free, Spared}
-use Rattle.rely_guarantee.specs.Objects.{IsObjectSeen}
+use Rattle.rely_guarantee.specs.Removing.{Comes, Goes}
 
 -- no other lane has pinned the object
 abbrev pub NotPinned : List Pin → ℕ → object.Kind → List ℕ → Type 0
@@ -66,14 +66,14 @@ abbrev pub HasNoRefs : View → Path → Type 0
 HasNoRefs v p = (name : List ℕ) → IsTrue (is_below p (ref_path name)) → IsLeaf (shows v.now (ref_path name)) → ⊥
 
 -- What this actor, for this lane, may write over this view: something that may be at such a place, and suits the layout; an object
--- only where nothing stands, and whole, so nobody writes over one or removes it; a mark only where its commit isn't; a checkout's
--- folder only where nothing stands; no file but a new one, or one that stands at a path that is no other's staging path; and nothing
--- in a folder's place, but where nothing, or no ref, is in the folder.
+-- only where nothing stands, and whole, so nobody writes over one, and in its place nothing but where it is removed; a mark only where
+-- its commit isn't, and no other lane removes; a checkout's folder only where nothing stands; no file but a new one, or one that stands
+-- at a path that is no other's staging path; and nothing in a folder's place, but where nothing, or no ref, is in the folder.
 pub record Guarantee (b : Books) (v : View) (actor lane : ℕ) (p : Path) (s : Seen) : Type 0 where
   pub at : may_at b actor lane (place p) s
   pub fits : InLayout p s
-  pub objects : (kind : object.Kind) (sum : List ℕ) → place p ≡ Object kind sum → (shows v.now p ≡ Vacant) × IsObjectSeen kind sum s
-  pub marks : (commit : List ℕ) → place p ≡ Mark commit → s ≢ Vacant → shows v.now (object_path Commit commit) ≡ Vacant
+  pub objects : (kind : object.Kind) (sum : List ℕ) → place p ≡ Object kind sum → Comes v p kind sum s ⊎ Goes b v lane kind sum s
+  pub marks : (commit : List ℕ) → place p ≡ Mark commit → s ≢ Vacant → Free b.exclusive lane × (shows v.now (object_path Commit commit) ≡ Vacant)
   pub checkouts : (name : Name) → place p ≡ Checkout name [] → shows v.now p ≡ Vacant
   pub comes : (n : ℕ) (m : Meta) (bytes : List ℕ) → s ≡ Leaf n m bytes → IsFresh n v ⊎ ((q : Path) × Holds v q (File n) × NotOthers actor (place q))
   pub folders : IsDirectory s ⊎ NotDirectory (shows v.now p) ⊎ OwnTree actor (place p) ⊎ IsEmpty v p ⊎ HasNoRefs v p

@@ -79,6 +79,10 @@ pub struct Books {
     pub holds: Vec<Hold>,
     pub wants: Vec<Want>,
     pub pins: Vec<Pin>,
+    /// What the lane that removes objects removes, in this order; none where nobody does.
+    pub doomed: Vec<ObjName>,
+    /// How many of these it has removed.
+    pub gone: u64,
     pub claims: Vec<Claim>,
     pub uses: Vec<Use>,
     pub history: Vec<Entry>,

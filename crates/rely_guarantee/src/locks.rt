@@ -1,4 +1,4 @@
-ghost use Rattle.std.specs.Prelude.{◌≡◌, ◌↔◌, ◌≢◌, ◌⊎◌, ◌<◌, ◌-◌, ◌++◌, ◌∷◌, [], ℕ, List, Option, Some, None, IsTrue, All, Contains, OnOk, OnErr};
+ghost use Rattle.std.specs.Prelude.{◌≡◌, ◌↔◌, ◌≢◌, ◌⊎◌, ◌<◌, ◌-◌, ◌++◌, ◌∷◌, [], ℕ, List, Option, Some, None, IsSome, IsTrue, All, Contains, OnOk, OnErr};
 ghost use Rattle.ost_types.specs.declared.object.ObjName.{ObjName};
 ghost use Rattle.rely_guarantee.specs.declared.books.Claim.{Claim};
 ghost use Rattle.rely_guarantee.specs.declared.books.Hold.{Hold};
@@ -65,6 +65,7 @@ fn give_up_wants(wants: &mut Vec<Want>, lane: u8)
 fn give_up_pins(pins: &mut Vec<Pin>, lane: u8)
     ensures left { pins.new.items ≡ without lane pins.old.items }
     ensures kept { (x : Pin) → x.lane ≢ lane → Contains pins.old.items x → Contains pins.new.items x }
+    ensures no_more { (x : Pin) → Contains pins.new.items x → Contains pins.old.items x }
 {
     pins.retain(|x| x.lane != lane);
 }
@@ -75,6 +76,24 @@ fn give_up_claims(claims: &mut Vec<Claim>, lane: u8)
     ensures no_more { (x : Claim) → Contains claims.new.items x → Contains claims.old.items x }
 {
     claims.retain(|x| x.lane != lane);
+}
+
+/// Nothing is to be removed any more, if this lane has the lock of those that remove objects. Returns how many were removed so far.
+fn give_up_doomed(doomed: &mut Vec<ObjName>, gone: u64, lock: Option<u8>, lane: u8) -> u64
+    ensures mine { lock ≡ Some lane → (doomed.new.items ≡ []) × (result ≡ 0) }
+    ensures others { (x : ℕ) → x ≢ lane → lock ≡ Some x → (doomed.new.items ≡ doomed.old.items) × (result ≡ gone) }
+    ensures no_more { (o : ObjName) → Contains doomed.new.items o → Contains doomed.old.items o }
+{
+    match lock {
+        Some(holder) => {
+            if holder != lane {
+                return gone;
+            }
+            doomed.clear();
+            0
+        }
+        None => gone,
+    }
 }
 
 /// Takes a lock.
@@ -118,6 +137,7 @@ fn add_hold(holds: &mut Vec<Hold>, wanted: Option<u8>, lane: u8) -> Result<(), N
 fn add_pin(pins: &mut Vec<Pin>, wanted: Option<ObjName>, lane: u8) -> Result<(), NoMemory>
     ensures wanted { OnOk result ((o : ObjName) → wanted ≡ Some o → Contains pins.new.items (record { lane = lane; object = o })) }
     ensures kept { (x : Pin) → Contains pins.old.items x → Contains pins.new.items x }
+    ensures no_more { (x : Pin) → Contains pins.new.items x → Contains pins.old.items x ⊎ (IsSome wanted × (x.lane ≡ lane)) }
     ensures added { OnOk result (pins.new.items ≡ with_pin wanted lane pins.old.items) }
     ensures refused { OnErr result (pins.new.items ≡ pins.old.items) }
 {
@@ -173,8 +193,8 @@ impl Books {
 
     /// Gives up all that a lane holds.
     pub(crate) fn release(&mut self, actor: u8, lane: u8)
-        ensures same { self.new ≡ record self.old { shared = self.new.shared; exclusive = self.new.exclusive; turn = self.new.turn; sysroot = self.new.sysroot; holds = self.new.holds; wants = self.new.wants; pins = self.new.pins; claims = self.new.claims } }
-        ensures turn { (x : ℕ) → self.new.turn ≡ Some x → self.old.turn ≡ Some x }
+        ensures same { self.new ≡ record self.old { shared = self.new.shared; exclusive = self.new.exclusive; turn = self.new.turn; sysroot = self.new.sysroot; holds = self.new.holds; wants = self.new.wants; pins = self.new.pins; doomed = self.new.doomed; gone = self.new.gone; claims = self.new.claims } }
+        ensures doomed { (o : ObjName) → Contains self.new.doomed.items o → Contains self.old.doomed.items o }
         ensures given_up { IsGivenUp lane self.old.turn self.new.turn × IsGivenUp lane self.old.exclusive self.new.exclusive }
         ensures pins { self.new.pins.items ≡ without lane self.old.pins.items }
         ensures claims { self.new.claims.items ≡ of_others lane self.old.claims.items }
@@ -182,6 +202,7 @@ impl Books {
         ensures spared { Spared actor lane (books_of self.old) (books_of self.new) }
         ensures agrees { Agrees (books_of self.old) → Agrees (books_of self.new) }
     {
+        let lock = self.exclusive;
         self.exclusive = given_up(self.exclusive, lane);
         self.turn = given_up(self.turn, lane);
         self.sysroot = given_up(self.sysroot, lane);
@@ -189,6 +210,7 @@ impl Books {
         give_up_holds(&mut self.holds, lane);
         give_up_wants(&mut self.wants, lane);
         give_up_pins(&mut self.pins, lane);
+        self.gone = give_up_doomed(&mut self.doomed, self.gone, lock, lane);
         give_up_claims(&mut self.claims, lane);
     }
 

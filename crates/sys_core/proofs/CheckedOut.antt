@@ -1,5 +1,5 @@
 -- A checkout that nobody claims stays its commit's tree, whoever acts.
-use Rattle.std.proofs.Common.{◌≡◌, ◌≢◌, inr, ⊎_elim, ℕ, List, [], Some, None, refl, sym, ◌∙◌, ap, subst}
+use Rattle.std.proofs.Common.{◌≡◌, ◌≢◌, inr, ⊎_elim, ℕ, List, [], Contains, Some, refl, sym, ◌∙◌, ap, subst}
 use Rattle.std.proofs.Math.Logic.{∥∥₁_elim}
 use Rattle.ost_types.specs.declared.limits.Limits.{Limits}
 use Rattle.ost_types.specs.declared.meta.Meta.{Meta}
@@ -13,21 +13,19 @@ use Rattle.ost_forms.proofs.Parted.{one_commit}
 use Rattle.fs_trait.specs.Seen.{Vacant, Directory, shows}
 use Rattle.fs_trait.specs.View.{Disk, View}
 use Rattle.repo_layout.specs.BootPaths.{checkout_path}
-use Rattle.repo_layout.proofs.Places.{place-object}
-use Rattle.repo_model.specs.Objects.{Has, Store, Stores, object_in, path_of}
+use Rattle.repo_model.specs.Objects.{Has, Store, Stores, path_of}
 use Rattle.repo_model.specs.Trees.{HasCommit, Names, Shows, TreeShows, name_of}
 use Rattle.repo_model.specs.Whole.{Complete}
 use Rattle.repo_model.proofs.Grown.{complete_up, shows_down, tree_up}
-use Rattle.repo_model.proofs.Named.{IsSum-named}
-use Rattle.repo_model.proofs.Stored.{stores_map, stores_one}
+use Rattle.repo_model.proofs.Stored.{stores_map, stores_one, stores_same}
 use Rattle.checkout.specs.CheckoutFolder.{Stands, leaf_path}
 use Rattle.checkout.proofs.CheckoutLemmas.{Stands-kept}
 use Rattle.checkout_command.specs.Answers.{IsCheckedOut}
-use Rattle.read_command.specs.Stored.{stored_kept}
 use Rattle.read_command.specs.WayLaws.{shown_leaf}
 use Rattle.rely_guarantee.specs.Books.{Books, Unclaimed}
 use Rattle.rely_guarantee.specs.Rely.{Interference}
 use Rattle.rely_guarantee.proofs.Claiming.{checkout_stays}
+use Rattle.rely_guarantee.proofs.Removing.{undoomed_stays}
 
 -- a commit that is whole has a folder at its root,
 root_shown : (S : Store) (limits : Limits) (commit : List ℕ) → Complete S limits commit → ((k : Meta) → TreeShows S commit [] (Folder k) → ⊥) → ⊥
@@ -44,19 +42,13 @@ not_folder d p k none is = let n : Vacant ≡ Directory k = sym none ∙ is in c
 pub stands_there : (limits : Limits) (d : Disk) (name : Name) (commit : List ℕ) → IsCheckedOut d limits commit name → shows d (checkout_path name) ≢ Vacant
 stands_there limits d name commit is none = root_shown (Stores d) limits commit is.whole (λ k shown. not_folder d (checkout_path name) k none (is.folder.each [] (Folder k) shown))
 
-module _ (actor lane : ℕ) (v w : View) (b b' : Books) (does : Interference actor lane v b w b') where
-  more : (o : ObjName) (bytes : List ℕ) → Stores v.now o bytes → Stores w.now o bytes
-  more = stored_kept b actor lane v w does.writes
-
-  -- nobody writes where an object stands
+module _ (actor lane : ℕ) (v w : View) (b b' : Books) (does : Interference actor lane v b w b') (undoomed : (o : ObjName) → ¬ (Contains b.doomed o)) where
+  -- nobody writes where an object stands, and none is to be removed
   object_stays : (o : ObjName) (bytes : List ℕ) → Stores v.now o bytes → shows w.now (path_of o) ≡ shows v.now (path_of o)
-  object_stays o bytes had = ⊎_elim
-      (λ same. same)
-      (λ m. absurd (none_holds (ap (object_in o.kind) (m.objects o.kind o.csum (place-object o.kind o.csum (IsSum-named o bytes had.named))).0)))
-      (does.writes.now (path_of o))
-    where
-      none_holds : object_in o.kind (shows v.now (path_of o)) ≡ None → ⊥
-      none_holds none = let n : None ≡ Some bytes = sym none ∙ had.there in cc
+  object_stays = undoomed_stays b v w actor lane does.writes undoomed
+
+  more : (o : ObjName) (bytes : List ℕ) → Stores v.now o bytes → Stores w.now o bytes
+  more o bytes had = stores_same v.now w.now o bytes (object_stays o bytes had) had
 
   module _ (limits : Limits) (name : Name) (commit : List ℕ) (is : IsCheckedOut v.now limits commit name) where
     abbrev pub c : CommitParts

@@ -1,7 +1,8 @@
 -- The folders of checkouts, over an act.
-use Rattle.std.proofs.Common.{◌≡◌, ◌≢◌, ◌⊎◌, inl, inr, ⊎_elim, ◌<◌, ◌≤◌, ℕ, refl, sym, ◌∙◌, ap, subst, arith, List, [], ◌∷◌, ◌++◌, length, get_or, set, unwrap_or, Option, Some, None}
+use Rattle.std.proofs.Common.{◌≡◌, ◌≢◌, ◌⊎◌, inl, inr, ⊎_elim, ◌<◌, ◌≤◌, ℕ, refl, sym, ◌∙◌, ap, subst, arith, List, [], ◌∷◌, ◌++◌, length, get_or, set, unwrap_or, Contains, Option, Some, None}
 use Rattle.std.proofs.lemmas.List.{get_or_default}
 use Rattle.ost_types.specs.declared.limits.Limits.{Limits}
+use Rattle.ost_types.specs.declared.object.ObjName.{ObjName}
 use Rattle.ost_types.specs.Path.{Name, Path}
 use Rattle.fs_trait.specs.Image.{Told}
 use Rattle.fs_trait.specs.Seen.{Vacant, shows}
@@ -50,7 +51,7 @@ made_of works lane t name at made = subst (λ o. HasMadeBy o name) (sym (get_or_
 
 module _ {F : Type 0} (view : F → Option View) (Tells : Answer → Type 0) (old new : System F) (actor : ℕ) (ask : Ask) (acted : Acted Tells old new actor ask) (lanes : new.lanes ≡ old.lanes) (limits : new.limits ≡ old.limits)
     (started : length old.started ≡ length old.lanes) (rows : length old.replies ≡ length old.lanes) (replied : IsReplied view old) (within : actor < length old.lanes) (c : Command) (command : IsCommand old.lanes actor (length (given old actor)) c)
-    (early : start_of old actor ≤ length old.base.books.history.items) (opening : Disk) (v w : View) (was : AreFolders opening old v) where
+    (early : start_of old actor ≤ length old.base.books.history.items) (opening : Disk) (v w : View) (was : AreFolders opening old v) (undoomed : (o : ObjName) → ¬ (Contains old.base.books.doomed.items o)) where
   abbrev pub s : State
   s = state_after (first old.base.books.start.items) old.base.books.history.items (start_of old actor)
 
@@ -84,7 +85,7 @@ module _ {F : Type 0} (view : F → Option View) (Tells : Answer → Type 0) (ol
     old_is lane number r rev name to is nothing =
         let said = (replied.each lane number r to).2 in
         let holds = was.done lane number r rev name to is nothing in
-        let stays = checked_out_stays actor actor v w (books_of old.base.books) (books_of new.base.books) folds.does old.limits name holds.0 holds.2 (was.free lane number r rev name to is nothing) in
+        let stays = checked_out_stays actor actor v w (books_of old.base.books) (books_of new.base.books) folds.does undoomed old.limits name holds.0 holds.2 (was.free lane number r rev name to is nothing) in
         (stays.0, with_state r.start rev name _ (same_state r.start (omega (arith, said.begun, said.within))) (holds.0, holds.1, stays.1))
 
     -- and what is done now
@@ -231,7 +232,7 @@ module _ {F : Type 0} (view : F → Option View) (faults faults' : ℕ) (self ol
     (started : length old.started ≡ length old.lanes) (rows : length old.replies ≡ length old.lanes) (replied : IsReplied view old) (within : actor < length old.lanes) (c : Command) (command : IsCommand old.lanes actor (length (given old actor)) c)
     (work' : Option LaneCommand) (works : new.works ≡ set old.works actor work') (result : Came)
     (folds : (v : View) → view old.base.fs ≡ Some v → Told (view new.base.fs) (Folds old.limits actor (state_after (first old.base.books.start.items) old.base.books.history.items (start_of old actor)) c (get_or old.works actor None) work' result (books_of old.base.books) (books_of new.base.books) v))
-    (opening : Disk) (v : View) (told : view self.base.fs ≡ Some v) (was : AreFolders opening self v) where
+    (opening : Disk) (v : View) (told : view self.base.fs ≡ Some v) (was : AreFolders opening self v) (undoomed : (o : ObjName) → ¬ (Contains old.base.books.doomed.items o)) where
   early : start_of old actor ≤ length old.base.books.history.items
   early = started_within old.started actor (length old.base.books.history.items) replied.starts (get_or old.started actor None) refl
 
@@ -248,13 +249,13 @@ module _ {F : Type 0} (view : F → Option View) (faults faults' : ℕ) (self ol
   folders_go_on is acted replies in_works =
       let x = folds v there in
       let more = subst (λ (r : Came). Folds old.limits actor (state_after (first old.base.books.start.items) old.base.books.history.items (start_of old actor)) c (get_or old.works actor None) work' r (books_of old.base.books) (books_of new.base.books) v x.0) is x.2 in
-      (x.0, x.1, folders_more view (AnswerTells view faults faults' old actor) old new actor More (acted_old More acted) lanes limits started rows replied within c command early opening v x.0 was_old work' more replies in_works works)
+      (x.0, x.1, folders_more view (AnswerTells view faults faults' old actor) old new actor More (acted_old More acted) lanes limits started rows replied within c command early opening v x.0 was_old undoomed work' more replies in_works works)
 
   pub folders_answered : (r : Reply) (n lane number : ℕ) → result ≡ came.Answered r.answer n → Acted (AnswerTells view faults faults' self actor) self new actor (Done lane number) → r.start ≡ start_of old actor
       → new.replies ≡ set old.replies actor (given old actor ++ r ∷ []) → Told (view new.base.fs) (λ w. AreFolders opening new w)
   folders_answered r n lane number gave acted at replies =
       let x = folds v there in
-      (x.0, x.1, folders_done view (AnswerTells view faults faults' old actor) old new actor (Done lane number) (acted_old (Done lane number) acted) lanes limits started rows replied within c command early opening v x.0 was_old work' r n result gave x.2 at replies works)
+      (x.0, x.1, folders_done view (AnswerTells view faults faults' old actor) old new actor (Done lane number) (acted_old (Done lane number) acted) lanes limits started rows replied within c command early opening v x.0 was_old undoomed work' r n result gave x.2 at replies works)
 
 -- what an act does by the runs, it does by the system's public data
 pub folds_view : {F : Type 0} (view : F → Option View) (limits : Limits) (actor : ℕ) (c : Command) (old new : Base F) (runs : List Run) (r : Run) (work' : Option LaneCommand) (result : Came) → actor < length runs

@@ -35,3 +35,8 @@ returns-then-is_err-clause-acts g c =
     (still_acts g.F.Fs.view g.F.Fs.clock g.F.Fs.spare g.F.Fs.was (fs g) g.met.T.CommandTask.laws mid mid c.end-then-is_err.new.base c.args.lane c.args.lane runs runs _
     refl (λ v told. told) (no_time g.F.Fs.view g.F.Fs.clock g.F.Fs.spare g.F.Fs.was (fs g) g.met.T.CommandTask.laws old.fs) ready.sound.ordered.room c.end-then-is_err.ensures.ends
     (show_not g.F.Fs.view g.F.Fs.clock g.F.Fs.spare g.F.Fs.was (fs g) g.met.T.CommandTask.laws mid c.args.lane t r.kind ready) ready)
+
+pub show_event-requires-clause-ready : goal.show_event-requires-clause-ready
+show_event-requires-clause-ready g c =
+    let m = c.make_room.ensures in
+    room_ready g.F.Fs.view g.F.Fs.clock g.F.Fs.spare g.F.Fs.was (fs g) g.met.T.CommandTask.laws c.args.base.now c.make_room.new.self (Runs g.T.CommandTask.kind_of g.T.CommandTask.facts c.args.lane c.args.task.now) m.same m.items m.more c.requires.ready

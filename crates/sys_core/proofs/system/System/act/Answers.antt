@@ -569,7 +569,7 @@ returns-in-More-clause-preserves g c = record {
       (length-map i.runs.items (λ (x : Run). start_in x.task) ∙ booked.each_runs) (each_row i.lanes.items i.runs.items i.replies.items booked) c.self.invariant.2.replied within c.in-Some.command.now
       (subst (λ n. IsCommand i.lanes.items c.args.actor n c.in-Some.command.now) (sym (given_length i.base i.lanes.items i.runs.items i.replies.items i.limits i.objects c.args.actor booked within r)) command)
       (work_in run.task) (ap works_of (e.run r) ∙ map-set (λ (x : Run). work_in x.task) i.runs.items c.args.actor run) _ (folds_view g.F.Fs.view i.limits c.args.actor c.in-Some.command.now i.base new i.runs.items r (work_in run.task) _ in_runs (e.folds r))
-      opening v told was refl (returns-in-More-clause-acted g c) refl in_works);
+      opening v told was c.self.invariant.0.sound.ordered.undoomed refl (returns-in-More-clause-acted g c) refl in_works);
   said =
       (λ v told said.
       let i = c.self.inside in
@@ -683,7 +683,7 @@ returns-in-Answered-clause-preserves g c = record {
       (length-map i.runs.items (λ (x : Run). start_in x.task) ∙ booked.each_runs) (each_row i.lanes.items i.runs.items i.replies.items booked) acc.replied within c.in-Some.command.now
       (subst (λ n. IsCommand i.lanes.items c.args.actor n c.in-Some.command.now) (sym (given_length i.base i.lanes.items i.runs.items i.replies.items i.limits i.objects c.args.actor booked within r)) command)
       (work_in run.task) (ap works_of all ∙ map-set (λ (x : Run). work_in x.task) i.runs.items c.args.actor after) _ (folds_view g.F.Fs.view i.limits c.args.actor c.in-Some.command.now i.base new i.runs.items r (work_in run.task) _ in_runs (e.folds r))
-      opening v told was reply c.in-Answered.start c.args.actor c.index.result.now.command refl (returns-in-Answered-clause-acted g c) (c.number_of.ensures ∙ begun) c.book.ensures.replies);
+      opening v told was c.self.invariant.0.sound.ordered.undoomed reply c.in-Answered.start c.args.actor c.index.result.now.command refl (returns-in-Answered-clause-acted g c) (c.number_of.ensures ∙ begun) c.book.ensures.replies);
   said =
       (λ v told said.
       let i = c.self.inside in
