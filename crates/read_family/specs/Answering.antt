@@ -1,5 +1,5 @@
 -- What a command that reads answers, by its last step.
-use Rattle.std.proofs.Common.{◌≡◌, ◌⊎◌, ⊎_elim, inl, inr, ℕ, true, false, refl, sym, ◌∙◌, ap, subst, List, Option, Some, None, IsSome}
+use Rattle.std.proofs.Common.{◌≡◌, ◌⊎◌, ⊎_elim, ℕ, true, false, refl, sym, ◌∙◌, ap, subst, List, Option, Some, None, IsSome}
 use Rattle.ost_types.specs.declared.limits.Limits.{Limits}
 use Rattle.ost_types.specs.declared.object.Kind.TheVariants.{Commit}
 use Rattle.fs_trait.specs.declared.task.StepResult.TheVariants as turn
@@ -16,11 +16,11 @@ use Rattle.read_command.specs.declared.answer.ReadAnswer.TheVariants as answer
 use Rattle.read_command.specs.declared.command.ReadCommand.{ReadCommand}
 use Rattle.read_command.specs.declared.look.Ask.{Ask}
 use Rattle.read_command.specs.declared.look.Ask.TheVariants as ask
-use Rattle.read_command.specs.Answers.{Says, SaysOf, SaysStopped}
+use Rattle.read_command.specs.Answers.{SaysOf}
 use Rattle.read_command.specs.Asked.{Answers, Asked, asked}
 use Rattle.read_command.specs.Commands.{answer_of, read_facts, read_leaves, read_stepped}
 use Rattle.read_command.specs.Fits.{Fits, IsFitting}
-use Rattle.read_command.specs.Founded.{IsFinishedOf, IsRead}
+use Rattle.read_command.specs.Founded.{IsFinishedOf}
 use Rattle.read_command.proofs.Ends.{finished_of, says_of}
 use Rattle.command.specs.CommitFiles.{CommitsAreFiles, commit_read, no_mark_read}
 use Rattle.command.specs.Since.{Since, placed}

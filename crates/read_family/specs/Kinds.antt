@@ -7,13 +7,12 @@ use Rattle.repo_model.specs.Objects.{Stores}
 use Rattle.rely_guarantee.specs.declared.event.Event.{Event}
 use Rattle.rely_guarantee.specs.declared.kind.Wants.{Wants}
 use Rattle.rely_guarantee.specs.Books.{Books}
-use Rattle.rely_guarantee.specs.Laws.{Show, Settle, Store, Take, IsBy, IsSettle, Holds, NotPending}
+use Rattle.rely_guarantee.specs.Laws.{Show, Store, Take, IsBy, IsSettle, Holds, NotPending}
 use Rattle.ref_command.specs.Commands.{pin_wants}
 use Rattle.ref_command.specs.Found.{commit_name}
 use Rattle.script.specs.declared.rows.LogRow.{LogRow}
 use Rattle.read_command.specs.declared.command.ReadCommand.{ReadCommand}
 use Rattle.read_command.specs.declared.command.ReadCommand.TheVariants.{Look, Cat, Ls, Log, Ended}
-use Rattle.read_command.specs.declared.log.Log as logging
 use Rattle.read_command.specs.declared.look.Ask.{Ask}
 use Rattle.read_command.specs.declared.look.Ask.TheVariants as ask
 use Rattle.read_command.specs.Asked.{Asked, asked}

@@ -1,13 +1,8 @@
 -- The laws of the commands that read a commit.
-use Rattle.std.proofs.Common.{◌≡◌, ⊎_elim, ℕ, refl, sym, ◌∙◌, subst, Option, Some, None, arith}
-use Rattle.fs_trait.specs.Change.{Writes}
+use Rattle.std.proofs.Common.{⊎_elim, refl, sym, ◌∙◌, subst, arith}
 use Rattle.fs_trait.specs.Seen.{NotDirectory}
-use Rattle.fs_trait.specs.View.{View}
 use Rattle.repo_layout.specs.Paths.{stage_path}
-use Rattle.rely_guarantee.specs.Laws.{IsClaim, IsSettle, Settle}
-use Rattle.read_command.specs.declared.command.ReadCommand.{ReadCommand}
-use Rattle.read_command.specs.declared.look.Ask.{Ask}
-use Rattle.read_command.specs.Asked.{Asked, asked}
+use Rattle.rely_guarantee.specs.Laws.{IsClaim, IsSettle}
 use Rattle.read_command.specs.Commands.{read_facts, read_kind, read_leaves, read_refuses, read_stepped, read_writes}
 use Rattle.read_command.specs.Laws.{no_read_claim}
 use Rattle.read_command.proofs.Ends.{begins_of}
@@ -16,15 +11,12 @@ use Rattle.command.specs.ChangeLaws.{ChangeLaws}
 use Rattle.command.specs.FolderLaws.{FolderLaws}
 use Rattle.command.specs.HearLaws.{HearLaws}
 use Rattle.command.specs.Laws.{CommandLaws}
-use Rattle.command.specs.Since.{Since}
-use Rattle.command.specs.Staging.{StagingPathFree}
 use Rattle.command.specs.StepLaws.{StepLaws}
 use Rattle.command.specs.StoreLaws.{StoreLaws}
 use Rattle.command.specs.Tasks.{TaskSpec, task_spec}
 use Rattle.read_family.specs.declared.task.ReadTask.{ReadTask}
-use Rattle.read_family.specs.declared.words.ReadWords.{ReadWords}
 use Rattle.read_family.specs.Answering.{ends_say, ends_show, has_answer, lacks_none}
-use Rattle.read_family.specs.Family.{read_doing, read_means, read_pursues}
+use Rattle.read_family.specs.Family.{read_doing, read_means}
 use Rattle.read_family.specs.Kinds.{no_settle, no_show, pins_reach, pins_work, read_holds}
 
 abbrev pub read_tasks : TaskSpec ReadTask

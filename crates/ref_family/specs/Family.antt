@@ -20,7 +20,6 @@ use Rattle.ref_command.specs.Found.{IsFound, commit_name}
 use Rattle.command.specs.Doing.{Doing}
 use Rattle.command.specs.Meaning.{Meaning}
 use Rattle.command.specs.Revisions.{IsNoRev, IsRev}
-use Rattle.command.specs.Since.{Since}
 use Rattle.ref_family.specs.declared.task.RefsTask.{RefsTask}
 use Rattle.ref_family.specs.declared.words.RefWords.{RefWords}
 use Rattle.ref_family.specs.declared.words.RefWords.TheVariants.{RevParse, Reset, DropRef}

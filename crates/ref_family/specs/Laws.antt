@@ -1,10 +1,7 @@
 -- The laws of the commands on refs.
-use Rattle.std.proofs.Common.{◌≡◌, ⊎_elim, ℕ, refl, sym, ◌∙◌, subst, Option, Some, None, IsSome, arith}
-use Rattle.fs_trait.specs.declared.task.StepResult.TheVariants as turn
+use Rattle.std.proofs.Common.{◌≡◌, ⊎_elim, refl, sym, ◌∙◌, subst, Option, Some, IsSome, arith}
 use Rattle.fs_trait.specs.View.{View}
-use Rattle.rely_guarantee.specs.Books.{Books}
-use Rattle.rely_guarantee.specs.Laws.{Claim, IsClaim}
-use Rattle.rely_guarantee.specs.State.{State}
+use Rattle.rely_guarantee.specs.Laws.{IsClaim}
 use Rattle.ref_command.specs.declared.answer.RefAnswer.{RefAnswer}
 use Rattle.ref_command.specs.declared.answer.RefAnswer.TheVariants as answer
 use Rattle.ref_command.specs.declared.command.RefCommand.{RefCommand}
@@ -19,13 +16,11 @@ use Rattle.command.specs.ChangeLaws.{ChangeLaws}
 use Rattle.command.specs.FolderLaws.{FolderLaws}
 use Rattle.command.specs.HearLaws.{HearLaws}
 use Rattle.command.specs.Laws.{CommandLaws}
-use Rattle.command.specs.Since.{Since}
 use Rattle.command.specs.Staging.{StagingPathFree}
 use Rattle.command.specs.StepLaws.{StepLaws}
 use Rattle.command.specs.StoreLaws.{StoreLaws}
 use Rattle.command.specs.Tasks.{TaskSpec, task_spec}
 use Rattle.ref_family.specs.declared.task.RefsTask.{RefsTask}
-use Rattle.ref_family.specs.declared.words.RefWords.{RefWords}
 use Rattle.ref_family.specs.declared.words.RefWords.TheVariants as words
 use Rattle.ref_family.specs.Ends.{ref_ends}
 use Rattle.ref_family.specs.Family.{ref_doing, ref_makes, ref_means, ref_says, ref_shows}

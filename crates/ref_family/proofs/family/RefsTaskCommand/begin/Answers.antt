@@ -1,4 +1,4 @@
-use Rattle.std.proofs.Common.{rules, ◌≡◌, ◌<◌, ◌≤◌, ℕ, sym, subst}
+use Rattle.std.proofs.Common.{rules, ◌≤◌, sym, subst}
 use Rattle.ref_command.specs.Answers.{Begins}
 use Rattle.ref_command.specs.Commands.{command_left}
 use Rattle.command.specs.Doing.{HasRoomFor, most}

@@ -1,0 +1,21 @@
+-- A command that reads at its beginning.
+use Rattle.std.proofs.Common.{◌≡◌, ◌≤◌, ℕ, subst, List, Option, Some, None}
+use Rattle.ost_types.specs.declared.limits.Limits.{Limits}
+use Rattle.ref_book.specs.declared.book.RefBook.{RefBook}
+use Rattle.rely_guarantee.specs.State.{State}
+use Rattle.script.specs.declared.command.Rev.{Rev}
+use Rattle.read_command.specs.declared.command.ReadCommand.{ReadCommand}
+use Rattle.read_command.specs.Asked.{asked}
+use Rattle.read_command.specs.Commands.{IsNew, read_left}
+use Rattle.command.specs.Doing.{IsFirst, most}
+use Rattle.command.specs.Revisions.{IsNamed, IsRev}
+use Rattle.command.specs.Since.{begun_in}
+use Rattle.read_family.specs.declared.words.ReadWords.{ReadWords}
+use Rattle.read_family.specs.Family.{read_doing, read_means}
+
+pub named : (rev : Rev) (s : State) (found : Option (List ℕ)) (commit : List ℕ) → found ≡ Some commit → IsNamed rev s found → IsRev rev s commit
+named rev s found commit is names = subst (IsNamed rev s) is names
+
+pub task_begun : (limits : Limits) (lane : ℕ) (s : State) (c : ReadWords) (commit : List ℕ) (t : ReadCommand) (refs : RefBook) → IsRev c.rev s commit → IsNew t → asked t ≡ Some (record { limits = limits; commit = commit; ask = c.ask }) → read_left t ≤ most
+    → IsFirst read_means read_doing lane (begun_in limits s) c refs (record { work = t })
+task_begun limits lane s c commit t refs names new asks left = (new, (commit, names, asks), (λ e bad. absurd bad), left)
