@@ -1,7 +1,7 @@
 //! The disk: folders and files by their numbers, and the changes of names that weren't synced.
 use crate::Loss;
 use crate::change::Change;
-use crate::inode::{Inode, Names, copy_names, set_name};
+use crate::inode::{File, Folder, Inode, copy_names, set_name};
 use crate::loss::LostBytes;
 use crate::paths::{is_no_step, split_last};
 use std::alloc::{AllocError, Global};
@@ -83,7 +83,7 @@ impl Disk {
     // What a name of a folder leads to.
     fn name_in(&self, folder: u32, name: &str) -> io::Result<Option<u32>> {
         match self.inodes.get(folder as usize) {
-            Some(Inode::Folder { names, .. }) => Ok(names.get(name).copied()),
+            Some(Inode::Folder(folder)) => Ok(folder.names.get(name).copied()),
             _ => error(ErrorKind::NotADirectory),
         }
     }
@@ -113,7 +113,7 @@ impl Disk {
     /// The number of bytes of a file, 0 of a folder.
     pub fn len(&self, number: u32) -> u64 {
         match self.inodes.get(number as usize) {
-            Some(Inode::File { bytes, .. }) => bytes.len() as u64,
+            Some(Inode::File(file)) => file.bytes.len() as u64,
             _ => 0,
         }
     }
@@ -121,18 +121,18 @@ impl Disk {
     /// The bytes of a file from a place on.
     pub fn bytes(&self, number: u32, from: u64) -> io::Result<&[u8]> {
         match self.inodes.get(number as usize) {
-            Some(Inode::File { bytes, .. }) => { Ok(bytes.get(from as usize..).unwrap_or(&[])) }
+            Some(Inode::File(file)) => Ok(file.bytes.get(from as usize..).unwrap_or(&[])),
             _ => error(ErrorKind::IsADirectory),
         }
     }
 
     /// The names of a folder, each with a zero behind it.
     pub fn names(&self, number: u32) -> io::Result<Vec<u8>> {
-        let Some(Inode::Folder { names, .. }) = self.inodes.get(number as usize) else {
+        let Some(Inode::Folder(folder)) = self.inodes.get(number as usize) else {
             return error(ErrorKind::NotADirectory);
         };
         let mut all = Vec::new(self.alloc);
-        for (name, _) in names {
+        for (name, _) in &folder.names {
             all.extend_from_slice(name.as_bytes())?;
             all.push(0)?;
         }
@@ -149,7 +149,7 @@ impl Disk {
     // Gives a name of a folder what it leads to, as it is now.
     fn set(&mut self, folder: u32, name: &str, to: Option<u32>) -> Result<(), AllocError> {
         match self.inodes.get_mut(folder as usize) {
-            Some(Inode::Folder { names, .. }) => set_name(self.alloc, names, name, to),
+            Some(Inode::Folder(folder)) => set_name(self.alloc, &mut folder.names, name, to),
             _ => Ok(()),
         }
     }
@@ -157,7 +157,7 @@ impl Disk {
     // Gives it to a name so that it outlasts a loss of power.
     fn settle(&mut self, folder: u32, name: &str, to: Option<u32>) -> Result<(), AllocError> {
         match self.inodes.get_mut(folder as usize) {
-            Some(Inode::Folder { lasting, .. }) => set_name(self.alloc, lasting, name, to),
+            Some(Inode::Folder(folder)) => set_name(self.alloc, &mut folder.lasting, name, to),
             _ => Ok(()),
         }
     }
@@ -199,7 +199,7 @@ impl Disk {
     /// Adds bytes to a file.
     pub fn extend(&mut self, number: u32, more: &[u8]) -> io::Result<()> {
         match self.inodes.get_mut(number as usize) {
-            Some(Inode::File { bytes, .. }) => bytes.extend_from_slice(more)?,
+            Some(Inode::File(file)) => file.bytes.extend_from_slice(more)?,
             _ => return error(ErrorKind::IsADirectory),
         }
         Ok(())
@@ -208,7 +208,7 @@ impl Disk {
     /// Cuts a file.
     pub fn cut(&mut self, number: u32, len: u64) -> io::Result<()> {
         match self.inodes.get_mut(number as usize) {
-            Some(Inode::File { bytes, .. }) => bytes.truncate(len as usize),
+            Some(Inode::File(file)) => file.bytes.truncate(len as usize),
             _ => return error(ErrorKind::IsADirectory),
         }
         Ok(())
@@ -273,13 +273,10 @@ impl Disk {
 
     /// Lets a file's bytes, or a folder's names, outlast a loss of power.
     pub fn sync(&mut self, number: u32) -> io::Result<()> {
-        if self.is_folder(number) {
-            self.sync_folder(number)?;
-        } else if let Some(Inode::File { bytes, lasting }) = self.inodes.get_mut(number as usize) {
-            lasting.clear();
-            lasting.extend_from_slice(bytes)?;
+        match self.inodes.get_mut(number as usize) {
+            Some(Inode::File(file)) => Ok(file.sync()?),
+            _ => Ok(self.sync_folder(number)?),
         }
-        Ok(())
     }
 
     // The calls that changed a name of the folder outlast it, whatever else they changed.
@@ -319,20 +316,20 @@ fn forget(kept: &mut Vec<Change>, later: &Change) {
 
 fn left_of(alloc: Global, inode: &Inode, lost: LostBytes) -> Result<Inode, AllocError> {
     match inode {
-        Inode::Folder { lasting, .. } => Ok(Inode::Folder {
-            names: copy_names(alloc, lasting)?,
-            lasting: copy_names(alloc, lasting)?,
-        }),
-        Inode::File { bytes, lasting } => {
+        Inode::Folder(folder) => Ok(Inode::Folder(Folder {
+            names: copy_names(alloc, &folder.lasting)?,
+            lasting: copy_names(alloc, &folder.lasting)?,
+        })),
+        Inode::File(file) => {
             let left = match lost {
-                LostBytes::None => Vec::from_slice(alloc, bytes)?,
-                LostBytes::All => Vec::from_slice(alloc, lasting)?,
-                LostBytes::Zeroed => zeroed(alloc, bytes, lasting)?,
+                LostBytes::None => Vec::from_slice(alloc, &file.bytes)?,
+                LostBytes::All => Vec::from_slice(alloc, &file.lasting)?,
+                LostBytes::Zeroed => zeroed(alloc, &file.bytes, &file.lasting)?,
             };
-            Ok(Inode::File {
+            Ok(Inode::File(File {
                 bytes: Vec::from_slice(alloc, &left)?,
                 lasting: left,
-            })
+            }))
         }
     }
 }

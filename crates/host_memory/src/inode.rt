@@ -5,44 +5,64 @@ use std::collections::BTreeMap;
 /// The names of a folder, each with the number of what it leads to.
 pub type Names = BTreeMap<String, u32>;
 
+/// A folder's names as they are, and those that outlast a loss of power.
+#[derive(Drop)]
+pub struct Folder {
+    pub names: Names,
+    pub lasting: Names,
+}
+
+/// A file's bytes as they are, and those that outlast a loss of power.
+#[derive(Drop)]
+pub struct File {
+    pub bytes: Vec<u8>,
+    pub lasting: Vec<u8>,
+}
+
 /// A folder or a regular file.
 #[derive(Drop)]
 pub enum Inode {
-    /// Its names as they are, and those that outlast a loss of power.
-    Folder { names: Names, lasting: Names },
-    /// Its bytes as they are, and those that outlast it.
-    File { bytes: Vec<u8>, lasting: Vec<u8> },
+    Folder(Folder),
+    File(File),
+}
+
+impl File {
+    /// Lets its bytes outlast a loss of power.
+    pub fn sync(&mut self) -> Result<(), AllocError> {
+        self.lasting.clear();
+        self.lasting.extend_from_slice(&self.bytes)
+    }
 }
 
 impl Inode {
     pub fn folder(alloc: Global) -> Inode {
-        Inode::Folder {
+        Inode::Folder(Folder {
             names: BTreeMap::new(alloc),
             lasting: BTreeMap::new(alloc),
-        }
+        })
     }
 
     pub fn file(alloc: Global) -> Inode {
-        Inode::File {
+        Inode::File(File {
             bytes: Vec::new(alloc),
             lasting: Vec::new(alloc),
-        }
+        })
     }
 
     pub fn is_folder(&self) -> bool {
-        matches!(self, Inode::Folder { .. })
+        matches!(self, Inode::Folder(_))
     }
 
     pub fn copy(&self, alloc: Global) -> Result<Inode, AllocError> {
         match self {
-            Inode::Folder { names, lasting } => Ok(Inode::Folder {
-                names: copy_names(alloc, names)?,
-                lasting: copy_names(alloc, lasting)?,
-            }),
-            Inode::File { bytes, lasting } => Ok(Inode::File {
-                bytes: Vec::from_slice(alloc, bytes)?,
-                lasting: Vec::from_slice(alloc, lasting)?,
-            }),
+            Inode::Folder(folder) => Ok(Inode::Folder(Folder {
+                names: copy_names(alloc, &folder.names)?,
+                lasting: copy_names(alloc, &folder.lasting)?,
+            })),
+            Inode::File(file) => Ok(Inode::File(File {
+                bytes: Vec::from_slice(alloc, &file.bytes)?,
+                lasting: Vec::from_slice(alloc, &file.lasting)?,
+            })),
         }
     }
 }
