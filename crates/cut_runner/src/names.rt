@@ -7,7 +7,7 @@ use std::alloc::Global;
 use std::collections::BTreeMap;
 
 // What a name leads to: nothing, or the node of this number.
-type Value = Option<u32>;
+type Value = Option<usize>;
 
 #[derive(Drop)]
 struct Values {
@@ -89,14 +89,14 @@ impl NameValues {
     fn add(&mut self, text: &str, mem: &mut MemFs) -> Result<(), Stop> {
         let seen = read_node(self.alloc, mem, &path(self.alloc, text)?, text)?;
         let is_synced = !matches!(seen, Seen::File(_, _));
-        let number = self.nodes.len() as u32;
+        let number = self.nodes.len();
         self.nodes.push(Entry { seen, is_synced })?;
         self.name(text, Some(number))
     }
 
     fn entry(&mut self, text: &str) -> Option<&mut Entry> {
         match self.now(text) {
-            Some(number) => self.nodes.get_mut(number as usize),
+            Some(number) => self.nodes.get_mut(number),
             None => None,
         }
     }
@@ -161,7 +161,7 @@ impl NameValues {
     fn fits(&self, value: Value, seen: Option<&Seen>) -> bool {
         match (value, seen) {
             (None, None) => true,
-            (Some(number), Some(seen)) => match self.nodes.get(number as usize) {
+            (Some(number), Some(seen)) => match self.nodes.get(number) {
                 Some(entry) => entry.fits(seen),
                 None => false,
             },
@@ -186,7 +186,7 @@ impl NameValues {
                 Some(0)
             };
             match place {
-                Some(place) => picks.push(place as u32)?,
+                Some(place) => picks.push(u32::try_from(place).unwrap_or(0))?,
                 None => return Ok(None),
             }
         }
@@ -203,10 +203,7 @@ impl NameValues {
 
     fn is_unsynced(&self, value: Value) -> bool {
         match value {
-            Some(number) => self
-                .nodes
-                .get(number as usize)
-                .is_some_and(|entry| !entry.is_synced),
+            Some(number) => self.nodes.get(number).is_some_and(|entry| !entry.is_synced),
             None => false,
         }
     }

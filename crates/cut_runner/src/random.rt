@@ -1,4 +1,5 @@
 //! Numbers that look random, the same ones in each run.
+ghost use Rattle.std.specs.Prelude.{◌<◌};
 
 /// A source of numbers.
 #[derive(Drop)]
@@ -21,7 +22,9 @@ impl Random {
     }
 
     /// A number below this one, 0 where that is 0.
-    pub fn below(&mut self, count: u64) -> u64 {
+    pub fn below(&mut self, count: u64) -> u64
+        ensures { 0 < count → result < count }
+    {
         let number = self.number();
         if count == 0 { 0 } else { number % count }
     }

@@ -6,9 +6,9 @@ use std::alloc::{AllocError, Global};
 pub struct Change {
     /// The call that made it. Those of one call outlast a loss of power together or not at all.
     pub call: u64,
-    pub folder: u32,
+    pub folder: usize,
     pub name: String,
-    pub to: Option<u32>,
+    pub to: Option<usize>,
 }
 
 impl Change {

@@ -18,8 +18,8 @@ impl MemoryDir {
 impl Read for MemoryDir {
     fn read(&mut self, buf: &mut [u8]) -> io::Result<usize> {
         let rest = self.names.get(self.at..).unwrap_or(&[]);
-        let count = whole_names(rest, buf.len());
-        buf[..count].copy_from_slice(&rest[..count]);
+        let mut whole = rest.get(..whole_names(rest, buf.len())).unwrap_or(&[]);
+        let count = whole.read(buf)?;
         self.at = self.at.saturating_add(count);
         Ok(count)
     }
@@ -27,10 +27,10 @@ impl Read for MemoryDir {
 
 // How many bytes the first names have that find room together.
 fn whole_names(names: &[u8], room: usize) -> usize {
-    let mut whole = 0;
-    let mut count = 0;
+    let mut whole: usize = 0;
+    let mut count: usize = 0;
     for byte in names.iter().take(room) {
-        count += 1;
+        count = count.saturating_add(1);
         if *byte == 0 {
             whole = count;
         }

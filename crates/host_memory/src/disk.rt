@@ -60,7 +60,7 @@ impl Disk {
     /// What a loss of power leaves.
     pub fn after_loss(&self, loss: Loss) -> Result<Disk, AllocError> {
         let mut inodes = Vec::new(self.alloc);
-        let mut number = 0u32;
+        let mut number: usize = 0;
         for inode in &self.inodes {
             inodes.push(left_of(self.alloc, inode, loss.of_file(number))?)?;
             number = number.saturating_add(1);
@@ -81,15 +81,15 @@ impl Disk {
     }
 
     // What a name of a folder leads to.
-    fn name_in(&self, folder: u32, name: &str) -> io::Result<Option<u32>> {
-        match self.inodes.get(folder as usize) {
+    fn name_in(&self, folder: usize, name: &str) -> io::Result<Option<usize>> {
+        match self.inodes.get(folder) {
             Some(Inode::Folder(folder)) => Ok(folder.names.get(name).copied()),
             _ => error(ErrorKind::NotADirectory),
         }
     }
 
     /// The number of what stands at a text.
-    pub fn find(&self, text: &str) -> io::Result<u32> {
+    pub fn find(&self, text: &str) -> io::Result<usize> {
         let mut at = 0;
         for name in text.split('/') {
             if is_no_step(name) {
@@ -103,32 +103,32 @@ impl Disk {
         Ok(at)
     }
 
-    pub fn is_folder(&self, number: u32) -> bool {
-        match self.inodes.get(number as usize) {
+    pub fn is_folder(&self, number: usize) -> bool {
+        match self.inodes.get(number) {
             Some(inode) => inode.is_folder(),
             None => false,
         }
     }
 
     /// The number of bytes of a file, 0 of a folder.
-    pub fn len(&self, number: u32) -> u64 {
-        match self.inodes.get(number as usize) {
+    pub fn len(&self, number: usize) -> u64 {
+        match self.inodes.get(number) {
             Some(Inode::File(file)) => file.bytes.len() as u64,
             _ => 0,
         }
     }
 
     /// The bytes of a file from a place on.
-    pub fn bytes(&self, number: u32, from: u64) -> io::Result<&[u8]> {
-        match self.inodes.get(number as usize) {
+    pub fn bytes(&self, number: usize, from: u64) -> io::Result<&[u8]> {
+        match self.inodes.get(number) {
             Some(Inode::File(file)) => Ok(file.bytes.get(from as usize..).unwrap_or(&[])),
             _ => error(ErrorKind::IsADirectory),
         }
     }
 
     /// The names of a folder, each with a zero behind it.
-    pub fn names(&self, number: u32) -> io::Result<Vec<u8>> {
-        let Some(Inode::Folder(folder)) = self.inodes.get(number as usize) else {
+    pub fn names(&self, number: usize) -> io::Result<Vec<u8>> {
+        let Some(Inode::Folder(folder)) = self.inodes.get(number) else {
             return error(ErrorKind::NotADirectory);
         };
         let mut all = Vec::new(self.alloc);
@@ -140,30 +140,30 @@ impl Disk {
     }
 
     // Where the last name of a text stands: the number of its folder, and what it leads to.
-    fn place(&self, text: &str) -> io::Result<(u32, Option<u32>)> {
+    fn place(&self, text: &str) -> io::Result<(usize, Option<usize>)> {
         let (folder, name) = split_last(text);
         let folder = self.find(folder)?;
         Ok((folder, self.name_in(folder, name)?))
     }
 
     // Gives a name of a folder what it leads to, as it is now.
-    fn set(&mut self, folder: u32, name: &str, to: Option<u32>) -> Result<(), AllocError> {
-        match self.inodes.get_mut(folder as usize) {
+    fn set(&mut self, folder: usize, name: &str, to: Option<usize>) -> Result<(), AllocError> {
+        match self.inodes.get_mut(folder) {
             Some(Inode::Folder(folder)) => set_name(self.alloc, &mut folder.names, name, to),
             _ => Ok(()),
         }
     }
 
     // Gives it to a name so that it outlasts a loss of power.
-    fn settle(&mut self, folder: u32, name: &str, to: Option<u32>) -> Result<(), AllocError> {
-        match self.inodes.get_mut(folder as usize) {
+    fn settle(&mut self, folder: usize, name: &str, to: Option<usize>) -> Result<(), AllocError> {
+        match self.inodes.get_mut(folder) {
             Some(Inode::Folder(folder)) => set_name(self.alloc, &mut folder.lasting, name, to),
             _ => Ok(()),
         }
     }
 
     // The same, where it isn't sure to outlast one.
-    fn change(&mut self, folder: u32, name: &str, to: Option<u32>) -> io::Result<()> {
+    fn change(&mut self, folder: usize, name: &str, to: Option<usize>) -> io::Result<()> {
         self.set(folder, name, to)?;
         let name = String::from_str(self.alloc, name)?;
         self.pending.push(Change {
@@ -175,15 +175,15 @@ impl Disk {
         Ok(())
     }
 
-    fn add(&mut self, inode: Inode, folder: u32, name: &str) -> io::Result<u32> {
-        let number = self.inodes.len() as u32;
+    fn add(&mut self, inode: Inode, folder: usize, name: &str) -> io::Result<usize> {
+        let number = self.inodes.len();
         self.inodes.push(inode)?;
         self.change(folder, name, Some(number))?;
         Ok(number)
     }
 
     /// A new file at a text, or a new folder. Gives its number.
-    pub fn make(&mut self, text: &str, is_folder: bool) -> io::Result<u32> {
+    pub fn make(&mut self, text: &str, is_folder: bool) -> io::Result<usize> {
         let (folder, None) = self.place(text)? else {
             return error(ErrorKind::AlreadyExists);
         };
@@ -197,8 +197,8 @@ impl Disk {
     }
 
     /// Adds bytes to a file.
-    pub fn extend(&mut self, number: u32, more: &[u8]) -> io::Result<()> {
-        match self.inodes.get_mut(number as usize) {
+    pub fn extend(&mut self, number: usize, more: &[u8]) -> io::Result<()> {
+        match self.inodes.get_mut(number) {
             Some(Inode::File(file)) => file.bytes.extend_from_slice(more)?,
             _ => return error(ErrorKind::IsADirectory),
         }
@@ -206,8 +206,8 @@ impl Disk {
     }
 
     /// Cuts a file.
-    pub fn cut(&mut self, number: u32, len: u64) -> io::Result<()> {
-        match self.inodes.get_mut(number as usize) {
+    pub fn cut(&mut self, number: usize, len: u64) -> io::Result<()> {
+        match self.inodes.get_mut(number) {
             Some(Inode::File(file)) => file.bytes.truncate(len as usize),
             _ => return error(ErrorKind::IsADirectory),
         }
@@ -272,15 +272,15 @@ impl Disk {
     }
 
     /// Lets a file's bytes, or a folder's names, outlast a loss of power.
-    pub fn sync(&mut self, number: u32) -> io::Result<()> {
-        match self.inodes.get_mut(number as usize) {
+    pub fn sync(&mut self, number: usize) -> io::Result<()> {
+        match self.inodes.get_mut(number) {
             Some(Inode::File(file)) => Ok(file.sync()?),
             _ => Ok(self.sync_folder(number)?),
         }
     }
 
     // The calls that changed a name of the folder outlast it, whatever else they changed.
-    fn sync_folder(&mut self, number: u32) -> Result<(), AllocError> {
+    fn sync_folder(&mut self, number: usize) -> Result<(), AllocError> {
         let alloc = self.alloc;
         let pending = std::mem::replace(&mut self.pending, Vec::new(alloc));
         let calls = calls_in(alloc, &pending, number)?;
@@ -299,7 +299,7 @@ impl Disk {
 }
 
 // The calls that changed a name of a folder.
-fn calls_in(alloc: Global, pending: &[Change], folder: u32) -> Result<Vec<u64>, AllocError> {
+fn calls_in(alloc: Global, pending: &[Change], folder: usize) -> Result<Vec<u64>, AllocError> {
     let mut calls = Vec::new(alloc);
     for change in pending {
         if change.folder == folder {

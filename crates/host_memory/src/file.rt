@@ -9,12 +9,12 @@ use std::io::{ErrorKind, Read, Seek, SeekFrom, Write};
 #[derive(Drop)]
 pub struct MemoryFile<'a> {
     drive: &'a RefCell<Drive>,
-    number: u32,
+    number: usize,
     at: u64,
 }
 
 impl<'a> MemoryFile<'a> {
-    pub fn new(drive: &'a RefCell<Drive>, number: u32) -> MemoryFile<'a> {
+    pub fn new(drive: &'a RefCell<Drive>, number: usize) -> MemoryFile<'a> {
         MemoryFile {
             drive,
             number,
@@ -33,9 +33,8 @@ impl Read for MemoryFile<'_> {
         let Ok(drive) = self.drive.try_borrow() else {
             return Err(in_use());
         };
-        let bytes = drive.disk().bytes(self.number, self.at)?;
-        let count = bytes.len().min(buf.len());
-        buf[..count].copy_from_slice(&bytes[..count]);
+        let mut bytes = drive.disk().bytes(self.number, self.at)?;
+        let count = bytes.read(buf)?;
         self.at = self.at.saturating_add(count as u64);
         Ok(count)
     }
@@ -98,7 +97,7 @@ impl OpenFile for MemoryFile<'_> {
     }
 }
 
-pub fn metadata_of(disk: &Disk, number: u32) -> Metadata {
+pub fn metadata_of(disk: &Disk, number: usize) -> Metadata {
     if disk.is_folder(number) {
         Metadata::of_dir()
     } else {

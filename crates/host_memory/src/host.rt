@@ -40,7 +40,7 @@ impl Alloc for MemoryHost<'_> {
 }
 
 // The number of the file that is to be opened.
-fn opened(drive: &mut Drive, how: &OpenOptions, path: &str) -> io::Result<u32> {
+fn opened(drive: &mut Drive, how: &OpenOptions, path: &str) -> io::Result<usize> {
     how.check()?;
     if how.asks_create_new() {
         let number = drive.begin()?.make(path, false)?;

@@ -3,7 +3,7 @@ use std::alloc::{AllocError, Global};
 use std::collections::BTreeMap;
 
 /// The names of a folder, each with the number of what it leads to.
-pub type Names = BTreeMap<String, u32>;
+pub type Names = BTreeMap<String, usize>;
 
 /// A folder's names as they are, and those that outlast a loss of power.
 #[derive(Drop)]
@@ -80,7 +80,7 @@ pub fn set_name(
     alloc: Global,
     names: &mut Names,
     name: &str,
-    to: Option<u32>,
+    to: Option<usize>,
 ) -> Result<(), AllocError> {
     match to {
         None => {

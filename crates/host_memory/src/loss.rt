@@ -29,11 +29,11 @@ impl Loss {
     }
 
     /// What becomes of the bytes of this file that weren't synced.
-    pub fn of_file(self, number: u32) -> LostBytes {
+    pub fn of_file(self, number: usize) -> LostBytes {
         match self {
             Loss::Nothing => LostBytes::None,
             Loss::All => LostBytes::All,
-            Loss::Some(seed) => match mixed(!seed, u64::from(number)) % 3 {
+            Loss::Some(seed) => match mixed(!seed, number as u64) % 3 {
                 0 => LostBytes::None,
                 1 => LostBytes::All,
                 _ => LostBytes::Zeroed,
