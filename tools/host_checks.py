@@ -22,7 +22,7 @@ PROGRAM = os.path.join(os.getcwd(), "build", "ostree_cli")
 FOLDER = os.path.join(os.getcwd(), "build", "host_checks")
 REPOSITORY = os.path.join(FOLDER, "ostree", "repo")
 SECONDS = 60
-MEMORY = 64 << 20
+MEMORY = 256 << 20
 
 
 def script(number, content="a"):
