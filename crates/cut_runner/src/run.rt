@@ -48,7 +48,7 @@ pub struct Run {
     counts: Counts,
 }
 
-/// Runs the script of a number, twice more on what a run left that was killed or whose power was cut.
+/// Runs the script of a number, and another on what it left once it was ended, or killed, or its power cut.
 pub fn run_script(alloc: Global, number: u64) -> Result<Counts, Stop> {
     let mut run = Run {
         alloc,
@@ -60,7 +60,7 @@ pub fn run_script(alloc: Global, number: u64) -> Result<Counts, Stop> {
     let mut at = Moment::new(alloc, 0, NameValues::new(alloc));
     let mut disk = Disk::new(alloc)?;
     let mut made = 0;
-    for part in 0..3u64 {
+    for part in 0..2u64 {
         let mut script = Script::new(alloc, number.wrapping_mul(4).wrapping_add(part), made);
         if part == 0 {
             script.add_layout()?;
