@@ -1,0 +1,4 @@
+pub mod Answering
+pub mod Matching
+pub mod Taking
+pub mod Telling
