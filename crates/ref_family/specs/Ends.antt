@@ -55,7 +55,7 @@ reset_ends s branch commit None look plan (Parse next) step names = absurd step
 reset_ends s branch commit None look plan (Change work) step names = absurd step
 reset_ends s branch commit (Some f) look plan new step names = absurd step
 
-refusing : (ph : Phase) (e : Event) → IsRefusing ph → IsSettle (kind_in ph e) → ⊥
+pub refusing : (ph : Phase) (e : Event) → IsRefusing ph → IsSettle (kind_in ph e) → ⊥
 refusing phase.Look e may k = k
 refusing (phase.Clear c) e may k = k
 refusing (phase.Walk w) e may k = k

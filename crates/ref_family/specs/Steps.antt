@@ -32,7 +32,7 @@ found_own : {P : Type 0} (found : Option Found) (commit : List ℕ) → found_ki
 found_own None commit is = cc
 found_own (Some f) commit is = cc
 
-change_own : {P : Type 0} (p : Progress) (e : Event) → kind_at p e ≡ Store → P
+pub change_own : {P : Type 0} (p : Progress) (e : Event) → kind_at p e ≡ Store → P
 change_own progress.Looking e is = cc
 change_own progress.Preparing e is = cc
 change_own progress.Showing e is = cc
@@ -56,7 +56,7 @@ ref_holds lane (Reset look plan) b begins none = found_holds look.found look.com
 ref_holds lane (Change work) b begins none = subst (λ (t : Changing). Holds (kind_in t.phase (event t)) lane b) (sym (ap (λ (x : RefWork). x.task) begins.2)) none
 
 -- each step leaves it after the same
-changing_step : (name : List ℕ) (seen value : Option (List ℕ)) (t new : Changing) → IsStepped t (Ok turn.More) new → IsChanging name seen value t → IsChanging name seen value new
+pub changing_step : (name : List ℕ) (seen value : Option (List ℕ)) (t new : Changing) → IsStepped t (Ok turn.More) new → IsChanging name seen value t → IsChanging name seen value new
 changing_step name seen value t new step is = (
   ap (λ (x : Changing). x.name) step.0 ∙ is.0,
   ap (λ (x : Changing). x.seen) step.0 ∙ is.1,
@@ -90,7 +90,7 @@ drop_event : (seen : Option (List ℕ)) (branch : List ℕ) → IsSome seen → 
 drop_event (Some x) branch some = (x, refl, refl)
 drop_event None branch some = let z : false ≡ true = some in cc
 
-event_is : (name : List ℕ) (seen value : Option (List ℕ)) (t : Changing) → IsChanging name seen value t → event t ≡ event_of value name seen
+pub event_is : (name : List ℕ) (seen value : Option (List ℕ)) (t : Changing) → IsChanging name seen value t → event t ≡ event_of value name seen
 event_is name seen value t is = ap (λ v. event_of v t.name t.seen) is.2 ∙ ap (λ n. event_of value n t.seen) is.0 ∙ ap (event_of value name) is.1
 
 pub change_is : (s : State) (c : RefWords) (work : RefWork) → ref_pursues s c (Change work) → ref_changes s c (event work.task)
@@ -108,7 +108,7 @@ found_settles : {P : Type 0} (found : Option Found) (commit : List ℕ) (e : Eve
 found_settles None commit e is = cc
 found_settles (Some f) commit e is = cc
 
-kind_settles : (p : Progress) (d e : Event) → kind_at p d ≡ Settle e → d ≡ e
+pub kind_settles : (p : Progress) (d e : Event) → kind_at p d ≡ Settle e → d ≡ e
 kind_settles progress.Settling d e is = cc
 kind_settles progress.Looking d e is = cc
 kind_settles progress.Preparing d e is = cc

@@ -135,21 +135,21 @@ sees_refused phase.SyncFolder e lane b v w p may has sees = absurd may
 sees_refused phase.Ended e lane b v w p may has sees = absurd may
 
 module _ (lane : ℕ) (s p : State) (branch : List ℕ) (value : Option (List ℕ)) (work new : RefWork) (v w : View) (b : Books) (f : Facts lane work.task v b) (is : IsChanging branch (s (RefOf branch)) value work.task) (sees : Sees (ref_kind work) lane b v w p) where
-  moved : (seen now : Option (List ℕ)) → leaves_in (turn.Done tt) (Some (Err (refusal.RefMoved seen now))) work.task new.task v w → HasMoved s p branch seen now
+  pub moved : (seen now : Option (List ℕ)) → leaves_in (turn.Done tt) (Some (Err (refusal.RefMoved seen now))) work.task new.task v w → HasMoved s p branch seen now
   moved seen now l = (
     l.tells.1 ∙ is.1,
     value_is v.now p (sees_refused work.task.phase (event work.task) lane b v w p l.may f.turn sees) work.task.name now l.tells.2 ∙ ap (λ n. p (RefOf n)) is.0,
     l.tells.3,
   )
 
-  clashing : (other : List ℕ) → leaves_in (turn.Done tt) (Some (Err (refusal.RefClash other))) work.task new.task v w → LeastClashIn p branch other × IsSome value
+  pub clashing : (other : List ℕ) → leaves_in (turn.Done tt) (Some (Err (refusal.RefClash other))) work.task new.task v w → LeastClashIn p branch other × IsSome value
   clashing other l = (
     subst (λ n. LeastClashIn p n other) is.0 (least_in v.now p (sees_refused work.task.phase (event work.task) lane b v w p l.may f.turn sees) work.task.name other l.tells.1),
     subst IsSome is.2 (makes_value work.task.phase work.task l.tells.0 f.needs.made),
   )
 
   -- a ref that was set is there, so that no other clashes with it
-  set_free : (commit : List ℕ) → event work.task ≡ event.SetRef branch (s (RefOf branch)) commit → kind_in work.task.phase (event work.task) ≡ Settle (event work.task) → IsFreeIn p branch
+  pub set_free : (commit : List ℕ) → event work.task ≡ event.SetRef branch (s (RefOf branch)) commit → kind_in work.task.phase (event work.task) ≡ Settle (event work.task) → IsFreeIn p branch
   set_free commit sets settles =
       let saw : IsState w.now p × ((t : Topic) → target (event work.task) ≡ Some t → p t ≡ gives (event work.task)) = subst (λ k. Sees k lane b v w p) settles sees in
       let there : p (RefOf branch) ≡ Some commit = subst (λ (e : Event). (t : Topic) → target e ≡ Some t → p t ≡ gives e) sets saw.1 (RefOf branch) refl in

@@ -1,0 +1,11 @@
+pub mod Commits
+pub mod Pursues
+pub mod Task
+pub mod Family
+pub mod Steps
+pub mod Ends
+pub mod DiskAnswers
+pub mod RefAnswers
+pub mod Kept
+pub mod Objects
+pub mod Laws

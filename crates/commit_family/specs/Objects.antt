@@ -1,0 +1,130 @@
+-- What a commit pins and stores, and that it makes no folder of a checkout.
+use Rattle.std.proofs.Common.{◌≡◌, inl, inr, ⊎_elim, ◌<◌, ℕ, refl, sym, ◌∙◌, ap, subst, List, [], Option, Some, None}
+use Rattle.ost_types.specs.declared.limits.Limits.{Limits}
+use Rattle.ost_types.specs.declared.object.ObjName.{ObjName}
+use Rattle.ost_forms.specs.declared.tree_item.TreeItem.{TreeItem}
+use Rattle.ost_objects.specs.Object.{IsNamed}
+use Rattle.fs_trait.specs.declared.task.StepResult.TheVariants as turn
+use Rattle.fs_trait.specs.declared.types.Value.TheVariants.{Absent}
+use Rattle.fs_trait.specs.Seen.{Seen}
+use Rattle.fs_trait.specs.View.{View}
+use Rattle.repo_layout.specs.BootPaths.{checkout_path}
+use Rattle.repo_layout.specs.RefFile.{IsSum}
+use Rattle.repo_layout.proofs.Places.{place-checkout, place-object}
+use Rattle.repo_model.specs.Objects.{object_in, path_of}
+use Rattle.repo_model.proofs.Named.{IsSum-named}
+use Rattle.obj_store.specs.declared.phase.Put.TheVariants.{Stored}
+use Rattle.obj_store.specs.Putting.{IsObject, Putting}
+use Rattle.obj_store.specs.Steps as put
+use Rattle.obj_store.specs.Whole.{IsShown}
+use Rattle.obj_store.proofs.PlaceLemmas.{one_name}
+use Rattle.obj_store.proofs.Stable.{put_lies}
+use Rattle.tree_build.specs.Building.{IsNumber}
+use Rattle.tree_build.specs.Objects.{Object, work}
+use Rattle.commit_build.specs.declared.message.Message.{Message}
+use Rattle.commit_build.specs.declared.phase.Phase.{Phase}
+use Rattle.commit_build.specs.declared.phase.Phase.TheVariants as phase
+use Rattle.commit_build.specs.Committing.{Committing, Puts, commit_of}
+use Rattle.commit_build.specs.Steps.{Needs, writes_in}
+use Rattle.commit_build.specs.Whole.{IsOfCommit, its_commit}
+use Rattle.commit_build.proofs.Mild.{mark_object, object_folder, stage_object}
+use Rattle.commit_build.proofs.Named.{work_named}
+use Rattle.commit_build.proofs.PutSteps.{kept_as, needs_as}
+use Rattle.commit_build.proofs.Stable.{commit_lies}
+use Rattle.commit_durability.specs.Lasting.{IsOf}
+use Rattle.rely_guarantee.specs.declared.kind.Wants.{Wants}
+use Rattle.rely_guarantee.specs.Books.{Books}
+use Rattle.rely_guarantee.specs.Laws.{Take}
+use Rattle.rely_guarantee.specs.Pinning.{pin_in}
+use Rattle.commit_command.specs.declared.naming.Naming.{Naming}
+use Rattle.commit_command.specs.declared.command.CommitCommand.{CommitCommand}
+use Rattle.commit_command.specs.Facts.{commit_facts, facts_by}
+use Rattle.commit_command.specs.Kinds.{commit_kind, commit_leaves, commit_writes, met_in, writes_by}
+use Rattle.commit_command.specs.Lying.{OfBuild, OfRef, build_place, ref_place}
+use Rattle.commit_command.proofs.Holding.{stored_of}
+use Rattle.commit_command.proofs.Pinning.{pin_of}
+use Rattle.commit_command.proofs.Stored.{commit_room}
+use Rattle.commit_family.specs.Pursues.{Commits}
+
+-- nothing is written at a checkout's path
+off_by : (o : Option Naming) (actor lane : ℕ) (t : CommitCommand) (v : View) (b : Books) (name : List ℕ) (s : Seen) → facts_by o lane t v b → writes_by o actor t v (checkout_path name) s → ⊥
+off_by None actor lane t v b name s f wrote = subst (OfBuild t.build.actor) (place-checkout name []) (build_place t.build v f.needs.made.actor (checkout_path name) s (commit_lies t.build v f.needs (checkout_path name) s wrote.0))
+off_by (Some n) actor lane t v b name s f wrote = subst (OfRef n.work.task.actor) (place-checkout name []) (ref_place n.work.task v f.ref.needs (checkout_path name) s wrote)
+
+pub no_checkout : (actor lane : ℕ) (t : CommitCommand) (v : View) (b : Books) (name : List ℕ) (s : Seen) → commit_facts lane t v b → commit_writes actor t v (checkout_path name) s → ⊥
+no_checkout actor lane t v b name s f wrote = off_by t.change actor lane t v b name s f wrote
+
+-- a put writes at the path of its object alone, and the object there
+module _ (o : Object) (named : IsNamed o.name o.bytes) (actor : ℕ) (q : Putting) (v : View) (has : put.Needs q v) (puts : Puts actor o q) (name : ObjName) (sum : IsSum name.csum) (s : Seen) where
+  held : IsShown q s → object_in o.name.kind s ≡ Some o.bytes
+  held shown = subst (λ (n : ObjName). object_in n.kind s ≡ Some o.bytes) puts.name (shown o.bytes (subst (λ (n : ObjName). IsObject n o.bytes q.source) (sym puts.name) puts.object))
+
+  put_there : put.WritesOf q v (path_of name) s → (name ≡ o.name) × (object_in o.name.kind s ≡ Some o.bytes)
+  put_there wrote = ⊎_elim
+      (λ a. absurd (stage_object q.actor name (sym a.0)))
+      (λ more. ⊎_elim
+      (λ a. absurd (object_folder name q.name.csum a.0))
+      (λ a. (one_name name o.name sum (IsSum-named o.name o.bytes named) (a.0 ∙ ap path_of puts.name), held a.1))
+      more)
+      (put_lies q v has (path_of name) s wrote).place
+
+one_content : (a b : List ℕ) (o : Option (List ℕ)) → o ≡ Some a → o ≡ Some b → a ≡ b
+one_content a b o x y = let e : Some a ≡ Some b = sym x ∙ y in cc
+
+-- so a build writes objects of its commit alone
+module _ (t : Committing) (v : View) (needs : Needs t v) (name : ObjName) (sum : IsSum name.csum) (s : Seen) (bytes : List ℕ) (reads : object_in name.kind s ≡ Some bytes) where
+  abbrev pub Brought : Type 0
+  Brought = (o : Object) × IsOfCommit t o × (o.name ≡ name) × (o.bytes ≡ bytes)
+
+  put_brings : (o : Object) → IsOfCommit t o → IsNamed o.name o.bytes → (q : Putting) → put.Needs q v → Puts t.actor o q → put.WritesOf q v (path_of name) s → Brought
+  put_brings o of named q has puts wrote =
+      let at = put_there o named t.actor q v has puts name sum s wrote in
+      (o, of, sym at.0, one_content o.bytes bytes (object_in o.name.kind s) at.1 (subst (λ (n : ObjName). object_in n.kind s ≡ Some bytes) at.0 reads))
+
+  build_brings : (ph : Phase) → t.phase ≡ ph → writes_in ph v (path_of name) s → Brought
+  build_brings (phase.Put q) is wrote =
+      let last = (kept_as t needs.made (phase.Put q) is).1 in
+      let number = last.last.object in
+      put_brings last.object (inl (last.last.number, number)) (work_named t.items last.last.number last.object number) q (needs_as t v needs (phase.Put q) is).0 last.puts wrote
+  build_brings (phase.PutCommit q) is wrote = put_brings (its_commit t) (inr refl) refl q (needs_as t v needs (phase.PutCommit q) is).0 (kept_as t needs.made (phase.PutCommit q) is).2 wrote
+  build_brings (phase.Unmark commit) is wrote = absurd (mark_object commit name (sym wrote.0))
+  build_brings phase.Check is wrote = absurd wrote
+  build_brings phase.Make is wrote = absurd wrote
+  build_brings (phase.Made c) is wrote = absurd wrote
+  build_brings phase.SyncObjects is wrote = absurd wrote
+  build_brings phase.MakeCommit is wrote = absurd wrote
+  build_brings (phase.SyncCommit commit) is wrote = absurd wrote
+  build_brings (phase.SyncState commit) is wrote = absurd wrote
+  build_brings (phase.Ended commit) is wrote = absurd wrote
+
+brings_by : (o : Option Naming) (actor lane : ℕ) (t : CommitCommand) (v : View) (b : Books) (name : ObjName) (s : Seen) (bytes : List ℕ) → facts_by o lane t v b → IsSum name.csum → writes_by o actor t v (path_of name) s → object_in name.kind s ≡ Some bytes
+    → (x : Object) × IsOfCommit t.build x × (x.name ≡ name) × (x.bytes ≡ bytes)
+brings_by None actor lane t v b name s bytes f sum wrote reads = build_brings t.build v f.needs name sum s bytes reads t.build.phase refl wrote.0
+brings_by (Some n) actor lane t v b name s bytes f sum wrote reads = absurd (subst (OfRef n.work.task.actor) (place-object name.kind name.csum sum) (ref_place n.work.task v f.ref.needs (path_of name) s wrote))
+
+-- by the words of the command
+module _ (limits : Limits) (branch : List ℕ) (tree : List TreeItem) (message : Message) (t : CommitCommand) (is : Commits limits branch tree message t) where
+  its_object : (o : Object) → IsOfCommit t.build o → IsOf tree message o
+  its_object o of = ⊎_elim
+      (λ n. inl (n.0, subst (λ i. IsNumber (work i) n.0 o) is.items n.1))
+      (λ e. inr (e ∙ ap (λ i. commit_of i t.build.message) is.items ∙ ap (commit_of tree) is.says))
+      of
+
+  pub commits_pin : (wants : Wants) (name : ObjName) → commit_kind t ≡ Take wants → wants.pin ≡ Some name → (o : Object) × IsOf tree message o × (o.name ≡ name)
+  commits_pin wants name kind pin =
+      let p = pin_of t name is.made (ap pin_in kind ∙ pin) in
+      (p.0, its_object p.0 p.1, p.2)
+
+  pub commits_bring : (actor lane : ℕ) (v : View) (b : Books) (name : ObjName) (s : Seen) (bytes : List ℕ) → commit_facts lane t v b → IsSum name.csum → commit_writes actor t v (path_of name) s → object_in name.kind s ≡ Some bytes
+      → (o : Object) × IsOf tree message o × (o.name ≡ name) × (o.bytes ≡ bytes)
+  commits_bring actor lane v b name s bytes f sum wrote reads =
+      let p = brings_by t.change actor lane t v b name s bytes f sum wrote reads in
+      (p.0, its_object p.0 p.1, p.2, p.3)
+
+  pub commits_room : (actor lane : ℕ) (v : View) (b : Books) (name : ObjName) (s : Seen) → commit_facts lane t v b → IsSum name.csum → commit_writes actor t v (path_of name) s → t.objects < limits.objects
+  commits_room actor lane v b name s f sum wrote = subst (λ (l : Limits). t.objects < l.objects) is.bounds (commit_room actor lane t v b f name s sum wrote).0
+
+  pub commits_lacked : (new : CommitCommand) (v w : View) (name : ObjName) → commit_leaves t turn.More new v w → met_in new.change new.build ≡ Some (name, Stored) → (t.objects < limits.objects) × (v.now.at (path_of name) ≡ Absent)
+  commits_lacked new v w name l met =
+      let lacked = stored_of t new v w name l met in
+      (subst (λ (x : Limits). t.objects < x.objects) is.bounds lacked.0, lacked.1)
