@@ -1,11 +1,12 @@
 -- A commit that was made lasts, and goes on to.
-use Rattle.std.proofs.Common.{⊎_elim, ℕ, subst, List, ◌++◌, [], Option, Some, None}
-use Rattle.std.proofs.lemmas.List.Elements.{Contains-append_right}
+use Rattle.std.proofs.Common.{inr, inl, ⊎_elim, ℕ, refl, subst, List, ◌++◌, [], Option, Some, None}
+use Rattle.std.proofs.lemmas.List.Elements.{Contains-append_left, Contains-append_right}
+use Rattle.ost_types.specs.declared.limits.Limits.{Limits}
 use Rattle.ost_types.specs.declared.object.ObjName.{ObjName}
 use Rattle.ost_types.specs.Path.{Path}
 use Rattle.ost_forms.specs.declared.tree_item.TreeItem.{TreeItem}
 use Rattle.fs_trait.specs.declared.task.StepResult.TheVariants as turn
-use Rattle.fs_trait.specs.Seen.{Seen, MayBe}
+use Rattle.fs_trait.specs.Seen.{Seen, Vacant, Directory, Symlink, Leaf, MayBe}
 use Rattle.fs_trait.specs.View.{Disk, View}
 use Rattle.repo_model.specs.Objects.{path_of}
 use Rattle.staged_file.specs.declared.phase.Phase as staged
@@ -18,16 +19,18 @@ use Rattle.ref_store.specs.Change.{Change, progress_in, progress_of}
 use Rattle.ref_store.specs.Steps.{writes_in}
 use Rattle.rely_guarantee.specs.declared.event.Event.{Event}
 use Rattle.rely_guarantee.specs.Books.{Books}
+use Rattle.rely_guarantee.specs.Disks.{IsLeaf}
 use Rattle.rely_guarantee.specs.Lasting.{Stays, StaysOn}
 use Rattle.rely_guarantee.specs.Laws.{IsSettle}
 use Rattle.ref_command.specs.declared.work.RefWork.{RefWork}
 use Rattle.ref_command.specs.Kinds.{Answer as Came, event, kind_in, leaves_in, put_kind}
 use Rattle.tree_build.specs.Items.{AreItems, AreTyped, IsTree}
 use Rattle.tree_build.specs.Makeable.{AreMakeable}
+use Rattle.tree_build.specs.Objects.{Object}
 use Rattle.commit_build.specs.declared.message.Message.{Message}
 use Rattle.commit_build.specs.Committing.{ReadsBack, commit_of, storing_in}
-use Rattle.commit_build.specs.Steps.{AreSure, IsSure, NeverMarked}
-use Rattle.commit_durability.specs.Lasting.{AreRight, IsCommit, LastsIn, sum_of}
+use Rattle.commit_build.specs.Steps.{AreSure, IsSure, NeverMarked, NotLeaf}
+use Rattle.commit_durability.specs.Lasting.{AreRight, IsCommit, IsOf, LastsIn, sum_of}
 use Rattle.commit_durability.proofs.Lasting.{lasts_left, lasts_made, lasts_stays}
 use Rattle.commit_command.specs.declared.naming.Naming.{Naming}
 use Rattle.commit_command.specs.declared.command.CommitCommand.{CommitCommand}
@@ -37,7 +40,7 @@ use Rattle.command.specs.ChangeLaws.{IsRightSince}
 use Rattle.command.specs.Since.{Since}
 use Rattle.commit_family.specs.declared.words.CommitWords.{CommitWords}
 use Rattle.commit_family.specs.Commits.{message_in}
-use Rattle.commit_family.specs.Family.{commit_keeps, commit_keeps_on}
+use Rattle.commit_family.specs.Family.{AreSpared, commit_keeps, commit_keeps_on}
 use Rattle.commit_family.specs.Pursues.{Commits, ReadsIn}
 use Rattle.commit_family.specs.Steps.{build_not}
 
@@ -64,15 +67,15 @@ change_still phase.Unlink t e v p x settles wrote = settles
 change_still phase.Ended t e v p x settles wrote = settles
 
 -- so that the store's objects stay
-still_stays : (v w : View) → ((p : Path) (s : Seen) → MayBe w p s → MayBe v p s) → Stays v w
+still_stays : (v w : View) → ((p : Path) (s : Seen) → MayBe w p s → MayBe v p s) → Stays [] v w
 still_stays v w was = record {
-  safe = λ name safe. record { sum = safe.sum; there = λ s may. safe.there s (was (path_of name) s may); above = λ p s may. safe.above p s (was p s may) };
-  same = λ name safe s may. was (path_of name) s may;
+  safe = λ name still safe. record { sum = safe.sum; there = λ s may. safe.there s (was (path_of name) s may); above = λ p s may. safe.above p s (was p s may) };
+  same = λ name still safe s may. was (path_of name) s may;
   right = λ name right. record { sum = right.sum; each = λ s may. right.each s (was (path_of name) s may) };
-  unmarked = λ commit safe none. record { each = λ s may leaf. none.each s (was _ s may) leaf };
+  unmarked = λ commit still safe none. record { each = λ s may leaf. none.each s (was _ s may) leaf };
 }
 
-leaves_still : (n : Naming) (next : RefWork) (r : Came) (v w : View) → IsSettle (kind_in n.work.task.phase (event n.work.task)) → leaves_in (turn.Done tt) r n.work.task next.task v w → Stays v w
+leaves_still : (n : Naming) (next : RefWork) (r : Came) (v w : View) → IsSettle (kind_in n.work.task.phase (event n.work.task)) → leaves_in (turn.Done tt) r n.work.task next.task v w → Stays [] v w
 leaves_still n next None v w settles l = absurd l
 leaves_still n next (Some came) v w settles l = still_stays v w (λ p s may. ⊎_elim (λ was. was) (λ wrote. absurd (change_still n.work.task.phase n.work.task (event n.work.task) v p s settles wrote)) (l.writes.only p s may))
 
@@ -109,10 +112,33 @@ module _ (since : Since) (opening : View) (lane : ℕ) (c : CommitWords) (t : Co
   commits_kept new f l settles = kept_by t.change new f is.reads l settles
 
 -- over each further act, but for what that removes
-pub commits_keep : (since : Since) (opening : View) (out removed : List ObjName) (c : CommitWords) (v w : View) → Stays v w → commit_keeps since opening out c v → commit_keeps since opening (removed ++ out) c w
+not_leaf : (s : Seen) → (IsLeaf s → ⊥) → NotLeaf s
+not_leaf Vacant none = tt
+not_leaf (Directory m) none = tt
+not_leaf (Symlink m target) none = none tt
+not_leaf (Leaf n m bytes) none = none tt
+
+module _ (limits : Limits) (tree : List TreeItem) (message : Message) (removed : List ObjName) (spared : AreSpared removed tree message) (v w : View) (stays : Stays removed v w) (lasts : LastsIn limits tree message v) where
+  sure : (o : Object) → IsOf tree message o → IsSure w o.name
+  sure o of = let safe = stays.safe o.name (spared o of) (lasts.safe o of) in record { there = safe.there; above = safe.above }
+
+  unmarked : NeverMarked (sum_of tree message) w
+  unmarked =
+      let never = stays.unmarked (sum_of tree message) (spared (commit_of tree message) (inr refl)) (lasts.safe (commit_of tree message) (inr refl)) lasts.unmarked in
+      record { each = λ s may. not_leaf s (never.each s may) }
+
+  lasts_but : LastsIn limits tree message w
+  lasts_but = lasts_made limits tree message w lasts.commit
+      (record { each = λ n o number. sure o (inl (n, number)) })
+      (sure (commit_of tree message) (inr refl))
+      unmarked
+      (λ o of. stays.right o.name (lasts.right o of))
+
+pub commits_keep : (since : Since) (opening : View) (out removed : List ObjName) (c : CommitWords) (v w : View) → Stays removed v w → commit_keeps since opening out c v → commit_keeps since opening (removed ++ out) c w
 commits_keep since opening out removed c v w stays kept = λ spared right.
-    lasts_stays since.limits c.tree.items (message_in since.start c) v w stays (kept (λ o of has. spared o of (Contains-append_right removed out o.name has)) right)
+    lasts_but since.limits c.tree.items (message_in since.start c) removed (λ o of has. spared o of (Contains-append_left removed out o.name has)) v w stays
+    (kept (λ o of has. spared o of (Contains-append_right removed out o.name has)) right)
 
 -- and on each disk that a crash left since
-pub commits_keep_on : (since : Since) (opening : View) (out : List ObjName) (c : CommitWords) (v : View) (disk : Disk) → StaysOn v disk → commit_keeps since opening out c v → commit_keeps_on since opening out c disk
+pub commits_keep_on : (since : Since) (opening : View) (out : List ObjName) (c : CommitWords) (v : View) (disk : Disk) → StaysOn [] v disk → commit_keeps since opening out c v → commit_keeps_on since opening out c disk
 commits_keep_on since opening out c v disk on kept = λ spared right. lasts_left since.limits c.tree.items (message_in since.start c) v disk on (kept spared right)

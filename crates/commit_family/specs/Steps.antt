@@ -151,3 +151,4 @@ module _ (limits : Limits) (branch : List ℕ) (tree : List TreeItem) (message :
 pub commits_founds : (lane : ℕ) (t : CommitCommand) (v : View) (b : Books) (e : Event) → commit_facts lane t v b → commit_kind t ≡ Show e → Founds v e
 commits_founds lane t v b (event.SetRef name seen commit) f k = commit_founded lane t v b name seen commit f k
 commits_founds lane t v b (event.DropRef name seen) f k = tt
+commits_founds lane t v b (event.Pruned depth roots held removed) f k = tt
