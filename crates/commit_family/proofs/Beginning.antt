@@ -46,8 +46,7 @@ module _ (limits : Limits) (lane : ℕ) (s : State) (c : CommitWords) (t : Commi
       ∙ ap (λ x. first_of lane limits x (message_by seen subject body c.time)) all
       ∙ ap (λ x. first_of lane limits c.tree.items (message_by x subject body c.time)) had
       ∙ ap (λ x. first_of lane limits c.tree.items (message_by (s (RefOf c.branch)) x body c.time)) said
-      ∙ ap (λ x. first_of lane limits c.tree.items (message_by (s (RefOf c.branch)) c.subject x c.time)) told in
-      (
+      ∙ ap (λ x. first_of lane limits c.tree.items (message_by (s (RefOf c.branch)) c.subject x c.time)) told in (
         begins,
         after (record { name = is.name ∙ named; build = build; objects = is.objects; refusal = is.refusal; change = is.change }) begins,
         λ e changes. subst (HasEventRoom refs) (sym changes) room,

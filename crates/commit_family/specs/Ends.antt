@@ -2,6 +2,7 @@
 use Rattle.std.proofs.Common.{◌≡◌, ◌≤◌, ◌+◌, refl, sym, ◌∙◌, ap, subst, List, ℕ, Option, Some, None, Ok, Err}
 use Rattle.ost_types.specs.declared.limits.Limits.{Limits}
 use Rattle.fs_trait.specs.declared.task.StepResult.TheVariants as turn
+use Rattle.ref_store.specs.declared.refusal.RefRefusal.{RefRefusal}
 use Rattle.ref_store.specs.declared.refusal.RefRefusal.TheVariants as refusal
 use Rattle.rely_guarantee.specs.Laws.{IsSettle, Settle}
 use Rattle.ref_command.specs.declared.work.RefWork.{RefWork}
@@ -39,12 +40,12 @@ pub record Ends (since : Since) (c : CommitWords) (t new : CommitCommand) : Type
 module _ (since : Since) (c : CommitWords) (t : CommitCommand) (is : Commits since.limits c.branch c.tree.items (message_in since.start c) t) where
   -- the build was refused
   built_ends : (r : BuildRefusal) (next : Committing) (new : CommitCommand) → (IsSettle (commit_kind t) → ⊥) → BuildSteps t.objects t.build (Some r) next → answer_of new ≡ built_answer (Some r) → Ends since c t new
-  built_ends (built.BadTree path) next new no step at = record { given = answer.BadTree path; answer = at; says = subst (λ i. IsLeastBad i path) is.items step.1.1; makes = λ k. absurd (no k); makes_not = λ none m. m; full = λ f. absurd f }
-  built_ends (built.TooMany number) next new no step at = record {
+  built_ends (built.BadTree path) next new still step at = record { given = answer.BadTree path; answer = at; says = subst (λ i. IsLeastBad i path) is.items step.1.1; makes = λ k. absurd (still k); makes_not = λ none m. m; full = λ f. absurd f }
+  built_ends (built.TooMany number) next new still step at = record {
     given = answer.TooMany number;
     answer = at;
     says = step.1.2 ∙ ap (λ (l : Limits). l.objects + 1) is.bounds;
-    makes = λ k. absurd (no k);
+    makes = λ k. absurd (still k);
     makes_not = λ none m. m;
     full = λ f. subst (λ (l : Limits). l.objects ≤ t.objects) is.bounds step.1.1;
   }
@@ -58,7 +59,7 @@ module _ (since : Since) (c : CommitWords) (t : CommitCommand) (is : Commits sin
 
   -- the ref was changed, or that was refused
   module _ (n : Naming) (at : t.change ≡ Some n) (names : IsNaming c.branch (message_in since.start c).parent c.tree.items (sum_in since.start c) n) where
-    refused_not : (r : _) (next : RefWork) → stepped_in (turn.Done tt) (Some (Err r)) n.work.task next.task → IsSettle (commit_kind t) → ⊥
+    refused_not : (r : RefRefusal) (next : RefWork) → stepped_in (turn.Done tt) (Some (Err r)) n.work.task next.task → IsSettle (commit_kind t) → ⊥
     refused_not r next step k = refusing n.work.task.phase (event n.work.task) step.1 (subst (λ o. IsSettle (kind_by o t)) at k)
 
     naming_ends : (r : Came) (next : RefWork) (new : CommitCommand) → stepped_in (turn.Done tt) r n.work.task next.task → answer_of new ≡ change_answer n.commit r → Ends since c t new
@@ -66,9 +67,9 @@ module _ (since : Since) (c : CommitWords) (t : CommitCommand) (is : Commits sin
     naming_ends (Some (Ok x)) next new step given =
         let settles : commit_kind t ≡ Settle (event n.work.task) = ap (λ o. kind_by o t) at ∙ settles_in n.work.task.phase (event n.work.task) step.0.1 names.changing.3 in
         record { given = answer.Commit n.commit; answer = given; says = (names.commit, names.whole); makes = λ k. tt; makes_not = λ none m. none (subst IsSettle (sym settles) tt); full = λ f. absurd f }
-    naming_ends (Some (Err (refusal.RefMoved seen now))) next new step given = record { given = answer.RefMoved seen now; answer = given; says = tt; makes = λ k. absurd (refused_not _ next step k); makes_not = λ none m. m; full = λ f. absurd f }
-    naming_ends (Some (Err (refusal.RefClash other))) next new step given = record { given = answer.RefClash other; answer = given; says = tt; makes = λ k. absurd (refused_not _ next step k); makes_not = λ none m. m; full = λ f. absurd f }
-    naming_ends (Some (Err refusal.NoRef)) next new step given = record { given = answer.NoRef; answer = given; says = tt; makes = λ k. absurd (refused_not _ next step k); makes_not = λ none m. m; full = λ f. absurd f }
+    naming_ends (Some (Err (refusal.RefMoved seen now))) next new step given = record { given = answer.RefMoved seen now; answer = given; says = tt; makes = λ k. absurd (refused_not (refusal.RefMoved seen now) next step k); makes_not = λ none m. m; full = λ f. absurd f }
+    naming_ends (Some (Err (refusal.RefClash other))) next new step given = record { given = answer.RefClash other; answer = given; says = tt; makes = λ k. absurd (refused_not (refusal.RefClash other) next step k); makes_not = λ none m. m; full = λ f. absurd f }
+    naming_ends (Some (Err refusal.NoRef)) next new step given = record { given = answer.NoRef; answer = given; says = tt; makes = λ k. absurd (refused_not refusal.NoRef next step k); makes_not = λ none m. m; full = λ f. absurd f }
 
   ends_by : (o : Option Naming) (new : CommitCommand) → t.change ≡ o → NamesIn c.branch (message_in since.start c).parent c.tree.items (sum_in since.start c) o → stepped_by o t (turn.Done tt) new → Ends since c t new
   ends_by None new at names step = ends_at (commit_in t.build.phase) new at step

@@ -80,36 +80,30 @@ leaves_still n next None v w settles l = absurd l
 leaves_still n next (Some came) v w settles l = still_stays v w (λ p s may. ⊎_elim (λ was. was) (λ wrote. absurd (change_still n.work.task.phase n.work.task (event n.work.task) v p s settles wrote)) (l.writes.only p s may))
 
 -- the commit lasts before that step, and so behind it
-module _ (since : Since) (opening : View) (lane : ℕ) (c : CommitWords) (t : CommitCommand) (v w : View) (b : Books) (same : IsRightSince opening v) (is : Commits since.limits c.branch c.tree.items (message_in since.start c) t) where
-  abbrev pub tree : List TreeItem
-  tree = c.tree.items
-
-  abbrev pub message : Message
-  message = message_in since.start c
-
-  is_commit : IsTree tree → ReadsBack tree message → IsCommit since.limits tree message
+module _ (limits : Limits) (branch : List ℕ) (tree : List TreeItem) (message : Message) (opening : View) (lane : ℕ) (t : CommitCommand) (v w : View) (b : Books) (same : IsRightSince opening v) (is : Commits limits branch tree message t) where
+  is_commit : IsTree tree → ReadsBack tree message → IsCommit limits tree message
   is_commit whole reads = record {
     items = subst AreItems is.items is.made.items;
     typed = subst AreTyped is.items is.made.typed;
     whole = whole;
-    makeable = subst (AreMakeable since.limits) is.items (subst (λ l. AreMakeable l t.build.items) is.bounds is.made.makeable);
+    makeable = subst (AreMakeable limits) is.items (subst (λ l. AreMakeable l t.build.items) is.bounds is.made.makeable);
     reads = reads;
   }
 
-  lasting : (n : Naming) → Changing lane t n v b → ReadsBack tree message → AreRight opening tree message → LastsIn since.limits tree message v
-  lasting n f reads right = lasts_made since.limits tree message v
+  lasting : (n : Naming) → Changing lane t n v b → ReadsBack tree message → AreRight opening tree message → LastsIn limits tree message v
+  lasting n f reads right = lasts_made limits tree message v
       (is_commit (subst IsTree is.items f.tree) reads)
       (subst (λ i. AreSure i v) is.items f.lasts.tree)
       (subst (λ m. IsSure v (commit_of tree m).name) is.says (subst (λ i. IsSure v (commit_of i t.build.message).name) is.items f.lasts.commit))
       (subst (λ m. NeverMarked (sum_of tree m) v) is.says (subst (λ i. NeverMarked (sum_of i t.build.message) v) is.items f.lasts.unmarked))
       (λ o of. same o.name (right o of))
 
-  kept_by : (o : Option Naming) (new : CommitCommand) → facts_by o lane t v b → ReadsIn tree message o → leaves_by o t (turn.Done tt) new v w → IsSettle (kind_by o t) → commit_keeps since opening [] c w
-  kept_by None new f reads l settles = absurd (build_not t.pinned (storing_in t.build.phase) settles)
-  kept_by (Some n) new f reads l settles = λ spared right. lasts_stays since.limits tree message v w (leaves_still n l.0 l.0.answer v w settles l.2) (lasting n f reads right)
+  kept_by : (o : Option Naming) (new : CommitCommand) → facts_by o lane t v b → ReadsIn tree message o → leaves_by o t (turn.Done tt) new v w → IsSettle (kind_by o t) → AreRight opening tree message → LastsIn limits tree message w
+  kept_by None new f reads l settles right = absurd (build_not t.pinned (storing_in t.build.phase) settles)
+  kept_by (Some n) new f reads l settles right = lasts_stays limits tree message v w (leaves_still n l.0 l.0.answer v w settles l.2) (lasting n f reads right)
 
-  pub commits_kept : (new : CommitCommand) → commit_facts lane t v b → commit_leaves t (turn.Done tt) new v w → IsSettle (commit_kind t) → commit_keeps since opening [] c w
-  commits_kept new f l settles = kept_by t.change new f is.reads l settles
+  pub commits_kept : (new : CommitCommand) → commit_facts lane t v b → commit_leaves t (turn.Done tt) new v w → IsSettle (commit_kind t) → AreRight opening tree message → LastsIn limits tree message w
+  commits_kept new f l settles right = kept_by t.change new f is.reads l settles right
 
 -- over each further act, but for what that removes
 not_leaf : (s : Seen) → (IsLeaf s → ⊥) → NotLeaf s

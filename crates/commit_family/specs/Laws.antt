@@ -64,7 +64,7 @@ change_laws = record {
   founds = λ lane t. commits_founds lane t.work;
   makes = λ since c t new a is step given k. (let e = commits_end since c t.work is new.work step.0 in subst commit_makes (one (answer_of new.work) e.given a e.answer given) (e.makes k));
   makes_not = λ since c t new a is step given none m. (let e = commits_end since c t.work is new.work step.0 in e.makes_not none (subst commit_makes (sym (one (answer_of new.work) e.given a e.answer given)) m));
-  kept = λ since opening lane c t new v w b right is f l k. commits_kept since opening lane c t.work v w b right is new.work f l k;
+  kept = λ since opening lane c t new v w b same is f l k spared right. commits_kept since.limits c.branch c.tree.items (message_in since.start c) opening lane t.work v w b same is new.work f l k right;
   keeps = λ since opening out removed c v w right stays kept. commits_keep since opening out removed c v w stays kept;
   keeps_on = λ since opening out c v disk on kept. commits_keep_on since opening out c v disk on kept;
 }
@@ -96,7 +96,7 @@ store_laws = record {
 folder_laws : FolderLaws commit_tasks commit_means commit_doing
 folder_laws = record {
   claims = λ actor lane t v b name s f wrote. absurd (no_checkout actor lane t.work v b name s f wrote);
-  claimed = λ since c t name kind_is kind. absurd (no_commit_claim t.work (subst IsClaim (sym kind) tt));
+  claimed = λ since c t name is kind. absurd (no_commit_claim t.work (subst IsClaim (sym kind) tt));
   made = λ t new name step kind. absurd (no_commit_claim t.work (subst IsClaim (sym kind) tt));
   goes_on = λ t new name step made. made;
 }
