@@ -78,7 +78,7 @@ log_pinned [] next wants name is pin = cc
 log_pinned (r ∷ rows) next wants name is pin = pinned next wants name is pin
 
 -- the commit that a task was asked for, and what of it
-asks_for : Option Asked → List ℕ → Ask → Type 0
+abbrev asks_for : Option Asked → List ℕ → Ask → Type 0
 asks_for None commit a = ⊥
 asks_for (Some q) commit a = (q.commit ≡ commit) × (q.ask ≡ a)
 
