@@ -77,7 +77,7 @@ answer_laws = record {
   knows = λ since p lane c t new v w b a is f l given sees. commits_know lane since p c v w b t.work new.work a given is f l sees;
   lacks = λ since v a c commit files shows lacks finished. lacks;
   full = λ since c t new a is step given full. (let e = commits_end since c t.work is new.work step.0 in e.full (subst commit_full (sym (one (answer_of new.work) e.given a e.answer given)) full));
-  left = λ since actor lane c t new v w b b' a is f l given does. tt;
+  left = λ since actor lane c t new v w b b' a is f l given does none. tt;
   stays = λ since actor lane out a c v w b b' does is. tt;
 }
 
@@ -97,8 +97,8 @@ folder_laws : FolderLaws commit_tasks commit_means commit_doing
 folder_laws = record {
   claims = λ actor lane t v b name s f wrote. absurd (no_checkout actor lane t.work v b name s f wrote);
   claimed = λ since c t name is kind. absurd (no_commit_claim t.work (subst IsClaim (sym kind) tt));
-  made = λ t new name step kind. absurd (no_commit_claim t.work (subst IsClaim (sym kind) tt));
-  goes_on = λ t new name step made. made;
+  made = λ t new v w name l kind. absurd (no_commit_claim t.work (subst IsClaim (sym kind) tt));
+  goes_on = λ t new v w name l made. made;
 }
 
 pub commit_command_laws : CommandLaws commit_tasks commit_means commit_doing

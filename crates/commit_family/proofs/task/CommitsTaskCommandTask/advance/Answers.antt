@@ -1,0 +1,5 @@
+use Rattle.commit_family.proofs.Beginning.{ok_with}
+use Rattle.commit_family.proofs.task.CommitsTaskCommandTask.advance.Goals as goal
+
+pub returns-clause-stepped : goal.returns-clause-stepped
+returns-clause-stepped g c = ok_with c.advance.result c.advance.ensures.stepped c.met.ensures.made
