@@ -16,28 +16,33 @@ use std::{env, io};
 use stop::Stop;
 
 fn main(rt: HostRuntime) -> io::Result<ExitCode> {
-    let mut counts = Counts::none();
-    for number in 0..scripts(&rt)? {
-        match run_script(rt.alloc(), number) {
-            Ok(more) => counts.add(more),
-            Err(stop) => return tell(&rt, number, &stop),
+    let mut scripts = 200;
+    let mut tells_counts = false;
+    for word in env::args(&rt)?.skip(1) {
+        match word.as_str().parse() {
+            Ok(count) => scripts = count,
+            Err(_) => tells_counts = true,
         }
     }
-    println!(rt;
-        "{} calls, {} cuts, {} starts",
-        counts.calls, counts.cuts, counts.starts
-    )?;
-    Ok(ExitCode::SUCCESS)
+    run_scripts(&rt, scripts, tells_counts)
 }
 
-// How many scripts are to be run: the first word, or 200.
-fn scripts(rt: &HostRuntime) -> io::Result<u64> {
-    for word in env::args(rt)?.skip(1) {
-        if let Ok(count) = word.as_str().parse() {
-            return Ok(count);
+fn run_scripts(rt: &HostRuntime, scripts: u64, tells_counts: bool) -> io::Result<ExitCode> {
+    let mut counts = Counts::none();
+    for number in 0..scripts {
+        match run_script(rt.alloc(), number) {
+            Ok(more) => counts.add(more),
+            Err(stop) => return tell(rt, number, &stop),
         }
     }
-    Ok(200)
+    println!(rt; "{scripts} scripts")?;
+    if tells_counts {
+        println!(rt;
+            "{} calls, {} cuts, {} starts",
+            counts.calls, counts.cuts, counts.starts
+        )?;
+    }
+    Ok(ExitCode::SUCCESS)
 }
 
 fn tell(rt: &HostRuntime, number: u64, stop: &Stop) -> io::Result<ExitCode> {
