@@ -16,10 +16,10 @@ use std::{env, io};
 use stop::Stop;
 
 fn main(rt: HostRuntime) -> io::Result<ExitCode> {
-    let mut scripts = 200;
+    let mut scripts: u64 = 200;
     let mut tells_counts = false;
     for word in env::args(&rt)?.skip(1) {
-        match word.as_str().parse() {
+        match word.as_str().parse::<u64>() {
             Ok(count) => scripts = count,
             Err(_) => tells_counts = true,
         }
