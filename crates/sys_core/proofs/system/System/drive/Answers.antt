@@ -1,4 +1,4 @@
-use Rattle.std.proofs.Common.{◌∙◌, refl}
+use Rattle.std.proofs.Common.{◌∙◌, refl, rules}
 use Rattle.sys_core.proofs.Laters.{acted_later, later_refl, later_trans}
 use Rattle.sys_core.proofs.Preserving.{preserves_nothing, preserves_then}
 use Rattle.sys_core.proofs.Ranking.{ended_of}
