@@ -8,6 +8,7 @@ use Rattle.rely_guarantee.specs.Books.{Books}
 use Rattle.rely_guarantee.specs.Lasting.{StaysFinished}
 use Rattle.rely_guarantee.specs.Rely.{Interference}
 use Rattle.rely_guarantee.specs.State.{State}
+use Rattle.command.specs.declared.told.Told.{Told}
 use Rattle.command.specs.CommitFiles.{CommitsAreFiles}
 use Rattle.command.specs.Doing.{Doing}
 use Rattle.command.specs.Meaning.{Meaning}
@@ -27,9 +28,10 @@ pub record AnswerLaws {T W A : Type 0} (k : TaskSpec T) (m : Meaning W A) (d : D
   pub shows : (since : Since) (lane : ℕ) (c : W) (t new : T) (v w : View) (b : Books) (a : A) → d.pursues since c t → k.facts lane t v b → k.leaves t (turn.Done tt) new v w → d.answer new ≡ Some a → m.shows since v a c
   -- and so is what it says where the view is told: the last step sees a state
   pub knows : (since : Since) (p : State) (lane : ℕ) (c : W) (t new : T) (v w : View) (b : Books) (a : A) → d.pursues since c t → k.facts lane t v b → k.leaves t (turn.Done tt) new v w → d.answer new ≡ Some a → Sees (k.kind t) lane b v w p → m.knows (placed since p) a c
-  -- no answer tells of a commit that lasts that it isn't there, where commits are files; and none that the store is full which isn't
+  -- no answer tells of a commit that lasts that it isn't there, where commits are files; and none that the store is full which isn't, by
+  -- the count that the task was told before that step
   pub lacks : (since : Since) (v : View) (a : A) (c : W) (commit : List ℕ) → CommitsAreFiles v.now → m.shows since v a c → m.lacks a commit → StaysFinished v commit → ⊥
-  pub full : (since : Since) (c : W) (t new : T) (a : A) → d.pursues since c t → k.stepped t (turn.Done tt) new → d.answer new ≡ Some a → m.full a → since.limits.objects ≤ (d.heard t).objects
+  pub full : (told : Told) (since : Since) (c : W) (t new : T) (a : A) → d.pursues since c t → k.stepped (d.hears told t) (turn.Done tt) new → d.answer new ≡ Some a → m.full a → since.limits.objects ≤ told.objects
   -- what it leaves stands, and stays so while anyone acts
   pub left : (since : Since) (actor lane : ℕ) (c : W) (t new : T) (v w : View) (b b' : Books) (a : A) → d.pursues since c t → k.facts lane t v b → k.leaves t (turn.Done tt) new v w → d.answer new ≡ Some a → Interference actor lane v b w b' → HasNoClaims lane b' → m.stays since [] a c w b'
   pub stays : (since : Since) (actor lane : ℕ) (out : List ObjName) (a : A) (c : W) (v w : View) (b b' : Books) → Interference actor lane v b w b' → m.stays since out a c v b → m.stays since (removed_by b ++ out) a c w b'

@@ -46,9 +46,9 @@ most = 340282366920938463463374607431768211455
 abbrev pub HasRoomFor : {W A : Type 0} → Meaning W A → RefBook → Since → W → Type 0
 HasRoomFor m refs since c = (e : Event) → m.changes since c e → HasEventRoom refs e
 
--- an answer by the state alone: its command made no change, leaves nothing, and has stored nothing
+-- an answer by the state alone: its command made no change, leaves nothing, has stored nothing, and found nothing in its way
 abbrev pub IsAnswer : {W A : Type 0} → Meaning W A → Since → W → A → Type 0
-IsAnswer m since c a = m.says since a c × m.knows since a c × (m.makes a c → ⊥) × (m.full a → ⊥) × ((v : View) → m.shows since v a c) × ((v : View) (b : Books) → m.stays since [] a c v b)
+IsAnswer m since c a = m.says since a c × m.knows since a c × (m.makes a c → ⊥) × (m.full a → ⊥) × ((name : Name) → m.finds a c name → ⊥) × ((v : View) → m.shows since v a c) × ((v : View) (b : Books) → m.stays since [] a c v b)
 
 -- a task at its beginning, with room for its ref
 abbrev pub IsFirst : {T W A : Type 0} → Meaning W A → Doing T W A → ℕ → Since → W → RefBook → T → Type 0

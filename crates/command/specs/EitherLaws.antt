@@ -43,6 +43,7 @@ module _ {S T W V A B : Type 0} {k : TaskSpec S} {l : TaskSpec T} {d : Doing S W
     stages = λ who actor lane. elim [ Left t ↦ one.stages who actor lane t | Right t ↦ two.stages who actor lane t ];
     goes_on = λ since. elim [ Left c ↦ elim [ Left t ↦ elim [ Left new ↦ one.goes_on since c t new | Right new ↦ λ after step. absurd step ] | Right t ↦ λ new after step. absurd after ] | Right c ↦ elim [ Left t ↦ λ new after step. absurd after | Right t ↦ elim [ Left new ↦ λ after step. absurd step | Right new ↦ two.goes_on since c t new ] ] ];
     falls = elim [ Left t ↦ elim [ Left new ↦ one.falls t new | Right new ↦ λ step. absurd step ] | Right t ↦ elim [ Left new ↦ λ step. absurd step | Right new ↦ two.falls t new ] ];
+    locks = λ since. elim [ Left c ↦ elim [ Left t ↦ one.locks since c t | Right t ↦ λ wants after is. absurd after ] | Right c ↦ elim [ Left t ↦ λ wants after is. absurd after | Right t ↦ two.locks since c t ] ];
     refused = λ start entries pending lane. elim [ Left t ↦ one.refused start entries pending lane t | Right t ↦ two.refused start entries pending lane t ];
   }
 
@@ -52,6 +53,7 @@ module _ {S T W V A B : Type 0} {k : TaskSpec S} {l : TaskSpec T} {d : Doing S W
     holds = λ told lane. elim [ Left t ↦ one.holds told lane t | Right t ↦ two.holds told lane t ];
     pursues = λ told since. elim [ Left c ↦ elim [ Left t ↦ one.pursues told since c t | Right t ↦ λ after. absurd after ] | Right c ↦ elim [ Left t ↦ λ after. absurd after | Right t ↦ two.pursues told since c t ] ];
     left = λ told. elim [ Left t ↦ one.left told t | Right t ↦ two.left told t ];
+    made = λ told. elim [ Left t ↦ one.made told t | Right t ↦ two.made told t ];
     back = λ told. elim [ Left t ↦ ap Left (one.back told t) | Right t ↦ ap Right (two.back told t) ];
   }
 
@@ -75,7 +77,7 @@ module _ {S T W V A B : Type 0} {k : TaskSpec S} {l : TaskSpec T} {m : Meaning W
     shows = λ since lane. elim [ Left c ↦ elim [ Left t ↦ elim [ Left new ↦ λ v w b. elim [ Left a ↦ λ after f leaves is. one.shows since lane c t new v w b a after f leaves (from_left (d.answer new) a is) | Right a ↦ λ after f leaves is. absurd (not_right (d.answer new) a is) ] | Right new ↦ λ v w b a after f leaves is. absurd leaves ] | Right t ↦ λ new v w b a after f leaves is. absurd after ] | Right c ↦ elim [ Left t ↦ λ new v w b a after f leaves is. absurd after | Right t ↦ elim [ Left new ↦ λ v w b a after f leaves is. absurd leaves | Right new ↦ λ v w b. elim [ Left a ↦ λ after f leaves is. absurd (not_left (e.answer new) a is) | Right a ↦ λ after f leaves is. two.shows since lane c t new v w b a after f leaves (from_right (e.answer new) a is) ] ] ] ];
     knows = λ since p lane. elim [ Left c ↦ elim [ Left t ↦ elim [ Left new ↦ λ v w b. elim [ Left a ↦ λ after f leaves is sees. one.knows since p lane c t new v w b a after f leaves (from_left (d.answer new) a is) sees | Right a ↦ λ after f leaves is sees. absurd (not_right (d.answer new) a is) ] | Right new ↦ λ v w b a after f leaves is sees. absurd leaves ] | Right t ↦ λ new v w b a after f leaves is sees. absurd after ] | Right c ↦ elim [ Left t ↦ λ new v w b a after f leaves is sees. absurd after | Right t ↦ elim [ Left new ↦ λ v w b a after f leaves is sees. absurd leaves | Right new ↦ λ v w b. elim [ Left a ↦ λ after f leaves is sees. absurd (not_left (e.answer new) a is) | Right a ↦ λ after f leaves is sees. two.knows since p lane c t new v w b a after f leaves (from_right (e.answer new) a is) sees ] ] ] ];
     lacks = λ since v. elim [ Left a ↦ elim [ Left c ↦ one.lacks since v a c | Right c ↦ λ commit files shown. absurd shown ] | Right a ↦ elim [ Left c ↦ λ commit files shown. absurd shown | Right c ↦ two.lacks since v a c ] ];
-    full = λ since. elim [ Left c ↦ elim [ Left t ↦ elim [ Left new ↦ elim [ Left a ↦ λ after step is full. one.full since c t new a after step (from_left (d.answer new) a is) full | Right a ↦ λ after step is full. absurd (not_right (d.answer new) a is) ] | Right new ↦ λ a after step is full. absurd step ] | Right t ↦ λ new a after step is full. absurd after ] | Right c ↦ elim [ Left t ↦ λ new a after step is full. absurd after | Right t ↦ elim [ Left new ↦ λ a after step is full. absurd step | Right new ↦ elim [ Left a ↦ λ after step is full. absurd (not_left (e.answer new) a is) | Right a ↦ λ after step is full. two.full since c t new a after step (from_right (e.answer new) a is) full ] ] ] ];
+    full = λ told since. elim [ Left c ↦ elim [ Left t ↦ elim [ Left new ↦ elim [ Left a ↦ λ after step is full. one.full told since c t new a after step (from_left (d.answer new) a is) full | Right a ↦ λ after step is full. absurd (not_right (d.answer new) a is) ] | Right new ↦ λ a after step is full. absurd step ] | Right t ↦ λ new a after step is full. absurd after ] | Right c ↦ elim [ Left t ↦ λ new a after step is full. absurd after | Right t ↦ elim [ Left new ↦ λ a after step is full. absurd step | Right new ↦ elim [ Left a ↦ λ after step is full. absurd (not_left (e.answer new) a is) | Right a ↦ λ after step is full. two.full told since c t new a after step (from_right (e.answer new) a is) full ] ] ] ];
     left = λ since actor lane. elim [ Left c ↦ elim [ Left t ↦ elim [ Left new ↦ λ v w b b'. elim [ Left a ↦ λ after f leaves is does gone. one.left since actor lane c t new v w b b' a after f leaves (from_left (d.answer new) a is) does gone | Right a ↦ λ after f leaves is does gone. absurd (not_right (d.answer new) a is) ] | Right new ↦ λ v w b b' a after f leaves is does gone. absurd leaves ] | Right t ↦ λ new v w b b' a after f leaves is does gone. absurd after ] | Right c ↦ elim [ Left t ↦ λ new v w b b' a after f leaves is does gone. absurd after | Right t ↦ elim [ Left new ↦ λ v w b b' a after f leaves is does gone. absurd leaves | Right new ↦ λ v w b b'. elim [ Left a ↦ λ after f leaves is does gone. absurd (not_left (e.answer new) a is) | Right a ↦ λ after f leaves is does gone. two.left since actor lane c t new v w b b' a after f leaves (from_right (e.answer new) a is) does gone ] ] ] ];
     stays = λ since actor lane out. elim [ Left a ↦ elim [ Left c ↦ one.stays since actor lane out a c | Right c ↦ λ v w b b' does is. absurd is ] | Right a ↦ elim [ Left c ↦ λ v w b b' does is. absurd is | Right c ↦ two.stays since actor lane out a c ] ];
   }
@@ -86,16 +88,17 @@ module _ {S T W V A B : Type 0} {k : TaskSpec S} {l : TaskSpec T} {m : Meaning W
     works = λ since. elim [ Left c ↦ elim [ Left t ↦ one.works since c t | Right t ↦ λ wants name after take pin. absurd after ] | Right c ↦ elim [ Left t ↦ λ wants name after take pin. absurd after | Right t ↦ two.works since c t ] ];
     reaches = λ since lane. elim [ Left c ↦ elim [ Left t ↦ one.reaches since lane c t | Right t ↦ λ v b wants name after f take pin. absurd after ] | Right c ↦ elim [ Left t ↦ λ v b wants name after f take pin. absurd after | Right t ↦ two.reaches since lane c t ] ];
     brings = λ since actor lane. elim [ Left c ↦ elim [ Left t ↦ one.brings since actor lane c t | Right t ↦ λ v b name s bytes after f sum writes holds. absurd after ] | Right c ↦ elim [ Left t ↦ λ v b name s bytes after f sum writes holds. absurd after | Right t ↦ two.brings since actor lane c t ] ];
-    room = λ since actor lane. elim [ Left c ↦ elim [ Left t ↦ one.room since actor lane c t | Right t ↦ λ v b name s after f sum writes. absurd after ] | Right c ↦ elim [ Left t ↦ λ v b name s after f sum writes. absurd after | Right t ↦ two.room since actor lane c t ] ];
+    room = λ told since actor lane. elim [ Left c ↦ elim [ Left t ↦ one.room told since actor lane c t | Right t ↦ λ v b name s after f sum writes. absurd after ] | Right c ↦ elim [ Left t ↦ λ v b name s after f sum writes. absurd after | Right t ↦ two.room told since actor lane c t ] ];
     stored = λ actor lane. elim [ Left t ↦ elim [ Left new ↦ one.stored actor lane t new | Right new ↦ λ v w b name s f leaves sum writes. absurd leaves ] | Right t ↦ elim [ Left new ↦ λ v w b name s f leaves sum writes. absurd leaves | Right new ↦ two.stored actor lane t new ] ];
     done = λ actor lane. elim [ Left t ↦ elim [ Left new ↦ one.done actor lane t new | Right new ↦ λ v w b name s f leaves sum writes. absurd leaves ] | Right t ↦ elim [ Left new ↦ λ v w b name s f leaves sum writes. absurd leaves | Right new ↦ two.done actor lane t new ] ];
-    lacked = λ since. elim [ Left c ↦ elim [ Left t ↦ elim [ Left new ↦ one.lacked since c t new | Right new ↦ λ v w name after leaves met. absurd leaves ] | Right t ↦ λ new v w name after leaves met. absurd after ] | Right c ↦ elim [ Left t ↦ λ new v w name after leaves met. absurd after | Right t ↦ elim [ Left new ↦ λ v w name after leaves met. absurd leaves | Right new ↦ two.lacked since c t new ] ] ];
+    lacked = λ told since. elim [ Left c ↦ elim [ Left t ↦ elim [ Left new ↦ one.lacked told since c t new | Right new ↦ λ v w name after leaves met. absurd leaves ] | Right t ↦ λ new v w name after leaves met. absurd after ] | Right c ↦ elim [ Left t ↦ λ new v w name after leaves met. absurd after | Right t ↦ elim [ Left new ↦ λ v w name after leaves met. absurd leaves | Right new ↦ two.lacked told since c t new ] ] ];
   }
 
   folder_laws : FolderLaws k m d → FolderLaws l n e → FolderLaws (either_tasks k l) (either_means m n) (either_doing d e)
   folder_laws one two = record {
     claims = λ actor lane. elim [ Left t ↦ one.claims actor lane t | Right t ↦ two.claims actor lane t ];
     claimed = λ since. elim [ Left c ↦ elim [ Left t ↦ one.claimed since c t | Right t ↦ λ name after is. absurd after ] | Right c ↦ elim [ Left t ↦ λ name after is. absurd after | Right t ↦ two.claimed since c t ] ];
+    finds = λ since lane. elim [ Left c ↦ elim [ Left t ↦ elim [ Left new ↦ λ v w b. elim [ Left a ↦ λ name after f leaves is. one.finds since lane c t new v w b a name after f leaves (from_left (d.answer new) a is) | Right a ↦ λ name after f leaves is. absurd (not_right (d.answer new) a is) ] | Right new ↦ λ v w b a name after f leaves. absurd leaves ] | Right t ↦ λ new v w b a name after. absurd after ] | Right c ↦ elim [ Left t ↦ λ new v w b a name after. absurd after | Right t ↦ elim [ Left new ↦ λ v w b a name after f leaves. absurd leaves | Right new ↦ λ v w b. elim [ Left a ↦ λ name after f leaves is. absurd (not_left (e.answer new) a is) | Right a ↦ λ name after f leaves is. two.finds since lane c t new v w b a name after f leaves (from_right (e.answer new) a is) ] ] ] ];
     made = elim [ Left t ↦ elim [ Left new ↦ one.made t new | Right new ↦ λ v w name leaves is. absurd leaves ] | Right t ↦ elim [ Left new ↦ λ v w name leaves is. absurd leaves | Right new ↦ two.made t new ] ];
     goes_on = elim [ Left t ↦ elim [ Left new ↦ one.goes_on t new | Right new ↦ λ v w name leaves made. absurd leaves ] | Right t ↦ elim [ Left new ↦ λ v w name leaves made. absurd leaves | Right new ↦ two.goes_on t new ] ];
   }

@@ -47,6 +47,7 @@ either_means m n = record {
   keeps_on = λ since opening out c disk. on_side (λ w. m.keeps_on since opening out w disk) (λ w. n.keeps_on since opening out w disk) c;
   works = λ since c name. on_side (λ w. m.works since w name) (λ w. n.works since w name) c;
   reaches = λ since c name. on_side (λ w. m.reaches since w name) (λ w. n.reaches since w name) c;
+  finds = λ a c name. same_side (λ x w. m.finds x w name) (λ x w. n.finds x w name) a c;
   claims = λ c name. on_side (λ w. m.claims w name) (λ w. n.claims w name) c;
   brings = λ since c name bytes. on_side (λ w. m.brings since w name bytes) (λ w. n.brings since w name bytes) c;
   lacks = λ a commit. on_side (λ x. m.lacks x commit) (λ x. n.lacks x commit) a;

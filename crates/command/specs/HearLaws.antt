@@ -1,5 +1,6 @@
 -- What a family proves of what its tasks are told.
 use Rattle.std.specs.Prelude.{◌≡◌, ◌≤◌, ℕ}
+use Rattle.ost_types.specs.Path.{Name}
 use Rattle.fs_trait.specs.View.{View}
 use Rattle.rely_guarantee.specs.Books.{Books}
 use Rattle.rely_guarantee.specs.Laws.{Holds}
@@ -14,5 +15,6 @@ pub record HearLaws {T W A : Type 0} (k : TaskSpec T) (d : Doing T W A) : Type 0
   pub holds : (told : Told) (lane : ℕ) (t : T) (b : Books) → Holds (k.kind t) lane b → Holds (k.kind (d.hears told t)) lane b
   pub pursues : (told : Told) (since : Since) (c : W) (t : T) → d.pursues since c t → d.pursues since c (d.hears told t)
   pub left : (told : Told) (t : T) → d.left (d.hears told t) ≤ d.left t
+  pub made : (told : Told) (t : T) (name : Name) → d.made t name → d.made (d.hears told t) name
   -- one that is told again what it was told before is as it was
   pub back : (told : Told) (t : T) → d.hears (d.heard t) (d.hears told t) ≡ t

@@ -32,6 +32,8 @@ pub record Meaning (W A : Type 0) : Type 1 where
   pub works : Since → W → ObjName → Type 0
   -- and, where the view is told, it is there by this
   pub reaches : Since → W → ObjName → Type 0
+  -- the answer tells that something stands in the way of this checkout
+  pub finds : A → W → Name → Type 0
   -- the command makes the checkout of this name
   pub claims : W → Name → Type 0
   -- these bytes come into the store as the object of that name

@@ -1,5 +1,5 @@
 -- What a family proves of the steps of its tasks.
-use Rattle.std.specs.Prelude.{◌≡◌, ◌⊎◌, ◌<◌, ℕ, List, Option}
+use Rattle.std.specs.Prelude.{◌≡◌, ◌⊎◌, ◌<◌, ℕ, false, List, Option, None}
 use Rattle.fs_trait.specs.declared.task.StepResult.TheVariants as turn
 use Rattle.fs_trait.specs.declared.types.FsErr.{FsErr}
 use Rattle.fs_trait.specs.Change.{Writes}
@@ -8,14 +8,19 @@ use Rattle.fs_trait.specs.Image.{IsTree}
 use Rattle.fs_trait.specs.View.{View}
 use Rattle.rely_guarantee.specs.declared.books.Entry.{Entry}
 use Rattle.rely_guarantee.specs.declared.books.Pending.{Pending}
+use Rattle.rely_guarantee.specs.declared.kind.Wants.{Wants}
 use Rattle.rely_guarantee.specs.Books.{Books}
-use Rattle.rely_guarantee.specs.Laws.{IsBy, Holds, NotPending}
+use Rattle.rely_guarantee.specs.Laws.{Take, IsBy, Holds, NotPending}
 use Rattle.rely_guarantee.specs.State.{State}
 use Rattle.rely_guarantee.specs.SystemInvariant.{Stands}
 use Rattle.command.specs.Doing.{Doing}
 use Rattle.command.specs.Since.{Since}
 use Rattle.command.specs.Staging.{StagingPathFree}
 use Rattle.command.specs.Tasks.{TaskSpec}
+
+-- no lock is asked for but that of the refs
+abbrev pub AsksForRefs : Wants → Type 0
+AsksForRefs wants = (wants.exclusive ≡ false) × (wants.shared ≡ false) × (wants.sysroot ≡ false) × (wants.hold ≡ None)
 
 pub record StepLaws {T W A : Type 0} (k : TaskSpec T) (d : Doing T W A) : Type 0 where
   -- a task at its beginning has its facts, and nothing of it is shown
@@ -26,5 +31,7 @@ pub record StepLaws {T W A : Type 0} (k : TaskSpec T) (d : Doing T W A) : Type 0
   -- a step leaves it after what it was after, and nearer to it
   pub goes_on : (since : Since) (c : W) (t new : T) → d.pursues since c t → k.stepped t turn.More new → d.pursues since c new
   pub falls : (t new : T) → k.stepped t turn.More new → d.left new < d.left t
+  -- no step takes a lock but that of the refs: that every run ends is known of this one alone
+  pub locks : (since : Since) (c : W) (t : T) (wants : Wants) → d.pursues since c t → k.kind t ≡ Take wants → AsksForRefs wants
   -- where the view is told a step is refused only by a call that failed or for want of memory
   pub refused : (start : State) (entries : List Entry) (pending : Option Pending) (lane : ℕ) (t : T) (v : View) (b : Books) (e : FsErr) → IsTree v.now → Stands start entries pending v → k.facts lane t v b → k.refuses t v e → OfNone e

@@ -67,6 +67,7 @@ read_means = record {
   keeps_on = λ since opening out c disk. Unit {0};
   works = λ since c name. (commit : List ℕ) × IsRev c.rev since.start commit × works_of c.ask commit name;
   reaches = λ since c name. (commit : List ℕ) × IsRev c.rev since.start commit × reaches_of c.ask commit name;
+  finds = λ a c name. ⊥;
   claims = λ c name. ⊥;
   brings = λ since c name bytes. ⊥;
   lacks = read_lacks;

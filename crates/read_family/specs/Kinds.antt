@@ -20,6 +20,7 @@ use Rattle.read_command.specs.Chains.{IsChain}
 use Rattle.read_command.specs.Commands.{IsNew, read_facts, read_kind}
 use Rattle.read_command.specs.Kept.{chain_up}
 use Rattle.read_command.specs.LogSteps.{log_kind}
+use Rattle.command.specs.StepLaws.{AsksForRefs}
 use Rattle.read_family.specs.Family.{Reaches, reaches_of, works_of}
 
 -- only the lane itself takes its steps, and they show and settle nothing
@@ -76,6 +77,21 @@ pinned commit wants name is pin =
 log_pinned : (rows : List LogRow) (next : List ℕ) (wants : Wants) (name : ObjName) → log_kind rows next ≡ Take wants → wants.pin ≡ Some name → name ≡ commit_name next
 log_pinned [] next wants name is pin = cc
 log_pinned (r ∷ rows) next wants name is pin = pinned next wants name is pin
+
+-- no lock is asked for
+pin_light : (commit : List ℕ) (wants : Wants) → Take (pin_wants commit) ≡ Take wants → AsksForRefs wants
+pin_light commit wants is = let same : pin_wants commit ≡ wants = cc in subst AsksForRefs same (refl, refl, refl, refl)
+
+log_light : (rows : List LogRow) (next : List ℕ) (wants : Wants) → log_kind rows next ≡ Take wants → AsksForRefs wants
+log_light [] next wants is = cc
+log_light (r ∷ rows) next wants is = pin_light next wants is
+
+pub reads_light : (t : ReadCommand) (wants : Wants) → read_kind t ≡ Take wants → AsksForRefs wants
+reads_light (Look l) wants is = pin_light l.commit wants is
+reads_light (Cat c) wants is = cc
+reads_light (Ls s) wants is = cc
+reads_light (Log g) wants is = log_light g.rows.items g.next wants is
+reads_light (Ended a) wants is = cc
 
 -- the commit that a task was asked for, and what of it
 abbrev asks_for : Option Asked → List ℕ → Ask → Type 0

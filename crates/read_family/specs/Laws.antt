@@ -17,7 +17,7 @@ use Rattle.command.specs.Tasks.{TaskSpec, task_spec}
 use Rattle.read_family.specs.declared.task.ReadTask.{ReadTask}
 use Rattle.read_family.specs.Answering.{ends_say, ends_show, has_answer, lacks_none}
 use Rattle.read_family.specs.Family.{read_doing, read_means}
-use Rattle.read_family.specs.Kinds.{no_settle, no_show, pins_reach, pins_work, read_holds}
+use Rattle.read_family.specs.Kinds.{no_settle, no_show, pins_reach, pins_work, read_holds, reads_light}
 
 abbrev pub read_tasks : TaskSpec ReadTask
 read_tasks = task_spec (λ t. read_kind t.work) (λ actor t. read_writes actor t.work) (λ t u new. read_stepped t.work u new.work) (λ t u new. read_leaves t.work u new.work) (λ t. read_refuses t.work) (λ lane t. read_facts lane t.work)
@@ -29,6 +29,7 @@ step_laws = record {
   stages = λ who actor lane t v w b is by f wrote home. ⊎_elim (λ same. subst NotDirectory (sym same) home) (λ bad. absurd bad) (wrote.now (stage_path who));
   goes_on = λ since c t new is step. (is.0, is.1, step.0 ∙ is.2);
   falls = λ t new step. step.1;
+  locks = λ since c t wants is. reads_light t.work wants;
   refused = λ start entries pending lane t v b e tree stands f why. why;
 }
 
@@ -38,6 +39,7 @@ hear_laws = record {
   holds = λ told lane t b holds. holds;
   pursues = λ told since c t is. is;
   left = λ told t. omega arith;
+  made = λ told t name made. made;
   back = λ told t. refl;
 }
 
@@ -60,7 +62,7 @@ answer_laws = record {
   shows = λ since lane c t new v w b a. ends_show since lane c t.work new.work v w b a;
   knows = λ since p lane c t new v w b a is f leaves given sees. tt;
   lacks = lacks_none;
-  full = λ since c t new a is step given full. absurd full;
+  full = λ told since c t new a is step given full. absurd full;
   left = λ since actor lane c t new v w b b' a is f leaves given does gone. tt;
   stays = λ since actor lane out a c v w b b' does is. tt;
 }
@@ -71,16 +73,17 @@ store_laws = record {
   works = λ since c t wants name is kind pin. (is.0, is.1, pins_work t.work (record { limits = since.limits; commit = is.0; ask = c.ask }) wants name is.2 kind pin);
   reaches = λ since lane c t v b wants name is f kind pin. (is.0, is.1, pins_reach lane t.work v b (record { limits = since.limits; commit = is.0; ask = c.ask }) wants name f is.2 kind pin);
   brings = λ since actor lane c t v b name s bytes is f sum wrote reads. absurd wrote;
-  room = λ since actor lane c t v b name s is f sum wrote. absurd wrote;
+  room = λ told since actor lane c t v b name s is f sum wrote. absurd wrote;
   stored = λ actor lane t new v w b name s f leaves sum wrote. absurd wrote;
   done = λ actor lane t new v w b name s f leaves sum wrote. absurd wrote;
-  lacked = λ since c t new v w name is leaves met. cc;
+  lacked = λ told since c t new v w name is leaves met. cc;
 }
 
 folder_laws : FolderLaws read_tasks read_means read_doing
 folder_laws = record {
   claims = λ actor lane t v b name s f wrote. absurd wrote;
   claimed = λ since c t name is kind. no_read_claim t.work (subst IsClaim (sym kind) tt);
+  finds = λ since lane c t new v w b a name is f leaves given finds. absurd finds;
   made = λ t new v w name leaves kind. no_read_claim t.work (subst IsClaim (sym kind) tt);
   goes_on = λ t new v w name leaves made. made;
 }

@@ -88,6 +88,7 @@ ref_means = record {
   keeps_on = λ since opening out c disk. Unit {0};
   works = λ since. ref_works since.start;
   reaches = λ since c name. Unit {0};
+  finds = λ a c name. ⊥;
   claims = λ c name. ⊥;
   brings = λ since c name bytes. ⊥;
   lacks = ref_lacks;

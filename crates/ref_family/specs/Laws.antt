@@ -24,7 +24,7 @@ use Rattle.ref_family.specs.declared.task.RefsTask.{RefsTask}
 use Rattle.ref_family.specs.declared.words.RefWords.TheVariants as words
 use Rattle.ref_family.specs.Ends.{ref_ends}
 use Rattle.ref_family.specs.Family.{ref_doing, ref_makes, ref_means, ref_says, ref_shows}
-use Rattle.ref_family.specs.Objects.{lacks_none, no_checkout, no_object, pins_work}
+use Rattle.ref_family.specs.Objects.{lacks_none, no_checkout, no_object, pins_work, refs_light}
 use Rattle.ref_family.specs.Steps.{change_is, own_step, ref_founds, ref_holds, ref_settled, ref_shown, ref_step}
 use Rattle.ref_family.specs.Telling.{ref_tells}
 
@@ -51,6 +51,7 @@ step_laws = record {
   stages = λ who actor lane t v w b is by f wrote home. (let same : who ≡ lane = ⊎_elim (λ x. x ∙ own_step actor lane t.work by) (λ x. x) is in subst (λ k. StagingPathFree k w) (sym same) (home_task actor lane t.work v w b f wrote (subst (λ k. StagingPathFree k v) same home)));
   goes_on = λ since c t new is step. ref_step since.start c t.work new.work step is;
   falls = λ t new. falls_always t.work new.work;
+  locks = λ since c t wants is. refs_light t.work wants;
   refused = λ start entries pending lane t v b e. refused_of start entries pending lane v b t.work e;
 }
 
@@ -60,6 +61,7 @@ hear_laws = record {
   holds = λ told lane t b holds. holds;
   pursues = λ told since c t is. is;
   left = λ told t. omega arith;
+  made = λ told t name made. made;
   back = λ told t. refl;
 }
 
@@ -82,7 +84,7 @@ answer_laws = record {
   shows = λ since lane c t new v w b a is f leaves given. tells v w a t.work (says_of lane t.work new.work v w b a f leaves given);
   knows = λ since p lane c t new v w b a. ref_tells (λ s branch commit work is. change_is s (words.Reset branch commit) work is) lane since p c t.work new.work v w b a;
   lacks = λ since v a c commit. lacks_none v a commit;
-  full = λ since c t new a is step given full. absurd full;
+  full = λ told since c t new a is step given full. absurd full;
   left = λ since actor lane c t new v w b b' a is f leaves given does gone. tt;
   stays = λ since actor lane out a c v w b b' does is. tt;
 }
@@ -93,16 +95,17 @@ store_laws = record {
   works = λ since c t wants name. pins_work since.start c t.work wants name;
   reaches = λ since lane c t v b wants name is f kind pin. tt;
   brings = λ since actor lane c t v b name s bytes is f sum wrote reads. no_object actor lane t.work v b name s f sum wrote;
-  room = λ since actor lane c t v b name s is f sum wrote. no_object actor lane t.work v b name s f sum wrote;
+  room = λ told since actor lane c t v b name s is f sum wrote. no_object actor lane t.work v b name s f sum wrote;
   stored = λ actor lane t new v w b name s f leaves sum wrote. no_object actor lane t.work v b name s f sum wrote;
   done = λ actor lane t new v w b name s f leaves sum wrote. no_object actor lane t.work v b name s f sum wrote;
-  lacked = λ since c t new v w name is leaves met. cc;
+  lacked = λ told since c t new v w name is leaves met. cc;
 }
 
 folder_laws : FolderLaws ref_tasks ref_means ref_doing
 folder_laws = record {
   claims = λ actor lane t v b name s f wrote. no_checkout actor lane t.work v b name s f wrote;
   claimed = λ since c t name is kind. absurd (no_command_claim t.work (subst IsClaim (sym kind) tt));
+  finds = λ since lane c t new v w b a name is f leaves given finds. absurd finds;
   made = λ t new v w name leaves kind. absurd (no_command_claim t.work (subst IsClaim (sym kind) tt));
   goes_on = λ t new v w name leaves made. made;
 }

@@ -1,5 +1,5 @@
 -- What the commands on refs pin, and that they write no object and no checkout.
-use Rattle.std.proofs.Common.{◌≡◌, ⊎_elim, ℕ, true, false, sym, ◌∙◌, ap, subst, List, [], Option, Some, None, IsSome}
+use Rattle.std.proofs.Common.{◌≡◌, ⊎_elim, ℕ, true, false, refl, sym, ◌∙◌, ap, subst, List, [], Option, Some, None, IsSome}
 use Rattle.ost_types.specs.declared.object.Kind.TheVariants.{Commit}
 use Rattle.ost_types.specs.declared.object.ObjName.{ObjName}
 use Rattle.fs_trait.specs.Image.{reads}
@@ -31,6 +31,7 @@ use Rattle.ref_command.specs.Found.{IsFound, commit_name}
 use Rattle.ref_command.specs.Kinds.{event, kind_at, turn_wants}
 use Rattle.ref_command.proofs.Resets.{command_places}
 use Rattle.command.specs.CommitFiles.{CommitsAreFiles, commit_read, no_mark_read}
+use Rattle.command.specs.StepLaws.{AsksForRefs}
 use Rattle.ref_family.specs.declared.words.RefWords.{RefWords}
 use Rattle.ref_family.specs.declared.words.RefWords.TheVariants as words
 use Rattle.ref_family.specs.Family.{ref_lacks, ref_pursues, ref_shows, ref_works}
@@ -64,6 +65,27 @@ pins_work s (words.Reset branch commit) (Reset look plan) wants name is kind pin
 pins_work s (words.RevParse rev) (Reset look plan) wants name is kind pin = absurd is
 pins_work s (words.DropRef branch) (Reset look plan) wants name is kind pin = absurd is
 pins_work s c (Change work) wants name is kind pin = no_pin (progress_in work.task.phase) (event work.task) wants name kind pin
+
+-- no lock is asked for but that of the refs
+pin_light : (commit : List ℕ) (wants : Wants) → Take (pin_wants commit) ≡ Take wants → AsksForRefs wants
+pin_light commit wants is = let same : pin_wants commit ≡ wants = cc in subst AsksForRefs same (refl, refl, refl, refl)
+
+found_light : (found : Option Found) (commit : List ℕ) (wants : Wants) → found_kind found commit ≡ Take wants → AsksForRefs wants
+found_light None commit wants is = pin_light commit wants is
+found_light (Some found) commit wants is = cc
+
+change_light : (p : Progress) (e : Event) (wants : Wants) → kind_at p e ≡ Take wants → AsksForRefs wants
+change_light progress.Looking e wants is = let same : turn_wants ≡ wants = cc in subst AsksForRefs same (refl, refl, refl, refl)
+change_light progress.Preparing e wants is = cc
+change_light progress.Showing e wants is = cc
+change_light progress.Shown e wants is = cc
+change_light progress.Settling e wants is = cc
+change_light progress.Ended e wants is = cc
+
+pub refs_light : (t : RefCommand) (wants : Wants) → command_kind t ≡ Take wants → AsksForRefs wants
+refs_light (Parse look) wants is = pin_light look.commit wants is
+refs_light (Reset look plan) wants is = found_light look.found look.commit wants is
+refs_light (Change work) wants is = change_light (progress_in work.task.phase) (event work.task) wants is
 
 -- nothing is written at an object's path, nor at a checkout's
 pub no_object : {P : Type 0} (actor lane : ℕ) (t : RefCommand) (v : View) (b : Books) (name : ObjName) (s : Seen) → command_facts lane t v b → IsSum name.csum → command_writes actor t v (path_of name) s → P
