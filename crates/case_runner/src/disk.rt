@@ -1,8 +1,9 @@
 //! Disks that cases begin with.
 use crate::stop::Stop;
-use fs_host::{HostFs, Machine};
+use fs_host::HostFs;
 use fs_memory::{Choice, MemFs};
 use fs_trait::Fs;
+use host_files::Machine;
 use ost_forms::{BodySpec, TreeItem};
 use ost_types::{FsPath, Meta, Text, is_file_mode, is_folder_mode, is_link_mode};
 use std::alloc::Global;
