@@ -54,6 +54,6 @@ module _ (limits : Limits) (lane : ℕ) (s : State) (c : CommitWords) (t : Commi
       )
 
 -- what is so of each result that is given, beside what is known of it
-pub ok_with : {T E : Type 0} {P : T → Type 0} {Q : Type 0} (r : Result T E) → IfOk r P → Q → IfOk r (λ x. P x × Q)
-ok_with (Ok x) p q = (p, q)
-ok_with (Err e) p q = tt
+pub ok_with : {T E Q : Type 0} (P : T → Type 0) (r : Result T E) → IfOk r P → Q → IfOk r (λ x. P x × Q)
+ok_with P (Ok x) p q = (p, q)
+ok_with P (Err e) p q = tt

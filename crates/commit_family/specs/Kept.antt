@@ -31,7 +31,7 @@ use Rattle.commit_build.specs.declared.message.Message.{Message}
 use Rattle.commit_build.specs.Committing.{ReadsBack, commit_of, storing_in}
 use Rattle.commit_build.specs.Steps.{AreSure, IsSure, NeverMarked, NotLeaf}
 use Rattle.commit_durability.specs.Lasting.{AreRight, IsCommit, IsOf, LastsIn, sum_of}
-use Rattle.commit_durability.proofs.Lasting.{lasts_left, lasts_made, lasts_stays}
+use Rattle.commit_durability.proofs.Lasting.{lasts_made, lasts_stays}
 use Rattle.commit_command.specs.declared.naming.Naming.{Naming}
 use Rattle.commit_command.specs.declared.command.CommitCommand.{CommitCommand}
 use Rattle.commit_command.specs.Facts.{Changing, commit_facts, facts_by}
@@ -41,6 +41,7 @@ use Rattle.command.specs.Since.{Since}
 use Rattle.commit_family.specs.declared.words.CommitWords.{CommitWords}
 use Rattle.commit_family.specs.Commits.{message_in}
 use Rattle.commit_family.specs.Family.{AreSpared, commit_keeps, commit_keeps_on}
+use Rattle.commit_family.specs.OnDisk.{stands_but}
 use Rattle.commit_family.specs.Pursues.{Commits, ReadsIn}
 use Rattle.commit_family.specs.Steps.{build_not}
 
@@ -134,5 +135,7 @@ commits_keep since opening out removed c v w stays kept = λ spared right.
     (kept (λ o of has. spared o of (Contains-append_right removed out o.name has)) right)
 
 -- and on each disk that a crash left since
-pub commits_keep_on : (since : Since) (opening : View) (out : List ObjName) (c : CommitWords) (v : View) (disk : Disk) → StaysOn [] v disk → commit_keeps since opening out c v → commit_keeps_on since opening out c disk
-commits_keep_on since opening out c v disk on kept = λ spared right. lasts_left since.limits c.tree.items (message_in since.start c) v disk on (kept spared right)
+pub commits_keep_on : (since : Since) (opening : View) (out removed : List ObjName) (c : CommitWords) (v : View) (disk : Disk) → StaysOn removed v disk → commit_keeps since opening out c v → commit_keeps_on since opening (removed ++ out) c disk
+commits_keep_on since opening out removed c v disk on kept = λ spared right.
+    stands_but since.limits c.tree.items (message_in since.start c) removed (λ o of has. spared o of (Contains-append_left removed out o.name has)) v disk on
+    (kept (λ o of has. spared o of (Contains-append_right removed out o.name has)) right)

@@ -66,7 +66,7 @@ change_laws = record {
   makes_not = λ since c t new a is step given none m. (let e = commits_end since c t.work is new.work step.0 in e.makes_not none (subst commit_makes (sym (one (answer_of new.work) e.given a e.answer given)) m));
   kept = λ since opening lane c t new v w b same is f l k spared right. commits_kept since.limits c.branch c.tree.items (message_in since.start c) opening lane t.work v w b same is new.work f l k right;
   keeps = λ since opening out removed c v w right stays kept. commits_keep since opening out removed c v w stays kept;
-  keeps_on = λ since opening out c v disk on kept. commits_keep_on since opening out c v disk on kept;
+  keeps_on = λ since opening out removed c v disk on kept. commits_keep_on since opening out removed c v disk on kept;
 }
 
 answer_laws : AnswerLaws commit_tasks commit_means commit_doing

@@ -6,6 +6,7 @@ pub mod Steps
 pub mod Ends
 pub mod DiskAnswers
 pub mod RefAnswers
+pub mod OnDisk
 pub mod Kept
 pub mod Objects
 pub mod Laws
