@@ -27,9 +27,9 @@ use Rattle.commit_family.specs.DiskAnswers.{tells}
 use Rattle.commit_family.specs.Ends.{commits_end}
 use Rattle.commit_family.specs.Family.{commit_doing, commit_full, commit_makes, commit_means, commit_says}
 use Rattle.commit_family.specs.Kept.{commits_keep, commits_keep_on, commits_kept}
-use Rattle.commit_family.specs.Objects.{commits_bring, commits_lacked, commits_pin, commits_room, no_checkout}
+use Rattle.commit_family.specs.Objects.{commits_bring, commits_lacked, commits_light, commits_pin, commits_room, no_checkout}
 use Rattle.commit_family.specs.RefAnswers.{commits_know}
-use Rattle.commit_family.specs.Steps.{begins_holds, commits_founds, commits_settled, commits_shown, commits_step, own_step}
+use Rattle.commit_family.specs.Steps.{begins_holds, commits_founds, commits_settled, commits_shown, commits_step, commits_told, own_step}
 use Rattle.commit_family.specs.Task.{commits_stepped}
 
 abbrev pub commit_tasks : TaskSpec CommitsTask
@@ -45,6 +45,7 @@ step_laws = record {
   stages = λ who actor lane t v w b is by f wrote home. (let same : who ≡ lane = ⊎_elim (λ x. x ∙ own_step actor lane t.work by) (λ x. x) is in subst (λ k. StagingPathFree k w) (sym same) (own_of actor lane t.work v w b f wrote (subst (λ k. StagingPathFree k v) same home)));
   goes_on = λ since c t new is step. commits_step since.limits c.branch c.tree.items (message_in since.start c) t.work is new.work step.0 step.1;
   falls = λ t new step. falls_of t.work new.work step.0;
+  locks = λ since c t wants is. commits_light t.work wants;
   refused = λ start entries pending lane t v b e. refused_of start entries pending lane v b t.work e;
 }
 
@@ -52,8 +53,9 @@ hear_laws : HearLaws commit_tasks commit_doing
 hear_laws = record {
   facts = λ told lane t v b. counted lane told.objects t.work v b;
   holds = λ told lane t b holds. subst (λ k. kinds.Holds k lane b) (sym (same_kind told.objects t.work)) holds;
-  pursues = λ told since c t is. record { name = is.name; items = is.items; bounds = is.bounds; says = is.says; made = is.made; names = is.names; reads = is.reads };
+  pursues = λ told since c t is. commits_told since.limits c.branch c.tree.items (message_in since.start c) told.objects t.work is;
   left = λ told t. omega (arith, same_left told.objects t.work);
+  made = λ told t name made. made;
   back = λ told t. refl;
 }
 
@@ -76,7 +78,7 @@ answer_laws = record {
   shows = λ since lane c t new v w b a is f l given. tells since c t.work is v w a (says_of lane t.work new.work v w b a f l given);
   knows = λ since p lane c t new v w b a is f l given sees. commits_know lane since p c v w b t.work new.work a given is f l sees;
   lacks = λ since v a c commit files shows lacks finished. lacks;
-  full = λ since c t new a is step given full. (let e = commits_end since c t.work is new.work step.0 in e.full (subst commit_full (sym (one (answer_of new.work) e.given a e.answer given)) full));
+  full = λ told since c t new a is step given full. (let e = commits_end since c (record t.work { objects = told.objects }) (commits_told since.limits c.branch c.tree.items (message_in since.start c) told.objects t.work is) new.work step.0 in e.full (subst commit_full (sym (one (answer_of new.work) e.given a e.answer given)) full));
   left = λ since actor lane c t new v w b b' a is f l given does none. tt;
   stays = λ since actor lane out a c v w b b' does is. tt;
 }
@@ -87,16 +89,17 @@ store_laws = record {
   works = λ since c t wants name is. commits_pin since.limits c.branch c.tree.items (message_in since.start c) t.work is wants name;
   reaches = λ since lane c t v b wants name is f kind pin. tt;
   brings = λ since actor lane c t v b name s bytes is f sum wrote reads. commits_bring since.limits c.branch c.tree.items (message_in since.start c) t.work is actor lane v b name s bytes f sum wrote reads;
-  room = λ since actor lane c t v b name s is f sum wrote. commits_room since.limits c.branch c.tree.items (message_in since.start c) t.work is actor lane v b name s f sum wrote;
+  room = λ told since actor lane c t v b name s is f sum wrote. commits_room since.limits c.branch c.tree.items (message_in since.start c) (record t.work { objects = told.objects }) (commits_told since.limits c.branch c.tree.items (message_in since.start c) told.objects t.work is) actor lane v b name s (counted lane told.objects t.work v b f) sum wrote;
   stored = λ actor lane t new v w b name s f l sum wrote. commit_stored v w name s sum actor lane t.work new.work b f l wrote;
   done = λ actor lane t new v w b name s f l sum wrote. commit_done v w name s sum actor lane t.work new.work b f l wrote;
-  lacked = λ since c t new v w name is l met. commits_lacked since.limits c.branch c.tree.items (message_in since.start c) t.work is new.work v w name l met;
+  lacked = λ told since c t new v w name is l met. commits_lacked since.limits c.branch c.tree.items (message_in since.start c) (record t.work { objects = told.objects }) (commits_told since.limits c.branch c.tree.items (message_in since.start c) told.objects t.work is) new.work v w name l met;
 }
 
 folder_laws : FolderLaws commit_tasks commit_means commit_doing
 folder_laws = record {
   claims = λ actor lane t v b name s f wrote. absurd (no_checkout actor lane t.work v b name s f wrote);
   claimed = λ since c t name is kind. absurd (no_commit_claim t.work (subst IsClaim (sym kind) tt));
+  finds = λ since lane c t new v w b a name is f l given finds. absurd finds;
   made = λ t new v w name l kind. absurd (no_commit_claim t.work (subst IsClaim (sym kind) tt));
   goes_on = λ t new v w name l made. made;
 }

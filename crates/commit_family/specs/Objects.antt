@@ -1,5 +1,5 @@
 -- What a commit pins and stores, and that it makes no folder of a checkout.
-use Rattle.std.proofs.Common.{◌≡◌, inl, inr, ⊎_elim, ◌<◌, ℕ, refl, sym, ◌∙◌, ap, subst, List, [], Option, Some, None}
+use Rattle.std.proofs.Common.{◌≡◌, inl, inr, ⊎_elim, ◌<◌, ℕ, Bool, refl, sym, ◌∙◌, ap, subst, List, [], Option, Some, None}
 use Rattle.ost_types.specs.declared.limits.Limits.{Limits}
 use Rattle.ost_types.specs.declared.object.ObjName.{ObjName}
 use Rattle.ost_forms.specs.declared.tree_item.TreeItem.{TreeItem}
@@ -24,7 +24,7 @@ use Rattle.tree_build.specs.Objects.{Object, work}
 use Rattle.commit_build.specs.declared.message.Message.{Message}
 use Rattle.commit_build.specs.declared.phase.Phase.{Phase}
 use Rattle.commit_build.specs.declared.phase.Phase.TheVariants as phase
-use Rattle.commit_build.specs.Committing.{Committing, Puts, commit_of}
+use Rattle.commit_build.specs.Committing.{Committing, Puts, commit_of, storing_in}
 use Rattle.commit_build.specs.Steps.{Needs, writes_in}
 use Rattle.commit_build.specs.Whole.{IsOfCommit, its_commit}
 use Rattle.commit_build.proofs.Mild.{mark_object, object_folder, stage_object}
@@ -39,12 +39,28 @@ use Rattle.rely_guarantee.specs.Pinning.{pin_in}
 use Rattle.commit_command.specs.declared.naming.Naming.{Naming}
 use Rattle.commit_command.specs.declared.command.CommitCommand.{CommitCommand}
 use Rattle.commit_command.specs.Facts.{commit_facts, facts_by}
-use Rattle.commit_command.specs.Kinds.{commit_kind, commit_leaves, commit_writes, met_in, writes_by}
+use Rattle.commit_command.specs.Kinds.{build_kind, commit_kind, commit_leaves, commit_writes, kind_by, met_in, put_wants, writes_by}
 use Rattle.commit_command.specs.Lying.{OfBuild, OfRef, build_place, ref_place}
 use Rattle.commit_command.proofs.Holding.{stored_of}
 use Rattle.commit_command.proofs.Pinning.{pin_of}
 use Rattle.commit_command.proofs.Stored.{commit_room}
+use Rattle.ref_store.specs.Change.{progress_in}
+use Rattle.ref_command.specs.Kinds.{event}
+use Rattle.command.specs.StepLaws.{AsksForRefs}
+use Rattle.ref_family.specs.Objects.{change_light}
 use Rattle.commit_family.specs.Pursues.{Commits}
+
+-- no lock is asked for but that of the refs and that of those that store
+build_light : (pinned : Bool) (o : Option ObjName) (wants : Wants) → build_kind pinned o ≡ Take wants → AsksForRefs wants
+build_light pinned None wants is = cc
+build_light pinned (Some name) wants is = let same : put_wants pinned name ≡ wants = cc in subst AsksForRefs same (refl, refl, refl)
+
+light_by : (o : Option Naming) (t : CommitCommand) (wants : Wants) → kind_by o t ≡ Take wants → AsksForRefs wants
+light_by None t wants is = build_light t.pinned (storing_in t.build.phase) wants is
+light_by (Some n) t wants is = change_light (progress_in n.work.task.phase) (event n.work.task) wants is
+
+pub commits_light : (t : CommitCommand) (wants : Wants) → commit_kind t ≡ Take wants → AsksForRefs wants
+commits_light t wants is = light_by t.change t wants is
 
 -- nothing is written at a checkout's path
 off_by : (o : Option Naming) (actor lane : ℕ) (t : CommitCommand) (v : View) (b : Books) (name : List ℕ) (s : Seen) → facts_by o lane t v b → writes_by o actor t v (checkout_path name) s → ⊥

@@ -116,6 +116,10 @@ module _ (limits : Limits) (branch : List ℕ) (tree : List TreeItem) (message :
   pub commits_step : (new : CommitCommand) → commit_stepped t turn.More new → IsMade new.build → Commits limits branch tree message new
   commits_step new step made = step_by t.change new refl step made is.names
 
+-- whatever it is told
+pub commits_told : (limits : Limits) (branch : List ℕ) (tree : List TreeItem) (message : Message) (objects : ℕ) (t : CommitCommand) → Commits limits branch tree message t → Commits limits branch tree message (record t { objects = objects })
+commits_told limits branch tree message objects t is = record { name = is.name; items = is.items; bounds = is.bounds; says = is.says; made = is.made; names = is.names; reads = is.reads }
+
 -- what it shows and makes last is its change
 build_shows : {P : Type 0} (pinned : Bool) (o : Option ObjName) (e : Event) → build_kind pinned o ≡ Show e → P
 build_shows pinned None e is = cc
