@@ -18,9 +18,9 @@ use Rattle.command.specs.Since.{Since}
 use Rattle.command.specs.Staging.{StagingPathFree}
 use Rattle.command.specs.Tasks.{TaskSpec}
 
--- no lock is asked for but that of the refs
+-- no lock is asked for but that of the refs and that of those that store
 abbrev pub AsksForRefs : Wants → Type 0
-AsksForRefs wants = (wants.exclusive ≡ false) × (wants.shared ≡ false) × (wants.sysroot ≡ false) × (wants.hold ≡ None)
+AsksForRefs wants = (wants.exclusive ≡ false) × (wants.sysroot ≡ false) × (wants.hold ≡ None)
 
 pub record StepLaws {T W A : Type 0} (k : TaskSpec T) (d : Doing T W A) : Type 0 where
   -- a task at its beginning has its facts, and nothing of it is shown
@@ -31,7 +31,7 @@ pub record StepLaws {T W A : Type 0} (k : TaskSpec T) (d : Doing T W A) : Type 0
   -- a step leaves it after what it was after, and nearer to it
   pub goes_on : (since : Since) (c : W) (t new : T) → d.pursues since c t → k.stepped t turn.More new → d.pursues since c new
   pub falls : (t new : T) → k.stepped t turn.More new → d.left new < d.left t
-  -- no step takes a lock but that of the refs: that every run ends is known of this one alone
+  -- no step takes a lock but these: that every run ends is known of them alone
   pub locks : (since : Since) (c : W) (t : T) (wants : Wants) → d.pursues since c t → k.kind t ≡ Take wants → AsksForRefs wants
   -- where the view is told a step is refused only by a call that failed or for want of memory
   pub refused : (start : State) (entries : List Entry) (pending : Option Pending) (lane : ℕ) (t : T) (v : View) (b : Books) (e : FsErr) → IsTree v.now → Stands start entries pending v → k.facts lane t v b → k.refuses t v e → OfNone e

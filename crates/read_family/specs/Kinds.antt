@@ -80,7 +80,7 @@ log_pinned (r ∷ rows) next wants name is pin = pinned next wants name is pin
 
 -- no lock is asked for
 pin_light : (commit : List ℕ) (wants : Wants) → Take (pin_wants commit) ≡ Take wants → AsksForRefs wants
-pin_light commit wants is = let same : pin_wants commit ≡ wants = cc in subst AsksForRefs same (refl, refl, refl, refl)
+pin_light commit wants is = let same : pin_wants commit ≡ wants = cc in subst AsksForRefs same (refl, refl, refl)
 
 log_light : (rows : List LogRow) (next : List ℕ) (wants : Wants) → log_kind rows next ≡ Take wants → AsksForRefs wants
 log_light [] next wants is = cc

@@ -68,14 +68,14 @@ pins_work s c (Change work) wants name is kind pin = no_pin (progress_in work.ta
 
 -- no lock is asked for but that of the refs
 pin_light : (commit : List ℕ) (wants : Wants) → Take (pin_wants commit) ≡ Take wants → AsksForRefs wants
-pin_light commit wants is = let same : pin_wants commit ≡ wants = cc in subst AsksForRefs same (refl, refl, refl, refl)
+pin_light commit wants is = let same : pin_wants commit ≡ wants = cc in subst AsksForRefs same (refl, refl, refl)
 
 found_light : (found : Option Found) (commit : List ℕ) (wants : Wants) → found_kind found commit ≡ Take wants → AsksForRefs wants
 found_light None commit wants is = pin_light commit wants is
 found_light (Some found) commit wants is = cc
 
-change_light : (p : Progress) (e : Event) (wants : Wants) → kind_at p e ≡ Take wants → AsksForRefs wants
-change_light progress.Looking e wants is = let same : turn_wants ≡ wants = cc in subst AsksForRefs same (refl, refl, refl, refl)
+pub change_light : (p : Progress) (e : Event) (wants : Wants) → kind_at p e ≡ Take wants → AsksForRefs wants
+change_light progress.Looking e wants is = let same : turn_wants ≡ wants = cc in subst AsksForRefs same (refl, refl, refl)
 change_light progress.Preparing e wants is = cc
 change_light progress.Showing e wants is = cc
 change_light progress.Shown e wants is = cc
