@@ -82,10 +82,10 @@ def pairs(count=300):
 def fifo():
     fresh()
     ask(["run"], script(0))
-    os.mkfifo(os.path.join(REPOSITORY, "tmp", "fifo"))
+    os.mkfifo(os.path.join(REPOSITORY, "tmp", "actor-0"))
     status, printed = ask(["run"], script(1))
     told = status != 0 and printed.startswith("fault")
-    os.remove(os.path.join(REPOSITORY, "tmp", "fifo"))
+    os.remove(os.path.join(REPOSITORY, "tmp", "actor-0"))
     wrong = opens()
     return wrong or (f"status {status}, {printed!r}", told)
 

@@ -132,7 +132,8 @@ def one_round(kind, commits, old, number):
     if then == "again":
         again = ask(AT, words, text)
         if again.returncode == 0:
-            may = new or [again.stdout.split()[3]]
+            # (a commit that is made again has the one before it as its parent)
+            may = [again.stdout.split()[3]] if words[0] == "run" else new
     found = after_the_cut(kind)
     now = value(AT)
     allowed = may if may is not None else [old, now] + new
