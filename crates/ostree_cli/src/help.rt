@@ -3,7 +3,7 @@
 /// The program's name and version, and the sum of the logic in which it is proved, as `rt version` tells it.
 pub const VERSION: &[u8] = b"ostree_cli 0.1.0, proved in logic dac8208d650f15bf\n";
 
-/// Each option, each command with its fields, and what each exit status means.
+/// Each option, each command with its fields, what a script and a reply look like, examples, and what each exit status means.
 pub const USAGE: &[u8] = b"\
 Usage: ostree_cli [--helpers N] [--schedule LIST] COMMAND [FIELD]...
 
@@ -59,6 +59,24 @@ lanes. The commands of a lane run one after the other.
   end
 MODE is octal, XATTRS is ~ or NAME:VALUE,.. in hexadecimal digits, CONTENT is =
 and the bytes, or *COUNT:BYTE. TIME is in seconds since 1970. An empty text is ~.
+
+Replies, one a command, lane by lane, by the numbers of lane and command:
+  0 0 ok                  done
+  0 1 ok COMMIT           done: the commit that was made, or that was asked for
+  0 2 ok N                done: N lines follow, each behind a space
+  0 3 refused NoRef       the command was refused; the disk is as it was
+  0 4 fault DiskFault     a call of the file system failed
+A fault before the lanes is one line without numbers, such as `fault usage`.
+ostree_cli(1) tells each reply and what to do.
+
+Examples:
+  ostree_cli init
+  ostree_cli run <script
+  ostree_cli log os/main
+  ostree_cli ls os/main /etc
+  ostree_cli cat os/main /etc/motd
+  ostree_cli checkout os/main out
+  ostree_cli --schedule 0,1*1000 run <script
 
 Status:
   0  the commands were done
