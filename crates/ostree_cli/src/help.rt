@@ -64,7 +64,7 @@ Replies, one a command, lane by lane, by the numbers of lane and command:
   0 0 ok                  done
   0 1 ok COMMIT           done: the commit that was made, or that was asked for
   0 2 ok N                done: N lines follow, each behind a space
-  0 3 refused NoRef       the command was refused; the disk is as it was
+  0 3 refused NoRef       the command was refused, and changed no ref
   0 4 fault DiskFault     a call of the file system failed
 A fault before the lanes is one line without numbers, such as `fault usage`.
 ostree_cli(1) tells each reply and what to do.
