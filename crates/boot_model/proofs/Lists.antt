@@ -40,7 +40,7 @@ module _ (loader : ℕ) (d e : Disk) (same : SameVersion loader d e) where
     sub = leads.sub;
     small = leads.small;
     link = subst (IsLinkTo (boot_target loader leads.sub)) (sym same.link) leads.link;
-    item = subst (IsLinkTo (deploy_target id)) (sym (same.links leads.sub (os ∷ hex_of bootcsum ∷ decimal number ∷ []) leads.small)) leads.item;
+    item = subst (IsLinkTo (deploy_target id)) (sym (same.links leads.sub (os ∷ hex_of bootcsum ∷ decimal number ∷ []) leads.small leads.link)) leads.item;
     same = leads.same;
     there = same_folder d e (deploy_path id.os id.commit id.serial) (same.deployments id) leads.there;
   }

@@ -91,11 +91,12 @@ member_of item = record { id = item.id; kargs = item.kargs }
 
 -- ---- what a list is read from
 
--- All that the list of a version is read from shows the same: the entries, the links and which deployments are there.
+-- All that the list of a version is read from shows the same: the entries, the version's link, the links in the folder that it names, and which
+-- deployments are there.
 pub record SameVersion (loader : ℕ) (d e : Disk) : Type 0 where
   pub entries : (file : Name) → shows e (entry_path loader file) ≡ shows d (entry_path loader file)
   pub link : shows e (boot_link_path loader) ≡ shows d (boot_link_path loader)
-  pub links : (sub : ℕ) (rest : Path) → sub < 2 → shows e (boot_folder_path loader sub ++ rest) ≡ shows d (boot_folder_path loader sub ++ rest)
+  pub links : (sub : ℕ) (rest : Path) → sub < 2 → IsLinkTo (boot_target loader sub) (shows d (boot_link_path loader)) → shows e (boot_folder_path loader sub ++ rest) ≡ shows d (boot_folder_path loader sub ++ rest)
   pub deployments : (id : DepId) → shows e (deploy_path id.os id.commit id.serial) ≡ shows d (deploy_path id.os id.commit id.serial)
 
 -- The boot loader's link and all that the list of the version is read from which it selects show the same.
