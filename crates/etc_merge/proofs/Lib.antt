@@ -1,0 +1,9 @@
+pub mod Orders
+pub mod Finds
+pub mod Fronts
+pub mod Belows
+pub mod Trees
+pub mod Nexts
+pub mod Looking
+pub mod Merges
+pub mod Results
