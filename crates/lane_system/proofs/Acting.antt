@@ -166,7 +166,7 @@ module _ {F T W A : Type 0} (f : FsSpec F) (c : Family T W A) (fl : FsLaws f) (c
       few = omega (arith, length-set lanes lane l', kept.few);
       homes = more_acts.homes kept.homes;
       each = each_lane More x more_acts l' (kept_more f c fl cl limits lane lane refs refs' objects old new more_acts l l' x.words x.next x.same k t' x.replies x.did.1 y) (λ over. absurd (let z : true ≡ false = sym over ∙ y.live in cc));
-      locked = λ live. locked_more lanes lane l l' at x.same old.books new.books (kept.locked y.live) (c.tasks.kind t) (λ wants is. (cl.wants.locks (since_in limits old.books r'.start) x.words t wants after is).0) r' x.did.1 y.step.locks;
+      locked = λ live. locked_more lanes lane l l' at x.same old.books new.books (kept.locked y.live) (c.tasks.kind t) (λ wants is. (cl.commands.steps.locks (since_in limits old.books r'.start) x.words t wants after is).0) r' x.did.1 y.step.locks;
       pins = λ live. pinned_more (IsTold f.view) c.means limits lanes lane l l' at x.same lane old.books new.books more_acts.books early (kept.pins y.live) r' x.did.1 x.replies refl start_within x.words x.next (pin_in (c.tasks.kind t)) y.step.pins works;
       accounted = accounted_more c.means limits old.books new.books lanes given kept.accounted lane lane more_acts.books l l' at x.same x.words x.next early within x.replies t' x.did.1
           (more_history lane (length l.replies.items) (f.clock new.fs) old.books new.books (c.tasks.kind t) y.step.booked)
@@ -248,7 +248,7 @@ module _ {F T W A : Type 0} (f : FsSpec F) (c : Family T W A) (fl : FsLaws f) (c
       locked_given live = ⊎_elim
           (λ once. (let was = given_acts.live live in subst (λ (b : Base F). Locked b.books (set lanes lane l'')) (sym once.0) (locked_same lanes lane l l'' at words old.books (kept.locked was) (once_idle once.1 was))))
           (λ over. locked_ended lanes lane l l'' at words old.books new.books (kept.locked over.4.live) _
-          (λ wants is. (cl.wants.locks _ x.words _ wants (told_after f c fl cl limits lane lane (length l.replies.items) refs refs' objects old new x.words l.task over.0 over.1 over.4) is).0) over.0 over.2 (halts over.0 over.1 over.4) live over.4.step.locks)
+          (λ wants is. (cl.commands.steps.locks _ x.words _ wants (told_after f c fl cl limits lane lane (length l.replies.items) refs refs' objects old new x.words l.task over.0 over.1 over.4) is).0) over.0 over.2 (halts over.0 over.1 over.4) live over.4.step.locks)
           x.did.3
 
       pins_given : new.books.halted ≡ false → AreInWork (IsTold f.view) c.means limits new.books (set lanes lane l'')

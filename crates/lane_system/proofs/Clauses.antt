@@ -75,7 +75,7 @@ module _ {F T W A : Type 0} (f : FsSpec F) (c : Family T W A) (fl : FsLaws f) (c
     stored v is name met =
         let y = x.did.3 in
         let k = y.step.tells v is in
-        cl.wants.lacked (record { objects = objects }) (since_in limits old.books (task_start old.books.history.items l.task)) x.words y.work x.did.0 v k.0 name y.after k.2 met
+        cl.commands.store.lacked (record { objects = objects }) (since_in limits old.books (task_start old.books.history.items l.task)) x.words y.work x.did.0 v k.0 name y.after k.2 met
 
     pub objects_more : Objects c.doing f.view s (after l') lane ask.More
     objects_more = record {

@@ -82,4 +82,4 @@ pub made_goes : {F T W A : Type 0} (f : FsSpec F) (c : Family T W A) (cl : Famil
 made_goes f c cl limits actor lane number refs refs' objects old new words task t' x v told_v name r is made =
     let same : x.work ≡ r.work = subst (λ o. IsTaskOf c.doing lane o x.work) is x.is in
     let l = x.step.tells v told_v in
-    cl.commands.folders.goes_on (told_by c.doing objects x.work) t' v l.0 name l.2 (cl.wants.made (record { objects = objects }) x.work name (subst (λ u. c.doing.made u name) (sym same) made))
+    cl.commands.folders.goes_on (told_by c.doing objects x.work) t' v l.0 name l.2 (cl.commands.hears.made (record { objects = objects }) x.work name (subst (λ u. c.doing.made u name) (sym same) made))

@@ -140,7 +140,7 @@ module _ {F T W A : Type 0} (f : FsSpec F) (c : Family T W A) (fl : FsLaws f) (c
         (c.tasks.kind t) (told_holds f c fl cl limits actor lane number refs refs' objects old new words task outcome t' y) (done.opens (λ held. cc)) done.booked)
 
     full_a : c.means.full a → limits.objects ≤ objects
-    full_a full = cl.wants.full (record { objects = objects }) since words y.work t' a y.after done.steps only.1 full
+    full_a full = cl.commands.answers.full (record { objects = objects }) since words y.work t' a y.after done.steps only.1 full
 
     stays_a : (w : View) → f.view new.fs ≡ Some w → c.means.stays since [] a words w (books_of new.books)
     stays_a w is_w =

@@ -11,6 +11,7 @@ use Rattle.rely_guarantee.specs.Laws.{Kind, Quiet, Store, Take, Claim, Show, Sho
 use Rattle.ref_book.specs.declared.book.RefBook.{RefBook}
 use Rattle.command.specs.declared.ended.Ended.{Ended}
 use Rattle.command.specs.declared.ended.Ended.TheVariants as ended
+use Rattle.command.specs.StepLaws.{AsksForRefs}
 use Rattle.lane_system.specs.declared.act.Came.{Came}
 use Rattle.lane_system.specs.declared.act.Came.TheVariants.{Answered, Blocked, More}
 use Rattle.lane_system.specs.declared.lane.Lane.{Lane}
@@ -27,9 +28,9 @@ use Rattle.lane_system.proofs.Family.{FamilyLaws, FsLaws}
 use Rattle.lane_system.proofs.Places.{at_one, here_or_apart}
 use Rattle.lane_system.proofs.Taking.{told_after}
 
--- a step of this kind takes no lock but the ref lock
+-- a step of this kind asks for no lock but that of the refs and that of those that store
 abbrev AsksNoOther : Kind → Type 0
-AsksNoOther k = (wants : Wants) → k ≡ Take wants → (wants.exclusive ≡ false) × (wants.shared ≡ false) × (wants.sysroot ≡ false) × (wants.hold ≡ None)
+AsksNoOther k = (wants : Wants) → k ≡ Take wants → AsksForRefs wants
 
 never : {P : Type 0} (b : Bool) → b ≡ false → b ≡ true → P
 never b off on = absurd (let z : false ≡ true = sym off ∙ on in cc)
@@ -48,7 +49,7 @@ opens_by (Take wants) lane b asks none free =
       turn = λ is. (free_none b.exclusive lane none, free);
       shared = λ is. free_none b.exclusive lane none;
       pin = λ is. free_none b.exclusive lane none;
-      sysroot = λ is. never wants.sysroot other.2 is;
+      sysroot = λ is. never wants.sysroot other.1 is;
       hold = λ is. free;
     }
 opens_by (Claim name) lane b asks none free = tt
@@ -89,7 +90,7 @@ module _ {F T W A : Type 0} (f : FsSpec F) (c : Family T W A) (fl : FsLaws f) (c
       let closed = (y.step.blocked refl).1 in
       ⊎_elim
       (λ free. absurd (closed (opens_by _ lane (books_of old.books)
-      (λ wants is. cl.wants.locks _ x.words _ wants (told_after f c fl cl limits lane lane (length l.replies.items) refs refs' objects old new x.words l.task came.Blocked x.did.2 y) is)
+      (λ wants is. cl.commands.steps.locks _ x.words _ wants (told_after f c fl cl limits lane lane (length l.replies.items) refs refs' objects old new x.words l.task came.Blocked x.did.2 y) is)
       (kept.locked y.live).exclusive free)))
       (λ other. (other.0, other.1, other.2, holder_has other.0 y.live other.2))
       (free_or old.books.turn lane)
