@@ -37,12 +37,12 @@ module _ {F T W A : Type 0} (f : FsSpec F) (c : Family T W A) (limits : Limits) 
   at_once_gives (ended.Answered a) is = subst (λ (o : Option (Running T)). Gives f c limits lane number objects base base words (task_start base.books.history.items o) (ended.Answered a)) (sym is.1) (record {
     answer = ((here a is.2).0, λ makes. absurd (is.2.2 makes));
     known = λ told. (here a is.2).1;
-    shown = λ v told. (is.2.4 v, tt);
+    shown = λ v told. (is.2.5 v, tt);
     full = λ full. absurd (is.2.3 full);
     idle = idle is.1;
     halts = λ h. absurd h;
     over = λ over. refl;
-    stays = λ w told. is.2.5 w (books_of base.books);
+    stays = λ w told. is.2.6 w (books_of base.books);
     grows = inl (refl, λ makes. is.2.2 makes);
     pending = λ p at. inl at;
     left = λ p at mine. absurd (idle is.1 is.0 p at mine);
