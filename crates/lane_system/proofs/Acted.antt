@@ -43,7 +43,7 @@ use Rattle.lane_system.proofs.Family.{FamilyLaws, FsLaws}
 use Rattle.lane_system.proofs.Folding.{comes, folders_on, made_goes}
 use Rattle.lane_system.proofs.Giving.{Gives}
 use Rattle.lane_system.proofs.Places.{at_split}
-use Rattle.lane_system.proofs.Preserving.{caused_on, founded_on, inside_on, lasts_on, said_on, staying_on}
+use Rattle.lane_system.proofs.Preserving.{caused_on, founded_on, inside_on, lasts_on, none_removed, said_on, staying_on}
 use Rattle.lane_system.proofs.Taking.{told}
 
 -- What acts keep, but for what the store keeps.
@@ -106,7 +106,7 @@ module _ {F T W A : Type 0} (f : FsSpec F) (c : Family T W A) (fl : FsLaws f) (c
           (comes f c fl cl limits lane lane (length l.replies.items) refs refs' objects old new x.words l.task came.More x.did.0 x.did.3 v w told_v (acts.does v told_v).1 name))
           was);
       said = said_on f c fl cl limits lane lane refs refs' objects objects' old new lanes (set lanes lane l') acts kept.sound.ordered.ascends (command_was lanes lane l l' at x.same) (length l.replies.items) _ begin None_ split (λ r words n. absurd n) starts v told_v (λ r words n. absurd n);
-      stays = staying_on f c fl cl limits lane lane refs refs' objects objects' old new lanes (set lanes lane l') acts kept.sound.ordered.ascends (command_was lanes lane l l' at x.same) (length l.replies.items) _ begin None_ split (λ r words n. absurd n) starts v told_v (λ r words n. absurd n);
+      stays = staying_on f c fl cl limits lane lane refs refs' objects objects' old new lanes (set lanes lane l') acts kept.sound.ordered.ascends (command_was lanes lane l l' at x.same) (length l.replies.items) _ begin None_ split (λ r words n. absurd n) starts v told_v (none_removed f.clock f.spare old kept.sound.ordered) (λ r words n. absurd n);
       founded = λ opening files. founded_on f c fl cl limits lane lane refs refs' objects objects' old new lanes (set lanes lane l') acts kept.sound.ordered.ascends (command_was lanes lane l l' at x.same) (length l.replies.items) _ begin None_ split (λ r words n. absurd n) starts v told_v opening files
           (λ r words n. absurd n) (commands_of l' given kept') placed;
     }
@@ -200,7 +200,7 @@ module _ {F T W A : Type 0} (f : FsSpec F) (c : Family T W A) (fl : FsLaws f) (c
           (λ name q task made. tt)
           opening v w_ comes_new was);
       said = said_on f c fl cl limits lane lane refs refs' objects objects' old new lanes (set lanes lane l'') acts_ kept.sound.ordered.ascends (command_was lanes lane l l'' at same) (length l.replies.items) start is_start IsNew split_ (λ q words n. ap (λ (y : Reply A). y.start) n.0 ∙ begun) starts_ v told_v shows_new;
-      stays = staying_on f c fl cl limits lane lane refs refs' objects objects' old new lanes (set lanes lane l'') acts_ kept.sound.ordered.ascends (command_was lanes lane l l'' at same) (length l.replies.items) start is_start IsNew split_ (λ q words n. ap (λ (y : Reply A). y.start) n.0 ∙ begun) starts_ v told_v
+      stays = staying_on f c fl cl limits lane lane refs refs' objects objects' old new lanes (set lanes lane l'') acts_ kept.sound.ordered.ascends (command_was lanes lane l l'' at same) (length l.replies.items) start is_start IsNew split_ (λ q words n. ap (λ (y : Reply A). y.start) n.0 ∙ begun) starts_ v told_v (none_removed f.clock f.spare old kept.sound.ordered)
           (of_new (λ n d y. IfAnswer (λ a. c.means.stays (since_in limits old.books n) [] a d w_ (books_of new.books)) y) (g.stays w_ (acts_.does v told_v).1));
       founded = λ opening files. founded_on f c fl cl limits lane lane refs refs' objects objects' old new lanes (set lanes lane l'') acts_ kept.sound.ordered.ascends (command_was lanes lane l l'' at same) (length l.replies.items) start is_start IsNew split_ (λ q words n. ap (λ (y : Reply A). y.start) n.0 ∙ begun) starts_ v told_v opening files
           shows_new (commands_of l'' (given + 1) kept') placed;

@@ -1,6 +1,7 @@
 -- What an act keeps of what was so since the opening.
-use Rattle.std.proofs.Common.{◌≡◌, ◌≢◌, ◌⊎◌, inl, inr, ⊎_elim, ◌<◌, ◌≤◌, ℕ, Bool, zero, suc, true, false, refl, sym, ◌∙◌, ap, subst, arith, List, [], ◌∷◌, ◌++◌, length, length-append, set, Option, Some, None}
+use Rattle.std.proofs.Common.{◌≡◌, ◌≢◌, ◌⊎◌, inl, inr, ⊎_elim, ◌<◌, ◌≤◌, ℕ, Bool, zero, suc, true, false, refl, sym, ◌∙◌, ap, subst, arith, List, [], ◌∷◌, ◌++◌, length, Contains, length-append, set, Option, Some, None}
 use Rattle.ost_types.specs.declared.limits.Limits.{Limits}
+use Rattle.ost_types.specs.declared.object.ObjName.{ObjName}
 use Rattle.ost_types.specs.Path.{Name}
 use Rattle.fs_trait.specs.Change.{Left}
 use Rattle.fs_trait.specs.Count.{Rose, last}
@@ -15,13 +16,15 @@ use Rattle.rely_guarantee.specs.Books.{Books, books_of}
 use Rattle.rely_guarantee.specs.Lasting.{Outlasts, Stays, StaysFinished, StaysOn}
 use Rattle.rely_guarantee.specs.Rely.{Interference}
 use Rattle.rely_guarantee.specs.State.{Ascends, State, first}
+use Rattle.rely_guarantee.specs.SystemInvariant.{Ordered}
 use Rattle.rely_guarantee.proofs.Finished.{finished_stays}
-use Rattle.rely_guarantee.proofs.Lasting.{none_out, stays_image}
+use Rattle.rely_guarantee.proofs.Lasting.{next_doomed, none_out, stays_image}
 use Rattle.ref_book.specs.declared.book.RefBook.{RefBook}
 use Rattle.command.specs.declared.ended.Ended.{Ended}
 use Rattle.command.specs.declared.ended.Ended.TheVariants as ended
 use Rattle.command.specs.CommitFiles.{CommitsAreFiles}
 use Rattle.command.specs.ChangeLaws.{Founds, IsRightSince}
+use Rattle.command.specs.Removed.{removed_by}
 use Rattle.command.specs.Since.{Since, begun_in}
 use Rattle.lane_system.specs.declared.lane.Lane.{Lane}
 use Rattle.lane_system.specs.declared.lane.Reply.{Reply}
@@ -82,6 +85,14 @@ founds_stay : (v w : View) → Stays [] v w → (e : Event) → Founds v e → F
 founds_stay v w stays (SetRef name seen commit) is = finished_stays [] v w commit stays (none_out _) is
 founds_stay v w stays (DropRef name seen) is = tt
 founds_stay v w stays (Pruned depth roots held removed) is = tt
+
+none_of : (xs : List ObjName) → ((o : ObjName) → ¬ (Contains xs o)) → xs ≡ []
+none_of [] none = refl
+none_of (x ∷ xs) none = absurd (none x (0, omega arith, refl))
+
+-- an act removes no object
+pub none_removed : {F : Type 0} (clock spare : F → ℕ) (base : Base F) → Ordered clock spare base → removed_by (books_of base.books) ≡ []
+none_removed clock spare base ordered = none_of (removed_by (books_of base.books)) (λ o has. ordered.undoomed o (next_doomed (books_of base.books) o has))
 
 -- a commit that a change sets its ref to lasts
 set_lasts : (v : View) (commit : List ℕ) (e : Event) → Founds v e → Sets commit e → StaysFinished v commit
@@ -147,14 +158,15 @@ module _ {F T W A : Type 0} (f : FsSpec F) (c : Family T W A) (fl : FsLaws f) (c
         (split a n r words to is)
 
   -- what they left outside of the store
-  pub staying_on : ((r : Reply A) (words : W) → IsNew r words → IfAnswer (λ a. c.means.stays (since_in limits old.books r.start) [] a words w (books_of new.books)) r.answer) → AreStaying c.means before v → Told (f.view new.fs) (λ u. AreStaying c.means behind u)
-  staying_on new_one was = (w, told_w, λ a n r words to is. ⊎_elim
+  pub staying_on : removed_by (books_of old.books) ≡ [] → ((r : Reply A) (words : W) → IsNew r words → IfAnswer (λ a. c.means.stays (since_in limits old.books r.start) [] a words w (books_of new.books)) r.answer) → AreStaying c.means before v → Told (f.view new.fs) (λ u. AreStaying c.means behind u)
+  staying_on none new_one was = (w, told_w, λ a n r words to is. ⊎_elim
       (λ there. subst (λ (s : Since). IfAnswer (λ x. c.means.stays s [] x words w (books_of new.books)) r.answer) (sym (since_same r.start (within a n r there))) (on r words (was a n r words there (commands a n words is))))
       (λ given. subst (λ (s : Since). IfAnswer (λ x. c.means.stays s [] x words w (books_of new.books)) r.answer) (sym (since_same r.start (omega (arith, its_start r words given, early)))) (new_one r words given))
       (split a n r words to is))
     where
       on : (r : Reply A) (words : W) → IfAnswer (λ x. c.means.stays (since_in limits old.books r.start) [] x words v (books_of old.books)) r.answer → IfAnswer (λ x. c.means.stays (since_in limits old.books r.start) [] x words w (books_of new.books)) r.answer
-      on r words so = if_answer _ r.answer (λ x is. cl.commands.answers.stays (since_in limits old.books r.start) actor lane [] x words v w (books_of old.books) (books_of new.books) does (subst (IfAnswer _) is so))
+      on r words so = if_answer _ r.answer (λ x is. subst (λ (out : List ObjName). c.means.stays (since_in limits old.books r.start) out x words w (books_of new.books)) (ap (λ (gone : List ObjName). gone ++ []) none)
+          (cl.commands.answers.stays (since_in limits old.books r.start) actor lane [] x words v w (books_of old.books) (books_of new.books) does (subst (IfAnswer _) is so)))
 
   -- calls that failed
   pub caused_on : ((r : Reply A) (words : W) → IsNew r words → IsCaused old.books.halted (f.faults old.fs) (f.faults new.fs) r.answer) → ((a n : ℕ) (r : Reply A) → IsTo lanes' a n r → (words : W) × IsCommand lanes' a n words) → (before_ : ℕ) → AreCaused f.faults before_ before → AreCaused f.faults before_ behind
