@@ -1,5 +1,5 @@
 -- What the functions of an act come to, as what the act did.
-use Rattle.std.proofs.Common.{◌≡◌, ◌⊎◌, inl, inr, ◌<◌, ◌≤◌, ℕ, true, false, refl, sym, ◌∙◌, ap, subst, arith, List, length, slice_index_or, Option, Some, None, IsSome}
+use Rattle.std.proofs.Common.{◌≡◌, inl, inr, ℕ, false, refl, sym, ap, subst, arith, List, length, Option, Some, None, IsSome}
 use Rattle.ost_types.specs.declared.limits.Limits.{Limits}
 use Rattle.fs_trait.specs.View.{View}
 use Rattle.rely_guarantee.specs.declared.books.Base.{Base}
@@ -8,29 +8,26 @@ use Rattle.rely_guarantee.specs.declared.event.Event.{Event}
 use Rattle.rely_guarantee.specs.declared.kind.Outcome.{Outcome}
 use Rattle.rely_guarantee.specs.declared.kind.Outcome.TheVariants as came
 use Rattle.rely_guarantee.specs.Books.{books_of}
-use Rattle.rely_guarantee.specs.Laws.{NotPending, Runs, Settle}
+use Rattle.rely_guarantee.specs.Laws.{Runs, Settle}
 use Rattle.rely_guarantee.specs.State.{State}
 use Rattle.rely_guarantee.specs.SystemInvariant.{SystemInvariant}
 use Rattle.ref_book.specs.declared.book.RefBook.{RefBook}
 use Rattle.ref_book.specs.Tracks.{HasEventRoom, HasRoom, Tracks}
 use Rattle.command.specs.declared.begun.Begun.TheVariants as begun
 use Rattle.command.specs.declared.ended.Ended.{Ended}
-use Rattle.command.specs.declared.ended.Ended.TheVariants as ended
-use Rattle.command.specs.Doing.{HasRoomFor, IsAnswer, IsBegun, most}
+use Rattle.command.specs.Doing.{HasRoomFor, IsBegun}
 use Rattle.command.specs.Laws.{CommandLaws}
 use Rattle.command.specs.Since.{Since, begun_in}
 use Rattle.command.specs.Staging.{StagingPathFree}
-use Rattle.lane_system.specs.declared.act.Came.{Came}
 use Rattle.lane_system.specs.declared.act.Came.TheVariants.{Answered, Blocked, More}
 use Rattle.lane_system.specs.declared.lane.Lane.{Lane}
 use Rattle.lane_system.specs.declared.lane.Running.{Running}
 use Rattle.lane_system.specs.Family.{Family, FsSpec}
 use Rattle.lane_system.specs.Kept.{LaneKept, RunsIn, Started}
 use Rattle.lane_system.specs.LaneActs.{IsAtOnce, LaneActs, Takes, task_start, told_by}
-use Rattle.lane_system.specs.Lanes.{IsAt, IsNext}
-use Rattle.lane_system.specs.States.{now_of, since_in, state_in}
+use Rattle.lane_system.specs.Lanes.{IsNext}
+use Rattle.lane_system.specs.States.{now_of, since_in}
 use Rattle.lane_system.specs.Steps.{CountsAt, HasEnded, IsEndedAs, Stepped}
-use Rattle.lane_system.proofs.Family.{FamilyLaws}
 use Rattle.lane_system.proofs.Prefixes.{state_all}
 
 module _ {F T W A : Type 0} (f : FsSpec F) (c : Family T W A) (limits : Limits) (lane : ℕ) where
@@ -78,11 +75,19 @@ module _ {F T W A : Type 0} (f : FsSpec F) (c : Family T W A) (limits : Limits) 
         step = step;
       }
 
-  -- and one at its beginning
-  pub begun_takes : (cl : FamilyLaws c) (refs mid refs' : RefBook) (objects : ℕ) (old new : Base F) (l : Lane T W A) (words : W) (k : LaneKept f c limits lane refs old l) (none : l.task ≡ None) (live : old.books.halted ≡ false) (home : (v : View) → f.view old.fs ≡ Some v → StagingPathFree lane v)
+  -- a task at its beginning has its facts
+  pub begun_runs : (laws : CommandLaws c.tasks c.means c.doing) (refs mid : RefBook) (old : Base F) (l : Lane T W A) (words : W) (k : LaneKept f c limits lane refs old l) (none : l.task ≡ None) (live : old.books.halted ≡ false) (home : (v : View) → f.view old.fs ≡ Some v → StagingPathFree lane v)
+      → SystemInvariant f.view f.clock f.spare f.was old → (u : T) → IsBegun c.means c.doing limits lane (now_of old.books) words mid (begun.Runs u) → Runs c.tasks.kind c.tasks.facts lane u (f.view old.fs) (books_of old.books)
+  begun_runs laws refs mid old l words k none live home sound u is = record {
+    facts = λ v told. laws.steps.begun _ _ _ lane u v (books_of old.books) (sound.stands v told) (home v told) is.0;
+    holds = laws.steps.quiet lane u (books_of old.books) is.0 (subst (RunsIn c lane (f.view old.fs) old.books) none (k.runs live));
+  }
+
+  -- and takes its first step
+  pub begun_takes : (laws : CommandLaws c.tasks c.means c.doing) (refs mid refs' : RefBook) (objects : ℕ) (old new : Base F) (l : Lane T W A) (words : W) (k : LaneKept f c limits lane refs old l) (none : l.task ≡ None) (live : old.books.halted ≡ false) (home : (v : View) → f.view old.fs ≡ Some v → StagingPathFree lane v)
       → SystemInvariant f.view f.clock f.spare f.was old → ((name : List ℕ) → HasRoom refs name → HasRoom mid name) → (u : T) → IsBegun c.means c.doing limits lane (now_of old.books) words mid (begun.Runs u) → (outcome : Outcome) (t : T)
       → Stepped f c.tasks lane lane (length l.replies.items) mid refs' outcome (told_by c.doing objects u) t old new → Takes f c limits lane lane (length l.replies.items) refs refs' objects old new words None outcome t
-  begun_takes cl refs mid refs' objects old new l words k none live home sound grew u is outcome t step =
+  begun_takes laws refs mid refs' objects old new l words k none live home sound grew u is outcome t step =
       let same : begun_in limits (now_of old.books) ≡ since_in limits old.books (length old.books.history.items) = ap (begun_in limits) (sym (state_all old.books (length old.books.history.items) refl)) in
       record {
         live = live;
@@ -90,10 +95,7 @@ module _ {F T W A : Type 0} (f : FsSpec F) (c : Family T W A) (limits : Limits) 
         is = (is.0, is.3);
         early = omega arith;
         after = subst (λ (s : Since). c.doing.pursues s words u) same is.1;
-        runs = record {
-          facts = λ v told. cl.commands.steps.begun _ _ _ lane u v (books_of old.books) (sound.stands v told) (home v told) is.0;
-          holds = cl.commands.steps.quiet lane u (books_of old.books) is.0 (subst (RunsIn c lane (f.view old.fs) old.books) none (k.runs live));
-        };
+        runs = begun_runs laws refs mid old l words k none live home sound u is;
         between = mid;
         grew = grew;
         room = subst (λ (s : Since). HasRoomFor c.means mid s words) same is.2;

@@ -24,6 +24,7 @@ pub mod Replying
 pub mod Beginning
 pub mod Chaining
 pub mod Doing
+pub mod Coming
 pub mod Clauses
 pub mod Acted
 pub mod Holding

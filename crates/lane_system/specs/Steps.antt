@@ -6,6 +6,7 @@ use Rattle.fs_trait.specs.Change.{Writes}
 use Rattle.fs_trait.specs.Effect.{Elapses}
 use Rattle.fs_trait.specs.Image.{Told}
 use Rattle.fs_trait.specs.View.{View}
+use Rattle.fs_trait.specs.declared.types.FsErr.{FsErr}
 use Rattle.fs_trait.specs.declared.types.FsErr.TheVariants as err
 use Rattle.obj_store.specs.declared.phase.Put.{Put}
 use Rattle.obj_store.specs.declared.phase.Put.TheVariants.{Stored}
@@ -71,11 +72,15 @@ abbrev pub IsStray : {A : Type 0} → Option Path → Ended A → Type 0
 IsStray None x = (x ≡ DiskFault) ⊎ (x ≡ NoMemory)
 IsStray (Some path) x = (x ≡ Outside path) ⊎ (x ≡ NoMemory)
 
--- what one answers that ended so, whose path is this
+-- what one answers that was refused so, whose path is this
+abbrev pub IsRefusal : {A : Type 0} → Option Path → FsErr → Ended A → Type 0
+IsRefusal stray err.NoMemory x = x ≡ NoMemory
+IsRefusal stray err.Failed x = x ≡ DiskFault
+IsRefusal stray e x = IsStray stray x
+
+-- and that ended so
 abbrev pub IsEndedAs : {T A : Type 0} → (T → Option A) → Option Path → Outcome → T → ℕ → Ended A → Type 0
 IsEndedAs answer stray came.Done t faults x = OfAnswer (λ a. answer t ≡ Some a) x
 IsEndedAs answer stray came.Halted t faults x = x ≡ Halted faults
-IsEndedAs answer stray (came.Refused err.NoMemory) t faults x = x ≡ NoMemory
-IsEndedAs answer stray (came.Refused err.Failed) t faults x = x ≡ DiskFault
-IsEndedAs answer stray (came.Refused e) t faults x = IsStray stray x
+IsEndedAs answer stray (came.Refused e) t faults x = IsRefusal stray e x
 IsEndedAs answer stray outcome t faults x = ⊥

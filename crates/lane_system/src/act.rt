@@ -1,5 +1,5 @@
 //! The next step of a lane's command.
-ghost use Rattle.std.specs.Prelude.{◌≡◌, ◌<◌, ℕ, Some, None, IsSome, false, true, length};
+ghost use Rattle.std.specs.Prelude.{◌≡◌, ◌<◌, Some, None, IsSome, false, true, length};
 ghost use Rattle.fs_trait.specs.View.{View};
 ghost use Rattle.rely_guarantee.specs.declared.kind.Outcome.TheVariants as came;
 ghost use Rattle.rely_guarantee.specs.SystemInvariant.{SystemInvariant};
@@ -9,9 +9,8 @@ ghost use Rattle.command.specs.Tasks.{task_spec};
 ghost use Rattle.lane_system.specs.Family.{family, fs_spec};
 ghost use Rattle.lane_system.specs.Kept.{LaneKept};
 ghost use Rattle.lane_system.specs.LaneActs.{LaneActs};
-ghost use Rattle.lane_system.specs.Lanes.{IsNext};
 ghost use Rattle.lane_system.specs.States.{now_of};
-ghost use Rattle.lane_system.specs.Steps.{HasEnded, IsEndedAs, IsStray};
+ghost use Rattle.lane_system.specs.Steps.{HasEnded, IsEndedAs, IsRefusal, IsStray};
 
 use crate::lane::{Lane, Running};
 use crate::step::told_act;
@@ -187,11 +186,20 @@ fn answer_at_end<F: Fs, C: Command>(
 {
     match outcome {
         Outcome::Done => Ended::Answered(work.into_answer().unwrap()),
-        Outcome::Refused(FsErr::NoMemory) => Ended::NoMemory,
-        Outcome::Refused(FsErr::Failed) => Ended::DiskFault,
-        Outcome::Refused(_) => stray::<C>(alloc, words),
+        Outcome::Refused(error) => refusal::<C>(alloc, words, error),
         Outcome::Halted => Ended::Halted(base.fs.faults()),
         Outcome::Blocked | Outcome::More => unreachable!(),
+    }
+}
+
+/// What a command answers that was refused so.
+fn refusal<C: Command>(alloc: Global, words: &C::Words, error: FsErr) -> Ended<C::Answer>
+    ensures { IsRefusal (C.means.strays words.now) error result }
+{
+    match error {
+        FsErr::NoMemory => Ended::NoMemory,
+        FsErr::Failed => Ended::DiskFault,
+        _ => stray::<C>(alloc, words),
     }
 }
 
