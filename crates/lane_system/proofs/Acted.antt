@@ -1,9 +1,9 @@
 -- What an act keeps of what was so since the opening, for each way that it may end.
-use Rattle.std.proofs.Common.{◌≡◌, ◌≢◌, ◌⊎◌, inl, inr, ⊎_elim, ◌<◌, ◌≤◌, ◌+◌, ℕ, true, false, refl, sym, ◌∙◌, ap, subst, arith, List, [], ◌∷◌, ◌++◌, length, set, Option, Some, None}
+use Rattle.std.proofs.Common.{◌≡◌, ◌≢◌, ◌⊎◌, inl, inr, ⊎_elim, ◌≤◌, ◌+◌, ℕ, sym, ◌∙◌, ap, subst, arith, List, [], ◌∷◌, ◌++◌, length, set, Some}
 use Rattle.ost_types.specs.declared.limits.Limits.{Limits}
 use Rattle.ost_types.specs.Path.{Name}
 use Rattle.fs_trait.specs.Image.{Told}
-use Rattle.fs_trait.specs.Seen.{shows}
+use Rattle.fs_trait.specs.Seen.{Vacant, shows}
 use Rattle.fs_trait.specs.View.{Disk, View}
 use Rattle.repo_layout.specs.BootPaths.{checkout_path}
 use Rattle.rely_guarantee.specs.declared.books.Base.{Base}
@@ -23,24 +23,24 @@ use Rattle.lane_system.specs.declared.lane.Running.{Running}
 use Rattle.lane_system.specs.Acts.{Acts}
 use Rattle.lane_system.specs.Causes.{AreCaused}
 use Rattle.lane_system.specs.Family.{Family, FsSpec}
-use Rattle.lane_system.specs.Folders.{AreFolders}
+use Rattle.lane_system.specs.Folders.{AreFolders, IsTaken}
 use Rattle.lane_system.specs.Founded.{AreFounded}
 use Rattle.lane_system.specs.Inside.{AreInside}
 use Rattle.lane_system.specs.Kept.{Kept}
-use Rattle.lane_system.specs.LaneActs.{LaneActs, Takes, task_start}
-use Rattle.lane_system.specs.Lanes.{IsAt, IsCommand, IsRunning, IsTo}
+use Rattle.lane_system.specs.LaneActs.{LaneActs, task_start}
+use Rattle.lane_system.specs.Lanes.{IsAt, IsCommand, IsTo}
 use Rattle.lane_system.specs.Lasting.{AreKept}
 use Rattle.lane_system.specs.Preserves.{Preserves}
-use Rattle.lane_system.specs.Replies.{IfAnswer, IsCaused, IsOutside, IsTold, Knows}
+use Rattle.lane_system.specs.Replies.{IfAnswer, IsCaused, IsOutside, Knows, OfAnswer}
 use Rattle.lane_system.specs.Said.{AreSaid}
 use Rattle.lane_system.specs.States.{now_of, since_in}
 use Rattle.lane_system.specs.Staying.{AreStaying}
 use Rattle.lane_system.specs.System.{System}
-use Rattle.lane_system.proofs.Acting.{early, given_acts, given_start, given_within, gives, more_acts, start_within, within}
+use Rattle.lane_system.proofs.Acting.{given_acts, given_within, gives, more_acts, start_within, within}
 use Rattle.lane_system.proofs.Changing.{command_was, one_command, running_here, to_new, to_same, to_split, to_stays, to_was}
 use Rattle.lane_system.proofs.Endings.{more_history}
 use Rattle.lane_system.proofs.Family.{FamilyLaws, FsLaws}
-use Rattle.lane_system.proofs.Folding.{comes, folders_on, made_goes}
+use Rattle.lane_system.proofs.Folding.{comes, made_goes, made_still, none_in_the_way, stands_in_the_way, taken_by, taken_stays}
 use Rattle.lane_system.proofs.Giving.{Gives}
 use Rattle.lane_system.proofs.Places.{at_split}
 use Rattle.lane_system.proofs.Preserving.{caused_on, founded_on, inside_on, lasts_on, none_removed, said_on, staying_on}
@@ -96,15 +96,22 @@ module _ {F T W A : Type 0} (f : FsSpec F) (c : Family T W A) (fl : FsLaws f) (c
           (λ r words n. absurd n) (commands_of l' given kept') before is;
       inside = inside_on f c fl cl limits lane lane refs refs' objects objects' old new lanes (set lanes lane l') acts kept.sound.ordered.ascends (command_was lanes lane l l' at x.same) (length l.replies.items) _ begin None_ split (λ r words n. absurd n) starts v told_v
           (λ r words n. absurd n) (commands_of l' given kept');
-      folders = λ opening was. (w, (acts.does v told_v).1, folders_on c.means c.doing lanes lane l l' at x.same x.words x.next (to_same lanes lane l l' at x.same x.replies) (c.doing.made x.did.0)
-          (λ name made. inr (record { work = x.did.0; start = task_start old.books.history.items l.task }, running_here lanes lane l l' at x.same (length l.replies.items) _ (ap (λ z. length z.items) (sym x.replies)) x.did.1, made))
-          (λ name r task made. made_goes f c cl limits lane lane (length l.replies.items) refs refs' objects old new x.words l.task x.did.0 x.did.3 v told_v name r task made)
-          opening v w
-          (λ name. ⊎_elim
-          (λ same. inl same)
-          (λ claims. inr (claims.0, (let k = x.did.3.step.tells v told_v in cl.commands.folders.made (told f c fl cl limits lane lane (length l.replies.items) refs refs' objects old new x.words l.task came.More x.did.0 x.did.3) x.did.0 v k.0 name k.2 claims.1)))
-          (comes f c fl cl limits lane lane (length l.replies.items) refs refs' objects old new x.words l.task came.More x.did.0 x.did.3 v w told_v (acts.does v told_v).1 name))
-          was);
+      folders = λ opening was. (
+        w,
+        (acts.does v told_v).1,
+        record {
+          made = made_still c.means c.doing lanes lane l l' at x.same x.words x.next (to_same lanes lane l l' at x.same x.replies) (c.doing.made x.did.0)
+              (λ name made. inr (record { work = x.did.0; start = task_start old.books.history.items l.task }, running_here lanes lane l l' at x.same (length l.replies.items) _ (ap (λ z. length z.items) (sym x.replies)) x.did.1, made))
+              (λ name r task made. made_goes f c cl limits lane lane (length l.replies.items) refs refs' objects old new x.words l.task x.did.0 x.did.3 v told_v name r task made)
+              opening v w
+              (λ name. ⊎_elim
+              (λ same. inl same)
+              (λ claims. inr (claims.0, (let k = x.did.3.step.tells v told_v in cl.commands.folders.made (told f c fl cl limits lane lane (length l.replies.items) refs refs' objects old new x.words l.task came.More x.did.0 x.did.3) x.did.0 v k.0 name k.2 claims.1)))
+              (comes f c fl cl limits lane lane (length l.replies.items) refs refs' objects old new x.words l.task came.More x.did.0 x.did.3 v w told_v (acts.does v told_v).1 name))
+              was.made;
+          taken = λ a n q words name to is found. taken_stays c.means c.doing lanes lane l l' at x.same opening name a n (was.taken a n q words name (to_was lanes lane l l' at x.same x.replies a n q to) (command_was lanes lane l l' at x.same a n words is) found);
+        },
+      );
       said = said_on f c fl cl limits lane lane refs refs' objects objects' old new lanes (set lanes lane l') acts kept.sound.ordered.ascends (command_was lanes lane l l' at x.same) (length l.replies.items) _ begin None_ split (λ r words n. absurd n) starts v told_v (λ r words n. absurd n);
       stays = staying_on f c fl cl limits lane lane refs refs' objects objects' old new lanes (set lanes lane l') acts kept.sound.ordered.ascends (command_was lanes lane l l' at x.same) (length l.replies.items) _ begin None_ split (λ r words n. absurd n) starts v told_v (none_removed f.clock f.spare old kept.sound.ordered) (λ r words n. absurd n);
       founded = λ opening files. founded_on f c fl cl limits lane lane refs refs' objects objects' old new lanes (set lanes lane l') acts kept.sound.ordered.ascends (command_was lanes lane l l' at x.same) (length l.replies.items) _ begin None_ split (λ r words n. absurd n) starts v told_v opening files
@@ -133,8 +140,11 @@ module _ {F T W A : Type 0} (f : FsSpec F) (c : Family T W A) (fl : FsLaws f) (c
     split_ : (a n : ℕ) (q : Reply A) (words : W) → IsTo (set lanes lane l'') a n q → IsCommand (set lanes lane l'') a n words → IsTo lanes a n q ⊎ IsNew q words
     split_ a n q words to is = ⊎_elim
         (λ before. inl before)
-        (λ new_one. inr (new_one.2, (let was = command_was lanes lane l l'' at same a n words is in
-        one_command lanes lane (length l.replies.items) words x.words (subst (λ i. IsCommand lanes lane i words) new_one.1 (subst (λ i. IsCommand lanes i n words) new_one.0 was)) (l, at, x.next))))
+        (λ new_one. inr (
+          new_one.2,
+          (let was = command_was lanes lane l l'' at same a n words is in
+              one_command lanes lane (length l.replies.items) words x.words (subst (λ i. IsCommand lanes lane i words) new_one.1 (subst (λ i. IsCommand lanes i n words) new_one.0 was)) (l, at, x.next)),
+        ))
         (to_split lanes lane l l'' at same r grows a n q to)
 
     -- of that one
@@ -160,15 +170,15 @@ module _ {F T W A : Type 0} (f : FsSpec F) (c : Family T W A) (fl : FsLaws f) (c
         → c.means.changes (since_in limits old.books start) words e.event × c.means.keeps (since_in limits old.books start) opening [] words w_
     lasts_new opening right k e words at_k late of =
         let its : (e.lane ≡ lane) × (e.command ≡ length l.replies.items) = ⊎_elim
-            (λ none. absurd (let there = subst (λ (h : List Entry). IsAt h k e) none.0 at_k in omega (arith, there.0, late)))
-            (λ one. ⊎_elim
-            (λ before. absurd (omega (arith, before.0, late)))
-            (λ here. (
-              ap (λ (y : Entry). y.lane) here.1 ∙ one.2,
-              ap (λ (y : Entry). y.command) here.1 ∙ one.3,
-            ))
-            (at_split old.books.history.items one.0 e k (subst (λ (h : List Entry). IsAt h k e) one.1 at_k)))
-            g.grows in
+        (λ none. absurd (let there = subst (λ (h : List Entry). IsAt h k e) none.0 at_k in omega (arith, there.0, late)))
+        (λ one. ⊎_elim
+        (λ before. absurd (omega (arith, before.0, late)))
+        (λ here. (
+          ap (λ (y : Entry). y.lane) here.1 ∙ one.2,
+          ap (λ (y : Entry). y.command) here.1 ∙ one.3,
+        ))
+        (at_split old.books.history.items one.0 e k (subst (λ (h : List Entry). IsAt h k e) one.1 at_k)))
+        g.grows in
         let was = command_was lanes lane l l'' at same e.lane e.command words of in
         let same_words : words ≡ x.words = one_command lanes lane (length l.replies.items) words x.words (subst (λ i. IsCommand lanes lane i words) its.1 (subst (λ i. IsCommand lanes i e.command words) its.0 was)) (l, at, x.next) in
         let y = g.kept opening v w_ told_v (acts_.does v told_v).1 right k e at_k late in
@@ -187,6 +197,25 @@ module _ {F T W A : Type 0} (f : FsSpec F) (c : Family T W A) (fl : FsLaws f) (c
         (comes f c fl cl limits lane lane (length l.replies.items) refs refs' objects old new x.words l.task over.0 over.1 over.4 v w_ told_v (acts_.does v told_v).1 name))
         x.did.3
 
+    -- what it says to stand in the way is taken
+    in_the_way : (name : Name) → OfAnswer (λ a. c.means.finds a x.words name) z → (shows v.now (checkout_path name) ≢ Vacant) × ((m : Running T) → l.task ≡ Some m → c.doing.made m.work name → ⊥)
+    in_the_way name found = ⊎_elim
+        (λ once. absurd (none_in_the_way f c.means limits old x.words l.task z once.1 name found))
+        (λ over. stands_in_the_way f c fl cl limits lane lane (length l.replies.items) refs refs' objects old new x.words l.task over.0 over.1 over.4 v w_ told_v (acts_.does v told_v).1 z over.3 name found)
+        x.did.3
+
+    taken_of : (opening : Disk) → AreFolders c.means c.doing opening (record { base = old; lanes = lanes; limits = limits; objects = objects }) v → (a n : ℕ) (q : Reply A) (words : W) (name : Name)
+        → IsTo (set lanes lane l'') a n q → IsCommand (set lanes lane l'') a n words → OfAnswer (λ a. c.means.finds a words name) q.answer → IsTaken c.means lanes opening name a n
+    taken_of opening was a n q words name to is found =
+        let before = command_was lanes lane l l'' at same a n words is in
+        ⊎_elim
+        (λ old_one. was.taken a n q words name old_one before found)
+        (λ new_one.
+        (let its : words ≡ x.words = one_command lanes lane (length l.replies.items) words x.words (subst (λ i. IsCommand lanes lane i words) new_one.1 (subst (λ i. IsCommand lanes i n words) new_one.0 before)) (l, at, x.next) in
+        let said : OfAnswer (λ a. c.means.finds a x.words name) z = subst (OfAnswer (λ a. c.means.finds a x.words name)) (ap (λ (y : Reply A). y.answer) new_one.2 ∙ answered) (subst (λ (d : W). OfAnswer (λ a. c.means.finds a d name) q.answer) its found) in
+        subst (λ i. IsTaken c.means lanes opening name i n) (sym new_one.0) (subst (λ i. IsTaken c.means lanes opening name lane i) (sym new_one.1) (taken_by c.means c.doing lanes lane l l'' at same opening v name was.made (in_the_way name said)))))
+        (to_split lanes lane l l'' at same r grows a n q to)
+
     pub given_keeps : ActKeeps f c (record { base = old; lanes = lanes; limits = limits; objects = objects }) (record { base = new; lanes = set lanes lane l''; limits = limits; objects = objects' }) v
     given_keeps = record {
       lasts = λ opening is. lasts_on f c fl cl limits lane lane refs refs' objects objects' old new lanes (set lanes lane l'') acts_ kept.sound.ordered.ascends (command_was lanes lane l l'' at same) (length l.replies.items) start is_start IsNew split_ (λ q words n. ap (λ (y : Reply A). y.start) n.0 ∙ begun) starts_ v told_v opening
@@ -195,10 +224,17 @@ module _ {F T W A : Type 0} (f : FsSpec F) (c : Family T W A) (fl : FsLaws f) (c
           (of_new (λ n d y. IsCaused old.books.halted (f.faults old.fs) (f.faults new.fs) y) (g.shown v told_v).1) (commands_of l'' (given + 1) kept') before is;
       inside = inside_on f c fl cl limits lane lane refs refs' objects objects' old new lanes (set lanes lane l'') acts_ kept.sound.ordered.ascends (command_was lanes lane l l'' at same) (length l.replies.items) start is_start IsNew split_ (λ q words n. ap (λ (y : Reply A). y.start) n.0 ∙ begun) starts_ v told_v
           (of_new (λ n d y. ¬ (IsOutside y)) (outside_not z (g.known (old.fs, v, told_v)))) (commands_of l'' (given + 1) kept');
-      folders = λ opening was. (w_, (acts_.does v told_v).1, folders_on c.means c.doing lanes lane l l'' at same x.words x.next (to_stays lanes lane l l'' at same r grows) (λ name. Unit {0})
-          (λ name made. inl (r, to_new lanes lane l l'' at same r grows))
-          (λ name q task made. tt)
-          opening v w_ comes_new was);
+      folders = λ opening was. (
+        w_,
+        (acts_.does v told_v).1,
+        record {
+          made = made_still c.means c.doing lanes lane l l'' at same x.words x.next (to_stays lanes lane l l'' at same r grows) (λ name. Unit {0})
+              (λ name made. inl (r, to_new lanes lane l l'' at same r grows))
+              (λ name q task made. tt)
+              opening v w_ comes_new was.made;
+          taken = λ a n q words name to is found. taken_stays c.means c.doing lanes lane l l'' at same opening name a n (taken_of opening was a n q words name to is found);
+        },
+      );
       said = said_on f c fl cl limits lane lane refs refs' objects objects' old new lanes (set lanes lane l'') acts_ kept.sound.ordered.ascends (command_was lanes lane l l'' at same) (length l.replies.items) start is_start IsNew split_ (λ q words n. ap (λ (y : Reply A). y.start) n.0 ∙ begun) starts_ v told_v shows_new;
       stays = staying_on f c fl cl limits lane lane refs refs' objects objects' old new lanes (set lanes lane l'') acts_ kept.sound.ordered.ascends (command_was lanes lane l l'' at same) (length l.replies.items) start is_start IsNew split_ (λ q words n. ap (λ (y : Reply A). y.start) n.0 ∙ begun) starts_ v told_v (none_removed f.clock f.spare old kept.sound.ordered)
           (of_new (λ n d y. IfAnswer (λ a. c.means.stays (since_in limits old.books n) [] a d w_ (books_of new.books)) y) (g.stays w_ (acts_.does v told_v).1));

@@ -1,7 +1,6 @@
 -- An answer that was given by the books alone.
-use Rattle.std.proofs.Common.{◌≡◌, ◌⊎◌, inl, inr, ◌≤◌, ℕ, true, false, refl, sym, ◌∙◌, ap, subst, arith, length, Option, Some, None}
+use Rattle.std.proofs.Common.{◌≡◌, inl, ℕ, true, false, refl, sym, ◌∙◌, ap, subst, arith, length, Option, None}
 use Rattle.ost_types.specs.declared.limits.Limits.{Limits}
-use Rattle.fs_trait.specs.View.{View}
 use Rattle.rely_guarantee.specs.declared.books.Base.{Base}
 use Rattle.rely_guarantee.specs.Books.{books_of}
 use Rattle.rely_guarantee.specs.Laws.{NotPending}
@@ -14,8 +13,7 @@ use Rattle.lane_system.specs.declared.lane.Running.{Running}
 use Rattle.lane_system.specs.Family.{Family, FsSpec}
 use Rattle.lane_system.specs.Kept.{RunsIn}
 use Rattle.lane_system.specs.LaneActs.{IsAtOnce, task_start}
-use Rattle.lane_system.specs.Replies.{IsHalted}
-use Rattle.lane_system.specs.States.{now_of, since_in, state_in}
+use Rattle.lane_system.specs.States.{now_of, since_in}
 use Rattle.lane_system.proofs.Giving.{Gives}
 use Rattle.lane_system.proofs.Prefixes.{state_all}
 
@@ -38,6 +36,7 @@ module _ {F T W A : Type 0} (f : FsSpec F) (c : Family T W A) (limits : Limits) 
     answer = ((here a is.2).0, λ makes. absurd (is.2.2 makes));
     known = λ told. (here a is.2).1;
     shown = λ v told. (is.2.5 v, tt);
+    stray = tt;
     full = λ full. absurd (is.2.3 full);
     idle = idle is.1;
     halts = λ h. absurd h;
@@ -52,6 +51,7 @@ module _ {F T W A : Type 0} (f : FsSpec F) (c : Family T W A) (limits : Limits) 
     answer = tt;
     known = λ told. tt;
     shown = λ v told. (tt, tt);
+    stray = tt;
     full = tt;
     idle = idle is.1;
     halts = λ h. absurd h;
@@ -66,6 +66,7 @@ module _ {F T W A : Type 0} (f : FsSpec F) (c : Family T W A) (limits : Limits) 
     answer = tt;
     known = λ told. tt;
     shown = λ v told. (tt, λ live. absurd (let z : true ≡ false = sym is.0 ∙ live in cc));
+    stray = tt;
     full = tt;
     idle = λ live. absurd (let z : true ≡ false = sym is.0 ∙ live in cc);
     halts = λ h. (is.0, ap ended.Halted is.1);

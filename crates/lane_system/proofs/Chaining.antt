@@ -1,9 +1,13 @@
 -- No act keeps all, and acts behind acts keep what both keep.
-use Rattle.std.proofs.Common.{◌≡◌, ◌≤◌, ℕ, arith, refl, sym, ◌∙◌, ap, ◌++◌, [], append-nil, append_assoc, subst, Option, Some}
-use Rattle.fs_trait.specs.Image.{Told}
-use Rattle.fs_trait.specs.View.{View}
-use Rattle.lane_system.specs.Booked.{IsLater}
+use Rattle.std.proofs.Common.{◌≡◌, ℕ, zero, suc, arith, refl, sym, ◌∙◌, ap, ◌++◌, List, [], ◌∷◌, append-nil, append_assoc, length, map, set, subst}
+use Rattle.std.proofs.lemmas.List.{length-map}
+use Rattle.command.specs.declared.ended.Ended.{Ended}
+use Rattle.lane_system.specs.declared.ask.Ask.{Ask}
+use Rattle.lane_system.specs.declared.ask.Ask.TheVariants as ask
+use Rattle.lane_system.specs.declared.lane.Lane.{Lane}
+use Rattle.lane_system.specs.Booked.{Acted, IsLater, Moves, commands_of}
 use Rattle.lane_system.specs.Family.{Family, FsSpec}
+use Rattle.lane_system.specs.Lanes.{IsAt}
 use Rattle.lane_system.specs.Preserves.{Preserves}
 use Rattle.lane_system.specs.System.{System}
 use Rattle.lane_system.proofs.Family.{FsLaws}
@@ -13,6 +17,33 @@ later_refl s = (refl, refl, [], sym (append-nil s.base.books.history.items), ref
 
 pub later_then : {F T W A : Type 0} (a b c : System F T W A) → IsLater a b → IsLater b c → IsLater a c
 later_then a b c ab bc = (bc.0 ∙ ab.0, bc.1 ∙ ab.1, ab.2 ++ bc.2, bc.3 ∙ ap (λ h. h ++ bc.2) ab.3 ∙ append_assoc a.base.books.history.items ab.2 bc.2, bc.4 ∙ ab.4)
+
+-- another element in which this is the same
+map_set : {X Y : Type 0} (g : X → Y) (xs : List X) (i : ℕ) (x y : X) → IsAt xs i x → g y ≡ g x → map g (set xs i y) ≡ map g xs
+map_set g [] i x y at same = refl
+map_set g (z ∷ xs) zero x y at same = ap (λ k. k ∷ map g xs) (same ∙ ap g (sym at.1))
+map_set g (z ∷ xs) (suc i) x y at same = ap (λ k. g z ∷ k) (map_set g xs i x y (omega (arith, at.0), at.1) same)
+
+-- an act goes on from what was there, and leaves the commands
+module _ {F T W A : Type 0} (Tells : Lane T W A → Ended A → Type 0) (s new : System F T W A) (n : ℕ) where
+  moved_commands : (l l' : Lane T W A) → Moves s new n l l' → commands_of new ≡ commands_of s
+  moved_commands l l' m = ap (map (λ (x : Lane T W A). x.words.items)) m.now ∙ map_set (λ (x : Lane T W A). x.words.items) s.lanes n l l' m.at (ap (λ v. v.items) m.words)
+
+  pub acted_later : (x : Ask) → Acted Tells s new n x → IsLater s new
+  acted_later ask.More acted = acted.2.later
+  acted_later ask.Blocked acted = subst (IsLater s) (sym acted.1) (later_refl s)
+  acted_later ask.Ended acted = subst (IsLater s) (sym acted.1) (later_refl s)
+  acted_later (ask.Done lane command) acted = acted.3.later
+
+  pub acted_commands : (x : Ask) → Acted Tells s new n x → commands_of new ≡ commands_of s
+  acted_commands ask.More acted = moved_commands acted.0 acted.1 acted.2
+  acted_commands ask.Blocked acted = ap (λ y. commands_of y) acted.1
+  acted_commands ask.Ended acted = ap (λ y. commands_of y) acted.1
+  acted_commands (ask.Done lane command) acted = moved_commands acted.0 acted.1 acted.3
+
+-- lanes with the same commands are as many
+pub lanes_same : {F T W A : Type 0} (s new : System F T W A) → commands_of new ≡ commands_of s → length new.lanes ≡ length s.lanes
+lanes_same {T = T} {W = W} {A = A} s new same = sym (length-map new.lanes (λ (x : Lane T W A). x.words.items)) ∙ ap length same ∙ length-map s.lanes (λ (x : Lane T W A). x.words.items)
 
 module _ {F T W A : Type 0} (f : FsSpec F) (c : Family T W A) (fl : FsLaws f) where
   pub preserves_nothing : (s : System F T W A) → Preserves f c s s

@@ -1,6 +1,5 @@
 -- What an act of a system says, by what its lane did.
-use Rattle.std.proofs.Common.{◌≡◌, ◌≢◌, ◌⊎◌, inl, inr, ⊎_elim, ◌<◌, ◌≤◌, ◌+◌, ℕ, true, false, refl, sym, ◌∙◌, ap, subst, arith, List, [], ◌∷◌, ◌++◌, length, length-append, set, Option, Some, None}
-use Rattle.std.specs.Prelude.{vec_capacity, min}
+use Rattle.std.proofs.Common.{◌≡◌, ◌<◌, ◌≤◌, ℕ, refl, sym, ◌∙◌, ap, subst, arith, List, [], ◌∷◌, ◌++◌, length, set, Option, Some, None}
 use Rattle.ost_types.specs.declared.limits.Limits.{Limits}
 use Rattle.ost_types.specs.declared.object.ObjName.{ObjName}
 use Rattle.fs_trait.specs.declared.types.Value.TheVariants.{Absent}
@@ -9,34 +8,27 @@ use Rattle.repo_model.specs.Objects.{path_of}
 use Rattle.obj_store.specs.declared.phase.Put.{Put}
 use Rattle.obj_store.specs.declared.phase.Put.TheVariants as put
 use Rattle.rely_guarantee.specs.declared.books.Base.{Base}
-use Rattle.rely_guarantee.specs.declared.books.Entry.{Entry}
-use Rattle.rely_guarantee.specs.declared.kind.Outcome.TheVariants as came
-use Rattle.rely_guarantee.specs.Books.{books_of}
-use Rattle.rely_guarantee.specs.Laws.{Claim}
 use Rattle.ref_book.specs.declared.book.RefBook.{RefBook}
 use Rattle.command.specs.declared.ended.Ended.{Ended}
-use Rattle.lane_system.specs.declared.act.Came.{Came}
-use Rattle.lane_system.specs.declared.act.Came.TheVariants.{Answered, Blocked, More}
+use Rattle.lane_system.specs.declared.act.Came.TheVariants.{Answered, More}
 use Rattle.lane_system.specs.declared.ask.Ask.TheVariants as ask
 use Rattle.lane_system.specs.declared.lane.Lane.{Lane}
 use Rattle.lane_system.specs.declared.lane.Reply.{Reply}
-use Rattle.lane_system.specs.declared.lane.Running.{Running}
 use Rattle.lane_system.specs.Acts.{Acts}
-use Rattle.lane_system.specs.Booked.{Acted, AnswerTells, GoesOn, HasCommand, IsGiven, IsLater, Moves}
+use Rattle.lane_system.specs.Booked.{Acted, AnswerTells, IsLater, Moves}
 use Rattle.lane_system.specs.Counts.{Objects}
 use Rattle.lane_system.specs.Family.{Family, FsSpec}
 use Rattle.lane_system.specs.Kept.{Kept}
-use Rattle.lane_system.specs.LaneActs.{LaneActs, Takes, task_start, told_by}
-use Rattle.lane_system.specs.Lanes.{IsAt, IsCommand, IsNext, IsTo, count_of}
-use Rattle.lane_system.specs.Replies.{IfAnswer, Shown}
+use Rattle.lane_system.specs.LaneActs.{LaneActs, task_start}
+use Rattle.lane_system.specs.Lanes.{IsAt}
+use Rattle.lane_system.specs.Replies.{Shown}
 use Rattle.lane_system.specs.States.{since_in}
 use Rattle.lane_system.specs.Steps.{IsCounted}
 use Rattle.lane_system.specs.System.{System}
-use Rattle.lane_system.proofs.Acting.{given_acts, given_start, gives, more_acts, start_within}
+use Rattle.lane_system.proofs.Acting.{given_acts, given_start, gives, more_acts}
 use Rattle.lane_system.proofs.Family.{FamilyLaws, FsLaws}
 use Rattle.lane_system.proofs.Giving.{Gives}
 use Rattle.lane_system.proofs.Places.{at_one, at_set, at_set_is}
-use Rattle.lane_system.proofs.Taking.{told}
 
 -- the books go on from what they were
 later_by : {F T W A : Type 0} (f : FsSpec F) (actor lane : ℕ) (refs refs' : RefBook) (old new : Base F) (acts : Acts f actor lane refs refs' old new) (lanes lanes' : List (Lane T W A)) (limits : Limits) (objects objects' : ℕ)
@@ -62,14 +54,17 @@ module _ {F T W A : Type 0} (f : FsSpec F) (c : Family T W A) (fl : FsLaws f) (c
     acts : Acts f lane lane refs refs' old new
     acts = more_acts f c fl cl limits lane refs refs' objects objects' old new lanes given l l' kept at x
 
-    pub acted_more : (Tells : Lane T W A → Ended A → Type 0) → Acted Tells s (after l') lane ask.More
-    acted_more Tells = (l, l', record {
+    pub moves_more : Moves s (after l') lane l l'
+    moves_more = record {
       at = at;
       now = refl;
       words = x.same;
       command = x.next.0;
       later = later_by f lane lane refs refs' old new acts lanes (set lanes lane l') limits objects objects';
-    }, (x.replies, record { work = x.did.0; start = task_start old.books.history.items l.task }, x.did.1, refl))
+    }
+
+    pub acted_more : (Tells : Lane T W A → Ended A → Type 0) → Acted Tells s (after l') lane ask.More
+    acted_more Tells = (l, l', moves_more, (x.replies, record { work = x.did.0; start = task_start old.books.history.items l.task }, x.did.1, refl))
 
     stored : (v : View) → f.view old.fs ≡ Some v → (name : ObjName) → c.doing.met x.did.0 ≡ Some (name, put.Stored) → (objects < limits.objects) × (v.now.at (path_of name) ≡ Absent)
     stored v is name met =
@@ -105,21 +100,32 @@ module _ {F T W A : Type 0} (f : FsSpec F) (c : Family T W A) (fl : FsLaws f) (c
       g.full,
     )
 
-    pub acted_done : Acted (AnswerTells c.means f.view (f.faults old.fs) (f.faults new.fs) s) s (after l'') lane (ask.Done lane (length l.replies.items))
-    acted_done = (l, l'', r, record {
+    pub moves_done : Moves s (after l'') lane l l''
+    moves_done = record {
       at = at;
       now = refl;
       words = words;
       command = x.next.0;
       later = later_by f lane lane refs refs' old new (given_acts f c fl cl limits lane refs refs' objects objects' old new lanes given l l' kept at z start x) lanes (set lanes lane l'') limits objects objects';
-    }, record {
-      replies = grows;
-      task = task;
-      start = begun ∙ is_start;
-      place = place;
-      order = order ∙ kept.accounted.count;
-      tells = tells;
-    }, refl, refl)
+    }
+
+    pub acted_done : Acted (AnswerTells c.means f.view (f.faults old.fs) (f.faults new.fs) s) s (after l'') lane (ask.Done lane (length l.replies.items))
+    acted_done = (
+      l,
+      l'',
+      r,
+      moves_done,
+      record {
+        replies = grows;
+        task = task;
+        start = begun ∙ is_start;
+        place = place;
+        order = order ∙ kept.accounted.count;
+        tells = tells;
+      },
+      refl,
+      refl,
+    )
 
     pub objects_done : Objects c.doing f.view s (after l'') lane (ask.Done lane (length l.replies.items))
     objects_done = record {

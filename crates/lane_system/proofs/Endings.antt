@@ -1,5 +1,5 @@
 -- What the last step of a command does to the books, and what its answer is by how it ended.
-use Rattle.std.proofs.Common.{◌≡◌, ◌⊎◌, inl, inr, ⊎_elim, ℕ, refl, sym, ◌∙◌, List, [], ◌∷◌, ◌++◌, Bool, true, false, Option, Some, None}
+use Rattle.std.proofs.Common.{◌≡◌, ◌⊎◌, inl, inr, ⊎_elim, ℕ, refl, sym, ◌∙◌, ap, [], ◌∷◌, ◌++◌, Option, Some, None}
 use Rattle.ost_types.specs.Path.{Path}
 use Rattle.fs_trait.specs.declared.types.FsErr.{FsErr}
 use Rattle.fs_trait.specs.declared.types.FsErr.TheVariants as err
@@ -15,6 +15,7 @@ use Rattle.rely_guarantee.specs.Exact.{IsBooked}
 use Rattle.rely_guarantee.specs.Laws.{Kind, Quiet, Store, Take, Claim, Show, Shown, Settle, IsSettle, Holds}
 use Rattle.command.specs.declared.ended.Ended.{Ended}
 use Rattle.command.specs.declared.ended.Ended.TheVariants as ended
+use Rattle.lane_system.specs.Replies.{IfOutside}
 use Rattle.lane_system.specs.Steps.{HasEnded, IsEndedAs, IsStray}
 
 -- The change was made to last: it is the last entry, of this command.
@@ -49,13 +50,16 @@ module _ (lane number moment : ℕ) (old new : rust.Books) where
   ends mine (Shown e n) came.Done end h b = absurd b
   ends mine (Shown e n) came.More end h b = absurd end
   ends mine (Shown e n) came.Blocked end h b = absurd end
-  ends mine (Settle e) came.Done end h b = inl (refl, record {
-    entry = record { lane = lane; command = h.command; event = e; moment = moment };
-    kind = refl;
-    grows = b.1 _ h.pending;
-    owner = refl;
-    command = mine _ h.pending refl;
-  })
+  ends mine (Settle e) came.Done end h b = inl (
+    refl,
+    record {
+      entry = record { lane = lane; command = h.command; event = e; moment = moment };
+      kind = refl;
+      grows = b.1 _ h.pending;
+      owner = refl;
+      command = mine _ h.pending refl;
+    },
+  )
   ends mine (Settle e) came.Halted end h b = inr (b.0, λ is s. (let z : came.Halted ≡ came.Done = is in cc))
   ends mine (Settle e) (came.Refused f) end h b = absurd b
   ends mine (Settle e) came.More end h b = absurd end
@@ -169,6 +173,33 @@ module _ {T A : Type 0} (answer : T → Option A) (stray : Option Path) (t : T) 
   outside_only came.Halted path is = cc
   outside_only came.Blocked path is = absurd is
   outside_only came.More path is = absurd is
+
+  -- whose path is the command's
+  stray_outside : (o : Option Path) (path : Path) → IsStray {A = A} o (ended.Outside path) → o ≡ Some path
+  stray_outside None path is = ⊎_elim (λ e. cc) (λ e. cc) is
+  stray_outside (Some p) path is = ⊎_elim (λ e. (let same : path ≡ p = cc in ap Some (sym same))) (λ e. cc) is
+
+  refused_stray : (e : FsErr) (path : Path) → IsEndedAs answer stray (came.Refused e) t faults (ended.Outside path) → stray ≡ Some path
+  refused_stray err.NoMemory path is = cc
+  refused_stray err.Failed path is = cc
+  refused_stray err.Exists path is = stray_outside stray path is
+  refused_stray err.Missing path is = stray_outside stray path is
+  refused_stray err.NotFolder path is = stray_outside stray path is
+  refused_stray err.NotEmpty path is = stray_outside stray path is
+
+  outside_stray : (outcome : Outcome) (path : Path) → IsEndedAs answer stray outcome t faults (ended.Outside path) → stray ≡ Some path
+  outside_stray (came.Refused e) path is = refused_stray e path is
+  outside_stray came.Done path is = absurd is
+  outside_stray came.Halted path is = cc
+  outside_stray came.Blocked path is = absurd is
+  outside_stray came.More path is = absurd is
+
+  pub if_outside : (outcome : Outcome) (x : Ended A) → IsEndedAs answer stray outcome t faults x → IfOutside (λ path. stray ≡ Some path) x
+  if_outside outcome (ended.Outside path) is = outside_stray outcome path is
+  if_outside outcome (ended.Answered a) is = tt
+  if_outside outcome ended.NoMemory is = tt
+  if_outside outcome ended.DiskFault is = tt
+  if_outside outcome (ended.Halted n) is = tt
 
   -- a failed call is told of one, or of a refusal of another kind
   failed_by : (e : FsErr) → IsEndedAs answer stray (came.Refused e) t faults ended.DiskFault → (came.Refused e ≡ came.Refused err.Failed) ⊎ IsRefused (came.Refused e)

@@ -1,15 +1,11 @@
 -- What the answer of an act is, and how it leaves the books.
-use Rattle.std.proofs.Common.{◌≡◌, ◌≢◌, ◌⊎◌, inl, inr, ⊎_elim, ◌<◌, ◌≤◌, ℕ, Bool, true, false, nat_eq, Contains, refl, sym, ◌∙◌, ap, subst, arith, List, [], ◌∷◌, ◌++◌, length, Option, Some, None}
+use Rattle.std.proofs.Common.{◌≡◌, ◌≢◌, ◌⊎◌, inl, inr, ⊎_elim, ◌≤◌, ℕ, true, false, nat_eq, Contains, refl, sym, ◌∙◌, ap, subst, arith, List, [], ◌∷◌, ◌++◌, length, Option, Some}
 use Rattle.std.specs.Prelude.{not}
 use Rattle.std.specs.List.{filter}
 use Rattle.std.proofs.lemmas.Bool.Decides.{nat_tests}
 use Rattle.std.proofs.lemmas.List.Elements.{All-contains, filter_passes}
 use Rattle.ost_types.specs.declared.limits.Limits.{Limits}
-use Rattle.ost_types.specs.Path.{Path}
 use Rattle.fs_trait.specs.declared.task.StepResult.TheVariants as turn
-use Rattle.fs_trait.specs.declared.types.FsErr.{FsErr}
-use Rattle.fs_trait.specs.declared.types.FsErr.TheVariants as err
-use Rattle.fs_trait.specs.Count.{Rose}
 use Rattle.fs_trait.specs.Effect.{OfNone}
 use Rattle.fs_trait.specs.View.{View}
 use Rattle.rely_guarantee.specs.declared.books.Base.{Base}
@@ -19,11 +15,10 @@ use Rattle.rely_guarantee.specs.declared.books.Pending.{Pending}
 use Rattle.rely_guarantee.specs.declared.event.Event.{Event}
 use Rattle.rely_guarantee.specs.declared.kind.Outcome.{Outcome}
 use Rattle.rely_guarantee.specs.declared.kind.Outcome.TheVariants as came
-use Rattle.rely_guarantee.specs.Books.{Books, books_of}
+use Rattle.rely_guarantee.specs.Books.{books_of}
 use Rattle.rely_guarantee.specs.Claiming.{is_other, of_others}
 use Rattle.rely_guarantee.specs.Laws.{IsSettle, NotPending, Settle}
 use Rattle.rely_guarantee.specs.Rely.{Interference}
-use Rattle.rely_guarantee.specs.State.{State}
 use Rattle.rely_guarantee.specs.SystemInvariant.{SystemInvariant}
 use Rattle.ref_book.specs.declared.book.RefBook.{RefBook}
 use Rattle.command.specs.declared.ended.Ended.{Ended}
@@ -32,16 +27,15 @@ use Rattle.command.specs.ChangeLaws.{IsRightSince}
 use Rattle.command.specs.Since.{Since, placed}
 use Rattle.lane_system.specs.declared.lane.Running.{Running}
 use Rattle.lane_system.specs.Family.{Family, FsSpec}
-use Rattle.lane_system.specs.LaneActs.{IsAtOnce, Takes, task_start, told_by}
+use Rattle.lane_system.specs.LaneActs.{Takes, task_start}
 use Rattle.lane_system.specs.Lanes.{IsAt}
-use Rattle.lane_system.specs.Replies.{Answers, HasMade, IfAnswer, IsCaused, IsHalted, IsOutside, IsTold, Knows, OfAnswer, Shown}
-use Rattle.lane_system.specs.States.{now_of, since_in, state_in}
+use Rattle.lane_system.specs.Replies.{Answers, HasMade, IfAnswer, IfOutside, IsCaused, IsHalted, IsTold, Knows, OfAnswer, Shown}
+use Rattle.lane_system.specs.States.{now_of, since_in}
 use Rattle.lane_system.specs.Steps.{HasEnded, IsEndedAs, Stepped}
-use Rattle.lane_system.proofs.Endings.{IsMine, IsRefused, IsSettled, answer_only, ends, failed_only, halted_is, halted_only, outside_only, pending_by}
+use Rattle.lane_system.proofs.Endings.{IsMine, IsRefused, IsSettled, answer_only, ends, failed_only, halted_is, halted_only, if_outside, outside_only, pending_by}
 use Rattle.lane_system.proofs.Family.{FamilyLaws, FsLaws}
 use Rattle.lane_system.proofs.Histories.{EndsUnshown, over_idle}
 use Rattle.lane_system.proofs.Places.{at_split}
-use Rattle.lane_system.proofs.Prefixes.{longer, since_is, state_all, state_is}
 use Rattle.lane_system.proofs.Seeing.{sees}
 use Rattle.lane_system.proofs.Taking.{told, told_after, told_facts, told_holds}
 
@@ -53,6 +47,7 @@ pub record Gives {F T W A : Type 0} (f : FsSpec F) (c : Family T W A) (limits : 
   pub answer : IfAnswer (Answers c.means lane number (placed (since_in limits old.books start) (now_of new.books)) new.books.history.items words) x
   pub known : IsTold f.view → Knows c.means (placed (since_in limits old.books start) (now_of new.books)) words x
   pub shown : Shown c.means (since_in limits old.books start) (f.view old.fs) old.books.halted (f.faults old.fs) (f.faults new.fs) words x
+  pub stray : IfOutside (λ path. c.means.strays words ≡ Some path) x
   pub full : IfAnswer (λ a. c.means.full a → limits.objects ≤ objects) x
   -- nothing of the lane is pending, unless a failed change ended all
   pub idle : new.books.halted ≡ false → NotPending lane (books_of new.books)
@@ -164,16 +159,16 @@ module _ {F T W A : Type 0} (f : FsSpec F) (c : Family T W A) (fl : FsLaws f) (c
       ((s.tells v told).0)
 
   caused_by : (v : View) → f.view old.fs ≡ Some v → (z : Ended A) → IsEndedAs c.doing.answer (c.means.strays words) outcome t' (f.faults new.fs) z → IsCaused old.books.halted (f.faults old.fs) (f.faults new.fs) z
-  caused_by v told ended.DiskFault is = ⊎_elim
-      (λ failed. (let s = subst (λ (o : Outcome). Stepped f c.tasks actor lane number y.between refs' o t t' old new) failed y.step in (s.cause v told).1))
-      (λ refused. absurd (never_refused v told refused))
+  caused_by v told_v ended.DiskFault is = ⊎_elim
+      (λ failed. (let s = subst (λ (o : Outcome). Stepped f c.tasks actor lane number y.between refs' o t t' old new) failed y.step in (s.cause v told_v).1))
+      (λ refused. absurd (never_refused v told_v refused))
       (failed_only c.doing.answer (c.means.strays words) t' (f.faults new.fs) outcome is)
-  caused_by v told (ended.Halted n) is = λ live.
+  caused_by v told_v (ended.Halted n) is = λ live.
       (let h = halted_only c.doing.answer (c.means.strays words) t' (f.faults new.fs) outcome n is in
-      let s = subst (λ (o : Outcome). Stepped f c.tasks actor lane number y.between refs' o t t' old new) h.0 y.step in (s.cause v told).1)
-  caused_by v told (ended.Answered a) is = tt
-  caused_by v told ended.NoMemory is = tt
-  caused_by v told (ended.Outside path) is = tt
+      let s = subst (λ (o : Outcome). Stepped f c.tasks actor lane number y.between refs' o t t' old new) h.0 y.step in (s.cause v told_v).1)
+  caused_by v told_v (ended.Answered a) is = tt
+  caused_by v told_v ended.NoMemory is = tt
+  caused_by v told_v (ended.Outside path) is = tt
 
   knows : IsTold f.view → (z : Ended A) → x ≡ z → IsEndedAs c.doing.answer (c.means.strays words) outcome t' (f.faults new.fs) z → Knows c.means (placed since (now_of new.books)) words z
   knows is_told (ended.Answered a) e is = knows_a a e is_told
@@ -226,8 +221,7 @@ module _ {F T W A : Type 0} (f : FsSpec F) (c : Family T W A) (fl : FsLaws f) (c
       let step = subst (λ (o : Outcome). Stepped f c.tasks actor lane number y.between refs' o t t' old new) s.0 y.step in
       let l = step.tells v is_v in
       let one : Some l.0 ≡ Some w = sym l.1 ∙ is_w in
-      let q : l.0 ≡ w = cc in
-      (
+      let q : l.0 ≡ w = cc in (
         subst (c.means.changes since words) (sym event) (cl.commands.changes.settled since words t s.1.entry.event after s.1.kind),
         cl.commands.changes.kept since opening lane words t t' v w (books_of old.books) right after (facts v is_v) (subst (c.tasks.leaves t (turn.Done tt) t' v) q l.2) (subst IsSettle (sym s.1.kind) tt),
       )))
@@ -240,6 +234,7 @@ module _ {F T W A : Type 0} (f : FsSpec F) (c : Family T W A) (fl : FsLaws f) (c
     answer = if_answer _ x answer_a;
     known = λ is_told. knows is_told x refl by;
     shown = λ v told. (if_answer _ x (λ a is. shows_a a is v told), caused_by v told x by);
+    stray = if_outside c.doing.answer (c.means.strays words) t' (f.faults new.fs) outcome x by;
     full = if_answer _ x full_a;
     idle = λ live. ⊎_elim (λ idle. idle) (λ h. absurd (let z : true ≡ false = sym (halted_so h).0 ∙ live in cc)) (ended_or outcome refl end);
     halts = λ h. halted_so (halts_of x refl h);

@@ -1,18 +1,16 @@
 -- What an act keeps of each lane.
-use Rattle.std.proofs.Common.{◌≡◌, ◌≢◌, ◌⊎◌, inl, inr, ⊎_elim, ◌<◌, ◌≤◌, ◌+◌, ℕ, true, false, refl, sym, ◌∙◌, ap, subst, arith, List, [], ◌∷◌, ◌++◌, take, length, length-append, Option, Some, None}
+use Rattle.std.proofs.Common.{◌≡◌, ◌≢◌, ◌⊎◌, ⊎_elim, ◌≤◌, ℕ, true, false, refl, sym, ◌∙◌, ap, subst, arith, List, [], ◌∷◌, ◌++◌, take, length, length-append, Option, Some, None}
 use Rattle.std.proofs.Math.Seq.{take-length}
 use Rattle.std.specs.Prelude.{vec_capacity}
 use Rattle.ost_types.specs.declared.limits.Limits.{Limits}
-use Rattle.fs_trait.specs.View.{View}
 use Rattle.rely_guarantee.specs.declared.books.Base.{Base}
 use Rattle.rely_guarantee.specs.declared.books.Entry.{Entry}
 use Rattle.rely_guarantee.specs.declared.event.Event.{Event}
 use Rattle.rely_guarantee.specs.declared.event.Event.TheVariants.{SetRef, DropRef, Pruned}
-use Rattle.rely_guarantee.specs.declared.kind.Outcome.{Outcome}
 use Rattle.rely_guarantee.specs.declared.kind.Outcome.TheVariants as came
 use Rattle.rely_guarantee.specs.Books.{Books, Spared, books_of}
 use Rattle.rely_guarantee.specs.Laws.{NotPending}
-use Rattle.rely_guarantee.specs.State.{State, after, events_of, first}
+use Rattle.rely_guarantee.specs.State.{State, first}
 use Rattle.rely_guarantee.proofs.Acting.{runs_kept}
 use Rattle.ref_book.specs.declared.book.RefBook.{RefBook}
 use Rattle.ref_book.specs.Tracks.{HasEventRoom, HasRoom}
@@ -25,14 +23,13 @@ use Rattle.lane_system.specs.declared.lane.Running.{Running}
 use Rattle.lane_system.specs.Acts.{Acts}
 use Rattle.lane_system.specs.Family.{Family, FsSpec}
 use Rattle.lane_system.specs.Kept.{IsLane, LaneKept, RunsIn, Started}
-use Rattle.lane_system.specs.LaneActs.{IsTaskOf, Takes, task_start}
+use Rattle.lane_system.specs.LaneActs.{Takes, task_start}
 use Rattle.lane_system.specs.Lanes.{IsAt, IsNext}
-use Rattle.lane_system.specs.Replies.{Answers, IfAnswer, IsHalted, IsReply, IsTold, Knows}
-use Rattle.lane_system.specs.States.{now_of, since_in, state_after, state_in}
-use Rattle.lane_system.specs.Steps.{Stepped}
+use Rattle.lane_system.specs.Replies.{Answers, IfAnswer, IfOutside, IsHalted, IsReply, IsTold, Knows}
+use Rattle.lane_system.specs.States.{now_of, since_in, state_in}
 use Rattle.lane_system.proofs.Family.{FamilyLaws, FsLaws}
 use Rattle.lane_system.proofs.Giving.{Gives}
-use Rattle.lane_system.proofs.Places.{at_one, at_split}
+use Rattle.lane_system.proofs.Places.{at_split}
 use Rattle.lane_system.proofs.Prefixes.{longer, reply_stays, since_is, state_all, state_is}
 use Rattle.lane_system.proofs.Taking.{told, told_after}
 
@@ -148,6 +145,7 @@ module _ {F T W A : Type 0} (f : FsSpec F) (c : Family T W A) (fl : FsLaws f) (c
               subst (λ (z : State). Knows c.means (placed (begun_in limits z) (state_in new.books r.place)) words r.answer) (sym s)
               (subst (λ (z : State). Knows c.means (placed (begun_in limits (state_in old.books start)) z) words r.answer) (sym p)
               (subst (Knows c.means (placed (since_in limits old.books start) (now_of new.books)) words) (sym answered) (g.known is_told)));
+          stray = subst (IfOutside (λ path. c.means.strays words ≡ Some path)) (sym answered) g.stray;
         }
 
     -- which reply it is

@@ -28,3 +28,4 @@ pub mod Coming
 pub mod Clauses
 pub mod Acted
 pub mod Holding
+pub mod Asking

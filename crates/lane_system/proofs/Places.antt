@@ -1,5 +1,5 @@
 -- Lists with one more element or another one, and the replies with one more.
-use Rattle.std.proofs.Common.{◌≡◌, ◌≢◌, ◌⊎◌, inl, inr, ⊎_elim, ◌<◌, ◌≤◌, ◌+◌, ℕ, zero, suc, Bool, nat_eq, nat_lt, true, false, refl, sym, ◌∙◌, ap, subst, arith, List, [], ◌∷◌, ◌++◌, length, length-append, get_or, set, length-set, get_or-set_same, get_or-set_other}
+use Rattle.std.proofs.Common.{◌≡◌, ◌≢◌, ◌⊎◌, inl, inr, ⊎_elim, ◌<◌, ◌≤◌, ◌+◌, ℕ, Bool, nat_eq, nat_lt, true, false, refl, sym, ◌∙◌, ap, arith, List, [], ◌∷◌, ◌++◌, length, length-append, get_or, set, length-set, get_or-set_same, get_or-set_other}
 use Rattle.std.proofs.lemmas.Bool.Decides.{nat_tests}
 use Rattle.std.proofs.lemmas.List.{get_or_default, get_or_append_left}
 use Rattle.std.proofs.Math.Seq.{get_or-append_seam}
@@ -11,6 +11,13 @@ below_or_at i n lt = go (nat_lt i n) refl
     go : (t : Bool) → nat_lt i n ≡ t → (i < n) ⊎ (i ≡ n)
     go true is = inl (grind (arith, nat_tests))
     go false is = inr (let more : n ≤ i = grind (arith, nat_tests) in omega (arith, more, lt))
+
+-- what a test found
+pub fewer : (a b : ℕ) → true ≡ nat_lt a b → a < b
+fewer a b is = grind (arith, nat_tests)
+
+pub not_fewer : (a b : ℕ) → false ≡ nat_lt a b → b ≤ a
+not_fewer a b is = grind (arith, nat_tests)
 
 -- at a place, and elsewhere
 pub here_or_apart : {P : Type 0} (l lane : ℕ) → (l ≡ lane → P) → (l ≢ lane → P) → P

@@ -7,7 +7,7 @@ use Rattle.rely_guarantee.specs.declared.books.Entry.{Entry}
 use Rattle.rely_guarantee.specs.Books.{Spared, books_of}
 use Rattle.rely_guarantee.specs.State.{State, first, after, events_of}
 use Rattle.command.specs.Meaning.{Meaning}
-use Rattle.command.specs.Since.{Since, begun_in, placed}
+use Rattle.command.specs.Since.{begun_in, placed}
 use Rattle.lane_system.specs.declared.lane.Reply.{Reply}
 use Rattle.lane_system.specs.Replies.{Answers, IfAnswer, IsReply, Knows}
 use Rattle.lane_system.specs.States.{now_of, since_in, state_after, state_in}
@@ -43,4 +43,5 @@ reply_stays {W} {A} told m limits begin h more lane number c r is = record {
   known = λ t.
       subst (λ (s : State). Knows m (placed (begun_in limits s) (state_after begin (h ++ more) r.place)) c r.answer) (sym (state_stays begin h more r.start (omega (arith, is.begun, is.within))))
       (subst (λ (p : State). Knows m (placed (begun_in limits (state_after begin h r.start)) p) c r.answer) (sym (state_stays begin h more r.place is.within)) (is.known t));
+  stray = is.stray;
 }

@@ -1,21 +1,19 @@
 -- What an act keeps of what was so since the opening.
-use Rattle.std.proofs.Common.{◌≡◌, ◌≢◌, ◌⊎◌, inl, inr, ⊎_elim, ◌<◌, ◌≤◌, ℕ, Bool, zero, suc, true, false, refl, sym, ◌∙◌, ap, subst, arith, List, [], ◌∷◌, ◌++◌, length, Contains, length-append, set, Option, Some, None}
+use Rattle.std.proofs.Common.{◌≡◌, ◌⊎◌, inl, inr, ⊎_elim, ◌<◌, ◌≤◌, ℕ, Bool, zero, suc, true, false, refl, sym, ◌∙◌, ap, subst, arith, List, [], ◌∷◌, ◌++◌, length, Contains, Some}
 use Rattle.ost_types.specs.declared.limits.Limits.{Limits}
 use Rattle.ost_types.specs.declared.object.ObjName.{ObjName}
-use Rattle.ost_types.specs.Path.{Name}
 use Rattle.fs_trait.specs.Change.{Left}
 use Rattle.fs_trait.specs.Count.{Rose, last}
 use Rattle.fs_trait.specs.Image.{Image, Told}
 use Rattle.fs_trait.specs.View.{Disk, View}
 use Rattle.rely_guarantee.specs.declared.books.Base.{Base}
 use Rattle.rely_guarantee.specs.declared.books.Entry.{Entry}
-use Rattle.rely_guarantee.specs.declared.books.Pending.{Pending}
 use Rattle.rely_guarantee.specs.declared.event.Event.{Event}
 use Rattle.rely_guarantee.specs.declared.event.Event.TheVariants.{SetRef, DropRef, Pruned}
-use Rattle.rely_guarantee.specs.Books.{Books, books_of}
+use Rattle.rely_guarantee.specs.Books.{books_of}
 use Rattle.rely_guarantee.specs.Lasting.{Outlasts, Stays, StaysFinished, StaysOn}
 use Rattle.rely_guarantee.specs.Rely.{Interference}
-use Rattle.rely_guarantee.specs.State.{Ascends, State, first}
+use Rattle.rely_guarantee.specs.State.{Ascends, first}
 use Rattle.rely_guarantee.specs.SystemInvariant.{Ordered}
 use Rattle.rely_guarantee.proofs.Finished.{finished_stays}
 use Rattle.rely_guarantee.proofs.Lasting.{next_doomed, none_out, stays_image}
@@ -28,25 +26,22 @@ use Rattle.command.specs.Removed.{removed_by}
 use Rattle.command.specs.Since.{Since, begun_in}
 use Rattle.lane_system.specs.declared.lane.Lane.{Lane}
 use Rattle.lane_system.specs.declared.lane.Reply.{Reply}
-use Rattle.lane_system.specs.declared.lane.Running.{Running}
-use Rattle.lane_system.specs.Acts.{Acts, EachChange, Fails}
-use Rattle.lane_system.specs.Causes.{AreCaused, AreCausedIn}
+use Rattle.lane_system.specs.Acts.{Acts, Fails}
+use Rattle.lane_system.specs.Causes.{AreCaused}
 use Rattle.lane_system.specs.Family.{Family, FsSpec}
-use Rattle.lane_system.specs.Founded.{AreFounded, AreFoundedIn, Sets}
+use Rattle.lane_system.specs.Founded.{AreFounded, Sets}
 use Rattle.lane_system.specs.Inside.{AreInside}
-use Rattle.lane_system.specs.Kept.{Kept}
 use Rattle.lane_system.specs.Lanes.{IsAt, IsCommand, IsTo}
 use Rattle.lane_system.specs.Lasting.{AreKept, IsChangeKept}
-use Rattle.lane_system.specs.Replies.{IfAnswer, IsCaused, IsFailure, IsOutside, IsTold, OfAnswer}
+use Rattle.lane_system.specs.Replies.{IfAnswer, IsCaused, IsFailure, IsOutside, OfAnswer}
 use Rattle.lane_system.specs.Said.{AreSaid, WasSeen}
-use Rattle.lane_system.specs.States.{now_of, since_in, state_after, state_in}
+use Rattle.lane_system.specs.States.{since_in, state_in}
 use Rattle.lane_system.specs.Staying.{AreStaying}
 use Rattle.lane_system.specs.System.{System}
-use Rattle.lane_system.proofs.Changing.{command_was, one_command, to_split}
 use Rattle.lane_system.proofs.Family.{FamilyLaws, FsLaws}
-use Rattle.lane_system.proofs.Giving.{Gives, if_answer, is_answer}
+use Rattle.lane_system.proofs.Giving.{if_answer, is_answer}
 use Rattle.lane_system.proofs.Places.{here_or_apart}
-use Rattle.lane_system.proofs.Prefixes.{longer, since_is, state_is}
+use Rattle.lane_system.proofs.Prefixes.{since_is}
 
 -- a count that rose has risen over any longer time
 rose_since : (before a b : ℕ) → before ≤ a → Rose a b → Rose before b
@@ -159,10 +154,14 @@ module _ {F T W A : Type 0} (f : FsSpec F) (c : Family T W A) (fl : FsLaws f) (c
 
   -- what they left outside of the store
   pub staying_on : removed_by (books_of old.books) ≡ [] → ((r : Reply A) (words : W) → IsNew r words → IfAnswer (λ a. c.means.stays (since_in limits old.books r.start) [] a words w (books_of new.books)) r.answer) → AreStaying c.means before v → Told (f.view new.fs) (λ u. AreStaying c.means behind u)
-  staying_on none new_one was = (w, told_w, λ a n r words to is. ⊎_elim
-      (λ there. subst (λ (s : Since). IfAnswer (λ x. c.means.stays s [] x words w (books_of new.books)) r.answer) (sym (since_same r.start (within a n r there))) (on r words (was a n r words there (commands a n words is))))
-      (λ given. subst (λ (s : Since). IfAnswer (λ x. c.means.stays s [] x words w (books_of new.books)) r.answer) (sym (since_same r.start (omega (arith, its_start r words given, early)))) (new_one r words given))
-      (split a n r words to is))
+  staying_on none new_one was = (
+    w,
+    told_w,
+    λ a n r words to is. ⊎_elim
+        (λ there. subst (λ (s : Since). IfAnswer (λ x. c.means.stays s [] x words w (books_of new.books)) r.answer) (sym (since_same r.start (within a n r there))) (on r words (was a n r words there (commands a n words is))))
+        (λ given. subst (λ (s : Since). IfAnswer (λ x. c.means.stays s [] x words w (books_of new.books)) r.answer) (sym (since_same r.start (omega (arith, its_start r words given, early)))) (new_one r words given))
+        (split a n r words to is),
+  )
     where
       on : (r : Reply A) (words : W) → IfAnswer (λ x. c.means.stays (since_in limits old.books r.start) [] x words v (books_of old.books)) r.answer → IfAnswer (λ x. c.means.stays (since_in limits old.books r.start) [] x words w (books_of new.books)) r.answer
       on r words so = if_answer _ r.answer (λ x is. subst (λ (out : List ObjName). c.means.stays (since_in limits old.books r.start) out x words w (books_of new.books)) (ap (λ (gone : List ObjName). gone ++ []) none)
@@ -187,18 +186,22 @@ module _ {F T W A : Type 0} (f : FsSpec F) (c : Family T W A) (fl : FsLaws f) (c
   -- what the changes made
   pub lasts_on : (opening : View) → ((k : ℕ) (e : Entry) (words : W) → IsAt new.books.history.items k e → length old.books.history.items ≤ k → IsCommand lanes' e.lane e.command words → IsRightSince opening v → c.means.changes (since_in limits old.books start) words e.event × c.means.keeps (since_in limits old.books start) opening [] words w)
       → AreKept c.means f.was opening before v → Told (f.view new.fs) (λ u. AreKept c.means f.was opening behind u)
-  lasts_on opening new_one was = (w, told_w, record {
-    right = λ name is. out.now.right name (was.right name is);
-    each = λ k e words at is. ⊎_elim
-        (λ there. on e words (was.each k e words there (commands e.lane e.command words is)))
-        (λ late. (let x = new_one k e words at late.0 is was.right in record {
-          start = state_in old.books start;
-          makes = x.0;
-          now = x.1;
-          since = λ t d le left. cl.commands.changes.keeps_on (since_in limits old.books start) opening [] [] words w d (image_of t d (omega (arith, le, late.1)) left) x.1;
-        }))
-        (acts.moments k e at);
-  })
+  lasts_on opening new_one was = (
+    w,
+    told_w,
+    record {
+      right = λ name is. out.now.right name (was.right name is);
+      each = λ k e words at is. ⊎_elim
+          (λ there. on e words (was.each k e words there (commands e.lane e.command words is)))
+          (λ late. (let x = new_one k e words at late.0 is was.right in record {
+            start = state_in old.books start;
+            makes = x.0;
+            now = x.1;
+            since = λ t d le left. cl.commands.changes.keeps_on (since_in limits old.books start) opening [] [] words w d (image_of t d (omega (arith, le, late.1)) left) x.1;
+          }))
+          (acts.moments k e at);
+    },
+  )
     where
       on : (e : Entry) (words : W) → IsChangeKept c.means (f.was old.fs) opening limits e words v → IsChangeKept c.means (f.was new.fs) opening limits e words w
       on e words x = record {
@@ -222,20 +225,24 @@ module _ {F T W A : Type 0} (f : FsSpec F) (c : Family T W A) (fl : FsLaws f) (c
   pub founded_on : (opening : View) → CommitsAreFiles v.now → ((r : Reply A) (words : W) → IsNew r words → IfAnswer (λ a. c.means.shows (since_in limits old.books r.start) v a words) r.answer) → ((a n : ℕ) (r : Reply A) → IsTo lanes' a n r → (words : W) × IsCommand lanes' a n words)
       → ((a n : ℕ) (r : Reply A) → IsTo lanes a n r → r.place ≤ length old.books.history.items)
       → AreFounded c.means opening before v → Told (f.view new.fs) (λ u. AreFounded c.means opening behind u)
-  founded_on opening files new_one has placed was = (w, told_w, record {
-    stays = λ commit is. finished_stays [] v w commit out.now (none_out _) (was.stays commit is);
-    each = (let x = acts.founded v told was.each in record { lasting = λ k e at. founds_stay v w out.now e.event (x.lasting k e at); shown = λ p is. founds_stay v w out.now p.event (x.shown p is) });
-    present = record {
-      finished = λ a n r commit to lacks is. (let x = has a n r to in ⊎_elim
-          (λ there. was.present.finished a n r commit there lacks is)
-          (λ given. never r x.0 commit given lacks (was.stays commit is))
-          (split a n r x.0 to x.1));
-      set = λ a n r commit to lacks k e at lt sets. (let x = has a n r to in ⊎_elim
-          (λ there. was.present.set a n r commit there lacks k e (entry_was k e at (omega (arith, lt, placed a n r there))) lt sets)
-          (λ given. never r x.0 commit given lacks (set_lasts v commit e.event ((acts.founded v told was.each).lasting k e at) sets))
-          (split a n r x.0 to x.1));
-    };
-  })
+  founded_on opening files new_one has placed was = (
+    w,
+    told_w,
+    record {
+      stays = λ commit is. finished_stays [] v w commit out.now (none_out _) (was.stays commit is);
+      each = (let x = acts.founded v told was.each in record { lasting = λ k e at. founds_stay v w out.now e.event (x.lasting k e at); shown = λ p is. founds_stay v w out.now p.event (x.shown p is) });
+      present = record {
+        finished = λ a n r commit to lacks is. (let x = has a n r to in ⊎_elim
+            (λ there. was.present.finished a n r commit there lacks is)
+            (λ given. never r x.0 commit given lacks (was.stays commit is))
+            (split a n r x.0 to x.1));
+        set = λ a n r commit to lacks k e at lt sets. (let x = has a n r to in ⊎_elim
+            (λ there. was.present.set a n r commit there lacks k e (entry_was k e at (omega (arith, lt, placed a n r there))) lt sets)
+            (λ given. never r x.0 commit given lacks (set_lasts v commit e.event ((acts.founded v told was.each).lasting k e at) sets))
+            (split a n r x.0 to x.1));
+      };
+    },
+  )
     where
       never : (r : Reply A) (words : W) (commit : List ℕ) → IsNew r words → OfAnswer (λ a. c.means.lacks a commit) r.answer → StaysFinished v commit → ⊥
       never r words commit given lacks lasts =

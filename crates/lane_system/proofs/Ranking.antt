@@ -1,5 +1,5 @@
 -- How far an act brings its lane, and that rounds end.
-use Rattle.std.proofs.Common.{◌≡◌, ◌≢◌, ◌⊎◌, inl, inr, ⊎_elim, ◌<◌, ◌≤◌, ◌+◌, ◌-◌, ◌*◌, ℕ, zero, suc, refl, sym, ◌∙◌, ap, subst, arith, List, [], ◌∷◌, length, set, get_or, Option, Some, None}
+use Rattle.std.proofs.Common.{◌≡◌, ◌≢◌, ◌<◌, ◌≤◌, ◌+◌, ◌-◌, ℕ, zero, suc, refl, sym, ◌∙◌, ap, subst, arith, List, [], ◌∷◌, length, set, None}
 use Rattle.command.specs.Doing.{Doing, most}
 use Rattle.lane_system.specs.declared.lane.Lane.{Lane}
 use Rattle.lane_system.specs.Lanes.{IsAt}
@@ -45,6 +45,16 @@ rank_some (suc n) left some = refl
 rank_few : (n left : ℕ) → left ≤ most → rank_by n left ≤ most
 rank_few zero left few = omega arith
 rank_few (suc n) left few = few
+
+-- the number of a lane with commands to come, and of one without
+pub rank_over : {T W A : Type 0} (d : Doing T W A) (lanes : List (Lane T W A)) (i : ℕ) (l : Lane T W A) → IsAt lanes i l → length l.words.items ≤ length l.replies.items → at_lane (rank_of d) lanes i ≡ 0
+rank_over d lanes i l at most = at_lane_here (rank_of d) lanes i l at ∙ ap (λ n. rank_by n (left_of d l.task)) none
+  where
+    none : to_come l ≡ 0
+    none = omega (arith, most)
+
+pub rank_next : {T W A : Type 0} (d : Doing T W A) (lanes : List (Lane T W A)) (i : ℕ) (l : Lane T W A) → IsAt lanes i l → length l.replies.items < length l.words.items → at_lane (rank_of d) lanes i ≡ left_of d l.task
+rank_next d lanes i l at few = at_lane_here (rank_of d) lanes i l at ∙ rank_some (to_come l) (left_of d l.task) (omega (arith, few))
 
 module _ {T W A : Type 0} (d : Doing T W A) (l l' : Lane T W A) (words : l'.words ≡ l.words) (few : length l.replies.items < length l.words.items) where
   some : 0 < to_come l

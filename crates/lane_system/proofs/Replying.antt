@@ -1,20 +1,19 @@
 -- What the replies say, and what the commands that run hold, by what a system keeps.
-use Rattle.std.proofs.Common.{◌≡◌, ◌≤◌, ◌<◌, ℕ, false, refl, sym, ◌∙◌, ap, subst, List, length, Option, Some}
+use Rattle.std.proofs.Common.{◌≡◌, ℕ, true, sym, subst, List}
 use Rattle.ost_types.specs.declared.limits.Limits.{Limits}
-use Rattle.fs_trait.specs.View.{View}
 use Rattle.rely_guarantee.specs.declared.books.Base.{Base}
 use Rattle.rely_guarantee.specs.Books.{books_of}
-use Rattle.rely_guarantee.specs.State.{first}
 use Rattle.ref_book.specs.declared.book.RefBook.{RefBook}
+use Rattle.command.specs.declared.ended.Ended.TheVariants.{Halted}
 use Rattle.lane_system.specs.declared.lane.Lane.{Lane}
 use Rattle.lane_system.specs.declared.lane.Reply.{Reply}
-use Rattle.lane_system.specs.declared.lane.Running.{Running}
 use Rattle.lane_system.specs.Booked.{IsReplied}
 use Rattle.lane_system.specs.Family.{Family, FsSpec}
 use Rattle.lane_system.specs.Held.{Held}
 use Rattle.lane_system.specs.Kept.{Kept, RunsIn}
-use Rattle.lane_system.specs.Lanes.{IsAt, IsCommand, IsRunning, IsTo}
+use Rattle.lane_system.specs.Lanes.{IsAt, IsTo}
 use Rattle.lane_system.specs.Ranks.{AreWithin}
+use Rattle.lane_system.specs.Replies.{IsHalted}
 use Rattle.lane_system.specs.States.{since_in}
 use Rattle.lane_system.specs.System.{System}
 use Rattle.lane_system.proofs.Changing.{one_command}
@@ -42,6 +41,9 @@ module _ {F T W A : Type 0} (f : FsSpec F) (c : Family T W A) (limits : Limits) 
 
   pub within_of : AreWithin s
   within_of lane l at = (kept.each lane l at).is.within
+
+  pub halted_of : (lane number : ℕ) (r : Reply A) → IsTo lanes lane number r → IsHalted r.answer → (base.books.halted ≡ true) × (r.answer ≡ Halted (f.faults base.fs))
+  halted_of lane number r to is = (kept.each lane to.0 to.1).halts number r to.2 is
 
   module _ (cl : FamilyLaws c) where
     pub held_of : Held f.view c s

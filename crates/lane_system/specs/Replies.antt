@@ -1,13 +1,14 @@
 -- What a reply says.
 use Rattle.std.specs.Prelude.{◌≡◌, ◌≤◌, ◌++◌, ◌∷◌, [], ℕ, Bool, false, List, length, take, Option, Some}
 use Rattle.ost_types.specs.declared.limits.Limits.{Limits}
+use Rattle.ost_types.specs.Path.{Path}
 use Rattle.fs_trait.specs.Count.{Rose}
 use Rattle.fs_trait.specs.View.{View}
 use Rattle.rely_guarantee.specs.declared.books.Entry.{Entry}
 use Rattle.rely_guarantee.specs.declared.event.Event.{Event}
 use Rattle.rely_guarantee.specs.State.{State}
 use Rattle.command.specs.declared.ended.Ended.{Ended}
-use Rattle.command.specs.declared.ended.Ended.TheVariants.{Answered, NoMemory, DiskFault, Outside, Halted}
+use Rattle.command.specs.declared.ended.Ended.TheVariants.{Answered, DiskFault, Outside, Halted}
 use Rattle.command.specs.Meaning.{Meaning}
 use Rattle.command.specs.Since.{Since, begun_in, placed}
 use Rattle.lane_system.specs.declared.lane.Reply.{Reply}
@@ -43,6 +44,11 @@ abbrev pub IfAnswer : {A : Type 0} → (A → Type 0) → Ended A → Type 0
 IfAnswer P (Answered a) = P a
 IfAnswer P x = Unit {0}
 
+-- and of the path of one that tells that something else changed what stands there
+abbrev pub IfOutside : {A : Type 0} → (Path → Type 0) → Ended A → Type 0
+IfOutside P (Outside path) = P path
+IfOutside P x = Unit {0}
+
 -- the last of these changes is this one, made by this command of the lane
 abbrev pub HasMade : ℕ → ℕ → (Event → Type 0) → List Entry → Type 0
 HasMade lane number IsIt entries = (before : List Entry) × (last : Entry) × (entries ≡ before ++ last ∷ []) × (last.lane ≡ lane) × (last.command ≡ number) × IsIt last.event
@@ -67,9 +73,11 @@ IsCaused halted before now x = Unit {0}
 abbrev pub Shown : {W A : Type 0} → Meaning W A → Since → Option View → Bool → ℕ → ℕ → W → Ended A → Type 0
 Shown m since view halted before now c x = (v : View) → view ≡ Some v → IfAnswer (λ a. m.shows since v a c) x × IsCaused halted before now x
 
--- A reply to a command of a lane: by the state at its start and the one at its place, which come in this order.
+-- A reply to a command of a lane: by the state at its start and the one at its place, which come in this order. A path at which something
+-- else changed what stands there is the command's.
 pub record IsReply {W A : Type 0} (told : Type 0) (m : Meaning W A) (limits : Limits) (begin : State) (entries : List Entry) (lane number : ℕ) (c : W) (r : Reply A) : Type 0 where
   pub begun : r.start ≤ r.place
   pub within : r.place ≤ length entries
   pub answer : IfAnswer (Answers m lane number (placed (begun_in limits (state_after begin entries r.start)) (state_after begin entries r.place)) (take r.place entries) c) r.answer
   pub known : told → Knows m (placed (begun_in limits (state_after begin entries r.start)) (state_after begin entries r.place)) c r.answer
+  pub stray : IfOutside (λ path. m.strays c ≡ Some path) r.answer
