@@ -1,13 +1,10 @@
 -- An act keeps what is so of all replies with the history.
-use Rattle.std.proofs.Common.{◌≡◌, ◌≢◌, ◌⊎◌, inl, inr, ⊎_elim, ◌<◌, ◌≤◌, ◌+◌, ◌*◌, ℕ, suc, refl, sym, ◌∙◌, ap, subst, arith, List, [], ◌∷◌, ◌++◌, length, length-append, set, false, true, Option, Some, None}
+use Rattle.std.proofs.Common.{◌≡◌, ◌⊎◌, inl, inr, ⊎_elim, ◌≤◌, ◌+◌, ◌*◌, ℕ, suc, refl, sym, ◌∙◌, ap, subst, arith, List, [], ◌∷◌, ◌++◌, length, length-append, set, Option, Some, None}
 use Rattle.ost_types.specs.declared.limits.Limits.{Limits}
-use Rattle.rely_guarantee.specs.declared.books.Base.{Base}
 use Rattle.rely_guarantee.specs.declared.books.Books as rust
 use Rattle.rely_guarantee.specs.declared.books.Entry.{Entry}
 use Rattle.rely_guarantee.specs.declared.books.Pending.{Pending}
-use Rattle.rely_guarantee.specs.declared.kind.Outcome.TheVariants as came
 use Rattle.rely_guarantee.specs.Books.{Spared, books_of}
-use Rattle.rely_guarantee.specs.State.{State, first}
 use Rattle.command.specs.declared.ended.Ended.{Ended}
 use Rattle.command.specs.Meaning.{Meaning}
 use Rattle.command.specs.Since.{Since, begun_in}
@@ -17,10 +14,10 @@ use Rattle.lane_system.specs.declared.lane.Running.{Running}
 use Rattle.lane_system.specs.Kept.{Accounted}
 use Rattle.lane_system.specs.LaneActs.{task_start}
 use Rattle.lane_system.specs.Lanes.{IsAt, IsCommand, IsNext, IsRunning, IsTo, count_of}
-use Rattle.lane_system.specs.Replied.{IsPendingOf, WasMade}
+use Rattle.lane_system.specs.Replied.{WasMade}
 use Rattle.lane_system.specs.Replies.{IsHalted, OfAnswer}
-use Rattle.lane_system.specs.States.{since_in, state_after, state_in}
-use Rattle.lane_system.proofs.Changing.{command_stays, command_was, count_more, count_same, numbered_more, numbered_same, running_apart, running_here, running_was, to_new, to_same, to_split, to_stays}
+use Rattle.lane_system.specs.States.{since_in}
+use Rattle.lane_system.proofs.Changing.{command_stays, count_more, count_same, numbered_more, numbered_same, running_apart, running_here, running_was, to_new, to_same, to_stays}
 use Rattle.lane_system.proofs.Giving.{Grows}
 use Rattle.lane_system.proofs.Places.{at_split, here_or_apart}
 use Rattle.lane_system.proofs.Prefixes.{longer, state_is}

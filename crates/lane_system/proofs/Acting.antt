@@ -1,5 +1,5 @@
 -- One act of one lane keeps what a system keeps.
-use Rattle.std.proofs.Common.{◌≡◌, ◌≢◌, ◌⊎◌, inl, inr, ⊎_elim, ◌<◌, ◌≤◌, ◌+◌, ℕ, true, false, refl, sym, ◌∙◌, ap, subst, arith, List, [], ◌∷◌, ◌++◌, length, length-append, set, length-set, get_or, Option, Some, None}
+use Rattle.std.proofs.Common.{◌≡◌, ◌⊎◌, inl, inr, ⊎_elim, ◌<◌, ◌≤◌, ◌+◌, ℕ, true, false, refl, sym, ◌∙◌, ap, subst, arith, List, [], ◌∷◌, ◌++◌, length, set, length-set, Option, Some, None}
 use Rattle.std.proofs.lemmas.List.{set-get_or}
 use Rattle.std.specs.Prelude.{vec_capacity}
 use Rattle.std.specs.Global.{Vec}
@@ -20,7 +20,6 @@ use Rattle.ref_book.specs.Tracks.{HasRoom, Tracks}
 use Rattle.ost_types.specs.declared.object.ObjName.{ObjName}
 use Rattle.command.specs.declared.ended.Ended.{Ended}
 use Rattle.command.specs.declared.ended.Ended.TheVariants as ended
-use Rattle.command.specs.Since.{Since}
 use Rattle.lane_system.specs.declared.act.Came.{Came}
 use Rattle.lane_system.specs.declared.act.Came.TheVariants.{Answered, Blocked, More}
 use Rattle.lane_system.specs.declared.lane.Lane.{Lane}
@@ -34,7 +33,7 @@ use Rattle.lane_system.specs.Lanes.{IsAt, IsRunning, IsTo}
 use Rattle.lane_system.specs.Pins.{AreInWork, IsWorkOf}
 use Rattle.lane_system.specs.Replies.{IsTold}
 use Rattle.lane_system.specs.States.{now_of, since_in}
-use Rattle.lane_system.specs.Steps.{HasEnded, Stepped}
+use Rattle.lane_system.specs.Steps.{Stepped}
 use Rattle.lane_system.proofs.Accounting.{accounted_given, accounted_more}
 use Rattle.lane_system.proofs.AtOnce.{at_once_gives}
 use Rattle.lane_system.proofs.Changing.{running_was}
@@ -42,7 +41,7 @@ use Rattle.lane_system.proofs.Endings.{IsMine, more_history, pending_by}
 use Rattle.lane_system.proofs.Family.{FamilyLaws, FsLaws}
 use Rattle.lane_system.proofs.Giving.{Gives, taken_gives}
 use Rattle.lane_system.proofs.Keeping.{kept_given, kept_more, others_kept, started_stays}
-use Rattle.lane_system.proofs.Locking.{TakesNone, locked_ended, locked_more, locked_same, pinned_ended, pinned_more, pinned_same}
+use Rattle.lane_system.proofs.Locking.{locked_ended, locked_more, locked_same, pinned_ended, pinned_more, pinned_same}
 use Rattle.lane_system.proofs.Places.{at_set_back, at_set_is, here_or_apart}
 use Rattle.lane_system.proofs.Taking.{taken_acts, told, told_after, told_facts}
 
@@ -152,8 +151,7 @@ module _ {F T W A : Type 0} (f : FsSpec F) (c : Family T W A) (fl : FsLaws f) (c
 
     works : (name : ObjName) → pin_in (c.tasks.kind t) ≡ Some name → IsWorkOf (IsTold f.view) c.means (since_in limits old.books r'.start) x.words name
     works name is =
-        let w = pin_asked (c.tasks.kind t) name is in
-        (
+        let w = pin_asked (c.tasks.kind t) name is in (
           cl.commands.store.works (since_in limits old.books r'.start) x.words t w.0 name after w.1 w.2,
           λ is_told. (let v = fl.is.told is_told.0 old.fs is_told.1 is_told.2 in
               cl.commands.store.reaches (since_in limits old.books r'.start) lane x.words t v.0 (books_of old.books) w.0 name after (told_facts f c fl cl limits lane lane (length l.replies.items) refs refs' objects old new x.words l.task came.More t' y v.0 v.1) w.1 w.2),
@@ -191,13 +189,13 @@ module _ {F T W A : Type 0} (f : FsSpec F) (c : Family T W A) (fl : FsLaws f) (c
       few = kept.few;
       homes = kept.homes;
       each = λ a y is. (let z = kept.each a y is in record {
-            is = z.is;
-            runs = z.runs;
-            started = λ r task. started_stays f c fl cl limits lane lane refs refs' old old (nothing_acts f fl lane lane old refs refs' kept.sound tracks x.rooms) y r (z.started r task);
-            replies = z.replies;
-            in_order = z.in_order;
-            halts = z.halts;
-          });
+        is = z.is;
+        runs = z.runs;
+        started = λ r task. started_stays f c fl cl limits lane lane refs refs' old old (nothing_acts f fl lane lane old refs refs' kept.sound tracks x.rooms) y r (z.started r task);
+        replies = z.replies;
+        in_order = z.in_order;
+        halts = z.halts;
+      });
       locked = kept.locked;
       pins = kept.pins;
       accounted = kept.accounted;

@@ -1,10 +1,10 @@
 -- How far an act brings its lane.
-use Rattle.std.proofs.Common.{◌≡◌, ◌≢◌, ◌<◌, ◌≤◌, ◌+◌, ℕ, refl, sym, ◌∙◌, ap, subst, arith, List, [], ◌∷◌, ◌++◌, length, length-append, set, Option, Some, None}
+use Rattle.std.proofs.Common.{◌≡◌, ◌≢◌, ◌<◌, ℕ, sym, ◌∙◌, ap, subst, arith, [], ◌∷◌, ◌++◌, length, length-append, Option, Some, None}
 use Rattle.ost_types.specs.declared.limits.Limits.{Limits}
 use Rattle.rely_guarantee.specs.declared.books.Base.{Base}
 use Rattle.rely_guarantee.specs.declared.kind.Outcome.TheVariants as came
 use Rattle.ref_book.specs.declared.book.RefBook.{RefBook}
-use Rattle.command.specs.Doing.{Doing, most}
+use Rattle.command.specs.Doing.{Doing}
 use Rattle.lane_system.specs.declared.ask.Ask.{Ask}
 use Rattle.lane_system.specs.declared.ask.Ask.TheVariants as ask
 use Rattle.lane_system.specs.declared.lane.Lane.{Lane}

@@ -1,5 +1,5 @@
 -- The laws of the file system and of the family of commands, each as one value.
-use Rattle.std.proofs.Common.{◌≡◌, ◌≤◌, ℕ, Option, Some}
+use Rattle.std.proofs.Common.{◌≡◌, ◌≤◌, ℕ, Some}
 use Rattle.fs_trait.specs.Image.{IsTree}
 use Rattle.fs_trait.specs.View.{View}
 use Rattle.rely_guarantee.specs.Laws.{Laws}

@@ -1,5 +1,5 @@
 -- Which lane holds another off.
-use Rattle.std.proofs.Common.{◌≡◌, ◌≢◌, ◌⊎◌, inl, inr, ⊎_elim, ◌<◌, ◌≤◌, ℕ, Bool, true, false, refl, sym, ◌∙◌, ap, subst, List, length, Option, Some, None}
+use Rattle.std.proofs.Common.{◌≡◌, ◌≢◌, ◌⊎◌, inl, inr, ⊎_elim, ℕ, Bool, true, false, refl, sym, ◌∙◌, ap, subst, List, length, Option, Some, None}
 use Rattle.ost_types.specs.declared.limits.Limits.{Limits}
 use Rattle.rely_guarantee.specs.declared.books.Base.{Base}
 use Rattle.rely_guarantee.specs.declared.kind.Outcome.{Outcome}
@@ -12,10 +12,8 @@ use Rattle.ref_book.specs.declared.book.RefBook.{RefBook}
 use Rattle.command.specs.declared.ended.Ended.{Ended}
 use Rattle.command.specs.declared.ended.Ended.TheVariants as ended
 use Rattle.command.specs.StepLaws.{AsksForRefs}
-use Rattle.lane_system.specs.declared.act.Came.{Came}
 use Rattle.lane_system.specs.declared.act.Came.TheVariants.{Answered, Blocked, More}
 use Rattle.lane_system.specs.declared.lane.Lane.{Lane}
-use Rattle.lane_system.specs.declared.lane.Running.{Running}
 use Rattle.lane_system.specs.Booked.{HasCommand}
 use Rattle.lane_system.specs.Family.{Family, FsSpec}
 use Rattle.lane_system.specs.Kept.{Kept}

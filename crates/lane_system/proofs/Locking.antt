@@ -1,5 +1,5 @@
 -- Whose the locks are and which objects are pinned, over an act.
-use Rattle.std.proofs.Common.{◌≡◌, ◌≢◌, ◌⊎◌, inl, inr, ⊎_elim, ◌≤◌, ◌<◌, ℕ, Bool, true, false, refl, sym, ◌∙◌, ap, subst, arith, List, [], ◌∷◌, ◌++◌, length, set, Contains, Option, Some, None}
+use Rattle.std.proofs.Common.{◌≡◌, ◌≢◌, ◌⊎◌, inl, inr, ⊎_elim, ◌≤◌, ℕ, Bool, true, false, refl, sym, ◌∙◌, ap, subst, List, length, set, Contains, Option, Some, None}
 use Rattle.ost_types.specs.declared.limits.Limits.{Limits}
 use Rattle.ost_types.specs.declared.object.ObjName.{ObjName}
 use Rattle.rely_guarantee.specs.declared.books.Books as rust
@@ -8,9 +8,9 @@ use Rattle.rely_guarantee.specs.declared.kind.Outcome.{Outcome}
 use Rattle.rely_guarantee.specs.declared.kind.Outcome.TheVariants as came
 use Rattle.rely_guarantee.specs.declared.kind.Wants.{Wants}
 use Rattle.rely_guarantee.specs.Books.{Spared, books_of}
-use Rattle.rely_guarantee.specs.Exact.{IsGivenUp, IsLeft, Locks, exclusive_in, lock_taken, turn_in}
+use Rattle.rely_guarantee.specs.Exact.{IsGivenUp, Locks, exclusive_in, lock_taken, turn_in}
 use Rattle.rely_guarantee.specs.Laws.{Kind, Quiet, Store, Take, Claim, Show, Shown, Settle}
-use Rattle.rely_guarantee.specs.Pinning.{ArePinned, pin_in, with_pin, without}
+use Rattle.rely_guarantee.specs.Pinning.{ArePinned, with_pin, without}
 use Rattle.rely_guarantee.proofs.Pinning.{with_cases, without_cases}
 use Rattle.command.specs.Meaning.{Meaning}
 use Rattle.command.specs.Since.{Since, begun_in}

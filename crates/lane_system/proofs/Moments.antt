@@ -1,5 +1,5 @@
 -- The moments of changes, and the count of failed calls, over a step.
-use Rattle.std.proofs.Common.{◌≡◌, ◌⊎◌, inl, inr, ⊎_elim, ◌≤◌, ℕ, refl, sym, subst, arith, List, ◌∷◌, ◌++◌, [], length, Bool, Option, Some}
+use Rattle.std.proofs.Common.{◌≡◌, ◌⊎◌, inl, inr, ⊎_elim, ◌≤◌, ℕ, refl, sym, subst, arith, List, ◌∷◌, ◌++◌, [], length, Bool}
 use Rattle.rely_guarantee.specs.declared.books.Books as rust
 use Rattle.rely_guarantee.specs.declared.books.Entry.{Entry}
 use Rattle.rely_guarantee.specs.declared.event.Event.{Event}
@@ -51,4 +51,3 @@ fails_by before now came.Blocked old new cause live = (cause.0, λ was is. cc)
 fails_by before now came.More old new cause live = (cause.0, λ was is. cc)
 fails_by before now came.Done old new cause live = (cause.0, λ was is. cc)
 fails_by before now (came.Refused e) old new cause live = (cause.0, λ was is. cc)
-

@@ -1,16 +1,15 @@
 -- That rounds end: each act of a lane with a command leaves less to do, or the lane is held off; and who holds it off isn't.
-use Rattle.std.proofs.Common.{◌≡◌, ◌≢◌, ◌⊎◌, inl, inr, ⊎_elim, ◌<◌, ◌≤◌, ◌+◌, ◌*◌, ℕ, Bool, true, false, nat_lt, refl, sym, ◌∙◌, ap, subst, arith, List, length, map, set, Option, Some}
+use Rattle.std.proofs.Common.{◌≡◌, ◌≢◌, ◌⊎◌, inl, inr, ⊎_elim, ◌<◌, ◌≤◌, ◌+◌, ℕ, Bool, true, false, nat_lt, refl, sym, ◌∙◌, ap, subst, arith, length, Some}
 use Rattle.std.proofs.lemmas.Bool.Decides.{nat_tests}
 use Rattle.command.specs.declared.ended.Ended.{Ended}
-use Rattle.command.specs.Doing.{Doing, most}
+use Rattle.command.specs.Doing.{Doing}
 use Rattle.lane_system.specs.declared.ask.Ask.{Ask}
 use Rattle.lane_system.specs.declared.ask.Ask.TheVariants as ask
 use Rattle.lane_system.specs.declared.lane.Lane.{Lane}
 use Rattle.lane_system.specs.Booked.{Acted, HasCommand, Moves}
-use Rattle.lane_system.specs.Lanes.{IsAt}
 use Rattle.lane_system.specs.Ranks.{AreWithin, HasEnded, IsHeldOff, IsOver, Ranked, at_lane, commands_left, left_in_all, rank, rank_of, to_come, total, work_left}
 use Rattle.lane_system.specs.System.{System}
-use Rattle.lane_system.proofs.Places.{at_one, below_or_at}
+use Rattle.lane_system.proofs.Places.{below_or_at}
 use Rattle.lane_system.proofs.Ranking.{at_lane_here, at_lane_set, total_less}
 
 module _ {F T W A : Type 0} (d : Doing T W A) where

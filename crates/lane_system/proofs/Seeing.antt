@@ -1,5 +1,5 @@
 -- What the last step of a command sees of the state.
-use Rattle.std.proofs.Common.{◌≡◌, ◌≢◌, ◌⊎◌, inl, inr, ⊎_elim, ℕ, refl, sym, ◌∙◌, ap, subst, List, [], ◌∷◌, ◌++◌, Option, Some, None}
+use Rattle.std.proofs.Common.{◌≡◌, ◌≢◌, inl, inr, ⊎_elim, ℕ, refl, sym, ◌∙◌, ap, subst, List, [], ◌∷◌, ◌++◌, Option, Some, None}
 use Rattle.fs_trait.specs.View.{View}
 use Rattle.fs_trait.specs.Image.{IsTree}
 use Rattle.fs_trait.proofs.Images.{Image-now}

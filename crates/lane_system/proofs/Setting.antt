@@ -5,10 +5,9 @@ use Rattle.rely_guarantee.specs.declared.books.Books as rust
 use Rattle.rely_guarantee.specs.declared.books.Entry.{Entry}
 use Rattle.rely_guarantee.specs.declared.books.Pending.{Pending}
 use Rattle.rely_guarantee.specs.declared.event.Event.{Event}
-use Rattle.rely_guarantee.specs.declared.event.Event.TheVariants.{SetRef, DropRef}
 use Rattle.rely_guarantee.specs.declared.kind.Outcome.{Outcome}
 use Rattle.rely_guarantee.specs.declared.kind.Outcome.TheVariants as came
-use Rattle.rely_guarantee.specs.Books.{Books, books_of}
+use Rattle.rely_guarantee.specs.Books.{books_of}
 use Rattle.rely_guarantee.specs.Exact.{IsBooked, IsNoted, IsUnbooked}
 use Rattle.rely_guarantee.specs.Laws.{Kind, Quiet, Store, Take, Claim, Show, Shown, Settle, Holds}
 use Rattle.command.specs.ChangeLaws.{Founds}

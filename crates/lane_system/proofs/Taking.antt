@@ -1,5 +1,5 @@
 -- What a step of a lane's task does that others may rely on.
-use Rattle.std.proofs.Common.{◌≡◌, ◌≢◌, ◌⊎◌, inl, inr, ⊎_elim, ◌<◌, ◌≤◌, ℕ, true, false, refl, sym, ◌∙◌, ap, subst, arith, List, [], length, append-nil, Option, Some}
+use Rattle.std.proofs.Common.{◌≡◌, ◌≢◌, ◌⊎◌, inl, inr, ⊎_elim, ◌<◌, ℕ, refl, sym, ◌∙◌, subst, arith, [], append-nil, Option, Some}
 use Rattle.ost_types.specs.declared.limits.Limits.{Limits}
 use Rattle.fs_trait.specs.Change.{Writes}
 use Rattle.fs_trait.specs.Seen.{NotDirectory}
@@ -9,19 +9,17 @@ use Rattle.repo_layout.specs.Paths.{stage_path}
 use Rattle.repo_layout.specs.Place.{Stage, place}
 use Rattle.repo_layout.proofs.Places.{place-stage}
 use Rattle.rely_guarantee.specs.declared.books.Base.{Base}
-use Rattle.rely_guarantee.specs.declared.event.Event.{Event}
 use Rattle.rely_guarantee.specs.declared.kind.Outcome.{Outcome}
 use Rattle.rely_guarantee.specs.declared.kind.Outcome.TheVariants as came
 use Rattle.rely_guarantee.specs.Books.{Books, books_of}
-use Rattle.rely_guarantee.specs.Laws.{Holds, Show}
+use Rattle.rely_guarantee.specs.Laws.{Holds}
 use Rattle.rely_guarantee.specs.Rely.{Guarantee, Interference}
 use Rattle.rely_guarantee.proofs.Mays.{stage_apart}
 use Rattle.ref_book.specs.declared.book.RefBook.{RefBook}
-use Rattle.command.specs.ChangeLaws.{Founds}
 use Rattle.command.specs.Since.{Since}
 use Rattle.command.specs.Staging.{StagingPathFree}
 use Rattle.lane_system.specs.declared.lane.Running.{Running}
-use Rattle.lane_system.specs.Acts.{Acts, EachChange}
+use Rattle.lane_system.specs.Acts.{Acts}
 use Rattle.lane_system.specs.Family.{Family, FsSpec}
 use Rattle.lane_system.specs.Kept.{AreHomes}
 use Rattle.lane_system.specs.LaneActs.{Takes, task_start, told_by}

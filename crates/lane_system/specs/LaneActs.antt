@@ -1,7 +1,6 @@
 -- What an act of a lane did.
-use Rattle.std.specs.Prelude.{◌≡◌, ◌⊎◌, ◌≤◌, ℕ, Bool, false, true, List, length, Option, Some, None}
+use Rattle.std.specs.Prelude.{◌≡◌, ◌⊎◌, ◌≤◌, ℕ, false, true, List, length, Option, Some, None}
 use Rattle.ost_types.specs.declared.limits.Limits.{Limits}
-use Rattle.fs_trait.specs.View.{View}
 use Rattle.rely_guarantee.specs.declared.books.Base.{Base}
 use Rattle.rely_guarantee.specs.declared.books.Entry.{Entry}
 use Rattle.rely_guarantee.specs.declared.kind.Outcome.{Outcome}
@@ -12,7 +11,6 @@ use Rattle.ref_book.specs.declared.book.RefBook.{RefBook}
 use Rattle.ref_book.specs.Tracks.{HasRoom, Tracks}
 use Rattle.command.specs.declared.ended.Ended.{Ended}
 use Rattle.command.specs.declared.ended.Ended.TheVariants as ended
-use Rattle.command.specs.declared.told.Told.{Told}
 use Rattle.command.specs.Doing.{Doing, HasRoomFor, IsAnswer, most}
 use Rattle.command.specs.Meaning.{Meaning}
 use Rattle.lane_system.specs.declared.act.Came.{Came}

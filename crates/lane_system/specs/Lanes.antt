@@ -1,5 +1,5 @@
 -- Lanes of commands: which command has which reply, and which one runs.
-use Rattle.std.specs.Prelude.{◌≡◌, ◌<◌, ◌+◌, ℕ, List, [], ◌∷◌, length, slice_index_or, Option, Some}
+use Rattle.std.specs.Prelude.{◌≡◌, ◌<◌, ◌+◌, ℕ, List, [], ◌∷◌, length, slice_index_or, Some}
 use Rattle.lane_system.specs.declared.lane.Lane.{Lane}
 use Rattle.lane_system.specs.declared.lane.Reply.{Reply}
 use Rattle.lane_system.specs.declared.lane.Running.{Running}

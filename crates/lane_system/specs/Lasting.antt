@@ -1,5 +1,5 @@
 -- That what the changes made stays.
-use Rattle.std.specs.Prelude.{◌≡◌, ◌≤◌, ℕ, List, []}
+use Rattle.std.specs.Prelude.{◌≤◌, ℕ, List, []}
 use Rattle.ost_types.specs.declared.limits.Limits.{Limits}
 use Rattle.fs_trait.specs.Change.{Left}
 use Rattle.fs_trait.specs.View.{Disk, View}

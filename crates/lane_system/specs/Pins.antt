@@ -1,5 +1,5 @@
 -- Which objects the lanes have pinned.
-use Rattle.std.specs.Prelude.{◌≡◌, ℕ, List, Contains, Option, Some}
+use Rattle.std.specs.Prelude.{ℕ, List, Contains}
 use Rattle.ost_types.specs.declared.limits.Limits.{Limits}
 use Rattle.ost_types.specs.declared.object.ObjName.{ObjName}
 use Rattle.rely_guarantee.specs.declared.books.Books as rust

@@ -1,5 +1,5 @@
 -- What acts keep of a system, where the view is told.
-use Rattle.std.specs.Prelude.{◌≡◌, ◌≤◌, ℕ, Option, Some}
+use Rattle.std.specs.Prelude.{◌≡◌, ◌≤◌, ℕ, Some}
 use Rattle.fs_trait.specs.Image.{Told}
 use Rattle.fs_trait.specs.View.{Disk, View}
 use Rattle.command.specs.CommitFiles.{CommitsAreFiles}

@@ -1,5 +1,5 @@
 -- That what replies say of the disk was so when they were given.
-use Rattle.std.specs.Prelude.{◌≡◌, ◌<◌, ◌≤◌, ℕ, List}
+use Rattle.std.specs.Prelude.{◌<◌, ◌≤◌, ℕ, List}
 use Rattle.ost_types.specs.declared.limits.Limits.{Limits}
 use Rattle.fs_trait.specs.View.{View}
 use Rattle.rely_guarantee.specs.declared.books.Entry.{Entry}
