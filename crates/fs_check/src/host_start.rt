@@ -1,7 +1,7 @@
 //! What a start does, and what an end; and a machine that answers as a test asks.
 use crate::host::{
-    PLAIN, WITH_ATTRIBUTES, calls, check_list, check_read, check_stored, clear, fresh, open, path,
-    put,
+    PLAIN, WITH_ATTRIBUTES, calls, check_list, check_read, check_stored, clear, folder, fresh,
+    mkdir, open, owned, path, put,
 };
 use crate::word;
 use fs_host::HostFs;
@@ -179,7 +179,43 @@ fn syncs_what_a_killed_process_left(rt: HostRuntime) {
     fs::remove_file(&rt, ".ost-new/clean").expect(&rt, "clean");
     put(&rt, ".ost-new/0000", b"cut");
     assert_eq!(rt; opens_at_start(&rt), 1);
+    assert_eq!(rt; opens_at_start(&rt), 0);
     clear(&rt, "killed");
+}
+
+// Where a process was killed and the next one changed nothing, the names that are reserved at the top alone are kept below.
+#[test]
+fn keeps_its_names_below_the_top(rt: HostRuntime) {
+    fresh(&rt, "lower");
+    calls(
+        &rt,
+        &mut open(&rt),
+        "ok mkdir /lower/.ost-new;ok create /lower/.ost-new/leaf;ok sync_all",
+    );
+    fs::remove_file(&rt, ".ost-new/clean").expect(&rt, "clean");
+    for _ in 0..3 {
+        check_list(&rt, &mut open(&rt), "/lower", ".ost-new\n");
+    }
+    clear(&rt, "lower");
+}
+
+// A loss of power may bring back beside the mark what was removed in the reserved place.
+#[test]
+fn clears_what_stands_beside_the_mark(rt: HostRuntime) {
+    fresh(&rt, "beside");
+    calls(&rt, &mut open(&rt), "ok create /beside/leaf;ok sync_all");
+    put(&rt, ".ost-new/0000", b"cut");
+    folder(&rt, ".ost-new/made");
+    folder(&rt, ".ost-new/gone");
+    put(&rt, ".ost-new/gone/.ost-folder", b"cut");
+    let mut fs = open(&rt);
+    calls(&rt, &mut fs, "ok create /beside/one");
+    let meta = owned(&rt, 1, 258, 0o040700);
+    assert!(rt; mkdir(&rt, &mut fs, "/beside/two", &meta).is_ok());
+    calls(&rt, &mut fs, "ok rmdir /beside/two");
+    check_list(&rt, &mut fs, "/beside", "leaf\none\n");
+    drop(fs);
+    clear(&rt, "beside");
 }
 
 // What isn't synced yet is found, and a value that is dropped shows it.

@@ -2,7 +2,7 @@
 ghost use Rattle.std.specs.Prelude.{◌≡◌, length};
 
 use crate::private::{new_file, new_folder, sync};
-use crate::{Fault, HostPath};
+use crate::{Fault, HostPath, Machine, Mark};
 use std::fs::OpenFile;
 use std::io::{ErrorKind, Read};
 use std::rt::Files;
@@ -16,6 +16,8 @@ pub const PLACE_TEXT: &str = "./.ost-new";
 
 /// The mark in it that nothing below the top is unsynced.
 pub const CLEAN: &str = "./.ost-new/clean";
+
+const CLEAN_NAME: &str = "clean";
 
 // A leaf or a folder that is being made, and a folder that is being removed.
 const MADE: &str = "./.ost-new/made";
@@ -86,6 +88,29 @@ pub fn withdraw<R: Files>(rt: &R, at: &str, parent: &str) -> Result<(), Fault> {
     remove_if_there(rt, GONE_ATTRIBUTES)?;
     fs::remove_dir(rt, GONE)?;
     Ok(())
+}
+
+/// Removes what stands in the reserved place: all that a process left there which ended before its time, and beside a mark
+/// what a loss of power brought back. The mark that was found is kept.
+pub fn clear_place<R: Machine>(rt: &R, found: Mark) -> io::Result<()> {
+    for entry in fs::read_dir(rt, PLACE_TEXT)? {
+        match entry {
+            Ok(entry) if found == Mark::Clean && entry.file_name() == CLEAN_NAME => {}
+            Ok(entry) => remove(rt, entry.path().as_str())?,
+            Err(e) if e.kind() == ErrorKind::InvalidFilename => {}
+            Err(e) => return Err(e),
+        }
+    }
+    Ok(())
+}
+
+/// Removes what stands at a text, whatever it is.
+pub fn remove<R: Machine>(rt: &R, text: &str) -> io::Result<()> {
+    if fs::symlink_metadata(rt, text)?.is_dir() {
+        fs::remove_dir_all(rt, text)
+    } else {
+        fs::remove_file(rt, text)
+    }
 }
 
 fn remove_if_there<R: Files>(rt: &R, text: &str) -> Result<(), Fault> {

@@ -1,6 +1,6 @@
 //! What is done before the first call: the folder is locked, and what an earlier process left unsynced is synced.
-use crate::place::{PLACE, PLACE_TEXT};
-use crate::{Fault, HostKind, Machine, Mark};
+use crate::place::{PLACE, clear_place, remove};
+use crate::{Fault, Machine, Mark};
 use std::alloc::AllocError;
 use std::fs::{File, OpenFile};
 use std::io::ErrorKind;
@@ -42,13 +42,13 @@ pub fn start<R: Machine>(rt: &R) -> Result<(R::File, Mark), NoStart> {
         return Err(NoStart::Failed);
     }
     let mark = Mark::find(rt)?;
-    match mark {
-        Mark::Clean => return Ok((top, mark)),
-        Mark::Open => fs::remove_dir_all(rt, PLACE_TEXT)?,
-        Mark::NoPlace => {}
+    if mark != Mark::NoPlace {
+        clear_place(rt, mark)?;
     }
-    sync_below(rt, mark == Mark::NoPlace)?;
-    Ok((top, Mark::NoPlace))
+    if mark != Mark::Clean {
+        sync_below(rt, mark == Mark::NoPlace)?;
+    }
+    Ok((top, mark))
 }
 
 // Syncs each file and folder below the current one. Where a folder of the first version is found, what a call of it that
@@ -123,13 +123,4 @@ fn sync_readable<R: Machine>(rt: &R, text: &str) -> Result<(), NoStart> {
         Err(e) if is_no_node(&e) => Ok(()),
         Err(e) => Err(NoStart::from(e)),
     }
-}
-
-fn remove<R: Machine>(rt: &R, text: &str) -> Result<(), NoStart> {
-    match HostKind::of(rt, text)? {
-        HostKind::Folder => fs::remove_dir_all(rt, text)?,
-        HostKind::File(_) => fs::remove_file(rt, text)?,
-        HostKind::Absent => {}
-    }
-    Ok(())
 }

@@ -1,0 +1,10 @@
+pub mod Names
+pub mod Wholes
+pub mod Holding
+pub mod Steps
+pub mod Images
+pub mod Starts
+pub mod Growing
+pub mod Keepings
+pub mod Silent
+pub mod Files

@@ -1,0 +1,4 @@
+pub mod Brought
+pub mod Standing
+pub mod Writing
+pub mod Keeping

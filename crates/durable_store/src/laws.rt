@@ -1,0 +1,63 @@
+//! The laws of the store of a running system, as functions whose contracts are the laws.
+
+ghost use Rattle.std.specs.Prelude.{◌≡◌, ◌≢◌, ◌≤◌, ℕ, List, [], length, Option, Some, IsSome};
+ghost use Rattle.ost_types.specs.declared.limits.Limits.{Limits};
+ghost use Rattle.ost_types.specs.declared.object.Kind.TheVariants.{Commit};
+ghost use Rattle.ost_types.specs.declared.object.ObjName.{ObjName};
+ghost use Rattle.fs_trait.specs.View.{Disk, View};
+ghost use Rattle.fs_trait.specs.Image.{Image, IsTree};
+ghost use Rattle.fs_trait.specs.Seen.{Seen, Vacant, MayBe, bytes_in, shows};
+ghost use Rattle.fs_trait.specs.Change.{Left, Writes};
+ghost use Rattle.fs_trait.specs.Effect.{Elapses};
+ghost use Rattle.repo_layout.specs.declared.folder.Folder.{Folder};
+ghost use Rattle.repo_layout.specs.Paths.{config_path, folder_path};
+ghost use Rattle.repo_layout.specs.RefFile.{IsSum};
+ghost use Rattle.repo_model.specs.Objects.{path_of};
+ghost use Rattle.repo_model.specs.Trees.{name_of};
+ghost use Rattle.store_check.specs.Good.{IsGoodStore};
+ghost use Rattle.store_check.specs.Listing.{AreAll, HasFew};
+ghost use Rattle.rely_guarantee.specs.Lasting.{Stays};
+ghost use Rattle.rely_guarantee.specs.Opening.{IsOpening};
+ghost use Rattle.rely_guarantee.specs.State.{State};
+ghost use Rattle.rely_guarantee.specs.SystemInvariant.{Leads};
+ghost use Rattle.durable_store.specs.Brought.{AreAlone};
+ghost use Rattle.durable_store.specs.Keeping.{IsGoodDisk, KeepsGood};
+ghost use Rattle.durable_store.specs.Standing.{AreListed, StoreStands};
+ghost use Rattle.durable_store.specs.Writing.{Grows, KeepsStore};
+
+use crate::{Storing, Writing};
+use fs_trait::Fs;
+
+/// After the opening of a disk with a good store it stands so, and it goes on to over each step whose writes keep it, where objects
+/// that are safe stay. Where a commit's object stands then, it is a file.
+pub fn stores_stand<B: Storing, S: Writing>()
+    ensures begins { (state : State) (v : View) (limits : Limits) (names : List ObjName) → IsOpening state v → IsTree v.now → IsGoodStore limits v.now → AreAll v.now names → B.config (shows v.now config_path) → StoreStands limits B.brings B.config names v }
+    ensures goes_on { (limits : Limits) (names : List ObjName) (v w : View) → Stays [] v w → Writes S.writes v w → KeepsStore limits B.brings v S.writes → StoreStands limits B.brings B.config names v → (next : List ObjName) × Grows S.writes w names next × StoreStands limits B.brings B.config next w }
+    ensures files { (limits : Limits) (names : List ObjName) (v : View) (commit : List ℕ) (s : Seen) → StoreStands limits B.brings B.config names v → IsSum commit → MayBe v (path_of (name_of Commit commit)) s → s ≢ Vacant → IsSome (bytes_in s) }
+{}
+
+/// At an opening the names are as few as the objects of the disk, and none comes to them in a step that changes nothing.
+pub fn names_of_stores<S: Writing>()
+    ensures begins { (limits : Limits) (names : List ObjName) (d : Disk) → IsGoodStore limits d → AreAll d names → length names ≤ limits.objects }
+    ensures still { (v : View) (names next : List ObjName) → AreListed names v → Grows S.writes v names next → next ≡ names }
+{}
+
+/// What a crash leaves of a store that stands so is good, and has as few objects as names. So an opening finds nothing wrong with it.
+pub fn images_of_stores<B: Storing>()
+    ensures few { (limits : Limits) (names : List ObjName) (v : View) (d : Disk) (most : ℕ) → StoreStands limits B.brings B.config names v → Image v d → length names ≤ most → HasFew d most }
+    ensures good { (limits : Limits) (names : List ObjName) (v : View) (d : Disk) → StoreStands limits B.brings B.config names v → length names ≤ limits.objects → ((f : Folder) → Leads v (folder_path f)) → Image v d → IsGoodDisk limits B.brings B.config d }
+    ensures store { (limits : Limits) (d : Disk) → IsGoodDisk limits B.brings B.config d → AreAlone B.brings d → IsGoodStore limits d }
+{}
+
+/// Each disk that a crash leaves from a moment on is good: from any that isn't before now, and over each act.
+pub fn stores_stay_good<F: Fs, B: Storing>()
+    ensures begins { (limits : Limits) (names : List ObjName) (fs : F) (v : View) (moment : ℕ) → F.view fs ≡ Some v → F.clock fs ≤ moment → StoreStands limits B.brings B.config names v → length names ≤ limits.objects → ((f : Folder) → Leads v (folder_path f)) → KeepsGood (F.was fs) limits B.brings B.config names moment v }
+    ensures goes_on { (limits : Limits) (names next : List ObjName) (old new : F) (v w : View) (moment : ℕ) → F.view new ≡ Some w → Elapses (F.clock old) (F.clock new) (F.was old) (F.was new) (F.view new) → KeepsGood (F.was old) limits B.brings B.config names moment v → StoreStands limits B.brings B.config next w → length next ≤ limits.objects → ((f : Folder) → Leads w (folder_path f)) → KeepsGood (F.was new) limits B.brings B.config next moment w }
+{}
+
+/// So it is where more is brought; and a step whose writes keep what a store keeps goes on to.
+pub fn more_is_brought<F: Fs, B: Storing, C: Storing, S: Writing>()
+    ensures stands { (limits : Limits) (names : List ObjName) (v : View) → ((name : ObjName) (bytes : List ℕ) → B.brings name bytes → C.brings name bytes) → StoreStands limits B.brings B.config names v → StoreStands limits C.brings B.config names v }
+    ensures keeps { (fs : F) (limits : Limits) (names : List ObjName) (moment : ℕ) (v : View) → ((name : ObjName) (bytes : List ℕ) → B.brings name bytes → C.brings name bytes) → KeepsGood (F.was fs) limits B.brings B.config names moment v → KeepsGood (F.was fs) limits C.brings B.config names moment v }
+    ensures writes { (limits : Limits) (v : View) → ((name : ObjName) (bytes : List ℕ) → B.brings name bytes → C.brings name bytes) → KeepsStore limits B.brings v S.writes → KeepsStore limits C.brings v S.writes }
+{}

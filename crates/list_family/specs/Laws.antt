@@ -1,0 +1,97 @@
+-- The laws of a family without a task: none of them has a case.
+use Rattle.std.specs.Prelude.{ℕ}
+use Rattle.fs_trait.specs.declared.task.StepResult.{StepResult}
+use Rattle.fs_trait.specs.declared.types.FsErr.{FsErr}
+use Rattle.fs_trait.specs.View.{View}
+use Rattle.fs_trait.specs.Seen.{Seen}
+use Rattle.ost_types.specs.Path.{Path}
+use Rattle.rely_guarantee.specs.Books.{Books}
+use Rattle.command.specs.AnswerLaws.{AnswerLaws}
+use Rattle.command.specs.ChangeLaws.{ChangeLaws}
+use Rattle.command.specs.FolderLaws.{FolderLaws}
+use Rattle.command.specs.HearLaws.{HearLaws}
+use Rattle.command.specs.Laws.{CommandLaws}
+use Rattle.command.specs.StepLaws.{StepLaws}
+use Rattle.command.specs.StoreLaws.{StoreLaws}
+use Rattle.command.specs.Tasks.{TaskSpec, task_spec}
+use Rattle.list_family.specs.declared.task.ListTask.{ListTask}
+use Rattle.list_family.specs.Family.{list_doing, list_kind, list_means, of_none}
+
+abbrev pub list_tasks : TaskSpec ListTask
+list_tasks = task_spec list_kind (λ (actor : ℕ) (t : ListTask) (v : View) (path : Path) (seen : Seen). ⊥) (λ (t : ListTask) (turn : StepResult (Unit {0})) (new : ListTask). ⊥) (λ (t : ListTask) (turn : StepResult (Unit {0})) (new : ListTask) (v w : View). ⊥) (λ (t : ListTask) (v : View) (e : FsErr). ⊥) (λ (lane : ℕ) (t : ListTask) (v : View) (b : Books). ⊥)
+
+step_laws : StepLaws list_tasks list_doing
+step_laws = record {
+  begun = λ start entries pending lane t v b stands home begins. begins;
+  quiet = λ lane t b begins none. absurd begins;
+  stages = λ who actor lane t v w b is by f wrote home. absurd f;
+  goes_on = λ since c t new is step. is;
+  falls = λ t new step. absurd step;
+  locks = λ since c t wants is kind. absurd is;
+  refused = λ start entries pending lane t v b e tree stands f why. absurd f;
+}
+
+hear_laws : HearLaws list_tasks list_doing
+hear_laws = record {
+  facts = λ told lane t v b f. f;
+  holds = λ told lane t b holds. holds;
+  pursues = λ told since c t is. is;
+  left = λ told t. of_none t;
+  made = λ told t name made. made;
+  back = λ told t. of_none t;
+}
+
+change_laws : ChangeLaws list_tasks list_means list_doing
+change_laws = record {
+  shown = λ since c t e is kind. is;
+  settled = λ since c t e is kind. is;
+  founds = λ lane t v b e f kind. absurd f;
+  makes = λ since c t new a is step given settles. is;
+  makes_not = λ since c t new a is step given settles made. made;
+  kept = λ since opening lane c t new v w b right is f leaves settles. tt;
+  keeps = λ since opening out removed c v w right stays is. tt;
+  keeps_on = λ since opening out removed c v disk stays is. tt;
+}
+
+answer_laws : AnswerLaws list_tasks list_means list_doing
+answer_laws = record {
+  answers = λ since c t new is step. absurd is;
+  says = λ since p c t new a is step given. absurd is;
+  shows = λ since lane c t new v w b a is f leaves given. tt;
+  knows = λ since p lane c t new v w b a is f leaves given sees. tt;
+  lacks = λ since v a c commit files seen lacks finished. lacks;
+  full = λ told since c t new a is step given full. absurd full;
+  left = λ since actor lane c t new v w b b' a is f leaves given does gone. tt;
+  stays = λ since actor lane out a c v w b b' does is. tt;
+}
+
+store_laws : StoreLaws list_tasks list_means list_doing
+store_laws = record {
+  holds = λ lane t v b f. f;
+  works = λ since c t wants name is kind pin. is;
+  reaches = λ since lane c t v b wants name is f kind pin. is;
+  brings = λ since actor lane c t v b name s bytes is f sum wrote reads. is;
+  room = λ told since actor lane c t v b name s is f sum wrote. absurd is;
+  stored = λ actor lane t new v w b name s f leaves sum wrote. absurd f;
+  done = λ actor lane t new v w b name s f leaves sum wrote. absurd f;
+  lacked = λ told since c t new v w name is leaves met. absurd is;
+}
+
+folder_laws : FolderLaws list_tasks list_means list_doing
+folder_laws = record {
+  claims = λ actor lane t v b name s f wrote. absurd f;
+  claimed = λ since c t name is kind. is;
+  finds = λ since lane c t new v w b a name is f leaves given finds. absurd is;
+  made = λ t new v w name leaves kind. leaves;
+  goes_on = λ t new v w name leaves made. made;
+}
+
+pub list_command_laws : CommandLaws list_tasks list_means list_doing
+list_command_laws = record {
+  steps = step_laws;
+  hears = hear_laws;
+  changes = change_laws;
+  answers = answer_laws;
+  store = store_laws;
+  folders = folder_laws;
+}

@@ -1,0 +1,58 @@
+ghost use Rattle.list_family.specs.Family.{list_doing, list_means};
+ghost use Rattle.list_family.specs.Laws.{list_command_laws};
+
+use crate::{ListTask, ListWords};
+use command::{Begun, Command, Query, Told};
+use obj_store::Put;
+use ost_types::{Csum, FsPath, Limits, NoMemory, ObjName};
+use ref_book::RefBook;
+use repo_layout::RefName;
+use std::alloc::Global;
+
+impl Command for ListTask {
+    type Words = ListWords;
+
+    type Answer = Vec<(RefName, Csum)>;
+
+    ghost means = { list_means };
+
+    ghost doing = { list_doing };
+
+    fn begin(
+        _alloc: Global,
+        refs: &mut RefBook,
+        _limits: Limits,
+        _lane: u8,
+        words: &ListWords,
+    ) -> Result<Begun<ListTask, Vec<(RefName, Csum)>>, NoMemory> {
+        match words {
+            ListWords::Refs => Ok(Begun::Answered(refs.rows()?)),
+        }
+    }
+
+    fn stray(_alloc: Global, _words: &ListWords) -> Result<Option<FsPath>, NoMemory> {
+        Ok(None)
+    }
+
+    fn hear(&mut self, _told: Told) -> Told {
+        match *self {}
+    }
+
+    fn asks(&self, _actor: u8) -> Option<Query> {
+        match *self {}
+    }
+
+    fn met(&self) -> Option<(ObjName, Put)> {
+        match *self {}
+    }
+
+    fn into_answer(self) -> Option<Vec<(RefName, Csum)>> {
+        match self {}
+    }
+
+    fn left(&self) -> u128 {
+        match *self {}
+    }
+
+    ghost command_laws = { list_command_laws };
+}

@@ -1,0 +1,6 @@
+/// A command of the family.
+#[derive(Drop)]
+pub enum ListWords {
+    /// `refs` lists the refs.
+    Refs,
+}
