@@ -1,12 +1,12 @@
--- What the command that lists the refs says. It has no task.
-use Rattle.std.specs.Prelude.{ℕ, List, None}
+-- What the command that lists the refs says. It runs no task.
+use Rattle.std.specs.Prelude.{◌≡◌, ℕ, List, None}
 use Rattle.std.specs.Global.{Vec}
 use Rattle.fs_trait.specs.declared.task.StepResult.{StepResult}
+use Rattle.fs_trait.specs.declared.task.StepResult.TheVariants as turns
+use Rattle.fs_trait.specs.Change.{Nothing}
 use Rattle.fs_trait.specs.View.{View}
-use Rattle.fs_trait.specs.Seen.{Seen}
-use Rattle.ost_types.specs.Path.{Path}
 use Rattle.rely_guarantee.specs.Books.{Books}
-use Rattle.rely_guarantee.specs.Laws.{Kind, Laws}
+use Rattle.rely_guarantee.specs.Laws.{Kind, Laws, Quiet}
 use Rattle.ref_book.specs.Tracks.{Lists}
 use Rattle.command.specs.Doing.{Doing}
 use Rattle.command.specs.Meaning.{Meaning}
@@ -17,23 +17,29 @@ use Rattle.list_family.specs.declared.words.ListWords.{ListWords}
 abbrev pub Rows : Type 0
 Rows = Vec (List ℕ × List ℕ)
 
--- of a task that there isn't
-abbrev pub of_none : {X : Type 0} → ListTask → X
-of_none = elim [ ]
-
 abbrev pub list_kind : ListTask → Kind
-list_kind = elim [ ]
+list_kind t = Quiet
 
-pub list_task_laws : Laws list_kind (λ (actor : ℕ) (t : ListTask) (v : View). ⊥) (λ (actor : ℕ) (t : ListTask) (v : View) (path : Path) (seen : Seen). ⊥) (λ (t : ListTask) (turn : StepResult (Unit {0})) (new : ListTask). ⊥) (λ (t : ListTask) (turn : StepResult (Unit {0})) (new : ListTask) (v w : View). ⊥) (λ (lane : ℕ) (t : ListTask) (v : View) (b : Books). ⊥)
+-- its one step is the last
+abbrev pub list_stepped : ListTask → StepResult (Unit {0}) → ListTask → Type 0
+list_stepped t turn new = turn ≡ turns.Done tt
+
+abbrev pub list_leaves : ListTask → StepResult (Unit {0}) → ListTask → View → View → Type 0
+list_leaves t turn new v w = turn ≡ turns.Done tt
+
+more_never : {P : Type 0} → ◌≡◌ {A = StepResult (Unit {0})} turns.More (turns.Done tt) → P
+more_never is = cc
+
+pub list_task_laws : Laws list_kind (λ (actor : ℕ) (t : ListTask) (v : View). Unit {0}) (λ (actor : ℕ) (t : ListTask) (v : View). Nothing) list_stepped list_leaves (λ (lane : ℕ) (t : ListTask) (v : View) (b : Books). Unit {0})
 list_task_laws = record {
-  ready = λ actor lane t v b by f. f;
-  kept = λ actor lane mine t v w b b' apart aside does holds f. f;
-  gains = λ lane t v b b' keeps f. f;
-  duty = λ actor lane t new v b agrees by stood f. absurd f;
-  chain = λ t new step. absurd step;
-  last = λ t new step. absurd step;
-  next = λ actor lane t new v w b b' stood f leaves keeps owned. f;
-  claims = λ lane t new v w b name is step f leaves. absurd f;
+  ready = λ actor lane t v b by f. tt;
+  kept = λ actor lane mine t v w b b' other not does holds f. tt;
+  gains = λ lane t v b b' keeps f. tt;
+  duty = λ actor lane t new v b agrees by stood f. ((λ p s wrote. absurd wrote), (λ q s wrote. absurd wrote));
+  chain = λ t new step. more_never step;
+  last = λ t new step. tt;
+  next = λ actor lane t new v w b b' stood f leaves keeps own. tt;
+  claims = λ lane t new v w b name is step f leaves. cc;
 }
 
 -- each ref of the state once, with its commit, ascending by their names
@@ -58,16 +64,17 @@ list_means = record {
   strays = λ c. None;
 }
 
+-- no command of the family runs
 abbrev pub list_doing : Doing ListTask ListWords Rows
 list_doing = record {
   begins = λ lane t. ⊥;
   pursues = λ since c t. ⊥;
-  answer = of_none;
-  left = of_none;
+  answer = λ t. None;
+  left = λ t. 0;
   hears = λ told t. t;
-  heard = of_none;
-  asks = λ actor. of_none;
-  met = of_none;
-  holds = λ lane t v b. ⊥;
+  heard = λ t. record { objects = 0 };
+  asks = λ actor t. None;
+  met = λ t. None;
+  holds = λ lane t v b. Unit {0};
   made = λ t name. ⊥;
 }

@@ -1,10 +1,11 @@
--- The laws of a family without a task: none of them has a case.
-use Rattle.std.specs.Prelude.{ℕ}
-use Rattle.fs_trait.specs.declared.task.StepResult.{StepResult}
+-- The laws of a family that runs no task.
+use Rattle.std.proofs.Common.{ℕ, arith, refl, subst, sym}
 use Rattle.fs_trait.specs.declared.types.FsErr.{FsErr}
+use Rattle.fs_trait.specs.Change.{Nothing}
+use Rattle.fs_trait.specs.Seen.{NotDirectory}
 use Rattle.fs_trait.specs.View.{View}
-use Rattle.fs_trait.specs.Seen.{Seen}
-use Rattle.ost_types.specs.Path.{Path}
+use Rattle.fs_trait.proofs.Facts.{shows_kept}
+use Rattle.repo_layout.specs.Paths.{stage_path}
 use Rattle.rely_guarantee.specs.Books.{Books}
 use Rattle.command.specs.AnswerLaws.{AnswerLaws}
 use Rattle.command.specs.ChangeLaws.{ChangeLaws}
@@ -15,37 +16,37 @@ use Rattle.command.specs.StepLaws.{StepLaws}
 use Rattle.command.specs.StoreLaws.{StoreLaws}
 use Rattle.command.specs.Tasks.{TaskSpec, task_spec}
 use Rattle.list_family.specs.declared.task.ListTask.{ListTask}
-use Rattle.list_family.specs.Family.{list_doing, list_kind, list_means, of_none}
+use Rattle.list_family.specs.Family.{list_doing, list_kind, list_leaves, list_means, list_stepped}
 
 abbrev pub list_tasks : TaskSpec ListTask
-list_tasks = task_spec list_kind (λ (actor : ℕ) (t : ListTask) (v : View) (path : Path) (seen : Seen). ⊥) (λ (t : ListTask) (turn : StepResult (Unit {0})) (new : ListTask). ⊥) (λ (t : ListTask) (turn : StepResult (Unit {0})) (new : ListTask) (v w : View). ⊥) (λ (t : ListTask) (v : View) (e : FsErr). ⊥) (λ (lane : ℕ) (t : ListTask) (v : View) (b : Books). ⊥)
+list_tasks = task_spec list_kind (λ (actor : ℕ) (t : ListTask) (v : View). Nothing) list_stepped list_leaves (λ (t : ListTask) (v : View) (e : FsErr). ⊥) (λ (lane : ℕ) (t : ListTask) (v : View) (b : Books). Unit {0})
 
 step_laws : StepLaws list_tasks list_doing
 step_laws = record {
-  begun = λ start entries pending lane t v b stands home begins. begins;
-  quiet = λ lane t b begins none. absurd begins;
-  stages = λ who actor lane t v w b is by f wrote home. absurd f;
+  begun = λ start entries pending lane t v b stands home begins. tt;
+  quiet = λ lane t b begins none. none;
+  stages = λ who actor lane t v w b is by f wrote home. subst NotDirectory (sym (shows_kept _ v w (stage_path who) wrote (λ s bad. bad))) home;
   goes_on = λ since c t new is step. is;
-  falls = λ t new step. absurd step;
+  falls = λ t new step. cc;
   locks = λ since c t wants is kind. absurd is;
-  refused = λ start entries pending lane t v b e tree stands f why. absurd f;
+  refused = λ start entries pending lane t v b e tree stands f why. absurd why;
 }
 
 hear_laws : HearLaws list_tasks list_doing
 hear_laws = record {
-  facts = λ told lane t v b f. f;
+  facts = λ told lane t v b f. tt;
   holds = λ told lane t b holds. holds;
   pursues = λ told since c t is. is;
-  left = λ told t. of_none t;
+  left = λ told t. omega arith;
   made = λ told t name made. made;
-  back = λ told t. of_none t;
+  back = λ told t. refl;
 }
 
 change_laws : ChangeLaws list_tasks list_means list_doing
 change_laws = record {
   shown = λ since c t e is kind. is;
   settled = λ since c t e is kind. is;
-  founds = λ lane t v b e f kind. absurd f;
+  founds = λ lane t v b e f kind. cc;
   makes = λ since c t new a is step given settles. is;
   makes_not = λ since c t new a is step given settles made. made;
   kept = λ since opening lane c t new v w b right is f leaves settles. tt;
@@ -67,22 +68,22 @@ answer_laws = record {
 
 store_laws : StoreLaws list_tasks list_means list_doing
 store_laws = record {
-  holds = λ lane t v b f. f;
+  holds = λ lane t v b f. tt;
   works = λ since c t wants name is kind pin. is;
   reaches = λ since lane c t v b wants name is f kind pin. is;
   brings = λ since actor lane c t v b name s bytes is f sum wrote reads. is;
   room = λ told since actor lane c t v b name s is f sum wrote. absurd is;
-  stored = λ actor lane t new v w b name s f leaves sum wrote. absurd f;
-  done = λ actor lane t new v w b name s f leaves sum wrote. absurd f;
+  stored = λ actor lane t new v w b name s f leaves sum wrote. absurd wrote;
+  done = λ actor lane t new v w b name s f leaves sum wrote. absurd wrote;
   lacked = λ told since c t new v w name is leaves met. absurd is;
 }
 
 folder_laws : FolderLaws list_tasks list_means list_doing
 folder_laws = record {
-  claims = λ actor lane t v b name s f wrote. absurd f;
+  claims = λ actor lane t v b name s f wrote. absurd wrote;
   claimed = λ since c t name is kind. is;
   finds = λ since lane c t new v w b a name is f leaves given finds. absurd is;
-  made = λ t new v w name leaves kind. leaves;
+  made = λ t new v w name leaves kind. cc;
   goes_on = λ t new v w name leaves made. made;
 }
 

@@ -35,23 +35,23 @@ impl Command for ListTask {
     }
 
     fn hear(&mut self, _told: Told) -> Told {
-        match *self {}
+        Told { objects: 0 }
     }
 
     fn asks(&self, _actor: u8) -> Option<Query> {
-        match *self {}
+        None
     }
 
     fn met(&self) -> Option<(ObjName, Put)> {
-        match *self {}
+        None
     }
 
     fn into_answer(self) -> Option<Vec<(RefName, Csum)>> {
-        match self {}
+        None
     }
 
     fn left(&self) -> u128 {
-        match *self {}
+        0
     }
 
     ghost command_laws = { list_command_laws };
