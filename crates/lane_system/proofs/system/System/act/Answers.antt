@@ -6,6 +6,7 @@ use Rattle.lane_system.specs.declared.lane.Reply.{Reply}
 use Rattle.lane_system.specs.Family.{Family, FsSpec, family, fs_spec}
 use Rattle.lane_system.specs.Kept.{Kept}
 use Rattle.lane_system.specs.Lanes.{IsAt}
+use Rattle.lane_system.specs.System.{System}
 use Rattle.lane_system.proofs.Acting.{kept_answered, kept_held, kept_on, set_same}
 use Rattle.lane_system.proofs.Asking.{given_few, is_done, is_held, is_more, is_none, is_over, no_lane, number_few, place_few, start_few}
 use Rattle.lane_system.proofs.Family.{FamilyLaws, FsLaws, laws_of}
@@ -26,32 +27,32 @@ family_laws g = laws_of (family_of g) _ g.met.C.CommandTask.laws g.met.C.Command
 
 pub returns-then-number-len : goal.returns-then-number-len
 returns-then-number-len g c =
-    let past : length c.args.self.now.lanes ≤ c.args.actor = search rules in
+    let past : length c.args.self.now.lanes ≤ c.args.actor = omega (arith, c.if-number-len.true, c.len.ensures, c.self.inside.lanes.ok.0, ap (λ (s : System _ _ _ _). length s.lanes) c.self.view_is) in
     let x = is_none (files_of g) (family_of g) (files_laws g) c.args.self.now c.args.self.now c.args.actor (no_lane c.args.self.now c.args.actor past) refl in
     record { acted = x.acted; objects = x.objects; preserves = x.preserves; ranks = x.ranks; held = x.held; waits = x.waits }
 
 pub invariant_of-self : goal.invariant_of-self
 invariant_of-self g c =
     let i = c.self.inside in
-    let within : c.args.actor < length i.lanes.items = search rules in
+    let within : c.args.actor < length i.lanes.items = omega (arith, c.if-number-len.false, c.len.ensures, i.lanes.ok.0) in
     let at : IsAt i.lanes.items c.args.actor c.index_mut-lane.result.now = (within, sym c.index_mut-lane.ensures.value) in
     subst (λ xs. Kept (files_of g) (family_of g) i.limits i.base i.refs xs i.given) (sym (set_same i.lanes.items c.args.actor c.index_mut-lane.result.now c.index_mut-lane.result.now at refl)) c.self.invariant
 
 pub returns-then-command-len : goal.returns-then-command-len
 returns-then-command-len g c =
     let i = c.self.inside in
-    let within : c.args.actor < length i.lanes.items = search rules in
+    let within : c.args.actor < length i.lanes.items = omega (arith, c.if-number-len.false, c.len.ensures, i.lanes.ok.0) in
     let l = c.index_mut-lane.result.now in
     let at : IsAt i.lanes.items c.args.actor l = (within, sym c.index_mut-lane.ensures.value) in
-    let is : c.args.self.now ≡ record { base = i.base; lanes = i.lanes.items; limits = i.limits; objects = i.objects } = search rules in
-    let most : length l.words.items ≤ length l.replies.items = search rules in
+    let is = sym c.self.view_is in
+    let most : length l.words.items ≤ length l.replies.items = omega (arith, c.if-command-len.true, c.len-command.ensures, c.len-2.ensures, l.words.ok.0, l.replies.ok.0) in
     let x = is_over (files_of g) (family_of g) (files_laws g) c.args.self.now i.limits c.args.actor i.objects i.base i.lanes.items l is at most in
     record { acted = x.acted; objects = x.objects; preserves = x.preserves; ranks = x.ranks; held = x.held; waits = x.waits }
 
 pub lane_act-requires : goal.lane_act-requires
 lane_act-requires g c =
     let i = c.self.inside in
-    let within : c.args.actor < length i.lanes.items = search rules in
+    let within : c.args.actor < length i.lanes.items = omega (arith, c.if-number-len.false, c.len.ensures, i.lanes.ok.0) in
     let at : IsAt i.lanes.items c.args.actor c.index_mut-lane.result.now = (within, sym c.index_mut-lane.ensures.value) in
     let kept = c.self.invariant in
     record {
@@ -60,13 +61,13 @@ lane_act-requires g c =
       tracks = kept.tracks;
       home = λ v told. kept.homes c.args.actor v (omega (arith, within, kept.few)) told;
       kept = kept.each c.args.actor c.index_mut-lane.result.now at;
-      next = search rules;
+      next = omega (arith, c.if-command-len.false, c.len-command.ensures, c.len-2.ensures, c.index_mut-lane.result.now.words.ok.0, c.index_mut-lane.result.now.replies.ok.0);
     }
 
 pub invariant_of-self-in-Blocked : goal.invariant_of-self-in-Blocked
 invariant_of-self-in-Blocked g c =
     let i = c.self.inside in
-    let within : c.args.actor < length i.lanes.items = search rules in
+    let within : c.args.actor < length i.lanes.items = omega (arith, c.if-number-len.false, c.len.ensures, i.lanes.ok.0) in
     let at : IsAt i.lanes.items c.args.actor c.index_mut-lane.result.now = (within, sym c.index_mut-lane.ensures.value) in
     let n = c.lane_act.new in
     kept_held (files_of g) (family_of g) (files_laws g) (family_laws g) i.limits c.args.actor i.refs n.refs i.objects n.objects i.base n.base i.lanes.items i.given c.index_mut-lane.result.now n.run c.self.invariant at c.in-Blocked.ensures
@@ -74,9 +75,9 @@ invariant_of-self-in-Blocked g c =
 pub returns-in-Blocked : goal.returns-in-Blocked
 returns-in-Blocked g c =
     let i = c.self.inside in
-    let within : c.args.actor < length i.lanes.items = search rules in
+    let within : c.args.actor < length i.lanes.items = omega (arith, c.if-number-len.false, c.len.ensures, i.lanes.ok.0) in
     let at : IsAt i.lanes.items c.args.actor c.index_mut-lane.result.now = (within, sym c.index_mut-lane.ensures.value) in
-    let is : c.args.self.now ≡ record { base = i.base; lanes = i.lanes.items; limits = i.limits; objects = i.objects } = search rules in
+    let is = sym c.self.view_is in
     let n = c.lane_act.new in
     let x = is_held (files_of g) (family_of g) (files_laws g) (family_laws g) c.args.self.now i.limits c.args.actor i.refs n.refs i.objects n.objects i.base n.base i.lanes.items i.given c.index_mut-lane.result.now n.run is c.self.invariant at c.in-Blocked.ensures in
     record { acted = x.acted; objects = x.objects; preserves = x.preserves; ranks = x.ranks; held = x.held; waits = x.waits }
@@ -84,7 +85,7 @@ returns-in-Blocked g c =
 pub invariant_of-self-in-More : goal.invariant_of-self-in-More
 invariant_of-self-in-More g c =
     let i = c.self.inside in
-    let within : c.args.actor < length i.lanes.items = search rules in
+    let within : c.args.actor < length i.lanes.items = omega (arith, c.if-number-len.false, c.len.ensures, i.lanes.ok.0) in
     let at : IsAt i.lanes.items c.args.actor c.index_mut-lane.result.now = (within, sym c.index_mut-lane.ensures.value) in
     let n = c.lane_act.new in
     kept_on (files_of g) (family_of g) (files_laws g) (family_laws g) i.limits c.args.actor i.refs n.refs i.objects n.objects i.base n.base i.lanes.items i.given c.index_mut-lane.result.now n.run c.self.invariant at c.in-More.ensures
@@ -92,9 +93,9 @@ invariant_of-self-in-More g c =
 pub returns-in-More : goal.returns-in-More
 returns-in-More g c =
     let i = c.self.inside in
-    let within : c.args.actor < length i.lanes.items = search rules in
+    let within : c.args.actor < length i.lanes.items = omega (arith, c.if-number-len.false, c.len.ensures, i.lanes.ok.0) in
     let at : IsAt i.lanes.items c.args.actor c.index_mut-lane.result.now = (within, sym c.index_mut-lane.ensures.value) in
-    let is : c.args.self.now ≡ record { base = i.base; lanes = i.lanes.items; limits = i.limits; objects = i.objects } = search rules in
+    let is = sym c.self.view_is in
     let n = c.lane_act.new in
     let x = is_more (files_of g) (family_of g) (files_laws g) (family_laws g) c.args.self.now i.limits c.args.actor i.refs n.refs i.objects n.objects i.base n.base i.lanes.items i.given c.index_mut-lane.result.now n.run is c.self.invariant at c.in-More.ensures in
     record { acted = x.acted; objects = x.objects; preserves = x.preserves; ranks = x.ranks; held = x.held; waits = x.waits }
@@ -102,26 +103,26 @@ returns-in-More g c =
 pub number_of-requires : goal.number_of-requires
 number_of-requires g c =
     let i = c.self.inside in
-    let within : c.args.actor < length i.lanes.items = search rules in
+    let within : c.args.actor < length i.lanes.items = omega (arith, c.if-number-len.false, c.len.ensures, i.lanes.ok.0) in
     let at : IsAt i.lanes.items c.args.actor c.index_mut-lane.result.now = (within, sym c.index_mut-lane.ensures.value) in
-    let is : c.args.self.now ≡ record { base = i.base; lanes = i.lanes.items; limits = i.limits; objects = i.objects } = search rules in
+    let is = sym c.self.view_is in
     let n = c.lane_act.new in
     omega (arith, start_few (files_of g) (family_of g) (files_laws g) (family_laws g) c.args.self.now i.limits c.args.actor i.refs n.refs i.objects n.objects i.base n.base i.lanes.items i.given c.index_mut-lane.result.now n.run is c.self.invariant at c.in-Answered.answer c.in-Answered.start c.in-Answered.ensures)
 
 pub number_of-requires-in-Answered : goal.number_of-requires-in-Answered
 number_of-requires-in-Answered g c =
     let i = c.self.inside in
-    let within : c.args.actor < length i.lanes.items = search rules in
+    let within : c.args.actor < length i.lanes.items = omega (arith, c.if-number-len.false, c.len.ensures, i.lanes.ok.0) in
     let at : IsAt i.lanes.items c.args.actor c.index_mut-lane.result.now = (within, sym c.index_mut-lane.ensures.value) in
-    let is : c.args.self.now ≡ record { base = i.base; lanes = i.lanes.items; limits = i.limits; objects = i.objects } = search rules in
+    let is = sym c.self.view_is in
     let n = c.lane_act.new in
-    let long : c.len-in-Answered.result ≡ length n.base.books.history.items = search rules in
+    let long : c.len-in-Answered.result ≡ length n.base.books.history.items = omega (arith, c.len-in-Answered.ensures, n.base.books.history.ok.0) in
     omega (arith, long, place_few (files_of g) (family_of g) (files_laws g) (family_laws g) c.args.self.now i.limits c.args.actor i.refs n.refs i.objects n.objects i.base n.base i.lanes.items i.given c.index_mut-lane.result.now n.run is c.self.invariant at c.in-Answered.answer c.in-Answered.start c.in-Answered.ensures)
 
 pub push_reserved-requires : goal.push_reserved-requires
 push_reserved-requires g c =
     let i = c.self.inside in
-    let within : c.args.actor < length i.lanes.items = search rules in
+    let within : c.args.actor < length i.lanes.items = omega (arith, c.if-number-len.false, c.len.ensures, i.lanes.ok.0) in
     let l = c.index_mut-lane.result.now in
     let at : IsAt i.lanes.items c.args.actor l = (within, sym c.index_mut-lane.ensures.value) in
     let x = c.lane_act.ensures in
@@ -130,26 +131,26 @@ push_reserved-requires g c =
 pub overflow_add-self : goal.overflow_add-self
 overflow_add-self g c =
     let i = c.self.inside in
-    let within : c.args.actor < length i.lanes.items = search rules in
+    let within : c.args.actor < length i.lanes.items = omega (arith, c.if-number-len.false, c.len.ensures, i.lanes.ok.0) in
     let at : IsAt i.lanes.items c.args.actor c.index_mut-lane.result.now = (within, sym c.index_mut-lane.ensures.value) in
-    let is : c.args.self.now ≡ record { base = i.base; lanes = i.lanes.items; limits = i.limits; objects = i.objects } = search rules in
+    let is = sym c.self.view_is in
     let n = c.lane_act.new in
     omega (arith, given_few (files_of g) (family_of g) (files_laws g) (family_laws g) c.args.self.now i.limits c.args.actor i.refs n.refs i.objects n.objects i.base n.base i.lanes.items i.given c.index_mut-lane.result.now n.run is c.self.invariant at)
 
 pub number_of-requires-in-Answered-2 : goal.number_of-requires-in-Answered-2
 number_of-requires-in-Answered-2 g c =
     let i = c.self.inside in
-    let within : c.args.actor < length i.lanes.items = search rules in
+    let within : c.args.actor < length i.lanes.items = omega (arith, c.if-number-len.false, c.len.ensures, i.lanes.ok.0) in
     let at : IsAt i.lanes.items c.args.actor c.index_mut-lane.result.now = (within, sym c.index_mut-lane.ensures.value) in
-    let is : c.args.self.now ≡ record { base = i.base; lanes = i.lanes.items; limits = i.limits; objects = i.objects } = search rules in
+    let is = sym c.self.view_is in
     let n = c.lane_act.new in
-    let long : c.len-command.result ≡ length c.index_mut-lane.result.now.replies.items = search rules in
+    let long : c.len-command.result ≡ length c.index_mut-lane.result.now.replies.items = omega (arith, c.len-command.ensures, c.index_mut-lane.result.now.replies.ok.0) in
     omega (arith, long, number_few (files_of g) (family_of g) (files_laws g) (family_laws g) c.args.self.now i.limits c.args.actor i.refs n.refs i.objects n.objects i.base n.base i.lanes.items i.given c.index_mut-lane.result.now n.run is c.self.invariant at)
 
 pub invariant_of-self-in-Answered : goal.invariant_of-self-in-Answered
 invariant_of-self-in-Answered g c =
     let i = c.self.inside in
-    let within : c.args.actor < length i.lanes.items = search rules in
+    let within : c.args.actor < length i.lanes.items = omega (arith, c.if-number-len.false, c.len.ensures, i.lanes.ok.0) in
     let at : IsAt i.lanes.items c.args.actor c.index_mut-lane.result.now = (within, sym c.index_mut-lane.ensures.value) in
     let n = c.lane_act.new in
     let r : Reply _ = record { answer = c.in-Answered.answer; start = c.number_of.result; place = c.number_of-in-Answered.result; order = i.given; taken = None } in
@@ -157,24 +158,24 @@ invariant_of-self-in-Answered g c =
     let x = c.in-Answered.ensures in
     let grows : c.push_reserved.new.self.items ≡ c.index_mut-lane.result.now.replies.items ++ r ∷ [] = c.push_reserved.ensures.items ∙ ap (λ (v : Vec (Reply _)). v.items ++ r ∷ []) x.replies in
     let room : vec_capacity c.index_mut-lane.result.now.replies ≤ vec_capacity c.push_reserved.new.self = omega (arith, c.push_reserved.ensures.capacity, ap vec_capacity x.replies) in
-    let long : c.len-in-Answered.result ≡ length n.base.books.history.items = search rules in
+    let long : c.len-in-Answered.result ≡ length n.base.books.history.items = omega (arith, c.len-in-Answered.ensures, n.base.books.history.ok.0) in
     let place = c.number_of-in-Answered.ensures ∙ long in
     kept_answered (files_of g) (family_of g) (files_laws g) (family_laws g) i.limits c.args.actor i.refs n.refs i.objects n.objects i.base n.base i.lanes.items i.given c.index_mut-lane.result.now n.run c.self.invariant at c.in-Answered.answer c.in-Answered.start x l r x.same x.did.0 grows room refl c.number_of.ensures place refl
 
 pub returns-in-Answered : goal.returns-in-Answered
 returns-in-Answered g c =
     let i = c.self.inside in
-    let within : c.args.actor < length i.lanes.items = search rules in
+    let within : c.args.actor < length i.lanes.items = omega (arith, c.if-number-len.false, c.len.ensures, i.lanes.ok.0) in
     let at : IsAt i.lanes.items c.args.actor c.index_mut-lane.result.now = (within, sym c.index_mut-lane.ensures.value) in
-    let is : c.args.self.now ≡ record { base = i.base; lanes = i.lanes.items; limits = i.limits; objects = i.objects } = search rules in
+    let is = sym c.self.view_is in
     let n = c.lane_act.new in
     let r : Reply _ = record { answer = c.in-Answered.answer; start = c.number_of.result; place = c.number_of-in-Answered.result; order = i.given; taken = None } in
     let l = record n.run { replies = c.push_reserved.new.self } in
     let x = c.in-Answered.ensures in
     let grows : c.push_reserved.new.self.items ≡ c.index_mut-lane.result.now.replies.items ++ r ∷ [] = c.push_reserved.ensures.items ∙ ap (λ (v : Vec (Reply _)). v.items ++ r ∷ []) x.replies in
     let room : vec_capacity c.index_mut-lane.result.now.replies ≤ vec_capacity c.push_reserved.new.self = omega (arith, c.push_reserved.ensures.capacity, ap vec_capacity x.replies) in
-    let long : c.len-in-Answered.result ≡ length n.base.books.history.items = search rules in
+    let long : c.len-in-Answered.result ≡ length n.base.books.history.items = omega (arith, c.len-in-Answered.ensures, n.base.books.history.ok.0) in
     let place = c.number_of-in-Answered.ensures ∙ long in
-    let number : c.number_of-in-Answered-2.result ≡ length c.index_mut-lane.result.now.replies.items = search rules in
+    let number : c.number_of-in-Answered-2.result ≡ length c.index_mut-lane.result.now.replies.items = omega (arith, c.number_of-in-Answered-2.ensures, c.len-command.ensures, c.index_mut-lane.result.now.replies.ok.0) in
     let z = is_done (files_of g) (family_of g) (files_laws g) (family_laws g) c.args.self.now i.limits c.args.actor i.refs n.refs i.objects n.objects i.base n.base i.lanes.items i.given c.index_mut-lane.result.now n.run is c.self.invariant at c.in-Answered.answer c.in-Answered.start x l r x.same x.did.0 grows room refl c.number_of.ensures place refl c.number_of-in-Answered-2.result number in
     record { acted = z.acted; objects = z.objects; preserves = z.preserves; ranks = z.ranks; held = z.held; waits = z.waits }

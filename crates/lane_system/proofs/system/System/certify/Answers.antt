@@ -31,7 +31,7 @@ certify-requires g c = c.self.invariant.sound
 pub returns : goal.returns
 returns g c =
     let i = c.self.inside in
-    let is : c.args.self.now ≡ record { base = i.base; lanes = i.lanes.items; limits = i.limits; objects = i.objects } = search rules in
+    let is = sym c.self.view_is in
     record {
       headline = subst (λ (s : System _ _ _ _). (v : View) → g.F.Fs.view s.base.fs ≡ Some v → Headline g.F.Fs.clock g.F.Fs.was s.base v) (sym is) c.certify.ensures;
       replied = subst (λ (s : System _ _ _ _). IsReplied g.F.Fs.view g.C.Command.means s) (sym is) (replied_of (files_of g) (family_of g) i.limits i.base i.refs i.lanes.items i.given i.objects c.self.invariant);
