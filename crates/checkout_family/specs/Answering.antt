@@ -1,5 +1,5 @@
 -- What a checkout answers, by its last step.
-use Rattle.std.proofs.Common.{◌≡◌, ◌≢◌, ℕ, true, false, refl, sym, ◌∙◌, ap, subst, List, Option, Some, None, IsSome}
+use Rattle.std.proofs.Common.{◌≡◌, ◌≢◌, ℕ, true, false, refl, sym, ◌∙◌, ap, subst, List, Option, Some, None, IsSome, inr, []}
 use Rattle.ost_types.specs.declared.object.Kind.TheVariants.{Commit}
 use Rattle.ost_types.specs.Path.{Name}
 use Rattle.fs_trait.specs.declared.task.StepResult.TheVariants as turn
@@ -8,11 +8,14 @@ use Rattle.fs_trait.specs.Seen.{Vacant, shows}
 use Rattle.fs_trait.specs.View.{View}
 use Rattle.repo_layout.specs.BootPaths.{checkout_path}
 use Rattle.repo_layout.specs.Paths.{object_path}
+use Rattle.store_check.specs.Good.{IsGoodStore}
 use Rattle.rely_guarantee.specs.Books.{Books}
 use Rattle.rely_guarantee.specs.Lasting.{StaysFinished}
 use Rattle.rely_guarantee.specs.State.{State}
 use Rattle.ref_command.specs.declared.look_up.Found.TheVariants.{Missing, Partial}
 use Rattle.ref_command.specs.Found.{IsFound}
+use Rattle.read_command.specs.declared.look.Ask.TheVariants as ask
+use Rattle.read_family.specs.Lackings.{lacking_never}
 use Rattle.checkout_command.specs.declared.answer.CheckoutAnswer.{CheckoutAnswer}
 use Rattle.checkout_command.specs.declared.answer.CheckoutAnswer.TheVariants as answer
 use Rattle.checkout_command.specs.declared.command.CheckoutCommand.{CheckoutCommand}
@@ -26,7 +29,7 @@ use Rattle.command.specs.Since.{Since, placed}
 use Rattle.checkout_family.specs.declared.reply.CheckoutReply.{CheckoutReply}
 use Rattle.checkout_family.specs.declared.reply.CheckoutReply.TheVariants.{NoRef, Tried}
 use Rattle.checkout_family.specs.declared.words.CheckoutWords.{CheckoutWords}
-use Rattle.checkout_family.specs.Family.{checkout_finds, checkout_lacks, checkout_pursues, checkout_reply, checkout_says, checkout_shows}
+use Rattle.checkout_family.specs.Family.{checkout_finds, checkout_lacks, checkout_outside, checkout_pursues, checkout_reply, checkout_says, checkout_shows}
 
 -- the last step has an answer, of the checkout
 pub has_answer : (t new : CheckoutCommand) → checkout_stepped t (turn.Done tt) new → IsSome (checkout_reply (answer_of new))
@@ -75,6 +78,16 @@ lacks_none since v NoRef c commit files seen is finished = is
 lacks_none since v (Tried answer.Done) c commit files seen is finished = is
 lacks_none since v (Tried (answer.DestExists path)) c commit files seen is finished = is
 lacks_none since v (Tried (answer.Lacking path)) c commit files seen is finished = is
+
+-- in a good store no object of a commit that is finished is missing or damaged
+pub outside_none : (since : Since) (v : View) (a : CheckoutReply) (c : CheckoutWords) → IsGoodStore since.limits v.now → checkout_shows since v a c → checkout_outside a → ⊥
+outside_none since v (Tried (answer.Lacking path)) c good seen is =
+    lacking_never since.limits v (record { limits = since.limits; commit = seen.0; ask = ask.Ls [] }) path refl good.sound good.whole (seen.3 tt) (inr seen.2)
+outside_none since v NoRef c good seen is = is
+outside_none since v (Tried answer.Done) c good seen is = is
+outside_none since v (Tried (answer.NoCommit sum)) c good seen is = is
+outside_none since v (Tried (answer.Partial sum)) c good seen is = is
+outside_none since v (Tried (answer.DestExists path)) c good seen is = is
 
 -- what is told to stand in the way stands there, and the checkout hasn't made it
 module _ (since : Since) (lane : ℕ) (c : CheckoutWords) (t new : CheckoutCommand) (v w : View) (b : Books) (name : Name) (is : checkout_pursues since c t) (f : checkout_facts lane t v b) (leaves : checkout_leaves t (turn.Done tt) new v w) where

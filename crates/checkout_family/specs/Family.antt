@@ -54,6 +54,11 @@ checkout_lacks (Tried (answer.NoCommit sum)) commit = sum ≡ commit
 checkout_lacks (Tried (answer.Partial sum)) commit = sum ≡ commit
 checkout_lacks a commit = ⊥
 
+-- an object of the commit isn't there as its name says
+abbrev pub checkout_outside : CheckoutReply → Type 0
+checkout_outside (Tried (answer.Lacking path)) = Unit {0}
+checkout_outside a = ⊥
+
 abbrev pub checkout_means : Meaning CheckoutWords CheckoutReply
 checkout_means = record {
   fit = λ limits c. Unit {0};
@@ -71,6 +76,7 @@ checkout_means = record {
   claims = λ c name. c.name ≡ name;
   brings = λ since c name bytes. ⊥;
   lacks = checkout_lacks;
+  outside = checkout_outside;
   full = λ a. ⊥;
   strays = λ c. None;
 }

@@ -13,7 +13,9 @@ use Rattle.command.specs.StepLaws.{StepLaws}
 use Rattle.command.specs.StoreLaws.{StoreLaws}
 use Rattle.command.specs.Tasks.{TaskSpec, task_spec}
 use Rattle.checkout_family.specs.declared.task.CheckoutsTask.{CheckoutsTask}
-use Rattle.checkout_family.specs.Answering.{ends_say, ends_show, found, has_answer, lacks_none}
+use Rattle.durable_store.proofs.Silent.{apart_keeps}
+use Rattle.checkout_family.specs.Apart.{writes_apart}
+use Rattle.checkout_family.specs.Answering.{ends_say, ends_show, found, has_answer, lacks_none, outside_none}
 use Rattle.checkout_family.specs.Family.{checkout_doing, checkout_means}
 use Rattle.checkout_family.specs.Kinds.{checkout_holds, checkouts_light, claims_own, no_settle, no_show, pins_commit}
 use Rattle.checkout_family.specs.Staying.{checkouts_stay, ends_leave}
@@ -61,6 +63,7 @@ answer_laws = record {
   shows = λ since lane c t new v w b a. ends_show since lane c t.work new.work v w b a;
   knows = λ since p lane c t new v w b a is f leaves given sees. tt;
   lacks = lacks_none;
+  outside = outside_none;
   full = λ told since c t new a is step given full. absurd full;
   left = λ since actor lane c t new v w b b' a is f leaves given does gone. ends_leave since actor lane c t.work new.work v w b b' is f leaves does gone a given;
   stays = checkouts_stay;
@@ -76,6 +79,7 @@ store_laws = record {
   stored = λ actor lane t new v w b name s f leaves sum wrote. absurd (no_objects actor t.work v name s sum wrote);
   done = λ actor lane t new v w b name s f leaves sum wrote. absurd (no_objects actor t.work v name s sum wrote);
   lacked = λ told since c t new v w name is leaves met. cc;
+  keeps = λ since actor lane c t v b is f. apart_keeps since.limits (checkout_means.brings since c) v (checkout_writes actor t.work v) (writes_apart actor t.work v);
 }
 
 folder_laws : FolderLaws checkout_tasks checkout_means checkout_doing
