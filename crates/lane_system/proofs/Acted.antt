@@ -1,5 +1,5 @@
 -- What an act keeps of what was so since the opening, for each way that it may end.
-use Rattle.std.proofs.Common.{◌≡◌, ◌≢◌, ◌⊎◌, inl, inr, ⊎_elim, ◌≤◌, ◌+◌, ℕ, sym, ◌∙◌, ap, subst, arith, List, [], ◌∷◌, ◌++◌, length, set, Some}
+use Rattle.std.proofs.Common.{◌≡◌, ◌≢◌, ◌⊎◌, inl, inr, ⊎_elim, ◌≤◌, ◌+◌, ℕ, refl, sym, ◌∙◌, ap, subst, arith, List, [], ◌∷◌, ◌++◌, length, set, Some}
 use Rattle.ost_types.specs.declared.limits.Limits.{Limits}
 use Rattle.ost_types.specs.Path.{Name}
 use Rattle.fs_trait.specs.Image.{Told}
@@ -14,8 +14,10 @@ use Rattle.ref_book.specs.declared.book.RefBook.{RefBook}
 use Rattle.command.specs.declared.ended.Ended.{Ended}
 use Rattle.command.specs.declared.ended.Ended.TheVariants as ended
 use Rattle.command.specs.ChangeLaws.{IsRightSince}
+use Rattle.durable_store.specs.Brought.{AreAlone}
 use Rattle.command.specs.CommitFiles.{CommitsAreFiles}
 use Rattle.command.specs.Since.{placed as placed_at}
+use Rattle.command.proofs.Files.{stands_files}
 use Rattle.lane_system.specs.declared.act.Came.TheVariants.{Answered, More}
 use Rattle.lane_system.specs.declared.lane.Lane.{Lane}
 use Rattle.lane_system.specs.declared.lane.Reply.{Reply}
@@ -35,22 +37,25 @@ use Rattle.lane_system.specs.Replies.{IfAnswer, IsCaused, IsOutside, Knows, OfAn
 use Rattle.lane_system.specs.Said.{AreSaid}
 use Rattle.lane_system.specs.States.{now_of, since_in}
 use Rattle.lane_system.specs.Staying.{AreStaying}
+use Rattle.lane_system.specs.Storing.{AreStored, IsConfigured, WasBrought}
 use Rattle.lane_system.specs.System.{System}
 use Rattle.lane_system.proofs.Acting.{given_acts, given_within, gives, more_acts, start_within, within}
 use Rattle.lane_system.proofs.Changing.{command_was, one_command, running_here, to_new, to_same, to_split, to_stays, to_was}
 use Rattle.lane_system.proofs.Endings.{more_history}
 use Rattle.lane_system.proofs.Family.{FamilyLaws, FsLaws}
 use Rattle.lane_system.proofs.Folding.{comes, made_goes, made_still, none_in_the_way, stands_in_the_way, taken_by, taken_stays}
-use Rattle.lane_system.proofs.Giving.{Gives}
+use Rattle.lane_system.proofs.Giving.{Gives, is_answer}
 use Rattle.lane_system.proofs.Places.{at_split}
 use Rattle.lane_system.proofs.Preserving.{caused_on, founded_on, inside_on, lasts_on, none_removed, said_on, staying_on}
+use Rattle.lane_system.proofs.Stored.{alone_given, alone_more, no_outside_given, stored_given, stored_more}
 use Rattle.lane_system.proofs.Taking.{told}
 
--- What acts keep, but for what the store keeps.
+-- What acts keep.
 pub record ActKeeps {F T W A : Type 0} (f : FsSpec F) (c : Family T W A) (old new : System F T W A) (v : View) : Type 0 where
   pub lasts : (opening : View) → AreKept c.means f.was opening old v → Told (f.view new.base.fs) (λ w. AreKept c.means f.was opening new w)
   pub caused : (before : ℕ) → AreCaused f.faults before old → AreCaused f.faults before new
-  pub inside : AreInside old → AreInside new
+  pub good : AreStored f c.means old v → Told (f.view new.base.fs) (λ w. AreStored f c.means new w)
+  pub inside : AreStored f c.means old v → AreInside f c.means old → AreInside f c.means new
   pub folders : (opening : Disk) → AreFolders c.means c.doing opening old v → Told (f.view new.base.fs) (λ w. AreFolders c.means c.doing opening new w)
   pub said : AreSaid c.means f.was old → AreSaid c.means f.was new
   pub stays : AreStaying c.means old v → Told (f.view new.base.fs) (λ w. AreStaying c.means new w)
@@ -89,13 +94,18 @@ module _ {F T W A : Type 0} (f : FsSpec F) (c : Family T W A) (fl : FsLaws f) (c
     w = (acts.does v told_v).0
 
     pub more_keeps : ActKeeps f c (record { base = old; lanes = lanes; limits = limits; objects = objects }) (record { base = new; lanes = set lanes lane l'; limits = limits; objects = objects' }) v
+    unfolding acts
     more_keeps = record {
       lasts = λ opening is. lasts_on f c fl cl limits lane lane refs refs' objects objects' old new lanes (set lanes lane l') acts kept.sound.ordered.ascends (command_was lanes lane l l' at x.same) (length l.replies.items) _ begin None_ split (λ r words n. absurd n) starts v told_v opening
           (λ k e words at_k late of right. absurd (omega (arith, at_k.0, ap length history, late))) is;
       caused = λ before is. caused_on f c fl cl limits lane lane refs refs' objects objects' old new lanes (set lanes lane l') acts kept.sound.ordered.ascends (command_was lanes lane l l' at x.same) (length l.replies.items) _ begin None_ split (λ r words n. absurd n) starts v told_v
           (λ r words n. absurd n) (commands_of l' given kept') before is;
-      inside = inside_on f c fl cl limits lane lane refs refs' objects objects' old new lanes (set lanes lane l') acts kept.sound.ordered.ascends (command_was lanes lane l l' at x.same) (length l.replies.items) _ begin None_ split (λ r words n. absurd n) starts v told_v
-          (λ r words n. absurd n) (commands_of l' given kept');
+      good = λ stored. (w, (acts.does v told_v).1, stored_more f c fl cl limits lane refs refs' objects objects' old new lanes given l kept at v told_v l' x stored);
+      inside = λ stored was. record {
+        unrefused = inside_on f c fl cl limits lane lane refs refs' objects objects' old new lanes (set lanes lane l') acts kept.sound.ordered.ascends (command_was lanes lane l l' at x.same) (length l.replies.items) _ begin None_ split (λ r words n. absurd n) starts v told_v
+          (λ r words n. absurd n) (commands_of l' given kept') was.unrefused;
+        seen = λ alone a n r to. was.seen (alone_more f c fl cl limits lane refs refs' objects objects' old new lanes given l kept at v told_v l' x alone) a n r (to_was lanes lane l l' at x.same x.replies a n r to);
+      };
       folders = λ opening was. (
         w,
         (acts.does v told_v).1,
@@ -216,14 +226,30 @@ module _ {F T W A : Type 0} (f : FsSpec F) (c : Family T W A) (fl : FsLaws f) (c
         subst (λ i. IsTaken c.means lanes opening name i n) (sym new_one.0) (subst (λ i. IsTaken c.means lanes opening name lane i) (sym new_one.1) (taken_by c.means c.doing lanes lane l l'' at same opening v name was.made (in_the_way name said)))))
         (to_split lanes lane l l'' at same r grows a n q to)
 
+    -- where the store is good no answer tells otherwise
+    seen_given : AreStored f c.means (record { base = old; lanes = lanes; limits = limits; objects = objects }) v → AreInside f c.means (record { base = old; lanes = lanes; limits = limits; objects = objects })
+        → ((u : View) → f.was new.fs new.books.opened u → AreAlone (WasBrought c.means (record { base = new; lanes = set lanes lane l''; limits = limits; objects = objects' })) u.now) → (a n : ℕ) (q : Reply A) → IsTo (set lanes lane l'') a n q → ¬ (OfAnswer c.means.outside q.answer)
+    seen_given stored was alone a n q to is = ⊎_elim
+        (λ before. was.seen (alone_given f c fl cl limits lane refs refs' objects objects' old new lanes given l kept at v told_v l' z start x l'' r same grows begun alone) a n q before is)
+        (λ new_one.
+        (let answer = is_answer c.means.outside q.answer is in
+        let shown = shows_new q x.words (new_one.2, refl) in
+        no_outside_given f c fl cl limits lane refs refs' objects objects' old new lanes given l kept at v told_v l' z start x l'' r same grows begun stored alone q.start answer.0 (subst (IfAnswer (λ y. c.means.shows (since_in limits old.books q.start) v y x.words)) answer.1 shown) answer.2))
+        (to_split lanes lane l l'' at same r grows a n q to)
+
     pub given_keeps : ActKeeps f c (record { base = old; lanes = lanes; limits = limits; objects = objects }) (record { base = new; lanes = set lanes lane l''; limits = limits; objects = objects' }) v
+    unfolding acts_
     given_keeps = record {
       lasts = λ opening is. lasts_on f c fl cl limits lane lane refs refs' objects objects' old new lanes (set lanes lane l'') acts_ kept.sound.ordered.ascends (command_was lanes lane l l'' at same) (length l.replies.items) start is_start IsNew split_ (λ q words n. ap (λ (y : Reply A). y.start) n.0 ∙ begun) starts_ v told_v opening
           (λ k e words at_k late of right. lasts_new opening right k e words at_k late of) is;
       caused = λ before is. caused_on f c fl cl limits lane lane refs refs' objects objects' old new lanes (set lanes lane l'') acts_ kept.sound.ordered.ascends (command_was lanes lane l l'' at same) (length l.replies.items) start is_start IsNew split_ (λ q words n. ap (λ (y : Reply A). y.start) n.0 ∙ begun) starts_ v told_v
           (of_new (λ n d y. IsCaused old.books.halted (f.faults old.fs) (f.faults new.fs) y) (g.shown v told_v).1) (commands_of l'' (given + 1) kept') before is;
-      inside = inside_on f c fl cl limits lane lane refs refs' objects objects' old new lanes (set lanes lane l'') acts_ kept.sound.ordered.ascends (command_was lanes lane l l'' at same) (length l.replies.items) start is_start IsNew split_ (λ q words n. ap (λ (y : Reply A). y.start) n.0 ∙ begun) starts_ v told_v
-          (of_new (λ n d y. ¬ (IsOutside y)) (outside_not z (g.known (old.fs, v, told_v)))) (commands_of l'' (given + 1) kept');
+      good = λ stored. (w_, (acts_.does v told_v).1, stored_given f c fl cl limits lane refs refs' objects objects' old new lanes given l kept at v told_v l' z start x l'' r same grows begun stored);
+      inside = λ stored was. record {
+        unrefused = inside_on f c fl cl limits lane lane refs refs' objects objects' old new lanes (set lanes lane l'') acts_ kept.sound.ordered.ascends (command_was lanes lane l l'' at same) (length l.replies.items) start is_start IsNew split_ (λ q words n. ap (λ (y : Reply A). y.start) n.0 ∙ begun) starts_ v told_v
+          (of_new (λ n d y. ¬ (IsOutside y)) (outside_not z (g.known (old.fs, v, told_v)))) (commands_of l'' (given + 1) kept') was.unrefused;
+        seen = seen_given stored was;
+      };
       folders = λ opening was. (
         w_,
         (acts_.does v told_v).1,
@@ -243,16 +269,14 @@ module _ {F T W A : Type 0} (f : FsSpec F) (c : Family T W A) (fl : FsLaws f) (c
     }
 
 -- so it is of a whole act
-pub preserves_by : {F T W A : Type 0} (f : FsSpec F) (c : Family T W A) → FsLaws f → (actor lane : ℕ) (refs refs' : RefBook) (s s' : System F T W A) → Acts f actor lane refs refs' s.base s'.base → ((v : View) → f.view s.base.fs ≡ Some v → ActKeeps f c s s' v) → Preserves f c s s'
-preserves_by f c fl actor lane refs refs' s s' acts keeps = record {
-  later = acts.time.later;
-  past = λ t u had. acts.time.keeps t u (fl.is.bound s.base.fs t u had) had;
+pub preserves_by : {F T W A : Type 0} (f : FsSpec F) (c : Family T W A) (s s' : System F T W A) → ((v : View) → f.view s.base.fs ≡ Some v → ActKeeps f c s s' v) → Preserves f c s s'
+preserves_by f c s s' keeps = record {
   lasts = λ opening v told is. (keeps v told).lasts opening is;
+  good = λ v told is. (keeps v told).good is;
   caused = λ before v told is. (keeps v told).caused before is;
-  inside = λ v told is. (keeps v told).inside is;
+  inside = λ v told stored is. (keeps v told).inside stored is;
   folders = λ opening v told is. (keeps v told).folders opening is;
   said = λ v told is. (keeps v told).said is;
   stays = λ v told is. (keeps v told).stays is;
-  founded = λ opening v told files is. (keeps v told).founded opening
-      (files (f.clock s.base.fs) v (omega arith) (acts.time.keeps (f.clock s.base.fs) v (omega arith) (fl.counts_now s.base.fs (f.clock s.base.fs) v (omega arith) told))) is;
+  founded = λ opening v told stored is. (keeps v told).founded opening (stands_files s.limits (WasBrought c.means s) IsConfigured stored.names v stored.keeps.now) is;
 }

@@ -21,7 +21,7 @@ use Rattle.lane_system.specs.Ranks.{Asks, IsHeldOff, Ranked, left_of}
 use Rattle.lane_system.specs.System.{System}
 use Rattle.lane_system.proofs.Accounting.{count_few}
 use Rattle.lane_system.proofs.Acted.{given_keeps, more_keeps, preserves_by}
-use Rattle.lane_system.proofs.Acting.{given_acts, given_within, gives, held_lanes, held_same, kept_answered, kept_on, more_acts, set_same}
+use Rattle.lane_system.proofs.Acting.{given_within, gives, held_lanes, held_same, kept_answered, kept_on, set_same}
 use Rattle.lane_system.proofs.Advancing.{ranked_done, ranked_more, ranked_same, step_less}
 use Rattle.lane_system.proofs.Chaining.{preserves_nothing}
 use Rattle.lane_system.proofs.Clauses.{acted_done, acted_more, moves_done, moves_more, objects_done, objects_more, objects_same}
@@ -83,7 +83,7 @@ module _ {F T W A : Type 0} (f : FsSpec F) (c : Family T W A) (fl : FsLaws f) (c
       of_self (after l') ask.More (record {
         acted = acted_more f c fl cl limits lane refs refs' objects objects' old new lanes given l l' kept at x (AnswerTells c.means f.view (f.faults old.fs) (f.faults new.fs) s);
         objects = objects_more f c fl cl limits lane refs refs' objects objects' old new lanes given l l' kept at x;
-        preserves = preserves_by f c fl lane lane refs refs' s (after l') (more_acts f c fl cl limits lane refs refs' objects objects' old new lanes given l l' kept at x)
+        preserves = preserves_by f c s (after l')
             (λ v told. more_keeps f c fl cl limits lane refs refs' objects objects' old new lanes given l kept at v told l' x (kept_on f c fl cl limits lane refs refs' objects objects' old new lanes given l l' kept at x));
         ranks = ranked_more c.doing s (after l') lane l l' (moves_more f c fl cl limits lane refs refs' objects objects' old new lanes given l l' kept at x) x.replies
             (subst (λ o. left_of c.doing o < left_of c.doing l.task) (sym x.did.1) (step_less f c cl limits lane lane (length l.replies.items) refs refs' objects old new x.words l.task x.did.0 x.did.3));
@@ -113,7 +113,7 @@ module _ {F T W A : Type 0} (f : FsSpec F) (c : Family T W A) (fl : FsLaws f) (c
       of_self (after l'') (ask.Done lane command) (subst (λ n. IsAct f c s (after l'') lane (ask.Done lane n)) (sym number) (record {
         acted = acted_done f c fl cl limits lane refs refs' objects objects' old new lanes given l l' kept at z start x l'' r words task grows answered begun place order;
         objects = objects_done f c fl cl limits lane refs refs' objects objects' old new lanes given l l' kept at z start x l'' r words task grows answered begun place order;
-        preserves = preserves_by f c fl lane lane refs refs' s (after l'') (given_acts f c fl cl limits lane refs refs' objects objects' old new lanes given l l' kept at z start x)
+        preserves = preserves_by f c s (after l'')
             (λ v told. given_keeps f c fl cl limits lane refs refs' objects objects' old new lanes given l kept at v told l' z start x l'' r words grows answered begun
             (kept_answered f c fl cl limits lane refs refs' objects objects' old new lanes given l l' kept at z start x l'' r words task grows room answered begun place order));
         ranks = ranked_done c.doing s (after l'') lane l l'' (moves_done f c fl cl limits lane refs refs' objects objects' old new lanes given l l' kept at z start x l'' r words task grows answered begun place order) r lane (length l.replies.items) grows task;

@@ -18,6 +18,7 @@ use Rattle.lane_system.specs.Kept.{AreHomes, AreIdle, Kept, RunsIn}
 use Rattle.lane_system.specs.Lanes.{IsAt, IsTo, count_of}
 use Rattle.lane_system.specs.Preserves.{Stands}
 use Rattle.lane_system.specs.States.{now_of}
+use Rattle.lane_system.specs.Storing.{AreStored}
 
 none_some : {X P : Type 0} (o : Option X) (x : X) → o ≡ None → o ≡ Some x → P
 none_some o x none is = absurd (let z : None ≡ Some x = sym none ∙ is in cc)
@@ -73,11 +74,12 @@ module _ {F T W A : Type 0} (f : FsSpec F) (c : Family T W A) (limits : Limits) 
       empty : (p : Pin) → Contains [] p → ⊥
       empty p (k, lt, e) = omega (arith, lt)
 
-  pub stands_first : (objects before : ℕ) → f.faults base.fs ≡ before → base.books.halted ≡ false → (v : View) → Stands f c before v (record { base = base; lanes = lanes; limits = limits; objects = objects }) v
-  stands_first objects before same live v = record {
+  pub stands_first : (objects before : ℕ) → f.faults base.fs ≡ before → base.books.halted ≡ false → (v : View) → AreStored f c.means (record { base = base; lanes = lanes; limits = limits; objects = objects }) v → Stands f c before v (record { base = base; lanes = lanes; limits = limits; objects = objects }) v
+  stands_first objects before same live v stored = record {
     lasts = record { right = λ name is. is; each = λ k e words at is. none_at base.books.history.items k e history at };
     caused = record { later = omega (arith, same); halts = λ is. cc; each = λ a n r to is. absurd (no_reply a n r to) };
-    inside = λ a n r to is. no_reply a n r to;
+    good = stored;
+    inside = record { unrefused = λ a n r to is. no_reply a n r to; seen = λ alone a n r to is. no_reply a n r to };
     folders = record { made = λ name there. inl there; taken = λ a n r words name to is found. absurd (no_reply a n r to) };
     said = λ a n r words to is. absurd (no_reply a n r to);
     stays = λ a n r words to is. absurd (no_reply a n r to);

@@ -1,6 +1,8 @@
 -- No act keeps all, and acts behind acts keep what both keep.
-use Rattle.std.proofs.Common.{◌≡◌, ℕ, zero, suc, arith, refl, sym, ◌∙◌, ap, ◌++◌, List, [], ◌∷◌, append-nil, append_assoc, length, map, set, subst}
+use Rattle.std.proofs.Common.{◌≡◌, ℕ, zero, suc, arith, refl, sym, ◌∙◌, ap, ◌++◌, List, [], ◌∷◌, append-nil, append_assoc, length, map, set, subst, Option, Some}
 use Rattle.std.proofs.lemmas.List.{length-map}
+use Rattle.fs_trait.specs.Image.{Told}
+use Rattle.fs_trait.specs.View.{View}
 use Rattle.command.specs.declared.ended.Ended.{Ended}
 use Rattle.lane_system.specs.declared.ask.Ask.{Ask}
 use Rattle.lane_system.specs.declared.ask.Ask.TheVariants as ask
@@ -45,31 +47,33 @@ module _ {F T W A : Type 0} (Tells : Lane T W A → Ended A → Type 0) (s new :
 pub lanes_same : {F T W A : Type 0} (s new : System F T W A) → commands_of new ≡ commands_of s → length new.lanes ≡ length s.lanes
 lanes_same {T = T} {W = W} {A = A} s new same = sym (length-map new.lanes (λ (x : Lane T W A). x.words.items)) ∙ ap length same ∙ length-map s.lanes (λ (x : Lane T W A). x.words.items)
 
+-- what is told of one view twice is told of it together
+told_both : (o : Option View) (P Q : View → Type 0) → Told o P → Told o Q → Told o (λ w. P w × Q w)
+told_both o P Q p q =
+    let same : q.0 ≡ p.0 = (let e : Some q.0 ≡ Some p.0 = sym q.1 ∙ p.1 in cc) in
+    (p.0, p.1, (p.2, subst Q same q.2))
+
 module _ {F T W A : Type 0} (f : FsSpec F) (c : Family T W A) (fl : FsLaws f) where
   pub preserves_nothing : (s : System F T W A) → Preserves f c s s
   preserves_nothing s = record {
-    later = omega arith;
-    past = λ t u had. had;
     lasts = λ opening v told is. (v, told, is);
+    good = λ v told is. (v, told, is);
     caused = λ before v told is. is;
-    inside = λ v told is. is;
+    inside = λ v told stored is. is;
     folders = λ opening v told is. (v, told, is);
     said = λ v told is. is;
     stays = λ v told is. (v, told, is);
-    founded = λ opening v told files is. (v, told, is);
+    founded = λ opening v told stored is. (v, told, is);
   }
 
   pub preserves_then : (a b e : System F T W A) → Preserves f c a b → Preserves f c b e → Preserves f c a e
   preserves_then a b e x y = record {
-    later = omega (arith, x.later, y.later);
-    past = λ t u had. y.past t u (x.past t u had);
     lasts = λ opening v told is. (let z = x.lasts opening v told is in y.lasts opening z.0 z.1 z.2);
     caused = λ before v told is. (let z = fl.is.told a.base.fs b.base.fs v told in y.caused before z.0 z.1 (x.caused before v told is));
-    inside = λ v told is. (let z = fl.is.told a.base.fs b.base.fs v told in y.inside z.0 z.1 (x.inside v told is));
+    good = λ v told is. (let z = x.good v told is in y.good z.0 z.1 z.2);
+    inside = λ v told stored is. (let z = x.good v told stored in y.inside z.0 z.1 z.2 (x.inside v told stored is));
     folders = λ opening v told is. (let z = x.folders opening v told is in y.folders opening z.0 z.1 z.2);
     said = λ v told is. (let z = fl.is.told a.base.fs b.base.fs v told in y.said z.0 z.1 (x.said v told is));
     stays = λ v told is. (let z = x.stays v told is in y.stays z.0 z.1 z.2);
-    founded = λ opening v told files is.
-        (let z = x.founded opening v told (λ t u le had. files t u le (y.past t u had)) is in
-        y.founded opening z.0 z.1 (λ t u le had. files t u (omega (arith, x.later, le)) had) z.2);
+    founded = λ opening v told stored is. (let z = told_both (f.view b.base.fs) _ _ (x.good v told stored) (x.founded opening v told stored is) in y.founded opening z.0 z.1 z.2.0 z.2.1);
   }

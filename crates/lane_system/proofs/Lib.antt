@@ -26,6 +26,9 @@ pub mod Chaining
 pub mod Doing
 pub mod Coming
 pub mod Clauses
+pub mod Storing
+pub mod Stored
+pub mod StoredFirst
 pub mod Acted
 pub mod Holding
 pub mod Asking

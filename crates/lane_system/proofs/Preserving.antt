@@ -30,7 +30,7 @@ use Rattle.lane_system.specs.Acts.{Acts, Fails}
 use Rattle.lane_system.specs.Causes.{AreCaused}
 use Rattle.lane_system.specs.Family.{Family, FsSpec}
 use Rattle.lane_system.specs.Founded.{AreFounded, Sets}
-use Rattle.lane_system.specs.Inside.{AreInside}
+use Rattle.lane_system.specs.Inside.{AreUnrefused}
 use Rattle.lane_system.specs.Lanes.{IsAt, IsCommand, IsTo}
 use Rattle.lane_system.specs.Lasting.{AreKept, IsChangeKept}
 use Rattle.lane_system.specs.Replies.{IfAnswer, IsCaused, IsFailure, IsOutside, OfAnswer}
@@ -180,7 +180,7 @@ module _ {F T W A : Type 0} (f : FsSpec F) (c : Family T W A) (fl : FsLaws f) (c
             (split a n r x.0 to x.1));
       }
 
-  pub inside_on : ((r : Reply A) (words : W) → IsNew r words → ¬ (IsOutside r.answer)) → ((a n : ℕ) (r : Reply A) → IsTo lanes' a n r → (words : W) × IsCommand lanes' a n words) → AreInside before → AreInside behind
+  pub inside_on : ((r : Reply A) (words : W) → IsNew r words → ¬ (IsOutside r.answer)) → ((a n : ℕ) (r : Reply A) → IsTo lanes' a n r → (words : W) × IsCommand lanes' a n words) → AreUnrefused lanes → AreUnrefused lanes'
   inside_on new_one has was a n r to is = (let x = has a n r to in ⊎_elim (λ there. was a n r there is) (λ given. new_one r x.0 given is) (split a n r x.0 to x.1))
 
   -- what the changes made

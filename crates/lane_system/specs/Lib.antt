@@ -17,6 +17,7 @@ pub mod Causes
 pub mod Lasting
 pub mod Founded
 pub mod Said
+pub mod Storing
 pub mod Inside
 pub mod Folders
 pub mod Staying

@@ -81,7 +81,7 @@ impl<F: Fs, C: Command> System<F, C> {
         requires idle { AreIdle C.means opened.limits lanes.items }
         ensures parts { IfOk result (λ s. (s.base.fs ≡ opened.fs) × (s.base.books.start.items ≡ opened.refs) × (s.base.books.opened ≡ opened.clock) × (s.lanes ≡ lanes.items)) }
         ensures bounds { IfOk result (λ s. (s.limits ≡ opened.limits) × (s.objects ≡ min (length opened.objects) 4294967295)) }
-        ensures stands { IfOk result (λ s. (v : View) → Stands (fs_spec F.view F.clock F.spare F.was F.faults) (family (task_spec C.kind_of C.writes_of C.stepped C.leaves C.refuses C.facts) C.means C.doing) (F.faults opened.fs) v s v) }
+        ensures stands { IfOk result (λ s. (v : View) → F.view s.base.fs ≡ Some v → Stands (fs_spec F.view F.clock F.spare F.was F.faults) (family (task_spec C.kind_of C.writes_of C.stepped C.leaves C.refuses C.facts) C.means C.doing) (F.faults opened.fs) v s v) }
         ensures back { IfErr result (λ e. e.0 ≡ opened) }
     {
         match RefBook::new(alloc, opened.refs()) {
@@ -101,7 +101,7 @@ impl<F: Fs, C: Command> System<F, C> {
         requires idle { AreIdle C.means opened.limits lanes.items }
         ensures parts { (result.base.fs ≡ opened.fs) × (result.base.books.start.items ≡ opened.refs) × (result.base.books.opened ≡ opened.clock) × (result.lanes ≡ lanes.items) }
         ensures bounds { (result.limits ≡ opened.limits) × (result.objects ≡ min (length opened.objects) 4294967295) }
-        ensures stands { (v : View) → Stands (fs_spec F.view F.clock F.spare F.was F.faults) (family (task_spec C.kind_of C.writes_of C.stepped C.leaves C.refuses C.facts) C.means C.doing) (F.faults opened.fs) v result v }
+        ensures stands { (v : View) → F.view result.base.fs ≡ Some v → Stands (fs_spec F.view F.clock F.spare F.was F.faults) (family (task_spec C.kind_of C.writes_of C.stepped C.leaves C.refuses C.facts) C.means C.doing) (F.faults opened.fs) v result v }
     {
         let OpenedParts {
             fs,

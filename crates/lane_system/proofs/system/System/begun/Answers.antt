@@ -1,15 +1,17 @@
-use Rattle.std.proofs.Common.{rules, ◌≡◌, ◌∙◌, ℕ, List, length, ap, refl, sym, subst}
+use Rattle.std.proofs.Common.{rules, ◌≡◌, ◌∙◌, ℕ, List, length, ap, refl, sym, subst, Some}
 use Rattle.std.specs.Prelude.{min}
 use Rattle.ost_types.specs.declared.limits.Limits.{Limits}
 use Rattle.rely_guarantee.specs.declared.books.Entry.{Entry}
 use Rattle.rely_guarantee.specs.State.{State, after, events_of, first}
 use Rattle.ref_book.specs.Tracks.{Tracks}
+use Rattle.sys_open.specs.Opened as opening
 use Rattle.command.specs.Tasks.{task_spec}
 use Rattle.lane_system.specs.Family.{Family, FsSpec, family, fs_spec}
 use Rattle.lane_system.specs.Kept.{AreHomes, AreIdle}
 use Rattle.lane_system.specs.States.{now_of}
 use Rattle.lane_system.proofs.Beginning.{homes_of, kept_first, stands_first}
 use Rattle.lane_system.proofs.system.System.begun.Given as given
+use Rattle.lane_system.proofs.StoredFirst.{stored_first}
 use Rattle.lane_system.proofs.system.System.begun.Goals as goal
 
 abbrev files_of : (g : given.Over) → FsSpec g.row.F.Denot
@@ -52,5 +54,9 @@ returns g c =
     record {
       parts = (e.fs ∙ opened.fs, ap (λ s. s.items) e.start ∙ opened.refs, e.opened ∙ opened.clock, refl);
       bounds = (opened.limits, c.count_of.ensures ∙ ap (λ n. min n 4294967295) (size ∙ ap length opened.objects));
-      stands = λ v. stands_first (files_of g) (family_of g) parts.limits base c.args.refs c.args.lanes.items e.history e.pending idle c.count_of.result (g.F.Fs.faults c.args.opened.fs) now e.live v;
+      stands = λ v told.
+          let there = subst (λ x. g.F.Fs.view x ≡ Some v) e.fs told in
+          let good = subst (λ x. opening.KeepsGood g.F.Fs.view g.F.Fs.was x base.books.opened parts.limits parts.refs.items) (sym e.fs) (subst (λ (n : ℕ). opening.KeepsGood g.F.Fs.view g.F.Fs.was parts.fs n parts.limits parts.refs.items) (sym e.opened) opened.good) in
+          let stored = stored_first (files_of g) g.C.Command.means parts.limits base c.args.lanes.items parts.refs.items parts.objects.items c.count_of.result v told (g.met.F.Fs.tree parts.fs v there) (opened.opened.opening v there) good (opened.listed v there) (c.count_of.ensures ∙ ap (λ (n : ℕ). min n 4294967295) size) (search rules) in
+          stands_first (files_of g) (family_of g) parts.limits base c.args.refs c.args.lanes.items e.history e.pending idle c.count_of.result (g.F.Fs.faults c.args.opened.fs) now e.live v stored;
     }
