@@ -3,6 +3,7 @@ use Rattle.std.specs.Prelude.{◌≡◌, ◌≢◌, ◌≤◌, ◌++◌, ℕ, Li
 use Rattle.ost_types.specs.declared.object.ObjName.{ObjName}
 use Rattle.fs_trait.specs.declared.task.StepResult.TheVariants as turn
 use Rattle.fs_trait.specs.View.{View}
+use Rattle.store_check.specs.Good.{IsGoodStore}
 use Rattle.rely_guarantee.specs.declared.books.Claim.{Claim}
 use Rattle.rely_guarantee.specs.Books.{Books}
 use Rattle.rely_guarantee.specs.Lasting.{StaysFinished}
@@ -28,9 +29,10 @@ pub record AnswerLaws {T W A : Type 0} (k : TaskSpec T) (m : Meaning W A) (d : D
   pub shows : (since : Since) (lane : ℕ) (c : W) (t new : T) (v w : View) (b : Books) (a : A) → d.pursues since c t → k.facts lane t v b → k.leaves t (turn.Done tt) new v w → d.answer new ≡ Some a → m.shows since v a c
   -- and so is what it says where the view is told: the last step sees a state
   pub knows : (since : Since) (p : State) (lane : ℕ) (c : W) (t new : T) (v w : View) (b : Books) (a : A) → d.pursues since c t → k.facts lane t v b → k.leaves t (turn.Done tt) new v w → d.answer new ≡ Some a → Sees (k.kind t) lane b v w p → m.knows (placed since p) a c
-  -- no answer tells of a commit that lasts that it isn't there, where commits are files; and none that the store is full which isn't, by
-  -- the count that the task was told before that step
+  -- no answer tells of a commit that lasts that it isn't there, where commits are files; none that an object isn't there as its name says,
+  -- where the store is good; and none that the store is full which isn't, by the count that the task was told before that step
   pub lacks : (since : Since) (v : View) (a : A) (c : W) (commit : List ℕ) → CommitsAreFiles v.now → m.shows since v a c → m.lacks a commit → StaysFinished v commit → ⊥
+  pub outside : (since : Since) (v : View) (a : A) (c : W) → IsGoodStore since.limits v.now → m.shows since v a c → m.outside a → ⊥
   pub full : (told : Told) (since : Since) (c : W) (t new : T) (a : A) → d.pursues since c t → k.stepped (d.hears told t) (turn.Done tt) new → d.answer new ≡ Some a → m.full a → since.limits.objects ≤ told.objects
   -- what it leaves stands, and stays so while anyone acts
   pub left : (since : Since) (actor lane : ℕ) (c : W) (t new : T) (v w : View) (b b' : Books) (a : A) → d.pursues since c t → k.facts lane t v b → k.leaves t (turn.Done tt) new v w → d.answer new ≡ Some a → Interference actor lane v b w b' → HasNoClaims lane b' → m.stays since [] a c w b'

@@ -77,6 +77,7 @@ module _ {S T W V A B : Type 0} {k : TaskSpec S} {l : TaskSpec T} {m : Meaning W
     shows = λ since lane. elim [ Left c ↦ elim [ Left t ↦ elim [ Left new ↦ λ v w b. elim [ Left a ↦ λ after f leaves is. one.shows since lane c t new v w b a after f leaves (from_left (d.answer new) a is) | Right a ↦ λ after f leaves is. absurd (not_right (d.answer new) a is) ] | Right new ↦ λ v w b a after f leaves is. absurd leaves ] | Right t ↦ λ new v w b a after f leaves is. absurd after ] | Right c ↦ elim [ Left t ↦ λ new v w b a after f leaves is. absurd after | Right t ↦ elim [ Left new ↦ λ v w b a after f leaves is. absurd leaves | Right new ↦ λ v w b. elim [ Left a ↦ λ after f leaves is. absurd (not_left (e.answer new) a is) | Right a ↦ λ after f leaves is. two.shows since lane c t new v w b a after f leaves (from_right (e.answer new) a is) ] ] ] ];
     knows = λ since p lane. elim [ Left c ↦ elim [ Left t ↦ elim [ Left new ↦ λ v w b. elim [ Left a ↦ λ after f leaves is sees. one.knows since p lane c t new v w b a after f leaves (from_left (d.answer new) a is) sees | Right a ↦ λ after f leaves is sees. absurd (not_right (d.answer new) a is) ] | Right new ↦ λ v w b a after f leaves is sees. absurd leaves ] | Right t ↦ λ new v w b a after f leaves is sees. absurd after ] | Right c ↦ elim [ Left t ↦ λ new v w b a after f leaves is sees. absurd after | Right t ↦ elim [ Left new ↦ λ v w b a after f leaves is sees. absurd leaves | Right new ↦ λ v w b. elim [ Left a ↦ λ after f leaves is sees. absurd (not_left (e.answer new) a is) | Right a ↦ λ after f leaves is sees. two.knows since p lane c t new v w b a after f leaves (from_right (e.answer new) a is) sees ] ] ] ];
     lacks = λ since v. elim [ Left a ↦ elim [ Left c ↦ one.lacks since v a c | Right c ↦ λ commit files shown. absurd shown ] | Right a ↦ elim [ Left c ↦ λ commit files shown. absurd shown | Right c ↦ two.lacks since v a c ] ];
+    outside = λ since v. elim [ Left a ↦ elim [ Left c ↦ one.outside since v a c | Right c ↦ λ good shown. absurd shown ] | Right a ↦ elim [ Left c ↦ λ good shown. absurd shown | Right c ↦ two.outside since v a c ] ];
     full = λ told since. elim [ Left c ↦ elim [ Left t ↦ elim [ Left new ↦ elim [ Left a ↦ λ after step is full. one.full told since c t new a after step (from_left (d.answer new) a is) full | Right a ↦ λ after step is full. absurd (not_right (d.answer new) a is) ] | Right new ↦ λ a after step is full. absurd step ] | Right t ↦ λ new a after step is full. absurd after ] | Right c ↦ elim [ Left t ↦ λ new a after step is full. absurd after | Right t ↦ elim [ Left new ↦ λ a after step is full. absurd step | Right new ↦ elim [ Left a ↦ λ after step is full. absurd (not_left (e.answer new) a is) | Right a ↦ λ after step is full. two.full told since c t new a after step (from_right (e.answer new) a is) full ] ] ] ];
     left = λ since actor lane. elim [ Left c ↦ elim [ Left t ↦ elim [ Left new ↦ λ v w b b'. elim [ Left a ↦ λ after f leaves is does gone. one.left since actor lane c t new v w b b' a after f leaves (from_left (d.answer new) a is) does gone | Right a ↦ λ after f leaves is does gone. absurd (not_right (d.answer new) a is) ] | Right new ↦ λ v w b b' a after f leaves is does gone. absurd leaves ] | Right t ↦ λ new v w b b' a after f leaves is does gone. absurd after ] | Right c ↦ elim [ Left t ↦ λ new v w b b' a after f leaves is does gone. absurd after | Right t ↦ elim [ Left new ↦ λ v w b b' a after f leaves is does gone. absurd leaves | Right new ↦ λ v w b b'. elim [ Left a ↦ λ after f leaves is does gone. absurd (not_left (e.answer new) a is) | Right a ↦ λ after f leaves is does gone. two.left since actor lane c t new v w b b' a after f leaves (from_right (e.answer new) a is) does gone ] ] ] ];
     stays = λ since actor lane out. elim [ Left a ↦ elim [ Left c ↦ one.stays since actor lane out a c | Right c ↦ λ v w b b' does is. absurd is ] | Right a ↦ elim [ Left c ↦ λ v w b b' does is. absurd is | Right c ↦ two.stays since actor lane out a c ] ];
@@ -92,6 +93,7 @@ module _ {S T W V A B : Type 0} {k : TaskSpec S} {l : TaskSpec T} {m : Meaning W
     stored = λ actor lane. elim [ Left t ↦ elim [ Left new ↦ one.stored actor lane t new | Right new ↦ λ v w b name s f leaves sum writes. absurd leaves ] | Right t ↦ elim [ Left new ↦ λ v w b name s f leaves sum writes. absurd leaves | Right new ↦ two.stored actor lane t new ] ];
     done = λ actor lane. elim [ Left t ↦ elim [ Left new ↦ one.done actor lane t new | Right new ↦ λ v w b name s f leaves sum writes. absurd leaves ] | Right t ↦ elim [ Left new ↦ λ v w b name s f leaves sum writes. absurd leaves | Right new ↦ two.done actor lane t new ] ];
     lacked = λ told since. elim [ Left c ↦ elim [ Left t ↦ elim [ Left new ↦ one.lacked told since c t new | Right new ↦ λ v w name after leaves met. absurd leaves ] | Right t ↦ λ new v w name after leaves met. absurd after ] | Right c ↦ elim [ Left t ↦ λ new v w name after leaves met. absurd after | Right t ↦ elim [ Left new ↦ λ v w name after leaves met. absurd leaves | Right new ↦ two.lacked told since c t new ] ] ];
+    keeps = λ since actor lane. elim [ Left c ↦ elim [ Left t ↦ one.keeps since actor lane c t | Right t ↦ λ v b after f. absurd after ] | Right c ↦ elim [ Left t ↦ λ v b after f. absurd after | Right t ↦ two.keeps since actor lane c t ] ];
   }
 
   folder_laws : FolderLaws k m d → FolderLaws l n e → FolderLaws (either_tasks k l) (either_means m n) (either_doing d e)

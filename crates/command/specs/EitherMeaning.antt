@@ -51,6 +51,7 @@ either_means m n = record {
   claims = λ c name. on_side (λ w. m.claims w name) (λ w. n.claims w name) c;
   brings = λ since c name bytes. on_side (λ w. m.brings since w name bytes) (λ w. n.brings since w name bytes) c;
   lacks = λ a commit. on_side (λ x. m.lacks x commit) (λ x. n.lacks x commit) a;
+  outside = on_side m.outside n.outside;
   full = on_side m.full n.full;
   strays = side_value m.strays n.strays;
 }

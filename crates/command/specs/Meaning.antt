@@ -40,6 +40,8 @@ pub record Meaning (W A : Type 0) : Type 1 where
   pub brings : Since → W → ObjName → List ℕ → Type 0
   -- the answer tells that this commit isn't there, or has a mark
   pub lacks : A → List ℕ → Type 0
+  -- the answer tells that an object of a commit isn't there as its name says
+  pub outside : A → Type 0
   -- the answer tells that the store has as many objects as it may
   pub full : A → Type 0
   -- the path at which something else changed what stands there, where a step was refused so; or none is said

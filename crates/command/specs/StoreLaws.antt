@@ -11,6 +11,7 @@ use Rattle.obj_store.specs.declared.phase.Put.TheVariants.{Stored}
 use Rattle.rely_guarantee.specs.declared.kind.Wants.{Wants}
 use Rattle.rely_guarantee.specs.Books.{Books}
 use Rattle.rely_guarantee.specs.Laws.{Take}
+use Rattle.durable_store.specs.Writing.{KeepsStore}
 use Rattle.command.specs.declared.told.Told.{Told}
 use Rattle.command.specs.Doing.{Doing}
 use Rattle.command.specs.Meaning.{Meaning}
@@ -35,3 +36,5 @@ pub record StoreLaws {T W A : Type 0} (k : TaskSpec T) (m : Meaning W A) (d : Do
   pub done : (actor lane : ℕ) (t new : T) (v w : View) (b : Books) (name : ObjName) (s : Seen) → k.facts lane t v b → k.leaves t (turn.Done tt) new v w → IsSum name.csum → k.writes actor t v (path_of name) s → w ≡ v
   -- a step that stored an object did so where nothing stood at its path
   pub lacked : (told : Told) (since : Since) (c : W) (t new : T) (v w : View) (name : ObjName) → d.pursues since c t → k.leaves (d.hears told t) turn.More new v w → d.met new ≡ Some (name, Stored) → HadRoom told since × (v.now.at (path_of name) ≡ Absent)
+  -- what is written keeps what a store keeps, over what the command brings
+  pub keeps : (since : Since) (actor lane : ℕ) (c : W) (t : T) (v : View) (b : Books) → d.pursues since c t → k.facts lane t v b → KeepsStore since.limits (m.brings since c) v (k.writes actor t v)

@@ -1,5 +1,5 @@
 -- A commit at its beginning.
-use Rattle.std.proofs.Common.{◌≡◌, ◌<◌, ◌≤◌, ℕ, refl, sym, ◌∙◌, ap, subst, arith, List, Option, None, Result, Ok, Err, IfOk}
+use Rattle.std.proofs.Common.{◌≡◌, ◌<◌, ℕ, sym, ◌∙◌, ap, subst, arith, List, Option, None, Result, Ok, Err, IfOk}
 use Rattle.ost_types.specs.declared.limits.Limits.{Limits}
 use Rattle.ost_forms.specs.declared.tree_item.TreeItem.{TreeItem}
 use Rattle.commit_build.specs.declared.message.Message.{Message}
@@ -12,7 +12,7 @@ use Rattle.ref_book.specs.Tracks.{HasEventRoom, HasRoom}
 use Rattle.commit_command.specs.declared.command.CommitCommand.{CommitCommand}
 use Rattle.commit_command.specs.Answers.{Begins, IsCommitOf}
 use Rattle.commit_command.specs.Kinds.{commit_left}
-use Rattle.command.specs.Doing.{IsFirst, most}
+use Rattle.command.specs.Doing.{IsFirst}
 use Rattle.command.specs.Since.{begun_in}
 use Rattle.commit_family.specs.declared.words.CommitWords.{CommitWords}
 use Rattle.commit_family.specs.Commits.{message_in}

@@ -1,5 +1,5 @@
 -- What a commit says, and what its task is to it.
-use Rattle.std.specs.Prelude.{◌≡◌, ◌+◌, ℕ, List, Contains, Option, Some, None}
+use Rattle.std.specs.Prelude.{◌≡◌, ◌+◌, ℕ, List, Contains, Some, None}
 use Rattle.ost_types.specs.declared.object.ObjName.{ObjName}
 use Rattle.ost_forms.specs.declared.tree_item.TreeItem.{TreeItem}
 use Rattle.fs_trait.specs.View.{Disk, View}
@@ -96,6 +96,7 @@ commit_means = record {
   finds = λ a c name. ⊥;
   brings = λ since. commit_brings since.start;
   lacks = λ a commit. ⊥;
+  outside = λ a. ⊥;
   full = commit_full;
   strays = λ c. Some (ref_path c.branch);
 }

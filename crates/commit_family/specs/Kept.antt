@@ -15,7 +15,7 @@ use Rattle.staged_file.specs.Staged as staging
 use Rattle.staged_file.specs.Steps as staged_steps
 use Rattle.ref_store.specs.declared.phase.Phase.{Phase}
 use Rattle.ref_store.specs.declared.phase.Phase.TheVariants as phase
-use Rattle.ref_store.specs.Change.{Change, progress_in, progress_of}
+use Rattle.ref_store.specs.Change.{Change}
 use Rattle.ref_store.specs.Steps.{writes_in}
 use Rattle.rely_guarantee.specs.declared.event.Event.{Event}
 use Rattle.rely_guarantee.specs.Books.{Books}

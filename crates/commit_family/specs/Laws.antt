@@ -1,5 +1,5 @@
 -- The laws of a commit.
-use Rattle.std.proofs.Common.{◌≡◌, ⊎_elim, ℕ, refl, sym, ◌∙◌, subst, Option, Some, IsSome, arith}
+use Rattle.std.proofs.Common.{◌≡◌, ⊎_elim, refl, sym, ◌∙◌, subst, Option, Some, IsSome, arith}
 use Rattle.rely_guarantee.specs.Laws.{IsClaim}
 use Rattle.commit_command.specs.declared.answer.CommitAnswer.{CommitAnswer}
 use Rattle.commit_command.specs.Answers.{answer_of}
@@ -25,9 +25,10 @@ use Rattle.commit_family.specs.declared.task.CommitsTask.{CommitsTask}
 use Rattle.commit_family.specs.Commits.{message_in}
 use Rattle.commit_family.specs.DiskAnswers.{tells}
 use Rattle.commit_family.specs.Ends.{commits_end}
-use Rattle.commit_family.specs.Family.{commit_doing, commit_full, commit_makes, commit_means, commit_says}
+use Rattle.commit_family.specs.Family.{commit_brings, commit_doing, commit_full, commit_makes, commit_means, commit_says}
 use Rattle.commit_family.specs.Kept.{commits_keep, commits_keep_on, commits_kept}
-use Rattle.commit_family.specs.Objects.{commits_bring, commits_lacked, commits_light, commits_pin, commits_room, no_checkout}
+use Rattle.commit_family.specs.Keeping.{commits_keep_store}
+use Rattle.commit_family.specs.Objects.{commits_bring, commits_lacked, commits_light, commits_pin, commits_room, its_object, no_checkout}
 use Rattle.commit_family.specs.RefAnswers.{commits_know}
 use Rattle.commit_family.specs.Steps.{begins_holds, commits_founds, commits_settled, commits_shown, commits_step, commits_told, own_step}
 use Rattle.commit_family.specs.Task.{commits_stepped}
@@ -78,6 +79,7 @@ answer_laws = record {
   shows = λ since lane c t new v w b a is f l given. tells since c t.work is v w a (says_of lane t.work new.work v w b a f l given);
   knows = λ since p lane c t new v w b a is f l given sees. commits_know lane since p c v w b t.work new.work a given is f l sees;
   lacks = λ since v a c commit files shows lacks finished. lacks;
+  outside = λ since v a c good shows outside. outside;
   full = λ told since c t new a is step given full. (let e = commits_end since c (record t.work { objects = told.objects }) (commits_told since.limits c.branch c.tree.items (message_in since.start c) told.objects t.work is) new.work step.0 in e.full (subst commit_full (sym (one (answer_of new.work) e.given a e.answer given)) full));
   left = λ since actor lane c t new v w b b' a is f l given does none. tt;
   stays = λ since actor lane out a c v w b b' does is. tt;
@@ -93,6 +95,7 @@ store_laws = record {
   stored = λ actor lane t new v w b name s f l sum wrote. commit_stored v w name s sum actor lane t.work new.work b f l wrote;
   done = λ actor lane t new v w b name s f l sum wrote. commit_done v w name s sum actor lane t.work new.work b f l wrote;
   lacked = λ told since c t new v w name is l met. commits_lacked since.limits c.branch c.tree.items (message_in since.start c) (record t.work { objects = told.objects }) (commits_told since.limits c.branch c.tree.items (message_in since.start c) told.objects t.work is) new.work v w name l met;
+  keeps = λ since actor lane c t v b is f. commits_keep_store since.limits (commit_brings since.start c) actor lane t.work v b f is.bounds (λ o of. (o, its_object since.limits c.branch c.tree.items (message_in since.start c) t.work is o of, refl, refl));
 }
 
 folder_laws : FolderLaws commit_tasks commit_means commit_doing

@@ -9,4 +9,7 @@ pub mod RefAnswers
 pub mod OnDisk
 pub mod Kept
 pub mod Objects
+pub mod Formed
+pub mod MadeUp
+pub mod Keeping
 pub mod Laws

@@ -75,7 +75,7 @@ module _ (o : Object) (named : IsNamed o.name o.bytes) (actor : ℕ) (q : Puttin
   held : IsShown q s → object_in o.name.kind s ≡ Some o.bytes
   held shown = subst (λ (n : ObjName). object_in n.kind s ≡ Some o.bytes) puts.name (shown o.bytes (subst (λ (n : ObjName). IsObject n o.bytes q.source) (sym puts.name) puts.object))
 
-  put_there : put.WritesOf q v (path_of name) s → (name ≡ o.name) × (object_in o.name.kind s ≡ Some o.bytes)
+  pub put_there : put.WritesOf q v (path_of name) s → (name ≡ o.name) × (object_in o.name.kind s ≡ Some o.bytes)
   put_there wrote = ⊎_elim
       (λ a. absurd (stage_object q.actor name (sym a.0)))
       (λ more. ⊎_elim
@@ -120,7 +120,7 @@ brings_by (Some n) actor lane t v b name s bytes f sum wrote reads = absurd (sub
 
 -- by the words of the command
 module _ (limits : Limits) (branch : List ℕ) (tree : List TreeItem) (message : Message) (t : CommitCommand) (is : Commits limits branch tree message t) where
-  its_object : (o : Object) → IsOfCommit t.build o → IsOf tree message o
+  pub its_object : (o : Object) → IsOfCommit t.build o → IsOf tree message o
   its_object o of = ⊎_elim
       (λ n. inl (n.0, subst (λ i. IsNumber (work i) n.0 o) is.items n.1))
       (λ e. inr (e ∙ ap (λ i. commit_of i t.build.message) is.items ∙ ap (commit_of tree) is.says))

@@ -60,6 +60,7 @@ list_means = record {
   claims = λ c name. ⊥;
   brings = λ since c name bytes. ⊥;
   lacks = λ a commit. ⊥;
+  outside = λ a. ⊥;
   full = λ a. ⊥;
   strays = λ c. None;
 }

@@ -61,6 +61,7 @@ answer_laws = record {
   shows = λ since lane c t new v w b a is f leaves given. tt;
   knows = λ since p lane c t new v w b a is f leaves given sees. tt;
   lacks = λ since v a c commit files seen lacks finished. lacks;
+  outside = λ since v a c good seen outside. outside;
   full = λ told since c t new a is step given full. absurd full;
   left = λ since actor lane c t new v w b b' a is f leaves given does gone. tt;
   stays = λ since actor lane out a c v w b b' does is. tt;
@@ -76,6 +77,7 @@ store_laws = record {
   stored = λ actor lane t new v w b name s f leaves sum wrote. absurd wrote;
   done = λ actor lane t new v w b name s f leaves sum wrote. absurd wrote;
   lacked = λ told since c t new v w name is leaves met. absurd is;
+  keeps = λ since actor lane c t v b is f. absurd is;
 }
 
 folder_laws : FolderLaws list_tasks list_means list_doing

@@ -1,5 +1,5 @@
 -- A command that reads at its beginning.
-use Rattle.std.proofs.Common.{◌≡◌, ◌≤◌, ℕ, subst, List, Option, Some, None}
+use Rattle.std.proofs.Common.{◌≡◌, ◌≤◌, ℕ, subst, List, Option, Some}
 use Rattle.ost_types.specs.declared.limits.Limits.{Limits}
 use Rattle.ref_book.specs.declared.book.RefBook.{RefBook}
 use Rattle.rely_guarantee.specs.State.{State}

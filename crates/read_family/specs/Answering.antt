@@ -1,11 +1,12 @@
 -- What a command that reads answers, by its last step.
-use Rattle.std.proofs.Common.{◌≡◌, ◌⊎◌, ⊎_elim, ℕ, true, false, refl, sym, ◌∙◌, ap, subst, List, Option, Some, None, IsSome}
+use Rattle.std.proofs.Common.{◌≡◌, ⊎_elim, ℕ, true, false, refl, sym, ◌∙◌, ap, subst, List, Option, Some, None, IsSome}
 use Rattle.ost_types.specs.declared.limits.Limits.{Limits}
 use Rattle.ost_types.specs.declared.object.Kind.TheVariants.{Commit}
 use Rattle.fs_trait.specs.declared.task.StepResult.TheVariants as turn
 use Rattle.fs_trait.specs.Image.{reads}
 use Rattle.fs_trait.specs.View.{Disk, View}
 use Rattle.repo_layout.specs.Paths.{object_path}
+use Rattle.store_check.specs.Good.{IsGoodStore}
 use Rattle.rely_guarantee.specs.Books.{Books}
 use Rattle.rely_guarantee.specs.State.{State}
 use Rattle.rely_guarantee.specs.Lasting.{StaysFinished}
@@ -27,7 +28,8 @@ use Rattle.command.specs.Since.{Since, placed}
 use Rattle.read_family.specs.declared.reply.ReadReply.{ReadReply}
 use Rattle.read_family.specs.declared.reply.ReadReply.TheVariants.{NoRef, Read}
 use Rattle.read_family.specs.declared.words.ReadWords.{ReadWords}
-use Rattle.read_family.specs.Family.{read_lacks, read_pursues, read_reply, read_says, read_shows}
+use Rattle.read_family.specs.Family.{read_lacks, read_outside, read_pursues, read_reply, read_says, read_shows}
+use Rattle.read_family.specs.Lackings.{lacking_never}
 
 -- the last step has an answer, of the reader
 pub has_answer : (t new : ReadCommand) → read_stepped t (turn.Done tt) new → IsSome (read_reply (answer_of new))
@@ -91,3 +93,16 @@ lacks_none since v (Read (answer.Log rows)) c commit files seen is finished = is
 lacks_none since v (Read (answer.NoPath path)) c commit files seen is finished = is
 lacks_none since v (Read (answer.NotFile path)) c commit files seen is finished = is
 lacks_none since v (Read (answer.Lacking path)) c commit files seen is finished = is
+
+-- in a good store no object of a commit that is finished is missing or damaged
+pub outside_none : (since : Since) (v : View) (a : ReadReply) (c : ReadWords) → IsGoodStore since.limits v.now → read_shows since v a c → read_outside a → ⊥
+outside_none since v (Read (answer.Lacking path)) c good seen is =
+    lacking_never since.limits v (record { limits = since.limits; commit = seen.0; ask = c.ask }) path refl good.sound good.whole (seen.3 tt) seen.2
+outside_none since v NoRef c good seen is = is
+outside_none since v (Read (answer.NoCommit sum)) c good seen is = is
+outside_none since v (Read (answer.Partial sum)) c good seen is = is
+outside_none since v (Read (answer.Content bytes)) c good seen is = is
+outside_none since v (Read (answer.Ls rows)) c good seen is = is
+outside_none since v (Read (answer.Log rows)) c good seen is = is
+outside_none since v (Read (answer.NoPath path)) c good seen is = is
+outside_none since v (Read (answer.NotFile path)) c good seen is = is

@@ -54,6 +54,11 @@ read_lacks (Read (answer.NoCommit sum)) commit = sum ≡ commit
 read_lacks (Read (answer.Partial sum)) commit = sum ≡ commit
 read_lacks a commit = ⊥
 
+-- an object isn't there as its name says
+abbrev pub read_outside : ReadReply → Type 0
+read_outside (Read (answer.Lacking path)) = Unit {0}
+read_outside a = ⊥
+
 abbrev pub read_means : Meaning ReadWords ReadReply
 read_means = record {
   fit = λ limits c. Unit {0};
@@ -71,6 +76,7 @@ read_means = record {
   claims = λ c name. ⊥;
   brings = λ since c name bytes. ⊥;
   lacks = read_lacks;
+  outside = read_outside;
   full = λ a. ⊥;
   strays = λ c. None;
 }

@@ -15,7 +15,8 @@ use Rattle.command.specs.StepLaws.{StepLaws}
 use Rattle.command.specs.StoreLaws.{StoreLaws}
 use Rattle.command.specs.Tasks.{TaskSpec, task_spec}
 use Rattle.read_family.specs.declared.task.ReadTask.{ReadTask}
-use Rattle.read_family.specs.Answering.{ends_say, ends_show, has_answer, lacks_none}
+use Rattle.durable_store.proofs.Silent.{silent_keeps}
+use Rattle.read_family.specs.Answering.{ends_say, ends_show, has_answer, lacks_none, outside_none}
 use Rattle.read_family.specs.Family.{read_doing, read_means}
 use Rattle.read_family.specs.Kinds.{no_settle, no_show, pins_reach, pins_work, read_holds, reads_light}
 
@@ -62,6 +63,7 @@ answer_laws = record {
   shows = λ since lane c t new v w b a. ends_show since lane c t.work new.work v w b a;
   knows = λ since p lane c t new v w b a is f leaves given sees. tt;
   lacks = lacks_none;
+  outside = outside_none;
   full = λ told since c t new a is step given full. absurd full;
   left = λ since actor lane c t new v w b b' a is f leaves given does gone. tt;
   stays = λ since actor lane out a c v w b b' does is. tt;
@@ -77,6 +79,7 @@ store_laws = record {
   stored = λ actor lane t new v w b name s f leaves sum wrote. absurd wrote;
   done = λ actor lane t new v w b name s f leaves sum wrote. absurd wrote;
   lacked = λ told since c t new v w name is leaves met. cc;
+  keeps = λ since actor lane c t v b is f. silent_keeps since.limits (read_means.brings since c) v (read_writes actor t.work v) (λ p s wrote. wrote);
 }
 
 folder_laws : FolderLaws read_tasks read_means read_doing

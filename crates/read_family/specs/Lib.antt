@@ -1,4 +1,5 @@
 pub mod Family
 pub mod Kinds
+pub mod Lackings
 pub mod Answering
 pub mod Laws

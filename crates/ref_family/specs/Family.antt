@@ -92,6 +92,7 @@ ref_means = record {
   claims = λ c name. ⊥;
   brings = λ since c name bytes. ⊥;
   lacks = ref_lacks;
+  outside = λ a. ⊥;
   full = λ a. ⊥;
   strays = ref_strays;
 }

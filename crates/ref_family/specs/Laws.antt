@@ -24,6 +24,7 @@ use Rattle.ref_family.specs.declared.task.RefsTask.{RefsTask}
 use Rattle.ref_family.specs.declared.words.RefWords.TheVariants as words
 use Rattle.ref_family.specs.Ends.{ref_ends}
 use Rattle.ref_family.specs.Family.{ref_doing, ref_makes, ref_means, ref_says, ref_shows}
+use Rattle.ref_family.specs.Keeping.{refs_keep}
 use Rattle.ref_family.specs.Objects.{lacks_none, no_checkout, no_object, pins_work, refs_light}
 use Rattle.ref_family.specs.Steps.{change_is, own_step, ref_founds, ref_holds, ref_settled, ref_shown, ref_step}
 use Rattle.ref_family.specs.Telling.{ref_tells}
@@ -84,6 +85,7 @@ answer_laws = record {
   shows = λ since lane c t new v w b a is f leaves given. tells v w a t.work (says_of lane t.work new.work v w b a f leaves given);
   knows = λ since p lane c t new v w b a. ref_tells (λ s branch commit work is. change_is s (words.Reset branch commit) work is) lane since p c t.work new.work v w b a;
   lacks = λ since v a c commit. lacks_none v a commit;
+  outside = λ since v a c good shown outside. outside;
   full = λ told since c t new a is step given full. absurd full;
   left = λ since actor lane c t new v w b b' a is f leaves given does gone. tt;
   stays = λ since actor lane out a c v w b b' does is. tt;
@@ -99,6 +101,7 @@ store_laws = record {
   stored = λ actor lane t new v w b name s f leaves sum wrote. no_object actor lane t.work v b name s f sum wrote;
   done = λ actor lane t new v w b name s f leaves sum wrote. no_object actor lane t.work v b name s f sum wrote;
   lacked = λ told since c t new v w name is leaves met. cc;
+  keeps = λ since actor lane c t v b is f. refs_keep since.limits (ref_means.brings since c) actor lane t.work v b f;
 }
 
 folder_laws : FolderLaws ref_tasks ref_means ref_doing

@@ -4,4 +4,5 @@ pub mod Telling
 pub mod Steps
 pub mod Ends
 pub mod Objects
+pub mod Keeping
 pub mod Laws

@@ -1,0 +1,102 @@
+-- The laws of a checkout as a command.
+use Rattle.std.proofs.Common.{refl, subst, sym, ◌∙◌, arith}
+use Rattle.rely_guarantee.specs.Laws.{IsSettle}
+use Rattle.checkout_command.specs.Commands.{checkout_facts, checkout_kind, checkout_leaves, checkout_refuses, checkout_stepped, checkout_writes}
+use Rattle.checkout_command.proofs.Ends.{begins_of, made_claim, made_more}
+use Rattle.checkout_command.proofs.Writing.{makes_folder, no_objects, own_of}
+use Rattle.command.specs.AnswerLaws.{AnswerLaws}
+use Rattle.command.specs.ChangeLaws.{ChangeLaws}
+use Rattle.command.specs.FolderLaws.{FolderLaws}
+use Rattle.command.specs.HearLaws.{HearLaws}
+use Rattle.command.specs.Laws.{CommandLaws}
+use Rattle.command.specs.StepLaws.{StepLaws}
+use Rattle.command.specs.StoreLaws.{StoreLaws}
+use Rattle.command.specs.Tasks.{TaskSpec, task_spec}
+use Rattle.checkout_family.specs.declared.task.CheckoutsTask.{CheckoutsTask}
+use Rattle.durable_store.proofs.Silent.{apart_keeps}
+use Rattle.checkout_family.specs.Apart.{writes_apart}
+use Rattle.checkout_family.specs.Answering.{ends_say, ends_show, found, has_answer, lacks_none, outside_none}
+use Rattle.checkout_family.specs.Family.{checkout_doing, checkout_means}
+use Rattle.checkout_family.specs.Kinds.{checkout_holds, checkouts_light, claims_own, no_settle, no_show, pins_commit}
+use Rattle.checkout_family.specs.Staying.{checkouts_stay, ends_leave}
+
+abbrev pub checkout_tasks : TaskSpec CheckoutsTask
+checkout_tasks = task_spec (λ t. checkout_kind t.work) (λ actor t. checkout_writes actor t.work) (λ t u new. checkout_stepped t.work u new.work) (λ t u new. checkout_leaves t.work u new.work) (λ t. checkout_refuses t.work) (λ lane t. checkout_facts lane t.work)
+
+step_laws : StepLaws checkout_tasks checkout_doing
+step_laws = record {
+  begun = λ start entries pending lane t v b stands home begins. begins_of start entries pending lane v b t.work stands begins;
+  quiet = λ lane t. checkout_holds lane t.work;
+  stages = λ who actor lane t v w b is by f wrote home. own_of actor who t.work v w wrote home;
+  goes_on = λ since c t new is step. (is.0, is.1, step.0 ∙ is.2);
+  falls = λ t new step. step.1;
+  locks = λ since c t wants is. checkouts_light t.work wants;
+  refused = λ start entries pending lane t v b e tree stands f why. why;
+}
+
+hear_laws : HearLaws checkout_tasks checkout_doing
+hear_laws = record {
+  facts = λ told lane t v b f. f;
+  holds = λ told lane t b holds. holds;
+  pursues = λ told since c t is. is;
+  left = λ told t. omega arith;
+  made = λ told t name made. made;
+  back = λ told t. refl;
+}
+
+change_laws : ChangeLaws checkout_tasks checkout_means checkout_doing
+change_laws = record {
+  shown = λ since c t e is kind. no_show t.work e kind;
+  settled = λ since c t e is kind. no_settle t.work (subst IsSettle (sym kind) tt);
+  founds = λ lane t v b e f kind. no_show t.work e kind;
+  makes = λ since c t new a is step given settles. no_settle t.work settles;
+  makes_not = λ since c t new a is step given settles made. made;
+  kept = λ since opening lane c t new v w b right is f leaves settles. tt;
+  keeps = λ since opening out removed c v w right stays is. tt;
+  keeps_on = λ since opening out removed c v disk on is. tt;
+}
+
+answer_laws : AnswerLaws checkout_tasks checkout_means checkout_doing
+answer_laws = record {
+  answers = λ since c t new is. has_answer t.work new.work;
+  says = λ since p c t new a. ends_say since p c t.work new.work a;
+  shows = λ since lane c t new v w b a. ends_show since lane c t.work new.work v w b a;
+  knows = λ since p lane c t new v w b a is f leaves given sees. tt;
+  lacks = lacks_none;
+  outside = outside_none;
+  full = λ told since c t new a is step given full. absurd full;
+  left = λ since actor lane c t new v w b b' a is f leaves given does gone. ends_leave since actor lane c t.work new.work v w b b' is f leaves does gone a given;
+  stays = checkouts_stay;
+}
+
+store_laws : StoreLaws checkout_tasks checkout_means checkout_doing
+store_laws = record {
+  holds = λ lane t v b f. tt;
+  works = λ since c t wants name is kind pin. (is.0, is.1, pins_commit t.work (record { limits = since.limits; commit = is.0; name = c.name }) wants name is.2 kind pin);
+  reaches = λ since lane c t v b wants name is f kind pin. tt;
+  brings = λ since actor lane c t v b name s bytes is f sum wrote reads. no_objects actor t.work v name s sum wrote;
+  room = λ told since actor lane c t v b name s is f sum wrote. absurd (no_objects actor t.work v name s sum wrote);
+  stored = λ actor lane t new v w b name s f leaves sum wrote. absurd (no_objects actor t.work v name s sum wrote);
+  done = λ actor lane t new v w b name s f leaves sum wrote. absurd (no_objects actor t.work v name s sum wrote);
+  lacked = λ told since c t new v w name is leaves met. cc;
+  keeps = λ since actor lane c t v b is f. apart_keeps since.limits (checkout_means.brings since c) v (checkout_writes actor t.work v) (writes_apart actor t.work v);
+}
+
+folder_laws : FolderLaws checkout_tasks checkout_means checkout_doing
+folder_laws = record {
+  claims = λ actor lane t v b name s f wrote. (makes_folder actor t.work v name s wrote).0;
+  claimed = λ since c t name is kind. claims_own t.work (record { limits = since.limits; commit = is.0; name = c.name }) name is.2 kind;
+  finds = λ since lane c t new v w b a name is f leaves given finds. found since lane c t.work new.work v w b name is f leaves a given finds;
+  made = λ t new v w name leaves kind. made_claim t.work new.work v w name leaves kind;
+  goes_on = λ t new v w name leaves made. made_more t.work new.work v w name leaves made;
+}
+
+pub checkout_command_laws : CommandLaws checkout_tasks checkout_means checkout_doing
+checkout_command_laws = record {
+  steps = step_laws;
+  hears = hear_laws;
+  changes = change_laws;
+  answers = answer_laws;
+  store = store_laws;
+  folders = folder_laws;
+}

@@ -1,0 +1,84 @@
+-- The folder of a checkout that is done stays its commit's tree, whoever acts.
+use Rattle.std.proofs.Common.{◌≡◌, ◌≢◌, ⊎_elim, ℕ, List, [], ◌++◌, Contains, Some, sym, ◌∙◌, ap, subst}
+use Rattle.ost_types.specs.declared.limits.Limits.{Limits}
+use Rattle.ost_types.specs.declared.object.ObjName.{ObjName}
+use Rattle.ost_types.specs.Path.{Name}
+use Rattle.fs_trait.specs.declared.task.StepResult.TheVariants as turn
+use Rattle.fs_trait.specs.Seen.{Vacant, shows}
+use Rattle.fs_trait.specs.View.{View}
+use Rattle.repo_layout.specs.BootPaths.{checkout_path}
+use Rattle.rely_guarantee.specs.Books.{Books, IsClaimed, Unclaimed}
+use Rattle.rely_guarantee.specs.Rely.{Interference}
+use Rattle.rely_guarantee.proofs.Claiming.{checkout_stays as folder_stays}
+use Rattle.checkout_command.specs.declared.answer.CheckoutAnswer.TheVariants as answer
+use Rattle.checkout_command.specs.declared.command.CheckoutCommand.{CheckoutCommand}
+use Rattle.checkout_command.specs.Answers.{IsCheckedOut}
+use Rattle.checkout_command.specs.Asked.{Answers}
+use Rattle.checkout_command.specs.Commands.{answer_of, checkout_facts, checkout_leaves}
+use Rattle.checkout_command.proofs.Ends.{IsClaimedOf, claimed_of, says_of}
+use Rattle.command.specs.AnswerLaws.{HasNoClaims}
+use Rattle.command.specs.Removed.{removed_by}
+use Rattle.command.specs.Since.{Since}
+use Rattle.checkout_family.specs.declared.reply.CheckoutReply.{CheckoutReply}
+use Rattle.checkout_family.specs.declared.reply.CheckoutReply.TheVariants.{NoRef, Tried}
+use Rattle.checkout_family.specs.declared.words.CheckoutWords.{CheckoutWords}
+use Rattle.checkout_family.specs.Answering.{inner}
+use Rattle.checkout_family.specs.Family.{checkout_pursues, checkout_reply, checkout_stays}
+use Rattle.checkout_family.specs.Folder.{StaysTree}
+use Rattle.checkout_family.specs.Kept.{spared_before, tree_on, tree_stands}
+
+-- ---- when it is done
+
+-- what was the lane's alone is nobody's, once the lane has no claims
+given_up : (actor lane : ℕ) (v w : View) (b b' : Books) (name : Name) → Interference actor lane v b w b' → HasNoClaims lane b' → shows v.now (checkout_path name) ≢ Vacant → IsClaimed name lane b → Unclaimed name b'
+given_up actor lane v w b b' name does gone there claimed c has is =
+    let was : Contains b.claims c = ⊎_elim (λ x. x) (λ none. absurd (there (sym (ap (λ n. shows v.now (checkout_path n)) is) ∙ none))) (does.claims c has) in
+    gone c has (claimed.alone c was is)
+
+tree_left : (limits : Limits) (actor lane : ℕ) (v w : View) (b b' : Books) (commit : List ℕ) (name : Name) → Interference actor lane v b w b' → HasNoClaims lane b' → IsClaimed name lane b → w ≡ v → IsCheckedOut v.now limits commit name → StaysTree limits [] commit name w b'
+tree_left limits actor lane v w b b' commit name does gone claimed same is = record {
+  free = given_up actor lane v w b b' name does gone (tree_stands v.now limits commit name is) claimed;
+  made = v.now;
+  tree = is;
+  same = λ rest. ap (λ (u : View). shows u.now (checkout_path name ++ rest)) same;
+  now = λ spared. subst (λ (u : View). IsCheckedOut u.now limits commit name) (sym same) is;
+}
+
+module _ (since : Since) (actor lane : ℕ) (c : CheckoutWords) (t new : CheckoutCommand) (v w : View) (b b' : Books) (is : checkout_pursues since c t) (f : checkout_facts lane t v b) (leaves : checkout_leaves t (turn.Done tt) new v w) (does : Interference actor lane v b w b') (gone : HasNoClaims lane b') where
+  done_left : answer_of new ≡ Some answer.Done → StaysTree since.limits [] is.0 c.name w b'
+  done_left given =
+      let said = says_of lane t new v w b answer.Done f leaves given in
+      tree_left since.limits actor lane v w b b' is.0 c.name does gone
+      (subst (λ o. IsClaimedOf o lane b) is.2 (claimed_of lane t new v w b f leaves given))
+      said.0
+      (subst (λ o. Answers v.now o answer.Done) is.2 said.1)
+
+  pub ends_leave : (a : CheckoutReply) → checkout_reply (answer_of new) ≡ Some a → checkout_stays since [] a c w b'
+  ends_leave (Tried answer.Done) given = (is.0, is.1, done_left (inner (answer_of new) answer.Done given))
+  ends_leave NoRef given = tt
+  ends_leave (Tried (answer.NoCommit sum)) given = tt
+  ends_leave (Tried (answer.Partial sum)) given = tt
+  ends_leave (Tried (answer.DestExists path)) given = tt
+  ends_leave (Tried (answer.Lacking path)) given = tt
+
+-- ---- from then on
+
+tree_stays : (limits : Limits) (actor lane : ℕ) (out : List ObjName) (commit : List ℕ) (name : Name) (v w : View) (b b' : Books) → Interference actor lane v b w b' → StaysTree limits out commit name v b → StaysTree limits (removed_by b ++ out) commit name w b'
+tree_stays limits actor lane out commit name v w b b' does is =
+    let there : shows v.now (checkout_path name) ≢ Vacant = λ none. tree_stands is.made limits commit name is.tree (sym (is.same []) ∙ none) in
+    let on = folder_stays actor lane v w b b' name does there is.free in
+    record {
+      free = on.0;
+      made = is.made;
+      tree = is.tree;
+      same = λ rest. on.1 rest ∙ is.same rest;
+      now = λ spared. tree_on b v w actor lane does.writes commit out spared limits name (is.now (spared_before b v w actor lane does.writes commit out spared)) on.1;
+    }
+
+pub checkouts_stay : (since : Since) (actor lane : ℕ) (out : List ObjName) (a : CheckoutReply) (c : CheckoutWords) (v w : View) (b b' : Books) → Interference actor lane v b w b' → checkout_stays since out a c v b → checkout_stays since (removed_by b ++ out) a c w b'
+checkouts_stay since actor lane out (Tried answer.Done) c v w b b' does is = (is.0, is.1, tree_stays since.limits actor lane out is.0 c.name v w b b' does is.2)
+checkouts_stay since actor lane out NoRef c v w b b' does is = tt
+checkouts_stay since actor lane out (Tried (answer.NoCommit sum)) c v w b b' does is = tt
+checkouts_stay since actor lane out (Tried (answer.Partial sum)) c v w b b' does is = tt
+checkouts_stay since actor lane out (Tried (answer.DestExists path)) c v w b b' does is = tt
+checkouts_stay since actor lane out (Tried (answer.Lacking path)) c v w b b' does is = tt

@@ -1,0 +1,5 @@
+pub mod Family
+pub mod Words
+pub mod Answers
+pub mod Lanes
+pub mod Faults

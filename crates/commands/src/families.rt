@@ -1,0 +1,35 @@
+//! The families of the program. A further one is one more in each of these.
+use checkout_family::{CheckoutReply, CheckoutWords, CheckoutsTask};
+use commit_command::CommitAnswer;
+use commit_family::{CommitWords, CommitsTask};
+use lane_system::{Lane, Reply};
+use list_family::{ListTask, ListWords};
+use ost_types::Csum;
+use read_family::{ReadReply, ReadTask, ReadWords};
+use ref_command::RefAnswer;
+use ref_family::{RefWords, RefsTask};
+use rely_guarantee::Either;
+use repo_layout::RefName;
+
+/// The task of a command. The nest is balanced, so that a case is few sides deep.
+pub type Commands = Either<
+    Either<RefsTask, ReadTask>,
+    Either<CommitsTask, Either<CheckoutsTask, ListTask>>,
+>;
+
+/// A command with its fields.
+pub type CommandWords = Either<
+    Either<RefWords, ReadWords>,
+    Either<CommitWords, Either<CheckoutWords, ListWords>>,
+>;
+
+/// What a command answers that is done.
+pub type CommandAnswer = Either<
+    Either<RefAnswer, ReadReply>,
+    Either<CommitAnswer, Either<CheckoutReply, Vec<(RefName, Csum)>>>,
+>;
+
+/// A lane of a system of them, and a reply of it.
+pub type CommandLane = Lane<Commands, CommandWords, CommandAnswer>;
+
+pub type CommandReply = Reply<CommandAnswer>;

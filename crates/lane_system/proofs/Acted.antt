@@ -1,0 +1,282 @@
+-- What an act keeps of what was so since the opening, for each way that it may end.
+use Rattle.std.proofs.Common.{◌≡◌, ◌≢◌, ◌⊎◌, inl, inr, ⊎_elim, ◌≤◌, ◌+◌, ℕ, refl, sym, ◌∙◌, ap, subst, arith, List, [], ◌∷◌, ◌++◌, length, set, Some}
+use Rattle.ost_types.specs.declared.limits.Limits.{Limits}
+use Rattle.ost_types.specs.Path.{Name}
+use Rattle.fs_trait.specs.Image.{Told}
+use Rattle.fs_trait.specs.Seen.{Vacant, shows}
+use Rattle.fs_trait.specs.View.{Disk, View}
+use Rattle.repo_layout.specs.BootPaths.{checkout_path}
+use Rattle.rely_guarantee.specs.declared.books.Base.{Base}
+use Rattle.rely_guarantee.specs.declared.books.Entry.{Entry}
+use Rattle.rely_guarantee.specs.declared.kind.Outcome.TheVariants as came
+use Rattle.rely_guarantee.specs.Books.{books_of}
+use Rattle.ref_book.specs.declared.book.RefBook.{RefBook}
+use Rattle.command.specs.declared.ended.Ended.{Ended}
+use Rattle.command.specs.declared.ended.Ended.TheVariants as ended
+use Rattle.command.specs.ChangeLaws.{IsRightSince}
+use Rattle.durable_store.specs.Brought.{AreAlone}
+use Rattle.command.specs.CommitFiles.{CommitsAreFiles}
+use Rattle.command.specs.Since.{placed as placed_at}
+use Rattle.command.proofs.Files.{stands_files}
+use Rattle.lane_system.specs.declared.act.Came.TheVariants.{Answered, More}
+use Rattle.lane_system.specs.declared.lane.Lane.{Lane}
+use Rattle.lane_system.specs.declared.lane.Reply.{Reply}
+use Rattle.lane_system.specs.declared.lane.Running.{Running}
+use Rattle.lane_system.specs.Acts.{Acts}
+use Rattle.lane_system.specs.Causes.{AreCaused}
+use Rattle.lane_system.specs.Family.{Family, FsSpec}
+use Rattle.lane_system.specs.Folders.{AreFolders, IsTaken}
+use Rattle.lane_system.specs.Founded.{AreFounded}
+use Rattle.lane_system.specs.Inside.{AreInside}
+use Rattle.lane_system.specs.Kept.{Kept}
+use Rattle.lane_system.specs.LaneActs.{LaneActs, task_start}
+use Rattle.lane_system.specs.Lanes.{IsAt, IsCommand, IsTo}
+use Rattle.lane_system.specs.Lasting.{AreKept}
+use Rattle.lane_system.specs.Preserves.{Preserves}
+use Rattle.lane_system.specs.Replies.{IfAnswer, IsCaused, IsOutside, Knows, OfAnswer}
+use Rattle.lane_system.specs.Said.{AreSaid}
+use Rattle.lane_system.specs.States.{now_of, since_in}
+use Rattle.lane_system.specs.Staying.{AreStaying}
+use Rattle.lane_system.specs.Storing.{AreStored, IsConfigured, WasBrought}
+use Rattle.lane_system.specs.System.{System}
+use Rattle.lane_system.proofs.Acting.{given_acts, given_within, gives, more_acts, start_within, within}
+use Rattle.lane_system.proofs.Changing.{command_was, one_command, running_here, to_new, to_same, to_split, to_stays, to_was}
+use Rattle.lane_system.proofs.Endings.{more_history}
+use Rattle.lane_system.proofs.Family.{FamilyLaws, FsLaws}
+use Rattle.lane_system.proofs.Folding.{comes, made_goes, made_still, none_in_the_way, stands_in_the_way, taken_by, taken_stays}
+use Rattle.lane_system.proofs.Giving.{Gives, is_answer}
+use Rattle.lane_system.proofs.Places.{at_split}
+use Rattle.lane_system.proofs.Preserving.{caused_on, founded_on, inside_on, lasts_on, none_removed, said_on, staying_on}
+use Rattle.lane_system.proofs.Stored.{alone_given, alone_more, no_outside_given, stored_given, stored_more}
+use Rattle.lane_system.proofs.Taking.{told}
+
+-- What acts keep.
+pub record ActKeeps {F T W A : Type 0} (f : FsSpec F) (c : Family T W A) (old new : System F T W A) (v : View) : Type 0 where
+  pub lasts : (opening : View) → AreKept c.means f.was opening old v → Told (f.view new.base.fs) (λ w. AreKept c.means f.was opening new w)
+  pub caused : (before : ℕ) → AreCaused f.faults before old → AreCaused f.faults before new
+  pub good : AreStored f c.means old v → Told (f.view new.base.fs) (λ w. AreStored f c.means new w)
+  pub inside : AreStored f c.means old v → AreInside f c.means old → AreInside f c.means new
+  pub folders : (opening : Disk) → AreFolders c.means c.doing opening old v → Told (f.view new.base.fs) (λ w. AreFolders c.means c.doing opening new w)
+  pub said : AreSaid c.means f.was old → AreSaid c.means f.was new
+  pub stays : AreStaying c.means old v → Told (f.view new.base.fs) (λ w. AreStaying c.means new w)
+  pub founded : (opening : View) → CommitsAreFiles v.now → AreFounded c.means opening old v → Told (f.view new.base.fs) (λ w. AreFounded c.means opening new w)
+
+module _ {F T W A : Type 0} (f : FsSpec F) (c : Family T W A) (fl : FsLaws f) (cl : FamilyLaws c) (limits : Limits) (lane : ℕ) (refs refs' : RefBook) (objects objects' : ℕ) (old new : Base F) (lanes : List (Lane T W A)) (given : ℕ) (l : Lane T W A)
+    (kept : Kept f c limits old refs lanes given) (at : IsAt lanes lane l) (v : View) (told_v : f.view old.fs ≡ Some v) where
+  placed : (a n : ℕ) (r : Reply A) → IsTo lanes a n r → r.place ≤ length old.books.history.items
+  placed a n r is = ((kept.each a is.0 is.1).replies n r is.2).2.within
+
+  -- each reply is to a command
+  commands_of : (l' : Lane T W A) (given' : ℕ) → Kept f c limits new refs' (set lanes lane l') given' → (a n : ℕ) (r : Reply A) → IsTo (set lanes lane l') a n r → (words : W) × IsCommand (set lanes lane l') a n words
+  commands_of l' given' kept' a n r to = (let x = (kept'.each a to.0 to.1).replies n r to.2 in (x.0, (to.0, to.1, x.1)))
+
+  -- it goes on
+  module _ (l' : Lane T W A) (x : LaneActs f c limits lane lane refs refs' objects objects' old new l l' More) (kept' : Kept f c limits new refs' (set lanes lane l') given) where
+    acts : Acts f lane lane refs refs' old new
+    acts = more_acts f c fl cl limits lane refs refs' objects objects' old new lanes given l l' kept at x
+
+    abbrev None_ : Reply A → W → Type 0
+    None_ r words = ⊥
+
+    split : (a n : ℕ) (r : Reply A) (words : W) → IsTo (set lanes lane l') a n r → IsCommand (set lanes lane l') a n words → IsTo lanes a n r ⊎ None_ r words
+    split a n r words to is = inl (to_was lanes lane l l' at x.same x.replies a n r to)
+
+    begin : task_start old.books.history.items l.task ≤ length old.books.history.items
+    begin = start_within f c fl cl limits lane refs refs' objects objects' old new lanes given l l' kept at
+
+    starts : (a n : ℕ) (r : Reply A) → IsTo lanes a n r → r.start ≤ length old.books.history.items
+    starts = within f c fl cl limits lane refs refs' objects objects' old new lanes given l l' kept at
+
+    history : new.books.history.items ≡ old.books.history.items
+    history = more_history lane (length l.replies.items) (f.clock new.fs) old.books new.books (c.tasks.kind (told f c fl cl limits lane lane (length l.replies.items) refs refs' objects old new x.words l.task came.More x.did.0 x.did.3)) x.did.3.step.booked
+
+    abbrev w : View
+    w = (acts.does v told_v).0
+
+    pub more_keeps : ActKeeps f c (record { base = old; lanes = lanes; limits = limits; objects = objects }) (record { base = new; lanes = set lanes lane l'; limits = limits; objects = objects' }) v
+    unfolding acts
+    more_keeps = record {
+      lasts = λ opening is. lasts_on f c fl cl limits lane lane refs refs' objects objects' old new lanes (set lanes lane l') acts kept.sound.ordered.ascends (command_was lanes lane l l' at x.same) (length l.replies.items) _ begin None_ split (λ r words n. absurd n) starts v told_v opening
+          (λ k e words at_k late of right. absurd (omega (arith, at_k.0, ap length history, late))) is;
+      caused = λ before is. caused_on f c fl cl limits lane lane refs refs' objects objects' old new lanes (set lanes lane l') acts kept.sound.ordered.ascends (command_was lanes lane l l' at x.same) (length l.replies.items) _ begin None_ split (λ r words n. absurd n) starts v told_v
+          (λ r words n. absurd n) (commands_of l' given kept') before is;
+      good = λ stored. (w, (acts.does v told_v).1, stored_more f c fl cl limits lane refs refs' objects objects' old new lanes given l kept at v told_v l' x stored);
+      inside = λ stored was. record {
+        unrefused = inside_on f c fl cl limits lane lane refs refs' objects objects' old new lanes (set lanes lane l') acts kept.sound.ordered.ascends (command_was lanes lane l l' at x.same) (length l.replies.items) _ begin None_ split (λ r words n. absurd n) starts v told_v
+            (λ r words n. absurd n) (commands_of l' given kept') was.unrefused;
+        seen = λ alone a n r to. was.seen (alone_more f c fl cl limits lane refs refs' objects objects' old new lanes given l kept at v told_v l' x alone) a n r (to_was lanes lane l l' at x.same x.replies a n r to);
+      };
+      folders = λ opening was. (
+        w,
+        (acts.does v told_v).1,
+        record {
+          made = made_still c.means c.doing lanes lane l l' at x.same x.words x.next (to_same lanes lane l l' at x.same x.replies) (c.doing.made x.did.0)
+              (λ name made. inr (record { work = x.did.0; start = task_start old.books.history.items l.task }, running_here lanes lane l l' at x.same (length l.replies.items) _ (ap (λ z. length z.items) (sym x.replies)) x.did.1, made))
+              (λ name r task made. made_goes f c cl limits lane lane (length l.replies.items) refs refs' objects old new x.words l.task x.did.0 x.did.3 v told_v name r task made)
+              opening v w
+              (λ name. ⊎_elim
+              (λ same. inl same)
+              (λ claims. inr (claims.0, (let k = x.did.3.step.tells v told_v in cl.commands.folders.made (told f c fl cl limits lane lane (length l.replies.items) refs refs' objects old new x.words l.task came.More x.did.0 x.did.3) x.did.0 v k.0 name k.2 claims.1)))
+              (comes f c fl cl limits lane lane (length l.replies.items) refs refs' objects old new x.words l.task came.More x.did.0 x.did.3 v w told_v (acts.does v told_v).1 name))
+              was.made;
+          taken = λ a n q words name to is found. taken_stays c.means c.doing lanes lane l l' at x.same opening name a n (was.taken a n q words name (to_was lanes lane l l' at x.same x.replies a n q to) (command_was lanes lane l l' at x.same a n words is) found);
+        },
+      );
+      said = said_on f c fl cl limits lane lane refs refs' objects objects' old new lanes (set lanes lane l') acts kept.sound.ordered.ascends (command_was lanes lane l l' at x.same) (length l.replies.items) _ begin None_ split (λ r words n. absurd n) starts v told_v (λ r words n. absurd n);
+      stays = staying_on f c fl cl limits lane lane refs refs' objects objects' old new lanes (set lanes lane l') acts kept.sound.ordered.ascends (command_was lanes lane l l' at x.same) (length l.replies.items) _ begin None_ split (λ r words n. absurd n) starts v told_v (none_removed f.clock f.spare old kept.sound.ordered) (λ r words n. absurd n);
+      founded = λ opening files. founded_on f c fl cl limits lane lane refs refs' objects objects' old new lanes (set lanes lane l') acts kept.sound.ordered.ascends (command_was lanes lane l l' at x.same) (length l.replies.items) _ begin None_ split (λ r words n. absurd n) starts v told_v opening files
+          (λ r words n. absurd n) (commands_of l' given kept') placed;
+    }
+
+  -- it has an answer
+  module _ (l' : Lane T W A) (z : Ended A) (start : ℕ) (x : LaneActs f c limits lane lane refs refs' objects objects' old new l l' (Answered z start)) (l'' : Lane T W A) (r : Reply A) (same : l''.words ≡ l.words) (grows : l''.replies.items ≡ l.replies.items ++ r ∷ [])
+      (answered : r.answer ≡ z) (begun : r.start ≡ start) (kept' : Kept f c limits new refs' (set lanes lane l'') (given + 1)) where
+    acts_ : Acts f lane lane refs refs' old new
+    acts_ = given_acts f c fl cl limits lane refs refs' objects objects' old new lanes given l l' kept at z start x
+
+    g : Gives f c limits lane (length l.replies.items) objects old new x.words start z
+    g = gives f c fl cl limits lane refs refs' objects objects' old new lanes given l l' kept at z start x
+
+    is_start : start ≤ length old.books.history.items
+    is_start = given_within f c fl cl limits lane refs refs' objects objects' old new lanes given l l' kept at z start x
+
+    starts_ : (a n : ℕ) (q : Reply A) → IsTo lanes a n q → q.start ≤ length old.books.history.items
+    starts_ = within f c fl cl limits lane refs refs' objects objects' old new lanes given l l' kept at
+
+    -- the reply that it gave
+    abbrev IsNew : Reply A → W → Type 0
+    IsNew q words = (q ≡ r) × (words ≡ x.words)
+
+    split_ : (a n : ℕ) (q : Reply A) (words : W) → IsTo (set lanes lane l'') a n q → IsCommand (set lanes lane l'') a n words → IsTo lanes a n q ⊎ IsNew q words
+    split_ a n q words to is = ⊎_elim
+        (λ before. inl before)
+        (λ new_one. inr (
+          new_one.2,
+          (let was = command_was lanes lane l l'' at same a n words is in
+              one_command lanes lane (length l.replies.items) words x.words (subst (λ i. IsCommand lanes lane i words) new_one.1 (subst (λ i. IsCommand lanes i n words) new_one.0 was)) (l, at, x.next)),
+        ))
+        (to_split lanes lane l l'' at same r grows a n q to)
+
+    -- of that one
+    of_new : (P : ℕ → W → Ended A → Type 0) → P start x.words z → (q : Reply A) (words : W) → IsNew q words → P q.start words q.answer
+    of_new P is q words new_one = subst (λ (y : Reply A). P y.start words y.answer) (sym new_one.0)
+        (subst (λ (d : W). P r.start d r.answer) (sym new_one.1) (subst (λ n. P n x.words r.answer) (sym begun) (subst (P start x.words) (sym answered) is)))
+
+    shows_new : (q : Reply A) (words : W) → IsNew q words → IfAnswer (λ a. c.means.shows (since_in limits old.books q.start) v a words) q.answer
+    shows_new = of_new (λ n d y. IfAnswer (λ a. c.means.shows (since_in limits old.books n) v a d) y) (g.shown v told_v).0
+
+    abbrev w_ : View
+    w_ = (acts_.does v told_v).0
+
+    outside_not : (y : Ended A) → Knows c.means (placed_at (since_in limits old.books start) (now_of new.books)) x.words y → ¬ (IsOutside y)
+    outside_not (ended.Outside path) knows is = knows
+    outside_not (ended.Answered a) knows is = is
+    outside_not ended.NoMemory knows is = is
+    outside_not ended.DiskFault knows is = is
+    outside_not (ended.Halted n) knows is = is
+
+    -- its change is its command's
+    lasts_new : (opening : View) → IsRightSince opening v → (k : ℕ) (e : Entry) (words : W) → IsAt new.books.history.items k e → length old.books.history.items ≤ k → IsCommand (set lanes lane l'') e.lane e.command words
+        → c.means.changes (since_in limits old.books start) words e.event × c.means.keeps (since_in limits old.books start) opening [] words w_
+    lasts_new opening right k e words at_k late of =
+        let its : (e.lane ≡ lane) × (e.command ≡ length l.replies.items) = ⊎_elim
+        (λ none. absurd (let there = subst (λ (h : List Entry). IsAt h k e) none.0 at_k in omega (arith, there.0, late)))
+        (λ one. ⊎_elim
+        (λ before. absurd (omega (arith, before.0, late)))
+        (λ here. (
+          ap (λ (y : Entry). y.lane) here.1 ∙ one.2,
+          ap (λ (y : Entry). y.command) here.1 ∙ one.3,
+        ))
+        (at_split old.books.history.items one.0 e k (subst (λ (h : List Entry). IsAt h k e) one.1 at_k)))
+        g.grows in
+        let was = command_was lanes lane l l'' at same e.lane e.command words of in
+        let same_words : words ≡ x.words = one_command lanes lane (length l.replies.items) words x.words (subst (λ i. IsCommand lanes lane i words) its.1 (subst (λ i. IsCommand lanes i e.command words) its.0 was)) (l, at, x.next) in
+        let y = g.kept opening v w_ told_v (acts_.does v told_v).1 right k e at_k late in
+        (subst (λ (d : W). c.means.changes (since_in limits old.books start) d e.event) (sym same_words) y.0, subst (λ (d : W). c.means.keeps (since_in limits old.books start) opening [] d w_) (sym same_words) y.1)
+
+    -- a folder comes only where the last step claimed it; at once nothing comes
+    comes_new : (name : Name) → (shows w_.now (checkout_path name) ≡ shows v.now (checkout_path name)) ⊎ (c.means.claims x.words name × Unit {0})
+    comes_new name = ⊎_elim
+        (λ once. (let same_view = subst (λ (b : Base F). f.view b.fs ≡ Some w_) once.0 (acts_.does v told_v).1 in
+        let one : Some v ≡ Some w_ = sym told_v ∙ same_view in
+        let e : v ≡ w_ = cc in
+        inl (ap (λ (u : View). shows u.now (checkout_path name)) (sym e))))
+        (λ over. ⊎_elim
+        (λ still. inl still)
+        (λ claims. inr (claims.0, tt))
+        (comes f c fl cl limits lane lane (length l.replies.items) refs refs' objects old new x.words l.task over.0 over.1 over.4 v w_ told_v (acts_.does v told_v).1 name))
+        x.did.3
+
+    -- what it says to stand in the way is taken
+    in_the_way : (name : Name) → OfAnswer (λ a. c.means.finds a x.words name) z → (shows v.now (checkout_path name) ≢ Vacant) × ((m : Running T) → l.task ≡ Some m → c.doing.made m.work name → ⊥)
+    in_the_way name found = ⊎_elim
+        (λ once. absurd (none_in_the_way f c.means limits old x.words l.task z once.1 name found))
+        (λ over. stands_in_the_way f c fl cl limits lane lane (length l.replies.items) refs refs' objects old new x.words l.task over.0 over.1 over.4 v w_ told_v (acts_.does v told_v).1 z over.3 name found)
+        x.did.3
+
+    taken_of : (opening : Disk) → AreFolders c.means c.doing opening (record { base = old; lanes = lanes; limits = limits; objects = objects }) v → (a n : ℕ) (q : Reply A) (words : W) (name : Name)
+        → IsTo (set lanes lane l'') a n q → IsCommand (set lanes lane l'') a n words → OfAnswer (λ a. c.means.finds a words name) q.answer → IsTaken c.means lanes opening name a n
+    taken_of opening was a n q words name to is found =
+        let before = command_was lanes lane l l'' at same a n words is in
+        ⊎_elim
+        (λ old_one. was.taken a n q words name old_one before found)
+        (λ new_one.
+        (let its : words ≡ x.words = one_command lanes lane (length l.replies.items) words x.words (subst (λ i. IsCommand lanes lane i words) new_one.1 (subst (λ i. IsCommand lanes i n words) new_one.0 before)) (l, at, x.next) in
+        let said : OfAnswer (λ a. c.means.finds a x.words name) z = subst (OfAnswer (λ a. c.means.finds a x.words name)) (ap (λ (y : Reply A). y.answer) new_one.2 ∙ answered) (subst (λ (d : W). OfAnswer (λ a. c.means.finds a d name) q.answer) its found) in
+        subst (λ i. IsTaken c.means lanes opening name i n) (sym new_one.0) (subst (λ i. IsTaken c.means lanes opening name lane i) (sym new_one.1) (taken_by c.means c.doing lanes lane l l'' at same opening v name was.made (in_the_way name said)))))
+        (to_split lanes lane l l'' at same r grows a n q to)
+
+    -- where the store is good no answer tells otherwise
+    seen_given : AreStored f c.means (record { base = old; lanes = lanes; limits = limits; objects = objects }) v → AreInside f c.means (record { base = old; lanes = lanes; limits = limits; objects = objects })
+        → ((u : View) → f.was new.fs new.books.opened u → AreAlone (WasBrought c.means (record { base = new; lanes = set lanes lane l''; limits = limits; objects = objects' })) u.now) → (a n : ℕ) (q : Reply A) → IsTo (set lanes lane l'') a n q → ¬ (OfAnswer c.means.outside q.answer)
+    seen_given stored was alone a n q to is = ⊎_elim
+        (λ before. was.seen (alone_given f c fl cl limits lane refs refs' objects objects' old new lanes given l kept at v told_v l' z start x l'' r same grows begun alone) a n q before is)
+        (λ new_one.
+        (let answer = is_answer c.means.outside q.answer is in
+        let shown = shows_new q x.words (new_one.2, refl) in
+        no_outside_given f c fl cl limits lane refs refs' objects objects' old new lanes given l kept at v told_v l' z start x l'' r same grows begun stored alone q.start answer.0 (subst (IfAnswer (λ y. c.means.shows (since_in limits old.books q.start) v y x.words)) answer.1 shown) answer.2))
+        (to_split lanes lane l l'' at same r grows a n q to)
+
+    pub given_keeps : ActKeeps f c (record { base = old; lanes = lanes; limits = limits; objects = objects }) (record { base = new; lanes = set lanes lane l''; limits = limits; objects = objects' }) v
+    unfolding acts_
+    given_keeps = record {
+      lasts = λ opening is. lasts_on f c fl cl limits lane lane refs refs' objects objects' old new lanes (set lanes lane l'') acts_ kept.sound.ordered.ascends (command_was lanes lane l l'' at same) (length l.replies.items) start is_start IsNew split_ (λ q words n. ap (λ (y : Reply A). y.start) n.0 ∙ begun) starts_ v told_v opening
+          (λ k e words at_k late of right. lasts_new opening right k e words at_k late of) is;
+      caused = λ before is. caused_on f c fl cl limits lane lane refs refs' objects objects' old new lanes (set lanes lane l'') acts_ kept.sound.ordered.ascends (command_was lanes lane l l'' at same) (length l.replies.items) start is_start IsNew split_ (λ q words n. ap (λ (y : Reply A). y.start) n.0 ∙ begun) starts_ v told_v
+          (of_new (λ n d y. IsCaused old.books.halted (f.faults old.fs) (f.faults new.fs) y) (g.shown v told_v).1) (commands_of l'' (given + 1) kept') before is;
+      good = λ stored. (w_, (acts_.does v told_v).1, stored_given f c fl cl limits lane refs refs' objects objects' old new lanes given l kept at v told_v l' z start x l'' r same grows begun stored);
+      inside = λ stored was. record {
+        unrefused = inside_on f c fl cl limits lane lane refs refs' objects objects' old new lanes (set lanes lane l'') acts_ kept.sound.ordered.ascends (command_was lanes lane l l'' at same) (length l.replies.items) start is_start IsNew split_ (λ q words n. ap (λ (y : Reply A). y.start) n.0 ∙ begun) starts_ v told_v
+            (of_new (λ n d y. ¬ (IsOutside y)) (outside_not z (g.known (old.fs, v, told_v)))) (commands_of l'' (given + 1) kept') was.unrefused;
+        seen = seen_given stored was;
+      };
+      folders = λ opening was. (
+        w_,
+        (acts_.does v told_v).1,
+        record {
+          made = made_still c.means c.doing lanes lane l l'' at same x.words x.next (to_stays lanes lane l l'' at same r grows) (λ name. Unit {0})
+              (λ name made. inl (r, to_new lanes lane l l'' at same r grows))
+              (λ name q task made. tt)
+              opening v w_ comes_new was.made;
+          taken = λ a n q words name to is found. taken_stays c.means c.doing lanes lane l l'' at same opening name a n (taken_of opening was a n q words name to is found);
+        },
+      );
+      said = said_on f c fl cl limits lane lane refs refs' objects objects' old new lanes (set lanes lane l'') acts_ kept.sound.ordered.ascends (command_was lanes lane l l'' at same) (length l.replies.items) start is_start IsNew split_ (λ q words n. ap (λ (y : Reply A). y.start) n.0 ∙ begun) starts_ v told_v shows_new;
+      stays = staying_on f c fl cl limits lane lane refs refs' objects objects' old new lanes (set lanes lane l'') acts_ kept.sound.ordered.ascends (command_was lanes lane l l'' at same) (length l.replies.items) start is_start IsNew split_ (λ q words n. ap (λ (y : Reply A). y.start) n.0 ∙ begun) starts_ v told_v (none_removed f.clock f.spare old kept.sound.ordered)
+          (of_new (λ n d y. IfAnswer (λ a. c.means.stays (since_in limits old.books n) [] a d w_ (books_of new.books)) y) (g.stays w_ (acts_.does v told_v).1));
+      founded = λ opening files. founded_on f c fl cl limits lane lane refs refs' objects objects' old new lanes (set lanes lane l'') acts_ kept.sound.ordered.ascends (command_was lanes lane l l'' at same) (length l.replies.items) start is_start IsNew split_ (λ q words n. ap (λ (y : Reply A). y.start) n.0 ∙ begun) starts_ v told_v opening files
+          shows_new (commands_of l'' (given + 1) kept') placed;
+    }
+
+-- so it is of a whole act
+pub preserves_by : {F T W A : Type 0} (f : FsSpec F) (c : Family T W A) (s s' : System F T W A) → ((v : View) → f.view s.base.fs ≡ Some v → ActKeeps f c s s' v) → Preserves f c s s'
+preserves_by f c s s' keeps = record {
+  lasts = λ opening v told is. (keeps v told).lasts opening is;
+  good = λ v told is. (keeps v told).good is;
+  caused = λ before v told is. (keeps v told).caused before is;
+  inside = λ v told stored is. (keeps v told).inside stored is;
+  folders = λ opening v told is. (keeps v told).folders opening is;
+  said = λ v told is. (keeps v told).said is;
+  stays = λ v told is. (keeps v told).stays is;
+  founded = λ opening v told stored is. (keeps v told).founded opening (stands_files s.limits (WasBrought c.means s) IsConfigured stored.names v stored.keeps.now) is;
+}

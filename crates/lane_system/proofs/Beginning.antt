@@ -1,0 +1,91 @@
+-- A system at its beginning.
+use Rattle.std.proofs.Common.{◌≡◌, inl, ◌≤◌, ℕ, suc, false, refl, sym, ◌∙◌, ap, subst, arith, List, [], ◌∷◌, length, Contains, Option, Some, None}
+use Rattle.ost_types.specs.declared.limits.Limits.{Limits}
+use Rattle.ost_types.proofs.Paths.{is_below-self}
+use Rattle.fs_trait.specs.Seen.{NotDirectory}
+use Rattle.fs_trait.specs.View.{View}
+use Rattle.repo_layout.specs.Paths.{stage_path}
+use Rattle.rely_guarantee.specs.declared.books.Base.{Base}
+use Rattle.rely_guarantee.specs.declared.books.Pin.{Pin}
+use Rattle.rely_guarantee.specs.SystemInvariant.{SystemInvariant}
+use Rattle.ref_book.specs.declared.book.RefBook.{RefBook}
+use Rattle.ref_book.specs.Tracks.{Tracks}
+use Rattle.sys_open.specs.Opened.{IsOpened}
+use Rattle.lane_system.specs.declared.lane.Lane.{Lane}
+use Rattle.lane_system.specs.declared.lane.Reply.{Reply}
+use Rattle.lane_system.specs.Family.{Family, FsSpec}
+use Rattle.lane_system.specs.Kept.{AreHomes, AreIdle, Kept, RunsIn}
+use Rattle.lane_system.specs.Lanes.{IsAt, IsTo, count_of}
+use Rattle.lane_system.specs.Preserves.{Stands}
+use Rattle.lane_system.specs.States.{now_of}
+use Rattle.lane_system.specs.Storing.{AreStored}
+
+none_some : {X P : Type 0} (o : Option X) (x : X) → o ≡ None → o ≡ Some x → P
+none_some o x none is = absurd (let z : None ≡ Some x = sym none ∙ is in cc)
+
+none_at : {X P : Type 0} (xs : List X) (n : ℕ) (x : X) → xs ≡ [] → IsAt xs n x → P
+none_at xs n x none at = absurd (omega (arith, at.0, ap length none))
+
+count_none : {T W A : Type 0} (lanes : List (Lane T W A)) → ((a : ℕ) (l : Lane T W A) → IsAt lanes a l → l.replies.items ≡ []) → count_of lanes ≡ 0
+count_none [] each = refl
+count_none (l ∷ rest) each = omega (arith, ap length (each 0 l (omega arith, refl)), count_none rest (λ a x at. each (suc a) x (omega (arith, at.0), at.1)))
+
+-- where a repository was opened no folder stands where an actor stages
+pub homes_of : {F : Type 0} (view : F → Option View) (clock : F → ℕ) (was : F → ℕ → View → Type 0) (fs : F) (opened : ℕ) (refs : List (List ℕ × List ℕ)) → IsOpened view clock was fs opened refs → AreHomes (view fs)
+homes_of view clock was fs opened refs is actor w few told = subst NotDirectory (sym (is.staging w told actor few (stage_path actor) (is_below-self (stage_path actor)))) tt
+
+module _ {F T W A : Type 0} (f : FsSpec F) (c : Family T W A) (limits : Limits) (base : Base F) (refs : RefBook) (lanes : List (Lane T W A))
+    (history : base.books.history.items ≡ []) (pending : base.books.pending ≡ None) (idle : AreIdle c.means limits lanes) where
+  no_reply : (a n : ℕ) (r : Reply A) → IsTo lanes a n r → ⊥
+  no_reply a n r to = none_at to.0.replies.items n r (idle a to.0 to.1).replies to.2
+
+  no_replies : count_of lanes ≡ 0
+  no_replies = count_none lanes (λ a l at. (idle a l at).replies)
+
+  pub kept_first : SystemInvariant f.view f.clock f.spare f.was base → Tracks refs (now_of base.books) → length lanes ≤ 8 → AreHomes (f.view base.fs) → (base.books.turn ≡ None) × (base.books.exclusive ≡ None) → base.books.pins.items ≡ [] → Kept f c limits base refs lanes 0
+  kept_first sound tracks few homes locks pins = record {
+    sound = sound;
+    tracks = tracks;
+    few = few;
+    homes = homes;
+    each = λ a l at. (let i = idle a l at in record {
+      is = i.is;
+      runs = λ live. subst (RunsIn c a (f.view base.fs) base.books) (sym i.task) (λ p is. none_some base.books.pending p pending is);
+      started = λ r is. none_some l.task r i.task is;
+      replies = λ n r is. none_at l.replies.items n r i.replies is;
+      in_order = λ n m r q is too lt. none_at l.replies.items n r i.replies is;
+      halts = λ n r is h. none_at l.replies.items n r i.replies is;
+    });
+    locked = λ live. record { exclusive = locks.1; turn = λ a is. none_some base.books.turn a locks.0 is };
+    pins = λ live p has. absurd (empty p (subst (λ (xs : List Pin). Contains xs p) pins has));
+    accounted = record {
+      made = λ k e at. none_at base.books.history.items k e history at;
+      shown = λ p is. none_some base.books.pending p pending is;
+      numbered = record {
+        below = λ a n r to. absurd (no_reply a n r to);
+        each = λ k lt. absurd (omega (arith, lt, no_replies));
+        once = λ a n b m r q to too same. absurd (no_reply a n r to);
+      };
+      count = sym no_replies;
+      fewer = omega (arith, ap length history);
+    };
+  }
+    where
+      empty : (p : Pin) → Contains [] p → ⊥
+      empty p (k, lt, e) = omega (arith, lt)
+
+  pub stands_first : (objects before : ℕ) → f.faults base.fs ≡ before → base.books.halted ≡ false → (v : View) → AreStored f c.means (record { base = base; lanes = lanes; limits = limits; objects = objects }) v → Stands f c before v (record { base = base; lanes = lanes; limits = limits; objects = objects }) v
+  stands_first objects before same live v stored = record {
+    lasts = record { right = λ name is. is; each = λ k e words at is. none_at base.books.history.items k e history at };
+    caused = record { later = omega (arith, same); halts = λ is. cc; each = λ a n r to is. absurd (no_reply a n r to) };
+    good = stored;
+    inside = record { unrefused = λ a n r to is. no_reply a n r to; seen = λ alone a n r to is. no_reply a n r to };
+    folders = record { made = λ name there. inl there; taken = λ a n r words name to is found. absurd (no_reply a n r to) };
+    said = λ a n r words to is. absurd (no_reply a n r to);
+    stays = λ a n r words to is. absurd (no_reply a n r to);
+    founded = record {
+      stays = λ commit is. is;
+      each = record { lasting = λ k e at. none_at base.books.history.items k e history at; shown = λ p is. none_some base.books.pending p pending is };
+      present = record { finished = λ a n r commit to lacks is. no_reply a n r to; set = λ a n r commit to lacks k e at lt is. no_reply a n r to };
+    };
+  }

@@ -1,0 +1,139 @@
+-- What a step comes to, as the functions of an act tell it.
+use Rattle.std.proofs.Common.{◌≡◌, inr, ◌<◌, ℕ, false, refl, sym, ◌∙◌, subst, arith, List, [], ◌∷◌, length, get_or, Option, Some, None, IsSome}
+use Rattle.ost_types.specs.declared.limits.Limits.{Limits}
+use Rattle.ost_types.specs.Path.{Path}
+use Rattle.fs_trait.specs.declared.types.FsErr.{FsErr}
+use Rattle.fs_trait.specs.declared.types.FsErr.TheVariants as err
+use Rattle.fs_trait.specs.View.{View}
+use Rattle.rely_guarantee.specs.declared.books.Base.{Base}
+use Rattle.rely_guarantee.specs.declared.event.Event.{Event}
+use Rattle.rely_guarantee.specs.declared.kind.Outcome.{Outcome}
+use Rattle.rely_guarantee.specs.declared.kind.Outcome.TheVariants as came
+use Rattle.rely_guarantee.specs.Laws.{Ready, Runs, Settle}
+use Rattle.rely_guarantee.specs.SystemInvariant.{SystemInvariant}
+use Rattle.ref_book.specs.declared.book.RefBook.{RefBook}
+use Rattle.ref_book.specs.Tracks.{HasEventRoom, HasRoom}
+use Rattle.command.specs.declared.begun.Begun.TheVariants as begun
+use Rattle.command.specs.declared.ended.Ended.{Ended}
+use Rattle.command.specs.declared.ended.Ended.TheVariants as ended
+use Rattle.command.specs.Doing.{Doing, IsBegun}
+use Rattle.command.specs.Laws.{CommandLaws}
+use Rattle.command.specs.Staging.{StagingPathFree}
+use Rattle.lane_system.specs.declared.act.Came.{Came}
+use Rattle.lane_system.specs.declared.act.Came.TheVariants.{Answered, Blocked, More}
+use Rattle.lane_system.specs.declared.lane.Lane.{Lane}
+use Rattle.lane_system.specs.declared.lane.Running.{Running}
+use Rattle.lane_system.specs.Family.{Family, FsSpec}
+use Rattle.lane_system.specs.Kept.{LaneKept, RunsIn}
+use Rattle.lane_system.specs.LaneActs.{LaneActs, Takes, task_start, told_by}
+use Rattle.lane_system.specs.Lanes.{IsAt, IsNext}
+use Rattle.lane_system.specs.States.{now_of}
+use Rattle.lane_system.specs.Steps.{CountsAt, HasEnded, IsEndedAs, IsRefusal, IsStray, Stepped}
+use Rattle.lane_system.proofs.Doing.{begun_room, begun_runs, begun_takes, ended_acts, has_answer, held_acts, more_acts, running_takes, started_room}
+use Rattle.lane_system.proofs.Places.{at_is, at_one}
+
+-- there is a next command where not all have replies
+pub at_some : {X : Type 0} (xs : List X) (i : ℕ) → i < length xs → (x : X) × IsAt xs i x
+at_some [] i few = absurd (omega (arith, few))
+at_some (x ∷ xs) i few = (get_or (x ∷ xs) i x, at_is (x ∷ xs) i x few)
+
+pub has_ended : (outcome : Outcome) → (outcome ≡ came.Blocked → ⊥) → (outcome ≡ came.More → ⊥) → HasEnded outcome
+has_ended came.Blocked held more = held refl
+has_ended came.More held more = more refl
+has_ended came.Done held more = tt
+has_ended came.Halted held more = tt
+has_ended (came.Refused e) held more = tt
+
+counts_end : {T W A : Type 0} (d : Doing T W A) (before now : ℕ) (t : T) (outcome : Outcome) → (outcome ≡ came.More → ⊥) → CountsAt d before t outcome now → now ≡ before
+counts_end d before now t came.More more is = absurd (more refl)
+counts_end d before now t came.Blocked more is = is
+counts_end d before now t came.Done more is = is
+counts_end d before now t came.Halted more is = is
+counts_end d before now t (came.Refused e) more is = is
+
+-- what a refusal comes to where neither memory lacked nor a call failed
+pub refusal_strays : {A : Type 0} (stray : Option Path) (e : FsErr) (x : Ended A) → (e ≡ err.NoMemory → ⊥) → (e ≡ err.Failed → ⊥) → IsStray stray x → IsRefusal stray e x
+refusal_strays stray err.NoMemory x memory failed is = absurd (memory refl)
+refusal_strays stray err.Failed x memory failed is = absurd (failed refl)
+refusal_strays stray err.Exists x memory failed is = is
+refusal_strays stray err.Missing x memory failed is = is
+refusal_strays stray err.NotFolder x memory failed is = is
+refusal_strays stray err.NotEmpty x memory failed is = is
+
+-- no memory for the path
+pub stray_unknown : (A : Type 0) (stray : Option Path) → IsStray {A = A} stray ended.NoMemory
+stray_unknown A None = inr refl
+stray_unknown A (Some path) = inr refl
+
+-- a lane whose task is known
+module _ {F T W A : Type 0} (f : FsSpec F) (c : Family T W A) (limits : Limits) (lane : ℕ) (l : Lane T W A) (task : Option (Running T)) (is : l.task ≡ task) where
+  pub kept_with : (refs : RefBook) (base : Base F) → LaneKept f c limits lane refs base l → LaneKept f c limits lane refs base (record { words = l.words; task = task; replies = l.replies })
+  kept_with refs base k = subst (λ (o : Option (Running T)). LaneKept f c limits lane refs base (record { words = l.words; task = o; replies = l.replies })) is k
+
+  pub acts_with : (refs refs' : RefBook) (objects objects' : ℕ) (old new : Base F) (l' : Lane T W A) (result : Came A) → LaneActs f c limits lane lane refs refs' objects objects' old new (record { words = l.words; task = task; replies = l.replies }) l' result
+      → LaneActs f c limits lane lane refs refs' objects objects' old new l l' result
+  acts_with refs refs' objects objects' old new l' result x = subst (λ (o : Option (Running T)). LaneActs f c limits lane lane refs refs' objects objects' old new (record { words = l.words; task = o; replies = l.replies }) l' result) (sym is) x
+
+-- What the step of a task came to, as the functions tell it: u is the task before it, and u' the one after it, unless it was held off.
+module _ {F T W A : Type 0} (f : FsSpec F) (c : Family T W A) (limits : Limits) (lane number : ℕ) (refs mid refs' : RefBook) (objects objects' : ℕ) (old new : Base F) (l : Lane T W A) (words : W) (next : IsNext l words) (is_number : number ≡ length l.replies.items) (u u' : T) (outcome : Outcome)
+    (took : (o : Outcome) (t : T) → Stepped f c.tasks lane lane (length l.replies.items) mid refs' o (told_by c.doing objects u) t old new → Takes f c limits lane lane (length l.replies.items) refs refs' objects old new words l.task o t)
+    (step : (t : T) × Stepped f c.tasks lane lane number mid refs' outcome (told_by c.doing objects u) t old new × ((outcome ≡ came.Blocked → ⊥) → u' ≡ t)) (counts : CountsAt c.doing objects u' outcome objects') where
+  taken : (o : Outcome) → outcome ≡ o → Takes f c limits lane lane (length l.replies.items) refs refs' objects old new words l.task o step.0
+  taken o is = took o step.0 (subst (λ (x : Outcome). Stepped f c.tasks lane lane (length l.replies.items) mid refs' x (told_by c.doing objects u) step.0 old new) is
+      (subst (λ n. Stepped f c.tasks lane lane n mid refs' outcome (told_by c.doing objects u) step.0 old new) is_number step.1))
+
+  went : (o : Outcome) → outcome ≡ o → (o ≡ came.Blocked → ⊥) → Takes f c limits lane lane (length l.replies.items) refs refs' objects old new words l.task o u'
+  went o is not = subst (Takes f c limits lane lane (length l.replies.items) refs refs' objects old new words l.task o) (sym (step.2 (λ held. not (sym is ∙ held)))) (taken o is)
+
+  pub comes_held : outcome ≡ came.Blocked → LaneActs f c limits lane lane refs refs' objects objects' old new l l Blocked
+  comes_held is = held_acts f c limits lane refs refs' objects objects' old new l words next step.0 (taken came.Blocked is) (subst (λ (o : Outcome). CountsAt c.doing objects u' o objects') is counts)
+
+  pub comes_more : outcome ≡ came.More → (start : ℕ) → start ≡ task_start old.books.history.items l.task → LaneActs f c limits lane lane refs refs' objects objects' old new l (record { words = l.words; task = Some (record { work = u'; start = start }); replies = l.replies }) More
+  comes_more is start from = subst (λ n. LaneActs f c limits lane lane refs refs' objects objects' old new l (record { words = l.words; task = Some (record { work = u'; start = n }); replies = l.replies }) More) (sym from)
+      (more_acts f c limits lane refs refs' objects objects' old new l words next u' (went came.More is (λ x. cc)) (subst (λ (o : Outcome). CountsAt c.doing objects u' o objects') is counts))
+
+  module _ (held : outcome ≡ came.Blocked → ⊥) where
+    pub comes_answered : CommandLaws c.tasks c.means c.doing → outcome ≡ came.Done → IsSome (c.doing.answer u')
+    comes_answered laws is = has_answer f c laws limits lane lane (length l.replies.items) refs refs' objects old new words l.task outcome u' (went outcome refl held) is
+
+    pub comes_ended : (outcome ≡ came.More → ⊥) → (x : Ended A) → IsEndedAs c.doing.answer (c.means.strays words) outcome u' (f.faults new.fs) x → (start : ℕ) → start ≡ task_start old.books.history.items l.task
+        → LaneActs f c limits lane lane refs refs' objects objects' old new l (record { words = l.words; task = None; replies = l.replies }) (Answered x start)
+    comes_ended more x by start from = subst (λ n. LaneActs f c limits lane lane refs refs' objects objects' old new l (record { words = l.words; task = None; replies = l.replies }) (Answered x n)) (sym from)
+        (ended_acts f c limits lane refs refs' objects objects' old new l words next u' outcome (has_ended outcome held more) (went outcome refl held) (counts_end c.doing objects objects' u' outcome more counts) x by)
+
+-- A command that begins: u is its task, before its first step.
+module _ {F T W A : Type 0} (f : FsSpec F) (c : Family T W A) (laws : CommandLaws c.tasks c.means c.doing) (limits : Limits) (lane : ℕ) (refs mid : RefBook) (objects : ℕ) (old : Base F) (l : Lane T W A) (words : W) (k : LaneKept f c limits lane refs old l) (none : l.task ≡ None)
+    (live : old.books.halted ≡ false) (home : (v : View) → f.view old.fs ≡ Some v → StagingPathFree lane v) (sound : SystemInvariant f.view f.clock f.spare f.was old) (grew : (name : List ℕ) → HasRoom refs name → HasRoom mid name) (u : T)
+    (is : IsBegun c.means c.doing limits lane (now_of old.books) words mid (begun.Runs u)) where
+  pub first_ready : Ready f.view f.clock f.spare f.was (Runs c.tasks.kind c.tasks.facts lane u) old
+  first_ready = record { sound = sound; live = live; task = begun_runs f c limits lane laws refs mid old l words k none live home sound u is }
+
+  pub first_room : (e : Event) → c.tasks.kind (told_by c.doing objects u) ≡ Settle e → HasEventRoom mid e
+  first_room = begun_room c laws limits lane (now_of old.books) words mid u is objects
+
+  pub first_takes : (refs' : RefBook) (new : Base F) (o : Outcome) (t : T) → Stepped f c.tasks lane lane (length l.replies.items) mid refs' o (told_by c.doing objects u) t old new → Takes f c limits lane lane (length l.replies.items) refs refs' objects old new words l.task o t
+  first_takes refs' new o t step = subst (λ (x : Option (Running T)). Takes f c limits lane lane (length l.replies.items) refs refs' objects old new words x o t) (sym none)
+      (begun_takes f c limits lane laws refs mid refs' objects old new l words k none live home sound grew u is o t step)
+
+-- One that goes on, of a lane with this task.
+module _ {F T W A : Type 0} (f : FsSpec F) (c : Family T W A) (laws : CommandLaws c.tasks c.means c.doing) (limits : Limits) (lane : ℕ) (refs : RefBook) (objects : ℕ) (old : Base F) (l : Lane T W A) (r : Running T) (k : LaneKept f c limits lane refs old l) (task : l.task ≡ Some r)
+    (live : old.books.halted ≡ false) where
+  pub next_ready : SystemInvariant f.view f.clock f.spare f.was old → Ready f.view f.clock f.spare f.was (Runs c.tasks.kind c.tasks.facts lane r.work) old
+  next_ready sound = record { sound = sound; live = live; task = subst (RunsIn c lane (f.view old.fs) old.books) task (k.runs live) }
+
+  pub next_room : (e : Event) → c.tasks.kind (told_by c.doing objects r.work) ≡ Settle e → HasEventRoom refs e
+  next_room = started_room c laws limits refs old.books l r (k.started r task) objects
+
+  abbrev pub next_words : W
+  next_words = (k.started r task).words
+
+  pub next_is : IsNext l next_words
+  next_is = (k.started r task).next
+
+  pub next_takes : (refs' : RefBook) (new : Base F) (o : Outcome) (t : T) → Stepped f c.tasks lane lane (length l.replies.items) refs refs' o (told_by c.doing objects r.work) t old new → Takes f c limits lane lane (length l.replies.items) refs refs' objects old new next_words l.task o t
+  next_takes refs' new o t step = subst (λ (x : Option (Running T)). Takes f c limits lane lane (length l.replies.items) refs refs' objects old new next_words x o t) (sym task)
+      (running_takes f c limits lane refs refs' objects old new l r k task live o t step)
+
+  -- what it answers is by the same words
+  pub next_answer : (words : W) → IsNext l words → (outcome : Outcome) (t : T) (faults : ℕ) (x : Ended A) → IsEndedAs c.doing.answer (c.means.strays words) outcome t faults x → IsEndedAs c.doing.answer (c.means.strays next_words) outcome t faults x
+  next_answer words next outcome t faults x by = subst (λ (w : W). IsEndedAs c.doing.answer (c.means.strays w) outcome t faults x) (at_one l.words.items (length l.replies.items) words next_words next next_is) by

@@ -1,0 +1,53 @@
+-- The moments of changes, and the count of failed calls, over a step.
+use Rattle.std.proofs.Common.{◌≡◌, ◌⊎◌, inl, inr, ⊎_elim, ◌≤◌, ℕ, refl, sym, subst, arith, List, ◌∷◌, ◌++◌, [], length, Bool}
+use Rattle.rely_guarantee.specs.declared.books.Books as rust
+use Rattle.rely_guarantee.specs.declared.books.Entry.{Entry}
+use Rattle.rely_guarantee.specs.declared.event.Event.{Event}
+use Rattle.rely_guarantee.specs.declared.kind.Outcome.{Outcome}
+use Rattle.rely_guarantee.specs.declared.kind.Outcome.TheVariants as came
+use Rattle.rely_guarantee.specs.Books.{books_of}
+use Rattle.rely_guarantee.specs.Exact.{Causes, IsBooked, IsLive}
+use Rattle.rely_guarantee.specs.Laws.{Kind, Quiet, Store, Take, Claim, Show, Shown, Settle, Holds}
+use Rattle.lane_system.specs.Acts.{Fails}
+use Rattle.lane_system.specs.Lanes.{IsAt}
+use Rattle.lane_system.proofs.Histories.{grown}
+use Rattle.lane_system.proofs.Places.{at_split}
+
+-- one more entry, of this moment
+abbrev pub IsLater : ℕ → List Entry → List Entry → Type 0
+IsLater moment old new = (new ≡ old) ⊎ ((e : Entry) × (e.moment ≡ moment) × (new ≡ old ++ e ∷ []))
+
+module _ (lane command moment : ℕ) (old new : rust.Books) where
+  unsettled : (k : Kind) (outcome : Outcome) → ((e : Event) → k ≡ Settle e → ⊥) → Holds k lane (books_of old) → IsBooked k lane command moment outcome old new → IsLater moment old.history.items new.history.items
+  unsettled k outcome never h b = ⊎_elim (λ same. inl same) (λ longer. absurd (never longer.entry.event longer.kind)) (grown lane command moment old new k outcome h b)
+
+  settled : (e : Event) (outcome : Outcome) → Holds (Settle e) lane (books_of old) → IsBooked (Settle e) lane command moment outcome old new → IsLater moment old.history.items new.history.items
+  settled e came.Done h b = inr (record { lane = lane; command = h.command; event = e; moment = moment }, refl, b.1 _ h.pending)
+  settled e came.Halted h b = inl b.0
+  settled e came.More h b = absurd b
+  settled e came.Blocked h b = absurd b
+  settled e (came.Refused f) h b = absurd b
+
+  pub moment_is : (k : Kind) (outcome : Outcome) → Holds k lane (books_of old) → IsBooked k lane command moment outcome old new → IsLater moment old.history.items new.history.items
+  moment_is Quiet outcome h b = unsettled Quiet outcome (λ e is. cc) h b
+  moment_is Store outcome h b = unsettled Store outcome (λ e is. cc) h b
+  moment_is (Take wants) outcome h b = unsettled (Take wants) outcome (λ e is. cc) h b
+  moment_is (Claim name) outcome h b = unsettled (Claim name) outcome (λ e is. cc) h b
+  moment_is (Show d) outcome h b = unsettled (Show d) outcome (λ e is. cc) h b
+  moment_is (Shown d n) outcome h b = unsettled (Shown d n) outcome (λ e is. cc) h b
+  moment_is (Settle d) outcome h b = settled d outcome h b
+
+pub later_at : (moment : ℕ) (old new : List Entry) → IsLater moment old new → (k : ℕ) (e : Entry) → IsAt new k e → IsAt old k e ⊎ ((length old ≤ k) × (e.moment ≡ moment))
+later_at moment old new (inl same) k e at = inl (subst (λ (l : List Entry). IsAt l k e) same at)
+later_at moment old new (inr more) k e at = ⊎_elim
+    (λ before. inl before)
+    (λ here. inr (omega (arith, here.0), subst (λ (x : Entry). x.moment ≡ moment) (sym here.1) more.1))
+    (at_split old more.0 e k (subst (λ (l : List Entry). IsAt l k e) more.2 at))
+
+-- only a failed change ends all commands
+pub fails_by : (before now : ℕ) (outcome : Outcome) (old new : Bool) → Causes before now outcome → IsLive outcome old new → Fails before now old new
+fails_by before now came.Halted old new cause live = (cause.0, λ was is. cause.1)
+fails_by before now came.Blocked old new cause live = (cause.0, λ was is. cc)
+fails_by before now came.More old new cause live = (cause.0, λ was is. cc)
+fails_by before now came.Done old new cause live = (cause.0, λ was is. cc)
+fails_by before now (came.Refused e) old new cause live = (cause.0, λ was is. cc)

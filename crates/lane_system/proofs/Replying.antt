@@ -1,0 +1,59 @@
+-- What the replies say, and what the commands that run hold, by what a system keeps.
+use Rattle.std.proofs.Common.{◌≡◌, ℕ, true, sym, subst, List}
+use Rattle.ost_types.specs.declared.limits.Limits.{Limits}
+use Rattle.rely_guarantee.specs.declared.books.Base.{Base}
+use Rattle.rely_guarantee.specs.Books.{books_of}
+use Rattle.ref_book.specs.declared.book.RefBook.{RefBook}
+use Rattle.command.specs.declared.ended.Ended.TheVariants.{Halted}
+use Rattle.lane_system.specs.declared.lane.Lane.{Lane}
+use Rattle.lane_system.specs.declared.lane.Reply.{Reply}
+use Rattle.lane_system.specs.Booked.{IsReplied}
+use Rattle.lane_system.specs.Family.{Family, FsSpec}
+use Rattle.lane_system.specs.Held.{Held}
+use Rattle.lane_system.specs.Kept.{Kept, RunsIn}
+use Rattle.lane_system.specs.Lanes.{IsAt, IsTo}
+use Rattle.lane_system.specs.Ranks.{AreWithin}
+use Rattle.lane_system.specs.Replies.{IsHalted}
+use Rattle.lane_system.specs.States.{since_in}
+use Rattle.lane_system.specs.System.{System}
+use Rattle.lane_system.proofs.Changing.{one_command}
+use Rattle.lane_system.proofs.Family.{FamilyLaws}
+use Rattle.lane_system.proofs.Places.{at_one}
+
+module _ {F T W A : Type 0} (f : FsSpec F) (c : Family T W A) (limits : Limits) (base : Base F) (refs : RefBook) (lanes : List (Lane T W A)) (given objects : ℕ) (kept : Kept f c limits base refs lanes given) where
+  abbrev pub s : System F T W A
+  s = record { base = base; lanes = lanes; limits = limits; objects = objects }
+
+  pub replied_of : IsReplied f.view c.means s
+  replied_of = record {
+    each = λ lane number r to. (let x = (kept.each lane to.0 to.1).replies number r to.2 in (x.0, (to.0, to.1, x.1), x.2));
+    in_order = λ lane number next r q to too lt.
+        (let same : too.0 ≡ to.0 = at_one lanes lane too.0 to.0 too.1 to.1 in
+        (kept.each lane to.0 to.1).in_order number next r q to.2 (subst (λ (l : Lane T W A). IsAt l.replies.items next q) same too.2) lt);
+    made = kept.accounted.made;
+    shown = kept.accounted.shown;
+    numbered = kept.accounted.numbered;
+    starts = λ lane number r is. ((kept.each lane is.0 is.1).started r is.3).early;
+    begun = λ lane number next r q is to.
+        (let same : to.0 ≡ is.0 = at_one lanes lane to.0 is.0 to.1 is.1 in
+        ((kept.each lane is.0 is.1).started r is.3).later next q (subst (λ (l : Lane T W A). IsAt l.replies.items next q) same to.2));
+  }
+
+  pub within_of : AreWithin s
+  within_of lane l at = (kept.each lane l at).is.within
+
+  pub halted_of : (lane number : ℕ) (r : Reply A) → IsTo lanes lane number r → IsHalted r.answer → (base.books.halted ≡ true) × (r.answer ≡ Halted (f.faults base.fs))
+  halted_of lane number r to is = (kept.each lane to.0 to.1).halts number r to.2 is
+
+  module _ (cl : FamilyLaws c) where
+    pub held_of : Held f.view c s
+    held_of = record {
+      after = λ lane number r words is of.
+          (let k = (kept.each lane is.0 is.1).started r is.3 in
+          let same : k.words ≡ words = one_command lanes lane number k.words words (is.0, is.1, subst (λ n. IsAt is.0.words.items n k.words) (sym is.2) k.next) of in
+          subst (λ (d : W). c.doing.pursues (since_in limits base.books r.start) d r.work) same k.after);
+      pins = kept.pins;
+      holds = λ live v told lane number r is.
+          (let runs = subst (RunsIn c lane (f.view base.fs) base.books) is.3 ((kept.each lane is.0 is.1).runs live) in
+          cl.commands.store.holds lane r.work v (books_of base.books) (runs.facts v told));
+    }

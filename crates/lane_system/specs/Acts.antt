@@ -1,0 +1,46 @@
+-- What others may rely on in an act, whoever's lane it is.
+use Rattle.std.specs.Prelude.{◌≡◌, ◌⊎◌, ◌≤◌, ℕ, Bool, true, false, List, [], length, Option, Some}
+use Rattle.fs_trait.specs.Count.{Rose}
+use Rattle.fs_trait.specs.Effect.{Elapses}
+use Rattle.fs_trait.specs.View.{View}
+use Rattle.rely_guarantee.specs.declared.books.Base.{Base}
+use Rattle.rely_guarantee.specs.declared.books.Entry.{Entry}
+use Rattle.rely_guarantee.specs.declared.books.Pending.{Pending}
+use Rattle.rely_guarantee.specs.declared.event.Event.{Event}
+use Rattle.rely_guarantee.specs.Books.{Spared, books_of}
+use Rattle.rely_guarantee.specs.Lasting.{Lasts}
+use Rattle.rely_guarantee.specs.Rely.{Interference}
+use Rattle.rely_guarantee.specs.SystemInvariant.{SystemInvariant}
+use Rattle.ref_book.specs.declared.book.RefBook.{RefBook}
+use Rattle.ref_book.specs.Tracks.{HasRoom, Tracks}
+use Rattle.command.specs.ChangeLaws.{Founds}
+use Rattle.lane_system.specs.Family.{FsSpec}
+use Rattle.lane_system.specs.Kept.{AreHomes}
+use Rattle.lane_system.specs.Lanes.{IsAt}
+use Rattle.lane_system.specs.States.{now_of}
+
+-- Over an act the count of failed calls doesn't fall; it rose where the act ended all commands.
+abbrev pub Fails : ℕ → ℕ → Bool → Bool → Type 0
+Fails before now old new = (before ≤ now) × (old ≡ false → new ≡ true → Rose before now)
+
+-- Each change that lasts is so, and the one that is shown.
+pub record EachChange (P : Event → Type 0) (entries : List Entry) (pending : Option Pending) : Type 0 where
+  pub lasting : (k : ℕ) (e : Entry) → IsAt entries k e → P e.event
+  pub shown : (p : Pending) → pending ≡ Some p → P p.event
+
+pub record Acts {F : Type 0} (f : FsSpec F) (actor lane : ℕ) (refs refs' : RefBook) (old new : Base F) : Type 0 where
+  pub sound : SystemInvariant f.view f.clock f.spare f.was new
+  pub does : (v : View) → f.view old.fs ≡ Some v → (w : View) × (f.view new.fs ≡ Some w) × Interference actor lane v (books_of old.books) w (books_of new.books)
+  pub books : Spared actor lane (books_of old.books) (books_of new.books)
+  pub homes : AreHomes (f.view old.fs) → AreHomes (f.view new.fs)
+  -- commands that go on went on before
+  pub live : new.books.halted ≡ false → old.books.halted ≡ false
+  pub tracks : Tracks refs' (now_of new.books)
+  pub rooms : (name : List ℕ) → HasRoom refs name → HasRoom refs' name
+  -- the objects of the store, and time
+  pub lasts : Lasts [] f.view f.clock f.was old.fs new.fs
+  pub time : Elapses (f.clock old.fs) (f.clock new.fs) (f.was old.fs) (f.was new.fs) (f.view new.fs)
+  -- a change that it made to last has the moment behind it, and one that it shows names no commit but one that lasts
+  pub moments : (k : ℕ) (e : Entry) → IsAt new.books.history.items k e → IsAt old.books.history.items k e ⊎ ((length old.books.history.items ≤ k) × (e.moment ≡ f.clock new.fs))
+  pub fails : (v : View) → f.view old.fs ≡ Some v → Fails (f.faults old.fs) (f.faults new.fs) old.books.halted new.books.halted
+  pub founded : (v : View) → f.view old.fs ≡ Some v → EachChange (Founds v) old.books.history.items old.books.pending → EachChange (Founds v) new.books.history.items new.books.pending

@@ -1,0 +1,95 @@
+-- What every value of a system keeps.
+use Rattle.std.specs.Prelude.{◌≡◌, ◌<◌, ◌≤◌, ℕ, List, [], length, vec_capacity, false, true, Option, Some, None}
+use Rattle.ost_types.specs.declared.limits.Limits.{Limits}
+use Rattle.fs_trait.specs.View.{View}
+use Rattle.rely_guarantee.specs.declared.books.Base.{Base}
+use Rattle.rely_guarantee.specs.declared.books.Books as rust
+use Rattle.rely_guarantee.specs.declared.books.Entry.{Entry}
+use Rattle.rely_guarantee.specs.declared.books.Pending.{Pending}
+use Rattle.rely_guarantee.specs.Books.{books_of}
+use Rattle.rely_guarantee.specs.Laws.{NotPending, Runs}
+use Rattle.rely_guarantee.specs.State.{first}
+use Rattle.rely_guarantee.specs.SystemInvariant.{SystemInvariant}
+use Rattle.ref_book.specs.declared.book.RefBook.{RefBook}
+use Rattle.ref_book.specs.Tracks.{Tracks}
+use Rattle.command.specs.declared.ended.Ended.TheVariants.{Halted}
+use Rattle.command.specs.Doing.{HasRoomFor}
+use Rattle.command.specs.Meaning.{Meaning}
+use Rattle.command.specs.Staging.{StagingPathFree}
+use Rattle.lane_system.specs.declared.lane.Lane.{Lane}
+use Rattle.lane_system.specs.declared.lane.Reply.{Reply}
+use Rattle.lane_system.specs.declared.lane.Running.{Running}
+use Rattle.lane_system.specs.Family.{Family, FsSpec}
+use Rattle.lane_system.specs.Lanes.{IsAt, IsNext, IsRunning, Numbered, count_of}
+use Rattle.lane_system.specs.Pins.{AreInWork}
+use Rattle.lane_system.specs.Replied.{IsPendingOf, WasMade}
+use Rattle.lane_system.specs.Replies.{IsHalted, IsReply, IsTold}
+use Rattle.lane_system.specs.States.{now_of, since_in}
+
+-- A command that began: it is the lane's next one, its task is after what it is to do, and there is room for its ref. It began where all
+-- replies of its lane had been given.
+pub record Started {T W A : Type 0} (c : Family T W A) (limits : Limits) (refs : RefBook) (b : rust.Books) (l : Lane T W A) (r : Running T) : Type 0 where
+  pub words : W
+  pub next : IsNext l words
+  pub early : r.start ≤ length b.history.items
+  pub later : (number : ℕ) (q : Reply A) → IsAt l.replies.items number q → q.place ≤ r.start
+  pub after : c.doing.pursues (since_in limits b r.start) words r.work
+  pub room : HasRoomFor c.means refs (since_in limits b r.start) words
+
+-- its task has its facts, and of a lane without one nothing is pending
+abbrev pub RunsIn : {T W A : Type 0} → Family T W A → ℕ → Option View → rust.Books → Option (Running T) → Type 0
+RunsIn c lane view b None = NotPending lane (books_of b)
+RunsIn c lane view b (Some r) = Runs c.tasks.kind c.tasks.facts lane r.work view (books_of b)
+
+-- A lane has at most 64 commands, each of which can be done within the bounds, and room for a reply to each.
+pub record IsLane {T W A : Type 0} (m : Meaning W A) (limits : Limits) (l : Lane T W A) : Type 0 where
+  pub fits : (number : ℕ) (words : W) → IsAt l.words.items number words → m.fit limits words
+  pub short : length l.words.items ≤ 64
+  pub within : length l.replies.items ≤ length l.words.items
+  pub room : length l.words.items ≤ vec_capacity l.replies
+
+-- What is so of a lane: of the command that runs while commands go on, of the one that began, and of its replies, which come in order.
+pub record LaneKept {F T W A : Type 0} (f : FsSpec F) (c : Family T W A) (limits : Limits) (lane : ℕ) (refs : RefBook) (base : Base F) (l : Lane T W A) : Type 0 where
+  pub is : IsLane c.means limits l
+  pub runs : base.books.halted ≡ false → RunsIn c lane (f.view base.fs) base.books l.task
+  pub started : (r : Running T) → l.task ≡ Some r → Started c limits refs base.books l r
+  pub replies : (number : ℕ) (r : Reply A) → IsAt l.replies.items number r → (words : W) × IsAt l.words.items number words × IsReply (IsTold f.view) c.means limits (first base.books.start.items) base.books.history.items lane number words r
+  pub in_order : (number next : ℕ) (r q : Reply A) → IsAt l.replies.items number r → IsAt l.replies.items next q → number < next → r.place ≤ q.start
+  pub halts : (number : ℕ) (r : Reply A) → IsAt l.replies.items number r → IsHalted r.answer → (base.books.halted ≡ true) × (r.answer ≡ Halted (f.faults base.fs))
+
+-- Whose the locks are: the ref lock is that of a lane whose command runs, and no other lock is held.
+pub record Locked {T W A : Type 0} (b : rust.Books) (lanes : List (Lane T W A)) : Type 0 where
+  pub exclusive : b.exclusive ≡ None
+  pub turn : (lane : ℕ) → b.turn ≡ Some lane → (number : ℕ) × (r : Running T) × IsRunning lanes lane number r
+
+-- The replies of all lanes with the history: each change that lasts was made by a command that was answered so, and the one that is
+-- pending is that of a command.
+pub record Accounted {T W A : Type 0} (m : Meaning W A) (limits : Limits) (b : rust.Books) (lanes : List (Lane T W A)) (given : ℕ) : Type 0 where
+  pub made : (k : ℕ) (e : Entry) → IsAt b.history.items k e → WasMade m lanes k e
+  pub shown : (p : Pending) → b.pending ≡ Some p → IsPendingOf m limits (first b.start.items) b.history.items lanes p
+  pub numbered : Numbered lanes
+  pub count : given ≡ count_of lanes
+  pub fewer : length b.history.items ≤ count_of lanes
+
+-- no folder stands where an actor stages
+abbrev pub AreHomes : Option View → Type 0
+AreHomes view = (actor : ℕ) (v : View) → actor < 16 → view ≡ Some v → StagingPathFree actor v
+
+pub record Kept {F T W A : Type 0} (f : FsSpec F) (c : Family T W A) (limits : Limits) (base : Base F) (refs : RefBook) (lanes : List (Lane T W A)) (given : ℕ) : Type 0 where
+  pub sound : SystemInvariant f.view f.clock f.spare f.was base
+  pub tracks : Tracks refs (now_of base.books)
+  pub few : length lanes ≤ 8
+  pub homes : AreHomes (f.view base.fs)
+  pub each : (lane : ℕ) (l : Lane T W A) → IsAt lanes lane l → LaneKept f c limits lane refs base l
+  pub locked : base.books.halted ≡ false → Locked base.books lanes
+  pub pins : base.books.halted ≡ false → AreInWork (IsTold f.view) c.means limits base.books lanes
+  pub accounted : Accounted c.means limits base.books lanes given
+
+-- no command has begun
+pub record IsIdle {T W A : Type 0} (m : Meaning W A) (limits : Limits) (l : Lane T W A) : Type 0 where
+  pub is : IsLane m limits l
+  pub task : l.task ≡ None
+  pub replies : l.replies.items ≡ []
+
+abbrev pub AreIdle : {T W A : Type 0} → Meaning W A → Limits → List (Lane T W A) → Type 0
+AreIdle {T} {W} {A} m limits lanes = (lane : ℕ) (l : Lane T W A) → IsAt lanes lane l → IsIdle m limits l

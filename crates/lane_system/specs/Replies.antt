@@ -1,0 +1,83 @@
+-- What a reply says.
+use Rattle.std.specs.Prelude.{◌≡◌, ◌≤◌, ◌++◌, ◌∷◌, [], ℕ, Bool, false, List, length, take, Option, Some}
+use Rattle.ost_types.specs.declared.limits.Limits.{Limits}
+use Rattle.ost_types.specs.Path.{Path}
+use Rattle.fs_trait.specs.Count.{Rose}
+use Rattle.fs_trait.specs.View.{View}
+use Rattle.rely_guarantee.specs.declared.books.Entry.{Entry}
+use Rattle.rely_guarantee.specs.declared.event.Event.{Event}
+use Rattle.rely_guarantee.specs.State.{State}
+use Rattle.command.specs.declared.ended.Ended.{Ended}
+use Rattle.command.specs.declared.ended.Ended.TheVariants.{Answered, DiskFault, Outside, Halted}
+use Rattle.command.specs.Meaning.{Meaning}
+use Rattle.command.specs.Since.{Since, begun_in, placed}
+use Rattle.lane_system.specs.declared.lane.Reply.{Reply}
+use Rattle.lane_system.specs.States.{state_after}
+
+-- file systems of this kind tell their view; they do it always or never
+abbrev pub IsTold : {F : Type 0} → (F → Option View) → Type 0
+IsTold {F} view = (fs : F) × (v : View) × (view fs ≡ Some v)
+
+-- all commands were ended
+abbrev pub IsHalted : {A : Type 0} → Ended A → Type 0
+IsHalted (Halted count) = Unit {0}
+IsHalted x = ⊥
+
+-- a call failed
+abbrev pub IsFailure : {A : Type 0} → Ended A → Type 0
+IsFailure DiskFault = Unit {0}
+IsFailure (Halted count) = Unit {0}
+IsFailure x = ⊥
+
+-- something else than this program changed what stands at a path
+abbrev pub IsOutside : {A : Type 0} → Ended A → Type 0
+IsOutside (Outside path) = Unit {0}
+IsOutside x = ⊥
+
+-- so of an answer of the family
+abbrev pub OfAnswer : {A : Type 0} → (A → Type 0) → Ended A → Type 0
+OfAnswer P (Answered a) = P a
+OfAnswer P x = ⊥
+
+-- and of one, if it is one
+abbrev pub IfAnswer : {A : Type 0} → (A → Type 0) → Ended A → Type 0
+IfAnswer P (Answered a) = P a
+IfAnswer P x = Unit {0}
+
+-- and of the path of one that tells that something else changed what stands there
+abbrev pub IfOutside : {A : Type 0} → (Path → Type 0) → Ended A → Type 0
+IfOutside P (Outside path) = P path
+IfOutside P x = Unit {0}
+
+-- the last of these changes is this one, made by this command of the lane
+abbrev pub HasMade : ℕ → ℕ → (Event → Type 0) → List Entry → Type 0
+HasMade lane number IsIt entries = (before : List Entry) × (last : Entry) × (entries ≡ before ++ last ∷ []) × (last.lane ≡ lane) × (last.command ≡ number) × IsIt last.event
+
+-- an answer says what its family means; and the change that it says was made is the last one
+abbrev pub Answers : {W A : Type 0} → Meaning W A → ℕ → ℕ → Since → List Entry → W → A → Type 0
+Answers m lane number since entries c a = m.says since a c × (m.makes a c → HasMade lane number (m.changes (begun_in since.limits since.start) c) entries)
+
+-- what one says where the view is told; and there nothing else changes the disk
+abbrev pub Knows : {W A : Type 0} → Meaning W A → Since → W → Ended A → Type 0
+Knows m since c (Answered a) = m.knows since a c
+Knows m since c (Outside path) = ⊥
+Knows m since c x = Unit {0}
+
+-- a call failed in the act that says so, if none that changes something failed before
+abbrev pub IsCaused : {A : Type 0} → Bool → ℕ → ℕ → Ended A → Type 0
+IsCaused halted before now DiskFault = Rose before now
+IsCaused halted before now (Halted count) = halted ≡ false → Rose before now
+IsCaused halted before now x = Unit {0}
+
+-- what a reply tells of the disk before its act and of calls that failed in it, where the view is told
+abbrev pub Shown : {W A : Type 0} → Meaning W A → Since → Option View → Bool → ℕ → ℕ → W → Ended A → Type 0
+Shown m since view halted before now c x = (v : View) → view ≡ Some v → IfAnswer (λ a. m.shows since v a c) x × IsCaused halted before now x
+
+-- A reply to a command of a lane: by the state at its start and the one at its place, which come in this order. A path at which something
+-- else changed what stands there is the command's.
+pub record IsReply {W A : Type 0} (told : Type 0) (m : Meaning W A) (limits : Limits) (begin : State) (entries : List Entry) (lane number : ℕ) (c : W) (r : Reply A) : Type 0 where
+  pub begun : r.start ≤ r.place
+  pub within : r.place ≤ length entries
+  pub answer : IfAnswer (Answers m lane number (placed (begun_in limits (state_after begin entries r.start)) (state_after begin entries r.place)) (take r.place entries) c) r.answer
+  pub known : told → Knows m (placed (begun_in limits (state_after begin entries r.start)) (state_after begin entries r.place)) c r.answer
+  pub stray : IfOutside (λ path. m.strays c ≡ Some path) r.answer

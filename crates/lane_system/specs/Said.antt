@@ -1,0 +1,32 @@
+-- That what replies say of the disk was so when they were given.
+use Rattle.std.specs.Prelude.{◌<◌, ◌≤◌, ℕ, List}
+use Rattle.ost_types.specs.declared.limits.Limits.{Limits}
+use Rattle.fs_trait.specs.View.{View}
+use Rattle.rely_guarantee.specs.declared.books.Entry.{Entry}
+use Rattle.rely_guarantee.specs.State.{State, first}
+use Rattle.command.specs.Meaning.{Meaning}
+use Rattle.command.specs.Since.{begun_in}
+use Rattle.lane_system.specs.declared.lane.Lane.{Lane}
+use Rattle.lane_system.specs.declared.lane.Reply.{Reply}
+use Rattle.lane_system.specs.Lanes.{IsAt, IsCommand, IsTo}
+use Rattle.lane_system.specs.Replies.{IfAnswer}
+use Rattle.lane_system.specs.States.{state_after}
+use Rattle.lane_system.specs.System.{System}
+
+-- At a moment since the opening, when the changes at the reply's start lasted, or later, reads had this view; and in it what the reply
+-- tells of the disk is so.
+pub record WasSeen {W A : Type 0} (m : Meaning W A) (was : ℕ → View → Type 0) (opened : ℕ) (limits : Limits) (begin : State) (entries : List Entry) (r : Reply A) (c : W) : Type 0 where
+  pub moment : ℕ
+  pub shown : View
+  pub since : opened ≤ moment
+  pub begun : (k : ℕ) (e : Entry) → IsAt entries k e → k < r.start → e.moment ≤ moment
+  pub had : was moment shown
+  pub seen : IfAnswer (λ a. m.shows (begun_in limits (state_after begin entries r.start)) shown a c) r.answer
+
+-- so of each reply to a command of these lanes
+abbrev pub AreSaidIn : {T W A : Type 0} → Meaning W A → (ℕ → View → Type 0) → ℕ → Limits → State → List Entry → List (Lane T W A) → Type 0
+AreSaidIn {T} {W} {A} m was opened limits begin entries lanes = (lane number : ℕ) (r : Reply A) (c : W) → IsTo lanes lane number r → IsCommand lanes lane number c → WasSeen m was opened limits begin entries r c
+
+-- so of a system, since its opening
+abbrev pub AreSaid : {F T W A : Type 0} → Meaning W A → (F → ℕ → View → Type 0) → System F T W A → Type 0
+AreSaid m was s = AreSaidIn m (was s.base.fs) s.base.books.opened s.limits (first s.base.books.start.items) s.base.books.history.items s.lanes

@@ -1,0 +1,12 @@
+//! The system: lanes of commands over one repository, and the one step that any of them takes at a time. It knows no command by its name.
+#![tactic(auto)]
+
+mod act;
+mod ask;
+mod lane;
+mod step;
+mod system;
+
+pub use ask::Ask;
+pub use lane::{Lane, Reply, Running};
+pub use system::{Parts, System};

@@ -1,0 +1,89 @@
+//! One step of a command's task.
+ghost use Rattle.std.specs.Prelude.{◌≡◌, ◌≤◌, ◌<◌, ◌+◌, ℕ, List, drop, length, slice_index_or};
+ghost use Rattle.rely_guarantee.specs.declared.books.Entry.{Entry};
+ghost use Rattle.rely_guarantee.specs.declared.event.Event.{Event};
+ghost use Rattle.rely_guarantee.specs.declared.kind.Outcome.TheVariants as came;
+ghost use Rattle.rely_guarantee.specs.Laws.{Ready, Runs, Settle};
+ghost use Rattle.rely_guarantee.specs.State.{State, after, events_of};
+ghost use Rattle.ref_book.specs.Tracks.{Tracks, HasEventRoom, HasRoom};
+ghost use Rattle.command.specs.Tasks.{task_spec};
+ghost use Rattle.lane_system.specs.Family.{fs_spec};
+ghost use Rattle.lane_system.specs.LaneActs.{told_by};
+ghost use Rattle.lane_system.specs.States.{now_of};
+ghost use Rattle.lane_system.specs.Steps.{CountsAt, IsCounted, Stepped};
+
+use command::{Command, Told};
+use fs_trait::Fs;
+use obj_store::Put;
+use ref_book::RefBook;
+use rely_guarantee::{Base, Entry, Outcome, task_act};
+
+/// One step of a command's task, once it was told how many objects are in the store. One that is held off is left as it was.
+pub(crate) fn told_act<F: Fs, C: Command>(
+    base: &mut Base<F>,
+    refs: &mut RefBook,
+    objects: &mut u32,
+    lane: u8,
+    number: u32,
+    work: &mut C,
+) -> Outcome
+    requires ready { Ready F.view F.clock F.spare F.was (Runs C.kind_of C.facts lane work.old) base.old }
+    requires tracks { Tracks refs.old (now_of base.old.books) }
+    requires room { (e : Event) → C.kind_of (told_by C.doing objects.old work.old) ≡ Settle e → HasEventRoom refs.old e }
+    ensures step { (t : C) × Stepped (fs_spec F.view F.clock F.spare F.was F.faults) (task_spec C.kind_of C.writes_of C.stepped C.leaves C.refuses C.facts) lane lane number refs.old refs.new result (told_by C.doing objects.old work.old) t base.old base.new × ((result ≡ came.Blocked → ⊥) → work.new ≡ t) }
+    ensures back { result ≡ came.Blocked → work.new ≡ work.old }
+    ensures counts { CountsAt C.doing objects.old work.new result objects.new }
+{
+    let former = work.hear(Told { objects: *objects });
+    match running_act(base, refs, lane, number, work) {
+        Outcome::Blocked => {
+            work.hear(former);
+            Outcome::Blocked
+        }
+        Outcome::More => {
+            count(objects, work);
+            Outcome::More
+        }
+        outcome => outcome,
+    }
+}
+
+/// One step of a command's task. A change that lasts from then on is noted among the refs.
+fn running_act<F: Fs, C: Command>(
+    base: &mut Base<F>,
+    refs: &mut RefBook,
+    lane: u8,
+    number: u32,
+    work: &mut C,
+) -> Outcome
+    requires ready { Ready F.view F.clock F.spare F.was (Runs C.kind_of C.facts lane work.old) base.old }
+    requires tracks { Tracks refs.old (now_of base.old.books) }
+    requires room { (e : Event) → C.kind_of work.old ≡ Settle e → HasEventRoom refs.old e }
+    ensures { Stepped (fs_spec F.view F.clock F.spare F.was F.faults) (task_spec C.kind_of C.writes_of C.stepped C.leaves C.refuses C.facts) lane lane number refs.old refs.new result work.old work.new base.old base.new }
+{
+    let before = base.books.history.len();
+    let outcome = task_act(base, lane, lane, number, work);
+    note(&base.books.history, refs, before);
+    outcome
+}
+
+/// One more object is in the store, where the task's last step put one there.
+fn count<C: Command>(objects: &mut u32, work: &C)
+    ensures { IsCounted objects.old (C.doing.met work.now) objects.new }
+{
+    if let Some((_, Put::Stored)) = work.met() {
+        *objects = objects.saturating_add(1);
+    }
+}
+
+/// A change that was made to last since the history had so many is one of the refs.
+fn note(history: &[Entry], refs: &mut RefBook, before: usize)
+    requires few { length history.now ≤ before + 1 }
+    requires room { (d : Entry) → before < length history.now → HasEventRoom refs.old (slice_index_or history.now before d).event }
+    ensures refs { (s : State) → Tracks refs.old s → Tracks refs.new (after (events_of (drop before history.now)) s) }
+    ensures rooms { (name : List ℕ) → HasRoom refs.old name → HasRoom refs.new name }
+{
+    if let Some(entry) = history.get(before) {
+        refs.change(&entry.event);
+    }
+}
