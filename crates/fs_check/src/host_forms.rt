@@ -191,7 +191,13 @@ fn links_moves_and_removes(rt: HostRuntime) {
     calls(
         &rt,
         &mut fs,
-        "ok rename /moved/one /moved/three;missing read /moved/one",
+        "ok sync_all;ok link /moved/three /moved/four;ok append /moved/three more",
+    );
+    check_read(&rt, &mut fs, "/moved/four", "bytezmore");
+    calls(
+        &rt,
+        &mut fs,
+        "ok unlink /moved/four;ok rename /moved/one /moved/three;missing read /moved/one",
     );
     check_read(&rt, &mut fs, "/moved/three", "bytes");
     calls(
