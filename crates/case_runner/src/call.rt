@@ -5,8 +5,7 @@ use fs_memory::{MemSink, MemSource};
 use fs_trait::Fs;
 use ost_types::{Bytes, Limits};
 use std::alloc::Global;
-use sys_core::Parts;
-use top_call::{Ended, TopFault, asked_lanes, ostree, output_of, run_asked, status_of};
+use top_call::{Ended, LanesEnd, TopFault, asked_lanes, ostree, output_of, run_asked, status_of};
 
 /// What came of a call.
 #[derive(Drop)]
@@ -89,7 +88,7 @@ fn call_within<F: Fs>(
     }
 }
 
-fn ended_within<F: Fs>(alloc: Global, parts: Parts<F>, begun: u64) -> Result<Ran<F>, Stop> {
+fn ended_within<F: Fs>(alloc: Global, parts: LanesEnd<F>, begun: u64) -> Result<Ran<F>, Stop> {
     let output = output_of(alloc, &None, &parts.replies)?;
     Ok(Ran {
         fs: parts.fs,

@@ -1,5 +1,5 @@
 //! What a script's replies tell is what those of its lanes do.
-ghost use Rattle.std.specs.Prelude.{◌≡◌, ℕ, List};
+ghost use Rattle.std.specs.Prelude.{◌≡◌, ◌⊎◌, ℕ, List};
 ghost use Rattle.command.specs.declared.ended.Ended.{Ended};
 ghost use Rattle.lane_system.specs.Lanes.{IsTo};
 ghost use Rattle.lane_system.specs.Replies as system;
@@ -8,7 +8,7 @@ ghost use Rattle.script.specs.declared.answer.Reply.{Reply};
 ghost use Rattle.commands.specs.Answers.{answer_of, reply_of};
 ghost use Rattle.commands.specs.Family as own;
 ghost use Rattle.commands.specs.Family.{Answer, Lane, means};
-ghost use Rattle.commands.specs.Faults.{IsAbsence, IsFailure};
+ghost use Rattle.commands.specs.Faults.{IsAbsence, IsFailure, IsOutside};
 ghost use Rattle.commands.specs.Lanes.{IsReplyTo, replies_of};
 
 /// Each reply of a script's rows is one of its lane, at the same command, and the other way round.
@@ -21,4 +21,10 @@ pub fn replies_are_those_of_lanes()
 pub fn answers_tell_alike()
     ensures failures { (x : Ended Answer) → IsFailure (answer_of x) → system.IsFailure x }
     ensures absences { (commit : List ℕ) (x : Ended Answer) → IsAbsence commit (answer_of x) → OfAnswer (λ a. means.lacks a commit) x }
+{}
+
+/// One tells that something else changed the disk only where the lane's reply is that fault, or where its family's answer is that an object
+/// isn't there as its name says.
+pub fn outsides_tell_alike()
+    ensures { (x : Ended Answer) → IsOutside (answer_of x) → system.IsOutside x ⊎ OfAnswer means.outside x }
 {}

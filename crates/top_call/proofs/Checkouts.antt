@@ -1,6 +1,5 @@
 -- The folders of checkouts, from the disk at the beginning to the end of a run.
-use Rattle.std.proofs.Common.{◌≡◌, ◌≢◌, inl, inr, ⊎_elim, ℕ, sym, ◌∙◌, ap, subst, arith, List, [], append-nil}
-use Rattle.ost_types.specs.declared.limits.Limits.{Limits}
+use Rattle.std.proofs.Common.{◌≡◌, ◌≢◌, inl, inr, ⊎_elim, ℕ, sym, ◌∙◌, ap, arith, List, [], append-nil}
 use Rattle.ost_types.specs.Path.{Name}
 use Rattle.ost_types.proofs.Paths.{is_below-self}
 use Rattle.fs_trait.specs.Seen.{Seen, Vacant, shows}
@@ -11,13 +10,10 @@ use Rattle.repo_layout.specs.Paths.{config_path, folder_path, stage_path}
 use Rattle.repo_layout.specs.Place.{Checkout, Config, Other, Stage, place}
 use Rattle.repo_layout.proofs.Places.{place-checkout, place-config, place-stage}
 use Rattle.layout_rules.proofs.Layouts.{fixed_other}
-use Rattle.rely_guarantee.specs.declared.books.Entry.{Entry}
-use Rattle.rely_guarantee.specs.State.{State}
-use Rattle.script.specs.declared.answer.Reply.{Reply}
-use Rattle.script.specs.declared.command.Lane.{Lane}
-use Rattle.sys_core.specs.Folders.{AreFoldersIn, IsNamed, IsTaken}
+use Rattle.lane_system.specs.Folders.{AreFoldersIn, IsNamed, IsTaken}
 use Rattle.sys_open.specs.Changes.{Changes, Keeps, Puts, file_meta}
 use Rattle.repo_config.specs.Config.{config_text}
+use Rattle.commands.specs.Family.{Lane, means}
 
 -- an opening puts nothing in a checkout's place
 not_laid : (name : Name) (f : Folder) → checkout_path name ≡ folder_path f → ⊥
@@ -42,25 +38,16 @@ only_cleared d name s (inr (inr puts)) = absurd (not_put name s puts.puts)
 stood : (d e : Disk) → Keeps d e → (name : Name) → shows e (checkout_path name) ≢ Vacant → shows d (checkout_path name) ≢ Vacant
 stood d e keeps name there none = ⊎_elim (λ same. there (same ∙ none)) (λ changed. there (only_cleared d name (shows e (checkout_path name)) changed)) (keeps (checkout_path name))
 
-named_before : (lanes : List Lane) (d e : Disk) → Keeps d e → (name : Name) → IsNamed lanes e name → IsNamed lanes d name
+named_before : (lanes : List Lane) (d e : Disk) → Keeps d e → (name : Name) → IsNamed means lanes e name → IsNamed means lanes d name
 named_before lanes d e keeps name (inl there) = inl (stood d e keeps name there)
 named_before lanes d e keeps name (inr by) = inr by
 
-taken_before : (lanes : List Lane) (d e : Disk) → Keeps d e → (name : Name) (lane number : ℕ) → IsTaken lanes e name lane number → IsTaken lanes d name lane number
+taken_before : (lanes : List Lane) (d e : Disk) → Keeps d e → (name : Name) (lane number : ℕ) → IsTaken means lanes e name lane number → IsTaken means lanes d name lane number
 taken_before lanes d e keeps name lane number (inl there) = inl (stood d e keeps name there)
 taken_before lanes d e keeps name lane number (inr by) = inr by
 
-pub folders_before : (limits : Limits) (begin : State) (h : List Entry) (lanes : List Lane) (replies : List (List Reply)) (d e now : Disk) → Keeps d e → AreFoldersIn limits begin h lanes replies e now → AreFoldersIn limits begin h lanes replies d now
-folders_before limits begin h lanes replies d e now keeps is = record {
-  done = is.done;
-  made = λ name there. named_before lanes d e keeps name (is.made name there);
-  taken = λ lane number r rev name path to command exists. taken_before lanes d e keeps name lane number (is.taken lane number r rev name path to command exists);
+pub folders_before : (lanes : List Lane) (d e now : Disk) → Keeps d e → AreFoldersIn means lanes e now → AreFoldersIn means lanes d now
+folders_before lanes d e now keeps are = record {
+  made = λ name there. named_before lanes d e keeps name (are.made name there);
+  taken = λ lane number r c name to is found. taken_before lanes d e keeps name lane number (are.taken lane number r c name to is found);
 }
-
--- what is said of the folders of a system is said of what it was taken apart into
-pub folders_left : (limits limits' : Limits) (begin begin' : State) (h : List Entry) (lanes lanes' : List Lane) (replies : List (List Reply)) (opening now : Disk)
-    → limits ≡ limits' → begin ≡ begin' → lanes ≡ lanes' → AreFoldersIn limits begin h lanes replies opening now → AreFoldersIn limits' begin' h lanes' replies opening now
-folders_left limits limits' begin begin' h lanes lanes' replies opening now limits-is begin-is lanes-is is =
-    subst (λ x. AreFoldersIn x begin' h lanes' replies opening now) limits-is
-    (subst (λ x. AreFoldersIn limits x h lanes' replies opening now) begin-is
-    (subst (λ x. AreFoldersIn limits begin h x replies opening now) lanes-is is))

@@ -9,14 +9,13 @@ use Rattle.script.specs.declared.command.Command.{Command}
 use Rattle.script.specs.declared.command.Command.TheVariants as command
 use Rattle.script.specs.declared.fault.ScriptFault.{ScriptFault}
 use Rattle.script_reader.specs.Script.{Commands, IsScript}
-use Rattle.sys_core.specs.declared.system.Parts.{Parts}
-use Rattle.sys_core.specs.Replied.{IsTo}
-use Rattle.sys_core.proofs.Causing.{rose_since}
+use Rattle.commands.specs.Lanes.{IsReplyTo}
 use Rattle.sys_open.specs.declared.fault.OpenFault.{OpenFault}
 use Rattle.sys_open.specs.declared.fault.OpenFault.TheVariants as opening
 use Rattle.sys_open.proofs.Exclusive.{fault_good}
 use Rattle.top_call.specs.declared.fault.TopFault.{TopFault}
 use Rattle.top_call.specs.declared.fault.TopFault.TheVariants.{Usage, Script, Input, Open, NoMemory}
+use Rattle.top_call.specs.declared.lanes.LanesEnd.{LanesEnd}
 use Rattle.top_call.specs.Complete.{AreCausedBy, Ask, IsAsked, IsComplete, IsGoodHere}
 use Rattle.top_call.specs.Status.{has_risen, status_of}
 use Rattle.top_call.specs.Top.{IsStopped}
@@ -87,7 +86,11 @@ pub memory_printed : (printed fault : Option TopFault) → (printed ≡ fault) �
 memory_printed printed fault (inl same) unfaulted = subst (λ (o : Option TopFault). (o ≡ None) ⊎ (o ≡ Some NoMemory)) (sym same) unfaulted
 memory_printed printed fault (inr memory) unfaulted = inr memory
 
-pub caused_since : {F : Type 0} (before opened : ℕ) (faults : F → ℕ) (r : Result (Parts F) (F × TopFault)) → before ≤ opened
+rose_since : (before a b : ℕ) → before ≤ a → Rose a b → Rose before b
+rose_since before a b le (inl lt) = inl (omega (arith, le, lt))
+rose_since before a b le (inr at) = inr at
+
+pub caused_since : {F : Type 0} (before opened : ℕ) (faults : F → ℕ) (r : Result (LanesEnd F) (F × TopFault)) → before ≤ opened
     → IfOk r (λ p. AreCausedBy opened (faults p.fs) (map (λ replies. replies.items) p.replies.items)) → IfOk r (λ p. AreCausedBy before (faults p.fs) (map (λ replies. replies.items) p.replies.items))
 caused_since before opened faults (Err e) from caused = tt
 caused_since before opened faults (Ok p) from caused = λ lane number r to failed. rose_since before opened (faults p.fs) from (caused lane number r to failed)
@@ -95,7 +98,7 @@ caused_since before opened faults (Ok p) from caused = λ lane number r to faile
 pub caused_parts : {F : Type 0} (faults : F → ℕ) (before : ℕ) (fs fs' : F) (replies replies' : List (List Reply)) → fs' ≡ fs → replies' ≡ replies → AreCausedBy before (faults fs) replies → AreCausedBy before (faults fs') replies'
 caused_parts faults before fs fs' replies replies' fs-is replies-are caused = subst (λ f. AreCausedBy before (faults f) replies') (sym fs-is) (subst (λ x. AreCausedBy before (faults fs) x) (sym replies-are) caused)
 
-none_to : (lane number : ℕ) (r : Reply) → IsTo [] lane number r → ⊥
+none_to : (lane number : ℕ) (r : Reply) → IsReplyTo [] lane number r → ⊥
 none_to lane number r to = omega (arith, to.0)
 
 pub caused_unused : (before now : ℕ) (replies : List (List Reply)) → replies ≡ [] → AreCausedBy before now replies

@@ -3,11 +3,14 @@ pub mod Printing
 pub mod Greatest
 pub mod Texts
 pub mod Plain
+pub mod Openings
+pub mod Standing
 pub mod Checkouts
+pub mod Lefts
 pub mod Rans
+pub mod Runs
 pub mod Outcomes
 pub mod Asking
 pub mod Fits
-pub mod Lefts
 pub mod Statuses
 pub mod Completing

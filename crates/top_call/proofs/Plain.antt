@@ -28,7 +28,7 @@ module _ {F : Type 0} (clock : F → ℕ) (was : F → ℕ → View → Type 0) 
   same : stored base.books.history.items (event_of base.books.pending) ≡ events
   same = ap (λ e. events_of base.books.history.items ++ e) (same_shown base.books.pending)
 
-  plain : system.Headline clock was base v → Headline clock was base.books.opened start base.fs base.books.history.items (event_of base.books.pending) v
+  pub plain : system.Headline clock was base v → Headline clock was base.books.opened start base.fs base.books.history.items (event_of base.books.pending) v
   plain h = record {
     crash = λ t d later left. let f = h.crash t d later left in record {
       count = f.count;
@@ -40,14 +40,3 @@ module _ {F : Type 0} (clock : F → ℕ) (was : F → ℕ → View → Type 0) 
     run = subst (λ es. IsRun es start) (sym same) h.run;
     moments = h.moments;
   }
-
-  -- the same of what a system was taken apart into
-  pub parted : (opened : ℕ) (refs : List (List ℕ × List ℕ)) (fs : F) (history : List Entry) (pending : Option Event)
-      → base.books.opened ≡ opened → base.books.start.items ≡ refs → fs ≡ base.fs → history ≡ base.books.history.items → pending ≡ event_of base.books.pending
-      → system.Headline clock was base v → Headline clock was opened (first refs) fs history pending v
-  parted opened refs fs history pending at is disk entries shows h =
-      subst (λ o. Headline clock was o (first refs) fs history pending v) at
-      (subst (λ r. Headline clock was base.books.opened (first r) fs history pending v) is
-      (subst (λ x. Headline clock was base.books.opened start x history pending v) (sym disk)
-      (subst (λ x. Headline clock was base.books.opened start base.fs x pending v) (sym entries)
-      (subst (λ x. Headline clock was base.books.opened start base.fs base.books.history.items x v) (sym shows) (plain h)))))

@@ -1,113 +1,161 @@
 -- What a run of lanes leaves, where the file system tells its view.
-use Rattle.std.proofs.Common.{◌≡◌, ◌≤◌, ◌∙◌, ◌+◌, ℕ, List, [], ◌∷◌, length, ap, Option, Some, Result, Ok, Err, IfOk, IfSome, map, refl, sym, subst}
-use Rattle.fs_trait.specs.Change.{Left}
+use Rattle.std.proofs.Common.{◌≡◌, ◌≤◌, ◌∙◌, ◌+◌, inl, inr, ℕ, suc, arith, List, [], ◌∷◌, length, ap, Option, Some, Result, Ok, Err, IfOk, IfSome, map, refl, sym, subst}
+use Rattle.std.proofs.lemmas.List.{length-map}
+use Rattle.fs_trait.specs.Image.{IsTree, Told}
 use Rattle.fs_trait.specs.View.{Disk, View}
-use Rattle.fs_trait.specs.Image.{Told}
-use Rattle.repo_layout.specs.RefFile.{IsSum}
-use Rattle.store_check.specs.Commits.{IsFinished}
-use Rattle.rely_guarantee.specs.State.{State, first}
+use Rattle.rely_guarantee.specs.Books.{books_of}
+use Rattle.rely_guarantee.specs.Opening.{IsOpening}
+use Rattle.rely_guarantee.specs.State.{first}
 use Rattle.rely_guarantee.specs.Disks.{Logical}
-use Rattle.rely_guarantee.specs.Lasting.{StaysFinished}
 use Rattle.rely_guarantee.specs.declared.books.Entry.{Entry}
 use Rattle.rely_guarantee.specs.declared.books.Pending.{Pending}
 use Rattle.rely_guarantee.specs.declared.event.Event.{Event}
 use Rattle.ost_types.specs.declared.limits.Limits.{Limits}
+use Rattle.ost_types.specs.Path.{Name}
 use Rattle.script.specs.declared.answer.Reply.{Reply}
 use Rattle.script.specs.declared.command.Command.{Command}
-use Rattle.script.specs.declared.command.Lane.{Lane}
-use Rattle.sys_core.specs.declared.system.Parts.{Parts}
-use Rattle.sys_core.specs.Answers.{IsTold}
-use Rattle.sys_core.specs.Folders.{AreFoldersIn}
-use Rattle.sys_core.specs.Founded.{ArePresentIn}
-use Rattle.sys_core.specs.Inside.{AreInsideIn}
-use Rattle.sys_core.specs.Lasting.{AreKeptIn}
-use Rattle.sys_core.specs.Replied.{Replied}
-use Rattle.sys_core.specs.Said.{AreSaidIn}
-use Rattle.sys_core.specs.Storing.{IsBegunIn}
+use Rattle.script.specs.declared.command.Lane as script
+use Rattle.lane_system.specs.Family.{FsSpec}
+use Rattle.lane_system.specs.Lanes.{IsAt}
+use Rattle.lane_system.specs.Preserves.{Stands}
+use Rattle.lane_system.specs.Inside.{AreInsideIn}
+use Rattle.lane_system.specs.Said.{AreSaidIn}
+use Rattle.lane_system.specs.Storing.{WasBrought}
+use Rattle.lane_system.specs.Folders.{IsMade, IsNamed}
+use Rattle.lane_system.specs.System.{System}
+use Rattle.commands.specs.Answers.{reply_of}
+use Rattle.commands.specs.Family.{Answer, Lane, Task, Words, doing, means, program}
+use Rattle.commands.specs.Faults.{IsFailure}
+use Rattle.commands.specs.Lanes.{replies_of, words_in}
+use Rattle.commands.specs.Words.{words_of}
+use Rattle.commands.proofs.Rows.{from_row}
+use Rattle.commands.proofs.Telling.{failure_of}
 use Rattle.sys_open.specs.Damages.{IsGood}
+use Rattle.sys_open.specs.Opened.{Opened}
 use Rattle.sys_open.specs.Opening.{Begins}
 use Rattle.sys_open.specs.declared.fault.OpenFault.TheVariants as opening
 use Rattle.top_call.specs.declared.fault.TopFault.{TopFault}
 use Rattle.top_call.specs.declared.fault.TopFault.TheVariants.{Usage, Script, Input, Open, NoMemory}
+use Rattle.top_call.specs.declared.lanes.LanesEnd.{LanesEnd}
+use Rattle.top_call.specs.Complete.{AreCausedBy}
 use Rattle.top_call.specs.Headline.{Headline}
-use Rattle.top_call.specs.Top.{AreStandard, IsStop, IsStopped, LeftGood, Ran, RanBy, event_of}
-use Rattle.top_call.specs.Words.{IsLine}
+use Rattle.top_call.specs.RanOn.{RanOn}
+use Rattle.top_call.specs.Top.{AreStandard, IsStop, IsStopped, Ran, RanBy, event_of}
+use Rattle.top_call.specs.Words.{IsLine, commands_of}
 use Rattle.top_call.proofs.Checkouts.{folders_before}
+use Rattle.top_call.proofs.Lefts.{left_good}
+use Rattle.top_call.proofs.Openings.{finished_opened}
+use Rattle.top_call.proofs.Plain.{plain}
 
--- a view that is told has what each told view has, beside what is told of it
-told_all : (o : Option View) (Q R : View → Type 0) → Told o Q → ((w : View) → o ≡ Some w → Q w → R w) → Told o R
-told_all o Q R told all = (told.0, told.1, all told.0 told.1 told.2)
+map_map : {X Y Z : Type 0} (g : Y → Z) (f : X → Y) (xs : List X) → map g (map f xs) ≡ map (λ x. g (f x)) xs
+map_map g f [] = refl
+map_map g f (x ∷ xs) = ap (λ ys. g (f x) ∷ ys) (map_map g f xs)
 
 pub same_refs : (o : Option View) (refs : List (List ℕ × List ℕ)) (v : View) → Told o (Begins refs v) → Logical v.now (first refs)
 same_refs o refs v told = told.2.same
 
-lengths : (lanes : List Lane) → map (λ lane. length lane.commands.items) lanes ≡ map (λ row. length row) (map (λ lane. lane.commands.items) lanes)
-lengths [] = refl
-lengths (lane ∷ rest) = ap (λ l. length lane.commands.items ∷ l) (lengths rest)
+-- what is so of each element at its place is so of the images
+same_images : {X Y : Type 0} (f g : X → Y) (xs : List X) → ((i : ℕ) (x : X) → IsAt xs i x → f x ≡ g x) → map f xs ≡ map g xs
+same_images f g [] each = refl
+same_images f g (x ∷ xs) each = ap (λ y. y ∷ map f xs) (each 0 x (omega arith, refl)) ∙ ap (λ ys. g x ∷ ys) (same_images f g xs (λ i z at. each (suc i) z (omega (arith, at.0), at.1)))
 
-pub ran : {F : Type 0} (limits opened : Limits) (view : F → Option View) (clock : F → ℕ) (was : F → ℕ → View → Type 0) (v : View) (before barrier : ℕ) (refs : List (List ℕ × List ℕ)) (lanes : List Lane) (r : Result (Parts F) (F × TopFault))
-    → opened ≡ limits → IsGood limits v.now → Logical v.now (first refs) → barrier ≡ before + 1 → (begun : View) → Begins refs v begun
-    → ((w : View) → IfOk r (λ p. view p.fs ≡ Some w → Headline clock was barrier (first refs) p.fs p.history.items (event_of p.pending) w))
-    → IfOk r (λ p. (started : List (Option ℕ)) × Replied (IsTold view) opened (first refs) p.history.items p.pending lanes started (map (λ replies. replies.items) p.replies.items))
-    → IfOk r (λ p. map (λ row. length row) (map (λ replies. replies.items) p.replies.items) ≡ map (λ lane. length lane.commands.items) lanes)
-    → IfOk r (λ p. Told (view p.fs) (AreKeptIn (was p.fs) begun opened lanes p.history.items))
-    → ((w : View) (t : ℕ) (d : Disk) → IfOk r (λ p. view p.fs ≡ Some w → barrier ≤ t → Left (was p.fs) t d → LeftGood opened (IsBegunIn (first refs) p.history.items lanes [] (map (λ replies. replies.items) p.replies.items)) d))
-    → ((w : View) → IfOk r (λ p. view p.fs ≡ Some w → AreInsideIn (was p.fs) barrier (IsBegunIn (first refs) p.history.items lanes [] (map (λ replies. replies.items) p.replies.items)) (map (λ replies. replies.items) p.replies.items)))
-    → ((w : View) → IfOk r (λ p. view p.fs ≡ Some w → AreSaidIn (was p.fs) barrier opened (first refs) p.history.items lanes (map (λ replies. replies.items) p.replies.items)))
-    → ((commit : List ℕ) → IsSum commit → IsFinished begun.now commit → StaysFinished begun commit)
-    → IfOk r (λ p. ArePresentIn (StaysFinished begun) p.history.items (map (λ replies. replies.items) p.replies.items))
-    → IfOk r (λ p. Told (view p.fs) (λ w. AreFoldersIn opened (first refs) p.history.items lanes (map (λ replies. replies.items) p.replies.items) begun.now w.now))
-    → IfOk r (λ p. Told (view p.fs) (Ran limits view clock was v before (map (λ lane. lane.commands.items) lanes) p.fs p.history.items (event_of p.pending) (map (λ replies. replies.items) p.replies.items)))
-ran limits opened view clock was v before barrier refs lanes (Err e) same good state at begun begins lines replied ended kept stored inside said finished present folders = tt
-ran limits opened view clock was v before barrier refs lanes (Ok p) same good state at begun begins lines replied ended kept stored inside said finished present folders = told_all (view p.fs) (AreKeptIn (was p.fs) begun opened lanes p.history.items) (Ran limits view clock was v before (map (λ lane. lane.commands.items) lanes) p.fs p.history.items (event_of p.pending) (map (λ replies. replies.items) p.replies.items)) kept (λ w is stays. record {
-  good = good;
-  start = first refs;
-  state = state;
-  headline = subst (λ n. Headline clock was n (first refs) p.fs p.history.items (event_of p.pending) w) at (lines w is);
-  lanes = lanes;
-  each = refl;
-  started = replied.0;
-  by = p.pending;
-  shown = refl;
-  replied = subst (λ l. Replied (IsTold view) l (first refs) p.history.items p.pending lanes replied.0 (map (λ replies. replies.items) p.replies.items)) same replied.1;
-  ended = ended ∙ lengths lanes;
-  begun = begun;
-  opens = begins.keeps;
-  opened = begins.opening;
-  kept = subst (λ l. AreKeptIn (was p.fs) begun l lanes p.history.items w) same stays;
-  stored = λ t d from left. subst (λ l. LeftGood l (IsBegunIn (first refs) p.history.items lanes [] (map (λ replies. replies.items) p.replies.items)) d) same (stored w t d is (subst (λ n. n ≤ t) (sym at) from) left);
-  inside = subst (λ n. AreInsideIn (was p.fs) n (IsBegunIn (first refs) p.history.items lanes [] (map (λ replies. replies.items) p.replies.items)) (map (λ replies. replies.items) p.replies.items)) at (inside w is);
-  said = subst (λ l. AreSaidIn (was p.fs) (before + 1) l (first refs) p.history.items lanes (map (λ replies. replies.items) p.replies.items)) same
-      (subst (λ n. AreSaidIn (was p.fs) n opened (first refs) p.history.items lanes (map (λ replies. replies.items) p.replies.items)) at (said w is));
-  present = record {
-    finished = λ lane number r commit to absent is. present.finished lane number r commit to absent (finished commit is.0 is.1);
-    set = present.set;
-  };
-  folders = (let one : folders.0 ≡ w = (let e : Some folders.0 ≡ Some w = sym folders.1 ∙ is in cc) in
-      folders_before limits (first refs) p.history.items lanes (map (λ replies. replies.items) p.replies.items) v.now begun.now w.now begins.keeps
-      (subst (λ (u : View). AreFoldersIn limits (first refs) p.history.items lanes (map (λ replies. replies.items) p.replies.items) begun.now u.now) one
-      (subst (λ l. AreFoldersIn l (first refs) p.history.items lanes (map (λ replies. replies.items) p.replies.items) begun.now folders.0.now) same folders.2)));
-})
+-- each lane has as many replies as commands
+pub counts_same : (lanes : List Lane) → ((i : ℕ) (lane : Lane) → IsAt lanes i lane → length lane.replies.items ≡ length lane.words.items) → map (λ lane. length lane.replies.items) lanes ≡ map (λ row. length row) (words_in lanes)
+counts_same lanes ended = same_images (λ (l : Lane). length l.replies.items) (λ l. length l.words.items) lanes ended ∙ sym (map_map (λ row. length row) (λ (l : Lane). l.words.items) lanes)
 
--- what is said of the commits of a system is said of what it was taken apart into
-pub kept_parts : {F : Type 0} (view : F → Option View) (was : F → ℕ → View → Type 0) (begun : View) (fs fs' : F) (limits limits' : Limits) (lanes lanes' : List Lane) (h h' : List Entry)
-    → fs' ≡ fs → limits ≡ limits' → lanes ≡ lanes' → h' ≡ h → Told (view fs) (AreKeptIn (was fs) begun limits lanes h) → Told (view fs') (AreKeptIn (was fs') begun limits' lanes' h')
-kept_parts view was begun fs fs' limits limits' lanes lanes' h h' fs-is limits-is lanes-is h-is kept =
-    subst (λ x. Told (view x) (AreKeptIn (was x) begun limits' lanes' h')) (sym fs-is)
-    (subst (λ x. Told (view fs) (AreKeptIn (was fs) begun x lanes' h')) limits-is
-    (subst (λ x. Told (view fs) (AreKeptIn (was fs) begun limits x h')) lanes-is
-    (subst (λ x. Told (view fs) (AreKeptIn (was fs) begun limits lanes x)) (sym h-is) kept)))
+-- so there are as many replies as commands of the script
+ended_as : (lanes : List Lane) (commands : List (List Command)) → words_in lanes ≡ map (λ row. map words_of row) commands → ((i : ℕ) (lane : Lane) → IsAt lanes i lane → length lane.replies.items ≡ length lane.words.items)
+    → map (λ row. length row) (replies_of lanes) ≡ map (λ row. length row) commands
+ended_as lanes commands words ended =
+    map_map (λ (row : List Reply). length row) (λ (l : Lane). map reply_of l.replies.items) lanes
+    ∙ same_images (λ (l : Lane). length (map reply_of l.replies.items)) (λ l. length l.replies.items) lanes (λ i l at. length-map l.replies.items reply_of)
+    ∙ counts_same lanes ended
+    ∙ ap (map (λ row. length row)) words
+    ∙ map_map (λ (row : List Words). length row) (λ row. map words_of row) commands
+    ∙ same_images (λ row. length (map words_of row)) (λ row. length row) commands (λ i row at. length-map row words_of)
 
--- what is said of the replies of a system is said of what it was taken apart into
-pub replied_parts : (told : Type 0) (limits limits' : Limits) (refs refs' : List (List ℕ × List ℕ)) (h h' : List Entry) (p p' : Option Pending) (l l' : List Lane) (started : List (Option ℕ)) (r r' : List (List Reply))
-    → limits ≡ limits' → refs ≡ refs' → h' ≡ h → p' ≡ p → l ≡ l' → r' ≡ r → Replied told limits (first refs) h p l started r → Replied told limits' (first refs') h' p' l' started r'
-replied_parts told limits limits' refs refs' h h' p p' l l' started r r' limits-is refs-is h-is p-is l-is r-is replied =
-    subst (λ x. Replied told x (first refs') h' p' l' started r') limits-is
-    (subst (λ x. Replied told limits (first x) h' p' l' started r') refs-is
-    (subst (λ x. Replied told limits (first refs) x p' l' started r') (sym h-is)
-    (subst (λ x. Replied told limits (first refs) h x l' started r') (sym p-is)
-    (subst (λ x. Replied told limits (first refs) h p x started r') l-is
-    (subst (λ x. Replied told limits (first refs) h p l started x) (sym r-is) replied)))))
+scripted : (scripts : List script.Lane) → map (λ lane. map words_of lane.commands.items) scripts ≡ map (λ row. map words_of row) (commands_of scripts)
+scripted scripts = sym (map_map (λ row. map words_of row) (λ (lane : script.Lane). lane.commands.items) scripts)
+
+-- a checkout that runs is one of a command
+named_of : (lanes : List Lane) (d : Disk) (name : Name) → IsMade means doing lanes d name → IsNamed means lanes d name
+named_of lanes d name (inl there) = inl there
+named_of lanes d name (inr (lane, number, by)) = inr (lane, number, by.0)
+
+module _ {F : Type 0} (f : FsSpec F) (opened : Opened F) (limits : Limits) (v : View) (before : ℕ) (commands : List (List Command)) (good : IsGood limits v.now) (within : opened.limits ≡ limits) (barrier : opened.clock ≡ before + 1) (begins : Told (f.view opened.fs) (Begins opened.refs v)) (tree : IsTree begins.0.now) where
+  module _ (own : List (List Words)) (scripted_as : own ≡ map (λ row. map words_of row) commands) (fs : F) (history : List Entry) (pending : Option Pending) (replies : List (List Reply)) (is : RanOn f opened own fs history pending replies) where
+    abbrev s : System F Task Words Answer
+    s = is.system
+
+    same : s.limits ≡ limits
+    same = is.limits ∙ within
+
+    moment : s.base.books.opened ≡ before + 1
+    moment = is.opening ∙ barrier
+
+    stood : Told (f.view s.base.fs) (λ w. Stands f program (f.faults opened.fs) begins.0 s w)
+    stood = is.stands begins.0 begins.1
+
+    ran_there : (w : View) → f.view s.base.fs ≡ Some w → Stands f program (f.faults opened.fs) begins.0 s w → Ran s.limits f.view f.clock f.was v before commands s.base.fs s.base.books.history.items (event_of s.base.books.pending) (replies_of s.lanes) w
+    ran_there w told stands = record {
+      good = subst (λ l. IsGood l v.now) (sym same) good;
+      start = first s.base.books.start.items;
+      state = subst (λ refs. Logical v.now (first refs)) (sym is.start) begins.2.same;
+      headline = subst (λ n. Headline f.clock f.was n (first s.base.books.start.items) s.base.fs s.base.books.history.items (event_of s.base.books.pending) w) moment (plain f.clock f.was s.base w (is.headline w told));
+      lanes = s.lanes;
+      each = is.words ∙ scripted_as;
+      given = refl;
+      by = s.base.books.pending;
+      shown = refl;
+      replied = is.replied;
+      ended = ended_as s.lanes commands (is.words ∙ scripted_as) is.ended;
+      begun = begins.0;
+      opens = begins.2.keeps;
+      opened = subst (λ refs. IsOpening (first refs) begins.0) (sym is.start) begins.2.opening;
+      kept = stands.lasts;
+      stored = λ t d from left. left_good f s w stands.good t d (subst (λ n. n ≤ t) (sym moment) from) left;
+      inside = subst (λ n. AreInsideIn means (f.was s.base.fs) n (WasBrought means s) s.lanes) moment stands.inside;
+      said = subst (λ n. AreSaidIn means (f.was s.base.fs) n s.limits (first s.base.books.start.items) s.base.books.history.items s.lanes) moment stands.said;
+      present = record {
+        finished = λ lane number r commit to absent finished. stands.founded.present.finished lane number r commit to absent (finished_opened (first opened.refs) begins.0 begins.2.opening tree commit finished.0 finished.1);
+        set = stands.founded.present.set;
+      };
+      books = books_of s.base.books;
+      stays = stands.stays;
+      folders = folders_before s.lanes v.now begins.0.now w.now begins.2.keeps (record { made = λ name there. named_of s.lanes begins.0.now name (stands.folders.made name there); taken = stands.folders.taken });
+    }
+
+    pub ran_on : Told (f.view fs) (Ran limits f.view f.clock f.was v before commands fs history (event_of pending) replies)
+    ran_on =
+        subst (λ l. Told (f.view fs) (Ran l f.view f.clock f.was v before commands fs history (event_of pending) replies)) same
+        (subst (λ g. Told (f.view g) (Ran s.limits f.view f.clock f.was v before commands g history (event_of pending) replies)) (sym is.disk)
+        (subst (λ h. Told (f.view s.base.fs) (Ran s.limits f.view f.clock f.was v before commands s.base.fs h (event_of pending) replies)) (sym is.changes)
+        (subst (λ p. Told (f.view s.base.fs) (Ran s.limits f.view f.clock f.was v before commands s.base.fs s.base.books.history.items (event_of p) replies)) (sym is.change)
+        (subst (λ r. Told (f.view s.base.fs) (Ran s.limits f.view f.clock f.was v before commands s.base.fs s.base.books.history.items (event_of s.base.books.pending) r)) (sym is.given)
+        (stood.0, stood.1, ran_there stood.0 stood.1 stood.2)))))
+
+    pub caused_on : AreCausedBy (f.faults opened.fs) (f.faults fs) replies
+    caused_on =
+        subst (λ g. AreCausedBy (f.faults opened.fs) (f.faults g) replies) (sym is.disk)
+        (subst (λ r. AreCausedBy (f.faults opened.fs) (f.faults s.base.fs) r) (sym is.given)
+        (λ lane number r to failed. (let own = from_row s.lanes lane number r to in
+        stood.2.caused.each lane number own.0 own.1 (failure_of own.0.answer (subst (λ (x : Reply). IsFailure x.answer) own.2 failed)))))
+
+pub ran : {F : Type 0} (f : FsSpec F) (opened : Opened F) (limits : Limits) (v : View) (before : ℕ) (scripts : List script.Lane) (r : Result (LanesEnd F) (F × TopFault)) → IsGood limits v.now → opened.limits ≡ limits → opened.clock ≡ before + 1
+    → (begins : Told (f.view opened.fs) (Begins opened.refs v)) → IsTree begins.0.now
+    → IfOk r (λ p. RanOn f opened (map (λ lane. map words_of lane.commands.items) scripts) p.fs p.history.items p.pending (map (λ replies. replies.items) p.replies.items))
+    → IfOk r (λ p. Told (f.view p.fs) (Ran limits f.view f.clock f.was v before (commands_of scripts) p.fs p.history.items (event_of p.pending) (map (λ replies. replies.items) p.replies.items)))
+ran f opened limits v before scripts (Err e) good within barrier begins tree is = tt
+ran f opened limits v before scripts (Ok p) good within barrier begins tree is =
+    ran_on f opened limits v before (commands_of scripts) good within barrier begins tree (map (λ lane. map words_of lane.commands.items) scripts) (scripted scripts) p.fs p.history.items p.pending (map (λ replies. replies.items) p.replies.items) is
+
+pub caused : {F : Type 0} (f : FsSpec F) (opened : Opened F) (limits : Limits) (v : View) (before : ℕ) (scripts : List script.Lane) (r : Result (LanesEnd F) (F × TopFault)) → IsGood limits v.now → opened.limits ≡ limits → opened.clock ≡ before + 1
+    → (begins : Told (f.view opened.fs) (Begins opened.refs v)) → IsTree begins.0.now
+    → IfOk r (λ p. RanOn f opened (map (λ lane. map words_of lane.commands.items) scripts) p.fs p.history.items p.pending (map (λ replies. replies.items) p.replies.items))
+    → IfOk r (λ p. AreCausedBy (f.faults opened.fs) (f.faults p.fs) (map (λ replies. replies.items) p.replies.items))
+caused f opened limits v before scripts (Err e) good within barrier begins tree is = tt
+caused f opened limits v before scripts (Ok p) good within barrier begins tree is =
+    caused_on f opened limits v before (commands_of scripts) good within barrier begins tree (map (λ lane. map words_of lane.commands.items) scripts) (scripted scripts) p.fs p.history.items p.pending (map (λ replies. replies.items) p.replies.items) is
 
 -- the same by the words that the lanes are of
 pub by_words : {F : Type 0} (left : Option (List ℕ)) (words : List (List ℕ)) (limits : Limits) (view : F → Option View) (clock : F → ℕ) (was : F → ℕ → View → Type 0) (v : View) (before : ℕ) (commands : List (List Command)) (fs fs' : F) (h h' : List Entry) (p p' : Option Event) (r r' : List (List Reply))
@@ -131,12 +179,3 @@ stopped limits d standard (Open (opening.Outside p)) stop = absurd stop
 
 pub stop_at : (told : Option TopFault) (fault : TopFault) (limits : Limits) (d : Disk) → told ≡ Some fault → AreStandard limits → IsStop limits d fault → IfSome told (IsStopped d)
 stop_at told fault limits d is standard stop = subst (λ o. IfSome o (IsStopped d)) (sym is) (stopped limits d standard fault stop)
-
--- what is said of the disk in the replies of a system is said of what it was taken apart into
-pub said_parts : (was : ℕ → View → Type 0) (opened opened' : ℕ) (limits limits' : Limits) (begin begin' : State) (h : List Entry) (lanes lanes' : List Lane) (replies : List (List Reply))
-    → limits ≡ limits' → begin ≡ begin' → opened ≡ opened' → lanes ≡ lanes' → AreSaidIn was opened limits begin h lanes replies → AreSaidIn was opened' limits' begin' h lanes' replies
-said_parts was opened opened' limits limits' begin begin' h lanes lanes' replies limits-is begin-is opened-is lanes-is said =
-    subst (λ x. AreSaidIn was x limits' begin' h lanes' replies) opened-is
-    (subst (λ x. AreSaidIn was opened x begin' h lanes' replies) limits-is
-    (subst (λ x. AreSaidIn was opened limits x h lanes' replies) begin-is
-    (subst (λ x. AreSaidIn was opened limits begin h x replies) lanes-is said)))

@@ -4,10 +4,11 @@ use Rattle.std.specs.Prelude.{max}
 use Rattle.script.specs.declared.answer.Answer.{Answer}
 use Rattle.script.specs.declared.answer.Answer.TheVariants as answer
 use Rattle.script.specs.declared.answer.Reply.{Reply}
-use Rattle.sys_core.specs.Replied.{IsAt, IsTo}
+use Rattle.commands.specs.Faults.{IsOutside}
+use Rattle.commands.specs.Lanes.{IsReplyTo}
+use Rattle.lane_system.specs.Lanes.{IsAt}
 use Rattle.top_call.specs.declared.fault.TopFault.{TopFault}
 use Rattle.top_call.specs.declared.fault.TopFault.TheVariants.{NoMemory}
-use Rattle.sys_core.specs.Faults.{IsOutside}
 use Rattle.top_call.specs.Status.{answer_status, fault_status, lane_status, replies_status, status_of}
 
 -- done, refused, or without memory
@@ -51,7 +52,7 @@ lane_small : (replies : List Reply) → ((number : ℕ) (r : Reply) → IsAt rep
 lane_small [] inside = inl refl
 lane_small (r ∷ rest) inside = max_small (answer_status r.answer) (lane_status rest) (answer_small r.answer (inside 0 r (omega arith, refl))) (lane_small rest (λ n q at. inside (suc n) q (omega (arith, at.0), at.1)))
 
-pub replies_small : (lanes : List (List Reply)) → ((lane number : ℕ) (r : Reply) → IsTo lanes lane number r → ¬ (IsOutside r.answer)) → IsSmall (replies_status lanes)
+pub replies_small : (lanes : List (List Reply)) → ((lane number : ℕ) (r : Reply) → IsReplyTo lanes lane number r → ¬ (IsOutside r.answer)) → IsSmall (replies_status lanes)
 replies_small [] inside = inl refl
 replies_small (x ∷ rest) inside = max_small (lane_status x) (replies_status rest) (lane_small x (λ n r at. inside 0 n r at)) (replies_small rest (λ l n r to. inside (suc l) n r to))
 

@@ -5,5 +5,6 @@ pub mod Input
 pub mod Words
 pub mod Headline
 pub mod Top
+pub mod RanOn
 pub mod Whys
 pub mod Complete

@@ -6,29 +6,32 @@ use Rattle.fs_trait.specs.View.{Disk, View}
 use Rattle.rely_guarantee.specs.declared.books.Entry.{Entry}
 use Rattle.rely_guarantee.specs.declared.books.Pending.{Pending}
 use Rattle.rely_guarantee.specs.declared.event.Event.{Event}
+use Rattle.rely_guarantee.specs.Books.{Books}
 use Rattle.rely_guarantee.specs.Disks.{Logical}
 use Rattle.rely_guarantee.specs.Opening.{IsOpening}
 use Rattle.rely_guarantee.specs.State.{State}
 use Rattle.ost_types.specs.declared.limits.Limits.{Limits}
 use Rattle.script.specs.declared.answer.Reply.{Reply}
 use Rattle.script.specs.declared.command.Command.{Command}
-use Rattle.script.specs.declared.command.Lane.{Lane}
-use Rattle.sys_core.specs.Answers.{IsTold}
-use Rattle.sys_core.specs.Folders.{AreFoldersIn}
-use Rattle.sys_core.specs.Founded.{ArePresentIn}
-use Rattle.sys_core.specs.Inside.{AreInsideIn}
-use Rattle.sys_core.specs.Lasting.{AreKeptIn}
-use Rattle.sys_core.specs.Replied.{Replied}
-use Rattle.sys_core.specs.Said.{AreSaidIn}
+use Rattle.lane_system.specs.Folders.{AreFoldersIn}
+use Rattle.lane_system.specs.Founded.{ArePresentIn}
+use Rattle.lane_system.specs.Inside.{AreInsideIn}
+use Rattle.lane_system.specs.Lasting.{AreKeptIn}
+use Rattle.lane_system.specs.Replied.{Replied}
+use Rattle.lane_system.specs.Replies.{IsTold}
+use Rattle.lane_system.specs.Said.{AreSaidIn}
+use Rattle.lane_system.specs.Staying.{AreStayingIn}
+use Rattle.lane_system.specs.Storing.{IsBroughtIn, IsConfigured}
+use Rattle.commands.specs.Family.{Lane, means}
+use Rattle.commands.specs.Lanes.{replies_of, words_in}
+use Rattle.commands.specs.Words.{words_of}
 use Rattle.sys_open.specs.declared.fault.OpenFault.TheVariants as opening
 use Rattle.layout_rules.specs.Checks.{IsSane}
 use Rattle.repo_layout.specs.RefFile.{IsSum}
 use Rattle.store_check.specs.Commits.{IsFinished}
-use Rattle.ost_forms.specs.declared.tree_item.TreeItem.{TreeItem}
-use Rattle.commit_build.specs.declared.message.Message.{Message}
-use Rattle.store_durability.specs.Keeping.{IsGoodDisk}
-use Rattle.store_durability.specs.Standing.{AreAlone}
-use Rattle.sys_core.specs.Storing.{IsBegunIn, IsConfigured}
+use Rattle.durable_store.specs.Keeping.{IsGoodDisk}
+use Rattle.durable_store.specs.Brought.{AreAlone}
+use Rattle.repo_model.specs.Objects.{Store}
 use Rattle.sys_open.specs.Damages.{IsGood}
 use Rattle.sys_open.specs.Changes.{Keeps}
 use Rattle.sys_open.specs.Opening.{IsToldOf, StaysOnDamage}
@@ -73,42 +76,45 @@ IsStopped d (Open opening.NoMemory) = ⊥
 IsStopped d (Open fault) = (limits : Limits) × AreStandard limits × IsToldOf limits d fault
 
 -- What a crash left of the store: the configuration is one; each object is what its name says, and each ref names a commit that is there
--- and has no mark; and there are no more objects than may be. And where no other bytes there have the name of an object of a commit that
--- was begun, each commit without a mark is whole; so a sane disk is good then: it opens.
-pub record LeftGood (limits : Limits) (begun : List TreeItem → Message → Type 0) (d : Disk) : Type 0 where
-  pub store : IsGoodDisk limits begun IsConfigured d
-  pub opens : IsSane d → AreAlone begun d → IsGood limits d
+-- and has no mark; and there are no more objects than may be. And where no other bytes there have the name of bytes that a command brings
+-- which was begun, each commit without a mark is whole; so a sane disk is good then: it opens.
+pub record LeftGood (limits : Limits) (brings : Store) (d : Disk) : Type 0 where
+  pub store : IsGoodDisk limits brings IsConfigured d
+  pub opens : IsSane d → AreAlone brings d → IsGood limits d
 
 -- What a run of lanes with these commands leaves: the repository was good, and from the refs that it had then all is as the
--- headline says. Each reply is by its command and by the states that the changes make of these refs; and each change is one
--- command's, which was answered so, or which was cut off where the change is pending. Each command of each lane has its reply. The
--- opening changed nothing but what it laid out and cleared, and from there on each commit that a change made is kept, and what each crash
--- leaves of the store is good. No reply tells that something else changed the disk, as far as reads never saw other bytes with the name of an
--- object of a commit that was begun. What each reply tells of the disk was so, in a view that reads had then; and none tells that a commit
--- isn't there, or has a mark, of one that was there without one when the repository was opened, or that a ref was set to before. Each folder
--- of a checkout that was done is its commit's tree at the end; each that stands then stood at the beginning, or a command checks out to its
--- name; and none is told to stand in the way but one that stood at the beginning, or that another command checks out to.
+-- headline says. The lanes have these commands, as words of their families, and these replies, as answers of theirs. Each reply is by its
+-- command and by the states that the changes make of these refs; and each change is one command's, which was answered so, or which was cut
+-- off where the change is pending. Each command of each lane has its reply. The opening changed nothing but what it laid out and cleared,
+-- and from there on each commit that a change made is kept, and what each crash leaves of the store is good. No reply tells that something
+-- else changed the disk, as far as reads never saw other bytes with the name of bytes that a command brings. What each reply tells of the
+-- disk was so, in a view that reads had then; and none tells that a commit isn't there, or has a mark, of one that was there without one
+-- when the repository was opened, or that a ref was set to before. What each command left outside of the store stands at the end, as the
+-- folder of a checkout that was done, which is its commit's tree; each such folder that stands then stood at the beginning, or a command
+-- checks out to its name; and none is told to stand in the way but one that stood at the beginning, or that another command checks out to.
 pub record Ran {F : Type 0} (limits : Limits) (view : F → Option View) (clock : F → ℕ) (was : F → ℕ → View → Type 0) (v : View) (before : ℕ) (commands : List (List Command)) (fs : F) (history : List Entry) (pending : Option Event) (replies : List (List Reply)) (w : View) : Type 0 where
   pub good : IsGood limits v.now
   pub start : State
   pub state : Logical v.now start
   pub headline : Headline clock was (before + 1) start fs history pending w
   pub lanes : List Lane
-  pub each : map (λ lane. lane.commands.items) lanes ≡ commands
-  pub started : List (Option ℕ)
+  pub each : words_in lanes ≡ map (λ row. map words_of row) commands
+  pub given : replies_of lanes ≡ replies
   pub by : Option Pending
   pub shown : pending ≡ event_of by
-  pub replied : Replied (IsTold view) limits start history by lanes started replies
+  pub replied : Replied (IsTold view) means limits start history by lanes
   pub ended : map (λ row. length row) replies ≡ map (λ row. length row) commands
   pub begun : View
   pub opens : Keeps v.now begun.now
   pub opened : IsOpening start begun
-  pub kept : AreKeptIn (was fs) begun limits lanes history w
-  pub stored : (t : ℕ) (d : Disk) → before + 1 ≤ t → Left (was fs) t d → LeftGood limits (IsBegunIn start history lanes [] replies) d
-  pub inside : AreInsideIn (was fs) (before + 1) (IsBegunIn start history lanes [] replies) replies
-  pub said : AreSaidIn (was fs) (before + 1) limits start history lanes replies
-  pub present : ArePresentIn (λ commit. IsSum commit × IsFinished begun.now commit) history replies
-  pub folders : AreFoldersIn limits start history lanes replies v.now w.now
+  pub kept : AreKeptIn means (was fs) begun limits lanes history w
+  pub stored : (t : ℕ) (d : Disk) → before + 1 ≤ t → Left (was fs) t d → LeftGood limits (IsBroughtIn means limits start history lanes) d
+  pub inside : AreInsideIn means (was fs) (before + 1) (IsBroughtIn means limits start history lanes) lanes
+  pub said : AreSaidIn means (was fs) (before + 1) limits start history lanes
+  pub present : ArePresentIn means (λ commit. IsSum commit × IsFinished begun.now commit) history lanes
+  pub books : Books
+  pub stays : AreStayingIn means limits start history lanes w books
+  pub folders : AreFoldersIn means lanes v.now w.now
 
 -- so, of lanes that these words ask for, where an input has this left
 abbrev pub RanBy : {F : Type 0} → Option (List ℕ) → List (List ℕ) → (F → Option View) → (F → ℕ) → (F → ℕ → View → Type 0) → View → ℕ → F → List Entry → Option Event → List (List Reply) → View → Type 0

@@ -1,41 +1,49 @@
 //! The lanes of a call, on the repository of a file system.
-ghost use Rattle.std.specs.Prelude.{◌≡◌, ◌≤◌, ◌<◌, ℕ, List, [], Option, Some, IfOk, IfErr, length, map, slice_index_or};
-ghost use Rattle.fs_trait.specs.View.{Disk, View, all_synced};
-ghost use Rattle.fs_trait.specs.Change.{Left};
+ghost use Rattle.std.specs.Prelude.{◌≡◌, ◌≤◌, ℕ, [], Some, IfOk, IfErr, All, length, map};
+ghost use Rattle.fs_trait.specs.View.{View, all_synced};
 ghost use Rattle.fs_trait.specs.Image.{Told};
 ghost use Rattle.fs_trait.specs.Count.{Rose};
-ghost use Rattle.script.specs.declared.command.Lane.{Lane};
 ghost use Rattle.sys_open.specs.Changes.{Changes, Works};
 ghost use Rattle.sys_open.specs.declared.fault.OpenFault.TheVariants as opening;
 ghost use Rattle.top_call.specs.declared.fault.TopFault.TheVariants as fault;
-ghost use Rattle.rely_guarantee.specs.State.{first};
-ghost use Rattle.sys_core.specs.Answers.{IsTold};
-ghost use Rattle.sys_core.specs.Fit as within;
-ghost use Rattle.rely_guarantee.specs.Lasting.{StaysFinished};
-ghost use Rattle.sys_core.specs.Folders.{AreFoldersIn};
-ghost use Rattle.sys_core.specs.Founded.{ArePresentIn};
-ghost use Rattle.sys_core.specs.Inside.{AreInsideIn};
-ghost use Rattle.sys_core.specs.Lasting.{AreKeptIn};
-ghost use Rattle.sys_core.specs.Replied.{Replied};
-ghost use Rattle.sys_core.specs.Said.{AreSaidIn};
-ghost use Rattle.sys_core.specs.Storing.{IsBegunIn};
+ghost use Rattle.lane_system.specs.Family.{fs_spec};
+ghost use Rattle.lane_system.specs.Kept.{AreIdle};
+ghost use Rattle.commands.specs.Family.{means};
+ghost use Rattle.commands.specs.Lanes.{HasRoom, IsUnbegun, counts_of, replies_of, words_in};
+ghost use Rattle.commands.specs.Words.{words_of};
 ghost use Rattle.top_call.specs.Complete.{AreCausedBy};
-ghost use Rattle.top_call.specs.Headline.{Headline};
-ghost use Rattle.top_call.specs.Top.{IsStop, LeftGood, Ran, StaysOn, event_of};
+ghost use Rattle.top_call.specs.RanOn.{RanOn};
+ghost use Rattle.top_call.specs.Top.{IsStop, Ran, StaysOn, event_of};
 ghost use Rattle.top_call.specs.Words.{IsEarly, commands_of};
 ghost use Rattle.script_reader.specs.Script.{command_limit, lane_limit};
 ghost use Rattle.script_trees.specs.Fit.{AreFit, IsWide};
 
 use crate::asked::Asked;
 use crate::fault::TopFault;
+use commands::{
+    CommandAnswer, CommandLane, CommandWords, Commands, lanes_of, replies_of, reply_room,
+};
 use fs_trait::Fs;
+use lane_system::{Parts, System};
 use ost_types::{Limits, NoMemory};
+use rely_guarantee::{Entry, Pending};
 use schedule::Turns;
 use schedule_run::run_by;
-use script_reader::Lane;
+use script_reader::{Lane, Reply};
 use std::alloc::Global;
-use sys_core::{Parts, System};
 use sys_open::{OpenFault, Opened, adopt};
+
+/// What lanes leave that ran to their end.
+#[derive(Drop)]
+pub struct LanesEnd<F> {
+    pub fs: F,
+    /// The changes that last, in the order in which they came.
+    pub history: Vec<Entry>,
+    /// The change that is shown, or may be, and doesn't last yet.
+    pub pending: Option<Pending>,
+    /// The replies of each lane.
+    pub replies: Vec<Vec<Reply>>,
+}
 
 /// Opens the repository, and runs what is asked for. Where no lane is run the file system comes back.
 pub fn run_asked<F: Fs>(
@@ -43,7 +51,7 @@ pub fn run_asked<F: Fs>(
     fs: F,
     asked: Asked,
     limits: Limits,
-) -> Result<Parts<F>, (F, TopFault)>
+) -> Result<LanesEnd<F>, (F, TopFault)>
     requires wide { IsWide limits }
     requires fit { AreFit (commands_of asked.lanes.items) }
     ensures ran { (v : View) → F.view fs ≡ Some v → IfOk result (λ p. Told (F.view p.fs) (Ran limits F.view F.clock F.was v (F.clock fs) (commands_of asked.lanes.items) p.fs p.history.items (event_of p.pending) (map (λ replies. replies.items) p.replies.items))) }
@@ -65,7 +73,7 @@ pub fn run_lanes<F: Fs>(
     lanes: Vec<Lane>,
     schedule: &[Turns],
     limits: Limits,
-) -> Result<Parts<F>, (F, TopFault)>
+) -> Result<LanesEnd<F>, (F, TopFault)>
     requires wide { IsWide limits }
     requires fit { AreFit (commands_of lanes.items) }
     ensures ran { (v : View) → F.view fs ≡ Some v → IfOk result (λ p. Told (F.view p.fs) (Ran limits F.view F.clock F.was v (F.clock fs) (commands_of lanes.items) p.fs p.history.items (event_of p.pending) (map (λ replies. replies.items) p.replies.items))) }
@@ -89,28 +97,79 @@ fn run_opened<F: Fs>(
     opened: Opened<F>,
     lanes: Vec<Lane>,
     schedule: &[Turns],
-) -> Result<Parts<F>, (F, TopFault)>
+) -> Result<LanesEnd<F>, (F, TopFault)>
     requires few { length lanes.items ≤ lane_limit }
-    requires short { (l : ℕ) (d : Lane) → l < length lanes.items → length (slice_index_or lanes.items l d).commands.items ≤ command_limit }
-    requires fit { within.AreFit opened.limits lanes.items }
-    ensures ran { (w : View) → IfOk result (λ p. F.view p.fs ≡ Some w → Headline F.clock F.was opened.clock (first opened.refs) p.fs p.history.items (event_of p.pending) w) }
-    ensures replied { IfOk result (λ p. (started : List (Option ℕ)) × Replied (IsTold F.view) opened.limits (first opened.refs) p.history.items p.pending lanes.items started (map (λ replies. replies.items) p.replies.items)) }
-    ensures ended { IfOk result (λ p. map (λ row. length row) (map (λ replies. replies.items) p.replies.items) ≡ map (λ lane. length lane.commands.items) lanes.items) }
-    ensures kept { (begun : View) → F.view opened.fs ≡ Some begun → IfOk result (λ p. Told (F.view p.fs) (AreKeptIn (F.was p.fs) begun opened.limits lanes.items p.history.items)) }
-    ensures stored { (w : View) (t : ℕ) (d : Disk) → IfOk result (λ p. F.view p.fs ≡ Some w → opened.clock ≤ t → Left (F.was p.fs) t d → LeftGood opened.limits (IsBegunIn (first opened.refs) p.history.items lanes.items [] (map (λ replies. replies.items) p.replies.items)) d) }
-    ensures caused { (v : View) → F.view opened.fs ≡ Some v → IfOk result (λ p. AreCausedBy (F.faults opened.fs) (F.faults p.fs) (map (λ replies. replies.items) p.replies.items)) }
-    ensures inside { (w : View) → IfOk result (λ p. F.view p.fs ≡ Some w → AreInsideIn (F.was p.fs) opened.clock (IsBegunIn (first opened.refs) p.history.items lanes.items [] (map (λ replies. replies.items) p.replies.items)) (map (λ replies. replies.items) p.replies.items)) }
-    ensures said { (w : View) → IfOk result (λ p. F.view p.fs ≡ Some w → AreSaidIn (F.was p.fs) opened.clock opened.limits (first opened.refs) p.history.items lanes.items (map (λ replies. replies.items) p.replies.items)) }
-    ensures present { (begun : View) → F.view opened.fs ≡ Some begun → IfOk result (λ p. ArePresentIn (StaysFinished begun) p.history.items (map (λ replies. replies.items) p.replies.items)) }
-    ensures folders { (begun : View) → F.view opened.fs ≡ Some begun → IfOk result (λ p. Told (F.view p.fs) (λ w. AreFoldersIn opened.limits (first opened.refs) p.history.items lanes.items (map (λ replies. replies.items) p.replies.items) begun.now w.now)) }
+    requires short { All (λ lane. length lane.commands.items ≤ command_limit) lanes.items }
+    requires fit { All (λ lane. All (λ c. means.fit opened.limits (words_of c)) lane.commands.items) lanes.items }
+    ensures ran { IfOk result (λ p. RanOn (fs_spec F.view F.clock F.spare F.was F.faults) opened (map (λ lane. map words_of lane.commands.items) lanes.items) p.fs p.history.items p.pending (map (λ replies. replies.items) p.replies.items)) }
     ensures back { IfErr result (λ e. (e.0 ≡ opened.fs) × (e.1 ≡ fault.NoMemory)) }
 {
+    match prepare(alloc, lanes) {
+        Ok(prepared) => run_prepared(alloc, opened, prepared, schedule),
+        Err(NoMemory) => Err((opened.into_fs(), TopFault::NoMemory)),
+    }
+}
+
+// Lanes before their first step, with room for the replies to their commands.
+#[derive(Drop)]
+struct Prepared {
+    lanes: Vec<CommandLane>,
+    room: Vec<Vec<Reply>>,
+}
+
+fn prepare(alloc: Global, lanes: Vec<Lane>) -> Result<Prepared, NoMemory>
+    requires short { All (λ lane. length lane.commands.items ≤ command_limit) lanes.items }
+    ensures words { IfOk result (λ p. words_in p.lanes.items ≡ map (λ lane. map words_of lane.commands.items) lanes.items) }
+    ensures unbegun { IfOk result (λ p. All IsUnbegun p.lanes.items) }
+    ensures room { IfOk result (λ p. HasRoom (counts_of (words_in p.lanes.items)) p.room.items) }
+{
+    let lanes = lanes_of(alloc, lanes)?;
+    let room = reply_room(alloc, &lanes)?;
+    Ok(Prepared { lanes, room })
+}
+
+fn run_prepared<F: Fs>(
+    alloc: Global,
+    opened: Opened<F>,
+    prepared: Prepared,
+    schedule: &[Turns],
+) -> Result<LanesEnd<F>, (F, TopFault)>
+    requires few { length prepared.lanes.items ≤ lane_limit }
+    requires idle { AreIdle means opened.limits prepared.lanes.items }
+    requires room { HasRoom (counts_of (words_in prepared.lanes.items)) prepared.room.items }
+    ensures ran { IfOk result (λ p. RanOn (fs_spec F.view F.clock F.spare F.was F.faults) opened (words_in prepared.lanes.items) p.fs p.history.items p.pending (map (λ replies. replies.items) p.replies.items)) }
+    ensures back { IfErr result (λ e. (e.0 ≡ opened.fs) × (e.1 ≡ fault.NoMemory)) }
+{
+    let Prepared { lanes, room } = prepared;
     match System::new(alloc, opened, lanes) {
         Ok(system) => {
             let mut system = system;
             run_by(&mut system, schedule);
-            Ok(system.into_parts())
+            Ok(end_of(system.into_parts(), room))
         }
         Err((opened, NoMemory)) => Err((opened.into_fs(), TopFault::NoMemory)),
+    }
+}
+
+// What a system was taken apart into, with the replies as a script has them.
+fn end_of<F: Fs>(
+    parts: Parts<F, Commands, CommandWords, CommandAnswer>,
+    room: Vec<Vec<Reply>>,
+) -> LanesEnd<F>
+    requires { HasRoom (map (λ lane. length lane.replies.items) parts.lanes.items) room.items }
+    ensures same { (result.fs ≡ parts.fs) × (result.history ≡ parts.history) × (result.pending ≡ parts.pending) }
+    ensures replies { map (λ row. row.items) result.replies.items ≡ replies_of parts.lanes.items }
+{
+    let Parts {
+        fs,
+        history,
+        pending,
+        lanes,
+    } = parts;
+    LanesEnd {
+        fs,
+        history,
+        pending,
+        replies: replies_of(lanes, room),
     }
 }

@@ -14,7 +14,7 @@ mod words;
 
 pub use asked::{Asked, asked_lanes};
 pub use fault::TopFault;
-pub use lanes::{run_asked, run_lanes};
+pub use lanes::{LanesEnd, run_asked, run_lanes};
 pub use output::write_all;
 pub use status::{has_risen, status_of};
 pub use text::{MEMORY_LINE, USAGE_LINE, output_of};

@@ -16,7 +16,7 @@ ghost use Rattle.top_call.specs.Top.{IsStopped, IsUnused, Prints, RanBy, StaysOn
 
 use crate::asked::asked_lanes;
 use crate::fault::TopFault;
-use crate::lanes::run_asked;
+use crate::lanes::{LanesEnd, run_asked};
 use crate::output::write_all;
 use crate::status::{has_risen, status_of};
 use crate::text::{MEMORY_LINE, output_of};
@@ -25,7 +25,6 @@ use ost_types::{Limits, NoMemory};
 use rely_guarantee::{Entry, Event, Pending};
 use script_reader::Reply;
 use std::alloc::Global;
-use sys_core::Parts;
 
 /// What a call of the program came to.
 #[derive(Drop)]
@@ -84,19 +83,18 @@ fn event_of(pending: Option<Pending>) -> Option<Event>
     }
 }
 
-fn outcome_of<F: Fs>(parts: Parts<F>) -> Outcome<F>
+fn outcome_of<F: Fs>(parts: LanesEnd<F>) -> Outcome<F>
     ensures fs { result.fs ≡ parts.fs }
     ensures fault { result.fault ≡ None }
     ensures history { result.history.items ≡ parts.history.items }
     ensures pending { result.pending ≡ event_of parts.pending }
     ensures replies { result.replies.items ≡ parts.replies.items }
 {
-    let Parts {
+    let LanesEnd {
         fs,
         history,
         pending,
         replies,
-        lanes: _,
     } = parts;
     Outcome {
         fs,

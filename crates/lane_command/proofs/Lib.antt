@@ -1,4 +1,0 @@
-pub mod Claims
-pub mod Ends
-pub mod Founded
-pub mod Stored

@@ -1,4 +1,0 @@
-pub mod RefAnswers
-pub mod Commands
-pub mod Laws
-pub mod Answers

@@ -1,0 +1,62 @@
+ghost use Rattle.lane_system_check.specs.Family.{wait_doing, wait_means};
+ghost use Rattle.lane_system_check.specs.Laws.{wait_command_laws};
+
+use crate::{WaitTask, WaitWords};
+use command::{Begun, Command, Query, Told};
+use obj_store::Put;
+use ost_types::{FsPath, Limits, NoMemory, ObjName};
+use ref_book::RefBook;
+use std::alloc::Global;
+
+impl Command for WaitTask {
+    type Words = WaitWords;
+
+    type Answer = u8;
+
+    ghost means = { wait_means };
+
+    ghost doing = { wait_doing };
+
+    fn begin(
+        _alloc: Global,
+        _refs: &mut RefBook,
+        _limits: Limits,
+        _lane: u8,
+        words: &WaitWords,
+    ) -> Result<Begun<WaitTask, u8>, NoMemory> {
+        match words {
+            WaitWords::Echo { number } => Ok(Begun::Answered(*number)),
+            WaitWords::Wait { number, holds } => Ok(Begun::Runs(WaitTask {
+                taken: 0,
+                number: *number,
+                holds: *holds,
+            })),
+        }
+    }
+
+    fn stray(_alloc: Global, _words: &WaitWords) -> Result<Option<FsPath>, NoMemory> {
+        Ok(None)
+    }
+
+    fn hear(&mut self, _told: Told) -> Told {
+        Told { objects: 0 }
+    }
+
+    fn asks(&self, _actor: u8) -> Option<Query> {
+        None
+    }
+
+    fn met(&self) -> Option<(ObjName, Put)> {
+        None
+    }
+
+    fn into_answer(self) -> Option<u8> {
+        Some(self.taken)
+    }
+
+    fn left(&self) -> u128 {
+        self.number.saturating_sub(self.taken) as u128
+    }
+
+    ghost command_laws = { wait_command_laws };
+}

@@ -1,3 +1,0 @@
-mod Allowed
-mod Makeables
-mod Takings
