@@ -1,4 +1,9 @@
 //! Acts that come one after the other.
+ghost use Rattle.std.specs.Prelude.{IfOk};
+ghost use Rattle.ost_types.specs.declared.limits.Limits.{Limits};
+ghost use Rattle.lane_system.specs.Kept.{IsIdle};
+ghost use Rattle.lane_system_check.specs.Family.{wait_means};
+
 use crate::WaitTask;
 use crate::words::WaitWords;
 use command::Ended;
@@ -16,7 +21,9 @@ fn open_disk(alloc: Global) -> Result<Opened<MemFs>, Fail> {
     }
 }
 
-fn lane_of(alloc: Global, command: WaitWords) -> Result<Lane<WaitTask, WaitWords, u8>, Fail> {
+fn lane_of(alloc: Global, command: WaitWords) -> Result<Lane<WaitTask, WaitWords, u8>, Fail>
+    ensures { IfOk result (λ lane. (limits : Limits) → IsIdle wait_means limits lane) }
+{
     Ok(Lane::new(alloc, vec![in alloc; command]?)?)
 }
 
