@@ -8,10 +8,12 @@ use Rattle.rely_guarantee.specs.Laws.{IsSettle, Settle}
 use Rattle.ref_command.specs.declared.work.RefWork.{RefWork}
 use Rattle.ref_command.specs.Kinds.{Answer as Came, event, stepped_in}
 use Rattle.ref_command.proofs.Ends.{settles_in}
-use Rattle.tree_build.specs.Items.{IsLeastBad}
+use Rattle.tree_build.specs.Items.{IsLeastBad, IsTree}
 use Rattle.commit_build.specs.declared.refusal.BuildRefusal.{BuildRefusal}
 use Rattle.commit_build.specs.declared.refusal.BuildRefusal.TheVariants as built
-use Rattle.commit_build.specs.Committing.{Committing, commit_in, storing_in}
+use Rattle.commit_build.specs.declared.phase.Phase.{Phase}
+use Rattle.commit_build.specs.declared.phase.Phase.TheVariants as phase
+use Rattle.commit_build.specs.Committing.{Committing, Links, commit_in, kept_in, storing_in}
 use Rattle.commit_command.specs.declared.answer.CommitAnswer.{CommitAnswer}
 use Rattle.commit_command.specs.declared.answer.CommitAnswer.TheVariants as answer
 use Rattle.commit_command.specs.declared.naming.Naming.{Naming}
@@ -37,6 +39,20 @@ pub record Ends (since : Since) (c : CommitWords) (t new : CommitCommand) : Type
   pub makes_not : (IsSettle (commit_kind t) → ⊥) → commit_makes given → ⊥
   pub full : commit_full given → since.limits.objects ≤ t.objects
 
+-- an object is put only of a tree that is one
+linked_tree : (t : Committing) (ph : Phase) → Links ph → kept_in ph t → IsTree t.items
+linked_tree t (phase.Put p) links kept = kept.0
+linked_tree t (phase.PutCommit p) links kept = kept.0
+linked_tree t phase.Check links kept = absurd links
+linked_tree t phase.Make links kept = absurd links
+linked_tree t (phase.Made o) links kept = absurd links
+linked_tree t phase.SyncObjects links kept = absurd links
+linked_tree t phase.MakeCommit links kept = absurd links
+linked_tree t (phase.SyncCommit sum) links kept = absurd links
+linked_tree t (phase.Unmark sum) links kept = absurd links
+linked_tree t (phase.SyncState sum) links kept = absurd links
+linked_tree t (phase.Ended sum) links kept = absurd links
+
 module _ (since : Since) (c : CommitWords) (t : CommitCommand) (is : Commits since.limits c.branch c.tree.items (message_in since.start c) t) where
   -- the build was refused
   built_ends : (r : BuildRefusal) (next : Committing) (new : CommitCommand) → (IsSettle (commit_kind t) → ⊥) → BuildSteps t.objects t.build (Some r) next → answer_of new ≡ built_answer (Some r) → Ends since c t new
@@ -44,7 +60,7 @@ module _ (since : Since) (c : CommitWords) (t : CommitCommand) (is : Commits sin
   built_ends (built.TooMany number) next new still step at = record {
     given = answer.TooMany number;
     answer = at;
-    says = step.1.2 ∙ ap (λ (l : Limits). l.objects + 1) is.bounds;
+    says = (step.1.2 ∙ ap (λ (l : Limits). l.objects + 1) is.bounds, subst IsTree is.items (linked_tree t.build t.build.phase step.1.0 is.made.kept));
     makes = λ k. absurd (still k);
     makes_not = λ none m. m;
     full = λ f. subst (λ (l : Limits). l.objects ≤ t.objects) is.bounds step.1.1;
@@ -67,8 +83,8 @@ module _ (since : Since) (c : CommitWords) (t : CommitCommand) (is : Commits sin
     naming_ends (Some (Ok x)) next new step given =
         let settles : commit_kind t ≡ Settle (event n.work.task) = ap (λ o. kind_by o t) at ∙ settles_in n.work.task.phase (event n.work.task) step.0.1 names.changing.3 in
         record { given = answer.Commit n.commit; answer = given; says = (names.commit, names.whole); makes = λ k. tt; makes_not = λ none m. none (subst IsSettle (sym settles) tt); full = λ f. absurd f }
-    naming_ends (Some (Err (refusal.RefMoved seen now))) next new step given = record { given = answer.RefMoved seen now; answer = given; says = tt; makes = λ k. absurd (refused_not (refusal.RefMoved seen now) next step k); makes_not = λ none m. m; full = λ f. absurd f }
-    naming_ends (Some (Err (refusal.RefClash other))) next new step given = record { given = answer.RefClash other; answer = given; says = tt; makes = λ k. absurd (refused_not (refusal.RefClash other) next step k); makes_not = λ none m. m; full = λ f. absurd f }
+    naming_ends (Some (Err (refusal.RefMoved seen now))) next new step given = record { given = answer.RefMoved seen now; answer = given; says = names.whole; makes = λ k. absurd (refused_not (refusal.RefMoved seen now) next step k); makes_not = λ none m. m; full = λ f. absurd f }
+    naming_ends (Some (Err (refusal.RefClash other))) next new step given = record { given = answer.RefClash other; answer = given; says = names.whole; makes = λ k. absurd (refused_not (refusal.RefClash other) next step k); makes_not = λ none m. m; full = λ f. absurd f }
     naming_ends (Some (Err refusal.NoRef)) next new step given = record { given = answer.NoRef; answer = given; says = tt; makes = λ k. absurd (refused_not refusal.NoRef next step k); makes_not = λ none m. m; full = λ f. absurd f }
 
   ends_by : (o : Option Naming) (new : CommitCommand) → t.change ≡ o → NamesIn c.branch (message_in since.start c).parent c.tree.items (sum_in since.start c) o → stepped_by o t (turn.Done tt) new → Ends since c t new

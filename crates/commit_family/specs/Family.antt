@@ -15,7 +15,7 @@ use Rattle.commit_command.specs.Kinds.{commit_left, met_in}
 use Rattle.rely_guarantee.specs.declared.event.Event.{Event}
 use Rattle.rely_guarantee.specs.declared.event.Event.TheVariants as event
 use Rattle.rely_guarantee.specs.State.{State, RefOf}
-use Rattle.ref_family.specs.Knows.{HasMoved, IsFreeIn, LeastClashIn}
+use Rattle.ref_family.specs.Knows.{HasMoved, HasStayed, IsFreeIn, LeastClashIn}
 use Rattle.command.specs.Doing.{Doing}
 use Rattle.command.specs.Meaning.{Meaning}
 use Rattle.command.specs.Since.{Since}
@@ -32,19 +32,20 @@ abbrev pub commit_makes : CommitAnswer → Type 0
 commit_makes (answer.Commit sum) = Unit {0}
 commit_makes a = ⊥
 
+-- the tree is looked at before anything else
 abbrev pub commit_says : Since → CommitAnswer → CommitWords → Type 0
 commit_says since (answer.Commit sum) c = (sum ≡ sum_in since.start c) × IsTree c.tree.items
 commit_says since (answer.BadTree path) c = IsLeastBad c.tree.items path
-commit_says since (answer.TooMany number) c = number ≡ since.limits.objects + 1
-commit_says since (answer.RefMoved seen now) c = Unit {0}
-commit_says since (answer.RefClash other) c = Unit {0}
+commit_says since (answer.TooMany number) c = (number ≡ since.limits.objects + 1) × IsTree c.tree.items
+commit_says since (answer.RefMoved seen now) c = IsTree c.tree.items
+commit_says since (answer.RefClash other) c = IsTree c.tree.items
 commit_says since answer.NoRef c = Unit {0}
 
 -- what it says of the refs
 abbrev pub commit_knows : Since → CommitAnswer → CommitWords → Type 0
 commit_knows since (answer.Commit sum) c = IsFreeIn since.place c.branch
 commit_knows since (answer.RefMoved seen now) c = HasMoved since.start since.place c.branch seen now
-commit_knows since (answer.RefClash other) c = LeastClashIn since.place c.branch other
+commit_knows since (answer.RefClash other) c = LeastClashIn since.place c.branch other × HasStayed since.start since.place c.branch
 commit_knows since answer.NoRef c = ⊥
 commit_knows since (answer.BadTree path) c = Unit {0}
 commit_knows since (answer.TooMany number) c = Unit {0}

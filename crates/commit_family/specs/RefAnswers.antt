@@ -47,7 +47,8 @@ module _ (lane : ℕ) (since : Since) (p : State) (c : CommitWords) (v w : View)
         subst Knows k (moved lane since.start p c.branch (Some (sum_in since.start c)) n.work next v w b f names.changing sees seen now l)
     naming_knows (Some (Err (refusal.RefClash other))) a l e =
         let k : answer.RefClash other ≡ a = cc in
-        subst Knows k (clashing lane since.start p c.branch (Some (sum_in since.start c)) n.work next v w b f names.changing sees other l).0
+        let clash = clashing lane since.start p c.branch (Some (sum_in since.start c)) n.work next v w b f names.changing sees other l in
+        subst Knows k (clash.0, clash.1)
     naming_knows (Some (Err refusal.NoRef)) a l e = absurd l.tells
 
   -- where the build was refused, nothing

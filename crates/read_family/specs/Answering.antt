@@ -29,6 +29,7 @@ use Rattle.read_family.specs.declared.reply.ReadReply.{ReadReply}
 use Rattle.read_family.specs.declared.reply.ReadReply.TheVariants.{NoRef, Read}
 use Rattle.read_family.specs.declared.words.ReadWords.{ReadWords}
 use Rattle.read_family.specs.Family.{read_lacks, read_outside, read_pursues, read_reply, read_says, read_shows}
+use Rattle.read_family.specs.Endings.{ends_unread, log_said}
 use Rattle.read_family.specs.Lackings.{lacking_never}
 
 -- the last step has an answer, of the reader
@@ -89,7 +90,9 @@ lacks_none since v (Read (answer.Partial sum)) c commit files seen is finished =
 lacks_none since v NoRef c commit files seen is finished = is
 lacks_none since v (Read (answer.Content bytes)) c commit files seen is finished = is
 lacks_none since v (Read (answer.Ls rows)) c commit files seen is finished = is
-lacks_none since v (Read (answer.Log rows)) c commit files seen is finished = is
+lacks_none since v (Read (answer.Log rows)) c commit files seen is finished =
+    let log = log_said v.now since.limits seen.0 c.ask rows seen.2 in
+    none_not (reads v.now (object_path Commit commit)) (ends_unread v.now seen.0 commit rows.items log is finished.there.sum) (commit_read v commit files finished)
 lacks_none since v (Read (answer.NoPath path)) c commit files seen is finished = is
 lacks_none since v (Read (answer.NotFile path)) c commit files seen is finished = is
 lacks_none since v (Read (answer.Lacking path)) c commit files seen is finished = is

@@ -1,8 +1,10 @@
 -- What the commands that read a commit say, and what their tasks are to them.
-use Rattle.std.specs.Prelude.{◌≡◌, ℕ, List, Option, Some, None}
+use Rattle.std.specs.Prelude.{◌≡◌, ℕ, List, [], ◌∷◌, ◌++◌, Option, Some, None}
 use Rattle.ost_types.specs.declared.object.ObjName.{ObjName}
+use Rattle.ost_forms.specs.Commit.{CommitParts}
 use Rattle.ost_objects.specs.Object.{IsNamed}
 use Rattle.fs_trait.specs.View.{View}
+use Rattle.repo_model.specs.Trees.{HasCommit}
 use Rattle.ref_command.specs.Found.{commit_name}
 use Rattle.rely_guarantee.specs.Lasting.{IsFinishedNow}
 use Rattle.script.specs.declared.rows.LogRow.{LogRow}
@@ -49,7 +51,20 @@ abbrev pub reaches_of : Ask → List ℕ → ObjName → Type 0
 reaches_of ask.Log commit name = (next : List ℕ) × (name ≡ commit_name next) × Reaches commit next
 reaches_of a commit name = name ≡ commit_name commit
 
+-- each bytes that have the commit's name say that this is its parent
+abbrev pub IsParent : List ℕ → List ℕ → Type 0
+IsParent commit parent = (c : CommitParts) → HasCommit IsNamed commit c → c.parent ≡ parent
+
+-- the last of the rows is that of a commit with this parent
+pub record EndsBefore (rows : List LogRow) (parent : List ℕ) : Type 0 where
+  pub front : List LogRow
+  pub last : LogRow
+  pub are : rows ≡ front ++ last ∷ []
+  pub of : IsParent last.commit parent
+
+-- a log ends before a commit that isn't there
 abbrev pub read_lacks : ReadReply → List ℕ → Type 0
+read_lacks (Read (answer.Log rows)) commit = EndsBefore rows.items commit
 read_lacks (Read (answer.NoCommit sum)) commit = sum ≡ commit
 read_lacks (Read (answer.Partial sum)) commit = sum ≡ commit
 read_lacks a commit = ⊥

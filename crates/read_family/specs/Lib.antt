@@ -1,5 +1,6 @@
 pub mod Family
 pub mod Kinds
 pub mod Lackings
+pub mod Endings
 pub mod Answering
 pub mod Laws

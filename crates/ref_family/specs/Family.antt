@@ -5,6 +5,7 @@ use Rattle.fs_trait.specs.View.{View}
 use Rattle.ref_store.specs.Change.{Change, progress_in}
 use Rattle.rely_guarantee.specs.declared.event.Event.{Event}
 use Rattle.rely_guarantee.specs.declared.event.Event.TheVariants as event
+use Rattle.rely_guarantee.specs.Lasting.{StaysFinished}
 use Rattle.rely_guarantee.specs.State.{State, RefOf}
 use Rattle.ref_command.specs.declared.answer.RefAnswer.{RefAnswer}
 use Rattle.ref_command.specs.declared.answer.RefAnswer.TheVariants as answer
@@ -51,11 +52,20 @@ ref_says s (answer.RefClash other) (DropRef branch) = Unit {0}
 ref_says s answer.NoRef (DropRef branch) = Unit {0}
 ref_says s a c = ⊥
 
-abbrev pub ref_shows : View → RefAnswer → Type 0
-ref_shows v (answer.Commit commit) = IsFound v.now commit Whole
-ref_shows v (answer.NoCommit commit) = IsFound v.now commit Missing
-ref_shows v (answer.Partial commit) = IsFound v.now commit Partial
-ref_shows v a = Unit {0}
+-- the commit that the ref was to be set to is there without a mark, and no crash takes it away or leaves a mark of it
+abbrev pub commit_lasts : View → RefWords → Type 0
+commit_lasts v (Reset branch commit) = StaysFinished v commit
+commit_lasts v c = Unit {0}
+
+-- What was found of the commit. A reset found it before it came to change the ref.
+abbrev pub ref_shows : View → RefAnswer → RefWords → Type 0
+ref_shows v (answer.Commit commit) c = IsFound v.now commit Whole
+ref_shows v (answer.NoCommit commit) c = IsFound v.now commit Missing
+ref_shows v (answer.Partial commit) c = IsFound v.now commit Partial
+ref_shows v answer.Changed c = commit_lasts v c
+ref_shows v (answer.RefMoved seen now) c = commit_lasts v c
+ref_shows v (answer.RefClash other) c = commit_lasts v c
+ref_shows v answer.NoRef c = Unit {0}
 
 -- what is pinned: the commit that is looked up
 abbrev pub ref_works : State → RefWords → ObjName → Type 0
@@ -75,7 +85,7 @@ ref_means = record {
   makes = ref_makes;
   says = λ since. ref_says since.start;
   knows = ref_knows;
-  shows = λ since v a c. ref_shows v a;
+  shows = λ since. ref_shows;
   stays = λ since out a c v b. Unit {0};
   keeps = λ since opening out c v. Unit {0};
   keeps_on = λ since opening out c disk. Unit {0};

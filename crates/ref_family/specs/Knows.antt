@@ -25,6 +25,10 @@ pub record LeastClashIn (s : State) (name other : List ℕ) : Type 0 where
 abbrev pub IsFreeIn : State → List ℕ → Type 0
 IsFreeIn s name = (other : List ℕ) → ClashIn s name other → ⊥
 
+-- the ref has the same value in both states
+abbrev pub HasStayed : State → State → List ℕ → Type 0
+HasStayed s p name = p (RefOf name) ≡ s (RefOf name)
+
 -- the ref's values in both states, which differ
 abbrev pub HasMoved : State → State → List ℕ → Option (List ℕ) → Option (List ℕ) → Type 0
 HasMoved s p name seen now = (seen ≡ s (RefOf name)) × (now ≡ p (RefOf name)) × (now ≢ seen)
@@ -32,7 +36,7 @@ HasMoved s p name seen now = (seen ≡ s (RefOf name)) × (now ≡ p (RefOf name
 abbrev pub reset_knows : State → State → List ℕ → RefAnswer → Type 0
 reset_knows s p branch answer.Changed = IsFreeIn p branch
 reset_knows s p branch (answer.RefMoved seen now) = HasMoved s p branch seen now
-reset_knows s p branch (answer.RefClash other) = LeastClashIn p branch other
+reset_knows s p branch (answer.RefClash other) = LeastClashIn p branch other × HasStayed s p branch
 reset_knows s p branch answer.NoRef = ⊥
 reset_knows s p branch a = Unit {0}
 

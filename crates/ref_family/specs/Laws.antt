@@ -1,13 +1,18 @@
 -- The laws of the commands on refs.
-use Rattle.std.proofs.Common.{◌≡◌, ⊎_elim, refl, sym, ◌∙◌, subst, Option, Some, IsSome, arith}
+use Rattle.std.proofs.Common.{◌≡◌, ⊎_elim, ℕ, refl, sym, ◌∙◌, subst, Option, Some, IsSome, arith}
 use Rattle.fs_trait.specs.View.{View}
+use Rattle.rely_guarantee.specs.Books.{Books}
 use Rattle.rely_guarantee.specs.Laws.{IsClaim}
+use Rattle.rely_guarantee.specs.State.{State}
 use Rattle.ref_command.specs.declared.answer.RefAnswer.{RefAnswer}
 use Rattle.ref_command.specs.declared.answer.RefAnswer.TheVariants as answer
 use Rattle.ref_command.specs.declared.command.RefCommand.{RefCommand}
+use Rattle.ref_command.specs.declared.command.RefCommand.TheVariants as task
+use Rattle.ref_command.specs.declared.work.RefWork.{RefWork}
 use Rattle.ref_command.specs.Answers.{Says}
 use Rattle.ref_command.specs.Commands.{answer_of, command_facts, command_kind, command_leaves, command_refuses, command_stepped, command_writes}
 use Rattle.ref_command.specs.CommandLaws.{no_command_claim}
+use Rattle.ref_command.specs.Founded.{IsFounded}
 use Rattle.ref_command.proofs.Ends.{begins_of, falls_always, says_of}
 use Rattle.ref_command.proofs.Homes.{home_task}
 use Rattle.ref_command.proofs.Refusals.{refused_of}
@@ -21,9 +26,10 @@ use Rattle.command.specs.StepLaws.{StepLaws}
 use Rattle.command.specs.StoreLaws.{StoreLaws}
 use Rattle.command.specs.Tasks.{TaskSpec, task_spec}
 use Rattle.ref_family.specs.declared.task.RefsTask.{RefsTask}
+use Rattle.ref_family.specs.declared.words.RefWords.{RefWords}
 use Rattle.ref_family.specs.declared.words.RefWords.TheVariants as words
 use Rattle.ref_family.specs.Ends.{ref_ends}
-use Rattle.ref_family.specs.Family.{ref_doing, ref_makes, ref_means, ref_says, ref_shows}
+use Rattle.ref_family.specs.Family.{commit_lasts, ref_doing, ref_makes, ref_means, ref_pursues, ref_says, ref_shows}
 use Rattle.ref_family.specs.Keeping.{refs_keep}
 use Rattle.ref_family.specs.Objects.{lacks_none, no_checkout, no_object, pins_work, refs_light}
 use Rattle.ref_family.specs.Steps.{change_is, own_step, ref_founds, ref_holds, ref_settled, ref_shown, ref_step}
@@ -35,15 +41,28 @@ ref_tasks = task_spec (λ t. command_kind t.work) (λ actor t. command_writes ac
 one : (o : Option RefAnswer) (x a : RefAnswer) → o ≡ Some x → o ≡ Some a → x ≡ a
 one o x a is given = let e : Some x ≡ Some a = sym is ∙ given in cc
 
+-- a task that changes the ref knows that the commit lasts
+lasting : (s : State) (lane : ℕ) (c : RefWords) (work : RefWork) (v : View) (b : Books) → ref_pursues s c (task.Change work) → command_facts lane (task.Change work) v b → commit_lasts v c
+lasting s lane (words.Reset branch commit) work v b is f = subst (λ o. IsFounded o v) is.2 f.founded
+lasting s lane (words.RevParse rev) work v b is f = tt
+lasting s lane (words.DropRef branch) work v b is f = tt
+
 -- what it tells of the disk
-tells : (v w : View) (a : RefAnswer) (t : RefCommand) → Says a t v w → ref_shows v a
-tells v w (answer.Commit commit) t says = says
-tells v w (answer.NoCommit commit) t says = says
-tells v w (answer.Partial commit) t says = says
-tells v w (answer.RefMoved seen there) t says = tt
-tells v w (answer.RefClash other) t says = tt
-tells v w answer.Changed t says = tt
-tells v w answer.NoRef t says = tt
+module _ (s : State) (lane : ℕ) (c : RefWords) (v w : View) (b : Books) where
+  tells : (a : RefAnswer) (t : RefCommand) → ref_pursues s c t → command_facts lane t v b → Says a t v w → ref_shows v a c
+  tells (answer.Commit commit) t is f says = says
+  tells (answer.NoCommit commit) t is f says = says
+  tells (answer.Partial commit) t is f says = says
+  tells (answer.RefMoved seen there) (task.Change work) is f says = lasting s lane c work v b is f
+  tells (answer.RefMoved seen there) (task.Parse look) is f says = absurd says.1
+  tells (answer.RefMoved seen there) (task.Reset look plan) is f says = absurd says.1
+  tells (answer.RefClash other) (task.Change work) is f says = lasting s lane c work v b is f
+  tells (answer.RefClash other) (task.Parse look) is f says = absurd says.2
+  tells (answer.RefClash other) (task.Reset look plan) is f says = absurd says.2
+  tells answer.Changed (task.Change work) is f says = lasting s lane c work v b is f
+  tells answer.Changed (task.Parse look) is f says = absurd says
+  tells answer.Changed (task.Reset look plan) is f says = absurd says
+  tells answer.NoRef t is f says = tt
 
 step_laws : StepLaws ref_tasks ref_doing
 step_laws = record {
@@ -82,9 +101,9 @@ answer_laws : AnswerLaws ref_tasks ref_means ref_doing
 answer_laws = record {
   answers = λ since c t new is step. subst IsSome (sym (ref_ends since.start c t.work new.work is step).answer) refl;
   says = λ since p c t new a is step given. (let e = ref_ends since.start c t.work new.work is step in subst (λ x. ref_says since.start x c) (one (answer_of new.work) e.given a e.answer given) e.says);
-  shows = λ since lane c t new v w b a is f leaves given. tells v w a t.work (says_of lane t.work new.work v w b a f leaves given);
+  shows = λ since lane c t new v w b a is f leaves given. tells since.start lane c v w b a t.work is f (says_of lane t.work new.work v w b a f leaves given);
   knows = λ since p lane c t new v w b a. ref_tells (λ s branch commit work is. change_is s (words.Reset branch commit) work is) lane since p c t.work new.work v w b a;
-  lacks = λ since v a c commit. lacks_none v a commit;
+  lacks = λ since. lacks_none;
   outside = λ since v a c good shown outside. outside;
   full = λ told since c t new a is step given full. absurd full;
   left = λ since actor lane c t new v w b b' a is f leaves given does gone. tt;

@@ -104,15 +104,15 @@ none_not : {A : Type 0} (o : Option A) → o ≡ None → IsSome o → ⊥
 none_not o none some = let n : false ≡ true = subst IsSome none some in cc
 
 -- a commit that lasts is found whole, where commits are files
-pub lacks_none : (v : View) (a : RefAnswer) (commit : List ℕ) → CommitsAreFiles v.now → ref_shows v a → ref_lacks a commit → StaysFinished v commit → ⊥
-lacks_none v (answer.NoCommit sum) commit files seen is finished =
+pub lacks_none : (v : View) (a : RefAnswer) (c : RefWords) (commit : List ℕ) → CommitsAreFiles v.now → ref_shows v a c → ref_lacks a commit → StaysFinished v commit → ⊥
+lacks_none v (answer.NoCommit sum) c commit files seen is finished =
     let missing : IsFound v.now commit Missing = subst (λ x. IsFound v.now x Missing) is seen in
     none_not (reads v.now (object_path Commit commit)) missing (commit_read v commit files finished)
-lacks_none v (answer.Partial sum) commit files seen is finished =
+lacks_none v (answer.Partial sum) c commit files seen is finished =
     let partial : IsFound v.now commit Partial = subst (λ x. IsFound v.now x Partial) is seen in
     no_mark_read v commit finished partial.1
-lacks_none v (answer.Commit sum) commit files seen is finished = is
-lacks_none v answer.Changed commit files seen is finished = is
-lacks_none v answer.NoRef commit files seen is finished = is
-lacks_none v (answer.RefMoved was now) commit files seen is finished = is
-lacks_none v (answer.RefClash other) commit files seen is finished = is
+lacks_none v (answer.Commit sum) c commit files seen is finished = is
+lacks_none v answer.Changed c commit files seen is finished = is
+lacks_none v answer.NoRef c commit files seen is finished = is
+lacks_none v (answer.RefMoved was now) c commit files seen is finished = is
+lacks_none v (answer.RefClash other) c commit files seen is finished = is

@@ -18,7 +18,7 @@ use Rattle.ref_store.specs.declared.phase.Phase.{Phase}
 use Rattle.ref_store.specs.declared.phase.Phase.TheVariants as phase
 use Rattle.ref_store.specs.declared.refusal.RefRefusal.TheVariants as refusal
 use Rattle.ref_store.specs.Change.{Change as Changing, IsRefusing, made_in}
-use Rattle.ref_store.specs.Steps.{HasValue, MakesRoom}
+use Rattle.ref_store.specs.Steps.{HasValue, MakesRoom, awaits}
 use Rattle.ref_command.specs.declared.answer.RefAnswer.{RefAnswer}
 use Rattle.ref_command.specs.declared.answer.RefAnswer.TheVariants as answer
 use Rattle.ref_command.specs.declared.work.RefWork.{RefWork}
@@ -29,6 +29,7 @@ use Rattle.ref_command.specs.declared.plan.Plan.{Plan}
 use Rattle.ref_command.specs.declared.command.RefCommand.{RefCommand}
 use Rattle.ref_command.specs.declared.command.RefCommand.TheVariants as task
 use Rattle.ref_command.specs.Commands.{IsStop, answer_of, change_answer, command_facts, command_kind, command_leaves, reset_answer, reset_leaves}
+use Rattle.ref_command.specs.Duties.{says_had}
 use Rattle.ref_command.specs.Facts.{Facts, turn_in}
 use Rattle.ref_command.specs.Kinds.{Answer as Came, event, kind_in, leaves_in, ref_kind}
 use Rattle.ref_command.proofs.Ends.{settles_in}
@@ -44,7 +45,7 @@ use Rattle.command.specs.Since.{Since, placed}
 use Rattle.ref_family.specs.declared.words.RefWords.{RefWords}
 use Rattle.ref_family.specs.declared.words.RefWords.TheVariants as words
 use Rattle.ref_family.specs.Family.{IsChanging, ref_pursues}
-use Rattle.ref_family.specs.Knows.{ClashIn, HasMoved, IsFreeIn, LeastClashIn, drop_knows, ref_knows, reset_knows}
+use Rattle.ref_family.specs.Knows.{ClashIn, HasMoved, HasStayed, IsFreeIn, LeastClashIn, drop_knows, ref_knows, reset_knows}
 
 leaf_none : (d : Disk) (z : Value) → is_leaf z ≡ false → IsLeaf (seen d z) → ⊥
 leaf_none d Absent e leaf = leaf
@@ -121,6 +122,16 @@ makes_value phase.Unlink t makes made = absurd makes
 makes_value phase.SyncFolder t makes made = absurd makes
 makes_value phase.Ended t makes made = absurd makes
 
+-- and the ref is to have its value there
+awaits_room : (ph : Phase) → MakesRoom ph → awaits ph ≡ true
+awaits_room (phase.Clear c) makes = refl
+awaits_room (phase.Walk w) makes = refl
+awaits_room phase.Look makes = absurd makes
+awaits_room (phase.Put f) makes = absurd makes
+awaits_room phase.Unlink makes = absurd makes
+awaits_room phase.SyncFolder makes = absurd makes
+awaits_room phase.Ended makes = absurd makes
+
 one_lane : (turn : Option ℕ) (a b : ℕ) → turn ≡ Some a → turn ≡ Some b → a ≡ b
 one_lane turn a b x y = let e : Some a ≡ Some b = sym x ∙ y in cc
 
@@ -142,11 +153,20 @@ module _ (lane : ℕ) (s p : State) (branch : List ℕ) (value : Option (List �
     l.tells.3,
   )
 
-  pub clashing : (other : List ℕ) → leaves_in (turn.Done tt) (Some (Err (refusal.RefClash other))) work.task new.task v w → LeastClashIn p branch other × IsSome value
-  clashing other l = (
-    subst (λ n. LeastClashIn p n other) is.0 (least_in v.now p (sees_refused work.task.phase (event work.task) lane b v w p l.may f.turn sees) work.task.name other l.tells.1),
-    subst IsSome is.2 (makes_value work.task.phase work.task l.tells.0 f.needs.made),
-  )
+  -- while room is made for the ref it has the value that it was to have
+  stayed : MakesRoom work.task.phase → IsState v.now p → HasStayed s p branch
+  stayed makes saw =
+      let had : Says (RefOf work.task.name) work.task.seen (shows v.now (ref_path work.task.name)) = says_had work.task.name work.task.seen (shows v.now (ref_path work.task.name)) (f.seen (awaits_room work.task.phase makes)) in
+      let value : work.task.seen ≡ p (RefOf work.task.name) = says_one (RefOf work.task.name) work.task.seen (p (RefOf work.task.name)) (shows v.now (ref_path work.task.name)) had (saw.logical (RefOf work.task.name)) in
+      ap (λ n. p (RefOf n)) (sym is.0) ∙ sym value ∙ is.1
+
+  pub clashing : (other : List ℕ) → leaves_in (turn.Done tt) (Some (Err (refusal.RefClash other))) work.task new.task v w → LeastClashIn p branch other × HasStayed s p branch × IsSome value
+  clashing other l =
+      let saw = sees_refused work.task.phase (event work.task) lane b v w p l.may f.turn sees in (
+        subst (λ n. LeastClashIn p n other) is.0 (least_in v.now p saw work.task.name other l.tells.1),
+        stayed l.tells.0 saw,
+        subst IsSome is.2 (makes_value work.task.phase work.task l.tells.0 f.needs.made),
+      )
 
   -- a ref that was set is there, so that no other clashes with it
   pub set_free : (commit : List ℕ) → event work.task ≡ event.SetRef branch (s (RefOf branch)) commit → kind_in work.task.phase (event work.task) ≡ Settle (event work.task) → IsFreeIn p branch
@@ -165,7 +185,8 @@ module _ (lane : ℕ) (s p : State) (branch : List ℕ) (value : Option (List �
       subst (reset_knows s p branch) k (moved seen now l)
   reset_tells commit (Some (Err (refusal.RefClash other))) a sets l e =
       let k : answer.RefClash other ≡ a = cc in
-      subst (reset_knows s p branch) k (clashing other l).0
+      let c = clashing other l in
+      subst (reset_knows s p branch) k (c.0, c.1)
   reset_tells commit (Some (Err refusal.NoRef)) a sets l e = absurd l.tells
 
   drop_tells : (r : Came) (a : RefAnswer) → value ≡ None → IsSome (s (RefOf branch)) → leaves_in (turn.Done tt) r work.task new.task v w → change_answer r ≡ Some a → drop_knows s p branch a
@@ -178,7 +199,7 @@ module _ (lane : ℕ) (s p : State) (branch : List ℕ) (value : Option (List �
       let m = moved seen now l in
       subst (drop_knows s p branch) k (m, subst IsSome (sym m.0) had)
   drop_tells (Some (Err (refusal.RefClash other))) a none had l e =
-      let z : false ≡ true = subst IsSome none (clashing other l).1 in
+      let z : false ≡ true = subst IsSome none (clashing other l).2 in
       cc
   drop_tells (Some (Err refusal.NoRef)) a none had l e = absurd l.tells
 
