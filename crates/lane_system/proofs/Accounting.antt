@@ -71,6 +71,7 @@ module _ {T W A : Type 0} (told : Type 0) (m : Meaning W A) (limits : Limits) (o
           (λ before. running_goes p (acc.going p before (live going)))
           (λ now. (r', subst (λ k. IsRunning (set lanes lane l') k p.command r') (sym now.0) (running_here lanes lane l l' at words p.command r' (now.1 ∙ ap (λ x. length x.items) (sym replies)) task)))
           (shows p is);
+      untaken = λ a n r to. acc.untaken a n r (to_was lanes lane l l' at words replies a n r to);
       over = λ a n b m r q to too lt. acc.over a n b m r q (to_was lanes lane l l' at words replies a n r to) (to_was lanes lane l l' at words replies b m q too) lt;
       numbered = numbered_same lanes lane l l' at words replies acc.numbered;
       count = acc.count ∙ sym (count_same lanes lane l l' at words replies);
@@ -95,7 +96,7 @@ module _ {T W A : Type 0} (told : Type 0) (m : Meaning W A) (limits : Limits) (o
             (λ ne. (runs.0, running_apart lanes lane l l' at words p.lane p.command runs.0 ne runs.1, change_stays runs.0.start d p (early p.lane p.command runs.0 runs.1) runs.2))
 
   -- the act gives a reply
-  module _ (r : Reply A) (x : Ended A) (replies : l'.replies.items ≡ l.replies.items ++ r ∷ []) (task : l'.task ≡ None) (answered : r.answer ≡ x) (begun : r.start ≡ start) (place : r.place ≡ length new.history.items) (order : r.order ≡ given)
+  module _ (r : Reply A) (x : Ended A) (replies : l'.replies.items ≡ l.replies.items ++ r ∷ []) (task : l'.task ≡ None) (answered : r.answer ≡ x) (begun : r.start ≡ start) (place : r.place ≡ length new.history.items) (order : r.order ≡ given) (taken : r.taken ≡ None)
       (grows : Grows (λ a. m.makes a c) lane number x old.history.items new.history.items) (left : (p : Pending) → new.pending ≡ Some p → p.lane ≡ lane → IsCutOff told x) (later : (a n : ℕ) (q : Reply A) → IsTo lanes a n q → EndsToo q.answer x) where
     abbrev lanes' : List (Lane T W A)
     lanes' = set lanes lane l'
@@ -156,6 +157,7 @@ module _ {T W A : Type 0} (told : Type 0) (m : Meaning W A) (limits : Limits) (o
           (λ before. (let runs = acc.going p before quiet.0 in (runs.0, running_apart lanes lane l l' at words p.lane p.command runs.0 (quiet.1 p is) runs.1)))
           (λ now. absurd (quiet.1 p is now.0))
           (shows p is));
+      untaken = λ a n q to. ⊎_elim (λ before. acc.untaken a n q before) (λ new_one. ap (λ (y : Reply A). y.taken) new_one.2 ∙ taken) (to_split lanes lane l l' at words r replies a n q to);
       over = λ a n b m p q to too lt. ⊎_elim
           (λ first. ⊎_elim
           (λ second. acc.over a n b m p q first second lt)

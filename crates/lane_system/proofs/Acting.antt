@@ -232,7 +232,7 @@ module _ {F T W A : Type 0} (f : FsSpec F) (c : Family T W A) (fl : FsLaws f) (c
 
     -- with the reply
     module _ (l'' : Lane T W A) (r : Reply A) (words : l''.words ≡ l.words) (task : l''.task ≡ None) (grows : l''.replies.items ≡ l.replies.items ++ r ∷ []) (room : vec_capacity l.replies ≤ vec_capacity l''.replies)
-        (answered : r.answer ≡ z) (begun : r.start ≡ start) (place : r.place ≡ length new.books.history.items) (order : r.order ≡ given) where
+        (answered : r.answer ≡ z) (begun : r.start ≡ start) (place : r.place ≡ length new.books.history.items) (order : r.order ≡ given) (taken : r.taken ≡ None) where
       -- at once: a lane without a task
       once_idle : IsAtOnce f c.means limits old x.words l.task z → old.books.halted ≡ None → l.task ≡ None
       once_idle once live = by z once
@@ -282,7 +282,7 @@ module _ {F T W A : Type 0} (f : FsSpec F) (c : Family T W A) (fl : FsLaws f) (c
         locked = locked_given;
         pins = pins_given;
         explained = λ strayed. was_explained strayed old.books.halted refl;
-        accounted = accounted_given (IsTold f.view) c.means limits old.books new.books lanes given kept.accounted lane lane given_acts.books l l'' at words x.words x.next early within r z grows task answered (begun ∙ given_start) place order gives.grows gives.left later_ends
+        accounted = accounted_given (IsTold f.view) c.means limits old.books new.books lanes given kept.accounted lane lane given_acts.books l l'' at words x.words x.next early within r z grows task answered (begun ∙ given_start) place order taken gives.grows gives.left later_ends
             (λ live. (given_acts.live live, gives.idle live))
             (subst (λ n. (p : Pending) → new.books.pending ≡ Some p → (old.books.pending ≡ Some p) ⊎ ((p.lane ≡ lane) × (p.command ≡ length l.replies.items) × c.means.changes (since_in limits old.books n) x.words p.event)) given_start gives.pending);
       }

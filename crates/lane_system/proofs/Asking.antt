@@ -110,14 +110,14 @@ module _ {F T W A : Type 0} (f : FsSpec F) (c : Family T W A) (fl : FsLaws f) (c
           ∙ ap (λ n. record { base = old; lanes = lanes; limits = limits; objects = n }) x.did.1
 
   pub is_done : (z : Ended A) (start : ℕ) → LaneActs f c limits lane lane refs refs' objects objects' old new l l' (Answered z start) → (l'' : Lane T W A) (r : Reply A) → l''.words ≡ l.words → l''.task ≡ None → l''.replies.items ≡ l.replies.items ++ r ∷ [] → vec_capacity l.replies ≤ vec_capacity l''.replies
-      → r.answer ≡ z → r.start ≡ start → r.place ≡ length new.books.history.items → r.order ≡ given → (command : ℕ) → command ≡ length l.replies.items → IsAct f c self (after l'') lane (ask.Done lane command)
-  is_done z start x l'' r words task grows room answered begun place order command number =
+      → r.answer ≡ z → r.start ≡ start → r.place ≡ length new.books.history.items → r.order ≡ given → r.taken ≡ None → (command : ℕ) → command ≡ length l.replies.items → IsAct f c self (after l'') lane (ask.Done lane command)
+  is_done z start x l'' r words task grows room answered begun place order taken command number =
       of_self (after l'') (ask.Done lane command) (subst (λ n. IsAct f c s (after l'') lane (ask.Done lane n)) (sym number) (record {
         acted = acted_done f c fl cl limits lane refs refs' objects objects' old new lanes given l l' kept at z start x l'' r words task grows answered begun place order;
         objects = objects_done f c fl cl limits lane refs refs' objects objects' old new lanes given l l' kept at z start x l'' r words task grows answered begun place order;
         preserves = preserves_by f c s (after l'')
             (λ v told. given_keeps f c fl cl limits lane refs refs' objects objects' old new lanes given l kept at v told l' z start x l'' r words grows answered begun
-            (kept_answered f c fl cl limits lane refs refs' objects objects' old new lanes given l l' kept at z start x l'' r words task grows room answered begun place order))
+            (kept_answered f c fl cl limits lane refs refs' objects objects' old new lanes given l l' kept at z start x l'' r words task grows room answered begun place order taken))
             (given_caused f c fl cl limits lane refs refs' objects objects' old new lanes given l kept at l' z start x l'' r words grows answered);
         ranks = ranked_done c.doing s (after l'') lane l l'' (moves_done f c fl cl limits lane refs refs' objects objects' old new lanes given l l' kept at z start x l'' r words task grows answered begun place order) r lane (length l.replies.items) grows task;
         held = λ is. cc;

@@ -64,6 +64,7 @@ module _ {F T W A : Type 0} (f : FsSpec F) (c : Family T W A) (limits : Limits) 
     accounted = record {
       made = λ k e at. none_at base.books.history.items k e history at;
       shown = λ p is. none_some base.books.pending p pending is;
+      untaken = λ a n r to. absurd (no_reply a n r to);
       over = λ a n b m r q to too lt. absurd (no_reply a n r to);
       going = λ p is live. none_some base.books.pending p pending is;
       numbered = record {

@@ -31,6 +31,7 @@ module _ {F T W A : Type 0} (f : FsSpec F) (c : Family T W A) (limits : Limits) 
         (kept.each lane to.0 to.1).in_order number next r q to.2 (subst (λ (l : Lane T W A). IsAt l.replies.items next q) same too.2) lt);
     made = kept.accounted.made;
     shown = kept.accounted.shown;
+    untaken = kept.accounted.untaken;
     over = kept.accounted.over;
     numbered = kept.accounted.numbered;
     starts = λ lane number r is. ((kept.each lane is.0 is.1).started r is.3).early;

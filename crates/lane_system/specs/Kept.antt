@@ -69,6 +69,8 @@ pub record Accounted {T W A : Type 0} (told : Type 0) (m : Meaning W A) (limits 
   pub made : (k : ℕ) (e : Entry) → IsAt b.history.items k e → WasMade m lanes k e
   pub shown : (p : Pending) → b.pending ≡ Some p → IsPendingOf told m limits (first b.start.items) b.history.items lanes p
   pub going : (p : Pending) → b.pending ≡ Some p → b.halted ≡ None → (r : Running T) × IsRunning lanes p.lane p.command r
+  -- no command takes the lock on the list of deployments yet
+  pub untaken : (lane number : ℕ) (r : Reply A) → IsTo lanes lane number r → r.taken ≡ None
   pub over : (lane number other another : ℕ) (r q : Reply A) → IsTo lanes lane number r → IsTo lanes other another q → r.order < q.order → EndsToo r.answer q.answer
   pub numbered : Numbered lanes
   pub count : given ≡ count_of lanes

@@ -1,5 +1,5 @@
 -- The replies of all lanes with the history.
-use Rattle.std.specs.Prelude.{◌≡◌, ◌⊎◌, ◌<◌, ◌≤◌, ◌+◌, ℕ, List, length, Option, Some}
+use Rattle.std.specs.Prelude.{◌≡◌, ◌⊎◌, ◌<◌, ◌≤◌, ◌+◌, ℕ, List, length, Option, Some, None}
 use Rattle.ost_types.specs.declared.limits.Limits.{Limits}
 use Rattle.rely_guarantee.specs.declared.books.Entry.{Entry}
 use Rattle.rely_guarantee.specs.declared.books.Pending.{Pending}
@@ -32,6 +32,8 @@ pub record Replied {T W A : Type 0} (told : Type 0) (m : Meaning W A) (limits : 
   pub in_order : (lane number next : ℕ) (r q : Reply A) → IsTo lanes lane number r → IsTo lanes lane next q → number < next → r.place ≤ q.start
   pub made : (k : ℕ) (e : Entry) → IsAt entries k e → WasMade m lanes k e
   pub shown : (p : Pending) → pending ≡ Some p → IsPendingOf told m limits begin entries lanes p
+  -- no command takes the lock on the list of deployments yet
+  pub untaken : (lane number : ℕ) (r : Reply A) → IsTo lanes lane number r → r.taken ≡ None
   pub over : (lane number other another : ℕ) (r q : Reply A) → IsTo lanes lane number r → IsTo lanes other another q → r.order < q.order → EndsToo r.answer q.answer
   pub numbered : Numbered lanes
   pub starts : (lane number : ℕ) (r : Running T) → IsRunning lanes lane number r → r.start ≤ length entries
