@@ -1,14 +1,12 @@
 -- The list that a crash leaves where what is to boot is sure.
-use Rattle.std.proofs.Common.{◌≡◌, ◌⊎◌, inl, inr, ⊎_elim, ℕ, ◌<◌, ◌≤◌, arith, true, false, List, [], ◌∷◌, ◌++◌, refl, sym, ◌∙◌, ap, subst, append-nil, append_assoc, Some}
-use Rattle.std.specs.Fmt.{decimal}
+use Rattle.std.proofs.Common.{◌≡◌, inl, inr, ⊎_elim, ℕ, ◌<◌, arith, true, false, List, [], ◌∷◌, ◌++◌, refl, sym, ◌∙◌, ap, subst, append-nil, append_assoc}
 use Rattle.ost_types.specs.Path.{Name, Path, is_below, under}
-use Rattle.ost_types.specs.Csum.{hex_of}
 use Rattle.ost_types.proofs.Paths.{is_below-self}
 use Rattle.fs_trait.specs.declared.types.Value.{Value}
 use Rattle.fs_trait.specs.declared.types.Value.TheVariants as value
 use Rattle.fs_trait.specs.View.{Disk, View}
 use Rattle.fs_trait.specs.Image.{EachImage, Image, IsTree, is_folder}
-use Rattle.fs_trait.specs.Seen.{Seen, Vacant, seen, shows, MayBe, IsDirectory}
+use Rattle.fs_trait.specs.Seen.{Seen, seen, shows, MayBe, IsDirectory}
 use Rattle.fs_trait.proofs.Claims.{Image-root, Image-under, folder_shows, is_below-before}
 use Rattle.fs_trait.proofs.Images.{folder_or_not, not_both}
 use Rattle.repo_layout.specs.declared.fixed.Version.{Version}
@@ -18,8 +16,7 @@ use Rattle.repo_layout.specs.Fixed.{number}
 use Rattle.repo_layout.specs.Paths.{deploy_path, folder_path}
 use Rattle.repo_layout.specs.BootPaths.{boot_folder_path, boot_link_path, entry_path, loader_folder_path, loader_path}
 use Rattle.boot_model.specs.declared.item.BootItem.{BootItem}
-use Rattle.boot_model.specs.Items.{IsAt, link_number}
-use Rattle.boot_model.specs.Listing.{Boots, Leads}
+use Rattle.boot_model.specs.Listing.{Boots}
 use Rattle.boot_swap.specs.Steps.{EachShows, HasPlaces, IsRead, IsShown, IsSure, IsTheLink, IsTheLoader}
 use Rattle.boot_swap.proofs.Spots.{below_both, below_trans}
 use Rattle.boot_swap.proofs.Keeping.{entries_same, entry_below, links_same}

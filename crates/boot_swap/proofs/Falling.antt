@@ -1,5 +1,5 @@
 -- Each step leaves less to do.
-use Rattle.std.proofs.Common.{◌≡◌, ◌⊎◌, inl, inr, ℕ, ◌<◌, ◌+◌, arith, sym, subst, List}
+use Rattle.std.proofs.Common.{◌≡◌, inl, inr, ◌<◌, arith, sym, subst, List}
 use Rattle.repo_layout.specs.declared.fixed.Version.{Version}
 use Rattle.boot_model.specs.declared.item.BootItem.{BootItem}
 use Rattle.boot_compare.specs.declared.choosing.Swap as which

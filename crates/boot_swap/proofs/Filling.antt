@@ -1,22 +1,21 @@
 -- What stands in the folders that a swap made.
-use Rattle.std.proofs.Common.{◌≡◌, ◌⊎◌, ℕ, ◌+◌, ◌-◌, ◌<◌, arith, true, List, [], ◌∷◌, ◌++◌, length, drop, codes, Option, Some, None, refl, sym, ◌∙◌, ap, subst, append_assoc, length-append}
+use Rattle.std.proofs.Common.{◌≡◌, ℕ, ◌+◌, ◌-◌, arith, List, ◌++◌, length, drop, codes, Option, Some, None, sym, ◌∙◌, ap, subst, append_assoc, length-append}
 use Rattle.std.specs.Fmt.{decimal}
 use Rattle.std.proofs.Math.Seq.{drop-append_seam}
-use Rattle.ost_types.specs.Path.{Name, Path, is_below}
+use Rattle.ost_types.specs.Path.{Name}
 use Rattle.fs_trait.specs.View.{Disk}
-use Rattle.fs_trait.specs.Image.{reads}
-use Rattle.fs_trait.specs.Seen.{Seen, Vacant, Directory, Symlink, Leaf, bytes_in, shows}
+use Rattle.fs_trait.specs.Seen.{Seen, Symlink, bytes_in, shows}
 use Rattle.fs_trait.proofs.Claims.{reads_shows}
 use Rattle.repo_layout.specs.BootPaths.{boot_folder_path, entry_path, loader_folder_path}
 use Rattle.boot_model.specs.declared.item.BootItem.{BootItem}
 use Rattle.boot_model.specs.Items.{AreItems, IsAt, link_number}
 use Rattle.boot_model.specs.Entries.{deploy_target, entry_name, entry_text, item_link_path}
-use Rattle.boot_model.specs.Listing.{HasEntry, IsLinkTo, ShowsEntries, ends_conf}
+use Rattle.boot_model.specs.Listing.{HasEntry, ShowsEntries, ends_conf}
 use Rattle.boot_model.proofs.Distinct.{text_index}
 use Rattle.folder_build.specs.declared.node.Content.{Content}
 use Rattle.folder_build.specs.declared.node.Content.TheVariants.{Folder, File, Link}
 use Rattle.folder_build.specs.declared.node.NewNode.{NewNode}
-use Rattle.folder_build.specs.Node.{IsBuilt, IsContent, content_at, file_meta, folder_meta, link_meta}
+use Rattle.folder_build.specs.Node.{IsBuilt, IsContent, link_meta}
 use Rattle.boot_plan.specs.Plans.{AreEntries, AreLinks}
 use Rattle.boot_swap.specs.Steps.{ShowsLinks}
 use Rattle.boot_swap.proofs.Keeping.{entry_below, link_below}

@@ -1,12 +1,11 @@
 -- What stays true while a swap writes elsewhere.
-use Rattle.std.proofs.Common.{◌≡◌, ◌≢◌, ◌⊎◌, inl, inr, ⊎_elim, ℕ, true, false, refl, sym, ◌∙◌, ap, subst, List, [], ◌∷◌, ◌++◌, codes, Some, append_assoc}
+use Rattle.std.proofs.Common.{◌≡◌, inl, inr, ⊎_elim, ℕ, true, sym, ◌∙◌, ap, subst, List, [], ◌∷◌, codes}
 use Rattle.std.specs.Fmt.{decimal}
 use Rattle.ost_types.specs.Path.{Name, Path, is_below}
 use Rattle.ost_types.specs.Csum.{hex_of}
 use Rattle.ost_types.proofs.Paths.{is_below-self}
 use Rattle.fs_trait.specs.View.{Disk, View}
-use Rattle.fs_trait.specs.Image.{reads}
-use Rattle.fs_trait.specs.Seen.{Seen, shows, MayBe, IsDirectory, bytes_in}
+use Rattle.fs_trait.specs.Seen.{Seen, shows, IsDirectory, bytes_in}
 use Rattle.fs_trait.specs.Change.{Writes}
 use Rattle.fs_trait.proofs.Claims.{is_below-before, reads_shows}
 use Rattle.fs_trait.proofs.Facts.{shows_kept}
@@ -17,7 +16,7 @@ use Rattle.repo_layout.specs.Fixed.{number}
 use Rattle.repo_layout.specs.Paths.{deploy_path, folder_path}
 use Rattle.repo_layout.specs.BootPaths.{boot_folder_path, entry_path, loader_folder_path}
 use Rattle.boot_model.specs.declared.item.BootItem.{BootItem}
-use Rattle.boot_model.specs.Items.{IsAt, link_number}
+use Rattle.boot_model.specs.Items.{link_number}
 use Rattle.boot_model.specs.Entries.{deploy_target, entry_text, item_link_path}
 use Rattle.boot_model.specs.Listing.{HasEntry, IsLinkTo, ShowsEntries}
 use Rattle.boot_swap.specs.Steps.{EachShows, HasPlaces, IsAround, IsRead, IsSure, ShowsLinks}

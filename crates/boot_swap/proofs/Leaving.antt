@@ -1,10 +1,10 @@
 -- Each step of a swap leaves the list that was there, or the new one.
-use Rattle.std.proofs.Common.{◌≡◌, ◌≢◌, ◌⊎◌, inl, inr, ⊎_elim, ℕ, Bool, true, false, ◌||◌, List, [], ◌∷◌, refl, sym, ◌∙◌, ap, subst, Some}
-use Rattle.ost_types.specs.Path.{Name, Path, is_below, under}
+use Rattle.std.proofs.Common.{◌≡◌, ◌≢◌, ◌⊎◌, inl, inr, ⊎_elim, Bool, true, false, ◌||◌, List, [], refl, sym, ◌∙◌, ap, subst}
+use Rattle.ost_types.specs.Path.{Path, is_below}
 use Rattle.ost_types.proofs.Paths.{is_below-self, is_below-under}
 use Rattle.fs_trait.specs.View.{Disk, View}
 use Rattle.fs_trait.specs.Image.{EachImage, Image, IsTree}
-use Rattle.fs_trait.specs.Seen.{Seen, Vacant, Symlink, shows, MayBe}
+use Rattle.fs_trait.specs.Seen.{Seen, shows, MayBe}
 use Rattle.fs_trait.specs.Change.{Writes}
 use Rattle.fs_trait.proofs.Claims.{Image-may}
 use Rattle.fs_trait.proofs.Images.{not_both}
@@ -13,7 +13,6 @@ use Rattle.repo_layout.specs.Fixed.{number}
 use Rattle.repo_layout.specs.Place as place
 use Rattle.repo_layout.specs.BootPaths.{boot_folder_path, boot_link_path, boot_link_stage_path, loader_folder_path, loader_path, loader_stage_path}
 use Rattle.boot_model.specs.declared.item.BootItem.{BootItem}
-use Rattle.boot_model.specs.Entries.{boot_target, loader_target}
 use Rattle.boot_model.specs.Listing.{Boots}
 use Rattle.boot_compare.specs.declared.choosing.Swap as which
 use Rattle.boot_compare.specs.declared.choosing.Swap.TheVariants as swap
@@ -27,15 +26,15 @@ use Rattle.folder_build.proofs.Lying.{link_lies}
 use Rattle.boot_swap.specs.declared.phase.Phase.{Phase}
 use Rattle.boot_swap.specs.declared.phase.Phase.TheVariants as phase
 use Rattle.boot_swap.specs.Swap.{Swapping, version_of}
-use Rattle.boot_swap.specs.Steps.{EachShows, IsAside, IsTheLink, IsTheLoader, Needs, writes_in}
+use Rattle.boot_swap.specs.Steps.{IsAside, IsTheLink, IsTheLoader, Needs, writes_in}
 use Rattle.boot_swap.specs.Whole.{Leaves}
-use Rattle.boot_swap.proofs.Spots.{IsApart, Link, LinkFolder, LinkStage, Loader, LoaderFolder, LoaderStage, Spot, apart_around, around_self, path_of, spots_apart}
-use Rattle.boot_swap.proofs.Keeping.{Spotted, each_missed, places_kept}
+use Rattle.boot_swap.proofs.Spots.{IsApart, Link, LinkFolder, LinkStage, Loader, LoaderFolder, LoaderStage, apart_around, around_self, spots_apart}
+use Rattle.boot_swap.proofs.Keeping.{each_missed, places_kept}
 use Rattle.boot_swap.proofs.Making.{at_phase, entries_lie, entries_spotted, links_lie, links_spotted}
 use Rattle.boot_swap.proofs.Showing.{link_misses_loader, link_ready_kept, link_spotted, link_stage_misses, loader_spotted, loader_stage_misses, loader_whole_kept}
 use Rattle.boot_swap.proofs.Selecting.{not_vacant}
 use Rattle.boot_swap.proofs.Booting.{link_shown, loader_shown, new_boots}
-use Rattle.boot_swap.proofs.Safe.{Unread, both_unread, entries_unread, link_unread, links_unread, loader_stage_unread, none_true, old_list, other_sub, other_version, same_version, stage_unread}
+use Rattle.boot_swap.proofs.Safe.{Unread, both_unread, entries_unread, link_unread, links_unread, loader_stage_unread, none_true, old_list, other_sub, other_version, stage_unread}
 
 or_true : (a b : Bool) → b ≡ true → a || b ≡ true
 or_true true b e = refl

@@ -1,7 +1,7 @@
 -- The steps that make the folders of a swap.
-use Rattle.std.proofs.Common.{◌≡◌, ◌≢◌, ◌⊎◌, inl, inr, ⊎_elim, ℕ, true, List, [], ◌∷◌, ◌++◌, refl, sym, ◌∙◌, ap, subst, codes, Option, Some, Ok}
+use Rattle.std.proofs.Common.{◌≡◌, ◌≢◌, true, List, [], ◌∷◌, ◌++◌, refl, sym, ◌∙◌, ap, subst, codes, Option, Ok}
 use Rattle.std.specs.Fmt.{decimal}
-use Rattle.ost_types.specs.Path.{Name, Path, is_below, under}
+use Rattle.ost_types.specs.Path.{Path, is_below, under}
 use Rattle.fs_trait.specs.declared.task.StepResult.TheVariants.{More, Done}
 use Rattle.fs_trait.specs.declared.types.Node as node
 use Rattle.fs_trait.specs.View.{View}
@@ -29,9 +29,9 @@ use Rattle.folder_build.proofs.Lying.{build_lies}
 use Rattle.boot_swap.specs.declared.phase.Phase.{Phase}
 use Rattle.boot_swap.specs.declared.phase.Phase.TheVariants as phase
 use Rattle.boot_swap.specs.Ready.{IsOther}
-use Rattle.boot_swap.specs.Swap.{IsMade, MakesEntries, MakesLinks, Swapping, chosen, filled, version_of}
-use Rattle.boot_swap.specs.Steps.{HasMade, HasPlaces, IsAside, IsTheLink, IsTheLoader, Needs, NotSelecting, Selecting, needs_in}
-use Rattle.boot_swap.proofs.Spots.{IsApart, LinkFolder, LoaderFolder, Link, Loader as Link_of, path_of, spots_apart}
+use Rattle.boot_swap.specs.Swap.{IsMade, Swapping, chosen, filled, version_of}
+use Rattle.boot_swap.specs.Steps.{HasMade, HasPlaces, IsAside, IsTheLink, IsTheLoader, Needs, NotSelecting, needs_in}
+use Rattle.boot_swap.proofs.Spots.{LinkFolder, LoaderFolder, Link, Loader as Link_of, spots_apart}
 use Rattle.boot_swap.proofs.Keeping.{Misses, Spotted, each_missed, entries_kept, misses_apart, places_kept}
 use Rattle.boot_swap.proofs.Parts.{build_begins, build_same, built}
 use Rattle.boot_swap.proofs.Filling.{entries_built, links_built}

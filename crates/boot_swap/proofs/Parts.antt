@@ -1,7 +1,7 @@
 -- What the tasks that make folders and links keep, and what they leave once they are done.
-use Rattle.std.proofs.Common.{◌≡◌, ◌≢◌, ◌⊎◌, inl, inr, ⊎_elim, ℕ, ◌+◌, Bool, true, false, List, [], length, refl, sym, ◌∙◌, ap, subst, if◌then◌else◌, Ok}
+use Rattle.std.proofs.Common.{◌≡◌, ◌≢◌, inl, inr, ℕ, ◌+◌, Bool, true, false, List, [], length, refl, sym, ◌∙◌, ap, subst, if◌then◌else◌, Ok}
 use Rattle.std.specs.Prelude.{nat_lt}
-use Rattle.ost_types.specs.Path.{Name, Path, is_below, is_in, under}
+use Rattle.ost_types.specs.Path.{Name, Path, is_below, under}
 use Rattle.ost_types.proofs.Paths.{is_below-self, under-folder, under-is_in}
 use Rattle.fs_trait.specs.declared.task.StepResult.{StepResult}
 use Rattle.fs_trait.specs.declared.task.StepResult.TheVariants.{More, Done}

@@ -1,10 +1,9 @@
 -- A run of steps, from the beginning.
-use Rattle.std.proofs.Common.{◌≡◌, ◌≢◌, ◌⊎◌, inl, inr, ⊎_elim, ℕ, ◌+◌, ◌*◌, ◌^◌, ◌<◌, arith, true, List, [], ◌∷◌, refl, sym, ◌∙◌, ap, subst, Option, Some, Ok}
-use Rattle.ost_types.specs.Path.{Name, Path, is_below}
-use Rattle.fs_trait.specs.declared.task.StepResult.TheVariants.{More, Done}
+use Rattle.std.proofs.Common.{◌≡◌, inl, inr, ⊎_elim, ◌+◌, ◌*◌, ◌^◌, ◌<◌, arith, true, List, refl, sym, ◌∙◌, subst, Option, Some}
+use Rattle.ost_types.specs.Path.{Path, is_below}
 use Rattle.fs_trait.specs.View.{Disk, View}
 use Rattle.fs_trait.specs.Image.{EachImage, IsTree, Told}
-use Rattle.fs_trait.specs.Seen.{Seen, Vacant, shows}
+use Rattle.fs_trait.specs.Seen.{Seen, shows}
 use Rattle.fs_trait.specs.Change.{Writes}
 use Rattle.fs_trait.proofs.Effects.{may_now}
 use Rattle.fs_trait.proofs.Facts.{shows_kept}
@@ -18,10 +17,8 @@ use Rattle.boot_model.specs.Entries.{loader_target}
 use Rattle.boot_model.specs.Listing.{Boots, IsLinkTo, Selects, ShowsEntries}
 use Rattle.boot_compare.specs.declared.choosing.Swap as which
 use Rattle.boot_compare.specs.declared.choosing.Swap.TheVariants.{Loader, Sub}
-use Rattle.boot_compare.specs.Choosing.{Choosing, IsChosen, knows_in, other}
+use Rattle.boot_compare.specs.Choosing.{Choosing, IsChosen, knows_in}
 use Rattle.folder_build.specs.Node.{link_meta}
-use Rattle.folder_build.specs.Link.{Linking}
-use Rattle.folder_build.specs.LinkSteps as linking
 use Rattle.folder_build.specs.LinkSteps.{IsTheLink as IsPut}
 use Rattle.folder_build.proofs.Lying.{link_lies}
 use Rattle.boot_swap.specs.declared.phase.Phase.{Phase}
@@ -29,7 +26,7 @@ use Rattle.boot_swap.specs.declared.phase.Phase.TheVariants as phase
 use Rattle.boot_swap.specs.Swap.{Falls, Follows, IsBegun, IsLast, Swapping, begins_in, left, parts, barred, chosen, filled, linked, version_of}
 use Rattle.boot_swap.specs.Steps.{IsAside, IsTheLink, IsTheLoader, Needs, tells_in, writes_in}
 use Rattle.boot_swap.specs.Whole.{IsLinked, KeepsLoader, Leaves, MaySwap, Swaps}
-use Rattle.boot_swap.proofs.Keeping.{Misses, at_missed, entries_same}
+use Rattle.boot_swap.proofs.Keeping.{at_missed, entries_same}
 use Rattle.boot_swap.proofs.Making.{at_phase, entries_lie, entries_miss_loader, links_lie, links_miss_link, links_miss_loader}
 use Rattle.boot_swap.proofs.Showing.{link_misses_loader, loader_stage_misses, more_misses}
 use Rattle.boot_swap.proofs.Selecting.{loader_number, not_chosen, not_vacant, one_target, other_not}

@@ -1,9 +1,8 @@
 -- What a crash leaves behind each step of a swap.
-use Rattle.std.proofs.Common.{◌≡◌, ◌≢◌, ◌⊎◌, inl, inr, ⊎_elim, ℕ, zero, suc, ◌<◌, arith, Bool, true, false, ◌||◌, List, [], ◌∷◌, ◌++◌, refl, sym, ◌∙◌, ap, subst, Some, None}
+use Rattle.std.proofs.Common.{◌≡◌, ◌≢◌, inl, inr, ⊎_elim, ℕ, zero, suc, ◌<◌, arith, Bool, true, false, ◌||◌, List, [], ◌∷◌, ◌++◌, refl, sym, ◌∙◌, ap, subst}
 use Rattle.std.specs.Fmt.{decimal}
 use Rattle.ost_types.specs.Path.{Name, Path, is_below, under}
 use Rattle.ost_types.specs.Csum.{hex_of}
-use Rattle.ost_types.proofs.Paths.{is_below-self, is_below-under}
 use Rattle.fs_trait.specs.declared.types.Value.{Value}
 use Rattle.fs_trait.specs.declared.types.Value.TheVariants as value
 use Rattle.fs_trait.specs.View.{Disk, View}
@@ -25,7 +24,7 @@ use Rattle.boot_model.specs.Items.{link_number}
 use Rattle.boot_model.specs.Entries.{boot_target, deploy_target, loader_target}
 use Rattle.boot_model.specs.Listing.{Boots, IsLinkTo, SameList, SameVersion, Selects}
 use Rattle.boot_model.proofs.Before.{before, before_image, same_outside}
-use Rattle.boot_swap.specs.Steps.{EachShows, IsTheLink, IsTheLoader, NotNaming, NotSelecting, Selecting}
+use Rattle.boot_swap.specs.Steps.{IsTheLink, IsTheLoader, NotNaming, NotSelecting, Selecting}
 use Rattle.boot_swap.specs.Whole.{Leaves}
 use Rattle.boot_swap.proofs.Spots.{IsApart, Link, LinkFolder, LinkStage, Loader, LoaderFolder, LoaderStage, Spot, apart_around, off_deployment, path_of, same_number, spots_apart, true_or_not}
 use Rattle.boot_swap.proofs.Keeping.{Spotted, entries_same, entry_below}

@@ -1,5 +1,5 @@
 -- Which version and which sub-version a swap leaves alone.
-use Rattle.std.proofs.Common.{◌≡◌, ◌≢◌, inl, inr, ℕ, arith, List, [], get_or, refl, sym, ◌∙◌, ap, subst, Option, Some}
+use Rattle.std.proofs.Common.{◌≡◌, ◌≢◌, inl, inr, ℕ, arith, List, get_or, refl, sym, ◌∙◌, ap, subst, Option, Some}
 use Rattle.std.specs.Fmt.{digits}
 use Rattle.ost_types.specs.declared.meta.Meta.{Meta}
 use Rattle.fs_trait.specs.declared.types.Value.{Value}
@@ -14,8 +14,7 @@ use Rattle.repo_layout.specs.Fixed.{number}
 use Rattle.repo_layout.specs.BootPaths.{boot_link_path, loader_path}
 use Rattle.boot_model.specs.declared.item.BootItem.{BootItem}
 use Rattle.boot_model.specs.Entries.{boot_target, loader_target}
-use Rattle.boot_model.specs.Listing.{IsLinkTo, Selects, ShowsEntries}
-use Rattle.boot_compare.specs.declared.choosing.Swap as which
+use Rattle.boot_model.specs.Listing.{IsLinkTo, Selects}
 use Rattle.boot_compare.specs.declared.choosing.Swap.TheVariants.{Loader, Sub}
 use Rattle.boot_compare.specs.Choosing.{IsChosen, other}
 use Rattle.boot_swap.specs.Ready.{IsLinkOf, IsOther}

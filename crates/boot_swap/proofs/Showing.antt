@@ -1,7 +1,7 @@
 -- The steps that put the links of a swap in their places.
-use Rattle.std.proofs.Common.{◌≡◌, ◌≢◌, ◌⊎◌, inl, inr, ⊎_elim, ℕ, true, List, [], ◌∷◌, ◌++◌, refl, sym, ◌∙◌, ap, subst, codes, Option, Some, Ok}
+use Rattle.std.proofs.Common.{◌≡◌, ◌≢◌, ⊎_elim, ℕ, true, List, [], ◌++◌, refl, sym, ◌∙◌, ap, subst, codes, Option, Ok}
 use Rattle.std.specs.Fmt.{decimal}
-use Rattle.ost_types.specs.Path.{Name, Path, is_below, under}
+use Rattle.ost_types.specs.Path.{Path, is_below, under}
 use Rattle.ost_types.proofs.Paths.{is_below-self}
 use Rattle.fs_trait.specs.declared.task.StepResult.TheVariants.{More, Done}
 use Rattle.fs_trait.specs.View.{View}
@@ -16,7 +16,6 @@ use Rattle.repo_layout.specs.BootPaths.{boot_folder_path, boot_link_path, boot_l
 use Rattle.boot_model.specs.declared.item.BootItem.{BootItem}
 use Rattle.boot_model.specs.Entries.{boot_target, loader_target}
 use Rattle.boot_model.specs.Items.{AreItems}
-use Rattle.boot_model.specs.Listing.{IsLinkTo}
 use Rattle.boot_compare.specs.declared.choosing.Swap as which
 use Rattle.boot_compare.specs.declared.choosing.Swap.TheVariants.{Loader, Sub}
 use Rattle.folder_build.specs.Node.{link_meta}
@@ -27,12 +26,12 @@ use Rattle.folder_build.specs.LinkSteps.{IsTheLink as IsPut}
 use Rattle.folder_build.proofs.Lying.{link_lies}
 use Rattle.boot_swap.specs.declared.phase.Phase.TheVariants as phase
 use Rattle.boot_swap.specs.Swap.{IsLoaderLink, IsMade, IsVersionLink, keeps_folder, linked, version_of}
-use Rattle.boot_swap.specs.Steps.{EachShows, HasMade, HasPlaces, IsAside, IsSure, IsTheLink, IsTheLoader, IsWhole, Needs, NotNaming, NotSelecting, ready_in}
+use Rattle.boot_swap.specs.Steps.{HasPlaces, IsAside, IsTheLink, IsTheLoader, IsWhole, Needs, ready_in}
 use Rattle.boot_swap.proofs.Spots.{IsApart, Link, LinkFolder, LinkStage, LoaderFolder, LoaderStage, Spot, apart_around, around_self, path_of, spots_apart}
 use Rattle.boot_swap.proofs.Spots.{Loader as LoaderLink}
-use Rattle.boot_swap.proofs.Keeping.{Misses, Spotted, at_missed, each_kept, each_missed, entries_kept, links_kept, misses_apart, places_kept, sure_kept}
+use Rattle.boot_swap.proofs.Keeping.{Misses, Spotted, each_kept, each_missed, entries_kept, links_kept, places_kept, sure_kept}
 use Rattle.boot_swap.proofs.Parts.{is_put, link_begins, link_same, more_lies}
-use Rattle.boot_swap.proofs.Making.{aside_kept, at_phase}
+use Rattle.boot_swap.proofs.Making.{at_phase}
 
 -- ---- where the links are put
 

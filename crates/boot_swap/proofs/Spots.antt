@@ -1,5 +1,5 @@
 -- The places where a swap writes, and that they don't lie on each other's way.
-use Rattle.std.proofs.Common.{◌≡◌, ◌≢◌, ◌⊎◌, inl, inr, ⊎_elim, ℕ, zero, suc, ◌+◌, ◌<◌, ◌≤◌, arith, Bool, true, false, ◌&&◌, List, [], ◌∷◌, ◌++◌, length, codes, append-nil, refl, sym, ◌∙◌, ap, subst}
+use Rattle.std.proofs.Common.{◌≡◌, ◌≢◌, ◌⊎◌, inl, inr, ⊎_elim, ℕ, suc, ◌<◌, arith, Bool, true, false, ◌&&◌, List, [], ◌∷◌, length, append-nil, refl, sym, ◌∙◌, ap}
 use Rattle.ost_types.specs.Path.{Name, Path, is_below}
 use Rattle.ost_types.proofs.Paths.{is_below-self, same_name-Decides}
 use Rattle.fs_trait.proofs.Images.{not_both}

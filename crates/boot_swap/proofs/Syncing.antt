@@ -1,5 +1,5 @@
 -- The syncs of a swap.
-use Rattle.std.proofs.Common.{◌≡◌, inl, inr, ⊎_elim, ℕ, true, List, [], ◌∷◌, refl, sym, ◌∙◌, ap, subst, Option, Some, None}
+use Rattle.std.proofs.Common.{◌≡◌, ℕ, List, refl, sym, ◌∙◌, subst, Option, Some, None}
 use Rattle.ost_types.specs.Path.{Name, Path, under}
 use Rattle.fs_trait.specs.View.{View, all_synced, folder_synced}
 use Rattle.fs_trait.specs.Image.{IsTree}
@@ -24,7 +24,7 @@ use Rattle.boot_compare.specs.declared.choosing.Swap.TheVariants.{Loader, Sub}
 use Rattle.boot_swap.specs.declared.phase.Phase.{Phase}
 use Rattle.boot_swap.specs.declared.phase.Phase.TheVariants as phase
 use Rattle.boot_swap.specs.Swap.{barred, folder_of, keeps_folder, version_of}
-use Rattle.boot_swap.specs.Steps.{EachShows, HasMade, HasPlaces, IsAside, IsSure, IsTheLink, IsTheLoader, IsWhole, Needs, barred_in, shown_in}
+use Rattle.boot_swap.specs.Steps.{EachShows, HasMade, HasPlaces, IsAside, IsSure, IsTheLink, IsTheLoader, Needs, barred_in, shown_in}
 use Rattle.boot_swap.proofs.Keeping.{Misses, Spotted, each_missed, entries_kept, links_kept, places_kept, sure_kept}
 use Rattle.boot_swap.proofs.Making.{aside_kept, at_phase}
 use Rattle.boot_swap.proofs.Selecting.{firm_link}

@@ -1,6 +1,6 @@
 -- Which part a step belongs to.
 use Rattle.boot_swap.specs.declared.phase.Phase.{Phase}
-use Rattle.boot_swap.specs.declared.phase.Phase.TheVariants.{Choose, BeginEntries, Entries, LookLink, Links, BeginLink, ShowLink, Barrier, BeginLoader, ShowLoader, SyncFolder, Ended}
+use Rattle.boot_swap.specs.declared.phase.Phase.TheVariants.{Choose, BeginEntries, Entries, LookLink, Links, BeginLink, ShowLink, Barrier, BeginLoader, ShowLoader, SyncFolder}
 
 abbrev pub IsChoose : Phase → Type 0
 IsChoose (Choose c) = Unit {0}

@@ -1,17 +1,15 @@
 -- What a swap leaves, from its first step to any later moment.
-use Rattle.std.specs.Prelude.{◌≡◌, ◌≢◌, ◌⊎◌, ◌↔◌, true, List, Some}
-use Rattle.ost_types.specs.Path.{Path, IsPath, is_below}
-use Rattle.fs_trait.specs.declared.types.FsErr.{FsErr}
-use Rattle.fs_trait.specs.declared.types.FsErr.TheVariants.{Failed, NoMemory, Exists, NotEmpty}
+use Rattle.std.specs.Prelude.{◌≡◌, ◌⊎◌, ◌↔◌, true, List}
+use Rattle.ost_types.specs.Path.{Path, is_below}
 use Rattle.fs_trait.specs.View.{Disk, View}
 use Rattle.fs_trait.specs.Image.{Image}
-use Rattle.fs_trait.specs.Seen.{Seen, Vacant, shows, IsDirectory}
+use Rattle.fs_trait.specs.Seen.{Seen, shows}
 use Rattle.repo_layout.specs.declared.fixed.Version.{Version}
 use Rattle.repo_layout.specs.Fixed.{number}
 use Rattle.repo_layout.specs.BootPaths.{boot_folder_path, boot_link_path, boot_link_stage_path, loader_folder_path, loader_path, loader_stage_path}
 use Rattle.boot_model.specs.declared.item.BootItem.{BootItem}
 use Rattle.boot_model.specs.Listing.{Boots, SameList, Selects, ShowsEntries}
-use Rattle.boot_swap.specs.Steps.{EachShows, HasPlaces, IsSettled, IsTheLink, IsTheLoader, Selecting}
+use Rattle.boot_swap.specs.Steps.{HasPlaces, IsSettled, IsTheLink, IsTheLoader}
 
 -- A crash left this disk: all that its list is read from shows what a crash might have left at the beginning, or it boots the items.
 abbrev pub Leaves : List BootItem → View → Disk → Type 0

@@ -1,11 +1,10 @@
-use Rattle.std.proofs.Common.{◌≡◌, ◌∙◌, Ok, refl, sym, subst, arith}
-use Rattle.fs_trait.specs.declared.task.StepResult.TheVariants.{More, Done}
+use Rattle.std.proofs.Common.{◌∙◌, Ok, subst, arith}
 use Rattle.fs_trait.specs.Image.{EachImage}
 use Rattle.fs_trait.proofs.Runs.{begins, goes_on}
 use Rattle.boot_swap.specs.Swap.{IsStepped}
 use Rattle.boot_swap.specs.Steps.{Needs}
 use Rattle.boot_swap.specs.Whole.{Leaves}
-use Rattle.boot_swap.proofs.Runs.{begins_needs, begins_runs, ended_boots, leaves_on, measure_falls, runs_end, runs_on, told_once, writes_on}
+use Rattle.boot_swap.proofs.Runs.{begins_needs, begins_runs, ended_boots, leaves_on, runs_end, runs_on, told_once, writes_on}
 use Rattle.boot_swap.proofs.run.swap.Goals as goal
 
 pub steps-init : goal.steps-init

@@ -1,4 +1,4 @@
-use Rattle.std.proofs.Common.{◌≡◌, ◌∙◌, Ok, sym, subst}
+use Rattle.std.proofs.Common.{◌∙◌, Ok, sym, subst}
 use Rattle.fs_trait.specs.declared.task.StepResult.TheVariants.{More, Done}
 use Rattle.boot_model.specs.Items.{AreItems}
 use Rattle.boot_compare.specs.Choosing.{Falls as Falls_of, Knows, OnMore, Tells}

@@ -1,4 +1,4 @@
-use Rattle.std.proofs.Common.{◌≡◌, ◌∙◌, ap, sym, subst}
+use Rattle.std.proofs.Common.{◌∙◌, ap, sym, subst}
 use Rattle.fs_trait.specs.Effect.{IsNode}
 use Rattle.repo_layout.specs.Fixed.{number}
 use Rattle.repo_layout.specs.BootPaths.{boot_link_path}

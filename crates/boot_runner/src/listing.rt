@@ -1,0 +1,162 @@
+//! The list that a disk boots, read by one who knows its paths and the lines of entries, and nothing of the code that writes them.
+ghost use Rattle.std.specs.Prelude.{◌≤◌, length};
+
+use crate::looks::{known, path_of};
+use fs_memory::MemFs;
+use fs_trait::{Fs, Node};
+use ost_types::FsPath;
+use sheet::{Stop, text};
+use std::alloc::Global;
+
+/// A member of the list, and the version of its entry.
+#[derive(Drop)]
+struct Row {
+    version: u32,
+    text: Vec<u8>,
+}
+
+/// The members by falling version, each as `members` tells it; `broken` where an entry leads to no deployment.
+pub fn listing(alloc: Global, fs: &mut MemFs) -> Result<Vec<u8>, Stop> {
+    match members(alloc, fs) {
+        Err(Stop::Unknown) => text(alloc, "broken"),
+        answer => answer,
+    }
+}
+
+fn members(alloc: Global, fs: &mut MemFs) -> Result<Vec<u8>, Stop> {
+    let Some(selected) = target_at(alloc, fs, "/boot/loader")? else {
+        return text(alloc, "-");
+    };
+    let loader = match selected.as_str() {
+        "loader.0" => "0",
+        "loader.1" => "1",
+        _ => return Err(Stop::Unknown),
+    };
+    let rows = rows(alloc, fs, loader)?;
+    if rows.is_empty() {
+        return text(alloc, "-");
+    }
+    let mut all = Vec::new(alloc);
+    for row in &rows {
+        if !all.is_empty() {
+            all.push(b',')?;
+        }
+        all.extend_from_slice(&row.text)?;
+    }
+    Ok(all)
+}
+
+// The target of the link that stands there, if anything does.
+fn target_at(alloc: Global, fs: &mut MemFs, at: &str) -> Result<Option<String>, Stop> {
+    match known(fs.stat(&path_of(alloc, at)?))? {
+        None => Ok(None),
+        Some(Node::Link { target, .. }) => Ok(Some(format!(in alloc; "{}", target.as_str())?)),
+        Some(_) => Err(Stop::Unknown),
+    }
+}
+
+fn is_folder(alloc: Global, fs: &mut MemFs, at: &str) -> Result<bool, Stop> {
+    Ok(match known(fs.stat(&path_of(alloc, at)?))? {
+        Some(Node::Folder(_)) => true,
+        _ => false,
+    })
+}
+
+// The greatest version first.
+fn rows(alloc: Global, fs: &mut MemFs, loader: &str) -> Result<Vec<Row>, Stop> {
+    let mut rows: Vec<Row> = Vec::new(alloc);
+    let folder = format!(in alloc; "/boot/loader.{loader}/entries")?;
+    if !is_folder(alloc, fs, folder.as_str())? {
+        return Ok(rows);
+    }
+    let at = path_of(alloc, folder.as_str())?;
+    let names = known(fs.list(&at))?;
+    for name in names.as_slice() {
+        if name.as_str().ends_with(".conf") {
+            let row = row_at(alloc, fs, loader, &at.child(name)?)?;
+            let place = place_of(&rows, row.version);
+            rows.insert(place, row)?;
+        }
+    }
+    Ok(rows)
+}
+
+fn row_at(alloc: Global, fs: &mut MemFs, loader: &str, at: &FsPath) -> Result<Row, Stop> {
+    let bytes = known(fs.read(at))?;
+    row_of(alloc, fs, loader, bytes.as_slice())
+}
+
+fn place_of(rows: &[Row], version: u32) -> usize
+    ensures { result ≤ length rows.now }
+{
+    rows.iter()
+        .position(|row| row.version < version)
+        .unwrap_or(rows.len())
+}
+
+fn row_of(alloc: Global, fs: &mut MemFs, loader: &str, bytes: &[u8]) -> Result<Row, Stop> {
+    let entry = std::str::from_utf8(bytes).map_err(|_| Stop::Unknown)?;
+    let version = value_of(entry, "version ")?;
+    let version = version.parse::<u32>().map_err(|_| Stop::Unknown)?;
+    let options = value_of(entry, "options ")?;
+    let mut words = Vec::new(alloc);
+    let mut link = None;
+    for word in options.split(' ') {
+        match word.strip_prefix("ostree=") {
+            Some(named) => link = Some(named),
+            None => {
+                words.push(b':')?;
+                words.extend_from_slice(word.as_bytes())?;
+            }
+        }
+    }
+    let mut text = deployment(alloc, fs, loader, link.ok_or(Stop::Unknown)?)?;
+    text.extend_from_slice(&words)?;
+    Ok(Row { version, text })
+}
+
+fn value_of<'a>(entry: &'a str, key: &str) -> Result<&'a str, Stop> {
+    for line in entry.lines() {
+        if let Some(value) = line.strip_prefix(key) {
+            return Ok(value);
+        }
+    }
+    Err(Stop::Unknown)
+}
+
+// What `/ostree/boot.<loader>/<stateroot>/<sum>/<number>` leads to.
+fn deployment(alloc: Global, fs: &mut MemFs, loader: &str, named: &str) -> Result<Vec<u8>, Stop> {
+    let link = format!(in alloc; "/ostree/boot.{loader}")?;
+    let rest = named.strip_prefix(link.as_str()).ok_or(Stop::Unknown)?;
+    let rest = rest.strip_prefix('/').ok_or(Stop::Unknown)?;
+    let folder = target_at(alloc, fs, link.as_str())?.ok_or(Stop::Unknown)?;
+    let digits = format!(in alloc; "boot.{loader}.")?;
+    match folder.as_str().strip_prefix(digits.as_str()) {
+        Some("0") | Some("1") => {}
+        _ => return Err(Stop::Unknown),
+    }
+    let member = format!(in alloc; "/ostree/{folder}/{rest}")?;
+    let target = target_at(alloc, fs, member.as_str())?.ok_or(Stop::Unknown)?;
+    let place = target
+        .as_str()
+        .strip_prefix("../../../deploy/")
+        .ok_or(Stop::Unknown)?;
+    let checkout = format!(in alloc; "/ostree/deploy/{place}")?;
+    if !is_folder(alloc, fs, checkout.as_str())? {
+        return Err(Stop::Unknown);
+    }
+    let (os, _) = rest.split_once('/').ok_or(Stop::Unknown)?;
+    told_place(alloc, os, place)
+}
+
+// Of `<stateroot>/deploy/<commit>.<serial>` the commit's first two digits, where the stateroot is this one.
+fn told_place(alloc: Global, os: &str, place: &str) -> Result<Vec<u8>, Stop> {
+    let (stateroot, rest) = place.split_once('/').ok_or(Stop::Unknown)?;
+    let named = rest.strip_prefix("deploy/").ok_or(Stop::Unknown)?;
+    let (commit, serial) = named.split_once('.').ok_or(Stop::Unknown)?;
+    let (digits, _) = commit.split_at_checked(2).ok_or(Stop::Unknown)?;
+    if stateroot != os || commit.len() != 64 {
+        return Err(Stop::Unknown);
+    }
+    text(alloc, format!(in alloc; "{os}:{digits}.{serial}")?.as_str())
+}
