@@ -2,7 +2,7 @@ use Rattle.std.proofs.Common.{◌≤◌, ◌+◌, ◌*◌, length}
 use Rattle.gv_core.specs.Tree.{view}
 use Rattle.gv_core.specs.Layout.{nests, nest}
 use Rattle.gv_core.specs.Gives.{views}
-use Rattle.formats_check.proofs.gvariant.+show.Given as goal
+use Rattle.forms_runner.proofs.show.+show.Given as goal
 
 abbrev pub invariant-show_all-loop-value : goal.invariant-show_all-loop-value
 invariant-show_all-loop-value l = nest (views l.left) ≤ nest (views l.values)
