@@ -1,12 +1,11 @@
 //! What no words of the program ask for so far: a checkout that is removed. What a checkout leaves is told by the cases of `case_runner`.
-ghost use Rattle.ost_types.specs.Mode.{IsFileMode, IsFolderMode};
-
 use crate::sketch::Sketch;
 use crate::wrong::{Wrong, expect};
 use checkout::remove_tree;
+use disk_fixtures::{file_meta, folder_meta, laid_out, put_bytes};
 use fs_memory::MemFs;
 use fs_trait::{Fs, Node};
-use ost_types::{Csum, FsPath, Kind, Meta, Name, NodeName, ObjName, Text, Xattrs, is_link_mode};
+use ost_types::{Csum, FsPath, Kind, Name, NodeName, ObjName, Text, is_link_mode};
 use repo_layout::object_path;
 use std::alloc::Global;
 
@@ -15,66 +14,27 @@ const FILE: &[u8] = b"44f778e59f0a4748d6b0c90a47347212a231c4ad1e8f7ea5c5dffc7749
 
 const LINK: &[u8] = b"389846c2702216e1367c8dfb68326a6b93ccf5703c89c93979052a9bf359608e";
 
-fn folder_meta(alloc: Global, uid: u32) -> Meta
-    ensures { IsFolderMode result.mode }
-{
-    Meta {
-        uid,
-        gid: 0,
-        mode: 0o040755,
-        xattrs: Xattrs::new(alloc),
-    }
-}
-
-fn file_meta(alloc: Global) -> Meta
-    ensures { IsFileMode result.mode }
-{
-    Meta {
-        uid: 0,
-        gid: 0,
-        mode: 0o100644,
-        xattrs: Xattrs::new(alloc),
-    }
-}
-
 fn path(alloc: Global, text: &[u8]) -> Result<FsPath, Wrong> {
     FsPath::parse(alloc, text).map_err(|_| Wrong::Constant)
-}
-
-fn laid_out(alloc: Global) -> Result<MemFs, Wrong> {
-    let mut fs = MemFs::new(alloc)?;
-    let folders: [&[u8]; 6] = [
-        b"/ostree",
-        b"/ostree/repo",
-        b"/ostree/repo/objects",
-        b"/ostree/repo/objects/38",
-        b"/ostree/repo/objects/44",
-        b"/checkout",
-    ];
-    for folder in folders {
-        fs.mkdir(&path(alloc, folder)?, &folder_meta(alloc, 0))?;
-    }
-    Ok(fs)
 }
 
 fn sum(digits: &[u8]) -> Result<Csum, Wrong> {
     Csum::from_hex(digits).ok_or(Wrong::Constant)
 }
 
-fn object_at(alloc: Global, digits: &[u8]) -> Result<FsPath, Wrong> {
+fn object(digits: &[u8]) -> Result<ObjName, Wrong> {
     let csum = sum(digits)?;
     let kind = Kind::File;
-    Ok(object_path(alloc, &ObjName { csum, kind })?)
+    Ok(ObjName { csum, kind })
 }
 
-fn put_file(fs: &mut MemFs, alloc: Global) -> Result<(), Wrong> {
-    let at = object_at(alloc, FILE)?;
-    fs.create(&at, &file_meta(alloc))?;
-    fs.append(&at, b"hello\n")?;
-    Ok(())
+fn object_at(alloc: Global, digits: &[u8]) -> Result<FsPath, Wrong> {
+    Ok(object_path(alloc, &object(digits)?)?)
 }
 
 fn put_link(fs: &mut MemFs, alloc: Global) -> Result<(), Wrong> {
+    let folder = path(alloc, b"/ostree/repo/objects/38")?;
+    fs.mkdir(&folder, &folder_meta(alloc, 0))?;
     let at = object_at(alloc, LINK)?;
     let mut meta = file_meta(alloc);
     meta.mode = 0o120777;
@@ -168,7 +128,7 @@ fn check_removed(fs: &mut MemFs, alloc: Global, home: &FsPath) -> Result<(), Wro
 /// A checkout is removed, what isn't there is removed at once, and then it is made again.
 pub fn removed_again(alloc: Global) -> Result<(), Wrong> {
     let mut fs = laid_out(alloc)?;
-    put_file(&mut fs, alloc)?;
+    put_bytes(&mut fs, alloc, &object(FILE)?, b"hello\n")?;
     put_link(&mut fs, alloc)?;
     let home = path(alloc, b"/checkout")?;
     let into = name(alloc, b"a")?;

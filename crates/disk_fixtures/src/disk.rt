@@ -1,47 +1,29 @@
-//! A disk whose objects are written as they come.
-ghost use Rattle.ost_types.specs.Mode.{IsFileMode, IsFolderMode};
-
+use crate::attributes::{file_meta, folder_meta};
 use fs_memory::MemFs;
 use fs_trait::{Fs, FsErr};
 use ost_forms::sum_of;
-use ost_types::{Csum, FsPath, Kind, Meta, ObjName, Xattrs};
+use ost_types::{Bytes, Csum, FsPath, Kind, ObjName};
 use repo_layout::{Folder, folder_path, object_path, objects_folder_path};
 use std::alloc::Global;
 
-fn folder_meta(alloc: Global) -> Meta
-    ensures { IsFolderMode result.mode }
-{
-    Meta {
-        uid: 0,
-        gid: 0,
-        mode: 0o040755,
-        xattrs: Xattrs::new(alloc),
-    }
-}
-
-fn file_meta(alloc: Global) -> Meta
-    ensures { IsFileMode result.mode }
-{
-    Meta {
-        uid: 0,
-        gid: 0,
-        mode: 0o100644,
-        xattrs: Xattrs::new(alloc),
-    }
-}
-
 /// The folder, where nothing stands there.
 fn make_folder(fs: &mut MemFs, alloc: Global, at: &FsPath) -> Result<(), FsErr> {
-    match fs.mkdir(at, &folder_meta(alloc)) {
+    match fs.mkdir(at, &folder_meta(alloc, 0)) {
         Err(FsErr::Exists) => Ok(()),
         other => other,
     }
 }
 
-/// A disk with the folder of the objects.
+/// A disk with the folders of the objects, of the marks and of the checkouts.
 pub fn laid_out(alloc: Global) -> Result<MemFs, FsErr> {
     let mut fs = MemFs::new(alloc)?;
-    for folder in [Folder::Ostree, Folder::Repo, Folder::Objects] {
+    for folder in [
+        Folder::Ostree,
+        Folder::Repo,
+        Folder::Objects,
+        Folder::State,
+        Folder::Checkouts,
+    ] {
         make_folder(&mut fs, alloc, &folder_path(alloc, folder)?)?;
     }
     Ok(fs)
@@ -60,4 +42,20 @@ pub fn put_named(fs: &mut MemFs, alloc: Global, kind: Kind, bytes: &[u8]) -> Res
     let csum = sum_of(bytes);
     put_bytes(fs, alloc, &ObjName { csum, kind }, bytes)?;
     Ok(csum)
+}
+
+/// The entries of an empty folder, and a folder's attributes: owner 0, group 0 and mode 0755.
+const EMPTY: [u8; 1] = [0];
+
+const ATTRIBUTES: [u8; 12] = [0, 0, 0, 0, 0, 0, 0, 0, 0, 0, 0x41, 0xed];
+
+/// The root's entries and attributes, where the tree has one folder, `d`.
+pub fn put_root(fs: &mut MemFs, alloc: Global) -> Result<(Csum, Csum), FsErr> {
+    let meta = put_named(fs, alloc, Kind::DirMeta, &ATTRIBUTES)?;
+    let empty = put_named(fs, alloc, Kind::DirTree, &EMPTY)?;
+    let mut bytes = Bytes::from_slice(alloc, b"d\0")?;
+    bytes.append(empty.bytes())?;
+    bytes.append(meta.bytes())?;
+    bytes.append(&[34, 2, 68, 0])?;
+    Ok((put_named(fs, alloc, Kind::DirTree, bytes.as_slice())?, meta))
 }
