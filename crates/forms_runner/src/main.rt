@@ -18,9 +18,9 @@ use configs::ConfigBench;
 use gvariant::GvariantBench;
 use layout::LayoutBench;
 use objects::ObjectBench;
-use sheet::{Stop, not_run, run_file};
+use sheet::{Report, Stop, run_sheet};
 use std::process::ExitCode;
-use std::{env, io};
+use std::{env, fs, io};
 use types::TypeBench;
 
 fn main(rt: HostRuntime) -> io::Result<ExitCode> {
@@ -30,7 +30,7 @@ fn main(rt: HostRuntime) -> io::Result<ExitCode> {
         over = match over {
             None => Some(word),
             Some(kind) => {
-                let found = run_over(&rt, kind.as_str(), word.as_str())?;
+                let found = run_file(&rt, kind.as_str(), word.as_str())?;
                 wrong = wrong.saturating_add(found);
                 None
             }
@@ -44,14 +44,43 @@ fn main(rt: HostRuntime) -> io::Result<ExitCode> {
 }
 
 // How many calls of the sheet are wrong.
-fn run_over(rt: &HostRuntime, over: &str, name: &str) -> io::Result<u32> {
+fn run_file(rt: &HostRuntime, over: &str, name: &str) -> io::Result<u32> {
     println!(rt; "{name} of {over}")?;
+    let mut report = Report::new(rt.alloc());
+    let text = fs::read(rt, name)?;
+    let ended = match std::str::from_utf8(&text) {
+        Ok(sheet) => run_over(rt, over, sheet, &mut report),
+        Err(_) => Err(Stop::Unknown),
+    };
+    print_text(rt, &report.text)?;
+    match ended {
+        Ok(()) => Ok(report.wrong),
+        Err(Stop::Unknown) => {
+            println!(rt; "  can't be run")?;
+            Ok(1)
+        }
+        Err(Stop::NoMemory) => {
+            println!(rt; "  out of memory")?;
+            Ok(1)
+        }
+    }
+}
+
+fn run_over(rt: &HostRuntime, over: &str, sheet: &str, report: &mut Report) -> Result<(), Stop> {
+    let alloc = rt.alloc();
     match over {
-        "types" => run_file(rt, &mut TypeBench::new(rt.alloc()), name),
-        "gvariant" => run_file(rt, &mut GvariantBench, name),
-        "objects" => run_file(rt, &mut ObjectBench, name),
-        "configs" => run_file(rt, &mut ConfigBench, name),
-        "layout" => run_file(rt, &mut LayoutBench, name),
-        _ => not_run(rt, Stop::Unknown),
+        "types" => run_sheet(alloc, &mut TypeBench::new(alloc), sheet, report),
+        "gvariant" => run_sheet(alloc, &mut GvariantBench, sheet, report),
+        "objects" => run_sheet(alloc, &mut ObjectBench, sheet, report),
+        "configs" => run_sheet(alloc, &mut ConfigBench, sheet, report),
+        "layout" => run_sheet(alloc, &mut LayoutBench, sheet, report),
+        _ => Err(Stop::Unknown),
+    }
+}
+
+fn print_text(rt: &HostRuntime, text: &[u8]) -> io::Result<()> {
+    match std::str::from_utf8(text) {
+        Ok(text) => print!(rt; "{text}"),
+        Err(_) => println!(rt; "bytes that are no text"),
     }
 }

@@ -15,51 +15,65 @@ mod word;
 use host::HostBench;
 use machine::Watch;
 use memory::MemoryBench;
-use sheet::{Stop, not_run, run_file};
+use ost_types::NoMemory;
+use sheet::{Report, Stop, run_sheet};
 use std::process::ExitCode;
-use std::{env, io};
+use std::{env, fs, io};
 use streams::StreamBench;
 
 fn main(rt: HostRuntime) -> io::Result<ExitCode> {
-    let mut wrong: u32 = 0;
+    let mut report = Report::new(rt.alloc());
     let mut over = None;
     for word in env::args(&rt)?.skip(1) {
         over = match over {
             None => Some(word),
             Some(kind) => {
-                let found = run_over(&rt, kind.as_str(), word.as_str())?;
-                wrong = wrong.saturating_add(found);
+                run_file(&rt, kind.as_str(), word.as_str(), &mut report)?;
                 None
             }
         };
     }
-    if wrong == 0 {
+    print_text(&rt, &report.text)?;
+    if report.wrong == 0 {
         return Ok(ExitCode::SUCCESS);
     }
-    println!(rt; "{wrong} wrong")?;
+    println!(rt; "{} wrong", report.wrong)?;
     Ok(ExitCode::from(1))
 }
 
-// How many calls of the sheet are wrong.
-fn run_over(rt: &HostRuntime, over: &str, name: &str) -> io::Result<u32> {
+fn run_file(rt: &HostRuntime, over: &str, name: &str, report: &mut Report) -> io::Result<()> {
     println!(rt; "{name} over {over}")?;
+    let text = fs::read(rt, name)?;
+    let ended = match std::str::from_utf8(&text) {
+        Ok(sheet) => run_over(rt, over, sheet, report),
+        Err(_) => Err(Stop::Unknown),
+    };
+    match ended {
+        Ok(()) => Ok(()),
+        Err(Stop::Unknown) => println!(rt; "  can't be run"),
+        Err(Stop::NoMemory) => println!(rt; "  out of memory"),
+    }
+}
+
+fn run_over(rt: &HostRuntime, over: &str, sheet: &str, report: &mut Report) -> Result<(), Stop> {
+    let alloc = rt.alloc();
     match over {
-        "memory" => run_over_memory(rt, name),
-        "host" => run_over_host(rt, name),
-        "streams" => run_file(rt, &mut StreamBench::new(rt.clone()?), name),
-        _ => not_run(rt, Stop::Unknown),
+        "memory" => run_sheet(alloc, &mut MemoryBench::new(alloc)?, sheet, report),
+        "host" => run_over_host(rt, sheet, report),
+        "streams" => run_sheet(alloc, &mut StreamBench::new(rt.clone()?), sheet, report),
+        _ => Err(Stop::Unknown),
     }
 }
 
-fn run_over_memory(rt: &HostRuntime, name: &str) -> io::Result<u32> {
-    match MemoryBench::new(rt.alloc()) {
-        Ok(mut bench) => run_file(rt, &mut bench, name),
-        Err(stop) => not_run(rt, stop),
-    }
-}
-
-fn run_over_host(rt: &HostRuntime, name: &str) -> io::Result<u32> {
+fn run_over_host(rt: &HostRuntime, sheet: &str, report: &mut Report) -> Result<(), Stop> {
     let watch = Watch::new();
     let mut bench = HostBench::new(rt.clone()?, &watch);
-    run_file(rt, &mut bench, name)
+    run_sheet(rt.alloc(), &mut bench, sheet, report)
+}
+
+fn print_text(rt: &HostRuntime, text: &[u8]) -> io::Result<()> {
+    match std::str::from_utf8(text) {
+        Ok(text) => print!(rt; "{text}"),
+        Err(_) => println!(rt; "bytes that are no text"),
+    }
 }

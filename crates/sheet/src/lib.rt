@@ -4,7 +4,6 @@
 mod answer;
 mod bytes;
 mod fields;
-mod file;
 mod report;
 mod run;
 mod stop;
@@ -12,7 +11,6 @@ mod stop;
 pub use answer::{number, text, yes_or_no};
 pub use bytes::bytes_of;
 pub use fields::Fields;
-pub use file::{not_run, run_file};
 pub use report::Report;
 pub use run::{Bench, run_sheet};
 pub use stop::Stop;
