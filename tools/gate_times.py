@@ -31,7 +31,7 @@ BEGIN, END = "<!-- by tools/gate_times.py -->\n", "<!-- end -->\n"
 
 
 class Process:
-    """One check: the crate, the kind of work, who began it, and the processor time that it had taken when it was last seen."""
+    """A step of the gate: the crate, the kind of work, who began it, and the processor time that it and all that it began had taken when it was last seen."""
 
     def __init__(self, crate, kind, parent):
         self.crate, self.kind, self.parent, self.seconds = crate, kind, parent, 0.0
@@ -64,10 +64,10 @@ def look(pid, parent):
     return Process(names[0], kind, parent) if kind else None
 
 
-def seconds_of(pid):
-    """The processor time, the parent and the start of a process."""
+def stat(pid):
+    """The parent of a process, its start, and the processor time of it and of its children that have ended."""
     fields = read(f"/proc/{pid}/stat").decode("utf-8", "replace").rpartition(")")[2].split()
-    return (int(fields[11]) + int(fields[12])) / TICKS, fields[1], fields[19]
+    return fields[1], fields[19], sum(map(int, fields[11:15])) / TICKS
 
 
 class Watch:
@@ -77,19 +77,34 @@ class Watch:
         self.known = {}
 
     def step(self):
+        alive = {}
         for pid in filter(str.isdigit, os.listdir("/proc")):
             try:
-                seconds, parent, started = seconds_of(pid)
-                key = (pid, started)
+                alive[pid] = stat(pid)
+                key = (pid, alive[pid][1])
                 if key not in self.known:
-                    self.known[key] = look(pid, parent)
-                if self.known[key]:
-                    self.known[key].seconds = seconds
+                    self.known[key] = look(pid, alive[pid][0])
             except (FileNotFoundError, ProcessLookupError, PermissionError):
                 continue
+        taken = collections.Counter()
+        for pid, (_, _, seconds) in alive.items():
+            taken[self.began(pid, alive)] += seconds
+        for key, seconds in taken.items():
+            if key:
+                self.known[key].seconds = max(seconds, self.known[key].seconds)
+
+    def began(self, pid, alive):
+        """The step of the gate to which a process belongs: the topmost one above it."""
+        found = None
+        while pid in alive:
+            parent, started, _ = alive[pid]
+            if self.known.get((pid, started)):
+                found = (pid, started)
+            pid = parent
+        return found
 
     def seen(self):
-        return [it for it in self.known.values() if it]
+        return [it for it in self.known.values() if it and it.seconds]
 
 
 def longest(processes):

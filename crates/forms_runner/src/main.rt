@@ -52,7 +52,7 @@ fn run_file(rt: &HostRuntime, over: &str, name: &str) -> io::Result<u32> {
         Ok(sheet) => run_over(rt, over, sheet, &mut report),
         Err(_) => Err(Stop::Unknown),
     };
-    print_text(rt, &report.text)?;
+    print_report(rt, name, &report)?;
     match ended {
         Ok(()) => Ok(report.wrong),
         Err(Stop::Unknown) => {
@@ -78,9 +78,11 @@ fn run_over(rt: &HostRuntime, over: &str, sheet: &str, report: &mut Report) -> R
     }
 }
 
-fn print_text(rt: &HostRuntime, text: &[u8]) -> io::Result<()> {
-    match std::str::from_utf8(text) {
-        Ok(text) => print!(rt; "{text}"),
-        Err(_) => println!(rt; "bytes that are no text"),
+// What is wrong stands in the errors, too, which the gate tells.
+fn print_report(rt: &HostRuntime, name: &str, report: &Report) -> io::Result<()> {
+    let text = std::str::from_utf8(&report.text).unwrap_or("bytes that are no text\n");
+    if report.wrong > 0 {
+        eprint!(rt; "{name}\n{text}")?;
     }
+    print!(rt; "{text}")
 }
