@@ -206,6 +206,8 @@ def kit():
     made = importlib.util.module_from_spec(importlib.util.spec_from_loader("rt_command", loader))
     sys.modules["rt_command"] = made
     loader.exec_module(made)
+    for name in (made.rtlib.ALLOW_C, made.rtlib.BACKEND, "RT_SECONDS"):
+        os.environ.pop(name, None)
     made.rtlib.stop = made.stop
     made.rtlib.Crate = made.Crate
     made.Crate.cuts_libraries = True
