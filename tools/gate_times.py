@@ -292,16 +292,25 @@ def part(minutes):
     print(f"{left} steps are left")
 
 
+def crates_listed():
+    with open(f"{TOP}/crates.txt", encoding="utf-8") as it:
+        return {line.split(":")[0].split()[0] for line in it if ":" in line and not line.startswith("#")}
+
+
 def write_table():
     """Of a step that --part has made, its record; of another one the dearest that --watch has seen."""
-    seen, made = {}, {}
+    seen, made, listed = {}, {}, crates_listed()
     for it in kept():
         key = it["crate"], it["kind"]
+        if it["crate"] not in listed:
+            continue
         if it["run"] == "part":
             made[key] = it["minutes"]
         else:
             seen[key] = max(it["minutes"], seen.get(key, 0.0))
-    write_page(f"By parts, on {machine()}:", {**seen, **made})
+    costs = {**seen, **made}
+    lacking = sorted(listed - {crate for crate, kind in costs if kind == "proofs"})
+    write_page(f"By parts, on {machine()}. Not measured: {', '.join(f'`{it}`' for it in lacking) or 'nothing'}.", costs)
 
 
 def main():
