@@ -13,7 +13,8 @@ $(PROGRAM): $(SOURCES)
 	tools/build.py
 
 check:
-	@echo "Proves every crate and every test, tries each edit and runs each program: from nothing two hours or more on four processors, later what changed."
+	@echo "Proves every crate and every test, tries each edit and runs each program, all from nothing: two hours or more on four processors (docs/gate.md)."
+	@echo "It tells a crate as soon as it is proved, and its last line is how many passed and failed."
 	rt ci
 
 demo: $(PROGRAM)

@@ -1,10 +1,9 @@
 #!/usr/bin/python3
-"""Makes the table of crates/formats_check/src/gvariant_vectors.rt with GLib, and compares GLib's verdict on damaged bytes with the table's.
+"""Makes the sheet crates/forms_runner/data/gvariant.rows with GLib, and compares GLib's verdict on damaged bytes with the sheet's.
 
-Needs GLib's Python binding (Debian: python3-gi). Run: /usr/bin/python3 tools/gvariant_vectors.py > crates/formats_check/src/gvariant_vectors.rt
+Needs GLib's Python binding (Debian: python3-gi). Run: /usr/bin/python3 tools/gvariant_vectors.py > crates/forms_runner/data/gvariant.rows
 
-Each line has a type string, bytes, and the value; `!` stands for bytes that aren't a normal form, and `*` for a value that isn't
-written out. Bytes are hexadecimal digits; `hh*n.` are n bytes hh. No bytes are written `-`.
+Each row has a type string, bytes, and the value; or `ok` where the value isn't written out.
 """
 import sys
 from gi.repository import GLib
@@ -17,11 +16,11 @@ def rows(data):
         while j < len(data) and data[j] == data[i]:
             j += 1
         if j - i > 12:
-            groups += ["%02x*%d" % (data[i], j - i), ""]
+            groups += ["%d:%02x" % (j - i, data[i]), ""]
         else:
             groups[-1] += "%02x" % data[i] * (j - i)
         i = j
-    return " ".join(g for g in groups if g) or "-"
+    return "".join("%%{%s}" % g for g in groups if g) or "%{}"
 
 
 def show(v):
@@ -105,29 +104,27 @@ BYTES = [
 # GLib refuses these: the text isn't a path, or isn't a type string. Here each is a text like any other.
 TEXTS = [("o", "6100", "'a'"), ("g", "7b00", "'{'")]
 
-print("//! Values and bytes that GLib made; tools/gvariant_vectors.py writes this file.")
+print("# Values and bytes that GLib made; tools/gvariant_vectors.py writes this sheet.")
 print()
-print("/// A type string, bytes and the value, line by line.")
-print("pub const VECTORS: &str = \"\\")
+print("[as GLib does]")
 for kind, text in GOOD:
     v, data = made(kind, text)
     assert v.is_normal_form()
-    print("%s; %s; %s\\n\\" % (kind, rows(data), show(v)))
+    print("value %s %s = %s" % (kind, rows(data), show(v)))
 for kind, n in SIZED:
     v, data = made(*letters(kind, n))
     assert v.is_normal_form()
-    print("%s; %s; *\\n\\" % (kind, rows(data)))
+    print("reads %s %s = ok" % (kind, rows(data)))
 for kind, digits, good in BYTES:
     data = b"" if digits == "-" else bytes.fromhex(digits)
     if normal(kind, data) != good:
         print("GLib differs: %s %s: %s" % (kind, digits, normal(kind, data)), file=sys.stderr)
-    shown = "!"
+    shown = "not_normal"
     if good:
         v = GLib.Variant.new_from_bytes(GLib.VariantType.new(kind), GLib.Bytes.new(data), False)
         shown = show(v)
-    print("%s; %s; %s\\n\\" % (kind, rows(data), shown))
+    print("value %s %s = %s" % (kind, rows(data), shown))
 for kind, digits, shown in TEXTS:
     data = bytes.fromhex(digits)
     assert not normal(kind, data)
-    print("%s; %s; %s\\n\\" % (kind, rows(data), shown))
-print("\";")
+    print("value %s %s = %s" % (kind, rows(data), shown))

@@ -1,6 +1,6 @@
 #!/bin/sh
 # Prints the objects that ostree (the Debian package) makes of a small tree: their names, and the bytes of its folders
-# and their attributes. The tests of ost_forms hold what it printed. Run it as root, in an empty folder.
+# and their attributes. The sheets of forms_runner hold what it printed. Run it as root, in an empty folder.
 set -e
 mkdir -p tree/d
 printf 'hello\n' > tree/hello

@@ -1,9 +1,8 @@
 #!/usr/bin/python3
-"""Prints objects that ostree (the Debian package) makes, a row each: kind, name, bytes in hexadecimal.
+"""Prints objects that ostree (the Debian package) makes, a row each for the sheet crates/forms_runner/data/objects.rows.
 
-The tests of formats_check hold what it printed (crates/formats_check/src/objects_vectors.rt). Run it as root in an empty folder of a
-file system with extended attributes. ostree keeps a file of a bare repository as a file, so its content stream is laid
-out here from the file's attributes; that its SHA-256 is the name ostree gave it is asserted.
+The sheet holds what it printed. Run it as root in an empty folder of a file system with extended attributes. ostree keeps a
+file of a bare repository as a file, so its content stream is laid out here from the file's attributes; that its SHA-256 is the name ostree gave it is asserted.
 """
 import hashlib, os, struct, subprocess, sys
 
@@ -90,11 +89,15 @@ for root, folders, files in os.walk("repo/objects"):
         name = root[-2:] + stem
         assert hashlib.sha256(data).hexdigest() == name, path
         rows.append((kind, name, data.hex()))
-for row in sorted(rows):
-    print(*row)
+print("[as ostree makes them]")
+for kind, name, data in sorted(rows):
+    print("object %s %s %%{%s} = ok" % (kind, name, data))
 
 # Folders of 1,560 empty files round 65,535 bytes: f00000 to f01558, and a last name of so many letters g. A row each:
-# the letters, the entries' name, how many bytes they have.
+# the letters, the files' name, how many bytes the entries have, and their name.
+EMPTY = "cc700d46f407c6c5ab2d5dde474366a928b7398277e61162e7f8ec06f469f07e"
+print()
+print("[folders of 1560 files]")
 for letters in (19, 20, 21, 22):
     folder(f"many{letters}")
     for i in range(1559):
@@ -103,4 +106,4 @@ for letters in (19, 20, 21, 22):
     last = commit("-b", f"many{letters}", "--timestamp=@12", "-s", "many", f"many{letters}")
     tree = run("ostree", "--repo=repo", "ls", "-dC", last, "/").split()[4]
     size = os.path.getsize(f"repo/objects/{tree[:2]}/{tree[2:]}.dirtree")
-    print("many", letters, tree, size)
+    print("many_files", letters, EMPTY, size, tree, "= ok")

@@ -1,4 +1,4 @@
-//! The tests of the texts: scripts and their replies, boot entries and lists of deployments.
+//! The tests of the texts that no case reaches: two faults, boot entries and lists of deployments.
 #![tactic(auto)]
 
 #[cfg(test)]
@@ -9,5 +9,3 @@ mod deployments;
 mod entries;
 #[cfg(test)]
 mod items;
-#[cfg(test)]
-mod scripts;

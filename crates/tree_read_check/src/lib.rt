@@ -6,6 +6,4 @@ mod first;
 pub use first::{Wrong, first_wrong};
 
 #[cfg(test)]
-mod disk;
-#[cfg(test)]
 mod tests;

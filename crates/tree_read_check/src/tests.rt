@@ -1,28 +1,12 @@
 //! What no words of the program ask for: a tree under other limits. What else is read of trees is told by the cases of `case_runner`.
-use crate::disk::{laid_out, put_named};
 use crate::{Wrong, first_wrong};
+use disk_fixtures::{laid_out, put_named, put_root};
 use fs_memory::MemFs;
 use ost_types::{Bytes, Csum, Kind, Limits, ObjName};
 use std::alloc::Global;
 use std::process::Abort;
 use std::test::Fail;
 use tree_read::tree_of;
-
-/// The entries of an empty folder, and a folder's attributes: owner 0, group 0 and mode 0755.
-const EMPTY: [u8; 1] = [0];
-
-const ATTRIBUTES: [u8; 12] = [0, 0, 0, 0, 0, 0, 0, 0, 0, 0, 0x41, 0xed];
-
-/// The root's entries and attributes, where the tree has one folder, `d`.
-fn put_root(fs: &mut MemFs, alloc: Global) -> Result<(Csum, Csum), Fail> {
-    let meta = put_named(fs, alloc, Kind::DirMeta, &ATTRIBUTES)?;
-    let empty = put_named(fs, alloc, Kind::DirTree, &EMPTY)?;
-    let mut bytes = Bytes::from_slice(alloc, b"d\0")?;
-    bytes.append(empty.bytes())?;
-    bytes.append(meta.bytes())?;
-    bytes.append(&[34, 2, 68, 0])?;
-    Ok((put_named(fs, alloc, Kind::DirTree, bytes.as_slice())?, meta))
-}
 
 /// A commit of the subject `first` at the second 1,700,000,000, without a parent.
 fn put_commit(fs: &mut MemFs, alloc: Global, root: &(Csum, Csum)) -> Result<Csum, Fail> {
