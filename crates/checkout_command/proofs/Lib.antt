@@ -5,3 +5,4 @@ mod Reading
 mod MakeKinds
 pub mod Ends
 pub mod Writing
+pub mod Claimed

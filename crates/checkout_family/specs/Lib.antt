@@ -5,4 +5,5 @@ pub mod Apart
 pub mod Answering
 pub mod Kept
 pub mod Staying
+pub mod Made
 pub mod Laws
