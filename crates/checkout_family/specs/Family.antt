@@ -84,7 +84,6 @@ checkout_means = record {
   lacks = checkout_lacks;
   outside = checkout_outside;
   full = λ a. ⊥;
-  strays = λ c. None;
 }
 
 -- it checks out the commit that was named at the beginning, to this name

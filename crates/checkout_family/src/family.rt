@@ -9,7 +9,7 @@ use crate::{CheckoutReply, CheckoutWords, CheckoutsTask};
 use checkout_command::{CheckoutAnswer, CheckoutCommand};
 use command::{Begun, Command, Query, Told, commit_of};
 use obj_store::Put;
-use ost_types::{Csum, FsPath, Limits, Name, NoMemory, ObjName, TryCopy};
+use ost_types::{Csum, Limits, Name, NoMemory, ObjName, TryCopy};
 use ref_book::RefBook;
 use std::alloc::Global;
 
@@ -58,10 +58,6 @@ impl Command for CheckoutsTask {
                 Ok(Begun::Runs(CheckoutsTask { work }))
             }
         }
-    }
-
-    fn stray(_alloc: Global, _words: &CheckoutWords) -> Result<Option<FsPath>, NoMemory> {
-        Ok(None)
     }
 
     fn hear(&mut self, _told: Told) -> Told {

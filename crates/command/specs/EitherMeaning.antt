@@ -54,7 +54,6 @@ either_means m n = record {
   lacks = λ a commit. on_side (λ x. m.lacks x commit) (λ x. n.lacks x commit) a;
   outside = on_side m.outside n.outside;
   full = on_side m.full n.full;
-  strays = side_value m.strays n.strays;
 }
 
 abbrev pub either_doing : {S T W V A B : Type 0} → Doing S W A → Doing T V B → Doing (Either S T) (Either W V) (Either A B)

@@ -46,5 +46,3 @@ pub record Meaning (W A : Type 0) : Type 1 where
   pub outside : A → Type 0
   -- the answer tells that the store has as many objects as it may
   pub full : A → Type 0
-  -- the path at which something else changed what stands there, where a step was refused so; or none is said
-  pub strays : W → Option Path

@@ -9,7 +9,7 @@ ghost use Rattle.command.specs.Laws.{CommandLaws};
 
 use crate::{Begun, Query, Told};
 use obj_store::Put;
-use ost_types::{FsPath, Limits, NoMemory, ObjName};
+use ost_types::{Limits, NoMemory, ObjName};
 use ref_book::RefBook;
 use rely_guarantee::CommandTask;
 use std::alloc::Global;
@@ -41,11 +41,6 @@ pub trait Command: CommandTask + Drop {
         ensures refs { (s : State) → Tracks refs.old s → Tracks refs.new s }
         ensures rooms { (name : List ℕ) → HasRoom refs.old name → HasRoom refs.new name }
         ensures begun { (s : State) → Tracks refs.old s → IfOk result (IsBegun means doing limits lane s words.now refs.new) };
-
-    /// The path at which something else than this program changed what stands there, where a step was refused so; None for words
-    /// whose steps are refused only by calls that failed.
-    fn stray(alloc: Global, words: &Self::Words) -> Result<Option<FsPath>, NoMemory>
-        ensures { IfOk result (λ path. path ≡ means.strays words.now) };
 
     /// Tells the task what it has to know before its next step, and answers what it was told before.
     fn hear(&mut self, told: Told) -> Told

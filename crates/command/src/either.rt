@@ -3,7 +3,7 @@ ghost use Rattle.command.specs.EitherLaws.{either_command_laws};
 
 use crate::{Begun, Command, Query, Told};
 use obj_store::Put;
-use ost_types::{FsPath, Limits, NoMemory, ObjName};
+use ost_types::{Limits, NoMemory, ObjName};
 use ref_book::RefBook;
 use rely_guarantee::Either;
 use std::alloc::Global;
@@ -33,16 +33,6 @@ impl<A: Command, B: Command> Command for Either<A, B> {
                 Begun::Answered(answer) => Ok(Begun::Answered(Either::Right(answer))),
                 Begun::Runs(task) => Ok(Begun::Runs(Either::Right(task))),
             },
-        }
-    }
-
-    fn stray(
-        alloc: Global,
-        words: &Either<A::Words, B::Words>,
-    ) -> Result<Option<FsPath>, NoMemory> {
-        match words {
-            Either::Left(words) => A::stray(alloc, words),
-            Either::Right(words) => B::stray(alloc, words),
         }
     }
 

@@ -8,7 +8,7 @@ pub enum Ended<A> {
     NoMemory,
     /// A call that reads failed.
     DiskFault,
-    /// Something else than this program changed what stands at the path.
+    /// A call was refused for what stands at the path: something else than this program changed it. No command goes on.
     Outside(FsPath),
     /// A call that changes something failed, and with it the run; the count of failed calls then.
     Halted(u64),

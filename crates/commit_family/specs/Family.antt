@@ -3,7 +3,6 @@ use Rattle.std.specs.Prelude.{◌≡◌, ◌+◌, ℕ, List, Contains, Some, Non
 use Rattle.ost_types.specs.declared.object.ObjName.{ObjName}
 use Rattle.ost_forms.specs.declared.tree_item.TreeItem.{TreeItem}
 use Rattle.fs_trait.specs.View.{Disk, View}
-use Rattle.repo_layout.specs.Paths.{ref_path}
 use Rattle.tree_build.specs.Items.{IsLeastBad, IsTree}
 use Rattle.tree_build.specs.Objects.{Object}
 use Rattle.commit_build.specs.declared.message.Message.{Message}
@@ -100,7 +99,6 @@ commit_means = record {
   lacks = λ a commit. ⊥;
   outside = λ a. ⊥;
   full = commit_full;
-  strays = λ c. Some (ref_path c.branch);
 }
 
 abbrev pub commit_pursues : Since → CommitWords → CommitsTask → Type 0

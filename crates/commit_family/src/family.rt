@@ -5,9 +5,8 @@ use crate::{CommitWords, CommitsTask};
 use command::{Begun, Command, Query, Told};
 use commit_command::{CommitAnswer, CommitCommand};
 use obj_store::Put;
-use ost_types::{FsPath, Limits, NoMemory, ObjName, TryCopy, copy_all};
+use ost_types::{Limits, NoMemory, ObjName, TryCopy, copy_all};
 use ref_book::RefBook;
-use repo_layout::ref_path;
 use std::alloc::Global;
 
 impl Command for CommitsTask {
@@ -41,10 +40,6 @@ impl Command for CommitsTask {
             limits,
         )?;
         Ok(Begun::Runs(CommitsTask { work }))
-    }
-
-    fn stray(alloc: Global, words: &CommitWords) -> Result<Option<FsPath>, NoMemory> {
-        Ok(Some(ref_path(alloc, &words.branch)?))
     }
 
     fn hear(&mut self, told: Told) -> Told {

@@ -30,7 +30,6 @@ wait_means = record {
   lacks = λ a commit. ⊥;
   outside = λ a. ⊥;
   full = λ a. ⊥;
-  strays = λ c. None;
 }
 
 abbrev pub wait_pursues : WaitWords → WaitTask → Type 0

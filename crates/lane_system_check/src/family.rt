@@ -4,7 +4,7 @@ ghost use Rattle.lane_system_check.specs.Laws.{wait_command_laws};
 use crate::{WaitTask, WaitWords};
 use command::{Begun, Command, Query, Told};
 use obj_store::Put;
-use ost_types::{FsPath, Limits, NoMemory, ObjName};
+use ost_types::{Limits, NoMemory, ObjName};
 use ref_book::RefBook;
 use std::alloc::Global;
 
@@ -32,10 +32,6 @@ impl Command for WaitTask {
                 holds: *holds,
             })),
         }
-    }
-
-    fn stray(_alloc: Global, _words: &WaitWords) -> Result<Option<FsPath>, NoMemory> {
-        Ok(None)
     }
 
     fn hear(&mut self, _told: Told) -> Told {

@@ -63,7 +63,6 @@ list_means = record {
   lacks = λ a commit. ⊥;
   outside = λ a. ⊥;
   full = λ a. ⊥;
-  strays = λ c. None;
 }
 
 -- no command of the family runs

@@ -4,7 +4,7 @@ ghost use Rattle.list_family.specs.Laws.{list_command_laws};
 use crate::{ListTask, ListWords};
 use command::{Begun, Command, Query, Told};
 use obj_store::Put;
-use ost_types::{Csum, FsPath, Limits, NoMemory, ObjName};
+use ost_types::{Csum, Limits, NoMemory, ObjName};
 use ref_book::RefBook;
 use repo_layout::RefName;
 use std::alloc::Global;
@@ -28,10 +28,6 @@ impl Command for ListTask {
         match words {
             ListWords::Refs => Ok(Begun::Answered(refs.rows()?)),
         }
-    }
-
-    fn stray(_alloc: Global, _words: &ListWords) -> Result<Option<FsPath>, NoMemory> {
-        Ok(None)
     }
 
     fn hear(&mut self, _told: Told) -> Told {

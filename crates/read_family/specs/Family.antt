@@ -94,7 +94,6 @@ read_means = record {
   lacks = read_lacks;
   outside = read_outside;
   full = λ a. ⊥;
-  strays = λ c. None;
 }
 
 abbrev pub read_pursues : Since → ReadWords → ReadCommand → Type 0

@@ -8,7 +8,7 @@ ghost use Rattle.read_family.specs.Laws.{read_command_laws};
 use crate::{ReadReply, ReadTask, ReadWords};
 use command::{Begun, Command, Query, Told, commit_of};
 use obj_store::Put;
-use ost_types::{Csum, FsPath, Limits, NoMemory, ObjName, TryCopy};
+use ost_types::{Csum, Limits, NoMemory, ObjName, TryCopy};
 use read_command::{Ask, ReadAnswer, ReadCommand};
 use ref_book::RefBook;
 use std::alloc::Global;
@@ -57,10 +57,6 @@ impl Command for ReadTask {
                 Ok(Begun::Runs(ReadTask { work }))
             }
         }
-    }
-
-    fn stray(_alloc: Global, _words: &ReadWords) -> Result<Option<FsPath>, NoMemory> {
-        Ok(None)
     }
 
     fn hear(&mut self, _told: Told) -> Told {

@@ -1,9 +1,7 @@
 -- What the commands on refs say, and what their tasks are to them.
 use Rattle.std.specs.Prelude.{◌≡◌, ℕ, List, Option, Some, None, IsSome}
 use Rattle.ost_types.specs.declared.object.ObjName.{ObjName}
-use Rattle.ost_types.specs.Path.{Path}
 use Rattle.fs_trait.specs.View.{View}
-use Rattle.repo_layout.specs.Paths.{ref_path}
 use Rattle.ref_store.specs.Change.{Change, progress_in}
 use Rattle.rely_guarantee.specs.declared.event.Event.{Event}
 use Rattle.rely_guarantee.specs.declared.event.Event.TheVariants as event
@@ -80,11 +78,6 @@ ref_lacks (answer.NoCommit sum) commit = sum ≡ commit
 ref_lacks (answer.Partial sum) commit = sum ≡ commit
 ref_lacks a commit = ⊥
 
-abbrev pub ref_strays : RefWords → Option Path
-ref_strays (RevParse rev) = None
-ref_strays (Reset branch commit) = Some (ref_path branch)
-ref_strays (DropRef branch) = Some (ref_path branch)
-
 abbrev pub ref_means : Meaning RefWords RefAnswer
 ref_means = record {
   fit = λ limits c. Unit {0};
@@ -105,7 +98,6 @@ ref_means = record {
   lacks = ref_lacks;
   outside = λ a. ⊥;
   full = λ a. ⊥;
-  strays = ref_strays;
 }
 
 -- a change of this ref from one value to another, which hasn't ended

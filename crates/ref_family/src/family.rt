@@ -4,10 +4,9 @@ ghost use Rattle.ref_family.specs.Laws.{ref_command_laws};
 use crate::{RefWords, RefsTask};
 use command::{Begun, Command, Query, Told, commit_of};
 use obj_store::Put;
-use ost_types::{FsPath, Limits, NoMemory, ObjName, TryCopy};
+use ost_types::{Limits, NoMemory, ObjName, TryCopy};
 use ref_book::RefBook;
 use ref_command::{RefAnswer, RefCommand};
-use repo_layout::ref_path;
 use std::alloc::Global;
 
 impl Command for RefsTask {
@@ -47,15 +46,6 @@ impl Command for RefsTask {
                     Ok(Begun::Runs(RefsTask { work }))
                 }
             },
-        }
-    }
-
-    fn stray(alloc: Global, words: &RefWords) -> Result<Option<FsPath>, NoMemory> {
-        match words {
-            RefWords::RevParse { rev: _ } => Ok(None),
-            RefWords::Reset { branch, commit: _ } | RefWords::DropRef { branch } => {
-                Ok(Some(ref_path(alloc, branch)?))
-            }
         }
     }
 

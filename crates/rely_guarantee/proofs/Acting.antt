@@ -1,5 +1,5 @@
 -- The one act of all tasks, from their laws.
-use Rattle.std.proofs.Common.{◌≡◌, ◌≢◌, ◌⊎◌, inl, ⊎_elim, arith, ◌<◌, ◌≤◌, ℕ, refl, sym, ◌∙◌, ap, subst, [], append-nil, Contains, Option, Some}
+use Rattle.std.proofs.Common.{◌≡◌, ◌≢◌, ◌⊎◌, inl, ⊎_elim, arith, ◌<◌, ◌≤◌, ℕ, refl, sym, ◌∙◌, ap, subst, [], append-nil, Contains, Option, Some, Result, Err}
 use Rattle.ost_types.specs.Path.{Path}
 use Rattle.fs_trait.specs.declared.task.StepResult.{StepResult}
 use Rattle.fs_trait.specs.declared.task.StepResult.TheVariants as turn
@@ -7,7 +7,7 @@ use Rattle.fs_trait.specs.View.{View}
 use Rattle.fs_trait.specs.Image.{Told}
 use Rattle.fs_trait.specs.Seen.{Seen}
 use Rattle.fs_trait.specs.Change.{Writes}
-use Rattle.fs_trait.specs.Effect.{Elapses, OfNone}
+use Rattle.fs_trait.specs.Effect.{Elapses, HasCause, OfNone}
 use Rattle.fs_trait.specs.declared.types.FsErr.{FsErr}
 use Rattle.fs_trait.specs.declared.types.FsErr.TheVariants as err
 use Rattle.fs_trait.proofs.Kept.{weaker}
@@ -18,7 +18,9 @@ use Rattle.rely_guarantee.specs.declared.books.Pending.{Pending}
 use Rattle.rely_guarantee.specs.declared.event.Event.{Event}
 use Rattle.rely_guarantee.specs.declared.kind.Outcome.{Outcome}
 use Rattle.rely_guarantee.specs.declared.kind.Outcome.TheVariants as came
+use Rattle.rely_guarantee.specs.declared.kind.Halt.TheVariants as halt
 use Rattle.rely_guarantee.specs.Exact as exact
+use Rattle.rely_guarantee.specs.Exact.{IsRefusedBy, why_of}
 use Rattle.rely_guarantee.specs.State.{first, stored}
 use Rattle.rely_guarantee.specs.Books.{Books, books_of, Spared, Keeps}
 use Rattle.rely_guarantee.specs.Rely.{Guarantee, Interference}
@@ -227,7 +229,7 @@ module _ {T : Type 0} {kind : T → Kind} {needs : ℕ → T → View → Type 0
 
 pub tells_end : {F : Type 0} (view : F → Option View) (runs : Option View → Books → Type 0) (outcome : Outcome) (new : Base F) → IsEnd outcome new → Tells view runs outcome new
 tells_end view runs (came.Refused e) new is = tt
-tells_end view runs came.Halted new is = is
+tells_end view runs (came.Halted why) new is = is
 tells_end view runs came.Blocked new is = absurd is
 tells_end view runs came.More new is = absurd is
 tells_end view runs came.Done new is = tt
@@ -254,9 +256,32 @@ none_stays view clock was only_now counts_now old new time err.NotEmpty still un
 
 -- what the views say of a step that was refused
 pub refused_tells : {T : Type 0} (leaves : T → StepResult (Unit {0}) → T → View → View → Type 0) (refuses : T → View → FsErr → Type 0) (t new : T) (outcome : Outcome) (e : FsErr) (before now : Option View)
-    → ((outcome ≡ came.Halted) × (e ≡ err.Failed)) ⊎ (outcome ≡ came.Refused e) → ((v : View) → before ≡ Some v → (e ≡ err.NoMemory) ⊎ refuses t v e) → (outcome ≡ came.Refused e → OfNone e → (v : View) → before ≡ Some v → now ≡ Some v)
+    → IsRefusedBy e outcome → ((v : View) → before ≡ Some v → (e ≡ err.NoMemory) ⊎ refuses t v e) → (outcome ≡ came.Refused e → OfNone e → (v : View) → before ≡ Some v → now ≡ Some v)
     → exact.Tells leaves refuses t outcome new before now
 refused_tells leaves refuses t new outcome e before now answer why still = ⊎_elim
     (λ halted. subst (λ o. exact.Tells leaves refuses t o new before now) (sym halted.0) tt)
-    (λ is. subst (λ o. exact.Tells leaves refuses t o new before now) (sym is) (λ v told. (why v told, λ named. still is named v told)))
+    (λ other. ⊎_elim
+    (λ strayed. subst (λ o. exact.Tells leaves refuses t o new before now) (sym strayed.0)
+    (λ v told. (e, ⊎_elim (λ lack. absurd (strayed.1 (subst OfNone (sym lack) tt))) (λ refused. refused) (why v told), strayed.1)))
+    (λ is. subst (λ o. exact.Tells leaves refuses t o new before now) (sym is.0) (λ v told. (why v told, λ named. still is.0 named v told)))
+    other)
     answer
+
+-- a step that shows a change, or is owed by one, is never refused for what stands at a path where the view is told
+pub owing_tells : {T : Type 0} (leaves : T → StepResult (Unit {0}) → T → View → View → Type 0) (refuses : T → View → FsErr → Type 0) (t new : T) (e : FsErr) (before now : Option View)
+    → ((v : View) → before ≡ Some v → OfNone e) → (e ≡ err.NoMemory → ⊥) → exact.Tells leaves refuses t (came.Halted (why_of e)) new before now
+owing_tells leaves refuses t new err.Failed before now none roomy = tt
+owing_tells leaves refuses t new err.NoMemory before now none roomy = absurd (roomy refl)
+owing_tells leaves refuses t new err.Exists before now none roomy = λ v told. absurd (none v told)
+owing_tells leaves refuses t new err.Missing before now none roomy = λ v told. absurd (none v told)
+owing_tells leaves refuses t new err.NotFolder before now none roomy = λ v told. absurd (none v told)
+owing_tells leaves refuses t new err.NotEmpty before now none roomy = λ v told. absurd (none v told)
+
+-- that no command goes on for a failed call has the call's cause
+pub halted_causes : {T : Type 0} (before now : ℕ) (result : Result T FsErr) (e : FsErr) → result ≡ Err e → HasCause before now result → exact.Causes before now (came.Halted (why_of e))
+halted_causes before now result err.Failed is cause = (cause.later, cause.failed is)
+halted_causes before now result err.NoMemory is cause = (cause.later, tt)
+halted_causes before now result err.Exists is cause = (cause.later, tt)
+halted_causes before now result err.Missing is cause = (cause.later, tt)
+halted_causes before now result err.NotFolder is cause = (cause.later, tt)
+halted_causes before now result err.NotEmpty is cause = (cause.later, tt)

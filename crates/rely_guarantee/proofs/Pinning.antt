@@ -24,7 +24,7 @@ without_pin (Some object) lane pins =
 -- a pin that was taken first, and then the rest of the step
 pub pinned_then : (pin : Option ObjName) (lane : ℕ) (outcome : Outcome) (old mid new : List Pin) → outcome ≢ came.Blocked → mid ≡ with_pin pin lane old → ArePinned None lane outcome mid new → ArePinned pin lane outcome old new
 pinned_then pin lane came.More old mid new goes is so = so ∙ is
-pinned_then pin lane came.Halted old mid new goes is so = so ∙ is
+pinned_then pin lane (came.Halted why) old mid new goes is so = so ∙ is
 pinned_then pin lane came.Done old mid new goes is so = so ∙ ap (without lane) is ∙ without_pin pin lane old
 pinned_then pin lane (came.Refused e) old mid new goes is so = so ∙ ap (without lane) is ∙ without_pin pin lane old
 pinned_then pin lane came.Blocked old mid new goes is so = absurd (goes refl)

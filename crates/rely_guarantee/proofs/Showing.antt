@@ -1,5 +1,5 @@
 -- The step that shows a change, those behind it, and the one that makes it last.
-use Rattle.std.proofs.Common.{◌≡◌, inl, inr, ◌+◌, ◌-◌, ◌<◌, ◌≤◌, ℕ, refl, sym, ◌∙◌, ap, subst, arith, List, [], ◌∷◌, ◌++◌, append-nil, Bool, Contains, Option, Some, None}
+use Rattle.std.proofs.Common.{◌≡◌, inl, inr, ◌+◌, ◌-◌, ◌<◌, ◌≤◌, ℕ, refl, sym, ◌∙◌, ap, subst, arith, List, [], ◌∷◌, ◌++◌, append-nil, Contains, Option, Some, None}
 use Rattle.std.specs.Vec.{vec_len, vec_capacity}
 use Rattle.ost_types.specs.Path.{Path}
 use Rattle.fs_trait.specs.declared.task.StepResult.{StepResult}
@@ -17,6 +17,7 @@ use Rattle.rely_guarantee.specs.declared.books.Claim as claim
 use Rattle.rely_guarantee.specs.declared.books.Entry.{Entry}
 use Rattle.rely_guarantee.specs.declared.books.Pending.{Pending}
 use Rattle.rely_guarantee.specs.declared.event.Event.{Event}
+use Rattle.rely_guarantee.specs.declared.kind.Halt.{Halt}
 use Rattle.rely_guarantee.specs.declared.kind.Outcome.{Outcome}
 use Rattle.rely_guarantee.specs.declared.kind.Outcome.TheVariants as came
 use Rattle.rely_guarantee.specs.State.{first, events_of, stored}
@@ -141,7 +142,7 @@ module _ {F : Type 0} (view : F → Option View) (clock spare : F → ℕ) (was 
   more_tells t next u not step v now told = subst (λ x. Told now (λ w. leaves t x next v w)) (more_of t next u not step) told
 
   -- the books while the change is shown
-  abbrev pub pending_books : rust.Books → ℕ → ℕ → Event → ℕ → Bool → rust.Books
+  abbrev pub pending_books : rust.Books → ℕ → ℕ → Event → ℕ → Option Halt → rust.Books
   pending_books b lane command e owed halted = record b { turn = Some lane; pending = Some (record { lane = lane; command = command; event = e }); owed = owed; halted = halted }
 
   show_duty : (old : Base F) (lane : ℕ) (t : T) (e : Event) → kind t ≡ Show e → Free old.books.turn lane → Free old.books.exclusive lane → Ready view clock spare was (Runs kind facts lane t) old → (v : View) → view old.fs ≡ Some v
@@ -155,7 +156,7 @@ module _ {F : Type 0} (view : F → Option View) (clock spare : F → ℕ) (was 
       let none : NotPending lane (books_of old.books) = subst (λ (k : Kind). Holds k lane (books_of old.books)) is ready.task.holds in
       no_pending old.books.pending (λ p has. none p has (turn_free p.lane (ready.sound.ordered.owner p has)))
 
-  show_spared : (b : rust.Books) (lane command : ℕ) (e : Event) (owed : ℕ) (h : Bool) → b.pending ≡ None → Free b.turn lane → Spared lane lane (books_of b) (books_of (pending_books b lane command e owed h))
+  show_spared : (b : rust.Books) (lane command : ℕ) (e : Event) (owed : ℕ) (h : Option Halt) → b.pending ≡ None → Free b.turn lane → Spared lane lane (books_of b) (books_of (pending_books b lane command e owed h))
   show_spared b lane command e owed h none turn_free =
       let p : Pending = record { lane = lane; command = command; event = e } in
       let s = spared_refl lane lane (books_of b) in
@@ -182,7 +183,7 @@ module _ {F : Type 0} (view : F → Option View) (clock spare : F → ℕ) (was 
         start = refl;
       }
 
-  pub show_acts : (old : Base F) (fs : F) (lane command : ℕ) (t next : T) (e : Event) (owed : ℕ) (h : Bool) (outcome : Outcome) → kind t ≡ Show e → Free old.books.turn lane → Free old.books.exclusive lane → vec_len old.books.history < vec_capacity old.books.history
+  pub show_acts : (old : Base F) (fs : F) (lane command : ℕ) (t next : T) (e : Event) (owed : ℕ) (h : Option Halt) (outcome : Outcome) → kind t ≡ Show e → Free old.books.turn lane → Free old.books.exclusive lane → vec_len old.books.history < vec_capacity old.books.history
       → Ready view clock spare was (Runs kind facts lane t) old → Wrote old.fs fs lane t → Calls old.fs fs → owed ≤ spare fs
       → Tells view (Runs kind facts lane next) outcome (record { fs = fs; books = pending_books old.books lane command e owed h })
       → Acts view clock spare was lane lane outcome (Runs kind facts lane next) old (record { fs = fs; books = pending_books old.books lane command e owed h })
@@ -236,7 +237,7 @@ module _ {F : Type 0} (view : F → Option View) (clock spare : F → ℕ) (was 
       }
 
   -- a step that is owed: it writes nothing that the state speaks of, and pays for itself
-  owed_core : (old : Base F) (fs : F) (lane : ℕ) (t : T) (e : Event) (n : ℕ) (h : Bool) (runs : Option View → Books → Type 0) (outcome : Outcome) → IsPending e n lane (books_of old.books)
+  owed_core : (old : Base F) (fs : F) (lane : ℕ) (t : T) (e : Event) (n : ℕ) (h : Option Halt) (runs : Option View → Books → Type 0) (outcome : Outcome) → IsPending e n lane (books_of old.books)
       → ((v : View) → view old.fs ≡ Some v → Within (writes lane t v) (Guarantee (books_of old.books) v lane lane) × Away (writes lane t v))
       → SystemInvariant view clock spare was old → Wrote old.fs fs lane t → Calls old.fs fs → spare old.fs ≤ spare fs + 1
       → Tells view runs outcome (record { fs = fs; books = record old.books { owed = old.books.owed - 1; halted = h } })
@@ -290,7 +291,7 @@ module _ {F : Type 0} (view : F → Option View) (clock spare : F → ℕ) (was 
         tells = tells;
       }
 
-  pub owed_acts : (old : Base F) (fs : F) (paid : rust.Books) (lane : ℕ) (t : T) (e : Event) (n : ℕ) (h : Bool) (runs : Option View → Books → Type 0) (outcome : Outcome) → paid ≡ record old.books { owed = old.books.owed - 1 } → IsPending e n lane (books_of old.books)
+  pub owed_acts : (old : Base F) (fs : F) (paid : rust.Books) (lane : ℕ) (t : T) (e : Event) (n : ℕ) (h : Option Halt) (runs : Option View → Books → Type 0) (outcome : Outcome) → paid ≡ record old.books { owed = old.books.owed - 1 } → IsPending e n lane (books_of old.books)
       → ((v : View) → view old.fs ≡ Some v → Within (writes lane t v) (Guarantee (books_of old.books) v lane lane) × Away (writes lane t v))
       → SystemInvariant view clock spare was old → Wrote old.fs fs lane t → Calls old.fs fs → spare old.fs ≤ spare fs + 1
       → Tells view runs outcome (record { fs = fs; books = record paid { halted = h } })
@@ -430,7 +431,7 @@ module _ {F : Type 0} (view : F → Option View) (clock spare : F → ℕ) (was 
       → shown ≡ record mid.books { turn = Some lane; pending = Some (record { lane = lane; command = command; event = e }); owed = owed } → shown ≡ pending_books old.books lane command e owed old.books.halted
   books_shown old mid shown lane command e owed only shows = shows ∙ ap (λ (m : Base F). record m.books { turn = Some lane; pending = Some (record { lane = lane; command = command; event = e }); owed = owed }) only
 
-  pub show_done : (old mid : Base F) (shown : rust.Books) (lane command : ℕ) (t next : T) (e : Event) (owed : ℕ) (h : Bool) (outcome : Outcome) → mid ≡ record old { fs = mid.fs }
+  pub show_done : (old mid : Base F) (shown : rust.Books) (lane command : ℕ) (t next : T) (e : Event) (owed : ℕ) (h : Option Halt) (outcome : Outcome) → mid ≡ record old { fs = mid.fs }
       → shown ≡ record mid.books { turn = Some lane; pending = Some (record { lane = lane; command = command; event = e }); owed = owed }
       → kind t ≡ Show e → Free old.books.exclusive lane × Free old.books.turn lane → vec_len old.books.history < vec_capacity old.books.history → Ready view clock spare was (Runs kind facts lane t) old → Wrote old.fs mid.fs lane t → Calls old.fs mid.fs → owed ≤ spare mid.fs
       → Tells view (Runs kind facts lane next) outcome (record { fs = mid.fs; books = record shown { halted = h } })

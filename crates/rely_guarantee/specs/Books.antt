@@ -1,5 +1,5 @@
 -- Who holds what, and what was changed.
-use Rattle.std.specs.Prelude.{◌≡◌, ◌≢◌, ◌⊎◌, ◌≤◌, ℕ, Bool, IsTrue, IsSome, List, ◌++◌, All, Contains, Option, Some}
+use Rattle.std.specs.Prelude.{◌≡◌, ◌≢◌, ◌⊎◌, ◌≤◌, ℕ, IsTrue, IsSome, List, ◌++◌, All, Contains, Option, Some}
 use Rattle.ost_types.specs.declared.object.ObjName.{ObjName}
 use Rattle.ost_types.specs.Path.{Name}
 use Rattle.rely_guarantee.specs.declared.books.Books as rust
@@ -11,6 +11,7 @@ use Rattle.rely_guarantee.specs.declared.books.Pin.{Pin}
 use Rattle.rely_guarantee.specs.declared.books.Share.{Share}
 use Rattle.rely_guarantee.specs.declared.books.Use.{Use}
 use Rattle.rely_guarantee.specs.declared.books.Want.{Want}
+use Rattle.rely_guarantee.specs.declared.kind.Halt.{Halt}
 use Rattle.rely_guarantee.specs.declared.kind.Wants.{Wants}
 
 -- the books as plain data: all that the system knows beside the disk
@@ -31,7 +32,7 @@ pub record Books : Type 0 where
   pub pending : Option Pending
   pub replies : ℕ
   pub owed : ℕ
-  pub halted : Bool
+  pub halted : Option Halt
   pub opened : ℕ
   pub start : List (List ℕ × List ℕ)
 

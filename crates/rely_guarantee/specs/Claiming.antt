@@ -29,7 +29,7 @@ of_others lane claims = filter (is_other lane) claims
 -- goes.
 abbrev pub AreClaimed : Option Name → ℕ → Outcome → List Claim → List Claim → Type 0
 AreClaimed name lane came.More old new = new ≡ with_claim name lane old
-AreClaimed name lane came.Halted old new = new ≡ old
+AreClaimed name lane (came.Halted why) old new = new ≡ old
 AreClaimed name lane came.Done old new = new ≡ of_others lane old
 AreClaimed name lane (came.Refused e) old new = new ≡ of_others lane old
 AreClaimed name lane came.Blocked old new = new ≡ old

@@ -11,6 +11,8 @@ use Rattle.fs_trait.specs.View.{View}
 use Rattle.rely_guarantee.specs.declared.books.Books as rust
 use Rattle.rely_guarantee.specs.declared.books.Pending.{Pending}
 use Rattle.rely_guarantee.specs.declared.event.Event.{Event}
+use Rattle.rely_guarantee.specs.declared.kind.Halt.{Halt}
+use Rattle.rely_guarantee.specs.declared.kind.Halt.TheVariants as halt
 use Rattle.rely_guarantee.specs.declared.kind.Outcome.{Outcome}
 use Rattle.rely_guarantee.specs.declared.kind.Outcome.TheVariants as came
 use Rattle.rely_guarantee.specs.Books.{Books, Free, Frees}
@@ -33,12 +35,14 @@ Steps stepped old came.Done new = stepped old (turn.Done tt) new
 Steps stepped old came.Blocked new = new ≡ old
 Steps stepped old outcome new = Unit {0}
 
--- What the views say of a step that goes on, of the last one, and of one that ended the command: this one, where it failed or wanted for
--- memory, left the view as it was.
+-- What the views say of a step that goes on, of the last one, and of one that ended the command: this one, which failed or wanted for
+-- memory, left the view as it was. One after which no command goes on since it was refused for what stands at a path was refused so by
+-- the view.
 abbrev pub Tells : {T : Type 0} → (T → StepResult (Unit {0}) → T → View → View → Type 0) → (T → View → FsErr → Type 0) → T → Outcome → T → Option View → Option View → Type 0
 Tells leaves refuses old came.More new before now = (v : View) → before ≡ Some v → Told now (λ w. leaves old turn.More new v w)
 Tells leaves refuses old came.Done new before now = (v : View) → before ≡ Some v → Told now (λ w. leaves old (turn.Done tt) new v w)
 Tells leaves refuses old (came.Refused e) new before now = (v : View) → before ≡ Some v → ((e ≡ err.NoMemory) ⊎ refuses old v e) × (OfNone e → now ≡ Some v)
+Tells {T} leaves refuses old (came.Halted halt.Strayed) new before now = (v : View) → before ≡ Some v → (e : FsErr) × refuses old v e × (OfNone e → ⊥)
 Tells leaves refuses old outcome new before now = Unit {0}
 
 -- history and pending change are as they were
@@ -56,20 +60,20 @@ IsEntered moment old new = (new.pending ≡ None)
 
 abbrev pub IsShownBy : ℕ → ℕ → Event → Outcome → rust.Books → rust.Books → Type 0
 IsShownBy lane command e came.More old new = IsNoted lane command e old new
-IsShownBy lane command e came.Halted old new = IsNoted lane command e old new
+IsShownBy lane command e (came.Halted why) old new = IsNoted lane command e old new
 IsShownBy lane command e came.Blocked old new = IsUnbooked old new
 IsShownBy lane command e (came.Refused f) old new = IsUnbooked old new
 IsShownBy lane command e came.Done old new = ⊥
 
 abbrev pub IsSettledBy : ℕ → Outcome → rust.Books → rust.Books → Type 0
 IsSettledBy moment came.Done old new = IsEntered moment old new
-IsSettledBy moment came.Halted old new = IsUnbooked old new
+IsSettledBy moment (came.Halted why) old new = IsUnbooked old new
 IsSettledBy moment outcome old new = ⊥
 
 -- a change that is shown stays pending
 abbrev pub IsHeldBy : Outcome → rust.Books → rust.Books → Type 0
 IsHeldBy came.More old new = IsUnbooked old new
-IsHeldBy came.Halted old new = IsUnbooked old new
+IsHeldBy (came.Halted why) old new = IsUnbooked old new
 IsHeldBy outcome old new = ⊥
 
 -- What the books have of the step: the one that shows a change notes it as pending, also where the call failed, and the one
@@ -83,19 +87,32 @@ IsBooked (Take wants) lane command moment outcome old new = IsUnbooked old new
 IsBooked (Claim name) lane command moment outcome old new = IsUnbooked old new
 IsBooked (Shown e owed) lane command moment outcome old new = IsHeldBy outcome old new
 
--- a command ends for a call that failed, or for a failed change of all, only where the count of faults rose
+-- A command ends for a call that failed, and all of them for a failed change, only where the count of faults rose. One command alone ends
+-- for nothing else but want of memory.
 abbrev pub HasRisen : ℕ → ℕ → Outcome → Type 0
 HasRisen before now (came.Refused err.Failed) = Rose before now
-HasRisen before now came.Halted = Rose before now
+HasRisen before now (came.Refused err.NoMemory) = Unit {0}
+HasRisen before now (came.Refused e) = ⊥
+HasRisen before now (came.Halted halt.Failed) = Rose before now
 HasRisen before now outcome = Unit {0}
 
 -- and that count never falls
 abbrev pub Causes : ℕ → ℕ → Outcome → Type 0
 Causes before now outcome = (before ≤ now) × HasRisen before now outcome
 
--- a failed change ends all commands, and nothing else does
-abbrev pub IsLive : Outcome → Bool → Bool → Type 0
-IsLive came.Halted old new = new ≡ true
+-- why no command goes on after a step that answered this
+abbrev pub why_of : FsErr → Halt
+why_of err.Failed = halt.Failed
+why_of e = halt.Strayed
+
+-- What a step that answered this before it showed anything comes to: no command goes on, or this one alone ends, for a call that failed or
+-- for want of memory.
+abbrev pub IsRefusedBy : FsErr → Outcome → Type 0
+IsRefusedBy e outcome = ((outcome ≡ came.Halted halt.Failed) × (e ≡ err.Failed)) ⊎ ((outcome ≡ came.Halted halt.Strayed) × (OfNone e → ⊥)) ⊎ ((outcome ≡ came.Refused e) × OfNone e)
+
+-- such a step ends all commands, and no other does
+abbrev pub IsLive : Outcome → Option Halt → Option Halt → Type 0
+IsLive (came.Halted why) old new = new ≡ Some why
 IsLive outcome old new = new ≡ old
 
 -- a lock that is asked for is the lane's; another is as it was

@@ -1,5 +1,5 @@
 -- What every kind of task tells of its steps, and the laws that the one act of all tasks stands on.
-use Rattle.std.specs.Prelude.{◌≡◌, ◌≢◌, ◌⊎◌, ◌≤◌, ◌<◌, ℕ, ◌+◌, suc, true, false, Contains, Option, Some, Result, IsErrOf, OnOk}
+use Rattle.std.specs.Prelude.{◌≡◌, ◌≢◌, ◌⊎◌, ◌≤◌, ◌<◌, ℕ, ◌+◌, suc, Contains, Option, Some, None, Result, IsErrOf, OnOk}
 use Rattle.ost_types.specs.declared.object.ObjName.{ObjName}
 use Rattle.ost_types.specs.Path.{Name, Path}
 use Rattle.fs_trait.specs.declared.task.StepResult.{StepResult}
@@ -216,7 +216,7 @@ pub record Runs {T : Type 0} (kind : T → Kind) (of : ℕ → T → View → Bo
 -- Before an act, where `runs` are the facts of its lane's task.
 pub record Ready {F : Type 0} (view : F → Option View) (clock spare : F → ℕ) (was : F → ℕ → View → Type 0) (runs : Option View → Books → Type 0) (base : Base F) : Type 0 where
   pub sound : SystemInvariant view clock spare was base
-  pub live : base.books.halted ≡ false
+  pub live : base.books.halted ≡ None
   pub task : runs (view base.fs) (books_of base.books)
 
 abbrev pub Tells : {F : Type 0} → (F → Option View) → (Option View → Books → Type 0) → Outcome → Base F → Type 0
@@ -224,7 +224,7 @@ Tells view runs came.Blocked new = runs (view new.fs) (books_of new.books)
 Tells view runs came.More new = runs (view new.fs) (books_of new.books)
 Tells view runs came.Done new = Unit {0}
 Tells view runs (came.Refused e) new = Unit {0}
-Tells view runs came.Halted new = new.books.halted ≡ true
+Tells view runs (came.Halted why) new = new.books.halted ≡ Some why
 
 -- After it. What others may rely on stands where the view is told.
 pub record Acts {F : Type 0} (view : F → Option View) (clock spare : F → ℕ) (was : F → ℕ → View → Type 0) (actor lane : ℕ) (outcome : Outcome) (runs : Option View → Books → Type 0) (old new : Base F) : Type 0 where
@@ -248,5 +248,5 @@ pub record Ends {F : Type 0} (actor lane : ℕ) (old new : Base F) : Type 0 wher
 
 abbrev pub IsEnd : {F : Type 0} → Outcome → Base F → Type 0
 IsEnd (came.Refused e) new = Unit {0}
-IsEnd came.Halted new = new.books.halted ≡ true
+IsEnd (came.Halted why) new = new.books.halted ≡ Some why
 IsEnd outcome new = ⊥

@@ -24,11 +24,11 @@ is_others lane p = not (nat_eq p.lane lane)
 abbrev pub without : ℕ → List Pin → List Pin
 without lane pins = filter (is_others lane) pins
 
--- A command keeps its pins while it runs, with what its step asked for, also where a changing call failed; at its end it gives all of
--- them up. No other pin comes or goes.
+-- A command keeps its pins while it runs, with what its step asked for, also where no command goes on from then on: nobody removes
+-- anything any more, so nothing waits for them. At its end it gives all of them up. No other pin comes or goes.
 abbrev pub ArePinned : Option ObjName → ℕ → Outcome → List Pin → List Pin → Type 0
 ArePinned pin lane came.More old new = new ≡ with_pin pin lane old
-ArePinned pin lane came.Halted old new = new ≡ with_pin pin lane old
+ArePinned pin lane (came.Halted why) old new = new ≡ with_pin pin lane old
 ArePinned pin lane came.Done old new = new ≡ without lane old
 ArePinned pin lane (came.Refused e) old new = new ≡ without lane old
 ArePinned pin lane came.Blocked old new = new ≡ old

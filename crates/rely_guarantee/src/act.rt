@@ -6,16 +6,17 @@ ghost use Rattle.fs_trait.specs.Change.{Writes};
 ghost use Rattle.fs_trait.specs.Effect.{Elapses, HasCause, Next, OfNone};
 ghost use Rattle.std.specs.Vec.{vec_len, vec_capacity};
 ghost use Rattle.rely_guarantee.specs.declared.event.Event.{Event};
+ghost use Rattle.rely_guarantee.specs.declared.kind.Halt.TheVariants as halt;
 ghost use Rattle.rely_guarantee.specs.declared.kind.Outcome.TheVariants as Outcome;
 ghost use Rattle.fs_trait.specs.declared.types.FsErr.TheVariants as FsErr;
 ghost use Rattle.rely_guarantee.specs.Books.{books_of, Free, Frees};
-ghost use Rattle.rely_guarantee.specs.Exact.{Opens, Steps, Tells, IsUnbooked, IsHeldBy, IsShownBy, IsSettledBy, IsBooked, Causes, IsGivenUp, IsLeft, IsLive, Locks};
+ghost use Rattle.rely_guarantee.specs.Exact.{Opens, Steps, Tells, IsUnbooked, IsHeldBy, IsShownBy, IsSettledBy, IsBooked, Causes, IsGivenUp, IsLeft, IsLive, IsRefusedBy, Locks, why_of};
 ghost use Rattle.rely_guarantee.specs.Lasting.{Lasts};
 ghost use Rattle.rely_guarantee.specs.Pinning.{ArePinned, pin_in, without};
 ghost use Rattle.rely_guarantee.specs.Claiming.{AreClaimed, claim_in, of_others};
 ghost use Rattle.rely_guarantee.specs.Laws.{IsShow, IsShown, IsOwing, IsSettle, IsPlain, IsStore, IsTake, IsClaim, KeepsRoom, owed_by, Ready, Runs, IsBy, Stood, Acts, Ends, IsEnd, Claim, Show, Shown, Settle};
 
-use crate::{Base, CommandTask, Event, Outcome, Step, Wants, is_free};
+use crate::{Base, CommandTask, Event, Halt, Outcome, Step, Wants, is_free};
 use fs_trait::{Fs, FsErr, StepResult};
 use ost_types::Name;
 
@@ -57,21 +58,37 @@ fn end<F>(base: &mut Base<F>, actor: u8, lane: u8)
     base.books.release(actor, lane);
 }
 
+/// Why no command goes on after a step that answered this.
+fn why_of(e: FsErr) -> Halt
+    ensures { result ≡ why_of e }
+{
+    match e {
+        FsErr::Failed => Halt::Failed,
+        _ => Halt::Strayed,
+    }
+}
+
 /// A command ends, since its step answered this before it showed anything. After a changing call that failed no command
-/// goes on.
+/// goes on, nor after one that was refused for what stands at its path.
 fn refuse<F: Fs>(base: &mut Base<F>, actor: u8, lane: u8, before: u64, e: FsErr) -> Outcome
     ensures ends { Ends actor lane base.old base.new }
     ensures told { IsEnd result base.new }
-    ensures answer { ((result ≡ Outcome.Halted) × (e ≡ FsErr.Failed)) ⊎ (result ≡ Outcome.Refused e) }
+    ensures answer { IsRefusedBy e result }
     ensures still { result ≡ Outcome.Refused e → e ≡ FsErr.Failed → F.clock base.old.fs ≡ before }
     ensures given_up { IsLeft lane result base.old.books.turn base.new.books.turn × IsLeft lane result base.old.books.exclusive base.new.books.exclusive }
     ensures pins { ArePinned None lane result base.old.books.pins.items base.new.books.pins.items }
     ensures claimed { AreClaimed None lane result base.old.books.claims.items base.new.books.claims.items }
     ensures live { IsLive result base.old.books.halted base.new.books.halted }
 {
-    if e == FsErr::Failed && base.fs.clock() != before {
-        base.books.halted = true;
-        return Outcome::Halted;
+    let goes_on = match e {
+        FsErr::NoMemory => true,
+        FsErr::Failed => base.fs.clock() == before,
+        _ => false,
+    };
+    if !goes_on {
+        let why = why_of(e);
+        base.books.halted = Some(why);
+        return Outcome::Halted(why);
     }
     end(base, actor, lane);
     Outcome::Refused(e)
@@ -122,7 +139,7 @@ fn show<T: CommandTask, F: Fs>(base: &mut Base<F>, lane: u8, command: u32, task:
     ensures claimed { AreClaimed None lane result base.old.books.claims.items base.new.books.claims.items }
     ensures booked { (e : Event) → T.kind_of task.old ≡ Show e → IsShownBy lane command e result base.old.books base.new.books }
     ensures time { Elapses (F.clock base.old.fs) (F.clock base.new.fs) (F.was base.old.fs) (F.was base.new.fs) (F.view base.new.fs) }
-    ensures cause { (v : View) → F.view base.old.fs ≡ Some v → Causes (F.faults base.old.fs) (F.faults base.new.fs) result }
+    ensures cause { Causes (F.faults base.old.fs) (F.faults base.new.fs) result }
     ensures live { IsLive result base.old.books.halted base.new.books.halted }
 {
     if !base.books.frees_turn(lane) {
@@ -161,7 +178,7 @@ fn show_event<T: CommandTask, F: Fs>(
     ensures claimed { AreClaimed None lane result base.old.books.claims.items base.new.books.claims.items }
     ensures booked { IsShownBy lane command event result base.old.books base.new.books }
     ensures time { Elapses (F.clock base.old.fs) (F.clock base.new.fs) (F.was base.old.fs) (F.was base.new.fs) (F.view base.new.fs) }
-    ensures cause { (v : View) → F.view base.old.fs ≡ Some v → Causes (F.faults base.old.fs) (F.faults base.new.fs) result }
+    ensures cause { Causes (F.faults base.old.fs) (F.faults base.new.fs) result }
     ensures live { IsLive result base.old.books.halted base.new.books.halted }
 {
     match advance_with_room(base, lane, task) {
@@ -173,10 +190,11 @@ fn show_event<T: CommandTask, F: Fs>(
             end(base, lane, lane);
             Outcome::Refused(FsErr::NoMemory)
         }
-        Err(_) => {
+        Err(e) => {
+            let why = why_of(e);
             base.books.show(lane, command, event, 0);
-            base.books.halted = true;
-            Outcome::Halted
+            base.books.halted = Some(why);
+            Outcome::Halted(why)
         }
     }
 }
@@ -195,15 +213,16 @@ fn shown<T: CommandTask, F: Fs>(base: &mut Base<F>, lane: u8, task: &mut T) -> O
     ensures claimed { AreClaimed None lane result base.old.books.claims.items base.new.books.claims.items }
     ensures booked { IsHeldBy result base.old.books base.new.books }
     ensures time { Elapses (F.clock base.old.fs) (F.clock base.new.fs) (F.was base.old.fs) (F.was base.new.fs) (F.view base.new.fs) }
-    ensures cause { (v : View) → F.view base.old.fs ≡ Some v → Causes (F.faults base.old.fs) (F.faults base.new.fs) result }
+    ensures cause { Causes (F.faults base.old.fs) (F.faults base.new.fs) result }
     ensures live { IsLive result base.old.books.halted base.new.books.halted }
 {
     base.books.pay();
     match task.advance(lane, &mut base.fs) {
         Ok(_) => Outcome::More,
-        Err(_) => {
-            base.books.halted = true;
-            Outcome::Halted
+        Err(e) => {
+            let why = why_of(e);
+            base.books.halted = Some(why);
+            Outcome::Halted(why)
         }
     }
 }
@@ -222,24 +241,25 @@ fn settle<T: CommandTask, F: Fs>(base: &mut Base<F>, lane: u8, task: &mut T) -> 
     ensures claimed { AreClaimed None lane result base.old.books.claims.items base.new.books.claims.items }
     ensures booked { IsSettledBy (F.clock base.new.fs) result base.old.books base.new.books }
     ensures time { Elapses (F.clock base.old.fs) (F.clock base.new.fs) (F.was base.old.fs) (F.was base.new.fs) (F.view base.new.fs) }
-    ensures cause { (v : View) → F.view base.old.fs ≡ Some v → Causes (F.faults base.old.fs) (F.faults base.new.fs) result }
+    ensures cause { Causes (F.faults base.old.fs) (F.faults base.new.fs) result }
     ensures live { IsLive result base.old.books.halted base.new.books.halted }
 {
     match task.advance(lane, &mut base.fs) {
         Ok(StepResult::Done(())) => {
             let moment = base.fs.clock();
             if !base.books.acknowledge(moment) {
-                base.books.halted = true;
-                return Outcome::Halted;
+                base.books.halted = Some(Halt::Failed);
+                return Outcome::Halted(Halt::Failed);
             }
             end(base, lane, lane);
             Outcome::Done
         }
         Ok(StepResult::More) => Outcome::More,
-        Err(_) => {
+        Err(e) => {
+            let why = why_of(e);
             base.books.pay();
-            base.books.halted = true;
-            Outcome::Halted
+            base.books.halted = Some(why);
+            Outcome::Halted(why)
         }
     }
 }
@@ -351,8 +371,8 @@ fn claim_named<T: CommandTask, F: Fs>(
     match advance_with_room(base, lane, task) {
         Ok(StepResult::More) => {
             if !base.books.note_claim(lane, name) {
-                base.books.halted = true;
-                return Outcome::Halted;
+                base.books.halted = Some(Halt::Failed);
+                return Outcome::Halted(Halt::Failed);
             }
             Outcome::More
         }
@@ -387,7 +407,7 @@ pub fn task_act<T: CommandTask, F: Fs>(
     ensures booked { IsBooked (T.kind_of task.old) lane command (F.clock base.new.fs) result base.old.books base.new.books }
     ensures time { Elapses (F.clock base.old.fs) (F.clock base.new.fs) (F.was base.old.fs) (F.was base.new.fs) (F.view base.new.fs) }
     ensures outlasts { Lasts [] F.view F.clock F.was base.old.fs base.new.fs }
-    ensures cause { (v : View) → F.view base.old.fs ≡ Some v → Causes (F.faults base.old.fs) (F.faults base.new.fs) result }
+    ensures cause { Causes (F.faults base.old.fs) (F.faults base.new.fs) result }
     ensures live { IsLive result base.old.books.halted base.new.books.halted }
 {
     match task.kind() {

@@ -1,4 +1,4 @@
-use crate::Event;
+use crate::{Event, Halt};
 use ost_types::{Csum, Name, ObjName};
 use repo_layout::{OsName, RefName};
 
@@ -91,8 +91,8 @@ pub struct Books {
     pub replies: u32,
     /// How many changing calls are owed before the pending change lasts.
     pub owed: u64,
-    /// A changing call failed, and no command goes on.
-    pub halted: bool,
+    /// Why no command goes on, once that is so.
+    pub halted: Option<Halt>,
     /// The file system's clock at the opening.
     pub opened: u64,
     /// The refs at the opening.

@@ -39,8 +39,17 @@ pub enum Outcome {
     Blocked,
     More,
     Done,
-    /// The command ends, since its step answered this. Nothing of it is shown.
+    /// The command ends, since its step failed at a call that reads, or wanted for memory. Nothing of it is shown.
     Refused(FsErr),
-    /// A changing call failed, and no command goes on.
-    Halted,
+    /// No command goes on.
+    Halted(Halt),
+}
+
+/// Why no command goes on.
+#[derive(Clone, Copy, Debug, PartialEq, Eq)]
+pub enum Halt {
+    /// A call that changes something failed.
+    Failed,
+    /// A call was refused for what stands at its path, which nothing that was done here explains: something else changed the disk.
+    Strayed,
 }

@@ -1,4 +1,4 @@
-ghost use Rattle.std.specs.Prelude.{◌≡◌, ◌≤◌, Some, None, [], false};
+ghost use Rattle.std.specs.Prelude.{◌≡◌, ◌≤◌, Some, None, []};
 ghost use Rattle.fs_trait.specs.View.{View};
 ghost use Rattle.rely_guarantee.specs.State.{first};
 ghost use Rattle.rely_guarantee.specs.SystemInvariant.{SystemInvariant};
@@ -14,7 +14,7 @@ use std::alloc::Global;
 impl Books {
     /// The books at the opening: nobody holds anything, and nothing has changed.
     fn new(alloc: Global, opened: u64, start: Vec<(RefName, Csum)>) -> Books
-        ensures fresh { result ≡ record { shared = result.shared; exclusive = None; turn = None; sysroot = None; holds = result.holds; wants = result.wants; pins = result.pins; doomed = result.doomed; gone = 0; claims = result.claims; uses = result.uses; history = result.history; pending = None; replies = 0; owed = 0; halted = false; opened = opened; start = start } }
+        ensures fresh { result ≡ record { shared = result.shared; exclusive = None; turn = None; sysroot = None; holds = result.holds; wants = result.wants; pins = result.pins; doomed = result.doomed; gone = 0; claims = result.claims; uses = result.uses; history = result.history; pending = None; replies = 0; owed = 0; halted = None; opened = opened; start = start } }
         ensures history { result.history.items ≡ [] }
         ensures pins { result.pins.items ≡ [] }
         ensures doomed { result.doomed.items ≡ [] }
@@ -36,7 +36,7 @@ impl Books {
             pending: None,
             replies: 0,
             owed: 0,
-            halted: false,
+            halted: None,
             opened,
             start,
         }
@@ -54,7 +54,7 @@ impl<F: Fs> Base<F> {
         ensures start { result.books.start ≡ start }
         ensures history { result.books.history.items ≡ [] }
         ensures pending { result.books.pending ≡ None }
-        ensures live { result.books.halted ≡ false }
+        ensures live { result.books.halted ≡ None }
         ensures pins { result.books.pins.items ≡ [] }
         ensures claims { result.books.claims.items ≡ [] }
         ensures free { (result.books.turn ≡ None) × (result.books.exclusive ≡ None) }

@@ -1,4 +1,4 @@
-use Rattle.std.proofs.Common.{ap, Err, inl, refl, subst, sym, true, arith, ◌≤◌}
+use Rattle.std.proofs.Common.{◌≡◌, ap, Err, Some, inl, refl, subst, sym, arith, ◌≤◌}
 use Rattle.rely_guarantee.specs.Laws.{IsLastly, IsShow, Runs}
 use Rattle.rely_guarantee.proofs.Sounds.{IsFs}
 use Rattle.rely_guarantee.proofs.Acting.{asks}
@@ -42,7 +42,7 @@ returns-in-Err-clause-acts g c =
     let r = c.requires in
     let mid = c.advance_with_room.new.base in
     let next = c.advance_with_room.new.task in
-    show_done g.F.Fs.view g.F.Fs.clock g.F.Fs.spare g.F.Fs.was (fs g) g.met.T.CommandTask.laws c.args.base.now mid c.show-in-Err.new.self c.args.lane c.args.command c.args.task.now next c.args.event 0 true _
+    show_done g.F.Fs.view g.F.Fs.clock g.F.Fs.spare g.F.Fs.was (fs g) g.met.T.CommandTask.laws c.args.base.now mid c.show-in-Err.new.self c.args.lane c.args.command c.args.task.now next c.args.event 0 (Some c.why_of-why.result) _
     e.books c.show-in-Err.ensures r.kind r.free r.entry r.ready e.writes e.time (omega arith) refl
 
 pub returns-in-Ok-clause-tells : goal.returns-in-Ok-clause-tells
