@@ -242,7 +242,7 @@ module _ {F T W A : Type 0} (f : FsSpec F) (c : Family T W A) (fl : FsLaws f) (c
     had_made : (name : Name) → OfAnswer (λ a. c.means.checks_out a x.words name) z → (q : Running T) × (l.task ≡ Some q) × c.doing.made q.work name
     had_made name said = ⊎_elim
         (λ once. absurd (none_made f c cl limits old x.words l.task z once.1 name said))
-        (λ over. made_ended f c fl cl limits lane (length l.replies.items) refs refs' objects old new x.words l.task v w_ told_v (acts_.does v told_v).1 name over.0 over.1 z (c.means.strays x.words) over.4 over.3 said)
+        (λ over. made_ended f c fl cl limits lane (length l.replies.items) refs refs' objects old new x.words l.task v w_ told_v (acts_.does v told_v).1 name over.0 over.1 z _ over.4 over.3 said)
         x.did.3
 
     -- where the store is good no answer tells otherwise

@@ -130,7 +130,7 @@ module _ {T W A : Type 0} (m : Meaning W A) (d : Doing T W A) (lanes : List (Lan
     made_going a n (inl (r, words_r, to, is, said)) = inl (inl (r, words_r, to_was lanes lane l l' at same replies a n r to, command_was lanes lane l l' at same a n words_r is, said))
     made_going a n (inr (r, runs, made)) = ⊎_elim
         (λ apart. inl (inr (r, apart.1, made)))
-        (λ here. (let number : n ≡ length l.replies.items = here.1 ∙ ap (λ x. length x.items) replies in
+        (λ here. (let number : n ≡ length l.replies.items = subst (λ xs. n ≡ length xs.items) replies here.1 in
         ⊎_elim
         (λ new. inr (here.0, number, new))
         (λ had. inl (runs_here a n here.0 number had))
