@@ -3,6 +3,7 @@ use crate::stop::Stop;
 use case_book::Plan;
 use fs_memory::{MemSink, MemSource};
 use fs_trait::Fs;
+use fs_watch::Watched;
 use ost_types::{Bytes, Limits};
 use std::alloc::Global;
 use top_call::{Ended, LanesEnd, TopFault, asked_lanes, ostree, output_of, run_asked, status_of};
@@ -46,7 +47,7 @@ pub fn call_program<F: Fs>(
         None => {
             let fail = Vec::from_slice(alloc, &plan.sink)?;
             let mut out = MemSink::new(alloc, plan.room.unwrap_or(ROOM), fail)?;
-            let ended = ostree(alloc, words, fs, &mut input, &mut out);
+            let ended = ostree(alloc, words, Watched::new(fs), &mut input, &mut out);
             ran_of(alloc, ended, out.bytes(), begun)
         }
     }
@@ -54,12 +55,12 @@ pub fn call_program<F: Fs>(
 
 fn ran_of<F: Fs>(
     alloc: Global,
-    ended: Ended<F>,
+    ended: Ended<Watched<F>>,
     output: &[u8],
     begun: u64,
 ) -> Result<Ran<F>, Stop> {
     Ok(Ran {
-        fs: ended.fs,
+        fs: ended.fs.into_inner(),
         status: ended.status,
         output: Vec::from_slice(alloc, output)?,
         lasting: ended.history.len() as u64,
@@ -80,18 +81,22 @@ fn call_within<F: Fs>(
     let mut limits = Limits::standard();
     limits.objects = objects;
     match asked_lanes(alloc, words, input) {
-        Ok(asked) => match run_asked(alloc, fs, asked, limits) {
+        Ok(asked) => match run_asked(alloc, Watched::new(fs), asked, limits) {
             Ok(parts) => ended_within(alloc, parts, begun),
-            Err((fs, fault)) => stopped_within(alloc, fs, fault, begun),
+            Err((fs, fault)) => stopped_within(alloc, fs.into_inner(), fault, begun),
         },
         Err(fault) => stopped_within(alloc, fs, fault, begun),
     }
 }
 
-fn ended_within<F: Fs>(alloc: Global, parts: LanesEnd<F>, begun: u64) -> Result<Ran<F>, Stop> {
+fn ended_within<F: Fs>(
+    alloc: Global,
+    parts: LanesEnd<Watched<F>>,
+    begun: u64,
+) -> Result<Ran<F>, Stop> {
     let output = output_of(alloc, &None, &parts.replies)?;
     Ok(Ran {
-        fs: parts.fs,
+        fs: parts.fs.into_inner(),
         status: status_of(&None, &parts.replies, false, false, false),
         output: output.into_vec(),
         lasting: parts.history.len() as u64,

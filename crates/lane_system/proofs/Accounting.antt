@@ -1,5 +1,5 @@
 -- An act keeps what is so of all replies with the history.
-use Rattle.std.proofs.Common.{◌≡◌, ◌⊎◌, inl, inr, ⊎_elim, ◌≤◌, ◌+◌, ◌*◌, ℕ, suc, refl, sym, ◌∙◌, ap, subst, arith, List, [], ◌∷◌, ◌++◌, length, length-append, set, Option, Some, None}
+use Rattle.std.proofs.Common.{◌≡◌, ◌≢◌, ◌⊎◌, inl, inr, ⊎_elim, ◌<◌, ◌≤◌, ◌+◌, ◌*◌, ℕ, suc, refl, sym, ◌∙◌, ap, subst, arith, List, [], ◌∷◌, ◌++◌, length, length-append, set, Option, Some, None}
 use Rattle.ost_types.specs.declared.limits.Limits.{Limits}
 use Rattle.rely_guarantee.specs.declared.books.Books as rust
 use Rattle.rely_guarantee.specs.declared.books.Entry.{Entry}
@@ -15,14 +15,14 @@ use Rattle.lane_system.specs.Kept.{Accounted}
 use Rattle.lane_system.specs.LaneActs.{task_start}
 use Rattle.lane_system.specs.Lanes.{IsAt, IsCommand, IsNext, IsRunning, IsTo, count_of}
 use Rattle.lane_system.specs.Replied.{WasMade}
-use Rattle.lane_system.specs.Replies.{IsHalted, OfAnswer}
+use Rattle.lane_system.specs.Replies.{EndsToo, IsCutOff, OfAnswer}
 use Rattle.lane_system.specs.States.{since_in}
-use Rattle.lane_system.proofs.Changing.{command_stays, count_more, count_same, numbered_more, numbered_same, running_apart, running_here, running_was, to_new, to_same, to_stays}
+use Rattle.lane_system.proofs.Changing.{command_stays, count_more, count_same, numbered_more, numbered_same, running_apart, running_here, running_was, to_new, to_same, to_split, to_stays, to_was}
 use Rattle.lane_system.proofs.Giving.{Grows}
 use Rattle.lane_system.proofs.Places.{at_split, here_or_apart}
 use Rattle.lane_system.proofs.Prefixes.{longer, state_is}
 
-module _ {T W A : Type 0} (m : Meaning W A) (limits : Limits) (old new : rust.Books) (lanes : List (Lane T W A)) (given : ℕ) (acc : Accounted m limits old lanes given) (actor lane : ℕ) (spared : Spared actor lane (books_of old) (books_of new))
+module _ {T W A : Type 0} (told : Type 0) (m : Meaning W A) (limits : Limits) (old new : rust.Books) (lanes : List (Lane T W A)) (given : ℕ) (acc : Accounted told m limits old lanes given) (actor lane : ℕ) (spared : Spared actor lane (books_of old) (books_of new))
     (l l' : Lane T W A) (at : IsAt lanes lane l) (words : l'.words ≡ l.words) (c : W) (next : IsNext l c)
     (early : (a n : ℕ) (r : Running T) → IsRunning lanes a n r → r.start ≤ length old.history.items) (within : (a n : ℕ) (r : Reply A) → IsTo lanes a n r → r.start ≤ length old.history.items) where
   abbrev pub number : ℕ
@@ -56,8 +56,8 @@ module _ {T W A : Type 0} (m : Meaning W A) (limits : Limits) (old new : rust.Bo
 
   -- the act goes on
   module _ (replies : l'.replies ≡ l.replies) (t' : T) (task : l'.task ≡ Some (record { work = t'; start = start })) (history : new.history.items ≡ old.history.items) where
-    pub accounted_more : Shows → Accounted m limits new (set lanes lane l') given
-    accounted_more shows = record {
+    pub accounted_more : (new.halted ≡ None → old.halted ≡ None) → Shows → Accounted told m limits new (set lanes lane l') given
+    accounted_more live shows = record {
       made = λ k e is. (let x = acc.made k e (subst (λ (h : List Entry). IsAt h k e) history is) in (x.0, to_same lanes lane l l' at words replies e.lane e.command x.0 x.1, x.2, x.3, command_stays lanes lane l l' at words e.lane e.command x.3 x.4, x.5));
       shown = λ p is. ⊎_elim
           (λ before. (let x = acc.shown p before in (
@@ -67,6 +67,12 @@ module _ {T W A : Type 0} (m : Meaning W A) (limits : Limits) (old new : rust.Bo
           )))
           (λ now. (c, here p now.0 now.1, inl (r', subst (λ k. IsRunning (set lanes lane l') k p.command r') (sym now.0) (running_here lanes lane l l' at words p.command r' (now.1 ∙ ap (λ x. length x.items) (sym replies)) task), change_stays start c p start_within now.2)))
           (shows p is);
+      going = λ p is going. ⊎_elim
+          (λ before. running_goes p (acc.going p before (live going)))
+          (λ now. (r', subst (λ k. IsRunning (set lanes lane l') k p.command r') (sym now.0) (running_here lanes lane l l' at words p.command r' (now.1 ∙ ap (λ x. length x.items) (sym replies)) task)))
+          (shows p is);
+      untaken = λ a n r to. acc.untaken a n r (to_was lanes lane l l' at words replies a n r to);
+      over = λ a n b m r q to too lt. acc.over a n b m r q (to_was lanes lane l l' at words replies a n r to) (to_was lanes lane l l' at words replies b m q too) lt;
       numbered = numbered_same lanes lane l l' at words replies acc.numbered;
       count = acc.count ∙ sym (count_same lanes lane l l' at words replies);
       fewer = omega (arith, ap length history, acc.fewer, count_same lanes lane l l' at words replies);
@@ -74,6 +80,12 @@ module _ {T W A : Type 0} (m : Meaning W A) (limits : Limits) (old new : rust.Bo
       where
         r' : Running T
         r' = record { work = t'; start = start }
+
+        running_goes : (p : Pending) → ((r : Running T) × IsRunning lanes p.lane p.command r) → (r : Running T) × IsRunning (set lanes lane l') p.lane p.command r
+        running_goes p runs = here_or_apart p.lane lane
+            (λ e. (let w = running_was lanes lane l l' at words p.command runs.0 (subst (λ k. IsRunning lanes k p.command runs.0) e runs.1) in
+            (r', subst (λ k. IsRunning (set lanes lane l') k p.command r') (sym e) (running_here lanes lane l l' at words p.command r' (w.0 ∙ ap (λ x. length x.items) (sym replies)) task))))
+            (λ ne. (runs.0, running_apart lanes lane l l' at words p.lane p.command runs.0 ne runs.1))
 
         -- one that runs goes on
         on : (p : Pending) (d : W) → ((r : Running T) × IsRunning lanes p.lane p.command r × m.changes (since_in limits old r.start) d p.event) → (r : Running T) × IsRunning (set lanes lane l') p.lane p.command r × m.changes (since_in limits new r.start) d p.event
@@ -84,8 +96,8 @@ module _ {T W A : Type 0} (m : Meaning W A) (limits : Limits) (old new : rust.Bo
             (λ ne. (runs.0, running_apart lanes lane l l' at words p.lane p.command runs.0 ne runs.1, change_stays runs.0.start d p (early p.lane p.command runs.0 runs.1) runs.2))
 
   -- the act gives a reply
-  module _ (r : Reply A) (x : Ended A) (replies : l'.replies.items ≡ l.replies.items ++ r ∷ []) (task : l'.task ≡ None) (answered : r.answer ≡ x) (begun : r.start ≡ start) (place : r.place ≡ length new.history.items) (order : r.order ≡ given)
-      (grows : Grows (λ a. m.makes a c) lane number x old.history.items new.history.items) (left : (p : Pending) → new.pending ≡ Some p → p.lane ≡ lane → IsHalted x) where
+  module _ (r : Reply A) (x : Ended A) (replies : l'.replies.items ≡ l.replies.items ++ r ∷ []) (task : l'.task ≡ None) (answered : r.answer ≡ x) (begun : r.start ≡ start) (place : r.place ≡ length new.history.items) (order : r.order ≡ given) (taken : r.taken ≡ None)
+      (grows : Grows (λ a. m.makes a c) lane number x old.history.items new.history.items) (left : (p : Pending) → new.pending ≡ Some p → p.lane ≡ lane → IsCutOff told x) (later : (a n : ℕ) (q : Reply A) → IsTo lanes a n q → EndsToo q.answer x) where
     abbrev lanes' : List (Lane T W A)
     lanes' = set lanes lane l'
 
@@ -105,17 +117,21 @@ module _ {T W A : Type 0} (m : Meaning W A) (limits : Limits) (old new : rust.Bo
       subst (OfAnswer (λ a. m.makes a c)) (sym answered) makes,
     )
 
-    -- its change is pending still only where a failed call ended it
-    over : (p : Pending) (d : W) → new.pending ≡ Some p → p.lane ≡ lane → p.command ≡ number → m.changes (since_in limits old start) d p.event → (q : Reply A) × IsTo lanes' p.lane p.command q × IsHalted q.answer × m.changes (since_in limits new q.start) d p.event
+    -- its change is pending still only where it was cut short
+    over : (p : Pending) (d : W) → new.pending ≡ Some p → p.lane ≡ lane → p.command ≡ number → m.changes (since_in limits old start) d p.event → (q : Reply A) × IsTo lanes' p.lane p.command q × IsCutOff told q.answer × m.changes (since_in limits new q.start) d p.event
     over p d is e n change = (
       r,
       subst (λ k. IsTo lanes' k p.command r) (sym e) (subst (λ k. IsTo lanes' lane k r) (sym n) (to_new lanes lane l l' at words r replies)),
-      subst IsHalted (sym answered) (left p is e),
+      subst (IsCutOff told) (sym answered) (left p is e),
       subst (λ k. m.changes (since_in limits new k) d p.event) (sym begun) (change_stays start d p start_within change),
     )
 
-    pub accounted_given : Shows → Accounted m limits new lanes' (given + 1)
-    accounted_given shows = record {
+    -- no reply was given after this one
+    last_one : (b m : ℕ) (p q : Reply A) → p ≡ r → p.order < q.order → IsTo lanes b m q → ⊥
+    last_one b m p q is lt to = omega (arith, lt, acc.numbered.below b m q to, ap (λ (y : Reply A). y.order) is, order, acc.count)
+
+    pub accounted_given : (new.halted ≡ None → (old.halted ≡ None) × ((p : Pending) → new.pending ≡ Some p → p.lane ≢ lane)) → Shows → Accounted told m limits new lanes' (given + 1)
+    accounted_given idle shows = record {
       made = λ k e is. ⊎_elim
           (λ same. made_before k e (subst (λ (h : List Entry). IsAt h k e) same.0 is))
           (λ more. ⊎_elim
@@ -137,6 +153,21 @@ module _ {T W A : Type 0} (m : Meaning W A) (limits : Limits) (old new : rust.Bo
           )))
           (λ now. (c, here p now.0 now.1, inr (over p c is now.0 now.1 now.2)))
           (shows p is);
+      going = λ p is live. (let quiet = idle live in ⊎_elim
+          (λ before. (let runs = acc.going p before quiet.0 in (runs.0, running_apart lanes lane l l' at words p.lane p.command runs.0 (quiet.1 p is) runs.1)))
+          (λ now. absurd (quiet.1 p is now.0))
+          (shows p is));
+      untaken = λ a n q to. ⊎_elim (λ before. acc.untaken a n q before) (λ new_one. ap (λ (y : Reply A). y.taken) new_one.2 ∙ taken) (to_split lanes lane l l' at words r replies a n q to);
+      over = λ a n b m p q to too lt. ⊎_elim
+          (λ first. ⊎_elim
+          (λ second. acc.over a n b m p q first second lt)
+          (λ new_one. subst (λ (y : Reply A). EndsToo p.answer y.answer) (sym new_one.2) (subst (EndsToo p.answer) (sym answered) (later a n p first)))
+          (to_split lanes lane l l' at words r replies b m q too))
+          (λ new_one. ⊎_elim
+          (λ second. absurd (last_one b m p q new_one.2 lt second))
+          (λ too_new. absurd (omega (arith, lt, ap (λ (y : Reply A). y.order) new_one.2, ap (λ (y : Reply A). y.order) too_new.2)))
+          (to_split lanes lane l l' at words r replies b m q too))
+          (to_split lanes lane l l' at words r replies a n p to);
       numbered = numbered_more lanes lane l l' at words r replies (order ∙ acc.count) acc.numbered;
       count = ap (λ n. n + 1) acc.count ∙ sym (count_more lanes lane l l' at words r replies);
       fewer = ⊎_elim

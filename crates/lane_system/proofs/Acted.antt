@@ -33,7 +33,7 @@ use Rattle.lane_system.specs.LaneActs.{LaneActs, task_start}
 use Rattle.lane_system.specs.Lanes.{IsAt, IsCommand, IsTo}
 use Rattle.lane_system.specs.Lasting.{AreKept}
 use Rattle.lane_system.specs.Preserves.{Preserves}
-use Rattle.lane_system.specs.Replies.{IfAnswer, IsCaused, IsOutside, Knows, OfAnswer}
+use Rattle.lane_system.specs.Replies.{IfAnswer, IsOutside, Knows, OfAnswer}
 use Rattle.lane_system.specs.Said.{AreSaid}
 use Rattle.lane_system.specs.States.{now_of, since_in}
 use Rattle.lane_system.specs.Staying.{AreStaying}
@@ -47,14 +47,13 @@ use Rattle.lane_system.proofs.Family.{FamilyLaws, FsLaws}
 use Rattle.lane_system.proofs.Folding.{comes, made_goes, made_still, none_in_the_way, stands_in_the_way, taken_by, taken_stays}
 use Rattle.lane_system.proofs.Giving.{Gives, is_answer}
 use Rattle.lane_system.proofs.Places.{at_split}
-use Rattle.lane_system.proofs.Preserving.{caused_on, founded_on, inside_on, lasts_on, none_removed, said_on, staying_on}
+use Rattle.lane_system.proofs.Preserving.{founded_on, inside_on, lasts_on, none_removed, said_on, staying_on}
 use Rattle.lane_system.proofs.Stored.{alone_given, alone_more, no_outside_given, stored_given, stored_more}
 use Rattle.lane_system.proofs.Taking.{told}
 
 -- What acts keep.
 pub record ActKeeps {F T W A : Type 0} (f : FsSpec F) (c : Family T W A) (old new : System F T W A) (v : View) : Type 0 where
   pub lasts : (opening : View) → AreKept c.means f.was opening old v → Told (f.view new.base.fs) (λ w. AreKept c.means f.was opening new w)
-  pub caused : (before : ℕ) → AreCaused f.faults before old → AreCaused f.faults before new
   pub good : AreStored f c.means old v → Told (f.view new.base.fs) (λ w. AreStored f c.means new w)
   pub inside : AreStored f c.means old v → AreInside f c.means old → AreInside f c.means new
   pub folders : (opening : Disk) → AreFolders c.means c.doing opening old v → Told (f.view new.base.fs) (λ w. AreFolders c.means c.doing opening new w)
@@ -106,8 +105,6 @@ module _ {F T W A : Type 0} (f : FsSpec F) (c : Family T W A) (fl : FsLaws f) (c
     more_keeps = record {
       lasts = λ opening is. lasts_on f c fl cl limits lane lane refs refs' objects objects' old new lanes (set lanes lane l') acts kept.sound.ordered.ascends (command_was lanes lane l l' at x.same) (length l.replies.items) _ begin None_ split (λ r words n. absurd n) starts v told_v opening
           (λ k e words at_k late of right. absurd (omega (arith, at_k.0, ap length history, late))) is;
-      caused = λ before is. caused_on f c fl cl limits lane lane refs refs' objects objects' old new lanes (set lanes lane l') acts kept.sound.ordered.ascends (command_was lanes lane l l' at x.same) (length l.replies.items) _ begin None_ split (λ r words n. absurd n) starts v told_v
-          (λ r words n. absurd n) (commands_of l' given kept') before is;
       good = λ stored. (w, (acts.does v told_v).1, stored_more f c fl cl limits lane refs refs' objects objects' old new lanes given l kept at v told_v l' x stored);
       inside = λ stored was. record {
         unrefused = inside_on f c fl cl limits lane lane refs refs' objects objects' old new lanes (set lanes lane l') acts kept.sound.ordered.ascends (command_was lanes lane l l' at x.same) (length l.replies.items) _ begin None_ split (λ r words n. absurd n) starts v told_v
@@ -175,7 +172,7 @@ module _ {F T W A : Type 0} (f : FsSpec F) (c : Family T W A) (fl : FsLaws f) (c
         (subst (λ (d : W). P r.start d r.answer) (sym new_one.1) (subst (λ n. P n x.words r.answer) (sym begun) (subst (P start x.words) (sym answered) is)))
 
     shows_new : (q : Reply A) (words : W) → IsNew q words → IfAnswer (λ a. c.means.shows (since_in limits old.books q.start) v a words) q.answer
-    shows_new = of_new (λ n d y. IfAnswer (λ a. c.means.shows (since_in limits old.books n) v a d) y) (g.shown v told_v).0
+    shows_new = of_new (λ n d y. IfAnswer (λ a. c.means.shows (since_in limits old.books n) v a d) y) (g.shown.0 v told_v)
 
     abbrev w_ : View
     w_ = (acts_.does v told_v).0
@@ -242,7 +239,7 @@ module _ {F T W A : Type 0} (f : FsSpec F) (c : Family T W A) (fl : FsLaws f) (c
     had_made : (name : Name) → OfAnswer (λ a. c.means.checks_out a x.words name) z → (q : Running T) × (l.task ≡ Some q) × c.doing.made q.work name
     had_made name said = ⊎_elim
         (λ once. absurd (none_made f c cl limits old x.words l.task z once.1 name said))
-        (λ over. made_ended f c fl cl limits lane (length l.replies.items) refs refs' objects old new x.words l.task v w_ told_v (acts_.does v told_v).1 name over.0 over.1 z _ over.4 over.3 said)
+        (λ over. made_ended f c fl cl limits lane (length l.replies.items) refs refs' objects old new x.words l.task v w_ told_v (acts_.does v told_v).1 name over.0 over.1 z (f.refused new.fs) over.4 over.3 said)
         x.did.3
 
     -- where the store is good no answer tells otherwise
@@ -261,8 +258,6 @@ module _ {F T W A : Type 0} (f : FsSpec F) (c : Family T W A) (fl : FsLaws f) (c
     given_keeps = record {
       lasts = λ opening is. lasts_on f c fl cl limits lane lane refs refs' objects objects' old new lanes (set lanes lane l'') acts_ kept.sound.ordered.ascends (command_was lanes lane l l'' at same) (length l.replies.items) start is_start IsNew split_ (λ q words n. ap (λ (y : Reply A). y.start) n.0 ∙ begun) starts_ v told_v opening
           (λ k e words at_k late of right. lasts_new opening right k e words at_k late of) is;
-      caused = λ before is. caused_on f c fl cl limits lane lane refs refs' objects objects' old new lanes (set lanes lane l'') acts_ kept.sound.ordered.ascends (command_was lanes lane l l'' at same) (length l.replies.items) start is_start IsNew split_ (λ q words n. ap (λ (y : Reply A). y.start) n.0 ∙ begun) starts_ v told_v
-          (of_new (λ n d y. IsCaused old.books.halted (f.faults old.fs) (f.faults new.fs) y) (g.shown v told_v).1) (commands_of l'' (given + 1) kept') before is;
       good = λ stored. (w_, (acts_.does v told_v).1, stored_given f c fl cl limits lane refs refs' objects objects' old new lanes given l kept at v told_v l' z start x l'' r same grows begun stored);
       inside = λ stored was. record {
         unrefused = inside_on f c fl cl limits lane lane refs refs' objects objects' old new lanes (set lanes lane l'') acts_ kept.sound.ordered.ascends (command_was lanes lane l l'' at same) (length l.replies.items) start is_start IsNew split_ (λ q words n. ap (λ (y : Reply A). y.start) n.0 ∙ begun) starts_ v told_v
@@ -292,11 +287,11 @@ module _ {F T W A : Type 0} (f : FsSpec F) (c : Family T W A) (fl : FsLaws f) (c
     }
 
 -- so it is of a whole act
-pub preserves_by : {F T W A : Type 0} (f : FsSpec F) (c : Family T W A) (s s' : System F T W A) → ((v : View) → f.view s.base.fs ≡ Some v → ActKeeps f c s s' v) → Preserves f c s s'
-preserves_by f c s s' keeps = record {
+pub preserves_by : {F T W A : Type 0} (f : FsSpec F) (c : Family T W A) (s s' : System F T W A) → ((v : View) → f.view s.base.fs ≡ Some v → ActKeeps f c s s' v) → ((before : ℕ) → AreCaused f.faults before s → AreCaused f.faults before s') → Preserves f c s s'
+preserves_by f c s s' keeps caused = record {
   lasts = λ opening v told is. (keeps v told).lasts opening is;
   good = λ v told is. (keeps v told).good is;
-  caused = λ before v told is. (keeps v told).caused before is;
+  caused = caused;
   inside = λ v told stored is. (keeps v told).inside stored is;
   folders = λ opening v told is. (keeps v told).folders opening is;
   said = λ v told is. (keeps v told).said is;

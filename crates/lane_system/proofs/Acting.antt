@@ -1,11 +1,13 @@
 -- One act of one lane keeps what a system keeps.
-use Rattle.std.proofs.Common.{◌≡◌, ◌⊎◌, inl, inr, ⊎_elim, ◌<◌, ◌≤◌, ◌+◌, ℕ, true, false, refl, sym, ◌∙◌, ap, subst, arith, List, [], ◌∷◌, ◌++◌, length, set, length-set, Option, Some, None}
+use Rattle.std.proofs.Common.{◌≡◌, ◌⊎◌, inl, inr, ⊎_elim, ◌<◌, ◌≤◌, ◌+◌, ℕ, refl, sym, ◌∙◌, ap, subst, arith, List, [], ◌∷◌, ◌++◌, length, set, length-set, Option, Some, None}
 use Rattle.std.proofs.lemmas.List.{set-get_or}
 use Rattle.std.specs.Prelude.{vec_capacity}
 use Rattle.std.specs.Global.{Vec}
 use Rattle.ost_types.specs.declared.limits.Limits.{Limits}
 use Rattle.rely_guarantee.specs.declared.books.Base.{Base}
 use Rattle.rely_guarantee.specs.declared.books.Pending.{Pending}
+use Rattle.rely_guarantee.specs.declared.kind.Halt.{Halt}
+use Rattle.rely_guarantee.specs.declared.kind.Halt.TheVariants as halt
 use Rattle.rely_guarantee.specs.declared.kind.Outcome.{Outcome}
 use Rattle.rely_guarantee.specs.declared.kind.Outcome.TheVariants as came
 use Rattle.rely_guarantee.specs.declared.kind.Wants.{Wants}
@@ -31,11 +33,11 @@ use Rattle.lane_system.specs.Kept.{Kept, LaneKept, Locked}
 use Rattle.lane_system.specs.LaneActs.{IsAtOnce, LaneActs, Takes, task_start}
 use Rattle.lane_system.specs.Lanes.{IsAt, IsRunning, IsTo}
 use Rattle.lane_system.specs.Pins.{AreInWork, IsWorkOf}
-use Rattle.lane_system.specs.Replies.{IsTold}
+use Rattle.lane_system.specs.Replies.{EndsToo, IsTold}
 use Rattle.lane_system.specs.States.{now_of, since_in}
 use Rattle.lane_system.specs.Steps.{Stepped}
 use Rattle.lane_system.proofs.Accounting.{accounted_given, accounted_more}
-use Rattle.lane_system.proofs.AtOnce.{at_once_gives}
+use Rattle.lane_system.proofs.AtOnce.{at_once_gives, ends_too, none_too}
 use Rattle.lane_system.proofs.Changing.{running_was}
 use Rattle.lane_system.proofs.Endings.{IsMine, more_history, pending_by}
 use Rattle.lane_system.proofs.Family.{FamilyLaws, FsLaws}
@@ -58,7 +60,7 @@ nothing_acts f fl actor lane base refs refs' sound tracks rooms = record {
   lasts = lasts_refl f.view f.clock f.was fl.is base.fs;
   time = record { later = omega arith; soon = omega arith; nothing_else = λ t w early had. inl had; keeps = λ t w early had. had };
   moments = λ k e at. inl at;
-  fails = λ v told. (omega arith, λ was is. cc);
+  fails = (omega arith, λ is. inl is);
   founded = λ v told each. each;
 }
 
@@ -94,13 +96,10 @@ module _ {F T W A : Type 0} (f : FsSpec F) (c : Family T W A) (fl : FsLaws f) (c
   within a n r is = let x = ((kept.each a is.0 is.1).replies n r is.2).2 in omega (arith, x.begun, x.within)
 
   -- what is pending for the lane is its next command's
-  pub mine : old.books.halted ≡ false → IsMine lane (length l.replies.items) old.books
+  pub mine : old.books.halted ≡ None → IsMine lane (length l.replies.items) old.books
   mine live p is own =
-      let x = kept.accounted.shown p is in
-      ⊎_elim
-      (λ runs. (running_was lanes lane l l at refl p.command runs.0 (subst (λ i. IsRunning lanes i p.command runs.0) own runs.1)).0)
-      (λ over. (let h = (kept.each p.lane over.1.0 over.1.1).halts p.command over.0 over.1.2 over.2 in absurd (let z : true ≡ false = sym h.0 ∙ live in cc)))
-      x.2
+      let x = kept.accounted.going p is live in
+      (running_was lanes lane l l at refl p.command x.0 (subst (λ i. IsRunning lanes i p.command x.0) own x.1)).0
 
   pub start_within : task_start old.books.history.items l.task ≤ length old.books.history.items
   start_within = by l.task refl
@@ -124,7 +123,7 @@ module _ {F T W A : Type 0} (f : FsSpec F) (c : Family T W A) (fl : FsLaws f) (c
     acts_same : new ≡ old → Acts f lane lane refs refs' old new
     acts_same same = subst (λ (b : Base F). Acts f lane lane refs refs' old b) (sym same) (nothing_acts f fl lane lane old refs refs' kept.sound (subst (λ (b : Base F). Tracks refs' (now_of b.books)) same x.tracks) x.rooms)
 
-    each_lane : (acts : Acts f lane lane refs refs' old new) (m : Lane T W A) → LaneKept f c limits lane refs' new m → (old.books.halted ≡ true → new ≡ old) → (a : ℕ) (y : Lane T W A) → IsAt (set lanes lane m) a y → LaneKept f c limits a refs' new y
+    each_lane : (acts : Acts f lane lane refs refs' old new) (m : Lane T W A) → LaneKept f c limits lane refs' new m → ((why : Halt) → old.books.halted ≡ Some why → new ≡ old) → (a : ℕ) (y : Lane T W A) → IsAt (set lanes lane m) a y → LaneKept f c limits a refs' new y
     each_lane acts m here over a y is = here_or_apart a lane
         (λ e. subst (λ i. LaneKept f c limits i refs' new y) (sym e) (subst (LaneKept f c limits lane refs' new) (sym (at_set_is lanes lane m y at.0 (subst (λ i. IsAt (set lanes lane m) i y) e is))) here))
         (λ ne. (let was = at_set_back lanes lane a m y ne is in others_kept f c fl cl limits lane lane refs refs' old new acts a ne ne over y (kept.each a y was)))
@@ -157,17 +156,22 @@ module _ {F T W A : Type 0} (f : FsSpec F) (c : Family T W A) (fl : FsLaws f) (c
               cl.commands.store.reaches (since_in limits old.books r'.start) lane x.words t v.0 (books_of old.books) w.0 name after (told_facts f c fl cl limits lane lane (length l.replies.items) refs refs' objects old new x.words l.task came.More t' y v.0 v.1) w.1 w.2),
         )
 
+    live_more : Stepped f c.tasks lane lane (length l.replies.items) y.between refs' came.More t t' old new → new.books.halted ≡ old.books.halted
+    live_more s = s.live
+
     pub kept_on : Kept f c limits new refs' (set lanes lane l') given
     kept_on = record {
       sound = more_acts.sound;
       tracks = x.tracks;
       few = omega (arith, length-set lanes lane l', kept.few);
       homes = more_acts.homes kept.homes;
-      each = each_lane More x more_acts l' (kept_more f c fl cl limits lane lane refs refs' objects old new more_acts l l' x.words x.next x.same k t' x.replies x.did.1 y) (λ over. absurd (let z : true ≡ false = sym over ∙ y.live in cc));
+      each = each_lane More x more_acts l' (kept_more f c fl cl limits lane lane refs refs' objects old new more_acts l l' x.words x.next x.same k t' x.replies x.did.1 y) (λ why over. absurd (let z : Some why ≡ None = sym over ∙ y.live in cc));
       locked = λ live. locked_more lanes lane l l' at x.same old.books new.books (kept.locked y.live) (c.tasks.kind t) (λ wants is. (cl.commands.steps.locks (since_in limits old.books r'.start) x.words t wants after is).0) r' x.did.1 y.step.locks;
       pins = λ live. pinned_more (IsTold f.view) c.means limits lanes lane l l' at x.same lane old.books new.books more_acts.books early (kept.pins y.live) r' x.did.1 x.replies refl start_within x.words x.next (pin_in (c.tasks.kind t)) y.step.pins works;
-      accounted = accounted_more c.means limits old.books new.books lanes given kept.accounted lane lane more_acts.books l l' at x.same x.words x.next early within x.replies t' x.did.1
+      explained = λ strayed. absurd (let z : None ≡ Some halt.Strayed = sym y.live ∙ sym (live_more y.step) ∙ strayed in cc);
+      accounted = accounted_more (IsTold f.view) c.means limits old.books new.books lanes given kept.accounted lane lane more_acts.books l l' at x.same x.words x.next early within x.replies t' x.did.1
           (more_history lane (length l.replies.items) (f.clock new.fs) old.books new.books (c.tasks.kind t) y.step.booked)
+          (λ live. y.live)
           (λ p is. ⊎_elim
           (λ before. inl before)
           (λ now. inr (ap (λ (q : Pending). q.lane) now.2, ap (λ (q : Pending). q.command) now.2, subst (c.means.changes (since_in limits old.books r'.start) x.words) (sym (ap (λ (q : Pending). q.event) now.2)) (cl.commands.changes.shown (since_in limits old.books r'.start) x.words t now.0 after now.1)))
@@ -199,6 +203,7 @@ module _ {F T W A : Type 0} (f : FsSpec F) (c : Family T W A) (fl : FsLaws f) (c
       locked = kept.locked;
       pins = kept.pins;
       accounted = kept.accounted;
+      explained = kept.explained;
     }))
       where
         tracks : Tracks refs' (now_of old.books)
@@ -221,39 +226,51 @@ module _ {F T W A : Type 0} (f : FsSpec F) (c : Family T W A) (fl : FsLaws f) (c
     pub gives : Gives f c limits lane (length l.replies.items) objects old new x.words start z
     gives = subst (λ n. Gives f c limits lane (length l.replies.items) objects old new x.words n z) (sym given_start) (⊎_elim
         (λ at_once. subst (λ (b : Base F). Gives f c limits lane (length l.replies.items) objects old b x.words (task_start old.books.history.items l.task) z) (sym at_once.0)
-        (at_once_gives f c limits lane (length l.replies.items) objects old x.words l.task k.runs z at_once.1))
+        (at_once_gives f c limits lane (length l.replies.items) objects old x.words l.task k.runs kept.explained z at_once.1))
         (λ ended. taken_gives f c fl cl limits lane lane (length l.replies.items) refs refs' objects old new x.words l.task ended.0 ended.1 ended.4 kept.sound (mine ended.4.live) ended.2 z ended.3)
         x.did.3)
 
     -- with the reply
     module _ (l'' : Lane T W A) (r : Reply A) (words : l''.words ≡ l.words) (task : l''.task ≡ None) (grows : l''.replies.items ≡ l.replies.items ++ r ∷ []) (room : vec_capacity l.replies ≤ vec_capacity l''.replies)
-        (answered : r.answer ≡ z) (begun : r.start ≡ start) (place : r.place ≡ length new.books.history.items) (order : r.order ≡ given) where
+        (answered : r.answer ≡ z) (begun : r.start ≡ start) (place : r.place ≡ length new.books.history.items) (order : r.order ≡ given) (taken : r.taken ≡ None) where
       -- at once: a lane without a task
-      once_idle : IsAtOnce f c.means limits old x.words l.task z → old.books.halted ≡ false → l.task ≡ None
+      once_idle : IsAtOnce f c.means limits old x.words l.task z → old.books.halted ≡ None → l.task ≡ None
       once_idle once live = by z once
         where
           by : (w : Ended A) → IsAtOnce f c.means limits old x.words l.task w → l.task ≡ None
           by (ended.Answered a) is = is.1
-          by ended.NoMemory is = is.1
-          by (ended.Halted n) is = absurd (let q : true ≡ false = sym is.0 ∙ live in cc)
+          by ended.NoMemory (inl is) = is.1
+          by ended.NoMemory (inr strayed) = absurd (let q : Some halt.Strayed ≡ None = sym strayed ∙ live in cc)
+          by (ended.Halted n) is = absurd (let q : Some halt.Failed ≡ None = sym is.0 ∙ live in cc)
           by ended.DiskFault is = absurd is
-          by (ended.Outside path) is = absurd is
+          by (ended.Outside path) is = absurd (let q : Some halt.Strayed ≡ None = sym is.0 ∙ live in cc)
 
-      halts : (o : Outcome) (t' : T) → Takes f c limits lane lane (length l.replies.items) refs refs' objects old new x.words l.task o t' → o ≡ came.Halted → new.books.halted ≡ true
-      halts o t' y is = (subst (λ (q : Outcome). Stepped f c.tasks lane lane (length l.replies.items) y.between refs' q (told f c fl cl limits lane lane (length l.replies.items) refs refs' objects old new x.words l.task o t' y) t' old new) is y.step).acts.tells
+      halts : (o : Outcome) (t' : T) → Takes f c limits lane lane (length l.replies.items) refs refs' objects old new x.words l.task o t' → (why : Halt) → o ≡ came.Halted why → new.books.halted ≡ Some why
+      halts o t' y why is = (subst (λ (q : Outcome). Stepped f c.tasks lane lane (length l.replies.items) y.between refs' q (told f c fl cl limits lane lane (length l.replies.items) refs refs' objects old new x.words l.task o t' y) t' old new) is y.step).acts.tells
 
-      locked_given : new.books.halted ≡ false → Locked new.books (set lanes lane l'')
+      locked_given : new.books.halted ≡ None → Locked new.books (set lanes lane l'')
       locked_given live = ⊎_elim
           (λ once. (let was = given_acts.live live in subst (λ (b : Base F). Locked b.books (set lanes lane l'')) (sym once.0) (locked_same lanes lane l l'' at words old.books (kept.locked was) (once_idle once.1 was))))
           (λ over. locked_ended lanes lane l l'' at words old.books new.books (kept.locked over.4.live) _
           (λ wants is. (cl.commands.steps.locks _ x.words _ wants (told_after f c fl cl limits lane lane (length l.replies.items) refs refs' objects old new x.words l.task over.0 over.1 over.4) is).0) over.0 over.2 (halts over.0 over.1 over.4) live over.4.step.locks)
           x.did.3
 
-      pins_given : new.books.halted ≡ false → AreInWork (IsTold f.view) c.means limits new.books (set lanes lane l'')
+      pins_given : new.books.halted ≡ None → AreInWork (IsTold f.view) c.means limits new.books (set lanes lane l'')
       pins_given live = ⊎_elim
           (λ once. (let was = given_acts.live live in pinned_same (IsTold f.view) c.means limits lanes lane l l'' at words lane old.books new.books given_acts.books early (kept.pins was) (ap (λ (b : Base F). b.books.pins.items) once.0) (once_idle once.1 was)))
           (λ over. pinned_ended (IsTold f.view) c.means limits lanes lane l l'' at words lane old.books new.books given_acts.books early (kept.pins over.4.live) _ over.0 over.2 (halts over.0 over.1 over.4) live over.4.step.pins)
           x.did.3
+
+      -- where all were ended before, this one is answered so
+      later_ends : (a n : ℕ) (q : Reply A) → IsTo lanes a n q → EndsToo q.answer z
+      later_ends a n q to = ⊎_elim
+          (λ once. ends_too f c.means limits old x.words l.task q.answer ((kept.each a to.0 to.1).halts n q to.2) z once.1)
+          (λ over. none_too f old q.answer z over.4.live ((kept.each a to.0 to.1).halts n q to.2))
+          x.did.3
+
+      was_explained : new.books.halted ≡ Some halt.Strayed → (before : Option Halt) → old.books.halted ≡ before → ¬ (IsTold f.view)
+      was_explained strayed None is = gives.explained is strayed
+      was_explained strayed (Some why) is = kept.explained (ap (λ (b : Base F). b.books.halted) (sym (gives.over why is)) ∙ strayed)
 
       pub kept_answered : Kept f c limits new refs' (set lanes lane l'') (given + 1)
       kept_answered = record {
@@ -264,6 +281,8 @@ module _ {F T W A : Type 0} (f : FsSpec F) (c : Family T W A) (fl : FsLaws f) (c
         each = each_lane (Answered z start) x given_acts l'' (kept_given f c fl cl limits lane lane refs refs' objects old new given_acts l l'' x.words x.next words k z start given_start given_within task gives r answered begun place grows room) gives.over;
         locked = locked_given;
         pins = pins_given;
-        accounted = accounted_given c.means limits old.books new.books lanes given kept.accounted lane lane given_acts.books l l'' at words x.words x.next early within r z grows task answered (begun ∙ given_start) place order gives.grows gives.left
+        explained = λ strayed. was_explained strayed old.books.halted refl;
+        accounted = accounted_given (IsTold f.view) c.means limits old.books new.books lanes given kept.accounted lane lane given_acts.books l l'' at words x.words x.next early within r z grows task answered (begun ∙ given_start) place order taken gives.grows gives.left later_ends
+            (λ live. (given_acts.live live, gives.idle live))
             (subst (λ n. (p : Pending) → new.books.pending ≡ Some p → (old.books.pending ≡ Some p) ⊎ ((p.lane ≡ lane) × (p.command ≡ length l.replies.items) × c.means.changes (since_in limits old.books n) x.words p.event)) given_start gives.pending);
       }

@@ -23,6 +23,7 @@ use Rattle.lane_system.proofs.Accounting.{count_few}
 use Rattle.lane_system.proofs.Acted.{given_keeps, more_keeps, preserves_by}
 use Rattle.lane_system.proofs.Acting.{given_within, gives, held_lanes, held_same, kept_answered, kept_on, set_same}
 use Rattle.lane_system.proofs.Advancing.{ranked_done, ranked_more, ranked_same, step_less}
+use Rattle.lane_system.proofs.Causing.{given_caused, more_caused}
 use Rattle.lane_system.proofs.Chaining.{preserves_nothing}
 use Rattle.lane_system.proofs.Clauses.{acted_done, acted_more, moves_done, moves_more, objects_done, objects_more, objects_same}
 use Rattle.lane_system.proofs.Family.{FamilyLaws, FsLaws}
@@ -35,7 +36,7 @@ pub record IsAct {F T W A : Type 0} (f : FsSpec F) (c : Family T W A) (old new :
   pub preserves : Preserves f c old new
   pub ranks : Ranked c.doing old new actor x
   pub held : x ≡ ask.Blocked → IsHeldOff old actor
-  pub waits : HasCommand old actor → old.base.books.halted ≡ false → Asks c old actor → IsHeldOff old actor → x ≡ ask.Blocked
+  pub waits : HasCommand old actor → old.base.books.halted ≡ None → Asks c old actor → IsHeldOff old actor → x ≡ ask.Blocked
 
 -- there is no such lane, or it has no command without a reply
 pub no_lane : {F T W A : Type 0} (s : System F T W A) (lane : ℕ) → length s.lanes ≤ lane → ¬ (HasCommand s lane)
@@ -84,7 +85,8 @@ module _ {F T W A : Type 0} (f : FsSpec F) (c : Family T W A) (fl : FsLaws f) (c
         acted = acted_more f c fl cl limits lane refs refs' objects objects' old new lanes given l l' kept at x (AnswerTells c.means f.view (f.faults old.fs) (f.faults new.fs) s);
         objects = objects_more f c fl cl limits lane refs refs' objects objects' old new lanes given l l' kept at x;
         preserves = preserves_by f c s (after l')
-            (λ v told. more_keeps f c fl cl limits lane refs refs' objects objects' old new lanes given l kept at v told l' x (kept_on f c fl cl limits lane refs refs' objects objects' old new lanes given l l' kept at x));
+            (λ v told. more_keeps f c fl cl limits lane refs refs' objects objects' old new lanes given l kept at v told l' x (kept_on f c fl cl limits lane refs refs' objects objects' old new lanes given l l' kept at x))
+            (more_caused f c fl cl limits lane refs refs' objects objects' old new lanes given l kept at l' x);
         ranks = ranked_more c.doing s (after l') lane l l' (moves_more f c fl cl limits lane refs refs' objects objects' old new lanes given l l' kept at x) x.replies
             (subst (λ o. left_of c.doing o < left_of c.doing l.task) (sym x.did.1) (step_less f c cl limits lane lane (length l.replies.items) refs refs' objects old new x.words l.task x.did.0 x.did.3));
         held = λ is. cc;
@@ -108,14 +110,15 @@ module _ {F T W A : Type 0} (f : FsSpec F) (c : Family T W A) (fl : FsLaws f) (c
           ∙ ap (λ n. record { base = old; lanes = lanes; limits = limits; objects = n }) x.did.1
 
   pub is_done : (z : Ended A) (start : ℕ) → LaneActs f c limits lane lane refs refs' objects objects' old new l l' (Answered z start) → (l'' : Lane T W A) (r : Reply A) → l''.words ≡ l.words → l''.task ≡ None → l''.replies.items ≡ l.replies.items ++ r ∷ [] → vec_capacity l.replies ≤ vec_capacity l''.replies
-      → r.answer ≡ z → r.start ≡ start → r.place ≡ length new.books.history.items → r.order ≡ given → (command : ℕ) → command ≡ length l.replies.items → IsAct f c self (after l'') lane (ask.Done lane command)
-  is_done z start x l'' r words task grows room answered begun place order command number =
+      → r.answer ≡ z → r.start ≡ start → r.place ≡ length new.books.history.items → r.order ≡ given → r.taken ≡ None → (command : ℕ) → command ≡ length l.replies.items → IsAct f c self (after l'') lane (ask.Done lane command)
+  is_done z start x l'' r words task grows room answered begun place order taken command number =
       of_self (after l'') (ask.Done lane command) (subst (λ n. IsAct f c s (after l'') lane (ask.Done lane n)) (sym number) (record {
         acted = acted_done f c fl cl limits lane refs refs' objects objects' old new lanes given l l' kept at z start x l'' r words task grows answered begun place order;
         objects = objects_done f c fl cl limits lane refs refs' objects objects' old new lanes given l l' kept at z start x l'' r words task grows answered begun place order;
         preserves = preserves_by f c s (after l'')
             (λ v told. given_keeps f c fl cl limits lane refs refs' objects objects' old new lanes given l kept at v told l' z start x l'' r words task grows answered begun
-            (kept_answered f c fl cl limits lane refs refs' objects objects' old new lanes given l l' kept at z start x l'' r words task grows room answered begun place order));
+            (kept_answered f c fl cl limits lane refs refs' objects objects' old new lanes given l l' kept at z start x l'' r words task grows room answered begun place order taken))
+            (given_caused f c fl cl limits lane refs refs' objects objects' old new lanes given l kept at l' z start x l'' r words grows answered);
         ranks = ranked_done c.doing s (after l'') lane l l'' (moves_done f c fl cl limits lane refs refs' objects objects' old new lanes given l l' kept at z start x l'' r words task grows answered begun place order) r lane (length l.replies.items) grows task;
         held = λ is. cc;
         waits = λ has live asks off. absurd (waits_given f c fl cl limits lane refs refs' objects objects' old new lanes given l l' kept at asks off live z start x);

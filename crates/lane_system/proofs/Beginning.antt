@@ -7,6 +7,7 @@ use Rattle.fs_trait.specs.Seen.{NotDirectory}
 use Rattle.fs_trait.specs.View.{View}
 use Rattle.repo_layout.specs.Paths.{stage_path}
 use Rattle.rely_guarantee.specs.declared.books.Base.{Base}
+use Rattle.rely_guarantee.specs.declared.kind.Halt.TheVariants as halt
 use Rattle.rely_guarantee.specs.declared.books.Pin.{Pin}
 use Rattle.rely_guarantee.specs.SystemInvariant.{SystemInvariant}
 use Rattle.ref_book.specs.declared.book.RefBook.{RefBook}
@@ -14,6 +15,7 @@ use Rattle.ref_book.specs.Tracks.{Tracks}
 use Rattle.sys_open.specs.Opened.{IsOpened}
 use Rattle.lane_system.specs.declared.lane.Lane.{Lane}
 use Rattle.lane_system.specs.declared.lane.Reply.{Reply}
+use Rattle.lane_system.specs.Causes.{AreCausedIn}
 use Rattle.lane_system.specs.Family.{Family, FsSpec}
 use Rattle.lane_system.specs.Folders.{HasItself}
 use Rattle.lane_system.specs.Kept.{AreHomes, AreIdle, Kept, RunsIn}
@@ -48,8 +50,8 @@ module _ {F T W A : Type 0} (f : FsSpec F) (c : Family T W A) (limits : Limits) 
   no_replies : count_of lanes ≡ 0
   no_replies = count_none lanes (λ a l at. (idle a l at).replies)
 
-  pub kept_first : SystemInvariant f.view f.clock f.spare f.was base → Tracks refs (now_of base.books) → length lanes ≤ 8 → AreHomes (f.view base.fs) → (base.books.turn ≡ None) × (base.books.exclusive ≡ None) → base.books.pins.items ≡ [] → Kept f c limits base refs lanes 0
-  kept_first sound tracks few homes locks pins = record {
+  pub kept_first : SystemInvariant f.view f.clock f.spare f.was base → Tracks refs (now_of base.books) → length lanes ≤ 8 → AreHomes (f.view base.fs) → (base.books.turn ≡ None) × (base.books.exclusive ≡ None) → base.books.pins.items ≡ [] → base.books.halted ≡ None → Kept f c limits base refs lanes 0
+  kept_first sound tracks few homes locks pins live = record {
     sound = sound;
     tracks = tracks;
     few = few;
@@ -60,13 +62,17 @@ module _ {F T W A : Type 0} (f : FsSpec F) (c : Family T W A) (limits : Limits) 
       started = λ r is. none_some l.task r i.task is;
       replies = λ n r is. none_at l.replies.items n r i.replies is;
       in_order = λ n m r q is too lt. none_at l.replies.items n r i.replies is;
-      halts = λ n r is h. none_at l.replies.items n r i.replies is;
+      halts = λ n r is. none_at l.replies.items n r i.replies is;
     });
     locked = λ live. record { exclusive = locks.1; turn = λ a is. none_some base.books.turn a locks.0 is };
     pins = λ live p has. absurd (empty p (subst (λ (xs : List Pin). Contains xs p) pins has));
+    explained = λ strayed. absurd (let z : None ≡ Some halt.Strayed = sym live ∙ strayed in cc);
     accounted = record {
       made = λ k e at. none_at base.books.history.items k e history at;
       shown = λ p is. none_some base.books.pending p pending is;
+      untaken = λ a n r to. absurd (no_reply a n r to);
+      over = λ a n b m r q to too lt. absurd (no_reply a n r to);
+      going = λ p is live. none_some base.books.pending p pending is;
       numbered = record {
         below = λ a n r to. absurd (no_reply a n r to);
         each = λ k lt. absurd (omega (arith, lt, no_replies));
@@ -80,10 +86,18 @@ module _ {F T W A : Type 0} (f : FsSpec F) (c : Family T W A) (limits : Limits) 
       empty : (p : Pin) → Contains [] p → ⊥
       empty p (k, lt, e) = omega (arith, lt)
 
-  pub stands_first : (objects before : ℕ) → f.faults base.fs ≡ before → base.books.halted ≡ false → (v : View) → AreStored f c.means (record { base = base; lanes = lanes; limits = limits; objects = objects }) v → Stands f c before v (record { base = base; lanes = lanes; limits = limits; objects = objects }) v
+  -- no call has failed since
+  pub caused_first : (before : ℕ) → f.faults base.fs ≡ before → base.books.halted ≡ None → AreCausedIn before (f.faults base.fs) base.books.halted lanes
+  caused_first before same live = record {
+    later = omega (arith, same);
+    halts = λ is. absurd (let z : None ≡ Some halt.Failed = sym live ∙ is in cc);
+    each = λ a n r to is. absurd (no_reply a n r to);
+  }
+
+  pub stands_first : (objects before : ℕ) → f.faults base.fs ≡ before → base.books.halted ≡ None → (v : View) → AreStored f c.means (record { base = base; lanes = lanes; limits = limits; objects = objects }) v → Stands f c before v (record { base = base; lanes = lanes; limits = limits; objects = objects }) v
   stands_first objects before same live v stored = record {
     lasts = record { right = λ name is. is; each = λ k e words at is. none_at base.books.history.items k e history at };
-    caused = record { later = omega (arith, same); halts = λ is. cc; each = λ a n r to is. absurd (no_reply a n r to) };
+    caused = caused_first before same live;
     good = stored;
     inside = record { unrefused = λ a n r to is. no_reply a n r to; seen = λ alone a n r to is. no_reply a n r to };
     folders = record {

@@ -58,7 +58,7 @@ module _ {F T W A : Type 0} (f : FsSpec F) (c : Family T W A) (fl : FsLaws f) wh
   preserves_nothing s = record {
     lasts = λ opening v told is. (v, told, is);
     good = λ v told is. (v, told, is);
-    caused = λ before v told is. is;
+    caused = λ before is. is;
     inside = λ v told stored is. is;
     folders = λ opening v told is. (v, told, is);
     said = λ v told is. is;
@@ -69,7 +69,7 @@ module _ {F T W A : Type 0} (f : FsSpec F) (c : Family T W A) (fl : FsLaws f) wh
   pub preserves_then : (a b e : System F T W A) → Preserves f c a b → Preserves f c b e → Preserves f c a e
   preserves_then a b e x y = record {
     lasts = λ opening v told is. (let z = x.lasts opening v told is in y.lasts opening z.0 z.1 z.2);
-    caused = λ before v told is. (let z = fl.is.told a.base.fs b.base.fs v told in y.caused before z.0 z.1 (x.caused before v told is));
+    caused = λ before is. y.caused before (x.caused before is);
     good = λ v told is. (let z = x.good v told is in y.good z.0 z.1 z.2);
     inside = λ v told stored is. (let z = x.good v told stored in y.inside z.0 z.1 z.2 (x.inside v told stored is));
     folders = λ opening v told is. (let z = x.folders opening v told is in y.folders opening z.0 z.1 z.2);

@@ -1,14 +1,18 @@
 -- What a step comes to, as the functions of an act tell it.
-use Rattle.std.proofs.Common.{◌≡◌, inr, ◌<◌, ℕ, false, refl, sym, ◌∙◌, subst, arith, List, [], ◌∷◌, length, get_or, Option, Some, None, IsSome}
+use Rattle.std.proofs.Common.{◌≡◌, inr, ⊎_elim, ◌<◌, ℕ, refl, sym, ◌∙◌, subst, arith, List, [], ◌∷◌, length, get_or, Option, Some, None, IsSome}
 use Rattle.ost_types.specs.declared.limits.Limits.{Limits}
 use Rattle.ost_types.specs.Path.{Path}
 use Rattle.fs_trait.specs.declared.types.FsErr.{FsErr}
 use Rattle.fs_trait.specs.declared.types.FsErr.TheVariants as err
+use Rattle.fs_trait.specs.Effect.{OfNone}
 use Rattle.fs_trait.specs.View.{View}
 use Rattle.rely_guarantee.specs.declared.books.Base.{Base}
 use Rattle.rely_guarantee.specs.declared.event.Event.{Event}
+use Rattle.rely_guarantee.specs.declared.kind.Halt.{Halt}
+use Rattle.rely_guarantee.specs.declared.kind.Halt.TheVariants as halt
 use Rattle.rely_guarantee.specs.declared.kind.Outcome.{Outcome}
 use Rattle.rely_guarantee.specs.declared.kind.Outcome.TheVariants as came
+use Rattle.rely_guarantee.specs.Exact.{Causes, HasRisen}
 use Rattle.rely_guarantee.specs.Laws.{Ready, Runs, Settle}
 use Rattle.rely_guarantee.specs.SystemInvariant.{SystemInvariant}
 use Rattle.ref_book.specs.declared.book.RefBook.{RefBook}
@@ -18,6 +22,7 @@ use Rattle.command.specs.declared.ended.Ended.{Ended}
 use Rattle.command.specs.declared.ended.Ended.TheVariants as ended
 use Rattle.command.specs.Doing.{Doing, IsBegun}
 use Rattle.command.specs.Laws.{CommandLaws}
+use Rattle.command.specs.Meaning.{Meaning}
 use Rattle.command.specs.Staging.{StagingPathFree}
 use Rattle.lane_system.specs.declared.act.Came.{Came}
 use Rattle.lane_system.specs.declared.act.Came.TheVariants.{Answered, Blocked, More}
@@ -25,10 +30,10 @@ use Rattle.lane_system.specs.declared.lane.Lane.{Lane}
 use Rattle.lane_system.specs.declared.lane.Running.{Running}
 use Rattle.lane_system.specs.Family.{Family, FsSpec}
 use Rattle.lane_system.specs.Kept.{LaneKept, RunsIn}
-use Rattle.lane_system.specs.LaneActs.{LaneActs, Takes, task_start, told_by}
+use Rattle.lane_system.specs.LaneActs.{IsAtOnce, LaneActs, Takes, task_start, told_by}
 use Rattle.lane_system.specs.Lanes.{IsAt, IsNext}
 use Rattle.lane_system.specs.States.{now_of}
-use Rattle.lane_system.specs.Steps.{CountsAt, HasEnded, IsEndedAs, IsRefusal, IsStray, Stepped}
+use Rattle.lane_system.specs.Steps.{CountsAt, HasEnded, IsCutShort, IsEndedAs, IsRefusal, IsStray, Stepped}
 use Rattle.lane_system.proofs.Doing.{begun_room, begun_runs, begun_takes, ended_acts, has_answer, held_acts, more_acts, running_takes, started_room}
 use Rattle.lane_system.proofs.Places.{at_is, at_one}
 
@@ -41,29 +46,48 @@ pub has_ended : (outcome : Outcome) → (outcome ≡ came.Blocked → ⊥) → (
 has_ended came.Blocked held more = held refl
 has_ended came.More held more = more refl
 has_ended came.Done held more = tt
-has_ended came.Halted held more = tt
+has_ended (came.Halted why) held more = tt
 has_ended (came.Refused e) held more = tt
 
 counts_end : {T W A : Type 0} (d : Doing T W A) (before now : ℕ) (t : T) (outcome : Outcome) → (outcome ≡ came.More → ⊥) → CountsAt d before t outcome now → now ≡ before
 counts_end d before now t came.More more is = absurd (more refl)
 counts_end d before now t came.Blocked more is = is
 counts_end d before now t came.Done more is = is
-counts_end d before now t came.Halted more is = is
+counts_end d before now t (came.Halted why) more is = is
 counts_end d before now t (came.Refused e) more is = is
 
--- what a refusal comes to where neither memory lacked nor a call failed
-pub refusal_strays : {A : Type 0} (stray : Option Path) (e : FsErr) (x : Ended A) → (e ≡ err.NoMemory → ⊥) → (e ≡ err.Failed → ⊥) → IsStray stray x → IsRefusal stray e x
-refusal_strays stray err.NoMemory x memory failed is = absurd (memory refl)
-refusal_strays stray err.Failed x memory failed is = absurd (failed refl)
-refusal_strays stray err.Exists x memory failed is = is
-refusal_strays stray err.Missing x memory failed is = is
-refusal_strays stray err.NotFolder x memory failed is = is
-refusal_strays stray err.NotEmpty x memory failed is = is
+-- a step is refused only for a failed call and for want of memory
+pub refused_named : (before now : ℕ) (outcome : Outcome) → Causes before now outcome → (e : FsErr) → outcome ≡ came.Refused e → OfNone e
+refused_named before now outcome cause e is = by e (subst (Causes before now) is cause).1
+  where
+    by : (x : FsErr) → HasRisen before now (came.Refused x) → OfNone x
+    by err.Failed rose = tt
+    by err.NoMemory rose = tt
+    by err.Exists none = none
+    by err.Missing none = none
+    by err.NotFolder none = none
+    by err.NotEmpty none = none
 
--- no memory for the path
-pub stray_unknown : (A : Type 0) (stray : Option Path) → IsStray {A = A} stray ended.NoMemory
-stray_unknown A None = inr refl
-stray_unknown A (Some path) = inr refl
+-- and one that doesn't want for memory, for a failed call
+pub refused_failed : {A : Type 0} (e : FsErr) → OfNone e → (e ≡ err.NoMemory → ⊥) → IsRefusal {A = A} e ended.DiskFault
+refused_failed err.Failed none memory = refl
+refused_failed err.NoMemory none memory = absurd (memory refl)
+refused_failed err.Exists none memory = none
+refused_failed err.Missing none memory = none
+refused_failed err.NotFolder none memory = none
+refused_failed err.NotEmpty none memory = none
+
+-- what a command answers where no command goes on is answered at once
+pub short_at_once : {F T W A : Type 0} (f : FsSpec F) (m : Meaning W A) (limits : Limits) (old : Base F) (words : W) (task : Option (Running T)) (why : Halt) → old.books.halted ≡ Some why → (x : Ended A) → IsCutShort why (f.refused old.fs) (f.faults old.fs) x → IsAtOnce f m limits old words task x
+short_at_once f m limits old words task halt.Failed over x is = subst (IsAtOnce f m limits old words task) (sym is) (over, refl)
+short_at_once f m limits old words task halt.Strayed over x is = by (f.refused old.fs) refl is
+  where
+    by : (path : Option Path) → f.refused old.fs ≡ path → IsStray path x → IsAtOnce f m limits old words task x
+    by None at so = subst (IsAtOnce f m limits old words task) (sym so) (inr over)
+    by (Some path) at so = ⊎_elim
+        (λ told. subst (IsAtOnce f m limits old words task) (sym told) (over, at))
+        (λ lack. subst (IsAtOnce f m limits old words task) (sym lack) (inr over))
+        so
 
 -- a lane whose task is known
 module _ {F T W A : Type 0} (f : FsSpec F) (c : Family T W A) (limits : Limits) (lane : ℕ) (l : Lane T W A) (task : Option (Running T)) (is : l.task ≡ task) where
@@ -96,14 +120,14 @@ module _ {F T W A : Type 0} (f : FsSpec F) (c : Family T W A) (limits : Limits) 
     pub comes_answered : CommandLaws c.tasks c.means c.doing → outcome ≡ came.Done → IsSome (c.doing.answer u')
     comes_answered laws is = has_answer f c laws limits lane lane (length l.replies.items) refs refs' objects old new words l.task outcome u' (went outcome refl held) is
 
-    pub comes_ended : (outcome ≡ came.More → ⊥) → (x : Ended A) → IsEndedAs c.doing.answer (c.means.strays words) outcome u' (f.faults new.fs) x → (start : ℕ) → start ≡ task_start old.books.history.items l.task
+    pub comes_ended : (outcome ≡ came.More → ⊥) → (x : Ended A) → IsEndedAs c.doing.answer (f.refused new.fs) outcome u' (f.faults new.fs) x → (start : ℕ) → start ≡ task_start old.books.history.items l.task
         → LaneActs f c limits lane lane refs refs' objects objects' old new l (record { words = l.words; task = None; replies = l.replies }) (Answered x start)
     comes_ended more x by start from = subst (λ n. LaneActs f c limits lane lane refs refs' objects objects' old new l (record { words = l.words; task = None; replies = l.replies }) (Answered x n)) (sym from)
         (ended_acts f c limits lane refs refs' objects objects' old new l words next u' outcome (has_ended outcome held more) (went outcome refl held) (counts_end c.doing objects objects' u' outcome more counts) x by)
 
 -- A command that begins: u is its task, before its first step.
 module _ {F T W A : Type 0} (f : FsSpec F) (c : Family T W A) (laws : CommandLaws c.tasks c.means c.doing) (limits : Limits) (lane : ℕ) (refs mid : RefBook) (objects : ℕ) (old : Base F) (l : Lane T W A) (words : W) (k : LaneKept f c limits lane refs old l) (none : l.task ≡ None)
-    (live : old.books.halted ≡ false) (home : (v : View) → f.view old.fs ≡ Some v → StagingPathFree lane v) (sound : SystemInvariant f.view f.clock f.spare f.was old) (grew : (name : List ℕ) → HasRoom refs name → HasRoom mid name) (u : T)
+    (live : old.books.halted ≡ None) (home : (v : View) → f.view old.fs ≡ Some v → StagingPathFree lane v) (sound : SystemInvariant f.view f.clock f.spare f.was old) (grew : (name : List ℕ) → HasRoom refs name → HasRoom mid name) (u : T)
     (is : IsBegun c.means c.doing limits lane (now_of old.books) words mid (begun.Runs u)) where
   pub first_ready : Ready f.view f.clock f.spare f.was (Runs c.tasks.kind c.tasks.facts lane u) old
   first_ready = record { sound = sound; live = live; task = begun_runs f c limits lane laws refs mid old l words k none live home sound u is }
@@ -117,7 +141,7 @@ module _ {F T W A : Type 0} (f : FsSpec F) (c : Family T W A) (laws : CommandLaw
 
 -- One that goes on, of a lane with this task.
 module _ {F T W A : Type 0} (f : FsSpec F) (c : Family T W A) (laws : CommandLaws c.tasks c.means c.doing) (limits : Limits) (lane : ℕ) (refs : RefBook) (objects : ℕ) (old : Base F) (l : Lane T W A) (r : Running T) (k : LaneKept f c limits lane refs old l) (task : l.task ≡ Some r)
-    (live : old.books.halted ≡ false) where
+    (live : old.books.halted ≡ None) where
   pub next_ready : SystemInvariant f.view f.clock f.spare f.was old → Ready f.view f.clock f.spare f.was (Runs c.tasks.kind c.tasks.facts lane r.work) old
   next_ready sound = record { sound = sound; live = live; task = subst (RunsIn c lane (f.view old.fs) old.books) task (k.runs live) }
 
@@ -133,7 +157,3 @@ module _ {F T W A : Type 0} (f : FsSpec F) (c : Family T W A) (laws : CommandLaw
   pub next_takes : (refs' : RefBook) (new : Base F) (o : Outcome) (t : T) → Stepped f c.tasks lane lane (length l.replies.items) refs refs' o (told_by c.doing objects r.work) t old new → Takes f c limits lane lane (length l.replies.items) refs refs' objects old new next_words l.task o t
   next_takes refs' new o t step = subst (λ (x : Option (Running T)). Takes f c limits lane lane (length l.replies.items) refs refs' objects old new next_words x o t) (sym task)
       (running_takes f c limits lane refs refs' objects old new l r k task live o t step)
-
-  -- what it answers is by the same words
-  pub next_answer : (words : W) → IsNext l words → (outcome : Outcome) (t : T) (faults : ℕ) (x : Ended A) → IsEndedAs c.doing.answer (c.means.strays words) outcome t faults x → IsEndedAs c.doing.answer (c.means.strays next_words) outcome t faults x
-  next_answer words next outcome t faults x by = subst (λ (w : W). IsEndedAs c.doing.answer (c.means.strays w) outcome t faults x) (at_one l.words.items (length l.replies.items) words next_words next next_is) by

@@ -53,12 +53,12 @@ module _ {F T W A : Type 0} (f : FsSpec F) (c : Family T W A) (limits : Limits) 
     pub held_acts : Takes f c limits lane lane (length l.replies.items) refs refs' objects old new words l.task came.Blocked t → objects' ≡ objects → LaneActs f c limits lane lane refs refs' objects objects' old new l l Blocked
     held_acts x counts = record { words = words; next = next; same = refl; replies = refl; tracks = x.step.tracks; rooms = λ name has. x.step.rooms name (x.grew name has); did = (refl, counts, t, x) }
 
-    pub ended_acts : (outcome : Outcome) → HasEnded outcome → Takes f c limits lane lane (length l.replies.items) refs refs' objects old new words l.task outcome t → objects' ≡ objects → (x : Ended A) → IsEndedAs c.doing.answer (c.means.strays words) outcome t (f.faults new.fs) x
+    pub ended_acts : (outcome : Outcome) → HasEnded outcome → Takes f c limits lane lane (length l.replies.items) refs refs' objects old new words l.task outcome t → objects' ≡ objects → (x : Ended A) → IsEndedAs c.doing.answer (f.refused new.fs) outcome t (f.faults new.fs) x
         → LaneActs f c limits lane lane refs refs' objects objects' old new l (record { words = l.words; task = None; replies = l.replies }) (Answered x (task_start old.books.history.items l.task))
     ended_acts outcome end x counts answer by = record { words = words; next = next; same = refl; replies = refl; tracks = x.step.tracks; rooms = λ name has. x.step.rooms name (x.grew name has); did = (refl, counts, refl, inr (outcome, t, end, by, x)) }
 
   -- the task that runs takes it
-  pub running_takes : (refs refs' : RefBook) (objects : ℕ) (old new : Base F) (l : Lane T W A) (r : Running T) (k : LaneKept f c limits lane refs old l) (task : l.task ≡ Some r) (live : old.books.halted ≡ false) (outcome : Outcome) (t : T)
+  pub running_takes : (refs refs' : RefBook) (objects : ℕ) (old new : Base F) (l : Lane T W A) (r : Running T) (k : LaneKept f c limits lane refs old l) (task : l.task ≡ Some r) (live : old.books.halted ≡ None) (outcome : Outcome) (t : T)
       → Stepped f c.tasks lane lane (length l.replies.items) refs refs' outcome (told_by c.doing objects r.work) t old new → Takes f c limits lane lane (length l.replies.items) refs refs' objects old new ((k.started r task).words) (Some r) outcome t
   running_takes refs refs' objects old new l r k task live outcome t step =
       let s = k.started r task in
@@ -76,7 +76,7 @@ module _ {F T W A : Type 0} (f : FsSpec F) (c : Family T W A) (limits : Limits) 
       }
 
   -- a task at its beginning has its facts
-  pub begun_runs : (laws : CommandLaws c.tasks c.means c.doing) (refs mid : RefBook) (old : Base F) (l : Lane T W A) (words : W) (k : LaneKept f c limits lane refs old l) (none : l.task ≡ None) (live : old.books.halted ≡ false) (home : (v : View) → f.view old.fs ≡ Some v → StagingPathFree lane v)
+  pub begun_runs : (laws : CommandLaws c.tasks c.means c.doing) (refs mid : RefBook) (old : Base F) (l : Lane T W A) (words : W) (k : LaneKept f c limits lane refs old l) (none : l.task ≡ None) (live : old.books.halted ≡ None) (home : (v : View) → f.view old.fs ≡ Some v → StagingPathFree lane v)
       → SystemInvariant f.view f.clock f.spare f.was old → (u : T) → IsBegun c.means c.doing limits lane (now_of old.books) words mid (begun.Runs u) → Runs c.tasks.kind c.tasks.facts lane u (f.view old.fs) (books_of old.books)
   begun_runs laws refs mid old l words k none live home sound u is = record {
     facts = λ v told. laws.steps.begun _ _ _ lane u v (books_of old.books) (sound.stands v told) (home v told) is.0;
@@ -84,7 +84,7 @@ module _ {F T W A : Type 0} (f : FsSpec F) (c : Family T W A) (limits : Limits) 
   }
 
   -- and takes its first step
-  pub begun_takes : (laws : CommandLaws c.tasks c.means c.doing) (refs mid refs' : RefBook) (objects : ℕ) (old new : Base F) (l : Lane T W A) (words : W) (k : LaneKept f c limits lane refs old l) (none : l.task ≡ None) (live : old.books.halted ≡ false) (home : (v : View) → f.view old.fs ≡ Some v → StagingPathFree lane v)
+  pub begun_takes : (laws : CommandLaws c.tasks c.means c.doing) (refs mid refs' : RefBook) (objects : ℕ) (old new : Base F) (l : Lane T W A) (words : W) (k : LaneKept f c limits lane refs old l) (none : l.task ≡ None) (live : old.books.halted ≡ None) (home : (v : View) → f.view old.fs ≡ Some v → StagingPathFree lane v)
       → SystemInvariant f.view f.clock f.spare f.was old → ((name : List ℕ) → HasRoom refs name → HasRoom mid name) → (u : T) → IsBegun c.means c.doing limits lane (now_of old.books) words mid (begun.Runs u) → (outcome : Outcome) (t : T)
       → Stepped f c.tasks lane lane (length l.replies.items) mid refs' outcome (told_by c.doing objects u) t old new → Takes f c limits lane lane (length l.replies.items) refs refs' objects old new words None outcome t
   begun_takes laws refs mid refs' objects old new l words k none live home sound grew u is outcome t step =

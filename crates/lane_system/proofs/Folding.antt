@@ -108,10 +108,10 @@ module _ {F T W A : Type 0} (f : FsSpec F) (c : Family T W A) (fl : FsLaws f) (c
           subst (Writes (c.tasks.writes actor t v) v) e y.2
 
   -- what an answer says to stand in the way stands there, and the task hasn't made it
-  pub stands_in_the_way : (z : Ended A) → IsEndedAs c.doing.answer (c.means.strays words) outcome t' (f.faults new.fs) z → (name : Name) → OfAnswer (λ a. c.means.finds a words name) z → (shows v.now (checkout_path name) ≢ Vacant) × ((r : Running T) → task ≡ Some r → c.doing.made r.work name → ⊥)
+  pub stands_in_the_way : (z : Ended A) → IsEndedAs c.doing.answer (f.refused new.fs) outcome t' (f.faults new.fs) z → (name : Name) → OfAnswer (λ a. c.means.finds a words name) z → (shows v.now (checkout_path name) ≢ Vacant) × ((r : Running T) → task ≡ Some r → c.doing.made r.work name → ⊥)
   stands_in_the_way z by name found =
       let a = is_answer (λ b. c.means.finds b words name) z found in
-      let only = answer_only c.doing.answer (c.means.strays words) t' (f.faults new.fs) outcome a.0 (subst (IsEndedAs c.doing.answer (c.means.strays words) outcome t' (f.faults new.fs)) a.1 by) in
+      let only = answer_only c.doing.answer (f.refused new.fs) t' (f.faults new.fs) outcome a.0 (subst (IsEndedAs c.doing.answer (f.refused new.fs) outcome t' (f.faults new.fs)) a.1 by) in
       let done = subst (λ (o : Outcome). Stepped f c.tasks actor lane number x.between refs' o t t' old new) only.0 x.step in
       let k = done.tells v told_v in
       let way = cl.commands.folders.finds (since_in limits old.books (task_start old.books.history.items task)) lane words t t' v k.0 (books_of old.books) a.0 name

@@ -1,18 +1,19 @@
 -- What the answer of an act is, and how it leaves the books.
-use Rattle.std.proofs.Common.{◌≡◌, ◌≢◌, ◌⊎◌, inl, inr, ⊎_elim, ◌≤◌, ℕ, true, false, nat_eq, Contains, refl, sym, ◌∙◌, ap, subst, arith, List, [], ◌∷◌, ◌++◌, length, Option, Some}
+use Rattle.std.proofs.Common.{◌≡◌, ◌≢◌, ◌⊎◌, inl, inr, ⊎_elim, ◌≤◌, ℕ, true, false, nat_eq, Contains, refl, sym, ◌∙◌, ap, subst, arith, List, [], ◌∷◌, ◌++◌, length, Option, Some, None}
 use Rattle.std.specs.Prelude.{not}
 use Rattle.std.specs.List.{filter}
 use Rattle.std.proofs.lemmas.Bool.Decides.{nat_tests}
 use Rattle.std.proofs.lemmas.List.Elements.{All-contains, filter_passes}
 use Rattle.ost_types.specs.declared.limits.Limits.{Limits}
 use Rattle.fs_trait.specs.declared.task.StepResult.TheVariants as turn
-use Rattle.fs_trait.specs.Effect.{OfNone}
 use Rattle.fs_trait.specs.View.{View}
 use Rattle.rely_guarantee.specs.declared.books.Base.{Base}
 use Rattle.rely_guarantee.specs.declared.books.Claim.{Claim}
 use Rattle.rely_guarantee.specs.declared.books.Entry.{Entry}
 use Rattle.rely_guarantee.specs.declared.books.Pending.{Pending}
 use Rattle.rely_guarantee.specs.declared.event.Event.{Event}
+use Rattle.rely_guarantee.specs.declared.kind.Halt.{Halt}
+use Rattle.rely_guarantee.specs.declared.kind.Halt.TheVariants as halt
 use Rattle.rely_guarantee.specs.declared.kind.Outcome.{Outcome}
 use Rattle.rely_guarantee.specs.declared.kind.Outcome.TheVariants as came
 use Rattle.rely_guarantee.specs.Books.{books_of}
@@ -29,10 +30,10 @@ use Rattle.lane_system.specs.declared.lane.Running.{Running}
 use Rattle.lane_system.specs.Family.{Family, FsSpec}
 use Rattle.lane_system.specs.LaneActs.{Takes, task_start}
 use Rattle.lane_system.specs.Lanes.{IsAt}
-use Rattle.lane_system.specs.Replies.{Answers, HasMade, IfAnswer, IfOutside, IsCaused, IsHalted, IsTold, Knows, OfAnswer, Shown}
+use Rattle.lane_system.specs.Replies.{Answers, EndsBy, HasMade, IfAnswer, IsCaused, IsCutOff, IsTold, Knows, OfAnswer, Shown}
 use Rattle.lane_system.specs.States.{now_of, since_in}
 use Rattle.lane_system.specs.Steps.{HasEnded, IsEndedAs, Stepped}
-use Rattle.lane_system.proofs.Endings.{IsMine, IsRefused, IsSettled, answer_only, ends, failed_only, halted_is, halted_only, if_outside, outside_only, pending_by}
+use Rattle.lane_system.proofs.Endings.{IsMine, IsSettled, answer_only, cut_off, ends, ends_by, failed_only, halted_only, outside_only, pending_by}
 use Rattle.lane_system.proofs.Family.{FamilyLaws, FsLaws}
 use Rattle.lane_system.proofs.Histories.{EndsUnshown, over_idle}
 use Rattle.lane_system.proofs.Places.{at_split}
@@ -47,16 +48,17 @@ pub record Gives {F T W A : Type 0} (f : FsSpec F) (c : Family T W A) (limits : 
   pub answer : IfAnswer (Answers c.means lane number (placed (since_in limits old.books start) (now_of new.books)) new.books.history.items words) x
   pub known : IsTold f.view → Knows c.means (placed (since_in limits old.books start) (now_of new.books)) words x
   pub shown : Shown c.means (since_in limits old.books start) (f.view old.fs) old.books.halted (f.faults old.fs) (f.faults new.fs) words x
-  pub stray : IfOutside (λ path. c.means.strays words ≡ Some path) x
   pub full : IfAnswer (λ a. c.means.full a → limits.objects ≤ objects) x
-  -- nothing of the lane is pending, unless a failed change ended all
-  pub idle : new.books.halted ≡ false → NotPending lane (books_of new.books)
-  pub halts : IsHalted x → (new.books.halted ≡ true) × (x ≡ ended.Halted (f.faults new.fs))
-  pub over : old.books.halted ≡ true → new ≡ old
+  -- nothing of the lane is pending, unless all were ended
+  pub idle : new.books.halted ≡ None → NotPending lane (books_of new.books)
+  pub halts : EndsBy new.books.halted (f.refused new.fs) (f.faults new.fs) x
+  pub over : (why : Halt) → old.books.halted ≡ Some why → new ≡ old
+  -- where the view is told no call is refused for what stands at its path
+  pub explained : old.books.halted ≡ None → new.books.halted ≡ Some halt.Strayed → ¬ (IsTold f.view)
   pub stays : (w : View) → f.view new.fs ≡ Some w → IfAnswer (λ a. c.means.stays (since_in limits old.books start) [] a words w (books_of new.books)) x
   pub grows : Grows (λ a. c.means.makes a words) lane number x old.books.history.items new.books.history.items
   pub pending : (p : Pending) → new.books.pending ≡ Some p → (old.books.pending ≡ Some p) ⊎ ((p.lane ≡ lane) × (p.command ≡ number) × c.means.changes (since_in limits old.books start) words p.event)
-  pub left : (p : Pending) → new.books.pending ≡ Some p → p.lane ≡ lane → IsHalted x
+  pub left : (p : Pending) → new.books.pending ≡ Some p → p.lane ≡ lane → IsCutOff (IsTold f.view) x
   -- the change that it made to last is the command's, and what that one leaves in the store stands
   pub kept : (opening v w : View) → f.view old.fs ≡ Some v → f.view new.fs ≡ Some w → IsRightSince opening v → (k : ℕ) (e : Entry) → IsAt new.books.history.items k e → length old.books.history.items ≤ k
       → c.means.changes (since_in limits old.books start) words e.event × c.means.keeps (since_in limits old.books start) opening [] words w
@@ -87,7 +89,7 @@ is_answer P (ended.Halted n) p = absurd p
 
 module _ {F T W A : Type 0} (f : FsSpec F) (c : Family T W A) (fl : FsLaws f) (cl : FamilyLaws c) (limits : Limits) (actor lane number : ℕ) (refs refs' : RefBook) (objects : ℕ) (old new : Base F) (words : W) (task : Option (Running T)) (outcome : Outcome) (t' : T)
     (y : Takes f c limits actor lane number refs refs' objects old new words task outcome t') (sound : SystemInvariant f.view f.clock f.spare f.was old) (mine : IsMine lane number old.books)
-    (end : HasEnded outcome) (x : Ended A) (by : IsEndedAs c.doing.answer (c.means.strays words) outcome t' (f.faults new.fs) x) where
+    (end : HasEnded outcome) (x : Ended A) (by : IsEndedAs c.doing.answer (f.refused new.fs) outcome t' (f.faults new.fs) x) where
   abbrev start : ℕ
   start = task_start old.books.history.items task
 
@@ -109,7 +111,7 @@ module _ {F T W A : Type 0} (f : FsSpec F) (c : Family T W A) (fl : FsLaws f) (c
   -- an answer of the family
   module _ (a : A) (is : x ≡ ended.Answered a) where
     only : (outcome ≡ came.Done) × (c.doing.answer t' ≡ Some a)
-    only = answer_only c.doing.answer (c.means.strays words) t' (f.faults new.fs) outcome a (subst (IsEndedAs c.doing.answer (c.means.strays words) outcome t' (f.faults new.fs)) is by)
+    only = answer_only c.doing.answer (f.refused new.fs) t' (f.faults new.fs) outcome a (subst (IsEndedAs c.doing.answer (f.refused new.fs) outcome t' (f.faults new.fs)) is by)
 
     done : Stepped f c.tasks actor lane number y.between refs' came.Done t t' old new
     done = subst (λ (o : Outcome). Stepped f c.tasks actor lane number y.between refs' o t t' old new) only.0 y.step
@@ -149,53 +151,61 @@ module _ {F T W A : Type 0} (f : FsSpec F) (c : Family T W A) (fl : FsLaws f) (c
         cl.commands.answers.left since actor lane words t t' v.0 w (books_of old.books) (books_of new.books) a after (facts v.0 v.1) (subst (c.tasks.leaves t (turn.Done tt) t' v.0) e l.2) only.1
         (subst (λ u. Interference actor lane v.0 (books_of old.books) u (books_of new.books)) g z.2) (no_claims lane old.books.claims.items new.books.claims.items done.claimed)
 
-  -- where the view is told no step is refused so
-  never_refused : (v : View) → f.view old.fs ≡ Some v → IsRefused outcome → ⊥
-  never_refused v told r =
-      let s = subst (λ (o : Outcome). Stepped f c.tasks actor lane number y.between refs' o t t' old new) r.is y.step in
-      ⊎_elim
-      (λ memory. r.none (subst OfNone (sym memory) tt))
-      (λ refused. r.none (cl.commands.steps.refused _ _ _ lane t v (books_of old.books) r.error (fl.tree old.fs v told) (sound.stands v told) (facts v told) refused))
-      ((s.tells v told).0)
+  -- where the view is told no step is refused for what stands at a path
+  never_strays : outcome ≡ came.Halted halt.Strayed → ¬ (IsTold f.view)
+  never_strays is is_told =
+      let v = fl.is.told is_told.0 old.fs is_told.1 is_told.2 in
+      let s = subst (λ (o : Outcome). Stepped f c.tasks actor lane number y.between refs' o t t' old new) is y.step in
+      let r = s.tells v.0 v.1 in
+      r.2 (cl.commands.steps.refused _ _ _ lane t v.0 (books_of old.books) r.0 (fl.tree old.fs v.0 v.1) (sound.stands v.0 v.1) (facts v.0 v.1) r.1)
 
-  caused_by : (v : View) → f.view old.fs ≡ Some v → (z : Ended A) → IsEndedAs c.doing.answer (c.means.strays words) outcome t' (f.faults new.fs) z → IsCaused old.books.halted (f.faults old.fs) (f.faults new.fs) z
-  caused_by v told_v ended.DiskFault is = ⊎_elim
-      (λ failed. (let s = subst (λ (o : Outcome). Stepped f c.tasks actor lane number y.between refs' o t t' old new) failed y.step in (s.cause v told_v).1))
-      (λ refused. absurd (never_refused v told_v refused))
-      (failed_only c.doing.answer (c.means.strays words) t' (f.faults new.fs) outcome is)
-  caused_by v told_v (ended.Halted n) is = λ live.
-      (let h = halted_only c.doing.answer (c.means.strays words) t' (f.faults new.fs) outcome n is in
-      let s = subst (λ (o : Outcome). Stepped f c.tasks actor lane number y.between refs' o t t' old new) h.0 y.step in (s.cause v told_v).1)
-  caused_by v told_v (ended.Answered a) is = tt
-  caused_by v told_v ended.NoMemory is = tt
-  caused_by v told_v (ended.Outside path) is = tt
+  caused_by : (z : Ended A) → IsEndedAs c.doing.answer (f.refused new.fs) outcome t' (f.faults new.fs) z → IsCaused old.books.halted (f.faults old.fs) (f.faults new.fs) z
+  caused_by ended.DiskFault is =
+      let failed = failed_only c.doing.answer (f.refused new.fs) t' (f.faults new.fs) outcome is in
+      let s = subst (λ (o : Outcome). Stepped f c.tasks actor lane number y.between refs' o t t' old new) failed y.step in s.cause.1
+  caused_by (ended.Halted n) is =
+      let h = halted_only c.doing.answer (f.refused new.fs) t' (f.faults new.fs) outcome n is in
+      let s = subst (λ (o : Outcome). Stepped f c.tasks actor lane number y.between refs' o t t' old new) h.0 y.step in inr s.cause.1
+  caused_by (ended.Answered a) is = tt
+  caused_by ended.NoMemory is = tt
+  caused_by (ended.Outside path) is = tt
 
-  knows : IsTold f.view → (z : Ended A) → x ≡ z → IsEndedAs c.doing.answer (c.means.strays words) outcome t' (f.faults new.fs) z → Knows c.means (placed since (now_of new.books)) words z
+  knows : IsTold f.view → (z : Ended A) → x ≡ z → IsEndedAs c.doing.answer (f.refused new.fs) outcome t' (f.faults new.fs) z → Knows c.means (placed since (now_of new.books)) words z
   knows is_told (ended.Answered a) e is = knows_a a e is_told
-  knows is_told (ended.Outside path) e is = (let v = fl.is.told is_told.0 old.fs is_told.1 is_told.2 in never_refused v.0 v.1 (outside_only c.doing.answer (c.means.strays words) t' (f.faults new.fs) outcome path is))
+  knows is_told (ended.Outside path) e is = never_strays (outside_only c.doing.answer (f.refused new.fs) t' (f.faults new.fs) outcome path is).0 is_told
   knows is_told ended.NoMemory e is = tt
   knows is_told ended.DiskFault e is = tt
   knows is_told (ended.Halted n) e is = tt
 
   -- nothing of it is pending, or all was ended
-  ended_or : (o : Outcome) → o ≡ outcome → HasEnded o → NotPending lane (books_of new.books) ⊎ (outcome ≡ came.Halted)
+  ended_or : (o : Outcome) → o ≡ outcome → HasEnded o → NotPending lane (books_of new.books) ⊎ ((why : Halt) × (outcome ≡ came.Halted why))
   ended_or came.Done is e = inl (over_idle lane number (f.clock new.fs) old.books new.books (c.tasks.kind t) outcome (subst EndsUnshown is tt) (told_holds f c fl cl limits actor lane number refs refs' objects old new words task outcome t' y) y.step.booked)
   ended_or (came.Refused r) is e = inl (over_idle lane number (f.clock new.fs) old.books new.books (c.tasks.kind t) outcome (subst EndsUnshown is tt) (told_holds f c fl cl limits actor lane number refs refs' objects old new words task outcome t' y) y.step.booked)
-  ended_or came.Halted is e = inr (sym is)
+  ended_or (came.Halted why) is e = inr (why, sym is)
   ended_or came.Blocked is e = absurd e
   ended_or came.More is e = absurd e
 
-  halted_so : outcome ≡ came.Halted → (new.books.halted ≡ true) × (x ≡ ended.Halted (f.faults new.fs))
-  halted_so is =
-      let s = subst (λ (o : Outcome). Stepped f c.tasks actor lane number y.between refs' o t t' old new) is y.step in
-      (s.acts.tells, halted_is c.doing.answer (c.means.strays words) t' (f.faults new.fs) x (subst (λ (o : Outcome). IsEndedAs c.doing.answer (c.means.strays words) o t' (f.faults new.fs) x) is by))
+  halted_so : (why : Halt) → outcome ≡ came.Halted why → new.books.halted ≡ Some why
+  halted_so why is = (let s = subst (λ (o : Outcome). Stepped f c.tasks actor lane number y.between refs' o t t' old new) is y.step in s.acts.tells)
 
-  halts_of : (z : Ended A) → x ≡ z → IsHalted z → outcome ≡ came.Halted
-  halts_of (ended.Halted n) e h = (halted_only c.doing.answer (c.means.strays words) t' (f.faults new.fs) outcome n (subst (IsEndedAs c.doing.answer (c.means.strays words) outcome t' (f.faults new.fs)) e by)).0
-  halts_of (ended.Answered a) e h = absurd h
-  halts_of ended.NoMemory e h = absurd h
-  halts_of ended.DiskFault e h = absurd h
-  halts_of (ended.Outside path) e h = absurd h
+  -- any other leaves that as it was
+  still : (o : Outcome) (why : Halt) → o ≡ outcome → HasEnded o → ((reason : Halt) → o ≡ came.Halted reason → ⊥) → new.books.halted ≡ Some why → ⊥
+  still came.Done why is e other over = (let s = subst (λ (p : Outcome). Stepped f c.tasks actor lane number y.between refs' p t t' old new) (sym is) y.step in let z : None ≡ Some why = sym y.live ∙ sym s.live ∙ over in cc)
+  still (came.Refused r) why is e other over = (let s = subst (λ (p : Outcome). Stepped f c.tasks actor lane number y.between refs' p t t' old new) (sym is) y.step in let z : None ≡ Some why = sym y.live ∙ sym s.live ∙ over in cc)
+  still (came.Halted reason) why is e other over = absurd (other reason refl)
+  still came.Blocked why is e other over = absurd e
+  still came.More why is e other over = absurd e
+
+  -- only such an outcome ends all
+  halted_by : (o : Outcome) (why : Halt) → o ≡ outcome → HasEnded o → new.books.halted ≡ Some why → outcome ≡ came.Halted why
+  halted_by (came.Halted reason) why is e over =
+      let one : Some reason ≡ Some why = sym (halted_so reason (sym is)) ∙ over in
+      let same : reason ≡ why = cc in
+      sym is ∙ ap came.Halted same
+  halted_by came.Done why is e over = absurd (still came.Done why is tt (λ reason. λ z. cc) over)
+  halted_by (came.Refused r) why is e over = absurd (still (came.Refused r) why is tt (λ reason. λ z. cc) over)
+  halted_by came.Blocked why is e over = absurd e
+  halted_by came.More why is e over = absurd e
 
   grows_so : Grows (λ a. c.means.makes a words) lane number x old.books.history.items new.books.history.items
   grows_so = ⊎_elim
@@ -204,9 +214,9 @@ module _ {F T W A : Type 0} (f : FsSpec F) (c : Family T W A) (fl : FsLaws f) (c
       its_end
     where
       made : outcome ≡ came.Done → (e : Event) → c.tasks.kind t ≡ Settle e → OfAnswer (λ a. c.means.makes a words) x
-      made is e kind = made_by x refl (subst (λ (o : Outcome). IsEndedAs c.doing.answer (c.means.strays words) o t' (f.faults new.fs) x) is by)
+      made is e kind = made_by x refl (subst (λ (o : Outcome). IsEndedAs c.doing.answer (f.refused new.fs) o t' (f.faults new.fs) x) is by)
         where
-          made_by : (z : Ended A) → x ≡ z → IsEndedAs c.doing.answer (c.means.strays words) came.Done t' (f.faults new.fs) x → OfAnswer (λ a. c.means.makes a words) z
+          made_by : (z : Ended A) → x ≡ z → IsEndedAs c.doing.answer (f.refused new.fs) came.Done t' (f.faults new.fs) x → OfAnswer (λ a. c.means.makes a words) z
           made_by (ended.Answered a) q so = cl.commands.changes.makes since words t t' a after (done a q).steps (only a q).1 (subst IsSettle (sym kind) tt)
           made_by ended.NoMemory q so = absurd (subst (OfAnswer _) q so)
           made_by ended.DiskFault q so = absurd (subst (OfAnswer _) q so)
@@ -233,12 +243,12 @@ module _ {F T W A : Type 0} (f : FsSpec F) (c : Family T W A) (fl : FsLaws f) (c
   taken_gives = record {
     answer = if_answer _ x answer_a;
     known = λ is_told. knows is_told x refl by;
-    shown = λ v told. (if_answer _ x (λ a is. shows_a a is v told), caused_by v told x by);
-    stray = if_outside c.doing.answer (c.means.strays words) t' (f.faults new.fs) outcome x by;
+    shown = (λ v told. if_answer _ x (λ a is. shows_a a is v told), caused_by x by);
     full = if_answer _ x full_a;
-    idle = λ live. ⊎_elim (λ idle. idle) (λ h. absurd (let z : true ≡ false = sym (halted_so h).0 ∙ live in cc)) (ended_or outcome refl end);
-    halts = λ h. halted_so (halts_of x refl h);
-    over = λ halted. absurd (let z : true ≡ false = sym halted ∙ y.live in cc);
+    idle = λ live. ⊎_elim (λ idle. idle) (λ h. absurd (let z : Some h.0 ≡ None = sym (halted_so h.0 h.1) ∙ live in cc)) (ended_or outcome refl end);
+    halts = ends_by c.doing.answer (f.refused new.fs) t' (f.faults new.fs) new.books.halted outcome halted_so x by;
+    over = λ why halted. absurd (let z : Some why ≡ None = sym halted ∙ y.live in cc);
+    explained = λ live strayed. never_strays (halted_by outcome halt.Strayed refl end strayed);
     stays = λ w is_w. if_answer _ x (λ a is. stays_a a is w is_w);
     grows = grows_so;
     pending = λ p is. ⊎_elim
@@ -247,7 +257,7 @@ module _ {F T W A : Type 0} (f : FsSpec F) (c : Family T W A) (fl : FsLaws f) (c
         (pending_by lane number (f.clock new.fs) old.books new.books (c.tasks.kind t) outcome y.step.booked p is);
     left = λ p is here. ⊎_elim
         (λ idle. absurd (idle p is here))
-        (λ h. subst IsHalted (sym (halted_so h).1) tt)
+        (λ h. cut_off c.doing.answer (f.refused new.fs) t' (f.faults new.fs) (IsTold f.view) h.0 (λ strayed. never_strays (h.1 ∙ ap came.Halted strayed)) x (subst (λ (o : Outcome). IsEndedAs c.doing.answer (f.refused new.fs) o t' (f.faults new.fs) x) h.1 by))
         (ended_or outcome refl end);
     kept = kept_so;
   }

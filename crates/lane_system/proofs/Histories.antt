@@ -28,21 +28,21 @@ pub record IsLonger (k : Kind) (old new : List Entry) : Type 0 where
 module _ (lane command moment : ℕ) (old new : rust.Books) where
   settled : (e : Event) (outcome : Outcome) → Holds (Settle e) lane (books_of old) → IsBooked (Settle e) lane command moment outcome old new → (new.history.items ≡ old.history.items) ⊎ IsLonger (Settle e) old.history.items new.history.items
   settled e came.Done h b = inr (record { entry = record { lane = lane; command = h.command; event = e; moment = moment }; kind = refl; grows = b.1 _ h.pending })
-  settled e came.Halted h b = inl b.0
+  settled e (came.Halted why) h b = inl b.0
   settled e came.More h b = absurd b
   settled e came.Blocked h b = absurd b
   settled e (came.Refused f) h b = absurd b
 
   shown_so : (e : Event) (outcome : Outcome) → IsBooked (Show e) lane command moment outcome old new → new.history.items ≡ old.history.items
   shown_so e came.More b = b.0
-  shown_so e came.Halted b = b.0
+  shown_so e (came.Halted why) b = b.0
   shown_so e came.Blocked b = b.0
   shown_so e (came.Refused f) b = b.0
   shown_so e came.Done b = absurd b
 
   held_so : (e : Event) (n : ℕ) (outcome : Outcome) → IsBooked (Shown e n) lane command moment outcome old new → new.history.items ≡ old.history.items
   held_so e n came.More b = b.0
-  held_so e n came.Halted b = b.0
+  held_so e n (came.Halted why) b = b.0
   held_so e n came.Blocked b = absurd b
   held_so e n (came.Refused f) b = absurd b
   held_so e n came.Done b = absurd b
@@ -65,21 +65,21 @@ module _ (lane command moment : ℕ) (old new : rust.Books) where
   show_over e came.Done over none b = absurd b
   show_over e came.More over none b = absurd over
   show_over e came.Blocked over none b = absurd over
-  show_over e came.Halted over none b = absurd over
+  show_over e (came.Halted why) over none b = absurd over
 
   shown_over : (e : Event) (n : ℕ) (outcome : Outcome) → EndsUnshown outcome → IsBooked (Shown e n) lane command moment outcome old new → NotPending lane (books_of new)
   shown_over e n (came.Refused f) over b = absurd b
   shown_over e n came.Done over b = absurd b
   shown_over e n came.More over b = absurd over
   shown_over e n came.Blocked over b = absurd over
-  shown_over e n came.Halted over b = absurd over
+  shown_over e n (came.Halted why) over b = absurd over
 
   settle_over : (e : Event) (outcome : Outcome) → EndsUnshown outcome → IsBooked (Settle e) lane command moment outcome old new → NotPending lane (books_of new)
   settle_over e came.Done over b = λ p is. absurd (let z : None ≡ Some p = sym b.0 ∙ is in cc)
   settle_over e (came.Refused f) over b = absurd b
   settle_over e came.More over b = absurd over
   settle_over e came.Blocked over b = absurd over
-  settle_over e came.Halted over b = absurd over
+  settle_over e (came.Halted why) over b = absurd over
 
   -- nothing of a command that is over is pending
   pub over_idle : (k : Kind) (outcome : Outcome) → EndsUnshown outcome → Holds k lane (books_of old) → IsBooked k lane command moment outcome old new → NotPending lane (books_of new)

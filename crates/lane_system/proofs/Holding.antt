@@ -3,6 +3,7 @@ use Rattle.std.proofs.Common.{◌≡◌, ◌≢◌, ◌⊎◌, inl, inr, ⊎_eli
 use Rattle.ost_types.specs.declared.limits.Limits.{Limits}
 use Rattle.rely_guarantee.specs.declared.books.Base.{Base}
 use Rattle.rely_guarantee.specs.declared.kind.Outcome.{Outcome}
+use Rattle.rely_guarantee.specs.declared.kind.Halt.TheVariants as halt
 use Rattle.rely_guarantee.specs.declared.kind.Outcome.TheVariants as came
 use Rattle.rely_guarantee.specs.declared.kind.Wants.{Wants}
 use Rattle.rely_guarantee.specs.Books.{Books, Free, books_of}
@@ -77,7 +78,7 @@ module _ {F T W A : Type 0} (f : FsSpec F) (c : Family T W A) (fl : FsLaws f) (c
   s = record { base = old; lanes = lanes; limits = limits; objects = objects }
 
   -- who has the ref lock has a command
-  holder_has : (other : ℕ) → old.books.halted ≡ false → old.books.turn ≡ Some other → HasCommand s other
+  holder_has : (other : ℕ) → old.books.halted ≡ None → old.books.turn ≡ Some other → HasCommand s other
   holder_has other live is =
       let w = (kept.locked live).turn other is in
       (w.2.0, w.2.1, ((kept.each other w.2.0 w.2.1).started w.1 w.2.3).next.0)
@@ -107,7 +108,7 @@ module _ {F T W A : Type 0} (f : FsSpec F) (c : Family T W A) (fl : FsLaws f) (c
   pub waits_more : Asks c s lane → IsHeldOff s lane → LaneActs f c limits lane lane refs refs' objects objects' old new l l' More → ⊥
   waits_more asks off x = not_taken x.words asks off came.More x.did.0 (λ is. cc) x.did.3
 
-  pub waits_given : Asks c s lane → IsHeldOff s lane → old.books.halted ≡ false → (z : Ended A) (start : ℕ) → LaneActs f c limits lane lane refs refs' objects objects' old new l l' (Answered z start) → ⊥
+  pub waits_given : Asks c s lane → IsHeldOff s lane → old.books.halted ≡ None → (z : Ended A) (start : ℕ) → LaneActs f c limits lane lane refs refs' objects objects' old new l l' (Answered z start) → ⊥
   waits_given asks off live z start x = ⊎_elim
       (λ once. at_once z once.1)
       (λ over. not_taken x.words asks off over.0 over.1 (λ is. subst HasEnded is over.2) over.4)
@@ -115,7 +116,8 @@ module _ {F T W A : Type 0} (f : FsSpec F) (c : Family T W A) (fl : FsLaws f) (c
     where
       at_once : (y : Ended A) → IsAtOnce f c.means limits old x.words l.task y → ⊥
       at_once (ended.Answered a) is = let z : None ≡ Some asks.1 = sym is.1 ∙ its_task x.words asks off in cc
-      at_once ended.NoMemory is = let z : None ≡ Some asks.1 = sym is.1 ∙ its_task x.words asks off in cc
-      at_once (ended.Halted n) is = let z : true ≡ false = sym is.0 ∙ live in cc
+      at_once ended.NoMemory (inl is) = let z : None ≡ Some asks.1 = sym is.1 ∙ its_task x.words asks off in cc
+      at_once ended.NoMemory (inr strayed) = let z : Some halt.Strayed ≡ None = sym strayed ∙ live in cc
+      at_once (ended.Halted n) is = let z : Some halt.Failed ≡ None = sym is.0 ∙ live in cc
       at_once ended.DiskFault is = is
-      at_once (ended.Outside path) is = is
+      at_once (ended.Outside path) is = let z : Some halt.Strayed ≡ None = sym is.0 ∙ live in cc

@@ -1,5 +1,5 @@
 -- What an act keeps of each lane.
-use Rattle.std.proofs.Common.{◌≡◌, ◌≢◌, ◌⊎◌, ⊎_elim, ◌≤◌, ℕ, true, false, refl, sym, ◌∙◌, ap, subst, arith, List, [], ◌∷◌, ◌++◌, take, length, length-append, Option, Some, None}
+use Rattle.std.proofs.Common.{◌≡◌, ◌≢◌, ◌⊎◌, ⊎_elim, ◌≤◌, ℕ, refl, sym, ◌∙◌, ap, subst, arith, List, [], ◌∷◌, ◌++◌, take, length, length-append, Option, Some, None}
 use Rattle.std.proofs.Math.Seq.{take-length}
 use Rattle.std.specs.Prelude.{vec_capacity}
 use Rattle.ost_types.specs.declared.limits.Limits.{Limits}
@@ -7,6 +7,8 @@ use Rattle.rely_guarantee.specs.declared.books.Base.{Base}
 use Rattle.rely_guarantee.specs.declared.books.Entry.{Entry}
 use Rattle.rely_guarantee.specs.declared.event.Event.{Event}
 use Rattle.rely_guarantee.specs.declared.event.Event.TheVariants.{SetRef, DropRef, Pruned}
+use Rattle.rely_guarantee.specs.declared.kind.Halt.{Halt}
+use Rattle.rely_guarantee.specs.declared.kind.Halt.TheVariants as halt
 use Rattle.rely_guarantee.specs.declared.kind.Outcome.TheVariants as came
 use Rattle.rely_guarantee.specs.Books.{Books, Spared, books_of}
 use Rattle.rely_guarantee.specs.Laws.{NotPending}
@@ -15,7 +17,7 @@ use Rattle.rely_guarantee.proofs.Acting.{runs_kept}
 use Rattle.ref_book.specs.declared.book.RefBook.{RefBook}
 use Rattle.ref_book.specs.Tracks.{HasEventRoom, HasRoom}
 use Rattle.command.specs.declared.ended.Ended.{Ended}
-use Rattle.command.specs.declared.ended.Ended.TheVariants.{Halted}
+use Rattle.command.specs.declared.ended.Ended.TheVariants as ended
 use Rattle.command.specs.Since.{Since, begun_in, placed}
 use Rattle.lane_system.specs.declared.lane.Lane.{Lane}
 use Rattle.lane_system.specs.declared.lane.Reply.{Reply}
@@ -25,7 +27,7 @@ use Rattle.lane_system.specs.Family.{Family, FsSpec}
 use Rattle.lane_system.specs.Kept.{IsLane, LaneKept, RunsIn, Started}
 use Rattle.lane_system.specs.LaneActs.{Takes, task_start}
 use Rattle.lane_system.specs.Lanes.{IsAt, IsNext}
-use Rattle.lane_system.specs.Replies.{Answers, IfAnswer, IfOutside, IsHalted, IsReply, IsTold, Knows}
+use Rattle.lane_system.specs.Replies.{Answers, EndsBy, IfAnswer, IsReply, IsTold, Knows}
 use Rattle.lane_system.specs.States.{now_of, since_in, state_in}
 use Rattle.lane_system.proofs.Family.{FamilyLaws, FsLaws}
 use Rattle.lane_system.proofs.Giving.{Gives}
@@ -38,6 +40,14 @@ event_room : (refs refs' : RefBook) → (e : Event) → ((name : List ℕ) → H
 event_room refs refs' (SetRef name seen commit) rooms has = rooms name has
 event_room refs refs' (DropRef name seen) rooms has = rooms name has
 event_room refs refs' (Pruned depth roots held removed) rooms has = tt
+
+-- what ended all commands goes on to be what ended them, since nothing is done any more
+pub ends_stay : {F A : Type 0} (f : FsSpec F) (old new : Base F) → ((why : Halt) → old.books.halted ≡ Some why → new ≡ old) → (x : Ended A) → EndsBy old.books.halted (f.refused old.fs) (f.faults old.fs) x → EndsBy new.books.halted (f.refused new.fs) (f.faults new.fs) x
+ends_stay f old new over (ended.Halted n) is = subst (λ (b : Base _). (b.books.halted ≡ Some halt.Failed) × (n ≡ f.faults b.fs)) (sym (over halt.Failed is.0)) is
+ends_stay f old new over (ended.Outside path) is = subst (λ (b : Base _). (b.books.halted ≡ Some halt.Strayed) × (f.refused b.fs ≡ Some path)) (sym (over halt.Strayed is.0)) is
+ends_stay f old new over (ended.Answered a) is = tt
+ends_stay f old new over ended.NoMemory is = tt
+ends_stay f old new over ended.DiskFault is = tt
 
 others_idle : (actor lane mine : ℕ) (b b' : Books) → mine ≢ lane → Spared actor lane b b' → NotPending mine b → NotPending mine b'
 others_idle actor lane mine b b' other spared none p is = ⊎_elim (λ was. none p was) (λ theirs e. other (sym e ∙ theirs)) (spared.shown p is)
@@ -67,14 +77,14 @@ module _ {F T W A : Type 0} (f : FsSpec F) (c : Family T W A) (fl : FsLaws f) (c
     others_run None none = others_idle actor lane mine (books_of old.books) (books_of new.books) other acts.books none
     others_run (Some r) runs = runs_kept cl.tasks f.view fl.is.told actor lane mine r.work old.fs new.fs (books_of old.books) (books_of new.books) not other acts.does acts.books runs
 
-    pub others_kept : (over : old.books.halted ≡ true → new ≡ old) (l : Lane T W A) → LaneKept f c limits mine refs old l → LaneKept f c limits mine refs' new l
+    pub others_kept : (over : (why : Halt) → old.books.halted ≡ Some why → new ≡ old) (l : Lane T W A) → LaneKept f c limits mine refs old l → LaneKept f c limits mine refs' new l
     others_kept over l k = record {
       is = k.is;
       runs = λ live. others_run l.task (k.runs (acts.live live));
       started = λ r is. started_stays l r (k.started r is);
       replies = λ number r at. (let x = k.replies number r at in (x.0, x.1, replies_stay mine number x.0 r x.2));
       in_order = k.in_order;
-      halts = λ number r at h. (let x = k.halts number r at h in subst (λ (b : Base F). (b.books.halted ≡ true) × (r.answer ≡ Halted (f.faults b.fs))) (sym (over x.0)) x);
+      halts = λ number r at. ends_stay f old new over r.answer (k.halts number r at);
     }
 
 module _ {F T W A : Type 0} (f : FsSpec F) (c : Family T W A) (fl : FsLaws f) (cl : FamilyLaws c) (limits : Limits) (actor lane : ℕ) (refs refs' : RefBook) (objects : ℕ) (old new : Base F) (acts : Acts f actor lane refs refs' old new) (l l' : Lane T W A) (words : W) (next : IsNext l words) (same : l'.words ≡ l.words)
@@ -122,7 +132,7 @@ module _ {F T W A : Type 0} (f : FsSpec F) (c : Family T W A) (fl : FsLaws f) (c
       started = λ r is. (let one : Some r' ≡ Some r = sym task ∙ is in let e : r' ≡ r = cc in subst (Started c limits refs' new.books l') e started_more);
       replies = λ number r at. (let x = k.replies number r (subst (λ z. IsAt z.items number r) replies at) in (x.0, subst (λ z. IsAt z.items number x.0) (sym same) x.1, replies_stay f c fl cl limits actor lane refs refs' old new acts lane number x.0 r x.2));
       in_order = λ number after_ r q at bt lt. k.in_order number after_ r q (subst (λ z. IsAt z.items number r) replies at) (subst (λ z. IsAt z.items after_ q) replies bt) lt;
-      halts = λ number r at h. absurd (let z : true ≡ false = sym (k.halts number r (subst (λ z. IsAt z.items number r) replies at) h).0 ∙ y.live in cc);
+      halts = λ number r at. ends_stay f old new (λ why over. absurd (let z : Some why ≡ None = sym over ∙ y.live in cc)) r.answer (k.halts number r (subst (λ z. IsAt z.items number r) replies at));
     }
 
   -- and one whose command has its reply
@@ -145,7 +155,6 @@ module _ {F T W A : Type 0} (f : FsSpec F) (c : Family T W A) (fl : FsLaws f) (c
               subst (λ (z : State). Knows c.means (placed (begun_in limits z) (state_in new.books r.place)) words r.answer) (sym s)
               (subst (λ (z : State). Knows c.means (placed (begun_in limits (state_in old.books start)) z) words r.answer) (sym p)
               (subst (Knows c.means (placed (since_in limits old.books start) (now_of new.books)) words) (sym answered) (g.known is_told)));
-          stray = subst (IfOutside (λ path. c.means.strays words ≡ Some path)) (sym answered) g.stray;
         }
 
     -- which reply it is
@@ -180,9 +189,8 @@ module _ {F T W A : Type 0} (f : FsSpec F) (c : Family T W A) (fl : FsLaws f) (c
           (λ too. absurd (omega (arith, here.0, too.0, lt)))
           (reply_split after_ w bt))
           (reply_split number q at);
-      halts = λ number q at h. ⊎_elim
-          (λ before. (let z = k.halts number q before h in subst (λ (b : Base F). (b.books.halted ≡ true) × (q.answer ≡ Halted (f.faults b.fs))) (sym (g.over z.0)) z))
-          (λ here. (let e : q.answer ≡ x = ap (λ (z : Reply A). z.answer) here.1 ∙ answered in
-          let z = g.halts (subst IsHalted e h) in (z.0, e ∙ z.1)))
+      halts = λ number q at. ⊎_elim
+          (λ before. ends_stay f old new g.over q.answer (k.halts number q before))
+          (λ here. (let e : q.answer ≡ x = ap (λ (z : Reply A). z.answer) here.1 ∙ answered in subst (EndsBy new.books.halted (f.refused new.fs) (f.faults new.fs)) (sym e) g.halts))
           (reply_split number q at);
     }

@@ -11,7 +11,8 @@ pub mod Endings
 pub mod Giving
 pub mod AtOnce
 pub mod Keeping
-pub mod Changing
+pub mod Causing
+mod Changing
 pub mod Accounting
 pub mod Locking
 pub mod Acting

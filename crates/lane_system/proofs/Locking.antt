@@ -4,6 +4,7 @@ use Rattle.ost_types.specs.declared.limits.Limits.{Limits}
 use Rattle.ost_types.specs.declared.object.ObjName.{ObjName}
 use Rattle.rely_guarantee.specs.declared.books.Books as rust
 use Rattle.rely_guarantee.specs.declared.books.Pin.{Pin}
+use Rattle.rely_guarantee.specs.declared.kind.Halt.{Halt}
 use Rattle.rely_guarantee.specs.declared.kind.Outcome.{Outcome}
 use Rattle.rely_guarantee.specs.declared.kind.Outcome.TheVariants as came
 use Rattle.rely_guarantee.specs.declared.kind.Wants.{Wants}
@@ -79,10 +80,10 @@ module _ {T W A : Type 0} (lanes : List (Lane T W A)) (lane : ℕ) (l l' : Lane 
     turn = λ a is. (let g = locks.0 a is in ⊎_elim (λ mine. absurd (g.0 mine)) (λ had. before a g.0 had) (turn_from k lane a old.turn g.1));
   }
 
-  pub locked_ended : (o : Outcome) → HasEnded o → (o ≡ came.Halted → new.halted ≡ true) → new.halted ≡ false → Locks k lane o old new → Locked new (set lanes lane l')
+  pub locked_ended : (o : Outcome) → HasEnded o → ((why : Halt) → o ≡ came.Halted why → new.halted ≡ Some why) → new.halted ≡ None → Locks k lane o old new → Locked new (set lanes lane l')
   locked_ended came.Done end halts live locks = locked_over locks
   locked_ended (came.Refused e) end halts live locks = locked_over locks
-  locked_ended came.Halted end halts live locks = absurd (let z : true ≡ false = sym (halts refl) ∙ live in cc)
+  locked_ended (came.Halted why) end halts live locks = absurd (let z : Some why ≡ None = sym (halts why refl) ∙ live in cc)
   locked_ended came.Blocked end halts live locks = absurd end
   locked_ended came.More end halts live locks = absurd end
 
@@ -140,10 +141,10 @@ module _ {T W A : Type 0} (told : Type 0) (m : Meaning W A) (limits : Limits) (l
   pub pinned_over : new.pins.items ≡ without lane old.pins.items → AreInWork told m limits new (set lanes lane l')
   pinned_over gone p has = (let k = without_cases lane old.pins.items p (subst (λ (xs : List Pin). Contains xs p) gone has) in pin_others p k.0 k.1)
 
-  pub pinned_ended : (pin : Option ObjName) (o : Outcome) → HasEnded o → (o ≡ came.Halted → new.halted ≡ true) → new.halted ≡ false → ArePinned pin lane o old.pins.items new.pins.items → AreInWork told m limits new (set lanes lane l')
+  pub pinned_ended : (pin : Option ObjName) (o : Outcome) → HasEnded o → ((why : Halt) → o ≡ came.Halted why → new.halted ≡ Some why) → new.halted ≡ None → ArePinned pin lane o old.pins.items new.pins.items → AreInWork told m limits new (set lanes lane l')
   pinned_ended pin came.Done end halts live pins = pinned_over pins
   pinned_ended pin (came.Refused e) end halts live pins = pinned_over pins
-  pinned_ended pin came.Halted end halts live pins = absurd (let z : true ≡ false = sym (halts refl) ∙ live in cc)
+  pinned_ended pin (came.Halted why) end halts live pins = absurd (let z : Some why ≡ None = sym (halts why refl) ∙ live in cc)
   pinned_ended pin came.Blocked end halts live pins = absurd end
   pinned_ended pin came.More end halts live pins = absurd end
 

@@ -1,8 +1,10 @@
 -- The moments of changes, and the count of failed calls, over a step.
-use Rattle.std.proofs.Common.{◌≡◌, ◌⊎◌, inl, inr, ⊎_elim, ◌≤◌, ℕ, refl, sym, subst, arith, List, ◌∷◌, ◌++◌, [], length, Bool}
+use Rattle.std.proofs.Common.{◌≡◌, ◌⊎◌, inl, inr, ⊎_elim, ◌≤◌, ℕ, refl, sym, ◌∙◌, subst, arith, List, ◌∷◌, ◌++◌, [], length, Option, Some}
 use Rattle.rely_guarantee.specs.declared.books.Books as rust
 use Rattle.rely_guarantee.specs.declared.books.Entry.{Entry}
 use Rattle.rely_guarantee.specs.declared.event.Event.{Event}
+use Rattle.rely_guarantee.specs.declared.kind.Halt.{Halt}
+use Rattle.rely_guarantee.specs.declared.kind.Halt.TheVariants as halt
 use Rattle.rely_guarantee.specs.declared.kind.Outcome.{Outcome}
 use Rattle.rely_guarantee.specs.declared.kind.Outcome.TheVariants as came
 use Rattle.rely_guarantee.specs.Books.{books_of}
@@ -23,7 +25,7 @@ module _ (lane command moment : ℕ) (old new : rust.Books) where
 
   settled : (e : Event) (outcome : Outcome) → Holds (Settle e) lane (books_of old) → IsBooked (Settle e) lane command moment outcome old new → IsLater moment old.history.items new.history.items
   settled e came.Done h b = inr (record { lane = lane; command = h.command; event = e; moment = moment }, refl, b.1 _ h.pending)
-  settled e came.Halted h b = inl b.0
+  settled e (came.Halted why) h b = inl b.0
   settled e came.More h b = absurd b
   settled e came.Blocked h b = absurd b
   settled e (came.Refused f) h b = absurd b
@@ -44,10 +46,11 @@ later_at moment old new (inr more) k e at = ⊎_elim
     (λ here. inr (omega (arith, here.0), subst (λ (x : Entry). x.moment ≡ moment) (sym here.1) more.1))
     (at_split old more.0 e k (subst (λ (l : List Entry). IsAt l k e) more.2 at))
 
--- only a failed change ends all commands
-pub fails_by : (before now : ℕ) (outcome : Outcome) (old new : Bool) → Causes before now outcome → IsLive outcome old new → Fails before now old new
-fails_by before now came.Halted old new cause live = (cause.0, λ was is. cause.1)
-fails_by before now came.Blocked old new cause live = (cause.0, λ was is. cc)
-fails_by before now came.More old new cause live = (cause.0, λ was is. cc)
-fails_by before now came.Done old new cause live = (cause.0, λ was is. cc)
-fails_by before now (came.Refused e) old new cause live = (cause.0, λ was is. cc)
+-- only a failed change ends all commands for a failed call
+pub fails_by : (before now : ℕ) (outcome : Outcome) (old new : Option Halt) → Causes before now outcome → IsLive outcome old new → Fails before now old new
+fails_by before now (came.Halted halt.Failed) old new cause live = (cause.0, λ is. inr cause.1)
+fails_by before now (came.Halted halt.Strayed) old new cause live = (cause.0, λ is. (let z : Some halt.Strayed ≡ Some halt.Failed = sym live ∙ is in cc))
+fails_by before now came.Blocked old new cause live = (cause.0, λ is. inl (sym live ∙ is))
+fails_by before now came.More old new cause live = (cause.0, λ is. inl (sym live ∙ is))
+fails_by before now came.Done old new cause live = (cause.0, λ is. inl (sym live ∙ is))
+fails_by before now (came.Refused e) old new cause live = (cause.0, λ is. inl (sym live ∙ is))

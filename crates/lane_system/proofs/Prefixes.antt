@@ -43,5 +43,4 @@ reply_stays {W} {A} told m limits begin h more lane number c r is = record {
   known = λ t.
       subst (λ (s : State). Knows m (placed (begun_in limits s) (state_after begin (h ++ more) r.place)) c r.answer) (sym (state_stays begin h more r.start (omega (arith, is.begun, is.within))))
       (subst (λ (p : State). Knows m (placed (begun_in limits (state_after begin h r.start)) p) c r.answer) (sym (state_stays begin h more r.place is.within)) (is.known t));
-  stray = is.stray;
 }

@@ -1,9 +1,8 @@
 -- What an act keeps of what was so since the opening.
-use Rattle.std.proofs.Common.{◌≡◌, ◌⊎◌, inl, inr, ⊎_elim, ◌<◌, ◌≤◌, ℕ, Bool, zero, suc, true, false, refl, sym, ◌∙◌, ap, subst, arith, List, [], ◌∷◌, ◌++◌, length, Contains, Some}
+use Rattle.std.proofs.Common.{◌≡◌, ◌⊎◌, inl, inr, ⊎_elim, ◌<◌, ◌≤◌, ℕ, zero, suc, refl, sym, ◌∙◌, ap, subst, arith, List, [], ◌∷◌, ◌++◌, length, Contains, Some}
 use Rattle.ost_types.specs.declared.limits.Limits.{Limits}
 use Rattle.ost_types.specs.declared.object.ObjName.{ObjName}
 use Rattle.fs_trait.specs.Change.{Left}
-use Rattle.fs_trait.specs.Count.{Rose, last}
 use Rattle.fs_trait.specs.Image.{Image, Told}
 use Rattle.fs_trait.specs.View.{Disk, View}
 use Rattle.rely_guarantee.specs.declared.books.Base.{Base}
@@ -18,53 +17,26 @@ use Rattle.rely_guarantee.specs.SystemInvariant.{Ordered}
 use Rattle.rely_guarantee.proofs.Finished.{finished_stays}
 use Rattle.rely_guarantee.proofs.Lasting.{next_doomed, none_out, stays_image}
 use Rattle.ref_book.specs.declared.book.RefBook.{RefBook}
-use Rattle.command.specs.declared.ended.Ended.{Ended}
-use Rattle.command.specs.declared.ended.Ended.TheVariants as ended
 use Rattle.command.specs.CommitFiles.{CommitsAreFiles}
 use Rattle.command.specs.ChangeLaws.{Founds, IsRightSince}
 use Rattle.command.specs.Removed.{removed_by}
 use Rattle.command.specs.Since.{Since, begun_in}
 use Rattle.lane_system.specs.declared.lane.Lane.{Lane}
 use Rattle.lane_system.specs.declared.lane.Reply.{Reply}
-use Rattle.lane_system.specs.Acts.{Acts, Fails}
-use Rattle.lane_system.specs.Causes.{AreCaused}
+use Rattle.lane_system.specs.Acts.{Acts}
 use Rattle.lane_system.specs.Family.{Family, FsSpec}
 use Rattle.lane_system.specs.Founded.{AreFounded, Sets}
 use Rattle.lane_system.specs.Inside.{AreUnrefused}
 use Rattle.lane_system.specs.Lanes.{IsAt, IsCommand, IsTo}
 use Rattle.lane_system.specs.Lasting.{AreKept, IsChangeKept}
-use Rattle.lane_system.specs.Replies.{IfAnswer, IsCaused, IsFailure, IsOutside, OfAnswer}
+use Rattle.lane_system.specs.Replies.{IfAnswer, IsOutside, OfAnswer}
 use Rattle.lane_system.specs.Said.{AreSaid, WasSeen}
 use Rattle.lane_system.specs.States.{since_in, state_in}
 use Rattle.lane_system.specs.Staying.{AreStaying}
 use Rattle.lane_system.specs.System.{System}
 use Rattle.lane_system.proofs.Family.{FamilyLaws, FsLaws}
 use Rattle.lane_system.proofs.Giving.{if_answer, is_answer}
-use Rattle.lane_system.proofs.Places.{here_or_apart}
 use Rattle.lane_system.proofs.Prefixes.{since_is}
-
--- a count that rose has risen over any longer time
-rose_since : (before a b : ℕ) → before ≤ a → Rose a b → Rose before b
-rose_since before a b le (inl lt) = inl (omega (arith, le, lt))
-rose_since before a b le (inr at) = inr at
-
-rose_on : (before a b : ℕ) → before ≤ a → a ≤ b → Rose before a → Rose before b
-rose_on before a b from le (inl lt) = inl (omega (arith, le, lt))
-rose_on before a b from le (inr at) = here_or_apart b last (λ e. inr e) (λ ne. inl (omega (arith, from, le, at, ne)))
-
--- no more commands go on only where the count rose
-halts_on : (old new : Bool) (before a b : ℕ) → before ≤ a → Fails a b old new → (old ≡ true → Rose before a) → new ≡ true → Rose before b
-halts_on true new before a b from fails was is = rose_on before a b from fails.0 (was refl)
-halts_on false new before a b from fails was is = rose_since before a b from (fails.1 refl is)
-
--- so of an answer
-risen : {A : Type 0} (halted : Bool) (before a b : ℕ) (x : Ended A) → before ≤ a → a ≤ b → (halted ≡ true → Rose before a) → IsCaused halted a b x → IsFailure x → Rose before b
-risen halted before a b ended.DiskFault from le was cause is = rose_since before a b from cause
-risen true before a b (ended.Halted n) from le was cause is = rose_on before a b from le (was refl)
-risen false before a b (ended.Halted n) from le was cause is = rose_since before a b from (cause refl)
-risen halted before a b (ended.Answered x) from le was cause is = absurd is
-risen halted before a b ended.NoMemory from le was cause is = absurd is
-risen halted before a b (ended.Outside path) from le was cause is = absurd is
 
 -- the moments of a history lie between the opening and its end
 pub opened_by : (from : ℕ) (es : List Entry) (to : ℕ) → Ascends from es to → from ≤ to
@@ -166,19 +138,6 @@ module _ {F T W A : Type 0} (f : FsSpec F) (c : Family T W A) (fl : FsLaws f) (c
       on : (r : Reply A) (words : W) → IfAnswer (λ x. c.means.stays (since_in limits old.books r.start) [] x words v (books_of old.books)) r.answer → IfAnswer (λ x. c.means.stays (since_in limits old.books r.start) [] x words w (books_of new.books)) r.answer
       on r words so = if_answer _ r.answer (λ x is. subst (λ (out : List ObjName). c.means.stays (since_in limits old.books r.start) out x words w (books_of new.books)) (ap (λ (gone : List ObjName). gone ++ []) none)
           (cl.commands.answers.stays (since_in limits old.books r.start) actor lane [] x words v w (books_of old.books) (books_of new.books) does (subst (IfAnswer _) is so)))
-
-  -- calls that failed
-  pub caused_on : ((r : Reply A) (words : W) → IsNew r words → IsCaused old.books.halted (f.faults old.fs) (f.faults new.fs) r.answer) → ((a n : ℕ) (r : Reply A) → IsTo lanes' a n r → (words : W) × IsCommand lanes' a n words) → (before_ : ℕ) → AreCaused f.faults before_ before → AreCaused f.faults before_ behind
-  caused_on new_one has before_ was =
-      let fails = acts.fails v told in
-      record {
-        later = omega (arith, was.later, fails.0);
-        halts = halts_on old.books.halted new.books.halted before_ (f.faults old.fs) (f.faults new.fs) was.later fails was.halts;
-        each = λ a n r to is. (let x = has a n r to in ⊎_elim
-            (λ there. rose_on before_ (f.faults old.fs) (f.faults new.fs) was.later fails.0 (was.each a n r there is))
-            (λ given. risen old.books.halted before_ (f.faults old.fs) (f.faults new.fs) r.answer was.later fails.0 was.halts (new_one r x.0 given) is)
-            (split a n r x.0 to x.1));
-      }
 
   pub inside_on : ((r : Reply A) (words : W) → IsNew r words → ¬ (IsOutside r.answer)) → ((a n : ℕ) (r : Reply A) → IsTo lanes' a n r → (words : W) × IsCommand lanes' a n words) → AreUnrefused lanes → AreUnrefused lanes'
   inside_on new_one has was a n r to is = (let x = has a n r to in ⊎_elim (λ there. was a n r there is) (λ given. new_one r x.0 given is) (split a n r x.0 to x.1))

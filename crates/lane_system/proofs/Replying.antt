@@ -1,10 +1,9 @@
 -- What the replies say, and what the commands that run hold, by what a system keeps.
-use Rattle.std.proofs.Common.{◌≡◌, ℕ, true, sym, subst, List}
+use Rattle.std.proofs.Common.{◌≡◌, ℕ, sym, subst, List}
 use Rattle.ost_types.specs.declared.limits.Limits.{Limits}
 use Rattle.rely_guarantee.specs.declared.books.Base.{Base}
 use Rattle.rely_guarantee.specs.Books.{books_of}
 use Rattle.ref_book.specs.declared.book.RefBook.{RefBook}
-use Rattle.command.specs.declared.ended.Ended.TheVariants.{Halted}
 use Rattle.lane_system.specs.declared.lane.Lane.{Lane}
 use Rattle.lane_system.specs.declared.lane.Reply.{Reply}
 use Rattle.lane_system.specs.Booked.{IsReplied}
@@ -13,7 +12,7 @@ use Rattle.lane_system.specs.Held.{Held}
 use Rattle.lane_system.specs.Kept.{Kept, RunsIn}
 use Rattle.lane_system.specs.Lanes.{IsAt, IsTo}
 use Rattle.lane_system.specs.Ranks.{AreWithin}
-use Rattle.lane_system.specs.Replies.{IsHalted}
+use Rattle.lane_system.specs.Replies.{EndsBy}
 use Rattle.lane_system.specs.States.{since_in}
 use Rattle.lane_system.specs.System.{System}
 use Rattle.lane_system.proofs.Changing.{one_command}
@@ -32,6 +31,8 @@ module _ {F T W A : Type 0} (f : FsSpec F) (c : Family T W A) (limits : Limits) 
         (kept.each lane to.0 to.1).in_order number next r q to.2 (subst (λ (l : Lane T W A). IsAt l.replies.items next q) same too.2) lt);
     made = kept.accounted.made;
     shown = kept.accounted.shown;
+    untaken = kept.accounted.untaken;
+    over = kept.accounted.over;
     numbered = kept.accounted.numbered;
     starts = λ lane number r is. ((kept.each lane is.0 is.1).started r is.3).early;
     begun = λ lane number next r q is to.
@@ -42,8 +43,8 @@ module _ {F T W A : Type 0} (f : FsSpec F) (c : Family T W A) (limits : Limits) 
   pub within_of : AreWithin s
   within_of lane l at = (kept.each lane l at).is.within
 
-  pub halted_of : (lane number : ℕ) (r : Reply A) → IsTo lanes lane number r → IsHalted r.answer → (base.books.halted ≡ true) × (r.answer ≡ Halted (f.faults base.fs))
-  halted_of lane number r to is = (kept.each lane to.0 to.1).halts number r to.2 is
+  pub ends_of : (lane number : ℕ) (r : Reply A) → IsTo lanes lane number r → EndsBy base.books.halted (f.refused base.fs) (f.faults base.fs) r.answer
+  ends_of lane number r to = (kept.each lane to.0 to.1).halts number r to.2
 
   module _ (cl : FamilyLaws c) where
     pub held_of : Held f.view c s

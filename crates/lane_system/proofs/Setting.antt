@@ -50,21 +50,21 @@ module _ (lane command moment : ℕ) (old new : rust.Books) (v : View) where
 
   show_step : (e : Event) (outcome : Outcome) → IsBooked (Show e) lane command moment outcome old new → Founds v e → Goes
   show_step e came.More b is = each_shown (Founds v) lane command e old new b is
-  show_step e came.Halted b is = each_shown (Founds v) lane command e old new b is
+  show_step e (came.Halted why) b is = each_shown (Founds v) lane command e old new b is
   show_step e came.Blocked b is = each_same (Founds v) old new b
   show_step e (came.Refused f) b is = each_same (Founds v) old new b
   show_step e came.Done b is = absurd b
 
   shown_step : (e : Event) (n : ℕ) (outcome : Outcome) → IsBooked (Shown e n) lane command moment outcome old new → Goes
   shown_step e n came.More b = each_same (Founds v) old new b
-  shown_step e n came.Halted b = each_same (Founds v) old new b
+  shown_step e n (came.Halted why) b = each_same (Founds v) old new b
   shown_step e n came.Blocked b = absurd b
   shown_step e n (came.Refused f) b = absurd b
   shown_step e n came.Done b = absurd b
 
   settle_step : (e : Event) (outcome : Outcome) → Holds (Settle e) lane (books_of old) → IsBooked (Settle e) lane command moment outcome old new → Goes
   settle_step e came.Done h b = each_settled (Founds v) old new (record { lane = lane; command = h.command; event = e }) moment h.pending b.0 (b.1 _ h.pending)
-  settle_step e came.Halted h b = each_same (Founds v) old new b
+  settle_step e (came.Halted why) h b = each_same (Founds v) old new b
   settle_step e came.More h b = absurd b
   settle_step e came.Blocked h b = absurd b
   settle_step e (came.Refused f) h b = absurd b

@@ -38,7 +38,7 @@ counts_none : {T W A : Type 0} (c : Family T W A) (objects objects' : ℕ) (t' :
 counts_none c objects objects' t' came.Blocked end same = absurd end
 counts_none c objects objects' t' came.More end same = absurd end
 counts_none c objects objects' t' came.Done end same = same
-counts_none c objects objects' t' came.Halted end same = same
+counts_none c objects objects' t' (came.Halted why) end same = same
 counts_none c objects objects' t' (came.Refused e) end same = same
 
 not_blocked : (o : Outcome) → HasEnded o → o ≡ came.Blocked → ⊥
@@ -92,7 +92,7 @@ module _ {F T W A : Type 0} (f : FsSpec F) (c : Family T W A) (fl : FsLaws f) (c
     pub stored_more : AreStored f c.means before v → AreStored f c.means (record { base = new; lanes = set lanes lane l'; limits = limits; objects = objects' }) (acts.does v told_v).0
     stored_more = stored_step f c fl cl limits lane lane refs refs' objects objects' old new lanes (set lanes lane l') acts (command_stays lanes lane l l' at x.same) begun_on begun_early
         (λ wide. counted_up objects limits.objects objects' (c.doing.met x.did.0) x.did.2 room wide)
-        v told_v number x.words l.task came.More x.did.0 x.did.3 kept.sound (λ is. cc) x.did.2 (λ is. cc)
+        v told_v number x.words l.task came.More x.did.0 x.did.3 kept.sound (λ is. cc) x.did.2 (λ why is. (let z : came.More ≡ came.Halted why = is in cc))
         (command_stays lanes lane l l' at x.same lane number x.words (l, at, x.next))
         (inr (r', running_here lanes lane l l' at x.same number r' (ap (λ z. length z.items) (sym x.replies)) x.did.1, refl))
 
@@ -125,7 +125,7 @@ module _ {F T W A : Type 0} (f : FsSpec F) (c : Family T W A) (fl : FsLaws f) (c
         (λ once. stored_still f c fl cl limits lane lane refs refs' objects objects' old new lanes (set lanes lane l'') acts_ (command_stays lanes lane l l'' at same) begun_then begun_early (λ wide. omega (arith, x.did.1)) v told_v (once_same once.0) stored)
         (λ over. stored_step f c fl cl limits lane lane refs refs' objects objects' old new lanes (set lanes lane l'') acts_ (command_stays lanes lane l l'' at same) begun_then begun_early (λ wide. omega (arith, x.did.1)) v told_v
         (length l.replies.items) x.words l.task over.0 over.1 over.4 kept.sound (not_blocked over.0 over.2) (counts_none c objects objects' over.1 over.0 over.2 x.did.1)
-        (λ is. (let live : IsLive came.Halted old.books.halted new.books.halted = subst (λ (o : Outcome). IsLive o old.books.halted new.books.halted) is over.4.step.live in live))
+        (λ why is. (let live : IsLive (came.Halted why) old.books.halted new.books.halted = subst (λ (o : Outcome). IsLive o old.books.halted new.books.halted) is over.4.step.live in live))
         (command_stays lanes lane l l'' at same lane (length l.replies.items) x.words (l, at, x.next))
         (inl (r, to_new lanes lane l l'' at same r grows, its_start)) stored)
         x.did.3

@@ -1,5 +1,5 @@
 -- The store stays good over an act.
-use Rattle.std.proofs.Common.{◌≡◌, ◌⊎◌, inl, inr, ⊎_elim, ◌<◌, ◌≤◌, ◌+◌, ◌^◌, ℕ, true, false, refl, sym, ◌∙◌, subst, arith, List, [], length, Option, Some, None}
+use Rattle.std.proofs.Common.{◌≡◌, ◌⊎◌, inl, inr, ⊎_elim, ◌<◌, ◌≤◌, ◌+◌, ◌^◌, ℕ, refl, sym, ◌∙◌, subst, arith, List, [], length, Option, Some, None}
 use Rattle.std.specs.Prelude.{min}
 use Rattle.std.proofs.Math.Nat.{min-eq_left}
 use Rattle.ost_types.specs.declared.limits.Limits.{Limits}
@@ -17,6 +17,7 @@ use Rattle.repo_model.specs.Objects.{path_of}
 use Rattle.obj_store.specs.declared.phase.Put.{Put}
 use Rattle.obj_store.specs.declared.phase.Put.TheVariants.{Present, Stored}
 use Rattle.rely_guarantee.specs.declared.books.Base.{Base}
+use Rattle.rely_guarantee.specs.declared.kind.Halt.{Halt}
 use Rattle.rely_guarantee.specs.declared.kind.Outcome.{Outcome}
 use Rattle.rely_guarantee.specs.declared.kind.Outcome.TheVariants as came
 use Rattle.rely_guarantee.specs.Books.{books_of}
@@ -99,7 +100,7 @@ module _ {F T W A : Type 0} (f : FsSpec F) (c : Family T W A) (fl : FsLaws f) (c
   widened stored = good_wider (f.was old.fs) limits (WasBrought c.means before) (WasBrought c.means behind) IsConfigured stored.names old.books.opened v wider stored.keeps
 
   -- by the store in the view after the act
-  from_stands : (stored : AreStored f c.means before v) (next : List ObjName) → StoreStands limits (WasBrought c.means behind) IsConfigured next w → length next ≤ limits.objects → (new.books.halted ≡ false → length next ≤ objects') → AreStored f c.means behind w
+  from_stands : (stored : AreStored f c.means before v) (next : List ObjName) → StoreStands limits (WasBrought c.means behind) IsConfigured next w → length next ≤ limits.objects → (new.books.halted ≡ None → length next ≤ objects') → AreStored f c.means behind w
   from_stands stored next stands few counted = record {
     names = next;
     counted = counted;
@@ -128,7 +129,7 @@ module _ {F T W A : Type 0} (f : FsSpec F) (c : Family T W A) (fl : FsLaws f) (c
 
   -- a step of a task of a command that has begun behind it
   module _ (number : ℕ) (words : W) (task : Option (Running T)) (outcome : Outcome) (t' : T) (y : Takes f c limits actor lane number refs refs' objects old new words task outcome t')
-      (sound : SystemInvariant f.view f.clock f.spare f.was old) (taken : outcome ≡ came.Blocked → ⊥) (counts : CountsAt c.doing objects t' outcome objects') (halts : outcome ≡ came.Halted → new.books.halted ≡ true)
+      (sound : SystemInvariant f.view f.clock f.spare f.was old) (taken : outcome ≡ came.Blocked → ⊥) (counts : CountsAt c.doing objects t' outcome objects') (halts : (why : Halt) → outcome ≡ came.Halted why → new.books.halted ≡ Some why)
       (is : IsCommand lanes' lane number words) (began : HasBegun lanes' lane number (task_start old.books.history.items task)) where
     abbrev start : ℕ
     start = task_start old.books.history.items task
@@ -182,8 +183,8 @@ module _ {F T W A : Type 0} (f : FsSpec F) (c : Family T W A) (fl : FsLaws f) (c
       room : objects < limits.objects
       room = cl.commands.store.room count since actor lane words y.work v (books_of old.books) name shown y.after (y.runs.facts v told_v) sum there
 
-      was_counted : (o : Outcome) → (o ≡ came.Blocked → ⊥) → Tells c.tasks.leaves c.tasks.refuses t o t' (f.view old.fs) (f.view new.fs) → CountsAt c.doing objects t' o objects' → (o ≡ came.Halted → new.books.halted ≡ true) → limits.objects < 2 ^ 32
-          → (w ≡ v) ⊎ (new.books.halted ≡ true) ⊎ (objects' ≡ objects + 1)
+      was_counted : (o : Outcome) → (o ≡ came.Blocked → ⊥) → Tells c.tasks.leaves c.tasks.refuses t o t' (f.view old.fs) (f.view new.fs) → CountsAt c.doing objects t' o objects' → ((why : Halt) → o ≡ came.Halted why → new.books.halted ≡ Some why) → limits.objects < 2 ^ 32
+          → (w ≡ v) ⊎ ((why : Halt) × (new.books.halted ≡ Some why)) ⊎ (objects' ≡ objects + 1)
       was_counted came.More went tells counts halts wide =
           let left = tells v told_v in ⊎_elim
           (λ same. inl (sym (here left.0 left.1) ∙ same))
@@ -193,7 +194,7 @@ module _ {F T W A : Type 0} (f : FsSpec F) (c : Family T W A) (fl : FsLaws f) (c
           let left = tells v told_v in
           inl (sym (here left.0 left.1) ∙ cl.commands.store.done actor lane t t' v left.0 (books_of old.books) name shown facts left.2 sum there)
       was_counted (came.Refused e) went tells counts halts wide = inl (refused_still e (tells v told_v))
-      was_counted came.Halted went tells counts halts wide = inr (inl (halts refl))
+      was_counted (came.Halted why) went tells counts halts wide = inr (inl (why, halts why refl))
       was_counted came.Blocked went tells counts halts wide = absurd (went refl)
 
     pub stored_step : AreStored f c.means before v → AreStored f c.means behind w
@@ -208,13 +209,13 @@ module _ {F T W A : Type 0} (f : FsSpec F) (c : Family T W A) (fl : FsLaws f) (c
             (λ adds. omega (arith, adds.longer, stored.counted y.live, room adds.name adds.shown adds.sum adds.written))
             grows
 
-        counted : (next : List ObjName) → Grows At w stored.names next → new.books.halted ≡ false → length next ≤ objects'
+        counted : (next : List ObjName) → Grows At w stored.names next → new.books.halted ≡ None → length next ≤ objects'
         counted next grows live = ⊎_elim
             (λ same. subst (λ (l : List ObjName). length l ≤ objects') (sym same) (omega (arith, stored.counted y.live, no_fewer stored.narrow)))
             (λ adds. ⊎_elim
             (λ still. absurd (adds_still At v w stored.names next stored.keeps.now.listed still adds))
             (λ more. ⊎_elim
-            (λ over. absurd (let n : false ≡ true = sym live ∙ over in cc))
+            (λ over. absurd (let n : None ≡ Some over.0 = sym live ∙ over.1 in cc))
             (λ one. omega (arith, adds.longer, stored.counted y.live, one))
             more)
             (was_counted adds.name adds.shown adds.sum adds.written outcome taken y.step.tells counts halts stored.narrow))

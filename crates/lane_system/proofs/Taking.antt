@@ -34,7 +34,7 @@ pub held_or : (outcome : Outcome) → (outcome ≡ came.Blocked) ⊎ (outcome �
 held_or came.Blocked = inl refl
 held_or came.More = inr (λ is. cc)
 held_or came.Done = inr (λ is. cc)
-held_or came.Halted = inr (λ is. cc)
+held_or (came.Halted why) = inr (λ is. cc)
 held_or (came.Refused e) = inr (λ is. cc)
 
 -- what others do leaves no folder where an actor stages
@@ -96,6 +96,6 @@ module _ {F T W A : Type 0} (f : FsSpec F) (c : Family T W A) (fl : FsLaws f) (c
     lasts = x.step.lasts;
     time = x.step.time;
     moments = later_at (f.clock new.fs) old.books.history.items new.books.history.items (moment_is lane number (f.clock new.fs) old.books new.books (c.tasks.kind told) outcome told_holds x.step.booked);
-    fails = λ v is. fails_by (f.faults old.fs) (f.faults new.fs) outcome old.books.halted new.books.halted (x.step.cause v is) x.step.live;
+    fails = fails_by (f.faults old.fs) (f.faults new.fs) outcome old.books.halted new.books.halted x.step.cause x.step.live;
     founded = λ v is. founded_step lane number (f.clock new.fs) old.books new.books v (c.tasks.kind told) outcome told_holds x.step.booked (λ e k. cl.commands.changes.founds lane told v (books_of old.books) e (told_facts v is) k);
   }

@@ -44,5 +44,5 @@ pub counts_rest : {T W A : Type 0} (d : Doing T W A) (objects : ℕ) (t : T) (o 
 counts_rest d objects t came.More not = absurd (not refl)
 counts_rest d objects t came.Done not = refl
 counts_rest d objects t came.Blocked not = refl
-counts_rest d objects t came.Halted not = refl
+counts_rest d objects t (came.Halted why) not = refl
 counts_rest d objects t (came.Refused e) not = refl

@@ -1,5 +1,5 @@
 -- What others may rely on in an act, whoever's lane it is.
-use Rattle.std.specs.Prelude.{◌≡◌, ◌⊎◌, ◌≤◌, ℕ, Bool, true, false, List, [], length, Option, Some}
+use Rattle.std.specs.Prelude.{◌≡◌, ◌⊎◌, ◌≤◌, ℕ, List, [], length, Option, Some, None}
 use Rattle.fs_trait.specs.Count.{Rose}
 use Rattle.fs_trait.specs.Effect.{Elapses}
 use Rattle.fs_trait.specs.View.{View}
@@ -7,6 +7,8 @@ use Rattle.rely_guarantee.specs.declared.books.Base.{Base}
 use Rattle.rely_guarantee.specs.declared.books.Entry.{Entry}
 use Rattle.rely_guarantee.specs.declared.books.Pending.{Pending}
 use Rattle.rely_guarantee.specs.declared.event.Event.{Event}
+use Rattle.rely_guarantee.specs.declared.kind.Halt.{Halt}
+use Rattle.rely_guarantee.specs.declared.kind.Halt.TheVariants as halt
 use Rattle.rely_guarantee.specs.Books.{Spared, books_of}
 use Rattle.rely_guarantee.specs.Lasting.{Lasts}
 use Rattle.rely_guarantee.specs.Rely.{Interference}
@@ -19,9 +21,9 @@ use Rattle.lane_system.specs.Kept.{AreHomes}
 use Rattle.lane_system.specs.Lanes.{IsAt}
 use Rattle.lane_system.specs.States.{now_of}
 
--- Over an act the count of failed calls doesn't fall; it rose where the act ended all commands.
-abbrev pub Fails : ℕ → ℕ → Bool → Bool → Type 0
-Fails before now old new = (before ≤ now) × (old ≡ false → new ≡ true → Rose before now)
+-- Over an act the count of failed calls doesn't fall; it rose where all commands were ended for a failed call, by this act.
+abbrev pub Fails : ℕ → ℕ → Option Halt → Option Halt → Type 0
+Fails before now old new = (before ≤ now) × (new ≡ Some halt.Failed → (old ≡ Some halt.Failed) ⊎ Rose before now)
 
 -- Each change that lasts is so, and the one that is shown.
 pub record EachChange (P : Event → Type 0) (entries : List Entry) (pending : Option Pending) : Type 0 where
@@ -34,7 +36,7 @@ pub record Acts {F : Type 0} (f : FsSpec F) (actor lane : ℕ) (refs refs' : Ref
   pub books : Spared actor lane (books_of old.books) (books_of new.books)
   pub homes : AreHomes (f.view old.fs) → AreHomes (f.view new.fs)
   -- commands that go on went on before
-  pub live : new.books.halted ≡ false → old.books.halted ≡ false
+  pub live : new.books.halted ≡ None → old.books.halted ≡ None
   pub tracks : Tracks refs' (now_of new.books)
   pub rooms : (name : List ℕ) → HasRoom refs name → HasRoom refs' name
   -- the objects of the store, and time
@@ -42,5 +44,5 @@ pub record Acts {F : Type 0} (f : FsSpec F) (actor lane : ℕ) (refs refs' : Ref
   pub time : Elapses (f.clock old.fs) (f.clock new.fs) (f.was old.fs) (f.was new.fs) (f.view new.fs)
   -- a change that it made to last has the moment behind it, and one that it shows names no commit but one that lasts
   pub moments : (k : ℕ) (e : Entry) → IsAt new.books.history.items k e → IsAt old.books.history.items k e ⊎ ((length old.books.history.items ≤ k) × (e.moment ≡ f.clock new.fs))
-  pub fails : (v : View) → f.view old.fs ≡ Some v → Fails (f.faults old.fs) (f.faults new.fs) old.books.halted new.books.halted
+  pub fails : Fails (f.faults old.fs) (f.faults new.fs) old.books.halted new.books.halted
   pub founded : (v : View) → f.view old.fs ≡ Some v → EachChange (Founds v) old.books.history.items old.books.pending → EachChange (Founds v) new.books.history.items new.books.pending

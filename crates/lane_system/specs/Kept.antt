@@ -1,18 +1,18 @@
 -- What every value of a system keeps.
-use Rattle.std.specs.Prelude.{◌≡◌, ◌<◌, ◌≤◌, ℕ, List, [], length, vec_capacity, false, true, Option, Some, None}
+use Rattle.std.specs.Prelude.{◌≡◌, ◌<◌, ◌≤◌, ℕ, List, [], length, vec_capacity, Option, Some, None}
 use Rattle.ost_types.specs.declared.limits.Limits.{Limits}
 use Rattle.fs_trait.specs.View.{View}
 use Rattle.rely_guarantee.specs.declared.books.Base.{Base}
 use Rattle.rely_guarantee.specs.declared.books.Books as rust
 use Rattle.rely_guarantee.specs.declared.books.Entry.{Entry}
 use Rattle.rely_guarantee.specs.declared.books.Pending.{Pending}
+use Rattle.rely_guarantee.specs.declared.kind.Halt.TheVariants as halt
 use Rattle.rely_guarantee.specs.Books.{books_of}
 use Rattle.rely_guarantee.specs.Laws.{NotPending, Runs}
 use Rattle.rely_guarantee.specs.State.{first}
 use Rattle.rely_guarantee.specs.SystemInvariant.{SystemInvariant}
 use Rattle.ref_book.specs.declared.book.RefBook.{RefBook}
 use Rattle.ref_book.specs.Tracks.{Tracks}
-use Rattle.command.specs.declared.ended.Ended.TheVariants.{Halted}
 use Rattle.command.specs.Doing.{HasRoomFor}
 use Rattle.command.specs.Meaning.{Meaning}
 use Rattle.command.specs.Staging.{StagingPathFree}
@@ -20,10 +20,10 @@ use Rattle.lane_system.specs.declared.lane.Lane.{Lane}
 use Rattle.lane_system.specs.declared.lane.Reply.{Reply}
 use Rattle.lane_system.specs.declared.lane.Running.{Running}
 use Rattle.lane_system.specs.Family.{Family, FsSpec}
-use Rattle.lane_system.specs.Lanes.{IsAt, IsNext, IsRunning, Numbered, count_of}
+use Rattle.lane_system.specs.Lanes.{IsAt, IsNext, IsRunning, IsTo, Numbered, count_of}
 use Rattle.lane_system.specs.Pins.{AreInWork}
 use Rattle.lane_system.specs.Replied.{IsPendingOf, WasMade}
-use Rattle.lane_system.specs.Replies.{IsHalted, IsReply, IsTold}
+use Rattle.lane_system.specs.Replies.{EndsBy, EndsToo, IsReply, IsTold}
 use Rattle.lane_system.specs.States.{now_of, since_in}
 
 -- A command that began: it is the lane's next one, its task is after what it is to do, and there is room for its ref. It began where all
@@ -51,11 +51,11 @@ pub record IsLane {T W A : Type 0} (m : Meaning W A) (limits : Limits) (l : Lane
 -- What is so of a lane: of the command that runs while commands go on, of the one that began, and of its replies, which come in order.
 pub record LaneKept {F T W A : Type 0} (f : FsSpec F) (c : Family T W A) (limits : Limits) (lane : ℕ) (refs : RefBook) (base : Base F) (l : Lane T W A) : Type 0 where
   pub is : IsLane c.means limits l
-  pub runs : base.books.halted ≡ false → RunsIn c lane (f.view base.fs) base.books l.task
+  pub runs : base.books.halted ≡ None → RunsIn c lane (f.view base.fs) base.books l.task
   pub started : (r : Running T) → l.task ≡ Some r → Started c limits refs base.books l r
   pub replies : (number : ℕ) (r : Reply A) → IsAt l.replies.items number r → (words : W) × IsAt l.words.items number words × IsReply (IsTold f.view) c.means limits (first base.books.start.items) base.books.history.items lane number words r
   pub in_order : (number next : ℕ) (r q : Reply A) → IsAt l.replies.items number r → IsAt l.replies.items next q → number < next → r.place ≤ q.start
-  pub halts : (number : ℕ) (r : Reply A) → IsAt l.replies.items number r → IsHalted r.answer → (base.books.halted ≡ true) × (r.answer ≡ Halted (f.faults base.fs))
+  pub halts : (number : ℕ) (r : Reply A) → IsAt l.replies.items number r → EndsBy base.books.halted (f.refused base.fs) (f.faults base.fs) r.answer
 
 -- Whose the locks are: the ref lock is that of a lane whose command runs, and no other lock is held.
 pub record Locked {T W A : Type 0} (b : rust.Books) (lanes : List (Lane T W A)) : Type 0 where
@@ -63,10 +63,15 @@ pub record Locked {T W A : Type 0} (b : rust.Books) (lanes : List (Lane T W A)) 
   pub turn : (lane : ℕ) → b.turn ≡ Some lane → (number : ℕ) × (r : Running T) × IsRunning lanes lane number r
 
 -- The replies of all lanes with the history: each change that lasts was made by a command that was answered so, and the one that is
--- pending is that of a command.
-pub record Accounted {T W A : Type 0} (m : Meaning W A) (limits : Limits) (b : rust.Books) (lanes : List (Lane T W A)) (given : ℕ) : Type 0 where
+-- pending is that of a command, which runs while commands go on. Once all commands
+-- were ended each reply says so.
+pub record Accounted {T W A : Type 0} (told : Type 0) (m : Meaning W A) (limits : Limits) (b : rust.Books) (lanes : List (Lane T W A)) (given : ℕ) : Type 0 where
   pub made : (k : ℕ) (e : Entry) → IsAt b.history.items k e → WasMade m lanes k e
-  pub shown : (p : Pending) → b.pending ≡ Some p → IsPendingOf m limits (first b.start.items) b.history.items lanes p
+  pub shown : (p : Pending) → b.pending ≡ Some p → IsPendingOf told m limits (first b.start.items) b.history.items lanes p
+  pub going : (p : Pending) → b.pending ≡ Some p → b.halted ≡ None → (r : Running T) × IsRunning lanes p.lane p.command r
+  -- no command takes the lock on the list of deployments yet
+  pub untaken : (lane number : ℕ) (r : Reply A) → IsTo lanes lane number r → r.taken ≡ None
+  pub over : (lane number other another : ℕ) (r q : Reply A) → IsTo lanes lane number r → IsTo lanes other another q → r.order < q.order → EndsToo r.answer q.answer
   pub numbered : Numbered lanes
   pub count : given ≡ count_of lanes
   pub fewer : length b.history.items ≤ count_of lanes
@@ -81,9 +86,11 @@ pub record Kept {F T W A : Type 0} (f : FsSpec F) (c : Family T W A) (limits : L
   pub few : length lanes ≤ 8
   pub homes : AreHomes (f.view base.fs)
   pub each : (lane : ℕ) (l : Lane T W A) → IsAt lanes lane l → LaneKept f c limits lane refs base l
-  pub locked : base.books.halted ≡ false → Locked base.books lanes
-  pub pins : base.books.halted ≡ false → AreInWork (IsTold f.view) c.means limits base.books lanes
-  pub accounted : Accounted c.means limits base.books lanes given
+  pub locked : base.books.halted ≡ None → Locked base.books lanes
+  pub pins : base.books.halted ≡ None → AreInWork (IsTold f.view) c.means limits base.books lanes
+  pub accounted : Accounted (IsTold f.view) c.means limits base.books lanes given
+  -- where the view is told no call is refused for what nothing here explains
+  pub explained : base.books.halted ≡ Some halt.Strayed → ¬ (IsTold f.view)
 
 -- no command has begun
 pub record IsIdle {T W A : Type 0} (m : Meaning W A) (limits : Limits) (l : Lane T W A) : Type 0 where

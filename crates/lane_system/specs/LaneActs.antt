@@ -1,8 +1,9 @@
 -- What an act of a lane did.
-use Rattle.std.specs.Prelude.{◌≡◌, ◌⊎◌, ◌≤◌, ℕ, false, true, List, length, Option, Some, None}
+use Rattle.std.specs.Prelude.{◌≡◌, ◌⊎◌, ◌≤◌, ℕ, List, length, Option, Some, None}
 use Rattle.ost_types.specs.declared.limits.Limits.{Limits}
 use Rattle.rely_guarantee.specs.declared.books.Base.{Base}
 use Rattle.rely_guarantee.specs.declared.books.Entry.{Entry}
+use Rattle.rely_guarantee.specs.declared.kind.Halt.TheVariants as halt
 use Rattle.rely_guarantee.specs.declared.kind.Outcome.{Outcome}
 use Rattle.rely_guarantee.specs.declared.kind.Outcome.TheVariants as came
 use Rattle.rely_guarantee.specs.Books.{books_of}
@@ -39,7 +40,7 @@ told_by d objects t = d.hears (record { objects = objects }) t
 -- The task of the command took a step while commands go on, once it was told how many objects there are. It is after what the command is to
 -- do, has its facts, and there is room for its ref, for which the beginning may have made some.
 pub record Takes {F T W A : Type 0} (f : FsSpec F) (c : Family T W A) (limits : Limits) (actor lane number : ℕ) (refs refs' : RefBook) (objects : ℕ) (old new : Base F) (words : W) (task : Option (Running T)) (outcome : Outcome) (t' : T) : Type 0 where
-  pub live : old.books.halted ≡ false
+  pub live : old.books.halted ≡ None
   pub work : T
   pub is : IsTaskOf c.doing lane task work
   pub early : task_start old.books.history.items task ≤ length old.books.history.items
@@ -52,9 +53,10 @@ pub record Takes {F T W A : Type 0} (f : FsSpec F) (c : Family T W A) (limits : 
 
 -- an answer that was given by the books alone, to a command that hasn't begun or since no command goes on
 abbrev pub IsAtOnce : {F T W A : Type 0} → FsSpec F → Meaning W A → Limits → Base F → W → Option (Running T) → Ended A → Type 0
-IsAtOnce f m limits old words task (ended.Answered a) = (old.books.halted ≡ false) × (task ≡ None) × IsAnswer m (since_in limits old.books (length old.books.history.items)) words a
-IsAtOnce f m limits old words task ended.NoMemory = (old.books.halted ≡ false) × (task ≡ None)
-IsAtOnce f m limits old words task (ended.Halted n) = (old.books.halted ≡ true) × (n ≡ f.faults old.fs)
+IsAtOnce f m limits old words task (ended.Answered a) = (old.books.halted ≡ None) × (task ≡ None) × IsAnswer m (since_in limits old.books (length old.books.history.items)) words a
+IsAtOnce f m limits old words task ended.NoMemory = ((old.books.halted ≡ None) × (task ≡ None)) ⊎ (old.books.halted ≡ Some halt.Strayed)
+IsAtOnce f m limits old words task (ended.Halted n) = (old.books.halted ≡ Some halt.Failed) × (n ≡ f.faults old.fs)
+IsAtOnce f m limits old words task (ended.Outside path) = (old.books.halted ≡ Some halt.Strayed) × (f.refused old.fs ≡ Some path)
 IsAtOnce f m limits old words task x = ⊥
 
 -- What it came to, by the task before and after: held off, it left all as it was.
@@ -67,7 +69,7 @@ Did {F} {T} f c limits actor lane number refs refs' objects objects' old new wor
 Did {F} {T} f c limits actor lane number refs refs' objects objects' old new words task task' (Answered x start) =
     (task' ≡ None) × (objects' ≡ objects) × (start ≡ task_start old.books.history.items task)
     × (((new ≡ old) × IsAtOnce f c.means limits old words task x)
-    ⊎ ((outcome : Outcome) × (t' : T) × HasEnded outcome × IsEndedAs c.doing.answer (c.means.strays words) outcome t' (f.faults new.fs) x × Takes f c limits actor lane number refs refs' objects old new words task outcome t'))
+    ⊎ ((outcome : Outcome) × (t' : T) × HasEnded outcome × IsEndedAs c.doing.answer (f.refused new.fs) outcome t' (f.faults new.fs) x × Takes f c limits actor lane number refs refs' objects old new words task outcome t'))
 
 -- An act of a lane, which has this command next: the command stays, and its reply is given later.
 pub record LaneActs {F T W A : Type 0} (f : FsSpec F) (c : Family T W A) (limits : Limits) (actor lane : ℕ) (refs refs' : RefBook) (objects objects' : ℕ) (old new : Base F) (l l' : Lane T W A) (result : Came A) : Type 0 where

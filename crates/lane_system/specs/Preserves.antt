@@ -1,4 +1,4 @@
--- What acts keep of a system, where the view is told.
+-- What acts keep of a system, where the view is told; what they keep of failed calls, in any case.
 use Rattle.std.specs.Prelude.{◌≡◌, ℕ, Some}
 use Rattle.fs_trait.specs.Image.{Told}
 use Rattle.fs_trait.specs.View.{Disk, View}
@@ -19,7 +19,7 @@ use Rattle.lane_system.specs.System.{System}
 pub record Preserves {F T W A : Type 0} (f : FsSpec F) (c : Family T W A) (old new : System F T W A) : Type 0 where
   pub lasts : (opening v : View) → f.view old.base.fs ≡ Some v → AreKept c.means f.was opening old v → Told (f.view new.base.fs) (λ w. AreKept c.means f.was opening new w)
   pub good : (v : View) → f.view old.base.fs ≡ Some v → AreStored f c.means old v → Told (f.view new.base.fs) (λ w. AreStored f c.means new w)
-  pub caused : (before : ℕ) (v : View) → f.view old.base.fs ≡ Some v → AreCaused f.faults before old → AreCaused f.faults before new
+  pub caused : (before : ℕ) → AreCaused f.faults before old → AreCaused f.faults before new
   pub inside : (v : View) → f.view old.base.fs ≡ Some v → AreStored f c.means old v → AreInside f c.means old → AreInside f c.means new
   pub folders : (opening : Disk) (v : View) → f.view old.base.fs ≡ Some v → AreFolders c.means c.doing opening old v → Told (f.view new.base.fs) (λ w. AreFolders c.means c.doing opening new w)
   pub said : (v : View) → f.view old.base.fs ≡ Some v → AreSaid c.means f.was old → AreSaid c.means f.was new

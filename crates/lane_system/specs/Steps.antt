@@ -11,6 +11,8 @@ use Rattle.fs_trait.specs.declared.types.FsErr.TheVariants as err
 use Rattle.obj_store.specs.declared.phase.Put.{Put}
 use Rattle.obj_store.specs.declared.phase.Put.TheVariants.{Stored}
 use Rattle.rely_guarantee.specs.declared.books.Base.{Base}
+use Rattle.rely_guarantee.specs.declared.kind.Halt.{Halt}
+use Rattle.rely_guarantee.specs.declared.kind.Halt.TheVariants as halt
 use Rattle.rely_guarantee.specs.declared.kind.Outcome.{Outcome}
 use Rattle.rely_guarantee.specs.declared.kind.Outcome.TheVariants as came
 use Rattle.rely_guarantee.specs.Books.{books_of}
@@ -46,7 +48,7 @@ pub record Stepped {F T : Type 0} (f : FsSpec F) (k : TaskSpec T) (actor lane nu
   pub booked : IsBooked (k.kind t) lane number (f.clock new.fs) outcome old.books new.books
   pub lasts : Lasts [] f.view f.clock f.was old.fs new.fs
   pub time : Elapses (f.clock old.fs) (f.clock new.fs) (f.was old.fs) (f.was new.fs) (f.view new.fs)
-  pub cause : (v : View) → f.view old.fs ≡ Some v → Causes (f.faults old.fs) (f.faults new.fs) outcome
+  pub cause : Causes (f.faults old.fs) (f.faults new.fs) outcome
   pub live : IsLive outcome old.books.halted new.books.halted
   pub tracks : Tracks refs' (now_of new.books)
   pub rooms : (name : List ℕ) → HasRoom refs name → HasRoom refs' name
@@ -67,20 +69,26 @@ HasEnded came.Blocked = ⊥
 HasEnded came.More = ⊥
 HasEnded outcome = Unit {0}
 
--- what one answers where something else than this program changed what stands at its path
+-- what a command answers where something else than this program changed what stands at a path: the path that the file system remembers of
+-- the call that it refused, or that there was no memory for it
 abbrev pub IsStray : {A : Type 0} → Option Path → Ended A → Type 0
-IsStray None x = (x ≡ DiskFault) ⊎ (x ≡ NoMemory)
+IsStray None x = x ≡ NoMemory
 IsStray (Some path) x = (x ≡ Outside path) ⊎ (x ≡ NoMemory)
 
--- what one answers that was refused so, whose path is this
-abbrev pub IsRefusal : {A : Type 0} → Option Path → FsErr → Ended A → Type 0
-IsRefusal stray err.NoMemory x = x ≡ NoMemory
-IsRefusal stray err.Failed x = x ≡ DiskFault
-IsRefusal stray e x = IsStray stray x
+-- what one answers where no command goes on, by why that is so
+abbrev pub IsCutShort : {A : Type 0} → Halt → Option Path → ℕ → Ended A → Type 0
+IsCutShort halt.Failed refused faults x = x ≡ Halted faults
+IsCutShort halt.Strayed refused faults x = IsStray refused x
+
+-- what one answers that was refused so
+abbrev pub IsRefusal : {A : Type 0} → FsErr → Ended A → Type 0
+IsRefusal err.NoMemory x = x ≡ NoMemory
+IsRefusal err.Failed x = x ≡ DiskFault
+IsRefusal e x = ⊥
 
 -- and that ended so
 abbrev pub IsEndedAs : {T A : Type 0} → (T → Option A) → Option Path → Outcome → T → ℕ → Ended A → Type 0
-IsEndedAs answer stray came.Done t faults x = OfAnswer (λ a. answer t ≡ Some a) x
-IsEndedAs answer stray came.Halted t faults x = x ≡ Halted faults
-IsEndedAs answer stray (came.Refused e) t faults x = IsRefusal stray e x
-IsEndedAs answer stray outcome t faults x = ⊥
+IsEndedAs answer refused came.Done t faults x = OfAnswer (λ a. answer t ≡ Some a) x
+IsEndedAs answer refused (came.Halted why) t faults x = IsCutShort why refused faults x
+IsEndedAs answer refused (came.Refused e) t faults x = IsRefusal e x
+IsEndedAs answer refused outcome t faults x = ⊥

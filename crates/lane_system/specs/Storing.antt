@@ -1,5 +1,5 @@
 -- What the commands of the lanes bring into the store, and that it goes on to be good.
-use Rattle.std.specs.Prelude.{◌≡◌, ◌⊎◌, ◌<◌, ◌≤◌, ◌^◌, ℕ, false, List, length}
+use Rattle.std.specs.Prelude.{◌≡◌, ◌⊎◌, ◌<◌, ◌≤◌, ◌^◌, ℕ, List, length, None}
 use Rattle.ost_types.specs.declared.limits.Limits.{Limits}
 use Rattle.ost_types.specs.declared.object.ObjName.{ObjName}
 use Rattle.fs_trait.specs.Seen.{Seen, Vacant}
@@ -47,6 +47,6 @@ IsConfigured s = (s ≡ Vacant) ⊎ ShowsConfig s
 -- the commands brought that began. While commands go on there are no more names than were counted, which 32 bits can tell.
 pub record AreStored {F T W A : Type 0} (f : FsSpec F) (m : Meaning W A) (s : System F T W A) (v : View) : Type 0 where
   pub names : List ObjName
-  pub counted : s.base.books.halted ≡ false → length names ≤ s.objects
+  pub counted : s.base.books.halted ≡ None → length names ≤ s.objects
   pub narrow : s.limits.objects < 2 ^ 32
   pub keeps : KeepsGood (f.was s.base.fs) s.limits (WasBrought m s) IsConfigured names s.base.books.opened v

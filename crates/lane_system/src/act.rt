@@ -1,5 +1,7 @@
 //! The next step of a lane's command.
-ghost use Rattle.std.specs.Prelude.{◌≡◌, ◌<◌, Some, None, IsSome, false, true, length};
+ghost use Rattle.std.specs.Prelude.{◌≡◌, ◌<◌, Some, None, IsSome, length};
+ghost use Rattle.fs_trait.specs.declared.types.FsErr.{FsErr};
+ghost use Rattle.fs_trait.specs.Effect.{OfNone};
 ghost use Rattle.fs_trait.specs.View.{View};
 ghost use Rattle.rely_guarantee.specs.declared.kind.Outcome.TheVariants as came;
 ghost use Rattle.rely_guarantee.specs.SystemInvariant.{SystemInvariant};
@@ -10,15 +12,16 @@ ghost use Rattle.lane_system.specs.Family.{family, fs_spec};
 ghost use Rattle.lane_system.specs.Kept.{LaneKept};
 ghost use Rattle.lane_system.specs.LaneActs.{LaneActs};
 ghost use Rattle.lane_system.specs.States.{now_of};
-ghost use Rattle.lane_system.specs.Steps.{HasEnded, IsEndedAs, IsRefusal, IsStray};
+ghost use Rattle.lane_system.specs.Steps.{HasEnded, IsCutShort, IsEndedAs, IsRefusal, IsStray};
 
 use crate::lane::{Lane, Running};
 use crate::step::told_act;
 use command::{Begun, Command, Ended};
-use fs_trait::{Fs, FsErr};
-use ost_types::{Limits, NoMemory};
+use fs_trait::FsErr;
+use fs_watch::Watch;
+use ost_types::{FsPath, Limits, NoMemory, TryCopy};
 use ref_book::RefBook;
-use rely_guarantee::{Base, Outcome};
+use rely_guarantee::{Base, Halt, Outcome};
 use std::alloc::Global;
 
 /// What an act of a lane came to.
@@ -29,8 +32,8 @@ pub(crate) enum Came<A> {
     Answered { answer: Ended<A>, start: usize },
 }
 
-/// The next step of the lane's command, or its end after a changing call failed.
-pub(crate) fn lane_act<F: Fs, C: Command>(
+/// The next step of the lane's command, or its end where no command goes on.
+pub(crate) fn lane_act<F: Watch, C: Command>(
     alloc: Global,
     base: &mut Base<F>,
     refs: &mut RefBook,
@@ -43,32 +46,55 @@ pub(crate) fn lane_act<F: Fs, C: Command>(
     requires sound { SystemInvariant F.view F.clock F.spare F.was base.old }
     requires tracks { Tracks refs.old (now_of base.old.books) }
     requires home { (v : View) → F.view base.old.fs ≡ Some v → StagingPathFree lane v }
-    requires kept { LaneKept (fs_spec F.view F.clock F.spare F.was F.faults) (family (task_spec C.kind_of C.writes_of C.stepped C.leaves C.refuses C.facts) C.means C.doing) limits lane refs.old base.old run.old }
+    requires kept { LaneKept (fs_spec F.view F.clock F.spare F.was F.faults F.refused) (family (task_spec C.kind_of C.writes_of C.stepped C.leaves C.refuses C.facts) C.means C.doing) limits lane refs.old base.old run.old }
     requires next { length run.old.replies.items < length run.old.words.items }
-    ensures { LaneActs (fs_spec F.view F.clock F.spare F.was F.faults) (family (task_spec C.kind_of C.writes_of C.stepped C.leaves C.refuses C.facts) C.means C.doing) limits lane lane refs.old refs.new objects.old objects.new base.old base.new run.old run.new result }
+    ensures { LaneActs (fs_spec F.view F.clock F.spare F.was F.faults F.refused) (family (task_spec C.kind_of C.writes_of C.stepped C.leaves C.refuses C.facts) C.means C.doing) limits lane lane refs.old refs.new objects.old objects.new base.old base.new run.old run.new result }
 {
-    if base.books.halted {
-        return halted(base, refs, objects, limits, lane, run);
+    match base.books.halted {
+        Some(why) => halted(base, why, refs, objects, limits, lane, run),
+        None => live_act(alloc, base, refs, objects, limits, lane, run),
     }
+}
+
+/// The next step of the lane's command, while commands go on.
+fn live_act<F: Watch, C: Command>(
+    alloc: Global,
+    base: &mut Base<F>,
+    refs: &mut RefBook,
+    objects: &mut u32,
+    limits: Limits,
+    lane: u8,
+    run: &mut Lane<C, C::Words, C::Answer>,
+) -> Came<C::Answer>
+    requires few { lane < 8 }
+    requires sound { SystemInvariant F.view F.clock F.spare F.was base.old }
+    requires live { base.old.books.halted ≡ None }
+    requires tracks { Tracks refs.old (now_of base.old.books) }
+    requires home { (v : View) → F.view base.old.fs ≡ Some v → StagingPathFree lane v }
+    requires kept { LaneKept (fs_spec F.view F.clock F.spare F.was F.faults F.refused) (family (task_spec C.kind_of C.writes_of C.stepped C.leaves C.refuses C.facts) C.means C.doing) limits lane refs.old base.old run.old }
+    requires next { length run.old.replies.items < length run.old.words.items }
+    ensures { LaneActs (fs_spec F.view F.clock F.spare F.was F.faults F.refused) (family (task_spec C.kind_of C.writes_of C.stepped C.leaves C.refuses C.facts) C.means C.doing) limits lane lane refs.old refs.new objects.old objects.new base.old base.new run.old run.new result }
+{
     match run.task.take() {
-        Some(running) => goes_on(alloc, base, refs, objects, limits, lane, run, running),
+        Some(running) => goes_on(base, refs, objects, limits, lane, run, running),
         None => begins(alloc, base, refs, objects, limits, lane, run),
     }
 }
 
-/// The end of a command after a changing call failed.
-fn halted<F: Fs, C: Command>(
+/// The end of a command where no command goes on.
+fn halted<F: Watch, C: Command>(
     base: &Base<F>,
+    why: Halt,
     _refs: &RefBook,
     _objects: &u32,
     _limits: Limits,
     _lane: u8,
     run: &mut Lane<C, C::Words, C::Answer>,
 ) -> Came<C::Answer>
-    requires over { base.now.books.halted ≡ true }
+    requires over { base.now.books.halted ≡ Some why }
     requires tracks { Tracks _refs.now (now_of base.now.books) }
     requires next { length run.old.replies.items < length run.old.words.items }
-    ensures { LaneActs (fs_spec F.view F.clock F.spare F.was F.faults) (family (task_spec C.kind_of C.writes_of C.stepped C.leaves C.refuses C.facts) C.means C.doing) _limits _lane _lane _refs.now _refs.now _objects.now _objects.now base.now base.now run.old run.new result }
+    ensures { LaneActs (fs_spec F.view F.clock F.spare F.was F.faults F.refused) (family (task_spec C.kind_of C.writes_of C.stepped C.leaves C.refuses C.facts) C.means C.doing) _limits _lane _lane _refs.now _refs.now _objects.now _objects.now base.now base.now run.old run.new result }
 {
     let start = match run.task.take() {
         Some(running) => {
@@ -79,13 +105,13 @@ fn halted<F: Fs, C: Command>(
         None => base.books.history.len(),
     };
     Came::Answered {
-        answer: Ended::Halted(base.fs.faults()),
+        answer: cut_short(base, why),
         start,
     }
 }
 
 /// The first step of a command. Where another holds it off the command hasn't begun.
-fn begins<F: Fs, C: Command>(
+fn begins<F: Watch, C: Command>(
     alloc: Global,
     base: &mut Base<F>,
     refs: &mut RefBook,
@@ -96,12 +122,12 @@ fn begins<F: Fs, C: Command>(
 ) -> Came<C::Answer>
     requires few { lane < 8 }
     requires sound { SystemInvariant F.view F.clock F.spare F.was base.old }
-    requires live { base.old.books.halted ≡ false }
+    requires live { base.old.books.halted ≡ None }
     requires tracks { Tracks refs.old (now_of base.old.books) }
     requires home { (v : View) → F.view base.old.fs ≡ Some v → StagingPathFree lane v }
-    requires kept { LaneKept (fs_spec F.view F.clock F.spare F.was F.faults) (family (task_spec C.kind_of C.writes_of C.stepped C.leaves C.refuses C.facts) C.means C.doing) limits lane refs.old base.old run.old }
+    requires kept { LaneKept (fs_spec F.view F.clock F.spare F.was F.faults F.refused) (family (task_spec C.kind_of C.writes_of C.stepped C.leaves C.refuses C.facts) C.means C.doing) limits lane refs.old base.old run.old }
     requires next { (length run.old.replies.items < length run.old.words.items) × (run.old.task ≡ None) }
-    ensures { LaneActs (fs_spec F.view F.clock F.spare F.was F.faults) (family (task_spec C.kind_of C.writes_of C.stepped C.leaves C.refuses C.facts) C.means C.doing) limits lane lane refs.old refs.new objects.old objects.new base.old base.new run.old run.new result }
+    ensures { LaneActs (fs_spec F.view F.clock F.spare F.was F.faults F.refused) (family (task_spec C.kind_of C.writes_of C.stepped C.leaves C.refuses C.facts) C.means C.doing) limits lane lane refs.old refs.new objects.old objects.new base.old base.new run.old run.new result }
 {
     let start = base.books.history.len();
     let number = run.replies.len();
@@ -127,7 +153,7 @@ fn begins<F: Fs, C: Command>(
                     Came::More
                 }
                 outcome => Came::Answered {
-                    answer: answer_at_end(alloc, base, words, work, outcome),
+                    answer: answer_at_end(base, work, outcome),
                     start,
                 },
             }
@@ -136,8 +162,7 @@ fn begins<F: Fs, C: Command>(
 }
 
 /// A further step of it.
-fn goes_on<F: Fs, C: Command>(
-    alloc: Global,
+fn goes_on<F: Watch, C: Command>(
     base: &mut Base<F>,
     refs: &mut RefBook,
     objects: &mut u32,
@@ -147,11 +172,11 @@ fn goes_on<F: Fs, C: Command>(
     running: Running<C>,
 ) -> Came<C::Answer>
     requires sound { SystemInvariant F.view F.clock F.spare F.was base.old }
-    requires live { base.old.books.halted ≡ false }
+    requires live { base.old.books.halted ≡ None }
     requires tracks { Tracks refs.old (now_of base.old.books) }
-    requires kept { LaneKept (fs_spec F.view F.clock F.spare F.was F.faults) (family (task_spec C.kind_of C.writes_of C.stepped C.leaves C.refuses C.facts) C.means C.doing) _limits lane refs.old base.old (record run.old { task = Some running }) }
+    requires kept { LaneKept (fs_spec F.view F.clock F.spare F.was F.faults F.refused) (family (task_spec C.kind_of C.writes_of C.stepped C.leaves C.refuses C.facts) C.means C.doing) _limits lane refs.old base.old (record run.old { task = Some running }) }
     requires next { (length run.old.replies.items < length run.old.words.items) × (run.old.task ≡ None) }
-    ensures { LaneActs (fs_spec F.view F.clock F.spare F.was F.faults) (family (task_spec C.kind_of C.writes_of C.stepped C.leaves C.refuses C.facts) C.means C.doing) _limits lane lane refs.old refs.new objects.old objects.new base.old base.new (record run.old { task = Some running }) run.new result }
+    ensures { LaneActs (fs_spec F.view F.clock F.spare F.was F.faults F.refused) (family (task_spec C.kind_of C.writes_of C.stepped C.leaves C.refuses C.facts) C.means C.doing) _limits lane lane refs.old refs.new objects.old objects.new base.old base.new (record run.old { task = Some running }) run.new result }
 {
     let Running { work, start } = running;
     let mut work = work;
@@ -166,50 +191,61 @@ fn goes_on<F: Fs, C: Command>(
             Came::More
         }
         outcome => Came::Answered {
-            answer: answer_at_end(alloc, base, &run.words[number], work, outcome),
+            answer: answer_at_end(base, work, outcome),
             start,
         },
     }
 }
 
 /// What a command answers that has ended.
-fn answer_at_end<F: Fs, C: Command>(
-    alloc: Global,
+fn answer_at_end<F: Watch, C: Command>(
     base: &Base<F>,
-    words: &C::Words,
     work: C,
     outcome: Outcome,
 ) -> Ended<C::Answer>
     requires ended { HasEnded outcome }
     requires told { outcome ≡ came.Done → IsSome (C.doing.answer work) }
-    ensures { IsEndedAs C.doing.answer (C.means.strays words.now) outcome work (F.faults base.now.fs) result }
+    requires named { (e : FsErr) → outcome ≡ came.Refused e → OfNone e }
+    ensures { IsEndedAs C.doing.answer (F.refused base.now.fs) outcome work (F.faults base.now.fs) result }
 {
     match outcome {
         Outcome::Done => Ended::Answered(work.into_answer().unwrap()),
-        Outcome::Refused(error) => refusal::<C>(alloc, words, error),
-        Outcome::Halted => Ended::Halted(base.fs.faults()),
+        Outcome::Refused(error) => refusal(error),
+        Outcome::Halted(why) => cut_short(base, why),
         Outcome::Blocked | Outcome::More => unreachable!(),
     }
 }
 
-/// What a command answers that was refused so.
-fn refusal<C: Command>(alloc: Global, words: &C::Words, error: FsErr) -> Ended<C::Answer>
-    ensures { IsRefusal (C.means.strays words.now) error result }
+/// What one answers whose step failed at a call that reads, or wanted for memory.
+fn refusal<A: Drop>(error: FsErr) -> Ended<A>
+    requires { OfNone error }
+    ensures { IsRefusal error result }
 {
     match error {
         FsErr::NoMemory => Ended::NoMemory,
-        FsErr::Failed => Ended::DiskFault,
-        _ => stray::<C>(alloc, words),
+        _ => Ended::DiskFault,
     }
 }
 
-/// What one answers where something else than this program changed what stands at its path.
-fn stray<C: Command>(alloc: Global, words: &C::Words) -> Ended<C::Answer>
-    ensures { IsStray (C.means.strays words.now) result }
+/// What a command answers where no command goes on.
+fn cut_short<F: Watch, A: Drop>(base: &Base<F>, why: Halt) -> Ended<A>
+    ensures { IsCutShort why (F.refused base.now.fs) (F.faults base.now.fs) result }
 {
-    match C::stray(alloc, words) {
-        Ok(Some(path)) => Ended::Outside(path),
-        Ok(None) => Ended::DiskFault,
+    match why {
+        Halt::Failed => Ended::Halted(base.fs.faults()),
+        Halt::Strayed => stray(base.fs.refused()),
+    }
+}
+
+/// What one answers where something else than this program changed what stands at this path.
+fn stray<A: Drop>(path: &Option<FsPath>) -> Ended<A>
+    ensures { IsStray path.now result }
+{
+    let Some(path) = path else {
+        return Ended::NoMemory;
+    };
+    match path.copy() {
+        Ok(path) => Ended::Outside(path),
         Err(NoMemory) => Ended::NoMemory,
     }
 }

@@ -13,13 +13,13 @@ ghost use Rattle.lane_system.specs.States.{now_of};
 ghost use Rattle.lane_system.specs.Steps.{CountsAt, IsCounted, Stepped};
 
 use command::{Command, Told};
-use fs_trait::Fs;
+use fs_watch::Watch;
 use obj_store::Put;
 use ref_book::RefBook;
 use rely_guarantee::{Base, Entry, Outcome, task_act};
 
 /// One step of a command's task, once it was told how many objects are in the store. One that is held off is left as it was.
-pub(crate) fn told_act<F: Fs, C: Command>(
+pub(crate) fn told_act<F: Watch, C: Command>(
     base: &mut Base<F>,
     refs: &mut RefBook,
     objects: &mut u32,
@@ -30,7 +30,7 @@ pub(crate) fn told_act<F: Fs, C: Command>(
     requires ready { Ready F.view F.clock F.spare F.was (Runs C.kind_of C.facts lane work.old) base.old }
     requires tracks { Tracks refs.old (now_of base.old.books) }
     requires room { (e : Event) → C.kind_of (told_by C.doing objects.old work.old) ≡ Settle e → HasEventRoom refs.old e }
-    ensures step { (t : C) × Stepped (fs_spec F.view F.clock F.spare F.was F.faults) (task_spec C.kind_of C.writes_of C.stepped C.leaves C.refuses C.facts) lane lane number refs.old refs.new result (told_by C.doing objects.old work.old) t base.old base.new × ((result ≡ came.Blocked → ⊥) → work.new ≡ t) }
+    ensures step { (t : C) × Stepped (fs_spec F.view F.clock F.spare F.was F.faults F.refused) (task_spec C.kind_of C.writes_of C.stepped C.leaves C.refuses C.facts) lane lane number refs.old refs.new result (told_by C.doing objects.old work.old) t base.old base.new × ((result ≡ came.Blocked → ⊥) → work.new ≡ t) }
     ensures back { result ≡ came.Blocked → work.new ≡ work.old }
     ensures counts { CountsAt C.doing objects.old work.new result objects.new }
 {
@@ -49,7 +49,7 @@ pub(crate) fn told_act<F: Fs, C: Command>(
 }
 
 /// One step of a command's task. A change that lasts from then on is noted among the refs.
-fn running_act<F: Fs, C: Command>(
+fn running_act<F: Watch, C: Command>(
     base: &mut Base<F>,
     refs: &mut RefBook,
     lane: u8,
@@ -59,7 +59,7 @@ fn running_act<F: Fs, C: Command>(
     requires ready { Ready F.view F.clock F.spare F.was (Runs C.kind_of C.facts lane work.old) base.old }
     requires tracks { Tracks refs.old (now_of base.old.books) }
     requires room { (e : Event) → C.kind_of work.old ≡ Settle e → HasEventRoom refs.old e }
-    ensures { Stepped (fs_spec F.view F.clock F.spare F.was F.faults) (task_spec C.kind_of C.writes_of C.stepped C.leaves C.refuses C.facts) lane lane number refs.old refs.new result work.old work.new base.old base.new }
+    ensures { Stepped (fs_spec F.view F.clock F.spare F.was F.faults F.refused) (task_spec C.kind_of C.writes_of C.stepped C.leaves C.refuses C.facts) lane lane number refs.old refs.new result work.old work.new base.old base.new }
 {
     let before = base.books.history.len();
     let outcome = task_act(base, lane, lane, number, work);

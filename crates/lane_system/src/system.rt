@@ -3,12 +3,12 @@ ghost use Rattle.fs_trait.specs.View.{Disk, View};
 ghost use Rattle.rely_guarantee.specs.Headline.{Headline};
 ghost use Rattle.rely_guarantee.specs.State.{first};
 ghost use Rattle.ref_book.specs.Tracks.{Tracks};
-ghost use Rattle.command.specs.declared.ended.Ended.TheVariants as ended;
 ghost use Rattle.command.specs.Tasks.{task_spec};
 ghost use Rattle.lane_system.specs.declared.ask.Ask.TheVariants as Ask;
 ghost use Rattle.lane_system.specs.declared.lane.Lane.{Lane};
 ghost use Rattle.lane_system.specs.declared.lane.Reply.{Reply};
 ghost use Rattle.lane_system.specs.Booked.{Acted, AnswerTells, HasCommand, IsLater, IsReplied, commands_of};
+ghost use Rattle.lane_system.specs.Causes.{AreCausedIn};
 ghost use Rattle.lane_system.specs.Counts.{Objects};
 ghost use Rattle.lane_system.specs.Family.{family, fs_spec};
 ghost use Rattle.lane_system.specs.Held.{Held};
@@ -16,13 +16,13 @@ ghost use Rattle.lane_system.specs.Kept.{AreIdle};
 ghost use Rattle.lane_system.specs.Lanes.{IsTo};
 ghost use Rattle.lane_system.specs.Preserves.{Preserves, Stands};
 ghost use Rattle.lane_system.specs.Ranks.{AreWithin, Asks, HasEnded, IsHeldOff, IsOver, Ranked, left_in_all, rank};
-ghost use Rattle.lane_system.specs.Replies.{IsHalted};
+ghost use Rattle.lane_system.specs.Replies.{EndsBy};
 
 use crate::Ask;
 use crate::act::{Came, lane_act, number_of};
 use crate::lane::{Lane, Reply};
 use command::Command;
-use fs_trait::Fs;
+use fs_watch::Watch;
 use ost_types::{Limits, NoMemory};
 use ref_book::RefBook;
 use rely_guarantee::{Base, Entry, Pending, certify};
@@ -37,7 +37,7 @@ use sys_open::{Opened, OpenedParts};
 /// whose refs are those after a prefix of the stored history that has each change acknowledged by then. So what a crash left
 /// opens again with these refs: `adopt` tells no damage of a sane disk, and begins with the refs that it has.
 #[derive(Drop)]
-pub struct System<F: Fs, C: Command> {
+pub struct System<F: Watch, C: Command> {
     alloc: Global,
     base: Base<F>,
     refs: RefBook,
@@ -48,7 +48,7 @@ pub struct System<F: Fs, C: Command> {
     objects: u32,
 }
 
-impl<F: Fs, C: Command> Model for System<F, C> {
+impl<F: Watch, C: Command> Model for System<F, C> {
     ghost use Rattle.command.specs.Tasks.{task_spec};
     ghost use Rattle.lane_system.specs.Family.{family, fs_spec};
     ghost use Rattle.lane_system.specs.Kept.{Kept};
@@ -58,7 +58,7 @@ impl<F: Fs, C: Command> Model for System<F, C> {
 
     ghost view = { λ s. record { base = s.base; lanes = s.lanes.items; limits = s.limits; objects = s.objects } };
 
-    ghost invariant = { λ s. Kept (fs_spec F.view F.clock F.spare F.was F.faults) (family (task_spec C.kind_of C.writes_of C.stepped C.leaves C.refuses C.facts) C.means C.doing) s.limits s.base s.refs s.lanes.items s.given };
+    ghost invariant = { λ s. Kept (fs_spec F.view F.clock F.spare F.was F.faults F.refused) (family (task_spec C.kind_of C.writes_of C.stepped C.leaves C.refuses C.facts) C.means C.doing) s.limits s.base s.refs s.lanes.items s.given };
 }
 
 /// What a system is taken apart into.
@@ -70,7 +70,7 @@ pub struct Parts<F, T, W, A> {
     pub lanes: Vec<Lane<T, W, A>>,
 }
 
-impl<F: Fs, C: Command> System<F, C> {
+impl<F: Watch, C: Command> System<F, C> {
     /// A system of these lanes on a repository that was opened. Where memory is wanting the repository comes back.
     pub fn new(
         alloc: Global,
@@ -81,7 +81,8 @@ impl<F: Fs, C: Command> System<F, C> {
         requires idle { AreIdle C.means opened.limits lanes.items }
         ensures parts { IfOk result (λ s. (s.base.fs ≡ opened.fs) × (s.base.books.start.items ≡ opened.refs) × (s.base.books.opened ≡ opened.clock) × (s.lanes ≡ lanes.items)) }
         ensures bounds { IfOk result (λ s. (s.limits ≡ opened.limits) × (s.objects ≡ min (length opened.objects) 4294967295)) }
-        ensures stands { IfOk result (λ s. (v : View) → F.view s.base.fs ≡ Some v → Stands (fs_spec F.view F.clock F.spare F.was F.faults) (family (task_spec C.kind_of C.writes_of C.stepped C.leaves C.refuses C.facts) C.means C.doing) (F.faults opened.fs) v s v) }
+        ensures caused { IfOk result (λ s. AreCausedIn (F.faults opened.fs) (F.faults s.base.fs) s.base.books.halted s.lanes) }
+        ensures stands { IfOk result (λ s. (v : View) → F.view s.base.fs ≡ Some v → Stands (fs_spec F.view F.clock F.spare F.was F.faults F.refused) (family (task_spec C.kind_of C.writes_of C.stepped C.leaves C.refuses C.facts) C.means C.doing) (F.faults opened.fs) v s v) }
         ensures back { IfErr result (λ e. e.0 ≡ opened) }
     {
         match RefBook::new(alloc, opened.refs()) {
@@ -101,7 +102,8 @@ impl<F: Fs, C: Command> System<F, C> {
         requires idle { AreIdle C.means opened.limits lanes.items }
         ensures parts { (result.base.fs ≡ opened.fs) × (result.base.books.start.items ≡ opened.refs) × (result.base.books.opened ≡ opened.clock) × (result.lanes ≡ lanes.items) }
         ensures bounds { (result.limits ≡ opened.limits) × (result.objects ≡ min (length opened.objects) 4294967295) }
-        ensures stands { (v : View) → F.view result.base.fs ≡ Some v → Stands (fs_spec F.view F.clock F.spare F.was F.faults) (family (task_spec C.kind_of C.writes_of C.stepped C.leaves C.refuses C.facts) C.means C.doing) (F.faults opened.fs) v result v }
+        ensures caused { AreCausedIn (F.faults opened.fs) (F.faults result.base.fs) result.base.books.halted result.lanes }
+        ensures stands { (v : View) → F.view result.base.fs ≡ Some v → Stands (fs_spec F.view F.clock F.spare F.was F.faults F.refused) (family (task_spec C.kind_of C.writes_of C.stepped C.leaves C.refuses C.facts) C.means C.doing) (F.faults opened.fs) v result v }
     {
         let OpenedParts {
             fs,
@@ -127,10 +129,10 @@ impl<F: Fs, C: Command> System<F, C> {
     pub fn act(&mut self, actor: u8) -> Ask
         ensures acted { Acted (AnswerTells C.means F.view (F.faults self.old.base.fs) (F.faults self.new.base.fs) self.old) self.old self.new actor result }
         ensures objects { Objects C.doing F.view self.old self.new actor result }
-        ensures preserves { Preserves (fs_spec F.view F.clock F.spare F.was F.faults) (family (task_spec C.kind_of C.writes_of C.stepped C.leaves C.refuses C.facts) C.means C.doing) self.old self.new }
+        ensures preserves { Preserves (fs_spec F.view F.clock F.spare F.was F.faults F.refused) (family (task_spec C.kind_of C.writes_of C.stepped C.leaves C.refuses C.facts) C.means C.doing) self.old self.new }
         ensures ranks { Ranked C.doing self.old self.new actor result }
         ensures held { result ≡ Ask.Blocked → IsHeldOff self.old actor }
-        ensures waits { HasCommand self.old actor → self.old.base.books.halted ≡ false → Asks (family (task_spec C.kind_of C.writes_of C.stepped C.leaves C.refuses C.facts) C.means C.doing) self.old actor → IsHeldOff self.old actor → result ≡ Ask.Blocked }
+        ensures waits { HasCommand self.old actor → self.old.base.books.halted ≡ None → Asks (family (task_spec C.kind_of C.writes_of C.stepped C.leaves C.refuses C.facts) C.means C.doing) self.old actor → IsHeldOff self.old actor → result ≡ Ask.Blocked }
     {
         let number = actor as usize;
         if number >= self.lanes.len() {
@@ -217,7 +219,7 @@ impl<F: Fs, C: Command> System<F, C> {
         ensures replied { IsReplied F.view C.means self.now }
         ensures within { AreWithin self.now }
         ensures held { Held F.view (family (task_spec C.kind_of C.writes_of C.stepped C.leaves C.refuses C.facts) C.means C.doing) self.now }
-        ensures halted { (lane number : ℕ) (r : Reply C.Answer) → IsTo self.now.lanes lane number r → IsHalted r.answer → (self.now.base.books.halted ≡ true) × (r.answer ≡ ended.Halted (F.faults self.now.base.fs)) }
+        ensures ends { (lane number : ℕ) (r : Reply C.Answer) → IsTo self.now.lanes lane number r → EndsBy self.now.base.books.halted (F.refused self.now.base.fs) (F.faults self.now.base.fs) r.answer }
     {
         certify(&self.base);
     }
@@ -230,7 +232,7 @@ impl<F: Fs, C: Command> System<F, C> {
         ensures ended { HasEnded self.new }
         ensures commands { commands_of self.new ≡ commands_of self.old }
         ensures later { IsLater self.old self.new }
-        ensures preserves { Preserves (fs_spec F.view F.clock F.spare F.was F.faults) (family (task_spec C.kind_of C.writes_of C.stepped C.leaves C.refuses C.facts) C.means C.doing) self.old self.new }
+        ensures preserves { Preserves (fs_spec F.view F.clock F.spare F.was F.faults F.refused) (family (task_spec C.kind_of C.writes_of C.stepped C.leaves C.refuses C.facts) C.means C.doing) self.old self.new }
     {
         for actor in schedule {
             let _ = self.act(*actor);
@@ -245,7 +247,7 @@ impl<F: Fs, C: Command> System<F, C> {
         ensures falls { result ≡ true → left_in_all C.doing self.new < left_in_all C.doing self.old }
         ensures commands { commands_of self.new ≡ commands_of self.old }
         ensures later { IsLater self.old self.new }
-        ensures preserves { Preserves (fs_spec F.view F.clock F.spare F.was F.faults) (family (task_spec C.kind_of C.writes_of C.stepped C.leaves C.refuses C.facts) C.means C.doing) self.old self.new }
+        ensures preserves { Preserves (fs_spec F.view F.clock F.spare F.was F.faults F.refused) (family (task_spec C.kind_of C.writes_of C.stepped C.leaves C.refuses C.facts) C.means C.doing) self.old self.new }
     {
         let _few = self.lanes();
         let mut unfinished = false;

@@ -8,14 +8,15 @@ use crate::WaitTask;
 use crate::words::WaitWords;
 use command::Ended;
 use fs_memory::MemFs;
+use fs_watch::Watched;
 use lane_system::{Ask, Lane, System};
 use ost_types::Limits;
 use std::alloc::Global;
 use std::test::Fail;
 use sys_open::{Opened, adopt};
 
-fn open_disk(alloc: Global) -> Result<Opened<MemFs>, Fail> {
-    match adopt(alloc, MemFs::new(alloc)?, Limits::standard()) {
+fn open_disk(alloc: Global) -> Result<Opened<Watched<MemFs>>, Fail> {
+    match adopt(alloc, Watched::new(MemFs::new(alloc)?), Limits::standard()) {
         Ok(opened) => Ok(opened),
         Err(_) => Err("not opened")?,
     }
@@ -32,7 +33,7 @@ fn system_of(
     alloc: Global,
     one: WaitWords,
     other: WaitWords,
-) -> Result<System<MemFs, WaitTask>, Fail> {
+) -> Result<System<Watched<MemFs>, WaitTask>, Fail> {
     let lanes = vec![in alloc; lane_of(alloc, one)?, lane_of(alloc, other)?]?;
     match System::new(alloc, open_disk(alloc)?, lanes) {
         Ok(system) => Ok(system),
@@ -41,7 +42,7 @@ fn system_of(
 }
 
 // Whether the lane's first command was answered so.
-fn was_answered(system: &System<MemFs, WaitTask>, lane: usize, wanted: u8) -> bool {
+fn was_answered(system: &System<Watched<MemFs>, WaitTask>, lane: usize, wanted: u8) -> bool {
     let Some(lane) = system.lanes().get(lane) else {
         return false;
     };

@@ -10,14 +10,14 @@ ghost use Rattle.lane_system_check.specs.declared.words.WaitWords.{WaitWords};
 ghost use Rattle.lane_system_check.specs.Family.{number_of, wait_means};
 
 use crate::{WaitTask, WaitWords};
-use fs_trait::Fs;
+use fs_watch::Watch;
 use lane_system::{Lane, Parts, System};
 use ost_types::NoMemory;
 use std::alloc::Global;
 use sys_open::Opened;
 
 /// Runs the lanes on a repository that was opened. Where memory is wanting the repository comes back.
-pub fn run_lanes<F: Fs>(
+pub fn run_lanes<F: Watch>(
     alloc: Global,
     opened: Opened<F>,
     lanes: Vec<Lane<WaitTask, WaitWords, u8>>,

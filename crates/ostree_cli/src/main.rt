@@ -4,6 +4,7 @@
 mod help;
 
 use fs_host::{HostFs, StdSink, StdSource};
+use fs_watch::Watched;
 use help::{USAGE, VERSION};
 use std::io::ErrorKind;
 use std::process::ExitCode;
@@ -60,7 +61,7 @@ fn obey(rt: HostRuntime, words: &[String], out: &mut StdSink<HostRuntime>) -> u8
             let Ok(fs) = HostFs::new(other) else {
                 return tell(out, MEMORY_LINE, 3);
             };
-            let ended = ostree(alloc, words, fs, &mut input, out);
+            let ended = ostree(alloc, words, Watched::new(fs), &mut input, out);
             if let Some(TopFault::Usage) = ended.fault {
                 hint(&rt);
             }

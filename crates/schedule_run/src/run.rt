@@ -11,15 +11,15 @@ ghost use Rattle.schedule.specs.Schedule.{acts_of};
 ghost use Rattle.schedule_run.specs.Driven.{ActsOf, Driven};
 
 use command::Command;
-use fs_trait::Fs;
+use fs_watch::Watch;
 use lane_system::{Ask, System};
 use schedule::Turns;
 
 /// Acts as the schedule says, and then, round after round, until every lane has ended: each of their commands has its reply. An actor
 /// that has nothing to do, or waits for another, is passed over.
-pub fn run_by<F: Fs, C: Command>(system: &mut System<F, C>, schedule: &[Turns])
-    ensures follows { (scheduled : _) × ActsOf (fs_spec F.view F.clock F.spare F.was F.faults) C.means (acts_of schedule.now) system.old scheduled × Driven (fs_spec F.view F.clock F.spare F.was F.faults) (family (task_spec C.kind_of C.writes_of C.stepped C.leaves C.refuses C.facts) C.means C.doing) scheduled system.new }
-    ensures driven { Driven (fs_spec F.view F.clock F.spare F.was F.faults) (family (task_spec C.kind_of C.writes_of C.stepped C.leaves C.refuses C.facts) C.means C.doing) system.old system.new }
+pub fn run_by<F: Watch, C: Command>(system: &mut System<F, C>, schedule: &[Turns])
+    ensures follows { (scheduled : _) × ActsOf (fs_spec F.view F.clock F.spare F.was F.faults F.refused) C.means (acts_of schedule.now) system.old scheduled × Driven (fs_spec F.view F.clock F.spare F.was F.faults F.refused) (family (task_spec C.kind_of C.writes_of C.stepped C.leaves C.refuses C.facts) C.means C.doing) scheduled system.new }
+    ensures driven { Driven (fs_spec F.view F.clock F.spare F.was F.faults F.refused) (family (task_spec C.kind_of C.writes_of C.stepped C.leaves C.refuses C.facts) C.means C.doing) system.old system.new }
     ensures replied { IsReplied F.view C.means system.new }
     ensures headline { (v : View) → F.view system.new.base.fs ≡ Some v → Headline F.clock F.was system.new.base v }
     ensures ended { HasEnded system.new }
@@ -29,9 +29,9 @@ pub fn run_by<F: Fs, C: Command>(system: &mut System<F, C>, schedule: &[Turns])
 }
 
 // Acts as the schedule says.
-fn follow<F: Fs, C: Command>(system: &mut System<F, C>, schedule: &[Turns])
-    ensures driven { Driven (fs_spec F.view F.clock F.spare F.was F.faults) (family (task_spec C.kind_of C.writes_of C.stepped C.leaves C.refuses C.facts) C.means C.doing) system.old system.new }
-    ensures acts { ActsOf (fs_spec F.view F.clock F.spare F.was F.faults) C.means (acts_of schedule.now) system.old system.new }
+fn follow<F: Watch, C: Command>(system: &mut System<F, C>, schedule: &[Turns])
+    ensures driven { Driven (fs_spec F.view F.clock F.spare F.was F.faults F.refused) (family (task_spec C.kind_of C.writes_of C.stepped C.leaves C.refuses C.facts) C.means C.doing) system.old system.new }
+    ensures acts { ActsOf (fs_spec F.view F.clock F.spare F.was F.faults F.refused) C.means (acts_of schedule.now) system.old system.new }
 {
     for turns in schedule {
         give(system, *turns);
@@ -39,9 +39,9 @@ fn follow<F: Fs, C: Command>(system: &mut System<F, C>, schedule: &[Turns])
 }
 
 // The acts of an actor. Where one does nothing, as those behind it would, they are passed over.
-fn give<F: Fs, C: Command>(system: &mut System<F, C>, turns: Turns)
-    ensures driven { Driven (fs_spec F.view F.clock F.spare F.was F.faults) (family (task_spec C.kind_of C.writes_of C.stepped C.leaves C.refuses C.facts) C.means C.doing) system.old system.new }
-    ensures acts { ActsOf (fs_spec F.view F.clock F.spare F.was F.faults) C.means (repeat turns.count (turns.actor ∷ [])) system.old system.new }
+fn give<F: Watch, C: Command>(system: &mut System<F, C>, turns: Turns)
+    ensures driven { Driven (fs_spec F.view F.clock F.spare F.was F.faults F.refused) (family (task_spec C.kind_of C.writes_of C.stepped C.leaves C.refuses C.facts) C.means C.doing) system.old system.new }
+    ensures acts { ActsOf (fs_spec F.view F.clock F.spare F.was F.faults F.refused) C.means (repeat turns.count (turns.actor ∷ [])) system.old system.new }
 {
     for turn in 0..turns.count {
         let ask = system.act(turns.actor);

@@ -11,7 +11,7 @@ use Rattle.rely_guarantee.specs.declared.books.Entry.{Entry}
 use Rattle.rely_guarantee.specs.declared.books.Pending.{Pending}
 use Rattle.rely_guarantee.specs.declared.event.Event.{Event}
 use Rattle.ost_types.specs.declared.limits.Limits.{Limits}
-use Rattle.ost_types.specs.Path.{Name}
+use Rattle.ost_types.specs.Path.{Name, Path}
 use Rattle.script.specs.declared.answer.Reply.{Reply}
 use Rattle.script.specs.declared.command.Command.{Command}
 use Rattle.script.specs.declared.command.Lane as script
@@ -19,6 +19,8 @@ use Rattle.lane_system.specs.Family.{FsSpec}
 use Rattle.lane_system.specs.Lanes.{IsAt}
 use Rattle.lane_system.specs.Preserves.{Stands}
 use Rattle.lane_system.specs.Inside.{AreInsideIn}
+use Rattle.lane_system.specs.Replied.{Replied}
+use Rattle.lane_system.specs.Replies.{IsTold}
 use Rattle.lane_system.specs.Said.{AreSaidIn}
 use Rattle.lane_system.specs.Storing.{WasBrought}
 use Rattle.lane_system.specs.Folders.{IsMade, IsNamed}
@@ -37,6 +39,7 @@ use Rattle.sys_open.specs.declared.fault.OpenFault.TheVariants as opening
 use Rattle.top_call.specs.declared.fault.TopFault.{TopFault}
 use Rattle.top_call.specs.declared.fault.TopFault.TheVariants.{Usage, Script, Input, Open, NoMemory}
 use Rattle.top_call.specs.declared.lanes.LanesEnd.{LanesEnd}
+use Rattle.top_call.specs.Answered.{Answered, AnsweredBy}
 use Rattle.top_call.specs.Complete.{AreCausedBy}
 use Rattle.top_call.specs.Headline.{Headline}
 use Rattle.top_call.specs.RanOn.{RanOn}
@@ -134,12 +137,43 @@ module _ {F : Type 0} (f : FsSpec F) (opened : Opened F) (limits : Limits) (v : 
         (subst (λ r. Told (f.view s.base.fs) (Ran s.limits f.view f.clock f.was v before commands s.base.fs s.base.books.history.items (event_of s.base.books.pending) r)) (sym is.given)
         (stood.0, stood.1, ran_there stood.0 stood.1 stood.2)))))
 
-    pub caused_on : AreCausedBy (f.faults opened.fs) (f.faults fs) replies
-    caused_on =
-        subst (λ g. AreCausedBy (f.faults opened.fs) (f.faults g) replies) (sym is.disk)
-        (subst (λ r. AreCausedBy (f.faults opened.fs) (f.faults s.base.fs) r) (sym is.given)
-        (λ lane number r to failed. (let own = from_row s.lanes lane number r to in
-        stood.2.caused.each lane number own.0 own.1 (failure_of own.0.answer (subst (λ (x : Reply). IsFailure x.answer) own.2 failed)))))
+-- so it is of any file system what was answered, and what calls that failed are told of
+module _ {F : Type 0} (f : FsSpec F) (opened : Opened F) (own : List (List Words)) (fs : F) (history : List Entry) (pending : Option Pending) (replies : List (List Reply)) (is : RanOn f opened own fs history pending replies) where
+  abbrev at_end : System F Task Words Answer
+  at_end = is.system
+
+  pub caused_on : AreCausedBy (f.faults opened.fs) (f.faults fs) replies
+  caused_on =
+      subst (λ g. AreCausedBy (f.faults opened.fs) (f.faults g) replies) (sym is.disk)
+      (subst (λ r. AreCausedBy (f.faults opened.fs) (f.faults at_end.base.fs) r) (sym is.given)
+      (λ lane number r to failed. (let own = from_row at_end.lanes lane number r to in
+      is.caused.each lane number own.0 own.1 (failure_of own.0.answer (subst (λ (x : Reply). IsFailure x.answer) own.2 failed)))))
+
+  pub answered_on : (limits : Limits) (commands : List (List Command)) → own ≡ map (λ row. map words_of row) commands → opened.limits ≡ limits → Answered limits f.view f.faults f.refused commands fs history (event_of pending) replies
+  answered_on limits commands scripted_as within =
+      subst (λ g. Answered limits f.view f.faults f.refused commands g history (event_of pending) replies) (sym is.disk)
+      (subst (λ h. Answered limits f.view f.faults f.refused commands at_end.base.fs h (event_of pending) replies) (sym is.changes)
+      (subst (λ p. Answered limits f.view f.faults f.refused commands at_end.base.fs at_end.base.books.history.items (event_of p) replies) (sym is.change)
+      (subst (λ r. Answered limits f.view f.faults f.refused commands at_end.base.fs at_end.base.books.history.items (event_of at_end.base.books.pending) r) (sym is.given)
+      (record {
+        start = first at_end.base.books.start.items;
+        lanes = at_end.lanes;
+        each = is.words ∙ scripted_as;
+        given = refl;
+        by = at_end.base.books.pending;
+        shown = refl;
+        replied = subst (λ l. Replied (IsTold f.view) means l (first at_end.base.books.start.items) at_end.base.books.history.items at_end.base.books.pending at_end.lanes) (is.limits ∙ within) is.replied;
+        ended = ended_as at_end.lanes commands (is.words ∙ scripted_as) is.ended;
+        halted = at_end.base.books.halted;
+        ends = is.ends;
+      }))))
+
+pub answered : {F : Type 0} (f : FsSpec F) (opened : Opened F) (limits : Limits) (scripts : List script.Lane) (r : Result (LanesEnd F) (F × TopFault)) → opened.limits ≡ limits
+    → IfOk r (λ p. RanOn f opened (map (λ lane. map words_of lane.commands.items) scripts) p.fs p.history.items p.pending (map (λ replies. replies.items) p.replies.items))
+    → IfOk r (λ p. Answered limits f.view f.faults f.refused (commands_of scripts) p.fs p.history.items (event_of p.pending) (map (λ replies. replies.items) p.replies.items))
+answered f opened limits scripts (Err e) within is = tt
+answered f opened limits scripts (Ok p) within is =
+    answered_on f opened (map (λ lane. map words_of lane.commands.items) scripts) p.fs p.history.items p.pending (map (λ replies. replies.items) p.replies.items) is limits (commands_of scripts) (scripted scripts) within
 
 pub ran : {F : Type 0} (f : FsSpec F) (opened : Opened F) (limits : Limits) (v : View) (before : ℕ) (scripts : List script.Lane) (r : Result (LanesEnd F) (F × TopFault)) → IsGood limits v.now → opened.limits ≡ limits → opened.clock ≡ before + 1
     → (begins : Told (f.view opened.fs) (Begins opened.refs v)) → IsTree begins.0.now
@@ -149,13 +183,11 @@ ran f opened limits v before scripts (Err e) good within barrier begins tree is 
 ran f opened limits v before scripts (Ok p) good within barrier begins tree is =
     ran_on f opened limits v before (commands_of scripts) good within barrier begins tree (map (λ lane. map words_of lane.commands.items) scripts) (scripted scripts) p.fs p.history.items p.pending (map (λ replies. replies.items) p.replies.items) is
 
-pub caused : {F : Type 0} (f : FsSpec F) (opened : Opened F) (limits : Limits) (v : View) (before : ℕ) (scripts : List script.Lane) (r : Result (LanesEnd F) (F × TopFault)) → IsGood limits v.now → opened.limits ≡ limits → opened.clock ≡ before + 1
-    → (begins : Told (f.view opened.fs) (Begins opened.refs v)) → IsTree begins.0.now
+pub caused : {F : Type 0} (f : FsSpec F) (opened : Opened F) (scripts : List script.Lane) (r : Result (LanesEnd F) (F × TopFault))
     → IfOk r (λ p. RanOn f opened (map (λ lane. map words_of lane.commands.items) scripts) p.fs p.history.items p.pending (map (λ replies. replies.items) p.replies.items))
     → IfOk r (λ p. AreCausedBy (f.faults opened.fs) (f.faults p.fs) (map (λ replies. replies.items) p.replies.items))
-caused f opened limits v before scripts (Err e) good within barrier begins tree is = tt
-caused f opened limits v before scripts (Ok p) good within barrier begins tree is =
-    caused_on f opened limits v before (commands_of scripts) good within barrier begins tree (map (λ lane. map words_of lane.commands.items) scripts) (scripted scripts) p.fs p.history.items p.pending (map (λ replies. replies.items) p.replies.items) is
+caused f opened scripts (Err e) is = tt
+caused f opened scripts (Ok p) is = caused_on f opened (map (λ lane. map words_of lane.commands.items) scripts) p.fs p.history.items p.pending (map (λ replies. replies.items) p.replies.items) is
 
 -- the same by the words that the lanes are of
 pub by_words : {F : Type 0} (left : Option (List ℕ)) (words : List (List ℕ)) (limits : Limits) (view : F → Option View) (clock : F → ℕ) (was : F → ℕ → View → Type 0) (v : View) (before : ℕ) (commands : List (List Command)) (fs fs' : F) (h h' : List Entry) (p p' : Option Event) (r r' : List (List Reply))
@@ -165,6 +197,14 @@ by_words left words limits view clock was v before commands fs fs' h h' p p' r r
     (subst (λ x. Told (view fs) (RanBy left words view clock was v before fs x p' r')) (sym h-is)
     (subst (λ x. Told (view fs) (RanBy left words view clock was v before fs h x r')) (sym p-is)
     (subst (λ x. Told (view fs) (RanBy left words view clock was v before fs h p x)) (sym r-is) (told.0, told.1, (limits, commands, standard, line, told.2)))))
+
+pub answered_by_words : {F : Type 0} (left : Option (List ℕ)) (words : List (List ℕ)) (limits : Limits) (view : F → Option View) (faults : F → ℕ) (refused : F → Option Path) (commands : List (List Command)) (fs fs' : F) (h h' : List Entry) (p p' : Option Event) (r r' : List (List Reply))
+    → AreStandard limits → IsLine left words commands → fs' ≡ fs → h' ≡ h → p' ≡ p → r' ≡ r → Answered limits view faults refused commands fs h p r → AnsweredBy left words view faults refused fs' h' p' r'
+answered_by_words left words limits view faults refused commands fs fs' h h' p p' r r' standard line fs-is h-is p-is r-is answers =
+    subst (λ x. AnsweredBy left words view faults refused x h' p' r') (sym fs-is)
+    (subst (λ x. AnsweredBy left words view faults refused fs x p' r') (sym h-is)
+    (subst (λ x. AnsweredBy left words view faults refused fs h x r') (sym p-is)
+    (subst (λ x. AnsweredBy left words view faults refused fs h p x) (sym r-is) (limits, commands, standard, line, answers))))
 
 -- a fault that is told within these bounds
 stopped : (limits : Limits) (d : Disk) → AreStandard limits → (fault : TopFault) → IsStop limits d fault → IsStopped d fault

@@ -20,7 +20,7 @@ stands_after f c old new before opening v told keeps stands =
       record {
         lasts = kept.2;
         good = told_as (f.view new.base.fs) _ kept.0 at (keeps.good v told stands.good);
-        caused = keeps.caused before v told stands.caused;
+        caused = keeps.caused before stands.caused;
         inside = keeps.inside v told stands.good stands.inside;
         folders = told_as (f.view new.base.fs) _ kept.0 at (keeps.folders opening.now v told stands.folders);
         said = keeps.said v told stands.said;

@@ -1,3 +1,4 @@
+pub mod Answered
 pub mod Text
 pub mod Output
 pub mod Status

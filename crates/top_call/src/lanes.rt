@@ -11,6 +11,7 @@ ghost use Rattle.lane_system.specs.Kept.{AreIdle};
 ghost use Rattle.commands.specs.Family.{means};
 ghost use Rattle.commands.specs.Lanes.{HasRoom, IsUnbegun, counts_of, replies_of, words_in};
 ghost use Rattle.commands.specs.Words.{words_of};
+ghost use Rattle.top_call.specs.Answered.{Answered};
 ghost use Rattle.top_call.specs.Complete.{AreCausedBy};
 ghost use Rattle.top_call.specs.RanOn.{RanOn};
 ghost use Rattle.top_call.specs.Top.{IsStop, Ran, StaysOn, event_of};
@@ -23,7 +24,7 @@ use crate::fault::TopFault;
 use commands::{
     CommandAnswer, CommandLane, CommandWords, Commands, lanes_of, replies_of, reply_room,
 };
-use fs_trait::Fs;
+use fs_watch::Watch;
 use lane_system::{Parts, System};
 use ost_types::{Limits, NoMemory};
 use rely_guarantee::{Entry, Pending};
@@ -46,7 +47,7 @@ pub struct LanesEnd<F> {
 }
 
 /// Opens the repository, and runs what is asked for. Where no lane is run the file system comes back.
-pub fn run_asked<F: Fs>(
+pub fn run_asked<F: Watch>(
     alloc: Global,
     fs: F,
     asked: Asked,
@@ -58,7 +59,8 @@ pub fn run_asked<F: Fs>(
     ensures told { (v : View) → F.view fs ≡ Some v → IfErr result (λ e. IsStop limits v.now e.1) }
     ensures still { (v : View) → F.view fs ≡ Some v → IfErr result (λ e. StaysOn e.1 (F.view e.0 ≡ Some (all_synced v))) }
     ensures undone { (v : View) → F.view fs ≡ Some v → IfErr result (λ e. Works (Changes v.now) v (F.clock fs) (F.clock e.0) (F.was fs) (F.was e.0) (F.view e.0)) }
-    ensures caused { (v : View) → F.view fs ≡ Some v → IfOk result (λ p. AreCausedBy (F.faults fs) (F.faults p.fs) (map (λ replies. replies.items) p.replies.items)) }
+    ensures answered { IfOk result (λ p. Answered limits F.view F.faults F.refused (commands_of asked.lanes.items) p.fs p.history.items (event_of p.pending) (map (λ replies. replies.items) p.replies.items)) }
+    ensures caused { IfOk result (λ p. AreCausedBy (F.faults fs) (F.faults p.fs) (map (λ replies. replies.items) p.replies.items)) }
     ensures late { IfErr result (λ e. IsEarly e.1 → ⊥) }
     ensures disk { IfErr result (λ e. e.1 ≡ fault.Open opening.Disk → Rose (F.faults fs) (F.faults e.0)) }
 {
@@ -67,7 +69,7 @@ pub fn run_asked<F: Fs>(
 }
 
 /// Opens the repository, and runs all commands of the lanes, as the schedule says and then in turn. Where no lane is run the file system comes back.
-pub fn run_lanes<F: Fs>(
+pub fn run_lanes<F: Watch>(
     alloc: Global,
     fs: F,
     lanes: Vec<Lane>,
@@ -80,7 +82,8 @@ pub fn run_lanes<F: Fs>(
     ensures told { (v : View) → F.view fs ≡ Some v → IfErr result (λ e. IsStop limits v.now e.1) }
     ensures still { (v : View) → F.view fs ≡ Some v → IfErr result (λ e. StaysOn e.1 (F.view e.0 ≡ Some (all_synced v))) }
     ensures undone { (v : View) → F.view fs ≡ Some v → IfErr result (λ e. Works (Changes v.now) v (F.clock fs) (F.clock e.0) (F.was fs) (F.was e.0) (F.view e.0)) }
-    ensures caused { (v : View) → F.view fs ≡ Some v → IfOk result (λ p. AreCausedBy (F.faults fs) (F.faults p.fs) (map (λ replies. replies.items) p.replies.items)) }
+    ensures answered { IfOk result (λ p. Answered limits F.view F.faults F.refused (commands_of lanes.items) p.fs p.history.items (event_of p.pending) (map (λ replies. replies.items) p.replies.items)) }
+    ensures caused { IfOk result (λ p. AreCausedBy (F.faults fs) (F.faults p.fs) (map (λ replies. replies.items) p.replies.items)) }
     ensures late { IfErr result (λ e. IsEarly e.1 → ⊥) }
     ensures disk { IfErr result (λ e. e.1 ≡ fault.Open opening.Disk → Rose (F.faults fs) (F.faults e.0)) }
 {
@@ -92,7 +95,7 @@ pub fn run_lanes<F: Fs>(
 }
 
 // Runs all commands of the lanes on a repository that was opened.
-fn run_opened<F: Fs>(
+fn run_opened<F: Watch>(
     alloc: Global,
     opened: Opened<F>,
     lanes: Vec<Lane>,
@@ -101,7 +104,7 @@ fn run_opened<F: Fs>(
     requires few { length lanes.items ≤ lane_limit }
     requires short { All (λ lane. length lane.commands.items ≤ command_limit) lanes.items }
     requires fit { All (λ lane. All (λ c. means.fit opened.limits (words_of c)) lane.commands.items) lanes.items }
-    ensures ran { IfOk result (λ p. RanOn (fs_spec F.view F.clock F.spare F.was F.faults) opened (map (λ lane. map words_of lane.commands.items) lanes.items) p.fs p.history.items p.pending (map (λ replies. replies.items) p.replies.items)) }
+    ensures ran { IfOk result (λ p. RanOn (fs_spec F.view F.clock F.spare F.was F.faults F.refused) opened (map (λ lane. map words_of lane.commands.items) lanes.items) p.fs p.history.items p.pending (map (λ replies. replies.items) p.replies.items)) }
     ensures back { IfErr result (λ e. (e.0 ≡ opened.fs) × (e.1 ≡ fault.NoMemory)) }
 {
     match prepare(alloc, lanes) {
@@ -128,7 +131,7 @@ fn prepare(alloc: Global, lanes: Vec<Lane>) -> Result<Prepared, NoMemory>
     Ok(Prepared { lanes, room })
 }
 
-fn run_prepared<F: Fs>(
+fn run_prepared<F: Watch>(
     alloc: Global,
     opened: Opened<F>,
     prepared: Prepared,
@@ -137,7 +140,7 @@ fn run_prepared<F: Fs>(
     requires few { length prepared.lanes.items ≤ lane_limit }
     requires idle { AreIdle means opened.limits prepared.lanes.items }
     requires room { HasRoom (counts_of (words_in prepared.lanes.items)) prepared.room.items }
-    ensures ran { IfOk result (λ p. RanOn (fs_spec F.view F.clock F.spare F.was F.faults) opened (words_in prepared.lanes.items) p.fs p.history.items p.pending (map (λ replies. replies.items) p.replies.items)) }
+    ensures ran { IfOk result (λ p. RanOn (fs_spec F.view F.clock F.spare F.was F.faults F.refused) opened (words_in prepared.lanes.items) p.fs p.history.items p.pending (map (λ replies. replies.items) p.replies.items)) }
     ensures back { IfErr result (λ e. (e.0 ≡ opened.fs) × (e.1 ≡ fault.NoMemory)) }
 {
     let Prepared { lanes, room } = prepared;
@@ -145,6 +148,7 @@ fn run_prepared<F: Fs>(
         Ok(system) => {
             let mut system = system;
             run_by(&mut system, schedule);
+            system.certify();
             Ok(end_of(system.into_parts(), room))
         }
         Err((opened, NoMemory)) => Err((opened.into_fs(), TopFault::NoMemory)),
@@ -152,7 +156,7 @@ fn run_prepared<F: Fs>(
 }
 
 // What a system was taken apart into, with the replies as a script has them.
-fn end_of<F: Fs>(
+fn end_of<F: Watch>(
     parts: Parts<F, Commands, CommandWords, CommandAnswer>,
     room: Vec<Vec<Reply>>,
 ) -> LanesEnd<F>

@@ -7,6 +7,7 @@ ghost use Rattle.sys_open.specs.Changes.{Changes, Works};
 ghost use Rattle.sys_open.specs.declared.fault.OpenFault.TheVariants as opening;
 ghost use Rattle.script_reader.specs.Script.{Commands, IsScript};
 ghost use Rattle.script.specs.declared.fault.ScriptFault.{ScriptFault};
+ghost use Rattle.top_call.specs.Answered.{AnsweredBy};
 ghost use Rattle.top_call.specs.Complete.{AreCausedBy, IsAsked, IsComplete, IsGoodHere};
 ghost use Rattle.top_call.specs.Input.{TookFront};
 ghost use Rattle.top_call.specs.Words.{AreNoLine, IsEarly, IsRefused, Runs};
@@ -20,7 +21,8 @@ use crate::lanes::{LanesEnd, run_asked};
 use crate::output::write_all;
 use crate::status::{has_risen, status_of};
 use crate::text::{MEMORY_LINE, output_of};
-use fs_trait::{Fs, Sink, Source};
+use fs_trait::{Sink, Source};
+use fs_watch::Watch;
 use ost_types::{Limits, NoMemory};
 use rely_guarantee::{Entry, Event, Pending};
 use script_reader::Reply;
@@ -83,7 +85,7 @@ fn event_of(pending: Option<Pending>) -> Option<Event>
     }
 }
 
-fn outcome_of<F: Fs>(parts: LanesEnd<F>) -> Outcome<F>
+fn outcome_of<F: Watch>(parts: LanesEnd<F>) -> Outcome<F>
     ensures fs { result.fs ≡ parts.fs }
     ensures fault { result.fault ≡ None }
     ensures history { result.history.items ≡ parts.history.items }
@@ -106,7 +108,7 @@ fn outcome_of<F: Fs>(parts: LanesEnd<F>) -> Outcome<F>
 }
 
 // Reads the words and the script, opens the repository and runs the lanes.
-fn run<F: Fs, S: Source>(alloc: Global, words: &[String], fs: F, input: &mut S) -> Outcome<F>
+fn run<F: Watch, S: Source>(alloc: Global, words: &[String], fs: F, input: &mut S) -> Outcome<F>
     ensures early { IfSome result.fault (λ f. IsEarly f → (result.fs ≡ fs) × IsRefused (S.left input.old) (map (λ word. string_bytes word) words.now) (S.faults input.old) (S.faults input.new) f) }
     ensures words { AreNoLine (map (λ word. string_bytes word) words.now) → (result.fault ≡ Some TopFault.Usage) ⊎ (result.fault ≡ Some TopFault.NoMemory) }
     ensures script { (all : List ℕ) (lanes : List Commands) (e : ScriptFault) → S.left input.old ≡ Some all → IsScript all lanes → result.fault ≢ Some (TopFault.Script e) }
@@ -116,7 +118,8 @@ fn run<F: Fs, S: Source>(alloc: Global, words: &[String], fs: F, input: &mut S) 
     ensures still { (v : View) → F.view fs ≡ Some v → IfSome result.fault (λ f. StaysOn f (F.view result.fs ≡ Some (all_synced v))) }
     ensures undone { (v : View) → F.view fs ≡ Some v → IfSome result.fault (λ _. Works (Changes v.now) v (F.clock fs) (F.clock result.fs) (F.was fs) (F.was result.fs) (F.view result.fs)) }
     ensures ran { (v : View) → F.view fs ≡ Some v → result.fault ≡ None → Told (F.view result.fs) (RanBy (S.left input.old) (map (λ word. string_bytes word) words.now) F.view F.clock F.was v (F.clock fs) result.fs result.history.items result.pending (map (λ lane. lane.items) result.replies.items)) }
-    ensures caused { (v : View) → F.view fs ≡ Some v → AreCausedBy (F.faults fs) (F.faults result.fs) (map (λ lane. lane.items) result.replies.items) }
+    ensures answered { result.fault ≡ None → AnsweredBy (S.left input.old) (map (λ word. string_bytes word) words.now) F.view F.faults F.refused result.fs result.history.items result.pending (map (λ lane. lane.items) result.replies.items) }
+    ensures caused { AreCausedBy (F.faults fs) (F.faults result.fs) (map (λ lane. lane.items) result.replies.items) }
     ensures read { (all : List ℕ) → S.left input.old ≡ Some all → TookFront all (S.left input.new) }
     ensures unread { ¬ (Runs (map (λ word. string_bytes word) words.now)) → input.new ≡ input.old }
     ensures later { S.faults input.old ≤ S.faults input.new }
@@ -174,7 +177,7 @@ fn print<K: Sink>(
 /// prints their replies or the line of the fault, and tells the exit status.
 ///
 /// The words are those behind the program's name: options, and `init`, `run`, or a command and its fields.
-pub fn ostree<F: Fs, S: Source, K: Sink>(
+pub fn ostree<F: Watch, S: Source, K: Sink>(
     alloc: Global,
     words: &[String],
     fs: F,
@@ -195,9 +198,11 @@ pub fn ostree<F: Fs, S: Source, K: Sink>(
     // What a crash may leave, and what is left at the end.
     ensures ran { (v : View) → F.view fs ≡ Some v → (result.fault ≡ None) ⊎ (result.replies.items ≢ []) → Told (F.view result.fs) (RanBy (S.left input.old) (map (λ word. string_bytes word) words.now) F.view F.clock F.was v (F.clock fs) result.fs result.history.items result.pending (map (λ lane. lane.items) result.replies.items)) }
 
-    // A reply tells of a call that failed only where the count of failed calls rose. Where that of no stream rose either, and the words, the
-    // script and the disk are good, every command has an answer of its own, or there was no memory for the call.
-    ensures caused { (v : View) → F.view fs ≡ Some v → AreCausedBy (F.faults fs) (F.faults result.fs) (map (λ lane. lane.items) result.replies.items) }
+    // What is answered, over any file system: each command has its reply, and what ended all is told alike. A reply tells of a call that
+    // failed only where the count of failed calls rose. Where that of no stream rose either, and the words, the script and the disk are good,
+    // every command has an answer of its own, or there was no memory for the call.
+    ensures answered { (result.fault ≡ None) ⊎ (result.replies.items ≢ []) → AnsweredBy (S.left input.old) (map (λ word. string_bytes word) words.now) F.view F.faults F.refused result.fs result.history.items result.pending (map (λ lane. lane.items) result.replies.items) }
+    ensures caused { AreCausedBy (F.faults fs) (F.faults result.fs) (map (λ lane. lane.items) result.replies.items) }
     ensures complete { (v : View) → F.view fs ≡ Some v → IsAsked (S.left input.old) (map (λ word. string_bytes word) words.now) → IsGoodHere v.now → ¬ (Rose (S.faults input.old) (S.faults input.new)) → ¬ (Rose (F.faults fs) (F.faults result.fs)) → ¬ (Rose (K.faults out.old) (K.faults out.new)) → IsComplete result.fault (map (λ lane. lane.items) result.replies.items) result.status }
 
     // What is read. Only `run` reads, and no lane runs where a call of the source failed: this is told.

@@ -1,4 +1,4 @@
-use Rattle.std.proofs.Common.{rules, ◌≡◌, refl, sym, ◌∙◌, ap, subst, arith, length, Option}
+use Rattle.std.proofs.Common.{rules, ◌≡◌, inl, refl, sym, ◌∙◌, ap, subst, arith, length, Option}
 use Rattle.command.specs.declared.begun.Begun.TheVariants as begun
 use Rattle.command.specs.declared.ended.Ended.TheVariants as ended
 use Rattle.command.specs.Doing.{IsAnswer, IsBegun}
@@ -10,14 +10,14 @@ use Rattle.lane_system.specs.Family.{Family, FsSpec, family, fs_spec}
 use Rattle.lane_system.specs.LaneActs.{LaneActs, task_start}
 use Rattle.lane_system.specs.Lanes.{IsNext}
 use Rattle.lane_system.specs.States.{now_of, since_in}
-use Rattle.lane_system.proofs.Coming.{comes_answered, comes_ended, comes_held, comes_more, first_ready, first_room, first_takes, has_ended}
+use Rattle.lane_system.proofs.Coming.{comes_answered, comes_ended, comes_held, comes_more, first_ready, first_room, first_takes, has_ended, refused_named}
 use Rattle.lane_system.proofs.Doing.{once_acts}
 use Rattle.lane_system.proofs.Prefixes.{state_all}
 use Rattle.lane_system.proofs.act.begins.Given as given
 use Rattle.lane_system.proofs.act.begins.Goals as goal
 
 abbrev f : (g : given.Over) → FsSpec g.row.F.Denot
-f g = fs_spec g.F.Fs.view g.F.Fs.clock g.F.Fs.spare g.F.Fs.was g.F.Fs.faults
+f g = fs_spec g.F.Fs.view g.F.Fs.clock g.F.Fs.spare g.F.Fs.was g.F.Fs.faults g.F.Watch.refused
 
 abbrev family_of : (g : given.Over) → Family g.row.C.Denot g.row.C-Words.Denot g.row.C-Answer.Denot
 family_of g = family (task_spec g.C.CommandTask.kind_of g.C.CommandTask.writes_of g.C.CommandTask.stepped g.C.CommandTask.leaves g.C.CommandTask.refuses g.C.CommandTask.facts) g.C.Command.means g.C.Command.doing
@@ -74,6 +74,7 @@ answer_at_end-requires g c =
       told = comes_answered (f g) (family_of g) c.args.limits c.args.lane c.number_of.result c.args.refs.now c.begin.new.refs c.told_act.new.refs c.args.objects.now c.told_act.new.objects base c.told_act.new.base l words next (c.number_of.ensures ∙ at) c.in-Ok-Runs.work c.told_act.new.work c.told_act.result
           (first_takes (f g) (family_of g) g.met.C.Command.command_laws c.args.limits c.args.lane c.args.refs.now c.begin.new.refs c.args.objects.now base l words c.requires.kept c.requires.next.1 c.requires.live c.requires.home c.requires.sound c.begin.ensures.rooms c.in-Ok-Runs.work began c.told_act.new.refs c.told_act.new.base)
           c.told_act.ensures.step c.told_act.ensures.counts (λ is. c.in_default.not-Blocked is) g.met.C.Command.command_laws;
+      named = refused_named (g.F.Fs.faults base.fs) (g.F.Fs.faults c.told_act.new.base.fs) c.told_act.result c.told_act.ensures.step.1.cause;
     }
 
 pub returns-in-Err : goal.returns-in-Err
@@ -84,7 +85,7 @@ returns-in-Err g c =
     let next : IsNext l words = (c.requires.next.0, search rules) in
     let from : c.len-start.result ≡ task_start base.books.history.items l.task = (let n : c.len-start.result ≡ length base.books.history.items = search rules in n) ∙ ap (task_start base.books.history.items) (sym c.requires.next.1) in
     subst (λ (o : Option (Running g.row.C.Denot)). LaneActs (f g) (family_of g) c.args.limits c.args.lane c.args.lane c.args.refs.now c.begin.new.refs c.args.objects.now c.args.objects.now base base l (record { words = l.words; task = o; replies = l.replies }) (Answered ended.NoMemory c.len-start.result)) (sym c.requires.next.1)
-    (once_acts (f g) (family_of g) c.args.limits c.args.lane c.args.refs.now c.begin.new.refs c.args.objects.now base l words ended.NoMemory c.len-start.result next (c.begin.ensures.refs (now_of base.books) c.requires.tracks) c.begin.ensures.rooms from (c.requires.live, c.requires.next.1))
+    (once_acts (f g) (family_of g) c.args.limits c.args.lane c.args.refs.now c.begin.new.refs c.args.objects.now base l words ended.NoMemory c.len-start.result next (c.begin.ensures.refs (now_of base.books) c.requires.tracks) c.begin.ensures.rooms from (inl (c.requires.live, c.requires.next.1)))
 
 pub returns-in-Ok-Answered : goal.returns-in-Ok-Answered
 returns-in-Ok-Answered g c =

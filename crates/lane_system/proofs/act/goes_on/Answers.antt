@@ -6,12 +6,12 @@ use Rattle.lane_system.specs.declared.lane.Running.{Running}
 use Rattle.lane_system.specs.Family.{Family, FsSpec, family, fs_spec}
 use Rattle.lane_system.specs.LaneActs.{LaneActs}
 use Rattle.lane_system.specs.Lanes.{IsNext}
-use Rattle.lane_system.proofs.Coming.{comes_answered, comes_ended, comes_held, comes_more, has_ended, next_answer, next_is, next_ready, next_room, next_takes, next_words}
+use Rattle.lane_system.proofs.Coming.{comes_answered, comes_ended, comes_held, comes_more, has_ended, next_is, next_ready, next_room, next_takes, next_words, refused_named}
 use Rattle.lane_system.proofs.act.goes_on.Given as given
 use Rattle.lane_system.proofs.act.goes_on.Goals as goal
 
 abbrev f : (g : given.Over) → FsSpec g.row.F.Denot
-f g = fs_spec g.F.Fs.view g.F.Fs.clock g.F.Fs.spare g.F.Fs.was g.F.Fs.faults
+f g = fs_spec g.F.Fs.view g.F.Fs.clock g.F.Fs.spare g.F.Fs.was g.F.Fs.faults g.F.Watch.refused
 
 abbrev family_of : (g : given.Over) → Family g.row.C.Denot g.row.C-Words.Denot g.row.C-Answer.Denot
 family_of g = family (task_spec g.C.CommandTask.kind_of g.C.CommandTask.writes_of g.C.CommandTask.stepped g.C.CommandTask.leaves g.C.CommandTask.refuses g.C.CommandTask.facts) g.C.Command.means g.C.Command.doing
@@ -48,6 +48,7 @@ answer_at_end-requires g c =
       told = comes_answered (f g) (family_of g) c.args._limits c.args.lane c.number_of.result c.args.refs.now c.args.refs.now c.told_act.new.refs c.args.objects.now c.told_act.new.objects base c.told_act.new.base l (next_words (f g) (family_of g) g.met.C.Command.command_laws c.args._limits c.args.lane c.args.refs.now c.args.objects.now base l c.args.running c.requires.kept refl c.requires.live) (next_is (f g) (family_of g) g.met.C.Command.command_laws c.args._limits c.args.lane c.args.refs.now c.args.objects.now base l c.args.running c.requires.kept refl c.requires.live) (c.number_of.ensures ∙ at) c.args.running.work c.told_act.new.work c.told_act.result
           (next_takes (f g) (family_of g) g.met.C.Command.command_laws c.args._limits c.args.lane c.args.refs.now c.args.objects.now base l c.args.running c.requires.kept refl c.requires.live c.told_act.new.refs c.told_act.new.base)
           c.told_act.ensures.step c.told_act.ensures.counts (λ is. c.in_default.not-Blocked is) g.met.C.Command.command_laws;
+      named = refused_named (g.F.Fs.faults base.fs) (g.F.Fs.faults c.told_act.new.base.fs) c.told_act.result c.told_act.ensures.step.1.cause;
     }
 
 pub returns-in-Blocked : goal.returns-in-Blocked
@@ -76,10 +77,8 @@ returns-in_default g c =
     let base = c.args.base.now in
     let l : Lane g.row.C.Denot g.row.C-Words.Denot g.row.C-Answer.Denot = record { words = c.args.run.now.words; task = Some c.args.running; replies = c.args.run.now.replies } in
     let at : c.len-number.result ≡ length l.replies.items = search rules in
-    let words = c.index.result.now in
-    let next : IsNext l words = (c.requires.next.0, search rules) in
     subst (λ (o : Option (Running g.row.C.Denot)). LaneActs (f g) (family_of g) c.args._limits c.args.lane c.args.lane c.args.refs.now c.told_act.new.refs c.args.objects.now c.told_act.new.objects base c.told_act.new.base l (record { words = l.words; task = o; replies = l.replies }) (Answered c.answer_at_end.result c.args.running.start)) (sym c.requires.next.1)
     (comes_ended (f g) (family_of g) c.args._limits c.args.lane c.number_of.result c.args.refs.now c.args.refs.now c.told_act.new.refs c.args.objects.now c.told_act.new.objects base c.told_act.new.base l (next_words (f g) (family_of g) g.met.C.Command.command_laws c.args._limits c.args.lane c.args.refs.now c.args.objects.now base l c.args.running c.requires.kept refl c.requires.live) (next_is (f g) (family_of g) g.met.C.Command.command_laws c.args._limits c.args.lane c.args.refs.now c.args.objects.now base l c.args.running c.requires.kept refl c.requires.live) (c.number_of.ensures ∙ at) c.args.running.work c.told_act.new.work c.told_act.result
     (next_takes (f g) (family_of g) g.met.C.Command.command_laws c.args._limits c.args.lane c.args.refs.now c.args.objects.now base l c.args.running c.requires.kept refl c.requires.live c.told_act.new.refs c.told_act.new.base)
     c.told_act.ensures.step c.told_act.ensures.counts (λ is. c.in_default.not-Blocked is) (λ is. c.in_default.not-More is) c.answer_at_end.result
-    (next_answer (f g) (family_of g) g.met.C.Command.command_laws c.args._limits c.args.lane c.args.refs.now c.args.objects.now base l c.args.running c.requires.kept refl c.requires.live words next c.told_act.result c.told_act.new.work (g.F.Fs.faults c.told_act.new.base.fs) c.answer_at_end.result c.answer_at_end.ensures) c.args.running.start refl)
+    c.answer_at_end.ensures c.args.running.start refl)

@@ -6,7 +6,7 @@ use Rattle.lane_system.proofs.Telling.{counts_rest, told_back, told_ready, told_
 use Rattle.lane_system.proofs.step.told_act.Goals as goal
 
 pub running_act-requires-clause-ready : goal.running_act-requires-clause-ready
-running_act-requires-clause-ready g c = told_ready (fs_spec g.F.Fs.view g.F.Fs.clock g.F.Fs.spare g.F.Fs.was g.F.Fs.faults) (task_spec g.C.CommandTask.kind_of g.C.CommandTask.writes_of g.C.CommandTask.stepped g.C.CommandTask.leaves g.C.CommandTask.refuses g.C.CommandTask.facts) c.args.lane c.args.base.now
+running_act-requires-clause-ready g c = told_ready (fs_spec g.F.Fs.view g.F.Fs.clock g.F.Fs.spare g.F.Fs.was g.F.Fs.faults g.F.Watch.refused) (task_spec g.C.CommandTask.kind_of g.C.CommandTask.writes_of g.C.CommandTask.stepped g.C.CommandTask.leaves g.C.CommandTask.refuses g.C.CommandTask.facts) c.args.lane c.args.base.now
     g.C.Command.doing g.met.C.Command.command_laws.hears c.args.objects.now c.args.work.now c.hear-former.new.self c.hear-former.ensures.hears c.requires.ready
 
 pub running_act-requires-clause-room : goal.running_act-requires-clause-room
@@ -15,7 +15,7 @@ running_act-requires-clause-room g c = told_room (task_spec g.C.CommandTask.kind
 pub returns-in-Blocked-clause-step : goal.returns-in-Blocked-clause-step
 returns-in-Blocked-clause-step g c = (
   c.running_act.new.work,
-  told_step (fs_spec g.F.Fs.view g.F.Fs.clock g.F.Fs.spare g.F.Fs.was g.F.Fs.faults) (task_spec g.C.CommandTask.kind_of g.C.CommandTask.writes_of g.C.CommandTask.stepped g.C.CommandTask.leaves g.C.CommandTask.refuses g.C.CommandTask.facts) c.args.lane c.args.base.now
+  told_step (fs_spec g.F.Fs.view g.F.Fs.clock g.F.Fs.spare g.F.Fs.was g.F.Fs.faults g.F.Watch.refused) (task_spec g.C.CommandTask.kind_of g.C.CommandTask.writes_of g.C.CommandTask.stepped g.C.CommandTask.leaves g.C.CommandTask.refuses g.C.CommandTask.facts) c.args.lane c.args.base.now
       c.args.number c.args.refs.now c.running_act.new.refs c.running_act.result came.Blocked _ c.hear-former.new.self c.running_act.new.work c.running_act.new.base c.hear-former.ensures.hears c.in-Blocked.is c.running_act.ensures,
   λ not. absurd (not refl),
 )
@@ -23,14 +23,14 @@ returns-in-Blocked-clause-step g c = (
 pub returns-in-Blocked-clause-back : goal.returns-in-Blocked-clause-back
 returns-in-Blocked-clause-back g c = λ is. told_back (task_spec g.C.CommandTask.kind_of g.C.CommandTask.writes_of g.C.CommandTask.stepped g.C.CommandTask.leaves g.C.CommandTask.refuses g.C.CommandTask.facts) g.C.Command.doing g.met.C.Command.command_laws.hears
     c.args.objects.now c.args.work.now c.hear-former.new.self c.running_act.new.work c.hear.new.self c.hear-former.result c.hear-former.ensures.hears c.hear-former.ensures.heard
-    (told_step (fs_spec g.F.Fs.view g.F.Fs.clock g.F.Fs.spare g.F.Fs.was g.F.Fs.faults) (task_spec g.C.CommandTask.kind_of g.C.CommandTask.writes_of g.C.CommandTask.stepped g.C.CommandTask.leaves g.C.CommandTask.refuses g.C.CommandTask.facts) c.args.lane c.args.base.now
+    (told_step (fs_spec g.F.Fs.view g.F.Fs.clock g.F.Fs.spare g.F.Fs.was g.F.Fs.faults g.F.Watch.refused) (task_spec g.C.CommandTask.kind_of g.C.CommandTask.writes_of g.C.CommandTask.stepped g.C.CommandTask.leaves g.C.CommandTask.refuses g.C.CommandTask.facts) c.args.lane c.args.base.now
     c.args.number c.args.refs.now c.running_act.new.refs c.running_act.result came.Blocked c.hear-former.new.self c.hear-former.new.self c.running_act.new.work c.running_act.new.base refl c.in-Blocked.is c.running_act.ensures).steps
     c.hear.ensures.hears
 
 pub returns-in-More-clause-step : goal.returns-in-More-clause-step
 returns-in-More-clause-step g c = (
   c.running_act.new.work,
-  told_step (fs_spec g.F.Fs.view g.F.Fs.clock g.F.Fs.spare g.F.Fs.was g.F.Fs.faults) (task_spec g.C.CommandTask.kind_of g.C.CommandTask.writes_of g.C.CommandTask.stepped g.C.CommandTask.leaves g.C.CommandTask.refuses g.C.CommandTask.facts) c.args.lane c.args.base.now
+  told_step (fs_spec g.F.Fs.view g.F.Fs.clock g.F.Fs.spare g.F.Fs.was g.F.Fs.faults g.F.Watch.refused) (task_spec g.C.CommandTask.kind_of g.C.CommandTask.writes_of g.C.CommandTask.stepped g.C.CommandTask.leaves g.C.CommandTask.refuses g.C.CommandTask.facts) c.args.lane c.args.base.now
       c.args.number c.args.refs.now c.running_act.new.refs c.running_act.result came.More _ c.hear-former.new.self c.running_act.new.work c.running_act.new.base c.hear-former.ensures.hears c.in-More.is c.running_act.ensures,
   λ not. refl,
 )
@@ -38,7 +38,7 @@ returns-in-More-clause-step g c = (
 pub returns-in_default-clause-step : goal.returns-in_default-clause-step
 returns-in_default-clause-step g c = (
   c.running_act.new.work,
-  told_step (fs_spec g.F.Fs.view g.F.Fs.clock g.F.Fs.spare g.F.Fs.was g.F.Fs.faults) (task_spec g.C.CommandTask.kind_of g.C.CommandTask.writes_of g.C.CommandTask.stepped g.C.CommandTask.leaves g.C.CommandTask.refuses g.C.CommandTask.facts) c.args.lane c.args.base.now
+  told_step (fs_spec g.F.Fs.view g.F.Fs.clock g.F.Fs.spare g.F.Fs.was g.F.Fs.faults g.F.Watch.refused) (task_spec g.C.CommandTask.kind_of g.C.CommandTask.writes_of g.C.CommandTask.stepped g.C.CommandTask.leaves g.C.CommandTask.refuses g.C.CommandTask.facts) c.args.lane c.args.base.now
       c.args.number c.args.refs.now c.running_act.new.refs c.running_act.result c.running_act.result _ c.hear-former.new.self c.running_act.new.work c.running_act.new.base c.hear-former.ensures.hears refl c.running_act.ensures,
   λ not. refl,
 )

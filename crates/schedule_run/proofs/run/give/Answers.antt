@@ -9,14 +9,14 @@ use Rattle.schedule_run.proofs.run.give.Goals as goal
 
 pub loop-turn-init : goal.loop-turn-init
 loop-turn-init g c =
-    let f = fs_spec g.F.Fs.view g.F.Fs.clock g.F.Fs.spare g.F.Fs.was g.F.Fs.faults in
+    let f = fs_spec g.F.Fs.view g.F.Fs.clock g.F.Fs.spare g.F.Fs.was g.F.Fs.faults g.F.Watch.refused in
     let own = family (task_spec g.C.CommandTask.kind_of g.C.CommandTask.writes_of g.C.CommandTask.stepped g.C.CommandTask.leaves g.C.CommandTask.refuses g.C.CommandTask.facts) g.C.Command.means g.C.Command.doing in
     let laws : FsLaws f = record { is = record { only_now = g.met.F.Fs.only_now; bound = g.met.F.Fs.bound; told = g.met.F.Fs.told }; tree = g.met.F.Fs.tree; counts_now = g.met.F.Fs.counts_now } in
     record { driven = driven_nothing f own laws c.args.system.now; acts = refl }
 
 pub loop-turn-preserved : goal.loop-turn-preserved
 loop-turn-preserved g c =
-    let f = fs_spec g.F.Fs.view g.F.Fs.clock g.F.Fs.spare g.F.Fs.was g.F.Fs.faults in
+    let f = fs_spec g.F.Fs.view g.F.Fs.clock g.F.Fs.spare g.F.Fs.was g.F.Fs.faults g.F.Watch.refused in
     let own = family (task_spec g.C.CommandTask.kind_of g.C.CommandTask.writes_of g.C.CommandTask.stepped g.C.CommandTask.leaves g.C.CommandTask.refuses g.C.CommandTask.facts) g.C.Command.means g.C.Command.doing in
     let laws : FsLaws f = record { is = record { only_now = g.met.F.Fs.only_now; bound = g.met.F.Fs.bound; told = g.met.F.Fs.told }; tree = g.met.F.Fs.tree; counts_now = g.met.F.Fs.counts_now } in
     let acted = c.act-ask.ensures.acted in
@@ -28,7 +28,7 @@ loop-turn-preserved g c =
 
 pub returns-then-is_rest-clause-driven : goal.returns-then-is_rest-clause-driven
 returns-then-is_rest-clause-driven g c =
-    let f = fs_spec g.F.Fs.view g.F.Fs.clock g.F.Fs.spare g.F.Fs.was g.F.Fs.faults in
+    let f = fs_spec g.F.Fs.view g.F.Fs.clock g.F.Fs.spare g.F.Fs.was g.F.Fs.faults g.F.Watch.refused in
     let own = family (task_spec g.C.CommandTask.kind_of g.C.CommandTask.writes_of g.C.CommandTask.stepped g.C.CommandTask.leaves g.C.CommandTask.refuses g.C.CommandTask.facts) g.C.Command.means g.C.Command.doing in
     let laws : FsLaws f = record { is = record { only_now = g.met.F.Fs.only_now; bound = g.met.F.Fs.bound; told = g.met.F.Fs.told }; tree = g.met.F.Fs.tree; counts_now = g.met.F.Fs.counts_now } in
     let acted = c.act-ask.ensures.acted in
@@ -37,6 +37,6 @@ returns-then-is_rest-clause-driven g c =
 
 pub returns-then-is_rest-clause-acts : goal.returns-then-is_rest-clause-acts
 returns-then-is_rest-clause-acts g c =
-    let f = fs_spec g.F.Fs.view g.F.Fs.clock g.F.Fs.spare g.F.Fs.was g.F.Fs.faults in
+    let f = fs_spec g.F.Fs.view g.F.Fs.clock g.F.Fs.spare g.F.Fs.was g.F.Fs.faults g.F.Watch.refused in
     all_more f g.C.Command.means c.args.system.now c.loop-turn.system c.act-ask.new.self c.args.turns.actor c.act-ask.result c.loop-turn.turn c.args.turns.count (c.args.turns.count - (c.loop-turn.turn + 1))
     (omega (arith, c.loop-turn-test.true)) c.loop-turn.invariant.acts c.act-ask.ensures.acted (c.is_rest.ensures c.if-is_rest.true)

@@ -6,7 +6,7 @@ use Rattle.commands.specs.Words.{words_of}
 use Rattle.top_call.proofs.Completing.{caused_since}
 use Rattle.top_call.proofs.Fits.{few_lanes, fit_within, short_lanes}
 use Rattle.top_call.proofs.Outcomes.{back_from}
-use Rattle.top_call.proofs.Rans.{caused, ran}
+use Rattle.top_call.proofs.Rans.{answered, caused, ran}
 use Rattle.top_call.proofs.lanes.run_lanes.Goals as goal
 
 pub run_opened-requires : goal.run_opened-requires
@@ -20,16 +20,17 @@ pub returns-in-Ok-clause-ran : goal.returns-in-Ok-clause-ran
 returns-in-Ok-clause-ran g c = λ v told.
     let o = c.in-Ok.ensures in
     let begins = o.begins v told in
-    ran (fs_spec g.F.Fs.view g.F.Fs.clock g.F.Fs.spare g.F.Fs.was g.F.Fs.faults) c.in-Ok.opened c.args.limits v (g.F.Fs.clock c.args.fs) c.args.lanes.items c.run_opened.result
+    ran (fs_spec g.F.Fs.view g.F.Fs.clock g.F.Fs.spare g.F.Fs.was g.F.Fs.faults g.F.Watch.refused) c.in-Ok.opened c.args.limits v (g.F.Fs.clock c.args.fs) c.args.lanes.items c.run_opened.result
     (o.good v told) o.begun.1 o.opened.is begins (g.met.F.Fs.tree c.in-Ok.opened.fs begins.0 begins.1) c.run_opened.ensures.ran
 
 pub returns-in-Ok-clause-undone : goal.returns-in-Ok-clause-undone
 returns-in-Ok-clause-undone g c = λ v told. back_from _ _ c.in-Ok.opened.fs c.run_opened.result c.run_opened.ensures.back (c.in-Ok.ensures.works v told)
 
+pub returns-in-Ok-clause-answered : goal.returns-in-Ok-clause-answered
+returns-in-Ok-clause-answered g c =
+    answered (fs_spec g.F.Fs.view g.F.Fs.clock g.F.Fs.spare g.F.Fs.was g.F.Fs.faults g.F.Watch.refused) c.in-Ok.opened c.args.limits c.args.lanes.items c.run_opened.result c.in-Ok.ensures.begun.1 c.run_opened.ensures.ran
+
 pub returns-in-Ok-clause-caused : goal.returns-in-Ok-clause-caused
-returns-in-Ok-clause-caused g c = λ v told.
-    let o = c.in-Ok.ensures in
-    let begins = o.begins v told in
-    caused_since (g.F.Fs.faults c.args.fs) (g.F.Fs.faults c.in-Ok.opened.fs) g.F.Fs.faults c.run_opened.result o.later
-    (caused (fs_spec g.F.Fs.view g.F.Fs.clock g.F.Fs.spare g.F.Fs.was g.F.Fs.faults) c.in-Ok.opened c.args.limits v (g.F.Fs.clock c.args.fs) c.args.lanes.items c.run_opened.result
-    (o.good v told) o.begun.1 o.opened.is begins (g.met.F.Fs.tree c.in-Ok.opened.fs begins.0 begins.1) c.run_opened.ensures.ran)
+returns-in-Ok-clause-caused g c =
+    caused_since (g.F.Fs.faults c.args.fs) (g.F.Fs.faults c.in-Ok.opened.fs) g.F.Fs.faults c.run_opened.result c.in-Ok.ensures.later
+    (caused (fs_spec g.F.Fs.view g.F.Fs.clock g.F.Fs.spare g.F.Fs.was g.F.Fs.faults g.F.Watch.refused) c.in-Ok.opened c.args.lanes.items c.run_opened.result c.run_opened.ensures.ran)

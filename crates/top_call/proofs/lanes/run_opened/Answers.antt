@@ -12,4 +12,4 @@ run_prepared-requires g c = record {
 }
 
 pub returns-in-Ok-clause-ran : goal.returns-in-Ok-clause-ran
-returns-in-Ok-clause-ran g c = ran_words (fs_spec g.F.Fs.view g.F.Fs.clock g.F.Fs.spare g.F.Fs.was g.F.Fs.faults) c.args.opened _ _ c.run_prepared.result c.in-Ok.ensures.words c.run_prepared.ensures.ran
+returns-in-Ok-clause-ran g c = ran_words (fs_spec g.F.Fs.view g.F.Fs.clock g.F.Fs.spare g.F.Fs.was g.F.Fs.faults g.F.Watch.refused) c.args.opened _ _ c.run_prepared.result c.in-Ok.ensures.words c.run_prepared.ensures.ran

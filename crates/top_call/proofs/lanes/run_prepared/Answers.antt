@@ -14,7 +14,7 @@ end_of-requires g c =
 
 pub returns-in-Ok-clause-ran : goal.returns-in-Ok-clause-ran
 returns-in-Ok-clause-ran g c =
-    let f = fs_spec g.F.Fs.view g.F.Fs.clock g.F.Fs.spare g.F.Fs.was g.F.Fs.faults in
+    let f = fs_spec g.F.Fs.view g.F.Fs.clock g.F.Fs.spare g.F.Fs.was g.F.Fs.faults g.F.Watch.refused in
     let s = c.run_by.new.system in
     let begun = c.in-Ok.ensures in
     let run = c.run_by.ensures in
@@ -33,6 +33,8 @@ returns-in-Ok-clause-ran g c =
       ended = run.ended;
       headline = run.headline;
       replied = run.replied;
+      caused = run.driven.preserves.caused (g.F.Fs.faults c.args.opened.fs) begun.caused;
+      ends = c.certify.ensures.ends;
       stands = λ v told. (let there = ap g.F.Fs.view begun.parts.0 ∙ told in
           stands_after f program c.in-Ok.system s (g.F.Fs.faults c.args.opened.fs) v v there run.driven.preserves (begun.stands v there));
     }

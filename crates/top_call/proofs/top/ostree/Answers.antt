@@ -15,6 +15,9 @@ returns-clause-script g c = λ all lanes e told script. script_printed e _ _ c.p
 pub returns-clause-ran : goal.returns-clause-ran
 returns-clause-ran g c = λ v told printed. c.run-fs.ensures.ran v told (no_fault _ c.run-fs.result.fault c.run-fs.result.history.items c.run-fs.result.pending c.run-fs.result.replies.items c.print-fault.ensures.fault c.run-fs.ensures.unused printed)
 
+pub returns-clause-answered : goal.returns-clause-answered
+returns-clause-answered g c = λ printed. c.run-fs.ensures.answered (no_fault _ c.run-fs.result.fault c.run-fs.result.history.items c.run-fs.result.pending c.run-fs.result.replies.items c.print-fault.ensures.fault c.run-fs.ensures.unused printed)
+
 pub returns-clause-undone : goal.returns-clause-undone
 returns-clause-undone g c = λ v told.
     unused_printed _ _ c.run-fs.result.fault c.run-fs.result.replies.items (some_fault _ c.run-fs.result.fault (c.run-fs.ensures.undone v told)) (λ none empty. c.print-fault.ensures.silent none (c.deref.ensures.value ∙ empty))
@@ -23,5 +26,5 @@ pub returns-clause-complete : goal.returns-clause-complete
 returns-clause-complete g c = λ v told asked good unfailed unrisen taken.
     let run = c.run-fs.ensures in
     let unfaulted = no_fault_but_memory _ _ v.now _ _ _ _ asked good unfailed unrisen c.run-fs.result.fault (λ is. usage_early _ _ _ _ _ _ run.early is) (refused_of _ _ _ run.early) run.script run.disk (run.stop v told) in
-    complete c.print-fault.result _ _ _ _ _ _ _ _ (memory_printed _ _ c.print-fault.ensures.fault unfaulted) (run.caused v told)
+    complete c.print-fault.result _ _ _ _ _ _ _ _ (memory_printed _ _ c.print-fault.ensures.fault unfaulted) run.caused
     run.later unfailed unrisen taken (search rules)

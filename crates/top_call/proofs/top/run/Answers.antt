@@ -1,6 +1,6 @@
 use Rattle.std.proofs.Common.{sym, ◌∙◌, ap, map}
 use Rattle.top_call.proofs.Completing.{caused_parts, caused_unused}
-use Rattle.top_call.proofs.Rans.{by_words, stop_at}
+use Rattle.top_call.proofs.Rans.{answered_by_words, by_words, stop_at}
 use Rattle.top_call.proofs.Outcomes.{no_line, no_script, same_fault, told_usage, works_same}
 use Rattle.top_call.proofs.top.run.Goals as goal
 
@@ -17,6 +17,13 @@ returns-in-Ok-run_asked-clause-ran g c = λ v told fault.
     (record { objects = c.standard.ensures.objects; paths = c.standard.ensures.paths; content = c.standard.ensures.content })
     c.in-Ok.ensures.lanes o.fs o.history o.pending (ap (map (λ replies. replies.items)) o.replies) (c.in-Ok-run_asked.ensures.ran v told)
 
+pub returns-in-Ok-run_asked-clause-answered : goal.returns-in-Ok-run_asked-clause-answered
+returns-in-Ok-run_asked-clause-answered g c = λ fault.
+    let o = c.outcome_of.ensures in
+    answered_by_words _ _ c.standard.result g.F.Fs.view g.F.Fs.faults g.F.Watch.refused _ c.in-Ok-run_asked.parts.fs c.outcome_of.result.fs _ _ _ _ _ _
+    (record { objects = c.standard.ensures.objects; paths = c.standard.ensures.paths; content = c.standard.ensures.content })
+    c.in-Ok.ensures.lanes o.fs o.history o.pending (ap (map (λ replies. replies.items)) o.replies) c.in-Ok-run_asked.ensures.answered
+
 pub returns-in-Err-clause-script : goal.returns-in-Err-clause-script
 returns-in-Err-clause-script g c = λ all lanes e told script is.
     no_script _ _ _ _ c.in-Err.fault e c.in-Err.ensures.fault (c.in-Err.ensures.exact all lanes told script) (same_fault _ _ (sym c.stopped-in-Err.ensures.fault ∙ is))
@@ -26,15 +33,15 @@ returns-in-Err-run_asked-clause-stop g c = λ v told.
     stop_at c.stopped.result.fault c.in-Err-run_asked.fault c.standard.result v.now c.stopped.ensures.fault (record { objects = c.standard.ensures.objects; paths = c.standard.ensures.paths; content = c.standard.ensures.content }) (c.in-Err-run_asked.ensures.told v told)
 
 pub returns-in-Ok-run_asked-clause-caused : goal.returns-in-Ok-run_asked-clause-caused
-returns-in-Ok-run_asked-clause-caused g c = λ v told.
+returns-in-Ok-run_asked-clause-caused g c =
     let o = c.outcome_of.ensures in
-    caused_parts g.F.Fs.faults (g.F.Fs.faults c.args.fs) c.in-Ok-run_asked.parts.fs c.outcome_of.result.fs _ _ o.fs (ap (map (λ replies. replies.items)) o.replies) (c.in-Ok-run_asked.ensures.caused v told)
+    caused_parts g.F.Fs.faults (g.F.Fs.faults c.args.fs) c.in-Ok-run_asked.parts.fs c.outcome_of.result.fs _ _ o.fs (ap (map (λ replies. replies.items)) o.replies) c.in-Ok-run_asked.ensures.caused
 
 pub returns-in-Err-run_asked-clause-caused : goal.returns-in-Err-run_asked-clause-caused
-returns-in-Err-run_asked-clause-caused g c = λ v told. caused_unused _ _ _ c.stopped.ensures.unused.replies_are
+returns-in-Err-run_asked-clause-caused g c = caused_unused _ _ _ c.stopped.ensures.unused.replies_are
 
 pub returns-in-Err-clause-caused : goal.returns-in-Err-clause-caused
-returns-in-Err-clause-caused g c = λ v told. caused_unused _ _ _ c.stopped-in-Err.ensures.unused.replies_are
+returns-in-Err-clause-caused g c = caused_unused _ _ _ c.stopped-in-Err.ensures.unused.replies_are
 
 pub returns-in-Err-clause-words : goal.returns-in-Err-clause-words
 returns-in-Err-clause-words g c = λ none. told_usage _ _ _ _ c.in-Err.fault c.stopped-in-Err.result.fault c.stopped-in-Err.ensures.fault c.in-Err.ensures.fault none

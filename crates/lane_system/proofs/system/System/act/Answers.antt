@@ -14,7 +14,7 @@ use Rattle.lane_system.proofs.system.System.act.Given as given
 use Rattle.lane_system.proofs.system.System.act.Goals as goal
 
 abbrev files_of : (g : given.Over) → FsSpec g.row.F.Denot
-files_of g = fs_spec g.F.Fs.view g.F.Fs.clock g.F.Fs.spare g.F.Fs.was g.F.Fs.faults
+files_of g = fs_spec g.F.Fs.view g.F.Fs.clock g.F.Fs.spare g.F.Fs.was g.F.Fs.faults g.F.Watch.refused
 
 abbrev family_of : (g : given.Over) → Family g.row.C.Denot g.row.C-Words.Denot g.row.C-Answer.Denot
 family_of g = family (task_spec g.C.CommandTask.kind_of g.C.CommandTask.writes_of g.C.CommandTask.stepped g.C.CommandTask.leaves g.C.CommandTask.refuses g.C.CommandTask.facts) g.C.Command.means g.C.Command.doing
@@ -160,7 +160,7 @@ invariant_of-self-in-Answered g c =
     let room : vec_capacity c.index_mut-lane.result.now.replies ≤ vec_capacity c.push_reserved.new.self = omega (arith, c.push_reserved.ensures.capacity, ap vec_capacity x.replies) in
     let long : c.len-in-Answered.result ≡ length n.base.books.history.items = omega (arith, c.len-in-Answered.ensures, n.base.books.history.ok.0) in
     let place = c.number_of-in-Answered.ensures ∙ long in
-    kept_answered (files_of g) (family_of g) (files_laws g) (family_laws g) i.limits c.args.actor i.refs n.refs i.objects n.objects i.base n.base i.lanes.items i.given c.index_mut-lane.result.now n.run c.self.invariant at c.in-Answered.answer c.in-Answered.start x l r x.same x.did.0 grows room refl c.number_of.ensures place refl
+    kept_answered (files_of g) (family_of g) (files_laws g) (family_laws g) i.limits c.args.actor i.refs n.refs i.objects n.objects i.base n.base i.lanes.items i.given c.index_mut-lane.result.now n.run c.self.invariant at c.in-Answered.answer c.in-Answered.start x l r x.same x.did.0 grows room refl c.number_of.ensures place refl refl
 
 pub returns-in-Answered : goal.returns-in-Answered
 returns-in-Answered g c =
@@ -177,5 +177,5 @@ returns-in-Answered g c =
     let long : c.len-in-Answered.result ≡ length n.base.books.history.items = omega (arith, c.len-in-Answered.ensures, n.base.books.history.ok.0) in
     let place = c.number_of-in-Answered.ensures ∙ long in
     let number : c.number_of-in-Answered-2.result ≡ length c.index_mut-lane.result.now.replies.items = omega (arith, c.number_of-in-Answered-2.ensures, c.len-command.ensures, c.index_mut-lane.result.now.replies.ok.0) in
-    let z = is_done (files_of g) (family_of g) (files_laws g) (family_laws g) c.args.self.now i.limits c.args.actor i.refs n.refs i.objects n.objects i.base n.base i.lanes.items i.given c.index_mut-lane.result.now n.run is c.self.invariant at c.in-Answered.answer c.in-Answered.start x l r x.same x.did.0 grows room refl c.number_of.ensures place refl c.number_of-in-Answered-2.result number in
+    let z = is_done (files_of g) (family_of g) (files_laws g) (family_laws g) c.args.self.now i.limits c.args.actor i.refs n.refs i.objects n.objects i.base n.base i.lanes.items i.given c.index_mut-lane.result.now n.run is c.self.invariant at c.in-Answered.answer c.in-Answered.start x l r x.same x.did.0 grows room refl c.number_of.ensures place refl refl c.number_of-in-Answered-2.result number in
     record { acted = z.acted; objects = z.objects; preserves = z.preserves; ranks = z.ranks; held = z.held; waits = z.waits }

@@ -9,13 +9,13 @@ use Rattle.command.specs.Tasks.{task_spec}
 use Rattle.lane_system.specs.Family.{Family, FsSpec, family, fs_spec}
 use Rattle.lane_system.specs.Kept.{AreHomes, AreIdle}
 use Rattle.lane_system.specs.States.{now_of}
-use Rattle.lane_system.proofs.Beginning.{homes_of, kept_first, stands_first}
+use Rattle.lane_system.proofs.Beginning.{caused_first, homes_of, kept_first, stands_first}
 use Rattle.lane_system.proofs.system.System.begun.Given as given
 use Rattle.lane_system.proofs.StoredFirst.{stored_first}
 use Rattle.lane_system.proofs.system.System.begun.Goals as goal
 
 abbrev files_of : (g : given.Over) → FsSpec g.row.F.Denot
-files_of g = fs_spec g.F.Fs.view g.F.Fs.clock g.F.Fs.spare g.F.Fs.was g.F.Fs.faults
+files_of g = fs_spec g.F.Fs.view g.F.Fs.clock g.F.Fs.spare g.F.Fs.was g.F.Fs.faults g.F.Watch.refused
 
 abbrev family_of : (g : given.Over) → Family g.row.C.Denot g.row.C-Words.Denot g.row.C-Answer.Denot
 family_of g = family (task_spec g.C.CommandTask.kind_of g.C.CommandTask.writes_of g.C.CommandTask.stepped g.C.CommandTask.leaves g.C.CommandTask.refuses g.C.CommandTask.facts) g.C.Command.means g.C.Command.doing
@@ -40,7 +40,7 @@ invariant_of-result g c =
     let tracks : Tracks c.args.refs (now_of base.books) = subst (λ (s : State). Tracks c.args.refs s) (sym (no_events ∙ start)) c.requires.refs in
     let idle = subst (λ (l : Limits). AreIdle g.C.Command.means l c.args.lanes.items) (sym opened.limits) c.requires.idle in
     let homes = subst (λ x. AreHomes (g.F.Fs.view x)) (sym e.fs) (homes_of g.F.Fs.view g.F.Fs.clock g.F.Fs.was parts.fs parts.clock parts.refs.items opened.opened) in
-    kept_first (files_of g) (family_of g) parts.limits base c.args.refs c.args.lanes.items e.history e.pending idle e.sound tracks c.requires.few homes e.free e.pins
+    kept_first (files_of g) (family_of g) parts.limits base c.args.refs c.args.lanes.items e.history e.pending idle e.sound tracks c.requires.few homes e.free e.pins e.live
 
 pub returns : goal.returns
 returns g c =
@@ -54,6 +54,7 @@ returns g c =
     record {
       parts = (e.fs ∙ opened.fs, ap (λ s. s.items) e.start ∙ opened.refs, e.opened ∙ opened.clock, refl);
       bounds = (opened.limits, c.count_of.ensures ∙ ap (λ n. min n 4294967295) (size ∙ ap length opened.objects));
+      caused = caused_first (files_of g) (family_of g) parts.limits base c.args.refs c.args.lanes.items e.history e.pending idle (g.F.Fs.faults c.args.opened.fs) now e.live;
       stands = λ v told.
           let there = subst (λ x. g.F.Fs.view x ≡ Some v) e.fs told in
           let good = subst (λ x. opening.KeepsGood g.F.Fs.view g.F.Fs.was x base.books.opened parts.limits parts.refs.items) (sym e.fs) (subst (λ (n : ℕ). opening.KeepsGood g.F.Fs.view g.F.Fs.was parts.fs n parts.limits parts.refs.items) (sym e.opened) opened.good) in

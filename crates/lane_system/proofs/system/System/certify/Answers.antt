@@ -1,7 +1,6 @@
-use Rattle.std.proofs.Common.{◌≡◌, subst, sym, Some, true, ℕ}
+use Rattle.std.proofs.Common.{◌≡◌, subst, sym, Some, ℕ}
 use Rattle.fs_trait.specs.View.{View}
 use Rattle.rely_guarantee.specs.Headline.{Headline}
-use Rattle.command.specs.declared.ended.Ended.TheVariants as ended
 use Rattle.command.specs.Tasks.{task_spec}
 use Rattle.lane_system.specs.declared.lane.Reply.{Reply}
 use Rattle.lane_system.specs.Booked.{IsReplied}
@@ -9,15 +8,15 @@ use Rattle.lane_system.specs.Family.{Family, FsSpec, family, fs_spec}
 use Rattle.lane_system.specs.Held.{Held}
 use Rattle.lane_system.specs.Lanes.{IsTo}
 use Rattle.lane_system.specs.Ranks.{AreWithin}
-use Rattle.lane_system.specs.Replies.{IsHalted}
+use Rattle.lane_system.specs.Replies.{EndsBy}
 use Rattle.lane_system.specs.System.{System}
-use Rattle.lane_system.proofs.Replying.{halted_of, held_of, replied_of, within_of}
+use Rattle.lane_system.proofs.Replying.{ends_of, held_of, replied_of, within_of}
 use Rattle.lane_system.proofs.Family.{FamilyLaws, laws_of}
 use Rattle.lane_system.proofs.system.System.certify.Given as given
 use Rattle.lane_system.proofs.system.System.certify.Goals as goal
 
 abbrev files_of : (g : given.Over) → FsSpec g.row.F.Denot
-files_of g = fs_spec g.F.Fs.view g.F.Fs.clock g.F.Fs.spare g.F.Fs.was g.F.Fs.faults
+files_of g = fs_spec g.F.Fs.view g.F.Fs.clock g.F.Fs.spare g.F.Fs.was g.F.Fs.faults g.F.Watch.refused
 
 abbrev family_of : (g : given.Over) → Family g.row.C.Denot g.row.C-Words.Denot g.row.C-Answer.Denot
 family_of g = family (task_spec g.C.CommandTask.kind_of g.C.CommandTask.writes_of g.C.CommandTask.stepped g.C.CommandTask.leaves g.C.CommandTask.refuses g.C.CommandTask.facts) g.C.Command.means g.C.Command.doing
@@ -37,6 +36,6 @@ returns g c =
       replied = subst (λ (s : System _ _ _ _). IsReplied g.F.Fs.view g.C.Command.means s) (sym is) (replied_of (files_of g) (family_of g) i.limits i.base i.refs i.lanes.items i.given i.objects c.self.invariant);
       within = subst (λ (s : System _ _ _ _). AreWithin s) (sym is) (within_of (files_of g) (family_of g) i.limits i.base i.refs i.lanes.items i.given i.objects c.self.invariant);
       held = subst (λ (s : System _ _ _ _). Held g.F.Fs.view (family_of g) s) (sym is) (held_of (files_of g) (family_of g) i.limits i.base i.refs i.lanes.items i.given i.objects c.self.invariant (family_laws g));
-      halted = subst (λ (s : System _ _ _ _). (lane number : ℕ) (r : Reply _) → IsTo s.lanes lane number r → IsHalted r.answer → (s.base.books.halted ≡ true) × (r.answer ≡ ended.Halted (g.F.Fs.faults s.base.fs))) (sym is)
-          (halted_of (files_of g) (family_of g) i.limits i.base i.refs i.lanes.items i.given i.objects c.self.invariant);
+      ends = subst (λ (s : System _ _ _ _). (lane number : ℕ) (r : Reply _) → IsTo s.lanes lane number r → EndsBy s.base.books.halted (g.F.Watch.refused s.base.fs) (g.F.Fs.faults s.base.fs) r.answer) (sym is)
+          (ends_of (files_of g) (family_of g) i.limits i.base i.refs i.lanes.items i.given i.objects c.self.invariant);
     }

@@ -13,4 +13,4 @@ pub begun-requires-clause-refs : goal.begun-requires-clause-refs
 begun-requires-clause-refs g c = subst (λ (rows : List (List ℕ × List ℕ)). Tracks c.in-Ok.refs (first rows)) c.refs.ensures.refs c.in-Ok.ensures
 
 pub returns-in-Ok : goal.returns-in-Ok
-returns-in-Ok g c = let e = c.begun.ensures in record { parts = e.parts; bounds = e.bounds; stands = e.stands; back = tt }
+returns-in-Ok g c = let e = c.begun.ensures in record { parts = e.parts; bounds = e.bounds; caused = e.caused; stands = e.stands; back = tt }
