@@ -5,4 +5,3 @@ mod Reading
 mod MakeKinds
 pub mod Ends
 pub mod Writing
-pub mod Claimed

@@ -3,7 +3,7 @@ use Rattle.std.proofs.Common.{refl, subst, sym, ◌∙◌, arith}
 use Rattle.rely_guarantee.specs.Laws.{IsSettle}
 use Rattle.checkout_command.specs.Commands.{checkout_facts, checkout_kind, checkout_leaves, checkout_refuses, checkout_stepped, checkout_writes}
 use Rattle.checkout_command.proofs.Ends.{begins_of, made_claim, made_more}
-use Rattle.checkout_command.proofs.Claimed.{made_by_claim, not_begun}
+use Rattle.checkout_family.specs.Claimed.{made_by_claim, not_begun}
 use Rattle.checkout_command.proofs.Writing.{makes_folder, no_objects, own_of}
 use Rattle.command.specs.AnswerLaws.{AnswerLaws}
 use Rattle.command.specs.ChangeLaws.{ChangeLaws}

@@ -11,7 +11,7 @@ use Rattle.checkout_command.specs.declared.answer.CheckoutAnswer.TheVariants as 
 use Rattle.checkout_command.specs.declared.command.CheckoutCommand.{CheckoutCommand}
 use Rattle.checkout_command.specs.Asked.{HasName}
 use Rattle.checkout_command.specs.Commands.{HasMade, answer_of, checkout_leaves}
-use Rattle.checkout_command.proofs.Claimed.{done_made}
+use Rattle.checkout_family.specs.Claimed.{done_made}
 use Rattle.command.specs.Doing.{IsAnswer}
 use Rattle.command.specs.Since.{Since}
 use Rattle.checkout_family.specs.declared.reply.CheckoutReply.{CheckoutReply}
