@@ -23,8 +23,8 @@ use Rattle.lane_system.specs.declared.lane.Reply.{Reply}
 use Rattle.lane_system.specs.declared.lane.Running.{Running}
 use Rattle.lane_system.specs.Family.{Family, FsSpec}
 use Rattle.lane_system.specs.Folders.{AreClear, HasItself}
-use Rattle.lane_system.specs.LaneActs.{IsAtOnce, IsTaskOf, Takes, task_start, told_by}
-use Rattle.lane_system.specs.Lanes.{IsAt, IsNext, IsRunning, IsTo}
+use Rattle.lane_system.specs.LaneActs.{IsAtOnce, IsTaskOf, Takes, task_start}
+use Rattle.lane_system.specs.Lanes.{IsAt, IsCommand, IsNext}
 use Rattle.lane_system.specs.Replies.{OfAnswer}
 use Rattle.lane_system.specs.States.{since_in}
 use Rattle.lane_system.specs.Steps.{IsEndedAs, Stepped}
