@@ -1,5 +1,5 @@
 -- A folder is made by the step that claims it, and is answered to be made by who has made it.
-use Rattle.std.proofs.Common.{◌≡◌, ◌≢◌, ◌⊎◌, inl, inr, refl, sym, ◌∙◌, ap, subst, Some}
+use Rattle.std.proofs.Common.{◌≡◌, ◌⊎◌, inl, inr, refl, sym, ◌∙◌, ap, subst, Some}
 use Rattle.ost_types.specs.Path.{Name}
 use Rattle.fs_trait.specs.declared.task.StepResult.TheVariants as turn
 use Rattle.fs_trait.specs.View.{View}
@@ -10,9 +10,9 @@ use Rattle.checkout_command.specs.declared.command.CheckoutCommand.TheVariants a
 use Rattle.checkout_command.specs.declared.made.Made.{Made}
 use Rattle.checkout_command.specs.declared.made.Made.TheVariants as made
 use Rattle.checkout_command.specs.declared.make.Make.{Make}
-use Rattle.checkout_command.specs.Asked.{Asked, HasName, asked}
+use Rattle.checkout_command.specs.Asked.{HasName, asked}
 use Rattle.checkout_command.specs.Commands.{HasMade, IsNew, Tells, answer_of, checkout_kind, checkout_leaves}
-use Rattle.checkout_command.specs.MakeSteps.{MakeSays, make_kind}
+use Rattle.checkout_command.specs.MakeSteps.{make_kind}
 
 -- a command at its beginning has made none
 pub not_begun : (t : CheckoutCommand) (name : Name) → IsNew t → HasMade t name → ⊥

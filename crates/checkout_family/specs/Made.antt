@@ -1,5 +1,5 @@
 -- That a folder was made is answered by who has made it, and never by the books alone.
-use Rattle.std.proofs.Common.{◌≡◌, ◌∙◌, ℕ, List, [], Option, Some, None, sym, subst}
+use Rattle.std.proofs.Common.{◌≡◌, ℕ, List, [], Some, None, sym, subst}
 use Rattle.ost_types.specs.declared.object.Kind.TheVariants.{Commit}
 use Rattle.ost_types.specs.Path.{Name}
 use Rattle.fs_trait.specs.declared.task.StepResult.TheVariants as turn
