@@ -69,13 +69,13 @@ refused_named before now outcome cause e is = by e (subst (Causes before now) is
     by err.NotEmpty none = none
 
 -- and one that doesn't want for memory, for a failed call
-pub refused_failed : {A : Type 0} (e : FsErr) → OfNone e → (e ≡ err.NoMemory → ⊥) → IsRefusal {A = A} e ended.DiskFault
-refused_failed err.Failed none memory = refl
-refused_failed err.NoMemory none memory = absurd (memory refl)
-refused_failed err.Exists none memory = none
-refused_failed err.Missing none memory = none
-refused_failed err.NotFolder none memory = none
-refused_failed err.NotEmpty none memory = none
+pub refused_failed : (A : Type 0) (e : FsErr) → OfNone e → (e ≡ err.NoMemory → ⊥) → IsRefusal {A = A} e ended.DiskFault
+refused_failed A err.Failed none memory = refl
+refused_failed A err.NoMemory none memory = absurd (memory refl)
+refused_failed A err.Exists none memory = none
+refused_failed A err.Missing none memory = none
+refused_failed A err.NotFolder none memory = none
+refused_failed A err.NotEmpty none memory = none
 
 -- what a command answers where no command goes on is answered at once
 pub short_at_once : {F T W A : Type 0} (f : FsSpec F) (m : Meaning W A) (limits : Limits) (old : Base F) (words : W) (task : Option (Running T)) (why : Halt) → old.books.halted ≡ Some why → (x : Ended A) → IsCutShort why (f.refused old.fs) (f.faults old.fs) x → IsAtOnce f m limits old words task x

@@ -9,6 +9,7 @@ use Rattle.rely_guarantee.specs.declared.event.Event.{Event}
 use Rattle.script.specs.declared.answer.Reply.{Reply}
 use Rattle.script.specs.declared.fault.ScriptFault.{ScriptFault}
 use Rattle.script_reader.specs.Script.{Commands}
+use Rattle.sys_open.specs.declared.fault.OpenFault.{OpenFault}
 use Rattle.top_call.specs.declared.fault.TopFault.{TopFault}
 use Rattle.top_call.specs.declared.fault.TopFault.TheVariants.{Usage, Script, Input, Open, NoMemory}
 use Rattle.top_call.specs.Top.{IsUnused}
@@ -88,3 +89,11 @@ pub works_same : {F : Type 0} (view : F → Option View) (clock : F → ℕ) (wa
 works_same view clock was f g v same told None = tt
 works_same view clock was f g v same told (Some fault) = subst (λ h. Works (Changes v.now) v (clock f) (clock h) (was f) (was h) (view h)) (sym same)
     (record { later = omega arith; left = (v, told, same_view (Changes v.now) v); nothing_else = λ t w is. inl is; keeps = λ t w le past. past })
+
+-- a fault of the opening is none of the words or of the input
+pub open_refused : (left : Option (List ℕ)) (words : List (List ℕ)) (before now : ℕ) (told : TopFault) (f : OpenFault) → told ≡ Open f → IsRefused left words before now told → ⊥
+open_refused left words before now told f is refused = subst (IsRefused left words before now) is refused
+
+pub open_printed : (f : OpenFault) (printed fault : Option TopFault) → (printed ≡ fault) ⊎ (printed ≡ Some NoMemory) → printed ≡ Some (Open f) → fault ≡ Some (Open f)
+open_printed f printed fault (inl same) is = sym same ∙ is
+open_printed f printed fault (inr memory) is = let n : Some NoMemory ≡ Some (Open f) = sym memory ∙ is in cc

@@ -4,13 +4,14 @@ ghost use Rattle.fs_trait.specs.View.{View, all_synced};
 ghost use Rattle.fs_trait.specs.Image.{Told};
 ghost use Rattle.fs_trait.specs.Count.{Rose};
 ghost use Rattle.sys_open.specs.Changes.{Changes, Works};
+ghost use Rattle.sys_open.specs.declared.fault.OpenFault.{OpenFault};
 ghost use Rattle.sys_open.specs.declared.fault.OpenFault.TheVariants as opening;
 ghost use Rattle.script_reader.specs.Script.{Commands, IsScript};
 ghost use Rattle.script.specs.declared.fault.ScriptFault.{ScriptFault};
 ghost use Rattle.top_call.specs.Answered.{AnsweredBy};
 ghost use Rattle.top_call.specs.Complete.{AreCausedBy, IsAsked, IsComplete, IsGoodHere};
 ghost use Rattle.top_call.specs.Input.{TookFront};
-ghost use Rattle.top_call.specs.Words.{AreNoLine, IsEarly, IsRefused, Runs};
+ghost use Rattle.top_call.specs.Words.{AreNoLine, IsEarly, IsLine, IsRefused, Runs};
 ghost use Rattle.top_call.specs.Status.{has_risen, status_of};
 ghost use Rattle.top_call.specs.Text.{output_of};
 ghost use Rattle.top_call.specs.Top.{IsStopped, IsUnused, Prints, RanBy, StaysOn, event_of};
@@ -113,6 +114,7 @@ fn run<F: Watch, S: Source>(alloc: Global, words: &[String], fs: F, input: &mut 
     ensures words { AreNoLine (map (λ word. string_bytes word) words.now) → (result.fault ≡ Some TopFault.Usage) ⊎ (result.fault ≡ Some TopFault.NoMemory) }
     ensures script { (all : List ℕ) (lanes : List Commands) (e : ScriptFault) → S.left input.old ≡ Some all → IsScript all lanes → result.fault ≢ Some (TopFault.Script e) }
     ensures unused { result.fault ≢ None → IsUnused result.history.items result.pending (map (λ lane. lane.items) result.replies.items) }
+    ensures asked { (f : OpenFault) → result.fault ≡ Some (TopFault.Open f) → (lanes : List Commands) × IsLine (S.left input.old) (map (λ word. string_bytes word) words.now) lanes }
     ensures disk { result.fault ≡ Some (TopFault.Open opening.Disk) → Rose (F.faults fs) (F.faults result.fs) }
     ensures stop { (v : View) → F.view fs ≡ Some v → IfSome result.fault (IsStopped v.now) }
     ensures still { (v : View) → F.view fs ≡ Some v → IfSome result.fault (λ f. StaysOn f (F.view result.fs ≡ Some (all_synced v))) }
@@ -189,6 +191,7 @@ pub fn ostree<F: Watch, S: Source, K: Sink>(
     ensures words { AreNoLine (map (λ word. string_bytes word) words.now) → (result.fault ≡ Some TopFault.Usage) ⊎ (result.fault ≡ Some TopFault.NoMemory) }
     ensures early { IfSome result.fault (λ f. IsEarly f → (result.fs ≡ fs) × IsRefused (S.left input.old) (map (λ word. string_bytes word) words.now) (S.faults input.old) (S.faults input.new) f) }
     ensures script { (all : List ℕ) (lanes : List Commands) (e : ScriptFault) → S.left input.old ≡ Some all → IsScript all lanes → result.fault ≢ Some (TopFault.Script e) }
+    ensures asked { (f : OpenFault) → result.fault ≡ Some (TopFault.Open f) → (lanes : List Commands) × IsLine (S.left input.old) (map (λ word. string_bytes word) words.now) lanes }
     ensures disk { result.fault ≡ Some (TopFault.Open opening.Disk) → Rose (F.faults fs) (F.faults result.fs) }
     ensures stop { (v : View) → F.view fs ≡ Some v → IfSome result.fault (IsStopped v.now) }
     ensures still { (v : View) → F.view fs ≡ Some v → IfSome result.fault (λ f. StaysOn f (F.view result.fs ≡ Some (all_synced v))) }

@@ -1,6 +1,6 @@
 use Rattle.std.proofs.Common.{◌∙◌, rules}
 use Rattle.top_call.proofs.Completing.{complete, memory_printed, no_fault_but_memory, refused_of}
-use Rattle.top_call.proofs.Outcomes.{early_printed, no_fault, script_printed, some_fault, unused_printed, usage_early, usage_printed}
+use Rattle.top_call.proofs.Outcomes.{early_printed, no_fault, open_printed, script_printed, some_fault, unused_printed, usage_early, usage_printed}
 use Rattle.top_call.proofs.top.ostree.Goals as goal
 
 pub returns-clause-usage : goal.returns-clause-usage
@@ -11,6 +11,9 @@ returns-clause-early g c = early_printed _ _ _ c.print-fault.ensures.fault c.run
 
 pub returns-clause-script : goal.returns-clause-script
 returns-clause-script g c = λ all lanes e told script. script_printed e _ _ c.print-fault.ensures.fault (c.run-fs.ensures.script all lanes e told script)
+
+pub returns-clause-asked : goal.returns-clause-asked
+returns-clause-asked g c = λ f is. c.run-fs.ensures.asked f (open_printed f _ _ c.print-fault.ensures.fault is)
 
 pub returns-clause-ran : goal.returns-clause-ran
 returns-clause-ran g c = λ v told printed. c.run-fs.ensures.ran v told (no_fault _ c.run-fs.result.fault c.run-fs.result.history.items c.run-fs.result.pending c.run-fs.result.replies.items c.print-fault.ensures.fault c.run-fs.ensures.unused printed)

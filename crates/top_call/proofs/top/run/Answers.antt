@@ -1,7 +1,8 @@
-use Rattle.std.proofs.Common.{sym, ◌∙◌, ap, map}
+use Rattle.std.proofs.Common.{◌≡◌, sym, ◌∙◌, ap, map, Some, None}
+use Rattle.top_call.specs.declared.fault.TopFault.TheVariants as fault
 use Rattle.top_call.proofs.Completing.{caused_parts, caused_unused}
 use Rattle.top_call.proofs.Rans.{answered_by_words, by_words, stop_at}
-use Rattle.top_call.proofs.Outcomes.{no_line, no_script, same_fault, told_usage, works_same}
+use Rattle.top_call.proofs.Outcomes.{no_line, no_script, open_refused, same_fault, told_usage, works_same}
 use Rattle.top_call.proofs.top.run.Goals as goal
 
 pub returns-in-Ok-run_asked-clause-words : goal.returns-in-Ok-run_asked-clause-words
@@ -45,6 +46,15 @@ returns-in-Err-clause-caused g c = caused_unused _ _ _ c.stopped-in-Err.ensures.
 
 pub returns-in-Err-clause-words : goal.returns-in-Err-clause-words
 returns-in-Err-clause-words g c = λ none. told_usage _ _ _ _ c.in-Err.fault c.stopped-in-Err.result.fault c.stopped-in-Err.ensures.fault c.in-Err.ensures.fault none
+
+pub returns-in-Ok-run_asked-clause-asked : goal.returns-in-Ok-run_asked-clause-asked
+returns-in-Ok-run_asked-clause-asked g c = λ f is. absurd (let n : None ≡ Some (fault.Open f) = sym c.outcome_of.ensures.fault ∙ is in cc)
+
+pub returns-in-Err-run_asked-clause-asked : goal.returns-in-Err-run_asked-clause-asked
+returns-in-Err-run_asked-clause-asked g c = λ f is. (_, c.in-Ok.ensures.lanes)
+
+pub returns-in-Err-clause-asked : goal.returns-in-Err-clause-asked
+returns-in-Err-clause-asked g c = λ f is. absurd (open_refused _ _ _ _ c.in-Err.fault f (same_fault _ _ (sym c.stopped-in-Err.ensures.fault ∙ is)) c.in-Err.ensures.fault)
 
 pub returns-in-Err-clause-undone : goal.returns-in-Err-clause-undone
 returns-in-Err-clause-undone g c = λ v told. works_same g.F.Fs.view g.F.Fs.clock g.F.Fs.was c.args.fs c.stopped-in-Err.result.fs v c.stopped-in-Err.ensures.fs told c.stopped-in-Err.result.fault
