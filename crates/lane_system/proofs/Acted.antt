@@ -40,7 +40,7 @@ use Rattle.lane_system.specs.Staying.{AreStaying}
 use Rattle.lane_system.specs.Storing.{AreStored, IsConfigured, WasBrought}
 use Rattle.lane_system.specs.System.{System}
 use Rattle.lane_system.proofs.Acting.{given_acts, given_within, gives, more_acts, start_within, within}
-use Rattle.lane_system.proofs.Clearing.{clear_on, made_ended, made_going, made_more, made_over, none_made, stands_on}
+use Rattle.lane_system.proofs.Clearing.{IsMadeNow, clear_on, made_ended, made_going, made_more, made_over, none_made, stands_on}
 use Rattle.lane_system.proofs.Changing.{command_was, one_command, running_here, to_new, to_same, to_split, to_stays, to_was}
 use Rattle.lane_system.proofs.Endings.{more_history}
 use Rattle.lane_system.proofs.Family.{FamilyLaws, FsLaws}
@@ -94,7 +94,7 @@ module _ {F T W A : Type 0} (f : FsSpec F) (c : Family T W A) (fl : FsLaws f) (c
     w = (acts.does v told_v).0
 
     -- it has made a folder only where it had, or makes it here
-    going : (name : Name) (r : Running T) → l'.task ≡ Some r → c.doing.made r.work name → ((shows v.now (checkout_path name) ≡ Vacant) × (shows w.now (checkout_path name) ≢ Vacant)) ⊎ ((q : Running T) × (l.task ≡ Some q) × c.doing.made q.work name)
+    going : (name : Name) (r : Running T) → l'.task ≡ Some r → c.doing.made r.work name → IsMadeNow name v.now w.now ⊎ ((q : Running T) × (l.task ≡ Some q) × c.doing.made q.work name)
     going name r task made =
         let e : Some r ≡ Some (record { work = x.did.0; start = task_start old.books.history.items l.task }) = sym task ∙ x.did.1 in
         let one : r ≡ record { work = x.did.0; start = task_start old.books.history.items l.task } = cc in
@@ -127,7 +127,7 @@ module _ {F T W A : Type 0} (f : FsSpec F) (c : Family T W A) (fl : FsLaws f) (c
           taken = λ a n q words name to is found. taken_stays c.means c.doing lanes lane l l' at x.same opening name a n (was.taken a n q words name (to_was lanes lane l l' at x.same x.replies a n q to) (command_was lanes lane l l' at x.same a n words is) found);
           clear = clear_on c.means c.doing lanes (set lanes lane l') lane (length l.replies.items) opening v.now w.now
               (stands_on (books_of old.books) v w lane lane (acts.does v told_v).2.writes)
-              (λ name. made_going c.means c.doing lanes lane l l' at x.words x.next x.same name x.replies ((shows v.now (checkout_path name) ≡ Vacant) × (shows w.now (checkout_path name) ≢ Vacant)) (going name))
+              (λ name. made_going c.means c.doing lanes lane l l' at x.words x.next x.same name x.replies (IsMadeNow name v.now w.now) (going name))
               was.clear;
         },
       );

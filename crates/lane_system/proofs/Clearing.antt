@@ -47,10 +47,14 @@ stands_on b v w actor lane writes name there none = ⊎_elim
     (λ wrote. there (wrote.checkouts name (place-checkout name [])))
     (writes.now (checkout_path name))
 
+-- the folder is made where nothing stood
+abbrev pub IsMadeNow : Name → Disk → Disk → Type 0
+IsMadeNow name v w = (shows v (checkout_path name) ≡ Vacant) × (shows w (checkout_path name) ≢ Vacant)
+
 -- whoever has made a folder made it before, or is the one that makes it now
 module _ {T W A : Type 0} (m : Meaning W A) (d : Doing T W A) (before after : List (Lane T W A)) (lane number : ℕ) (opening v w : Disk)
     (keeps : (name : Name) → shows v (checkout_path name) ≢ Vacant → shows w (checkout_path name) ≢ Vacant)
-    (comes : (name : Name) (a n : ℕ) → HasItself m d after name a n → HasItself m d before name a n ⊎ ((a ≡ lane) × (n ≡ number) × (shows v (checkout_path name) ≡ Vacant) × (shows w (checkout_path name) ≢ Vacant)))
+    (comes : (name : Name) (a n : ℕ) → HasItself m d after name a n → HasItself m d before name a n ⊎ ((a ≡ lane) × (n ≡ number) × IsMadeNow name v w))
     (was : AreClear m d before opening v) where
   free_first : (name : Name) → shows v (checkout_path name) ≡ Vacant → shows opening (checkout_path name) ≡ Vacant
   free_first name none = ⊎_elim (λ free. free) (λ there. absurd (was.stood name there none)) (vacant_or (shows opening (checkout_path name)))
@@ -58,17 +62,17 @@ module _ {T W A : Type 0} (m : Meaning W A) (d : Doing T W A) (before after : Li
   free_on : (name : Name) (a n : ℕ) → HasItself m d after name a n → (shows opening (checkout_path name) ≡ Vacant) × (shows w (checkout_path name) ≢ Vacant)
   free_on name a n is = ⊎_elim
       (λ old. (let f = was.free name a n old in (f.0, keeps name f.1)))
-      (λ new. (free_first name new.2, new.3))
+      (λ new. (free_first name new.2.0, new.2.1))
       (comes name a n is)
 
   one_on : (name : Name) (a n b k : ℕ) → HasItself m d after name a n → HasItself m d after name b k → (b ≡ a) × (k ≡ n)
   one_on name a n b k is too = ⊎_elim
       (λ old. ⊎_elim
       (λ other. was.one name a n b k old other)
-      (λ new. absurd ((was.free name a n old).1 new.2))
+      (λ new. absurd ((was.free name a n old).1 new.2.0))
       (comes name b k too))
       (λ new. ⊎_elim
-      (λ other. absurd ((was.free name b k other).1 new.2))
+      (λ other. absurd ((was.free name b k other).1 new.2.0))
       (λ both. (both.0 ∙ sym new.0, both.1 ∙ sym new.1))
       (comes name b k too))
       (comes name a n is)
@@ -84,7 +88,7 @@ task_made c cl lane (Some r) work name is made = (r, refl, subst (λ u. c.doing.
 module _ {F T W A : Type 0} (f : FsSpec F) (c : Family T W A) (fl : FsLaws f) (cl : FamilyLaws c) (limits : Limits) (lane number : ℕ) (refs refs' : RefBook) (objects : ℕ) (old new : Base F) (words : W) (task : Option (Running T)) (v w : View) (told_v : f.view old.fs ≡ Some v) (told_w : f.view new.fs ≡ Some w) (name : Name) where
   -- a step that goes on makes a folder where nothing stood
   pub made_more : (t' : T) → Takes f c limits lane lane number refs refs' objects old new words task came.More t' → c.doing.made t' name
-      → ((shows v.now (checkout_path name) ≡ Vacant) × (shows w.now (checkout_path name) ≢ Vacant)) ⊎ ((r : Running T) × (task ≡ Some r) × c.doing.made r.work name)
+      → IsMadeNow name v.now w.now ⊎ ((r : Running T) × (task ≡ Some r) × c.doing.made r.work name)
   made_more t' x made =
       let t = told f c fl cl limits lane lane number refs refs' objects old new words task came.More t' x in
       let k = x.step.tells v told_v in
