@@ -49,6 +49,11 @@ abbrev pub checkout_finds : CheckoutReply → CheckoutWords → Name → Type 0
 checkout_finds (Tried (answer.DestExists path)) c name = c.name ≡ name
 checkout_finds a c name = ⊥
 
+-- the folder was made
+abbrev pub checkout_makes : CheckoutReply → CheckoutWords → Name → Type 0
+checkout_makes (Tried answer.Done) c name = c.name ≡ name
+checkout_makes a c name = ⊥
+
 abbrev pub checkout_lacks : CheckoutReply → List ℕ → Type 0
 checkout_lacks (Tried (answer.NoCommit sum)) commit = sum ≡ commit
 checkout_lacks (Tried (answer.Partial sum)) commit = sum ≡ commit
@@ -74,6 +79,7 @@ checkout_means = record {
   reaches = λ since c name. Unit {0};
   finds = checkout_finds;
   claims = λ c name. c.name ≡ name;
+  checks_out = checkout_makes;
   brings = λ since c name bytes. ⊥;
   lacks = checkout_lacks;
   outside = checkout_outside;

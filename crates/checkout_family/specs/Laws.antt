@@ -3,6 +3,7 @@ use Rattle.std.proofs.Common.{refl, subst, sym, ◌∙◌, arith}
 use Rattle.rely_guarantee.specs.Laws.{IsSettle}
 use Rattle.checkout_command.specs.Commands.{checkout_facts, checkout_kind, checkout_leaves, checkout_refuses, checkout_stepped, checkout_writes}
 use Rattle.checkout_command.proofs.Ends.{begins_of, made_claim, made_more}
+use Rattle.checkout_family.specs.Claimed.{made_by_claim, not_begun}
 use Rattle.checkout_command.proofs.Writing.{makes_folder, no_objects, own_of}
 use Rattle.command.specs.AnswerLaws.{AnswerLaws}
 use Rattle.command.specs.ChangeLaws.{ChangeLaws}
@@ -17,6 +18,7 @@ use Rattle.durable_store.proofs.Silent.{apart_keeps}
 use Rattle.checkout_family.specs.Apart.{writes_apart}
 use Rattle.checkout_family.specs.Answering.{ends_say, ends_show, found, has_answer, lacks_none, outside_none}
 use Rattle.checkout_family.specs.Family.{checkout_doing, checkout_means}
+use Rattle.checkout_family.specs.Made.{ends_made, late_none}
 use Rattle.checkout_family.specs.Kinds.{checkout_holds, checkouts_light, claims_own, no_settle, no_show, pins_commit}
 use Rattle.checkout_family.specs.Staying.{checkouts_stay, ends_leave}
 
@@ -41,6 +43,7 @@ hear_laws = record {
   pursues = λ told since c t is. is;
   left = λ told t. omega arith;
   made = λ told t name made. made;
+  unmade = λ told t name made. made;
   back = λ told t. refl;
 }
 
@@ -89,6 +92,10 @@ folder_laws = record {
   finds = λ since lane c t new v w b a name is f leaves given finds. found since lane c t.work new.work v w b name is f leaves a given finds;
   made = λ t new v w name leaves kind. made_claim t.work new.work v w name leaves kind;
   goes_on = λ t new v w name leaves made. made_more t.work new.work v w name leaves made;
+  begun = λ lane t name begins made. not_begun t.work name begins made;
+  by_claim = λ t new v w name leaves made. made_by_claim t.work new.work v w name leaves made;
+  ends = λ since lane c t new v w b a name is f leaves given made. ends_made since c t.work new.work v w is leaves a given name made;
+  late = late_none;
 }
 
 pub checkout_command_laws : CommandLaws checkout_tasks checkout_means checkout_doing

@@ -5,4 +5,6 @@ pub mod Apart
 pub mod Answering
 pub mod Kept
 pub mod Staying
+pub mod Claimed
+pub mod Made
 pub mod Laws

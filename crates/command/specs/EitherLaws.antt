@@ -54,6 +54,7 @@ module _ {S T W V A B : Type 0} {k : TaskSpec S} {l : TaskSpec T} {d : Doing S W
     pursues = λ told since. elim [ Left c ↦ elim [ Left t ↦ one.pursues told since c t | Right t ↦ λ after. absurd after ] | Right c ↦ elim [ Left t ↦ λ after. absurd after | Right t ↦ two.pursues told since c t ] ];
     left = λ told. elim [ Left t ↦ one.left told t | Right t ↦ two.left told t ];
     made = λ told. elim [ Left t ↦ one.made told t | Right t ↦ two.made told t ];
+    unmade = λ told. elim [ Left t ↦ one.unmade told t | Right t ↦ two.unmade told t ];
     back = λ told. elim [ Left t ↦ ap Left (one.back told t) | Right t ↦ ap Right (two.back told t) ];
   }
 
@@ -103,6 +104,10 @@ module _ {S T W V A B : Type 0} {k : TaskSpec S} {l : TaskSpec T} {m : Meaning W
     finds = λ since lane. elim [ Left c ↦ elim [ Left t ↦ elim [ Left new ↦ λ v w b. elim [ Left a ↦ λ name after f leaves is. one.finds since lane c t new v w b a name after f leaves (from_left (d.answer new) a is) | Right a ↦ λ name after f leaves is. absurd (not_right (d.answer new) a is) ] | Right new ↦ λ v w b a name after f leaves. absurd leaves ] | Right t ↦ λ new v w b a name after. absurd after ] | Right c ↦ elim [ Left t ↦ λ new v w b a name after. absurd after | Right t ↦ elim [ Left new ↦ λ v w b a name after f leaves. absurd leaves | Right new ↦ λ v w b. elim [ Left a ↦ λ name after f leaves is. absurd (not_left (e.answer new) a is) | Right a ↦ λ name after f leaves is. two.finds since lane c t new v w b a name after f leaves (from_right (e.answer new) a is) ] ] ] ];
     made = elim [ Left t ↦ elim [ Left new ↦ one.made t new | Right new ↦ λ v w name leaves is. absurd leaves ] | Right t ↦ elim [ Left new ↦ λ v w name leaves is. absurd leaves | Right new ↦ two.made t new ] ];
     goes_on = elim [ Left t ↦ elim [ Left new ↦ one.goes_on t new | Right new ↦ λ v w name leaves made. absurd leaves ] | Right t ↦ elim [ Left new ↦ λ v w name leaves made. absurd leaves | Right new ↦ two.goes_on t new ] ];
+    begun = λ lane. elim [ Left t ↦ one.begun lane t | Right t ↦ two.begun lane t ];
+    by_claim = elim [ Left t ↦ elim [ Left new ↦ one.by_claim t new | Right new ↦ λ v w name leaves made. absurd leaves ] | Right t ↦ elim [ Left new ↦ λ v w name leaves made. absurd leaves | Right new ↦ two.by_claim t new ] ];
+    ends = λ since lane. elim [ Left c ↦ elim [ Left t ↦ elim [ Left new ↦ λ v w b. elim [ Left a ↦ λ name after f leaves is. one.ends since lane c t new v w b a name after f leaves (from_left (d.answer new) a is) | Right a ↦ λ name after f leaves is. absurd (not_right (d.answer new) a is) ] | Right new ↦ λ v w b a name after f leaves. absurd leaves ] | Right t ↦ λ new v w b a name after. absurd after ] | Right c ↦ elim [ Left t ↦ λ new v w b a name after. absurd after | Right t ↦ elim [ Left new ↦ λ v w b a name after f leaves. absurd leaves | Right new ↦ λ v w b. elim [ Left a ↦ λ name after f leaves is. absurd (not_left (e.answer new) a is) | Right a ↦ λ name after f leaves is. two.ends since lane c t new v w b a name after f leaves (from_right (e.answer new) a is) ] ] ] ];
+    late = λ since. elim [ Left c ↦ elim [ Left a ↦ λ name is. one.late since c a name is | Right a ↦ λ name is made. absurd made ] | Right c ↦ elim [ Left a ↦ λ name is made. absurd made | Right a ↦ λ name is. two.late since c a name is ] ];
   }
 
   pub either_command_laws : CommandLaws k m d → CommandLaws l n e → CommandLaws (either_tasks k l) (either_means m n) (either_doing d e)

@@ -49,6 +49,7 @@ either_means m n = record {
   reaches = λ since c name. on_side (λ w. m.reaches since w name) (λ w. n.reaches since w name) c;
   finds = λ a c name. same_side (λ x w. m.finds x w name) (λ x w. n.finds x w name) a c;
   claims = λ c name. on_side (λ w. m.claims w name) (λ w. n.claims w name) c;
+  checks_out = λ a c name. same_side (λ x w. m.checks_out x w name) (λ x w. n.checks_out x w name) a c;
   brings = λ since c name bytes. on_side (λ w. m.brings since w name bytes) (λ w. n.brings since w name bytes) c;
   lacks = λ a commit. on_side (λ x. m.lacks x commit) (λ x. n.lacks x commit) a;
   outside = on_side m.outside n.outside;

@@ -1,5 +1,5 @@
 -- What a family proves of the folders of checkouts that its tasks make.
-use Rattle.std.specs.Prelude.{◌≡◌, ◌≢◌, ℕ, Some}
+use Rattle.std.specs.Prelude.{◌≡◌, ◌≢◌, ◌⊎◌, ℕ, Some}
 use Rattle.ost_types.specs.Path.{Name}
 use Rattle.fs_trait.specs.declared.task.StepResult.TheVariants as turn
 use Rattle.fs_trait.specs.View.{View}
@@ -7,7 +7,7 @@ use Rattle.fs_trait.specs.Seen.{Seen, Vacant, shows}
 use Rattle.repo_layout.specs.BootPaths.{checkout_path}
 use Rattle.rely_guarantee.specs.Books.{Books}
 use Rattle.rely_guarantee.specs.Laws.{Claim}
-use Rattle.command.specs.Doing.{Doing}
+use Rattle.command.specs.Doing.{Doing, IsAnswer}
 use Rattle.command.specs.Meaning.{Meaning}
 use Rattle.command.specs.Since.{Since}
 use Rattle.command.specs.Tasks.{TaskSpec}
@@ -22,3 +22,9 @@ pub record FolderLaws {T W A : Type 0} (k : TaskSpec T) (m : Meaning W A) (d : D
   -- from the claim on the task has made it
   pub made : (t new : T) (v w : View) (name : Name) → k.leaves t turn.More new v w → k.kind t ≡ Claim name → d.made new name
   pub goes_on : (t new : T) (v w : View) (name : Name) → k.leaves t turn.More new v w → d.made t name → d.made new name
+  -- it makes it by a claim alone
+  pub begun : (lane : ℕ) (t : T) (name : Name) → d.begins lane t → d.made t name → ⊥
+  pub by_claim : (t new : T) (v w : View) (name : Name) → k.leaves t turn.More new v w → d.made new name → (k.kind t ≡ Claim name) ⊎ d.made t name
+  -- that it was made is answered by a task that has made it, and never by the books alone
+  pub ends : (since : Since) (lane : ℕ) (c : W) (t new : T) (v w : View) (b : Books) (a : A) (name : Name) → d.pursues since c t → k.facts lane t v b → k.leaves t (turn.Done tt) new v w → d.answer new ≡ Some a → m.checks_out a c name → d.made t name
+  pub late : (since : Since) (c : W) (a : A) (name : Name) → IsAnswer m since c a → m.checks_out a c name → ⊥

@@ -16,5 +16,6 @@ pub record HearLaws {T W A : Type 0} (k : TaskSpec T) (d : Doing T W A) : Type 0
   pub pursues : (told : Told) (since : Since) (c : W) (t : T) → d.pursues since c t → d.pursues since c (d.hears told t)
   pub left : (told : Told) (t : T) → d.left (d.hears told t) ≤ d.left t
   pub made : (told : Told) (t : T) (name : Name) → d.made t name → d.made (d.hears told t) name
+  pub unmade : (told : Told) (t : T) (name : Name) → d.made (d.hears told t) name → d.made t name
   -- one that is told again what it was told before is as it was
   pub back : (told : Told) (t : T) → d.hears (d.heard t) (d.hears told t) ≡ t

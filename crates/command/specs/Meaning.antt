@@ -36,6 +36,8 @@ pub record Meaning (W A : Type 0) : Type 1 where
   pub finds : A → W → Name → Type 0
   -- the command makes the checkout of this name
   pub claims : W → Name → Type 0
+  -- the answer tells that it made it
+  pub checks_out : A → W → Name → Type 0
   -- these bytes come into the store as the object of that name
   pub brings : Since → W → ObjName → List ℕ → Type 0
   -- the answer tells that this commit isn't there, or has a mark

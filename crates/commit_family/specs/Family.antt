@@ -93,6 +93,7 @@ commit_means = record {
   works = λ since. commit_works since.start;
   reaches = λ since c name. Unit {0};
   claims = λ c name. ⊥;
+  checks_out = λ a c name. ⊥;
   finds = λ a c name. ⊥;
   brings = λ since. commit_brings since.start;
   lacks = λ a commit. ⊥;

@@ -57,6 +57,7 @@ hear_laws = record {
   pursues = λ told since c t is. commits_told since.limits c.branch c.tree.items (message_in since.start c) told.objects t.work is;
   left = λ told t. omega (arith, same_left told.objects t.work);
   made = λ told t name made. made;
+  unmade = λ told t name made. made;
   back = λ told t. refl;
 }
 
@@ -105,6 +106,10 @@ folder_laws = record {
   finds = λ since lane c t new v w b a name is f l given finds. absurd finds;
   made = λ t new v w name l kind. absurd (no_commit_claim t.work (subst IsClaim (sym kind) tt));
   goes_on = λ t new v w name l made. made;
+  begun = λ lane t name begins made. made;
+  by_claim = λ t new v w name leaves made. absurd made;
+  ends = λ since lane c t new v w b a name is f leaves given made. made;
+  late = λ since c a name is made. made;
 }
 
 pub commit_command_laws : CommandLaws commit_tasks commit_means commit_doing

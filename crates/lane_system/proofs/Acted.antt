@@ -1,5 +1,5 @@
 -- What an act keeps of what was so since the opening, for each way that it may end.
-use Rattle.std.proofs.Common.{◌≡◌, ◌≢◌, ◌⊎◌, inl, inr, ⊎_elim, ◌≤◌, ◌+◌, ℕ, refl, sym, ◌∙◌, ap, subst, arith, List, [], ◌∷◌, ◌++◌, length, set, Some}
+use Rattle.std.proofs.Common.{◌≡◌, ◌≢◌, ◌⊎◌, inl, inr, ⊎_elim, ◌≤◌, ◌+◌, ℕ, refl, sym, ◌∙◌, ap, subst, arith, List, [], ◌∷◌, ◌++◌, length, set, Some, None}
 use Rattle.ost_types.specs.declared.limits.Limits.{Limits}
 use Rattle.ost_types.specs.Path.{Name}
 use Rattle.fs_trait.specs.Image.{Told}
@@ -40,6 +40,7 @@ use Rattle.lane_system.specs.Staying.{AreStaying}
 use Rattle.lane_system.specs.Storing.{AreStored, IsConfigured, WasBrought}
 use Rattle.lane_system.specs.System.{System}
 use Rattle.lane_system.proofs.Acting.{given_acts, given_within, gives, more_acts, start_within, within}
+use Rattle.lane_system.proofs.Clearing.{IsMadeNow, clear_on, made_ended, made_going, made_more, made_over, none_made, stands_on}
 use Rattle.lane_system.proofs.Changing.{command_was, one_command, running_here, to_new, to_same, to_split, to_stays, to_was}
 use Rattle.lane_system.proofs.Endings.{more_history}
 use Rattle.lane_system.proofs.Family.{FamilyLaws, FsLaws}
@@ -92,6 +93,13 @@ module _ {F T W A : Type 0} (f : FsSpec F) (c : Family T W A) (fl : FsLaws f) (c
     abbrev w : View
     w = (acts.does v told_v).0
 
+    -- it has made a folder only where it had, or makes it here
+    going : (name : Name) (r : Running T) → l'.task ≡ Some r → c.doing.made r.work name → IsMadeNow name v.now w.now ⊎ ((q : Running T) × (l.task ≡ Some q) × c.doing.made q.work name)
+    going name r task made =
+        let e : Some r ≡ Some (record { work = x.did.0; start = task_start old.books.history.items l.task }) = sym task ∙ x.did.1 in
+        let one : r ≡ record { work = x.did.0; start = task_start old.books.history.items l.task } = cc in
+        made_more f c fl cl limits lane (length l.replies.items) refs refs' objects old new x.words l.task v w told_v (acts.does v told_v).1 name x.did.0 x.did.3 (subst (λ (q : Running T). c.doing.made q.work name) one made)
+
     pub more_keeps : ActKeeps f c (record { base = old; lanes = lanes; limits = limits; objects = objects }) (record { base = new; lanes = set lanes lane l'; limits = limits; objects = objects' }) v
     unfolding acts
     more_keeps = record {
@@ -117,6 +125,10 @@ module _ {F T W A : Type 0} (f : FsSpec F) (c : Family T W A) (fl : FsLaws f) (c
               (comes f c fl cl limits lane lane (length l.replies.items) refs refs' objects old new x.words l.task came.More x.did.0 x.did.3 v w told_v (acts.does v told_v).1 name))
               was.made;
           taken = λ a n q words name to is found. taken_stays c.means c.doing lanes lane l l' at x.same opening name a n (was.taken a n q words name (to_was lanes lane l l' at x.same x.replies a n q to) (command_was lanes lane l l' at x.same a n words is) found);
+          clear = clear_on c.means c.doing lanes (set lanes lane l') lane (length l.replies.items) opening v.now w.now
+              (stands_on (books_of old.books) v w lane lane (acts.does v told_v).2.writes)
+              (λ name. made_going c.means c.doing lanes lane l l' at x.words x.next x.same name x.replies (IsMadeNow name v.now w.now) (going name))
+              was.clear;
         },
       );
       said = said_on f c fl cl limits lane lane refs refs' objects objects' old new lanes (set lanes lane l') acts kept.sound.ordered.ascends (command_was lanes lane l l' at x.same) (length l.replies.items) _ begin None_ split (λ r words n. absurd n) starts v told_v (λ r words n. absurd n);
@@ -126,7 +138,7 @@ module _ {F T W A : Type 0} (f : FsSpec F) (c : Family T W A) (fl : FsLaws f) (c
     }
 
   -- it has an answer
-  module _ (l' : Lane T W A) (z : Ended A) (start : ℕ) (x : LaneActs f c limits lane lane refs refs' objects objects' old new l l' (Answered z start)) (l'' : Lane T W A) (r : Reply A) (same : l''.words ≡ l.words) (grows : l''.replies.items ≡ l.replies.items ++ r ∷ [])
+  module _ (l' : Lane T W A) (z : Ended A) (start : ℕ) (x : LaneActs f c limits lane lane refs refs' objects objects' old new l l' (Answered z start)) (l'' : Lane T W A) (r : Reply A) (same : l''.words ≡ l.words) (free : l''.task ≡ None) (grows : l''.replies.items ≡ l.replies.items ++ r ∷ [])
       (answered : r.answer ≡ z) (begun : r.start ≡ start) (kept' : Kept f c limits new refs' (set lanes lane l'') (given + 1)) where
     acts_ : Acts f lane lane refs refs' old new
     acts_ = given_acts f c fl cl limits lane refs refs' objects objects' old new lanes given l l' kept at z start x
@@ -223,6 +235,13 @@ module _ {F T W A : Type 0} (f : FsSpec F) (c : Family T W A) (fl : FsLaws f) (c
         subst (λ i. IsTaken c.means lanes opening name i n) (sym new_one.0) (subst (λ i. IsTaken c.means lanes opening name lane i) (sym new_one.1) (taken_by c.means c.doing lanes lane l l'' at same opening v name was.made (in_the_way name said)))))
         (to_split lanes lane l l'' at same r grows a n q to)
 
+    -- who says that it made a folder had made it
+    had_made : (name : Name) → OfAnswer (λ a. c.means.checks_out a x.words name) z → (q : Running T) × (l.task ≡ Some q) × c.doing.made q.work name
+    had_made name said = ⊎_elim
+        (λ once. absurd (none_made f c cl limits old x.words l.task z once.1 name said))
+        (λ over. made_ended f c fl cl limits lane (length l.replies.items) refs refs' objects old new x.words l.task v w_ told_v (acts_.does v told_v).1 name over.0 over.1 z (f.refused new.fs) over.4 over.3 said)
+        x.did.3
+
     -- where the store is good no answer tells otherwise
     seen_given : AreStored f c.means (record { base = old; lanes = lanes; limits = limits; objects = objects }) v → AreInside f c.means (record { base = old; lanes = lanes; limits = limits; objects = objects })
         → ((u : View) → f.was new.fs new.books.opened u → AreAlone (WasBrought c.means (record { base = new; lanes = set lanes lane l''; limits = limits; objects = objects' })) u.now) → (a n : ℕ) (q : Reply A) → IsTo (set lanes lane l'') a n q → ¬ (OfAnswer c.means.outside q.answer)
@@ -254,6 +273,10 @@ module _ {F T W A : Type 0} (f : FsSpec F) (c : Family T W A) (fl : FsLaws f) (c
               (λ name q task made. tt)
               opening v w_ comes_new was.made;
           taken = λ a n q words name to is found. taken_stays c.means c.doing lanes lane l l'' at same opening name a n (taken_of opening was a n q words name to is found);
+          clear = clear_on c.means c.doing lanes (set lanes lane l'') lane (length l.replies.items) opening v.now w_.now
+              (stands_on (books_of old.books) v w_ lane lane (acts_.does v told_v).2.writes)
+              (λ name a n is. inl (made_over c.means c.doing lanes lane l l'' at x.words x.next same name free r grows (λ said. had_made name (subst (OfAnswer (λ b. c.means.checks_out b x.words name)) answered said)) a n is))
+              was.clear;
         },
       );
       said = said_on f c fl cl limits lane lane refs refs' objects objects' old new lanes (set lanes lane l'') acts_ kept.sound.ordered.ascends (command_was lanes lane l l'' at same) (length l.replies.items) start is_start IsNew split_ (λ q words n. ap (λ (y : Reply A). y.start) n.0 ∙ begun) starts_ v told_v shows_new;

@@ -1,6 +1,7 @@
 -- A system at its beginning.
-use Rattle.std.proofs.Common.{◌≡◌, inl, ◌≤◌, ℕ, suc, false, refl, sym, ◌∙◌, ap, subst, arith, List, [], ◌∷◌, length, Contains, Option, Some, None}
+use Rattle.std.proofs.Common.{◌≡◌, inl, inr, ◌≤◌, ℕ, suc, false, refl, sym, ◌∙◌, ap, subst, arith, List, [], ◌∷◌, length, Contains, Option, Some, None}
 use Rattle.ost_types.specs.declared.limits.Limits.{Limits}
+use Rattle.ost_types.specs.Path.{Name}
 use Rattle.ost_types.proofs.Paths.{is_below-self}
 use Rattle.fs_trait.specs.Seen.{NotDirectory}
 use Rattle.fs_trait.specs.View.{View}
@@ -16,6 +17,7 @@ use Rattle.lane_system.specs.declared.lane.Lane.{Lane}
 use Rattle.lane_system.specs.declared.lane.Reply.{Reply}
 use Rattle.lane_system.specs.Causes.{AreCausedIn}
 use Rattle.lane_system.specs.Family.{Family, FsSpec}
+use Rattle.lane_system.specs.Folders.{HasItself}
 use Rattle.lane_system.specs.Kept.{AreHomes, AreIdle, Kept, RunsIn}
 use Rattle.lane_system.specs.Lanes.{IsAt, IsTo, count_of}
 use Rattle.lane_system.specs.Preserves.{Stands}
@@ -40,6 +42,10 @@ module _ {F T W A : Type 0} (f : FsSpec F) (c : Family T W A) (limits : Limits) 
     (history : base.books.history.items ≡ []) (pending : base.books.pending ≡ None) (idle : AreIdle c.means limits lanes) where
   no_reply : (a n : ℕ) (r : Reply A) → IsTo lanes a n r → ⊥
   no_reply a n r to = none_at to.0.replies.items n r (idle a to.0 to.1).replies to.2
+
+  no_folder : (name : Name) (a n : ℕ) → HasItself c.means c.doing lanes name a n → ⊥
+  no_folder name a n (inl (r, words, to, is, said)) = no_reply a n r to
+  no_folder name a n (inr (r, runs, made)) = none_some runs.0.task r (idle a runs.0 runs.1).task runs.3
 
   no_replies : count_of lanes ≡ 0
   no_replies = count_none lanes (λ a l at. (idle a l at).replies)
@@ -94,7 +100,15 @@ module _ {F T W A : Type 0} (f : FsSpec F) (c : Family T W A) (limits : Limits) 
     caused = caused_first before same live;
     good = stored;
     inside = record { unrefused = λ a n r to is. no_reply a n r to; seen = λ alone a n r to is. no_reply a n r to };
-    folders = record { made = λ name there. inl there; taken = λ a n r words name to is found. absurd (no_reply a n r to) };
+    folders = record {
+      made = λ name there. inl there;
+      taken = λ a n r words name to is found. absurd (no_reply a n r to);
+      clear = record {
+        stood = λ name there. there;
+        free = λ name a n is. absurd (no_folder name a n is);
+        one = λ name a n b k is too. absurd (no_folder name a n is);
+      };
+    };
     said = λ a n r words to is. absurd (no_reply a n r to);
     stays = λ a n r words to is. absurd (no_reply a n r to);
     founded = record {

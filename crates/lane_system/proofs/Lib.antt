@@ -18,6 +18,7 @@ pub mod Locking
 pub mod Acting
 pub mod Preserving
 pub mod Folding
+pub mod Clearing
 pub mod Ranking
 pub mod Rounds
 pub mod Advancing

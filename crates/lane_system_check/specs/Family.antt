@@ -25,6 +25,7 @@ wait_means = record {
   reaches = λ since c name. Unit {0};
   finds = λ a c name. ⊥;
   claims = λ c name. ⊥;
+  checks_out = λ a c name. ⊥;
   brings = λ since c name bytes. ⊥;
   lacks = λ a commit. ⊥;
   outside = λ a. ⊥;

@@ -58,6 +58,7 @@ list_means = record {
   reaches = λ since c name. ⊥;
   finds = λ a c name. ⊥;
   claims = λ c name. ⊥;
+  checks_out = λ a c name. ⊥;
   brings = λ since c name bytes. ⊥;
   lacks = λ a commit. ⊥;
   outside = λ a. ⊥;

@@ -39,6 +39,7 @@ hear_laws = record {
   pursues = λ told since c t is. is;
   left = λ told t. omega arith;
   made = λ told t name made. made;
+  unmade = λ told t name made. made;
   back = λ told t. refl;
 }
 
@@ -87,6 +88,10 @@ folder_laws = record {
   finds = λ since lane c t new v w b a name is f leaves given finds. absurd is;
   made = λ t new v w name leaves kind. cc;
   goes_on = λ t new v w name leaves made. made;
+  begun = λ lane t name begins made. made;
+  by_claim = λ t new v w name leaves made. absurd made;
+  ends = λ since lane c t new v w b a name is f leaves given made. made;
+  late = λ since c a name is made. made;
 }
 
 pub list_command_laws : CommandLaws list_tasks list_means list_doing

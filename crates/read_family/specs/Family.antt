@@ -89,6 +89,7 @@ read_means = record {
   reaches = λ since c name. (commit : List ℕ) × IsRev c.rev since.start commit × reaches_of c.ask commit name;
   finds = λ a c name. ⊥;
   claims = λ c name. ⊥;
+  checks_out = λ a c name. ⊥;
   brings = λ since c name bytes. ⊥;
   lacks = read_lacks;
   outside = read_outside;

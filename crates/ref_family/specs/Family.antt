@@ -93,6 +93,7 @@ ref_means = record {
   reaches = λ since c name. Unit {0};
   finds = λ a c name. ⊥;
   claims = λ c name. ⊥;
+  checks_out = λ a c name. ⊥;
   brings = λ since c name bytes. ⊥;
   lacks = ref_lacks;
   outside = λ a. ⊥;

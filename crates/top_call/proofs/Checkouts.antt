@@ -1,6 +1,6 @@
 -- The folders of checkouts, from the disk at the beginning to the end of a run.
-use Rattle.std.proofs.Common.{◌≡◌, ◌≢◌, inl, inr, ⊎_elim, ℕ, sym, ◌∙◌, ap, arith, List, [], append-nil}
-use Rattle.ost_types.specs.Path.{Name}
+use Rattle.std.proofs.Common.{◌≡◌, ◌≢◌, inl, inr, ⊎_elim, ◌<◌, ℕ, true, sym, ◌∙◌, ap, arith, List, [], append-nil}
+use Rattle.ost_types.specs.Path.{Name, is_below}
 use Rattle.ost_types.proofs.Paths.{is_below-self}
 use Rattle.fs_trait.specs.Seen.{Seen, Vacant, shows}
 use Rattle.fs_trait.specs.View.{Disk}
@@ -9,11 +9,11 @@ use Rattle.repo_layout.specs.declared.folder.Folder.{Folder}
 use Rattle.repo_layout.specs.Paths.{config_path, folder_path, stage_path}
 use Rattle.repo_layout.specs.Place.{Checkout, Config, Other, Stage, place}
 use Rattle.repo_layout.proofs.Places.{place-checkout, place-config, place-stage}
-use Rattle.layout_rules.proofs.Layouts.{fixed_other}
-use Rattle.lane_system.specs.Folders.{AreFoldersIn, IsNamed, IsTaken}
+use Rattle.layout_rules.proofs.Layouts.{below_split, fixed_other}
+use Rattle.lane_system.specs.Folders.{AreClear, AreClearIn, AreFoldersIn, IsNamed, IsTaken}
 use Rattle.sys_open.specs.Changes.{Changes, Keeps, Puts, file_meta}
 use Rattle.repo_config.specs.Config.{config_text}
-use Rattle.commands.specs.Family.{Lane, means}
+use Rattle.commands.specs.Family.{Lane, doing, means}
 
 -- an opening puts nothing in a checkout's place
 not_laid : (name : Name) (f : Folder) → checkout_path name ≡ folder_path f → ⊥
@@ -29,14 +29,23 @@ not_put : (name : Name) (s : Seen) → Puts (stage_path 0) config_path file_meta
 not_put name s (inl staged) = not_staged name staged.0
 not_put name s (inr put) = not_config name put.0
 
-only_cleared : (d : Disk) (name : Name) (s : Seen) → Changes d (checkout_path name) s → s ≡ Vacant
-only_cleared d name s (inl lays) = absurd (not_laid name lays.0.0 lays.0.1)
-only_cleared d name s (inr (inl clears)) = clears.2.1
-only_cleared d name s (inr (inr puts)) = absurd (not_put name s puts.puts)
+not_cleared : (name : Name) (actor : ℕ) → actor < 16 → is_below (stage_path actor) (checkout_path name) ≡ true → ⊥
+not_cleared name actor few below =
+    let rest = below_split (stage_path actor) (checkout_path name) below in
+    let n : Checkout name [] ≡ Stage actor = sym (place-checkout name []) ∙ ap place rest.1 ∙ place-stage actor rest.0 (omega (arith, few)) in
+    cc
+
+not_changed : (d : Disk) (name : Name) (s : Seen) → Changes d (checkout_path name) s → ⊥
+not_changed d name s (inl lays) = not_laid name lays.0.0 lays.0.1
+not_changed d name s (inr (inl clears)) = not_cleared name clears.0 clears.1 clears.2.0
+not_changed d name s (inr (inr puts)) = not_put name s puts.puts
 
 -- so what stands after it stood before
+still : (d e : Disk) → Keeps d e → (name : Name) → shows e (checkout_path name) ≡ shows d (checkout_path name)
+still d e keeps name = ⊎_elim (λ same. same) (λ changed. absurd (not_changed d name (shows e (checkout_path name)) changed)) (keeps (checkout_path name))
+
 stood : (d e : Disk) → Keeps d e → (name : Name) → shows e (checkout_path name) ≢ Vacant → shows d (checkout_path name) ≢ Vacant
-stood d e keeps name there none = ⊎_elim (λ same. there (same ∙ none)) (λ changed. there (only_cleared d name (shows e (checkout_path name)) changed)) (keeps (checkout_path name))
+stood d e keeps name there none = there (still d e keeps name ∙ none)
 
 named_before : (lanes : List Lane) (d e : Disk) → Keeps d e → (name : Name) → IsNamed means lanes e name → IsNamed means lanes d name
 named_before lanes d e keeps name (inl there) = inl (stood d e keeps name there)
@@ -50,4 +59,12 @@ pub folders_before : (lanes : List Lane) (d e now : Disk) → Keeps d e → AreF
 folders_before lanes d e now keeps are = record {
   made = λ name there. named_before lanes d e keeps name (are.made name there);
   taken = λ lane number r c name to is found. taken_before lanes d e keeps name lane number (are.taken lane number r c name to is found);
+  clear = record { free = λ lane number r c name to is said. sym (still d e keeps name) ∙ are.clear.free lane number r c name to is said; one = are.clear.one };
+}
+
+-- what each command found where it made its folder
+pub clear_in : (lanes : List Lane) (opening now : Disk) → AreClear means doing lanes opening now → AreClearIn means lanes opening
+clear_in lanes opening now is = record {
+  free = λ lane number r c name to of said. (is.free name lane number (inl (r, c, to, of, said))).0;
+  one = λ lane number other another r q c e name to of said too off told. is.one name lane number other another (inl (r, c, to, of, said)) (inl (q, e, too, off, told));
 }

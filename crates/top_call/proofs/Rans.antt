@@ -45,7 +45,7 @@ use Rattle.top_call.specs.Headline.{Headline}
 use Rattle.top_call.specs.RanOn.{RanOn}
 use Rattle.top_call.specs.Top.{AreStandard, IsStop, IsStopped, Ran, RanBy, event_of}
 use Rattle.top_call.specs.Words.{IsLine, commands_of}
-use Rattle.top_call.proofs.Checkouts.{folders_before}
+use Rattle.top_call.proofs.Checkouts.{clear_in, folders_before}
 use Rattle.top_call.proofs.Lefts.{left_good}
 use Rattle.top_call.proofs.Openings.{finished_opened}
 use Rattle.top_call.proofs.Plain.{plain}
@@ -125,7 +125,7 @@ module _ {F : Type 0} (f : FsSpec F) (opened : Opened F) (limits : Limits) (v : 
       };
       books = books_of s.base.books;
       stays = stands.stays;
-      folders = folders_before s.lanes v.now begins.0.now w.now begins.2.keeps (record { made = λ name there. named_of s.lanes begins.0.now name (stands.folders.made name there); taken = stands.folders.taken });
+      folders = folders_before s.lanes v.now begins.0.now w.now begins.2.keeps (record { made = λ name there. named_of s.lanes begins.0.now name (stands.folders.made name there); taken = stands.folders.taken; clear = clear_in s.lanes begins.0.now w.now stands.folders.clear });
     }
 
     pub ran_on : Told (f.view fs) (Ran limits f.view f.clock f.was v before commands fs history (event_of pending) replies)
