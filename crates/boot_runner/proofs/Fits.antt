@@ -1,11 +1,10 @@
 -- Lists that may boot, looked through from the last member on.
-use Rattle.std.proofs.Common.{◌≡◌, ⊎_elim, ℕ, ◌-◌, ◌==◌, ◌<◌, ◌≤◌, Bool, true, false, not, List, length, take, get_or, refl, sym, ◌∙◌, ap, subst, arith}
+use Rattle.std.proofs.Common.{◌≡◌, ⊎_elim, ℕ, ◌-◌, ◌==◌, ◌&&◌, ◌<◌, ◌≤◌, true, false, not, List, length, take, get_or, refl, sym, ◌∙◌, ap, subst, arith}
 use Rattle.std.proofs.lemmas.Bool.Decides.{leb_tells}
 use Rattle.std.proofs.lemmas.List.{get_or-take, get_or_default, length-take-le}
-use Rattle.std.proofs.lemmas.List.Quantifiers.{list_all_at}
+use Rattle.std.proofs.lemmas.List.Folds.{list_all_at}
 use Rattle.ost_types.specs.Path.{same_name}
 use Rattle.ost_types.proofs.Paths.{same_name-Decides}
-use Rattle.deploy_list.specs.Lists.{is_id}
 use Rattle.boot_model.specs.declared.item.DepId.{DepId}
 use Rattle.boot_model.specs.declared.item.BootItem.{BootItem}
 use Rattle.boot_model.specs.Items.{AreItems, IsAt, IsItem}
@@ -38,10 +37,9 @@ self_serial n = grind arith
 
 self : (a : DepId) → is_other a a ≡ false
 self a =
-    let os : same_name a.os a.os ≡ true = (same_name-Decides a.os a.os).1 refl in
-    let commit : same_name a.commit a.commit ≡ true = (same_name-Decides a.commit a.commit).1 refl in
-    let serial = self_serial a.serial in
-    grind (os, commit, serial)
+    ap (λ b. not (b && same_name a.commit a.commit && (a.serial == a.serial))) ((same_name-Decides a.os a.os).1 refl)
+    ∙ ap (λ b. not (true && b && (a.serial == a.serial))) ((same_name-Decides a.commit a.commit).1 refl)
+    ∙ ap (λ b. not (true && true && b)) (self_serial a.serial)
 
 other_differs : (items : List BootItem) (i j : ℕ) (a b : BootItem) → IsAt items i a → IsAt items j b → i < j → is_new (take j items) b.id ≡ true → a.id ≡ b.id → ⊥
 other_differs items i j a b one two less all same =

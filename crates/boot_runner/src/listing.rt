@@ -62,6 +62,13 @@ fn is_folder(alloc: Global, fs: &mut MemFs, at: &str) -> Result<bool, Stop> {
     })
 }
 
+fn is_file(fs: &mut MemFs, at: &FsPath) -> Result<bool, Stop> {
+    Ok(match known(fs.stat(at))? {
+        Some(Node::File { .. }) => true,
+        _ => false,
+    })
+}
+
 // The greatest version first.
 fn rows(alloc: Global, fs: &mut MemFs, loader: &str) -> Result<Vec<Row>, Stop> {
     let mut rows: Vec<Row> = Vec::new(alloc);
@@ -72,8 +79,9 @@ fn rows(alloc: Global, fs: &mut MemFs, loader: &str) -> Result<Vec<Row>, Stop> {
     let at = path_of(alloc, folder.as_str())?;
     let names = known(fs.list(&at))?;
     for name in names.as_slice() {
-        if name.as_str().ends_with(".conf") {
-            let row = row_at(alloc, fs, loader, &at.child(name)?)?;
+        let entry = at.child(name)?;
+        if name.as_str().ends_with(".conf") && is_file(fs, &entry)? {
+            let row = row_at(alloc, fs, loader, &entry)?;
             let place = place_of(&rows, row.version);
             rows.insert(place, row)?;
         }
