@@ -88,6 +88,14 @@ pub enum Family {
     Bytes(Option<Bytes>),
     /// By each of these schedules.
     Schedules(Schedules),
+    /// Where another program removes a leaf before each of these calls of the disk.
+    Removals(Removals),
+}
+
+#[derive(Drop)]
+pub struct Removals {
+    pub at: FsPath,
+    pub ranges: Vec<Range>,
 }
 
 #[derive(Drop)]

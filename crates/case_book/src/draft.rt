@@ -2,7 +2,7 @@
 use crate::block::Block;
 use crate::book::{
     Asked, Book, Call, Case, Disk, FailingCalls, Family, NamedText, Outcome, Plan, Printed,
-    Schedules, Step, Ways,
+    Removals, Schedules, Step, Ways,
 };
 use crate::check::{or_crash, read_check};
 use crate::fault::LineFault;
@@ -91,6 +91,10 @@ impl Draft {
             Keyword::EachByte => self.take_each_byte(fields),
             Keyword::EachSchedule => {
                 self.family = Family::Schedules(schedules(fields)?);
+                Ok(())
+            }
+            Keyword::EachRemoval => {
+                self.family = Family::Removals(removals(self.alloc, fields)?);
                 Ok(())
             }
             _ => Err(LineFault::Bad),
@@ -255,6 +259,16 @@ fn failing(alloc: Global, fields: &[&[u8]]) -> Result<FailingCalls, LineFault> {
     };
     Ok(FailingCalls {
         ways: ways(way)?,
+        ranges: ranges(alloc, fields)?,
+    })
+}
+
+fn removals(alloc: Global, fields: &[&[u8]]) -> Result<Removals, LineFault> {
+    let [at, fields @ ..] = fields else {
+        return Err(LineFault::Bad);
+    };
+    Ok(Removals {
+        at: path(alloc, at)?,
         ranges: ranges(alloc, fields)?,
     })
 }

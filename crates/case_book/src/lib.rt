@@ -13,7 +13,7 @@ mod read;
 
 pub use book::{
     Asked, Book, Call, Case, Check, Crash, Disk, FailingCalls, Family, NamedText, Outcome, Plan,
-    Printed, Range, Schedules, Step, Ways,
+    Printed, Range, Removals, Schedules, Step, Ways,
 };
 pub use fault::BookFault;
 pub use read::read_book;

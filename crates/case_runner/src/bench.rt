@@ -93,6 +93,7 @@ impl<'a> Bench<'a> {
             Family::Lines(name) => self.run_lines(&disk, call, name),
             Family::Bytes(map) => self.run_bytes(&disk, call, map),
             Family::Schedules(schedules) => self.run_schedules(&disk, call, *schedules),
+            Family::Removals(removals) => self.run_removals(&disk, call, removals),
         }
     }
 

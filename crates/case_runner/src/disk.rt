@@ -1,4 +1,5 @@
 //! Disks that cases begin with.
+use crate::meddled::Meddled;
 use crate::stop::Stop;
 use fs_host::HostFs;
 use fs_memory::{Choice, MemFs};
@@ -22,6 +23,12 @@ impl CaseDisk for MemFs {
 }
 
 impl<R: Machine> CaseDisk for HostFs<R> {
+    fn left(&self, _back: u64, _choice: &Choice) -> Result<Option<MemFs>, Stop> {
+        Ok(None)
+    }
+}
+
+impl CaseDisk for Meddled {
     fn left(&self, _back: u64, _choice: &Choice) -> Result<Option<MemFs>, Stop> {
         Ok(None)
     }

@@ -1,12 +1,13 @@
 //! Families of calls, each on a copy of one disk.
 use crate::bench::Bench;
 use crate::disk::copy_of;
+use crate::meddled::Meddled;
 use crate::say::Member;
 use crate::stop::Stop;
-use case_book::{Asked, Call, FailingCalls, Range, Schedules, Ways};
+use case_book::{Asked, Call, FailingCalls, Range, Removals, Schedules, Ways};
 use fs_memory::{FailAt, MemFs};
 use fs_trait::Fs;
-use ost_types::Bytes;
+use ost_types::{Bytes, FsPath, TryCopy};
 use std::alloc::Global;
 
 impl<'a> Bench<'a> {
@@ -49,6 +50,39 @@ impl<'a> Bench<'a> {
         let has_failed = ran.fs.faults() > 0;
         let _ = self.check_member(call, ran, None, &Member::Failing(plan))?;
         Ok(has_failed)
+    }
+
+    /// Where another program removes a leaf before each of the calls of the disk.
+    pub fn run_removals(
+        &mut self,
+        fs: &MemFs,
+        call: &Call,
+        removals: &Removals,
+    ) -> Result<(), Stop> {
+        for range in &removals.ranges {
+            self.run_removals_in(fs, call, &removals.at, *range)?;
+        }
+        Ok(())
+    }
+
+    fn run_removals_in(
+        &mut self,
+        fs: &MemFs,
+        call: &Call,
+        at: &FsPath,
+        range: Range,
+    ) -> Result<(), Stop> {
+        for number in range.first..=range.last.unwrap_or(CALLS) {
+            let disk = Meddled::new(fresh(self.alloc, fs)?, number, at.copy()?);
+            let input = self.input(&call.asked)?;
+            let ran = self.call(disk, &call.asked, input, &call.plan)?;
+            let was_made = ran.fs.was_reached();
+            let _ = self.check_member(call, ran, None, &Member::Removed(number))?;
+            if !was_made && range.last.is_none() {
+                return Ok(());
+            }
+        }
+        Ok(())
     }
 
     /// With each line of the text in the place of `$`.

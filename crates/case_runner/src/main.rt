@@ -6,6 +6,7 @@ mod call;
 mod check;
 mod disk;
 mod family;
+mod meddled;
 mod nodes;
 mod say;
 mod stop;

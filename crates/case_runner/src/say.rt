@@ -13,6 +13,8 @@ pub enum Member<'a> {
     Alone,
     /// The call of the disk that failed.
     Failing(FailAt),
+    /// The call of the disk before which the leaf was removed.
+    Removed(u64),
     /// The line, or the schedule.
     Line(&'a [u8]),
     /// The place of the byte that was left out.
@@ -40,6 +42,12 @@ fn append_member(alloc: Global, said: &mut Bytes, member: &Member) -> Result<(),
         Member::Failing(plan) => {
             let way = if plan.done { "done" } else { "undone" };
             let text = format!(in alloc; ", where call {} of the disk fails, {way}", plan.call)?;
+            Ok(said.append(text.as_bytes())?)
+        }
+        Member::Removed(number) => {
+            let text = format!(in alloc;
+                ", where the leaf is removed before call {number} of the disk"
+            )?;
             Ok(said.append(text.as_bytes())?)
         }
         Member::Line(line) => {
