@@ -12,7 +12,9 @@ use Rattle.script_reader.specs.Script.{Commands}
 use Rattle.sys_open.specs.declared.fault.OpenFault.{OpenFault}
 use Rattle.top_call.specs.declared.fault.TopFault.{TopFault}
 use Rattle.top_call.specs.declared.fault.TopFault.TheVariants.{Usage, Script, Input, Open, NoMemory}
-use Rattle.top_call.specs.Top.{IsUnused}
+use Rattle.top_call.specs.Call.{HasRun}
+use Rattle.top_call.specs.Text.{output_of}
+use Rattle.top_call.specs.Top.{IsUnused, Prints}
 use Rattle.top_call.specs.Words.{AreNoLine, AreNoRequest, AskFor, IsEarly, IsLine, IsRefused, Runs, run}
 
 no_request : (left : Option (List ℕ)) (fields : List (List ℕ)) (lanes : List Commands) → AskFor left fields lanes → AreNoRequest fields → ⊥
@@ -49,22 +51,38 @@ no_script left words before now f e refused exact is = other_fault e f is (exact
 pub same_fault : (f g : TopFault) → Some f ≡ Some g → f ≡ g
 same_fault f g same = cc
 
-no_replies : (replies : List (Vec Reply)) → map (λ lane. lane.items) replies ≡ [] → replies ≡ []
-no_replies [] e = refl
-no_replies (lane ∷ rest) e = let n : lane.items ∷ map (λ l. l.items) rest ≡ [] = e in cc
-
 -- where lanes ran there was no fault before the printing
-pub no_fault : (printed fault : Option TopFault) (history : List Entry) (pending : Option Event) (replies : List (Vec Reply)) → (printed ≡ fault) ⊎ (printed ≡ Some NoMemory)
-    → (fault ≢ None → IsUnused history pending (map (λ lane. lane.items) replies)) → (printed ≡ None) ⊎ (replies ≢ []) → fault ≡ None
+pub no_fault : (printed fault : Option TopFault) (history : List Entry) (pending : Option Event) (replies : List (List Reply)) → (printed ≡ fault) ⊎ (printed ≡ Some NoMemory)
+    → (fault ≢ None → IsUnused history pending replies) → HasRun printed replies → fault ≡ None
 no_fault printed None history pending replies same unused ran = refl
 no_fault printed (Some f) history pending replies same unused (inl none) = ⊎_elim (λ is. (let n : Some f ≡ None = sym is ∙ none in cc)) (λ is. (let n : Some NoMemory ≡ None = sym is ∙ none in cc)) same
-no_fault printed (Some f) history pending replies same unused (inr some) = absurd (some (no_replies replies (unused (λ is. (let n : Some f ≡ None = is in cc))).replies_are))
+no_fault printed (Some f) history pending replies same unused (inr some) = absurd (some (unused (λ is. (let n : Some f ≡ None = is in cc))).replies_are)
 
 -- a fault, and no reply: no lane was run
-pub unused_printed : (P : Type 0) (printed fault : Option TopFault) (replies : List (Vec Reply)) → (fault ≢ None → P) → (fault ≡ None → replies ≡ [] → printed ≡ None) → (printed ≡ None) ⊎ (replies ≢ []) ⊎ P
-unused_printed P printed None [] unused silent = inl (silent refl refl)
-unused_printed P printed None (lane ∷ replies) unused silent = inr (inl (λ none. let n : lane ∷ replies ≡ [] = none in cc))
-unused_printed P printed (Some f) replies unused silent = inr (inr (unused (λ none. let n : Some f ≡ None = none in cc)))
+pub unused_printed : (P : Type 0) (printed fault : Option TopFault) (replies : List (Vec Reply)) → (fault ≢ None → P) → (fault ≡ None → replies ≡ [] → printed ≡ None) → HasRun printed (map (λ lane. lane.items) replies) ⊎ P
+unused_printed P printed None [] unused silent = inl (inl (silent refl refl))
+unused_printed P printed None (lane ∷ replies) unused silent = inl (inr (λ none. let n : lane.items ∷ map (λ l. l.items) replies ≡ [] = none in cc))
+unused_printed P printed (Some f) replies unused silent = inr (unused (λ none. let n : Some f ≡ None = none in cc))
+
+pub no_line_printed : (printed fault : Option TopFault) → (printed ≡ fault) ⊎ (printed ≡ Some NoMemory) → (fault ≡ Some Usage) ⊎ (fault ≡ Some NoMemory) → (printed ≡ Some Usage) ⊎ (printed ≡ Some NoMemory)
+no_line_printed printed fault (inr memory) told = inr memory
+no_line_printed printed fault (inl same) (inl usage) = inl (same ∙ usage)
+no_line_printed printed fault (inl same) (inr memory) = inr (same ∙ memory)
+
+pub failed_printed : (P : Type 0) (printed fault : Option TopFault) → (printed ≡ fault) ⊎ (printed ≡ Some NoMemory) → (fault ≡ Some Input) ⊎ P → (printed ≡ Some Input) ⊎ (printed ≡ Some NoMemory) ⊎ P
+failed_printed P printed fault same (inr holds) = inr (inr holds)
+failed_printed P printed fault (inl same) (inl input) = inl (same ∙ input)
+failed_printed P printed fault (inr memory) (inl input) = inr (inl memory)
+
+-- what was printed of the replies as a slice was printed of them
+pub output_printed : (had : List ℕ) (fault : Option TopFault) (rows replies : List (Vec Reply)) (before now : ℕ) (taken : Option (List ℕ)) → rows ≡ replies
+    → Prints had (output_of fault (map (λ lane. lane.items) rows)) before now taken → Prints had (output_of fault (map (λ lane. lane.items) replies)) before now taken
+output_printed had fault rows replies before now taken same printed = subst (λ r. Prints had (output_of fault (map (λ lane. lane.items) r)) before now taken) same printed
+
+-- what is so of a fault, and of want of memory, is so of the one that is printed
+pub fault_printed : (P : TopFault → Type 0) (printed fault : Option TopFault) → (printed ≡ fault) ⊎ (printed ≡ Some NoMemory) → P NoMemory → IfSome fault P → IfSome printed P
+fault_printed P printed fault (inl same) memory told = subst (λ o. IfSome o P) (sym same) told
+fault_printed P printed fault (inr is) memory told = subst (λ o. IfSome o P) (sym is) memory
 
 pub some_fault : (P : Type 0) (fault : Option TopFault) → IfSome fault (λ f. P) → fault ≢ None → P
 some_fault P None holds some = absurd (some refl)

@@ -9,3 +9,4 @@ pub mod Top
 pub mod RanOn
 pub mod Whys
 pub mod Complete
+pub mod Call

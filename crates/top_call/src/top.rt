@@ -9,6 +9,7 @@ ghost use Rattle.sys_open.specs.declared.fault.OpenFault.TheVariants as opening;
 ghost use Rattle.script_reader.specs.Script.{Commands, IsScript};
 ghost use Rattle.script.specs.declared.fault.ScriptFault.{ScriptFault};
 ghost use Rattle.top_call.specs.Answered.{AnsweredBy};
+ghost use Rattle.top_call.specs.Call.{GivesOutput, HasRun, TakesInput, TellsDisk, TellsWords};
 ghost use Rattle.top_call.specs.Complete.{AreCausedBy, IsAsked, IsComplete, IsGoodHere};
 ghost use Rattle.top_call.specs.Input.{TookFront};
 ghost use Rattle.top_call.specs.Words.{AreNoLine, IsEarly, IsLine, IsRefused, Runs};
@@ -186,39 +187,22 @@ pub fn ostree<F: Watch, S: Source, K: Sink>(
     input: &mut S,
     out: &mut K,
 ) -> Ended<F>
-    // The fault, where there is one. Each yields to want of memory.
-    ensures usage { result.fault ≡ Some TopFault.Usage → AreNoLine (map (λ word. string_bytes word) words.now) }
-    ensures words { AreNoLine (map (λ word. string_bytes word) words.now) → (result.fault ≡ Some TopFault.Usage) ⊎ (result.fault ≡ Some TopFault.NoMemory) }
-    ensures early { IfSome result.fault (λ f. IsEarly f → (result.fs ≡ fs) × IsRefused (S.left input.old) (map (λ word. string_bytes word) words.now) (S.faults input.old) (S.faults input.new) f) }
-    ensures script { (all : List ℕ) (lanes : List Commands) (e : ScriptFault) → S.left input.old ≡ Some all → IsScript all lanes → result.fault ≢ Some (TopFault.Script e) }
-    ensures asked { (f : OpenFault) → result.fault ≡ Some (TopFault.Open f) → (lanes : List Commands) × IsLine (S.left input.old) (map (λ word. string_bytes word) words.now) lanes }
-    ensures disk { result.fault ≡ Some (TopFault.Open opening.Disk) → Rose (F.faults fs) (F.faults result.fs) }
-    ensures stop { (v : View) → F.view fs ≡ Some v → IfSome result.fault (IsStopped v.now) }
-    ensures still { (v : View) → F.view fs ≡ Some v → IfSome result.fault (λ f. StaysOn f (F.view result.fs ≡ Some (all_synced v))) }
-    ensures unused { (result.fault ≡ None) ⊎ (result.replies.items ≢ []) ⊎ IsUnused result.history.items result.pending (map (λ lane. lane.items) result.replies.items) }
-    ensures undone { (v : View) → F.view fs ≡ Some v → (result.fault ≡ None) ⊎ (result.replies.items ≢ []) ⊎ Works (Changes v.now) v (F.clock fs) (F.clock result.fs) (F.was fs) (F.was result.fs) (F.view result.fs) }
+    // What it tells: of the words, and of the disk.
+    ensures words { TellsWords (S.left input.old) (map (λ word. string_bytes word) words.now) (S.faults input.old) (S.faults input.new) fs result.fs result.fault }
+    ensures disk { TellsDisk F.view F.clock F.was F.faults fs result.fs result.fault result.history.items result.pending (map (λ lane. lane.items) result.replies.items) }
 
     // What a crash may leave, and what is left at the end.
-    ensures ran { (v : View) → F.view fs ≡ Some v → (result.fault ≡ None) ⊎ (result.replies.items ≢ []) → Told (F.view result.fs) (RanBy (S.left input.old) (map (λ word. string_bytes word) words.now) F.view F.clock F.was v (F.clock fs) result.fs result.history.items result.pending (map (λ lane. lane.items) result.replies.items)) }
+    ensures ran { (v : View) → F.view fs ≡ Some v → HasRun result.fault (map (λ lane. lane.items) result.replies.items) → Told (F.view result.fs) (RanBy (S.left input.old) (map (λ word. string_bytes word) words.now) F.view F.clock F.was v (F.clock fs) result.fs result.history.items result.pending (map (λ lane. lane.items) result.replies.items)) }
 
-    // What is answered, over any file system: each command has its reply, and what ended all is told alike. A reply tells of a call that
-    // failed only where the count of failed calls rose. Where that of no stream rose either, and the words, the script and the disk are good,
-    // every command has an answer of its own, or there was no memory for the call.
-    ensures answered { (result.fault ≡ None) ⊎ (result.replies.items ≢ []) → AnsweredBy (S.left input.old) (map (λ word. string_bytes word) words.now) F.view F.faults F.refused result.fs result.history.items result.pending (map (λ lane. lane.items) result.replies.items) }
-    ensures caused { AreCausedBy (F.faults fs) (F.faults result.fs) (map (λ lane. lane.items) result.replies.items) }
+    // What is answered, over any file system: each command has its reply, and what ended all is told alike. Where no count of failed calls
+    // rose, and the words, the script and the disk are good, every command has an answer of its own, or there was no memory for the call.
+    ensures answered { HasRun result.fault (map (λ lane. lane.items) result.replies.items) → AnsweredBy (S.left input.old) (map (λ word. string_bytes word) words.now) F.view F.faults F.refused result.fs result.history.items result.pending (map (λ lane. lane.items) result.replies.items) }
     ensures complete { (v : View) → F.view fs ≡ Some v → IsAsked (S.left input.old) (map (λ word. string_bytes word) words.now) → IsGoodHere v.now → ¬ (Rose (S.faults input.old) (S.faults input.new)) → ¬ (Rose (F.faults fs) (F.faults result.fs)) → ¬ (Rose (K.faults out.old) (K.faults out.new)) → IsComplete result.fault (map (λ lane. lane.items) result.replies.items) result.status }
 
-    // What is read. Only `run` reads, and no lane runs where a call of the source failed: this is told.
-    ensures read { (all : List ℕ) → S.left input.old ≡ Some all → TookFront all (S.left input.new) }
-    ensures unread { ¬ (Runs (map (λ word. string_bytes word) words.now)) → input.new ≡ input.old }
-    ensures source_count { S.faults input.old ≤ S.faults input.new }
-    ensures quiet { (result.fault ≡ None) ⊎ (result.replies.items ≢ []) → S.faults input.new ≡ S.faults input.old }
-    ensures failed { (result.fault ≡ Some TopFault.Input) ⊎ (result.fault ≡ Some TopFault.NoMemory) ⊎ (S.faults input.new ≡ S.faults input.old) }
-
-    // What is printed, and the exit status.
-    ensures output { (had : List ℕ) → K.taken out.old ≡ Some had → Prints had (output_of result.fault (map (λ lane. lane.items) result.replies.items)) (K.faults out.old) (K.faults out.new) (K.taken out.new) }
+    // What it takes and prints, and the exit status.
+    ensures input { TakesInput S.left S.faults (map (λ word. string_bytes word) words.now) input.old input.new result.fault (map (λ lane. lane.items) result.replies.items) }
+    ensures output { GivesOutput K.taken K.faults out.old out.new result.fault (map (λ lane. lane.items) result.replies.items) }
     ensures status { result.status ≡ status_of result.fault (map (λ lane. lane.items) result.replies.items) (nat_lt (S.faults input.old) (S.faults input.new)) (has_risen (F.faults fs) (F.faults result.fs)) (has_risen (K.faults out.old) (K.faults out.new)) }
-    ensures sink_count { K.faults out.old ≤ K.faults out.new }
 {
     let source_before = input.faults();
     let disk_before = fs.faults();
