@@ -74,7 +74,7 @@ class Watch:
     """Adds up the processor time of all steps of the gate that are seen."""
 
     def __init__(self):
-        self.known = {}
+        self.known, self.running = {}, set()
 
     def step(self):
         alive = {}
@@ -92,6 +92,7 @@ class Watch:
         for key, seconds in taken.items():
             if key:
                 self.known[key].seconds = max(seconds, self.known[key].seconds)
+        self.running = {(self.known[key].crate, self.known[key].kind) for key in taken if key}
 
     def began(self, pid, alive):
         """The step of the gate to which a process belongs: the topmost one above it."""
@@ -182,7 +183,7 @@ def kept():
 
 
 def watch_others(minutes):
-    """Keeps, each minute, what was seen so far of each step."""
+    """Keeps, each minute, what was seen so far of each step that has ended."""
     watch, run = Watch(), f"{os.getpid()}-{int(time.time())}"
     end = time.monotonic() + 60 * minutes
     others = [it for it in kept() if it["run"] != run]
@@ -192,7 +193,8 @@ def watch_others(minutes):
             watch.step()
             time.sleep(2)
         os.makedirs(ROOM, exist_ok=True)
-        found = [{"run": run, "crate": crate, "kind": kind, "minutes": round(cost, 3)} for (crate, kind), cost in longest(watch.seen()).items()]
+        ended = {key: cost for key, cost in longest(watch.seen()).items() if key not in watch.running}
+        found = [{"run": run, "crate": crate, "kind": kind, "minutes": round(cost, 3)} for (crate, kind), cost in ended.items()]
         with open(f"{ROOM}/times.new", "w", encoding="utf-8") as it:
             it.writelines(json.dumps(record) + "\n" for record in others + found)
         os.replace(f"{ROOM}/times.new", f"{ROOM}/times")
