@@ -79,8 +79,11 @@ fn rows(alloc: Global, fs: &mut MemFs, loader: &str) -> Result<Vec<Row>, Stop> {
     let at = path_of(alloc, folder.as_str())?;
     let names = known(fs.list(&at))?;
     for name in names.as_slice() {
+        if !name.as_str().ends_with(".conf") {
+            continue;
+        }
         let entry = at.child(name)?;
-        if name.as_str().ends_with(".conf") && is_file(fs, &entry)? {
+        if is_file(fs, &entry)? {
             let row = row_at(alloc, fs, loader, &entry)?;
             let place = place_of(&rows, row.version);
             rows.insert(place, row)?;
