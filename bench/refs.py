@@ -94,5 +94,4 @@ def main():
     shutil.rmtree(FOLDER, ignore_errors=True)
 
 
-if __name__ == "__main__":
-    main()
+main()

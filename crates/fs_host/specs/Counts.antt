@@ -4,12 +4,12 @@ use Rattle.fs_host.specs.declared.fs.HostFs.{HostFs}
 use Rattle.fs_host.specs.declared.streams.StdSource.{StdSource}
 use Rattle.fs_host.specs.declared.streams.StdSink.{StdSink}
 
--- How many changing calls there were. The last three arguments are those of what syncs several files at once.
-abbrev pub clock_of : {R File Dir X : Type 0} {F : X → Type 0} {M : _} → HostFs R File Dir X F M → ℕ
+-- how many changing calls there were
+abbrev pub clock_of : {R File Dir : Type 0} → HostFs R File Dir → ℕ
 clock_of fs = fs.clock
 
 -- how many calls failed
-abbrev pub faults_of : {R File Dir X : Type 0} {F : X → Type 0} {M : _} → HostFs R File Dir X F M → ℕ
+abbrev pub faults_of : {R File Dir : Type 0} → HostFs R File Dir → ℕ
 faults_of fs = fs.faults
 
 abbrev pub failed_takes : {S : Type 0} → StdSource S → ℕ

@@ -18,10 +18,10 @@ ghost use Rattle.std.specs.BTreeSet.{contains_text};
 use fs_trait::{FsErr, Node};
 use host_files::{
     ATTRIBUTES, Changed, Fault, FileHeader, HostKind, HostPath, Known, Leaf, Machine, Mark,
-    NoStart, Opened, PLACE, Recent, Refusal, Standing, Syncer, Young, attributes_bytes,
-    extend_leaf, file_front, has_reserved, is_plain, link_front, link_or_copy, new_folder,
-    open_leaf, plain_attributes, read_attributes, rename, show_folder, spell, spell_parent, start,
-    sync, walk, withdraw,
+    NoStart, Opened, PLACE, Recent, Refusal, Standing, Young, attributes_bytes, extend_leaf,
+    file_front, has_reserved, is_plain, link_front, link_or_copy, new_folder, open_leaf,
+    plain_attributes, read_attributes, rename, show_folder, spell, spell_parent, start, sync, walk,
+    withdraw,
 };
 use ost_forms::{OBJECT_LIMIT, ObjFault};
 use ost_types::{Bytes, FsPath, Meta, Name, Names, NoMemory, Text};
@@ -42,7 +42,6 @@ pub struct CurrentFolder<R: Machine> {
     parent: HostPath,
     known: Known,
     young: Young<R::File>,
-    syncer: Option<Syncer>,
     changed: Changed,
     recent: Recent<R::File>,
 }
@@ -59,7 +58,6 @@ impl<R: Machine> Drop for CurrentFolder<R> {
             parent: _,
             known: _,
             young: _,
-            syncer: _,
             changed: _,
             recent: _,
         } = self;
@@ -67,7 +65,7 @@ impl<R: Machine> Drop for CurrentFolder<R> {
 }
 
 impl<R: Machine> CurrentFolder<R> {
-    pub fn new(rt: R, syncer: Option<Syncer>) -> Result<CurrentFolder<R>, NoMemory> {
+    pub fn new(rt: R) -> Result<CurrentFolder<R>, NoMemory> {
         let (top, mark) = match start(&rt) {
             Ok((top, mark)) => (Some(top), mark),
             Err(NoStart::Failed) => (None, Mark::Open),
@@ -83,7 +81,6 @@ impl<R: Machine> CurrentFolder<R> {
             parent: HostPath::new(alloc)?,
             known: Known::new(alloc),
             young: Young::new(alloc)?,
-            syncer,
             changed: Changed::new(alloc),
             recent: Recent::new(alloc)?,
         })
@@ -579,7 +576,7 @@ impl<R: Machine> CurrentFolder<R> {
             return Err(Fault);
         }
         self.recent.close();
-        let settled = self.young.settle(&self.rt, self.syncer.as_ref());
+        let settled = self.young.settle(&self.rt);
         if settled.is_err() {
             self.changed.lose();
         }

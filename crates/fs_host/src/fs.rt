@@ -7,7 +7,7 @@ ghost use Rattle.host_files.specs.Refusal.{answered, IsClockAfter};
 
 use crate::CurrentFolder;
 use fs_trait::{Fs, FsErr, Node};
-use host_files::{Machine, Refusal, Syncer};
+use host_files::{Machine, Refusal};
 use ost_types::{Bytes, FsPath, Meta, Names, NoMemory, Text};
 
 /// The current folder of the machine. It tells nothing of what it holds.
@@ -26,28 +26,13 @@ pub struct HostFs<R: Machine> {
 impl<R: Machine> HostFs<R> {
     ghost use Rattle.fs_host.specs.Counts.{clock_of, faults_of};
 
-    /// The file system, with room for the texts of paths. Young files are synced one after the other.
+    /// The file system, with room for the texts of paths.
     pub fn new(rt: R) -> Result<HostFs<R>, NoMemory>
         ensures clock { IfOk result (λ fs. clock_of fs ≡ 0) }
         ensures faults { IfOk result (λ fs. faults_of fs ≡ 0) }
     {
-        HostFs::over(rt, None)
-    }
-
-    /// The same, where several young files are synced at once.
-    pub fn with_syncer(rt: R, syncer: Syncer) -> Result<HostFs<R>, NoMemory>
-        ensures clock { IfOk result (λ fs. clock_of fs ≡ 0) }
-        ensures faults { IfOk result (λ fs. faults_of fs ≡ 0) }
-    {
-        HostFs::over(rt, Some(syncer))
-    }
-
-    fn over(rt: R, syncer: Option<Syncer>) -> Result<HostFs<R>, NoMemory>
-        ensures clock { IfOk result (λ fs. clock_of fs ≡ 0) }
-        ensures faults { IfOk result (λ fs. faults_of fs ≡ 0) }
-    {
         Ok(HostFs {
-            folder: CurrentFolder::new(rt, syncer)?,
+            folder: CurrentFolder::new(rt)?,
             clock: 0,
             faults: 0,
         })

@@ -42,7 +42,6 @@ impl<'a, R: Machine> HostBench<'a, R> {
         drop(self.first.take());
         self.watch.opens.set(0);
         let fs = self.opened()?;
-        self.watch.looks.set(0);
         drop(self.first.replace(fs));
         Ok(())
     }
@@ -65,11 +64,9 @@ impl<'a, R: Machine> Bench for HostBench<'a, R> {
         let mut fields = fields;
         match name {
             "opens" => return number(fields.alloc(), self.watch.opens.get() as u64),
-            "looks" => return number(fields.alloc(), self.watch.looks.replace(0) as u64),
             "open" | "new" => self.open()?,
             "open_second" => self.open_second()?,
             "close" => self.close(),
-            "loses" => self.watch.loses.set(fields.text()? == "syncs"),
             "links" => self.watch.link.set(link_error(fields.text()?)?),
             "second" => return answer_second(self.second.as_mut(), &mut fields),
             _ if name.starts_with("host_") => return on_host(&self.rt, name, &mut fields),

@@ -6,9 +6,8 @@ ghost use Rattle.host_files.specs.Young.{AreSynced, IsSettled};
 use crate::leaf::{extend, extend_leaf};
 use crate::links::link_or_copy;
 use crate::place::{rename, spell_young};
-use crate::private::new_file;
-use crate::share::{Share, sync_in_turn};
-use crate::{Fault, HostPath, Machine, Syncer, Syncs};
+use crate::private::{new_file, sync};
+use crate::{Fault, HostPath};
 use fs_trait::FsErr;
 use ost_types::NoMemory;
 use std::alloc::{AllocError, Global};
@@ -48,7 +47,6 @@ pub struct Young<F> {
     last: Option<(F, u64)>,
     // The text of one of them.
     text: HostPath,
-    shares: Vec<Share>,
 }
 
 impl<F: OpenFile + Write + Drop> Young<F> {
@@ -61,7 +59,6 @@ impl<F: OpenFile + Write + Drop> Young<F> {
             bytes: 0,
             last: None,
             text: HostPath::new(alloc)?,
-            shares: Share::all(alloc)?,
         })
     }
 
@@ -192,29 +189,21 @@ impl<F: OpenFile + Write + Drop> Young<F> {
     }
 
     /// Syncs all young files, and then gives them their names.
-    pub fn settle<R: Machine<File = F>>(
-        &mut self,
-        rt: &R,
-        syncer: Option<&Syncer>,
-    ) -> Result<(), Fault>
+    pub fn settle<R: Files<File = F>>(&mut self, rt: &R) -> Result<(), Fault>
         ensures { OnOk result (IsSettled self.new) }
     {
-        self.sync(rt, syncer)?;
+        self.sync(rt)?;
         self.show(rt)
     }
 
     // Syncs all files that are to have names.
-    fn sync<R: Machine<File = F>>(&mut self, rt: &R, syncer: Option<&Syncer>) -> Result<(), Fault>
+    fn sync<R: Files<File = F>>(&mut self, rt: &R) -> Result<(), Fault>
         ensures { OnOk result (AreSynced self.new) }
     {
         self.last = None;
-        let used = self.files.len().min(self.shares.len());
-        if sync_files(rt, syncer, &self.files, &mut self.shares[..used]) {
-            self.synced = self.files.len();
-            Ok(())
-        } else {
-            Err(Fault)
-        }
+        sync_files(rt, &self.files, &mut self.text)?;
+        self.synced = self.files.len();
+        Ok(())
     }
 
     // Gives the files their names.
@@ -233,21 +222,16 @@ impl<F: OpenFile + Write + Drop> Young<F> {
     }
 }
 
-// Whether all files that are to have names were synced.
-fn sync_files<R: Syncs>(
-    rt: &R,
-    syncer: Option<&Syncer>,
-    files: &[YoungFile],
-    shares: &mut [Share],
-) -> bool {
-    for share in shares.iter_mut() {
-        share.begin();
+fn sync_files<R: Files>(rt: &R, files: &[YoungFile], text: &mut HostPath) -> Result<(), Fault> {
+    let mut number = 0u32;
+    for file in files {
+        if file.names > 0 {
+            spell_young(number, text);
+            sync(rt, text.as_str())?;
+        }
+        number = number.saturating_add(1);
     }
-    match syncer {
-        Some(syncer) => syncer.sync(files, shares),
-        None => sync_in_turn(rt, files, shares),
-    }
-    shares.iter().all(Share::is_synced)
+    Ok(())
 }
 
 // Gives a file one of its names; the last one takes it out of the reserved place.

@@ -6,32 +6,21 @@ mod help;
 use fs_host::{HostFs, StdSink, StdSource};
 use fs_watch::Watched;
 use help::{USAGE, VERSION};
-use host_files::{Share, Syncer, YoungFile, sync_at_once};
 use std::io::ErrorKind;
 use std::process::ExitCode;
 use top_call::{MEMORY_LINE, TopFault, USAGE_LINE, ostree, write_all};
 
-// Only here does the machine have threads, so what starts them is made here.
 fn main(rt: HostRuntime) -> ExitCode {
-    let Ok(other) = rt.clone() else {
-        return ExitCode::from(3);
-    };
-    let at_once = move |files: &[YoungFile], shares: &mut [Share]| sync_at_once(
-        &other, files, shares,
-    );
-    match Box::new(rt.alloc(), at_once) {
-        Ok(at_once) => ExitCode::from(run(rt, Syncer::new(at_once))),
-        Err(_) => ExitCode::from(3),
-    }
+    ExitCode::from(run(rt))
 }
 
-fn run(rt: HostRuntime, syncer: Syncer) -> u8 {
+fn run(rt: HostRuntime) -> u8 {
     let mut out = match rt.clone() {
         Ok(rt) => StdSink::new(rt),
         Err(_) => return 3,
     };
     match words_of(&rt) {
-        Ok(words) => obey(rt, syncer, &words, &mut out),
+        Ok(words) => obey(rt, &words, &mut out),
         Err(ErrorKind::OutOfMemory) => tell(&mut out, MEMORY_LINE, 3),
         Err(_) => {
             hint(&rt);
@@ -59,7 +48,7 @@ fn words_of(rt: &HostRuntime) -> Result<Vec<String>, ErrorKind> {
         .map_err(|_| ErrorKind::OutOfMemory)
 }
 
-fn obey(rt: HostRuntime, syncer: Syncer, words: &[String], out: &mut StdSink<HostRuntime>) -> u8 {
+fn obey(rt: HostRuntime, words: &[String], out: &mut StdSink<HostRuntime>) -> u8 {
     match words.first().map(|word| word.as_str()) {
         Some("--help") => tell(out, USAGE, 0),
         Some("--version") => tell(out, VERSION, 0),
@@ -69,7 +58,7 @@ fn obey(rt: HostRuntime, syncer: Syncer, words: &[String], out: &mut StdSink<Hos
             let Ok(other) = rt.clone() else {
                 return tell(out, MEMORY_LINE, 3);
             };
-            let Ok(fs) = HostFs::with_syncer(other, syncer) else {
+            let Ok(fs) = HostFs::new(other) else {
                 return tell(out, MEMORY_LINE, 3);
             };
             let ended = ostree(alloc, words, Watched::new(fs), &mut input, out);
