@@ -1,0 +1,146 @@
+//! What no words of the program ask for so far: a checkout that is removed. What a checkout leaves is told by the cases of `case_runner`.
+ghost use Rattle.ost_types.specs.Mode.{IsFileMode, IsFolderMode};
+
+use crate::Sketch;
+use checkout::remove_tree;
+use fs_memory::MemFs;
+use fs_trait::{Fs, Node};
+use ost_types::{Csum, FsPath, Kind, Meta, Name, NodeName, ObjName, Text, Xattrs, is_link_mode};
+use repo_layout::object_path;
+use std::alloc::Global;
+use std::process::Abort;
+use std::test::Fail;
+
+/// The name of a file's object, and that of a link's, as ostree made them.
+const FILE: &[u8] = b"44f778e59f0a4748d6b0c90a47347212a231c4ad1e8f7ea5c5dffc7749153a6b";
+
+const LINK: &[u8] = b"389846c2702216e1367c8dfb68326a6b93ccf5703c89c93979052a9bf359608e";
+
+fn folder_meta(alloc: Global, uid: u32) -> Meta
+    ensures { IsFolderMode result.mode }
+{
+    Meta {
+        uid,
+        gid: 0,
+        mode: 0o040755,
+        xattrs: Xattrs::new(alloc),
+    }
+}
+
+fn file_meta(alloc: Global) -> Meta
+    ensures { IsFileMode result.mode }
+{
+    Meta {
+        uid: 0,
+        gid: 0,
+        mode: 0o100644,
+        xattrs: Xattrs::new(alloc),
+    }
+}
+
+fn laid_out(alloc: Global) -> Result<MemFs, Fail> {
+    let mut fs = MemFs::new(alloc)?;
+    let folders: [&[u8]; 6] = [
+        b"/ostree",
+        b"/ostree/repo",
+        b"/ostree/repo/objects",
+        b"/ostree/repo/objects/38",
+        b"/ostree/repo/objects/44",
+        b"/checkout",
+    ];
+    for folder in folders {
+        fs.mkdir(&FsPath::parse(alloc, folder)?, &folder_meta(alloc, 0))?;
+    }
+    Ok(fs)
+}
+
+fn sum(digits: &[u8]) -> Result<Csum, Fail> {
+    Ok(Csum::from_hex(digits).ok_or("no sum")?)
+}
+
+fn object_at(alloc: Global, digits: &[u8]) -> Result<FsPath, Fail> {
+    let csum = sum(digits)?;
+    let kind = Kind::File;
+    Ok(object_path(alloc, &ObjName { csum, kind })?)
+}
+
+fn put_file(fs: &mut MemFs, alloc: Global) -> Result<(), Fail> {
+    let at = object_at(alloc, FILE)?;
+    fs.create(&at, &file_meta(alloc))?;
+    fs.append(&at, b"hello\n")?;
+    Ok(())
+}
+
+fn put_link(rt: &impl Abort, fs: &mut MemFs, alloc: Global) -> Result<(), Fail> {
+    let mut meta = file_meta(alloc);
+    meta.mode = 0o120777;
+    assert!(rt; is_link_mode(meta.mode));
+    match Text::parse(alloc, b"usr/bin".as_slice())? {
+        Some(target) => Ok(fs.symlink(&object_at(alloc, LINK)?, &target, &meta)?),
+        None => Err("no text")?,
+    }
+}
+
+fn name(alloc: Global, text: &[u8]) -> Result<Name, Fail> {
+    Ok(Name::parse(alloc, text)?.ok_or("no name")?)
+}
+
+/// A link, a folder, and a file in it.
+fn small_tree(rt: &impl Abort, alloc: Global) -> Result<Sketch, Fail> {
+    let home = FsPath::parse(alloc, b"/checkout")?;
+    let root = FsPath::root(alloc);
+    let usr = FsPath::parse(alloc, b"/usr")?;
+    let top = folder_meta(alloc, 7);
+    let mut tree = Sketch::new(alloc, home, name(alloc, b"a")?, top)?.ok_or("no room")?;
+    let link = NodeName::Leaf(sum(LINK)?);
+    assert!(rt; tree.add(&root, &name(alloc, b"bin")?, link)?);
+    let folder = NodeName::Folder(folder_meta(alloc, 9));
+    assert!(rt; tree.add(&root, &name(alloc, b"usr")?, folder)?);
+    let file = NodeName::Leaf(sum(FILE)?);
+    assert!(rt; tree.add(&usr, &name(alloc, b"hello")?, file)?);
+    Ok(tree)
+}
+
+fn is_link(fs: &mut MemFs, alloc: Global, at: &[u8]) -> Result<bool, Fail> {
+    match fs.stat(&FsPath::parse(alloc, at)?)? {
+        Some(Node::Link { target, .. }) => Ok(target.as_slice() == b"usr/bin".as_slice()),
+        _ => Ok(false),
+    }
+}
+
+/// Removes what stands under a name of a folder.
+#[tactic(auto, using(crate::proofs::Named::not_root))]
+fn removed(fs: &mut MemFs, alloc: Global, home: &FsPath, name: &Name) -> Result<(), Fail> {
+    if !home.can_hold(name) {
+        return Err("no room")?;
+    }
+    let at = home.child(name)?;
+    Ok(remove_tree(alloc, fs, at)?)
+}
+
+#[test]
+fn removed_again(rt: HostRuntime) -> Result<(), Fail> {
+    let alloc = rt.alloc();
+    let mut fs = laid_out(alloc)?;
+    put_file(&mut fs, alloc)?;
+    put_link(&rt, &mut fs, alloc)?;
+    let home = FsPath::parse(alloc, b"/checkout")?;
+    let into = name(alloc, b"a")?;
+    let answer = small_tree(&rt, alloc)?.check_out(alloc, &mut fs)?;
+    assert!(rt; answer == Some(Ok(())));
+    removed(&mut fs, alloc, &home, &into)?;
+    assert!(rt; fs.list(&home)?.as_slice().is_empty());
+    assert!(rt; fs.stat(&object_at(alloc, FILE)?)?.is_some());
+    assert!(rt;
+        is_link(
+            &mut fs,
+            alloc,
+            b"/ostree/repo/objects/38/9846c2702216e1367c8dfb68326a6b93ccf5703c89c93979052a9bf359608e.file"
+        )?
+    );
+    // what isn't there is removed at once
+    removed(&mut fs, alloc, &home, &into)?;
+    let again = small_tree(&rt, alloc)?.check_out(alloc, &mut fs)?;
+    assert!(rt; again == Some(Ok(())));
+    Ok(())
+}
