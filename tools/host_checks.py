@@ -1,13 +1,16 @@
 #!/usr/bin/env python3
 """Tries what the machine does to ostree_cli's folder: two processes at once, odd files, limits, modes.
 
-Usage: tools/host_checks.py [pairs [N]] [fifo] [long] [limit] [modes]      from the top of the repository, after `make`; with no word all
+Usage: tools/host_checks.py [pairs [N]] [fifo] [long] [limit] [modes] [sync]
+
+From the top of the repository, after `make`; with no word all. `sync` needs strace.
 
 pairs   N times (300) two processes commit in one folder at once: at most one ends with a fault, and the folder opens then
 fifo    a FIFO where objects are staged: a fault that is told, and nothing waits for it
 long    a file of 1 TiB at an object's path, as the configuration and as a ref: a refusal that takes no memory
 limit   a limit of file sizes, whose signal is ignored: a fault that is told, and the folder opens without it
 modes   with no umask: files are 0600 and folders 0700
+sync    one of the threads fails to sync its young file: no change is told or shown, and the folder opens without it
 
 Each check prints a line; any that fails ends the run with status 1.
 """
@@ -23,6 +26,8 @@ FOLDER = os.path.join(os.getcwd(), "build", "host_checks")
 REPOSITORY = os.path.join(FOLDER, "ostree", "repo")
 SECONDS = 60
 MEMORY = 256 << 20
+# Of the first commit: a file, a tree, its attributes, and the commit.
+OBJECTS = 4
 
 
 def script(number, content="a"):
@@ -141,8 +146,24 @@ def modes():
     return "0600 and 0700", True
 
 
+def sync():
+    fresh()
+    ask(["run"], script(0))
+    lost = os.path.join(FOLDER, ".ost-new", "0001")
+    traced = ["strace", "-f", "-qq", "-P", lost, "-e", "inject=fsync:error=EIO", "-o", os.path.join(FOLDER, "syncs"), PROGRAM, "run"]
+    it = subprocess.run(traced, cwd=FOLDER, input=script(1), capture_output=True, text=True, timeout=SECONDS)
+    with open(os.path.join(FOLDER, "syncs"), encoding="ascii", errors="replace") as said:
+        injected = sum("INJECTED" in line for line in said)
+    if injected != 1:
+        return f"{injected} syncs failed, and not one"
+    shown = [name for _, _, names in os.walk(os.path.join(REPOSITORY, "objects")) for name in names]
+    if it.returncode == 0 or len(shown) != OBJECTS or ask(["rev-parse", "os/main1"])[0] == 0:
+        return f"status {it.returncode}, {it.stdout!r}, {len(shown)} objects"
+    return opens() or (f"status {it.returncode}, {it.stdout.strip()!r}", True)
+
+
 def main():
-    checks = {"pairs": pairs, "fifo": fifo, "long": long, "limit": limit, "modes": modes}
+    checks = {"pairs": pairs, "fifo": fifo, "long": long, "limit": limit, "modes": modes, "sync": sync}
     words = [word for word in sys.argv[1:] if not word.isdigit()] or list(checks)
     counts = [int(word) for word in sys.argv[1:] if word.isdigit()]
     failed = 0

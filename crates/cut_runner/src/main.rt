@@ -47,9 +47,20 @@ fn run_scripts(rt: &HostRuntime, scripts: u64, tells_counts: bool) -> io::Result
 
 fn tell(rt: &HostRuntime, number: u64, stop: &Stop) -> io::Result<ExitCode> {
     match stop {
-        Stop::Wrong(text) => println!(rt; "{text}")?,
-        Stop::Refused(_) => println!(rt; "script {number}: a look was refused")?,
-        Stop::NoMemory => println!(rt; "script {number}: out of memory")?,
+        Stop::Wrong(text) => print_twice(rt, text.as_str())?,
+        Stop::Refused(_) => print_stop(rt, number, "a look was refused")?,
+        Stop::NoMemory => print_stop(rt, number, "out of memory")?,
     }
     Ok(ExitCode::from(1))
+}
+
+fn print_stop(rt: &HostRuntime, number: u64, why: &str) -> io::Result<()> {
+    eprintln!(rt; "script {number}: {why}")?;
+    println!(rt; "script {number}: {why}")
+}
+
+// What is wrong stands in the errors, too, which the gate tells.
+fn print_twice(rt: &HostRuntime, text: &str) -> io::Result<()> {
+    eprintln!(rt; "{text}")?;
+    println!(rt; "{text}")
 }

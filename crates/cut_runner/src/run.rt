@@ -9,9 +9,13 @@ use crate::tree::{Tree, read_tree};
 use fs_host::HostFs;
 use fs_memory::MemFs;
 use fs_trait::{Fs, FsErr};
+use host_files::InTurn;
 use host_memory::{Disk, Drive, Loss, MemoryHost};
 use std::alloc::Global;
 use std::cell::RefCell;
+
+// The file system on a disk in memory.
+type DiskFs<'a> = HostFs<MemoryHost<'a>, InTurn<MemoryHost<'a>>>;
 
 /// How much was tried.
 #[derive(Clone, Copy, Debug, PartialEq, Eq)]
@@ -78,17 +82,22 @@ pub fn run_script(alloc: Global, number: u64) -> Result<Counts, Stop> {
     Ok(run.counts)
 }
 
+fn start_on<'a>(alloc: Global, drive: &'a RefCell<Drive>) -> Result<DiskFs<'a>, Stop> {
+    let syncer = InTurn::new(MemoryHost::new(alloc, drive));
+    Ok(HostFs::new(MemoryHost::new(alloc, drive), syncer)?)
+}
+
 // All that a file system shows on a disk.
 fn tree_on(alloc: Global, disk: Disk) -> Result<Tree, Stop> {
     let drive = RefCell::new(Drive::new(alloc, disk, false));
-    let mut fs = HostFs::new(MemoryHost::new(alloc, &drive))?;
+    let mut fs = start_on(alloc, &drive)?;
     read_tree(alloc, &mut fs)
 }
 
 // What stands on a disk after each call of the machine by which a file system starts there.
 fn images_at_start(alloc: Global, disk: Disk) -> Result<Vec<Disk>, Stop> {
     let drive = RefCell::new(Drive::new(alloc, disk, true));
-    let fs = HostFs::new(MemoryHost::new(alloc, &drive))?;
+    let fs = start_on(alloc, &drive)?;
     let images = images_of(&drive, alloc);
     drop(fs);
     Ok(images)
@@ -131,7 +140,7 @@ impl Run {
         calls: Vec<Call>,
     ) -> Result<(Disk, (Moment, Moment)), Stop> {
         let drive = RefCell::new(Drive::new(self.alloc, disk, true));
-        let mut fs = HostFs::new(MemoryHost::new(self.alloc, &drive))?;
+        let mut fs = start_on(self.alloc, &drive)?;
         let mut before = Moment::new(self.alloc, 0, at.names().copy()?);
         let mut after = at;
         let begun = disk_of(self.alloc, &drive)?;
@@ -159,7 +168,7 @@ impl Run {
     // Makes one call on both file systems, and cuts the power after each call of the machine that it made.
     fn step<'a>(
         &mut self,
-        fs: &mut HostFs<MemoryHost<'a>>,
+        fs: &mut DiskFs<'a>,
         drive: &'a RefCell<Drive>,
         call: &Call,
         at: Moment,

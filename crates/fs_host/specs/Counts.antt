@@ -5,11 +5,11 @@ use Rattle.fs_host.specs.declared.streams.StdSource.{StdSource}
 use Rattle.fs_host.specs.declared.streams.StdSink.{StdSink}
 
 -- how many changing calls there were
-abbrev pub clock_of : {R File Dir : Type 0} → HostFs R File Dir → ℕ
+abbrev pub clock_of : {R File Dir S : Type 0} → HostFs R File Dir S → ℕ
 clock_of fs = fs.clock
 
 -- how many calls failed
-abbrev pub faults_of : {R File Dir : Type 0} → HostFs R File Dir → ℕ
+abbrev pub faults_of : {R File Dir S : Type 0} → HostFs R File Dir S → ℕ
 faults_of fs = fs.faults
 
 abbrev pub failed_takes : {S : Type 0} → StdSource S → ℕ

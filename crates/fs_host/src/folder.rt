@@ -18,10 +18,10 @@ ghost use Rattle.std.specs.BTreeSet.{contains_text};
 use fs_trait::{FsErr, Node};
 use host_files::{
     ATTRIBUTES, Changed, Fault, FileHeader, HostKind, HostPath, Known, Leaf, Machine, Mark,
-    NoStart, Opened, PLACE, Recent, Refusal, Standing, Young, attributes_bytes, extend_leaf,
-    file_front, has_reserved, is_plain, link_front, link_or_copy, new_folder, open_leaf,
-    plain_attributes, read_attributes, rename, show_folder, spell, spell_parent, start, sync, walk,
-    withdraw,
+    NoStart, Opened, PLACE, Recent, Refusal, Standing, Syncer, Young, attributes_bytes,
+    extend_leaf, file_front, has_reserved, is_plain, link_front, link_or_copy, new_folder,
+    open_leaf, plain_attributes, read_attributes, rename, show_folder, spell, spell_parent, start,
+    sync, walk, withdraw,
 };
 use ost_forms::{OBJECT_LIMIT, ObjFault};
 use ost_types::{Bytes, FsPath, Meta, Name, Names, NoMemory, Text};
@@ -32,7 +32,7 @@ use std::io::{ErrorKind, Read};
 use std::rt::Files;
 
 /// The current folder, with room for the texts of paths.
-pub struct CurrentFolder<R: Machine> {
+pub struct CurrentFolder<R: Machine, S: Syncer> {
     rt: R,
     // The folder itself, whose lock is held while it is open. None where there was no start: each call fails then.
     top: Option<R::File>,
@@ -42,11 +42,12 @@ pub struct CurrentFolder<R: Machine> {
     parent: HostPath,
     known: Known,
     young: Young<R::File>,
+    syncer: S,
     changed: Changed,
     recent: Recent<R::File>,
 }
 
-impl<R: Machine> Drop for CurrentFolder<R> {
+impl<R: Machine, S: Syncer> Drop for CurrentFolder<R, S> {
     fn drop(mut self) {
         self.end();
         let CurrentFolder {
@@ -58,14 +59,15 @@ impl<R: Machine> Drop for CurrentFolder<R> {
             parent: _,
             known: _,
             young: _,
+            syncer: _,
             changed: _,
             recent: _,
         } = self;
     }
 }
 
-impl<R: Machine> CurrentFolder<R> {
-    pub fn new(rt: R) -> Result<CurrentFolder<R>, NoMemory> {
+impl<R: Machine, S: Syncer> CurrentFolder<R, S> {
+    pub fn new(rt: R, syncer: S) -> Result<CurrentFolder<R, S>, NoMemory> {
         let (top, mark) = match start(&rt) {
             Ok((top, mark)) => (Some(top), mark),
             Err(NoStart::Failed) => (None, Mark::Open),
@@ -81,6 +83,7 @@ impl<R: Machine> CurrentFolder<R> {
             parent: HostPath::new(alloc)?,
             known: Known::new(alloc),
             young: Young::new(alloc)?,
+            syncer,
             changed: Changed::new(alloc),
             recent: Recent::new(alloc)?,
         })
@@ -576,7 +579,7 @@ impl<R: Machine> CurrentFolder<R> {
             return Err(Fault);
         }
         self.recent.close();
-        let settled = self.young.settle(&self.rt);
+        let settled = self.young.settle(&self.rt, &self.syncer);
         if settled.is_err() {
             self.changed.lose();
         }

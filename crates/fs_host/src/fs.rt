@@ -7,7 +7,7 @@ ghost use Rattle.host_files.specs.Refusal.{answered, IsClockAfter};
 
 use crate::CurrentFolder;
 use fs_trait::{Fs, FsErr, Node};
-use host_files::{Machine, Refusal};
+use host_files::{Machine, Refusal, Syncer};
 use ost_types::{Bytes, FsPath, Meta, Names, NoMemory, Text};
 
 /// The current folder of the machine. It tells nothing of what it holds.
@@ -17,22 +17,22 @@ use ost_types::{Bytes, FsPath, Meta, Names, NoMemory, Text};
 /// has owner 0, group 0 and mode 0o040755. Any other host file, a link of the host, a device, and the names `.ost-folder`
 /// and `.ost-new` are `Failed` and counted, as is every error of the machine, and attributes of more than 64 MiB.
 #[derive(Drop)]
-pub struct HostFs<R: Machine> {
-    folder: CurrentFolder<R>,
+pub struct HostFs<R: Machine, S: Syncer> {
+    folder: CurrentFolder<R, S>,
     clock: u64,
     faults: u64,
 }
 
-impl<R: Machine> HostFs<R> {
+impl<R: Machine, S: Syncer> HostFs<R, S> {
     ghost use Rattle.fs_host.specs.Counts.{clock_of, faults_of};
 
     /// The file system, with room for the texts of paths.
-    pub fn new(rt: R) -> Result<HostFs<R>, NoMemory>
+    pub fn new(rt: R, syncer: S) -> Result<HostFs<R, S>, NoMemory>
         ensures clock { IfOk result (λ fs. clock_of fs ≡ 0) }
         ensures faults { IfOk result (λ fs. faults_of fs ≡ 0) }
     {
         Ok(HostFs {
-            folder: CurrentFolder::new(rt)?,
+            folder: CurrentFolder::new(rt, syncer)?,
             clock: 0,
             faults: 0,
         })
@@ -98,7 +98,7 @@ impl<R: Machine> HostFs<R> {
     }
 }
 
-impl<R: Machine> Fs for HostFs<R> {
+impl<R: Machine, S: Syncer> Fs for HostFs<R, S> {
     ghost view = { λ _. None };
 
     ghost clock = { λ s. s.clock };

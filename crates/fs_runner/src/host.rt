@@ -6,17 +6,19 @@ use crate::on_host::on_host;
 use crate::word::word;
 use fs_host::HostFs;
 use fs_trait::Fs;
-use host_files::Machine;
+use host_files::{InTurn, Machine, Syncer};
 use sheet::{Bench, Fields, Stop, number, text};
 use std::io::ErrorKind;
+
+type WatchedFs<'a, R> = HostFs<Watched<'a, R>, InTurn<Watched<'a, R>>>;
 
 /// The machine, and up to two file systems over its folder.
 #[derive(Drop)]
 pub struct HostBench<'a, R: Machine> {
     rt: R,
     watch: &'a Watch,
-    first: Option<HostFs<Watched<'a, R>>>,
-    second: Option<HostFs<Watched<'a, R>>>,
+    first: Option<WatchedFs<'a, R>>,
+    second: Option<WatchedFs<'a, R>>,
 }
 
 impl<'a, R: Machine> HostBench<'a, R> {
@@ -29,12 +31,13 @@ impl<'a, R: Machine> HostBench<'a, R> {
         }
     }
 
-    fn opened(&self) -> Result<HostFs<Watched<'a, R>>, Stop> {
+    fn opened(&self) -> Result<WatchedFs<'a, R>, Stop> {
         let host = Watched {
             rt: self.rt.clone()?,
             watch: self.watch,
         };
-        Ok(HostFs::new(host)?)
+        let syncer = InTurn::new(host.clone()?);
+        Ok(HostFs::new(host, syncer)?)
     }
 
     // The one before ends first.
@@ -42,6 +45,7 @@ impl<'a, R: Machine> HostBench<'a, R> {
         drop(self.first.take());
         self.watch.opens.set(0);
         let fs = self.opened()?;
+        self.watch.looks.set(0);
         drop(self.first.replace(fs));
         Ok(())
     }
@@ -64,9 +68,11 @@ impl<'a, R: Machine> Bench for HostBench<'a, R> {
         let mut fields = fields;
         match name {
             "opens" => return number(fields.alloc(), self.watch.opens.get() as u64),
+            "looks" => return number(fields.alloc(), self.watch.looks.replace(0) as u64),
             "open" | "new" => self.open()?,
             "open_second" => self.open_second()?,
             "close" => self.close(),
+            "loses" => self.watch.loses.set(fields.text()? == "syncs"),
             "links" => self.watch.link.set(link_error(fields.text()?)?),
             "second" => return answer_second(self.second.as_mut(), &mut fields),
             _ if name.starts_with("host_") => return on_host(&self.rt, name, &mut fields),
@@ -77,16 +83,16 @@ impl<'a, R: Machine> Bench for HostBench<'a, R> {
 }
 
 // The call that stands behind it, on the second file system.
-fn answer_second<R: Machine>(
-    fs: Option<&mut HostFs<R>>,
+fn answer_second<R: Machine, S: Syncer>(
+    fs: Option<&mut HostFs<R, S>>,
     fields: &mut Fields,
 ) -> Result<Vec<u8>, Stop> {
     let name = fields.text()?;
     answer_of(fs, name, fields)
 }
 
-fn answer_of<R: Machine>(
-    fs: Option<&mut HostFs<R>>,
+fn answer_of<R: Machine, S: Syncer>(
+    fs: Option<&mut HostFs<R, S>>,
     name: &str,
     fields: &mut Fields,
 ) -> Result<Vec<u8>, Stop> {

@@ -1,5 +1,5 @@
 //! A machine that answers as a sheet asks.
-use host_files::Machine;
+use host_files::{Machine, Syncs, sync};
 use std::alloc::{AllocError, Allocator, Global};
 use std::cell::Cell;
 use std::fs::{Metadata, OpenOptions};
@@ -10,25 +10,34 @@ use std::rt::Files;
 /// The file whose opens are counted.
 pub const WATCHED: &str = "./killed/leaf";
 
+// The second young file, whose sync may fail.
+const LOST: &str = "./.ost-new/0001";
+
 /// What a machine is to answer, and what was seen of it.
 #[derive(Drop)]
 pub struct Watch {
     /// The error of each link, where links fail.
     pub link: Cell<Option<ErrorKind>>,
+    /// Whether the sync of the second young file fails.
+    pub loses: Cell<bool>,
     /// How often the file was opened.
     pub opens: Cell<u32>,
+    /// How often it was looked at what stands at a text.
+    pub looks: Cell<u32>,
 }
 
 impl Watch {
     pub fn new() -> Watch {
         Watch {
             link: Cell::new(None),
+            loses: Cell::new(false),
             opens: Cell::new(0),
+            looks: Cell::new(0),
         }
     }
 }
 
-/// A machine whose links may fail, and whose opens of one file are counted.
+/// A machine whose links and one sync may fail, and whose looks and opens of one file are counted.
 #[derive(Drop)]
 pub struct Watched<'a, R> {
     pub rt: R,
@@ -74,6 +83,8 @@ impl<R: Machine> Files for Watched<'_, R> {
     }
 
     fn symlink_metadata(&self, path: &str) -> io::Result<Metadata> {
+        let looks = self.watch.looks.get();
+        self.watch.looks.set(looks.saturating_add(1));
         self.rt.symlink_metadata(path)
     }
 
@@ -110,6 +121,12 @@ impl<R: Machine> Files for Watched<'_, R> {
 
     fn create_dir_with_mode(&self, path: &str, mode: u32) -> io::Result<()> {
         self.rt.create_dir_with_mode(path, mode)
+    }
+}
+
+impl<R: Machine> Syncs for Watched<'_, R> {
+    fn sync_at(&self, text: &str) -> bool {
+        !(text == LOST && self.watch.loses.get()) && sync(self, text).is_ok()
     }
 }
 

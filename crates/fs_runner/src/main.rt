@@ -1,5 +1,5 @@
 //! The program `fs_runner`: makes the calls of sheets over file systems and streams, and prints which have other answers.
-//! Its words are pairs: over what, and the sheet.
+//! Its words are pairs: over what, and the sheet; or `threads`, and the text of the young file whose sync fails.
 #![tactic(auto)]
 
 mod call;
@@ -10,6 +10,7 @@ mod memory;
 mod meta;
 mod on_host;
 mod streams;
+mod threads;
 mod word;
 
 use host::HostBench;
@@ -20,6 +21,7 @@ use sheet::{Report, Stop, run_sheet};
 use std::process::ExitCode;
 use std::{env, fs, io};
 use streams::StreamBench;
+use threads::failed_shares;
 
 fn main(rt: HostRuntime) -> io::Result<ExitCode> {
     let mut report = Report::new(rt.alloc());
@@ -28,7 +30,12 @@ fn main(rt: HostRuntime) -> io::Result<ExitCode> {
         over = match over {
             None => Some(word),
             Some(kind) => {
-                run_file(&rt, kind.as_str(), word.as_str(), &mut report)?;
+                if kind.as_str() == "threads" {
+                    let failed = failed_shares(&rt, rt.alloc(), word.as_str());
+                    tell_failed(&rt, word.as_str(), failed)?;
+                } else {
+                    run_file(&rt, kind.as_str(), word.as_str(), &mut report)?;
+                }
                 None
             }
         };
@@ -44,15 +51,32 @@ fn main(rt: HostRuntime) -> io::Result<ExitCode> {
 fn run_file(rt: &HostRuntime, over: &str, name: &str, report: &mut Report) -> io::Result<()> {
     println!(rt; "{name} over {over}")?;
     let text = fs::read(rt, name)?;
+    let (begun, wrong) = (report.text.len(), report.wrong);
     let ended = match std::str::from_utf8(&text) {
         Ok(sheet) => run_over(rt, over, sheet, report),
         Err(_) => Err(Stop::Unknown),
     };
+    if report.wrong > wrong {
+        print_wrong(rt, name, report.text.get(begun..).unwrap_or(&[]))?;
+    }
     match ended {
         Ok(()) => Ok(()),
-        Err(Stop::Unknown) => println!(rt; "  can't be run"),
-        Err(Stop::NoMemory) => println!(rt; "  out of memory"),
+        Err(Stop::Unknown) => print_end(rt, name, "can't be run", report),
+        Err(Stop::NoMemory) => print_end(rt, name, "out of memory", report),
     }
+}
+
+// What is wrong stands in the errors, too, which the gate tells.
+fn print_wrong(rt: &HostRuntime, name: &str, text: &[u8]) -> io::Result<()> {
+    let text = std::str::from_utf8(text).unwrap_or("bytes that are no text\n");
+    eprint!(rt; "{name}\n{text}")
+}
+
+// A sheet that isn't run to its end is wrong.
+fn print_end(rt: &HostRuntime, name: &str, why: &str, report: &mut Report) -> io::Result<()> {
+    report.wrong = report.wrong.saturating_add(1);
+    eprintln!(rt; "{name}: {why}")?;
+    println!(rt; "  {why}")
 }
 
 fn run_over(rt: &HostRuntime, over: &str, sheet: &str, report: &mut Report) -> Result<(), Stop> {
@@ -69,6 +93,13 @@ fn run_over_host(rt: &HostRuntime, sheet: &str, report: &mut Report) -> Result<(
     let watch = Watch::new();
     let mut bench = HostBench::new(rt.clone()?, &watch);
     run_sheet(rt.alloc(), &mut bench, sheet, report)
+}
+
+fn tell_failed(rt: &HostRuntime, text: &str, failed: Result<usize, NoMemory>) -> io::Result<()> {
+    match failed {
+        Ok(shares) => println!(rt; "{text} isn't synced by a thread: shares that failed: {shares}"),
+        Err(NoMemory) => println!(rt; "out of memory"),
+    }
 }
 
 fn print_text(rt: &HostRuntime, text: &[u8]) -> io::Result<()> {

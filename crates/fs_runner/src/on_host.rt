@@ -1,7 +1,7 @@
 //! What is done on the host beside the file system.
 use sheet::{Fields, Stop, text};
-use std::fs::{OpenFile, OpenOptions};
-use std::os::unix::fs::MetadataExt;
+use std::fs::{OpenFile, OpenOptions, Permissions};
+use std::os::unix::fs::{MetadataExt, PermissionsExt};
 use std::rt::Files;
 use std::{fs, io};
 
@@ -38,6 +38,7 @@ fn change<R: Files + AllocGlobal>(
         "host_folder" => fs::create_dir(rt, at),
         "host_file" => fs::write(rt, at, &fields.bytes()?),
         "host_link" => std::os::unix::fs::symlink(rt, fields.text()?, at),
+        "host_share" => share(rt, at),
         "host_long" => lengthen(rt, at, fields.number()?),
         "host_unlink" => fs::remove_file(rt, at),
         "host_clear" => fs::remove_dir_all(rt, at),
@@ -49,6 +50,11 @@ fn change<R: Files + AllocGlobal>(
 fn renew<R: Files + AllocGlobal>(rt: &R, at: &str) -> io::Result<()> {
     let _ = fs::remove_dir_all(rt, at);
     fs::create_dir(rt, at)
+}
+
+// All may read it.
+fn share<R: Files + AllocGlobal>(rt: &R, at: &str) -> io::Result<()> {
+    fs::set_permissions(rt, at, Permissions::from_mode(0o644))
 }
 
 fn lengthen<R: Files + AllocGlobal>(rt: &R, at: &str, len: u64) -> io::Result<()> {

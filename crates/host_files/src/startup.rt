@@ -4,7 +4,10 @@ use crate::{Fault, Machine, Mark};
 use std::alloc::AllocError;
 use std::fs::{File, OpenFile};
 use std::io::ErrorKind;
+use std::os::unix::fs::MetadataExt;
 use std::{fs, io};
+
+const TOP: &str = ".";
 
 /// Why there is no start.
 #[derive(Clone, Copy, Debug, PartialEq, Eq)]
@@ -37,7 +40,7 @@ impl From<AllocError> for NoStart {
 /// Locks the current folder, and syncs all below it unless the mark says that nothing is unsynced there. Gives the open
 /// folder, which holds the lock, and whether there is a reserved place.
 pub fn start<R: Machine>(rt: &R) -> Result<(R::File, Mark), NoStart> {
-    let top = File::open(rt, ".")?;
+    let top = File::open(rt, TOP)?;
     if !rt.take_lock(&top) {
         return Err(NoStart::Failed);
     }
@@ -51,12 +54,11 @@ pub fn start<R: Machine>(rt: &R) -> Result<(R::File, Mark), NoStart> {
     Ok((top, mark))
 }
 
-// Syncs each file and folder below the current one. Where a folder of the first version is found, what a call of it that
-// was cut off left under the name that was reserved in each folder is removed.
+// Syncs each file and folder below the current one. Where a folder may be of the first version, what a call of it that was
+// cut off left under the name that was reserved in each folder is removed.
 fn sync_below<R: Machine>(rt: &R, is_first: bool) -> Result<(), NoStart> {
     let mut folders = Vec::new(rt.alloc());
-    let top = String::from_str(rt.alloc(), ".")?;
-    add(&mut folders, top)?;
+    add(&mut folders, String::from_str(rt.alloc(), TOP)?)?;
     for _ in 0..u64::MAX {
         let Some(folder) = folders.pop() else {
             return Ok(());
@@ -86,16 +88,42 @@ fn sync_folder<R: Machine>(
     };
     for entry in entries {
         match entry {
-            Ok(entry) if is_first && entry.file_name() == PLACE => remove(
-                rt,
-                entry.path().as_str(),
-            )?,
+            Ok(entry) if is_first && entry.file_name() == PLACE => {
+                pass_place(rt, folder, entry.path().as_str(), folders)?
+            }
             Ok(entry) => sync_entry(rt, entry.path().as_str(), folders)?,
             Err(e) if e.kind() == ErrorKind::InvalidFilename => {}
             Err(e) => return Err(NoStart::from(e)),
         }
     }
     sync_readable(rt, folder)
+}
+
+// What has the name that the first version reserved in each folder is removed where it is of that version.
+fn pass_place<R: Machine>(
+    rt: &R,
+    folder: &str,
+    text: &str,
+    folders: &mut Vec<String>,
+) -> Result<(), NoStart> {
+    if is_of_first(rt, folder, text)? {
+        Ok(remove(rt, text)?)
+    } else {
+        sync_entry(rt, text, folders)
+    }
+}
+
+// Others than the owner may use what the first version made, where the umask let them, and never a node of this version.
+// At the top no node has the name.
+fn is_of_first<R: Machine>(rt: &R, folder: &str, text: &str) -> Result<bool, NoStart> {
+    if folder == TOP {
+        return Ok(true);
+    }
+    match fs::symlink_metadata(rt, text) {
+        Ok(metadata) => Ok(!metadata.is_symlink() && metadata.mode() & 0o077 != 0),
+        Err(e) if is_no_node(&e) => Ok(false),
+        Err(e) => Err(NoStart::from(e)),
+    }
 }
 
 // What isn't a file or a folder stands for no node.

@@ -6,8 +6,9 @@ ghost use Rattle.host_files.specs.Young.{AreSynced, IsSettled};
 use crate::leaf::{extend, extend_leaf};
 use crate::links::link_or_copy;
 use crate::place::{rename, spell_young};
-use crate::private::{new_file, sync};
-use crate::{Fault, HostPath};
+use crate::private::new_file;
+use crate::share::Share;
+use crate::{Fault, HostPath, Syncer};
 use fs_trait::FsErr;
 use ost_types::NoMemory;
 use std::alloc::{AllocError, Global};
@@ -47,6 +48,7 @@ pub struct Young<F> {
     last: Option<(F, u64)>,
     // The text of one of them.
     text: HostPath,
+    shares: Vec<Share>,
 }
 
 impl<F: OpenFile + Write + Drop> Young<F> {
@@ -59,6 +61,7 @@ impl<F: OpenFile + Write + Drop> Young<F> {
             bytes: 0,
             last: None,
             text: HostPath::new(alloc)?,
+            shares: Share::all(alloc)?,
         })
     }
 
@@ -189,21 +192,25 @@ impl<F: OpenFile + Write + Drop> Young<F> {
     }
 
     /// Syncs all young files, and then gives them their names.
-    pub fn settle<R: Files<File = F>>(&mut self, rt: &R) -> Result<(), Fault>
+    pub fn settle<R: Files<File = F>, S: Syncer>(&mut self, rt: &R, syncer: &S) -> Result<(), Fault>
         ensures { OnOk result (IsSettled self.new) }
     {
-        self.sync(rt)?;
+        self.sync(syncer)?;
         self.show(rt)
     }
 
     // Syncs all files that are to have names.
-    fn sync<R: Files<File = F>>(&mut self, rt: &R) -> Result<(), Fault>
+    fn sync<S: Syncer>(&mut self, syncer: &S) -> Result<(), Fault>
         ensures { OnOk result (AreSynced self.new) }
     {
         self.last = None;
-        sync_files(rt, &self.files, &mut self.text)?;
-        self.synced = self.files.len();
-        Ok(())
+        let used = self.files.len().min(self.shares.len());
+        if sync_files(syncer, &self.files, &mut self.shares[..used]) {
+            self.synced = self.files.len();
+            Ok(())
+        } else {
+            Err(Fault)
+        }
     }
 
     // Gives the files their names.
@@ -222,16 +229,13 @@ impl<F: OpenFile + Write + Drop> Young<F> {
     }
 }
 
-fn sync_files<R: Files>(rt: &R, files: &[YoungFile], text: &mut HostPath) -> Result<(), Fault> {
-    let mut number = 0u32;
-    for file in files {
-        if file.names > 0 {
-            spell_young(number, text);
-            sync(rt, text.as_str())?;
-        }
-        number = number.saturating_add(1);
+// Whether all files that are to have names were synced.
+fn sync_files<S: Syncer>(syncer: &S, files: &[YoungFile], shares: &mut [Share]) -> bool {
+    for share in shares.iter_mut() {
+        share.begin();
     }
-    Ok(())
+    syncer.sync(files, shares);
+    shares.iter().all(Share::is_synced)
 }
 
 // Gives a file one of its names; the last one takes it out of the reserved place.

@@ -1,7 +1,7 @@
 //! The disk as a machine on which a file system stands.
 use crate::file::{in_use, metadata_of};
 use crate::{Drive, MemoryDir, MemoryFile};
-use host_files::Machine;
+use host_files::{Machine, Syncs, sync};
 use std::alloc::{AllocError, Allocator, Global};
 use std::cell::RefCell;
 use std::fs::{Metadata, OpenOptions};
@@ -138,6 +138,12 @@ impl<'a> Files for MemoryHost<'a> {
 
     fn create_dir_with_mode(&self, path: &str, _mode: u32) -> io::Result<()> {
         self.create_dir(path)
+    }
+}
+
+impl Syncs for MemoryHost<'_> {
+    fn sync_at(&self, text: &str) -> bool {
+        sync(self, text).is_ok()
     }
 }
 
