@@ -85,7 +85,7 @@ impl ChooseTask {
         ensures { result ≡ left self.now.phase }
     {
         match &self.phase {
-            ChoosePhase::Compare(_, comparing) => comparing.left() as u128 + 1,
+            ChoosePhase::Compare(_, comparing) => comparing.left() + 1,
             _ => 1,
         }
     }

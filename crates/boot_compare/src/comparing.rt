@@ -1,4 +1,4 @@
-ghost use Rattle.std.specs.Prelude.{◌≡◌, ◌≤◌, ◌<◌, ◌∷◌, [], List, Option, Some, OnErr, IfOk, IfErr, IfNone, IfSome, drop, length};
+ghost use Rattle.std.specs.Prelude.{◌≡◌, ◌≤◌, ◌<◌, ◌^◌, ◌∷◌, [], List, Option, Some, OnErr, IfOk, IfErr, IfNone, IfSome, drop, length};
 ghost use Rattle.fs_trait.specs.View.{View};
 ghost use Rattle.fs_trait.specs.Effect.{HasCause, IsQuiet, OfNone};
 ghost use Rattle.repo_layout.specs.Fixed.{entries_path, number};
@@ -72,10 +72,11 @@ impl Comparing {
     }
 
     /// How many names are left.
-    pub fn left(&self) -> usize
-        ensures { result ≡ length self.now.names }
+    pub fn left(&self) -> u128
+        ensures value { result ≡ length self.now.names }
+        ensures small { result < 2 ^ 64 }
     {
-        self.names.len()
+        self.names.len() as u128
     }
 
     /// Does the next step: at most one reading call. After an error the comparison is unchanged.

@@ -1,4 +1,4 @@
-ghost use Rattle.std.specs.Prelude.{◌≡◌, ◌≤◌, length};
+ghost use Rattle.std.specs.Prelude.{◌≡◌, ◌<◌, ◌^◌};
 ghost use Rattle.fs_trait.specs.declared.task.Need.TheVariants as needs;
 ghost use Rattle.checkout.specs.CheckoutWork.{Checkout, IsMade, IsPlaced, beginning, left};
 
@@ -54,13 +54,13 @@ impl CheckoutTask {
     }
 
     /// At most so many steps are left.
-    pub fn left(&self) -> usize
+    pub fn left(&self) -> u128
         ensures value { result ≡ left self.now }
-        ensures small { result ≤ length self.now.tree }
+        ensures small { result < 2 ^ 64 }
     {
         match self.phase {
-            CheckoutPhase::Begin => self.tree.len(),
-            CheckoutPhase::Make(number) => self.tree.len() - number,
+            CheckoutPhase::Begin => self.tree.len() as u128,
+            CheckoutPhase::Make(number) => (self.tree.len() - number) as u128,
             CheckoutPhase::Ended | CheckoutPhase::Refused => 0,
         }
     }

@@ -60,7 +60,7 @@ impl Make {
         ensures { result ≡ make_left self.now.made self.now.task }
     {
         match self.made {
-            Made::Nothing | Made::Part => self.task.left() as u128 + 1,
+            Made::Nothing | Made::Part => self.task.left() + 1,
             Made::All => 0,
         }
     }

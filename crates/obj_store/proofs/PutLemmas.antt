@@ -39,7 +39,7 @@ use Rattle.obj_store.specs.declared.phase.Put.TheVariants.{Stored}
 use Rattle.obj_store.specs.declared.phase.Phase.{Phase}
 use Rattle.obj_store.specs.declared.phase.Phase.TheVariants as phase
 use Rattle.obj_store.specs.Putting.{Putting, IsMade, IsReady, IsStaged, IsStaging, shown, shown_in, shown_next, turn_in, shown_turn}
-use Rattle.obj_store.specs.Steps.{Needs, WritesOf, needs_in, writes_in, stage_needs, gone_stage, still_staged, Refuses, ends, goes_on, Came, Tells, IsPut}
+use Rattle.obj_store.specs.Steps.{Needs, WritesOf, needs_in, writes_in, stage_needs, gone_stage, still_staged, Refuses, is_clear, ends, goes_on, Came, Tells, IsPut}
 
 folder_free : (d : Disk) (sum : List ℕ) → IsTree d → is_folder (d.at (folder_path Objects)) ≡ true → d.at (objects_folder_path sum) ≡ Absent → no_new (objects_folder_path sum) d ≡ None
 unfolding objects_folder_path
@@ -308,10 +308,15 @@ module _ (t new u : Putting) (same : t ≡ u) (v : View) (refusal : Option FsErr
       let same : e ≡ NoMemory = cc in
       subst (λ x. Fails refusal v w x view) same fails
 
--- a step that tells nothing
-pub told_end : (t : Putting) (v w : View) (was put : Put) → t.phase ≡ phase.Unlink was → (refusal : Option FsErr) (view : Option View) → (refusal ≡ None) × (view ≡ Some w) → Told view (λ x. ends t.phase put t v x)
-told_end t v w was put is refusal view changed = (w, changed.1, subst (λ ph. ends ph put t v w) (sym is) tt)
+-- nothing stands at the staging path then
+pub told_end : (t : Putting) (v : View) (d : Draft) → t.source ≡ File d → (p : Path) → p ≡ d.stage → (was put : Put) → t.phase ≡ phase.Unlink was
+    → (refusal : Option FsErr) (view : Option View) → (refusal ≡ None) × (view ≡ Some (named p Absent v)) → Told view (λ x. ends t.phase put t v x)
+told_end t v d source p same was put is refusal view changed =
+    let w = named p Absent v in
+    let vacant : shows w.now d.stage ≡ Vacant = ap (shows w.now) (sym same) ∙ shows_named v p Absent in
+    (w, changed.1, subst (λ ph. ends ph put t v w) (sym is) (subst (λ s. is_clear s w) (sym source) vacant))
 
+-- a step that tells nothing
 pub told_folder : (t : Putting) (v w : View) (next : Phase) → t.phase ≡ phase.Folder → (view : Option View) → view ≡ Some w → Told view (λ x. goes_on t.phase next t v x)
 told_folder t v w next is view told = (w, told, subst (λ ph. goes_on ph next t v w) (sym is) tt)
 

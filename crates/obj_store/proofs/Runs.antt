@@ -1,5 +1,5 @@
 -- A run of steps, from the beginning.
-use Rattle.std.proofs.Common.{◌≡◌, ◌≢◌, inl, inr, ⊎_elim, ℕ, refl, sym, ◌∙◌, ap, subst, List, Option, Some, Ok}
+use Rattle.std.proofs.Common.{◌≡◌, ◌≢◌, inl, inr, ⊎_elim, ℕ, true, false, refl, sym, ◌∙◌, ap, subst, List, Option, Some, Ok}
 use Rattle.ost_types.specs.declared.meta.Meta.{Meta}
 use Rattle.ost_types.specs.declared.object.ObjName.{ObjName}
 use Rattle.ost_types.specs.Path.{Path}
@@ -29,9 +29,9 @@ use Rattle.obj_store.specs.declared.phase.Put.{Put}
 use Rattle.obj_store.specs.declared.phase.Put.TheVariants.{Stored, Present}
 use Rattle.obj_store.specs.declared.phase.Phase.{Phase}
 use Rattle.obj_store.specs.declared.phase.Phase.TheVariants as phase
-use Rattle.obj_store.specs.Putting.{Putting, IsMade, IsReady, IsObject, Follows, IsLast, IsStepped, shown}
-use Rattle.obj_store.specs.Steps.{Needs, needs_in, stage_needs, stage_writes, gone_stage, writes_in, WritesOf, IsPut, Came, Tells, goes_on, ends, IsLeaf, Refuses, refuses_in, OfPhase}
-use Rattle.obj_store.specs.Whole.{IsShown, Written, Leaves, Has, Ends, Answers, Stops}
+use Rattle.obj_store.specs.Putting.{Putting, IsMade, IsReady, IsObject, Follows, IsLast, IsStepped, is_file, shown}
+use Rattle.obj_store.specs.Steps.{Needs, needs_in, stage_needs, stage_writes, gone_stage, writes_in, WritesOf, IsPut, Came, Tells, goes_on, is_clear, ends, IsLeaf, Refuses, refuses_in, OfPhase}
+use Rattle.obj_store.specs.Whole.{IsShown, Written, Leaves, Has, Ends, Answers, Stops, stage_after}
 use Rattle.fs_trait.specs.Effect.{OfFinding, OfPlacing}
 use Rattle.ost_objects.specs.Object.{IsNamed}
 use Rattle.obj_store.proofs.PutLemmas.{Same, next_same, any_inode}
@@ -123,6 +123,12 @@ same_more u new s = record {
       u.phase new.phase u.source new.source s.1;
 }
 
+shown_file : (a b : Source) → shown 0 a ≡ shown 0 b → is_file a ≡ is_file b
+shown_file (File d) (File e) s = refl
+shown_file (File d) (Link m l) s = let z : Leaf 0 d.meta d.bytes ≡ Symlink m l = s in cc
+shown_file (Link m l) (File d) s = let z : Symlink m l ≡ Leaf 0 d.meta d.bytes = s in cc
+shown_file (Link m l) (Link k j) s = refl
+
 -- what is known of the beginning
 abbrev pub so_far : Phase → Putting → View → View → Type 0
 so_far phase.Look t v w = w ≡ v
@@ -178,8 +184,22 @@ module _ (t : Putting) (made : IsMade t) (v : View) where
   others_stay : (w : View) → Writes (Written t v) v w → (o : ObjName) → IsSum o.csum → o ≢ t.name → shows w.now (path_of o) ≡ shows v.now (path_of o)
   others_stay w writes o is apart = shows_kept (Written t v) v w (path_of o) writes (at_other o is apart)
 
-  pub ended_stored : (w : View) → Writes (Written t v) v w → Has Stored t v.now w.now → Ends t Stored v.now w.now
-  ended_stored w writes has = record { this = has; others = others_stay w writes }
+  -- a link isn't staged
+  link_stays : (w : View) → Writes (Written t v) v w → is_file t.source ≡ false → shows w.now (stage_path t.actor) ≡ shows v.now (stage_path t.actor)
+  link_stays w writes link = shows_kept (Written t v) v w (stage_path t.actor) writes by
+    where
+      by : (s : Seen) → Written t v (stage_path t.actor) s → ⊥
+      by s (inl a) = let n : true ≡ false = sym a.2 ∙ link in cc
+      by s (inr (inl a)) = stage-folder t.actor t.name.csum made.actor (sym a.0)
+      by s (inr (inr a)) = stage-object t.actor t.name made.actor this_sum (sym a.0)
+
+  stored_stage : (w : View) → Writes (Written t v) v w → (src : Source) → t.source ≡ src → (is_file src ≡ true → shows w.now (stage_path t.actor) ≡ Vacant)
+      → shows w.now (stage_path t.actor) ≡ stage_after Stored src (shows v.now (stage_path t.actor))
+  stored_stage w writes (File d) e clear = clear refl
+  stored_stage w writes (Link m l) e clear = link_stays w writes (ap is_file e)
+
+  pub ended_stored : (w : View) → Writes (Written t v) v w → Has Stored t v.now w.now → (is_file t.source ≡ true → shows w.now (stage_path t.actor) ≡ Vacant) → Ends t Stored v.now w.now
+  ended_stored w writes has clear = record { this = has; stage = stored_stage w writes t.source refl clear; others = others_stay w writes }
 
   pub runs_from : (ph : Phase) → ph ≡ phase.Look → Runs t v ph v
   runs_from ph new = record { writes = record { only = λ p s may. inl may; now = λ p. inl refl }; so_far = subst (λ ph. so_far ph t v v) (sym new) refl }
@@ -197,13 +217,16 @@ module _ (t : Putting) (made : IsMade t) (v : View) where
     at_stage : (d : Draft) → u.source ≡ File d → d.stage ≡ stage_path t.actor
     at_stage d e = (subst (λ s. IsReady u.actor s) e needs.made.ready).0 ∙ ap stage_path same.actor
 
+    same_file : is_file t.source ≡ is_file u.source
+    same_file = sym (shown_file u.source t.source same.shown)
+
     -- what each step writes is what all may write
     staged_part : (src : Source) → u.source ≡ src → (p : Path) (s : Seen) → stage_writes src w p s → stage_needs src w → Written t v p s
-    staged_part (File d) e p s a has = let l = staging_lies d w has p s a in inl (l.place ∙ at_stage d e, l.file)
+    staged_part (File d) e p s a has = let l = staging_lies d w has p s a in inl (l.place ∙ at_stage d e, l.file, same_file ∙ ap is_file e)
     staged_part (Link m l) e p s a has = absurd a
 
     gone_part : (src : Source) → u.source ≡ src → (p : Path) (s : Seen) → gone_stage src p s → Written t v p s
-    gone_part (File d) e p s a = inl (a.0 ∙ at_stage d e, subst NotDirectory (sym a.1) tt)
+    gone_part (File d) e p s a = inl (a.0 ∙ at_stage d e, subst NotDirectory (sym a.1) tt, same_file ∙ ap is_file e)
     gone_part (Link m l) e p s a = absurd a
 
     vacant_before : (p : Path) → shows w.now p ≡ Vacant → (p ≡ stage_path t.actor → ⊥) → shows v.now p ≡ Vacant
@@ -302,13 +325,23 @@ module _ (t : Putting) (made : IsMade t) (v : View) where
       looked_present is came =
           let first : w ≡ v = far phase.Look is in
           let e : x ≡ v = came.1 ∙ first in (
-            record { this = ap (λ (y : View). shows y.now (path_of t.name)) e; others = λ o is apart. ap (λ (y : View). shows y.now (path_of o)) e },
+            record { this = ap (λ (y : View). shows y.now (path_of t.name)) e; stage = ap (λ (y : View). shows y.now (stage_path t.actor)) e; others = λ o is apart. ap (λ (y : View). shows y.now (path_of o)) e },
             λ absent. came.0 (subst (λ (y : View). y.now.at (path_of u.name) ≡ Absent) (sym first) (subst (λ p. v.now.at p ≡ Absent) (sym same_path) absent)),
           )
 
-      linked_end : (put : Put) → u.phase ≡ phase.Link → Came put u w x → Ends t put v.now x.now × Answers put t v.now
-      linked_end Stored is came = (ended_stored x writes_on (stored_now came), (far phase.Link is).0)
-      linked_end Present is came = absurd (linked_not (linked_far Present is came).0)
+      -- what ends at the link is no file
+      no_file : (put : Put) (src : Source) → u.source ≡ src → IsLast phase.Link src put → is_file t.source ≡ true → shows x.now (stage_path t.actor) ≡ Vacant
+      no_file put (File d) e last file = absurd last
+      no_file put (Link m l) e last file = let n : true ≡ false = sym file ∙ same_file ∙ ap is_file e in cc
+
+      -- the staging path went
+      cleared : (src : Source) → u.source ≡ src → is_clear src x → is_file t.source ≡ true → shows x.now (stage_path t.actor) ≡ Vacant
+      cleared (File d) e clear file = ap (shows x.now) (sym (at_stage d e)) ∙ clear
+      cleared (Link m l) e clear file = let n : true ≡ false = sym file ∙ same_file ∙ ap is_file e in cc
+
+      linked_end : (put : Put) → u.phase ≡ phase.Link → IsLast phase.Link u.source put → Came put u w x → Ends t put v.now x.now × Answers put t v.now
+      linked_end Stored is last came = (ended_stored x writes_on (stored_now came) (no_file Stored u.source refl last), (far phase.Link is).0)
+      linked_end Present is last came = absurd (linked_not (linked_far Present is came).0)
         where
           linked_not : Present ≡ Stored → ⊥
           linked_not e = cc
@@ -318,11 +351,11 @@ module _ (t : Putting) (made : IsMade t) (v : View) where
           subst (λ r. Ends t r v.now x.now × Answers r t v.now) (sym last) (looked_present is (subst (λ r. Came r u w x) last came))
       ended put phase.Stage is last came = absurd last
       ended put phase.Folder is last came = absurd last
-      ended put phase.Link is last came = linked_end put is came
+      ended put phase.Link is last came = linked_end put is last came
       ended put (phase.Unlink was) is last came =
           let f = far (phase.Unlink was) is in
           subst (λ r. Ends t r v.now x.now × Answers r t v.now) (sym (last ∙ f.0))
-          (ended_stored x writes_on (λ bytes object. stores_same w.now x.now t.name bytes (unlink_stays was is) (f.2 bytes object)), f.1)
+          (ended_stored x writes_on (λ bytes object. stores_same w.now x.now t.name bytes (unlink_stays was is) (f.2 bytes object)) (cleared u.source refl came), f.1)
       ended put (phase.Ended was) is last came = absurd (far (phase.Ended was) is)
 
       pub done : (new : Putting) (put : Put) → IsStepped u (Ok (Done put)) new → Tells u new w x (Done put) → Ends t put v.now x.now × Answers put t v.now

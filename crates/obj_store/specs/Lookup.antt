@@ -95,6 +95,12 @@ Opens k s (Err (Fs fs.NoMemory)) = Unit {0}
 Opens k s (Err NoMemory) = Unit {0}
 Opens k s (Err e) = ⊥
 
+-- so of an object's path, where something may stand
+abbrev pub OpensAt : Disk → ObjName → Result (Option (List ℕ)) LoadFault → Type 0
+OpensAt d name (Ok None) = d.at (path_of name) ≡ Absent
+OpensAt d name (Ok (Some bytes)) = object_at d name ≡ Some bytes
+OpensAt d name (Err e) = Opens name.kind (shows d (path_of name)) (Err e)
+
 -- a regular file with these attributes
 abbrev pub IsRegular : Disk → Value → Meta → Type 0
 IsRegular d (File n) m = d.meta n ≡ m

@@ -96,9 +96,15 @@ goes_on phase.Look next t v w = v.now.at (path_of t.name) ≡ Absent
 goes_on phase.Link (phase.Unlink put) t v w = Came put t v w
 goes_on last next t v w = Unit {0}
 
+-- nothing stands at a file's staging path
+abbrev pub is_clear : Source → View → Type 0
+is_clear (File d) w = shows w.now d.stage ≡ Vacant
+is_clear (Link m target) w = Unit {0}
+
 abbrev pub ends : Phase → Put → Putting → View → View → Type 0
 ends phase.Look put t v w = Came put t v w
 ends phase.Link put t v w = Came put t v w
+ends (phase.Unlink was) put t v w = is_clear t.source w
 ends ph put t v w = Unit {0}
 
 abbrev pub Tells : Putting → Putting → View → View → StepResult Put → Type 0

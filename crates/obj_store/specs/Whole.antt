@@ -15,18 +15,20 @@ use Rattle.repo_model.specs.Objects.{Stores, object_in, path_of}
 use Rattle.obj_store.specs.declared.phase.Phase.TheVariants.{Look}
 use Rattle.obj_store.specs.declared.phase.Put.{Put}
 use Rattle.obj_store.specs.declared.phase.Put.TheVariants.{Stored, Present}
-use Rattle.obj_store.specs.Putting.{Putting, IsMade, IsObject}
+use Rattle.obj_store.specs.declared.source.Source.{Source}
+use Rattle.obj_store.specs.declared.source.Source.TheVariants.{File}
+use Rattle.obj_store.specs.Putting.{Putting, IsMade, IsObject, is_file}
 use Rattle.obj_store.specs.Steps.{IsLeaf}
 
 -- the object is shown
 abbrev pub IsShown : Putting → Seen → Type 0
 IsShown t s = (bytes : List ℕ) → IsObject t.name bytes t.source → object_in t.name.kind s ≡ Some bytes
 
--- What all steps together may write: no folder at the staging path, the object's folder where nothing stood, and the object where
--- nothing stood.
+-- What all steps together may write: no folder at the staging path, and of a file only, the object's folder where nothing stood,
+-- and the object where nothing stood.
 abbrev pub Written : Putting → View → Path → Seen → Type 0
 Written t v p s =
-    ((p ≡ stage_path t.actor) × NotDirectory s)
+    ((p ≡ stage_path t.actor) × NotDirectory s × (is_file t.source ≡ true))
     ⊎ ((p ≡ objects_folder_path t.name.csum) × IsDirectory s × (shows v.now p ≡ Vacant))
     ⊎ ((p ≡ path_of t.name) × IsShown t s × (shows v.now p ≡ Vacant))
 
@@ -41,8 +43,14 @@ abbrev pub Has : Put → Putting → Disk → Disk → Type 0
 Has Stored t d e = (bytes : List ℕ) → IsObject t.name bytes t.source → Stores e t.name bytes
 Has Present t d e = shows e (path_of t.name) ≡ shows d (path_of t.name)
 
+-- what stands at the staging path then: nothing once a file is put, else what stood there
+abbrev pub stage_after : Put → Source → Seen → Seen
+stage_after Stored (File d) was = Vacant
+stage_after put source was = was
+
 pub record Ends (t : Putting) (put : Put) (d e : Disk) : Type 0 where
   pub this : Has put t d e
+  pub stage : shows e (stage_path t.actor) ≡ stage_after put t.source (shows d (stage_path t.actor))
   pub others : (o : ObjName) → IsSum o.csum → o ≢ t.name → shows e (path_of o) ≡ shows d (path_of o)
 
 -- what it answers, by what reads see at its beginning: something stood at the object's path, or nothing

@@ -11,7 +11,7 @@ mod task;
 
 pub use fault::LoadFault;
 pub use listing::list_part;
-pub use lookup::{has, load};
+pub use lookup::{has, load, open_object};
 pub use phase::Put;
 pub use put::put_object;
 pub use task::PutTask;

@@ -8,7 +8,7 @@ ghost use Rattle.fs_trait.specs.Effect.{HasCause, IsNode, IsQuiet, OfNone};
 ghost use Rattle.fs_trait.specs.Seen.{Symlink as SeenLink, shows};
 ghost use Rattle.fs_trait.specs.declared.types.Value.TheVariants.{File};
 ghost use Rattle.obj_store.specs.declared.fault.LoadFault.TheVariants as faults;
-ghost use Rattle.obj_store.specs.Lookup.{Looks, Loads, ChecksAs, fault_of, Opens, IsRegular, Streams, HasCauseOf, IsFailed};
+ghost use Rattle.obj_store.specs.Lookup.{Looks, Loads, ChecksAs, fault_of, Opens, OpensAt, IsRegular, Streams, HasCauseOf, IsFailed};
 
 use crate::LoadFault;
 use fs_trait::{Fs, FsErr, Node};
@@ -46,12 +46,29 @@ pub fn load<F: Fs>(
     ensures keeps_room { F.spare fs.old ≤ F.spare fs.new }
     ensures cause { HasCauseOf (F.faults fs.old) (F.faults fs.new) result }
 {
+    match open_object(alloc, fs, name)? {
+        Some(bytes) => Ok(Some(checked(alloc, *name, bytes, limits)?)),
+        None => Ok(None),
+    }
+}
+
+/// The bytes of what stands at the object's path, as an object of its kind, or None where nothing stands there. They aren't looked
+/// into.
+pub fn open_object<F: Fs>(
+    alloc: Global,
+    fs: &mut F,
+    name: &ObjName,
+) -> Result<Option<Bytes>, LoadFault>
+    ensures told { (v : View) → F.view fs.old ≡ Some v → OpensAt v.now name.now result }
+    ensures quiet { IsQuiet (F.clock fs.old) (F.clock fs.new) (F.was fs.old) (F.was fs.new) (F.view fs.old) (F.view fs.new) }
+    ensures keeps_room { F.spare fs.old ≤ F.spare fs.new }
+    ensures cause { HasCauseOf (F.faults fs.old) (F.faults fs.new) result }
+{
     let path = object_path(alloc, name)?;
     let Some(node) = fs.stat(&path)? else {
         return Ok(None);
     };
-    let bytes = object_bytes(alloc, fs, name.kind, &path, node)?;
-    Ok(Some(checked(alloc, *name, bytes, limits)?))
+    Ok(Some(object_bytes(alloc, fs, name.kind, &path, node)?))
 }
 
 fn checked(

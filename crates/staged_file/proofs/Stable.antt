@@ -143,8 +143,8 @@ module _ (W : Path → Seen → Type 0) (t : Staged) (v : View) (spares : Spares
   here_out Replace is now p s wrote = ((λ e. absurd (not_stage p s wrote e)), (λ e. absurd (at_target Replace is p s wrote e)))
   here_out Add is now p s wrote = λ e. absurd (not_stage p s wrote e)
   here_out Unlink is now p s wrote = ((λ e. absurd (not_stage p s wrote e)), (λ e. at_target Unlink is p s wrote e))
-  here_out SyncFolder is now p s wrote = here_shown_out t.show (target_in SyncFolder is) p s wrote
-  here_out Ended is now p s wrote = tt
+  here_out SyncFolder is now p s wrote = (here_shown_out t.show (target_in SyncFolder is) p s wrote, λ e. absurd (not_stage p s wrote e))
+  here_out Ended is now p s wrote = λ e. absurd (not_stage p s wrote e)
 
   -- The facts of the task stay true.
   pub staged_kept : (w : View) → Writes W v w → Needs t w

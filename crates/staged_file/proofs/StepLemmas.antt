@@ -133,6 +133,11 @@ filled_needs t k n w placed firm here = by (nat_lt k (length t.bytes)) refl
     by true e = record { placed = placed; way = tt; inode = n; meets = record { firm = firm; here = at_stage (take k t.bytes) here } }
     by false e = record { placed = placed; way = tt; inode = n; meets = record { firm = firm; here = at_stage t.bytes (subst (λ b. shows w.now t.stage ≡ Leaf n t.meta b) (take_all k t.bytes (ltb-false k (length t.bytes) e)) here) } }
 
+-- a rename leaves nothing where the file stood
+shows_moved_from : (v : View) (from to : Path) → shows (moved from to v).now from ≡ Vacant
+unfolding moved
+shows_moved_from v from to = shows_named (named to (v.now.at from) v) from Absent
+
 module _ (t : Staged) (v : View) (tree : IsTree v.now) (needs : Needs t v) where
   meets_in : (ph : Phase) → t.phase ≡ ph → Meets (firm_in ph t needs.inode) (here_in ph t needs.inode) v
   meets_in ph is = subst (λ f. Meets (firm_in f t needs.inode) (here_in f t needs.inode) v) is needs.meets
@@ -280,6 +285,17 @@ module _ (t : Staged) (v : View) (tree : IsTree v.now) (needs : Needs t v) where
       let b = fixed t.stage s (record { value = v.now.at t.stage; held = inl refl; shown = shown }) (v.now.meta n) a.0 refl a.1 in
       (n, a.1 ∙ ap (λ m. Leaf n m a.0) b.0 ∙ ap (Leaf n t.meta) b.1, file)
 
+  -- the file is shown, and nothing stands at the staging path
+  shown_needs : (how : Show) (w : View) → ((p : Path) (s : Seen) → MayBe w p s → LeadsTo t.folder p s × firm_shown how t.at needs.inode t.meta t.bytes p s) → ((p : Path) → here_shown how t.at needs.inode t.meta t.bytes p (shows w.now p))
+      → shows w.now t.stage ≡ Vacant → how ≡ t.show → Needs (record t { phase = SyncFolder }) w
+  shown_needs how w firm here gone is = record {
+    placed = needs.placed;
+    way = tt;
+    inode = needs.inode;
+    meets = subst (λ how. Meets (λ p s. LeadsTo t.folder p s × firm_shown how t.at needs.inode t.meta t.bytes p s) (λ p s. here_shown how t.at needs.inode t.meta t.bytes p s × (p ≡ t.stage → s ≡ Vacant)) w) is
+        (record { firm = firm; here = λ p. (here p, λ e. ap (shows w.now) e ∙ gone) });
+  }
+
   -- 6. the rename
   pub two_inodes : t.phase ≡ Replace → one_inode (v.now.at t.stage) (v.now.at t.at) ≡ false
   two_inodes is =
@@ -298,15 +314,6 @@ module _ (t : Staged) (v : View) (tree : IsTree v.now) (needs : Needs t v) where
           differs (inl e) = absurd (needs.placed.apart (sym (own t.at _ (may_held v t.at needs.inode (inl (sym (is ∙ ap File (sym e))))) (v.now.meta needs.inode) (v.now.bytes needs.inode) refl)))
           differs (inr apart) = apart_inodes needs.inode k apart
 
-  replaced : ((p : Path) (s : Seen) → MayBe (moved t.stage t.at v) p s → LeadsTo t.folder p s × FixedFile t.at needs.inode t.meta t.bytes p s) → ((p : Path) → p ≡ t.at → shows (moved t.stage t.at v).now p ≡ Leaf needs.inode t.meta t.bytes)
-      → show.Rename ≡ t.show → Needs (record t { phase = SyncFolder }) (moved t.stage t.at v)
-  replaced firm here is = record {
-    placed = needs.placed;
-    way = tt;
-    inode = needs.inode;
-    meets = subst (λ how. Meets (λ p s. LeadsTo t.folder p s × firm_shown how t.at needs.inode t.meta t.bytes p s) (here_shown how t.at needs.inode t.meta t.bytes) (moved t.stage t.at v)) is (record { firm = firm; here = here });
-  }
-
   pub replace : t.phase ≡ Replace → Step t (next_in Replace t) v (no_move t.stage t.at v.now) (moved t.stage t.at v)
   replace is =
       let n = needs.inode in
@@ -323,7 +330,7 @@ module _ (t : Staged) (v : View) (tree : IsTree v.now) (needs : Needs t v) where
             (no_move-there v.now tree t.stage n t.folder inside.0 file.0 (folder_now (λ p s may. (now.firm p s may).0)))
             (no_folder_shown v.now t.at ((now.here t.at).1 refl));
         writes = written Replace w is writes;
-        after = replaced
+        after = shown_needs show.Rename w
             (λ p s may. (
               leads p s may,
               λ m b e is. ⊎_elim
@@ -332,6 +339,7 @@ module _ (t : Staged) (v : View) (tree : IsTree v.now) (needs : Needs t v) where
                   (writes.only p s may),
             ))
             (λ p e. ap (shows w.now) e ∙ shows_moved v t.stage t.at needs.placed.apart ∙ here)
+            (shows_moved_from v t.stage t.at)
             (sym (way_in Replace is));
       }
 
@@ -372,14 +380,8 @@ module _ (t : Staged) (v : View) (tree : IsTree v.now) (needs : Needs t v) where
       }
 
   -- 8. the staging path goes
-  unlinked : (w : View) → ((p : Path) (s : Seen) → MayBe w p s → LeadsTo t.folder p s) → NotVacant (shows w.now t.at) → show.Link ≡ t.show → Needs (next_in Unlink t) w
-  unlinked w leads there is = record {
-    placed = needs.placed;
-    way = tt;
-    inode = needs.inode;
-    meets = subst (λ how. Meets (λ p s. LeadsTo t.folder p s × firm_shown how t.at needs.inode t.meta t.bytes p s) (here_shown how t.at needs.inode t.meta t.bytes) w) is
-        (record { firm = λ p s may. (leads p s may, tt); here = λ p e. subst (λ q. NotVacant (shows w.now q)) (sym e) there });
-  }
+  unlinked : (w : View) → ((p : Path) (s : Seen) → MayBe w p s → LeadsTo t.folder p s) → NotVacant (shows w.now t.at) → shows w.now t.stage ≡ Vacant → show.Link ≡ t.show → Needs (next_in Unlink t) w
+  unlinked w leads there gone is = shown_needs show.Link w (λ p s may. (leads p s may, tt)) (λ p e. subst (λ q. NotVacant (shows w.now q)) (sym e) there) gone is
 
   pub unlink : t.phase ≡ Unlink → Step t (next_in Unlink t) v (no_leaf t.stage v.now) (named t.stage Absent v)
   unlink is =
@@ -392,7 +394,7 @@ module _ (t : Staged) (v : View) (tree : IsTree v.now) (needs : Needs t v) where
         free = no_leaf-there v.now tree t.stage needs.inode file.0;
         writes = written Unlink w is writes;
         after = unlinked w (leads_kept (writes_in Unlink t v) w writes (λ p s a. inl a.0) now.firm)
-            (subst NotVacant (sym (shows_named_apart v t.stage Absent t.at needs.placed.apart)) ((now.here t.at).1 refl)) (sym (way_in Unlink is));
+            (subst NotVacant (sym (shows_named_apart v t.stage Absent t.at needs.placed.apart)) ((now.here t.at).1 refl)) (shows_named v t.stage Absent) (sym (way_in Unlink is));
       }
 
   -- 9. the folder's sync
@@ -422,10 +424,10 @@ module _ (t : Staged) (v : View) (tree : IsTree v.now) (needs : Needs t v) where
           meets = record {
             firm = λ p s may. (
               leads p s may,
-              λ e. settled t.show now.firm now.here s
+              λ e. settled t.show now.firm (λ q. (now.here q).0) s
                   (subst (λ q. MayBe w q s → MayShow v (v.now.at q) s) (sym inside.1) (folder_synced-firm v t.folder inside.0 s) (subst (λ q. MayBe w q s) e may)),
             );
-            here = λ p. tt;
+            here = λ p e. shows_kept Nothing v w p (folder_synced-writes v t.folder) (λ s none. none) ∙ (now.here p).1 e;
           };
         };
       }

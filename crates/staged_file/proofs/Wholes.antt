@@ -8,7 +8,7 @@ use Rattle.fs_trait.specs.declared.task.StepResult.{StepResult}
 use Rattle.fs_trait.specs.declared.task.StepResult.TheVariants.{More, Done}
 use Rattle.fs_trait.specs.View.{Disk, View}
 use Rattle.fs_trait.specs.Image.{Image, EachImage, Told, reads}
-use Rattle.fs_trait.specs.Seen.{Seen, shows, MayBe, IsDirectory, NotDirectory, bytes_in}
+use Rattle.fs_trait.specs.Seen.{Seen, Vacant, shows, MayBe, IsDirectory, NotDirectory, bytes_in}
 use Rattle.fs_trait.specs.Change.{Writes, LeadsTo}
 use Rattle.fs_trait.proofs.Kept.{firm_kept, then_writes, weaker}
 use Rattle.fs_trait.proofs.Facts.{leaf_not_directory}
@@ -18,8 +18,8 @@ use Rattle.staged_file.specs.declared.phase.Show.TheVariants.{Rename, Link}
 use Rattle.staged_file.specs.declared.phase.Phase.{Phase}
 use Rattle.staged_file.specs.declared.phase.Phase.TheVariants.{Clear, Create, Append, SyncFile, Look, Replace, Add, Unlink, SyncFolder, Ended}
 use Rattle.staged_file.specs.Staged.{Staged, next_in, IsStepped}
-use Rattle.staged_file.specs.Steps.{IsFileWith, writes_in, WritesOf, lasts, firm_in, shown_by, Needs, Refuses}
-use Rattle.staged_file.specs.Whole.{Written, Leaves, IsThere, Stops}
+use Rattle.staged_file.specs.Steps.{IsFileWith, writes_in, WritesOf, lasts, firm_in, here_in, shown_by, Needs, Refuses}
+use Rattle.staged_file.specs.Whole.{Written, Leaves, IsThere, IsCleared, Stops}
 use Rattle.staged_file.proofs.StepLemmas.{off_stage, off_at}
 
 -- in terms of the views of one file system
@@ -131,6 +131,11 @@ module _ (t : Staged) (v : View) (needs : Needs t v) (w : View) (writes : Writes
       let last : lasts u.show u.meta u.bytes (shows d t.at) = firm.1 (sym same.at) in
       there t.show d i refl (subst (λ how. lasts how t.meta t.bytes (shows d t.at)) same.show
       (subst (λ m. lasts u.show m t.bytes (shows d t.at)) same.meta (subst (λ b. lasts u.show u.meta b (shows d t.at)) same.bytes last)))
+
+  pub cleared : (u : Staged) → IsSame t u → u.phase ≡ Ended → Needs u w → IsCleared t w
+  cleared u same ended now =
+      let gone : shows w.now u.stage ≡ Vacant = subst (λ ph. here_in ph u now.inode u.stage (shows w.now u.stage)) ended (now.meets.here u.stage) refl in
+      ap (shows w.now) (sym same.stage) ∙ gone
 
   directory_file : (s : Seen) → IsDirectory s → IsFileWith t.meta t.bytes s → ⊥
   directory_file s is file = subst IsDirectory file.1 is

@@ -102,8 +102,8 @@ here_in Look t n p s = p ≡ t.stage → s ≡ Leaf n t.meta t.bytes
 here_in Replace t n p s = (p ≡ t.stage → s ≡ Leaf n t.meta t.bytes) × (p ≡ t.at → NotDirectory s)
 here_in Add t n p s = p ≡ t.stage → s ≡ Leaf n t.meta t.bytes
 here_in Unlink t n p s = (p ≡ t.stage → s ≡ Leaf n t.meta t.bytes) × (p ≡ t.at → NotVacant s)
-here_in SyncFolder t n p s = here_shown t.show t.at n t.meta t.bytes p s
-here_in Ended t n p s = Unit {0}
+here_in SyncFolder t n p s = here_shown t.show t.at n t.meta t.bytes p s × (p ≡ t.stage → s ≡ Vacant)
+here_in Ended t n p s = p ≡ t.stage → s ≡ Vacant
 
 abbrev pub HereOf : Staged → ℕ → Path → Seen → Type 0
 HereOf t n = here_in t.phase t n

@@ -6,7 +6,7 @@ use Rattle.fs_trait.specs.declared.types.FsErr.TheVariants.{Failed, NoMemory, Ex
 use Rattle.fs_trait.specs.declared.types.Value.TheVariants.{Absent}
 use Rattle.fs_trait.specs.View.{Disk, View, all_synced}
 use Rattle.fs_trait.specs.Image.{Image, is_folder}
-use Rattle.fs_trait.specs.Seen.{Seen, shows, MayBe, IsDirectory, NotDirectory}
+use Rattle.fs_trait.specs.Seen.{Seen, Vacant, shows, MayBe, IsDirectory, NotDirectory}
 use Rattle.staged_file.specs.declared.phase.Show.TheVariants.{Rename, Link}
 use Rattle.staged_file.specs.declared.phase.Phase.TheVariants.{Clear}
 use Rattle.staged_file.specs.Staged.{Staged}
@@ -39,6 +39,10 @@ LeavesSynced t v d = Image v d ⊎ Leaves t (all_synced v) d
 -- the new file is there, with its attributes and bytes, or it was to be linked, and what stood there stayed
 abbrev pub IsThere : Staged → View → Disk → Type 0
 IsThere t v d = IsFileWith t.meta t.bytes (shows d t.at) ⊎ ((t.show ≡ Link) × MayBe v t.at (shows d t.at) × NotVacant (shows d t.at))
+
+-- nothing stands at the staging path then
+abbrev pub IsCleared : Staged → View → Type 0
+IsCleared t w = shows w.now t.stage ≡ Vacant
 
 -- why the task ended early
 abbrev pub Stops : Staged → View → FsErr → Type 0

@@ -7,7 +7,7 @@ ghost use Rattle.fs_trait.specs.Change.{Writes};
 ghost use Rattle.staged_file.specs.declared.phase.Phase.TheVariants as phase;
 ghost use Rattle.staged_file.specs.Staged.{Staged, IsStepped, KeepsRoom, Takes, left, lock_in};
 ghost use Rattle.staged_file.specs.Steps.{Needs, WritesOf, Refuses};
-ghost use Rattle.staged_file.specs.Whole.{Written, Leaves, LeavesSynced, IsThere, Stops, MayBegin};
+ghost use Rattle.staged_file.specs.Whole.{Written, Leaves, LeavesSynced, IsThere, IsCleared, Stops, MayBegin};
 
 mod steps;
 
@@ -103,12 +103,14 @@ impl StagedFile {
     }
 }
 
-/// Makes the file. A crash at any moment leaves at its target what was there before, or the file.
+/// Makes the file. A crash at any moment leaves at its target what was there before, or the file. At the end nothing stands at its
+/// staging path.
 pub fn put_file<F: Fs>(fs: &mut F, task: StagedFile) -> Result<(), FsErr>
     requires { (v : View) → F.view fs.old ≡ Some v → Needs task v }
     ensures any_moment { (v : View) → F.view fs.old ≡ Some v → LeavesEach (F.clock fs.old) (F.clock fs.new) (F.was fs.old) (F.was fs.new) (Leaves task v) }
     ensures writes { (v : View) → F.view fs.old ≡ Some v → Told (F.view fs.new) (λ w. Writes (Written task) v w) }
     ensures done { (v : View) → F.view fs.old ≡ Some v → OnOk result (Told (F.view fs.new) (λ w. EachImage w (IsThere task v))) }
+    ensures cleared { (v : View) → F.view fs.old ≡ Some v → OnOk result (Told (F.view fs.new) (IsCleared task)) }
     ensures fails { (v : View) → F.view fs.old ≡ Some v → IfErr result (Stops task v) }
     ensures named { IfErr result OfPlacing }
     ensures cause { HasCause (F.faults fs.old) (F.faults fs.new) result }
@@ -126,6 +128,7 @@ pub fn sync_and_put_file<F: Fs>(fs: &mut F, task: StagedFile) -> Result<(), FsEr
     ensures any_moment { (v : View) → F.view fs.old ≡ Some v → LeavesEach (F.clock fs.old) (F.clock fs.new) (F.was fs.old) (F.was fs.new) (LeavesSynced task v) }
     ensures writes { (v : View) → F.view fs.old ≡ Some v → Told (F.view fs.new) (λ w. Writes (Written task) v w) }
     ensures done { (v : View) → F.view fs.old ≡ Some v → OnOk result (Told (F.view fs.new) (λ w. EachImage w (IsThere task (all_synced v)))) }
+    ensures cleared { (v : View) → F.view fs.old ≡ Some v → OnOk result (Told (F.view fs.new) (IsCleared task)) }
     ensures fails { (v : View) → F.view fs.old ≡ Some v → IfErr result (Stops task v) }
     ensures named { IfErr result OfPlacing }
     ensures cause { HasCause (F.faults fs.old) (F.faults fs.new) result }

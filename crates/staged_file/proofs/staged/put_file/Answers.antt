@@ -6,7 +6,7 @@ use Rattle.fs_trait.proofs.Runs.{begins, goes_on}
 use Rattle.staged_file.specs.declared.phase.Phase.TheVariants.{Ended}
 use Rattle.staged_file.specs.Steps.{Needs}
 use Rattle.staged_file.specs.Whole.{Written, Leaves}
-use Rattle.staged_file.proofs.Wholes.{told_once, IsSame-refl, IsSame-trans, same_stepped, written_on, leaves_each, there_each, stops}
+use Rattle.staged_file.proofs.Wholes.{told_once, IsSame-refl, IsSame-trans, same_stepped, written_on, leaves_each, there_each, cleared, stops}
 use Rattle.staged_file.proofs.staged.put_file.Goals as goal
 
 pub loop-task-init : goal.loop-task-init
@@ -79,3 +79,10 @@ returns-clause-done g c = λ v told.
     let now = (i.run v told).0 in
     let ended : c.loop-task.task.phase ≡ Ended = search rules in
     (now.0, now.1, there_each c.args.task v (c.requires v told) now.0 now.2 c.loop-task.task i.same ended (i.needs now.0 now.1))
+
+pub returns-clause-cleared : goal.returns-clause-cleared
+returns-clause-cleared g c = λ v told.
+    let i = c.loop-task.invariant in
+    let now = (i.run v told).0 in
+    let ended : c.loop-task.task.phase ≡ Ended = search rules in
+    (now.0, now.1, cleared c.args.task v (c.requires v told) now.0 now.2 c.loop-task.task i.same ended (i.needs now.0 now.1))

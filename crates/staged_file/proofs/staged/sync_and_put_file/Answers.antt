@@ -24,6 +24,9 @@ put_file-requires g c = λ w told.
 pub returns-clause-done : goal.returns-clause-done
 returns-clause-done g c = λ v told. c.put_file.ensures.done _ (c.in_ok-sync_all.ensures.effect v told).1
 
+pub returns-clause-cleared : goal.returns-clause-cleared
+returns-clause-cleared g c = λ v told. c.put_file.ensures.cleared _ (c.in_ok-sync_all.ensures.effect v told).1
+
 pub returns-clause-fails : goal.returns-clause-fails
 returns-clause-fails g c = λ v told. stops_synced c.args.task v c.put_file.result (c.put_file.ensures.fails _ (c.in_ok-sync_all.ensures.effect v told).1)
 

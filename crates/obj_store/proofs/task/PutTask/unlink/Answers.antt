@@ -32,4 +32,4 @@ returns-clause-after g c = λ v told.
 
 pub returns-clause-tells : goal.returns-clause-tells
 returns-clause-tells g c = λ v told.
-    told_end c.args.self.now v _ c.in-Unlink.put c.in-Unlink.put (sym (ap (λ (t : Putting). t.phase) c.self.view_is) ∙ c.in-Unlink.is) _ _ (c.in_ok-unlink.ensures.effect v told)
+    told_end c.args.self.now v c.in-File.staging (sym (ap (λ (t : Putting). t.source) c.self.view_is) ∙ c.in-File.is) _ c.stage.ensures c.in-Unlink.put c.in-Unlink.put (sym (ap (λ (t : Putting). t.phase) c.self.view_is) ∙ c.in-Unlink.is) _ _ (c.in_ok-unlink.ensures.effect v told)
