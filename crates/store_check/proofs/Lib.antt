@@ -5,6 +5,8 @@ mod Firsts
 pub mod Damages
 mod Wholes
 mod FirstRefs
+mod Remembering
+mod Grouping
 mod Marking
 mod Ends
 mod Bounds

@@ -1,7 +1,9 @@
 pub mod Faults
 pub mod Listing
 pub mod Objects
+pub mod Groups
 pub mod Commits
+pub mod Finished
 pub mod Refs
 pub mod Good
 pub mod Extents

@@ -1,17 +1,19 @@
 //! Refs name commits that are there and have no mark.
-ghost use Rattle.std.specs.Prelude.{◌≡◌, ◌≤◌, Some, IfOk, IfErr};
+ghost use Rattle.std.specs.Prelude.{◌≡◌, ◌≤◌, Some, OnOk, IfOk, IfErr};
 ghost use Rattle.fs_trait.specs.View.{View};
 ghost use Rattle.fs_trait.specs.Effect.{HasCause, IsQuiet, OfNone};
 ghost use Rattle.repo_layout.specs.Paths.{ref_path};
 ghost use Rattle.store_check.specs.Faults.{HasCauseOf, CommitsFailed};
+ghost use Rattle.store_check.specs.Finished.{AreFinished};
 ghost use Rattle.store_check.specs.Refs.{Adds, ChecksRefs, IsFirstWrong, IsLesser};
 
 use crate::fault::CommitsFault;
-use crate::marks::is_finished;
+use crate::finished::is_known_finished;
 use fs_trait::{Fs, FsErr};
 use ost_types::{Csum, FsPath, Kind, ObjName};
 use repo_layout::{RefName, ref_path};
 use std::alloc::Global;
+use std::collections::BTreeSet;
 
 /// A ref whose commit is missing or has a mark, by the path of the ref's file.
 #[derive(Drop)]
@@ -55,8 +57,9 @@ fn first_wrong<F: Fs>(
     ensures cause { HasCause (F.faults fs.old) (F.faults fs.new) result }
 {
     let mut first = None;
+    let mut finished = BTreeSet::new(alloc);
     for entry in refs {
-        first = add(alloc, fs, first, entry)?;
+        first = add(alloc, fs, &mut finished, first, entry)?;
     }
     Ok(first)
 }
@@ -65,16 +68,19 @@ fn first_wrong<F: Fs>(
 fn add<F: Fs>(
     alloc: Global,
     fs: &mut F,
+    finished: &mut BTreeSet<Csum>,
     first: Option<WrongRef>,
     entry: &(RefName, Csum),
 ) -> Result<Option<WrongRef>, FsErr>
+    requires finished { (v : View) → F.view fs.old ≡ Some v → AreFinished v.now finished.old }
     ensures told { (v : View) → F.view fs.old ≡ Some v → IfOk result (Adds v.now first entry.now) }
+    ensures finished { (v : View) → F.view fs.old ≡ Some v → OnOk result (AreFinished v.now finished.new) }
     ensures named { IfErr result OfNone }
     ensures quiet { IsQuiet (F.clock fs.old) (F.clock fs.new) (F.was fs.old) (F.was fs.new) (F.view fs.old) (F.view fs.new) }
     ensures keeps_room { F.spare fs.old ≤ F.spare fs.new }
     ensures cause { HasCause (F.faults fs.old) (F.faults fs.new) result }
 {
-    if is_finished(alloc, fs, &entry.1)? {
+    if is_known_finished(alloc, fs, finished, &entry.1)? {
         return Ok(first);
     }
     let wrong = WrongRef {

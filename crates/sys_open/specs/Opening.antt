@@ -37,6 +37,11 @@ ToldBy check limits d (Err e) = Unit {0}
 abbrev pub AreAscending : List (List ℕ × List ℕ) → Type 0
 AreAscending refs = IsStrictlySortedBy (slice_cmp nat_cmp) (map (λ r. r.0) refs)
 
+-- what was read as the disk's refs: each by its name once, ascending, and each ref of the disk is among them
+pub record AreRefsOf (d : Disk) (refs : List (List ℕ × List ℕ)) : Type 0 where
+  pub ascending : AreAscending refs
+  pub logical : Logical d (first refs)
+
 -- nothing stands at a staging path or below it
 abbrev pub HasNoStages : Disk → Type 0
 HasNoStages d = (actor : ℕ) → actor < 16 → (p : Path) → IsTrue (is_below (stage_path actor) p) → shows d p ≡ Vacant

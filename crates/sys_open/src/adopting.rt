@@ -23,6 +23,7 @@ use ost_types::{Csum, Limits, Names, ObjName};
 use repo_layout::RefName;
 use std::alloc::Global;
 use std::marker::Model;
+use std::thread::Threads;
 
 /// An open repository, on which a system can begin.
 ///
@@ -161,7 +162,12 @@ impl<F: Fs> Opened<F> {
 
 /// Opens the repository of a file system; where it isn't opened the file system comes back. No damage is told of a good disk, so
 /// what a crash left since the first barrier opens again, with the same refs.
-pub fn adopt<F: Fs>(alloc: Global, fs: F, limits: Limits) -> Result<Opened<F>, (F, OpenFault)>
+pub fn adopt<R: Threads + Sync, F: Fs>(
+    rt: &R,
+    alloc: Global,
+    fs: F,
+    limits: Limits,
+) -> Result<Opened<F>, (F, OpenFault)>
     ensures good { (v : View) → F.view fs ≡ Some v → IfOk result (λ o. IsGood limits v.now) }
     ensures begins { (v : View) → F.view fs ≡ Some v → IfOk result (λ o. Told (F.view o.fs) (Begins o.refs v)) }
     ensures keeps { (v : View) → F.view fs ≡ Some v → IfOk result (λ o. KeepsSince (Left (F.was o.fs)) o.clock v.now) }
@@ -180,7 +186,7 @@ pub fn adopt<F: Fs>(alloc: Global, fs: F, limits: Limits) -> Result<Opened<F>, (
 {
     let mut fs = fs;
     let faults = fs.faults();
-    match open(alloc, &mut fs, &limits) {
+    match open(rt, alloc, &mut fs, &limits) {
         Ok(found) => match checkouts(alloc, &mut fs) {
             Ok(checkouts) => Ok(Opened {
                 fs,

@@ -10,7 +10,7 @@ ghost use Rattle.sys_open.specs.declared.fault.Why.TheVariants.{BadRef, WrongKin
 ghost use Rattle.sys_open.specs.Faults.{HasReason};
 ghost use Rattle.layout_rules.specs.Checks.{Asks, HoldsRefs, Kinds};
 ghost use Rattle.sys_open.specs.Walk.{Walked};
-ghost use Rattle.sys_open.specs.Opening.{Answers, AreAscending};
+ghost use Rattle.sys_open.specs.Opening.{Answers, AreAscending, AreRefsOf};
 ghost use Rattle.sys_open.specs.Stored.{ToldOfStore};
 
 use crate::config::check_config;
@@ -26,6 +26,7 @@ use fs_trait::Fs;
 use ost_types::{Csum, Limits, ObjName};
 use repo_layout::{Folder, RefName, folder_path};
 use std::alloc::Global;
+use std::thread::Threads;
 
 /// What a disk that passes all checks has.
 #[derive(Drop)]
@@ -65,26 +66,31 @@ fn refs_of<F: Fs>(alloc: Global, fs: &mut F) -> Result<Vec<(RefName, Csum)>, Ope
 }
 
 // The names of all objects. Each object is read, and then what the commits and these refs name.
-fn objects_of<F: Fs>(
+fn objects_of<R: Threads + Sync, F: Fs>(
+    rt: &R,
     alloc: Global,
     fs: &mut F,
     refs: &[(RefName, Csum)],
     limits: &Limits,
 ) -> Result<Vec<ObjName>, OpenFault>
-    requires ascending { AreAscending refs.now }
-    requires refs { (v : View) → F.view fs.old ≡ Some v → Logical v.now (first refs.now) }
+    requires { (v : View) → F.view fs.old ≡ Some v → AreRefsOf v.now refs.now }
     ensures told { (v : View) → F.view fs.old ≡ Some v → ToldOfStore limits.now v.now result }
     ensures all { (v : View) → F.view fs.old ≡ Some v → IfOk result (λ names. AreAll v.now names.items) }
     ensures quiet { IsQuiet (F.clock fs.old) (F.clock fs.new) (F.was fs.old) (F.was fs.new) (F.view fs.old) (F.view fs.new) }
     ensures reason { HasReason (F.faults fs.old) (F.faults fs.new) result }
 {
-    let names = read_objects(alloc, fs, limits)?;
+    let names = read_objects(rt, alloc, fs, limits)?;
     look_at_commits(alloc, fs, names.as_slice(), refs, limits)?;
     Ok(names)
 }
 
 /// Makes all checks, in their order.
-pub fn check<F: Fs>(alloc: Global, fs: &mut F, limits: &Limits) -> Result<Contents, OpenFault>
+pub fn check<R: Threads + Sync, F: Fs>(
+    rt: &R,
+    alloc: Global,
+    fs: &mut F,
+    limits: &Limits,
+) -> Result<Contents, OpenFault>
     ensures told { (v : View) → F.view fs.old ≡ Some v → Answers limits.now v.now result }
     ensures refs { (v : View) → F.view fs.old ≡ Some v → IfOk result (λ c. Logical v.now (first c.refs.items)) }
     ensures objects { (v : View) → F.view fs.old ≡ Some v → IfOk result (λ c. AreAll v.now c.objects.items) }
@@ -95,7 +101,7 @@ pub fn check<F: Fs>(alloc: Global, fs: &mut F, limits: &Limits) -> Result<Conten
     check_places(alloc, fs)?;
     check_config(alloc, fs)?;
     let refs = refs_of(alloc, fs)?;
-    let objects = objects_of(alloc, fs, refs.as_slice(), limits)?;
+    let objects = objects_of(rt, alloc, fs, refs.as_slice(), limits)?;
     check_stages(alloc, fs)?;
     Ok(Contents { refs, objects })
 }

@@ -20,6 +20,7 @@ use fs_trait::Fs;
 use ost_types::{Csum, Limits, ObjName};
 use repo_layout::RefName;
 use std::alloc::Global;
+use std::thread::Threads;
 
 // arranges what the checks allow, and makes it outlast a crash where something was changed
 fn settle<F: Fs>(alloc: Global, fs: &mut F) -> Result<(), OpenFault>
@@ -55,7 +56,12 @@ pub struct Findings {
 
 /// Opens the repository: makes all that is there outlast a crash, checks it, and then makes the folders that are absent, writes the
 /// configuration where there is none, and clears the staging paths.
-pub fn open<F: Fs>(alloc: Global, fs: &mut F, limits: &Limits) -> Result<Findings, OpenFault>
+pub fn open<R: Threads + Sync, F: Fs>(
+    rt: &R,
+    alloc: Global,
+    fs: &mut F,
+    limits: &Limits,
+) -> Result<Findings, OpenFault>
     ensures told { (v : View) → F.view fs.old ≡ Some v → Answers limits.now v.now result }
     ensures begins { (v : View) → F.view fs.old ≡ Some v → IfOk result (λ o. Told (F.view fs.new) (λ w. Begins o.refs.items v w)) }
     ensures objects { (v : View) → F.view fs.old ≡ Some v → IfOk result (λ o. AreAll v.now o.objects.items) }
@@ -70,7 +76,7 @@ pub fn open<F: Fs>(alloc: Global, fs: &mut F, limits: &Limits) -> Result<Finding
 {
     barrier(alloc, fs)?;
     let clock = fs.clock();
-    let contents = check(alloc, fs, limits)?;
+    let contents = check(rt, alloc, fs, limits)?;
     settle(alloc, fs)?;
     Ok(Findings {
         refs: contents.refs,

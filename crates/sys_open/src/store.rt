@@ -15,10 +15,12 @@ use ost_objects::CheckFault;
 use ost_types::{Csum, FsPath, Limits, ObjName};
 use repo_layout::{Folder, RefName, folder_path, object_path};
 use std::alloc::Global;
+use std::thread::Threads;
 use store_check::{CommitsFault, ObjectsFault, check_commits, check_objects};
 
 /// Reads each object, and tells the names of all, ascending.
-pub fn read_objects<F: Fs>(
+pub fn read_objects<R: Threads + Sync, F: Fs>(
+    rt: &R,
     alloc: Global,
     fs: &mut F,
     limits: &Limits,
@@ -28,7 +30,7 @@ pub fn read_objects<F: Fs>(
     ensures quiet { IsQuiet (F.clock fs.old) (F.clock fs.new) (F.was fs.old) (F.was fs.new) (F.view fs.old) (F.view fs.new) }
     ensures reason { HasReason (F.faults fs.old) (F.faults fs.new) result }
 {
-    match check_objects(alloc, fs, limits) {
+    match check_objects(rt, alloc, fs, limits) {
         Ok(names) => Ok(names),
         Err(fault) => Err(of_objects(alloc, fault)),
     }

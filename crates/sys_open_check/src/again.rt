@@ -7,6 +7,7 @@ use fs_trait::Fs;
 use ost_types::{Csum, Limits};
 use repo_layout::RefName;
 use std::alloc::Global;
+use std::thread::Threads;
 use sys_open::{OpenFault, adopt};
 
 /// What an opening tells of a file system.
@@ -18,12 +19,17 @@ pub struct Found<F> {
 }
 
 /// Opens the repository of a file system, and gives the file system back, with the refs or the fault.
-pub fn open_again<F: Fs>(alloc: Global, fs: F, limits: Limits) -> Result<Found<F>, (F, OpenFault)>
+pub fn open_again<R: Threads + Sync, F: Fs>(
+    rt: &R,
+    alloc: Global,
+    fs: F,
+    limits: Limits,
+) -> Result<Found<F>, (F, OpenFault)>
     ensures good { (v : View) → F.view fs ≡ Some v → IfOk result (λ f. IsGood limits v.now) }
     ensures told { (v : View) → F.view fs ≡ Some v → IfErr result (λ e. IsToldOf limits v.now e.1) }
     ensures ascending { IfOk result (λ f. AreAscending f.refs.items) }
 {
-    let opened = adopt(alloc, fs, limits)?;
+    let opened = adopt(rt, alloc, fs, limits)?;
     let parts = opened.into_parts();
     Ok(Found {
         fs: parts.fs,

@@ -89,12 +89,12 @@ fn with_paths(paths: u32) -> Limits {
 #[test]
 fn tells_a_commit_of_more_paths_than_the_limit(rt: HostRuntime) -> Result<(), Fail> {
     let alloc = rt.alloc();
-    assert!(rt; open_again(alloc, with_commit(alloc)?, with_paths(1)).is_ok());
+    assert!(rt; open_again(&rt, alloc, with_commit(alloc)?, with_paths(1)).is_ok());
     let at = FsPath::parse(alloc, COMMIT)?;
     let csum = Csum::from_hex(EMPTY_SUM).ok_or("no sum")?;
     let kind = Kind::DirTree;
     let wanted = Why::Incomplete(ObjName { csum, kind });
-    match &open_again(alloc, with_commit(alloc)?, with_paths(0)) {
+    match &open_again(&rt, alloc, with_commit(alloc)?, with_paths(0)) {
         Err((_, OpenFault::Damaged(found, why))) => assert!(rt; *found == at && *why == wanted),
         _ => return Err("another end")?,
     }

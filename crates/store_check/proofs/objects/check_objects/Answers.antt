@@ -5,7 +5,10 @@ use Rattle.store_check.proofs.Damages.{number_end, each_end, all_sound}
 use Rattle.store_check.proofs.objects.check_objects.Goals as goal
 
 pub check_each-requires : goal.check_each-requires
-check_each-requires g c = λ v told. subst (AreAll v.now) (sym c.as_slice.ensures.value) (c.in_ok-names.ensures.told v (sym c.list_objects.ensures.quiet.view ∙ told))
+check_each-requires g c = (
+  c.type_bounds.sync-R,
+  λ v told. subst (AreAll v.now) (sym c.as_slice.ensures.value) (c.in_ok-names.ensures.told v (sym c.list_objects.ensures.quiet.view ∙ told)),
+)
 
 pub returns-in_err-check_number-clause-told : goal.returns-in_err-check_number-clause-told
 returns-in_err-check_number-clause-told g c = λ v told.

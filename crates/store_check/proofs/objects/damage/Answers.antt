@@ -6,7 +6,7 @@ use Rattle.store_check.proofs.objects.damage.Goals as goal
 pub returns-in-Ok-Some-clause-told : goal.returns-in-Ok-Some-clause-told
 returns-in-Ok-Some-clause-told g c = λ v told.
     let loads = subst (λ o. Loads v.now c.args.name.now c.args.limits.now.content (Ok o)) c.in-Ok-Some.field-0-is (c.in-Ok-Some.ensures.told v told) in
-    rw c.no_damage.ensures.none (loaded_sound v.now c.args.limits.now.content c.args.name.now c.in-Ok-Some.object loads c.no_damage.ensures.formed)
+    rw c.no_fault.ensures.none (loaded_sound v.now c.args.limits.now.content c.args.name.now c.in-Ok-Some.object loads c.no_fault.ensures.formed)
 
 pub returns-in-Ok-None-clause-told : goal.returns-in-Ok-None-clause-told
 returns-in-Ok-None-clause-told g c = λ v told.

@@ -30,12 +30,14 @@ returns-in_err-refs-clause-told g c = λ v told.
     let config = c.in_ok-check_config.ensures.told v now in
     rw (error.1, error.2) (first_fault (Vec (List ℕ × List ℕ)) Contents RefFiles c.args.limits.now v.now _ (before_refs c.args.limits.now v.now places config) (refs_told (Vec (List ℕ × List ℕ)) c.args.limits.now v.now _ (c.in_err-refs.ensures.told v (c.check_config.ensures.quiet.view ∙ now))))
 
-pub objects_of-requires-clause-ascending : goal.objects_of-requires-clause-ascending
-objects_of-requires-clause-ascending g c = subst AreAscending (sym c.as_slice.ensures.value) c.in_ok-refs.ensures.ascending
-
-pub objects_of-requires-clause-refs : goal.objects_of-requires-clause-refs
-objects_of-requires-clause-refs g c = λ u now.
-    subst (λ l. Logical u.now (first l)) (sym c.as_slice.ensures.value) (c.in_ok-refs.ensures.refs u (sym c.refs_of.ensures.quiet.view ∙ now))
+pub objects_of-requires : goal.objects_of-requires
+objects_of-requires g c = (
+  c.type_bounds.sync-R,
+  λ u now. record {
+    ascending = subst AreAscending (sym c.as_slice.ensures.value) c.in_ok-refs.ensures.ascending;
+    logical = subst (λ l. Logical u.now (first l)) (sym c.as_slice.ensures.value) (c.in_ok-refs.ensures.refs u (sym c.refs_of.ensures.quiet.view ∙ now));
+  },
+)
 
 pub returns-in_err-objects-clause-told : goal.returns-in_err-objects-clause-told
 returns-in_err-objects-clause-told g c = λ v told.

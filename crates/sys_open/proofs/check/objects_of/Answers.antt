@@ -18,11 +18,11 @@ look_at_commits-requires g c = λ u now.
 pub returns-in_err-look_at_commits-clause-told : goal.returns-in_err-look_at_commits-clause-told
 returns-in_err-look_at_commits-clause-told g c = λ v told.
     let error = err_from_is_err_and c.from_residual-in_err-look_at_commits.result c.from_residual-in_err-look_at_commits.ensures.1 in
-    rw (error.1, error.2) (commits_fault c.args.limits.now v.now c.args.refs.now c.requires.ascending (c.requires.refs v told) (sound_passes c.args.limits.now v.now _ (c.in_ok-names.ensures.sound v told)) (Unit {0}) (Vec ObjName) _ (c.in_err-look_at_commits.ensures.told v (c.read_objects.ensures.quiet.view ∙ told)))
+    rw (error.1, error.2) (commits_fault c.args.limits.now v.now c.args.refs.now (c.requires v told).ascending (c.requires v told).logical (sound_passes c.args.limits.now v.now _ (c.in_ok-names.ensures.sound v told)) (Unit {0}) (Vec ObjName) _ (c.in_err-look_at_commits.ensures.told v (c.read_objects.ensures.quiet.view ∙ told)))
 
 pub returns-clause-told : goal.returns-clause-told
 returns-clause-told g c = λ v told.
-    store_passes c.args.limits.now v.now c.args.refs.now c.requires.ascending (c.requires.refs v told) (sound_passes c.args.limits.now v.now _ (c.in_ok-names.ensures.sound v told)) (Unit {0}) tt (c.in_ok-look_at_commits.ensures.told v (c.read_objects.ensures.quiet.view ∙ told))
+    store_passes c.args.limits.now v.now c.args.refs.now (c.requires v told).ascending (c.requires v told).logical (sound_passes c.args.limits.now v.now _ (c.in_ok-names.ensures.sound v told)) (Unit {0}) tt (c.in_ok-look_at_commits.ensures.told v (c.read_objects.ensures.quiet.view ∙ told))
 
 pub returns-clause-all : goal.returns-clause-all
 returns-clause-all g c = λ v told. (c.in_ok-names.ensures.sound v told).all
