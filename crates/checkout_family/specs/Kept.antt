@@ -1,5 +1,5 @@
 -- A folder that is a commit's tree stays so over an act, where nothing of the commit is removed.
-use Rattle.std.proofs.Common.{◌≡◌, ◌≢◌, inr, ⊎_elim, ℕ, List, [], ◌++◌, Some, None, refl, sym, ◌∙◌, ap, subst}
+use Rattle.std.proofs.Common.{◌≡◌, ◌≢◌, inr, ⊎_elim, ℕ, List, [], ◌++◌, Contains, Some, None, refl, sym, ◌∙◌, ap, subst}
 use Rattle.std.proofs.lemmas.List.Elements.{Contains-append_left, Contains-append_right}
 use Rattle.std.proofs.Math.Logic.{∥∥₁_elim}
 use Rattle.ost_types.specs.declared.limits.Limits.{Limits}
@@ -31,7 +31,7 @@ use Rattle.checkout.specs.CheckoutFolder.{leaf_path}
 use Rattle.checkout.proofs.CheckoutLemmas.{Stands-kept}
 use Rattle.read_command.specs.WayLaws.{shown_leaf}
 use Rattle.checkout_command.specs.Answers.{IsCheckedOut}
-use Rattle.command.specs.Removed.{removed_by}
+use Rattle.command.specs.Removed.{RemovesOnly}
 use Rattle.checkout_family.specs.Folder.{AreSpared}
 
 -- a commit that is whole has a folder at its root,
@@ -53,19 +53,26 @@ tree_stands d limits commit name is none = root_shown (Stores d) limits commit i
 stored_there : (kind : Kind) (s : Seen) (bytes : List ℕ) → s ≡ Vacant → object_in kind s ≡ Some bytes → ⊥
 stored_there kind s bytes none holds = let no : None ≡ Some bytes = sym (ap (object_in kind) none) ∙ holds in cc
 
+-- An act leaves what is stored as it is, but for what it removes.
+module _ (b : Books) (v w : View) (actor lane : ℕ) (writes : Writes (Guarantee b v actor lane) v w) (removed : List ObjName) (only : RemovesOnly removed v w) where
+  pub unremoved_same : (o : ObjName) (bytes : List ℕ) → ¬ (Contains removed o) → Stores v.now o bytes → shows w.now (path_of o) ≡ shows v.now (path_of o)
+  unremoved_same o bytes still stored =
+      let sum = IsSum-named o bytes stored.named in
+      ⊎_elim
+      (λ same. same)
+      (λ m. ⊎_elim
+      (λ comes. absurd (stored_there o.kind (shows v.now (path_of o)) bytes comes.0 stored.there))
+      (λ goes. absurd (⊎_elim (λ none. stored_there o.kind (shows v.now (path_of o)) bytes none stored.there) still (only o sum goes.0)))
+      (m.objects o.kind o.csum (place-object o.kind o.csum sum)))
+      (writes.now (path_of o))
+
 -- an act that removes nothing of the commit, nor was anything of it removed before
-module _ (b : Books) (v w : View) (actor lane : ℕ) (writes : Writes (Guarantee b v actor lane) v w) (commit : List ℕ) (out : List ObjName) (spared : AreSpared (removed_by b ++ out) commit w.now) where
+module _ (b : Books) (v w : View) (actor lane : ℕ) (writes : Writes (Guarantee b v actor lane) v w) (removed : List ObjName) (only : RemovesOnly removed v w) (commit : List ℕ) (out : List ObjName) (spared : AreSpared (removed ++ out) commit w.now) where
   abbrev Its : Disk → ObjName → Type 0
   Its d = Reach (Stores d) (Is (name_of kind.Commit commit))
 
   object_same : (o : ObjName) (bytes : List ℕ) → Its w.now o → Stores v.now o bytes → shows w.now (path_of o) ≡ shows v.now (path_of o)
-  object_same o bytes reached stored = ⊎_elim
-      (λ same. same)
-      (λ m. ⊎_elim
-      (λ comes. absurd (stored_there o.kind (shows v.now (path_of o)) bytes comes.0 stored.there))
-      (λ goes. absurd (spared o (Contains-append_left (removed_by b) out o goes.1) reached))
-      (m.objects o.kind o.csum (place-object o.kind o.csum (IsSum-named o bytes stored.named))))
-      (writes.now (path_of o))
+  object_same o bytes reached = unremoved_same b v w actor lane writes removed only o bytes (λ has. spared o (Contains-append_left removed out o has) reached)
 
   -- the commit goes on to reach all that it reached
   reached_on : (o : ObjName) → Its v.now o → Its w.now o
@@ -78,7 +85,7 @@ module _ (b : Books) (v w : View) (actor lane : ℕ) (writes : Writes (Guarantee
   stored_on o bytes reached had = stores_same v.now w.now o bytes (object_same o bytes (reached_on o reached) had) had
 
   pub spared_before : AreSpared out commit v.now
-  spared_before o has reached = spared o (Contains-append_right (removed_by b) out o has) (reached_on o reached)
+  spared_before o has reached = spared o (Contains-append_right removed out o has) (reached_on o reached)
 
   module _ (limits : Limits) (name : Name) (is : IsCheckedOut v.now limits commit name) (same : (rest : Path) → shows w.now (checkout_path name ++ rest) ≡ shows v.now (checkout_path name ++ rest)) where
     abbrev c : CommitParts

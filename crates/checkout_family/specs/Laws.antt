@@ -20,7 +20,7 @@ use Rattle.checkout_family.specs.Answering.{ends_say, ends_show, found, has_answ
 use Rattle.checkout_family.specs.Family.{checkout_doing, checkout_means}
 use Rattle.checkout_family.specs.Made.{ends_made, late_none}
 use Rattle.checkout_family.specs.Kinds.{checkout_holds, checkouts_light, claims_own, no_settle, no_show, pins_commit}
-use Rattle.checkout_family.specs.Staying.{checkouts_stay, ends_leave}
+use Rattle.checkout_family.specs.Staying.{checkouts_stay, checkouts_wider, ends_leave}
 
 abbrev pub checkout_tasks : TaskSpec CheckoutsTask
 checkout_tasks = task_spec (λ t. checkout_kind t.work) (λ actor t. checkout_writes actor t.work) (λ t u new. checkout_stepped t.work u new.work) (λ t u new. checkout_leaves t.work u new.work) (λ t. checkout_refuses t.work) (λ lane t. checkout_facts lane t.work)
@@ -57,6 +57,8 @@ change_laws = record {
   kept = λ since opening lane c t new v w b right is f leaves settles. tt;
   keeps = λ since opening out removed c v w right stays is. tt;
   keeps_on = λ since opening out removed c v disk on is. tt;
+  keeps_wider = λ since opening out more c v among is. tt;
+  keeps_on_wider = λ since opening out more c disk among is. tt;
 }
 
 answer_laws : AnswerLaws checkout_tasks checkout_means checkout_doing
@@ -70,6 +72,7 @@ answer_laws = record {
   full = λ told since c t new a is step given full. absurd full;
   left = λ since actor lane c t new v w b b' a is f leaves given does gone. ends_leave since actor lane c t.work new.work v w b b' is f leaves does gone a given;
   stays = checkouts_stay;
+  stays_wider = checkouts_wider;
 }
 
 store_laws : StoreLaws checkout_tasks checkout_means checkout_doing
@@ -82,6 +85,7 @@ store_laws = record {
   stored = λ actor lane t new v w b name s f leaves sum wrote. absurd (no_objects actor t.work v name s sum wrote);
   done = λ actor lane t new v w b name s f leaves sum wrote. absurd (no_objects actor t.work v name s sum wrote);
   lacked = λ told since c t new v w name is leaves met. cc;
+  there = λ lane t v b name f met. cc;
   keeps = λ since actor lane c t v b is f. apart_keeps since.limits (checkout_means.brings since c) v (checkout_writes actor t.work v) (writes_apart actor t.work v);
 }
 

@@ -13,7 +13,7 @@ use Rattle.command.specs.declared.told.Told.{Told}
 use Rattle.command.specs.CommitFiles.{CommitsAreFiles}
 use Rattle.command.specs.Doing.{Doing}
 use Rattle.command.specs.Meaning.{Meaning}
-use Rattle.command.specs.Removed.{removed_by}
+use Rattle.command.specs.Removed.{AreAmong, RemovesOnly}
 use Rattle.command.specs.Sees.{Sees}
 use Rattle.command.specs.Since.{Since, placed}
 use Rattle.command.specs.Tasks.{TaskSpec}
@@ -34,6 +34,7 @@ pub record AnswerLaws {T W A : Type 0} (k : TaskSpec T) (m : Meaning W A) (d : D
   pub lacks : (since : Since) (v : View) (a : A) (c : W) (commit : List ℕ) → CommitsAreFiles v.now → m.shows since v a c → m.lacks a commit → StaysFinished v commit → ⊥
   pub outside : (since : Since) (v : View) (a : A) (c : W) → IsGoodStore since.limits v.now → m.shows since v a c → m.outside a → ⊥
   pub full : (told : Told) (since : Since) (c : W) (t new : T) (a : A) → d.pursues since c t → k.stepped (d.hears told t) (turn.Done tt) new → d.answer new ≡ Some a → m.full a → since.limits.objects ≤ told.objects
-  -- what it leaves stands, and stays so while anyone acts
+  -- what it leaves stands, and stays so while anyone acts, but for what that removes; so it is where more was removed
   pub left : (since : Since) (actor lane : ℕ) (c : W) (t new : T) (v w : View) (b b' : Books) (a : A) → d.pursues since c t → k.facts lane t v b → k.leaves t (turn.Done tt) new v w → d.answer new ≡ Some a → Interference actor lane v b w b' → HasNoClaims lane b' → m.stays since [] a c w b'
-  pub stays : (since : Since) (actor lane : ℕ) (out : List ObjName) (a : A) (c : W) (v w : View) (b b' : Books) → Interference actor lane v b w b' → m.stays since out a c v b → m.stays since (removed_by b ++ out) a c w b'
+  pub stays : (since : Since) (actor lane : ℕ) (out removed : List ObjName) (a : A) (c : W) (v w : View) (b b' : Books) → Interference actor lane v b w b' → RemovesOnly removed v w → m.stays since out a c v b → m.stays since (removed ++ out) a c w b'
+  pub stays_wider : (since : Since) (out more : List ObjName) (a : A) (c : W) (v : View) (b : Books) → AreAmong out more → m.stays since out a c v b → m.stays since more a c v b

@@ -10,6 +10,7 @@ use Rattle.rely_guarantee.specs.Lasting.{IsRight, Stays, StaysFinished, StaysOn}
 use Rattle.rely_guarantee.specs.Laws.{Show, Settle, IsSettle}
 use Rattle.command.specs.Doing.{Doing}
 use Rattle.command.specs.Meaning.{Meaning}
+use Rattle.command.specs.Removed.{AreAmong}
 use Rattle.command.specs.Since.{Since}
 use Rattle.command.specs.Tasks.{TaskSpec}
 
@@ -35,3 +36,6 @@ pub record ChangeLaws {T W A : Type 0} (k : TaskSpec T) (m : Meaning W A) (d : D
   pub kept : (since : Since) (opening : View) (lane : ℕ) (c : W) (t new : T) (v w : View) (b : Books) → IsRightSince opening v → d.pursues since c t → k.facts lane t v b → k.leaves t (turn.Done tt) new v w → IsSettle (k.kind t) → m.keeps since opening [] c w
   pub keeps : (since : Since) (opening : View) (out removed : List ObjName) (c : W) (v w : View) → IsRightSince opening v → Stays removed v w → m.keeps since opening out c v → m.keeps since opening (removed ++ out) c w
   pub keeps_on : (since : Since) (opening : View) (out removed : List ObjName) (c : W) (v : View) (disk : Disk) → StaysOn removed v disk → m.keeps since opening out c v → m.keeps_on since opening (removed ++ out) c disk
+  -- so it is where more was removed
+  pub keeps_wider : (since : Since) (opening : View) (out more : List ObjName) (c : W) (v : View) → AreAmong out more → m.keeps since opening out c v → m.keeps since opening more c v
+  pub keeps_on_wider : (since : Since) (opening : View) (out more : List ObjName) (c : W) (disk : Disk) → AreAmong out more → m.keeps_on since opening out c disk → m.keeps_on since opening more c disk

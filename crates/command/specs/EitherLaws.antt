@@ -69,6 +69,8 @@ module _ {S T W V A B : Type 0} {k : TaskSpec S} {l : TaskSpec T} {m : Meaning W
     kept = λ since opening lane. elim [ Left c ↦ elim [ Left t ↦ elim [ Left new ↦ one.kept since opening lane c t new | Right new ↦ λ v w b right after f leaves settles. absurd leaves ] | Right t ↦ λ new v w b right after f leaves settles. absurd after ] | Right c ↦ elim [ Left t ↦ λ new v w b right after f leaves settles. absurd after | Right t ↦ elim [ Left new ↦ λ v w b right after f leaves settles. absurd leaves | Right new ↦ two.kept since opening lane c t new ] ] ];
     keeps = λ since opening out removed. elim [ Left c ↦ one.keeps since opening out removed c | Right c ↦ two.keeps since opening out removed c ];
     keeps_on = λ since opening out removed. elim [ Left c ↦ one.keeps_on since opening out removed c | Right c ↦ two.keeps_on since opening out removed c ];
+    keeps_wider = λ since opening out more. elim [ Left c ↦ one.keeps_wider since opening out more c | Right c ↦ two.keeps_wider since opening out more c ];
+    keeps_on_wider = λ since opening out more. elim [ Left c ↦ one.keeps_on_wider since opening out more c | Right c ↦ two.keeps_on_wider since opening out more c ];
   }
 
   answer_laws : AnswerLaws k m d → AnswerLaws l n e → AnswerLaws (either_tasks k l) (either_means m n) (either_doing d e)
@@ -81,7 +83,8 @@ module _ {S T W V A B : Type 0} {k : TaskSpec S} {l : TaskSpec T} {m : Meaning W
     outside = λ since v. elim [ Left a ↦ elim [ Left c ↦ one.outside since v a c | Right c ↦ λ good shown. absurd shown ] | Right a ↦ elim [ Left c ↦ λ good shown. absurd shown | Right c ↦ two.outside since v a c ] ];
     full = λ told since. elim [ Left c ↦ elim [ Left t ↦ elim [ Left new ↦ elim [ Left a ↦ λ after step is full. one.full told since c t new a after step (from_left (d.answer new) a is) full | Right a ↦ λ after step is full. absurd (not_right (d.answer new) a is) ] | Right new ↦ λ a after step is full. absurd step ] | Right t ↦ λ new a after step is full. absurd after ] | Right c ↦ elim [ Left t ↦ λ new a after step is full. absurd after | Right t ↦ elim [ Left new ↦ λ a after step is full. absurd step | Right new ↦ elim [ Left a ↦ λ after step is full. absurd (not_left (e.answer new) a is) | Right a ↦ λ after step is full. two.full told since c t new a after step (from_right (e.answer new) a is) full ] ] ] ];
     left = λ since actor lane. elim [ Left c ↦ elim [ Left t ↦ elim [ Left new ↦ λ v w b b'. elim [ Left a ↦ λ after f leaves is does gone. one.left since actor lane c t new v w b b' a after f leaves (from_left (d.answer new) a is) does gone | Right a ↦ λ after f leaves is does gone. absurd (not_right (d.answer new) a is) ] | Right new ↦ λ v w b b' a after f leaves is does gone. absurd leaves ] | Right t ↦ λ new v w b b' a after f leaves is does gone. absurd after ] | Right c ↦ elim [ Left t ↦ λ new v w b b' a after f leaves is does gone. absurd after | Right t ↦ elim [ Left new ↦ λ v w b b' a after f leaves is does gone. absurd leaves | Right new ↦ λ v w b b'. elim [ Left a ↦ λ after f leaves is does gone. absurd (not_left (e.answer new) a is) | Right a ↦ λ after f leaves is does gone. two.left since actor lane c t new v w b b' a after f leaves (from_right (e.answer new) a is) does gone ] ] ] ];
-    stays = λ since actor lane out. elim [ Left a ↦ elim [ Left c ↦ one.stays since actor lane out a c | Right c ↦ λ v w b b' does is. absurd is ] | Right a ↦ elim [ Left c ↦ λ v w b b' does is. absurd is | Right c ↦ two.stays since actor lane out a c ] ];
+    stays = λ since actor lane out removed. elim [ Left a ↦ elim [ Left c ↦ one.stays since actor lane out removed a c | Right c ↦ λ v w b b' does only is. absurd is ] | Right a ↦ elim [ Left c ↦ λ v w b b' does only is. absurd is | Right c ↦ two.stays since actor lane out removed a c ] ];
+    stays_wider = λ since out more. elim [ Left a ↦ elim [ Left c ↦ one.stays_wider since out more a c | Right c ↦ λ v b among is. absurd is ] | Right a ↦ elim [ Left c ↦ λ v b among is. absurd is | Right c ↦ two.stays_wider since out more a c ] ];
   }
 
   store_laws : StoreLaws k m d → StoreLaws l n e → StoreLaws (either_tasks k l) (either_means m n) (either_doing d e)
@@ -94,6 +97,7 @@ module _ {S T W V A B : Type 0} {k : TaskSpec S} {l : TaskSpec T} {m : Meaning W
     stored = λ actor lane. elim [ Left t ↦ elim [ Left new ↦ one.stored actor lane t new | Right new ↦ λ v w b name s f leaves sum writes. absurd leaves ] | Right t ↦ elim [ Left new ↦ λ v w b name s f leaves sum writes. absurd leaves | Right new ↦ two.stored actor lane t new ] ];
     done = λ actor lane. elim [ Left t ↦ elim [ Left new ↦ one.done actor lane t new | Right new ↦ λ v w b name s f leaves sum writes. absurd leaves ] | Right t ↦ elim [ Left new ↦ λ v w b name s f leaves sum writes. absurd leaves | Right new ↦ two.done actor lane t new ] ];
     lacked = λ told since. elim [ Left c ↦ elim [ Left t ↦ elim [ Left new ↦ one.lacked told since c t new | Right new ↦ λ v w name after leaves met. absurd leaves ] | Right t ↦ λ new v w name after leaves met. absurd after ] | Right c ↦ elim [ Left t ↦ λ new v w name after leaves met. absurd after | Right t ↦ elim [ Left new ↦ λ v w name after leaves met. absurd leaves | Right new ↦ two.lacked told since c t new ] ] ];
+    there = λ lane. elim [ Left t ↦ one.there lane t | Right t ↦ two.there lane t ];
     keeps = λ since actor lane. elim [ Left c ↦ elim [ Left t ↦ one.keeps since actor lane c t | Right t ↦ λ v b after f. absurd after ] | Right c ↦ elim [ Left t ↦ λ v b after f. absurd after | Right t ↦ two.keeps since actor lane c t ] ];
   }
 

@@ -8,6 +8,7 @@ use Rattle.fs_trait.specs.Seen.{Seen}
 use Rattle.repo_layout.specs.RefFile.{IsSum}
 use Rattle.repo_model.specs.Objects.{object_in, path_of}
 use Rattle.obj_store.specs.declared.phase.Put.TheVariants.{Stored}
+use Rattle.store_check.specs.Listing.{IsThere}
 use Rattle.rely_guarantee.specs.declared.kind.Wants.{Wants}
 use Rattle.rely_guarantee.specs.Books.{Books}
 use Rattle.rely_guarantee.specs.Laws.{Take}
@@ -36,5 +37,7 @@ pub record StoreLaws {T W A : Type 0} (k : TaskSpec T) (m : Meaning W A) (d : Do
   pub done : (actor lane : ℕ) (t new : T) (v w : View) (b : Books) (name : ObjName) (s : Seen) → k.facts lane t v b → k.leaves t (turn.Done tt) new v w → IsSum name.csum → k.writes actor t v (path_of name) s → w ≡ v
   -- a step that stored an object did so where nothing stood at its path
   pub lacked : (told : Told) (since : Since) (c : W) (t new : T) (v w : View) (name : ObjName) → d.pursues since c t → k.leaves (d.hears told t) turn.More new v w → d.met new ≡ Some (name, Stored) → HadRoom told since × (v.now.at (path_of name) ≡ Absent)
+  -- and left something there
+  pub there : (lane : ℕ) (t : T) (v : View) (b : Books) (name : ObjName) → k.facts lane t v b → d.met t ≡ Some (name, Stored) → IsThere v.now name
   -- what is written keeps what a store keeps, over what the command brings
   pub keeps : (since : Since) (actor lane : ℕ) (c : W) (t : T) (v : View) (b : Books) → d.pursues since c t → k.facts lane t v b → KeepsStore since.limits (m.brings since c) v (k.writes actor t v)

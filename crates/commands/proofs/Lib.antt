@@ -2,3 +2,4 @@ pub mod Rooms
 pub mod Rows
 pub mod Telling
 pub mod Outsides
+pub mod Bringing

@@ -1,15 +1,30 @@
 //! What a script's replies tell is what those of its lanes do.
-ghost use Rattle.std.specs.Prelude.{◌≡◌, ◌⊎◌, ℕ, List};
+ghost use Rattle.std.specs.Prelude.{◌≡◌, ◌⊎◌, ℕ, List, Option};
+ghost use Rattle.ost_types.specs.declared.limits.Limits.{Limits};
+ghost use Rattle.fs_trait.specs.View.{Disk};
+ghost use Rattle.commit_durability.specs.Lasting.{IsAloneOn};
+ghost use Rattle.rely_guarantee.specs.declared.books.Entry.{Entry};
+ghost use Rattle.rely_guarantee.specs.declared.books.Pending.{Pending};
+ghost use Rattle.rely_guarantee.specs.declared.either.Either.TheVariants.{Left, Right};
+ghost use Rattle.rely_guarantee.specs.State.{State};
+ghost use Rattle.durable_store.specs.Brought.{AreAlone};
 ghost use Rattle.command.specs.declared.ended.Ended.{Ended};
-ghost use Rattle.lane_system.specs.Lanes.{IsTo};
+ghost use Rattle.command.specs.Since.{begun_in};
+ghost use Rattle.commit_family.specs.declared.words.CommitWords.{CommitWords};
+ghost use Rattle.commit_family.specs.Commits.{message_in};
+ghost use Rattle.lane_system.specs.Lanes.{IsAt, IsCommand, IsTo};
+ghost use Rattle.lane_system.specs.Replied.{Replied};
 ghost use Rattle.lane_system.specs.Replies as system;
-ghost use Rattle.lane_system.specs.Replies.{OfAnswer};
+ghost use Rattle.lane_system.specs.Replies.{IsTold, OfAnswer};
+ghost use Rattle.lane_system.specs.Storing.{IsBroughtIn};
 ghost use Rattle.script.specs.declared.answer.Reply.{Reply};
 ghost use Rattle.commands.specs.Answers.{answer_of, reply_of};
 ghost use Rattle.commands.specs.Family as own;
 ghost use Rattle.commands.specs.Family.{Answer, Lane, means};
 ghost use Rattle.commands.specs.Faults.{IsAbsence, IsFailure, IsOutside};
 ghost use Rattle.commands.specs.Lanes.{IsReplyTo, replies_of};
+
+use fs_trait::Fs;
 
 /// Each reply of a script's rows is one of its lane, at the same command, and the other way round.
 pub fn replies_are_those_of_lanes()
@@ -27,4 +42,10 @@ pub fn answers_tell_alike()
 /// isn't there as its name says.
 pub fn outsides_tell_alike()
     ensures { (x : Ended Answer) → IsOutside (answer_of x) → system.IsOutside x ⊎ OfAnswer means.outside x }
+{}
+
+/// Where no other bytes on a disk have the name of bytes that a command brings which began, none have that of an object of a commit that a
+/// change is of.
+pub fn commits_are_alone<F: Fs>()
+    ensures { (limits : Limits) (start : State) (history : List Entry) (by : Option Pending) (lanes : List Lane) (k : ℕ) (e : Entry) (c : CommitWords) (s : State) (d : Disk) → Replied (IsTold F.view) means limits start history by lanes → IsAt history k e → IsCommand lanes e.lane e.command (Right (Left c)) → means.changes (begun_in limits s) (Right (Left c)) e.event → AreAlone (IsBroughtIn means limits start history lanes) d → IsAloneOn d c.tree.items (message_in s c) }
 {}

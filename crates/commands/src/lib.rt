@@ -10,5 +10,7 @@ mod words;
 pub use answers::{answer_of, reply_of};
 pub use families::{CommandAnswer, CommandLane, CommandReply, CommandWords, Commands};
 pub use lanes::{lanes_of, replies_of, reply_room};
-pub use laws::{answers_tell_alike, outsides_tell_alike, replies_are_those_of_lanes};
+pub use laws::{
+    answers_tell_alike, commits_are_alone, outsides_tell_alike, replies_are_those_of_lanes,
+};
 pub use words::words_of;

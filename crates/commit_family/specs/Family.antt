@@ -1,12 +1,10 @@
 -- What a commit says, and what its task is to it.
-use Rattle.std.specs.Prelude.{◌≡◌, ◌+◌, ℕ, List, Contains, Some, None}
+use Rattle.std.specs.Prelude.{◌≡◌, ◌+◌, ℕ, List, Some, None}
 use Rattle.ost_types.specs.declared.object.ObjName.{ObjName}
-use Rattle.ost_forms.specs.declared.tree_item.TreeItem.{TreeItem}
 use Rattle.fs_trait.specs.View.{Disk, View}
 use Rattle.tree_build.specs.Items.{IsLeastBad, IsTree}
 use Rattle.tree_build.specs.Objects.{Object}
-use Rattle.commit_build.specs.declared.message.Message.{Message}
-use Rattle.commit_durability.specs.Lasting.{AreRight, IsOf, LastsIn, StandsOn}
+use Rattle.commit_durability.specs.Lasting.{AreRight, IsOf}
 use Rattle.commit_command.specs.declared.answer.CommitAnswer.{CommitAnswer}
 use Rattle.commit_command.specs.declared.answer.CommitAnswer.TheVariants as answer
 use Rattle.commit_command.specs.Answers.{Begins, IsLacking, answer_of}
@@ -23,6 +21,7 @@ use Rattle.commit_family.specs.declared.task.CommitsTask.{CommitsTask}
 use Rattle.commit_family.specs.declared.words.CommitWords.{CommitWords}
 use Rattle.commit_family.specs.Commits.{IsFormed, IsMakeable, LastsWith, message_in, sum_in}
 use Rattle.commit_family.specs.Pursues.{Commits}
+use Rattle.commit_family.specs.Removed.{LastsBut, StandsBut}
 
 -- the ref comes to name the commit, whose parent is its value at the beginning
 abbrev pub commit_changes : State → CommitWords → Event → Type 0
@@ -56,17 +55,13 @@ commit_shows since v (answer.Commit sum) c = LastsWith c.tree.items sum v × IsF
 commit_shows since v (answer.TooMany number) c = IsLacking c.tree.items (message_in since.start c) v.now
 commit_shows since v a c = Unit {0}
 
--- none of these objects is one of the commit
-abbrev pub AreSpared : List ObjName → List TreeItem → Message → Type 0
-AreSpared out tree message = (o : Object) → IsOf tree message o → Contains out o.name → ⊥
-
--- Where what stood at the paths of its objects at the opening had their names, and none of them was removed, the commit lasts,
+-- Where what stood at the paths of its objects at the opening had their names, the commit lasts, but for what was removed,
 abbrev pub commit_keeps : Since → View → List ObjName → CommitWords → View → Type 0
-commit_keeps since opening out c v = AreSpared out c.tree.items (message_in since.start c) → AreRight opening c.tree.items (message_in since.start c) → LastsIn since.limits c.tree.items (message_in since.start c) v
+commit_keeps since opening out c v = AreRight opening c.tree.items (message_in since.start c) → LastsBut out since.limits c.tree.items (message_in since.start c) v
 
--- and stands on each disk that a crash left.
+-- and stands so on each disk that a crash left.
 abbrev pub commit_keeps_on : Since → View → List ObjName → CommitWords → Disk → Type 0
-commit_keeps_on since opening out c d = AreSpared out c.tree.items (message_in since.start c) → AreRight opening c.tree.items (message_in since.start c) → StandsOn since.limits c.tree.items (message_in since.start c) d
+commit_keeps_on since opening out c d = AreRight opening c.tree.items (message_in since.start c) → StandsBut out since.limits c.tree.items (message_in since.start c) d
 
 -- an object of the commit: one of its tree, or the commit's own
 abbrev pub commit_works : State → CommitWords → ObjName → Type 0

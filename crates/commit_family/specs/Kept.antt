@@ -1,5 +1,5 @@
 -- A commit that was made lasts, and goes on to.
-use Rattle.std.proofs.Common.{inr, inl, ⊎_elim, ℕ, refl, subst, List, ◌++◌, [], Option, Some, None}
+use Rattle.std.proofs.Common.{inr, inl, ⊎_elim, ℕ, refl, subst, List, ◌++◌, [], Contains, Option, Some, None}
 use Rattle.std.proofs.lemmas.List.Elements.{Contains-append_left, Contains-append_right}
 use Rattle.ost_types.specs.declared.limits.Limits.{Limits}
 use Rattle.ost_types.specs.declared.object.ObjName.{ObjName}
@@ -20,7 +20,8 @@ use Rattle.ref_store.specs.Steps.{writes_in}
 use Rattle.rely_guarantee.specs.declared.event.Event.{Event}
 use Rattle.rely_guarantee.specs.Books.{Books}
 use Rattle.rely_guarantee.specs.Disks.{IsLeaf}
-use Rattle.rely_guarantee.specs.Lasting.{Stays, StaysOn}
+use Rattle.rely_guarantee.specs.Lasting as rely
+use Rattle.rely_guarantee.specs.Lasting.{IsSafe, Stays, StaysOn}
 use Rattle.rely_guarantee.specs.Laws.{IsSettle}
 use Rattle.ref_command.specs.declared.work.RefWork.{RefWork}
 use Rattle.ref_command.specs.Kinds.{Answer as Came, event, kind_in, leaves_in, put_kind}
@@ -37,12 +38,14 @@ use Rattle.commit_command.specs.declared.command.CommitCommand.{CommitCommand}
 use Rattle.commit_command.specs.Facts.{Changing, commit_facts, facts_by}
 use Rattle.commit_command.specs.Kinds.{commit_kind, commit_leaves, kind_by, leaves_by}
 use Rattle.command.specs.ChangeLaws.{IsRightSince}
+use Rattle.command.specs.Removed.{AreAmong}
 use Rattle.command.specs.Since.{Since}
 use Rattle.commit_family.specs.declared.words.CommitWords.{CommitWords}
 use Rattle.commit_family.specs.Commits.{message_in}
-use Rattle.commit_family.specs.Family.{AreSpared, commit_keeps, commit_keeps_on}
+use Rattle.commit_family.specs.Family.{commit_keeps, commit_keeps_on}
 use Rattle.commit_family.specs.OnDisk.{stands_but}
 use Rattle.commit_family.specs.Pursues.{Commits, ReadsIn}
+use Rattle.commit_family.specs.Removed.{AreSpared, LastsBut, StandsBut}
 use Rattle.commit_family.specs.Steps.{build_not}
 
 -- the step that makes a change last writes nothing,
@@ -106,6 +109,10 @@ module _ (limits : Limits) (branch : List ℕ) (tree : List TreeItem) (message :
   pub commits_kept : (new : CommitCommand) → commit_facts lane t v b → commit_leaves t (turn.Done tt) new v w → IsSettle (commit_kind t) → AreRight opening tree message → LastsIn limits tree message w
   commits_kept new f l settles right = kept_by t.change new f is.reads l settles right
 
+-- behind that step nothing of it has been removed yet
+pub lasts_whole : (limits : Limits) (tree : List TreeItem) (message : Message) (v : View) → LastsIn limits tree message v → LastsBut [] limits tree message v
+lasts_whole limits tree message v lasts = record { safe = λ o of still. lasts.safe o of; right = lasts.right; unmarked = λ still. lasts.unmarked; whole = λ spared. lasts }
+
 -- over each further act, but for what that removes
 not_leaf : (s : Seen) → (IsLeaf s → ⊥) → NotLeaf s
 not_leaf Vacant none = tt
@@ -113,29 +120,61 @@ not_leaf (Directory m) none = tt
 not_leaf (Symlink m target) none = none tt
 not_leaf (Leaf n m bytes) none = none tt
 
-module _ (limits : Limits) (tree : List TreeItem) (message : Message) (removed : List ObjName) (spared : AreSpared removed tree message) (v w : View) (stays : Stays removed v w) (lasts : LastsIn limits tree message v) where
-  sure : (o : Object) → IsOf tree message o → IsSure w o.name
-  sure o of = let safe = stays.safe o.name (spared o of) (lasts.safe o of) in record { there = safe.there; above = safe.above }
+module _ (limits : Limits) (tree : List TreeItem) (message : Message) (out removed : List ObjName) (v w : View) (stays : Stays removed v w) (lasts : LastsBut out limits tree message v) where
+  safe : (o : Object) → IsOf tree message o → ¬ (Contains (removed ++ out) o.name) → IsSafe w o.name
+  safe o of still = stays.safe o.name (λ has. still (Contains-append_left removed out o.name has)) (lasts.safe o of (λ has. still (Contains-append_right removed out o.name has)))
 
-  unmarked : NeverMarked (sum_of tree message) w
-  unmarked =
-      let never = stays.unmarked (sum_of tree message) (spared (commit_of tree message) (inr refl)) (lasts.safe (commit_of tree message) (inr refl)) lasts.unmarked in
-      record { each = λ s may. not_leaf s (never.each s may) }
+  right : AreRight w tree message
+  right o of = stays.right o.name (lasts.right o of)
 
-  lasts_but : LastsIn limits tree message w
-  lasts_but = lasts_made limits tree message w lasts.commit
-      (record { each = λ n o number. sure o (inl (n, number)) })
-      (sure (commit_of tree message) (inr refl))
-      unmarked
-      (λ o of. stays.right o.name (lasts.right o of))
+  unmarked : ¬ (Contains (removed ++ out) (commit_of tree message).name) → rely.NeverMarked (sum_of tree message) w
+  unmarked still =
+      let it = (commit_of tree message).name in
+      let before = λ (has : Contains out it). still (Contains-append_right removed out it has) in
+      stays.unmarked (sum_of tree message) (λ has. still (Contains-append_left removed out it has)) (lasts.safe (commit_of tree message) (inr refl) before) (lasts.unmarked before)
+
+  sure : (o : Object) → IsSafe w o.name → IsSure w o.name
+  sure o is = record { there = is.there; above = is.above }
+
+  never : rely.NeverMarked (sum_of tree message) w → NeverMarked (sum_of tree message) w
+  never none = record { each = λ s may. not_leaf s (none.each s may) }
+
+  whole : AreSpared (removed ++ out) tree message → LastsIn limits tree message w
+  whole spared = lasts_made limits tree message w (lasts.whole (λ o of has. spared o of (Contains-append_right removed out o.name has))).commit
+      (record { each = λ n o number. sure o (safe o (inl (n, number)) (spared o (inl (n, number)))) })
+      (sure (commit_of tree message) (safe (commit_of tree message) (inr refl) (spared (commit_of tree message) (inr refl))))
+      (never (unmarked (spared (commit_of tree message) (inr refl))))
+      right
+
+  lasts_but : LastsBut (removed ++ out) limits tree message w
+  lasts_but = record { safe = safe; right = right; unmarked = unmarked; whole = whole }
 
 pub commits_keep : (since : Since) (opening : View) (out removed : List ObjName) (c : CommitWords) (v w : View) → Stays removed v w → commit_keeps since opening out c v → commit_keeps since opening (removed ++ out) c w
-commits_keep since opening out removed c v w stays kept = λ spared right.
-    lasts_but since.limits c.tree.items (message_in since.start c) removed (λ o of has. spared o of (Contains-append_left removed out o.name has)) v w stays
-    (kept (λ o of has. spared o of (Contains-append_right removed out o.name has)) right)
+commits_keep since opening out removed c v w stays kept = λ right. lasts_but since.limits c.tree.items (message_in since.start c) out removed v w stays (kept right)
 
 -- and on each disk that a crash left since
 pub commits_keep_on : (since : Since) (opening : View) (out removed : List ObjName) (c : CommitWords) (v : View) (disk : Disk) → StaysOn removed v disk → commit_keeps since opening out c v → commit_keeps_on since opening (removed ++ out) c disk
-commits_keep_on since opening out removed c v disk on kept = λ spared right.
-    stands_but since.limits c.tree.items (message_in since.start c) removed (λ o of has. spared o of (Contains-append_left removed out o.name has)) v disk on
-    (kept (λ o of has. spared o of (Contains-append_right removed out o.name has)) right)
+commits_keep_on since opening out removed c v disk on kept = λ right. stands_but since.limits c.tree.items (message_in since.start c) out removed v disk on (kept right)
+
+-- so it is where more was removed
+module _ (limits : Limits) (tree : List TreeItem) (message : Message) (out more : List ObjName) (among : AreAmong out more) where
+  lasts_wider : (v : View) → LastsBut out limits tree message v → LastsBut more limits tree message v
+  lasts_wider v l = record {
+    safe = λ o of still. l.safe o of (λ has. still (among o.name has));
+    right = l.right;
+    unmarked = λ still. l.unmarked (λ has. still (among (commit_of tree message).name has));
+    whole = λ spared. l.whole (λ o of has. spared o of (among o.name has));
+  }
+
+  stands_wider : (d : Disk) → StandsBut out limits tree message d → StandsBut more limits tree message d
+  stands_wider d l = record {
+    there = λ o of still. l.there o of (λ has. still (among o.name has));
+    unmarked = λ still. l.unmarked (λ has. still (among (commit_of tree message).name has));
+    whole = λ spared. l.whole (λ o of has. spared o of (among o.name has));
+  }
+
+pub commits_wider : (since : Since) (opening : View) (out more : List ObjName) (c : CommitWords) (v : View) → AreAmong out more → commit_keeps since opening out c v → commit_keeps since opening more c v
+commits_wider since opening out more c v among kept = λ right. lasts_wider since.limits c.tree.items (message_in since.start c) out more among v (kept right)
+
+pub commits_on_wider : (since : Since) (opening : View) (out more : List ObjName) (c : CommitWords) (disk : Disk) → AreAmong out more → commit_keeps_on since opening out c disk → commit_keeps_on since opening more c disk
+commits_on_wider since opening out more c disk among kept = λ right. stands_wider since.limits c.tree.items (message_in since.start c) out more among disk (kept right)

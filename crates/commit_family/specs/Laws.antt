@@ -1,5 +1,6 @@
 -- The laws of a commit.
 use Rattle.std.proofs.Common.{◌≡◌, ⊎_elim, refl, sym, ◌∙◌, subst, Option, Some, IsSome, arith}
+use Rattle.obj_store.specs.declared.phase.Put.TheVariants.{Stored}
 use Rattle.rely_guarantee.specs.Laws.{IsClaim}
 use Rattle.commit_command.specs.declared.answer.CommitAnswer.{CommitAnswer}
 use Rattle.commit_command.specs.Answers.{answer_of}
@@ -26,11 +27,12 @@ use Rattle.commit_family.specs.Commits.{message_in}
 use Rattle.commit_family.specs.DiskAnswers.{tells}
 use Rattle.commit_family.specs.Ends.{commits_end}
 use Rattle.commit_family.specs.Family.{commit_brings, commit_doing, commit_full, commit_makes, commit_means, commit_says}
-use Rattle.commit_family.specs.Kept.{commits_keep, commits_keep_on, commits_kept}
+use Rattle.commit_family.specs.Kept.{commits_keep, commits_keep_on, commits_kept, commits_on_wider, commits_wider, lasts_whole}
 use Rattle.commit_family.specs.Keeping.{commits_keep_store}
 use Rattle.commit_family.specs.Objects.{commits_bring, commits_lacked, commits_light, commits_pin, commits_room, its_object, no_checkout}
 use Rattle.commit_family.specs.RefAnswers.{commits_know}
 use Rattle.commit_family.specs.Steps.{begins_holds, commits_founds, commits_settled, commits_shown, commits_step, commits_told, own_step}
+use Rattle.commit_family.specs.Stored.{commit_there}
 use Rattle.commit_family.specs.Task.{commits_stepped}
 
 abbrev pub commit_tasks : TaskSpec CommitsTask
@@ -68,9 +70,11 @@ change_laws = record {
   founds = λ lane t. commits_founds lane t.work;
   makes = λ since c t new a is step given k. (let e = commits_end since c t.work is new.work step.0 in subst commit_makes (one (answer_of new.work) e.given a e.answer given) (e.makes k));
   makes_not = λ since c t new a is step given none m. (let e = commits_end since c t.work is new.work step.0 in e.makes_not none (subst commit_makes (sym (one (answer_of new.work) e.given a e.answer given)) m));
-  kept = λ since opening lane c t new v w b same is f l k spared right. commits_kept since.limits c.branch c.tree.items (message_in since.start c) opening lane t.work v w b same is new.work f l k right;
+  kept = λ since opening lane c t new v w b same is f l k right. lasts_whole since.limits c.tree.items (message_in since.start c) w (commits_kept since.limits c.branch c.tree.items (message_in since.start c) opening lane t.work v w b same is new.work f l k right);
   keeps = λ since opening out removed c v w right stays kept. commits_keep since opening out removed c v w stays kept;
   keeps_on = λ since opening out removed c v disk on kept. commits_keep_on since opening out removed c v disk on kept;
+  keeps_wider = λ since opening out more c v among kept. commits_wider since opening out more c v among kept;
+  keeps_on_wider = λ since opening out more c disk among kept. commits_on_wider since opening out more c disk among kept;
 }
 
 answer_laws : AnswerLaws commit_tasks commit_means commit_doing
@@ -83,7 +87,8 @@ answer_laws = record {
   outside = λ since v a c good shows outside. outside;
   full = λ told since c t new a is step given full. (let e = commits_end since c (record t.work { objects = told.objects }) (commits_told since.limits c.branch c.tree.items (message_in since.start c) told.objects t.work is) new.work step.0 in e.full (subst commit_full (sym (one (answer_of new.work) e.given a e.answer given)) full));
   left = λ since actor lane c t new v w b b' a is f l given does none. tt;
-  stays = λ since actor lane out a c v w b b' does is. tt;
+  stays = λ since actor lane out removed a c v w b b' does only is. tt;
+  stays_wider = λ since out more a c v b among is. tt;
 }
 
 store_laws : StoreLaws commit_tasks commit_means commit_doing
@@ -96,6 +101,7 @@ store_laws = record {
   stored = λ actor lane t new v w b name s f l sum wrote. commit_stored v w name s sum actor lane t.work new.work b f l wrote;
   done = λ actor lane t new v w b name s f l sum wrote. commit_done v w name s sum actor lane t.work new.work b f l wrote;
   lacked = λ told since c t new v w name is l met. commits_lacked since.limits c.branch c.tree.items (message_in since.start c) (record t.work { objects = told.objects }) (commits_told since.limits c.branch c.tree.items (message_in since.start c) told.objects t.work is) new.work v w name l met;
+  there = λ lane t v b name f met. commit_there lane t.work v b name Stored f met;
   keeps = λ since actor lane c t v b is f. commits_keep_store since.limits (commit_brings since.start c) actor lane t.work v b f is.bounds (λ o of. (o, its_object since.limits c.branch c.tree.items (message_in since.start c) t.work is o of, refl, refl));
 }
 

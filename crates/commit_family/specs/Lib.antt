@@ -1,5 +1,6 @@
 pub mod Commits
 pub mod Pursues
+pub mod Removed
 pub mod Task
 pub mod Family
 pub mod Steps
@@ -9,6 +10,7 @@ pub mod RefAnswers
 pub mod OnDisk
 pub mod Kept
 pub mod Objects
+pub mod Stored
 pub mod Formed
 pub mod MadeUp
 pub mod Keeping

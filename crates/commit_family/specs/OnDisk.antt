@@ -1,12 +1,13 @@
--- A commit of which no object was removed stands on a disk that a crash left.
-use Rattle.std.proofs.Common.{inl, inr, ⊎_elim, refl, sym, subst, List}
+-- A commit stands on a disk that a crash left, but for what was removed.
+use Rattle.std.proofs.Common.{inl, inr, ⊎_elim, refl, sym, subst, List, ◌++◌, Contains}
+use Rattle.std.proofs.lemmas.List.Elements.{Contains-append_left, Contains-append_right}
 use Rattle.ost_types.specs.declared.limits.Limits.{Limits}
 use Rattle.ost_types.specs.declared.object.ObjName.{ObjName}
 use Rattle.ost_forms.specs.declared.tree_item.TreeItem.{TreeItem}
 use Rattle.ost_objects.specs.Object.{IsNamed}
 use Rattle.fs_trait.specs.Seen.{shows}
 use Rattle.fs_trait.specs.View.{Disk, View}
-use Rattle.repo_model.specs.Objects.{Stores, path_of}
+use Rattle.repo_model.specs.Objects.{Marked, Stores, path_of}
 use Rattle.repo_model.proofs.Stored.{stores_map}
 use Rattle.tree_build.specs.Commits.{CommitsTree, HasTree}
 use Rattle.tree_build.specs.Objects.{Object}
@@ -14,10 +15,10 @@ use Rattle.tree_build.proofs.Shown.{complete, shows_same}
 use Rattle.commit_build.specs.declared.message.Message.{Message}
 use Rattle.commit_build.specs.Committing.{commit_of, parts_of}
 use Rattle.commit_build.proofs.Named.{work_named}
-use Rattle.commit_durability.specs.Lasting.{IsAloneOn, IsCommit, IsOf, IsStored, LastsIn, StandsOn, sum_of}
-use Rattle.rely_guarantee.specs.Lasting.{StaysOn}
+use Rattle.commit_durability.specs.Lasting.{IsAloneOn, IsCommit, IsOf, IsStored, StandsOn, sum_of}
+use Rattle.rely_guarantee.specs.Lasting.{IsSafe, StaysOn}
 use Rattle.rely_guarantee.specs.Objects.{IsObjectSeen}
-use Rattle.commit_family.specs.Family.{AreSpared}
+use Rattle.commit_family.specs.Removed.{AreSpared, LastsBut, StandsBut}
 
 module _ (limits : Limits) (tree : List TreeItem) (message : Message) where
   named : (o : Object) → IsOf tree message o → IsNamed o.name o.bytes
@@ -56,16 +57,28 @@ module _ (limits : Limits) (tree : List TreeItem) (message : Message) where
       shown = shows_same (Stores d) limits tree (sum_of tree message) has_tree commits;
     }
 
-  module _ (removed : List ObjName) (spared : AreSpared removed tree message) (v : View) (d : Disk) (on : StaysOn removed v d) (lasts : LastsIn limits tree message v) where
-    left_there : (o : Object) → IsOf tree message o → IsObjectSeen o.name.kind o.name.csum (shows d (path_of o.name))
-    left_there o of = ⊎_elim
-        (λ none. absurd ((lasts.safe o of).there (shows d (path_of o.name)) (on.same o.name (spared o of) (lasts.safe o of)) none))
+  -- from a view in which these were removed before to a disk that a crash left, where those were in between
+  module _ (out removed : List ObjName) (v : View) (d : Disk) (on : StaysOn removed v d) (lasts : LastsBut out limits tree message v) where
+    safe : (o : Object) → IsOf tree message o → ¬ (Contains (removed ++ out) o.name) → IsSafe v o.name
+    safe o of still = lasts.safe o of (λ has. still (Contains-append_right removed out o.name has))
+
+    left_there : (o : Object) → IsOf tree message o → ¬ (Contains (removed ++ out) o.name) → IsObjectSeen o.name.kind o.name.csum (shows d (path_of o.name))
+    left_there o of still = ⊎_elim
+        (λ none. absurd ((safe o of still).there (shows d (path_of o.name)) (on.same o.name (λ has. still (Contains-append_left removed out o.name has)) (safe o of still)) none))
         (λ seen. seen)
         (on.right o.name (lasts.right o of))
 
-    pub stands_but : StandsOn limits tree message d
-    stands_but = record {
-      there = left_there;
-      unmarked = on.unmarked (sum_of tree message) (spared (commit_of tree message) (inr refl)) (lasts.safe (commit_of tree message) (inr refl)) lasts.unmarked;
-      stored = disk_stored d lasts.commit left_there;
+    left_unmarked : ¬ (Contains (removed ++ out) (commit_of tree message).name) → ¬ (Marked d (sum_of tree message))
+    left_unmarked still =
+        let it = (commit_of tree message).name in
+        on.unmarked (sum_of tree message) (λ has. still (Contains-append_left removed out it has)) (safe (commit_of tree message) (inr refl) still) (lasts.unmarked (λ has. still (Contains-append_right removed out it has)))
+
+    left_whole : AreSpared (removed ++ out) tree message → StandsOn limits tree message d
+    left_whole spared = record {
+      there = λ o of. left_there o of (spared o of);
+      unmarked = left_unmarked (spared (commit_of tree message) (inr refl));
+      stored = disk_stored d (lasts.whole (λ o of has. spared o of (Contains-append_right removed out o.name has))).commit (λ o of. left_there o of (spared o of));
     }
+
+    pub stands_but : StandsBut (removed ++ out) limits tree message d
+    stands_but = record { there = left_there; unmarked = left_unmarked; whole = left_whole }

@@ -8,3 +8,5 @@ pub mod Growing
 pub mod Keepings
 pub mod Silent
 pub mod Files
+pub mod Knowing
+pub mod Filling

@@ -2,3 +2,5 @@ pub mod Brought
 pub mod Standing
 pub mod Writing
 pub mod Keeping
+pub mod Known
+pub mod Full

@@ -22,6 +22,7 @@ ghost use Rattle.rely_guarantee.specs.State.{State};
 ghost use Rattle.rely_guarantee.specs.SystemInvariant.{Leads};
 ghost use Rattle.durable_store.specs.Brought.{AreAlone};
 ghost use Rattle.durable_store.specs.Keeping.{IsGoodDisk, KeepsGood};
+ghost use Rattle.durable_store.specs.Known.{KeepsKnown, KnownBytes, MayHoldOnly, NoHashCollision};
 ghost use Rattle.durable_store.specs.Standing.{AreListed, StoreStands};
 ghost use Rattle.durable_store.specs.Writing.{Grows, KeepsStore};
 
@@ -60,4 +61,12 @@ pub fn more_is_brought<F: Fs, B: Storing, C: Storing, S: Writing>()
     ensures stands { (limits : Limits) (names : List ObjName) (v : View) → ((name : ObjName) (bytes : List ℕ) → B.brings name bytes → C.brings name bytes) → StoreStands limits B.brings B.config names v → StoreStands limits C.brings B.config names v }
     ensures keeps { (fs : F) (limits : Limits) (names : List ObjName) (moment : ℕ) (v : View) → ((name : ObjName) (bytes : List ℕ) → B.brings name bytes → C.brings name bytes) → KeepsGood (F.was fs) limits B.brings B.config names moment v → KeepsGood (F.was fs) limits C.brings B.config names moment v }
     ensures writes { (limits : Limits) (v : View) → ((name : ObjName) (bytes : List ℕ) → B.brings name bytes → C.brings name bytes) → KeepsStore limits B.brings v S.writes → KeepsStore limits C.brings v S.writes }
+{}
+
+/// A disk ever holds the objects of the opening and what is brought: so it goes on to be over each step that brings what it writes. So one
+/// premise serves every disk and every view: that no two of these byte strings have one name.
+pub fn bytes_are_known<F: Fs, B: Storing>()
+    ensures goes_on { (opening : Disk) (old new : F) (v w : View) (moment : ℕ) → F.view new ≡ Some w → Elapses (F.clock old) (F.clock new) (F.was old) (F.was new) (F.view new) → MayHoldOnly (KnownBytes opening B.brings) w → KeepsKnown (F.was old) (KnownBytes opening B.brings) moment v → KeepsKnown (F.was new) (KnownBytes opening B.brings) moment w }
+    ensures left { (opening : Disk) (fs : F) (v : View) (moment t : ℕ) (d : Disk) → NoHashCollision opening B.brings → KeepsKnown (F.was fs) (KnownBytes opening B.brings) moment v → moment ≤ t → Left (F.was fs) t d → AreAlone B.brings d }
+    ensures seen { (opening : Disk) (fs : F) (v u : View) (moment t : ℕ) → NoHashCollision opening B.brings → KeepsKnown (F.was fs) (KnownBytes opening B.brings) moment v → moment ≤ t → F.was fs t u → AreAlone B.brings u.now }
 {}

@@ -6,6 +6,7 @@ mod laws;
 mod storing;
 
 pub use laws::{
-    images_of_stores, more_is_brought, names_of_stores, stores_stand, stores_stay_good,
+    bytes_are_known, images_of_stores, more_is_brought, names_of_stores, stores_stand,
+    stores_stay_good,
 };
 pub use storing::{Storing, Writing};

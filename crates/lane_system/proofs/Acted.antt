@@ -15,6 +15,7 @@ use Rattle.command.specs.declared.ended.Ended.{Ended}
 use Rattle.command.specs.declared.ended.Ended.TheVariants as ended
 use Rattle.command.specs.ChangeLaws.{IsRightSince}
 use Rattle.durable_store.specs.Brought.{AreAlone}
+use Rattle.durable_store.specs.Full.{HasAsMany, IsFull}
 use Rattle.command.specs.CommitFiles.{CommitsAreFiles}
 use Rattle.command.specs.Since.{placed as placed_at}
 use Rattle.command.proofs.Files.{stands_files}
@@ -24,11 +25,13 @@ use Rattle.lane_system.specs.declared.lane.Reply.{Reply}
 use Rattle.lane_system.specs.declared.lane.Running.{Running}
 use Rattle.lane_system.specs.Acts.{Acts}
 use Rattle.lane_system.specs.Causes.{AreCaused}
+use Rattle.lane_system.specs.Counts.{AreCounted}
 use Rattle.lane_system.specs.Family.{Family, FsSpec}
 use Rattle.lane_system.specs.Folders.{AreFolders, IsTaken}
 use Rattle.lane_system.specs.Founded.{AreFounded}
 use Rattle.lane_system.specs.Inside.{AreInside}
 use Rattle.lane_system.specs.Kept.{Kept}
+use Rattle.lane_system.specs.Known.{AreKnown}
 use Rattle.lane_system.specs.LaneActs.{LaneActs, task_start}
 use Rattle.lane_system.specs.Lanes.{IsAt, IsCommand, IsTo}
 use Rattle.lane_system.specs.Lasting.{AreKept}
@@ -42,13 +45,15 @@ use Rattle.lane_system.specs.System.{System}
 use Rattle.lane_system.proofs.Acting.{given_acts, given_within, gives, more_acts, start_within, within}
 use Rattle.lane_system.proofs.Clearing.{IsMadeNow, clear_on, made_ended, made_going, made_more, made_over, none_made, stands_on}
 use Rattle.lane_system.proofs.Changing.{command_was, one_command, running_here, to_new, to_same, to_split, to_stays, to_was}
+use Rattle.lane_system.proofs.Counting.{full_by}
 use Rattle.lane_system.proofs.Endings.{more_history}
 use Rattle.lane_system.proofs.Family.{FamilyLaws, FsLaws}
 use Rattle.lane_system.proofs.Folding.{comes, made_goes, made_still, none_in_the_way, stands_in_the_way, taken_by, taken_stays}
 use Rattle.lane_system.proofs.Giving.{Gives, is_answer}
 use Rattle.lane_system.proofs.Places.{at_split}
-use Rattle.lane_system.proofs.Preserving.{founded_on, inside_on, lasts_on, none_removed, said_on, staying_on}
-use Rattle.lane_system.proofs.Stored.{alone_given, alone_more, no_outside_given, stored_given, stored_more}
+use Rattle.lane_system.proofs.Prefixes.{longer}
+use Rattle.lane_system.proofs.Preserving.{SaysNow, founded_on, inside_on, lasts_on, said_on, staying_on}
+use Rattle.lane_system.proofs.Stored.{alone_given, alone_more, counted_given, counted_more, known_given, known_more, no_outside_given, stored_given, stored_more}
 use Rattle.lane_system.proofs.Taking.{told}
 
 -- What acts keep.
@@ -57,9 +62,11 @@ pub record ActKeeps {F T W A : Type 0} (f : FsSpec F) (c : Family T W A) (old ne
   pub good : AreStored f c.means old v → Told (f.view new.base.fs) (λ w. AreStored f c.means new w)
   pub inside : AreStored f c.means old v → AreInside f c.means old → AreInside f c.means new
   pub folders : (opening : Disk) → AreFolders c.means c.doing opening old v → Told (f.view new.base.fs) (λ w. AreFolders c.means c.doing opening new w)
-  pub said : AreSaid c.means f.was old → AreSaid c.means f.was new
+  pub counted : AreCounted old v → Told (f.view new.base.fs) (λ w. AreCounted new w)
+  pub said : AreCounted old v → AreSaid c.means f.was old → AreSaid c.means f.was new
   pub stays : AreStaying c.means old v → Told (f.view new.base.fs) (λ w. AreStaying c.means new w)
   pub founded : (opening : View) → CommitsAreFiles v.now → AreFounded c.means opening old v → Told (f.view new.base.fs) (λ w. AreFounded c.means opening new w)
+  pub known : (opening : Disk) → AreKnown f c.means opening old v → Told (f.view new.base.fs) (λ w. AreKnown f c.means opening new w)
 
 module _ {F T W A : Type 0} (f : FsSpec F) (c : Family T W A) (fl : FsLaws f) (cl : FamilyLaws c) (limits : Limits) (lane : ℕ) (refs refs' : RefBook) (objects objects' : ℕ) (old new : Base F) (lanes : List (Lane T W A)) (given : ℕ) (l : Lane T W A)
     (kept : Kept f c limits old refs lanes given) (at : IsAt lanes lane l) (v : View) (told_v : f.view old.fs ≡ Some v) where
@@ -103,11 +110,11 @@ module _ {F T W A : Type 0} (f : FsSpec F) (c : Family T W A) (fl : FsLaws f) (c
     pub more_keeps : ActKeeps f c (record { base = old; lanes = lanes; limits = limits; objects = objects }) (record { base = new; lanes = set lanes lane l'; limits = limits; objects = objects' }) v
     unfolding acts
     more_keeps = record {
-      lasts = λ opening is. lasts_on f c fl cl limits lane lane refs refs' objects objects' old new lanes (set lanes lane l') acts kept.sound.ordered.ascends (command_was lanes lane l l' at x.same) (length l.replies.items) _ begin None_ split (λ r words n. absurd n) starts v told_v opening
+      lasts = λ opening is. lasts_on f c fl cl limits lane lane refs refs' objects objects' old new lanes (set lanes lane l') acts kept.sound.ordered (command_was lanes lane l l' at x.same) (length l.replies.items) _ begin None_ split (λ r words n. absurd n) starts v told_v opening
           (λ k e words at_k late of right. absurd (omega (arith, at_k.0, ap length history, late))) is;
       good = λ stored. (w, (acts.does v told_v).1, stored_more f c fl cl limits lane refs refs' objects objects' old new lanes given l kept at v told_v l' x stored);
       inside = λ stored was. record {
-        unrefused = inside_on f c fl cl limits lane lane refs refs' objects objects' old new lanes (set lanes lane l') acts kept.sound.ordered.ascends (command_was lanes lane l l' at x.same) (length l.replies.items) _ begin None_ split (λ r words n. absurd n) starts v told_v
+        unrefused = inside_on f c fl cl limits lane lane refs refs' objects objects' old new lanes (set lanes lane l') acts kept.sound.ordered (command_was lanes lane l l' at x.same) (length l.replies.items) _ begin None_ split (λ r words n. absurd n) starts v told_v
             (λ r words n. absurd n) (commands_of l' given kept') was.unrefused;
         seen = λ alone a n r to. was.seen (alone_more f c fl cl limits lane refs refs' objects objects' old new lanes given l kept at v told_v l' x alone) a n r (to_was lanes lane l l' at x.same x.replies a n r to);
       };
@@ -131,15 +138,17 @@ module _ {F T W A : Type 0} (f : FsSpec F) (c : Family T W A) (fl : FsLaws f) (c
               was.clear;
         },
       );
-      said = said_on f c fl cl limits lane lane refs refs' objects objects' old new lanes (set lanes lane l') acts kept.sound.ordered.ascends (command_was lanes lane l l' at x.same) (length l.replies.items) _ begin None_ split (λ r words n. absurd n) starts v told_v (λ r words n. absurd n);
-      stays = staying_on f c fl cl limits lane lane refs refs' objects objects' old new lanes (set lanes lane l') acts kept.sound.ordered.ascends (command_was lanes lane l l' at x.same) (length l.replies.items) _ begin None_ split (λ r words n. absurd n) starts v told_v (none_removed f.clock f.spare old kept.sound.ordered) (λ r words n. absurd n);
-      founded = λ opening files. founded_on f c fl cl limits lane lane refs refs' objects objects' old new lanes (set lanes lane l') acts kept.sound.ordered.ascends (command_was lanes lane l l' at x.same) (length l.replies.items) _ begin None_ split (λ r words n. absurd n) starts v told_v opening files
-          (λ r words n. absurd n) (commands_of l' given kept') placed;
+      counted = λ has. (w, (acts.does v told_v).1, counted_more f c fl cl limits lane refs refs' objects objects' old new lanes given l kept at v told_v l' x has);
+      said = λ has. said_on f c fl cl limits lane lane refs refs' objects objects' old new lanes (set lanes lane l') acts kept.sound.ordered (command_was lanes lane l l' at x.same) (length l.replies.items) _ begin None_ split (λ r words n. absurd n) starts v told_v kept.sound (λ r words n. absurd n);
+      known = λ opening is. (w, (acts.does v told_v).1, known_more f c fl cl limits lane refs refs' objects objects' old new lanes given l kept at v told_v l' x opening is);
+      stays = staying_on f c fl cl limits lane lane refs refs' objects objects' old new lanes (set lanes lane l') acts kept.sound.ordered (command_was lanes lane l l' at x.same) (length l.replies.items) _ begin None_ split (λ r words n. absurd n) starts v told_v placed (λ r words n. absurd n);
+      founded = λ opening files. founded_on f c fl cl limits lane lane refs refs' objects objects' old new lanes (set lanes lane l') acts kept.sound.ordered (command_was lanes lane l l' at x.same) (length l.replies.items) _ begin None_ split (λ r words n. absurd n) starts v told_v opening files
+          (λ r words n. absurd n) (commands_of l' given kept') placed (λ r words n. absurd n);
     }
 
   -- it has an answer
   module _ (l' : Lane T W A) (z : Ended A) (start : ℕ) (x : LaneActs f c limits lane lane refs refs' objects objects' old new l l' (Answered z start)) (l'' : Lane T W A) (r : Reply A) (same : l''.words ≡ l.words) (free : l''.task ≡ None) (grows : l''.replies.items ≡ l.replies.items ++ r ∷ [])
-      (answered : r.answer ≡ z) (begun : r.start ≡ start) (kept' : Kept f c limits new refs' (set lanes lane l'') (given + 1)) where
+      (answered : r.answer ≡ z) (begun : r.start ≡ start) (place : r.place ≡ length new.books.history.items) (kept' : Kept f c limits new refs' (set lanes lane l'') (given + 1)) where
     acts_ : Acts f lane lane refs refs' old new
     acts_ = given_acts f c fl cl limits lane refs refs' objects objects' old new lanes given l l' kept at z start x
 
@@ -173,6 +182,14 @@ module _ {F T W A : Type 0} (f : FsSpec F) (c : Family T W A) (fl : FsLaws f) (c
 
     shows_new : (q : Reply A) (words : W) → IsNew q words → IfAnswer (λ a. c.means.shows (since_in limits old.books q.start) v a words) q.answer
     shows_new = of_new (λ n d y. IfAnswer (λ a. c.means.shows (since_in limits old.books n) v a d) y) (g.shown.0 v told_v)
+
+    -- it tells of the view before the act
+    says_now : HasAsMany v.now objects → (q : Reply A) (words : W) → IsNew q words → SaysNow c.means (since_in limits old.books q.start) limits v (length old.books.history.items) q words
+    says_now has q words n = record {
+      shows = shows_new q words n;
+      full = of_new (λ k d y. IfAnswer (λ a. c.means.full a → IsFull limits v.now) y) (full_by c.means.full limits objects v z has g.full) q words n;
+      place = omega (arith, ap (λ (y : Reply A). y.place) n.0, place, longer lane lane old.books new.books acts_.books);
+    }
 
     abbrev w_ : View
     w_ = (acts_.does v told_v).0
@@ -256,11 +273,11 @@ module _ {F T W A : Type 0} (f : FsSpec F) (c : Family T W A) (fl : FsLaws f) (c
     pub given_keeps : ActKeeps f c (record { base = old; lanes = lanes; limits = limits; objects = objects }) (record { base = new; lanes = set lanes lane l''; limits = limits; objects = objects' }) v
     unfolding acts_
     given_keeps = record {
-      lasts = λ opening is. lasts_on f c fl cl limits lane lane refs refs' objects objects' old new lanes (set lanes lane l'') acts_ kept.sound.ordered.ascends (command_was lanes lane l l'' at same) (length l.replies.items) start is_start IsNew split_ (λ q words n. ap (λ (y : Reply A). y.start) n.0 ∙ begun) starts_ v told_v opening
+      lasts = λ opening is. lasts_on f c fl cl limits lane lane refs refs' objects objects' old new lanes (set lanes lane l'') acts_ kept.sound.ordered (command_was lanes lane l l'' at same) (length l.replies.items) start is_start IsNew split_ (λ q words n. ap (λ (y : Reply A). y.start) n.0 ∙ begun) starts_ v told_v opening
           (λ k e words at_k late of right. lasts_new opening right k e words at_k late of) is;
       good = λ stored. (w_, (acts_.does v told_v).1, stored_given f c fl cl limits lane refs refs' objects objects' old new lanes given l kept at v told_v l' z start x l'' r same grows begun stored);
       inside = λ stored was. record {
-        unrefused = inside_on f c fl cl limits lane lane refs refs' objects objects' old new lanes (set lanes lane l'') acts_ kept.sound.ordered.ascends (command_was lanes lane l l'' at same) (length l.replies.items) start is_start IsNew split_ (λ q words n. ap (λ (y : Reply A). y.start) n.0 ∙ begun) starts_ v told_v
+        unrefused = inside_on f c fl cl limits lane lane refs refs' objects objects' old new lanes (set lanes lane l'') acts_ kept.sound.ordered (command_was lanes lane l l'' at same) (length l.replies.items) start is_start IsNew split_ (λ q words n. ap (λ (y : Reply A). y.start) n.0 ∙ begun) starts_ v told_v
             (of_new (λ n d y. ¬ (IsOutside y)) (outside_not z (g.known (old.fs, v, told_v)))) (commands_of l'' (given + 1) kept') was.unrefused;
         seen = seen_given stored was;
       };
@@ -279,11 +296,13 @@ module _ {F T W A : Type 0} (f : FsSpec F) (c : Family T W A) (fl : FsLaws f) (c
               was.clear;
         },
       );
-      said = said_on f c fl cl limits lane lane refs refs' objects objects' old new lanes (set lanes lane l'') acts_ kept.sound.ordered.ascends (command_was lanes lane l l'' at same) (length l.replies.items) start is_start IsNew split_ (λ q words n. ap (λ (y : Reply A). y.start) n.0 ∙ begun) starts_ v told_v shows_new;
-      stays = staying_on f c fl cl limits lane lane refs refs' objects objects' old new lanes (set lanes lane l'') acts_ kept.sound.ordered.ascends (command_was lanes lane l l'' at same) (length l.replies.items) start is_start IsNew split_ (λ q words n. ap (λ (y : Reply A). y.start) n.0 ∙ begun) starts_ v told_v (none_removed f.clock f.spare old kept.sound.ordered)
+      counted = λ has. (w_, (acts_.does v told_v).1, counted_given f c fl cl limits lane refs refs' objects objects' old new lanes given l kept at v told_v l' z start x l'' r same grows begun has);
+      said = λ has. said_on f c fl cl limits lane lane refs refs' objects objects' old new lanes (set lanes lane l'') acts_ kept.sound.ordered (command_was lanes lane l l'' at same) (length l.replies.items) start is_start IsNew split_ (λ q words n. ap (λ (y : Reply A). y.start) n.0 ∙ begun) starts_ v told_v kept.sound (says_now has);
+      known = λ opening is. (w_, (acts_.does v told_v).1, known_given f c fl cl limits lane refs refs' objects objects' old new lanes given l kept at v told_v l' z start x l'' r same grows begun opening is);
+      stays = staying_on f c fl cl limits lane lane refs refs' objects objects' old new lanes (set lanes lane l'') acts_ kept.sound.ordered (command_was lanes lane l l'' at same) (length l.replies.items) start is_start IsNew split_ (λ q words n. ap (λ (y : Reply A). y.start) n.0 ∙ begun) starts_ v told_v placed
           (of_new (λ n d y. IfAnswer (λ a. c.means.stays (since_in limits old.books n) [] a d w_ (books_of new.books)) y) (g.stays w_ (acts_.does v told_v).1));
-      founded = λ opening files. founded_on f c fl cl limits lane lane refs refs' objects objects' old new lanes (set lanes lane l'') acts_ kept.sound.ordered.ascends (command_was lanes lane l l'' at same) (length l.replies.items) start is_start IsNew split_ (λ q words n. ap (λ (y : Reply A). y.start) n.0 ∙ begun) starts_ v told_v opening files
-          shows_new (commands_of l'' (given + 1) kept') placed;
+      founded = λ opening files. founded_on f c fl cl limits lane lane refs refs' objects objects' old new lanes (set lanes lane l'') acts_ kept.sound.ordered (command_was lanes lane l l'' at same) (length l.replies.items) start is_start IsNew split_ (λ q words n. ap (λ (y : Reply A). y.start) n.0 ∙ begun) starts_ v told_v opening files
+          shows_new (commands_of l'' (given + 1) kept') placed (λ q words n. ap (λ (y : Reply A). y.place) n.0 ∙ place);
     }
 
 -- so it is of a whole act
@@ -294,7 +313,9 @@ preserves_by f c s s' keeps caused = record {
   caused = caused;
   inside = λ v told stored is. (keeps v told).inside stored is;
   folders = λ opening v told is. (keeps v told).folders opening is;
-  said = λ v told is. (keeps v told).said is;
+  counted = λ v told is. (keeps v told).counted is;
+  said = λ v told has is. (keeps v told).said has is;
   stays = λ v told is. (keeps v told).stays is;
   founded = λ opening v told stored is. (keeps v told).founded opening (stands_files s.limits (WasBrought c.means s) IsConfigured stored.names v stored.keeps.now) is;
+  known = λ opening v told is. (keeps v told).known opening is;
 }

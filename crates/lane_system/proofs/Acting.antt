@@ -1,5 +1,5 @@
 -- One act of one lane keeps what a system keeps.
-use Rattle.std.proofs.Common.{◌≡◌, ◌⊎◌, inl, inr, ⊎_elim, ◌<◌, ◌≤◌, ◌+◌, ℕ, refl, sym, ◌∙◌, ap, subst, arith, List, [], ◌∷◌, ◌++◌, length, set, length-set, Option, Some, None}
+use Rattle.std.proofs.Common.{◌≡◌, ◌⊎◌, inl, inr, ⊎_elim, ◌<◌, ◌≤◌, ◌+◌, ℕ, refl, sym, ◌∙◌, ap, subst, arith, List, [], ◌∷◌, ◌++◌, append-nil, length, set, length-set, Option, Some, None}
 use Rattle.std.proofs.lemmas.List.{set-get_or}
 use Rattle.std.specs.Prelude.{vec_capacity}
 use Rattle.std.specs.Global.{Vec}
@@ -14,6 +14,7 @@ use Rattle.rely_guarantee.specs.declared.kind.Wants.{Wants}
 use Rattle.rely_guarantee.specs.Books.{books_of}
 use Rattle.rely_guarantee.specs.Laws.{Kind, Quiet, Store, Take, Claim, Show, Shown, Settle}
 use Rattle.rely_guarantee.specs.Pinning.{pin_in}
+use Rattle.rely_guarantee.specs.State.{stored}
 use Rattle.rely_guarantee.specs.SystemInvariant.{SystemInvariant}
 use Rattle.rely_guarantee.proofs.Acting.{ends_refl}
 use Rattle.rely_guarantee.proofs.Lasting.{lasts_refl}
@@ -22,6 +23,7 @@ use Rattle.ref_book.specs.Tracks.{HasRoom, Tracks}
 use Rattle.ost_types.specs.declared.object.ObjName.{ObjName}
 use Rattle.command.specs.declared.ended.Ended.{Ended}
 use Rattle.command.specs.declared.ended.Ended.TheVariants as ended
+use Rattle.command.specs.ChangeLaws.{Founds}
 use Rattle.lane_system.specs.declared.act.Came.{Came}
 use Rattle.lane_system.specs.declared.act.Came.TheVariants.{Answered, Blocked, More}
 use Rattle.lane_system.specs.declared.lane.Lane.{Lane}
@@ -45,6 +47,7 @@ use Rattle.lane_system.proofs.Giving.{Gives, taken_gives}
 use Rattle.lane_system.proofs.Keeping.{kept_given, kept_more, others_kept, started_stays}
 use Rattle.lane_system.proofs.Locking.{locked_ended, locked_more, locked_same, pinned_ended, pinned_more, pinned_same}
 use Rattle.lane_system.proofs.Places.{at_set_back, at_set_is, here_or_apart}
+use Rattle.lane_system.proofs.Setting.{comes_same}
 use Rattle.lane_system.proofs.Taking.{taken_acts, told, told_after, told_facts}
 
 -- nothing was done to the books and the disk
@@ -60,8 +63,9 @@ nothing_acts f fl actor lane base refs refs' sound tracks rooms = record {
   lasts = lasts_refl f.view f.clock f.was fl.is base.fs;
   time = record { later = omega arith; soon = omega arith; nothing_else = λ t w early had. inl had; keeps = λ t w early had. had };
   moments = λ k e at. inl at;
+  grows = ([], sym (append-nil (stored base.books.history.items base.books.pending)));
   fails = (omega arith, λ is. inl is);
-  founded = λ v told each. each;
+  founded = λ v told. comes_same (Founds v) base.books base.books (refl, refl);
 }
 
 -- what is pinned is asked for

@@ -13,6 +13,7 @@ use Rattle.rely_guarantee.specs.SystemInvariant.{SystemInvariant}
 use Rattle.ref_book.specs.declared.book.RefBook.{RefBook}
 use Rattle.ref_book.specs.Tracks.{Tracks}
 use Rattle.sys_open.specs.Opened.{IsOpened}
+use Rattle.durable_store.specs.Full.{HasAsMany}
 use Rattle.lane_system.specs.declared.lane.Lane.{Lane}
 use Rattle.lane_system.specs.declared.lane.Reply.{Reply}
 use Rattle.lane_system.specs.Causes.{AreCausedIn}
@@ -94,8 +95,8 @@ module _ {F T W A : Type 0} (f : FsSpec F) (c : Family T W A) (limits : Limits) 
     each = λ a n r to is. absurd (no_reply a n r to);
   }
 
-  pub stands_first : (objects before : ℕ) → f.faults base.fs ≡ before → base.books.halted ≡ None → (v : View) → AreStored f c.means (record { base = base; lanes = lanes; limits = limits; objects = objects }) v → Stands f c before v (record { base = base; lanes = lanes; limits = limits; objects = objects }) v
-  stands_first objects before same live v stored = record {
+  pub stands_first : (objects before : ℕ) → f.faults base.fs ≡ before → base.books.halted ≡ None → (v : View) → AreStored f c.means (record { base = base; lanes = lanes; limits = limits; objects = objects }) v → HasAsMany v.now objects → Stands f c before v (record { base = base; lanes = lanes; limits = limits; objects = objects }) v
+  stands_first objects before same live v stored many = record {
     lasts = record { right = λ name is. is; each = λ k e words at is. none_at base.books.history.items k e history at };
     caused = caused_first before same live;
     good = stored;
@@ -109,11 +110,13 @@ module _ {F T W A : Type 0} (f : FsSpec F) (c : Family T W A) (limits : Limits) 
         one = λ name a n b k is too. absurd (no_folder name a n is);
       };
     };
+    counted = many;
     said = λ a n r words to is. absurd (no_reply a n r to);
     stays = λ a n r words to is. absurd (no_reply a n r to);
     founded = record {
-      stays = λ commit is. is;
-      each = record { lasting = λ k e at. none_at base.books.history.items k e history at; shown = λ p is. none_some base.books.pending p pending is };
-      present = record { finished = λ a n r commit to lacks is. no_reply a n r to; set = λ a n r commit to lacks k e at lt is. no_reply a n r to };
+      stays = λ commit still is. is;
+      each = λ k e at. none_at base.books.history.items k e history at;
+      shown = λ p is. none_some base.books.pending p pending is;
+      present = record { finished = λ a n r commit to lacks still is. no_reply a n r to; set = λ a n r commit to lacks k e at lt still is. no_reply a n r to };
     };
   }

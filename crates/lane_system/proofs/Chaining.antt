@@ -61,9 +61,11 @@ module _ {F T W A : Type 0} (f : FsSpec F) (c : Family T W A) (fl : FsLaws f) wh
     caused = λ before is. is;
     inside = λ v told stored is. is;
     folders = λ opening v told is. (v, told, is);
-    said = λ v told is. is;
+    counted = λ v told is. (v, told, is);
+    said = λ v told has is. is;
     stays = λ v told is. (v, told, is);
     founded = λ opening v told stored is. (v, told, is);
+    known = λ opening v told is. (v, told, is);
   }
 
   pub preserves_then : (a b e : System F T W A) → Preserves f c a b → Preserves f c b e → Preserves f c a e
@@ -73,7 +75,9 @@ module _ {F T W A : Type 0} (f : FsSpec F) (c : Family T W A) (fl : FsLaws f) wh
     good = λ v told is. (let z = x.good v told is in y.good z.0 z.1 z.2);
     inside = λ v told stored is. (let z = x.good v told stored in y.inside z.0 z.1 z.2 (x.inside v told stored is));
     folders = λ opening v told is. (let z = x.folders opening v told is in y.folders opening z.0 z.1 z.2);
-    said = λ v told is. (let z = fl.is.told a.base.fs b.base.fs v told in y.said z.0 z.1 (x.said v told is));
+    counted = λ v told is. (let z = x.counted v told is in y.counted z.0 z.1 z.2);
+    said = λ v told has is. (let z = x.counted v told has in y.said z.0 z.1 z.2 (x.said v told has is));
     stays = λ v told is. (let z = x.stays v told is in y.stays z.0 z.1 z.2);
     founded = λ opening v told stored is. (let z = told_both (f.view b.base.fs) _ _ (x.good v told stored) (x.founded opening v told stored is) in y.founded opening z.0 z.1 z.2.0 z.2.1);
+    known = λ opening v told is. (let z = x.known opening v told is in y.known opening z.0 z.1 z.2);
   }

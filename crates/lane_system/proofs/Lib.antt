@@ -4,8 +4,10 @@ pub mod Setting
 pub mod Seeing
 pub mod Family
 pub mod Prefixes
+pub mod Removals
 pub mod Moments
 pub mod Telling
+pub mod Growing
 pub mod Taking
 pub mod Endings
 pub mod Giving
@@ -16,7 +18,9 @@ mod Changing
 pub mod Accounting
 pub mod Locking
 pub mod Acting
+pub mod Saying
 pub mod Preserving
+pub mod AllSaid
 pub mod Folding
 pub mod Clearing
 pub mod Ranking
@@ -28,6 +32,7 @@ pub mod Chaining
 pub mod Doing
 pub mod Coming
 pub mod Clauses
+pub mod Counting
 pub mod Storing
 pub mod Stored
 pub mod StoredFirst

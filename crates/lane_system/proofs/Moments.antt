@@ -1,5 +1,5 @@
 -- The moments of changes, and the count of failed calls, over a step.
-use Rattle.std.proofs.Common.{◌≡◌, ◌⊎◌, inl, inr, ⊎_elim, ◌≤◌, ℕ, refl, sym, ◌∙◌, subst, arith, List, ◌∷◌, ◌++◌, [], length, Option, Some}
+use Rattle.std.proofs.Common.{◌≡◌, ◌⊎◌, inl, inr, ⊎_elim, ◌≤◌, ℕ, zero, suc, refl, sym, ◌∙◌, subst, arith, List, ◌∷◌, ◌++◌, [], length, Option, Some}
 use Rattle.rely_guarantee.specs.declared.books.Books as rust
 use Rattle.rely_guarantee.specs.declared.books.Entry.{Entry}
 use Rattle.rely_guarantee.specs.declared.event.Event.{Event}
@@ -10,6 +10,7 @@ use Rattle.rely_guarantee.specs.declared.kind.Outcome.TheVariants as came
 use Rattle.rely_guarantee.specs.Books.{books_of}
 use Rattle.rely_guarantee.specs.Exact.{Causes, IsBooked, IsLive}
 use Rattle.rely_guarantee.specs.Laws.{Kind, Quiet, Store, Take, Claim, Show, Shown, Settle, Holds}
+use Rattle.rely_guarantee.specs.State.{Ascends}
 use Rattle.lane_system.specs.Acts.{Fails}
 use Rattle.lane_system.specs.Lanes.{IsAt}
 use Rattle.lane_system.proofs.Histories.{grown}
@@ -54,3 +55,13 @@ fails_by before now came.Blocked old new cause live = (cause.0, λ is. inl (sym 
 fails_by before now came.More old new cause live = (cause.0, λ is. inl (sym live ∙ is))
 fails_by before now came.Done old new cause live = (cause.0, λ is. inl (sym live ∙ is))
 fails_by before now (came.Refused e) old new cause live = (cause.0, λ is. inl (sym live ∙ is))
+
+-- the moments of a history lie between the opening and its end
+pub opened_by : (from : ℕ) (es : List Entry) (to : ℕ) → Ascends from es to → from ≤ to
+opened_by from [] to up = up
+opened_by from (e ∷ es) to up = let x = opened_by e.moment es to up.1 in omega (arith, up.0, x)
+
+pub moment_by : (from : ℕ) (es : List Entry) (to : ℕ) → Ascends from es to → (k : ℕ) (e : Entry) → IsAt es k e → e.moment ≤ to
+moment_by from [] to up k e at = absurd (omega (arith, at.0))
+moment_by from (x ∷ es) to up zero e at = subst (λ (y : Entry). y.moment ≤ to) at.1 (opened_by x.moment es to up.1)
+moment_by from (x ∷ es) to up (suc k) e at = moment_by x.moment es to up.1 k e (omega (arith, at.0), at.1)

@@ -1,34 +1,41 @@
 -- What an act keeps of what was so since the opening.
-use Rattle.std.proofs.Common.{◌≡◌, ◌⊎◌, inl, inr, ⊎_elim, ◌<◌, ◌≤◌, ℕ, zero, suc, refl, sym, ◌∙◌, ap, subst, arith, List, [], ◌∷◌, ◌++◌, length, Contains, Some}
+use Rattle.std.proofs.Common.{◌≡◌, ◌⊎◌, inl, inr, ⊎_elim, ◌<◌, ◌≤◌, ◌+◌, ℕ, zero, suc, refl, sym, ◌∙◌, ap, subst, arith, List, [], ◌∷◌, ◌++◌, length, Contains, Some}
+use Rattle.std.specs.List.{flat_map}
+use Rattle.std.proofs.lemmas.List.Elements.{Contains-append_cases}
 use Rattle.ost_types.specs.declared.limits.Limits.{Limits}
+use Rattle.ost_types.specs.declared.object.Kind.TheVariants.{Commit}
 use Rattle.ost_types.specs.declared.object.ObjName.{ObjName}
 use Rattle.fs_trait.specs.Change.{Left}
 use Rattle.fs_trait.specs.Image.{Image, Told}
 use Rattle.fs_trait.specs.View.{Disk, View}
+use Rattle.repo_model.specs.Trees.{name_of}
 use Rattle.rely_guarantee.specs.declared.books.Base.{Base}
 use Rattle.rely_guarantee.specs.declared.books.Entry.{Entry}
 use Rattle.rely_guarantee.specs.declared.event.Event.{Event}
 use Rattle.rely_guarantee.specs.declared.event.Event.TheVariants.{SetRef, DropRef, Pruned}
 use Rattle.rely_guarantee.specs.Books.{books_of}
-use Rattle.rely_guarantee.specs.Lasting.{Outlasts, Stays, StaysFinished, StaysOn}
+use Rattle.rely_guarantee.specs.Lasting.{Outlasts, StaysFinished, StaysOn}
 use Rattle.rely_guarantee.specs.Rely.{Interference}
-use Rattle.rely_guarantee.specs.State.{Ascends, first}
-use Rattle.rely_guarantee.specs.SystemInvariant.{Ordered}
+use Rattle.rely_guarantee.specs.State.{Ascends, first, stored}
+use Rattle.rely_guarantee.specs.SystemInvariant.{Ordered, SystemInvariant}
 use Rattle.rely_guarantee.proofs.Finished.{finished_stays}
-use Rattle.rely_guarantee.proofs.Lasting.{next_doomed, none_out, stays_image}
+use Rattle.rely_guarantee.proofs.Lasting.{none_out, stays_image}
 use Rattle.ref_book.specs.declared.book.RefBook.{RefBook}
+use Rattle.durable_store.specs.Full.{IsFull}
 use Rattle.command.specs.CommitFiles.{CommitsAreFiles}
 use Rattle.command.specs.ChangeLaws.{Founds, IsRightSince}
-use Rattle.command.specs.Removed.{removed_by}
+use Rattle.command.specs.Meaning.{Meaning}
+use Rattle.command.specs.Removed.{AreAmong, RemovesOnly}
 use Rattle.command.specs.Since.{Since, begun_in}
 use Rattle.lane_system.specs.declared.lane.Lane.{Lane}
 use Rattle.lane_system.specs.declared.lane.Reply.{Reply}
-use Rattle.lane_system.specs.Acts.{Acts}
+use Rattle.lane_system.specs.Acts.{Acts, ComesFrom}
 use Rattle.lane_system.specs.Family.{Family, FsSpec}
-use Rattle.lane_system.specs.Founded.{AreFounded, Sets}
+use Rattle.lane_system.specs.Founded.{AreFounded, IsOut, Sets}
 use Rattle.lane_system.specs.Inside.{AreUnrefused}
 use Rattle.lane_system.specs.Lanes.{IsAt, IsCommand, IsTo}
 use Rattle.lane_system.specs.Lasting.{AreKept, IsChangeKept}
+use Rattle.lane_system.specs.Removals.{gone_since, removed_by, removed_in, swept_in}
 use Rattle.lane_system.specs.Replies.{IfAnswer, IsOutside, OfAnswer}
 use Rattle.lane_system.specs.Said.{AreSaid, WasSeen}
 use Rattle.lane_system.specs.States.{since_in, state_in}
@@ -36,40 +43,26 @@ use Rattle.lane_system.specs.Staying.{AreStaying}
 use Rattle.lane_system.specs.System.{System}
 use Rattle.lane_system.proofs.Family.{FamilyLaws, FsLaws}
 use Rattle.lane_system.proofs.Giving.{if_answer, is_answer}
+use Rattle.lane_system.proofs.Moments.{moment_by, opened_by}
 use Rattle.lane_system.proofs.Prefixes.{since_is}
-
--- the moments of a history lie between the opening and its end
-pub opened_by : (from : ℕ) (es : List Entry) (to : ℕ) → Ascends from es to → from ≤ to
-opened_by from [] to up = up
-opened_by from (e ∷ es) to up = let x = opened_by e.moment es to up.1 in omega (arith, up.0, x)
-
-moment_by : (from : ℕ) (es : List Entry) (to : ℕ) → Ascends from es to → (k : ℕ) (e : Entry) → IsAt es k e → e.moment ≤ to
-moment_by from [] to up k e at = absurd (omega (arith, at.0))
-moment_by from (x ∷ es) to up zero e at = subst (λ (y : Entry). y.moment ≤ to) at.1 (opened_by x.moment es to up.1)
-moment_by from (x ∷ es) to up (suc k) e at = moment_by x.moment es to up.1 k e (omega (arith, at.0), at.1)
-
-founds_stay : (v w : View) → Stays [] v w → (e : Event) → Founds v e → Founds w e
-founds_stay v w stays (SetRef name seen commit) is = finished_stays [] v w commit stays (none_out _) is
-founds_stay v w stays (DropRef name seen) is = tt
-founds_stay v w stays (Pruned depth roots held removed) is = tt
-
-none_of : (xs : List ObjName) → ((o : ObjName) → ¬ (Contains xs o)) → xs ≡ []
-none_of [] none = refl
-none_of (x ∷ xs) none = absurd (none x (0, omega arith, refl))
-
--- an act removes no object
-pub none_removed : {F : Type 0} (clock spare : F → ℕ) (base : Base F) → Ordered clock spare base → removed_by (books_of base.books) ≡ []
-none_removed clock spare base ordered = none_of (removed_by (books_of base.books)) (λ o has. ordered.undoomed o (next_doomed (books_of base.books) o has))
+use Rattle.lane_system.proofs.Removals.{gone_on, none_among, none_swept, removed_before, removes_none}
+use Rattle.lane_system.proofs.Saying.{sees_now, sees_stay}
 
 -- a commit that a change sets its ref to lasts
-set_lasts : (v : View) (commit : List ℕ) (e : Event) → Founds v e → Sets commit e → StaysFinished v commit
+pub set_lasts : (v : View) (commit : List ℕ) (e : Event) → Founds v e → Sets commit e → StaysFinished v commit
 set_lasts v commit (SetRef name seen to) founds sets = subst (StaysFinished v) sets founds
 set_lasts v commit (DropRef name seen) founds sets = absurd sets
 set_lasts v commit (Pruned depth roots held removed) founds sets = absurd sets
 
+-- A reply that an act gives tells of the view before it; its place is no earlier than all changes that lasted there.
+pub record SaysNow {W A : Type 0} (m : Meaning W A) (since : Since) (limits : Limits) (v : View) (past : ℕ) (r : Reply A) (words : W) : Type 0 where
+  pub shows : IfAnswer (λ a. m.shows since v a words) r.answer
+  pub full : IfAnswer (λ a. m.full a → IsFull limits v.now) r.answer
+  pub place : past ≤ r.place
+
 -- One act of one lane: the replies of the lanes behind it are those of before, or the one that it gave.
 module _ {F T W A : Type 0} (f : FsSpec F) (c : Family T W A) (fl : FsLaws f) (cl : FamilyLaws c) (limits : Limits) (actor lane : ℕ) (refs refs' : RefBook) (objects objects' : ℕ) (old new : Base F) (lanes lanes' : List (Lane T W A))
-    (acts : Acts f actor lane refs refs' old new) (ascends : Ascends old.books.opened old.books.history.items (f.clock old.fs))
+    (acts : Acts f actor lane refs refs' old new) (ordered : Ordered f.clock f.spare old)
     (commands : (a n : ℕ) (words : W) → IsCommand lanes' a n words → IsCommand lanes a n words) (number start : ℕ) (early : start ≤ length old.books.history.items)
     (IsNew : Reply A → W → Type 0) (split : (a n : ℕ) (r : Reply A) (words : W) → IsTo lanes' a n r → IsCommand lanes' a n words → IsTo lanes a n r ⊎ IsNew r words) (its_start : (r : Reply A) (words : W) → IsNew r words → r.start ≡ start)
     (within : (a n : ℕ) (r : Reply A) → IsTo lanes a n r → r.start ≤ length old.books.history.items)
@@ -102,42 +95,102 @@ module _ {F T W A : Type 0} (f : FsSpec F) (c : Family T W A) (fl : FsLaws f) (c
   entry_was : (n : ℕ) (e : Entry) → IsAt new.books.history.items n e → n < length old.books.history.items → IsAt old.books.history.items n e
   entry_was n e at lt = ⊎_elim (λ was. was) (λ late. absurd (omega (arith, late.0, lt))) (acts.moments n e at)
 
+  -- ---- what was removed
+
+  abbrev gone_before : ℕ → List ObjName
+  gone_before k = gone_since old.books.history.items (swept_in old.books) k
+
+  abbrev gone_now : ℕ → List ObjName
+  gone_now k = gone_since new.books.history.items (swept_in new.books) k
+
+  only_grows : (k : ℕ) → k ≤ length old.books.history.items → AreAmong (gone_before k) (gone_now k)
+  only_grows k le = subst (λ (h : List Entry). AreAmong (gone_before k) (gone_since h (swept_in new.books) k)) (sym acts.books.grows) (gone_on old.books.history.items acts.books.more k (swept_in old.books) (swept_in new.books) still le)
+    where
+      still : AreAmong (swept_in old.books) (flat_map removed_by acts.books.more ++ swept_in new.books)
+      still o has = absurd (none_out o (subst (λ (l : List ObjName). Contains l o) (none_swept old.books ordered.undoomed) has))
+
+  removed_same : (from to : ℕ) → to ≤ length old.books.history.items → removed_in new.books.history.items from to ≡ removed_in old.books.history.items from to
+  removed_same from to le = ap (λ (h : List Entry). removed_in h from to) acts.books.grows ∙ removed_before old.books.history.items acts.books.more from to le
+
+  -- no removal goes on, so the changes before the end tell all that is gone
+  told_at_end : (k place : ℕ) → k ≤ length old.books.history.items → place ≡ length new.books.history.items → AreAmong (gone_before k) (removed_in new.books.history.items k place)
+  told_at_end k place le at o has = ⊎_elim
+      (λ entered. subst (λ n. Contains (removed_in new.books.history.items k n) o) (sym at) entered)
+      (λ swept. absurd (none_out o (subst (λ (l : List ObjName). Contains l o) (none_swept new.books acts.sound.ordered.undoomed) swept)))
+      (Contains-append_cases (removed_in new.books.history.items k (length new.books.history.items)) (swept_in new.books) o (only_grows k le o has))
+
+  only : RemovesOnly [] v w
+  only = removes_none (books_of old.books) v w actor lane ordered.undoomed does.writes
+
   -- what replies say of the disk
-  module _ (seen_new : (r : Reply A) (words : W) → IsNew r words → IfAnswer (λ a. c.means.shows (since_in limits old.books r.start) v a words) r.answer) where
-    seen_at : (r : Reply A) (words : W) (t : ℕ) (u : View) → r.start ≤ length old.books.history.items → old.books.opened ≤ t → ((k : ℕ) (e : Entry) → IsAt old.books.history.items k e → k < r.start → e.moment ≤ t) → f.was old.fs t u
-        → IfAnswer (λ a. c.means.shows (since_in limits old.books r.start) u a words) r.answer → WasSeen c.means (f.was new.fs) new.books.opened limits (first new.books.start.items) new.books.history.items r words
-    seen_at r words t u le since begun had seen = record {
-      moment = t;
-      shown = u;
-      since = omega (arith, acts.books.opened, since);
-      begun = λ k e at lt. begun k e (entry_was k e at (omega (arith, lt, le))) lt;
-      had = acts.time.keeps t u (fl.is.bound old.fs t u had) had;
-      seen = subst (λ (s : Since). IfAnswer (λ a. c.means.shows s u a words) r.answer) (sym (since_same r.start le)) seen;
-    }
+  abbrev pub WasSeenIn : Base F → Reply A → W → Type 0
+  WasSeenIn base r words = WasSeen c.means (f.was base.fs) base.books.opened limits (first base.books.start.items) base.books.history.items base.books.pending r words
+
+  still_seen : (r : Reply A) (words : W) → r.start ≤ length old.books.history.items → WasSeenIn old r words → WasSeenIn new r words
+  still_seen r words le x = record {
+    moment = x.moment;
+    shown = x.shown;
+    since = omega (arith, acts.books.opened, x.since);
+    begun = λ k e at lt. x.begun k e (entry_was k e at (omega (arith, lt, le))) lt;
+    had = acts.time.keeps x.moment x.shown (fl.is.bound old.fs x.moment x.shown x.had) x.had;
+    place = x.place;
+    from = x.from;
+    to = x.to;
+    refs = sees_stay (first old.books.start.items) (first new.books.start.items) (stored old.books.history.items old.books.pending) (stored new.books.history.items new.books.pending) acts.grows.0 x.place x.shown.now
+        (ap (λ l. first l) acts.books.start) acts.grows.1 x.refs;
+    seen = subst (λ (s : Since). IfAnswer (λ a. c.means.shows s x.shown a words) r.answer) (sym (since_same r.start le)) x.seen;
+    full = x.full;
+  }
+
+  module _ (sound : SystemInvariant f.view f.clock f.spare f.was old) (says : (r : Reply A) (words : W) → IsNew r words → SaysNow c.means (since_in limits old.books r.start) limits v (length old.books.history.items) r words) where
+    seen_now : (r : Reply A) (words : W) → IsNew r words → WasSeenIn old r words
+    seen_now r words given =
+        let said = says r words given in
+        record {
+          moment = f.clock old.fs;
+          shown = v;
+          since = opened_by old.books.opened old.books.history.items (f.clock old.fs) ordered.ascends;
+          begun = λ k e at lt. moment_by old.books.opened old.books.history.items (f.clock old.fs) ordered.ascends k e at;
+          had = fl.counts_now old.fs (f.clock old.fs) v (omega arith) told;
+          place = length old.books.history.items;
+          from = omega (arith, its_start r words given, early);
+          to = said.place;
+          refs = sees_now f fl old sound v told;
+          seen = said.shows;
+          full = said.full;
+        }
 
     pub said_on : AreSaid c.means f.was before → AreSaid c.means f.was behind
     said_on said a n r words to is = ⊎_elim
-        (λ was. (let x = said a n r words was (commands a n words is) in seen_at r words x.moment x.shown (within a n r was) x.since x.begun x.had x.seen))
-        (λ given. seen_at r words (f.clock old.fs) v (omega (arith, its_start r words given, early))
-        (opened_by old.books.opened old.books.history.items (f.clock old.fs) ascends)
-        (λ k e at lt. moment_by old.books.opened old.books.history.items (f.clock old.fs) ascends k e at)
-        (fl.counts_now old.fs (f.clock old.fs) v (omega arith) told) (seen_new r words given))
+        (λ was. still_seen r words (within a n r was) (said a n r words was (commands a n words is)))
+        (λ given. still_seen r words (omega (arith, its_start r words given, early)) (seen_now r words given))
         (split a n r words to is)
 
   -- what they left outside of the store
-  pub staying_on : removed_by (books_of old.books) ≡ [] → ((r : Reply A) (words : W) → IsNew r words → IfAnswer (λ a. c.means.stays (since_in limits old.books r.start) [] a words w (books_of new.books)) r.answer) → AreStaying c.means before v → Told (f.view new.fs) (λ u. AreStaying c.means behind u)
-  staying_on none new_one was = (
+  pub staying_on : ((a n : ℕ) (r : Reply A) → IsTo lanes a n r → r.place ≤ length old.books.history.items) → ((r : Reply A) (words : W) → IsNew r words → IfAnswer (λ a. c.means.stays (since_in limits old.books r.start) [] a words w (books_of new.books)) r.answer)
+      → AreStaying c.means before v → Told (f.view new.fs) (λ u. AreStaying c.means behind u)
+  staying_on placed new_one was = (
     w,
     told_w,
     λ a n r words to is. ⊎_elim
-        (λ there. subst (λ (s : Since). IfAnswer (λ x. c.means.stays s [] x words w (books_of new.books)) r.answer) (sym (since_same r.start (within a n r there))) (on r words (was a n r words there (commands a n words is))))
-        (λ given. subst (λ (s : Since). IfAnswer (λ x. c.means.stays s [] x words w (books_of new.books)) r.answer) (sym (since_same r.start (omega (arith, its_start r words given, early)))) (new_one r words given))
+        (λ there. here r words (within a n r there) (on r words (placed a n r there) (was a n r words there (commands a n words is))))
+        (λ given. here r words (omega (arith, its_start r words given, early)) (at_first r words (new_one r words given)))
         (split a n r words to is),
   )
     where
-      on : (r : Reply A) (words : W) → IfAnswer (λ x. c.means.stays (since_in limits old.books r.start) [] x words v (books_of old.books)) r.answer → IfAnswer (λ x. c.means.stays (since_in limits old.books r.start) [] x words w (books_of new.books)) r.answer
-      on r words so = if_answer _ r.answer (λ x is. subst (λ (out : List ObjName). c.means.stays (since_in limits old.books r.start) out x words w (books_of new.books)) (ap (λ (gone : List ObjName). gone ++ []) none)
-          (cl.commands.answers.stays (since_in limits old.books r.start) actor lane [] x words v w (books_of old.books) (books_of new.books) does (subst (IfAnswer _) is so)))
+      since : Reply A → Since
+      since r = since_in limits old.books r.start
+
+      here : (r : Reply A) (words : W) → r.start ≤ length old.books.history.items → IfAnswer (λ x. c.means.stays (since r) (gone_now r.place) x words w (books_of new.books)) r.answer
+          → IfAnswer (λ x. c.means.stays (since_in limits new.books r.start) (gone_now r.place) x words w (books_of new.books)) r.answer
+      here r words le = subst (λ (s : Since). IfAnswer (λ x. c.means.stays s (gone_now r.place) x words w (books_of new.books)) r.answer) (sym (since_same r.start le))
+
+      on : (r : Reply A) (words : W) → r.place ≤ length old.books.history.items → IfAnswer (λ x. c.means.stays (since r) (gone_before r.place) x words v (books_of old.books)) r.answer → IfAnswer (λ x. c.means.stays (since r) (gone_now r.place) x words w (books_of new.books)) r.answer
+      on r words le so = if_answer _ r.answer (λ x is. cl.commands.answers.stays_wider (since r) (gone_before r.place) (gone_now r.place) x words w (books_of new.books) (only_grows r.place le)
+          (cl.commands.answers.stays (since r) actor lane (gone_before r.place) [] x words v w (books_of old.books) (books_of new.books) does only (subst (IfAnswer _) is so)))
+
+      at_first : (r : Reply A) (words : W) → IfAnswer (λ x. c.means.stays (since r) [] x words w (books_of new.books)) r.answer → IfAnswer (λ x. c.means.stays (since r) (gone_now r.place) x words w (books_of new.books)) r.answer
+      at_first r words so = if_answer _ r.answer (λ x is. cl.commands.answers.stays_wider (since r) [] (gone_now r.place) x words w (books_of new.books) (none_among (gone_now r.place)) (subst (IfAnswer _) is so))
 
   pub inside_on : ((r : Reply A) (words : W) → IsNew r words → ¬ (IsOutside r.answer)) → ((a n : ℕ) (r : Reply A) → IsTo lanes' a n r → (words : W) × IsCommand lanes' a n words) → AreUnrefused lanes → AreUnrefused lanes'
   inside_on new_one has was a n r to is = (let x = has a n r to in ⊎_elim (λ there. was a n r there is) (λ given. new_one r x.0 given is) (split a n r x.0 to x.1))
@@ -151,27 +204,33 @@ module _ {F T W A : Type 0} (f : FsSpec F) (c : Family T W A) (fl : FsLaws f) (c
     record {
       right = λ name is. out.now.right name (was.right name is);
       each = λ k e words at is. ⊎_elim
-          (λ there. on e words (was.each k e words there (commands e.lane e.command words is)))
+          (λ there. on k e words there (was.each k e words there (commands e.lane e.command words is)))
           (λ late. (let x = new_one k e words at late.0 is was.right in record {
             start = state_in old.books start;
             makes = x.0;
-            now = x.1;
-            since = λ t d le left. cl.commands.changes.keeps_on (since_in limits old.books start) opening [] [] words w d (image_of t d (omega (arith, le, late.1)) left) x.1;
+            now = cl.commands.changes.keeps_wider (since_in limits old.books start) opening [] (gone_now (k + 1)) words w (none_among (gone_now (k + 1))) x.1;
+            since = λ t d le left. cl.commands.changes.keeps_on_wider (since_in limits old.books start) opening [] (gone_now (k + 1)) words d (none_among (gone_now (k + 1)))
+                (cl.commands.changes.keeps_on (since_in limits old.books start) opening [] [] words w d (image_of t d (omega (arith, le, late.1)) left) x.1);
           }))
           (acts.moments k e at);
     },
   )
     where
-      on : (e : Entry) (words : W) → IsChangeKept c.means (f.was old.fs) opening limits e words v → IsChangeKept c.means (f.was new.fs) opening limits e words w
-      on e words x = record {
-        start = x.start;
-        makes = x.makes;
-        now = cl.commands.changes.keeps (begun_in limits x.start) opening [] [] words v w was.right out.now x.now;
-        since = λ t d le left. ⊎_elim
-            (λ earlier. x.since t d le earlier)
-            (λ later. cl.commands.changes.keeps_on (begun_in limits x.start) opening [] [] words v d later x.now)
-            (out.earlier t d left);
-      }
+      on : (k : ℕ) (e : Entry) (words : W) → IsAt old.books.history.items k e → IsChangeKept c.means (f.was old.fs) opening limits old.books.history.items (swept_in old.books) k e words v
+          → IsChangeKept c.means (f.was new.fs) opening limits new.books.history.items (swept_in new.books) k e words w
+      on k e words at x =
+          let since = begun_in limits x.start in
+          let grows = only_grows (k + 1) (omega (arith, at.0)) in
+          let wider = λ (d : Disk). cl.commands.changes.keeps_on_wider since opening (gone_before (k + 1)) (gone_now (k + 1)) words d grows in
+          record {
+            start = x.start;
+            makes = x.makes;
+            now = cl.commands.changes.keeps_wider since opening (gone_before (k + 1)) (gone_now (k + 1)) words w grows (cl.commands.changes.keeps since opening (gone_before (k + 1)) [] words v w was.right out.now x.now);
+            since = λ t d le left. wider d (⊎_elim
+                (λ earlier. x.since t d le earlier)
+                (λ later. cl.commands.changes.keeps_on since opening (gone_before (k + 1)) [] words v d later x.now)
+                (out.earlier t d left));
+          }
 
       image_of : (t : ℕ) (d : Disk) → f.clock new.fs ≤ t → Left (f.was new.fs) t d → StaysOn [] w d
       image_of t d le left =
@@ -182,27 +241,41 @@ module _ {F T W A : Type 0} (f : FsSpec F) (c : Family T W A) (fl : FsLaws f) (c
 
   -- and which commits are there
   pub founded_on : (opening : View) → CommitsAreFiles v.now → ((r : Reply A) (words : W) → IsNew r words → IfAnswer (λ a. c.means.shows (since_in limits old.books r.start) v a words) r.answer) → ((a n : ℕ) (r : Reply A) → IsTo lanes' a n r → (words : W) × IsCommand lanes' a n words)
-      → ((a n : ℕ) (r : Reply A) → IsTo lanes a n r → r.place ≤ length old.books.history.items)
+      → ((a n : ℕ) (r : Reply A) → IsTo lanes a n r → r.place ≤ length old.books.history.items) → ((r : Reply A) (words : W) → IsNew r words → r.place ≡ length new.books.history.items)
       → AreFounded c.means opening before v → Told (f.view new.fs) (λ u. AreFounded c.means opening behind u)
-  founded_on opening files new_one has placed was = (
+  founded_on opening files new_one has placed ends was = (
     w,
     told_w,
     record {
-      stays = λ commit is. finished_stays [] v w commit out.now (none_out _) (was.stays commit is);
-      each = (let x = acts.founded v told was.each in record { lasting = λ k e at. founds_stay v w out.now e.event (x.lasting k e at); shown = λ p is. founds_stay v w out.now p.event (x.shown p is) });
+      stays = λ commit still is. on commit (was.stays commit (λ gone. still (only_grows 0 (omega arith) (name_of Commit commit) gone)) is);
+      each = λ k e at commit sets still. on commit (set_before k e at commit sets (λ there gone. still (only_grows (k + 1) (omega (arith, there.0)) (name_of Commit commit) gone)));
+      shown = λ p is commit sets still. on commit (⊎_elim (λ before. was.shown p before commit sets still) (λ founds. set_lasts v commit p.event founds sets) (come.shown p is));
       present = record {
-        finished = λ a n r commit to lacks is. (let x = has a n r to in ⊎_elim
-            (λ there. was.present.finished a n r commit there lacks is)
-            (λ given. never r x.0 commit given lacks (was.stays commit is))
+        finished = λ a n r commit to lacks still is. (let x = has a n r to in ⊎_elim
+            (λ there. was.present.finished a n r commit there lacks (λ gone. still (subst (λ (l : List ObjName). IsOut l commit) (sym (removed_same 0 r.place (placed a n r there))) gone)) is)
+            (λ given. never r x.0 commit given lacks (was.stays commit (λ gone. still (told_at_end 0 r.place (omega arith) (ends r x.0 given) (name_of Commit commit) gone)) is))
             (split a n r x.0 to x.1));
-        set = λ a n r commit to lacks k e at lt sets. (let x = has a n r to in ⊎_elim
-            (λ there. was.present.set a n r commit there lacks k e (entry_was k e at (omega (arith, lt, placed a n r there))) lt sets)
-            (λ given. never r x.0 commit given lacks (set_lasts v commit e.event ((acts.founded v told was.each).lasting k e at) sets))
+        set = λ a n r commit to lacks k e at lt still sets. (let x = has a n r to in ⊎_elim
+            (λ there. was.present.set a n r commit there lacks k e (entry_was k e at (omega (arith, lt, placed a n r there))) lt (λ gone. still (subst (λ (l : List ObjName). IsOut l commit) (sym (removed_same (k + 1) r.place (placed a n r there))) gone)) sets)
+            (λ given. never r x.0 commit given lacks (set_before k e at commit sets (λ there gone. still (told_at_end (k + 1) r.place (omega (arith, there.0)) (ends r x.0 given) (name_of Commit commit) gone))))
             (split a n r x.0 to x.1));
       };
     },
   )
     where
+      come : ComesFrom (Founds v) old.books new.books
+      come = acts.founded v told
+
+      on : (commit : List ℕ) → StaysFinished v commit → StaysFinished w commit
+      on commit = finished_stays [] v w commit out.now (none_out (name_of Commit commit))
+
+      -- a commit that a change set its ref to lasted before the act, if it wasn't removed
+      set_before : (k : ℕ) (e : Entry) → IsAt new.books.history.items k e → (commit : List ℕ) → Sets commit e.event → (IsAt old.books.history.items k e → ¬ (IsOut (gone_before (k + 1)) commit)) → StaysFinished v commit
+      set_before k e at commit sets still = ⊎_elim
+          (λ there. was.each k e there commit sets (still there))
+          (λ pending. was.shown pending.0 pending.1 commit (subst (Sets commit) pending.2 sets) (none_out (name_of Commit commit)))
+          (come.lasting k e at)
+
       never : (r : Reply A) (words : W) (commit : List ℕ) → IsNew r words → OfAnswer (λ a. c.means.lacks a commit) r.answer → StaysFinished v commit → ⊥
       never r words commit given lacks lasts =
           let a = is_answer (λ a. c.means.lacks a commit) r.answer lacks in

@@ -14,10 +14,12 @@ use Rattle.lane_system.specs.Lanes.{IsAt, IsTo}
 use Rattle.lane_system.specs.Ranks.{AreWithin}
 use Rattle.lane_system.specs.Replies.{EndsBy}
 use Rattle.lane_system.specs.States.{since_in}
+use Rattle.lane_system.specs.Sweeping.{IsAllTold}
 use Rattle.lane_system.specs.System.{System}
 use Rattle.lane_system.proofs.Changing.{one_command}
 use Rattle.lane_system.proofs.Family.{FamilyLaws}
 use Rattle.lane_system.proofs.Places.{at_one}
+use Rattle.lane_system.proofs.Removals.{none_swept}
 
 module _ {F T W A : Type 0} (f : FsSpec F) (c : Family T W A) (limits : Limits) (base : Base F) (refs : RefBook) (lanes : List (Lane T W A)) (given objects : ℕ) (kept : Kept f c limits base refs lanes given) where
   abbrev pub s : System F T W A
@@ -45,6 +47,10 @@ module _ {F T W A : Type 0} (f : FsSpec F) (c : Family T W A) (limits : Limits) 
 
   pub ends_of : (lane number : ℕ) (r : Reply A) → IsTo lanes lane number r → EndsBy base.books.halted (f.refused base.fs) (f.faults base.fs) r.answer
   ends_of lane number r to = (kept.each lane to.0 to.1).halts number r to.2
+
+  -- nothing is to be removed, so no removal goes on
+  pub told_of : IsAllTold f.view s
+  told_of ended whole = none_swept base.books kept.sound.ordered.undoomed
 
   module _ (cl : FamilyLaws c) where
     pub held_of : Held f.view c s

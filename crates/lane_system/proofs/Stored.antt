@@ -1,8 +1,8 @@
--- The store stays good over an act of a lane, for each way that it may end.
+-- The store stays good over an act of a lane, with known bytes alone and as many objects as were counted, for each way that it may end.
 use Rattle.std.proofs.Common.{◌≡◌, inl, inr, ⊎_elim, ◌<◌, ◌≤◌, ℕ, refl, sym, ◌∙◌, ap, subst, arith, List, [], ◌∷◌, ◌++◌, length, set, Some}
 use Rattle.ost_types.specs.declared.limits.Limits.{Limits}
 use Rattle.ost_types.specs.declared.object.ObjName.{ObjName}
-use Rattle.fs_trait.specs.View.{View}
+use Rattle.fs_trait.specs.View.{Disk, View}
 use Rattle.obj_store.specs.declared.phase.Put.TheVariants.{Stored}
 use Rattle.rely_guarantee.specs.declared.books.Base.{Base}
 use Rattle.rely_guarantee.specs.declared.books.Entry.{Entry}
@@ -11,6 +11,8 @@ use Rattle.rely_guarantee.specs.declared.kind.Outcome.TheVariants as came
 use Rattle.rely_guarantee.specs.Exact.{IsLive}
 use Rattle.ref_book.specs.declared.book.RefBook.{RefBook}
 use Rattle.durable_store.specs.Brought.{AreAlone}
+use Rattle.durable_store.specs.Full.{HasAsMany}
+use Rattle.durable_store.proofs.Filling.{many_stay}
 use Rattle.command.specs.declared.ended.Ended.{Ended}
 use Rattle.lane_system.specs.declared.act.Came.TheVariants.{Answered, More}
 use Rattle.lane_system.specs.declared.lane.Lane.{Lane}
@@ -19,6 +21,7 @@ use Rattle.lane_system.specs.declared.lane.Running.{Running}
 use Rattle.lane_system.specs.Acts.{Acts}
 use Rattle.lane_system.specs.Family.{Family, FsSpec}
 use Rattle.lane_system.specs.Kept.{Kept}
+use Rattle.lane_system.specs.Known.{AreKnown}
 use Rattle.lane_system.specs.LaneActs.{LaneActs, task_start}
 use Rattle.lane_system.specs.Lanes.{IsAt, IsRunning, IsTo}
 use Rattle.lane_system.specs.States.{since_in}
@@ -27,10 +30,11 @@ use Rattle.lane_system.specs.Storing.{AreStored, HasBegun, WasBrought}
 use Rattle.lane_system.specs.System.{System}
 use Rattle.lane_system.proofs.Acting.{early, given_acts, more_acts, within}
 use Rattle.lane_system.proofs.Changing.{command_stays, running_apart, running_here, running_was, to_new, to_same, to_stays}
+use Rattle.lane_system.proofs.Counting.{came_there, many_on, stays_there}
 use Rattle.lane_system.proofs.Family.{FamilyLaws, FsLaws}
+use Rattle.lane_system.proofs.Moments.{opened_by}
 use Rattle.lane_system.proofs.Places.{here_or_apart}
-use Rattle.lane_system.proofs.Preserving.{opened_by}
-use Rattle.lane_system.proofs.Storing.{alone_before, counted_up, no_outside, stored_step, stored_still}
+use Rattle.lane_system.proofs.Storing.{alone_before, counted_up, known_step, known_still, no_outside, stored_step, stored_still}
 use Rattle.lane_system.proofs.Taking.{told}
 
 -- a command that is done counted none
@@ -96,6 +100,19 @@ module _ {F T W A : Type 0} (f : FsSpec F) (c : Family T W A) (fl : FsLaws f) (c
         (command_stays lanes lane l l' at x.same lane number x.words (l, at, x.next))
         (inr (r', running_here lanes lane l l' at x.same number r' (ap (λ z. length z.items) (sym x.replies)) x.did.1, refl))
 
+    pub known_more : (opening : Disk) → AreKnown f c.means opening before v → AreKnown f c.means opening (record { base = new; lanes = set lanes lane l'; limits = limits; objects = objects' }) (acts.does v told_v).0
+    known_more = known_step f c fl cl limits lane lane refs refs' objects objects' old new lanes (set lanes lane l') acts (command_stays lanes lane l l' at x.same) begun_on begun_early
+        (λ wide. counted_up objects limits.objects objects' (c.doing.met x.did.0) x.did.2 room wide)
+        v told_v number x.words l.task came.More x.did.0 x.did.3 kept.sound (λ is. cc) x.did.2 (λ why is. (let z : came.More ≡ came.Halted why = is in cc))
+        (command_stays lanes lane l l' at x.same lane number x.words (l, at, x.next))
+        (inr (r', running_here lanes lane l l' at x.same number r' (ap (λ z. length z.items) (sym x.replies)) x.did.1, refl))
+
+    pub counted_more : HasAsMany v.now objects → HasAsMany (acts.does v told_v).0.now objects'
+    counted_more =
+        let does = acts.does v told_v in
+        many_on f.clock f.spare old kept.sound.ordered lane lane v does.0 does.2.writes objects objects' (c.doing.met x.did.0) x.did.2
+        (came_there f c fl cl limits lane lane number refs refs' objects old new x.words l.task x.did.0 x.did.3 v does.0 told_v does.1)
+
     pub alone_more : ((u : View) → f.was new.fs new.books.opened u → AreAlone (WasBrought c.means (record { base = new; lanes = set lanes lane l'; limits = limits; objects = objects' })) u.now) → (u : View) → f.was old.fs old.books.opened u → AreAlone (WasBrought c.means before) u.now
     alone_more = alone_before f c fl cl limits lane lane refs refs' objects objects' old new lanes (set lanes lane l') acts (command_stays lanes lane l l' at x.same) begun_on begun_early
         (λ wide. counted_up objects limits.objects objects' (c.doing.met x.did.0) x.did.2 room wide) v told_v
@@ -129,6 +146,21 @@ module _ {F T W A : Type 0} (f : FsSpec F) (c : Family T W A) (fl : FsLaws f) (c
         (command_stays lanes lane l l'' at same lane (length l.replies.items) x.words (l, at, x.next))
         (inl (r, to_new lanes lane l l'' at same r grows, its_start)) stored)
         x.did.3
+
+    pub known_given : (opening : Disk) → AreKnown f c.means opening before v → AreKnown f c.means opening behind_ (acts_.does v told_v).0
+    known_given opening known = ⊎_elim
+        (λ once. known_still f c fl cl limits lane lane refs refs' objects objects' old new lanes (set lanes lane l'') acts_ (command_stays lanes lane l l'' at same) begun_then begun_early (λ wide. omega (arith, x.did.1)) v told_v (once_same once.0) opening known)
+        (λ over. known_step f c fl cl limits lane lane refs refs' objects objects' old new lanes (set lanes lane l'') acts_ (command_stays lanes lane l l'' at same) begun_then begun_early (λ wide. omega (arith, x.did.1)) v told_v
+        (length l.replies.items) x.words l.task over.0 over.1 over.4 kept.sound (not_blocked over.0 over.2) (counts_none c objects objects' over.1 over.0 over.2 x.did.1)
+        (λ why is. (let live : IsLive (came.Halted why) old.books.halted new.books.halted = subst (λ (o : Outcome). IsLive o old.books.halted new.books.halted) is over.4.step.live in live))
+        (command_stays lanes lane l l'' at same lane (length l.replies.items) x.words (l, at, x.next))
+        (inl (r, to_new lanes lane l l'' at same r grows, its_start)) opening known)
+        x.did.3
+
+    pub counted_given : HasAsMany v.now objects → HasAsMany (acts_.does v told_v).0.now objects'
+    counted_given has =
+        let does = acts_.does v told_v in
+        subst (HasAsMany does.0.now) (sym x.did.1) (many_stay v.now does.0.now (stays_there f.clock f.spare old kept.sound.ordered lane lane v does.0 does.2.writes) objects has)
 
     pub alone_given : ((u : View) → f.was new.fs new.books.opened u → AreAlone (WasBrought c.means behind_) u.now) → (u : View) → f.was old.fs old.books.opened u → AreAlone (WasBrought c.means before) u.now
     alone_given = alone_before f c fl cl limits lane lane refs refs' objects objects' old new lanes (set lanes lane l'') acts_ (command_stays lanes lane l l'' at same) begun_then begun_early (λ wide. omega (arith, x.did.1)) v told_v

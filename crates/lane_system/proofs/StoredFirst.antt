@@ -12,6 +12,8 @@ use Rattle.rely_guarantee.specs.Opening.{IsOpening}
 use Rattle.rely_guarantee.specs.State.{first}
 use Rattle.sys_open.specs.Opened as opening
 use Rattle.sys_open.proofs.Goods.{config_of, store_of}
+use Rattle.durable_store.specs.Full.{HasAsMany}
+use Rattle.durable_store.proofs.Filling.{all_many}
 use Rattle.durable_store.proofs.Starts.{few_all, stands_begin}
 use Rattle.command.specs.Meaning.{Meaning}
 use Rattle.lane_system.specs.declared.lane.Lane.{Lane}
@@ -37,3 +39,7 @@ stored_first f m limits base lanes refs objects count w told tree opens good all
             record { sound = store.sound; few = store.few; founded = store.founded; same = config_of limits d good_then; whole = λ alone. store.whole };
       };
     }
+
+-- and as many objects stand as were counted
+pub counted_first : (objects : List ObjName) (count : ℕ) (w : View) → AreAll w.now objects → count ≡ min (length objects) 4294967295 → HasAsMany w.now count
+counted_first objects count w all is = all_many w.now objects count all (omega (arith, is))

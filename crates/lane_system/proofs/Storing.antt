@@ -10,10 +10,11 @@ use Rattle.fs_trait.specs.declared.types.FsErr.TheVariants as err
 use Rattle.fs_trait.specs.Change.{Writes}
 use Rattle.fs_trait.specs.Effect.{OfNone}
 use Rattle.fs_trait.specs.Seen.{Seen}
-use Rattle.fs_trait.specs.View.{View}
+use Rattle.fs_trait.specs.View.{Disk, View}
 use Rattle.fs_trait.proofs.Images.{Image-now}
 use Rattle.repo_layout.specs.RefFile.{IsSum}
 use Rattle.repo_model.specs.Objects.{path_of}
+use Rattle.repo_model.proofs.Named.{IsSum-named}
 use Rattle.obj_store.specs.declared.phase.Put.{Put}
 use Rattle.obj_store.specs.declared.phase.Put.TheVariants.{Present, Stored}
 use Rattle.rely_guarantee.specs.declared.books.Base.{Base}
@@ -31,15 +32,18 @@ use Rattle.command.specs.Since.{Since}
 use Rattle.store_check.specs.Good.{IsGoodStore}
 use Rattle.durable_store.specs.Brought.{AreAlone}
 use Rattle.durable_store.specs.Keeping.{KeepsGood}
+use Rattle.durable_store.specs.Known.{KeepsKnown, KnownBytes, MayHoldOnly}
 use Rattle.durable_store.specs.Standing.{StoreStands}
 use Rattle.durable_store.specs.Writing.{Grows, KeepsStore}
 use Rattle.durable_store.proofs.Growing.{adds_still}
 use Rattle.durable_store.proofs.Keepings.{good_on, good_store, good_wider}
+use Rattle.durable_store.proofs.Knowing.{known_on, known_wider, may_only_on}
 use Rattle.durable_store.proofs.Steps.{keeps_wider, stands_kept}
 use Rattle.lane_system.specs.declared.lane.Lane.{Lane}
 use Rattle.lane_system.specs.declared.lane.Running.{Running}
 use Rattle.lane_system.specs.Acts.{Acts}
 use Rattle.lane_system.specs.Family.{Family, FsSpec}
+use Rattle.lane_system.specs.Known.{AreKnown}
 use Rattle.lane_system.specs.LaneActs.{Takes, task_start}
 use Rattle.lane_system.specs.Lanes.{IsCommand}
 use Rattle.lane_system.specs.States.{since_in}
@@ -99,6 +103,10 @@ module _ {F T W A : Type 0} (f : FsSpec F) (c : Family T W A) (fl : FsLaws f) (c
   widened : (stored : AreStored f c.means before v) → KeepsGood (f.was old.fs) limits (WasBrought c.means behind) IsConfigured stored.names old.books.opened v
   widened stored = good_wider (f.was old.fs) limits (WasBrought c.means before) (WasBrought c.means behind) IsConfigured stored.names old.books.opened v wider stored.keeps
 
+  all_known : (opening : Disk) → AreKnown f c.means opening before v → KeepsKnown (f.was old.fs) (KnownBytes opening (WasBrought c.means behind)) old.books.opened v
+  all_known opening known = known_wider (f.was old.fs) (KnownBytes opening (WasBrought c.means before)) (KnownBytes opening (WasBrought c.means behind)) old.books.opened v
+      (λ name bytes is. ⊎_elim (λ had. inl had) (λ brought. inr (wider name bytes brought)) is) known
+
   -- by the store in the view after the act
   from_stands : (stored : AreStored f c.means before v) (next : List ObjName) → StoreStands limits (WasBrought c.means behind) IsConfigured next w → length next ≤ limits.objects → (new.books.halted ≡ None → length next ≤ objects') → AreStored f c.means behind w
   from_stands stored next stands few counted = record {
@@ -114,6 +122,14 @@ module _ {F T W A : Type 0} (f : FsSpec F) (c : Family T W A) (fl : FsLaws f) (c
   stored_still same stored =
       let keeps = widened stored in
       from_stands stored stored.names (subst (StoreStands limits (WasBrought c.means behind) IsConfigured stored.names) (sym same) keeps.now) keeps.few (λ live. omega (arith, stored.counted (acts.live live), no_fewer stored.narrow))
+
+  -- which bytes the disk ever held, by those that a crash may leave now
+  knows : (opening : Disk) → MayHoldOnly (KnownBytes opening (WasBrought c.means behind)) w → AreKnown f c.means opening before v → AreKnown f c.means opening behind w
+  knows opening may known = subst (λ (m : ℕ). KeepsKnown (f.was new.fs) (KnownBytes opening (WasBrought c.means behind)) m w) (sym acts.books.opened)
+      (known_on f.view f.clock f.was fl.is.only_now (KnownBytes opening (WasBrought c.means behind)) old.fs new.fs v w old.books.opened told_w acts.time may (all_known opening known))
+
+  pub known_still : w ≡ v → (opening : Disk) → AreKnown f c.means opening before v → AreKnown f c.means opening behind w
+  known_still same opening known = knows opening (subst (MayHoldOnly (KnownBytes opening (WasBrought c.means behind))) (sym same) (all_known opening known).now) known
 
   -- if reads never saw other bytes with the name of what was brought, they didn't before
   pub alone_before : ((u : View) → f.was new.fs new.books.opened u → AreAlone (WasBrought c.means behind) u.now) → (u : View) → f.was old.fs old.books.opened u → AreAlone (WasBrought c.means before) u.now
@@ -171,6 +187,14 @@ module _ {F T W A : Type 0} (f : FsSpec F) (c : Family T W A) (fl : FsLaws f) (c
 
     does : KeepsStore limits (WasBrought c.means behind) v At
     does = keeps_wider limits (c.means.brings since words) (WasBrought c.means behind) v At brought (cl.commands.store.keeps since actor lane words t v (books_of old.books) after facts)
+
+    -- a step writes no bytes but those that its command brings
+    pub known_step : (opening : Disk) → AreKnown f c.means opening before v → AreKnown f c.means opening behind w
+    known_step opening known = knows opening
+        (may_only_on (KnownBytes opening (WasBrought c.means behind)) At v w wrote
+        (λ name bytes s writes holds named. inr (brought name bytes (cl.commands.store.brings since actor lane words t v (books_of old.books) name s bytes after facts (IsSum-named name bytes named) writes holds)))
+        (all_known opening known).now)
+        known
 
     refused_still : (e : FsErr) → ((e ≡ err.NoMemory) ⊎ c.tasks.refuses t v e) × (OfNone e → f.view new.fs ≡ Some v) → w ≡ v
     refused_still e said = sym (here v (said.1 (⊎_elim

@@ -25,6 +25,7 @@ use Rattle.lane_system.specs.Kept.{AreHomes}
 use Rattle.lane_system.specs.LaneActs.{Takes, task_start, told_by}
 use Rattle.lane_system.specs.States.{since_in}
 use Rattle.lane_system.proofs.Family.{FamilyLaws, FsLaws}
+use Rattle.lane_system.proofs.Growing.{stored_grows}
 use Rattle.lane_system.proofs.Moments.{fails_by, later_at, moment_is}
 use Rattle.lane_system.proofs.Places.{here_or_apart}
 use Rattle.lane_system.proofs.Setting.{founded_step}
@@ -96,6 +97,7 @@ module _ {F T W A : Type 0} (f : FsSpec F) (c : Family T W A) (fl : FsLaws f) (c
     lasts = x.step.lasts;
     time = x.step.time;
     moments = later_at (f.clock new.fs) old.books.history.items new.books.history.items (moment_is lane number (f.clock new.fs) old.books new.books (c.tasks.kind told) outcome told_holds x.step.booked);
+    grows = stored_grows actor lane number (f.clock new.fs) old.books new.books x.step.acts.books (c.tasks.kind told) outcome told_holds x.step.booked;
     fails = fails_by (f.faults old.fs) (f.faults new.fs) outcome old.books.halted new.books.halted x.step.cause x.step.live;
     founded = λ v is. founded_step lane number (f.clock new.fs) old.books new.books v (c.tasks.kind told) outcome told_holds x.step.booked (λ e k. cl.commands.changes.founds lane told v (books_of old.books) e (told_facts v is) k);
   }

@@ -1,9 +1,10 @@
 -- What others may rely on in an act, whoever's lane it is.
-use Rattle.std.specs.Prelude.{◌≡◌, ◌⊎◌, ◌≤◌, ℕ, List, [], length, Option, Some, None}
+use Rattle.std.specs.Prelude.{◌≡◌, ◌⊎◌, ◌≤◌, ◌++◌, ℕ, List, [], length, Option, Some, None}
 use Rattle.fs_trait.specs.Count.{Rose}
 use Rattle.fs_trait.specs.Effect.{Elapses}
 use Rattle.fs_trait.specs.View.{View}
 use Rattle.rely_guarantee.specs.declared.books.Base.{Base}
+use Rattle.rely_guarantee.specs.declared.books.Books as rust
 use Rattle.rely_guarantee.specs.declared.books.Entry.{Entry}
 use Rattle.rely_guarantee.specs.declared.books.Pending.{Pending}
 use Rattle.rely_guarantee.specs.declared.event.Event.{Event}
@@ -12,6 +13,7 @@ use Rattle.rely_guarantee.specs.declared.kind.Halt.TheVariants as halt
 use Rattle.rely_guarantee.specs.Books.{Spared, books_of}
 use Rattle.rely_guarantee.specs.Lasting.{Lasts}
 use Rattle.rely_guarantee.specs.Rely.{Interference}
+use Rattle.rely_guarantee.specs.State.{stored}
 use Rattle.rely_guarantee.specs.SystemInvariant.{SystemInvariant}
 use Rattle.ref_book.specs.declared.book.RefBook.{RefBook}
 use Rattle.ref_book.specs.Tracks.{HasRoom, Tracks}
@@ -25,10 +27,10 @@ use Rattle.lane_system.specs.States.{now_of}
 abbrev pub Fails : ℕ → ℕ → Option Halt → Option Halt → Type 0
 Fails before now old new = (before ≤ now) × (new ≡ Some halt.Failed → (old ≡ Some halt.Failed) ⊎ Rose before now)
 
--- Each change that lasts is so, and the one that is shown.
-pub record EachChange (P : Event → Type 0) (entries : List Entry) (pending : Option Pending) : Type 0 where
-  pub lasting : (k : ℕ) (e : Entry) → IsAt entries k e → P e.event
-  pub shown : (p : Pending) → pending ≡ Some p → P p.event
+-- Each change that lasts now did before, or is the one that was shown; and the one that is shown now was so before, or is of this kind.
+pub record ComesFrom (P : Event → Type 0) (old new : rust.Books) : Type 0 where
+  pub lasting : (k : ℕ) (e : Entry) → IsAt new.history.items k e → IsAt old.history.items k e ⊎ ((p : Pending) × (old.pending ≡ Some p) × (e.event ≡ p.event))
+  pub shown : (p : Pending) → new.pending ≡ Some p → (old.pending ≡ Some p) ⊎ P p.event
 
 pub record Acts {F : Type 0} (f : FsSpec F) (actor lane : ℕ) (refs refs' : RefBook) (old new : Base F) : Type 0 where
   pub sound : SystemInvariant f.view f.clock f.spare f.was new
@@ -44,5 +46,7 @@ pub record Acts {F : Type 0} (f : FsSpec F) (actor lane : ℕ) (refs refs' : Ref
   pub time : Elapses (f.clock old.fs) (f.clock new.fs) (f.was old.fs) (f.was new.fs) (f.view new.fs)
   -- a change that it made to last has the moment behind it, and one that it shows names no commit but one that lasts
   pub moments : (k : ℕ) (e : Entry) → IsAt new.books.history.items k e → IsAt old.books.history.items k e ⊎ ((length old.books.history.items ≤ k) × (e.moment ≡ f.clock new.fs))
+  -- the stored history grows at its end alone
+  pub grows : (more : List Event) × (stored new.books.history.items new.books.pending ≡ stored old.books.history.items old.books.pending ++ more)
   pub fails : Fails (f.faults old.fs) (f.faults new.fs) old.books.halted new.books.halted
-  pub founded : (v : View) → f.view old.fs ≡ Some v → EachChange (Founds v) old.books.history.items old.books.pending → EachChange (Founds v) new.books.history.items new.books.pending
+  pub founded : (v : View) → f.view old.fs ≡ Some v → ComesFrom (Founds v) old.books new.books

@@ -5,6 +5,7 @@ use Rattle.fs_trait.specs.declared.types.Value.TheVariants.{Absent}
 use Rattle.fs_trait.specs.View.{View}
 use Rattle.repo_model.specs.Objects.{path_of}
 use Rattle.obj_store.specs.declared.phase.Put.TheVariants.{Stored}
+use Rattle.durable_store.specs.Full.{HasAsMany}
 use Rattle.command.specs.Doing.{Doing}
 use Rattle.lane_system.specs.declared.ask.Ask.{Ask}
 use Rattle.lane_system.specs.declared.ask.Ask.TheVariants.{More}
@@ -29,3 +30,7 @@ pub record Objects {F T W A : Type 0} (d : Doing T W A) (view : F → Option Vie
   pub counts : Counted d old new actor ask
   pub stores : (v : View) → view old.base.fs ≡ Some v → Stores d old new actor v ask
   pub bounded : (v : View) → view old.base.fs ≡ Some v → old.objects ≤ old.limits.objects → new.objects ≤ new.limits.objects
+
+-- as many objects as were counted stand in the view now
+abbrev pub AreCounted : {F T W A : Type 0} → System F T W A → View → Type 0
+AreCounted s v = HasAsMany v.now s.objects

@@ -14,6 +14,8 @@ pub mod Counts
 pub mod Pins
 pub mod Held
 pub mod Causes
+pub mod Removals
+pub mod Sweeping
 pub mod Lasting
 pub mod Founded
 pub mod Said
@@ -21,4 +23,6 @@ pub mod Storing
 pub mod Inside
 pub mod Folders
 pub mod Staying
+pub mod Known
 pub mod Preserves
+pub mod Unremoved

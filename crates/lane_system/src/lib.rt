@@ -6,7 +6,9 @@ mod ask;
 mod lane;
 mod step;
 mod system;
+mod unremoved;
 
 pub use ask::Ask;
 pub use lane::{Lane, Reply, Running};
 pub use system::{Parts, System};
+pub use unremoved::{all_is_said, earlier_removals_are_past, nothing_is_gone};

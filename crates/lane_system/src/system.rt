@@ -17,6 +17,7 @@ ghost use Rattle.lane_system.specs.Lanes.{IsTo};
 ghost use Rattle.lane_system.specs.Preserves.{Preserves, Stands};
 ghost use Rattle.lane_system.specs.Ranks.{AreWithin, Asks, HasEnded, IsHeldOff, IsOver, Ranked, left_in_all, rank};
 ghost use Rattle.lane_system.specs.Replies.{EndsBy};
+ghost use Rattle.lane_system.specs.Sweeping.{IsAllTold};
 
 use crate::Ask;
 use crate::act::{Came, lane_act, number_of};
@@ -213,13 +214,14 @@ impl<F: Watch, C: Command> System<F, C> {
     /// A crash at any moment since the opening left a sane disk whose refs are those after a prefix of the stored history
     /// that has each change acknowledged by that moment; and reads see the refs after the history, but for a change that
     /// is pending. Each reply says what the states at its start and at its place show. What a command that runs has stored or found is
-    /// pinned for its lane, and there.
+    /// pinned for its lane, and there. Once all commands were answered, and none was cut short, the history tells all that was removed.
     pub fn certify(&self)
         ensures headline { (v : View) → F.view self.now.base.fs ≡ Some v → Headline F.clock F.was self.now.base v }
         ensures replied { IsReplied F.view C.means self.now }
         ensures within { AreWithin self.now }
         ensures held { Held F.view (family (task_spec C.kind_of C.writes_of C.stepped C.leaves C.refuses C.facts) C.means C.doing) self.now }
         ensures ends { (lane number : ℕ) (r : Reply C.Answer) → IsTo self.now.lanes lane number r → EndsBy self.now.base.books.halted (F.refused self.now.base.fs) (F.faults self.now.base.fs) r.answer }
+        ensures swept { IsAllTold F.view self.now }
     {
         certify(&self.base);
     }

@@ -99,6 +99,8 @@ change_laws = record {
   kept = λ since opening lane c t new v w b right is f leaves settles. tt;
   keeps = λ since opening out removed c v w right stays is. tt;
   keeps_on = λ since opening out removed c v disk stays is. tt;
+  keeps_wider = λ since opening out more c v among is. tt;
+  keeps_on_wider = λ since opening out more c disk among is. tt;
 }
 
 answer_laws : AnswerLaws wait_tasks wait_means wait_doing
@@ -111,7 +113,8 @@ answer_laws = record {
   outside = λ since v a c good shows outside. outside;
   full = λ told since c t new a is step given full. absurd full;
   left = λ since actor lane c t new v w b b' a is f leaves given does gone. tt;
-  stays = λ since actor lane out a c v w b b' does is. tt;
+  stays = λ since actor lane out removed a c v w b b' does only is. tt;
+  stays_wider = λ since out more a c v b among is. tt;
 }
 
 store_laws : StoreLaws wait_tasks wait_means wait_doing
@@ -124,6 +127,7 @@ store_laws = record {
   stored = λ actor lane t new v w b name s f leaves sum wrote. absurd wrote;
   done = λ actor lane t new v w b name s f leaves sum wrote. absurd wrote;
   lacked = λ told since c t new v w name is leaves met. cc;
+  there = λ lane t v b name f met. cc;
   keeps = λ since actor lane c t v b is f. silent_keeps since.limits (wait_means.brings since c) v Nothing (λ p s wrote. wrote);
 }
 

@@ -13,10 +13,16 @@ use lane_system::{Ask, Lane, System};
 use ost_types::Limits;
 use std::alloc::Global;
 use std::test::Fail;
+use std::thread::Threads;
 use sys_open::{Opened, adopt};
 
-fn open_disk(alloc: Global) -> Result<Opened<Watched<MemFs>>, Fail> {
-    match adopt(alloc, Watched::new(MemFs::new(alloc)?), Limits::standard()) {
+fn open_disk<R: Threads + Sync>(rt: &R, alloc: Global) -> Result<Opened<Watched<MemFs>>, Fail> {
+    match adopt(
+        rt,
+        alloc,
+        Watched::new(MemFs::new(alloc)?),
+        Limits::standard(),
+    ) {
         Ok(opened) => Ok(opened),
         Err(_) => Err("not opened")?,
     }
@@ -29,13 +35,14 @@ fn lane_of(alloc: Global, command: WaitWords) -> Result<Lane<WaitTask, WaitWords
 }
 
 // Two lanes, of a command each.
-fn system_of(
+fn system_of<R: Threads + Sync>(
+    rt: &R,
     alloc: Global,
     one: WaitWords,
     other: WaitWords,
 ) -> Result<System<Watched<MemFs>, WaitTask>, Fail> {
     let lanes = vec![in alloc; lane_of(alloc, one)?, lane_of(alloc, other)?]?;
-    match System::new(alloc, open_disk(alloc)?, lanes) {
+    match System::new(alloc, open_disk(rt, alloc)?, lanes) {
         Ok(system) => Ok(system),
         Err(_) => Err("no memory")?,
     }
@@ -55,6 +62,17 @@ fn was_answered(system: &System<Watched<MemFs>, WaitTask>, lane: usize, wanted: 
     }
 }
 
+// Whether so many replies had been given before that of the lane's first command.
+fn came_after(system: &System<Watched<MemFs>, WaitTask>, lane: usize, replies: u32) -> bool {
+    let Some(lane) = system.lanes().get(lane) else {
+        return false;
+    };
+    match lane.replies.first() {
+        Some(reply) => reply.order == replies,
+        None => false,
+    }
+}
+
 const fn done(lane: u8) -> Ask {
     Ask::Done { lane, command: 0 }
 }
@@ -67,7 +85,7 @@ fn acts_for_no_other_lane(rt: HostRuntime) -> Result<(), Fail> {
         number: 2,
         holds: false,
     };
-    let mut system = system_of(alloc, echo, wait)?;
+    let mut system = system_of(&rt, alloc, echo, wait)?;
     assert!(rt; system.act(2) == Ask::Ended && system.act(255) == Ask::Ended);
     assert!(rt; system.act(0) == done(0) && system.act(0) == Ask::Ended);
     assert!(rt; system.act(1) == Ask::More && system.act(1) == Ask::More);
@@ -87,11 +105,25 @@ fn waits_for_the_ref_lock(rt: HostRuntime) -> Result<(), Fail> {
         number: 1,
         holds: true,
     };
-    let mut system = system_of(alloc, long, short)?;
+    let mut system = system_of(&rt, alloc, long, short)?;
     assert!(rt; system.act(0) == Ask::More && system.act(1) == Ask::Blocked);
     assert!(rt; system.act(0) == Ask::More && system.act(1) == Ask::Blocked);
     system.drive(&[0, 0]);
     assert!(rt; was_answered(&system, 0, 3) && was_answered(&system, 1, 1));
     assert!(rt; system.history().is_empty() && system.pending().is_none());
+    Ok(())
+}
+
+#[test]
+fn drives_by_the_schedule(rt: HostRuntime) -> Result<(), Fail> {
+    let alloc = rt.alloc();
+    let wait = WaitWords::Wait {
+        number: 1,
+        holds: false,
+    };
+    let echo = WaitWords::Echo { number: 7 };
+    let mut system = system_of(&rt, alloc, wait, echo)?;
+    system.drive(&[0, 0]);
+    assert!(rt; came_after(&system, 0, 0) && came_after(&system, 1, 1));
     Ok(())
 }

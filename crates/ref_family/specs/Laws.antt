@@ -96,6 +96,8 @@ change_laws = record {
   kept = λ since opening lane c t new v w b right is f leaves k. tt;
   keeps = λ since opening out removed c v w right stays is. tt;
   keeps_on = λ since opening out removed c v disk stays is. tt;
+  keeps_wider = λ since opening out more c v among is. tt;
+  keeps_on_wider = λ since opening out more c disk among is. tt;
 }
 
 answer_laws : AnswerLaws ref_tasks ref_means ref_doing
@@ -108,7 +110,8 @@ answer_laws = record {
   outside = λ since v a c good shown outside. outside;
   full = λ told since c t new a is step given full. absurd full;
   left = λ since actor lane c t new v w b b' a is f leaves given does gone. tt;
-  stays = λ since actor lane out a c v w b b' does is. tt;
+  stays = λ since actor lane out removed a c v w b b' does only is. tt;
+  stays_wider = λ since out more a c v b among is. tt;
 }
 
 store_laws : StoreLaws ref_tasks ref_means ref_doing
@@ -121,6 +124,7 @@ store_laws = record {
   stored = λ actor lane t new v w b name s f leaves sum wrote. no_object actor lane t.work v b name s f sum wrote;
   done = λ actor lane t new v w b name s f leaves sum wrote. no_object actor lane t.work v b name s f sum wrote;
   lacked = λ told since c t new v w name is leaves met. cc;
+  there = λ lane t v b name f met. cc;
   keeps = λ since actor lane c t v b is f. refs_keep since.limits (ref_means.brings since c) actor lane t.work v b f;
 }
 

@@ -7,6 +7,8 @@ pub mod Openings
 pub mod Standing
 pub mod Checkouts
 pub mod Lefts
+pub mod Stops
+pub mod Bytes
 pub mod Rans
 pub mod Runs
 pub mod Outcomes

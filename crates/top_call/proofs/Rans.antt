@@ -16,9 +16,13 @@ use Rattle.script.specs.declared.answer.Reply.{Reply}
 use Rattle.script.specs.declared.command.Command.{Command}
 use Rattle.script.specs.declared.command.Lane as script
 use Rattle.lane_system.specs.Family.{FsSpec}
+use Rattle.repo_model.specs.Objects.{Stores}
+use Rattle.durable_store.specs.Known.{KeepsKnown, KnownBytes}
+use Rattle.lane_system.specs.Known.{AreKnown}
 use Rattle.lane_system.specs.Lanes.{IsAt}
 use Rattle.lane_system.specs.Preserves.{Stands}
 use Rattle.lane_system.specs.Inside.{AreInsideIn}
+use Rattle.lane_system.specs.Removals.{swept_in}
 use Rattle.lane_system.specs.Replied.{Replied}
 use Rattle.lane_system.specs.Replies.{IsTold}
 use Rattle.lane_system.specs.Said.{AreSaidIn}
@@ -49,6 +53,7 @@ use Rattle.top_call.proofs.Checkouts.{clear_in, folders_before}
 use Rattle.top_call.proofs.Lefts.{left_good}
 use Rattle.top_call.proofs.Openings.{finished_opened}
 use Rattle.top_call.proofs.Plain.{plain}
+use Rattle.top_call.proofs.Standing.{told_as}
 
 map_map : {X Y Z : Type 0} (g : Y → Z) (f : X → Y) (xs : List X) → map g (map f xs) ≡ map (λ x. g (f x)) xs
 map_map g f [] = refl
@@ -85,7 +90,8 @@ named_of : (lanes : List Lane) (d : Disk) (name : Name) → IsMade means doing l
 named_of lanes d name (inl there) = inl there
 named_of lanes d name (inr (lane, number, by)) = inr (lane, number, by.0)
 
-module _ {F : Type 0} (f : FsSpec F) (opened : Opened F) (limits : Limits) (v : View) (before : ℕ) (commands : List (List Command)) (good : IsGood limits v.now) (within : opened.limits ≡ limits) (barrier : opened.clock ≡ before + 1) (begins : Told (f.view opened.fs) (Begins opened.refs v)) (tree : IsTree begins.0.now) where
+module _ {F : Type 0} (f : FsSpec F) (opened : Opened F) (limits : Limits) (v : View) (before : ℕ) (commands : List (List Command)) (good : IsGood limits v.now) (within : opened.limits ≡ limits) (barrier : opened.clock ≡ before + 1) (begins : Told (f.view opened.fs) (Begins opened.refs v)) (tree : IsTree begins.0.now)
+    (holds : KeepsKnown (f.was opened.fs) (Stores v.now) opened.clock begins.0) where
   module _ (own : List (List Words)) (scripted_as : own ≡ map (λ row. map words_of row) commands) (fs : F) (history : List Entry) (pending : Option Pending) (replies : List (List Reply)) (is : RanOn f opened own fs history pending replies) where
     abbrev s : System F Task Words Answer
     s = is.system
@@ -99,8 +105,11 @@ module _ {F : Type 0} (f : FsSpec F) (opened : Opened F) (limits : Limits) (v : 
     stood : Told (f.view s.base.fs) (λ w. Stands f program (f.faults opened.fs) begins.0 s w)
     stood = is.stands begins.0 begins.1
 
-    ran_there : (w : View) → f.view s.base.fs ≡ Some w → Stands f program (f.faults opened.fs) begins.0 s w → Ran s.limits f.view f.clock f.was v before commands s.base.fs s.base.books.history.items (event_of s.base.books.pending) (replies_of s.lanes) w
-    ran_there w told stands = record {
+    holds_since : Told (f.view s.base.fs) (λ w. AreKnown f means v.now s w)
+    holds_since = is.known v.now begins.0 begins.1 holds
+
+    ran_there : (w : View) → f.view s.base.fs ≡ Some w → Stands f program (f.faults opened.fs) begins.0 s w → AreKnown f means v.now s w → Ran s.limits f.view f.clock f.was v before commands s.base.fs s.base.books.history.items (event_of s.base.books.pending) (replies_of s.lanes) w
+    ran_there w told stands knows = record {
       good = subst (λ l. IsGood l v.now) (sym same) good;
       start = first s.base.books.start.items;
       state = subst (λ refs. Logical v.now (first refs)) (sym is.start) begins.2.same;
@@ -115,12 +124,15 @@ module _ {F : Type 0} (f : FsSpec F) (opened : Opened F) (limits : Limits) (v : 
       begun = begins.0;
       opens = begins.2.keeps;
       opened = subst (λ refs. IsOpening (first refs) begins.0) (sym is.start) begins.2.opening;
+      swept = swept_in s.base.books;
+      whole = is.swept is.ended;
       kept = stands.lasts;
       stored = λ t d from left. left_good f s w stands.good t d (subst (λ n. n ≤ t) (sym moment) from) left;
       inside = subst (λ n. AreInsideIn means (f.was s.base.fs) n (WasBrought means s) s.lanes) moment stands.inside;
-      said = subst (λ n. AreSaidIn means (f.was s.base.fs) n s.limits (first s.base.books.start.items) s.base.books.history.items s.lanes) moment stands.said;
+      said = subst (λ n. AreSaidIn means (f.was s.base.fs) n s.limits (first s.base.books.start.items) s.base.books.history.items s.base.books.pending s.lanes) moment stands.said;
+      known = subst (λ n. KeepsKnown (f.was s.base.fs) (KnownBytes v.now (WasBrought means s)) n w) moment knows;
       present = record {
-        finished = λ lane number r commit to absent finished. stands.founded.present.finished lane number r commit to absent (finished_opened (first opened.refs) begins.0 begins.2.opening tree commit finished.0 finished.1);
+        finished = λ lane number r commit to absent unremoved finished. stands.founded.present.finished lane number r commit to absent unremoved (finished_opened (first opened.refs) begins.0 begins.2.opening tree commit finished.0 finished.1);
         set = stands.founded.present.set;
       };
       books = books_of s.base.books;
@@ -135,7 +147,7 @@ module _ {F : Type 0} (f : FsSpec F) (opened : Opened F) (limits : Limits) (v : 
         (subst (λ h. Told (f.view s.base.fs) (Ran s.limits f.view f.clock f.was v before commands s.base.fs h (event_of pending) replies)) (sym is.changes)
         (subst (λ p. Told (f.view s.base.fs) (Ran s.limits f.view f.clock f.was v before commands s.base.fs s.base.books.history.items (event_of p) replies)) (sym is.change)
         (subst (λ r. Told (f.view s.base.fs) (Ran s.limits f.view f.clock f.was v before commands s.base.fs s.base.books.history.items (event_of s.base.books.pending) r)) (sym is.given)
-        (stood.0, stood.1, ran_there stood.0 stood.1 stood.2)))))
+        (stood.0, stood.1, ran_there stood.0 stood.1 stood.2 (told_as (f.view s.base.fs) _ stood.0 stood.1 holds_since))))))
 
 -- so it is of any file system what was answered, and what calls that failed are told of
 module _ {F : Type 0} (f : FsSpec F) (opened : Opened F) (own : List (List Words)) (fs : F) (history : List Entry) (pending : Option Pending) (replies : List (List Reply)) (is : RanOn f opened own fs history pending replies) where
@@ -176,12 +188,12 @@ answered f opened limits scripts (Ok p) within is =
     answered_on f opened (map (λ lane. map words_of lane.commands.items) scripts) p.fs p.history.items p.pending (map (λ replies. replies.items) p.replies.items) is limits (commands_of scripts) (scripted scripts) within
 
 pub ran : {F : Type 0} (f : FsSpec F) (opened : Opened F) (limits : Limits) (v : View) (before : ℕ) (scripts : List script.Lane) (r : Result (LanesEnd F) (F × TopFault)) → IsGood limits v.now → opened.limits ≡ limits → opened.clock ≡ before + 1
-    → (begins : Told (f.view opened.fs) (Begins opened.refs v)) → IsTree begins.0.now
+    → (begins : Told (f.view opened.fs) (Begins opened.refs v)) → IsTree begins.0.now → KeepsKnown (f.was opened.fs) (Stores v.now) opened.clock begins.0
     → IfOk r (λ p. RanOn f opened (map (λ lane. map words_of lane.commands.items) scripts) p.fs p.history.items p.pending (map (λ replies. replies.items) p.replies.items))
     → IfOk r (λ p. Told (f.view p.fs) (Ran limits f.view f.clock f.was v before (commands_of scripts) p.fs p.history.items (event_of p.pending) (map (λ replies. replies.items) p.replies.items)))
-ran f opened limits v before scripts (Err e) good within barrier begins tree is = tt
-ran f opened limits v before scripts (Ok p) good within barrier begins tree is =
-    ran_on f opened limits v before (commands_of scripts) good within barrier begins tree (map (λ lane. map words_of lane.commands.items) scripts) (scripted scripts) p.fs p.history.items p.pending (map (λ replies. replies.items) p.replies.items) is
+ran f opened limits v before scripts (Err e) good within barrier begins tree holds is = tt
+ran f opened limits v before scripts (Ok p) good within barrier begins tree holds is =
+    ran_on f opened limits v before (commands_of scripts) good within barrier begins tree holds (map (λ lane. map words_of lane.commands.items) scripts) (scripted scripts) p.fs p.history.items p.pending (map (λ replies. replies.items) p.replies.items) is
 
 pub caused : {F : Type 0} (f : FsSpec F) (opened : Opened F) (scripts : List script.Lane) (r : Result (LanesEnd F) (F × TopFault))
     → IfOk r (λ p. RanOn f opened (map (λ lane. map words_of lane.commands.items) scripts) p.fs p.history.items p.pending (map (λ replies. replies.items) p.replies.items))

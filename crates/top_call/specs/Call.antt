@@ -1,5 +1,6 @@
 -- What a whole call tells of its words and of the disk, what it takes, and what it prints.
 use Rattle.std.specs.Prelude.{◌≡◌, ◌≢◌, ◌⊎◌, ◌≤◌, ℕ, List, [], Option, Some, None, IfSome}
+use Rattle.ost_types.specs.Path.{Path}
 use Rattle.fs_trait.specs.Count.{Rose}
 use Rattle.fs_trait.specs.View.{View, all_synced}
 use Rattle.rely_guarantee.specs.declared.books.Entry.{Entry}
@@ -9,13 +10,12 @@ use Rattle.script.specs.declared.fault.ScriptFault.{ScriptFault}
 use Rattle.script_reader.specs.Script.{Commands, IsScript}
 use Rattle.sys_open.specs.Changes.{Changes, Works}
 use Rattle.sys_open.specs.declared.fault.OpenFault.{OpenFault}
-use Rattle.sys_open.specs.declared.fault.OpenFault.TheVariants as opening
 use Rattle.top_call.specs.declared.fault.TopFault.{TopFault}
 use Rattle.top_call.specs.declared.fault.TopFault.TheVariants.{Usage, Script, Input, Open, NoMemory}
 use Rattle.top_call.specs.Complete.{AreCausedBy}
 use Rattle.top_call.specs.Input.{TookFront}
 use Rattle.top_call.specs.Text.{output_of}
-use Rattle.top_call.specs.Top.{IsStopped, IsUnused, Prints, StaysOn}
+use Rattle.top_call.specs.Top.{IsFaultBy, IsStopped, IsUnused, Prints, StaysOn}
 use Rattle.top_call.specs.Words.{AreNoLine, IsEarly, IsLine, IsRefused, Runs}
 
 -- lanes ran: there is no fault, or there are replies, for which there was no memory when they were to be printed
@@ -31,8 +31,8 @@ pub record TellsWords {F : Type 0} (left : Option (List ℕ)) (words : List (Lis
   pub asked : (f : OpenFault) → fault ≡ Some (Open f) → (lanes : List Commands) × IsLine left words lanes
 
 -- The fault, by the disk; what was done there where no lane ran; and that a failed call is told only where one failed.
-pub record TellsDisk {F : Type 0} (view : F → Option View) (clock : F → ℕ) (was : F → ℕ → View → Type 0) (faults : F → ℕ) (fs end : F) (fault : Option TopFault) (history : List Entry) (pending : Option Event) (replies : List (List Reply)) : Type 0 where
-  pub disk : fault ≡ Some (Open opening.Disk) → Rose (faults fs) (faults end)
+pub record TellsDisk {F : Type 0} (view : F → Option View) (clock : F → ℕ) (was : F → ℕ → View → Type 0) (faults : F → ℕ) (refused : F → Option Path) (fs end : F) (fault : Option TopFault) (history : List Entry) (pending : Option Event) (replies : List (List Reply)) : Type 0 where
+  pub by : IfSome fault (IsFaultBy (faults fs) (faults end) (refused end))
   pub stop : (v : View) → view fs ≡ Some v → IfSome fault (IsStopped v.now)
   pub still : (v : View) → view fs ≡ Some v → IfSome fault (λ f. StaysOn f (view end ≡ Some (all_synced v)))
   pub unused : HasRun fault replies ⊎ IsUnused history pending replies

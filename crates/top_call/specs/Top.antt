@@ -1,5 +1,5 @@
 -- What the whole call comes to.
-use Rattle.std.specs.Prelude.{◌≡◌, ◌⊎◌, ◌≤◌, ◌+◌, ℕ, List, [], length, map, Option, Some, None}
+use Rattle.std.specs.Prelude.{◌≡◌, ◌⊎◌, ◌≤◌, ◌+◌, ℕ, List, [], ◌∷◌, length, map, Option, Some, None}
 use Rattle.fs_trait.specs.Count.{Rose}
 use Rattle.fs_trait.specs.Change.{Left}
 use Rattle.fs_trait.specs.View.{Disk, View}
@@ -11,6 +11,8 @@ use Rattle.rely_guarantee.specs.Disks.{Logical}
 use Rattle.rely_guarantee.specs.Opening.{IsOpening}
 use Rattle.rely_guarantee.specs.State.{State}
 use Rattle.ost_types.specs.declared.limits.Limits.{Limits}
+use Rattle.ost_types.specs.declared.object.ObjName.{ObjName}
+use Rattle.ost_types.specs.Path.{Path}
 use Rattle.script.specs.declared.answer.Reply.{Reply}
 use Rattle.script.specs.declared.command.Command.{Command}
 use Rattle.lane_system.specs.Folders.{AreFoldersIn}
@@ -22,15 +24,18 @@ use Rattle.lane_system.specs.Replies.{IsTold}
 use Rattle.lane_system.specs.Said.{AreSaidIn}
 use Rattle.lane_system.specs.Staying.{AreStayingIn}
 use Rattle.lane_system.specs.Storing.{IsBroughtIn, IsConfigured}
+use Rattle.lane_system.specs.Sweeping.{AreWhole}
 use Rattle.commands.specs.Family.{Lane, means}
 use Rattle.commands.specs.Lanes.{replies_of, words_in}
 use Rattle.commands.specs.Words.{words_of}
+use Rattle.sys_open.specs.declared.fault.OpenFault.{OpenFault}
 use Rattle.sys_open.specs.declared.fault.OpenFault.TheVariants as opening
 use Rattle.layout_rules.specs.Checks.{IsSane}
 use Rattle.repo_layout.specs.RefFile.{IsSum}
 use Rattle.store_check.specs.Commits.{IsFinished}
 use Rattle.durable_store.specs.Keeping.{IsGoodDisk}
 use Rattle.durable_store.specs.Brought.{AreAlone}
+use Rattle.durable_store.specs.Known.{KeepsKnown, KnownBytes}
 use Rattle.repo_model.specs.Objects.{Store}
 use Rattle.sys_open.specs.Damages.{IsGood}
 use Rattle.sys_open.specs.Changes.{Keeps}
@@ -49,6 +54,31 @@ IsStop limits d Input = Unit {0}
 IsStop limits d (Open opening.NoMemory) = ⊥
 IsStop limits d (Open fault) = IsToldOf limits d fault
 IsStop limits d NoMemory = Unit {0}
+
+-- What a fault of the opening tells of calls: that one failed, only where the count of such calls rose; and the root, only of a call that was
+-- about it.
+abbrev pub IsFaultBy : ℕ → ℕ → Option Path → TopFault → Type 0
+IsFaultBy before now refused Usage = Unit {0}
+IsFaultBy before now refused (Script e) = Unit {0}
+IsFaultBy before now refused Input = Unit {0}
+IsFaultBy before now refused NoMemory = Unit {0}
+IsFaultBy before now refused (Open opening.Disk) = Rose before now
+IsFaultBy before now refused (Open (opening.Outside p)) = p ≡ [] → refused ≡ Some p
+IsFaultBy before now refused (Open fault) = Unit {0}
+
+-- Where a call was refused for what stands at a path: the path that the opening's step names, or in the root's place the one that the file
+-- system remembers of the call that it refused, if there was memory for it.
+abbrev pub IsOutsideOf : Path → Option Path → TopFault → Type 0
+IsOutsideOf (x ∷ p) refused fault = fault ≡ Open (opening.Outside (x ∷ p))
+IsOutsideOf [] None fault = fault ≡ NoMemory
+IsOutsideOf [] (Some path) fault = (fault ≡ Open (opening.Outside path)) ⊎ (fault ≡ NoMemory)
+
+-- what is told where the opening ends so
+abbrev pub IsFaultOf : Option Path → OpenFault → TopFault → Type 0
+IsFaultOf refused opening.NoMemory fault = fault ≡ NoMemory
+IsFaultOf refused opening.Disk fault = fault ≡ Open opening.Disk
+IsFaultOf refused (opening.Damaged p why) fault = fault ≡ Open (opening.Damaged p why)
+IsFaultOf refused (opening.Outside p) fault = IsOutsideOf p refused fault
 
 -- after damage was told all is as it was, and outlasts a crash
 abbrev pub StaysOn : TopFault → Type 0 → Type 0
@@ -86,10 +116,12 @@ pub record LeftGood (limits : Limits) (brings : Store) (d : Disk) : Type 0 where
 -- headline says. The lanes have these commands, as words of their families, and these replies, as answers of theirs. Each reply is by its
 -- command and by the states that the changes make of these refs; and each change is one command's, which was answered so, or which was cut
 -- off where the change is pending. Each command of each lane has its reply. The opening changed nothing but what it laid out and cleared,
--- and from there on each commit that a change made is kept, and what each crash leaves of the store is good. No reply tells that something
--- else changed the disk, as far as reads never saw other bytes with the name of bytes that a command brings. What each reply tells of the
--- disk was so, in a view that reads had then; and none tells that a commit isn't there, or has a mark, of one that was there without one
--- when the repository was opened, or that a ref was set to before. What each command left outside of the store stands at the end, as the
+-- and from there on each commit that a change made is kept until it is removed, and what each crash leaves of the store is good. The history
+-- tells which objects were removed; where a command was cut off, so may these be. No reply tells that something else changed the disk, as
+-- far as reads never saw other bytes with the name of bytes that a command brings. What each reply tells of the disk was so, in a view that
+-- reads had then, before the reply was given; the disk ever holds the objects that it had at the beginning and those that a command brings,
+-- and no other bytes; and none tells that a commit isn't there, or has a mark, of one that was there without one when the repository was
+-- opened, or that a ref was set to before, if it wasn't removed since. What each command left outside of the store stands at the end, as the
 -- folder of a checkout that was done, which is its commit's tree; each such folder that stands then stood at the beginning, or a command
 -- checks out to its name; and none is told to stand in the way but one that stood at the beginning, or that another command checks out to.
 pub record Ran {F : Type 0} (limits : Limits) (view : F → Option View) (clock : F → ℕ) (was : F → ℕ → View → Type 0) (v : View) (before : ℕ) (commands : List (List Command)) (fs : F) (history : List Entry) (pending : Option Event) (replies : List (List Reply)) (w : View) : Type 0 where
@@ -107,13 +139,16 @@ pub record Ran {F : Type 0} (limits : Limits) (view : F → Option View) (clock 
   pub begun : View
   pub opens : Keeps v.now begun.now
   pub opened : IsOpening start begun
-  pub kept : AreKeptIn means (was fs) begun limits lanes history w
+  pub swept : List ObjName
+  pub whole : AreWhole (IsTold view) lanes → swept ≡ []
+  pub kept : AreKeptIn means (was fs) begun limits lanes history swept w
   pub stored : (t : ℕ) (d : Disk) → before + 1 ≤ t → Left (was fs) t d → LeftGood limits (IsBroughtIn means limits start history lanes) d
   pub inside : AreInsideIn means (was fs) (before + 1) (IsBroughtIn means limits start history lanes) lanes
-  pub said : AreSaidIn means (was fs) (before + 1) limits start history lanes
+  pub said : AreSaidIn means (was fs) (before + 1) limits start history by lanes
+  pub known : KeepsKnown (was fs) (KnownBytes v.now (IsBroughtIn means limits start history lanes)) (before + 1) w
   pub present : ArePresentIn means (λ commit. IsSum commit × IsFinished begun.now commit) history lanes
   pub books : Books
-  pub stays : AreStayingIn means limits start history lanes w books
+  pub stays : AreStayingIn means limits start history swept lanes w books
   pub folders : AreFoldersIn means lanes v.now w.now
 
 -- so, of lanes that these words ask for, where an input has this left

@@ -2,9 +2,7 @@
 ghost use Rattle.std.specs.Prelude.{◌≡◌, ◌≤◌, ℕ, [], Some, IfOk, IfErr, All, length, map};
 ghost use Rattle.fs_trait.specs.View.{View, all_synced};
 ghost use Rattle.fs_trait.specs.Image.{Told};
-ghost use Rattle.fs_trait.specs.Count.{Rose};
 ghost use Rattle.sys_open.specs.Changes.{Changes, Works};
-ghost use Rattle.sys_open.specs.declared.fault.OpenFault.TheVariants as opening;
 ghost use Rattle.top_call.specs.declared.fault.TopFault.TheVariants as fault;
 ghost use Rattle.lane_system.specs.Family.{fs_spec};
 ghost use Rattle.lane_system.specs.Kept.{AreIdle};
@@ -14,7 +12,7 @@ ghost use Rattle.commands.specs.Words.{words_of};
 ghost use Rattle.top_call.specs.Answered.{Answered};
 ghost use Rattle.top_call.specs.Complete.{AreCausedBy};
 ghost use Rattle.top_call.specs.RanOn.{RanOn};
-ghost use Rattle.top_call.specs.Top.{IsStop, Ran, StaysOn, event_of};
+ghost use Rattle.top_call.specs.Top.{IsFaultBy, IsFaultOf, IsOutsideOf, IsStop, Ran, StaysOn, event_of};
 ghost use Rattle.top_call.specs.Words.{IsEarly, commands_of};
 ghost use Rattle.script_reader.specs.Script.{command_limit, lane_limit};
 ghost use Rattle.script_trees.specs.Fit.{AreFit, IsWide};
@@ -26,12 +24,13 @@ use commands::{
 };
 use fs_watch::Watch;
 use lane_system::{Parts, System};
-use ost_types::{Limits, NoMemory};
+use ost_types::{FsPath, Limits, NoMemory, TryCopy};
 use rely_guarantee::{Entry, Pending};
 use schedule::Turns;
 use schedule_run::run_by;
 use script_reader::{Lane, Reply};
 use std::alloc::Global;
+use std::thread::Threads;
 use sys_open::{OpenFault, Opened, adopt};
 
 /// What lanes leave that ran to their end.
@@ -47,7 +46,8 @@ pub struct LanesEnd<F> {
 }
 
 /// Opens the repository, and runs what is asked for. Where no lane is run the file system comes back.
-pub fn run_asked<F: Watch>(
+pub fn run_asked<R: Threads + Sync, F: Watch>(
+    rt: &R,
     alloc: Global,
     fs: F,
     asked: Asked,
@@ -62,14 +62,15 @@ pub fn run_asked<F: Watch>(
     ensures answered { IfOk result (λ p. Answered limits F.view F.faults F.refused (commands_of asked.lanes.items) p.fs p.history.items (event_of p.pending) (map (λ replies. replies.items) p.replies.items)) }
     ensures caused { IfOk result (λ p. AreCausedBy (F.faults fs) (F.faults p.fs) (map (λ replies. replies.items) p.replies.items)) }
     ensures late { IfErr result (λ e. IsEarly e.1 → ⊥) }
-    ensures disk { IfErr result (λ e. e.1 ≡ fault.Open opening.Disk → Rose (F.faults fs) (F.faults e.0)) }
+    ensures by { IfErr result (λ e. IsFaultBy (F.faults fs) (F.faults e.0) (F.refused e.0) e.1) }
 {
     let Asked { lanes, schedule } = asked;
-    run_lanes(alloc, fs, lanes, &schedule, limits)
+    run_lanes(rt, alloc, fs, lanes, &schedule, limits)
 }
 
 /// Opens the repository, and runs all commands of the lanes, as the schedule says and then in turn. Where no lane is run the file system comes back.
-pub fn run_lanes<F: Watch>(
+pub fn run_lanes<R: Threads + Sync, F: Watch>(
+    rt: &R,
     alloc: Global,
     fs: F,
     lanes: Vec<Lane>,
@@ -85,12 +86,42 @@ pub fn run_lanes<F: Watch>(
     ensures answered { IfOk result (λ p. Answered limits F.view F.faults F.refused (commands_of lanes.items) p.fs p.history.items (event_of p.pending) (map (λ replies. replies.items) p.replies.items)) }
     ensures caused { IfOk result (λ p. AreCausedBy (F.faults fs) (F.faults p.fs) (map (λ replies. replies.items) p.replies.items)) }
     ensures late { IfErr result (λ e. IsEarly e.1 → ⊥) }
-    ensures disk { IfErr result (λ e. e.1 ≡ fault.Open opening.Disk → Rose (F.faults fs) (F.faults e.0)) }
+    ensures by { IfErr result (λ e. IsFaultBy (F.faults fs) (F.faults e.0) (F.refused e.0) e.1) }
 {
-    match adopt(alloc, fs, limits) {
+    match adopt(rt, alloc, fs, limits) {
         Ok(opened) => run_opened(alloc, opened, lanes, schedule),
-        Err((fs, OpenFault::NoMemory)) => Err((fs, TopFault::NoMemory)),
-        Err((fs, fault)) => Err((fs, TopFault::Open(fault))),
+        Err((fs, fault)) => {
+            let told = fault_of(&fs, fault);
+            Err((fs, told))
+        }
+    }
+}
+
+// What is told where the repository isn't opened.
+fn fault_of<F: Watch>(fs: &F, fault: OpenFault) -> TopFault
+    ensures { IsFaultOf (F.refused fs.now) fault result }
+{
+    match fault {
+        OpenFault::NoMemory => TopFault::NoMemory,
+        OpenFault::Disk => TopFault::Open(OpenFault::Disk),
+        OpenFault::Damaged(path, why) => TopFault::Open(OpenFault::Damaged(path, why)),
+        OpenFault::Outside(path) => outside(fs.refused(), path),
+    }
+}
+
+// A step of the opening that doesn't know which of its calls was refused names the root: then the call's own path is told.
+fn outside(refused: &Option<FsPath>, path: FsPath) -> TopFault
+    ensures { IsOutsideOf path refused.now result }
+{
+    if !path.names().is_empty() {
+        return TopFault::Open(OpenFault::Outside(path));
+    }
+    let Some(refused) = refused else {
+        return TopFault::NoMemory;
+    };
+    match refused.copy() {
+        Ok(refused) => TopFault::Open(OpenFault::Outside(refused)),
+        Err(NoMemory) => TopFault::NoMemory,
     }
 }
 

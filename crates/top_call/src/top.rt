@@ -5,7 +5,6 @@ ghost use Rattle.fs_trait.specs.Image.{Told};
 ghost use Rattle.fs_trait.specs.Count.{Rose};
 ghost use Rattle.sys_open.specs.Changes.{Changes, Works};
 ghost use Rattle.sys_open.specs.declared.fault.OpenFault.{OpenFault};
-ghost use Rattle.sys_open.specs.declared.fault.OpenFault.TheVariants as opening;
 ghost use Rattle.script_reader.specs.Script.{Commands, IsScript};
 ghost use Rattle.script.specs.declared.fault.ScriptFault.{ScriptFault};
 ghost use Rattle.top_call.specs.Answered.{AnsweredBy};
@@ -15,7 +14,7 @@ ghost use Rattle.top_call.specs.Input.{TookFront};
 ghost use Rattle.top_call.specs.Words.{AreNoLine, IsEarly, IsLine, IsRefused, Runs};
 ghost use Rattle.top_call.specs.Status.{has_risen, status_of};
 ghost use Rattle.top_call.specs.Text.{output_of};
-ghost use Rattle.top_call.specs.Top.{IsStopped, IsUnused, Prints, RanBy, StaysOn, event_of};
+ghost use Rattle.top_call.specs.Top.{IsFaultBy, IsStopped, IsUnused, Prints, RanBy, StaysOn, event_of};
 
 use crate::asked::asked_lanes;
 use crate::fault::TopFault;
@@ -29,6 +28,7 @@ use ost_types::{Limits, NoMemory};
 use rely_guarantee::{Entry, Event, Pending};
 use script_reader::Reply;
 use std::alloc::Global;
+use std::thread::Threads;
 
 /// What a call of the program came to.
 #[derive(Drop)]
@@ -110,13 +110,19 @@ fn outcome_of<F: Watch>(parts: LanesEnd<F>) -> Outcome<F>
 }
 
 // Reads the words and the script, opens the repository and runs the lanes.
-fn run<F: Watch, S: Source>(alloc: Global, words: &[String], fs: F, input: &mut S) -> Outcome<F>
+fn run<R: Threads + Sync, F: Watch, S: Source>(
+    rt: &R,
+    alloc: Global,
+    words: &[String],
+    fs: F,
+    input: &mut S,
+) -> Outcome<F>
     ensures early { IfSome result.fault (λ f. IsEarly f → (result.fs ≡ fs) × IsRefused (S.left input.old) (map (λ word. string_bytes word) words.now) (S.faults input.old) (S.faults input.new) f) }
     ensures words { AreNoLine (map (λ word. string_bytes word) words.now) → (result.fault ≡ Some TopFault.Usage) ⊎ (result.fault ≡ Some TopFault.NoMemory) }
     ensures script { (all : List ℕ) (lanes : List Commands) (e : ScriptFault) → S.left input.old ≡ Some all → IsScript all lanes → result.fault ≢ Some (TopFault.Script e) }
     ensures unused { result.fault ≢ None → IsUnused result.history.items result.pending (map (λ lane. lane.items) result.replies.items) }
     ensures asked { (f : OpenFault) → result.fault ≡ Some (TopFault.Open f) → (lanes : List Commands) × IsLine (S.left input.old) (map (λ word. string_bytes word) words.now) lanes }
-    ensures disk { result.fault ≡ Some (TopFault.Open opening.Disk) → Rose (F.faults fs) (F.faults result.fs) }
+    ensures by { IfSome result.fault (IsFaultBy (F.faults fs) (F.faults result.fs) (F.refused result.fs)) }
     ensures stop { (v : View) → F.view fs ≡ Some v → IfSome result.fault (IsStopped v.now) }
     ensures still { (v : View) → F.view fs ≡ Some v → IfSome result.fault (λ f. StaysOn f (F.view result.fs ≡ Some (all_synced v))) }
     ensures undone { (v : View) → F.view fs ≡ Some v → IfSome result.fault (λ _. Works (Changes v.now) v (F.clock fs) (F.clock result.fs) (F.was fs) (F.was result.fs) (F.view result.fs)) }
@@ -130,7 +136,7 @@ fn run<F: Watch, S: Source>(alloc: Global, words: &[String], fs: F, input: &mut 
     ensures failed { (result.fault ≡ Some TopFault.Input) ⊎ (S.faults input.new ≡ S.faults input.old) }
 {
     match asked_lanes(alloc, words, input) {
-        Ok(asked) => match run_asked(alloc, fs, asked, Limits::standard()) {
+        Ok(asked) => match run_asked(rt, alloc, fs, asked, Limits::standard()) {
             Ok(parts) => outcome_of(parts),
             Err((fs, fault)) => stopped(alloc, fs, fault),
         },
@@ -180,7 +186,8 @@ fn print<K: Sink>(
 /// prints their replies or the line of the fault, and tells the exit status.
 ///
 /// The words are those behind the program's name: options, and `init`, `run`, or a command and its fields.
-pub fn ostree<F: Watch, S: Source, K: Sink>(
+pub fn ostree<R: Threads + Sync, F: Watch, S: Source, K: Sink>(
+    rt: &R,
     alloc: Global,
     words: &[String],
     fs: F,
@@ -189,7 +196,7 @@ pub fn ostree<F: Watch, S: Source, K: Sink>(
 ) -> Ended<F>
     // What it tells: of the words, and of the disk.
     ensures words { TellsWords (S.left input.old) (map (λ word. string_bytes word) words.now) (S.faults input.old) (S.faults input.new) fs result.fs result.fault }
-    ensures disk { TellsDisk F.view F.clock F.was F.faults fs result.fs result.fault result.history.items result.pending (map (λ lane. lane.items) result.replies.items) }
+    ensures disk { TellsDisk F.view F.clock F.was F.faults F.refused fs result.fs result.fault result.history.items result.pending (map (λ lane. lane.items) result.replies.items) }
 
     // What a crash may leave, and what is left at the end.
     ensures ran { (v : View) → F.view fs ≡ Some v → HasRun result.fault (map (λ lane. lane.items) result.replies.items) → Told (F.view result.fs) (RanBy (S.left input.old) (map (λ word. string_bytes word) words.now) F.view F.clock F.was v (F.clock fs) result.fs result.history.items result.pending (map (λ lane. lane.items) result.replies.items)) }
@@ -213,7 +220,7 @@ pub fn ostree<F: Watch, S: Source, K: Sink>(
         history,
         pending,
         replies,
-    } = run(alloc, words, fs, input);
+    } = run(rt, alloc, words, fs, input);
     let fault = print(alloc, out, fault, &replies);
     let source = source_before < input.faults();
     let disk = has_risen(disk_before, fs.faults());

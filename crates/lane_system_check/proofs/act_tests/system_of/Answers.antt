@@ -13,7 +13,7 @@ idle_two limits a b one two (suc zero) l at = subst (IsIdle wait_means limits) a
 idle_two limits a b one two (suc (suc n)) l at = absurd (omega (arith, at.0))
 
 pub new-requires-clause-idle : goal.new-requires-clause-idle
-new-requires-clause-idle c =
+new-requires-clause-idle g c =
     let limits = c.in_ok-open_disk.field-0.limits in
     subst (AreIdle wait_means limits) (sym c.in_ok-lanes.ensures.items)
     (idle_two limits c.in_ok-lane_of.field-0 c.in_ok-lane_of-2.field-0 (c.in_ok-lane_of.ensures limits) (c.in_ok-lane_of-2.ensures limits))

@@ -1,8 +1,8 @@
 use Rattle.std.proofs.Common.{◌∙◌, rules}
-use Rattle.sys_open.specs.declared.fault.OpenFault.TheVariants as opening
-use Rattle.top_call.specs.Top.{IsStopped}
+use Rattle.top_call.specs.Top.{IsFaultBy, IsStopped}
 use Rattle.top_call.proofs.Completing.{complete, memory_printed, no_fault_but_memory, refused_of}
 use Rattle.top_call.proofs.Outcomes.{early_printed, failed_printed, fault_printed, no_fault, no_line_printed, open_printed, output_printed, script_printed, some_fault, unused_printed, usage_early, usage_printed}
+use Rattle.top_call.proofs.Stops.{disk_rose}
 use Rattle.top_call.proofs.top.ostree.Goals as goal
 
 pub returns-clause-words : goal.returns-clause-words
@@ -22,7 +22,7 @@ returns-clause-disk g c =
     let run = c.run-fs.ensures in
     let printed = c.print-fault.ensures.fault in
     record {
-      disk = λ is. run.disk (open_printed opening.Disk _ _ printed is);
+      by = fault_printed (IsFaultBy _ _ _) _ _ printed tt run.by;
       stop = λ v told. fault_printed (IsStopped v.now) _ _ printed tt (run.stop v told);
       still = λ v told. fault_printed _ _ _ printed tt (run.still v told);
       unused = unused_printed _ _ c.run-fs.result.fault c.run-fs.result.replies.items run.unused
@@ -58,6 +58,6 @@ returns-clause-output g c = record {
 pub returns-clause-complete : goal.returns-clause-complete
 returns-clause-complete g c = λ v told asked good unfailed unrisen taken.
     let run = c.run-fs.ensures in
-    let unfaulted = no_fault_but_memory _ _ v.now _ _ _ _ asked good unfailed unrisen c.run-fs.result.fault (λ is. usage_early _ _ _ _ _ _ run.early is) (refused_of _ _ _ run.early) run.script run.disk (run.stop v told) in
+    let unfaulted = no_fault_but_memory _ _ v.now _ _ _ _ asked good unfailed unrisen c.run-fs.result.fault (λ is. usage_early _ _ _ _ _ _ run.early is) (refused_of _ _ _ run.early) run.script (disk_rose _ _ _ c.run-fs.result.fault run.by) (run.stop v told) in
     complete c.print-fault.result _ _ _ _ _ _ _ _ (memory_printed _ _ c.print-fault.ensures.fault unfaulted) run.caused
     run.later unfailed unrisen taken (search rules)

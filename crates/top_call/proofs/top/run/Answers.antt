@@ -3,6 +3,7 @@ use Rattle.top_call.specs.declared.fault.TopFault.TheVariants as fault
 use Rattle.top_call.proofs.Completing.{caused_parts, caused_unused}
 use Rattle.top_call.proofs.Rans.{answered_by_words, by_words, stop_at}
 use Rattle.top_call.proofs.Outcomes.{no_line, no_script, open_refused, same_fault, told_usage, works_same}
+use Rattle.top_call.proofs.Stops.{none_by, opened_by, refused_by}
 use Rattle.top_call.proofs.top.run.Goals as goal
 
 pub returns-in-Ok-run_asked-clause-words : goal.returns-in-Ok-run_asked-clause-words
@@ -58,3 +59,12 @@ returns-in-Err-clause-asked g c = λ f is. absurd (open_refused _ _ _ _ c.in-Err
 
 pub returns-in-Err-clause-undone : goal.returns-in-Err-clause-undone
 returns-in-Err-clause-undone g c = λ v told. works_same g.F.Fs.view g.F.Fs.clock g.F.Fs.was c.args.fs c.stopped-in-Err.result.fs v c.stopped-in-Err.ensures.fs told c.stopped-in-Err.result.fault
+
+pub returns-in-Ok-run_asked-clause-by : goal.returns-in-Ok-run_asked-clause-by
+returns-in-Ok-run_asked-clause-by g c = none_by _ _ _ c.outcome_of.result.fault c.outcome_of.ensures.fault
+
+pub returns-in-Err-run_asked-clause-by : goal.returns-in-Err-run_asked-clause-by
+returns-in-Err-run_asked-clause-by g c = opened_by g.F.Fs.faults g.F.Watch.refused (g.F.Fs.faults c.args.fs) c.in-Err-run_asked.fs c.stopped.result.fs c.stopped.result.fault c.in-Err-run_asked.fault c.stopped.ensures.fault c.stopped.ensures.fs c.in-Err-run_asked.ensures.by
+
+pub returns-in-Err-clause-by : goal.returns-in-Err-clause-by
+returns-in-Err-clause-by g c = refused_by _ _ _ _ _ _ _ c.stopped-in-Err.result.fault c.in-Err.fault c.stopped-in-Err.ensures.fault c.in-Err.ensures.fault

@@ -11,7 +11,7 @@ use Rattle.lane_system.specs.Kept.{AreHomes, AreIdle}
 use Rattle.lane_system.specs.States.{now_of}
 use Rattle.lane_system.proofs.Beginning.{caused_first, homes_of, kept_first, stands_first}
 use Rattle.lane_system.proofs.system.System.begun.Given as given
-use Rattle.lane_system.proofs.StoredFirst.{stored_first}
+use Rattle.lane_system.proofs.StoredFirst.{counted_first, stored_first}
 use Rattle.lane_system.proofs.system.System.begun.Goals as goal
 
 abbrev files_of : (g : given.Over) → FsSpec g.row.F.Denot
@@ -59,5 +59,5 @@ returns g c =
           let there = subst (λ x. g.F.Fs.view x ≡ Some v) e.fs told in
           let good = subst (λ x. opening.KeepsGood g.F.Fs.view g.F.Fs.was x base.books.opened parts.limits parts.refs.items) (sym e.fs) (subst (λ (n : ℕ). opening.KeepsGood g.F.Fs.view g.F.Fs.was parts.fs n parts.limits parts.refs.items) (sym e.opened) opened.good) in
           let stored = stored_first (files_of g) g.C.Command.means parts.limits base c.args.lanes.items parts.refs.items parts.objects.items c.count_of.result v told (g.met.F.Fs.tree parts.fs v there) (opened.opened.opening v there) good (opened.listed v there) (c.count_of.ensures ∙ ap (λ (n : ℕ). min n 4294967295) size) (search rules) in
-          stands_first (files_of g) (family_of g) parts.limits base c.args.refs c.args.lanes.items e.history e.pending idle c.count_of.result (g.F.Fs.faults c.args.opened.fs) now e.live v stored;
+          stands_first (files_of g) (family_of g) parts.limits base c.args.refs c.args.lanes.items e.history e.pending idle c.count_of.result (g.F.Fs.faults c.args.opened.fs) now e.live v stored (counted_first parts.objects.items c.count_of.result v (opened.listed v there) (c.count_of.ensures ∙ ap (λ (n : ℕ). min n 4294967295) size));
     }

@@ -9,8 +9,9 @@ use Rattle.lane_system.specs.Held.{Held}
 use Rattle.lane_system.specs.Lanes.{IsTo}
 use Rattle.lane_system.specs.Ranks.{AreWithin}
 use Rattle.lane_system.specs.Replies.{EndsBy}
+use Rattle.lane_system.specs.Sweeping.{IsAllTold}
 use Rattle.lane_system.specs.System.{System}
-use Rattle.lane_system.proofs.Replying.{ends_of, held_of, replied_of, within_of}
+use Rattle.lane_system.proofs.Replying.{ends_of, held_of, replied_of, told_of, within_of}
 use Rattle.lane_system.proofs.Family.{FamilyLaws, laws_of}
 use Rattle.lane_system.proofs.system.System.certify.Given as given
 use Rattle.lane_system.proofs.system.System.certify.Goals as goal
@@ -38,4 +39,5 @@ returns g c =
       held = subst (λ (s : System _ _ _ _). Held g.F.Fs.view (family_of g) s) (sym is) (held_of (files_of g) (family_of g) i.limits i.base i.refs i.lanes.items i.given i.objects c.self.invariant (family_laws g));
       ends = subst (λ (s : System _ _ _ _). (lane number : ℕ) (r : Reply _) → IsTo s.lanes lane number r → EndsBy s.base.books.halted (g.F.Watch.refused s.base.fs) (g.F.Fs.faults s.base.fs) r.answer) (sym is)
           (ends_of (files_of g) (family_of g) i.limits i.base i.refs i.lanes.items i.given i.objects c.self.invariant);
+      swept = subst (λ (s : System _ _ _ _). IsAllTold g.F.Fs.view s) (sym is) (told_of (files_of g) (family_of g) i.limits i.base i.refs i.lanes.items i.given i.objects c.self.invariant);
     }
