@@ -37,6 +37,7 @@ Commands:
   reset BRANCH COMMIT   make the ref name the commit
   drop BRANCH           remove the ref
   --help                print this text
+  --help COMMAND        print what the command does and what it answers
   --version             print the program's version
 
 BRANCH is the name of a ref: 1 to 12 parts of A-Z a-z 0-9 - _ . that don't

@@ -1,26 +1,43 @@
 //! The program `ostree_cli`: an OSTree bare repository in the current folder.
 #![tactic(auto)]
 
+mod details;
 mod help;
 
+use details::detail;
 use fs_host::{HostFs, StdSink, StdSource};
 use fs_watch::Watched;
 use help::{USAGE, VERSION};
+use host_files::{AtOnce, Share, Syncer, YoungFile, sync_at_once};
 use std::io::ErrorKind;
 use std::process::ExitCode;
+use std::thread::Threads;
 use top_call::{MEMORY_LINE, TopFault, USAGE_LINE, ostree, write_all};
 
+// Only here does the machine have threads, so what starts them is made here.
 fn main(rt: HostRuntime) -> ExitCode {
-    ExitCode::from(run(rt))
+    let Ok(other) = rt.clone() else {
+        return ExitCode::from(3);
+    };
+    let Ok(threads) = rt.clone() else {
+        return ExitCode::from(3);
+    };
+    let at_once = move |files: &[YoungFile], shares: &mut [Share]| sync_at_once(
+        &other, files, shares,
+    );
+    match Box::new(rt.alloc(), at_once) {
+        Ok(at_once) => ExitCode::from(run(rt, &threads, AtOnce::new(at_once))),
+        Err(_) => ExitCode::from(3),
+    }
 }
 
-fn run(rt: HostRuntime) -> u8 {
+fn run<R: Threads + Sync, S: Syncer>(rt: HostRuntime, threads: &R, syncer: S) -> u8 {
     let mut out = match rt.clone() {
         Ok(rt) => StdSink::new(rt),
         Err(_) => return 3,
     };
     match words_of(&rt) {
-        Ok(words) => obey(rt, &words, &mut out),
+        Ok(words) => obey(rt, threads, syncer, &words, &mut out),
         Err(ErrorKind::OutOfMemory) => tell(&mut out, MEMORY_LINE, 3),
         Err(_) => {
             hint(&rt);
@@ -48,9 +65,15 @@ fn words_of(rt: &HostRuntime) -> Result<Vec<String>, ErrorKind> {
         .map_err(|_| ErrorKind::OutOfMemory)
 }
 
-fn obey(rt: HostRuntime, words: &[String], out: &mut StdSink<HostRuntime>) -> u8 {
+fn obey<R: Threads + Sync, S: Syncer>(
+    rt: HostRuntime,
+    threads: &R,
+    syncer: S,
+    words: &[String],
+    out: &mut StdSink<HostRuntime>,
+) -> u8 {
     match words.first().map(|word| word.as_str()) {
-        Some("--help") => tell(out, USAGE, 0),
+        Some("--help") => tell(out, help_on(words.get(1)), 0),
         Some("--version") => tell(out, VERSION, 0),
         _ => {
             let alloc = rt.alloc();
@@ -58,15 +81,22 @@ fn obey(rt: HostRuntime, words: &[String], out: &mut StdSink<HostRuntime>) -> u8
             let Ok(other) = rt.clone() else {
                 return tell(out, MEMORY_LINE, 3);
             };
-            let Ok(fs) = HostFs::new(other) else {
+            let Ok(fs) = HostFs::new(other, syncer) else {
                 return tell(out, MEMORY_LINE, 3);
             };
-            let ended = ostree(alloc, words, Watched::new(fs), &mut input, out);
+            let ended = ostree(threads, alloc, words, Watched::new(fs), &mut input, out);
             if let Some(TopFault::Usage) = ended.fault {
                 hint(&rt);
             }
             ended.status
         }
+    }
+}
+
+fn help_on(command: Option<&String>) -> &'static [u8] {
+    match command {
+        Some(command) => detail(command.as_str()),
+        None => USAGE,
     }
 }
 
