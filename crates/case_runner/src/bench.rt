@@ -7,18 +7,21 @@ use case_book::{Asked, Book, Call, Case, Family, Plan, Step};
 use fs_memory::MemFs;
 use ost_types::{Bytes, TryCopy};
 use std::alloc::Global;
+use std::thread::Threads;
 
 /// The book that cases are taken from, and how often the program was called.
 #[derive(Drop)]
-pub struct Bench<'a> {
+pub struct Bench<'a, R: Threads + Sync> {
+    pub threads: &'a R,
     pub alloc: Global,
     pub book: &'a Book,
     pub calls: u64,
 }
 
-impl<'a> Bench<'a> {
-    pub fn new(alloc: Global, book: &'a Book) -> Bench<'a> {
+impl<'a, R: Threads + Sync> Bench<'a, R> {
+    pub fn new(threads: &'a R, alloc: Global, book: &'a Book) -> Bench<'a, R> {
         Bench {
+            threads,
             alloc,
             book,
             calls: 0,
@@ -124,7 +127,7 @@ impl<'a> Bench<'a> {
     ) -> Result<Ran<D>, Stop> {
         self.calls = self.calls.saturating_add(1);
         let words = words_of(self.alloc, &asked.words)?;
-        call_program(self.alloc, fs, &words, input, plan)
+        call_program(self.threads, self.alloc, fs, &words, input, plan)
     }
 
     /// Whether it is as expected; where the number of its outcome is told, as this one expects it. The disk comes back.

@@ -6,6 +6,7 @@ use fs_trait::Fs;
 use fs_watch::Watched;
 use ost_types::{Bytes, Limits};
 use std::alloc::Global;
+use std::thread::Threads;
 use top_call::{Ended, LanesEnd, TopFault, asked_lanes, ostree, output_of, run_asked, status_of};
 
 /// What came of a call.
@@ -33,7 +34,8 @@ impl<F: Fs> Ran<F> {
 const ROOM: usize = 200_000;
 
 /// Calls the program with these words and this input.
-pub fn call_program<F: Fs>(
+pub fn call_program<R: Threads + Sync, F: Fs>(
+    threads: &R,
     alloc: Global,
     fs: F,
     words: &[String],
@@ -43,11 +45,18 @@ pub fn call_program<F: Fs>(
     let begun = fs.clock();
     let mut input = MemSource::new(input, Vec::from_slice(alloc, &plan.source)?);
     match plan.objects {
-        Some(objects) => call_within(alloc, fs, words, &mut input, objects),
+        Some(objects) => call_within(threads, alloc, fs, words, &mut input, objects),
         None => {
             let fail = Vec::from_slice(alloc, &plan.sink)?;
             let mut out = MemSink::new(alloc, plan.room.unwrap_or(ROOM), fail)?;
-            let ended = ostree(alloc, words, Watched::new(fs), &mut input, &mut out);
+            let ended = ostree(
+                threads,
+                alloc,
+                words,
+                Watched::new(fs),
+                &mut input,
+                &mut out,
+            );
             ran_of(alloc, ended, out.bytes(), begun)
         }
     }
@@ -70,7 +79,8 @@ fn ran_of<F: Fs>(
 }
 
 // The parts of a call, where the repository may have no more objects than this.
-fn call_within<F: Fs>(
+fn call_within<R: Threads + Sync, F: Fs>(
+    threads: &R,
     alloc: Global,
     fs: F,
     words: &[String],
@@ -81,7 +91,7 @@ fn call_within<F: Fs>(
     let mut limits = Limits::standard();
     limits.objects = objects;
     match asked_lanes(alloc, words, input) {
-        Ok(asked) => match run_asked(alloc, Watched::new(fs), asked, limits) {
+        Ok(asked) => match run_asked(threads, alloc, Watched::new(fs), asked, limits) {
             Ok(parts) => ended_within(alloc, parts, begun),
             Err((fs, fault)) => stopped_within(alloc, fs.into_inner(), fault, begun),
         },

@@ -9,8 +9,9 @@ use case_book::{Check, Crash, Outcome, Plan, Printed};
 use fs_memory::Choice;
 use ost_types::{Bytes, FsPath};
 use std::alloc::Global;
+use std::thread::Threads;
 
-impl<'a> Bench<'a> {
+impl<'a, R: Threads + Sync> Bench<'a, R> {
     /// Whether what came of a call is one of these, and all holds that it says; where the number of its outcome is told, that one.
     pub fn check_outcomes<D: CaseDisk>(
         &mut self,

@@ -4,7 +4,7 @@ use crate::stop::Stop;
 use fs_host::HostFs;
 use fs_memory::{Choice, MemFs};
 use fs_trait::Fs;
-use host_files::Machine;
+use host_files::{Machine, Syncer};
 use ost_forms::{BodySpec, TreeItem};
 use ost_types::{FsPath, Meta, Text, is_file_mode, is_folder_mode, is_link_mode};
 use std::alloc::Global;
@@ -22,7 +22,7 @@ impl CaseDisk for MemFs {
     }
 }
 
-impl<R: Machine> CaseDisk for HostFs<R> {
+impl<R: Machine, S: Syncer> CaseDisk for HostFs<R, S> {
     fn left(&self, _back: u64, _choice: &Choice) -> Result<Option<MemFs>, Stop> {
         Ok(None)
     }

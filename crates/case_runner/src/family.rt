@@ -9,8 +9,9 @@ use fs_memory::{FailAt, MemFs};
 use fs_trait::Fs;
 use ost_types::{Bytes, FsPath, TryCopy};
 use std::alloc::Global;
+use std::thread::Threads;
 
-impl<'a> Bench<'a> {
+impl<'a, R: Threads + Sync> Bench<'a, R> {
     /// With each of the calls of the disk failing.
     pub fn run_failing(
         &mut self,

@@ -10,35 +10,47 @@ use std::process::ExitCode;
 use std::{env, fs, io};
 
 fn main(rt: HostRuntime) -> io::Result<ExitCode> {
-    let mut report = Report::new(rt.alloc());
+    let mut wrong: u32 = 0;
     for name in env::args(&rt)?.skip(1) {
-        run_file(&rt, name.as_str(), &mut report)?;
+        let found = run_file(&rt, name.as_str())?;
+        wrong = wrong.saturating_add(found);
     }
-    print_text(&rt, &report.text)?;
-    if report.wrong == 0 {
+    if wrong == 0 {
         return Ok(ExitCode::SUCCESS);
     }
-    println!(rt; "{} wrong", report.wrong)?;
+    println!(rt; "{wrong} wrong")?;
     Ok(ExitCode::from(1))
 }
 
-fn run_file(rt: &HostRuntime, name: &str, report: &mut Report) -> io::Result<()> {
+// How many rows of the sheet are wrong.
+fn run_file(rt: &HostRuntime, name: &str) -> io::Result<u32> {
     println!(rt; "{name}")?;
+    let mut report = Report::new(rt.alloc());
     let text = fs::read(rt, name)?;
     let ended = match std::str::from_utf8(&text) {
-        Ok(sheet) => run_sheet(rt.alloc(), &mut MergeBench, sheet, report),
+        Ok(sheet) => run_sheet(rt.alloc(), &mut MergeBench, sheet, &mut report),
         Err(_) => Err(Stop::Unknown),
     };
+    print_report(rt, name, &report)?;
     match ended {
-        Ok(()) => Ok(()),
-        Err(Stop::Unknown) => println!(rt; "  can't be run"),
-        Err(Stop::NoMemory) => println!(rt; "  out of memory"),
+        Ok(()) => Ok(report.wrong),
+        Err(Stop::Unknown) => print_end(rt, name, "can't be run"),
+        Err(Stop::NoMemory) => print_end(rt, name, "out of memory"),
     }
 }
 
-fn print_text(rt: &HostRuntime, text: &[u8]) -> io::Result<()> {
-    match std::str::from_utf8(text) {
-        Ok(text) => print!(rt; "{text}"),
-        Err(_) => println!(rt; "bytes that are no text"),
+// What is wrong stands in the errors, too, which the gate tells.
+fn print_report(rt: &HostRuntime, name: &str, report: &Report) -> io::Result<()> {
+    let text = std::str::from_utf8(&report.text).unwrap_or("bytes that are no text\n");
+    if report.wrong > 0 {
+        eprint!(rt; "{name}\n{text}")?;
     }
+    print!(rt; "{text}")
+}
+
+// A sheet that isn't run to its end is wrong.
+fn print_end(rt: &HostRuntime, name: &str, why: &str) -> io::Result<u32> {
+    eprintln!(rt; "{name}: {why}")?;
+    println!(rt; "  {why}")?;
+    Ok(1)
 }
