@@ -1,11 +1,5 @@
-//! The tests of the texts that no case reaches: two faults, boot entries and lists of deployments.
+//! The tests of the texts that no case reaches: two faults, and words of a commit.
 #![tactic(auto)]
 
 #[cfg(test)]
 mod answers;
-#[cfg(test)]
-mod deployments;
-#[cfg(test)]
-mod entries;
-#[cfg(test)]
-mod items;

@@ -1,0 +1,9 @@
+use Rattle.std.proofs.Common.{◌≤◌, length}
+use Rattle.boot_runner.proofs.Fits.{AreFit}
+use Rattle.boot_runner.proofs.fitting.may_boot.Given as goal
+
+abbrev pub invariant-loop-at : goal.invariant-loop-at
+invariant-loop-at l = record { within : l.at ≤ length l.items; few : length l.items ≤ 8; behind : AreFit l.items l.at }
+
+abbrev pub decreases-loop-at : goal.decreases-loop-at
+decreases-loop-at l = l.at
