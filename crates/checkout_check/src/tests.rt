@@ -1,5 +1,6 @@
 //! What no words of the program ask for so far: a checkout that is removed. What a checkout leaves is told by the cases of `case_runner`.
 ghost use Rattle.ost_types.specs.Mode.{IsFileMode, IsFolderMode};
+ghost use Rattle.ost_types.specs.PathMap.{IsNode};
 
 use crate::Sketch;
 use checkout::remove_tree;
@@ -85,24 +86,53 @@ fn name(alloc: Global, text: &[u8]) -> Result<Name, Fail> {
     Ok(Name::parse(alloc, text)?.ok_or("no name")?)
 }
 
+fn path(alloc: Global, text: &[u8]) -> Result<FsPath, Fail> {
+    Ok(FsPath::parse(alloc, text)?)
+}
+
+fn add(
+    alloc: Global,
+    tree: &mut Sketch,
+    folder: &[u8],
+    text: &[u8],
+    node: NodeName,
+) -> Result<(), Fail>
+    requires { IsNode node }
+{
+    let folder = path(alloc, folder)?;
+    let text = name(alloc, text)?;
+    if tree.add(&folder, &text, node)? {
+        Ok(())
+    } else {
+        Err("not added")?
+    }
+}
+
 /// A link, a folder, and a file in it.
-fn small_tree(rt: &impl Abort, alloc: Global) -> Result<Sketch, Fail> {
-    let home = FsPath::parse(alloc, b"/checkout")?;
-    let root = FsPath::root(alloc);
-    let usr = FsPath::parse(alloc, b"/usr")?;
-    let top = folder_meta(alloc, 7);
-    let mut tree = Sketch::new(alloc, home, name(alloc, b"a")?, top)?.ok_or("no room")?;
-    let link = NodeName::Leaf(sum(LINK)?);
-    assert!(rt; tree.add(&root, &name(alloc, b"bin")?, link)?);
-    let folder = NodeName::Folder(folder_meta(alloc, 9));
-    assert!(rt; tree.add(&root, &name(alloc, b"usr")?, folder)?);
-    let file = NodeName::Leaf(sum(FILE)?);
-    assert!(rt; tree.add(&usr, &name(alloc, b"hello")?, file)?);
+fn small_tree(alloc: Global) -> Result<Sketch, Fail> {
+    let home = path(alloc, b"/checkout")?;
+    let into = name(alloc, b"a")?;
+    let mut tree = Sketch::new(alloc, home, into, folder_meta(alloc, 7))?.ok_or("no room")?;
+    add(alloc, &mut tree, b"/", b"bin", NodeName::Leaf(sum(LINK)?))?;
+    add(
+        alloc,
+        &mut tree,
+        b"/",
+        b"usr",
+        NodeName::Folder(folder_meta(alloc, 9)),
+    )?;
+    add(
+        alloc,
+        &mut tree,
+        b"/usr",
+        b"hello",
+        NodeName::Leaf(sum(FILE)?),
+    )?;
     Ok(tree)
 }
 
-fn is_link(fs: &mut MemFs, alloc: Global, at: &[u8]) -> Result<bool, Fail> {
-    match fs.stat(&FsPath::parse(alloc, at)?)? {
+fn is_link(fs: &mut MemFs, at: &FsPath) -> Result<bool, Fail> {
+    match fs.stat(at)? {
         Some(Node::Link { target, .. }) => Ok(target.as_slice() == b"usr/bin".as_slice()),
         _ => Ok(false),
     }
@@ -118,29 +148,43 @@ fn removed(fs: &mut MemFs, alloc: Global, home: &FsPath, name: &Name) -> Result<
     Ok(remove_tree(alloc, fs, at)?)
 }
 
+// A folder for checkouts, and the objects of the tree.
+fn disk(rt: &impl Abort, alloc: Global) -> Result<MemFs, Fail> {
+    let mut fs = laid_out(alloc)?;
+    put_file(&mut fs, alloc)?;
+    put_link(rt, &mut fs, alloc)?;
+    Ok(fs)
+}
+
+fn is_checked_out(fs: &mut MemFs, alloc: Global) -> Result<bool, Fail> {
+    let answer = small_tree(alloc)?.check_out(alloc, fs)?;
+    Ok(answer == Some(Ok(())))
+}
+
+// Whether nothing is left of the checkout, once it was removed.
+fn is_removed(fs: &mut MemFs, alloc: Global) -> Result<bool, Fail> {
+    let home = path(alloc, b"/checkout")?;
+    let into = name(alloc, b"a")?;
+    removed(fs, alloc, &home, &into)?;
+    Ok(fs.list(&home)?.as_slice().is_empty())
+}
+
+fn are_objects_there(fs: &mut MemFs, alloc: Global) -> Result<bool, Fail> {
+    if !is_link(fs, &object_at(alloc, LINK)?)? {
+        return Ok(false);
+    }
+    Ok(fs.stat(&object_at(alloc, FILE)?)?.is_some())
+}
+
 #[test]
 fn removed_again(rt: HostRuntime) -> Result<(), Fail> {
     let alloc = rt.alloc();
-    let mut fs = laid_out(alloc)?;
-    put_file(&mut fs, alloc)?;
-    put_link(&rt, &mut fs, alloc)?;
-    let home = FsPath::parse(alloc, b"/checkout")?;
-    let into = name(alloc, b"a")?;
-    let answer = small_tree(&rt, alloc)?.check_out(alloc, &mut fs)?;
-    assert!(rt; answer == Some(Ok(())));
-    removed(&mut fs, alloc, &home, &into)?;
-    assert!(rt; fs.list(&home)?.as_slice().is_empty());
-    assert!(rt; fs.stat(&object_at(alloc, FILE)?)?.is_some());
-    assert!(rt;
-        is_link(
-            &mut fs,
-            alloc,
-            b"/ostree/repo/objects/38/9846c2702216e1367c8dfb68326a6b93ccf5703c89c93979052a9bf359608e.file"
-        )?
-    );
+    let mut fs = disk(&rt, alloc)?;
+    assert!(rt; is_checked_out(&mut fs, alloc)?);
+    assert!(rt; is_removed(&mut fs, alloc)?);
+    assert!(rt; are_objects_there(&mut fs, alloc)?);
     // what isn't there is removed at once
-    removed(&mut fs, alloc, &home, &into)?;
-    let again = small_tree(&rt, alloc)?.check_out(alloc, &mut fs)?;
-    assert!(rt; again == Some(Ok(())));
+    assert!(rt; is_removed(&mut fs, alloc)?);
+    assert!(rt; is_checked_out(&mut fs, alloc)?);
     Ok(())
 }
