@@ -71,7 +71,7 @@ def main(words):
     new = sum(stamp_of(it) is None for it in libraries)
     print(f"Proves {program} and the {len(libraries)} crates below it, and builds it.", flush=True)
     if new and program == "ostree_cli":
-        print(f"{new} of them were never proved here. From nothing all take some 200 processor minutes: two hours, since most have to wait for those")
+        print(f"{new} of them were never proved here. From nothing all take some 105 processor minutes: more than an hour, since most have to wait for those")
         print("below them. What is proved is kept: later only what changed is proved again, with what stands on it. The last step, which makes")
         print("the program of all that was proved, takes some seven minutes.", flush=True)
     os.makedirs(f"{TOP}/build", exist_ok=True)

@@ -4,8 +4,9 @@
 usage: tools/pages_check.py
 
 Prints a line for each of these, and ends with status 1 where there is one: a link or an anchor that leads nowhere; a sentence of more than 40
-words on a page of docs/proofs; an edit that must fail and isn't on its crate's page, or the other way round; a name in backquotes of a
-page's tables that no source file, definition or proof of the repository has.
+words on a page of docs/proofs; an edit that must fail and isn't on its crate's page, or the other way round, where those that the gate doesn't
+try are told behind a line of their own; a name in backquotes of a page's tables that no source file, definition or proof of the repository
+has; a file of the table in docs/crates.md that isn't there.
 """
 import glob
 import os
@@ -15,6 +16,8 @@ import sys
 TOP = os.path.dirname(os.path.dirname(os.path.abspath(__file__)))
 PROOFS = f"{TOP}/docs/proofs"
 EDITS = "## Edits that must fail"
+# Behind this line a page tells edits that were refused once, and are none of the gate.
+UNTRIED = "not tried by each gate"
 MOST_WORDS = 40
 
 
@@ -89,13 +92,30 @@ def unknown_names(page, known):
 def wrong_edits(crate):
     there = {os.path.basename(path)[:-5] for path in glob.glob(f"{TOP}/crates/{crate}/must-fail/*.edit")}
     _, _, behind = text_of(f"{PROOFS}/{crate}.md").partition(EDITS)
-    told = set(re.findall(r"^- `([\w-]+)`:", behind, re.M))
+    tried, _, untried = behind.partition(UNTRIED)
+    told = edits_in(tried)
     for edit in sorted(there ^ told):
         yield 0, f"an edit that isn't {'told' if edit in there else 'there'}: {edit}"
+    for edit in sorted((there | told) & edits_in(untried)):
+        yield 0, f"an edit that is tried, and told as untried: {edit}"
+
+
+def edits_in(text):
+    return set(re.findall(r"^- `([\w-]+)`:", text, re.M))
+
+
+def missing_files():
+    page = f"{TOP}/docs/crates.md"
+    for number, line in lines_of(page):
+        crate = re.match(r"\| `(\w+)` \|", line)
+        for path in re.findall(r"`((?:src|specs|proofs|data)/[^`]+)`", line) if crate else []:
+            if not os.path.exists(f"{TOP}/crates/{crate[1]}/{path}"):
+                yield page, number, f"no such file: {crate[1]}/{path}"
 
 
 def findings():
     known = known_names()
+    yield from missing_files()
     for page in pages():
         yield from ((page, *found) for found in dead_links(page))
     for page in sorted(glob.glob(f"{PROOFS}/*.md")):
