@@ -1,5 +1,5 @@
 #!/usr/bin/env python3
-"""The names of the objects in look_tests.rt and checkout_tests.rt of crates/ostree_cli/src, reckoned from OSTree's formats alone."""
+"""The names of the objects in looks.cases and checkouts.cases of crates/case_runner/data, reckoned from OSTree's formats alone."""
 import hashlib
 import struct
 
