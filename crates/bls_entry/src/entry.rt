@@ -1,4 +1,4 @@
-use ost_types::Text;
+use ost_types::{NoMemory, Text, TryCopy};
 
 /// One boot target.
 #[derive(Drop, Debug, PartialEq, Eq)]
@@ -13,4 +13,20 @@ pub struct BlsEntry {
     pub linux: Text,
     /// The initramfs, as such a path.
     pub initrd: Option<Text>,
+}
+
+impl TryCopy for BlsEntry {
+    fn copy(&self) -> Result<BlsEntry, NoMemory> {
+        let initrd = match &self.initrd {
+            Some(initrd) => Some(initrd.copy()?),
+            None => None,
+        };
+        Ok(BlsEntry {
+            title: self.title.copy()?,
+            version: self.version,
+            options: self.options.copy()?,
+            linux: self.linux.copy()?,
+            initrd,
+        })
+    }
 }

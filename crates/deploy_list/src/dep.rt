@@ -1,5 +1,5 @@
 use boot_model::DepId;
-use ost_types::{PathMap, Texts};
+use ost_types::{NoMemory, PathMap, Texts, TryCopy};
 
 /// A member of the list of deployments.
 #[derive(Drop, Debug)]
@@ -11,4 +11,15 @@ pub struct Dep {
     pub defaults: PathMap,
     /// What its changeable `/etc` has.
     pub etc: PathMap,
+}
+
+impl TryCopy for Dep {
+    fn copy(&self) -> Result<Dep, NoMemory> {
+        Ok(Dep {
+            id: self.id.copy()?,
+            kargs: self.kargs.copy()?,
+            defaults: self.defaults.copy()?,
+            etc: self.etc.copy()?,
+        })
+    }
 }

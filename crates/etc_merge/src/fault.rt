@@ -1,7 +1,7 @@
 ghost use Rattle.std.specs.Prelude.{◌≡◌};
 ghost use Rattle.etc_merge.specs.declared.fault.MergeFault.TheVariants as fault;
 
-use ost_types::{FsPath, NoMemory};
+use ost_types::{FsPath, NoMemory, TryCopy};
 use thiserror::Error;
 
 /// Why there is no merge.
@@ -20,5 +20,14 @@ impl From<NoMemory> for MergeFault {
 
     fn from(_: NoMemory) -> MergeFault {
         MergeFault::NoMemory
+    }
+}
+
+impl TryCopy for MergeFault {
+    fn copy(&self) -> Result<MergeFault, NoMemory> {
+        match self {
+            MergeFault::EtcConflict(path) => Ok(MergeFault::EtcConflict(path.copy()?)),
+            MergeFault::NoMemory => Ok(MergeFault::NoMemory),
+        }
     }
 }

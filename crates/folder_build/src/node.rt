@@ -1,4 +1,4 @@
-use ost_types::{Bytes, FsPath, Text};
+use ost_types::{Bytes, FsPath, NoMemory, Text, TryCopy};
 
 /// What is made at a path.
 #[derive(Drop, Debug)]
@@ -16,4 +16,23 @@ pub enum Content {
 pub struct NewNode {
     pub at: FsPath,
     pub what: Content,
+}
+
+impl TryCopy for Content {
+    fn copy(&self) -> Result<Content, NoMemory> {
+        match self {
+            Content::Folder => Ok(Content::Folder),
+            Content::File(bytes) => Ok(Content::File(bytes.copy()?)),
+            Content::Link(target) => Ok(Content::Link(target.copy()?)),
+        }
+    }
+}
+
+impl TryCopy for NewNode {
+    fn copy(&self) -> Result<NewNode, NoMemory> {
+        Ok(NewNode {
+            at: self.at.copy()?,
+            what: self.what.copy()?,
+        })
+    }
 }
