@@ -1,11 +1,11 @@
 -- What a checkout writes, for all others; and its facts stay true under what others may write.
-use Rattle.std.proofs.Common.{◌≡◌, ⊎_elim, ℕ, true, sym, ◌∙◌, subst, List, ◌++◌, take, Some}
+use Rattle.std.proofs.Common.{◌≡◌, ⊎_elim, ℕ, true, refl, sym, ◌∙◌, subst, List, [], ◌∷◌, ◌++◌, take, Some}
 use Rattle.ost_types.specs.declared.meta.Meta.{Meta}
 use Rattle.ost_types.specs.declared.node.NodeName.{NodeName}
 use Rattle.ost_types.specs.declared.node.NodeName.TheVariants.{Folder, Leaf}
 use Rattle.ost_types.specs.Path.{Path, is_in, is_below}
 use Rattle.ost_types.specs.PathMap.{Nodes, node_at}
-use Rattle.ost_types.proofs.Paths.{is_below-self}
+use Rattle.ost_types.proofs.Paths.{is_below-self, same_name-Decides}
 use Rattle.fs_trait.specs.declared.types.Value.TheVariants.{File}
 use Rattle.fs_trait.specs.View.{View}
 use Rattle.fs_trait.specs.Seen.{Seen, Vacant, Directory, Leaf as SeenLeaf, shows, MayShow, IsDirectory}
@@ -19,7 +19,11 @@ use Rattle.checkout.specs.CheckoutWork.{Checkout}
 use Rattle.checkout.specs.CheckoutSteps.{writes_in, WritesOf, HasHome, Needs, needs_in, value_of}
 use Rattle.checkout.proofs.CheckoutMaps.{part_found}
 use Rattle.checkout.proofs.CheckoutLemmas.{Stands-kept}
-use Rattle.checkout.proofs.CheckoutRuns.{below_before}
+
+below_before : (g rest : Path) → is_below g (g ++ rest) ≡ true
+unfolding is_below
+below_before [] rest = refl
+below_before (a ∷ g) rest = rw ((same_name-Decides a a).1 refl, below_before g rest) refl
 
 -- Where a write of the next step lies: at the path or below it, where nothing stood. A file that is written is the one at the path of
 -- a leaf's object.

@@ -1,7 +1,6 @@
 pub mod CheckoutMaps
 pub mod CheckoutLemmas
 pub mod CheckoutAnswering
-pub mod CheckoutRuns
 pub mod CheckoutStable
 pub mod RemoveAnswering
 pub mod RemoveBelow
@@ -10,7 +9,6 @@ pub mod RemoveClosing
 pub mod RemoveCounts
 pub mod RemoveFalls
 pub mod RemoveFound
-pub mod RemoveImages
 pub mod RemoveKnown
 pub mod RemoveLists
 pub mod RemoveLooking

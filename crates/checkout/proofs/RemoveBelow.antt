@@ -1,7 +1,6 @@
 -- Paths at or below the task's.
 use Rattle.std.proofs.Common.{◌≡◌, ◌≢◌, Bool, true, false, refl, sym, ◌∙◌, ap, subst, [], ◌∷◌, ◌++◌, append-nil, append_assoc}
 use Rattle.ost_types.specs.Path.{Path, is_below, under}
-use Rattle.ost_types.proofs.Paths.{is_below-under}
 use Rattle.fs_trait.specs.declared.types.Value.TheVariants.{Absent}
 use Rattle.fs_trait.specs.View.{Disk}
 use Rattle.fs_trait.specs.Image.{IsTree, is_folder}
@@ -10,10 +9,6 @@ pub below_not_root : (at p : Path) → at ≢ [] → is_below at p ≡ true → 
 unfolding is_below
 below_not_root [] p root below is = root refl
 below_not_root (a ∷ at) p root below is = let n : false ≡ true = subst (λ q. is_below (a ∷ at) q ≡ true) is below in cc
-
-pub below_on : (at g rest : Path) → is_below at g ≡ true → is_below at (g ++ rest) ≡ true
-below_on at g [] below = subst (λ q. is_below at q ≡ true) (sym (append-nil g)) below
-below_on at g (x ∷ rest) below = subst (λ q. is_below at q ≡ true) (append_assoc g (x ∷ []) rest) (below_on at (under g x) rest (is_below-under at g x below))
 
 pub not_true : (b : Bool) → b ≡ false → b ≡ true → ⊥
 not_true b off on = let n : false ≡ true = sym off ∙ on in cc

@@ -104,7 +104,7 @@ closed_known f at (g ∷ outer) room d e p gone is made known =
     (open_closed e f.path g.path g.names (ap (shows e) is ∙ gone.gone) kept.0, kept.1)
 
 -- 5. the same of a task
-pub act_below : (t : Removing) (p : Path) → IsMade t → act t ≡ Looks p → is_below t.at p ≡ true
+act_below : (t : Removing) (p : Path) → IsMade t → act t ≡ Looks p → is_below t.at p ≡ true
 act_below t p made is = act_below_in t.phase t.at t.outer t.room p made is
 
 pub goes_leaf : (t : Removing) (d : Disk) (p : Path) → IsMade t → act t ≡ Looks p → IsLeaf (shows d p) → Goes t d p

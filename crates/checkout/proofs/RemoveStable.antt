@@ -3,7 +3,7 @@ use Rattle.std.proofs.Common.{◌≡◌, ℕ, inl, inr, ⊎_elim, true, sym, ◌
 use Rattle.ost_types.specs.Path.{Path, is_below, under}
 use Rattle.ost_types.proofs.Paths.{is_below-under}
 use Rattle.fs_trait.specs.View.{Disk, View}
-use Rattle.fs_trait.specs.Seen.{Seen, shows, IsDirectory}
+use Rattle.fs_trait.specs.Seen.{Seen, Vacant, shows, IsDirectory}
 use Rattle.fs_trait.specs.Change.{Writes}
 use Rattle.fs_trait.proofs.Facts.{shows_kept}
 use Rattle.checkout.specs.declared.remove.phase.Phase.{Phase}
@@ -11,12 +11,11 @@ use Rattle.checkout.specs.declared.remove.phase.Phase.TheVariants.{Look, Inside,
 use Rattle.checkout.specs.RemoveFolder.{Opened}
 use Rattle.checkout.specs.Remove.{Removing, IsMade, IsChain}
 use Rattle.checkout.specs.RemoveSteps.{AreOpen, IsOpen, Needs, WritesOf, known_in}
-use Rattle.checkout.specs.RemoveWhole.{Clears}
 use Rattle.checkout.proofs.RemoveChains.{chain_below}
 use Rattle.ost_types.proofs.Paths.{is_below-self}
 
 -- its own writes: names at its path and below go
-pub remove_lies : (t : Removing) (v : View) (p : Path) (s : Seen) → WritesOf t v p s → Clears t.at p s
+pub remove_lies : (t : Removing) (v : View) (p : Path) (s : Seen) → WritesOf t v p s → (is_below t.at p ≡ true) × (s ≡ Vacant)
 remove_lies t v p s write = (write.0.below, write.1)
 
 module _ (at : Path) (d e : Disk) (same : (p : Path) → is_below at p ≡ true → shows e p ≡ shows d p) where

@@ -3,10 +3,8 @@
 
 mod checkout;
 mod checkout_phase;
-mod checkout_run;
 mod remove;
 
 pub use checkout::CheckoutTask;
 pub use checkout_phase::DestExists;
-pub use checkout_run::check_out;
-pub use remove::{RemoveTask, remove_tree};
+pub use remove::RemoveTask;

@@ -8,7 +8,6 @@ mod folder;
 mod look;
 mod phase;
 mod steps;
-mod whole;
 
 use folder::OpenFolder;
 use fs_trait::Need;
@@ -16,7 +15,6 @@ use ost_types::FsPath;
 use phase::Phase;
 use std::alloc::Global;
 use std::marker::Model;
-pub use whole::remove_tree;
 
 /// The task that removes what stands at a path, with all that is in it, a step at a time: each leaf is unlinked, and each folder
 /// is removed once nothing is left in it. It keeps what was listed of the folders on the way down, and no more.

@@ -1,2 +1,3 @@
 mod Making
 pub mod Named
+mod Told

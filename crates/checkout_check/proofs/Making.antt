@@ -13,7 +13,7 @@ use Rattle.ost_types.proofs.Paths.{same_path-self, same_path-apart, same_or_apar
 use Rattle.fs_trait.specs.View.{Disk}
 use Rattle.fs_trait.specs.Seen.{shows, IsDirectory}
 use Rattle.checkout.specs.CheckoutFolder.{HasLeaves}
-use Rattle.checkout.specs.CheckoutWork.{IsPlaced}
+use Rattle.checkout.specs.CheckoutWork.{IsPlaced, beginning}
 use Rattle.checkout.specs.CheckoutSteps.{HasHome}
 use Rattle.checkout.proofs.CheckoutMaps.{push_apart, none_before, found_at, found_back}
 use Rattle.checkout_check.specs.Sketches.{Sketched, Takes, into_of, IsThere, CanBegin}
@@ -105,5 +105,8 @@ new_placed into m first new root none is ok path =
     subst (IsPlaced into) (sym (ok ∙ ap (λ (k : Nodes). k ++ (root, Folder m) ∷ []) none ∙ ap (λ (q : Path). (q, Folder m) ∷ []) is)) (alone_placed into m path)
 
 pub can_result : (s : Sketched) (d : Disk) (r : Result Bool FsErr) → IsDirectory (shows d s.home) → IfOk r (λ b. IsTrue b ↔ HasLeaves d s.tree) → IfOk r (λ b. IsTrue b ↔ CanBegin s d)
-can_result s d (Ok b) home h = (λ t. record { home = home_shown d s.home s.name home; leaves = h.0 t }, λ can. h.1 can.leaves)
+can_result s d (Ok b) home h = (λ t. (home_shown d s.home s.name home, h.0 t), λ can. h.1 can.1)
 can_result s d (Err e) home h = h
+
+pub begun_as : (into : Path) (s u : Sketched) → s ≡ u → into ≡ into_of s → beginning into s.tree ≡ beginning (into_of u) u.tree
+begun_as into s u same is = ap (λ (p : Path). beginning p s.tree) is ∙ ap (λ (x : Sketched). beginning (into_of x) x.tree) same

@@ -5,11 +5,11 @@ use Rattle.ost_types.specs.declared.node.NodeName.{NodeName}
 use Rattle.ost_types.specs.declared.node.NodeName.TheVariants.{Folder, Leaf}
 use Rattle.ost_types.specs.Path.{Name, Path, IsPath, under}
 use Rattle.ost_types.specs.PathMap.{Nodes, IsAscending, paths_of, node_at}
-use Rattle.fs_trait.specs.View.{Disk, View}
+use Rattle.fs_trait.specs.View.{Disk}
 use Rattle.fs_trait.specs.Seen.{shows}
 use Rattle.checkout.specs.CheckoutFolder.{IsLeaf, leaf_path}
-use Rattle.checkout.specs.CheckoutWork.{Answer}
-use Rattle.checkout.specs.CheckoutRun.{Ends, MayBegin}
+use Rattle.checkout.specs.CheckoutWork.{Checkout, beginning}
+use Rattle.checkout.specs.CheckoutSteps.{Needs}
 
 -- the folder in which it is checked out, under which name, and the pairs so far
 pub record Sketched : Type 0 where
@@ -37,9 +37,9 @@ IsThere d (Leaf sum) = IsLeaf (shows d (leaf_path sum))
 
 -- reads show all that a checkout of it begins with
 abbrev pub CanBegin : Sketched → Disk → Type 0
-CanBegin s d = MayBegin (into_of s) s.tree d
+CanBegin s d = Needs (beginning (into_of s) s.tree) d
 
--- it was checked out, or refused; or it can't begin, and nothing was changed
-abbrev pub Ended : Sketched → View → View → Option Answer → Type 0
-Ended s v w None = (CanBegin s v.now → ⊥) × (w ≡ v)
-Ended s v w (Some answer) = CanBegin s v.now × Ends (into_of s) s.tree answer v w
+-- the task that checks it out, with what its first step needs; or it can't begin
+abbrev pub Begins : Sketched → Disk → Option Checkout → Type 0
+Begins s d None = CanBegin s d → ⊥
+Begins s d (Some t) = (t ≡ beginning (into_of s) s.tree) × Needs t d

@@ -5,12 +5,11 @@ ghost use Rattle.ost_types.specs.PathMap.{IsNode};
 ghost use Rattle.ost_types.specs.Path.{under};
 ghost use Rattle.ost_types.specs.declared.node.NodeName.TheVariants as nodes;
 ghost use Rattle.fs_trait.specs.View.{View};
-ghost use Rattle.fs_trait.specs.Image.{Told};
 ghost use Rattle.fs_trait.specs.Effect.{HasCause};
-ghost use Rattle.checkout_check.specs.Sketches.{CanBegin, Ended, Sketched, Takes, with_pair};
+ghost use Rattle.checkout_check.specs.Sketches.{Begins, CanBegin, Sketched, Takes, with_pair};
 
 use crate::looks::{is_folder, leaves_are_there};
-use checkout::{DestExists, check_out};
+use checkout::CheckoutTask;
 use fs_trait::{Fs, FsErr};
 use ost_types::{FsPath, Meta, Name, NoMemory, NodeName, PathMap};
 use std::alloc::Global;
@@ -90,20 +89,17 @@ impl Sketch {
         }
     }
 
-    /// Checks the tree out; None where a checkout can't begin.
-    pub fn check_out<F: Fs>(
-        self,
-        alloc: Global,
-        fs: &mut F,
-    ) -> Result<Option<Result<(), DestExists>>, FsErr>
-        ensures done { (v : View) → F.view fs.old ≡ Some v → IfOk result (λ r. Told (F.view fs.new) (λ w. Ended self v w r)) }
+    /// The task that checks the tree out; None where a checkout can't begin.
+    pub fn begin<F: Fs>(self, alloc: Global, fs: &mut F) -> Result<Option<CheckoutTask>, FsErr>
+        ensures told { (v : View) → F.view fs.old ≡ Some v → IfOk result (λ t. Begins self v.now t) }
+        ensures same { F.view fs.new ≡ F.view fs.old }
         ensures cause { HasCause (F.faults fs.old) (F.faults fs.new) result }
     {
         if !self.can_begin(alloc, fs)? {
             return Ok(None);
         }
         let Sketch { into, tree, .. } = self;
-        Ok(Some(check_out(alloc, fs, into, tree)?))
+        Ok(Some(CheckoutTask::new(alloc, into, tree)))
     }
 
     fn can_begin<F: Fs>(&self, alloc: Global, fs: &mut F) -> Result<bool, FsErr>

@@ -1,11 +1,14 @@
 //! What no words of the program ask for so far: a checkout that is removed. What a checkout leaves is told by the cases of `case_runner`.
+ghost use Rattle.std.specs.Prelude.{◌≡◌, ◌≢◌, [], Some};
 ghost use Rattle.ost_types.specs.Mode.{IsFileMode, IsFolderMode};
 ghost use Rattle.ost_types.specs.PathMap.{IsNode};
+ghost use Rattle.fs_trait.specs.View.{View};
+ghost use Rattle.checkout.specs.CheckoutSteps.{Needs};
 
 use crate::Sketch;
-use checkout::remove_tree;
+use checkout::{CheckoutTask, DestExists, RemoveTask};
 use fs_memory::MemFs;
-use fs_trait::{Fs, Node};
+use fs_trait::{Fs, FsErr, Node, StepResult};
 use ost_types::{Csum, FsPath, Kind, Meta, Name, NodeName, ObjName, Text, Xattrs, is_link_mode};
 use repo_layout::object_path;
 use std::alloc::Global;
@@ -138,6 +141,18 @@ fn is_link(fs: &mut MemFs, at: &FsPath) -> Result<bool, Fail> {
     }
 }
 
+fn remove<F: Fs>(alloc: Global, fs: &mut F, at: FsPath) -> Result<(), FsErr>
+    requires { at ≢ [] }
+{
+    let mut task = RemoveTask::new(alloc, at);
+    'steps: loop {
+        match task.step(fs)? {
+            StepResult::More => {}
+            StepResult::Done(()) => return Ok(()),
+        }
+    }
+}
+
 /// Removes what stands under a name of a folder.
 #[tactic(auto, using(crate::proofs::Named::not_root))]
 fn removed(fs: &mut MemFs, alloc: Global, home: &FsPath, name: &Name) -> Result<(), Fail> {
@@ -145,7 +160,7 @@ fn removed(fs: &mut MemFs, alloc: Global, home: &FsPath, name: &Name) -> Result<
         return Err("no room")?;
     }
     let at = home.child(name)?;
-    Ok(remove_tree(alloc, fs, at)?)
+    Ok(remove(alloc, fs, at)?)
 }
 
 // A folder for checkouts, and the objects of the tree.
@@ -156,9 +171,23 @@ fn disk(rt: &impl Abort, alloc: Global) -> Result<MemFs, Fail> {
     Ok(fs)
 }
 
+fn check_out<F: Fs>(fs: &mut F, task: CheckoutTask) -> Result<Result<(), DestExists>, FsErr>
+    requires { (v : View) → F.view fs.old ≡ Some v → Needs task v.now }
+{
+    let mut task = task;
+    'steps: loop {
+        match task.step(fs)? {
+            StepResult::More => {}
+            StepResult::Done(answer) => return Ok(answer),
+        }
+    }
+}
+
 fn is_checked_out(fs: &mut MemFs, alloc: Global) -> Result<bool, Fail> {
-    let answer = small_tree(alloc)?.check_out(alloc, fs)?;
-    Ok(answer == Some(Ok(())))
+    match small_tree(alloc)?.begin(alloc, fs)? {
+        Some(task) => Ok(check_out(fs, task)? == Ok(())),
+        None => Ok(false),
+    }
 }
 
 // Whether nothing is left of the checkout, once it was removed.

@@ -3,12 +3,8 @@ pub mod StepLemmas
 pub mod PutLemmas
 pub mod RoomLemmas
 pub mod LookLemmas
-pub mod Wholes
-pub mod RunLemmas
-pub mod Runs
+pub mod Leaves
 pub mod Stable
-pub mod Begins
 pub mod FallLemmas
 pub mod Progresses
 pub mod Seen
-pub mod Writings

@@ -52,12 +52,11 @@ same_file t s u same is = record {
   meta = same.meta ∙ is.meta;
   bytes = same.bytes ∙ is.bytes;
   long = ap length same.bytes ∙ is.long;
-  show = same.show ∙ is.show;
 }
 
 -- the same file, of a change in another phase
 pub file_in : (t : Change) (ph : Phase) (s : Staged) → IsRefFile t s → IsRefFile (record t { phase = ph }) s
-file_in t ph s is = record { commit = is.commit; value = is.value; sum = is.sum; stage = is.stage; folder = is.folder; at = is.at; meta = is.meta; bytes = is.bytes; long = is.long; show = is.show }
+file_in t ph s is = record { commit = is.commit; value = is.value; sum = is.sum; stage = is.stage; folder = is.folder; at = is.at; meta = is.meta; bytes = is.bytes; long = is.long }
 
 -- where the whole file stands, the ref has its new value
 pub shows_new : (t : Change) (f : Staged) → IsRefFile t f → (s : Seen) → steps.IsFileWith f.meta f.bytes s → ShowsNew t.value s
@@ -96,12 +95,10 @@ module _ (t : Change) (v : View) (needs : Needs t v) (s : Staged) (is : t.phase 
   last_phase file.SyncFile x e last = let n : false ≡ true = last in cc
   last_phase file.Look x e last = let n : false ≡ true = last in cc
   last_phase file.Replace x e last = let n : false ≡ true = last in cc
-  last_phase file.Add x e last = let n : false ≡ true = last in cc
-  last_phase file.Unlink x e last = let n : false ≡ true = last in cc
 
   settled : (u : Staged) → IsRefFile t u → u.phase ≡ file.Ended → (w : View) → steps.Needs u w → needs_in phase.Ended (record t { phase = phase.Ended }) w
   settled u f ended w after = (
-    λ x may. shows_new t u f x (subst (λ how. steps.lasts how u.meta u.bytes x) f.show (ended_lasts u w after ended x (subst (λ p. MayBe w p x) (sym f.at) may))),
+    λ x may. shows_new t u f x (ended_lasts u w after ended x (subst (λ p. MayBe w p x) (sym f.at) may)),
     subst (λ o. leads o t.name w) (sym f.value) (λ p x may. subst (λ g. LeadsTo g p x) f.folder (needs_leads u w after p x may)),
   )
 

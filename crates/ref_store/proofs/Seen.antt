@@ -23,7 +23,7 @@ use Rattle.ref_store.specs.Change.{Change, Follows, IsRefFile, IsStepped}
 use Rattle.ref_store.specs.Steps.{Needs, HasSeen, HasValue, IsPlacing, ShowsHad, Tells, awaits, awaits_file, goes_on, refuses_in, writes_in, WritesOf}
 use Rattle.ref_store.proofs.StepLemmas.{made, stage-not_ref}
 use Rattle.ref_store.proofs.RoomLemmas.{clear_lies, walk_lies, way_to-short}
-use Rattle.ref_store.proofs.Wholes.{directory_leaf, file_leaf, is_a_leaf, no_leaf, vacant_leaf}
+use Rattle.ref_store.proofs.Leaves.{directory_leaf, file_leaf, is_a_leaf, no_leaf, vacant_leaf}
 use Rattle.ref_store.proofs.Stable.{Spares}
 
 -- a ref has a value where its path shows it
@@ -61,8 +61,6 @@ module _ (t : Change) (v : View) (needs : Needs t v) (w : View) where
   put_off file.SyncFile f m next s a = a
   put_off file.Look f m next s a = a
   put_off file.Replace f m next s a = let n : false ≡ true = next in cc
-  put_off file.Add f m next s a = let n : false ≡ true = next in cc
-  put_off file.Unlink f m next s a = let n : false ≡ true = next in cc
   put_off file.SyncFolder f m next s a = a
   put_off file.Ended f m next s a = a
 
@@ -73,8 +71,6 @@ module _ (t : Change) (v : View) (needs : Needs t v) (w : View) where
   awaited file.SyncFile f is next = refl
   awaited file.Look f is next = refl
   awaited file.Replace f is next = refl
-  awaited file.Add f is next = refl
-  awaited file.Unlink f is next = next
   awaited file.SyncFolder f is next = next
   awaited file.Ended f is next = ap awaits_file (sym is) ∙ next
 

@@ -14,7 +14,6 @@ use Rattle.repo_layout.specs.RefFile.{IsSum, ref_text}
 use Rattle.ref_room.specs.Clash.{ref_folder}
 use Rattle.ref_room.specs.Clearing as clearing
 use Rattle.ref_room.specs.Way as way
-use Rattle.staged_file.specs.declared.phase.Show.TheVariants.{Rename}
 use Rattle.staged_file.specs.declared.phase.Phase as staged
 use Rattle.staged_file.specs.declared.phase.Phase.TheVariants as file
 use Rattle.staged_file.specs.Staged as staging
@@ -55,7 +54,6 @@ pub record IsRefFile (t : Change) (s : staging.Staged) : Type 0 where
   pub meta : s.meta ≡ file_meta
   pub bytes : s.bytes ≡ ref_text commit
   pub long : length s.bytes ≡ 65
-  pub show : s.show ≡ Rename
 
 -- The part that is being done belongs to the change. What is removed was a ref.
 abbrev pub made_in : Phase → Change → Type 0
@@ -128,8 +126,6 @@ IsAccepted turn = Unit {0}
 -- what a step of a staged file does to the ref,
 abbrev pub progress_of : staged.Phase → Progress
 progress_of file.Replace = progress.Showing
-progress_of file.Add = progress.Showing
-progress_of file.Unlink = progress.Shown
 progress_of file.SyncFolder = progress.Settling
 progress_of file.Ended = progress.Ended
 progress_of ph = progress.Preparing
@@ -152,8 +148,6 @@ left_put file.Append = 5
 left_put file.SyncFile = 4
 left_put file.Look = 3
 left_put file.Replace = 2
-left_put file.Add = 3
-left_put file.Unlink = 2
 left_put file.SyncFolder = 1
 left_put file.Ended = 0
 

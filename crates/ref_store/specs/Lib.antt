@@ -1,4 +1,3 @@
 pub mod Lookup
 pub mod Change
 pub mod Steps
-pub mod Whole

@@ -37,9 +37,6 @@ abbrev pub ShowsNew : Option (List ℕ) → Seen → Type 0
 ShowsNew None s = s ≡ Vacant
 ShowsNew (Some commit) s = IsSum commit × IsFileWith file_meta (ref_text commit) s
 
-abbrev pub HasNew : Disk → List ℕ → Option (List ℕ) → Type 0
-HasNew d name value = ShowsNew value (shows d (ref_path name))
-
 -- what the ref's path shows while it has a value
 abbrev pub ShowsHad : Option (List ℕ) → Seen → Type 0
 ShowsHad None s = ¬ (IsLeaf s)
@@ -47,7 +44,6 @@ ShowsHad (Some commit) s = IsSum commit × (bytes_in s ≡ Some (ref_text commit
 
 -- the ref was looked at, and the change isn't shown yet
 abbrev pub awaits_file : staged.Phase → Bool
-awaits_file file.Unlink = false
 awaits_file file.SyncFolder = false
 awaits_file file.Ended = false
 awaits_file ph = true

@@ -10,4 +10,4 @@ mod task;
 pub use lookup::{GetRef, get};
 pub use progress::Progress;
 pub use refusal::RefRefusal;
-pub use task::{RefTask, change_ref, sync_and_change_ref};
+pub use task::RefTask;

@@ -7,8 +7,6 @@ pub enum Progress {
     Preparing,
     /// It shows the change.
     Showing,
-    /// It comes between the step that shows the change and the one that makes it last.
-    Shown,
     /// It makes the change last.
     Settling,
     /// Nothing: the change is done.

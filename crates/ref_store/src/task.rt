@@ -1,21 +1,13 @@
-ghost use Rattle.std.specs.Prelude.{◌≡◌, ◌<◌, ◌≤◌, ◌==◌, ℕ, Option, Some, None, Ok, IfOk, IfErr, OnOk, count_by, length};
+ghost use Rattle.std.specs.Prelude.{◌≡◌, ◌<◌, ◌≤◌, ◌==◌, Some, None, count_by, length};
 ghost use Rattle.repo_layout.specs.RefName.{parts_of};
-ghost use Rattle.fs_trait.specs.View.{View};
-ghost use Rattle.fs_trait.specs.Image.{EachImage, Told};
-ghost use Rattle.fs_trait.specs.Effect.{Elapses, HasCause, LeavesEach};
-ghost use Rattle.fs_trait.specs.Change.{Writes};
-ghost use Rattle.ref_room.specs.Turns.{OnMore};
 ghost use Rattle.ref_store.specs.declared.phase.Phase.TheVariants as phase;
-ghost use Rattle.ref_store.specs.Change.{Change, IsStepped, KeepsRoom, Takes, left, left_put, left_way, need_in};
-ghost use Rattle.ref_store.specs.Steps.{Needs};
-ghost use Rattle.ref_store.specs.Whole.{Answers, Lasts, Leaves, MayBegin, SparesLeaves, Stops, Written};
+ghost use Rattle.ref_store.specs.Change.{left, left_put, left_way, need_in};
 
 mod steps;
 mod tells;
 
-use crate::RefRefusal;
 use crate::phase::Phase;
-use fs_trait::{Fs, FsErr, Need, StepResult};
+use fs_trait::Need;
 use ost_types::{Csum, FsPath};
 use repo_layout::RefName;
 use staged_file::Phase as FilePhase;
@@ -140,49 +132,9 @@ fn left_put(phase: FilePhase) -> u128
         FilePhase::Create => 6,
         FilePhase::Append => 5,
         FilePhase::SyncFile => 4,
-        FilePhase::Look | FilePhase::Add => 3,
-        FilePhase::Replace | FilePhase::Unlink => 2,
+        FilePhase::Look => 3,
+        FilePhase::Replace => 2,
         FilePhase::SyncFolder => 1,
         FilePhase::Ended => 0,
     }
-}
-
-/// Changes the ref. A crash at any moment leaves it with the value before or the new one, and each other ref as it was.
-pub fn change_ref<F: Fs>(fs: &mut F, task: RefTask) -> Result<Result<(), RefRefusal>, FsErr>
-    requires new { (v : View) → F.view fs.old ≡ Some v → task.phase ≡ phase.Look }
-    requires needs { (v : View) → F.view fs.old ≡ Some v → Needs task v }
-    ensures any_moment { (v : View) → F.view fs.old ≡ Some v → LeavesEach (F.clock fs.old) (F.clock fs.new) (F.was fs.old) (F.was fs.new) (Leaves task v) }
-    ensures writes { (v : View) → F.view fs.old ≡ Some v → Told (F.view fs.new) (λ w. Writes (Written task v.now) v w) }
-    ensures done { (v : View) → F.view fs.old ≡ Some v → IfOk result (λ r. Told (F.view fs.new) (λ w. EachImage w (Lasts task r))) }
-    ensures answers { (v : View) → F.view fs.old ≡ Some v → IfOk result (Answers task v.now) }
-    ensures refused { (v : View) → F.view fs.old ≡ Some v → IfOk result (λ r. Told (F.view fs.new) (λ w. SparesLeaves r v.now w.now)) }
-    ensures fails { (v : View) → F.view fs.old ≡ Some v → IfErr result (Stops task v.now) }
-    ensures cause { HasCause (F.faults fs.old) (F.faults fs.new) result }
-{
-    let mut task = task;
-    'steps: loop {
-        match task.step(fs)? {
-            StepResult::More => {}
-            StepResult::Done(answer) => return Ok(answer),
-        }
-    }
-}
-
-/// Syncs all, and then changes the ref: what reads see before is enough to know that it can be changed. It isn't enough to know
-/// what a crash before the sync leaves: there the ref has its value where a crash was sure to leave that already.
-pub fn sync_and_change_ref<F: Fs>(
-    fs: &mut F,
-    task: RefTask,
-) -> Result<Result<(), RefRefusal>, FsErr>
-    requires { (v : View) → F.view fs.old ≡ Some v → MayBegin task v.now }
-    ensures any_moment { (v : View) → F.view fs.old ≡ Some v → LeavesEach (F.clock fs.old) (F.clock fs.new) (F.was fs.old) (F.was fs.new) (Leaves task v) }
-    ensures writes { (v : View) → F.view fs.old ≡ Some v → Told (F.view fs.new) (λ w. Writes (Written task v.now) v w) }
-    ensures done { (v : View) → F.view fs.old ≡ Some v → IfOk result (λ r. Told (F.view fs.new) (λ w. EachImage w (Lasts task r))) }
-    ensures answers { (v : View) → F.view fs.old ≡ Some v → IfOk result (Answers task v.now) }
-    ensures refused { (v : View) → F.view fs.old ≡ Some v → IfOk result (λ r. Told (F.view fs.new) (λ w. SparesLeaves r v.now w.now)) }
-    ensures fails { (v : View) → F.view fs.old ≡ Some v → IfErr result (Stops task v.now) }
-    ensures cause { HasCause (F.faults fs.old) (F.faults fs.new) result }
-{
-    fs.sync_all()?;
-    change_ref(fs, task)
 }

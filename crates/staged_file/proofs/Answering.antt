@@ -15,7 +15,11 @@ use Rattle.staged_file.proofs.StepLemmas.{Step}
 not_refused : (e : FsErr) (refusal : Option FsErr) → refusal ≡ Some e → refusal ≡ None → ⊥
 not_refused e refusal is free = let n : Some e ≡ None = sym is ∙ free in cc
 
-module _ (t new u : Staged) (same : t ≡ u) (v : View) (refusal : Option FsErr) (w : View) (step : Step t new v refusal w) where
+-- The task stands in memory as one record and shows as another of the same value; what is known is known of the latter.
+module _ (t new u : Staged) (same : t ≡ u) (v : View) (refusal : Option FsErr) (w : View) (needs : Needs u v) (ph : Phase) (is : u.phase ≡ ph) (does : Needs t v → t.phase ≡ ph → Step t new v refusal w) where
+  step : Step t new v refusal w
+  step = does (subst (λ a. Needs a v) (sym same) needs) (ap (λ (a : Staged). a.phase) same ∙ is)
+
   written_as : Writes (WritesOf u v) v w
   written_as = subst (λ a. Writes (WritesOf a v) v w) same step.writes
 
@@ -38,6 +42,3 @@ module _ (t new u : Staged) (same : t ≡ u) (v : View) (refusal : Option FsErr)
   err_fails Missing view fails = absurd (not_refused Missing refusal fails.0 step.free)
   err_fails NotFolder view fails = absurd (not_refused NotFolder refusal fails.0 step.free)
   err_fails NotEmpty view fails = absurd (not_refused NotEmpty refusal fails.0 step.free)
-
-pub phase_as : (t : Staged) (v : View) → Needs t v → (a b : Phase) → a ≡ b → record t { phase = a } ≡ record t { phase = b }
-phase_as t v needs a b e = ap (λ ph. record t { phase = ph }) e

@@ -1,12 +1,9 @@
 -- A task may begin after a sync of all, by what reads see then.
-use Rattle.std.proofs.Common.{◌≡◌, Bool, true, false, ◌&&◌, refl, sym, ◌∙◌, subst, [], ◌∷◌, ◌++◌, Result, Ok, Err}
-use Rattle.std.specs.Prelude.{IfErr}
+use Rattle.std.proofs.Common.{◌≡◌, Bool, true, false, ◌&&◌, refl, sym, ◌∙◌, subst, [], ◌∷◌, ◌++◌}
 use Rattle.ost_types.specs.Path.{Path, is_in, is_below}
 use Rattle.ost_types.proofs.Paths.{same_name-Decides, under-is_in, under-folder}
 use Rattle.fs_trait.specs.declared.types.Value.{Value}
 use Rattle.fs_trait.specs.declared.types.Value.TheVariants.{Absent, Folder, Link, File}
-use Rattle.fs_trait.specs.declared.types.FsErr.{FsErr}
-use Rattle.fs_trait.specs.declared.types.FsErr.TheVariants.{Failed, Exists, Missing, NotFolder, NotEmpty, NoMemory}
 use Rattle.fs_trait.specs.View.{Disk, View, all_synced}
 use Rattle.fs_trait.specs.Image.{is_folder, IsTree}
 use Rattle.fs_trait.specs.Seen.{Seen, seen, shows, MayBe, IsDirectory, NotDirectory}
@@ -15,15 +12,14 @@ use Rattle.fs_trait.proofs.Ways.{above}
 use Rattle.fs_trait.proofs.Effects.{all_synced-firm}
 use Rattle.staged_file.specs.declared.phase.Phase.TheVariants.{Clear}
 use Rattle.staged_file.specs.Staged.{Staged}
-use Rattle.staged_file.specs.Steps.{IsPlaced, firm_in, here_in, shown_by, Needs}
-use Rattle.staged_file.specs.Whole.{MayBegin, Stops}
+use Rattle.staged_file.specs.Steps.{IsPlaced, firm_in, here_in, Needs}
+use Rattle.staged_file.specs.Whole.{MayBegin}
 
 -- what a new task needs
 pub needs_new : (t : Staged) (v : View) → t.phase ≡ Clear → IsPlaced t.stage t.folder t.at → ((p : Path) (s : Seen) → MayBe v p s → LeadsTo t.folder p s)
     → NotDirectory (shows v.now t.stage) → ((p : Path) → is_in p t.stage ≡ true → IsDirectory (shows v.now p)) → Needs t v
 needs_new t v is placed leads leaf parents = record {
   placed = placed;
-  way = subst (λ ph. shown_by ph t.show) (sym is) tt;
   inode = 0;
   meets = record {
     firm = λ p s may. subst (λ ph. firm_in ph t 0 p s) (sym is) (leads p s may);
@@ -68,18 +64,6 @@ now_is v p = by (v.now.at p)
     by (Folder m) = refl
     by (Link m l) = refl
     by (File n) = refl
-
-stops_as : (t : Staged) (v : View) (e : FsErr) → Stops t (all_synced v) e → Stops t v e
-stops_as t v Failed s = tt
-stops_as t v NoMemory s = tt
-stops_as t v Exists s = (s.0, subst IsDirectory (now_is v t.at) s.1)
-stops_as t v Missing s = absurd s
-stops_as t v NotFolder s = absurd s
-stops_as t v NotEmpty s = absurd s
-
-pub stops_synced : {T : Type 0} (t : Staged) (v : View) (result : Result T FsErr) → IfErr result (Stops t (all_synced v)) → IfErr result (Stops t v)
-stops_synced t v (Ok x) s = tt
-stops_synced t v (Err e) s = stops_as t v e s
 
 module _ (t : Staged) (v : View) (tree : IsTree v.now) (may : MayBegin t v.now) where
   folder_here : (p : Path) → is_folder (v.now.at p) ≡ true → IsDirectory (shows (all_synced v).now p)

@@ -3,4 +3,3 @@ pub mod Answering
 pub mod Wholes
 pub mod Stable
 pub mod Begins
-pub mod Leaving

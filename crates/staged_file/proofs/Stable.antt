@@ -9,12 +9,10 @@ use Rattle.fs_trait.specs.Seen.{Seen, Vacant, Leaf, shows, MayBe, IsDirectory, N
 use Rattle.fs_trait.specs.Change.{Writes, Meets, Harmless, LeadsTo, Own}
 use Rattle.fs_trait.proofs.Kept.{meets_kept}
 use Rattle.fs_trait.proofs.Facts.{leaf_file, leaf_not_directory}
-use Rattle.staged_file.specs.declared.phase.Show.{Show}
-use Rattle.staged_file.specs.declared.phase.Show.TheVariants.{Rename, Link}
 use Rattle.staged_file.specs.declared.phase.Phase.{Phase}
-use Rattle.staged_file.specs.declared.phase.Phase.TheVariants.{Clear, Create, Append, SyncFile, Look, Replace, Add, Unlink, SyncFolder, Ended}
+use Rattle.staged_file.specs.declared.phase.Phase.TheVariants.{Clear, Create, Append, SyncFile, Look, Replace, SyncFolder, Ended}
 use Rattle.staged_file.specs.Staged.{Staged, lock_in}
-use Rattle.staged_file.specs.Steps.{NotVacant, IsBegun, IsFileWith, IsPart, IsWhole, writes_in, WritesOf, firm_shown, here_shown, firm_in, FirmOf, here_in, HereOf, lasts, Needs}
+use Rattle.staged_file.specs.Steps.{IsBegun, IsFileWith, IsPart, IsWhole, writes_in, WritesOf, firm_in, FirmOf, here_in, HereOf, Needs}
 
 -- Where a write of the next step lies: at the staging path, or, under the task's lock, at the target, where it is the whole
 -- file with its attributes. A file that is written is a new one or the staged one, and takes no folder's place.
@@ -56,59 +54,37 @@ module _ (t : Staged) (v : View) (needs : Needs t v) where
   lies Look is now p s a = absurd a
   lies Replace is now p s (inl a) = record { place = inr (a.0, (a.1.0, a.1.1), ap (λ ph. lock_in ph t) is); comes = from_stage s (whole_part s a.1); folders = no_folder p t.at a.0 ((now.here t.at).1 refl) }
   lies Replace is now p s (inr a) = record { place = inl a.0; comes = from_none s a.1; folders = no_folder p t.stage a.0 (file_there _ ((now.here t.stage).0 refl)) }
-  lies Add is now p s a = record { place = inr (a.0, (a.1.0, a.1.1), ap (λ ph. lock_in ph t) is); comes = from_stage s (whole_part s a.1); folders = no_folder p t.at a.0 (subst NotDirectory (sym a.2) tt) }
-  lies Unlink is now p s a = record { place = inl a.0; comes = from_none s a.1; folders = no_folder p t.stage a.0 (file_there _ ((now.here t.stage).0 refl)) }
   lies SyncFolder is now p s a = absurd a
   lies Ended is now p s a = absurd a
 
   pub staged_lies : (p : Path) (s : Seen) → WritesOf t v p s → Lies t v p s
   staged_lies = lies t.phase refl needs.meets
 
--- what others may write at the target
-abbrev pub shared : Show → Seen → Type 0
-shared Rename s = ⊥
-shared Link s = NotVacant s
-
-abbrev pub shared_in : Phase → Show → Seen → Type 0
-shared_in Replace how s = ⊥
-shared_in Unlink how s = NotVacant s
-shared_in SyncFolder how s = shared how s
-shared_in Ended how s = shared how s
-shared_in ph how s = Unit {0}
+-- whether others may write at the target
+abbrev pub is_shared : Phase → Type 0
+is_shared Replace = ⊥
+is_shared SyncFolder = ⊥
+is_shared Ended = ⊥
+is_shared ph = Unit {0}
 
 -- The writes of others spare the task: they are harmless to the folders that lead to its target and to its staging path, write
--- nothing there, give its inode no other name, and leave its target alone once it has looked, or, where it links, not vacant.
+-- nothing there, give its inode no other name, and leave its target alone once it has looked.
 pub record Spares (W : Path → Seen → Type 0) (t : Staged) (v : View) : Type 0 where
   pub stage : (s : Seen) → W t.stage s → ⊥
   pub leads : ((p : Path) (s : Seen) → MayBe v p s → LeadsTo t.folder p s) → Harmless W (LeadsTo t.folder)
   pub parents : (p : Path) (s : Seen) → is_in p t.stage ≡ true → IsDirectory (shows v.now p) → W p s → IsDirectory s
   pub own : (n : ℕ) → v.now.at t.stage ≡ File n → ((p : Path) (s : Seen) → MayBe v p s → Own n t.stage p s) → Harmless W (Own n t.stage)
-  pub target : (s : Seen) → W t.at s → shared_in t.phase t.show s
+  pub target : (s : Seen) → W t.at s → is_shared t.phase
 
 module _ (W : Path → Seen → Type 0) (t : Staged) (v : View) (spares : Spares W t v) (needs : Needs t v) where
   not_stage : (p : Path) (s : Seen) → W p s → p ≡ t.stage → ⊥
   not_stage p s wrote e = spares.stage s (subst (λ q. W q s) e wrote)
 
-  at_target : (ph : Phase) → t.phase ≡ ph → (p : Path) (s : Seen) → W p s → p ≡ t.at → shared_in ph t.show s
-  at_target ph is p s wrote e = subst (λ ph. shared_in ph t.show s) is (spares.target s (subst (λ q. W q s) e wrote))
+  at_target : (ph : Phase) → t.phase ≡ ph → (p : Path) (s : Seen) → W p s → p ≡ t.at → is_shared ph
+  at_target ph is p s wrote e = subst is_shared is (spares.target s (subst (λ q. W q s) e wrote))
 
   own_out : (c : List ℕ) → shows v.now t.stage ≡ Leaf needs.inode t.meta c → ((p : Path) (s : Seen) → MayBe v p s → Own needs.inode t.stage p s) → Harmless W (Own needs.inode t.stage)
   own_out c is own = spares.own needs.inode (leaf_file v.now t.stage needs.inode t.meta c is).0 own
-
-  fixed_out : (how : Show) → ((s : Seen) → W t.at s → shared how s) → (p : Path) (s : Seen) → W p s → firm_shown how t.at needs.inode t.meta t.bytes p s
-  fixed_out Rename none p s wrote = λ m b e is. absurd (none s (subst (λ q. W q s) e wrote))
-  fixed_out Link there p s wrote = tt
-
-  lasts_out : (how : Show) → ((s : Seen) → W t.at s → shared how s) → (p : Path) (s : Seen) → W p s → p ≡ t.at → lasts how t.meta t.bytes s
-  lasts_out Rename none p s wrote e = absurd (none s (subst (λ q. W q s) e wrote))
-  lasts_out Link there p s wrote e = there s (subst (λ q. W q s) e wrote)
-
-  here_shown_out : (how : Show) → ((s : Seen) → W t.at s → shared how s) → (p : Path) (s : Seen) → W p s → here_shown how t.at needs.inode t.meta t.bytes p s
-  here_shown_out Rename none p s wrote = λ e. absurd (none s (subst (λ q. W q s) e wrote))
-  here_shown_out Link there p s wrote = λ e. there s (subst (λ q. W q s) e wrote)
-
-  target_in : (ph : Phase) → t.phase ≡ ph → (s : Seen) → W t.at s → shared_in ph t.show s
-  target_in ph is s wrote = at_target ph is t.at s wrote refl
 
   firm_out : (ph : Phase) → t.phase ≡ ph → Meets (firm_in ph t needs.inode) (here_in ph t needs.inode) v → Harmless W (firm_in ph t needs.inode)
   firm_out Clear is now p s wrote = spares.leads now.firm p s wrote
@@ -125,14 +101,8 @@ module _ (W : Path → Seen → Type 0) (t : Staged) (v : View) (spares : Spares
     own_out _ ((now.here t.stage).0 refl) (λ p s may. (now.firm p s may).1) p s wrote,
     λ m b e is. absurd (not_stage p s wrote e),
   )
-  firm_out Add is now p s wrote = (
-    spares.leads (λ p s may. (now.firm p s may).0) p s wrote,
-    own_out _ (now.here t.stage refl) (λ p s may. (now.firm p s may).1) p s wrote,
-    λ m b e is. absurd (not_stage p s wrote e),
-  )
-  firm_out Unlink is now p s wrote = spares.leads now.firm p s wrote
-  firm_out SyncFolder is now p s wrote = (spares.leads (λ p s may. (now.firm p s may).0) p s wrote, fixed_out t.show (target_in SyncFolder is) p s wrote)
-  firm_out Ended is now p s wrote = (spares.leads (λ p s may. (now.firm p s may).0) p s wrote, lasts_out t.show (target_in Ended is) p s wrote)
+  firm_out SyncFolder is now p s wrote = (spares.leads (λ p s may. (now.firm p s may).0) p s wrote, λ m b e is_file. absurd (at_target SyncFolder is p s wrote e))
+  firm_out Ended is now p s wrote = (spares.leads (λ p s may. (now.firm p s may).0) p s wrote, λ e. absurd (at_target Ended is p s wrote e))
 
   here_out : (ph : Phase) → t.phase ≡ ph → Meets (firm_in ph t needs.inode) (here_in ph t needs.inode) v → Harmless W (here_in ph t needs.inode)
   here_out Clear is now p s wrote = ((λ e. absurd (not_stage p s wrote e)), (λ in_. spares.parents p s in_ ((now.here p).1 in_) wrote))
@@ -141,20 +111,17 @@ module _ (W : Path → Seen → Type 0) (t : Staged) (v : View) (spares : Spares
   here_out SyncFile is now p s wrote = λ e. absurd (not_stage p s wrote e)
   here_out Look is now p s wrote = λ e. absurd (not_stage p s wrote e)
   here_out Replace is now p s wrote = ((λ e. absurd (not_stage p s wrote e)), (λ e. absurd (at_target Replace is p s wrote e)))
-  here_out Add is now p s wrote = λ e. absurd (not_stage p s wrote e)
-  here_out Unlink is now p s wrote = ((λ e. absurd (not_stage p s wrote e)), (λ e. at_target Unlink is p s wrote e))
-  here_out SyncFolder is now p s wrote = (here_shown_out t.show (target_in SyncFolder is) p s wrote, λ e. absurd (not_stage p s wrote e))
+  here_out SyncFolder is now p s wrote = ((λ e. absurd (at_target SyncFolder is p s wrote e)), λ e. absurd (not_stage p s wrote e))
   here_out Ended is now p s wrote = λ e. absurd (not_stage p s wrote e)
 
   -- The facts of the task stay true.
   pub staged_kept : (w : View) → Writes W v w → Needs t w
   staged_kept w writes = record {
     placed = needs.placed;
-    way = needs.way;
     inode = needs.inode;
     meets = meets_kept W (FirmOf t needs.inode) (HereOf t needs.inode) v w writes (firm_out t.phase refl needs.meets) (here_out t.phase refl needs.meets) needs.meets;
   }
 
 -- what the target may show once the task is done
-pub ended_lasts : (t : Staged) (v : View) → Needs t v → t.phase ≡ Ended → (s : Seen) → MayBe v t.at s → lasts t.show t.meta t.bytes s
+pub ended_lasts : (t : Staged) (v : View) → Needs t v → t.phase ≡ Ended → (s : Seen) → MayBe v t.at s → IsFileWith t.meta t.bytes s
 ended_lasts t v needs is s may = (subst (λ ph. firm_in ph t needs.inode t.at s) is (needs.meets.firm t.at s may)).1 refl

@@ -7,7 +7,7 @@ use Rattle.std.proofs.lemmas.Bool.Decides.{Decides-eqb}
 use Rattle.std.proofs.Math.Seq.{take-add}
 use Rattle.std.proofs.lemmas.List.{take_all}
 use Rattle.ost_types.specs.declared.meta.Meta.{Meta}
-use Rattle.ost_types.specs.Path.{Path, under, is_in, is_below}
+use Rattle.ost_types.specs.Path.{Path, is_in, is_below}
 use Rattle.ost_types.proofs.Paths.{is_in-under, is_in-self, is_below-self}
 use Rattle.fs_trait.specs.declared.types.Value.{Value}
 use Rattle.fs_trait.specs.declared.types.Value.TheVariants.{Absent, Folder, Link, File}
@@ -15,35 +15,27 @@ use Rattle.fs_trait.specs.declared.types.Node.{Node}
 use Rattle.fs_trait.specs.declared.types.FsErr.{FsErr}
 use Rattle.fs_trait.specs.View.{Disk, View, named, created, moved, extended, file_synced, folder_synced}
 use Rattle.fs_trait.specs.Image.{is_folder, Holds, IsTree}
-use Rattle.fs_trait.specs.Effect.{IsFresh, inode_of, no_new, no_file, no_leaf, no_link, no_move, no_folder, IsNode, one_inode, unless_leaf}
+use Rattle.fs_trait.specs.Effect.{IsFresh, inode_of, no_new, no_file, no_leaf, no_move, no_folder, IsNode, one_inode, unless_leaf}
 use Rattle.fs_trait.specs.Seen.{Seen, Vacant, Leaf, seen, shows, MayShow, MayBe, IsDirectory, NotDirectory}
 use Rattle.fs_trait.specs.Change.{Writes, Meets, Nothing, At, Moves, OfInode, LeadsTo, Own}
 use Rattle.fs_trait.proofs.Puts.{same_inode}
 use Rattle.fs_trait.proofs.Images.{not_both}
 use Rattle.fs_trait.proofs.Ways.{way-there}
-use Rattle.fs_trait.proofs.Refusals.{no_file-there, no_leaf-there, no_move-there, no_folder-there}
+use Rattle.fs_trait.proofs.Refusals.{no_file-there, no_move-there, no_folder-there}
 use Rattle.fs_trait.proofs.Kept.{meets_kept, firm_kept, weaker}
-use Rattle.fs_trait.proofs.Effects.{may_now, leaf_from, leaf_held, named-writes, created-writes, moved-writes, extended-writes_own, file_synced-writes, folder_synced-writes, shows_named, shows_named_apart, shows_created, shows_extended, shows_moved, file_synced-firm, folder_synced-firm}
+use Rattle.fs_trait.proofs.Effects.{may_now, leaf_from, leaf_held, named-writes, created-writes, moved-writes, extended-writes_own, file_synced-writes, folder_synced-writes, shows_named, shows_created, shows_extended, shows_moved, file_synced-firm, folder_synced-firm}
 use Rattle.fs_trait.proofs.Claims.{folder_shows}
 use Rattle.fs_trait.proofs.Facts.{vacant_absent, leaf_file, no_folder_shown, may_held, under-not_below, no_new-free, shows_kept}
-use Rattle.staged_file.specs.declared.phase.Show.{Show}
-use Rattle.staged_file.specs.declared.phase.Show.TheVariants as show
 use Rattle.staged_file.specs.declared.phase.Phase.{Phase}
-use Rattle.staged_file.specs.declared.phase.Phase.TheVariants.{Clear, Create, Append, SyncFile, Look, Replace, Add, Unlink, SyncFolder}
-use Rattle.staged_file.specs.Staged.{Staged, is_directory, filled, first_show, next_in}
-use Rattle.staged_file.specs.Steps.{IsPlaced, NotVacant, IsWhole, FixedFile, writes_in, WritesOf, firm_shown, lasts, firm_in, here_shown, here_in, shown_by, Needs}
+use Rattle.staged_file.specs.declared.phase.Phase.TheVariants.{Clear, Create, Append, SyncFile, Look, Replace, SyncFolder}
+use Rattle.staged_file.specs.Staged.{Staged, is_directory, filled, next_in}
+use Rattle.staged_file.specs.Steps.{IsPlaced, IsFileWith, IsWhole, FixedFile, writes_in, WritesOf, firm_in, here_in, Needs}
 
 -- a step whose call isn't refused
 pub record Step (t new : Staged) (v : View) (refusal : Option FsErr) (w : View) : Type 0 where
   pub free : refusal ≡ None
   pub writes : Writes (WritesOf t v) v w
   pub after : Needs new w
-
-there_shown : (d : Disk) (z : Value) → z ≢ Absent → NotVacant (seen d z)
-there_shown d Absent there = there refl
-there_shown d (Folder m) there = tt
-there_shown d (Link m l) there = tt
-there_shown d (File n) there = tt
 
 leaf_free : (z : Value) → z ≢ Absent → is_folder z ≡ false → unless_leaf z ≡ None
 leaf_free Absent there leaf = absurd (there refl)
@@ -77,24 +69,12 @@ looked_none d (File n) x is none = let n : true ≡ false = ap is_some (sym is) 
 pub looked_some : (d : Disk) (z : Value) (x : Option Node) → IsNode d z x → is_some x ≡ true → z ≢ Absent
 looked_some d z x is some absent = let e : x ≡ None = subst (λ z. IsNode d z x) absent is in let n : false ≡ true = ap is_some (sym e) ∙ some in cc
 
--- a link to a name in a folder is free where nothing is there
-no_link-free : (d : Disk) (from f : Path) (x : List ℕ) → IsTree d → no_leaf from d ≡ None → is_folder (d.at f) ≡ true → d.at (under f x) ≡ Absent → no_link from (under f x) d ≡ None
-unfolding no_link
-no_link-free d from f x tree leaf folder absent = rw leaf (no_new-free d f x tree folder absent)
-
 apart_inodes : (n k : ℕ) → n ≢ k → one_inode (File n) (File k) ≡ false
 apart_inodes n k apart = by (n == k) (Decides-eqb n k)
   where
     by : (b : Bool) → Decides b (n ≡ k) → b ≡ false
     by true d = absurd (apart (d.0 refl))
     by false d = refl
-
--- what may be shown of a value that isn't absent
-may_there : (v : View) (z : Value) (s : Seen) → NotVacant (seen v.now z) → MayShow v z s → NotVacant s
-may_there v Absent s there e = absurd there
-may_there v (Folder m) s there e = subst NotVacant (sym e) tt
-may_there v (Link m l) s there e = subst NotVacant (sym e) tt
-may_there v (File n) s there (b, e, is) = subst NotVacant (sym e) tt
 
 piece_on : (xs : List ℕ) (k end : ℕ) → k ≤ end → take k xs ++ take (end - k) (drop k xs) ≡ take end xs
 piece_on xs k end le = let e : k + (end - k) ≡ end = omega (arith, le) in sym (take-add k (end - k) xs) ∙ ap (λ n. take n xs) e
@@ -130,8 +110,8 @@ filled_needs t k n w placed firm here = by (nat_lt k (length t.bytes)) refl
     at_stage b is p e = ap (shows w.now) e ∙ is
 
     by : (b : Bool) → nat_lt k (length t.bytes) ≡ b → Needs (record t { written = k; phase = if b then Append else SyncFile }) w
-    by true e = record { placed = placed; way = tt; inode = n; meets = record { firm = firm; here = at_stage (take k t.bytes) here } }
-    by false e = record { placed = placed; way = tt; inode = n; meets = record { firm = firm; here = at_stage t.bytes (subst (λ b. shows w.now t.stage ≡ Leaf n t.meta b) (take_all k t.bytes (ltb-false k (length t.bytes) e)) here) } }
+    by true e = record { placed = placed; inode = n; meets = record { firm = firm; here = at_stage (take k t.bytes) here } }
+    by false e = record { placed = placed; inode = n; meets = record { firm = firm; here = at_stage t.bytes (subst (λ b. shows w.now t.stage ≡ Leaf n t.meta b) (take_all k t.bytes (ltb-false k (length t.bytes) e)) here) } }
 
 -- a rename leaves nothing where the file stood
 shows_moved_from : (v : View) (from to : Path) → shows (moved from to v).now from ≡ Vacant
@@ -141,9 +121,6 @@ shows_moved_from v from to = shows_named (named to (v.now.at from) v) from Absen
 module _ (t : Staged) (v : View) (tree : IsTree v.now) (needs : Needs t v) where
   meets_in : (ph : Phase) → t.phase ≡ ph → Meets (firm_in ph t needs.inode) (here_in ph t needs.inode) v
   meets_in ph is = subst (λ f. Meets (firm_in f t needs.inode) (here_in f t needs.inode) v) is needs.meets
-
-  way_in : (ph : Phase) → t.phase ≡ ph → shown_by ph t.show
-  way_in ph is = subst (λ f. shown_by f t.show) is needs.way
 
   written : (ph : Phase) (w : View) → t.phase ≡ ph → Writes (writes_in ph t v) v w → Writes (WritesOf t v) v w
   written ph w is writes = subst (λ f. Writes (writes_in f t v) v w) (sym is) writes
@@ -166,7 +143,6 @@ module _ (t : Staged) (v : View) (tree : IsTree v.now) (needs : Needs t v) where
       → ((p : Path) → is_in p t.stage ≡ true → IsDirectory (shows w.now p)) → Needs (next_in Clear t) w
   clear_leads w leads vacant parents = record {
     placed = needs.placed;
-    way = tt;
     inode = needs.inode;
     meets = record { firm = leads; here = λ p. ((λ e. ap (shows w.now) e ∙ vacant), parents p) };
   }
@@ -236,11 +212,6 @@ module _ (t : Staged) (v : View) (tree : IsTree v.now) (needs : Needs t v) where
       (stage_inode (take t.written t.bytes) ((meets_in Append is).here t.stage refl)) (append_inode b end on is)
 
   -- 4. its sync
-  show_needs : (how : Show) (w : View) → t.show ≡ how → ((p : Path) (s : Seen) → MayBe w p s → LeadsTo t.folder p s × Own needs.inode t.stage p s × FixedFile t.stage needs.inode t.meta t.bytes p s)
-      → ((p : Path) → p ≡ t.stage → shows w.now p ≡ Leaf needs.inode t.meta t.bytes) → Needs (record t { phase = first_show how }) w
-  show_needs show.Rename w is firm here = record { placed = needs.placed; way = is; inode = needs.inode; meets = record { firm = firm; here = here } }
-  show_needs show.Link w is firm here = record { placed = needs.placed; way = is; inode = needs.inode; meets = record { firm = firm; here = here } }
-
   sync_inode : t.phase ≡ SyncFile → Step t (next_in SyncFile t) v (no_file t.stage v.now) (file_synced needs.inode v)
   sync_inode is =
       let n = needs.inode in
@@ -252,15 +223,20 @@ module _ (t : Staged) (v : View) (tree : IsTree v.now) (needs : Needs t v) where
       record {
         free = no_file-there v.now tree t.stage n file.0;
         writes = written SyncFile w is (file_synced-writes v n);
-        after = show_needs t.show w refl
-            (λ p s may. (
+        after = record {
+          placed = needs.placed;
+          inode = n;
+          meets = record {
+            firm = λ p s may. (
               (kept.firm p s may).0,
               (kept.firm p s may).1,
               λ m b here e.
                   let leaf : MayBe w p (Leaf n m b) = subst (MayBe w p) e may in
                   ((leaf_from w leaf.value n m b leaf.shown).1 ∙ meta_shown w.now t.stage n t.meta t.bytes (kept.here t.stage refl), file_synced-firm v n p m b leaf ∙ file.1),
-            ))
-            kept.here;
+            );
+            here = kept.here;
+          };
+        };
       }
 
   pub sync_file : t.phase ≡ SyncFile → Step t (next_in SyncFile t) v (no_file t.stage v.now) (file_synced (inode_of (v.now.at t.stage)) v)
@@ -272,7 +248,6 @@ module _ (t : Staged) (v : View) (tree : IsTree v.now) (needs : Needs t v) where
       let now = meets_in Look is in
       record {
         placed = needs.placed;
-        way = way_in Look is;
         inode = needs.inode;
         meets = record { firm = now.firm; here = λ p. (now.here p, λ e. subst (λ q. NotDirectory (shows v.now q)) (sym e) leaf) };
       }
@@ -284,17 +259,6 @@ module _ (t : Staged) (v : View) (tree : IsTree v.now) (needs : Needs t v) where
       let a : MayShow v (File n) s = subst (λ z. MayShow v z s) file shown in
       let b = fixed t.stage s (record { value = v.now.at t.stage; held = inl refl; shown = shown }) (v.now.meta n) a.0 refl a.1 in
       (n, a.1 ∙ ap (λ m. Leaf n m a.0) b.0 ∙ ap (Leaf n t.meta) b.1, file)
-
-  -- the file is shown, and nothing stands at the staging path
-  shown_needs : (how : Show) (w : View) → ((p : Path) (s : Seen) → MayBe w p s → LeadsTo t.folder p s × firm_shown how t.at needs.inode t.meta t.bytes p s) → ((p : Path) → here_shown how t.at needs.inode t.meta t.bytes p (shows w.now p))
-      → shows w.now t.stage ≡ Vacant → how ≡ t.show → Needs (record t { phase = SyncFolder }) w
-  shown_needs how w firm here gone is = record {
-    placed = needs.placed;
-    way = tt;
-    inode = needs.inode;
-    meets = subst (λ how. Meets (λ p s. LeadsTo t.folder p s × firm_shown how t.at needs.inode t.meta t.bytes p s) (λ p s. here_shown how t.at needs.inode t.meta t.bytes p s × (p ≡ t.stage → s ≡ Vacant)) w) is
-        (record { firm = firm; here = λ p. (here p, λ e. ap (shows w.now) e ∙ gone) });
-  }
 
   -- 6. the rename
   pub two_inodes : t.phase ≡ Replace → one_inode (v.now.at t.stage) (v.now.at t.at) ≡ false
@@ -330,82 +294,34 @@ module _ (t : Staged) (v : View) (tree : IsTree v.now) (needs : Needs t v) where
             (no_move-there v.now tree t.stage n t.folder inside.0 file.0 (folder_now (λ p s may. (now.firm p s may).0)))
             (no_folder_shown v.now t.at ((now.here t.at).1 refl));
         writes = written Replace w is writes;
-        after = shown_needs show.Rename w
-            (λ p s may. (
+        after = record {
+          placed = needs.placed;
+          inode = n;
+          meets = record {
+            firm = λ p s may. (
               leads p s may,
               λ m b e is. ⊎_elim
                   (λ old. absurd (needs.placed.apart (sym ((now.firm p s old).1 m b is) ∙ e)))
                   (λ wrote. ⊎_elim (λ a. same_leaf n m b a.1.0 t.meta t.bytes (sym is ∙ a.1.1)) (λ a. let c : Vacant ≡ Leaf n m b = sym a.1 ∙ is in cc) wrote)
                   (writes.only p s may),
-            ))
-            (λ p e. ap (shows w.now) e ∙ shows_moved v t.stage t.at needs.placed.apart ∙ here)
-            (shows_moved_from v t.stage t.at)
-            (sym (way_in Replace is));
+            );
+            here = λ p. (
+              (λ e. ap (shows w.now) e ∙ shows_moved v t.stage t.at needs.placed.apart ∙ here),
+              (λ e. ap (shows w.now) e ∙ shows_moved_from v t.stage t.at),
+            );
+          };
+        };
       }
 
-  -- 7. the link
-  linked : (w : View) → ((p : Path) (s : Seen) → MayBe w p s → LeadsTo t.folder p s) → shows w.now t.stage ≡ Leaf needs.inode t.meta t.bytes → NotVacant (shows w.now t.at) → t.show ≡ show.Link → Needs (next_in Add t) w
-  linked w leads stage there way = record {
-    placed = needs.placed;
-    way = way;
-    inode = needs.inode;
-    meets = record { firm = leads; here = λ p. ((λ e. ap (shows w.now) e ∙ stage), (λ e. subst (λ q. NotVacant (shows w.now q)) (sym e) there)) };
-  }
-
-  -- something stands there already
-  pub add_there : t.phase ≡ Add → v.now.at t.at ≢ Absent → Needs (next_in Add t) v
-  add_there is there =
-      let now = meets_in Add is in
-      linked v (λ p s may. (now.firm p s may).0) (now.here t.stage refl) (there_shown v.now (v.now.at t.at) there) (way_in Add is)
-
-  pub add : t.phase ≡ Add → v.now.at t.at ≡ Absent → Step t (next_in Add t) v (no_link t.stage t.at v.now) (named t.at (v.now.at t.stage) v)
-  add is absent =
-      let n = needs.inode in
-      let w = named t.at (v.now.at t.stage) v in
-      let now = meets_in Add is in
-      let here = now.here t.stage refl in
-      let file = leaf_file v.now t.stage n t.meta t.bytes here in
-      let inside = needs.placed.inside in
-      let vacant : shows v.now t.at ≡ Vacant = ap (seen v.now) absent in
-      let writes : Writes (writes_in Add t v) v w =
-      weaker (At t.at (MayShow v (v.now.at t.stage))) (writes_in Add t v) v w (λ p s a. (a.0, whole (λ p s may. (now.firm p s may).2) file.0 s a.1, vacant)) (named-writes v t.at (v.now.at t.stage)) in
-      record {
-        free = subst (λ q. v.now.at q ≡ Absent → no_link t.stage q v.now ≡ None) (sym inside.1)
-            (no_link-free v.now t.stage t.folder inside.0 tree (no_leaf-there v.now tree t.stage n file.0) (folder_now (λ p s may. (now.firm p s may).0))) absent;
-        writes = written Add w is writes;
-        after = linked w (leads_kept (writes_in Add t v) w writes (λ p s a. inr a.0) (λ p s may. (now.firm p s may).0))
-            (shows_named_apart v t.at (v.now.at t.stage) t.stage (λ e. needs.placed.apart (sym e)) ∙ here)
-            (subst NotVacant (sym (shows_named v t.at (v.now.at t.stage) ∙ here)) tt)
-            (way_in Add is);
-      }
-
-  -- 8. the staging path goes
-  unlinked : (w : View) → ((p : Path) (s : Seen) → MayBe w p s → LeadsTo t.folder p s) → NotVacant (shows w.now t.at) → shows w.now t.stage ≡ Vacant → show.Link ≡ t.show → Needs (next_in Unlink t) w
-  unlinked w leads there gone is = shown_needs show.Link w (λ p s may. (leads p s may, tt)) (λ p e. subst (λ q. NotVacant (shows w.now q)) (sym e) there) gone is
-
-  pub unlink : t.phase ≡ Unlink → Step t (next_in Unlink t) v (no_leaf t.stage v.now) (named t.stage Absent v)
-  unlink is =
-      let w = named t.stage Absent v in
-      let now = meets_in Unlink is in
-      let here = (now.here t.stage).0 refl in
-      let file = leaf_file v.now t.stage needs.inode t.meta t.bytes here in
-      let writes : Writes (writes_in Unlink t v) v w = named-writes v t.stage Absent in
-      record {
-        free = no_leaf-there v.now tree t.stage needs.inode file.0;
-        writes = written Unlink w is writes;
-        after = unlinked w (leads_kept (writes_in Unlink t v) w writes (λ p s a. inl a.0) now.firm)
-            (subst NotVacant (sym (shows_named_apart v t.stage Absent t.at needs.placed.apart)) ((now.here t.at).1 refl)) (shows_named v t.stage Absent) (sym (way_in Unlink is));
-      }
-
-  -- 9. the folder's sync
-  settled : (how : Show) → ((p : Path) (s : Seen) → MayBe v p s → LeadsTo t.folder p s × firm_shown how t.at needs.inode t.meta t.bytes p s) → ((p : Path) → here_shown how t.at needs.inode t.meta t.bytes p (shows v.now p)) → (s : Seen) → MayShow v (v.now.at t.at) s → lasts how t.meta t.bytes s
-  settled show.Rename firm here s shown =
+  -- 7. the folder's sync
+  settled : ((p : Path) (s : Seen) → MayBe v p s → LeadsTo t.folder p s × FixedFile t.at needs.inode t.meta t.bytes p s) → ((p : Path) → p ≡ t.at → shows v.now p ≡ Leaf needs.inode t.meta t.bytes)
+      → (s : Seen) → MayShow v (v.now.at t.at) s → IsFileWith t.meta t.bytes s
+  settled firm here s shown =
       let n = needs.inode in
       let file = leaf_file v.now t.at n t.meta t.bytes (here t.at refl) in
       let a : MayShow v (File n) s = subst (λ z. MayShow v z s) file.0 shown in
       let b = (firm t.at s (record { value = v.now.at t.at; held = inl refl; shown = shown })).1 (v.now.meta n) a.0 refl a.1 in
       (n, a.1 ∙ ap (λ m. Leaf n m a.0) b.0 ∙ ap (Leaf n t.meta) b.1)
-  settled show.Link firm here s shown = may_there v (v.now.at t.at) s (here t.at refl) shown
 
   pub sync_folder : t.phase ≡ SyncFolder → Step t (next_in SyncFolder t) v (no_folder t.folder v.now) (folder_synced t.folder v)
   sync_folder is =
@@ -419,12 +335,11 @@ module _ (t : Staged) (v : View) (tree : IsTree v.now) (needs : Needs t v) where
         writes = written SyncFolder w is (folder_synced-writes v t.folder);
         after = record {
           placed = needs.placed;
-          way = tt;
           inode = n;
           meets = record {
             firm = λ p s may. (
               leads p s may,
-              λ e. settled t.show now.firm (λ q. (now.here q).0) s
+              λ e. settled now.firm (λ q. (now.here q).0) s
                   (subst (λ q. MayBe w q s → MayShow v (v.now.at q) s) (sym inside.1) (folder_synced-firm v t.folder inside.0 s) (subst (λ q. MayBe w q s) e may)),
             );
             here = λ p e. shows_kept Nothing v w p (folder_synced-writes v t.folder) (λ s none. none) ∙ (now.here p).1 e;

@@ -1,25 +1,21 @@
 -- A task alone, from its first step to any later moment.
-use Rattle.std.proofs.Common.{◌≡◌, inl, inr, ⊎_elim, ℕ, refl, sym, ◌∙◌, ap, subst, List, Option, Some, Result, Ok, Err}
-use Rattle.ost_types.specs.declared.meta.Meta.{Meta}
+use Rattle.std.proofs.Common.{◌≡◌, inl, inr, ⊎_elim, ℕ, refl, sym, ◌∙◌, subst, Option, Some, Result, Ok, Err}
 use Rattle.ost_types.specs.Path.{Path}
 use Rattle.fs_trait.specs.declared.types.FsErr.{FsErr}
 use Rattle.fs_trait.specs.declared.types.FsErr.TheVariants.{Failed, Exists, Missing, NotFolder, NotEmpty, NoMemory}
 use Rattle.fs_trait.specs.declared.task.StepResult.{StepResult}
 use Rattle.fs_trait.specs.declared.task.StepResult.TheVariants.{More, Done}
-use Rattle.fs_trait.specs.View.{Disk, View}
-use Rattle.fs_trait.specs.Image.{Image, EachImage, Told, reads}
-use Rattle.fs_trait.specs.Seen.{Seen, Vacant, shows, MayBe, IsDirectory, NotDirectory, bytes_in}
+use Rattle.fs_trait.specs.View.{View}
+use Rattle.fs_trait.specs.Image.{Told}
+use Rattle.fs_trait.specs.Seen.{Seen, shows, MayBe, IsDirectory, NotDirectory}
 use Rattle.fs_trait.specs.Change.{Writes, LeadsTo}
 use Rattle.fs_trait.proofs.Kept.{firm_kept, then_writes, weaker}
 use Rattle.fs_trait.proofs.Facts.{leaf_not_directory}
-use Rattle.fs_trait.proofs.Claims.{Image-under, Image-folder, reads_shows}
-use Rattle.staged_file.specs.declared.phase.Show.{Show}
-use Rattle.staged_file.specs.declared.phase.Show.TheVariants.{Rename, Link}
 use Rattle.staged_file.specs.declared.phase.Phase.{Phase}
-use Rattle.staged_file.specs.declared.phase.Phase.TheVariants.{Clear, Create, Append, SyncFile, Look, Replace, Add, Unlink, SyncFolder, Ended}
+use Rattle.staged_file.specs.declared.phase.Phase.TheVariants.{Clear, Create, Append, SyncFile, Look, Replace, SyncFolder, Ended}
 use Rattle.staged_file.specs.Staged.{Staged, next_in, IsStepped}
-use Rattle.staged_file.specs.Steps.{IsFileWith, writes_in, WritesOf, lasts, firm_in, here_in, shown_by, Needs, Refuses}
-use Rattle.staged_file.specs.Whole.{Written, Leaves, IsThere, IsCleared, Stops}
+use Rattle.staged_file.specs.Steps.{IsFileWith, writes_in, WritesOf, firm_in, Needs, Refuses}
+use Rattle.staged_file.specs.Whole.{Written, Stops}
 use Rattle.staged_file.proofs.StepLemmas.{off_stage, off_at}
 
 -- in terms of the views of one file system
@@ -33,25 +29,22 @@ pub record IsSame (t u : Staged) : Type 0 where
   pub at : u.at ≡ t.at
   pub meta : u.meta ≡ t.meta
   pub bytes : u.bytes ≡ t.bytes
-  pub show : u.show ≡ t.show
 
 pub IsSame-refl : (t : Staged) → IsSame t t
-IsSame-refl t = record { stage = refl; folder = refl; at = refl; meta = refl; bytes = refl; show = refl }
+IsSame-refl t = record { stage = refl; folder = refl; at = refl; meta = refl; bytes = refl }
 
 pub IsSame-trans : (t u x : Staged) → IsSame t u → IsSame u x → IsSame t x
-IsSame-trans t u x a b = record { stage = b.stage ∙ a.stage; folder = b.folder ∙ a.folder; at = b.at ∙ a.at; meta = b.meta ∙ a.meta; bytes = b.bytes ∙ a.bytes; show = b.show ∙ a.show }
+IsSame-trans t u x a b = record { stage = b.stage ∙ a.stage; folder = b.folder ∙ a.folder; at = b.at ∙ a.at; meta = b.meta ∙ a.meta; bytes = b.bytes ∙ a.bytes }
 
 same_next : (ph : Phase) (t : Staged) → IsSame t (next_in ph t)
-same_next Clear t = record { stage = refl; folder = refl; at = refl; meta = refl; bytes = refl; show = refl }
-same_next Create t = record { stage = refl; folder = refl; at = refl; meta = refl; bytes = refl; show = refl }
-same_next Append t = record { stage = refl; folder = refl; at = refl; meta = refl; bytes = refl; show = refl }
-same_next SyncFile t = record { stage = refl; folder = refl; at = refl; meta = refl; bytes = refl; show = refl }
-same_next Look t = record { stage = refl; folder = refl; at = refl; meta = refl; bytes = refl; show = refl }
-same_next Replace t = record { stage = refl; folder = refl; at = refl; meta = refl; bytes = refl; show = refl }
-same_next Add t = record { stage = refl; folder = refl; at = refl; meta = refl; bytes = refl; show = refl }
-same_next Unlink t = record { stage = refl; folder = refl; at = refl; meta = refl; bytes = refl; show = refl }
-same_next SyncFolder t = record { stage = refl; folder = refl; at = refl; meta = refl; bytes = refl; show = refl }
-same_next Ended t = record { stage = refl; folder = refl; at = refl; meta = refl; bytes = refl; show = refl }
+same_next Clear t = record { stage = refl; folder = refl; at = refl; meta = refl; bytes = refl }
+same_next Create t = record { stage = refl; folder = refl; at = refl; meta = refl; bytes = refl }
+same_next Append t = record { stage = refl; folder = refl; at = refl; meta = refl; bytes = refl }
+same_next SyncFile t = record { stage = refl; folder = refl; at = refl; meta = refl; bytes = refl }
+same_next Look t = record { stage = refl; folder = refl; at = refl; meta = refl; bytes = refl }
+same_next Replace t = record { stage = refl; folder = refl; at = refl; meta = refl; bytes = refl }
+same_next SyncFolder t = record { stage = refl; folder = refl; at = refl; meta = refl; bytes = refl }
+same_next Ended t = record { stage = refl; folder = refl; at = refl; meta = refl; bytes = refl }
 
 pub same_stepped : {T : Type 0} (old : Staged) (result : Result (StepResult T) FsErr) (new : Staged) → IsStepped old result new → IsSame old new
 same_stepped old (Ok More) new s = subst (IsSame old) (sym s.0) (same_next old.phase old)
@@ -67,8 +60,6 @@ written_in SyncFile u v p s a = absurd a
 written_in Look u v p s a = absurd a
 written_in Replace u v p s (inl a) = inr (a.0, (a.1.0, a.1.1))
 written_in Replace u v p s (inr a) = inl (a.0, subst NotDirectory (sym a.1) tt)
-written_in Add u v p s a = inr (a.0, (a.1.0, a.1.1))
-written_in Unlink u v p s a = inl (a.0, subst NotDirectory (sym a.1) tt)
 written_in SyncFolder u v p s a = absurd a
 written_in Ended u v p s a = absurd a
 
@@ -88,54 +79,16 @@ leads_in Append t n p s f = f.0
 leads_in SyncFile t n p s f = f.0
 leads_in Look t n p s f = f.0
 leads_in Replace t n p s f = f.0
-leads_in Add t n p s f = f.0
-leads_in Unlink t n p s f = f
 leads_in SyncFolder t n p s f = f.0
 leads_in Ended t n p s f = f.0
 
 pub needs_leads : (t : Staged) (v : View) → Needs t v → (p : Path) (s : Seen) → MayBe v p s → LeadsTo t.folder p s
 needs_leads t v needs p s may = leads_in t.phase t needs.inode p s (needs.meets.firm p s may)
 
--- the file is read with its bytes
-pub file_reads : (d : Disk) (p : Path) (m : Meta) (b : List ℕ) → IsFileWith m b (shows d p) → reads d p ≡ Some b
-file_reads d p m b file = reads_shows d p ∙ ap bytes_in file.1
-
 module _ (t : Staged) (v : View) (needs : Needs t v) (w : View) (writes : Writes (Written t) v w) where
   leads : (p : Path) (s : Seen) → MayBe w p s → LeadsTo t.folder p s
   leads = firm_kept (Written t) (LeadsTo t.folder) v w writes
       (λ p s a below. absurd (⊎_elim (λ a. off_stage t needs.placed p a.0 below) (λ a. off_at t needs.placed p a.0 below) a)) (needs_leads t v needs)
-
-  may_target : (d : Disk) → Image w d → MayBe w t.at (shows d t.at)
-  may_target d i =
-      let x = needs.placed.inside in
-      subst (λ q. MayBe w q (shows d q)) (sym x.1) (Image-under w d i t.folder x.0 (Image-folder w d i t.folder leads))
-
-  -- what stands at the target, if it is new
-  new_target : (d : Disk) → Written t t.at (shows d t.at) → IsFileWith t.meta t.bytes (shows d t.at)
-  new_target d a = ⊎_elim (λ a. absurd (needs.placed.apart (sym a.0))) (λ a. a.1) a
-
-  pub leaves_each : EachImage w (Leaves t v)
-  leaves_each d i = record {
-    target = ⊎_elim (λ old. inl old) (λ a. inr (new_target d a)) (writes.only t.at (shows d t.at) (may_target d i));
-    others = λ f x folder. writes.only _ _ (Image-under w d i f x folder);
-    gone = i.gone;
-  }
-
-  there : (how : Show) (d : Disk) → Image w d → t.show ≡ how → lasts how t.meta t.bytes (shows d t.at) → IsThere t v d
-  there Rename d i is last = inl last
-  there Link d i is last = ⊎_elim (λ old. inr (is, old, last)) (λ a. inl (new_target d a)) (writes.only t.at (shows d t.at) (may_target d i))
-
-  pub there_each : (u : Staged) → IsSame t u → u.phase ≡ Ended → Needs u w → EachImage w (IsThere t v)
-  there_each u same ended now d i =
-      let firm = subst (λ ph. firm_in ph u now.inode t.at (shows d t.at)) ended (now.meets.firm t.at (shows d t.at) (may_target d i)) in
-      let last : lasts u.show u.meta u.bytes (shows d t.at) = firm.1 (sym same.at) in
-      there t.show d i refl (subst (λ how. lasts how t.meta t.bytes (shows d t.at)) same.show
-      (subst (λ m. lasts u.show m t.bytes (shows d t.at)) same.meta (subst (λ b. lasts u.show u.meta b (shows d t.at)) same.bytes last)))
-
-  pub cleared : (u : Staged) → IsSame t u → u.phase ≡ Ended → Needs u w → IsCleared t w
-  cleared u same ended now =
-      let gone : shows w.now u.stage ≡ Vacant = subst (λ ph. here_in ph u now.inode u.stage (shows w.now u.stage)) ended (now.meets.here u.stage) refl in
-      ap (shows w.now) (sym same.stage) ∙ gone
 
   directory_file : (s : Seen) → IsDirectory s → IsFileWith t.meta t.bytes s → ⊥
   directory_file s is file = subst IsDirectory file.1 is
@@ -144,12 +97,9 @@ module _ (t : Staged) (v : View) (needs : Needs t v) (w : View) (writes : Writes
   stops u same now Failed r = tt
   stops u same now NoMemory r = tt
   stops u same now Exists r =
-      let way : u.show ≡ Rename = subst (λ ph. shown_by ph u.show) r.0 now.way in
-      let is : IsDirectory (shows w.now t.at) = subst (λ q. IsDirectory (shows w.now q)) same.at r.1 in (
-        sym same.show ∙ way,
-        ⊎_elim (λ e. subst IsDirectory e is)
-            (λ a. absurd (⊎_elim (λ a. needs.placed.apart (sym a.0)) (λ a. directory_file (shows w.now t.at) is a.1) a)) (writes.now t.at),
-      )
+      let is : IsDirectory (shows w.now t.at) = subst (λ q. IsDirectory (shows w.now q)) same.at r.1 in
+      ⊎_elim (λ e. subst IsDirectory e is)
+      (λ a. absurd (⊎_elim (λ a. needs.placed.apart (sym a.0)) (λ a. directory_file (shows w.now t.at) is a.1) a)) (writes.now t.at)
   stops u same now Missing r = absurd r
   stops u same now NotFolder r = absurd r
   stops u same now NotEmpty r = absurd r

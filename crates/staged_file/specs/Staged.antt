@@ -11,10 +11,8 @@ use Rattle.fs_trait.specs.declared.task.Need.TheVariants as need
 use Rattle.fs_trait.specs.declared.types.Node.{Node}
 use Rattle.fs_trait.specs.declared.types.Node.TheVariants.{Folder}
 use Rattle.fs_trait.specs.Effect.{Next}
-use Rattle.staged_file.specs.declared.phase.Show.{Show}
-use Rattle.staged_file.specs.declared.phase.Show.TheVariants.{Rename, Link}
 use Rattle.staged_file.specs.declared.phase.Phase.{Phase}
-use Rattle.staged_file.specs.declared.phase.Phase.TheVariants.{Clear, Create, Append, SyncFile, Look, Replace, Add, Unlink, SyncFolder, Ended}
+use Rattle.staged_file.specs.declared.phase.Phase.TheVariants.{Clear, Create, Append, SyncFile, Look, Replace, SyncFolder, Ended}
 
 -- the file's bytes and attributes, where it is staged and where it goes, the lock for that, and how far it is
 pub record Staged : Type 0 where
@@ -23,7 +21,6 @@ pub record Staged : Type 0 where
   pub at : Path
   pub meta : Meta
   pub bytes : List ℕ
-  pub show : Show
   pub lock : Need
   pub phase : Phase
   pub written : ℕ
@@ -44,20 +41,14 @@ piece_end t = if nat_lt piece (length t.bytes - t.written) then t.written + piec
 abbrev pub filled : ℕ → Staged → Staged
 filled n t = record t { written = n; phase = if nat_lt n (length t.bytes) then Append else SyncFile }
 
-abbrev pub first_show : Show → Phase
-first_show Rename = Look
-first_show Link = Add
-
 -- the task after its next step
 abbrev pub next_in : Phase → Staged → Staged
 next_in Clear t = record t { phase = Create }
 next_in Create t = filled 0 t
 next_in Append t = filled (piece_end t) t
-next_in SyncFile t = record t { phase = first_show t.show }
+next_in SyncFile t = record t { phase = Look }
 next_in Look t = record t { phase = Replace }
 next_in Replace t = record t { phase = SyncFolder }
-next_in Add t = record t { phase = Unlink }
-next_in Unlink t = record t { phase = SyncFolder }
 next_in SyncFolder t = record t { phase = Ended }
 next_in Ended t = t
 
@@ -78,14 +69,12 @@ IsStepped old (Err e) new = new ≡ old
 
 -- no more steps than this are left: each byte counts as one
 abbrev pub left_in : Phase → Staged → ℕ
-left_in Clear t = 8 + length t.bytes
-left_in Create t = 7 + length t.bytes
-left_in Append t = 6 + (length t.bytes - t.written)
-left_in SyncFile t = 5
-left_in Look t = 4
-left_in Replace t = 3
-left_in Add t = 3
-left_in Unlink t = 2
+left_in Clear t = 7 + length t.bytes
+left_in Create t = 6 + length t.bytes
+left_in Append t = 5 + (length t.bytes - t.written)
+left_in SyncFile t = 4
+left_in Look t = 3
+left_in Replace t = 2
 left_in SyncFolder t = 1
 left_in Ended t = 0
 
@@ -105,20 +94,17 @@ lock_in ph t = t.lock
 abbrev pub Takes : Phase → ℕ → ℕ → Type 0
 Takes Clear before now = Next before now ⊎ (now ≡ before)
 Takes Look before now = now ≡ before
-Takes Add before now = Next before now ⊎ (now ≡ before)
 Takes Ended before now = now ≡ before
 Takes ph before now = Next before now
 
 -- the steps behind the one that shows the file are owed
 abbrev pub is_owed : Phase → Bool
-is_owed Unlink = true
 is_owed SyncFolder = true
 is_owed ph = false
 
 -- for how many owed steps a step leaves room
 abbrev pub owed_after : Phase → ℕ
 owed_after Replace = 1
-owed_after Add = 2
 owed_after ph = 0
 
 -- A step takes the room of at most one call. An owed one that has room doesn't lack memory, and the one that shows the

@@ -9,10 +9,8 @@ use Rattle.fs_trait.specs.View.{View}
 use Rattle.fs_trait.specs.Effect.{IsFresh}
 use Rattle.fs_trait.specs.Seen.{Seen, Vacant, Leaf, shows, IsDirectory, NotDirectory}
 use Rattle.fs_trait.specs.Change.{Meets, Moves, OfInode, LeadsTo, Own}
-use Rattle.staged_file.specs.declared.phase.Show.{Show}
-use Rattle.staged_file.specs.declared.phase.Show.TheVariants.{Rename, Link}
 use Rattle.staged_file.specs.declared.phase.Phase.{Phase}
-use Rattle.staged_file.specs.declared.phase.Phase.TheVariants.{Clear, Create, Append, SyncFile, Look, Replace, Add, Unlink, SyncFolder, Ended}
+use Rattle.staged_file.specs.declared.phase.Phase.TheVariants.{Clear, Create, Append, SyncFile, Look, Replace, SyncFolder, Ended}
 use Rattle.staged_file.specs.Staged.{Staged}
 
 -- where the task's paths lie: the target in its folder, and the staging path elsewhere, not on the way there
@@ -21,10 +19,6 @@ pub record IsPlaced (stage folder at : Path) : Type 0 where
   pub staging : (g : Path) × (y : Name) × (stage ≡ under g y)
   pub aside : is_below stage folder ≡ false
   pub inside : (x : Name) × (at ≡ under folder x)
-
-abbrev pub NotVacant : Seen → Type 0
-NotVacant Vacant = ⊥
-NotVacant s = Unit {0}
 
 -- a regular file with these attributes and bytes
 abbrev pub IsFileWith : Meta → List ℕ → Seen → Type 0
@@ -50,8 +44,6 @@ writes_in Append t v p s = (p ≡ t.stage) × IsPart t v s
 writes_in SyncFile t v p s = ⊥
 writes_in Look t v p s = ⊥
 writes_in Replace t v p s = Moves t.stage t.at (IsWhole t v) p s
-writes_in Add t v p s = (p ≡ t.at) × IsWhole t v s × (shows v.now t.at ≡ Vacant)
-writes_in Unlink t v p s = (p ≡ t.stage) × (s ≡ Vacant)
 writes_in SyncFolder t v p s = ⊥
 writes_in Ended t v p s = ⊥
 
@@ -62,17 +54,8 @@ WritesOf t v = writes_in t.phase t v
 abbrev pub FixedFile : Path → ℕ → Meta → List ℕ → Path → Seen → Type 0
 FixedFile at n m b p s = (k : Meta) (c : List ℕ) → p ≡ at → s ≡ Leaf n k c → (k ≡ m) × (c ≡ b)
 
--- what it needs of all that a crash may leave of the target once the file is there,
-abbrev pub firm_shown : Show → Path → ℕ → Meta → List ℕ → Path → Seen → Type 0
-firm_shown Rename at n m b p s = FixedFile at n m b p s
-firm_shown Link at n m b p s = Unit {0}
-
--- and once that is sure to last;
-abbrev pub lasts : Show → Meta → List ℕ → Seen → Type 0
-lasts Rename m b s = IsFileWith m b s
-lasts Link m b s = NotVacant s
-
--- of all paths: that folders lead to the target, that the staged file stands nowhere else, that its attributes and bytes are sure
+-- what it needs of all that a crash may leave of any path: that folders lead to the target, that the staged file stands nowhere else,
+-- that its attributes and bytes are sure
 abbrev pub firm_in : Phase → Staged → ℕ → Path → Seen → Type 0
 firm_in Clear t n p s = LeadsTo t.folder p s
 firm_in Create t n p s = LeadsTo t.folder p s
@@ -80,19 +63,13 @@ firm_in Append t n p s = LeadsTo t.folder p s × Own n t.stage p s
 firm_in SyncFile t n p s = LeadsTo t.folder p s × Own n t.stage p s
 firm_in Look t n p s = LeadsTo t.folder p s × Own n t.stage p s × FixedFile t.stage n t.meta t.bytes p s
 firm_in Replace t n p s = LeadsTo t.folder p s × Own n t.stage p s × FixedFile t.stage n t.meta t.bytes p s
-firm_in Add t n p s = LeadsTo t.folder p s × Own n t.stage p s × FixedFile t.stage n t.meta t.bytes p s
-firm_in Unlink t n p s = LeadsTo t.folder p s
-firm_in SyncFolder t n p s = LeadsTo t.folder p s × firm_shown t.show t.at n t.meta t.bytes p s
-firm_in Ended t n p s = LeadsTo t.folder p s × (p ≡ t.at → lasts t.show t.meta t.bytes s)
+firm_in SyncFolder t n p s = LeadsTo t.folder p s × FixedFile t.at n t.meta t.bytes p s
+firm_in Ended t n p s = LeadsTo t.folder p s × (p ≡ t.at → IsFileWith t.meta t.bytes s)
 
 abbrev pub FirmOf : Staged → ℕ → Path → Seen → Type 0
 FirmOf t n = firm_in t.phase t n
 
 -- and of what is there now
-abbrev pub here_shown : Show → Path → ℕ → Meta → List ℕ → Path → Seen → Type 0
-here_shown Rename at n m b p s = p ≡ at → s ≡ Leaf n m b
-here_shown Link at n m b p s = p ≡ at → NotVacant s
-
 abbrev pub here_in : Phase → Staged → ℕ → Path → Seen → Type 0
 here_in Clear t n p s = (p ≡ t.stage → NotDirectory s) × (is_in p t.stage ≡ true → IsDirectory s)
 here_in Create t n p s = (p ≡ t.stage → s ≡ Vacant) × (is_in p t.stage ≡ true → IsDirectory s)
@@ -100,26 +77,15 @@ here_in Append t n p s = p ≡ t.stage → s ≡ Leaf n t.meta (take t.written t
 here_in SyncFile t n p s = p ≡ t.stage → s ≡ Leaf n t.meta t.bytes
 here_in Look t n p s = p ≡ t.stage → s ≡ Leaf n t.meta t.bytes
 here_in Replace t n p s = (p ≡ t.stage → s ≡ Leaf n t.meta t.bytes) × (p ≡ t.at → NotDirectory s)
-here_in Add t n p s = p ≡ t.stage → s ≡ Leaf n t.meta t.bytes
-here_in Unlink t n p s = (p ≡ t.stage → s ≡ Leaf n t.meta t.bytes) × (p ≡ t.at → NotVacant s)
-here_in SyncFolder t n p s = here_shown t.show t.at n t.meta t.bytes p s × (p ≡ t.stage → s ≡ Vacant)
+here_in SyncFolder t n p s = (p ≡ t.at → s ≡ Leaf n t.meta t.bytes) × (p ≡ t.stage → s ≡ Vacant)
 here_in Ended t n p s = p ≡ t.stage → s ≡ Vacant
 
 abbrev pub HereOf : Staged → ℕ → Path → Seen → Type 0
 HereOf t n = here_in t.phase t n
 
--- which way of showing the file has the phase
-abbrev pub shown_by : Phase → Show → Type 0
-shown_by Look show = show ≡ Rename
-shown_by Replace show = show ≡ Rename
-shown_by Add show = show ≡ Link
-shown_by Unlink show = show ≡ Link
-shown_by ph show = Unit {0}
-
 -- What the next step needs.
 pub record Needs (t : Staged) (v : View) : Type 0 where
   pub placed : IsPlaced t.stage t.folder t.at
-  pub way : shown_by t.phase t.show
   pub inode : ℕ
   pub meets : Meets (FirmOf t inode) (HereOf t inode) v
 

@@ -4,5 +4,5 @@
 mod phase;
 mod staged;
 
-pub use phase::{Phase, Show};
-pub use staged::{Plan, StagedFile, put_file, sync_and_put_file};
+pub use phase::Phase;
+pub use staged::{Plan, StagedFile};

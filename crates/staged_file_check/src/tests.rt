@@ -4,7 +4,6 @@ use crate::put;
 use fs_memory::{Choice, FailAt, MemFs};
 use fs_trait::Fs;
 use ost_types::FsPath;
-use staged_file::Show;
 use std::alloc::Global;
 use std::process::Abort;
 use std::test::Fail;
@@ -26,24 +25,21 @@ fn check_bytes<F: Fs>(
 fn puts_files(rt: HostRuntime) -> Result<(), Fail> {
     let alloc = rt.alloc();
     let mut fs = MemFs::new(alloc)?;
-    put(&mut fs, alloc, b"old", Show::Link)?;
+    put(&mut fs, alloc, b"old")?;
     check_bytes(&rt, alloc, &mut fs, &[b"old"])?;
-    put(&mut fs, alloc, b"new", Show::Rename)?;
-    check_bytes(&rt, alloc, &mut fs, &[b"new"])?;
-    // what stands there stays
-    put(&mut fs, alloc, b"late", Show::Link)?;
+    put(&mut fs, alloc, b"new")?;
     check_bytes(&rt, alloc, &mut fs, &[b"new"])?;
     assert_eq!(rt; fs.list(&FsPath::root(alloc))?.as_slice().len(), 1);
     Ok(())
 }
 
-// The calls of the second file are the 10th to the 17th.
+// The calls of the second file are the 9th to the 16th.
 fn check_failing(rt: &impl Abort, alloc: Global, call: u64, done: bool) -> Result<(), Fail> {
     let mut fs = MemFs::new(alloc)?;
-    put(&mut fs, alloc, b"old", Show::Link)?;
+    put(&mut fs, alloc, b"old")?;
     fs.fail_at(vec![in alloc; FailAt { call, done }]?);
-    let answer = put(&mut fs, alloc, b"new", Show::Rename);
-    assert_eq!(rt; answer.is_ok(), call > 17);
+    let answer = put(&mut fs, alloc, b"new");
+    assert_eq!(rt; answer.is_ok(), call > 16);
     for picks in [vec![in alloc; 0]?, Vec::new(alloc)] {
         let mut left = fs.image(fs.moments(), &Choice { picks, fill: 1 })?;
         let wanted: &[&[u8]] = if answer.is_ok() {
@@ -59,7 +55,7 @@ fn check_failing(rt: &impl Abort, alloc: Global, call: u64, done: bool) -> Resul
 #[test]
 fn fails_at_each_call(rt: HostRuntime) -> Result<(), Fail> {
     let alloc = rt.alloc();
-    for call in 10..=18 {
+    for call in 9..=17 {
         check_failing(&rt, alloc, call, false)?;
         check_failing(&rt, alloc, call, true)?;
     }

@@ -18,7 +18,7 @@ use fs_trait::{Fs, FsErr, Need, StepResult};
 use ost_types::{Bytes, Csum, Meta, NoMemory, TryCopy, Xattrs};
 use ref_room::{Clearing, Way, ref_folder};
 use repo_layout::{ref_path, ref_text, stage_path};
-use staged_file::{Plan, Show, StagedFile};
+use staged_file::{Plan, StagedFile};
 use std::alloc::Global;
 
 impl RefTask {
@@ -171,7 +171,6 @@ impl RefTask {
             at: ref_path(self.alloc, &self.name)?,
             meta: file_meta(self.alloc),
             bytes: file_bytes(self.alloc, commit)?,
-            show: Show::Rename,
             lock: Need::RefLock,
         }))
     }

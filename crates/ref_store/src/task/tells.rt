@@ -54,8 +54,7 @@ fn progress_of(phase: FilePhase) -> Progress
         | FilePhase::Append
         | FilePhase::SyncFile
         | FilePhase::Look => Progress::Preparing,
-        FilePhase::Replace | FilePhase::Add => Progress::Showing,
-        FilePhase::Unlink => Progress::Shown,
+        FilePhase::Replace => Progress::Showing,
         FilePhase::SyncFolder => Progress::Settling,
         FilePhase::Ended => Progress::Ended,
     }

@@ -46,8 +46,6 @@ impl StagedFile {
             Phase::SyncFile => self.sync_file(fs),
             Phase::Look => self.look(fs),
             Phase::Replace => self.replace(fs),
-            Phase::Add => self.add(fs),
-            Phase::Unlink => self.unlink(fs),
             Phase::SyncFolder => self.sync_folder(fs),
             Phase::Ended => Ok(StepResult::Done(())),
         }
@@ -159,7 +157,7 @@ impl StagedFile {
         ensures unchanged { (v : View) → F.view fs.old ≡ Some v → IsErrOf result err.NoMemory → F.view fs.new ≡ Some v }
     {
         fs.sync_file(&self.plan.stage)?;
-        self.phase = self.plan.show.first_phase();
+        self.phase = Phase::Look;
         Ok(StepResult::More)
     }
 
@@ -202,50 +200,6 @@ impl StagedFile {
     {
         fs.reserve(2)?;
         fs.rename(&self.plan.stage, &self.plan.at)?;
-        self.phase = Phase::SyncFolder;
-        Ok(StepResult::More)
-    }
-
-    fn add<F: Fs>(&mut self, fs: &mut F) -> Result<StepResult<()>, FsErr>
-        requires phase { self.old.phase ≡ phase.Add }
-        requires needs { (v : View) → F.view fs.old ≡ Some v → Needs self.old v }
-        ensures writes { (v : View) → F.view fs.old ≡ Some v → Told (F.view fs.new) (λ w. Writes (WritesOf self.old v) v w) }
-        ensures after { (v : View) → F.view fs.old ≡ Some v → OnOk result (Told (F.view fs.new) (λ w. Needs self.new w)) }
-        ensures fails { (v : View) → F.view fs.old ≡ Some v → IfErr result (Refuses self.old v) }
-        ensures named { IfErr result OfPlacing }
-        ensures stepped { IsStepped self.old result self.new }
-        ensures falls { OnOk result (left self.new < left self.old ⊎ (self.old.phase ≡ phase.Ended)) }
-        ensures time { Elapses (F.clock fs.old) (F.clock fs.new) (F.was fs.old) (F.was fs.new) (F.view fs.new) }
-        ensures ticks { OnOk result (Takes self.old.phase (F.clock fs.old) (F.clock fs.new)) }
-        ensures cause { HasCause (F.faults fs.old) (F.faults fs.new) result }
-        ensures room { KeepsRoom self.old.phase (F.spare fs.old) (F.spare fs.new) result }
-        ensures unchanged { (v : View) → F.view fs.old ≡ Some v → IsErrOf result err.NoMemory → F.view fs.new ≡ Some v }
-    {
-        fs.reserve(3)?;
-        // what stands there already stays
-        if fs.stat(&self.plan.at)?.is_none() {
-            fs.link(&self.plan.stage, &self.plan.at)?;
-        }
-        self.phase = Phase::Unlink;
-        Ok(StepResult::More)
-    }
-
-    fn unlink<F: Fs>(&mut self, fs: &mut F) -> Result<StepResult<()>, FsErr>
-        requires phase { self.old.phase ≡ phase.Unlink }
-        requires needs { (v : View) → F.view fs.old ≡ Some v → Needs self.old v }
-        ensures writes { (v : View) → F.view fs.old ≡ Some v → Told (F.view fs.new) (λ w. Writes (WritesOf self.old v) v w) }
-        ensures after { (v : View) → F.view fs.old ≡ Some v → OnOk result (Told (F.view fs.new) (λ w. Needs self.new w)) }
-        ensures fails { (v : View) → F.view fs.old ≡ Some v → IfErr result (Refuses self.old v) }
-        ensures named { IfErr result OfPlacing }
-        ensures stepped { IsStepped self.old result self.new }
-        ensures falls { OnOk result (left self.new < left self.old ⊎ (self.old.phase ≡ phase.Ended)) }
-        ensures time { Elapses (F.clock fs.old) (F.clock fs.new) (F.was fs.old) (F.was fs.new) (F.view fs.new) }
-        ensures ticks { OnOk result (Takes self.old.phase (F.clock fs.old) (F.clock fs.new)) }
-        ensures cause { HasCause (F.faults fs.old) (F.faults fs.new) result }
-        ensures room { KeepsRoom self.old.phase (F.spare fs.old) (F.spare fs.new) result }
-        ensures unchanged { (v : View) → F.view fs.old ≡ Some v → IsErrOf result err.NoMemory → F.view fs.new ≡ Some v }
-    {
-        fs.unlink(&self.plan.stage)?;
         self.phase = Phase::SyncFolder;
         Ok(StepResult::More)
     }

@@ -7,20 +7,20 @@ use Rattle.staged_file_check.proofs.one_file.put.Goals as goal
 
 pub new-requires : goal.new-requires
 new-requires g c =
-    let paths = plan_of c.args.bytes.now c.args.show _ _ c.in-Some.is c.in_ok-plan.ensures in
+    let paths = plan_of c.args.bytes.now _ _ c.in-Some.is c.in_ok-plan.ensures in
     (420, lit< tt, ap (λ (m : Meta). m.mode) paths.3)
 
-pub sync_and_put_file-requires : goal.sync_and_put_file-requires
-sync_and_put_file-requires g c = λ v told.
-    let paths = plan_of c.args.bytes.now c.args.show _ _ c.in-Some.is c.in_ok-plan.ensures in
+pub sync_and_put-requires : goal.sync_and_put-requires
+sync_and_put-requires g c = λ v told.
+    let paths = plan_of c.args.bytes.now _ _ c.in-Some.is c.in_ok-plan.ensures in
     begins c.new.result v.now (g.met.F.Fs.tree c.args.fs.now v told) (ap (λ (t : Staged). t.phase) c.new.ensures) (ap (λ (t : Staged). t.stage) c.new.ensures ∙ paths.0)
     (ap (λ (t : Staged). t.folder) c.new.ensures ∙ paths.1) (ap (λ (t : Staged). t.at) c.new.ensures ∙ paths.2) (c.requires v told)
 
 pub returns-in-Some-clause-leaf : goal.returns-in-Some-clause-leaf
 returns-in-Some-clause-leaf g c = λ w told.
-    let paths = plan_of c.args.bytes.now c.args.show _ _ c.in-Some.is c.in_ok-plan.ensures in
+    let paths = plan_of c.args.bytes.now _ _ c.in-Some.is c.in_ok-plan.ensures in
     let before = g.met.F.Fs.told _ c.args.fs.now w told in
-    let after = c.sync_and_put_file.ensures.writes before.0 before.1 in
+    let after = c.sync_and_put.ensures.writes before.0 before.1 in
     let now = after.1 in
     let same : after.0 ≡ w = cc (now, told) in
     subst (λ w. is_folder (w.now.at stage_path) ≡ false) same
@@ -28,7 +28,7 @@ returns-in-Some-clause-leaf g c = λ w told.
 
 pub returns-in-Some-clause-done : goal.returns-in-Some-clause-done
 returns-in-Some-clause-done g c = λ v told.
-    let paths = plan_of c.args.bytes.now c.args.show _ _ c.in-Some.is c.in_ok-plan.ensures in
+    let paths = plan_of c.args.bytes.now _ _ c.in-Some.is c.in_ok-plan.ensures in
     each_image _ _ _ _
-    (put_there c.new.result _ c.args.bytes.now c.args.show (ap (λ (t : Staged). t.at) c.new.ensures ∙ paths.2) (ap (λ (t : Staged). t.meta) c.new.ensures ∙ paths.3) (ap (λ (t : Staged). t.bytes) c.new.ensures ∙ paths.4) (ap (λ (t : Staged). t.show) c.new.ensures ∙ paths.5))
-    (c.sync_and_put_file.ensures.done v told)
+    (put_there c.new.result c.args.bytes.now (ap (λ (t : Staged). t.at) c.new.ensures ∙ paths.2) (ap (λ (t : Staged). t.meta) c.new.ensures ∙ paths.3) (ap (λ (t : Staged). t.bytes) c.new.ensures ∙ paths.4))
+    (c.sync_and_put.ensures.done v told)

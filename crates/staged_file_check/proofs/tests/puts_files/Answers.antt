@@ -11,6 +11,3 @@ put-requires g c = λ v told.
 
 pub put-requires-2 : goal.put-requires-2
 put-requires-2 g c = λ v told. c.put.ensures.leaf v (sym c.check_bytes.ensures ∙ told)
-
-pub put-requires-3 : goal.put-requires-3
-put-requires-3 g c = λ v told. c.put-2.ensures.leaf v (sym c.check_bytes-2.ensures ∙ told)

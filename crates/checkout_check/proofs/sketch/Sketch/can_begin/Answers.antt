@@ -10,7 +10,7 @@ returns-then-not-branch-clause-told g c = λ v told.
     let iff = c.in_ok-is_folder.ensures.told v told in (
       λ t. let n : false ≡ true = t in cc,
       λ can. let here = subst (λ (s : Sketched). CanBegin s v.now) (sym c.self.view_is) can in
-          absurd (not_both (iff.1 (home_needed v.now c.self.inside.home c.self.inside.name here.home)) c.if-not-branch.true),
+          absurd (not_both (iff.1 (home_needed v.now c.self.inside.home c.self.inside.name here.0)) c.if-not-branch.true),
     )
 
 pub returns-clause-told : goal.returns-clause-told

@@ -10,31 +10,25 @@ use Rattle.staged_file.proofs.staged.StagedFile.clear.Goals.{then-is_some+in_ok-
 
 pub returns-in_err-unlink-clause-writes : goal.returns-in_err-unlink-clause-writes
 returns-in_err-unlink-clause-writes g c = λ v told.
-    let needs = subst (λ t. Needs t v) (sym c.self.view_is) (c.requires.needs v told) in
-    let phase = ap (λ (t : Staged). t.phase) c.self.view_is ∙ c.requires.phase in
     let there = looked_some v.now _ _ (c.in_ok-stat.ensures.answer v told).1 (sym c.if-is_some.ensures) in
-    err_writes _ _ _ c.self.view_is v _ _ (clear _ v (g.met.F.Fs.tree c.args.fs.now v told) needs phase there) _ _
+    err_writes _ _ _ c.self.view_is v _ _ (c.requires.needs v told) _ c.requires.phase (λ needs phase. clear _ v (g.met.F.Fs.tree c.args.fs.now v told) needs phase there) _ _
     (c.in_err-unlink.ensures.effect v (c.in_ok-stat.ensures.quiet.view ∙ told))
 
 pub returns-in_err-unlink-clause-fails : goal.returns-in_err-unlink-clause-fails
 returns-in_err-unlink-clause-fails g c = λ v told.
-    let needs = subst (λ t. Needs t v) (sym c.self.view_is) (c.requires.needs v told) in
-    let phase = ap (λ (t : Staged). t.phase) c.self.view_is ∙ c.requires.phase in
     let there = looked_some v.now _ _ (c.in_ok-stat.ensures.answer v told).1 (sym c.if-is_some.ensures) in
     let error = err_from_is_err_and c.from_residual-in_err-unlink.result c.from_residual-in_err-unlink.ensures.1 in
-    rw (error.1, error.2) (err_fails _ _ _ c.self.view_is v _ _ (clear _ v (g.met.F.Fs.tree c.args.fs.now v told) needs phase there) _ _
+    rw (error.1, error.2) (err_fails _ _ _ c.self.view_is v _ _ (c.requires.needs v told) _ c.requires.phase (λ needs phase. clear _ v (g.met.F.Fs.tree c.args.fs.now v told) needs phase there) _ _
     (c.in_err-unlink.ensures.effect v (c.in_ok-stat.ensures.quiet.view ∙ told)))
 
 pub returns-clause-writes : goal.returns-clause-writes
 returns-clause-writes g c = λ v told.
-    let needs = subst (λ t. Needs t v) (sym c.self.view_is) (c.requires.needs v told) in
-    let phase = ap (λ (t : Staged). t.phase) c.self.view_is ∙ c.requires.phase in
     let tree = g.met.F.Fs.tree c.args.fs.now v told in
     let node = (c.in_ok-stat.ensures.answer v told).1 in
     let still = c.in_ok-stat.ensures.quiet.view ∙ told in
     elim c.if-is_some.branch [
       | then-is_some+in_ok-unlink w ↦ rw w.fs-is
-          (ok_writes _ _ _ c.self.view_is v _ _ (clear _ v tree needs phase (looked_some v.now _ _ node (sym w.if-is_some.ensures))) _ (w.in_ok-unlink.ensures.effect v still))
+          (ok_writes _ _ _ c.self.view_is v _ _ (c.requires.needs v told) _ c.requires.phase (λ needs phase. clear _ v tree needs phase (looked_some v.now _ _ node (sym w.if-is_some.ensures))) _ (w.in_ok-unlink.ensures.effect v still))
       | else-is_some w ↦ rw w.fs-is (v, still, same_view (WritesOf c.args.self.now v) v)
     ]
 
@@ -47,6 +41,6 @@ returns-clause-after g c = λ v told.
     let still = c.in_ok-stat.ensures.quiet.view ∙ told in
     elim c.if-is_some.branch [
       | then-is_some+in_ok-unlink w ↦ rw w.fs-is
-          (ok_after _ _ _ c.self.view_is v _ _ (clear _ v tree needs phase (looked_some v.now _ _ node (sym w.if-is_some.ensures))) _ (w.in_ok-unlink.ensures.effect v still))
+          (ok_after _ _ _ c.self.view_is v _ _ (c.requires.needs v told) _ c.requires.phase (λ needs phase. clear _ v tree needs phase (looked_some v.now _ _ node (sym w.if-is_some.ensures))) _ (w.in_ok-unlink.ensures.effect v still))
       | else-is_some w ↦ rw w.fs-is (v, still, clear_vacant _ v tree needs phase (looked_none v.now _ _ node (sym w.if-is_some.ensures)))
     ]

@@ -15,25 +15,17 @@ rename-requires g c = λ v now.
 
 pub returns-in_err-rename-clause-writes : goal.returns-in_err-rename-clause-writes
 returns-in_err-rename-clause-writes g c = λ v told.
-    let needs = subst (λ t. Needs t v) (sym c.self.view_is) (c.requires.needs v told) in
-    let phase = ap (λ (t : Staged). t.phase) c.self.view_is ∙ c.requires.phase in
-    err_writes _ _ _ c.self.view_is v _ _ (replace _ v (g.met.F.Fs.tree c.args.fs.now v told) needs phase) _ _ (c.in_err-rename.ensures.effect v (c.in_ok-reserve.ensures.quiet.view ∙ told))
+    err_writes _ _ _ c.self.view_is v _ _ (c.requires.needs v told) _ c.requires.phase (replace _ v (g.met.F.Fs.tree c.args.fs.now v told)) _ _ (c.in_err-rename.ensures.effect v (c.in_ok-reserve.ensures.quiet.view ∙ told))
 
 pub returns-in_err-rename-clause-fails : goal.returns-in_err-rename-clause-fails
 returns-in_err-rename-clause-fails g c = λ v told.
-    let needs = subst (λ t. Needs t v) (sym c.self.view_is) (c.requires.needs v told) in
-    let phase = ap (λ (t : Staged). t.phase) c.self.view_is ∙ c.requires.phase in
     let error = err_from_is_err_and c.from_residual-in_err-rename.result c.from_residual-in_err-rename.ensures.1 in
-    rw (error.1, error.2) (err_fails _ _ _ c.self.view_is v _ _ (replace _ v (g.met.F.Fs.tree c.args.fs.now v told) needs phase) _ _ (c.in_err-rename.ensures.effect v (c.in_ok-reserve.ensures.quiet.view ∙ told)))
+    rw (error.1, error.2) (err_fails _ _ _ c.self.view_is v _ _ (c.requires.needs v told) _ c.requires.phase (replace _ v (g.met.F.Fs.tree c.args.fs.now v told)) _ _ (c.in_err-rename.ensures.effect v (c.in_ok-reserve.ensures.quiet.view ∙ told)))
 
 pub returns-clause-writes : goal.returns-clause-writes
 returns-clause-writes g c = λ v told.
-    let needs = subst (λ t. Needs t v) (sym c.self.view_is) (c.requires.needs v told) in
-    let phase = ap (λ (t : Staged). t.phase) c.self.view_is ∙ c.requires.phase in
-    ok_writes _ _ _ c.self.view_is v _ _ (replace _ v (g.met.F.Fs.tree c.args.fs.now v told) needs phase) _ (c.in_ok-rename.ensures.effect v (c.in_ok-reserve.ensures.quiet.view ∙ told))
+    ok_writes _ _ _ c.self.view_is v _ _ (c.requires.needs v told) _ c.requires.phase (replace _ v (g.met.F.Fs.tree c.args.fs.now v told)) _ (c.in_ok-rename.ensures.effect v (c.in_ok-reserve.ensures.quiet.view ∙ told))
 
 pub returns-clause-after : goal.returns-clause-after
 returns-clause-after g c = λ v told.
-    let needs = subst (λ t. Needs t v) (sym c.self.view_is) (c.requires.needs v told) in
-    let phase = ap (λ (t : Staged). t.phase) c.self.view_is ∙ c.requires.phase in
-    ok_after _ _ _ c.self.view_is v _ _ (replace _ v (g.met.F.Fs.tree c.args.fs.now v told) needs phase) _ (c.in_ok-rename.ensures.effect v (c.in_ok-reserve.ensures.quiet.view ∙ told))
+    ok_after _ _ _ c.self.view_is v _ _ (c.requires.needs v told) _ c.requires.phase (replace _ v (g.met.F.Fs.tree c.args.fs.now v told)) _ (c.in_ok-rename.ensures.effect v (c.in_ok-reserve.ensures.quiet.view ∙ told))
