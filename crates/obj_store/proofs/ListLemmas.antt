@@ -18,8 +18,6 @@ use Rattle.ost_types.specs.declared.object.ObjName.{ObjName}
 use Rattle.ost_types.proofs.HexSums.{hex_of-injective, IsHexSum-hex_of}
 use Rattle.fs_trait.specs.declared.types.FsErr.{FsErr}
 use Rattle.fs_trait.specs.declared.types.FsErr.TheVariants.{Failed, Exists, Missing, NotFolder, NotEmpty, NoMemory}
-use mathlib.Core.Path.{fun_ext}
-use Rattle.std.specs.FinMap.{nat_cmp-IsAntisymmetric, slice_cmp-IsAntisymmetric}
 use Rattle.fs_trait.specs.declared.types.Value.TheVariants.{Absent}
 use Rattle.fs_trait.specs.View.{Disk}
 use Rattle.fs_trait.specs.Image.{IsTree, is_folder}
@@ -29,7 +27,8 @@ use Rattle.fs_trait.proofs.Images.{folder_or_not}
 use Rattle.repo_layout.specs.Paths.{ending, objects_folder_path, object_path}
 use Rattle.repo_layout.specs.RefFile.{IsSum}
 use Rattle.repo_model.specs.Objects.{path_of}
-use Rattle.obj_store.specs.Listing.{IsGone, IsList, IsNamedBy, AreObjects, file_name, kind_rank, name_cmp, then_by}
+use Rattle.obj_store.proofs.NameOrder.{equal_names, same_cmp}
+use Rattle.obj_store.specs.Listing.{IsGone, IsList, IsNamedBy, AreObjects, file_name, name_cmp}
 use Rattle.std.specs.List.Sorted.{IsStrictlySortedBy}
 use Rattle.ost_types.specs.contracts.object.ObjNameOrd.TheImpl as ord
 
@@ -130,62 +129,13 @@ all_found first i names found whole are sorted = record {
   all = λ o named. are.all o named.sum named.begins (subst (λ l. Contains l (file_name o)) (sym (take_all i names whole)) named.among);
 }
 
--- the order of names is the one that their fields have
-by_kind : (s u : List ℕ) (k l : Kind) → (ord.cmp-value).it (record { csum = s; kind = k }) (record { csum = u; kind = l }) ≡ name_cmp (record { csum = s; kind = k }) (record { csum = u; kind = l })
-by_kind s u Commit Commit = refl
-by_kind s u Commit DirTree = refl
-by_kind s u Commit DirMeta = refl
-by_kind s u Commit File = refl
-by_kind s u DirTree Commit = refl
-by_kind s u DirTree DirTree = refl
-by_kind s u DirTree DirMeta = refl
-by_kind s u DirTree File = refl
-by_kind s u DirMeta Commit = refl
-by_kind s u DirMeta DirTree = refl
-by_kind s u DirMeta DirMeta = refl
-by_kind s u DirMeta File = refl
-by_kind s u File Commit = refl
-by_kind s u File DirTree = refl
-by_kind s u File DirMeta = refl
-by_kind s u File File = refl
-
-pub same_cmp : (ord.cmp-value).it ≡ name_cmp
-same_cmp = fun_ext (λ a. fun_ext (λ b. by_kind a.csum b.csum a.kind b.kind))
-
-one_rank : (k l : Kind) → kind_rank k ≡ kind_rank l → k ≡ l
-one_rank Commit Commit e = refl
-one_rank Commit DirTree e = absurd (omega (arith, e))
-one_rank Commit DirMeta e = absurd (omega (arith, e))
-one_rank Commit File e = absurd (omega (arith, e))
-one_rank DirTree Commit e = absurd (omega (arith, e))
-one_rank DirTree DirTree e = refl
-one_rank DirTree DirMeta e = absurd (omega (arith, e))
-one_rank DirTree File e = absurd (omega (arith, e))
-one_rank DirMeta Commit e = absurd (omega (arith, e))
-one_rank DirMeta DirTree e = absurd (omega (arith, e))
-one_rank DirMeta DirMeta e = refl
-one_rank DirMeta File e = absurd (omega (arith, e))
-one_rank File Commit e = absurd (omega (arith, e))
-one_rank File DirTree e = absurd (omega (arith, e))
-one_rank File DirMeta e = absurd (omega (arith, e))
-one_rank File File e = refl
-
-both_equal : (x y : Ordering) → then_by x y ≡ Equal → (x ≡ Equal) × (y ≡ Equal)
-both_equal Equal y e = (refl, e)
-both_equal Less y e = let n : Less ≡ Equal = e in cc
-both_equal Greater y e = let n : Greater ≡ Equal = e in cc
-
-pub equal_names : (a b : ObjName) → (ord.cmp-value).it a b ≡ Equal → a ≡ b
-equal_names a b e =
-    let both = both_equal _ _ (subst (λ c. c a b ≡ Equal) same_cmp e) in
-    let s : a.csum ≡ b.csum = slice_cmp-IsAntisymmetric nat_cmp-IsAntisymmetric a.csum b.csum both.0 in
-    let k : a.kind ≡ b.kind = one_rank a.kind b.kind (nat_cmp-IsAntisymmetric (kind_rank a.kind) (kind_rank b.kind) both.1) in
-    ap (λ x. record { csum = x; kind = a.kind }) s ∙ ap (λ y. record { csum = b.csum; kind = y }) k
-
 pub all_found_result : (first i : ℕ) (names : List Name) (found : List ObjName) → length names ≤ i → AreFound first i names found → IsStrictlySortedBy name_cmp found
     → (all : List Name) → names ≡ all → {T E : Type 0} → (items : T → List ObjName) (r : Result T E) → IfOk r (λ t. items t ≡ found) → IfOk r (λ t. AreObjects first all (items t))
 all_found_result first i names found whole are sorted all same items (Ok t) is = subst (λ ns. AreObjects first ns (items t)) same (subst (AreObjects first names) (sym is) (all_found first i names found whole are sorted))
 all_found_result first i names found whole are sorted all same items (Err e) is = tt
+
+pub found_equal : (a b : ObjName) → (ord.cmp-value).it a b ≡ Equal → a ≡ b
+found_equal a b e = equal_names a b (subst (λ (c : ObjName → ObjName → Ordering). c a b ≡ Equal) same_cmp e)
 
 pub sorted_names : (ks : List ObjName) → IsStrictlySortedBy (ord.cmp-value).it ks → IsStrictlySortedBy name_cmp ks
 sorted_names ks sorted = subst (λ c. IsStrictlySortedBy c ks) same_cmp sorted

@@ -11,17 +11,17 @@ use Rattle.fs_trait.specs.Change.{Writes, Harmless, Own}
 use Rattle.fs_trait.proofs.Facts.{shows_kept, leaf_not_directory}
 use Rattle.repo_layout.specs.Paths.{folder_path, objects_folder_path, stage_path}
 use Rattle.repo_layout.specs.declared.folder.Folder.TheVariants.{Objects}
-use Rattle.repo_model.specs.Objects.{path_of}
+use Rattle.repo_model.specs.Objects.{object_in, path_of}
 use Rattle.staging.specs.Draft.{Draft}
 use Rattle.staging.proofs.Stable as staged
 use Rattle.obj_store.specs.declared.source.Source.{Source}
 use Rattle.obj_store.specs.declared.source.Source.TheVariants.{File, Link}
 use Rattle.obj_store.specs.declared.phase.Phase.{Phase}
 use Rattle.obj_store.specs.declared.phase.Phase.TheVariants as phase
-use Rattle.obj_store.specs.Putting.{Putting, IsReady, need_in}
+use Rattle.obj_store.specs.Putting.{Putting, IsReady, need_in, shown}
 use Rattle.obj_store.specs.Steps.{Needs, needs_in, stage_needs, stage_writes, gone_stage, still_staged, writes_in, WritesOf, IsPut}
 use Rattle.obj_store.specs.Whole.{IsShown}
-use Rattle.obj_store.proofs.Runs.{put_is_shown}
+use Rattle.obj_store.proofs.PutLemmas.{any_inode}
 
 -- Where a write of the next step lies: at the staging path; or, under the lock of those that store, a folder at that of the object,
 -- or the object itself, each where nothing stands. A file that is written is a new one or the staged one, and takes no folder's
@@ -32,6 +32,12 @@ pub record Lies (t : Putting) (v : View) (p : Path) (s : Seen) : Type 0 where
       ⊎ ((p ≡ path_of t.name) × IsShown t s × NotDirectory s × (shows v.now p ≡ Vacant) × (need_in t.phase ≡ Shared))
   pub comes : (n : ℕ) (m : Meta) (b : List ℕ) → s ≡ Leaf n m b → IsFresh n v ⊎ (v.now.at (stage_path t.actor) ≡ FileValue n)
   pub folders : NotDirectory (shows v.now p)
+
+-- what is put at the object's path is the object
+put_is_shown : (t : Putting) (v : View) (src : Source) → t.source ≡ src → (s : Seen) → IsPut src v s → IsShown t s
+put_is_shown t v (File d) e s a = λ bytes object.
+    ap (object_in t.name.kind) a.1 ∙ any_inode t.name.kind a.0 d.meta d.bytes ∙ ap (λ x. object_in t.name.kind (shown 0 x)) (sym e) ∙ object.is
+put_is_shown t v (Link m l) e s a = λ bytes object. ap (object_in t.name.kind) a ∙ ap (λ x. object_in t.name.kind (shown 0 x)) (sym e) ∙ object.is
 
 directory_no_leaf : (s : Seen) (n : ℕ) (m : Meta) (b : List ℕ) → IsDirectory s → s ≡ Leaf n m b → ⊥
 directory_no_leaf s n m b is e = subst IsDirectory e is

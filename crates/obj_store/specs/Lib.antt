@@ -1,3 +1,4 @@
+pub mod Lengths
 pub mod Lookup
 pub mod Putting
 pub mod Steps

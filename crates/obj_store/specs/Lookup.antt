@@ -24,6 +24,7 @@ use Rattle.fs_trait.specs.Seen.{Seen, Symlink, Leaf, shows}
 use Rattle.repo_model.specs.Objects.{Stores, object_at, object_in, path_of}
 use Rattle.obj_store.specs.declared.fault.LoadFault.{LoadFault}
 use Rattle.obj_store.specs.declared.fault.LoadFault.TheVariants.{Fs, Damaged, NoMemory}
+use Rattle.obj_store.specs.Lengths.{TellsLong}
 
 -- whether something stands there
 abbrev pub is_there : Value → Bool
@@ -95,11 +96,12 @@ Opens k s (Err (Fs fs.NoMemory)) = Unit {0}
 Opens k s (Err NoMemory) = Unit {0}
 Opens k s (Err e) = ⊥
 
--- so of an object's path, where something may stand
+-- So of an object's path, where something may stand. A file there that is too long for an object isn't opened, and what is wrong with
+-- it is told.
 abbrev pub OpensAt : Disk → ObjName → Result (Option (List ℕ)) LoadFault → Type 0
 OpensAt d name (Ok None) = d.at (path_of name) ≡ Absent
 OpensAt d name (Ok (Some bytes)) = object_at d name ≡ Some bytes
-OpensAt d name (Err e) = Opens name.kind (shows d (path_of name)) (Err e)
+OpensAt d name (Err e) = Opens name.kind (shows d (path_of name)) (Err e) ⊎ TellsLong d name e
 
 -- a regular file with these attributes
 abbrev pub IsRegular : Disk → Value → Meta → Type 0

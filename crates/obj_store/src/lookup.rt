@@ -8,9 +8,11 @@ ghost use Rattle.fs_trait.specs.Effect.{HasCause, IsNode, IsQuiet, OfNone};
 ghost use Rattle.fs_trait.specs.Seen.{Symlink as SeenLink, shows};
 ghost use Rattle.fs_trait.specs.declared.types.Value.TheVariants.{File};
 ghost use Rattle.obj_store.specs.declared.fault.LoadFault.TheVariants as faults;
+ghost use Rattle.obj_store.specs.Lengths.{FitsIn};
 ghost use Rattle.obj_store.specs.Lookup.{Looks, Loads, ChecksAs, fault_of, Opens, OpensAt, IsRegular, Streams, HasCauseOf, IsFailed};
 
 use crate::LoadFault;
+use crate::too_long::refuse_long;
 use fs_trait::{Fs, FsErr, Node};
 use ost_forms::{Body, Content, ObjFault, write_content};
 use ost_objects::{CheckFault, Checked, check};
@@ -53,7 +55,7 @@ pub fn load<F: Fs>(
 }
 
 /// The bytes of what stands at the object's path, as an object of its kind, or None where nothing stands there. They aren't looked
-/// into.
+/// into, unless they are more than any object of the kind has: then they are read in parts, and what is wrong with them is told.
 pub fn open_object<F: Fs>(
     alloc: Global,
     fs: &mut F,
@@ -68,6 +70,7 @@ pub fn open_object<F: Fs>(
     let Some(node) = fs.stat(&path)? else {
         return Ok(None);
     };
+    refuse_long(fs, name, &path, &node)?;
     Ok(Some(object_bytes(alloc, fs, name.kind, &path, node)?))
 }
 
@@ -103,7 +106,8 @@ fn object_bytes<F: Fs>(
     at: &FsPath,
     node: Node,
 ) -> Result<Bytes, LoadFault>
-    requires { (v : View) → F.view fs.old ≡ Some v → IsNode v.now (v.now.at at.now) (Some node) }
+    requires fits { FitsIn kind node }
+    requires node { (v : View) → F.view fs.old ≡ Some v → IsNode v.now (v.now.at at.now) (Some node) }
     ensures told { (v : View) → F.view fs.old ≡ Some v → Opens kind (shows v.now at.now) result }
     ensures quiet { IsQuiet (F.clock fs.old) (F.clock fs.new) (F.was fs.old) (F.was fs.new) (F.view fs.old) (F.view fs.new) }
     ensures keeps_room { F.spare fs.old ≤ F.spare fs.new }

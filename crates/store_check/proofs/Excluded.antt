@@ -182,7 +182,7 @@ module _ (d : Disk) (limits : Limits) (tree meta : List ℕ) (objects : (p : Pat
       let below = below_named (Stores d) limits.content tree meta p o far.entries far.name named folder far.has far.there in
       ∥∥₁_elim (shown (under p far.name) below.0 below.1) (λ x y. absurd x) (λ s. far.far (short (under p far.name) s.0 s.1))
 
-  within : (o : ObjName) → HasTooMany d limits tree meta o → ⊥
+  within : (o : ObjName) → HasTooMany (Stores d) limits tree meta o → ⊥
   within o many =
       too_many (many.at ∷ many.paths) few.paths
       ((λ q h same. not_less_itself many.at (subst (λ z. path_cmp z many.at ≡ Less) (sym same) (many.before.met q h).1)), sorted_distinct path_cmp not_less_itself many.paths many.before.ascending)

@@ -10,18 +10,8 @@ use Rattle.ost_types.specs.declared.object.ObjName.{ObjName}
 use Rattle.fs_trait.specs.View.{Disk}
 use Rattle.repo_layout.specs.RefFile.{IsSum}
 use Rattle.obj_store.specs.Listing.{IsList, name_cmp}
-use Rattle.store_check.specs.Listing.{IsThere, AreAll}
+use Rattle.store_check.specs.Listing.{AreAll, AreBelow, IsThere, head_of}
 use Rattle.store_check.proofs.Orders.{first_byte_less}
-
--- the first byte of a sum
-abbrev pub head_of : List ℕ → ℕ
-head_of sum = slice_index sum 0
-
--- The names of all objects whose sums begin with a lesser byte than this.
-pub record AreBelow (d : Disk) (n : ℕ) (names : List ObjName) : Type 0 where
-  pub ascending : IsStrictlySortedBy name_cmp names
-  pub here : (o : ObjName) → Contains names o → IsThere d o × (head_of o.csum < n)
-  pub all : (o : ObjName) → IsThere d o → head_of o.csum < n → Contains names o
 
 none_sorted : {X : Type 0} (c : X → X → Ordering) → IsStrictlySortedBy c []
 unfolding IsStrictlySortedBy

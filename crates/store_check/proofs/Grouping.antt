@@ -1,5 +1,5 @@
 -- From what was read of a group of objects to what is told of them.
-use Rattle.std.proofs.Common.{◌≡◌, ◌⊎◌, inl, inr, ℕ, ◌+◌, ◌<◌, ◌≤◌, List, [], ◌∷◌, ◌++◌, length, slice_index_or, refl, sym, ◌∙◌, ap, subst, arith, Option, Some, None, Err}
+use Rattle.std.proofs.Common.{◌≡◌, ◌⊎◌, inl, inr, ℕ, ◌+◌, ◌<◌, ◌≤◌, List, [], ◌∷◌, ◌++◌, length, slice_index_or, sym, ◌∙◌, ap, subst, arith, Option, Some, None, Err}
 use Rattle.std.proofs.lemmas.List.{get_or_append_left, get_or_default, get_or_push, length-append}
 use Rattle.ost_types.specs.declared.object.ObjName.{ObjName}
 use Rattle.ost_forms.specs.declared.fault.ObjFault.TheVariants as reads
@@ -12,6 +12,7 @@ use Rattle.fs_trait.specs.View.{Disk}
 use Rattle.obj_store.specs.declared.fault.LoadFault.{LoadFault}
 use Rattle.obj_store.specs.declared.fault.LoadFault.TheVariants as load
 use Rattle.obj_store.specs.Lookup.{fault_of}
+use Rattle.obj_store.proofs.LongFiles.{loads_err}
 use Rattle.store_check.specs.declared.fault.ObjectsFault.{ObjectsFault}
 use Rattle.store_check.specs.declared.group.Entry.{Entry}
 use Rattle.store_check.specs.declared.group.Group.{Group}
@@ -59,13 +60,15 @@ module _ (d : Disk) (names : List ObjName) (from : ℕ) where
 -- what is wrong with an object that ended a group, or that was looked into
 module _ (d : Disk) (content : ℕ) (name : ObjName) where
   stop_bad : (fault : CheckFault) → IsStopped d name (load.Damaged fault) → IsBad d content name fault
-  stop_bad (check.Unreadable reads.BadMode) stopped = inr (refl, stopped.0, stopped.1)
-  stop_bad fault stopped = absurd stopped
+  stop_bad fault stopped = loads_err d name content (load.Damaged fault) stopped
 
   stop_refused : (e : FsErr) → IsStopped d name (load.Fs e) → OfNone e
   stop_refused fs.Failed stopped = tt
   stop_refused fs.NoMemory stopped = tt
-  stop_refused e stopped = absurd stopped
+  stop_refused fs.Exists stopped = loads_err d name content (load.Fs fs.Exists) stopped
+  stop_refused fs.Missing stopped = loads_err d name content (load.Fs fs.Missing) stopped
+  stop_refused fs.NotFolder stopped = loads_err d name content (load.Fs fs.NotFolder) stopped
+  stop_refused fs.NotEmpty stopped = loads_err d name content (load.Fs fs.NotEmpty) stopped
 
   pub stop_wrong : (fault : LoadFault) → IsStopped d name fault → IsWrong d content name fault
   stop_wrong (load.Damaged fault) stopped = stop_bad fault stopped

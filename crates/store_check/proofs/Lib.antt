@@ -1,6 +1,6 @@
 mod Digits
 mod Orders
-mod Gathering
+pub mod Gathering
 mod Firsts
 pub mod Damages
 mod Wholes

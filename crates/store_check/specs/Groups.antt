@@ -8,14 +8,13 @@ use Rattle.ost_objects.specs.declared.fault.CheckFault.TheVariants as check
 use Rattle.ost_objects.specs.Object.{HasForm, IsNamed, Misreads}
 use Rattle.fs_trait.specs.Count.{Rose}
 use Rattle.fs_trait.specs.Effect.{OfNone}
-use Rattle.fs_trait.specs.Seen.{shows}
 use Rattle.fs_trait.specs.declared.types.FsErr.TheVariants as fs
 use Rattle.fs_trait.specs.declared.types.Value.TheVariants.{Absent}
 use Rattle.fs_trait.specs.View.{Disk}
 use Rattle.repo_model.specs.Objects.{object_at, path_of}
 use Rattle.obj_store.specs.declared.fault.LoadFault.{LoadFault}
 use Rattle.obj_store.specs.declared.fault.LoadFault.TheVariants.{Fs, Damaged, NoMemory}
-use Rattle.obj_store.specs.Lookup.{Opens}
+use Rattle.obj_store.specs.Lookup.{OpensAt}
 use Rattle.store_check.specs.declared.group.Entry.{Entry}
 use Rattle.store_check.specs.declared.group.Group.{Group}
 use Rattle.store_check.specs.declared.fault.ObjectsFault.{ObjectsFault}
@@ -31,9 +30,9 @@ IsWhatStands d name (Some bytes) = object_at d name ≡ Some bytes
 abbrev pub IsRead : Disk → Entry → Type 0
 IsRead d e = IsWhatStands d e.name e.bytes × (e.fault ≡ None)
 
--- it can't be read: a file's mode is none of a file, or a call was refused
+-- it can't be read: a file's mode is none of a file, a file is too long for an object of its kind, or a call was refused
 abbrev pub IsStopped : Disk → ObjName → LoadFault → Type 0
-IsStopped d name fault = Opens name.kind (shows d (path_of name)) (Err fault)
+IsStopped d name fault = OpensAt d name (Err fault)
 
 -- The entries are of these names from that place on, in order.
 abbrev pub AreRead : Disk → List ObjName → ℕ → List Entry → Type 0

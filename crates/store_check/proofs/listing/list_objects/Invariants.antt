@@ -1,7 +1,7 @@
 use Rattle.std.proofs.Common.{◌≡◌, ◌≤◌, Some}
 use Rattle.fs_trait.specs.View.{View}
 use Rattle.fs_trait.specs.Effect.{IsQuiet}
-use Rattle.store_check.proofs.Gathering.{AreBelow}
+use Rattle.store_check.specs.Listing.{AreBelow}
 use Rattle.store_check.proofs.listing.list_objects.Given as goal
 
 -- the names so far are those of the lesser first bytes
