@@ -1,12 +1,12 @@
 -- Which texts are configurations, by what was read.
-use Rattle.std.proofs.Common.{◌≡◌, ◌≢◌, Bool, true, false, ℕ, List, sym, ◌∙◌, codes, Ok, Err, Result, subst}
+use Rattle.std.proofs.Common.{◌≡◌, ◌≢◌, Bool, true, false, ℕ, ◌≤◌, List, length, sym, ◌∙◌, codes, Ok, Err, Result, subst}
 use Rattle.std.specs.Prelude.{IsTrue, IfOk, ◌↔◌}
 use Rattle.keyfile.specs.declared.entry.KeyLine.{KeyLine}
 use Rattle.keyfile.specs.declared.fault.KeyFault.{KeyFault}
 use Rattle.keyfile.specs.declared.fault.KeyFault.TheVariants as fault
 use Rattle.keyfile.specs.Reading.{Reads}
 use Rattle.keyfile.proofs.OneReading.{one_reading}
-use Rattle.repo_config.specs.Config.{IsConfig, SaysOfCore}
+use Rattle.repo_config.specs.Config.{IsConfig, SaysOfCore, config_limit}
 
 abbrev pub SaysBoth : List KeyLine → Type 0
 SaysBoth entries = SaysOfCore entries (codes "repo_version") (codes "1") × SaysOfCore entries (codes "mode") (codes "bare")
@@ -18,8 +18,8 @@ abbrev wrong : KeyFault → Result (List KeyLine) KeyFault
 wrong f = Err f
 
 -- what was read is all that the text says
-pub from_entries : (bytes : List ℕ) (entries : List KeyLine) → Reads bytes (Ok entries) → SaysBoth entries → IsConfig bytes
-from_entries bytes entries reads says = record { entries = entries; reads = reads; version = says.0; mode = says.1 }
+pub from_entries : (bytes : List ℕ) (entries : List KeyLine) → length bytes ≤ config_limit → Reads bytes (Ok entries) → SaysBoth entries → IsConfig bytes
+from_entries bytes entries few reads says = record { few = few; entries = entries; reads = reads; version = says.0; mode = says.1 }
 
 pub to_entries : (bytes : List ℕ) (entries : List KeyLine) → Reads bytes (Ok entries) → IsConfig bytes → SaysBoth entries
 to_entries bytes entries reads is =

@@ -104,6 +104,7 @@ sound = (first_follows, (second_follows, (third_follows, tt)))
 
 pub new_is : IsConfig config_text
 new_is = record {
+  few = omega arith;
   entries = entries;
   reads = (lines, text_of, sound, entries_are);
   version = (0, omega arith, refl);

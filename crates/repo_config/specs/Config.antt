@@ -1,5 +1,5 @@
 -- What the configuration of a repository has to be (OSTree manual, ostree.repo-config(5)).
-use Rattle.std.specs.Prelude.{ℕ, List, Contains, codes, Ok}
+use Rattle.std.specs.Prelude.{◌≤◌, ℕ, List, Contains, codes, length, Ok}
 use Rattle.keyfile.specs.declared.entry.KeyLine.{KeyLine}
 use Rattle.keyfile.specs.Reading.{Reads}
 
@@ -7,8 +7,13 @@ use Rattle.keyfile.specs.Reading.{Reads}
 abbrev pub SaysOfCore : List KeyLine → List ℕ → List ℕ → Type 0
 SaysOfCore entries key value = Contains entries (record { group = codes "core"; key = key; value = value })
 
--- A keyfile that says the version and the mode of the repository. Other groups and keys are accepted.
+-- the most bytes of a configuration
+abbrev pub config_limit : ℕ
+config_limit = 1048576
+
+-- A keyfile that says the version and the mode of the repository, and isn't too long. Other groups and keys are accepted.
 pub record IsConfig (bytes : List ℕ) : Type 0 where
+  pub few : length bytes ≤ config_limit
   pub entries : List KeyLine
   pub reads : Reads bytes (Ok entries)
   pub version : SaysOfCore entries (codes "repo_version") (codes "1")

@@ -1,14 +1,27 @@
-ghost use Rattle.std.specs.Prelude.{◌≡◌, ◌≢◌, ◌↔◌, IfOk, IsTrue, false, codes};
+ghost use Rattle.std.specs.Prelude.{◌≡◌, ◌≢◌, ◌≤◌, ◌↔◌, IfOk, IsTrue, false, codes, length};
 ghost use Rattle.keyfile.specs.declared.fault.KeyFault.TheVariants as faults;
-ghost use Rattle.repo_config.specs.Config.{IsConfig, SaysOfCore};
+ghost use Rattle.repo_config.specs.Config.{IsConfig, SaysOfCore, config_limit};
 ghost use Rattle.repo_config.specs.Config as config;
 
 use keyfile::{KeyFault, KeyLine, read_keyfile};
 use ost_types::NoMemory;
 use std::alloc::Global;
 
-/// Whether the text is a keyfile whose group `core` says `repo_version=1` and `mode=bare`.
+/// The most bytes of a configuration: 1 MiB.
+pub const CONFIG_LIMIT: usize = 1_048_576;
+
+/// Whether the text is a keyfile of at most `CONFIG_LIMIT` bytes whose group `core` says `repo_version=1` and `mode=bare`.
 pub fn is_config(alloc: Global, bytes: &[u8]) -> Result<bool, NoMemory>
+    ensures { IfOk result (λ b. IsTrue b ↔ IsConfig bytes.now) }
+{
+    if bytes.len() > CONFIG_LIMIT {
+        return Ok(false);
+    }
+    says_config(alloc, bytes)
+}
+
+fn says_config(alloc: Global, bytes: &[u8]) -> Result<bool, NoMemory>
+    requires { length bytes.now ≤ config_limit }
     ensures { IfOk result (λ b. IsTrue b ↔ IsConfig bytes.now) }
 {
     match read_keyfile(alloc, bytes) {

@@ -4,5 +4,5 @@
 mod config;
 mod laws;
 
-pub use config::{config_text, is_config};
+pub use config::{CONFIG_LIMIT, config_text, is_config};
 pub use laws::new_config;

@@ -18,9 +18,9 @@ use Rattle.repo_layout.specs.declared.folder.Folder.TheVariants.{Repo, Tmp}
 use Rattle.repo_layout.specs.Paths.{config_path, folder_path, stage_path}
 use Rattle.repo_layout.specs.Refs.{is_leaf}
 use Rattle.staged_file.specs.declared.phase.Phase.{Phase}
-use Rattle.staged_file.specs.declared.phase.Phase.TheVariants.{Clear, Create, Append, SyncFile, Look, Replace, Add, Unlink, SyncFolder, Ended}
+use Rattle.staged_file.specs.declared.phase.Phase.TheVariants.{Clear, Create, Append, SyncFile, Look, Replace, SyncFolder, Ended}
 use Rattle.staged_file.specs.Staged.{Staged}
-use Rattle.staged_file.specs.Steps.{IsPlaced, Needs, lasts, writes_in}
+use Rattle.staged_file.specs.Steps.{IsFileWith, IsPlaced, Needs, writes_in}
 use Rattle.staged_file.specs.Whole.{MayBegin, Stops, Written}
 use Rattle.staged_file.proofs.Stable.{ended_lasts}
 use Rattle.staged_file.proofs.Wholes.{IsSame}
@@ -39,8 +39,6 @@ puts_in SyncFile t v p s a = absurd a
 puts_in Look t v p s a = absurd a
 puts_in Replace t v p s (inl a) = inr (a.0, (a.1.0, a.1.1))
 puts_in Replace t v p s (inr a) = inl (a.0, inl a.1)
-puts_in Add t v p s a = inr (a.0, (a.1.0, a.1.1))
-puts_in Unlink t v p s a = inl (a.0, inl a.1)
 puts_in SyncFolder t v p s a = absurd a
 puts_in Ended t v p s a = absurd a
 
@@ -56,13 +54,12 @@ puts_written t p s (inl staged) = inl (staged.0, ⊎_elim (λ none. subst NotDir
 puts_written t p s (inr put) = inr put
 
 -- what the target shows at the end
-pub lasts_now : (t u : Staged) → IsSame t u → (w : View) → Needs u w → u.phase ≡ Ended → lasts t.show t.meta t.bytes (shows w.now t.at)
+pub lasts_now : (t u : Staged) → IsSame t u → (w : View) → Needs u w → u.phase ≡ Ended → IsFileWith t.meta t.bytes (shows w.now t.at)
 lasts_now t u same w needs ended =
-    subst (λ p. lasts t.show t.meta t.bytes (shows w.now p)) same.at
-    (subst (λ x. lasts x t.meta t.bytes (shows w.now u.at)) same.show
-    (subst (λ x. lasts u.show x t.bytes (shows w.now u.at)) same.meta
-    (subst (λ x. lasts u.show u.meta x (shows w.now u.at)) same.bytes
-    (ended_lasts u w needs ended (shows w.now u.at) (may_now w u.at)))))
+    subst (λ p. IsFileWith t.meta t.bytes (shows w.now p)) same.at
+    (subst (λ x. IsFileWith x t.bytes (shows w.now u.at)) same.meta
+    (subst (λ x. IsFileWith u.meta x (shows w.now u.at)) same.bytes
+    (ended_lasts u w needs ended (shows w.now u.at) (may_now w u.at))))
 
 -- The paths of the configuration, and what its file needs to begin.
 abbrev stage_name : Name
@@ -99,7 +96,7 @@ may_begin t d e folders none = subst (λ (x : Staged). MayBegin x d) (sym e) (re
 stops_interrupt : (v : View) (e : FsErr) (f : OpenFault) → shows v.now config_path ≡ Vacant → Stops of_config v e → IsRefusal [] e f → IsInterruption f
 stops_interrupt v err.Failed f none stops is = subst IsInterruption (sym is) tt
 stops_interrupt v err.NoMemory f none stops is = subst IsInterruption (sym is) tt
-stops_interrupt v err.Exists f none stops is = let bad : IsDirectory Vacant = subst IsDirectory none stops.1 in absurd bad
+stops_interrupt v err.Exists f none stops is = let bad : IsDirectory Vacant = subst IsDirectory none stops in absurd bad
 stops_interrupt v err.Missing f none stops is = absurd stops
 stops_interrupt v err.NotFolder f none stops is = absurd stops
 stops_interrupt v err.NotEmpty f none stops is = absurd stops
@@ -110,8 +107,8 @@ put_interrupted t v e f is none stops refused = stops_interrupt v e f none (subs
 pub put_config : (d : Disk) (t : Staged) → t ≡ of_config → shows d config_path ≡ Vacant → (p : Path) (s : Seen) → Puts t.stage t.at t.meta t.bytes p s → Configures d p s
 put_config d t is none p s puts = inr (record { none = none; puts = subst (λ (x : Staged). Puts x.stage x.at x.meta x.bytes p s) is puts })
 
-pub config_shows : (t : Staged) (w : View) → t ≡ of_config → lasts t.show t.meta t.bytes (shows w.now t.at) → ShowsConfig (shows w.now config_path)
-config_shows t w is last = put_shows (shows w.now config_path) (subst (λ (x : Staged). lasts x.show x.meta x.bytes (shows w.now x.at)) is last)
+pub config_shows : (t : Staged) (w : View) → t ≡ of_config → IsFileWith t.meta t.bytes (shows w.now t.at) → ShowsConfig (shows w.now config_path)
+config_shows t w is last = put_shows (shows w.now config_path) (subst (λ (x : Staged). IsFileWith x.meta x.bytes (shows w.now x.at)) is last)
 
 -- what is at the staging path goes first
 pub clears_first : (d : Disk) (p : Path) (s : Seen) → Clears (stage_path 0) p s → Configures d p s

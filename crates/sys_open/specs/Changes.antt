@@ -13,7 +13,6 @@ use Rattle.repo_layout.specs.declared.folder.Folder.TheVariants.{Repo}
 use Rattle.repo_layout.specs.Paths.{config_path, folder_path, stage_path}
 use Rattle.repo_config.specs.Config.{config_text}
 use Rattle.staged_file.specs.declared.phase.Phase.TheVariants.{Clear}
-use Rattle.staged_file.specs.declared.phase.Show.TheVariants.{Rename}
 use Rattle.staged_file.specs.Staged.{Staged}
 use Rattle.staged_file.specs.Steps.{IsFileWith}
 use Rattle.ref_room.specs.Way.{folder_meta}
@@ -50,7 +49,7 @@ Configures d p s = ClearsStages p s ⊎ PutsConfig d p s
 
 -- the task that puts it there
 abbrev pub of_config : Staged
-of_config = record { stage = stage_path 0; folder = folder_path Repo; at = config_path; meta = file_meta; bytes = config_text; show = Rename; lock = need.Nothing; phase = Clear; written = 0 }
+of_config = record { stage = stage_path 0; folder = folder_path Repo; at = config_path; meta = file_meta; bytes = config_text; lock = need.Nothing; phase = Clear; written = 0 }
 
 abbrev pub Changes : Disk → Path → Seen → Type 0
 Changes d p s = Lays d p s ⊎ ClearsStages p s ⊎ PutsConfig d p s

@@ -13,11 +13,11 @@ use crate::fault::{OpenFault, Why, damaged};
 use crate::refs::{bytes_at, node_at};
 use fs_trait::{Fs, Node};
 use ost_types::FsPath;
-use repo_config::is_config;
+use repo_config::{CONFIG_LIMIT, is_config};
 use repo_layout::config_path;
 use std::alloc::Global;
 
-/// Looks at the configuration: there is none yet, or a regular file that is one.
+/// Looks at the configuration: there is none yet, or a regular file that is one. One that is too long for one isn't read.
 pub fn check_config<F: Fs>(alloc: Global, fs: &mut F) -> Result<(), OpenFault>
     ensures told { (v : View) → F.view fs.old ≡ Some v → Looked (HasConfig v.now) BadConfig config_path result }
     ensures quiet { IsQuiet (F.clock fs.old) (F.clock fs.new) (F.was fs.old) (F.was fs.new) (F.view fs.old) (F.view fs.new) }
@@ -28,7 +28,12 @@ pub fn check_config<F: Fs>(alloc: Global, fs: &mut F) -> Result<(), OpenFault>
         None => Ok(()),
         Some(Node::Folder(_)) => Err(damaged(&at, Why::BadConfig)),
         Some(Node::Link { .. }) => Err(damaged(&at, Why::BadConfig)),
-        Some(Node::File { .. }) => check_text(alloc, fs, &at),
+        Some(Node::File { len, .. }) => {
+            if len > CONFIG_LIMIT as u64 {
+                return Err(damaged(&at, Why::BadConfig));
+            }
+            check_text(alloc, fs, &at)
+        }
     }
 }
 

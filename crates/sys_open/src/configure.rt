@@ -9,7 +9,7 @@ ghost use Rattle.fs_trait.specs.Effect.{HasCause, OfPlacing};
 ghost use Rattle.repo_layout.specs.declared.folder.Folder as layout;
 ghost use Rattle.repo_layout.specs.Paths.{config_path, folder_path};
 ghost use Rattle.layout_rules.specs.Checks.{Asks, Staging};
-ghost use Rattle.staged_file.specs.Steps.{Needs, lasts};
+ghost use Rattle.staged_file.specs.Steps.{IsFileWith, Needs};
 ghost use Rattle.staged_file.specs.Whole.{Stops};
 ghost use Rattle.sys_open.specs.Changes as changes;
 ghost use Rattle.sys_open.specs.Changes.{Configures, Puts, Works, of_config};
@@ -24,7 +24,7 @@ use ost_types::{Bytes, FsPath, Meta, NoMemory, Xattrs};
 use ref_room::{Stands, look_at};
 use repo_config::config_text;
 use repo_layout::{Folder, config_path, folder_path, stage_path};
-use staged_file::{Phase, Plan, Show, StagedFile};
+use staged_file::{Phase, Plan, StagedFile};
 use std::alloc::Global;
 
 /// Writes the configuration where there is none: it is staged, synced and renamed into its place.
@@ -78,7 +78,6 @@ fn new_config(alloc: Global, at: FsPath) -> Result<StagedFile, NoMemory>
         at,
         meta: file_meta(alloc),
         bytes: Bytes::from_slice(alloc, config_text())?,
-        show: Show::Rename,
         lock: Need::Nothing,
     }))
 }
@@ -99,7 +98,7 @@ fn file_meta(alloc: Global) -> Meta
 fn put<F: Fs>(fs: &mut F, task: StagedFile) -> Result<(), FsErr>
     requires { (v : View) → F.view fs.old ≡ Some v → Needs task v }
     ensures works { (v : View) → F.view fs.old ≡ Some v → Works (Puts task.stage task.at task.meta task.bytes) v (F.clock fs.old) (F.clock fs.new) (F.was fs.old) (F.was fs.new) (F.view fs.new) }
-    ensures there { (v : View) → F.view fs.old ≡ Some v → OnOk result (Told (F.view fs.new) (λ w. lasts task.show task.meta task.bytes (shows w.now task.at))) }
+    ensures there { (v : View) → F.view fs.old ≡ Some v → OnOk result (Told (F.view fs.new) (λ w. IsFileWith task.meta task.bytes (shows w.now task.at))) }
     ensures fails { (v : View) → F.view fs.old ≡ Some v → IfErr result (Stops task v) }
     ensures named { IfErr result OfPlacing }
     ensures later { F.clock fs.old ≤ F.clock fs.new }
