@@ -24,7 +24,6 @@ pub ref_no_pin : (p : Progress) (e : Event) → pin_in (kind_at p e) ≡ None
 ref_no_pin progress.Looking e = refl
 ref_no_pin progress.Preparing e = refl
 ref_no_pin progress.Showing e = refl
-ref_no_pin progress.Shown e = refl
 ref_no_pin progress.Settling e = refl
 ref_no_pin progress.Ended e = refl
 

@@ -20,7 +20,7 @@ use Rattle.ref_store.specs.Steps.{HereOfStage}
 use Rattle.layout_rules.proofs.Layouts.{fixed_other}
 use Rattle.rely_guarantee.specs.Books.{Books, Agrees, Granted, Keeps}
 use Rattle.rely_guarantee.specs.Rely.{Interference}
-use Rattle.rely_guarantee.specs.Laws.{Kind, Quiet, Store, Take, Claim, Show, Shown, Settle, Laws, IsBy, IsBefore, IsClaim, IsLastly, Chain, Owned, Stood, StepObligation}
+use Rattle.rely_guarantee.specs.Laws.{Kind, Quiet, Store, Take, Claim, Show, Shown, Remove, Settle, Laws, IsBy, IsBefore, IsClaim, IsLastly, Chain, Owned, Stood, StepObligation}
 use Rattle.tree_build.specs.Objects as tree
 use Rattle.commit_build.specs.declared.phase.Phase.{Phase}
 use Rattle.commit_build.specs.declared.phase.Phase.TheVariants as phase
@@ -71,6 +71,7 @@ duty_each (Take wants) actor lane v b W D E work duty some = duty work
 duty_each (Claim name) actor lane v b W D E work duty some = duty work
 duty_each (Show e) actor lane v b W D E work duty some = duty work
 duty_each (Shown e owed) actor lane v b W D E work duty some = duty work
+duty_each (Remove e owed) actor lane v b W D E work duty some = duty work
 duty_each (Settle e) actor lane v b W D E work duty some = ((duty work).0, λ w ends. let n = some w ends in (duty n.0).1 w n.1)
 
 duty_by : (o : Option Naming) (actor lane : ℕ) (t new : CommitCommand) (v : View) (b : Books) → Agrees b → IsBy (kind_by o t) actor lane → Stood (kind_by o t) actor lane b → facts_by o lane t v b
@@ -286,7 +287,7 @@ next_at (Some commit) actor lane t new v w b b' is none stood f l keeps =
     (subst (λ (x : View). Changing lane (record t { change = Some (planned t commit) }) (planned t commit) x b') (sym l.1)
     (changing_first lane t commit v b b' (commit_phase t.build.phase commit is) f keeps))
 
-changing_next : (actor lane : ℕ) (t : CommitCommand) (n : Naming) (next : RefWork) (v w : View) (b b' : Books) → Stood (ref_kind n.work) actor lane b → Changing lane t n v b → ref_leaves n.work turn.More next v w → Keeps lane b b' → Owned (ref_kind n.work) lane b'
+changing_next : (actor lane : ℕ) (t : CommitCommand) (n : Naming) (next : RefWork) (v w : View) (b b' : Books) → Stood (ref_kind n.work) actor lane b → Changing lane t n v b → ref_leaves n.work turn.More next v w → Keeps lane b b' → Owned (ref_kind n.work) lane b b'
     → Changing lane (record t { change = Some (record n { work = next }) }) (record n { work = next }) w b'
 changing_next actor lane t n next v w b b' stood f l keeps own = record {
   ref = ref_laws.next actor lane n.work next v w b b' stood f.ref l keeps own;
@@ -301,7 +302,7 @@ changing_next actor lane t n next v w b b' stood f l keeps own = record {
   pins = λ o of. keeps.pins (record { lane = lane; object = o.name }) refl (f.pins o of);
 }
 
-next_by : (o : Option Naming) (actor lane : ℕ) (t new : CommitCommand) (v w : View) (b b' : Books) → t.change ≡ o → Stood (kind_by o t) actor lane b → facts_by o lane t v b → leaves_by o t turn.More new v w → Keeps lane b b' → Owned (kind_by o t) lane b'
+next_by : (o : Option Naming) (actor lane : ℕ) (t new : CommitCommand) (v w : View) (b b' : Books) → t.change ≡ o → Stood (kind_by o t) actor lane b → facts_by o lane t v b → leaves_by o t turn.More new v w → Keeps lane b b' → Owned (kind_by o t) lane b b'
     → commit_facts lane new w b'
 next_by None actor lane t new v w b b' is stood f l keeps own = next_at (commit_in t.build.phase) actor lane t new v w b b' refl is stood f l keeps
 next_by (Some n) actor lane t new v w b b' is stood f l keeps own =

@@ -59,8 +59,6 @@ put_settles file.Append e last runs = let n : false ≡ true = last in cc
 put_settles file.SyncFile e last runs = let n : false ≡ true = last in cc
 put_settles file.Look e last runs = let n : false ≡ true = last in cc
 put_settles file.Replace e last runs = let n : false ≡ true = last in cc
-put_settles file.Add e last runs = let n : false ≡ true = last in cc
-put_settles file.Unlink e last runs = let n : false ≡ true = last in cc
 
 pub settles_in : (ph : Phase) (e : Event) → IsLast ph → IsRunning (progress_in ph) → kind_in ph e ≡ Settle e
 settles_in phase.Look e last runs = absurd last

@@ -47,8 +47,6 @@ put_no file.SyncFile g v p s a = absurd a
 put_no file.Look g v p s a = absurd a
 put_no file.Replace g v p s (inl a) = leaf_no s a.1.0 g.meta g.bytes a.1.1
 put_no file.Replace g v p s (inr a) = vacant_no s a.1
-put_no file.Add g v p s a = leaf_no s a.1.0 g.meta g.bytes a.1.1
-put_no file.Unlink g v p s a = vacant_no s a.1
 put_no file.SyncFolder g v p s a = absurd a
 put_no file.Ended g v p s a = absurd a
 

@@ -1,7 +1,6 @@
 -- What a step of a change is to the system, by its phase.
 use Rattle.std.proofs.Common.{◌≡◌, ◌≤◌, ◌<◌, ℕ, true, refl, sym, subst, arith, List, Option, Some, None, Result, ◌+◌}
 use Rattle.fs_trait.specs.declared.types.FsErr.{FsErr}
-use Rattle.fs_trait.specs.View.{View}
 use Rattle.fs_trait.specs.Effect.{Next}
 use Rattle.staged_file.specs.declared.phase.Phase as staged
 use Rattle.staged_file.specs.declared.phase.Phase.TheVariants as file
@@ -12,7 +11,7 @@ use Rattle.ref_store.specs.declared.progress.Progress.{Progress}
 use Rattle.ref_store.specs.declared.progress.Progress.TheVariants as progress
 use Rattle.ref_store.specs.Change.{Change, Follows, Takes, is_owed, owed_after}
 use Rattle.rely_guarantee.specs.declared.event.Event.{Event}
-use Rattle.rely_guarantee.specs.Laws.{Kind, Quiet, Store, Take, Claim, Show, Shown, Settle, IsShow, IsSettle, IsLastly, KeepsRoom, owed_by}
+use Rattle.rely_guarantee.specs.Laws.{Kind, Quiet, Store, Take, Claim, Show, Shown, Remove, Settle, IsShow, IsSettle, IsLastly, KeepsRoom, owed_by}
 use Rattle.ref_command.specs.declared.look_up.Found.{Found}
 use Rattle.ref_command.specs.Commands.{found_kind}
 use Rattle.ref_command.specs.Kinds.{kind_at, kind_in, put_kind, turn_wants}
@@ -21,7 +20,6 @@ pub kind_shows : (p : Progress) (d e : Event) → kind_at p d ≡ Show e → d �
 kind_shows progress.Showing d e is = cc
 kind_shows progress.Looking d e is = let n : Take turn_wants ≡ Show e = is in cc
 kind_shows progress.Preparing d e is = let n : Quiet ≡ Show e = is in cc
-kind_shows progress.Shown d e is = let n : Shown d 2 ≡ Show e = is in cc
 kind_shows progress.Settling d e is = let n : Settle d ≡ Show e = is in cc
 kind_shows progress.Ended d e is = let n : Quiet ≡ Show e = is in cc
 
@@ -33,8 +31,6 @@ put_ticks file.Append e a b settles takes = absurd settles
 put_ticks file.SyncFile e a b settles takes = absurd settles
 put_ticks file.Look e a b settles takes = absurd settles
 put_ticks file.Replace e a b settles takes = absurd settles
-put_ticks file.Add e a b settles takes = absurd settles
-put_ticks file.Unlink e a b settles takes = absurd settles
 put_ticks file.Ended e a b settles takes = absurd settles
 
 -- the sync that settles ticks
@@ -51,7 +47,6 @@ no_owed : {P : Type 0} → 0 < 0 → P
 no_owed less = absurd (omega (arith, less))
 
 put_owed : (ph : staged.Phase) (e : Event) → 0 < owed_by (put_kind ph e) → staging.is_owed ph ≡ true
-put_owed file.Unlink e some = refl
 put_owed file.SyncFolder e some = refl
 put_owed file.Clear e some = no_owed some
 put_owed file.Create e some = no_owed some
@@ -59,7 +54,6 @@ put_owed file.Append e some = no_owed some
 put_owed file.SyncFile e some = no_owed some
 put_owed file.Look e some = no_owed some
 put_owed file.Replace e some = no_owed some
-put_owed file.Add e some = no_owed some
 put_owed file.Ended e some = no_owed some
 
 pub owed_is : (ph : Phase) (e : Event) → 0 < owed_by (kind_in ph e) → is_owed ph ≡ true
@@ -73,13 +67,11 @@ owed_is phase.Ended e some = no_owed some
 
 put_after : (ph : staged.Phase) (s : staging.Staged) (d e : Event) → IsShow (put_kind ph d) → owed_by (put_kind (staging.next_in ph s).phase e) ≤ staging.owed_after ph
 put_after file.Replace s d e shows = omega arith
-put_after file.Add s d e shows = omega arith
 put_after file.Clear s d e shows = absurd shows
 put_after file.Create s d e shows = absurd shows
 put_after file.Append s d e shows = absurd shows
 put_after file.SyncFile s d e shows = absurd shows
 put_after file.Look s d e shows = absurd shows
-put_after file.Unlink s d e shows = absurd shows
 put_after file.SyncFolder s d e shows = absurd shows
 put_after file.Ended s d e shows = absurd shows
 
@@ -113,6 +105,7 @@ shows_lastly Store shows last = absurd shows
 shows_lastly (Take wants) shows last = absurd shows
 shows_lastly (Claim name) shows last = absurd shows
 shows_lastly (Shown e owed) shows last = absurd shows
+shows_lastly (Remove e owed) shows last = absurd shows
 shows_lastly (Settle e) shows last = absurd shows
 
 -- a step that shows nothing and owes nothing takes the room of at most one call

@@ -143,14 +143,14 @@ reset_next (Some found) actor lane look plan (Parse next) v w b b' f same known 
 reset_next (Some found) actor lane look plan (Reset next p) v w b b' f same known pin stood l keeps = absurd l
 
 -- a change names the same commit till its end
-change_next : (actor lane : ℕ) (work new : RefWork) (v w : View) (b b' : Books) → Stood (ref_kind work) actor lane b → Changing lane work v b → ref_leaves work turn.More new v w → Keeps lane b b' → Owned (ref_kind work) lane b' → Changing lane new w b'
+change_next : (actor lane : ℕ) (work new : RefWork) (v w : View) (b b' : Books) → Stood (ref_kind work) actor lane b → Changing lane work v b → ref_leaves work turn.More new v w → Keeps lane b b' → Owned (ref_kind work) lane b b' → Changing lane new w b'
 change_next actor lane work new v w b b' stood f l keeps own = record {
   ref = ref_laws.next actor lane work new v w b b' stood f.ref l keeps own;
   founded = subst (λ o. IsFounded o w) (sym (ap (λ (x : store.Change). x.value) l.stepped.0)) (founded_own work.task v w lane f.ref.needs f.ref.mine l.writes work.task.value f.founded);
   pinned = subst (λ o. IsPinnedFor o lane b') (sym (ap (λ (x : store.Change). x.value) l.stepped.0)) (pinned_for_on lane b b' keeps.pins work.task.value f.pinned);
 }
 
-next_of : (actor lane : ℕ) (t new : RefCommand) (v w : View) (b b' : Books) → Stood (command_kind t) actor lane b → command_facts lane t v b → command_leaves t turn.More new v w → Keeps lane b b' → Owned (command_kind t) lane b' → command_facts lane new w b'
+next_of : (actor lane : ℕ) (t new : RefCommand) (v w : View) (b b' : Books) → Stood (command_kind t) actor lane b → command_facts lane t v b → command_leaves t turn.More new v w → Keeps lane b b' → Owned (command_kind t) lane b b' → command_facts lane new w b'
 next_of actor lane (Parse look) new v w b b' stood f l keeps own = absurd l
 next_of actor lane (Reset look plan) new v w b b' stood f l keeps own = reset_next look.found actor lane look plan new v w b b' f.change f.same f.commit f.pinned stood l keeps
 next_of actor lane (Change work) (Change new) v w b b' stood f l keeps own = change_next actor lane work new v w b b' stood f l keeps own

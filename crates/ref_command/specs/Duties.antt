@@ -20,7 +20,6 @@ use Rattle.ref_room.proofs.Names.{ref_folder-under}
 use Rattle.ref_room.proofs.Stable.{way_lies, clearing_lies}
 use Rattle.staged_file.specs.declared.phase.Phase as staged
 use Rattle.staged_file.specs.declared.phase.Phase.TheVariants as file
-use Rattle.staged_file.specs.declared.phase.Show.TheVariants.{Rename, Link}
 use Rattle.staged_file.specs.Staged.{Staged}
 use Rattle.staged_file.specs.Steps as staging
 use Rattle.ref_store.specs.declared.phase.Phase.{Phase}
@@ -36,7 +35,7 @@ use Rattle.rely_guarantee.specs.Books.{Books, Free, Agrees}
 use Rattle.rely_guarantee.specs.Objects.{IsObjectSeen}
 use Rattle.rely_guarantee.specs.Rely.{Guarantee, may_at, NotOthers, OwnTree, IsEmpty, HasNoRefs}
 use Rattle.rely_guarantee.specs.SystemInvariant.{Leads}
-use Rattle.rely_guarantee.specs.Change.{Still, Shows, Final}
+use Rattle.rely_guarantee.specs.Change.{Still, Dooms, Shows, Final}
 use Rattle.rely_guarantee.specs.Laws.{IsSettle, StepObligation, Stood, Within}
 use Rattle.rely_guarantee.proofs.Calls.{own_file, ref_fits, stage_fits, stage_still, folder_still, set_shows, drop_shows, set_final, drop_final}
 use Rattle.ref_command.specs.Kinds.{event_of, event, put_kind, kind_in}
@@ -127,6 +126,12 @@ final_in (Some commit) seen name w only lead sum = set_final w name commit seen 
 final_in None (Some seen) name w only lead sum = drop_final w name seen (λ s may. no_leaf s (only s may))
 final_in None None name w only lead sum = drop_final w name [] (λ s may. no_leaf s (only s may))
 
+-- a change of a ref takes no object away
+no_removal : (b : Books) (lane : ℕ) (o : Option (List ℕ)) (name : List ℕ) (seen : Option (List ℕ)) → Dooms lane b (event_of o name seen)
+no_removal b lane (Some commit) name seen = tt
+no_removal b lane None name (Some seen) = tt
+no_removal b lane None name None = tt
+
 -- the table of the steps
 module _ (b : Books) (v : View) (actor lane : ℕ) (t : Change) (f : Facts lane t v b) where
   stage_at : (p : Path) → p ≡ stage_path t.actor → place p ≡ Stage lane
@@ -171,12 +176,6 @@ module _ (b : Books) (v : View) (actor lane : ℕ) (t : Change) (f : Facts lane 
     shown e = subst (λ o. Shows (staging.writes_in file.Replace g v) v (event_of o t.name t.seen)) (sym file_of.value)
         (set_shows (staging.writes_in file.Replace g v) v lane t.name file_of.commit t.seen moved f.needs.named file_of.sum (was (ap awaits is ∙ ap awaits_file e)))
 
-    no_link : (ph : staged.Phase) → g.phase ≡ ph → staging.shown_by ph g.show
-    no_link ph e = subst (λ x. staging.shown_by x g.show) e (meets_in t v f.needs (phase.Put g) is).0.way
-
-    rename_link : {P : Type 0} → g.show ≡ Link → P
-    rename_link e = let n : Rename ≡ Link = sym file_of.show ∙ e in cc
-
     final : (w : View) → IsDone t w → Final (event t) w
     final w done = final_in t.value t.seen t.name w done.0 done.1 (subst IsSomeSum (sym file_of.value) file_of.sum)
 
@@ -187,9 +186,7 @@ module _ (b : Books) (v : View) (actor lane : ℕ) (t : Change) (f : Facts lane 
     put_duty agrees Done file.Append done e stood turn = (put_within (free turn) (alone agrees turn) file.Append e, stage_still (staging.writes_in file.Append g v) v lane (λ p s a. at_stage p a.0))
     put_duty agrees Done file.SyncFile done e stood turn = ((λ p s a. absurd a), (λ q s a. absurd a))
     put_duty agrees Done file.Look done e stood turn = ((λ p s a. absurd a), (λ q s a. absurd a))
-    put_duty agrees Done file.Replace done e stood turn = (put_within stood.0 stood.1 file.Replace e, shown e)
-    put_duty agrees Done file.Add done e stood turn = rename_link (no_link file.Add e)
-    put_duty agrees Done file.Unlink done e stood turn = rename_link (no_link file.Unlink e)
+    put_duty agrees Done file.Replace done e stood turn = (put_within stood.0 stood.1 file.Replace e, shown e, no_removal b lane t.value t.name t.seen)
     put_duty agrees Done file.SyncFolder done e stood turn = ((λ p s a. absurd a), (λ w last. final w (done tt w last)))
     put_duty agrees Done file.Ended done e stood turn = ((λ p s a. absurd a), (λ q s a. absurd a))
 
@@ -209,7 +206,7 @@ module _ (b : Books) (v : View) (actor lane : ℕ) (t : Change) (f : Facts lane 
   duty_in agrees Done (phase.Clear c) done is stood turn = (held agrees turn (phase.Clear c) is, clear_still c is)
   duty_in agrees Done (phase.Walk y) done is stood turn = (held agrees turn (phase.Walk y) is, walk_still y is)
   duty_in agrees Done (phase.Put g) done is stood turn = put_duty g is agrees Done g.phase done refl stood turn
-  duty_in agrees Done phase.Unlink done is stood turn = (within b v lane t f.needs f.mine stood.0 stood.1 phase.Unlink is, unlink_shows is)
+  duty_in agrees Done phase.Unlink done is stood turn = (within b v lane t f.needs f.mine stood.0 stood.1 phase.Unlink is, unlink_shows is, no_removal b lane t.value t.name t.seen)
   duty_in agrees Done phase.SyncFolder done is stood turn = ((λ p s a. absurd a), (λ w last. sync_final is w (done tt w last)))
   duty_in agrees Done phase.Ended done is stood turn = ((λ p s a. absurd a), (λ q s a. absurd a))
 

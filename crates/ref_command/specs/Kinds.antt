@@ -17,7 +17,7 @@ use Rattle.ref_store.specs.Steps.{Needs, WritesOf, Tells, Refuses}
 use Rattle.rely_guarantee.specs.declared.event.Event.{Event}
 use Rattle.rely_guarantee.specs.declared.event.Event.TheVariants.{SetRef, DropRef}
 use Rattle.rely_guarantee.specs.declared.kind.Wants.{Wants}
-use Rattle.rely_guarantee.specs.Laws.{Kind, Quiet, Take, Show, Shown, Settle}
+use Rattle.rely_guarantee.specs.Laws.{Kind, Quiet, Take, Show, Settle}
 use Rattle.ref_command.specs.declared.work.RefWork.{RefWork}
 
 -- the event that the change is; what is removed had a value
@@ -39,7 +39,6 @@ abbrev pub kind_at : Progress → Event → Kind
 kind_at progress.Looking e = Take turn_wants
 kind_at progress.Preparing e = Quiet
 kind_at progress.Showing e = Show e
-kind_at progress.Shown e = Shown e 2
 kind_at progress.Settling e = Settle e
 kind_at progress.Ended e = Quiet
 

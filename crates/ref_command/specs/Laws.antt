@@ -5,8 +5,6 @@ use Rattle.fs_trait.specs.declared.task.StepResult.TheVariants as turn
 use Rattle.fs_trait.specs.View.{View}
 use Rattle.staged_file.specs.declared.phase.Phase as staged
 use Rattle.staged_file.specs.declared.phase.Phase.TheVariants as file
-use Rattle.staged_file.specs.declared.phase.Show.{Show}
-use Rattle.staged_file.specs.declared.phase.Show.TheVariants as show
 use Rattle.staged_file.specs.Staged as staging
 use Rattle.ref_store.specs.declared.phase.Phase.{Phase}
 use Rattle.ref_store.specs.declared.phase.Phase.TheVariants as phase
@@ -30,19 +28,13 @@ before_filled : (b : Bool) (e : Event) → IsBefore (put_kind (if b then file.Ap
 before_filled true e = tt
 before_filled false e = tt
 
-before_shown : (how : Show) (e : Event) → IsBefore (put_kind (staging.first_show how) e)
-before_shown show.Rename e = tt
-before_shown show.Link e = tt
-
 put_chain : (ph : staged.Phase) (s : staging.Staged) (e : Event) → staging.is_last ph ≡ false → Chain (put_kind ph e) (put_kind (staging.next_in ph s).phase e)
 put_chain file.Clear s e more = tt
 put_chain file.Create s e more = before_filled (nat_lt 0 (length s.bytes)) e
 put_chain file.Append s e more = before_filled (nat_lt (staging.piece_end s) (length s.bytes)) e
-put_chain file.SyncFile s e more = before_shown s.show e
+put_chain file.SyncFile s e more = tt
 put_chain file.Look s e more = tt
 put_chain file.Replace s e more = (refl, omega arith)
-put_chain file.Add s e more = (refl, omega arith, omega arith)
-put_chain file.Unlink s e more = (1, refl, (refl, omega arith))
 put_chain file.SyncFolder s e more = let n : true ≡ false = more in cc
 put_chain file.Ended s e more = let n : true ≡ false = more in cc
 
@@ -86,19 +78,13 @@ running_filled : (b : Bool) → IsRunning (progress_of (if b then file.Append el
 running_filled true = tt
 running_filled false = tt
 
-running_shown : (how : Show) → IsRunning (progress_of (staging.first_show how))
-running_shown show.Rename = tt
-running_shown show.Link = tt
-
 put_runs : (ph : staged.Phase) (s : staging.Staged) → staging.is_last ph ≡ false → IsRunning (progress_of (staging.next_in ph s).phase)
 put_runs file.Clear s more = tt
 put_runs file.Create s more = running_filled (nat_lt 0 (length s.bytes))
 put_runs file.Append s more = running_filled (nat_lt (staging.piece_end s) (length s.bytes))
-put_runs file.SyncFile s more = running_shown s.show
+put_runs file.SyncFile s more = tt
 put_runs file.Look s more = tt
 put_runs file.Replace s more = tt
-put_runs file.Add s more = tt
-put_runs file.Unlink s more = tt
 put_runs file.SyncFolder s more = let n : true ≡ false = more in cc
 put_runs file.Ended s more = let n : true ≡ false = more in cc
 
@@ -153,8 +139,6 @@ put_last file.Append e last = tt
 put_last file.SyncFile e last = tt
 put_last file.Look e last = tt
 put_last file.Replace e last = let n : false ≡ true = last in cc
-put_last file.Add e last = let n : false ≡ true = last in cc
-put_last file.Unlink e last = let n : false ≡ true = last in cc
 
 last_in : (ph : Phase) (e : Event) → IsLast ph → IsLastly (kind_in ph e)
 last_in phase.Look e last = tt
@@ -201,6 +185,7 @@ any_turn (Take wants) lane b turn = tt
 any_turn (rely.Claim name) lane b turn = turn
 any_turn (rely.Show e) lane b turn = turn
 any_turn (rely.Shown e owed) lane b turn = turn
+any_turn (rely.Remove e owed) lane b turn = turn
 any_turn (rely.Settle e) lane b turn = turn
 
 -- the lane has the ref lock in each step
@@ -227,7 +212,6 @@ pub no_claim : (p : Progress) (e : Event) → IsClaim (kind_at p e) → ⊥
 no_claim progress.Looking e is = is
 no_claim progress.Preparing e is = is
 no_claim progress.Showing e is = is
-no_claim progress.Shown e is = is
 no_claim progress.Settling e is = is
 no_claim progress.Ended e is = is
 

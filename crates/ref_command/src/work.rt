@@ -80,7 +80,6 @@ fn step_at(progress: Progress) -> Step
         Progress::Looking => Step::Take(turn_wants()),
         Progress::Preparing | Progress::Ended => Step::Quiet,
         Progress::Showing => Step::Show,
-        Progress::Shown => Step::Shown,
         Progress::Settling => Step::Settle,
     }
 }
@@ -89,7 +88,6 @@ fn owed_at(progress: Progress) -> u64
     ensures { (e : Event) → result ≡ owed_by (kind_at progress e) }
 {
     match progress {
-        Progress::Shown => 2,
         Progress::Settling => 1,
         Progress::Looking | Progress::Preparing | Progress::Showing | Progress::Ended => 0,
     }

@@ -26,7 +26,7 @@ use Rattle.rely_guarantee.specs.Books.{Books, books_of, Spared, Keeps}
 use Rattle.rely_guarantee.specs.Rely.{Guarantee, Interference}
 use Rattle.rely_guarantee.specs.SystemInvariant.{Ordered, SystemInvariant}
 use Rattle.rely_guarantee.specs.Change.{Still}
-use Rattle.rely_guarantee.specs.Laws.{Kind, Quiet, Store, Take, Claim, Show, Shown, Settle, Laws, StepObligation, Within, IsQuiet, IsPlain, IsBy, IsBefore, Owned, Chain, Holds, Stood, NotPending, IsPending, Runs, Ready, Tells, Acts, Ends, IsEnd}
+use Rattle.rely_guarantee.specs.Laws.{Kind, Quiet, Store, Take, Claim, Show, Shown, Remove, Settle, Laws, StepObligation, Within, IsQuiet, IsPlain, IsBy, IsBefore, Owned, Chain, Holds, Stood, NotPending, IsPending, Runs, Ready, Tells, Acts, Ends, IsEnd}
 use Rattle.rely_guarantee.proofs.States.{ascends_later}
 use Rattle.rely_guarantee.proofs.Knowns.{stands_quiet}
 use Rattle.rely_guarantee.proofs.Claiming.{claims_stand}
@@ -47,6 +47,7 @@ before_holds (Take wants) lane b is none = none
 before_holds (Claim name) lane b is none = none
 before_holds (Show e) lane b is none = none
 before_holds (Shown e owed) lane b is none = absurd is
+before_holds (Remove e owed) lane b is none = absurd is
 before_holds (Settle e) lane b is none = absurd is
 
 pub quiet_not : (kind : Kind) (lane : ℕ) (b : Books) → IsQuiet kind → Holds kind lane b → NotPending lane b
@@ -56,6 +57,7 @@ quiet_not (Take wants) lane b is h = h
 quiet_not (Claim name) lane b is h = h
 quiet_not (Show e) lane b is h = absurd is
 quiet_not (Shown e owed) lane b is h = absurd is
+quiet_not (Remove e owed) lane b is h = absurd is
 quiet_not (Settle e) lane b is h = absurd is
 
 quiet_chain : (kind next : Kind) → IsQuiet kind → Chain kind next → IsBefore next
@@ -65,6 +67,7 @@ quiet_chain (Take wants) next is c = c
 quiet_chain (Claim name) next is c = c
 quiet_chain (Show e) next is c = absurd is
 quiet_chain (Shown e owed) next is c = absurd is
+quiet_chain (Remove e owed) next is c = absurd is
 quiet_chain (Settle e) next is c = absurd is
 
 pub plain_quiet : (kind : Kind) → IsPlain kind → IsQuiet kind
@@ -74,17 +77,19 @@ plain_quiet (Take wants) is = tt
 plain_quiet (Claim name) is = absurd is
 plain_quiet (Show e) is = absurd is
 plain_quiet (Shown e owed) is = absurd is
+plain_quiet (Remove e owed) is = absurd is
 plain_quiet (Settle e) is = absurd is
 
 -- behind it the lane has nothing of its own
-plain_owned : (kind : Kind) (lane : ℕ) (b : Books) → IsPlain kind → Owned kind lane b
-plain_owned Quiet lane b is = tt
-plain_owned Store lane b is = tt
-plain_owned (Take wants) lane b is = tt
-plain_owned (Claim name) lane b is = absurd is
-plain_owned (Show e) lane b is = absurd is
-plain_owned (Shown e owed) lane b is = absurd is
-plain_owned (Settle e) lane b is = absurd is
+plain_owned : (kind : Kind) (lane : ℕ) (b b' : Books) → IsPlain kind → Owned kind lane b b'
+plain_owned Quiet lane b b' is = tt
+plain_owned Store lane b b' is = tt
+plain_owned (Take wants) lane b b' is = tt
+plain_owned (Claim name) lane b b' is = absurd is
+plain_owned (Show e) lane b b' is = absurd is
+plain_owned (Shown e owed) lane b b' is = absurd is
+plain_owned (Remove e owed) lane b b' is = absurd is
+plain_owned (Settle e) lane b b' is = absurd is
 
 own : (W : Path → Seen → Type 0) (b : Books) (v : View) (actor lane : ℕ) (kind : Kind) → IsBy kind actor lane → (kind ≡ Store → ⊥) → Within W (Guarantee b v lane lane) → Within W (Guarantee b v actor lane)
 own W b v actor lane kind by not within = subst (λ (a : ℕ). Within W (Guarantee b v a lane)) (sym (⊎_elim (λ e. e) (λ s. absurd (not s)) by)) within
@@ -96,6 +101,7 @@ quiet_duty (Take wants) actor lane v b W Done is by d = (own W b v actor lane (T
 quiet_duty (Claim name) actor lane v b W Done is by d = (own W b v actor lane (Claim name) by (λ (z : Claim name ≡ Store). cc) d.0, d.1)
 quiet_duty (Show e) actor lane v b W Done is by d = absurd is
 quiet_duty (Shown e owed) actor lane v b W Done is by d = absurd is
+quiet_duty (Remove e owed) actor lane v b W Done is by d = absurd is
 quiet_duty (Settle e) actor lane v b W Done is by d = absurd is
 
 module _ {F : Type 0} (view : F → Option View) (clock spare : F → ℕ) (was : F → ℕ → View → Type 0) (fslaws : IsFs view clock was)
@@ -127,7 +133,7 @@ module _ {F : Type 0} (view : F → Option View) (clock spare : F → ℕ) (was 
     idle = λ is. ends.owed ∙ ap (λ b. b.owed) same ∙ was.idle (sym (ap (λ b. b.pending) same) ∙ sym ends.pending ∙ is);
     room = rw (ends.owed, ends.fs, same) room;
     entry = λ owes. rw (ends.history, same) (was.entry (subst (λ n. 0 < n) (ends.owed ∙ ap (λ b. b.owed) same) owes));
-    undoomed = λ o has. was.undoomed o (subst (λ (b : rust.Books). Contains b.doomed.items o) same (ends.doomed o has));
+    counted = rw (ends.gone, ends.owed, same) was.counted;
   }
 
   -- no claim comes
@@ -168,7 +174,7 @@ module _ {F : Type 0} (view : F → Option View) (clock spare : F → ℕ) (was 
   quiet_runs old fs actor lane t new is stood ready step after = record {
     facts = λ w told_w.
         let v = fslaws.told fs old.fs w told_w in
-        laws.next actor lane t new v.0 w (books_of old.books) (books_of old.books) stood (ready.task.facts v.0 v.1) (told_same (view fs) w told_w (after v.0 v.1)) (keeps_refl lane (books_of old.books)) (plain_owned (kind t) lane (books_of old.books) is);
+        laws.next actor lane t new v.0 w (books_of old.books) (books_of old.books) stood (ready.task.facts v.0 v.1) (told_same (view fs) w told_w (after v.0 v.1)) (keeps_refl lane (books_of old.books)) (plain_owned (kind t) lane (books_of old.books) (books_of old.books) is);
     holds = before_holds (kind new) lane (books_of old.books) (quiet_chain (kind t) (kind new) (plain_quiet (kind t) is) (laws.chain t new step)) (quiet_not (kind t) lane (books_of old.books) (plain_quiet (kind t) is) ready.task.holds);
   }
 
@@ -213,6 +219,7 @@ module _ {T : Type 0} {kind : T → Kind} {needs : ℕ → T → View → Type 0
       by (Claim name) h = not_mine h
       by (Show e) h = not_mine h
       by (Shown e owed) h = (still e owed h.0, h.1)
+      by (Remove e owed) h = (still e owed h.0, h.1)
       by (Settle e) h = still e 1 h
 
   pub runs_kept : {F : Type 0} (view : F → Option View) (told : (fs gs : F) (v : View) → view fs ≡ Some v → Told (view gs) (λ w. Unit {0})) (actor lane mine : ℕ) (t : T) (fs gs : F) (b b' : Books) → mine ≢ actor → mine ≢ lane
@@ -235,7 +242,7 @@ tells_end view runs came.More new is = absurd is
 tells_end view runs came.Done new is = tt
 
 pub ends_refl : {F : Type 0} (actor lane : ℕ) (base : Base F) → Ends actor lane base base
-ends_refl actor lane base = record { fs = refl; history = refl; pending = refl; owed = refl; opened = refl; start = refl; claims = λ c has. has; doomed = λ o has. has; spared = spared_refl actor lane (books_of base.books); agrees = λ a. a }
+ends_refl actor lane base = record { fs = refl; history = refl; pending = refl; owed = refl; opened = refl; start = refl; claims = λ c has. has; gone = refl; spared = spared_refl actor lane (books_of base.books); agrees = λ a. a }
 
 -- where no time goes by the view is as it was
 pub view_stays : {F : Type 0} (view : F → Option View) (clock : F → ℕ) (was : F → ℕ → View → Type 0) (only_now : (fs : F) (t : ℕ) (v : View) → clock fs ≤ t → was fs t v → view fs ≡ Some v) (counts_now : (fs : F) (t : ℕ) (v : View) → t ≤ clock fs → view fs ≡ Some v → was fs t v)

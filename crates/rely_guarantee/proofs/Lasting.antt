@@ -29,10 +29,12 @@ use Rattle.repo_model.proofs.Stored.{stores_map}
 use Rattle.reach.specs.Reach.{Is, Reach}
 use Rattle.reach.proofs.Parts.{commit_whole}
 use Rattle.rely_guarantee.specs.Books.{Books}
+use Rattle.rely_guarantee.specs.Change.{TakesNone}
 use Rattle.rely_guarantee.specs.Disks.{IsLeaf}
 use Rattle.rely_guarantee.specs.Objects.{IsObjectSeen}
 use Rattle.rely_guarantee.specs.Lasting.{AlwaysStores, IsRight, IsSafe, Lasts, NeverMarked, Stays, StaysOn}
-use Rattle.rely_guarantee.specs.Rely.{Guarantee, Interference}
+use Rattle.rely_guarantee.specs.Laws.{Within}
+use Rattle.rely_guarantee.specs.Rely.{Guarantee}
 use Rattle.rely_guarantee.specs.Removing.{next_of}
 use Rattle.rely_guarantee.specs.SystemInvariant.{Leads}
 use Rattle.rely_guarantee.proofs.Goods.{leaf_seen}
@@ -84,16 +86,6 @@ module _ (b : Books) (v w : View) (actor lane : ℕ) (writes : Writes (Guarantee
       (λ goes. kept goes.1)
       (m.objects name.kind name.csum (place-object name.kind name.csum safe.sum))
 
-  safe_same : (name : ObjName) → ¬ (Contains (next_of b) name) → IsSafe v name → (s : Seen) → MayBe w (path_of name) s → MayBe v (path_of name) s
-  safe_same name kept safe s may = ⊎_elim (λ was. was) (λ m. absurd (safe_apart name kept safe s m)) (writes.only (path_of name) s may)
-
-  safe_stays : (name : ObjName) → ¬ (Contains (next_of b) name) → IsSafe v name → IsSafe w name
-  safe_stays name kept safe = record {
-    sum = safe.sum;
-    there = λ s may. safe.there s (safe_same name kept safe s may);
-    above = firm_kept (Guarantee b v actor lane) (LeadsTo (objects_folder_path name.csum)) v w writes (leads_harmless name.csum) safe.above;
-  }
-
   right_stays : (name : ObjName) → IsRight v name → IsRight w name
   right_stays name right = record {
     sum = right.sum;
@@ -109,8 +101,30 @@ module _ (b : Books) (v w : View) (actor lane : ℕ) (writes : Writes (Guarantee
         (writes.only (mark_path commit) s may);
   }
 
+  -- where nothing is written over an object that is safe, but for these
+  module _ (out : List ObjName) (W : Path → Seen → Type 0) (wrote : Writes W v w) (apart : (name : ObjName) → ¬ (Contains out name) → IsSafe v name → (s : Seen) → W (path_of name) s → ⊥) where
+    same_by : (name : ObjName) → ¬ (Contains out name) → IsSafe v name → (s : Seen) → MayBe w (path_of name) s → MayBe v (path_of name) s
+    same_by name kept safe s may = ⊎_elim (λ was. was) (λ m. absurd (apart name kept safe s m)) (wrote.only (path_of name) s may)
+
+    safe_by : (name : ObjName) → ¬ (Contains out name) → IsSafe v name → IsSafe w name
+    safe_by name kept safe = record {
+      sum = safe.sum;
+      there = λ s may. safe.there s (same_by name kept safe s may);
+      above = firm_kept (Guarantee b v actor lane) (LeadsTo (objects_folder_path name.csum)) v w writes (leads_harmless name.csum) safe.above;
+    }
+
+    pub stays_by : Stays out v w
+    stays_by = record { safe = safe_by; same = same_by; right = right_stays; unmarked = λ commit kept. unmarked_stays commit }
+
   pub stays_act : Stays (next_of b) v w
-  stays_act = record { safe = safe_stays; same = safe_same; right = right_stays; unmarked = λ commit kept. unmarked_stays commit }
+  stays_act = stays_by (next_of b) (Guarantee b v actor lane) writes safe_apart
+
+  -- a step that takes no object from its path leaves all that are safe
+  pub stays_taking : (W : Path → Seen → Type 0) → Writes W v w → Within W (Guarantee b v actor lane) → TakesNone W v → Stays [] v w
+  stays_taking W wrote within takes = stays_by [] W wrote (λ name kept safe s x. ⊎_elim
+      (λ comes. safe.there (shows v.now (path_of name)) (may_now v (path_of name)) comes.0)
+      (λ goes. safe.there (shows v.now (path_of name)) (may_now v (path_of name)) (takes name.kind name.csum safe.sum (subst (W (path_of name)) goes.0 x)))
+      ((within (path_of name) s x).objects name.kind name.csum (place-object name.kind name.csum safe.sum)))
 
 pub stays_refl : (v : View) → Stays [] v v
 stays_refl v = record { safe = λ name kept safe. safe; same = λ name kept safe s may. may; right = λ name right. right; unmarked = λ commit kept safe none. none }
@@ -242,33 +256,25 @@ module _ {F : Type 0} (view : F → Option View) (clock : F → ℕ) (was : F �
       )
 
   -- one act
-  pub lasts_act : (old new : F) (b b' : Books) (actor lane : ℕ) → ((v : View) → view old ≡ Some v → (w : View) × (view new ≡ Some w) × Interference actor lane v b w b')
-      → Elapses (clock old) (clock new) (was old) (was new) (view new) → Lasts (next_of b) view clock was old new
-  lasts_act old new b b' actor lane does time v told =
-      let x = does v told in
+  pub lasts_stays : (out : List ObjName) (old new : F) → ((v : View) → view old ≡ Some v → (w : View) × (view new ≡ Some w) × Stays out v w) → Elapses (clock old) (clock new) (was old) (was new) (view new) → Lasts out view clock was old new
+  lasts_stays out old new stays time v told =
+      let x = stays v told in
       let w = x.0 in
-      let now = stays_act b v w actor lane x.2.writes in
-      let earlier : (t : ℕ) (d : Disk) → Left (was new) t d → Left (was old) t d ⊎ StaysOn (next_of b) v d =
+      let earlier : (t : ℕ) (d : Disk) → Left (was new) t d → Left (was old) t d ⊎ StaysOn out v d =
       λ t d left. ⊎_elim
       (λ was_left. inl was_left)
-      (λ here. inr (image_later (next_of b) v w d now (subst (λ u. Image u d) (same_told new here.0 w here.1 x.1) here.2)))
+      (λ here. inr (image_later out v w d x.2 (subst (λ u. Image u d) (same_told new here.0 w here.1 x.1) here.2)))
       ((passes (clock old) (clock new) (was old) (was new) (view new) (laws.only_now new) time).nothing_else t d left)
       in (
         w,
         x.1,
         record {
           later = time.later;
-          now = now;
-          since = λ t d late left. ⊎_elim (λ was_left. on_more [] (next_of b) v d (λ name is. absurd (none_out name is)) (left_now old v told t d late was_left)) (λ on. on) (earlier t d left);
+          now = x.2;
+          since = λ t d late left. ⊎_elim (λ was_left. on_more [] out v d (λ name is. absurd (none_out name is)) (left_now old v told t d late was_left)) (λ on. on) (earlier t d left);
           earlier = earlier;
         },
       )
-
-  -- one where nothing is to be removed
-  pub lasts_undoomed : (old new : F) (b b' : Books) (actor lane : ℕ) → ((o : ObjName) → ¬ (Contains b.doomed o)) → ((v : View) → view old ≡ Some v → (w : View) × (view new ≡ Some w) × Interference actor lane v b w b')
-      → Elapses (clock old) (clock new) (was old) (was new) (view new) → Lasts [] view clock was old new
-  lasts_undoomed old new b b' actor lane none does time =
-      lasts_more (next_of b) [] old new (λ name is. absurd (none name (next_doomed b name is))) (lasts_act old new b b' actor lane does time)
 
 -- Bytes that each crash leaves as an object.
 pub always_safe : (v : View) (name : ObjName) (bytes : List ℕ) → AlwaysStores v name bytes → IsSafe v name

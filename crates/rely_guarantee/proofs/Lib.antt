@@ -10,11 +10,13 @@ pub mod Acting
 pub mod Showing
 pub mod Taking
 pub mod Noting
+mod Rooms
 pub mod Pinning
 pub mod Calls
 pub mod Headlines
 pub mod Openings
 pub mod Lasting
 pub mod Removing
+mod Taken
 pub mod Finished
 pub mod Beginnings

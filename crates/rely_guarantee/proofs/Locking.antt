@@ -3,10 +3,19 @@ use Rattle.std.proofs.Common.{◌≡◌, ◌≢◌, ◌⊎◌, inl, inr, ⊎_eli
 use Rattle.std.proofs.lemmas.Bool.Decides.{nat_tests}
 use Rattle.std.proofs.lemmas.List.Elements.{All-contains}
 use Rattle.ost_types.specs.declared.object.ObjName.{ObjName}
+use Rattle.rely_guarantee.specs.declared.books.Books as rust
 use Rattle.rely_guarantee.specs.declared.books.Entry.{Entry}
+use Rattle.rely_guarantee.specs.declared.books.Hold.{Hold}
+use Rattle.rely_guarantee.specs.declared.books.Pending.{Pending}
+use Rattle.rely_guarantee.specs.declared.books.Pin.{Pin}
 use Rattle.rely_guarantee.specs.declared.books.Share.{Share}
+use Rattle.rely_guarantee.specs.declared.event.Event.{Event}
+use Rattle.rely_guarantee.specs.declared.event.Event.TheVariants.{SetRef, DropRef, Pruned}
 use Rattle.rely_guarantee.specs.declared.kind.Wants.{Wants}
-use Rattle.rely_guarantee.specs.Books.{Books, Free, Frees, Agrees, Spared}
+use Rattle.rely_guarantee.specs.Books.{Books, books_of, doomed_of, Free, Frees, Agrees, Spared}
+use Rattle.rely_guarantee.specs.Change.{Dooms}
+use Rattle.rely_guarantee.specs.Exact.{lock_taken}
+use Rattle.rely_guarantee.specs.State.{removed_by}
 use Rattle.rely_guarantee.proofs.Lists.{all_of}
 
 -- what was free of others is, once the lane has more
@@ -17,17 +26,65 @@ free_before lock lock' lane kept free x is = by (nat_eq x lane) refl
     by true e = grind (arith, nat_tests)
     by false e = let other : x ≢ lane = (λ same. let z : true ≡ false = sym (let k : nat_eq lane lane ≡ true = grind (arith, nat_tests) in k) ∙ ap (λ y. nat_eq y lane) (sym same) ∙ e in cc) in free x (kept x other is)
 
--- who holds a lock goes on to
-some_stays : (lock lock' : Option ℕ) → ((x : ℕ) → lock ≡ Some x → lock' ≡ Some x) → IsSome lock → IsSome lock'
-some_stays None lock' kept is = absurd (let bad : false ≡ true = is in cc)
-some_stays (Some x) lock' kept is = subst (λ (o : Option ℕ). IsSome o) (sym (kept x refl)) refl
+-- What is to be removed, by who has the lock for it and by what is shown.
+module _ (x : ℕ) (p : Pending) where
+  doomed_own : x ≡ p.lane → doomed_of (Some x) (Some p) ≡ removed_by p.event
+  doomed_own is = let e : nat_eq x p.lane ≡ true = grind (arith, nat_tests) in rw e refl
 
-pub agrees_granted : (w : Wants) (lane : ℕ) (b b' : Books) → Frees w lane b → b'.doomed ≡ b.doomed → ((x : ℕ) → b.exclusive ≡ Some x → b'.exclusive ≡ Some x)
+  doomed_others : x ≢ p.lane → doomed_of (Some x) (Some p) ≡ []
+  doomed_others other = by (nat_eq x p.lane) refl
+    where
+      by : (t : Bool) → nat_eq x p.lane ≡ t → doomed_of (Some x) (Some p) ≡ []
+      by true e = absurd (other (let k : x ≡ p.lane = grind (arith, nat_tests) in k))
+      by false e = rw e refl
+
+pub doomed_idle : (lock : Option ℕ) → doomed_of lock None ≡ []
+doomed_idle None = refl
+doomed_idle (Some x) = refl
+
+-- its lock is held
+pub doomed_held : (lock : Option ℕ) (pending : Option Pending) (o : ObjName) → Contains (doomed_of lock pending) o → IsSome lock
+doomed_held None pending o has = absurd (omega (arith, has.1))
+doomed_held (Some x) pending o has = refl
+
+-- nothing where its holder shows nothing
+pub doomed_apart : (x : ℕ) (pending : Option Pending) → ((p : Pending) → pending ≡ Some p → p.lane ≢ x) → doomed_of (Some x) pending ≡ []
+doomed_apart x None none = refl
+doomed_apart x (Some p) none = doomed_others x p (λ e. none p refl (sym e))
+
+-- who takes the lock, and shows nothing, changes none of it
+pub doomed_taken : (asks : Bool) (lane : ℕ) (lock : Option ℕ) (pending : Option Pending) → (IsTrue asks → Free lock lane) → ((p : Pending) → pending ≡ Some p → p.lane ≢ lane) → doomed_of (lock_taken asks lane lock) pending ≡ doomed_of lock pending
+doomed_taken false lane lock pending free none = refl
+doomed_taken true lane None pending free none = doomed_apart lane pending none
+doomed_taken true lane (Some x) pending free none = ap (λ n. doomed_of (Some n) pending) (sym (free refl x refl))
+
+-- once a change is shown it is what that one removes
+pub doomed_shown : (lane command : ℕ) (e : Event) (b : Books) → Dooms lane b e → doomed_of b.exclusive (Some (record { lane = lane; command = command; event = e })) ≡ removed_by e
+doomed_shown lane command e b dooms = by e b.exclusive dooms refl
+  where
+    shown : Event → Pending
+    shown d = record { lane = lane; command = command; event = d }
+
+    none : (d : Event) → removed_by d ≡ [] → (lock : Option ℕ) → doomed_of lock (Some (shown d)) ≡ removed_by d
+    none d is None = sym is
+    none d is (Some x) = at (nat_eq x lane) refl
+      where
+        at : (t : Bool) → nat_eq x lane ≡ t → doomed_of (Some x) (Some (shown d)) ≡ removed_by d
+        at true e = rw e refl
+        at false e = rw e (sym is)
+
+    by : (d : Event) (lock : Option ℕ) → Dooms lane b d → b.exclusive ≡ lock → doomed_of lock (Some (shown d)) ≡ removed_by d
+    by (SetRef name seen commit) lock dooms is = none (SetRef name seen commit) refl lock
+    by (DropRef name seen) lock dooms is = none (DropRef name seen) refl lock
+    by (Pruned depth roots held removed) lock dooms is =
+        subst (λ (l : Option ℕ). doomed_of l (Some (shown (Pruned depth roots held removed))) ≡ removed) (sym dooms ∙ is) (doomed_own lane (shown (Pruned depth roots held removed)) refl)
+
+pub agrees_granted : (w : Wants) (lane : ℕ) (b b' : Books) → Frees w lane b → ((o : ObjName) → Contains b'.doomed o → IsSome b'.exclusive)
     → ((x : ℕ) → b'.exclusive ≡ Some x → (b.exclusive ≡ Some x) ⊎ (IsTrue w.exclusive × (x ≡ lane)))
     → ((x : ℕ) → b'.turn ≡ Some x → (b.turn ≡ Some x) ⊎ (IsTrue w.turn × (x ≡ lane)))
     → ((x : Share) → Contains b'.shared x → Contains b.shared x ⊎ (IsTrue w.shared × (x.lane ≡ lane)))
     → Agrees b → Agrees b'
-agrees_granted w lane b b' frees same kept alone turn shared agrees = record {
+agrees_granted w lane b b' frees doomed alone turn shared agrees = record {
   turn = λ x y ex tu. ⊎_elim
       (λ e. ⊎_elim (λ t. agrees.turn x y e t) (λ t. t.1 ∙ sym ((frees.turn t.0).0 x e)) (turn y tu))
       (λ e. ⊎_elim (λ t. (frees.exclusive e.0).1 y t ∙ sym e.1) (λ t. t.1 ∙ sym e.1) (turn y tu))
@@ -36,26 +93,8 @@ agrees_granted w lane b b' frees same kept alone turn shared agrees = record {
       (λ e. ⊎_elim (λ h. All-contains (λ (s : Share). s.lane ≡ x) b.shared s (agrees.shared x e) h) (λ h. h.1 ∙ sym (frees.shared h.0 x e)) (shared s has))
       (λ e. ⊎_elim (λ h. All-contains (λ (s : Share). s.lane ≡ lane) b.shared s ((frees.exclusive e.0).2) h ∙ sym e.1) (λ h. h.1 ∙ sym e.1) (shared s has))
       (alone x ex));
-  doomed = λ o has. some_stays b.exclusive b'.exclusive kept (agrees.doomed o (subst (λ (l : List ObjName). Contains l o) same has));
+  doomed = doomed;
 }
-
--- what is to be removed belongs to the lock's holder, also once a lane has given up what it has
-pub released_doomed : (lane : ℕ) (lock lock' : Option ℕ) (doomed doomed' : List ObjName) → (lock ≡ Some lane → doomed' ≡ []) → ((o : ObjName) → Contains doomed' o → Contains doomed o) → ((x : ℕ) → x ≢ lane → lock ≡ Some x → lock' ≡ Some x)
-    → ((o : ObjName) → Contains doomed o → IsSome lock) → (o : ObjName) → Contains doomed' o → IsSome lock'
-released_doomed lane lock lock' doomed doomed' emptied fewer kept agrees o has = by lock refl
-  where
-    at : (x : ℕ) → lock ≡ Some x → (t : Bool) → nat_eq x lane ≡ t → IsSome lock'
-    at x is true e =
-        let same : x ≡ lane = grind (arith, nat_tests) in
-        let none : Contains [] o = subst (λ (l : List ObjName). Contains l o) (emptied (is ∙ ap Some same)) has in
-        absurd (omega (arith, none.1))
-    at x is false e =
-        let other : x ≢ lane = (λ same. let z : true ≡ false = sym (let k : nat_eq lane lane ≡ true = grind (arith, nat_tests) in k) ∙ ap (λ y. nat_eq y lane) (sym same) ∙ e in cc) in
-        subst (λ (l : Option ℕ). IsSome l) (sym (kept x other is)) refl
-
-    by : (l : Option ℕ) → lock ≡ l → IsSome lock'
-    by None is = absurd (let bad : false ≡ true = subst (λ (l : Option ℕ). IsSome l) is (agrees o (fewer o has)) in cc)
-    by (Some x) is = at x is (nat_eq x lane) refl
 
 pub spared_refl : (actor lane : ℕ) (b : Books) → Spared actor lane b b
 spared_refl actor lane b = record {
@@ -106,4 +145,36 @@ spared_then actor lane a b c p q = record {
   replies = omega (arith, p.replies, q.replies);
   opened = q.opened ∙ p.opened;
   start = q.start ∙ p.start;
+}
+
+-- it stays while another has the lock, and what is shown stays
+pub doomed_kept : (x : ℕ) (lock lock' : Option ℕ) (pending pending' : Option Pending) → lock ≡ Some x → lock' ≡ Some x → pending' ≡ pending → doomed_of lock' pending' ≡ doomed_of lock pending
+doomed_kept x lock lock' pending pending' before now same = ap (λ l. doomed_of l pending') (now ∙ sym before) ∙ ap (doomed_of lock) same
+
+-- what is granted to a lane takes nothing from the others
+pub granted_spared : (w : Wants) (actor lane : ℕ) (b b' : rust.Books) → b' ≡ record b { shared = b'.shared; exclusive = b'.exclusive; turn = b'.turn; sysroot = b'.sysroot; holds = b'.holds; pins = b'.pins } → Frees w lane (books_of b)
+    → ((x : Share) → Contains b.shared.items x → Contains b'.shared.items x) → ((x : ℕ) → b.exclusive ≡ Some x → b'.exclusive ≡ Some x) → ((x : ℕ) → b.turn ≡ Some x → b'.turn ≡ Some x) → ((x : ℕ) → b.sysroot ≡ Some x → b'.sysroot ≡ Some x)
+    → ((h : Hold) → Contains b.holds.items h → Contains b'.holds.items h) → ((p : Pin) → Contains b.pins.items p → Contains b'.pins.items p) → ((p : Pin) → Contains b'.pins.items p → Contains b.pins.items p ⊎ (IsSome w.pin × (p.lane ≡ lane)))
+    → Spared actor lane (books_of b) (books_of b')
+granted_spared w actor lane b b' same frees shared exclusive turn sysroot holds pins pinned = record {
+  shared = λ x a l has. shared x has;
+  exclusive = λ x other is. exclusive x is;
+  turn = λ x other is. turn x is;
+  sysroot = λ x other is. sysroot x is;
+  holds = λ h other has. holds h has;
+  wants = λ x a l has. subst (λ (y : rust.Books). Contains y.wants.items x) (sym same) has;
+  pins = λ p other has. pins p has;
+  pinned = λ p has. ⊎_elim (λ was. inl was) (λ new. inr (new.1, frees.pin new.0)) (pinned p has);
+  doomed = λ x other is. (doomed_kept x b.exclusive b'.exclusive b.pending b'.pending is (exclusive x is) (ap (λ (y : rust.Books). y.pending) same), ap (λ (y : rust.Books). y.gone) same);
+  uses = λ u other has. subst (λ (y : rust.Books). Contains y.uses.items u) (sym same) has;
+  claims = λ x other has. subst (λ (y : rust.Books). Contains y.claims.items x) (sym same) has;
+  claimers = λ x other has. subst (λ (y : rust.Books). Contains y.claims.items x) same has;
+  pending = λ p other is. ap (λ (y : rust.Books). y.pending) same ∙ is;
+  shown = λ p is. inl (sym (ap (λ (y : rust.Books). y.pending) same) ∙ is);
+  owed = λ p other is. ap (λ (y : rust.Books). y.owed) same;
+  more = [];
+  grows = ap (λ (y : rust.Books). y.history.items) same ∙ sym (append-nil b.history.items);
+  replies = (let e : b'.replies ≡ b.replies = ap (λ (y : rust.Books). y.replies) same in omega (arith, e));
+  opened = ap (λ (y : rust.Books). y.opened) same;
+  start = ap (λ (y : rust.Books). y.start.items) same;
 }

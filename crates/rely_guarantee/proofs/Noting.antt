@@ -14,10 +14,9 @@ use Rattle.rely_guarantee.specs.declared.books.Books as rust
 use Rattle.rely_guarantee.specs.declared.books.Claim as claim
 use Rattle.rely_guarantee.specs.declared.kind.Outcome.{Outcome}
 use Rattle.rely_guarantee.specs.declared.kind.Outcome.TheVariants as came
-use Rattle.rely_guarantee.specs.Books.{Agrees, Books, books_of, IsClaimed, Keeps, Spared}
-use Rattle.rely_guarantee.specs.Rely.{Interference}
+use Rattle.rely_guarantee.specs.Books.{Books, books_of, IsClaimed, Keeps, Spared}
 use Rattle.rely_guarantee.specs.SystemInvariant.{SystemInvariant}
-use Rattle.rely_guarantee.specs.Laws.{Kind, Quiet, Store, Take, Claim, Show, Shown, Settle, Laws, IsBefore, IsClaim, IsQuiet, Chain, Holds, NotPending, Owned, Stood, Runs, Ready, Acts}
+use Rattle.rely_guarantee.specs.Laws.{Kind, Quiet, Store, Take, Claim, Show, Shown, Remove, Settle, Laws, IsBefore, IsClaim, IsQuiet, Chain, Holds, NotPending, Owned, Stood, Runs, Ready, Acts}
 use Rattle.rely_guarantee.proofs.Lists.{added_cases, added_contains, contains_added}
 use Rattle.rely_guarantee.proofs.Locking.{spared_refl}
 use Rattle.rely_guarantee.proofs.Sounds.{IsFs}
@@ -30,6 +29,7 @@ claim_is (Take wants) is = absurd is
 claim_is (Claim name) is = (name, refl)
 claim_is (Show e) is = absurd is
 claim_is (Shown e owed) is = absurd is
+claim_is (Remove e owed) is = absurd is
 claim_is (Settle e) is = absurd is
 
 pub claim_quiet : (k : Kind) → IsClaim k → IsQuiet k
@@ -39,6 +39,7 @@ claim_quiet (Take wants) is = absurd is
 claim_quiet (Claim name) is = tt
 claim_quiet (Show e) is = absurd is
 claim_quiet (Shown e owed) is = absurd is
+claim_quiet (Remove e owed) is = absurd is
 claim_quiet (Settle e) is = absurd is
 
 module _ {F : Type 0} (view : F → Option View) (clock spare : F → ℕ) (was : F → ℕ → View → Type 0) (fslaws : IsFs view clock was)
@@ -123,7 +124,7 @@ module _ {F : Type 0} (view : F → Option View) (clock spare : F → ℕ) (was 
           let v = fslaws.told fs old.fs w told_w in
           let b : Books = books_of (claimed_books old.books noted) in
           laws.next lane lane t next v.0 w (books_of old.books) b (subst (λ (k : Kind). Stood k lane lane (books_of old.books)) (sym is) tt) (ready.task.facts v.0 v.1)
-          (told_same (view fs) w told_w (after v.0 v.1)) noted_keeps (subst (λ (k : Kind). Owned k lane b) (sym is) (noted_claimed v.0 w v.1 told_w));
+          (told_same (view fs) w told_w (after v.0 v.1)) noted_keeps (subst (λ (k : Kind). Owned k lane (books_of old.books) b) (sym is) (noted_claimed v.0 w v.1 told_w));
       holds =
           let none : NotPending lane (books_of old.books) = subst (λ (k : Kind). Holds k lane (books_of old.books)) is ready.task.holds in
           let chain : IsBefore (kind next) = subst (λ (k : Kind). Chain k (kind next)) is (laws.chain t next step) in
@@ -140,7 +141,7 @@ module _ {F : Type 0} (view : F → Option View) (clock spare : F → ℕ) (was 
         idle = sound.ordered.idle;
         room = sound.ordered.room;
         entry = sound.ordered.entry;
-        undoomed = sound.ordered.undoomed;
+        counted = sound.ordered.counted;
       };
       stands = sound.stands;
       crash = sound.crash;
@@ -181,48 +182,3 @@ module _ {F : Type 0} (view : F → Option View) (clock spare : F → ℕ) (was 
       subst (λ (b : rust.Books). Acts view clock spare was lane lane came.More (Runs kind facts lane next) old (record { fs = mid.fs; books = b })) (sym whole)
       (noted_acts old mid.fs lane t next name noted is these ready (subst (λ x. stepped t x next) more step) (λ v told_v. subst (λ x. Told (view mid.fs) (λ w. leaves t x next v w)) more (after v told_v))
       (subst (λ (m : Base F). Acts view clock spare was lane lane came.Done (Runs kind facts lane next) old m) only quiet))
-
-  -- once there is room for a claim
-  pub roomy_books : (b made : rust.Books) → made ≡ record b { claims = made.claims } → made.claims.items ≡ b.claims.items → books_of made ≡ books_of b
-  roomy_books b made same items = ap books_of same ∙ ap (λ l. record (books_of b) { claims = l }) items
-
-  pub roomy_ready : (old : Base F) (made : rust.Books) (runs : Option View → Books → Type 0) → made ≡ record old.books { claims = made.claims } → made.claims.items ≡ old.books.claims.items
-      → Ready view clock spare was runs old → Ready view clock spare was runs (record { fs = old.fs; books = made })
-  roomy_ready old made runs same items ready =
-      let eq = roomy_books old.books made same items in
-      let pending : made.pending ≡ old.books.pending = ap (λ b. b.pending) same in
-      let owed : made.owed ≡ old.books.owed = ap (λ b. b.owed) same in
-      let turn : made.turn ≡ old.books.turn = ap (λ b. b.turn) same in
-      let opened : made.opened ≡ old.books.opened = ap (λ b. b.opened) same in
-      let history : made.history ≡ old.books.history = ap (λ b. b.history) same in
-      let start : made.start.items ≡ old.books.start.items = ap (λ b. b.start.items) same in
-      let ord = ready.sound.ordered in
-      record {
-        sound = record {
-          ordered = record {
-            agrees = subst Agrees (sym eq) ord.agrees;
-            owner = λ p has. turn ∙ ord.owner p (sym pending ∙ has);
-            ascends = rw (opened, history) ord.ascends;
-            idle = λ none. owed ∙ ord.idle (sym pending ∙ none);
-            room = rw owed ord.room;
-            entry = λ owes. rw history (ord.entry (subst (λ n. 0 < n) owed owes));
-            undoomed = λ o has. ord.undoomed o (subst (λ (b : rust.Books). Contains b.doomed.items o) same has);
-          };
-          stands = rw (history, pending, start) ready.sound.stands;
-          crash = rw (history, pending, start, opened) ready.sound.crash;
-          claims = rw items ready.sound.claims;
-        };
-        live = ap (λ b. b.halted) same ∙ ready.live;
-        task = subst (runs (view old.fs)) (sym eq) ready.task;
-      }
-
-  pub roomy_acts : (old new : Base F) (made : rust.Books) (actor lane : ℕ) (outcome : Outcome) (runs : Option View → Books → Type 0) → made ≡ record old.books { claims = made.claims } → made.claims.items ≡ old.books.claims.items
-      → Acts view clock spare was actor lane outcome runs (record { fs = old.fs; books = made }) new → Acts view clock spare was actor lane outcome runs old new
-  roomy_acts old new made actor lane outcome runs same items acts =
-      let eq = roomy_books old.books made same items in
-      record {
-        sound = acts.sound;
-        does = λ v told. let d = acts.does v told in (d.0, d.1, subst (λ b. Interference actor lane v b d.0 (books_of new.books)) eq d.2);
-        books = subst (λ b. Spared actor lane b (books_of new.books)) eq acts.books;
-        tells = acts.tells;
-      }

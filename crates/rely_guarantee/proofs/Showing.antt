@@ -1,10 +1,11 @@
 -- The step that shows a change, those behind it, and the one that makes it last.
-use Rattle.std.proofs.Common.{◌≡◌, inl, inr, ◌+◌, ◌-◌, ◌<◌, ◌≤◌, ℕ, refl, sym, ◌∙◌, ap, subst, arith, List, [], ◌∷◌, ◌++◌, append-nil, Contains, Option, Some, None}
+use Rattle.std.proofs.Common.{◌≡◌, inl, inr, ◌+◌, ◌-◌, ◌<◌, ◌≤◌, ℕ, suc, refl, sym, ◌∙◌, ap, subst, arith, List, [], ◌∷◌, ◌++◌, append-nil, Contains, Option, Some, None}
 use Rattle.std.specs.Vec.{vec_len, vec_capacity}
 use Rattle.ost_types.specs.Path.{Path}
 use Rattle.fs_trait.specs.declared.task.StepResult.{StepResult}
 use Rattle.fs_trait.specs.declared.task.StepResult.TheVariants as turn
 use Rattle.fs_trait.specs.declared.types.FsErr.{FsErr}
+use Rattle.fs_trait.specs.Count.{last}
 use Rattle.fs_trait.specs.View.{View}
 use Rattle.fs_trait.specs.Image.{Told}
 use Rattle.fs_trait.specs.Seen.{Seen}
@@ -21,15 +22,15 @@ use Rattle.rely_guarantee.specs.declared.kind.Halt.{Halt}
 use Rattle.rely_guarantee.specs.declared.kind.Outcome.{Outcome}
 use Rattle.rely_guarantee.specs.declared.kind.Outcome.TheVariants as came
 use Rattle.rely_guarantee.specs.State.{first, events_of, stored}
-use Rattle.rely_guarantee.specs.Books.{Books, books_of, Free, Agrees, Spared}
+use Rattle.rely_guarantee.specs.Books.{Books, books_of, doomed_of, Free, Agrees, Spared}
 use Rattle.rely_guarantee.specs.Rely.{Guarantee, Interference}
-use Rattle.rely_guarantee.specs.SystemInvariant.{AreThere, Stands, SystemInvariant}
-use Rattle.rely_guarantee.specs.Change.{Away, Shows, Final}
-use Rattle.rely_guarantee.specs.Laws.{Kind, Quiet, Store, Take, Claim, Show, Shown, Settle, Laws, StepObligation, Within, Owned, IsShow, IsShown, IsSettle, IsLastly, Chain, Follows, Holds, Stood, NotPending, IsPending, Runs, Ready, Tells, Acts, Ends, owed_by}
+use Rattle.rely_guarantee.specs.SystemInvariant.{AreThere, Ordered, Stands, SystemInvariant}
+use Rattle.rely_guarantee.specs.Change.{Away, TakesNone, Dooms, Shows, Final}
+use Rattle.rely_guarantee.specs.Laws.{Kind, Quiet, Store, Take, Claim, Show, Shown, Remove, Settle, Laws, StepObligation, Within, Owned, IsShow, IsShown, IsRemove, IsSettle, IsLastly, Chain, Follows, Holds, Stood, NotPending, IsPending, Runs, Ready, Tells, Acts, Ends, owed_by}
 use Rattle.rely_guarantee.proofs.States.{ascends_later, ascends_push, events_push, acked_late}
 use Rattle.rely_guarantee.proofs.Knowns.{stands_show, stands_away, stands_settle}
 use Rattle.rely_guarantee.proofs.Claiming.{claims_stand}
-use Rattle.rely_guarantee.proofs.Locking.{spared_refl, spared_then}
+use Rattle.rely_guarantee.proofs.Locking.{doomed_apart, doomed_held, doomed_idle, doomed_shown, spared_refl, spared_then}
 use Rattle.rely_guarantee.proofs.Sounds.{IsFs, sound_goes}
 use Rattle.rely_guarantee.proofs.Acting.{told_same, ended_claims, ends_ordered}
 
@@ -45,6 +46,7 @@ follows_holds e most (Take wants) lane b c h = absurd c
 follows_holds e most (Claim name) lane b c h = absurd c
 follows_holds e most (Show d) lane b c h = absurd c
 follows_holds e most (Shown d owed) lane b c h = (subst (λ (x : Event). IsPending x owed lane b) (sym c.0) h, c.2)
+follows_holds e most (Remove d owed) lane b c h = (subst (λ (x : Event). IsPending x owed lane b) (sym c.0) h, c.2)
 follows_holds e most (Settle d) lane b c h = subst (λ (x : Event). IsPending x 1 lane b) (sym c.0) h
 
 pub follows_owed : (e : Event) (most : ℕ) (next : Kind) → Follows e most next → owed_by next ≤ most
@@ -54,6 +56,7 @@ follows_owed e most (Take wants) c = absurd c
 follows_owed e most (Claim name) c = absurd c
 follows_owed e most (Show d) c = absurd c
 follows_owed e most (Shown d owed) c = c.1
+follows_owed e most (Remove d owed) c = c.1
 follows_owed e most (Settle d) c = c.1
 
 pub show_is : (k : Kind) → IsShow k → (e : Event) × (k ≡ Show e)
@@ -63,6 +66,7 @@ show_is (Take wants) is = absurd is
 show_is (Claim name) is = absurd is
 show_is (Show e) is = (e, refl)
 show_is (Shown e owed) is = absurd is
+show_is (Remove e owed) is = absurd is
 show_is (Settle e) is = absurd is
 
 pub shown_is : (k : Kind) → IsShown k → (e : Event) × (owed : ℕ) × (k ≡ Shown e owed)
@@ -72,7 +76,18 @@ shown_is (Take wants) is = absurd is
 shown_is (Claim name) is = absurd is
 shown_is (Show e) is = absurd is
 shown_is (Shown e owed) is = (e, owed, refl)
+shown_is (Remove e owed) is = absurd is
 shown_is (Settle e) is = absurd is
+
+pub remove_is : (k : Kind) → IsRemove k → (e : Event) × (owed : ℕ) × (k ≡ Remove e owed)
+remove_is Quiet is = absurd is
+remove_is Store is = absurd is
+remove_is (Take wants) is = absurd is
+remove_is (Claim name) is = absurd is
+remove_is (Show e) is = absurd is
+remove_is (Shown e owed) is = absurd is
+remove_is (Remove e owed) is = (e, owed, refl)
+remove_is (Settle e) is = absurd is
 
 pub settle_is : (k : Kind) → IsSettle k → (e : Event) × (k ≡ Settle e)
 settle_is Quiet is = absurd is
@@ -81,6 +96,7 @@ settle_is (Take wants) is = absurd is
 settle_is (Claim name) is = absurd is
 settle_is (Show e) is = absurd is
 settle_is (Shown e owed) is = absurd is
+settle_is (Remove e owed) is = absurd is
 settle_is (Settle e) is = (e, refl)
 
 module _ {F : Type 0} (view : F → Option View) (clock spare : F → ℕ) (was : F → ℕ → View → Type 0) (fslaws : IsFs view clock was)
@@ -143,10 +159,10 @@ module _ {F : Type 0} (view : F → Option View) (clock spare : F → ℕ) (was 
 
   -- the books while the change is shown
   abbrev pub pending_books : rust.Books → ℕ → ℕ → Event → ℕ → Option Halt → rust.Books
-  pending_books b lane command e owed halted = record b { turn = Some lane; pending = Some (record { lane = lane; command = command; event = e }); owed = owed; halted = halted }
+  pending_books b lane command e owed halted = record b { turn = Some lane; pending = Some (record { lane = lane; command = command; event = e }); gone = 0; owed = owed; halted = halted }
 
   show_duty : (old : Base F) (lane : ℕ) (t : T) (e : Event) → kind t ≡ Show e → Free old.books.turn lane → Free old.books.exclusive lane → Ready view clock spare was (Runs kind facts lane t) old → (v : View) → view old.fs ≡ Some v
-      → Within (writes lane t v) (Guarantee (books_of old.books) v lane lane) × Shows (writes lane t v) v e
+      → Within (writes lane t v) (Guarantee (books_of old.books) v lane lane) × Shows (writes lane t v) v e × Dooms lane (books_of old.books) e
   show_duty old lane t e is turn_free free ready v told =
       subst (λ (k : Kind). StepObligation k lane lane v (books_of old.books) (writes lane t v) (leaves t (turn.Done tt) t v)) is
       (laws.duty lane lane t t v (books_of old.books) ready.sound.ordered.agrees (inl refl) (subst (λ (k : Kind). Stood k lane lane (books_of old.books)) (sym is) (turn_free, free)) (ready.task.facts v told))
@@ -156,8 +172,8 @@ module _ {F : Type 0} (view : F → Option View) (clock spare : F → ℕ) (was 
       let none : NotPending lane (books_of old.books) = subst (λ (k : Kind). Holds k lane (books_of old.books)) is ready.task.holds in
       no_pending old.books.pending (λ p has. none p has (turn_free p.lane (ready.sound.ordered.owner p has)))
 
-  show_spared : (b : rust.Books) (lane command : ℕ) (e : Event) (owed : ℕ) (h : Option Halt) → b.pending ≡ None → Free b.turn lane → Spared lane lane (books_of b) (books_of (pending_books b lane command e owed h))
-  show_spared b lane command e owed h none turn_free =
+  show_spared : (b : rust.Books) (lane command : ℕ) (e : Event) (owed : ℕ) (h : Option Halt) → b.pending ≡ None → Free b.turn lane → Free b.exclusive lane → Spared lane lane (books_of b) (books_of (pending_books b lane command e owed h))
+  show_spared b lane command e owed h none turn_free free =
       let p : Pending = record { lane = lane; command = command; event = e } in
       let s = spared_refl lane lane (books_of b) in
       record {
@@ -169,7 +185,7 @@ module _ {F : Type 0} (view : F → Option View) (clock spare : F → ℕ) (was 
         wants = s.wants;
         pins = s.pins;
         pinned = s.pinned;
-        doomed = s.doomed;
+        doomed = λ x other is. absurd (other (free x is));
         claims = s.claims;
         claimers = s.claimers;
         uses = s.uses;
@@ -184,24 +200,24 @@ module _ {F : Type 0} (view : F → Option View) (clock spare : F → ℕ) (was 
       }
 
   pub show_acts : (old : Base F) (fs : F) (lane command : ℕ) (t next : T) (e : Event) (owed : ℕ) (h : Option Halt) (outcome : Outcome) → kind t ≡ Show e → Free old.books.turn lane → Free old.books.exclusive lane → vec_len old.books.history < vec_capacity old.books.history
-      → Ready view clock spare was (Runs kind facts lane t) old → Wrote old.fs fs lane t → Calls old.fs fs → owed ≤ spare fs
+      → Ready view clock spare was (Runs kind facts lane t) old → Wrote old.fs fs lane t → Calls old.fs fs → owed ≤ spare fs → owed ≤ last
       → Tells view (Runs kind facts lane next) outcome (record { fs = fs; books = pending_books old.books lane command e owed h })
       → Acts view clock spare was lane lane outcome (Runs kind facts lane next) old (record { fs = fs; books = pending_books old.books lane command e owed h })
-  show_acts old fs lane command t next e owed h outcome is turn_free free room ready wrote time owes tells =
+  show_acts old fs lane command t next e owed h outcome is turn_free free room ready wrote time owes small tells =
       let p : Pending = record { lane = lane; command = command; event = e } in
       let none = show_none old lane t e is turn_free ready in
       let ord = ready.sound.ordered in
-      let spared = show_spared old.books lane command e owed h none turn_free in
+      let spared = show_spared old.books lane command e owed h none turn_free free in
       record {
         sound = sound_goes view clock spare was fslaws old (record { fs = fs; books = pending_books old.books lane command e owed h }) (e ∷ []) ready.sound time
             (record {
-              agrees = record { turn = λ x y ex tu. (let k : lane ≡ y = cc in sym k ∙ sym (free x ex)); shared = ord.agrees.shared; doomed = ord.agrees.doomed };
+              agrees = record { turn = λ x y ex tu. (let k : lane ≡ y = cc in sym k ∙ sym (free x ex)); shared = ord.agrees.shared; doomed = doomed_held old.books.exclusive (Some p) };
               owner = λ q has. (let k : p ≡ q = cc in ap (λ (x : Pending). Some x.lane) k);
               ascends = ascends_later old.books.opened old.books.history.items (clock old.fs) (clock fs) ord.ascends time.later;
               idle = λ bad. absurd (let z : Some p ≡ None = bad in cc);
               room = owes;
               entry = λ more. room;
-              undoomed = ord.undoomed;
+              counted = omega (arith, small);
             })
             refl refl
             (rw none (ap (λ (l : List Event). l ++ e ∷ []) (sym (append-nil (events_of old.books.history.items)))))
@@ -232,21 +248,21 @@ module _ {F : Type 0} (view : F → Option View) (clock spare : F → ℕ) (was 
             laws.next lane lane t next v.0 w (books_of old.books) b (subst (λ (k : Kind). Stood k lane lane (books_of old.books)) (sym is) (turn_free, free)) (ready.task.facts v.0 v.1)
             (told_same (view fs) w told_w (subst (λ x. Told (view fs) (λ w. leaves t x next v.0 w)) more (after v.0 v.1)))
             (record { exclusive = λ k. k; turn = λ k. refl; sysroot = λ k. k; shared = λ x l k. k; holds = λ x l k. k; wants = λ x l k. k; pins = λ x l k. k; claims = λ c k. k; others = λ c l k. k })
-            (subst (λ (k : Kind). Owned k lane b) (sym is) tt);
+            (subst (λ (k : Kind). Owned k lane (books_of old.books) b) (sym is) (doomed_shown lane command e (books_of old.books) (show_duty old lane t e is turn_free free ready v.0 v.1).2, refl));
         holds = follows_holds e (owed_by (kind next)) (kind next) lane b chain (record { command = command; turn = refl; pending = refl; owes = omega arith });
       }
 
   -- a step that is owed: it writes nothing that the state speaks of, and pays for itself
-  owed_core : (old : Base F) (fs : F) (lane : ℕ) (t : T) (e : Event) (n : ℕ) (h : Option Halt) (runs : Option View → Books → Type 0) (outcome : Outcome) → IsPending e n lane (books_of old.books)
+  owed_core : (old : Base F) (fs : F) (lane : ℕ) (t : T) (e : Event) (n g : ℕ) (h : Option Halt) (runs : Option View → Books → Type 0) (outcome : Outcome) → IsPending e n lane (books_of old.books) → g + (old.books.owed - 1) ≤ last
       → ((v : View) → view old.fs ≡ Some v → Within (writes lane t v) (Guarantee (books_of old.books) v lane lane) × Away (writes lane t v))
       → SystemInvariant view clock spare was old → Wrote old.fs fs lane t → Calls old.fs fs → spare old.fs ≤ spare fs + 1
-      → Tells view runs outcome (record { fs = fs; books = record old.books { owed = old.books.owed - 1; halted = h } })
-      → Acts view clock spare was lane lane outcome runs old (record { fs = fs; books = record old.books { owed = old.books.owed - 1; halted = h } })
-  owed_core old fs lane t e n h runs outcome pend parts sound wrote time room tells =
+      → Tells view runs outcome (record { fs = fs; books = record old.books { owed = old.books.owed - 1; gone = g; halted = h } })
+      → Acts view clock spare was lane lane outcome runs old (record { fs = fs; books = record old.books { owed = old.books.owed - 1; gone = g; halted = h } })
+  owed_core old fs lane t e n g h runs outcome pend small parts sound wrote time room tells =
       let p : Pending = record { lane = lane; command = pend.command; event = e } in
       let ord = sound.ordered in
       let s = spared_refl lane lane (books_of old.books) in
-      let spared : Spared lane lane (books_of old.books) (books_of (record old.books { owed = old.books.owed - 1; halted = h })) = record {
+      let spared : Spared lane lane (books_of old.books) (books_of (record old.books { owed = old.books.owed - 1; gone = g; halted = h })) = record {
         shared = s.shared;
         exclusive = s.exclusive;
         turn = s.turn;
@@ -255,7 +271,7 @@ module _ {F : Type 0} (view : F → Option View) (clock spare : F → ℕ) (was 
         wants = s.wants;
         pins = s.pins;
         pinned = s.pinned;
-        doomed = s.doomed;
+        doomed = λ x other is. absurd (other (sym (ord.agrees.turn x lane is pend.turn)));
         claims = s.claims;
         claimers = s.claimers;
         uses = s.uses;
@@ -269,7 +285,7 @@ module _ {F : Type 0} (view : F → Option View) (clock spare : F → ℕ) (was 
         start = refl;
       } in
       record {
-        sound = sound_goes view clock spare was fslaws old (record { fs = fs; books = record old.books { owed = old.books.owed - 1; halted = h } }) [] sound time
+        sound = sound_goes view clock spare was fslaws old (record { fs = fs; books = record old.books { owed = old.books.owed - 1; gone = g; halted = h } }) [] sound time
             (record {
               agrees = record { turn = ord.agrees.turn; shared = ord.agrees.shared; doomed = ord.agrees.doomed };
               owner = ord.owner;
@@ -277,7 +293,7 @@ module _ {F : Type 0} (view : F → Option View) (clock spare : F → ℕ) (was 
               idle = λ bad. absurd (let z : Some p ≡ None = sym pend.pending ∙ bad in cc);
               room = omega (arith, ord.room, room);
               entry = λ more. ord.entry (omega (arith, more));
-              undoomed = ord.undoomed;
+              counted = small;
             })
             refl refl (sym (append-nil (stored old.books.history.items old.books.pending))) (λ t le. refl)
             (λ v w told_v told_w stands.
@@ -291,43 +307,77 @@ module _ {F : Type 0} (view : F → Option View) (clock spare : F → ℕ) (was 
         tells = tells;
       }
 
-  pub owed_acts : (old : Base F) (fs : F) (paid : rust.Books) (lane : ℕ) (t : T) (e : Event) (n : ℕ) (h : Option Halt) (runs : Option View → Books → Type 0) (outcome : Outcome) → paid ≡ record old.books { owed = old.books.owed - 1 } → IsPending e n lane (books_of old.books)
+  pub owed_acts : (old : Base F) (fs : F) (paid : rust.Books) (lane : ℕ) (t : T) (e : Event) (n g : ℕ) (h : Option Halt) (runs : Option View → Books → Type 0) (outcome : Outcome) → paid ≡ record old.books { owed = old.books.owed - 1; gone = g } → IsPending e n lane (books_of old.books) → g + (old.books.owed - 1) ≤ last
       → ((v : View) → view old.fs ≡ Some v → Within (writes lane t v) (Guarantee (books_of old.books) v lane lane) × Away (writes lane t v))
       → SystemInvariant view clock spare was old → Wrote old.fs fs lane t → Calls old.fs fs → spare old.fs ≤ spare fs + 1
       → Tells view runs outcome (record { fs = fs; books = record paid { halted = h } })
       → Acts view clock spare was lane lane outcome runs old (record { fs = fs; books = record paid { halted = h } })
-  owed_acts old fs paid lane t e n h runs outcome pays pend parts sound wrote time room tells =
+  owed_acts old fs paid lane t e n g h runs outcome pays pend small parts sound wrote time room tells =
       subst (λ (b : rust.Books). Tells view runs outcome (record { fs = fs; books = record b { halted = h } }) → Acts view clock spare was lane lane outcome runs old (record { fs = fs; books = record b { halted = h } }))
-      (sym pays) (owed_core old fs lane t e n h runs outcome pend parts sound wrote time room) tells
+      (sym pays) (owed_core old fs lane t e n g h runs outcome pend small parts sound wrote time room) tells
+
+  -- of those that are to be removed one more is gone, or none
+  pub same_counted : (old : Base F) → Ordered clock spare old → old.books.gone + (old.books.owed - 1) ≤ last
+  same_counted old ord = omega (arith, ord.counted)
+
+  pub more_counted : (old : Base F) (e : Event) (n lane : ℕ) → IsPending e n lane (books_of old.books) × (0 < n) → Ordered clock spare old → (old.books.gone + 1) + (old.books.owed - 1) ≤ last
+  more_counted old e n lane pend ord = omega (arith, ord.counted, pend.0.owes, pend.1)
+
+  pub fewer_gone : (old : Base F) (e : Event) (n lane : ℕ) → IsPending e n lane (books_of old.books) × (0 < n) → Ordered clock spare old → old.books.gone < last
+  fewer_gone old e n lane pend ord = omega (arith, ord.counted, pend.0.owes, pend.1)
 
   pub shown_parts : (old : Base F) (lane : ℕ) (t : T) (e : Event) (n : ℕ) → kind t ≡ Shown e n → Ready view clock spare was (Runs kind facts lane t) old → (v : View) → view old.fs ≡ Some v
-      → Within (writes lane t v) (Guarantee (books_of old.books) v lane lane) × Away (writes lane t v)
+      → Within (writes lane t v) (Guarantee (books_of old.books) v lane lane) × Away (writes lane t v) × TakesNone (writes lane t v) v
   shown_parts old lane t e n is ready v told =
       subst (λ (k : Kind). StepObligation k lane lane v (books_of old.books) (writes lane t v) (leaves t (turn.Done tt) t v)) is
       (laws.duty lane lane t t v (books_of old.books) ready.sound.ordered.agrees (inl refl) (subst (λ (k : Kind). Stood k lane lane (books_of old.books)) (sym is) tt) (ready.task.facts v told))
 
-  pub shown_pending : (old : Base F) (lane : ℕ) (t : T) (e : Event) (n : ℕ) → kind t ≡ Shown e n → Ready view clock spare was (Runs kind facts lane t) old → IsPending e n lane (books_of old.books)
-  shown_pending old lane t e n is ready = let h : IsPending e n lane (books_of old.books) × (0 < n) = subst (λ (k : Kind). Holds k lane (books_of old.books)) is ready.task.holds in h.0
+  pub remove_parts : (old : Base F) (lane : ℕ) (t : T) (e : Event) (n : ℕ) → kind t ≡ Remove e n → Ready view clock spare was (Runs kind facts lane t) old → (v : View) → view old.fs ≡ Some v
+      → Within (writes lane t v) (Guarantee (books_of old.books) v lane lane) × Away (writes lane t v)
+  remove_parts old lane t e n is ready v told =
+      let d : StepObligation (Remove e n) lane lane v (books_of old.books) (writes lane t v) (leaves t (turn.Done tt) t v) =
+      subst (λ (k : Kind). StepObligation k lane lane v (books_of old.books) (writes lane t v) (leaves t (turn.Done tt) t v)) is
+      (laws.duty lane lane t t v (books_of old.books) ready.sound.ordered.agrees (inl refl) (subst (λ (k : Kind). Stood k lane lane (books_of old.books)) (sym is) tt) (ready.task.facts v told)) in
+      (d.0, d.1)
 
-  pub shown_runs : (old : Base F) (fs : F) (paid : rust.Books) (lane : ℕ) (t next : T) (u : StepResult (Unit {0})) (e : Event) (n : ℕ) → paid ≡ record old.books { owed = old.books.owed - 1 } → kind t ≡ Shown e n → Ready view clock spare was (Runs kind facts lane t) old
-      → stepped t u next → ((v : View) → view old.fs ≡ Some v → Told (view fs) (λ w. leaves t u next v w))
+  pub shown_pending : (old : Base F) (lane : ℕ) (t : T) (e : Event) (n : ℕ) → kind t ≡ Shown e n → Ready view clock spare was (Runs kind facts lane t) old → IsPending e n lane (books_of old.books) × (0 < n)
+  shown_pending old lane t e n is ready = subst (λ (k : Kind). Holds k lane (books_of old.books)) is ready.task.holds
+
+  pub remove_pending : (old : Base F) (lane : ℕ) (t : T) (e : Event) (n : ℕ) → kind t ≡ Remove e n → Ready view clock spare was (Runs kind facts lane t) old → IsPending e n lane (books_of old.books) × (0 < n)
+  remove_pending old lane t e n is ready = subst (λ (k : Kind). Holds k lane (books_of old.books)) is ready.task.holds
+
+  -- what holds behind a step that is owed
+  owed_runs : (old : Base F) (fs : F) (paid : rust.Books) (lane : ℕ) (t next : T) (u : StepResult (Unit {0})) (e : Event) (n g : ℕ) (k : Kind) → paid ≡ record old.books { owed = old.books.owed - 1; gone = g } → kind t ≡ k
+      → IsPending e n lane (books_of old.books) → (IsLastly k → ⊥) → ((x : Kind) → Chain k x → (most : ℕ) × (n ≡ suc most) × Follows e most x) → Stood k lane lane (books_of old.books) → Owned k lane (books_of old.books) (books_of (record old.books { owed = old.books.owed - 1; gone = g }))
+      → Ready view clock spare was (Runs kind facts lane t) old → stepped t u next → ((v : View) → view old.fs ≡ Some v → Told (view fs) (λ w. leaves t u next v w))
       → Runs kind facts lane next (view fs) (books_of paid)
-  shown_runs old fs paid lane t next u e n pays is ready step after =
-      let more : u ≡ turn.More = more_of t next u (λ last. let bad : IsLastly (Shown e n) = subst IsLastly is last in bad) step in
-      let b : Books = books_of (record old.books { owed = old.books.owed - 1 }) in
-      let chain : Chain (Shown e n) (kind next) = subst (λ (k : Kind). Chain k (kind next)) is (laws.chain t next (subst (λ x. stepped t x next) more step)) in
-      let pend = shown_pending old lane t e n is ready in
+  owed_runs old fs paid lane t next u e n g k pays is pend never chains stood owned ready step after =
+      let more : u ≡ turn.More = more_of t next u (λ last_. never (subst IsLastly is last_)) step in
+      let b : Books = books_of (record old.books { owed = old.books.owed - 1; gone = g }) in
+      let chain = chains (kind next) (subst (λ (x : Kind). Chain x (kind next)) is (laws.chain t next (subst (λ x. stepped t x next) more step))) in
       subst (λ (x : rust.Books). Runs kind facts lane next (view fs) (books_of x)) (sym pays)
       (record {
         facts = λ w told_w.
             let v = fslaws.told fs old.fs w told_w in
-            laws.next lane lane t next v.0 w (books_of old.books) b (subst (λ (k : Kind). Stood k lane lane (books_of old.books)) (sym is) tt) (ready.task.facts v.0 v.1)
+            laws.next lane lane t next v.0 w (books_of old.books) b (subst (λ (x : Kind). Stood x lane lane (books_of old.books)) (sym is) stood) (ready.task.facts v.0 v.1)
             (told_same (view fs) w told_w (subst (λ x. Told (view fs) (λ w. leaves t x next v.0 w)) more (after v.0 v.1)))
-            (record { exclusive = λ k. k; turn = λ k. k; sysroot = λ k. k; shared = λ x l k. k; holds = λ x l k. k; wants = λ x l k. k; pins = λ x l k. k; claims = λ c k. k; others = λ c l k. k })
-            (subst (λ (k : Kind). Owned k lane b) (sym is) tt);
+            (record { exclusive = λ h. h; turn = λ h. h; sysroot = λ h. h; shared = λ x l h. h; holds = λ x l h. h; wants = λ x l h. h; pins = λ x l h. h; claims = λ c h. h; others = λ c l h. h })
+            (subst (λ (x : Kind). Owned x lane (books_of old.books) b) (sym is) owned);
         holds = follows_holds e chain.0 (kind next) lane b chain.2
             (record { command = pend.command; turn = pend.turn; pending = pend.pending; owes = omega (arith, follows_owed e chain.0 (kind next) chain.2, chain.1, pend.owes) });
       })
+
+  pub shown_runs : (old : Base F) (fs : F) (paid : rust.Books) (lane : ℕ) (t next : T) (u : StepResult (Unit {0})) (e : Event) (n : ℕ) → paid ≡ record old.books { owed = old.books.owed - 1; gone = old.books.gone } → kind t ≡ Shown e n → Ready view clock spare was (Runs kind facts lane t) old
+      → stepped t u next → ((v : View) → view old.fs ≡ Some v → Told (view fs) (λ w. leaves t u next v w))
+      → Runs kind facts lane next (view fs) (books_of paid)
+  shown_runs old fs paid lane t next u e n pays is ready step after =
+      owed_runs old fs paid lane t next u e n old.books.gone (Shown e n) pays is (shown_pending old lane t e n is ready).0 (λ bad. bad) (λ x c. c) tt (refl, refl) ready step after
+
+  pub remove_runs : (old : Base F) (fs : F) (paid : rust.Books) (lane : ℕ) (t next : T) (u : StepResult (Unit {0})) (e : Event) (n : ℕ) → paid ≡ record old.books { owed = old.books.owed - 1; gone = old.books.gone + 1 } → kind t ≡ Remove e n → Ready view clock spare was (Runs kind facts lane t) old
+      → stepped t u next → ((v : View) → view old.fs ≡ Some v → Told (view fs) (λ w. leaves t u next v w))
+      → Runs kind facts lane next (view fs) (books_of paid)
+  remove_runs old fs paid lane t next u e n pays is ready step after =
+      owed_runs old fs paid lane t next u e n (old.books.gone + 1) (Remove e n) pays is (remove_pending old lane t e n is ready).0 (λ bad. bad) (λ x c. c) tt (refl, refl) ready step after
 
   pub settle_pending : (old : Base F) (lane : ℕ) (t : T) (e : Event) → kind t ≡ Settle e → Ready view clock spare was (Runs kind facts lane t) old → IsPending e 1 lane (books_of old.books)
   settle_pending old lane t e is ready = subst (λ (k : Kind). Holds k lane (books_of old.books)) is ready.task.holds
@@ -359,7 +409,7 @@ module _ {F : Type 0} (view : F → Option View) (clock spare : F → ℕ) (was 
         wants = s.wants;
         pins = s.pins;
         pinned = s.pinned;
-        doomed = s.doomed;
+        doomed = λ x other is. (doomed_idle b.exclusive ∙ sym (ap (λ l. doomed_of l b.pending) is ∙ doomed_apart x b.pending (λ q has e. other (sym e ∙ mine q has))), refl);
         claims = s.claims;
         claimers = s.claimers;
         uses = s.uses;
@@ -393,7 +443,7 @@ module _ {F : Type 0} (view : F → Option View) (clock spare : F → ℕ) (was 
       let now : clock new.fs ≡ clock mid.fs = ap clock ends.fs in
       let fewer : (c : claim.Claim) → Contains new.books.claims.items c → Contains old.books.claims.items c = (λ c has. subst (λ (b : rust.Books). Contains b.claims.items c) same (ends.claims c has)) in
       let ord = ready.sound.ordered in
-      let agrees : Agrees (books_of mid.books) = subst (λ (b : rust.Books). Agrees (books_of b)) (sym same) (record { turn = ord.agrees.turn; shared = ord.agrees.shared; doomed = ord.agrees.doomed }) in
+      let agrees : Agrees (books_of mid.books) = subst (λ (b : rust.Books). Agrees (books_of b)) (sym same) (record { turn = ord.agrees.turn; shared = ord.agrees.shared; doomed = doomed_held old.books.exclusive None }) in
       let spared = spared_then lane lane (books_of old.books) (books_of mid.books) (books_of new.books) (settle_spared old.books mid.books lane en p same grows pend.pending refl) ends.spared in
       record {
         sound = sound_goes view clock spare was fslaws old new [] ready.sound (subst (Calls old.fs) (sym ends.fs) time)
@@ -404,7 +454,7 @@ module _ {F : Type 0} (view : F → Option View) (clock spare : F → ℕ) (was 
               idle = λ is. nothing;
               room = rw nothing (omega arith);
               entry = λ more. absurd (let z : 0 < 0 = subst (λ n. 0 < n) nothing more in omega (arith, z));
-              undoomed = λ o has. ord.undoomed o (subst (λ (b : rust.Books). Contains b.doomed.items o) same (ends.doomed o has));
+              counted = (let gone : new.books.gone ≡ old.books.gone = ends.gone ∙ ap (λ b. b.gone) same in rw (nothing, gone) (omega (arith, ord.counted)));
             })
             opened start
             (rw (history, none) (append-nil (events_of (old.books.history.items ++ en ∷ [])) ∙ events_push old.books.history.items en ∙ sym (append-nil (events_of old.books.history.items ++ e ∷ [])) ∙ ap (λ (o : Option Pending). stored old.books.history.items o ++ []) (sym pend.pending)))
@@ -428,21 +478,21 @@ module _ {F : Type 0} (view : F → Option View) (clock spare : F → ℕ) (was 
 
   -- what it comes to in the books
   books_shown : (old mid : Base F) (shown : rust.Books) (lane command : ℕ) (e : Event) (owed : ℕ) → mid ≡ record old { fs = mid.fs }
-      → shown ≡ record mid.books { turn = Some lane; pending = Some (record { lane = lane; command = command; event = e }); owed = owed } → shown ≡ pending_books old.books lane command e owed old.books.halted
-  books_shown old mid shown lane command e owed only shows = shows ∙ ap (λ (m : Base F). record m.books { turn = Some lane; pending = Some (record { lane = lane; command = command; event = e }); owed = owed }) only
+      → shown ≡ record mid.books { turn = Some lane; pending = Some (record { lane = lane; command = command; event = e }); gone = 0; owed = owed } → shown ≡ pending_books old.books lane command e owed old.books.halted
+  books_shown old mid shown lane command e owed only shows = shows ∙ ap (λ (m : Base F). record m.books { turn = Some lane; pending = Some (record { lane = lane; command = command; event = e }); gone = 0; owed = owed }) only
 
   pub show_done : (old mid : Base F) (shown : rust.Books) (lane command : ℕ) (t next : T) (e : Event) (owed : ℕ) (h : Option Halt) (outcome : Outcome) → mid ≡ record old { fs = mid.fs }
-      → shown ≡ record mid.books { turn = Some lane; pending = Some (record { lane = lane; command = command; event = e }); owed = owed }
-      → kind t ≡ Show e → Free old.books.exclusive lane × Free old.books.turn lane → vec_len old.books.history < vec_capacity old.books.history → Ready view clock spare was (Runs kind facts lane t) old → Wrote old.fs mid.fs lane t → Calls old.fs mid.fs → owed ≤ spare mid.fs
+      → shown ≡ record mid.books { turn = Some lane; pending = Some (record { lane = lane; command = command; event = e }); gone = 0; owed = owed }
+      → kind t ≡ Show e → Free old.books.exclusive lane × Free old.books.turn lane → vec_len old.books.history < vec_capacity old.books.history → Ready view clock spare was (Runs kind facts lane t) old → Wrote old.fs mid.fs lane t → Calls old.fs mid.fs → owed ≤ spare mid.fs → owed ≤ last
       → Tells view (Runs kind facts lane next) outcome (record { fs = mid.fs; books = record shown { halted = h } })
       → Acts view clock spare was lane lane outcome (Runs kind facts lane next) old (record { fs = mid.fs; books = record shown { halted = h } })
-  show_done old mid shown lane command t next e owed h outcome only shows is free room ready wrote time owes tells =
+  show_done old mid shown lane command t next e owed h outcome only shows is free room ready wrote time owes small tells =
       subst (λ (b : rust.Books). Tells view (Runs kind facts lane next) outcome (record { fs = mid.fs; books = record b { halted = h } }) → Acts view clock spare was lane lane outcome (Runs kind facts lane next) old (record { fs = mid.fs; books = record b { halted = h } }))
       (sym (books_shown old mid shown lane command e owed only shows))
-      (show_acts old mid.fs lane command t next e owed h outcome is free.1 free.0 room ready wrote time owes) tells
+      (show_acts old mid.fs lane command t next e owed h outcome is free.1 free.0 room ready wrote time owes small) tells
 
   pub show_tells : (old mid : Base F) (shown : rust.Books) (lane command : ℕ) (t next : T) (u : StepResult (Unit {0})) (e : Event) (owed : ℕ) → mid ≡ record old { fs = mid.fs }
-      → shown ≡ record mid.books { turn = Some lane; pending = Some (record { lane = lane; command = command; event = e }); owed = owed } → owed ≡ owed_by (kind next)
+      → shown ≡ record mid.books { turn = Some lane; pending = Some (record { lane = lane; command = command; event = e }); gone = 0; owed = owed } → owed ≡ owed_by (kind next)
       → kind t ≡ Show e → Free old.books.exclusive lane × Free old.books.turn lane → Ready view clock spare was (Runs kind facts lane t) old
       → stepped t u next → ((v : View) → view old.fs ≡ Some v → Told (view mid.fs) (λ w. leaves t u next v w))
       → Runs kind facts lane next (view mid.fs) (books_of shown)
@@ -466,6 +516,7 @@ module _ {F : Type 0} (view : F → Option View) (clock spare : F → ℕ) (was 
       let ord = ready.sound.ordered in
       let pending : made.pending ≡ old.books.pending = ap (λ b. b.pending) same in
       let owed : made.owed ≡ old.books.owed = ap (λ b. b.owed) same in
+      let gone : made.gone ≡ old.books.gone = ap (λ b. b.gone) same in
       let turn : made.turn ≡ old.books.turn = ap (λ b. b.turn) same in
       let opened : made.opened ≡ old.books.opened = ap (λ b. b.opened) same in
       let start : made.start.items ≡ old.books.start.items = ap (λ b. b.start.items) same in
@@ -478,7 +529,7 @@ module _ {F : Type 0} (view : F → Option View) (clock spare : F → ℕ) (was 
             idle = λ is. owed ∙ ord.idle (sym pending ∙ is);
             room = rw owed ord.room;
             entry = λ owes. more (ord.entry (subst (λ n. 0 < n) owed owes));
-            undoomed = λ o has. ord.undoomed o (subst (λ (b : rust.Books). Contains b.doomed.items o) same has);
+            counted = rw (gone, owed) ord.counted;
           };
           stands = rw (items, pending, start) ready.sound.stands;
           crash = rw (items, pending, start, opened) ready.sound.crash;

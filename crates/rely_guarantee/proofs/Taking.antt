@@ -1,5 +1,5 @@
 -- Locks that a lane takes in the middle of its task.
-use Rattle.std.proofs.Common.{◌≡◌, ⊎_elim, inl, inr, ◌<◌, ℕ, refl, sym, ◌∙◌, ap, subst, List, [], ◌∷◌, Option, Some, Contains}
+use Rattle.std.proofs.Common.{◌≡◌, ⊎_elim, inl, inr, ◌<◌, ℕ, refl, sym, ◌∙◌, ap, subst, List, [], ◌∷◌, Option, Some, Contains, take, drop}
 use Rattle.ost_types.specs.declared.object.Kind as object
 use Rattle.ost_types.specs.declared.object.ObjName.{ObjName}
 use Rattle.ost_types.specs.Path.{Path}
@@ -17,12 +17,13 @@ use Rattle.rely_guarantee.specs.declared.books.Claim as claim
 use Rattle.rely_guarantee.specs.declared.books.Pin.{Pin}
 use Rattle.rely_guarantee.specs.declared.kind.Outcome.{Outcome}
 use Rattle.rely_guarantee.specs.declared.kind.Wants.{Wants}
-use Rattle.rely_guarantee.specs.Books.{Books, books_of, Agrees, Spared, Keeps}
+use Rattle.rely_guarantee.specs.Books.{Books, books_of, doomed_of, Agrees, Frees, Spared, Keeps}
 use Rattle.rely_guarantee.specs.Rely.{Guarantee, may_at, NotPinned}
 use Rattle.rely_guarantee.specs.Removing.{Goes, IsGuarded, IsRoot, next_of}
-use Rattle.rely_guarantee.specs.Laws.{Kind, Quiet, Store, Take, Claim, Show, Shown, Settle, Laws, IsStore, IsTake, Holds, NotPending, Runs, Ready, Acts}
+use Rattle.rely_guarantee.specs.Exact.{lock_taken}
+use Rattle.rely_guarantee.specs.Laws.{Kind, Quiet, Store, Take, Claim, Show, Shown, Remove, Settle, Laws, IsStore, IsTake, Holds, NotPending, Runs, Ready, Acts}
 use Rattle.rely_guarantee.proofs.Lists.{other_or_own}
-use Rattle.rely_guarantee.proofs.Locking.{free_before, spared_then}
+use Rattle.rely_guarantee.proofs.Locking.{doomed_taken, free_before, spared_then}
 
 -- With more locks of its own a lane may write no more than before.
 may_before : (b b' : Books) (actor lane : ℕ) → Spared actor lane b b' → Keeps lane b b' → b'.claims ≡ b.claims → (x : Place) (s : Seen) → may_at b' actor lane x s → may_at b actor lane x s
@@ -78,6 +79,7 @@ store_is (Take wants) is = absurd is
 store_is (Claim name) is = absurd is
 store_is (Show e) is = absurd is
 store_is (Shown e owed) is = absurd is
+store_is (Remove e owed) is = absurd is
 store_is (Settle e) is = absurd is
 
 pub take_is : (wants : Wants) (k : Kind) → IsTake wants k → k ≡ Take wants
@@ -87,11 +89,22 @@ take_is wants (Take w) is = ap Take is
 take_is wants (Claim name) is = absurd is
 take_is wants (Show e) is = absurd is
 take_is wants (Shown e owed) is = absurd is
+take_is wants (Remove e owed) is = absurd is
 take_is wants (Settle e) is = absurd is
+
+-- what is removed next goes on to be so, where a lane that shows nothing has more locks
+pub granted_next : (b b' : rust.Books) (lane : ℕ) (wants : Wants) → b' ≡ record b { shared = b'.shared; exclusive = b'.exclusive; turn = b'.turn; sysroot = b'.sysroot; holds = b'.holds; pins = b'.pins } → Frees wants lane (books_of b)
+    → b'.exclusive ≡ lock_taken wants.exclusive lane b.exclusive → NotPending lane (books_of b) → next_of (books_of b') ≡ next_of (books_of b)
+granted_next b b' lane wants same frees taken none =
+    ap (λ (x : rust.Books). take 1 (drop x.gone (doomed_of b'.exclusive x.pending))) same
+    ∙ ap (λ (l : List ObjName). take 1 (drop b.gone l)) (ap (λ (l : Option ℕ). doomed_of l b.pending) taken ∙ doomed_taken wants.exclusive lane b.exclusive b.pending (λ asks. (frees.exclusive asks).0) none)
 
 module _ {F : Type 0} (view : F → Option View) (clock spare : F → ℕ) (was : F → ℕ → View → Type 0)
     {T : Type 0} {kind : T → Kind} {needs : ℕ → T → View → Type 0} {writes : ℕ → T → View → Path → Seen → Type 0} {stepped : T → StepResult (Unit {0}) → T → Type 0} {leaves : T → StepResult (Unit {0}) → T → View → View → Type 0} {facts : ℕ → T → View → Books → Type 0}
     (laws : Laws kind needs writes stepped leaves facts) where
+  pub take_not : (old : Base F) (lane : ℕ) (t : T) (wants : Wants) → kind t ≡ Take wants → Ready view clock spare was (Runs kind facts lane t) old → NotPending lane (books_of old.books)
+  take_not old lane t wants is ready = subst (λ (k : Kind). Holds k lane (books_of old.books)) is ready.task.holds
+
   -- with the locks it is ready
   pub take_ready : (old : Base F) (b : rust.Books) (lane : ℕ) (t : T) (wants : Wants) → kind t ≡ Take wants
       → b ≡ record old.books { shared = b.shared; exclusive = b.exclusive; turn = b.turn; sysroot = b.sysroot; holds = b.holds; pins = b.pins }
@@ -102,6 +115,7 @@ module _ {F : Type 0} (view : F → Option View) (clock spare : F → ℕ) (was 
       let none : NotPending lane (books_of old.books) = subst (λ (k : Kind). Holds k lane (books_of old.books)) is ready.task.holds in
       let pending : b.pending ≡ old.books.pending = ap (λ x. x.pending) same in
       let owed : b.owed ≡ old.books.owed = ap (λ x. x.owed) same in
+      let gone : b.gone ≡ old.books.gone = ap (λ x. x.gone) same in
       let opened : b.opened ≡ old.books.opened = ap (λ x. x.opened) same in
       let history : b.history ≡ old.books.history = ap (λ x. x.history) same in
       let start : b.start ≡ old.books.start = ap (λ x. x.start) same in
@@ -114,7 +128,7 @@ module _ {F : Type 0} (view : F → Option View) (clock spare : F → ℕ) (was 
             idle = λ no. owed ∙ ord.idle (sym pending ∙ no);
             room = rw owed ord.room;
             entry = λ owes. rw history (ord.entry (subst (λ n. 0 < n) owed owes));
-            undoomed = λ o has. ord.undoomed o (subst (λ (x : rust.Books). Contains x.doomed.items o) same has);
+            counted = rw (gone, owed) ord.counted;
           };
           stands = rw (history, pending, start) ready.sound.stands;
           crash = rw (history, pending, start, opened) ready.sound.crash;

@@ -1,5 +1,6 @@
 -- Who holds what, and what was changed.
-use Rattle.std.specs.Prelude.{◌≡◌, ◌≢◌, ◌⊎◌, ◌≤◌, ℕ, IsTrue, IsSome, List, ◌++◌, All, Contains, Option, Some}
+use Rattle.std.specs.Prelude.{◌≡◌, ◌≢◌, ◌⊎◌, ◌<◌, ◌≤◌, ℕ, IsTrue, IsSome, List, [], ◌++◌, All, Contains, Option, Some, nat_eq, if◌then◌else◌}
+use Rattle.std.specs.Vec.{vec_len, vec_capacity}
 use Rattle.ost_types.specs.declared.object.ObjName.{ObjName}
 use Rattle.ost_types.specs.Path.{Name}
 use Rattle.rely_guarantee.specs.declared.books.Books as rust
@@ -13,6 +14,7 @@ use Rattle.rely_guarantee.specs.declared.books.Use.{Use}
 use Rattle.rely_guarantee.specs.declared.books.Want.{Want}
 use Rattle.rely_guarantee.specs.declared.kind.Halt.{Halt}
 use Rattle.rely_guarantee.specs.declared.kind.Wants.{Wants}
+use Rattle.rely_guarantee.specs.State.{removed_by}
 
 -- the books as plain data: all that the system knows beside the disk
 pub record Books : Type 0 where
@@ -23,7 +25,7 @@ pub record Books : Type 0 where
   pub holds : List Hold
   pub wants : List Want
   pub pins : List Pin
-  -- what the holder of Exclusive removes, in this order, and how many of these it has removed; none where nobody removes
+  -- what the holder of Exclusive removes, in this order, and how many of these it has removed; none where nothing of it is shown
   pub doomed : List ObjName
   pub gone : ℕ
   pub claims : List Claim
@@ -36,6 +38,11 @@ pub record Books : Type 0 where
   pub opened : ℕ
   pub start : List (List ℕ × List ℕ)
 
+-- what the holder of Exclusive removes is what its change that is shown says
+abbrev pub doomed_of : Option ℕ → Option Pending → List ObjName
+doomed_of (Some holder) (Some p) = if nat_eq holder p.lane then removed_by p.event else []
+doomed_of exclusive pending = []
+
 abbrev pub books_of : rust.Books → Books
 books_of b = record {
   shared = b.shared.items;
@@ -45,7 +52,7 @@ books_of b = record {
   holds = b.holds.items;
   wants = b.wants.items;
   pins = b.pins.items;
-  doomed = b.doomed.items;
+  doomed = doomed_of b.exclusive b.pending;
   gone = b.gone;
   claims = b.claims.items;
   uses = b.uses.items;
@@ -83,6 +90,12 @@ pub record Granted (w : Wants) (actor lane : ℕ) (b : Books) : Type 0 where
   pub pin : (o : ObjName) → w.pin ≡ Some o → Contains b.pins (record { lane = lane; object = o })
   pub sysroot : IsTrue w.sysroot → b.sysroot ≡ Some lane
   pub hold : (p : ℕ) → w.hold ≡ Some p → Contains b.holds (record { lane = lane; place = p })
+
+-- there is room for all that a lane may ask for at once
+pub record HasGrantRoom (b : rust.Books) : Type 0 where
+  pub shared : vec_len b.shared < vec_capacity b.shared
+  pub holds : vec_len b.holds < vec_capacity b.holds
+  pub pins : vec_len b.pins < vec_capacity b.pins
 
 -- The checkout of that name is the lane's alone.
 pub record IsClaimed (name : Name) (lane : ℕ) (b : Books) : Type 0 where

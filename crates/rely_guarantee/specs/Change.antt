@@ -1,9 +1,14 @@
 -- The kinds of change that a step may make.
 use Rattle.std.specs.Prelude.{◌≡◌, ℕ, List, Some, None}
+use Rattle.ost_types.specs.declared.object.Kind as object
 use Rattle.ost_types.specs.Path.{Path, under}
 use Rattle.fs_trait.specs.View.{View}
-use Rattle.fs_trait.specs.Seen.{Seen, shows, MayBe}
+use Rattle.fs_trait.specs.Seen.{Seen, Vacant, shows, MayBe}
+use Rattle.repo_layout.specs.Paths.{object_path}
+use Rattle.repo_layout.specs.RefFile.{IsSum}
 use Rattle.rely_guarantee.specs.declared.event.Event.{Event}
+use Rattle.rely_guarantee.specs.declared.event.Event.TheVariants.{Pruned}
+use Rattle.rely_guarantee.specs.Books.{Books}
 use Rattle.rely_guarantee.specs.State.{Topic, target, before, gives, IsValid}
 use Rattle.rely_guarantee.specs.Disks.{path_of, Says}
 use Rattle.rely_guarantee.specs.SystemInvariant.{ShownBy, Leads}
@@ -15,6 +20,15 @@ Still W v = (t : Topic) (s : Seen) → W (path_of t) s → Says t None s × Says
 -- no path that the state speaks of is written
 abbrev pub Away : (Path → Seen → Type 0) → Type 0
 Away W = (t : Topic) (s : Seen) → W (path_of t) s → ⊥
+
+-- no object is taken from its path
+abbrev pub TakesNone : (Path → Seen → Type 0) → View → Type 0
+TakesNone W v = (kind : object.Kind) (sum : List ℕ) → IsSum sum → W (object_path kind sum) Vacant → shows v.now (object_path kind sum) ≡ Vacant
+
+-- a change that takes objects away is shown by the holder of Exclusive alone
+abbrev pub Dooms : ℕ → Books → Event → Type 0
+Dooms lane b (Pruned depth roots held removed) = b.exclusive ≡ Some lane
+Dooms lane b e = Unit {0}
 
 -- The event's value, and nothing else, is written at the paths that the state speaks of; the event can be, and what it
 -- changes shows now what it says that it was.

@@ -9,8 +9,7 @@ use Rattle.fs_trait.specs.Seen.{Seen}
 use Rattle.rely_guarantee.specs.declared.either.Either.{Either}
 use Rattle.rely_guarantee.specs.declared.either.Either.TheVariants.{Left, Right}
 use Rattle.rely_guarantee.specs.Books.{Books}
-use Rattle.rely_guarantee.specs.Laws.{Kind, Laws}
-use Rattle.rely_guarantee.specs.Part.{duty_more}
+use Rattle.rely_guarantee.specs.Laws.{Kind, Quiet, Store, Take, Claim, Show, Shown, Remove, Settle, Laws, StepObligation}
 
 abbrev pub either_kind : {A B : Type 0} → (A → Kind) → (B → Kind) → Either A B → Kind
 either_kind ka kb (Left a) = ka a
@@ -41,6 +40,17 @@ either_leaves la lb old u new v w = ⊥
 abbrev pub either_refuses : {A B : Type 0} → (A → View → FsErr → Type 0) → (B → View → FsErr → Type 0) → Either A B → View → FsErr → Type 0
 either_refuses ra rb (Left a) v e = ra a v e
 either_refuses ra rb (Right b) v e = rb b v e
+
+-- a step that isn't the last
+duty_more : (k : Kind) (actor lane : ℕ) (v : View) (b : Books) (W : Path → Seen → Type 0) (Done Never : View → Type 0) → ((w : View) → Never w → ⊥) → StepObligation k actor lane v b W Done → StepObligation k actor lane v b W Never
+duty_more Quiet actor lane v b W Done Never none d = d
+duty_more Store actor lane v b W Done Never none d = d
+duty_more (Take wants) actor lane v b W Done Never none d = d
+duty_more (Claim name) actor lane v b W Done Never none d = d
+duty_more (Show e) actor lane v b W Done Never none d = d
+duty_more (Shown e owed) actor lane v b W Done Never none d = d
+duty_more (Remove e owed) actor lane v b W Done Never none d = d
+duty_more (Settle e) actor lane v b W Done Never none d = (d.0, λ w bad. absurd (none w bad))
 
 module _ {A B : Type 0} {ka : A → Kind} {na : ℕ → A → View → Type 0} {wa : ℕ → A → View → Path → Seen → Type 0} {sa : A → StepResult (Unit {0}) → A → Type 0} {la : A → StepResult (Unit {0}) → A → View → View → Type 0} {fa : ℕ → A → View → Books → Type 0}
     {kb : B → Kind} {nb : ℕ → B → View → Type 0} {wb : ℕ → B → View → Path → Seen → Type 0} {sb : B → StepResult (Unit {0}) → B → Type 0} {lb : B → StepResult (Unit {0}) → B → View → View → Type 0} {fb : ℕ → B → View → Books → Type 0} where

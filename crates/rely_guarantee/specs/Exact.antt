@@ -1,5 +1,6 @@
 -- What each answer of an act says, exactly.
-use Rattle.std.specs.Prelude.{◌≡◌, ◌≢◌, ◌⊎◌, ◌≤◌, ℕ, ◌++◌, ◌∷◌, [], Bool, true, false, Option, Some, None}
+use Rattle.std.specs.Prelude.{◌≡◌, ◌≢◌, ◌⊎◌, ◌≤◌, ℕ, ◌+◌, List, ◌++◌, ◌∷◌, [], Bool, true, false, Option, Some, None}
+use Rattle.ost_types.specs.declared.object.ObjName.{ObjName}
 use Rattle.fs_trait.specs.Count.{Rose}
 use Rattle.fs_trait.specs.declared.task.StepResult.{StepResult}
 use Rattle.fs_trait.specs.declared.task.StepResult.TheVariants as turn
@@ -16,7 +17,8 @@ use Rattle.rely_guarantee.specs.declared.kind.Halt.TheVariants as halt
 use Rattle.rely_guarantee.specs.declared.kind.Outcome.{Outcome}
 use Rattle.rely_guarantee.specs.declared.kind.Outcome.TheVariants as came
 use Rattle.rely_guarantee.specs.Books.{Books, Free, Frees}
-use Rattle.rely_guarantee.specs.Laws.{Kind, Quiet, Store, Take, Claim, Show, Shown, Settle}
+use Rattle.rely_guarantee.specs.Removing.{next_of}
+use Rattle.rely_guarantee.specs.Laws.{Kind, Quiet, Store, Take, Claim, Show, Shown, Remove, Settle}
 
 -- what others leave free for such a step
 abbrev pub Opens : Kind → ℕ → Books → Type 0
@@ -26,6 +28,7 @@ Opens (Take wants) lane b = Frees wants lane b
 Opens (Claim name) lane b = Unit {0}
 Opens (Show e) lane b = Free b.exclusive lane × Free b.turn lane
 Opens (Shown e owed) lane b = Unit {0}
+Opens (Remove e owed) lane b = Unit {0}
 Opens (Settle e) lane b = Unit {0}
 
 -- how the task went on
@@ -86,6 +89,7 @@ IsBooked Store lane command moment outcome old new = IsUnbooked old new
 IsBooked (Take wants) lane command moment outcome old new = IsUnbooked old new
 IsBooked (Claim name) lane command moment outcome old new = IsUnbooked old new
 IsBooked (Shown e owed) lane command moment outcome old new = IsHeldBy outcome old new
+IsBooked (Remove e owed) lane command moment outcome old new = IsHeldBy outcome old new
 
 -- A command ends for a call that failed, and all of them for a failed change, only where the count of faults rose. One command alone ends
 -- for nothing else but want of memory.
@@ -134,13 +138,30 @@ exclusive_in kind lane lock = lock
 abbrev pub IsGivenUp : ℕ → Option ℕ → Option ℕ → Type 0
 IsGivenUp lane old new = (x : ℕ) → new ≡ Some x → (x ≢ lane) × (old ≡ Some x)
 
--- a command keeps its locks while it runs, and gives them up at its end
+-- a command keeps its locks while it runs, also where no command goes on from then on, and gives them up at its end
 abbrev pub IsLeft : ℕ → Outcome → Option ℕ → Option ℕ → Type 0
 IsLeft lane came.More old new = new ≡ old
 IsLeft lane came.Done old new = IsGivenUp lane old new
 IsLeft lane (came.Refused e) old new = IsGivenUp lane old new
+IsLeft lane (came.Halted why) old new = new ≡ old
 IsLeft lane outcome old new = Unit {0}
 
--- Whose the ref lock is after an act that wasn't held off, and whose the lock of those that remove objects, unless no command goes on.
+-- Whose the ref lock is after an act that wasn't held off, and whose the lock of those that remove objects.
 abbrev pub Locks : Kind → ℕ → Outcome → rust.Books → rust.Books → Type 0
 Locks kind lane outcome old new = IsLeft lane outcome (turn_in kind lane old.turn) new.turn × IsLeft lane outcome (exclusive_in kind lane old.exclusive) new.exclusive
+
+-- how many objects were removed of those that are to be: none where their change is shown, and each before the call that takes it away
+abbrev pub gone_shown : Outcome → ℕ → ℕ
+gone_shown came.More gone = 0
+gone_shown (came.Halted why) gone = 0
+gone_shown outcome gone = gone
+
+abbrev pub gone_in : Kind → Outcome → ℕ → ℕ
+gone_in (Show e) outcome gone = gone_shown outcome gone
+gone_in (Remove e owed) outcome gone = gone + 1
+gone_in kind outcome gone = gone
+
+-- what such a step may take from its path
+abbrev pub taken_in : Kind → Books → List ObjName
+taken_in (Remove e owed) b = next_of b
+taken_in kind b = []

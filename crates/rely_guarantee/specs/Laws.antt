@@ -1,6 +1,5 @@
 -- What every kind of task tells of its steps, and the laws that the one act of all tasks stands on.
-use Rattle.std.specs.Prelude.{◌≡◌, ◌≢◌, ◌⊎◌, ◌≤◌, ◌<◌, ℕ, ◌+◌, suc, Contains, Option, Some, None, Result, IsErrOf, OnOk}
-use Rattle.ost_types.specs.declared.object.ObjName.{ObjName}
+use Rattle.std.specs.Prelude.{◌≡◌, ◌≢◌, ◌⊎◌, ◌≤◌, ◌<◌, ℕ, ◌+◌, suc, length, Contains, Option, Some, None, Result, IsErrOf, OnOk}
 use Rattle.ost_types.specs.Path.{Name, Path}
 use Rattle.fs_trait.specs.declared.task.StepResult.{StepResult}
 use Rattle.fs_trait.specs.declared.task.StepResult.TheVariants as turn
@@ -21,8 +20,9 @@ use Rattle.rely_guarantee.specs.declared.kind.Step.TheVariants as step
 use Rattle.rely_guarantee.specs.declared.kind.Wants.{Wants}
 use Rattle.rely_guarantee.specs.Books.{Books, books_of, Free, Granted, Agrees, Spared, Keeps, IsClaimed}
 use Rattle.rely_guarantee.specs.Rely.{Guarantee, Interference}
+use Rattle.rely_guarantee.specs.State.{removed_by}
 use Rattle.rely_guarantee.specs.SystemInvariant.{SystemInvariant}
-use Rattle.rely_guarantee.specs.Change.{Still, Away, Shows, Final}
+use Rattle.rely_guarantee.specs.Change.{Still, Away, TakesNone, Dooms, Shows, Final}
 
 -- what a step is to the whole system
 pub data Kind : Type 0 where
@@ -32,6 +32,7 @@ pub data Kind : Type 0 where
   Claim : Name → Kind  -- it makes the folder of this checkout, which is the lane's from then on
   Show : Event → Kind  -- it shows this change
   Shown : Event → ℕ → Kind  -- it comes between showing and settling; so many calls are owed, itself among them
+  Remove : Event → ℕ → Kind  -- so too, and it takes the next object that is to be removed from its path
   Settle : Event → Kind  -- it makes the change last
 
 abbrev pub step_of : Kind → Step
@@ -41,11 +42,13 @@ step_of (Take wants) = step.Take wants
 step_of (Claim name) = step.Claim
 step_of (Show e) = step.Show
 step_of (Shown e owed) = step.Shown
+step_of (Remove e owed) = step.Remove
 step_of (Settle e) = step.Settle
 
 -- how many calls are owed, this step's among them
 abbrev pub owed_by : Kind → ℕ
 owed_by (Shown e owed) = owed
+owed_by (Remove e owed) = owed
 owed_by (Settle e) = 1
 owed_by k = 0
 
@@ -72,6 +75,7 @@ Holds (Take wants) lane b = NotPending lane b
 Holds (Claim name) lane b = NotPending lane b
 Holds (Show e) lane b = NotPending lane b
 Holds (Shown e owed) lane b = IsPending e owed lane b × (0 < owed)
+Holds (Remove e owed) lane b = IsPending e owed lane b × (0 < owed)
 Holds (Settle e) lane b = IsPending e 1 lane b
 
 -- what nobody else may hold in such a step, and what the lane holds then
@@ -82,11 +86,13 @@ Stood (Take wants) actor lane b = Granted wants actor lane b
 Stood (Claim name) actor lane b = Unit {0}
 Stood (Show e) actor lane b = Free b.turn lane × Free b.exclusive lane
 Stood (Shown e owed) actor lane b = Unit {0}
+Stood (Remove e owed) actor lane b = Unit {0}
 Stood (Settle e) actor lane b = Unit {0}
 
 -- the change is still shown, or to be settled now
 abbrev pub Follows : Event → ℕ → Kind → Type 0
 Follows e most (Shown d owed) = (d ≡ e) × (owed ≤ most) × (0 < owed)
+Follows e most (Remove d owed) = (d ≡ e) × (owed ≤ most) × (0 < owed)
 Follows e most (Settle d) = (d ≡ e) × (1 ≤ most)
 Follows e most k = ⊥
 
@@ -98,6 +104,7 @@ IsBefore (Take wants) = Unit {0}
 IsBefore (Claim name) = Unit {0}
 IsBefore (Show e) = Unit {0}
 IsBefore (Shown e owed) = ⊥
+IsBefore (Remove e owed) = ⊥
 IsBefore (Settle e) = ⊥
 
 -- which kind of step may follow; each step but the one that shows the change may pay one owed call
@@ -108,6 +115,7 @@ Chain (Take wants) next = IsBefore next
 Chain (Claim name) next = IsBefore next
 Chain (Show e) next = Follows e (owed_by next) next
 Chain (Shown e owed) next = (most : ℕ) × (owed ≡ suc most) × Follows e most next
+Chain (Remove e owed) next = (most : ℕ) × (owed ≡ suc most) × Follows e most next
 Chain (Settle e) next = ⊥
 
 -- the step shows a change, or makes it last
@@ -123,10 +131,15 @@ abbrev pub IsShown : Kind → Type 0
 IsShown (Shown e owed) = Unit {0}
 IsShown k = ⊥
 
+abbrev pub IsRemove : Kind → Type 0
+IsRemove (Remove e owed) = Unit {0}
+IsRemove k = ⊥
+
 -- the step shows a change or is owed by one
 abbrev pub IsOwing : Kind → Type 0
 IsOwing (Show e) = Unit {0}
 IsOwing (Shown e owed) = Unit {0}
+IsOwing (Remove e owed) = Unit {0}
 IsOwing (Settle e) = Unit {0}
 IsOwing k = ⊥
 
@@ -157,10 +170,14 @@ abbrev pub IsClaim : Kind → Type 0
 IsClaim (Claim name) = Unit {0}
 IsClaim k = ⊥
 
--- what the lane has of its own behind a step of this kind that goes on
-abbrev pub Owned : Kind → ℕ → Books → Type 0
-Owned (Claim name) lane b = IsClaimed name lane b
-Owned kind lane b = Unit {0}
+-- What the lane has of its own behind a step of this kind that goes on, by the books before it and behind it: the checkout that it
+-- claims, and how far it is with what it removes.
+abbrev pub Owned : Kind → ℕ → Books → Books → Type 0
+Owned (Claim name) lane b b' = IsClaimed name lane b'
+Owned (Show e) lane b b' = (b'.doomed ≡ removed_by e) × (b'.gone ≡ 0)
+Owned (Shown e owed) lane b b' = (b'.doomed ≡ b.doomed) × (b'.gone ≡ b.gone)
+Owned (Remove e owed) lane b b' = (b'.doomed ≡ b.doomed) × (b'.gone ≡ b.gone + 1)
+Owned kind lane b b' = Unit {0}
 
 -- A step takes the room of at most one call. One that is owed and has room doesn't lack memory, and the one that shows the
 -- change leaves room for those that are owed then.
@@ -178,8 +195,9 @@ StepObligation Quiet actor lane v b W Done = Within W (Guarantee b v lane lane) 
 StepObligation Store actor lane v b W Done = Within W (Guarantee b v actor lane) × Still W v
 StepObligation (Take wants) actor lane v b W Done = Within W (Guarantee b v lane lane) × Still W v
 StepObligation (Claim name) actor lane v b W Done = Within W (Guarantee b v lane lane) × Still W v
-StepObligation (Show e) actor lane v b W Done = Within W (Guarantee b v lane lane) × Shows W v e
-StepObligation (Shown e owed) actor lane v b W Done = Within W (Guarantee b v lane lane) × Away W
+StepObligation (Show e) actor lane v b W Done = Within W (Guarantee b v lane lane) × Shows W v e × Dooms lane b e
+StepObligation (Shown e owed) actor lane v b W Done = Within W (Guarantee b v lane lane) × Away W × TakesNone W v
+StepObligation (Remove e owed) actor lane v b W Done = Within W (Guarantee b v lane lane) × Away W × (b.gone < length b.doomed)
 StepObligation (Settle e) actor lane v b W Done = Within W Nothing × ((w : View) → Done w → Final e w)
 
 -- the step that shows a change isn't the last one
@@ -190,6 +208,7 @@ IsLastly (Take wants) = Unit {0}
 IsLastly (Claim name) = Unit {0}
 IsLastly (Show e) = ⊥
 IsLastly (Shown e owed) = ⊥
+IsLastly (Remove e owed) = ⊥
 IsLastly (Settle e) = Unit {0}
 
 -- the laws of a kind of task
@@ -204,7 +223,7 @@ pub record Laws {T : Type 0} (kind : T → Kind) (needs : ℕ → T → View →
   pub chain : (t new : T) → stepped t turn.More new → Chain (kind t) (kind new)
   pub last : (t new : T) → stepped t (turn.Done tt) new → IsLastly (kind t)
   -- the next step's facts
-  pub next : (actor lane : ℕ) (t new : T) (v w : View) (b b' : Books) → Stood (kind t) actor lane b → facts lane t v b → leaves t turn.More new v w → Keeps lane b b' → Owned (kind t) lane b' → facts lane new w b'
+  pub next : (actor lane : ℕ) (t new : T) (v w : View) (b b' : Books) → Stood (kind t) actor lane b → facts lane t v b → leaves t turn.More new v w → Keeps lane b b' → Owned (kind t) lane b b' → facts lane new w b'
   -- where a checkout is claimed nothing stood, and its folder stands
   pub claims : (lane : ℕ) (t new : T) (v w : View) (b : Books) (name : Name) → kind t ≡ Claim name → stepped t turn.More new → facts lane t v b → leaves t turn.More new v w → (shows v.now (checkout_path name) ≡ Vacant) × (shows w.now (checkout_path name) ≢ Vacant)
 
@@ -242,7 +261,7 @@ pub record Ends {F : Type 0} (actor lane : ℕ) (old new : Base F) : Type 0 wher
   pub opened : new.books.opened ≡ old.books.opened
   pub start : new.books.start ≡ old.books.start
   pub claims : (c : claim.Claim) → Contains new.books.claims.items c → Contains old.books.claims.items c
-  pub doomed : (o : ObjName) → Contains new.books.doomed.items o → Contains old.books.doomed.items o
+  pub gone : new.books.gone ≡ old.books.gone
   pub spared : Spared actor lane (books_of old.books) (books_of new.books)
   pub agrees : Agrees (books_of old.books) → Agrees (books_of new.books)
 

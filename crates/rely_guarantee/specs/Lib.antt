@@ -13,6 +13,6 @@ pub mod Barrier
 pub mod Exact
 pub mod Pinning
 pub mod Claiming
-pub mod Part
+pub mod Along
 pub mod Lasting
 pub mod Either

@@ -1,5 +1,6 @@
 -- What the stored history says: the state at the beginning, and after each event.
 use Rattle.std.specs.Prelude.{◌≡◌, ◌+◌, ◌≤◌, ℕ, Bool, false, List, [], ◌∷◌, ◌++◌, map, nat_le, Option, Some, None, if◌then◌else◌}
+use Rattle.ost_types.specs.declared.object.ObjName.{ObjName}
 use Rattle.ost_types.specs.Path.{same_name}
 use Rattle.repo_layout.specs.RefName.{IsRefName}
 use Rattle.repo_layout.specs.RefFile.{IsSum}
@@ -47,6 +48,11 @@ abbrev pub gives : Event → Said
 gives (SetRef name seen commit) = Some commit
 gives (DropRef name seen) = None
 gives (Pruned depth roots held removed) = None
+
+-- the objects that it took away, in this order
+abbrev pub removed_by : Event → List ObjName
+removed_by (Pruned depth roots held removed) = removed
+removed_by e = []
 
 -- an event that can be at all
 abbrev pub IsValid : Event → Type 0

@@ -1,8 +1,8 @@
 -- What every value of the system keeps.
-use Rattle.std.specs.Prelude.{◌≡◌, ◌≢◌, ◌⊎◌, ◌<◌, ◌≤◌, ℕ, IsTrue, List, ◌++◌, length, Contains, Option, Some, None}
+use Rattle.std.specs.Prelude.{◌≡◌, ◌≢◌, ◌⊎◌, ◌+◌, ◌<◌, ◌≤◌, ℕ, IsTrue, List, ◌++◌, length, Contains, Option, Some, None}
 use Rattle.std.specs.Vec.{vec_len, vec_capacity}
-use Rattle.ost_types.specs.declared.object.ObjName.{ObjName}
 use Rattle.ost_types.specs.Path.{Path, is_below, under}
+use Rattle.fs_trait.specs.Count.{last}
 use Rattle.fs_trait.specs.View.{Disk, View}
 use Rattle.fs_trait.specs.Seen.{Seen, Vacant, shows, MayBe}
 use Rattle.fs_trait.specs.Change.{LeadsTo, Left}
@@ -69,7 +69,7 @@ pub record Crash (left : ℕ → Disk → Type 0) (opened : ℕ) (start : State)
 
 -- What is so of the books, whether or not the view is told: no two locks that exclude each other are held, what is pending
 -- belongs to the holder of the ref lock, the moments of the history don't fall, there is room for each owed call and, while one
--- is owed, for one more entry, and, since no kind of step is for that, no object is to be removed.
+-- is owed, for one more entry, and what is removed can be counted.
 pub record Ordered {F : Type 0} (clock spare : F → ℕ) (base : Base F) : Type 0 where
   pub agrees : Agrees (books_of base.books)
   pub owner : (p : Pending) → base.books.pending ≡ Some p → base.books.turn ≡ Some p.lane
@@ -77,7 +77,7 @@ pub record Ordered {F : Type 0} (clock spare : F → ℕ) (base : Base F) : Type
   pub idle : base.books.pending ≡ None → base.books.owed ≡ 0
   pub room : base.books.owed ≤ spare base.fs
   pub entry : 0 < base.books.owed → vec_len base.books.history < vec_capacity base.books.history
-  pub undoomed : (o : ObjName) → ¬ (Contains base.books.doomed.items o)
+  pub counted : base.books.gone + base.books.owed ≤ last
 
 -- a folder stands for each checkout that is claimed
 abbrev pub AreThere : List Claim → View → Type 0

@@ -1,4 +1,4 @@
-ghost use Rattle.std.specs.Prelude.{◌≡◌, ◌≢◌, ◌⊎◌, ◌≤◌, ◌<◌, ℕ, true, [], Option, Some, None, IfOk, IfErr, OnOk, IsErrOf};
+ghost use Rattle.std.specs.Prelude.{◌≡◌, ◌≢◌, ◌⊎◌, ◌≤◌, ◌<◌, ◌+◌, ℕ, true, [], Option, Some, None, IfOk, IfErr, OnOk, IsErrOf};
 ghost use Rattle.fs_trait.specs.declared.types.FsErr.TheVariants.{NoMemory};
 ghost use Rattle.fs_trait.specs.View.{View};
 ghost use Rattle.fs_trait.specs.Image.{Told};
@@ -9,12 +9,12 @@ ghost use Rattle.rely_guarantee.specs.declared.event.Event.{Event};
 ghost use Rattle.rely_guarantee.specs.declared.kind.Halt.TheVariants as halt;
 ghost use Rattle.rely_guarantee.specs.declared.kind.Outcome.TheVariants as Outcome;
 ghost use Rattle.fs_trait.specs.declared.types.FsErr.TheVariants as FsErr;
-ghost use Rattle.rely_guarantee.specs.Books.{books_of, Free, Frees};
-ghost use Rattle.rely_guarantee.specs.Exact.{Opens, Steps, Tells, IsUnbooked, IsHeldBy, IsShownBy, IsSettledBy, IsBooked, Causes, IsGivenUp, IsLeft, IsLive, IsRefusedBy, Locks, why_of};
+ghost use Rattle.rely_guarantee.specs.Books.{books_of, Free, Frees, HasGrantRoom};
+ghost use Rattle.rely_guarantee.specs.Exact.{Opens, Steps, Tells, IsUnbooked, IsHeldBy, IsShownBy, IsSettledBy, IsBooked, Causes, IsGivenUp, IsLeft, IsLive, IsRefusedBy, Locks, gone_in, taken_in, why_of};
 ghost use Rattle.rely_guarantee.specs.Lasting.{Lasts};
 ghost use Rattle.rely_guarantee.specs.Pinning.{ArePinned, pin_in, without};
 ghost use Rattle.rely_guarantee.specs.Claiming.{AreClaimed, claim_in, of_others};
-ghost use Rattle.rely_guarantee.specs.Laws.{IsShow, IsShown, IsOwing, IsSettle, IsPlain, IsStore, IsTake, IsClaim, KeepsRoom, owed_by, Ready, Runs, IsBy, Stood, Acts, Ends, IsEnd, Claim, Show, Shown, Settle};
+ghost use Rattle.rely_guarantee.specs.Laws.{IsShow, IsShown, IsRemove, IsOwing, IsSettle, IsPlain, IsStore, IsTake, IsClaim, KeepsRoom, owed_by, Ready, Runs, IsBy, Stood, Acts, Ends, IsEnd, Claim, Show, Shown, Settle};
 
 use crate::{Base, CommandTask, Event, Halt, Outcome, Step, Wants, is_free};
 use fs_trait::{Fs, FsErr, StepResult};
@@ -54,6 +54,7 @@ fn end<F>(base: &mut Base<F>, actor: u8, lane: u8)
     ensures pins { base.new.books.pins.items ≡ without lane base.old.books.pins.items }
     ensures claims { base.new.books.claims.items ≡ of_others lane base.old.books.claims.items }
     ensures live { base.new.books.halted ≡ base.old.books.halted }
+    ensures gone { base.new.books.gone ≡ base.old.books.gone }
 {
     base.books.release(actor, lane);
 }
@@ -79,6 +80,7 @@ fn refuse<F: Fs>(base: &mut Base<F>, actor: u8, lane: u8, before: u64, e: FsErr)
     ensures pins { ArePinned None lane result base.old.books.pins.items base.new.books.pins.items }
     ensures claimed { AreClaimed None lane result base.old.books.claims.items base.new.books.claims.items }
     ensures live { IsLive result base.old.books.halted base.new.books.halted }
+    ensures gone { base.new.books.gone ≡ base.old.books.gone }
 {
     let goes_on = match e {
         FsErr::NoMemory => true,
@@ -112,6 +114,7 @@ fn quiet<T: CommandTask, F: Fs>(base: &mut Base<F>, actor: u8, lane: u8, task: &
     ensures time { Elapses (F.clock base.old.fs) (F.clock base.new.fs) (F.was base.old.fs) (F.was base.new.fs) (F.view base.new.fs) }
     ensures cause { Causes (F.faults base.old.fs) (F.faults base.new.fs) result }
     ensures live { IsLive result base.old.books.halted base.new.books.halted }
+    ensures gone { base.new.books.gone ≡ base.old.books.gone }
 {
     let before = base.fs.clock();
     match advance_with_room(base, actor, task) {
@@ -141,6 +144,7 @@ fn show<T: CommandTask, F: Fs>(base: &mut Base<F>, lane: u8, command: u32, task:
     ensures time { Elapses (F.clock base.old.fs) (F.clock base.new.fs) (F.was base.old.fs) (F.was base.new.fs) (F.view base.new.fs) }
     ensures cause { Causes (F.faults base.old.fs) (F.faults base.new.fs) result }
     ensures live { IsLive result base.old.books.halted base.new.books.halted }
+    ensures gone { base.new.books.gone ≡ gone_in (T.kind_of task.old) result base.old.books.gone }
 {
     if !base.books.frees_turn(lane) {
         return Outcome::Blocked;
@@ -180,6 +184,7 @@ fn show_event<T: CommandTask, F: Fs>(
     ensures time { Elapses (F.clock base.old.fs) (F.clock base.new.fs) (F.was base.old.fs) (F.was base.new.fs) (F.view base.new.fs) }
     ensures cause { Causes (F.faults base.old.fs) (F.faults base.new.fs) result }
     ensures live { IsLive result base.old.books.halted base.new.books.halted }
+    ensures gone { base.new.books.gone ≡ gone_in (T.kind_of task.old) result base.old.books.gone }
 {
     match advance_with_room(base, lane, task) {
         Ok(_) => {
@@ -215,8 +220,39 @@ fn shown<T: CommandTask, F: Fs>(base: &mut Base<F>, lane: u8, task: &mut T) -> O
     ensures time { Elapses (F.clock base.old.fs) (F.clock base.new.fs) (F.was base.old.fs) (F.was base.new.fs) (F.view base.new.fs) }
     ensures cause { Causes (F.faults base.old.fs) (F.faults base.new.fs) result }
     ensures live { IsLive result base.old.books.halted base.new.books.halted }
+    ensures gone { base.new.books.gone ≡ base.old.books.gone }
 {
     base.books.pay();
+    match task.advance(lane, &mut base.fs) {
+        Ok(_) => Outcome::More,
+        Err(e) => {
+            let why = why_of(e);
+            base.books.halted = Some(why);
+            Outcome::Halted(why)
+        }
+    }
+}
+
+/// A step that takes the next object that is to be removed from its path. That one counts as removed before the call, so also where
+/// the call fails.
+fn remove<T: CommandTask, F: Fs>(base: &mut Base<F>, lane: u8, task: &mut T) -> Outcome
+    requires ready { Ready F.view F.clock F.spare F.was (Runs T.kind_of T.facts lane task.old) base.old }
+    requires kind { IsRemove (T.kind_of task.old) }
+    ensures acts { Acts F.view F.clock F.spare F.was lane lane result (Runs T.kind_of T.facts lane task.new) base.old base.new }
+    ensures steps { Steps T.stepped task.old result task.new }
+    ensures wrote { (v : View) → F.view base.old.fs ≡ Some v → Told (F.view base.new.fs) (λ w. Writes (T.writes_of lane task.old v) v w) }
+    ensures tells { Tells T.leaves T.refuses task.old result task.new (F.view base.old.fs) (F.view base.new.fs) }
+    ensures goes { result ≢ Outcome.Blocked }
+    ensures locks { Locks (T.kind_of task.old) lane result base.old.books base.new.books }
+    ensures pins { ArePinned None lane result base.old.books.pins.items base.new.books.pins.items }
+    ensures claimed { AreClaimed None lane result base.old.books.claims.items base.new.books.claims.items }
+    ensures booked { IsHeldBy result base.old.books base.new.books }
+    ensures time { Elapses (F.clock base.old.fs) (F.clock base.new.fs) (F.was base.old.fs) (F.was base.new.fs) (F.view base.new.fs) }
+    ensures cause { Causes (F.faults base.old.fs) (F.faults base.new.fs) result }
+    ensures live { IsLive result base.old.books.halted base.new.books.halted }
+    ensures gone { base.new.books.gone ≡ base.old.books.gone + 1 }
+{
+    base.books.pay_removal();
     match task.advance(lane, &mut base.fs) {
         Ok(_) => Outcome::More,
         Err(e) => {
@@ -243,6 +279,7 @@ fn settle<T: CommandTask, F: Fs>(base: &mut Base<F>, lane: u8, task: &mut T) -> 
     ensures time { Elapses (F.clock base.old.fs) (F.clock base.new.fs) (F.was base.old.fs) (F.was base.new.fs) (F.view base.new.fs) }
     ensures cause { Causes (F.faults base.old.fs) (F.faults base.new.fs) result }
     ensures live { IsLive result base.old.books.halted base.new.books.halted }
+    ensures gone { base.new.books.gone ≡ base.old.books.gone }
 {
     match task.advance(lane, &mut base.fs) {
         Ok(StepResult::Done(())) => {
@@ -281,6 +318,7 @@ fn store<T: CommandTask, F: Fs>(base: &mut Base<F>, actor: u8, lane: u8, task: &
     ensures time { Elapses (F.clock base.old.fs) (F.clock base.new.fs) (F.was base.old.fs) (F.was base.new.fs) (F.view base.new.fs) }
     ensures cause { Causes (F.faults base.old.fs) (F.faults base.new.fs) result }
     ensures live { IsLive result base.old.books.halted base.new.books.halted }
+    ensures gone { base.new.books.gone ≡ base.old.books.gone }
 {
     if !is_free(base.books.exclusive, lane) {
         return Outcome::Blocked;
@@ -305,13 +343,46 @@ fn take<T: CommandTask, F: Fs>(base: &mut Base<F>, lane: u8, wants: Wants, task:
     ensures time { Elapses (F.clock base.old.fs) (F.clock base.new.fs) (F.was base.old.fs) (F.was base.new.fs) (F.view base.new.fs) }
     ensures cause { Causes (F.faults base.old.fs) (F.faults base.new.fs) result }
     ensures live { IsLive result base.old.books.halted base.new.books.halted }
+    ensures gone { base.new.books.gone ≡ base.old.books.gone }
 {
     if !base.books.frees(&wants, lane) {
         return Outcome::Blocked;
     }
-    if base.books.grant(&wants, lane, lane).is_err() {
+    if base.books.make_grant_room().is_err() {
         end(base, lane, lane);
         return Outcome::Refused(FsErr::NoMemory);
+    }
+    take_free(base, lane, wants, task)
+}
+
+/// So, where they are free, and there is room for them.
+fn take_free<T: CommandTask, F: Fs>(
+    base: &mut Base<F>,
+    lane: u8,
+    wants: Wants,
+    task: &mut T,
+) -> Outcome
+    requires ready { Ready F.view F.clock F.spare F.was (Runs T.kind_of T.facts lane task.old) base.old }
+    requires kind { IsTake wants (T.kind_of task.old) }
+    requires free { Frees wants lane (books_of base.old.books) }
+    requires room { HasGrantRoom base.old.books }
+    ensures acts { Acts F.view F.clock F.spare F.was lane lane result (Runs T.kind_of T.facts lane task.new) base.old base.new }
+    ensures steps { Steps T.stepped task.old result task.new }
+    ensures wrote { (v : View) → F.view base.old.fs ≡ Some v → Told (F.view base.new.fs) (λ w. Writes (T.writes_of lane task.old v) v w) }
+    ensures tells { Tells T.leaves T.refuses task.old result task.new (F.view base.old.fs) (F.view base.new.fs) }
+    ensures goes { result ≢ Outcome.Blocked }
+    ensures locks { Locks (T.kind_of task.old) lane result base.old.books base.new.books }
+    ensures pins { ArePinned wants.pin lane result base.old.books.pins.items base.new.books.pins.items }
+    ensures claimed { AreClaimed None lane result base.old.books.claims.items base.new.books.claims.items }
+    ensures booked { IsUnbooked base.old.books base.new.books }
+    ensures time { Elapses (F.clock base.old.fs) (F.clock base.new.fs) (F.was base.old.fs) (F.was base.new.fs) (F.view base.new.fs) }
+    ensures cause { Causes (F.faults base.old.fs) (F.faults base.new.fs) result }
+    ensures live { IsLive result base.old.books.halted base.new.books.halted }
+    ensures gone { base.new.books.gone ≡ base.old.books.gone }
+{
+    if !base.books.grant(&wants, lane, lane) {
+        base.books.halted = Some(Halt::Failed);
+        return Outcome::Halted(Halt::Failed);
     }
     quiet(base, lane, lane, task)
 }
@@ -332,6 +403,7 @@ fn claim<T: CommandTask, F: Fs>(base: &mut Base<F>, lane: u8, task: &mut T) -> O
     ensures time { Elapses (F.clock base.old.fs) (F.clock base.new.fs) (F.was base.old.fs) (F.was base.new.fs) (F.view base.new.fs) }
     ensures cause { Causes (F.faults base.old.fs) (F.faults base.new.fs) result }
     ensures live { IsLive result base.old.books.halted base.new.books.halted }
+    ensures gone { base.new.books.gone ≡ base.old.books.gone }
 {
     let Ok(name) = task.claim() else {
         end(base, lane, lane);
@@ -366,6 +438,7 @@ fn claim_named<T: CommandTask, F: Fs>(
     ensures time { Elapses (F.clock base.old.fs) (F.clock base.new.fs) (F.was base.old.fs) (F.was base.new.fs) (F.view base.new.fs) }
     ensures cause { Causes (F.faults base.old.fs) (F.faults base.new.fs) result }
     ensures live { IsLive result base.old.books.halted base.new.books.halted }
+    ensures gone { base.new.books.gone ≡ base.old.books.gone }
 {
     let before = base.fs.clock();
     match advance_with_room(base, lane, task) {
@@ -406,9 +479,10 @@ pub fn task_act<T: CommandTask, F: Fs>(
     ensures claimed { AreClaimed (claim_in (T.kind_of task.old)) lane result base.old.books.claims.items base.new.books.claims.items }
     ensures booked { IsBooked (T.kind_of task.old) lane command (F.clock base.new.fs) result base.old.books base.new.books }
     ensures time { Elapses (F.clock base.old.fs) (F.clock base.new.fs) (F.was base.old.fs) (F.was base.new.fs) (F.view base.new.fs) }
-    ensures outlasts { Lasts [] F.view F.clock F.was base.old.fs base.new.fs }
+    ensures outlasts { Lasts (taken_in (T.kind_of task.old) (books_of base.old.books)) F.view F.clock F.was base.old.fs base.new.fs }
     ensures cause { Causes (F.faults base.old.fs) (F.faults base.new.fs) result }
     ensures live { IsLive result base.old.books.halted base.new.books.halted }
+    ensures gone { base.new.books.gone ≡ gone_in (T.kind_of task.old) result base.old.books.gone }
 {
     match task.kind() {
         Step::Quiet => quiet(base, actor, lane, task),
@@ -417,34 +491,7 @@ pub fn task_act<T: CommandTask, F: Fs>(
         Step::Claim => claim(base, lane, task),
         Step::Show => show(base, lane, command, task),
         Step::Shown => shown(base, lane, task),
+        Step::Remove => remove(base, lane, task),
         Step::Settle => settle(base, lane, task),
-    }
-}
-
-/// Takes the next step of another lane's task, where it may be anybody's.
-pub fn help_act<T: CommandTask, F: Fs>(
-    base: &mut Base<F>,
-    actor: u8,
-    lane: u8,
-    task: &mut T,
-) -> Outcome
-    requires { Ready F.view F.clock F.spare F.was (Runs T.kind_of T.facts lane task.old) base.old }
-    ensures acts { Acts F.view F.clock F.spare F.was actor lane result (Runs T.kind_of T.facts lane task.new) base.old base.new }
-    ensures steps { Steps T.stepped task.old result task.new }
-    ensures wrote { (v : View) → F.view base.old.fs ≡ Some v → Told (F.view base.new.fs) (λ w. Writes (T.writes_of actor task.old v) v w) }
-    ensures tells { Tells T.leaves T.refuses task.old result task.new (F.view base.old.fs) (F.view base.new.fs) }
-    ensures blocked { result ≡ Outcome.Blocked → (base.new ≡ base.old) × (IsStore (T.kind_of task.old) → Free base.old.books.exclusive lane → ⊥) }
-    ensures opens { result ≢ Outcome.Blocked → IsStore (T.kind_of task.old) × Free base.old.books.exclusive lane }
-    ensures booked { IsUnbooked base.old.books base.new.books }
-    ensures pins { ArePinned None lane result base.old.books.pins.items base.new.books.pins.items }
-    ensures claimed { AreClaimed None lane result base.old.books.claims.items base.new.books.claims.items }
-    ensures time { Elapses (F.clock base.old.fs) (F.clock base.new.fs) (F.was base.old.fs) (F.was base.new.fs) (F.view base.new.fs) }
-    ensures outlasts { Lasts [] F.view F.clock F.was base.old.fs base.new.fs }
-    ensures cause { Causes (F.faults base.old.fs) (F.faults base.new.fs) result }
-    ensures live { IsLive result base.old.books.halted base.new.books.halted }
-{
-    match task.kind() {
-        Step::Store => store(base, actor, lane, task),
-        _ => Outcome::Blocked,
     }
 }

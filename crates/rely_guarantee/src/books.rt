@@ -79,9 +79,7 @@ pub struct Books {
     pub holds: Vec<Hold>,
     pub wants: Vec<Want>,
     pub pins: Vec<Pin>,
-    /// What the lane that removes objects removes, in this order; none where nobody does.
-    pub doomed: Vec<ObjName>,
-    /// How many of these it has removed.
+    /// How many objects were removed of those that the pending change says.
     pub gone: u64,
     pub claims: Vec<Claim>,
     pub uses: Vec<Use>,

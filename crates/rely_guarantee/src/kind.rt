@@ -16,6 +16,8 @@ pub enum Step {
     Show,
     /// It comes between the step that shows a change and the one that makes it last.
     Shown,
+    /// So too, and it takes the next object that is to be removed from its path.
+    Remove,
     /// It makes a change last.
     Settle,
 }

@@ -12,10 +12,9 @@ mod kind;
 mod last;
 mod locks;
 mod open;
-mod seq;
 mod work;
 
-pub use act::{help_act, task_act};
+pub use act::task_act;
 pub use barrier::Barrier;
 pub use books::{Base, Books, Claim, Entry, Hold, Pending, Pin, Share, Use, Want};
 pub use crash::certify;
@@ -24,5 +23,4 @@ pub use event::Event;
 pub use kind::{Halt, Outcome, Step, Wants};
 pub use last::{openings_last, runs_outlast, stores_that_last};
 pub(crate) use locks::is_free;
-pub use seq::{Seq, Then};
 pub use work::CommandTask;

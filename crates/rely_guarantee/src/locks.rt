@@ -1,4 +1,4 @@
-ghost use Rattle.std.specs.Prelude.{◌≡◌, ◌↔◌, ◌≢◌, ◌⊎◌, ◌<◌, ◌-◌, ◌++◌, ◌∷◌, [], ℕ, List, Option, Some, None, IsSome, IsTrue, All, Contains, OnOk, OnErr};
+ghost use Rattle.std.specs.Prelude.{◌≡◌, ◌↔◌, ◌≢◌, ◌⊎◌, ◌<◌, ◌+◌, ◌-◌, ◌++◌, ◌∷◌, [], ℕ, List, Option, Some, None, IsSome, IsTrue, All, Contains, OnOk};
 ghost use Rattle.ost_types.specs.declared.object.ObjName.{ObjName};
 ghost use Rattle.rely_guarantee.specs.declared.books.Claim.{Claim};
 ghost use Rattle.rely_guarantee.specs.declared.books.Hold.{Hold};
@@ -7,7 +7,8 @@ ghost use Rattle.rely_guarantee.specs.declared.books.Pin.{Pin};
 ghost use Rattle.std.specs.Vec.{vec_len, vec_capacity};
 ghost use Rattle.rely_guarantee.specs.declared.books.Share.{Share};
 ghost use Rattle.rely_guarantee.specs.declared.books.Want.{Want};
-ghost use Rattle.rely_guarantee.specs.Books.{books_of, Free, Frees, Granted, Agrees, Spared, Keeps};
+ghost use Rattle.rely_guarantee.specs.Books.{books_of, Free, Frees, Granted, HasGrantRoom, Agrees, Spared, Keeps};
+ghost use Rattle.fs_trait.specs.Count.{last};
 ghost use Rattle.rely_guarantee.specs.Exact.{IsGivenUp, lock_taken};
 ghost use Rattle.rely_guarantee.specs.Pinning.{with_pin, without};
 ghost use Rattle.rely_guarantee.specs.Claiming.{of_others};
@@ -78,24 +79,6 @@ fn give_up_claims(claims: &mut Vec<Claim>, lane: u8)
     claims.retain(|x| x.lane != lane);
 }
 
-/// Nothing is to be removed any more, if this lane has the lock of those that remove objects. Returns how many were removed so far.
-fn give_up_doomed(doomed: &mut Vec<ObjName>, gone: u64, lock: Option<u8>, lane: u8) -> u64
-    ensures mine { lock ≡ Some lane → (doomed.new.items ≡ []) × (result ≡ 0) }
-    ensures others { (x : ℕ) → x ≢ lane → lock ≡ Some x → (doomed.new.items ≡ doomed.old.items) × (result ≡ gone) }
-    ensures no_more { (o : ObjName) → Contains doomed.new.items o → Contains doomed.old.items o }
-{
-    match lock {
-        Some(holder) => {
-            if holder != lane {
-                return gone;
-            }
-            doomed.clear();
-            0
-        }
-        None => gone,
-    }
-}
-
 /// Takes a lock.
 fn taken(lock: Option<u8>, wanted: bool, lane: u8) -> Option<u8>
     ensures wanted { IsTrue wanted → result ≡ Some lane }
@@ -112,39 +95,41 @@ fn has_share(shares: &[Share], share: &Share) -> bool
     shares.contains(share)
 }
 
-fn add_share(shares: &mut Vec<Share>, wanted: bool, actor: u8, lane: u8) -> Result<(), NoMemory>
-    ensures wanted { OnOk result (IsTrue wanted → Contains shares.new.items (record { actor = actor; lane = lane })) }
+fn add_share(shares: &mut Vec<Share>, wanted: bool, actor: u8, lane: u8) -> bool
+    ensures done { vec_len shares.old < vec_capacity shares.old → IsTrue result }
+    ensures wanted { IsTrue result → IsTrue wanted → Contains shares.new.items (record { actor = actor; lane = lane }) }
     ensures kept { (x : Share) → Contains shares.old.items x → Contains shares.new.items x }
     ensures no_more { (x : Share) → Contains shares.new.items x → Contains shares.old.items x ⊎ (IsTrue wanted × (x.lane ≡ lane)) }
 {
     let share = Share { actor, lane };
     if wanted && !has_share(shares, &share) {
-        shares.push(share)?;
+        return shares.push(share).is_ok();
     }
-    Ok(())
+    true
 }
 
-fn add_hold(holds: &mut Vec<Hold>, wanted: Option<u8>, lane: u8) -> Result<(), NoMemory>
-    ensures wanted { OnOk result ((p : ℕ) → wanted ≡ Some p → Contains holds.new.items (record { lane = lane; place = p })) }
+fn add_hold(holds: &mut Vec<Hold>, wanted: Option<u8>, lane: u8) -> bool
+    ensures done { vec_len holds.old < vec_capacity holds.old → IsTrue result }
+    ensures wanted { IsTrue result → (p : ℕ) → wanted ≡ Some p → Contains holds.new.items (record { lane = lane; place = p }) }
     ensures kept { (x : Hold) → Contains holds.old.items x → Contains holds.new.items x }
 {
-    if let Some(place) = wanted {
-        holds.push(Hold { lane, place })?;
+    match wanted {
+        Some(place) => holds.push(Hold { lane, place }).is_ok(),
+        None => true,
     }
-    Ok(())
 }
 
-fn add_pin(pins: &mut Vec<Pin>, wanted: Option<ObjName>, lane: u8) -> Result<(), NoMemory>
-    ensures wanted { OnOk result ((o : ObjName) → wanted ≡ Some o → Contains pins.new.items (record { lane = lane; object = o })) }
+fn add_pin(pins: &mut Vec<Pin>, wanted: Option<ObjName>, lane: u8) -> bool
+    ensures done { vec_len pins.old < vec_capacity pins.old → IsTrue result }
+    ensures wanted { IsTrue result → (o : ObjName) → wanted ≡ Some o → Contains pins.new.items (record { lane = lane; object = o }) }
     ensures kept { (x : Pin) → Contains pins.old.items x → Contains pins.new.items x }
     ensures no_more { (x : Pin) → Contains pins.new.items x → Contains pins.old.items x ⊎ (IsSome wanted × (x.lane ≡ lane)) }
-    ensures added { OnOk result (pins.new.items ≡ with_pin wanted lane pins.old.items) }
-    ensures refused { OnErr result (pins.new.items ≡ pins.old.items) }
+    ensures added { IsTrue result → pins.new.items ≡ with_pin wanted lane pins.old.items }
 {
-    if let Some(object) = wanted {
-        pins.push(Pin { lane, object })?;
+    match wanted {
+        Some(object) => pins.push(Pin { lane, object }).is_ok(),
+        None => true,
     }
-    Ok(())
 }
 
 impl Books {
@@ -171,30 +156,58 @@ impl Books {
         is_free(self.exclusive, lane) && is_free(self.turn, lane)
     }
 
-    /// Gives the lane what it asks for. Where memory is wanting it may have a part of it.
-    pub(crate) fn grant(&mut self, wants: &Wants, actor: u8, lane: u8) -> Result<(), NoMemory>
+    /// What is pinned.
+    pub fn pins(&self) -> &[Pin]
+        ensures { result.now ≡ self.now.pins.items }
+    {
+        &self.pins
+    }
+
+    /// Room for one more pin.
+    pub(crate) fn make_pin_room(&mut self) -> Result<(), NoMemory>
+        ensures same { self.new ≡ record self.old { pins = self.new.pins } }
+        ensures items { self.new.pins.items ≡ self.old.pins.items }
+        ensures room { OnOk result (vec_len self.new.pins < vec_capacity self.new.pins) }
+    {
+        self.pins.reserve(1)?;
+        Ok(())
+    }
+
+    /// Room for all that a lane may ask for at once.
+    pub(crate) fn make_grant_room(&mut self) -> Result<(), NoMemory>
+        ensures same { self.new ≡ record self.old { shared = self.new.shared; holds = self.new.holds; pins = self.new.pins } }
+        ensures items { (self.new.shared.items ≡ self.old.shared.items) × (self.new.holds.items ≡ self.old.holds.items) × (self.new.pins.items ≡ self.old.pins.items) }
+        ensures room { OnOk result (HasGrantRoom self.new) }
+    {
+        self.shared.reserve(1)?;
+        self.holds.reserve(1)?;
+        self.make_pin_room()
+    }
+
+    /// Gives the lane what it asks for, which takes no memory where there is room for it.
+    pub(crate) fn grant(&mut self, wants: &Wants, actor: u8, lane: u8) -> bool
         requires { Frees wants.now lane (books_of self.old) }
+        ensures done { HasGrantRoom self.old → IsTrue result }
         ensures same { self.new ≡ record self.old { shared = self.new.shared; exclusive = self.new.exclusive; turn = self.new.turn; sysroot = self.new.sysroot; holds = self.new.holds; pins = self.new.pins } }
-        ensures granted { OnOk result (Granted wants.now actor lane (books_of self.new)) }
+        ensures granted { IsTrue result → Granted wants.now actor lane (books_of self.new) }
         ensures spared { Spared actor lane (books_of self.old) (books_of self.new) }
         ensures keeps { Keeps lane (books_of self.old) (books_of self.new) }
-        ensures pinned { OnOk result (self.new.pins.items ≡ with_pin wants.now.pin lane self.old.pins.items) }
-        ensures unpinned { OnErr result (self.new.pins.items ≡ self.old.pins.items) }
+        ensures pinned { IsTrue result → self.new.pins.items ≡ with_pin wants.now.pin lane self.old.pins.items }
         ensures taken { (self.new.turn ≡ lock_taken wants.now.turn lane self.old.turn) × (self.new.exclusive ≡ lock_taken wants.now.exclusive lane self.old.exclusive) }
         ensures agrees { Agrees (books_of self.old) → Agrees (books_of self.new) }
     {
         self.exclusive = taken(self.exclusive, wants.exclusive, lane);
         self.turn = taken(self.turn, wants.turn, lane);
         self.sysroot = taken(self.sysroot, wants.sysroot, lane);
-        add_share(&mut self.shared, wants.shared, actor, lane)?;
-        add_hold(&mut self.holds, wants.hold, lane)?;
-        add_pin(&mut self.pins, wants.pin, lane)
+        let shared = add_share(&mut self.shared, wants.shared, actor, lane);
+        let held = add_hold(&mut self.holds, wants.hold, lane);
+        let pinned = add_pin(&mut self.pins, wants.pin, lane);
+        shared && held && pinned
     }
 
     /// Gives up all that a lane holds.
     pub(crate) fn release(&mut self, actor: u8, lane: u8)
-        ensures same { self.new ≡ record self.old { shared = self.new.shared; exclusive = self.new.exclusive; turn = self.new.turn; sysroot = self.new.sysroot; holds = self.new.holds; wants = self.new.wants; pins = self.new.pins; doomed = self.new.doomed; gone = self.new.gone; claims = self.new.claims } }
-        ensures doomed { (o : ObjName) → Contains self.new.doomed.items o → Contains self.old.doomed.items o }
+        ensures same { self.new ≡ record self.old { shared = self.new.shared; exclusive = self.new.exclusive; turn = self.new.turn; sysroot = self.new.sysroot; holds = self.new.holds; wants = self.new.wants; pins = self.new.pins; claims = self.new.claims } }
         ensures given_up { IsGivenUp lane self.old.turn self.new.turn × IsGivenUp lane self.old.exclusive self.new.exclusive }
         ensures pins { self.new.pins.items ≡ without lane self.old.pins.items }
         ensures claims { self.new.claims.items ≡ of_others lane self.old.claims.items }
@@ -202,7 +215,6 @@ impl Books {
         ensures spared { Spared actor lane (books_of self.old) (books_of self.new) }
         ensures agrees { Agrees (books_of self.old) → Agrees (books_of self.new) }
     {
-        let lock = self.exclusive;
         self.exclusive = given_up(self.exclusive, lane);
         self.turn = given_up(self.turn, lane);
         self.sysroot = given_up(self.sysroot, lane);
@@ -210,7 +222,6 @@ impl Books {
         give_up_holds(&mut self.holds, lane);
         give_up_wants(&mut self.wants, lane);
         give_up_pins(&mut self.pins, lane);
-        self.gone = give_up_doomed(&mut self.doomed, self.gone, lock, lane);
         give_up_claims(&mut self.claims, lane);
     }
 
@@ -246,7 +257,7 @@ impl Books {
 
     /// The lane's change is shown, or may be.
     pub(crate) fn show(&mut self, lane: u8, command: u32, event: Event, owed: u64)
-        ensures { self.new ≡ record self.old { turn = Some lane; pending = Some (record { lane = lane; command = command; event = event }); owed = owed } }
+        ensures { self.new ≡ record self.old { turn = Some lane; pending = Some (record { lane = lane; command = command; event = event }); gone = 0; owed = owed } }
     {
         self.turn = Some(lane);
         self.pending = Some(Pending {
@@ -254,6 +265,7 @@ impl Books {
             command,
             event,
         });
+        self.gone = 0;
         self.owed = owed;
     }
 
@@ -262,6 +274,14 @@ impl Books {
         ensures { self.new ≡ record self.old { owed = self.old.owed - 1 } }
     {
         self.owed = self.owed.saturating_sub(1);
+    }
+
+    /// So too, and one object more is removed.
+    pub(crate) fn pay_removal(&mut self)
+        ensures { self.old.gone < last → self.new ≡ record self.old { owed = self.old.owed - 1; gone = self.old.gone + 1 } }
+    {
+        self.pay();
+        self.gone = self.gone.saturating_add(1);
     }
 
     /// The pending change is acknowledged at this moment.

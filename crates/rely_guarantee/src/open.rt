@@ -14,10 +14,9 @@ use std::alloc::Global;
 impl Books {
     /// The books at the opening: nobody holds anything, and nothing has changed.
     fn new(alloc: Global, opened: u64, start: Vec<(RefName, Csum)>) -> Books
-        ensures fresh { result ≡ record { shared = result.shared; exclusive = None; turn = None; sysroot = None; holds = result.holds; wants = result.wants; pins = result.pins; doomed = result.doomed; gone = 0; claims = result.claims; uses = result.uses; history = result.history; pending = None; replies = 0; owed = 0; halted = None; opened = opened; start = start } }
+        ensures fresh { result ≡ record { shared = result.shared; exclusive = None; turn = None; sysroot = None; holds = result.holds; wants = result.wants; pins = result.pins; gone = 0; claims = result.claims; uses = result.uses; history = result.history; pending = None; replies = 0; owed = 0; halted = None; opened = opened; start = start } }
         ensures history { result.history.items ≡ [] }
         ensures pins { result.pins.items ≡ [] }
-        ensures doomed { result.doomed.items ≡ [] }
         ensures claims { result.claims.items ≡ [] }
     {
         Books {
@@ -28,7 +27,6 @@ impl Books {
             holds: Vec::new(alloc),
             wants: Vec::new(alloc),
             pins: Vec::new(alloc),
-            doomed: Vec::new(alloc),
             gone: 0,
             claims: Vec::new(alloc),
             uses: Vec::new(alloc),

@@ -1,8 +1,9 @@
-use Rattle.std.proofs.Common.{refl}
+use Rattle.std.proofs.Common.{ap, refl}
 use Rattle.rely_guarantee.specs.Laws.{Runs}
 use Rattle.rely_guarantee.proofs.Sounds.{IsFs}
 use Rattle.rely_guarantee.proofs.Showing.{no_time, still_acts}
-use Rattle.rely_guarantee.proofs.Noting.{claim_not, roomy_acts, roomy_ready}
+use Rattle.rely_guarantee.proofs.Noting.{claim_not}
+use Rattle.rely_guarantee.proofs.Rooms.{claim_room, roomy_acts, roomy_ready}
 use Rattle.rely_guarantee.proofs.act.claim.Given as given
 use Rattle.rely_guarantee.proofs.act.claim.Goals as goal
 
@@ -28,8 +29,9 @@ returns-then-is_err-clause-acts g c =
     let mid = record old { books = made } in
     let runs = Runs g.T.CommandTask.kind_of g.T.CommandTask.facts c.args.lane t in
     let m = c.make_claim_room.ensures in
-    let ready = roomy_ready g.F.Fs.view g.F.Fs.clock g.F.Fs.spare g.F.Fs.was (fs g) g.met.T.CommandTask.laws old made runs m.same m.items r.ready in
-    roomy_acts g.F.Fs.view g.F.Fs.clock g.F.Fs.spare g.F.Fs.was (fs g) g.met.T.CommandTask.laws old c.end-then-is_err.new.base made c.args.lane c.args.lane _ runs m.same m.items
+    let eq = claim_room old.books made m.same m.items in
+    let ready = roomy_ready g.F.Fs.view g.F.Fs.clock g.F.Fs.spare g.F.Fs.was old made runs eq (ap (λ b. b.history) m.same) r.ready in
+    roomy_acts g.F.Fs.view g.F.Fs.clock g.F.Fs.spare g.F.Fs.was old c.end-then-is_err.new.base made c.args.lane c.args.lane _ runs eq
     (still_acts g.F.Fs.view g.F.Fs.clock g.F.Fs.spare g.F.Fs.was (fs g) g.met.T.CommandTask.laws mid mid c.end-then-is_err.new.base c.args.lane c.args.lane runs runs _
     refl (λ v told. told) (no_time g.F.Fs.view g.F.Fs.clock g.F.Fs.spare g.F.Fs.was (fs g) g.met.T.CommandTask.laws old.fs) ready.sound.ordered.room c.end-then-is_err.ensures.ends
     (claim_not g.F.Fs.view g.F.Fs.clock g.F.Fs.spare g.F.Fs.was (fs g) g.met.T.CommandTask.laws mid c.args.lane t r.kind ready) ready)
@@ -37,4 +39,4 @@ returns-then-is_err-clause-acts g c =
 pub claim_named-requires-clause-ready : goal.claim_named-requires-clause-ready
 claim_named-requires-clause-ready g c =
     let m = c.make_claim_room.ensures in
-    roomy_ready g.F.Fs.view g.F.Fs.clock g.F.Fs.spare g.F.Fs.was (fs g) g.met.T.CommandTask.laws c.args.base.now c.make_claim_room.new.self (Runs g.T.CommandTask.kind_of g.T.CommandTask.facts c.args.lane c.args.task.now) m.same m.items c.requires.ready
+    roomy_ready g.F.Fs.view g.F.Fs.clock g.F.Fs.spare g.F.Fs.was c.args.base.now c.make_claim_room.new.self (Runs g.T.CommandTask.kind_of g.T.CommandTask.facts c.args.lane c.args.task.now) (claim_room c.args.base.now.books c.make_claim_room.new.self m.same m.items) (ap (λ b. b.history) m.same) c.requires.ready

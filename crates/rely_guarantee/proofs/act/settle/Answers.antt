@@ -2,7 +2,7 @@ use Rattle.std.proofs.Common.{◌∙◌, ◌++◌, ◌∷◌, [], ℕ, Some, ap,
 use Rattle.rely_guarantee.specs.Laws.{Runs}
 use Rattle.rely_guarantee.proofs.Sounds.{IsFs}
 use Rattle.rely_guarantee.proofs.Acting.{asks}
-use Rattle.rely_guarantee.proofs.Showing.{settle_is, owed_acts, settle_parts, settle_pending, settle_acts}
+use Rattle.rely_guarantee.proofs.Showing.{settle_is, owed_acts, same_counted, settle_parts, settle_pending, settle_acts}
 use Rattle.rely_guarantee.proofs.act.settle.Given as given
 use Rattle.rely_guarantee.proofs.act.settle.Goals as goal
 
@@ -32,7 +32,7 @@ returns-in-Err-clause-acts g c =
     let t = c.args.task.now in
     let old = c.args.base.now in
     let k = settle_is (g.T.CommandTask.kind_of t) r.kind in
-    owed_acts g.F.Fs.view g.F.Fs.clock g.F.Fs.spare g.F.Fs.was (fs g) g.met.T.CommandTask.laws old c.advance.new.fs c.pay.new.self c.args.lane t k.0 1 (Some c.why_of-why.result) (Runs g.T.CommandTask.kind_of g.T.CommandTask.facts c.args.lane c.advance.new.self) _
-    c.pay.ensures (settle_pending g.F.Fs.view g.F.Fs.clock g.F.Fs.spare g.F.Fs.was (fs g) g.met.T.CommandTask.laws old c.args.lane t k.0 k.1 r.ready)
+    owed_acts g.F.Fs.view g.F.Fs.clock g.F.Fs.spare g.F.Fs.was (fs g) g.met.T.CommandTask.laws old c.advance.new.fs c.pay.new.self c.args.lane t k.0 1 old.books.gone (Some c.why_of-why.result) (Runs g.T.CommandTask.kind_of g.T.CommandTask.facts c.args.lane c.advance.new.self) _
+    c.pay.ensures (settle_pending g.F.Fs.view g.F.Fs.clock g.F.Fs.spare g.F.Fs.was (fs g) g.met.T.CommandTask.laws old c.args.lane t k.0 k.1 r.ready) (same_counted g.F.Fs.view g.F.Fs.clock g.F.Fs.spare g.F.Fs.was (fs g) g.met.T.CommandTask.laws old r.ready.sound.ordered)
     (settle_parts g.F.Fs.view g.F.Fs.clock g.F.Fs.spare g.F.Fs.was (fs g) g.met.T.CommandTask.laws old c.args.lane t k.0 k.1 r.ready)
     r.ready.sound e.writes e.time e.room.at_most_one refl

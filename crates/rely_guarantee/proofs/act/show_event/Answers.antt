@@ -1,4 +1,5 @@
 use Rattle.std.proofs.Common.{◌≡◌, ap, Err, Some, inl, refl, subst, sym, arith, ◌≤◌}
+use Rattle.fs_trait.specs.Count.{last}
 use Rattle.rely_guarantee.specs.Laws.{IsLastly, IsShow, Runs}
 use Rattle.rely_guarantee.proofs.Sounds.{IsFs}
 use Rattle.rely_guarantee.proofs.Acting.{asks}
@@ -22,8 +23,9 @@ returns-in-Ok-clause-acts g c =
     let old = c.args.base.now in
     let is : IsShow (g.T.CommandTask.kind_of c.args.task.now) = subst IsShow (sym r.kind) tt in
     let room : c.owes.result ≤ g.F.Fs.spare mid.fs = subst (λ n. n ≤ g.F.Fs.spare mid.fs) (sym c.owes.ensures) (e.ready is) in
+    let small : c.owes.result ≤ last = omega (arith, c.owes.type_inv) in
     show_done g.F.Fs.view g.F.Fs.clock g.F.Fs.spare g.F.Fs.was (fs g) g.met.T.CommandTask.laws old mid c.show.new.self c.args.lane c.args.command c.args.task.now next c.args.event c.owes.result c.show.new.self.halted _
-    e.books c.show.ensures r.kind r.free r.entry r.ready e.writes e.time room
+    e.books c.show.ensures r.kind r.free r.entry r.ready e.writes e.time room small
     (show_tells g.F.Fs.view g.F.Fs.clock g.F.Fs.spare g.F.Fs.was (fs g) g.met.T.CommandTask.laws old mid c.show.new.self c.args.lane c.args.command c.args.task.now next c.in-Ok.field-0 c.args.event c.owes.result e.books c.show.ensures c.owes.ensures r.kind r.free r.ready e.stepped e.after)
 
 pub returns-in-Err-NoMemory-clause-acts : goal.returns-in-Err-NoMemory-clause-acts
@@ -43,7 +45,7 @@ returns-in-Err-clause-acts g c =
     let mid = c.advance_with_room.new.base in
     let next = c.advance_with_room.new.task in
     show_done g.F.Fs.view g.F.Fs.clock g.F.Fs.spare g.F.Fs.was (fs g) g.met.T.CommandTask.laws c.args.base.now mid c.show-in-Err.new.self c.args.lane c.args.command c.args.task.now next c.args.event 0 (Some c.why_of-why.result) _
-    e.books c.show-in-Err.ensures r.kind r.free r.entry r.ready e.writes e.time (omega arith) refl
+    e.books c.show-in-Err.ensures r.kind r.free r.entry r.ready e.writes e.time (omega arith) (omega arith) refl
 
 pub returns-in-Ok-clause-tells : goal.returns-in-Ok-clause-tells
 returns-in-Ok-clause-tells g c = λ v told.

@@ -1,11 +1,10 @@
-use Rattle.std.proofs.Common.{ap, rules, refl, subst}
+use Rattle.std.proofs.Common.{ap, refl, subst, sym}
+use Rattle.rely_guarantee.specs.Books.{Books, books_of, Frees}
 use Rattle.rely_guarantee.specs.Laws.{Kind, Runs, Holds, NotPending}
-use Rattle.rely_guarantee.specs.Books.{books_of}
-use Rattle.rely_guarantee.specs.Removing.{next_of}
 use Rattle.rely_guarantee.proofs.Sounds.{IsFs}
 use Rattle.rely_guarantee.proofs.Showing.{blocked_acts, still_acts, no_time}
-use Rattle.rely_guarantee.proofs.Taking.{take_is, take_ready, take_acts}
-use Rattle.rely_guarantee.proofs.Pinning.{pinned_then}
+use Rattle.rely_guarantee.proofs.Taking.{take_is}
+use Rattle.rely_guarantee.proofs.Rooms.{grant_room, roomy_acts, roomy_ready}
 use Rattle.rely_guarantee.proofs.act.take.Given as given
 use Rattle.rely_guarantee.proofs.act.take.Goals as goal
 
@@ -21,25 +20,29 @@ returns-then-is_err-clause-acts g c =
     let r = c.requires in
     let old = c.args.base.now in
     let t = c.args.task.now in
-    let b = c.grant.new.self in
-    let e = c.grant.ensures in
+    let made = c.make_grant_room.new.self in
+    let m = c.make_grant_room.ensures in
     let is = take_is c.args.wants (g.T.CommandTask.kind_of t) r.kind in
-    let mid = record old { books = b } in
+    let mid = record old { books = made } in
     let runs = Runs g.T.CommandTask.kind_of g.T.CommandTask.facts c.args.lane t in
-    let ready = take_ready g.F.Fs.view g.F.Fs.clock g.F.Fs.spare g.F.Fs.was g.met.T.CommandTask.laws old b c.args.lane t c.args.wants is e.same e.spared e.keeps e.agrees r.ready in
-    let none : NotPending c.args.lane (books_of b) = subst (λ (k : Kind). Holds k c.args.lane (books_of b)) is ready.task.holds in
-    take_acts g.F.Fs.view g.F.Fs.clock g.F.Fs.spare g.F.Fs.was g.met.T.CommandTask.laws old c.end.new.base b c.args.lane _ runs (ap (λ x. x.claims) e.same) (ap (λ x. next_of (books_of x)) e.same) e.spared e.keeps
+    let eq = grant_room old.books made m.same m.items in
+    let ready = roomy_ready g.F.Fs.view g.F.Fs.clock g.F.Fs.spare g.F.Fs.was old made runs eq (ap (λ b. b.history) m.same) r.ready in
+    let none : NotPending c.args.lane (books_of made) = subst (λ (k : Kind). Holds k c.args.lane (books_of made)) is ready.task.holds in
+    roomy_acts g.F.Fs.view g.F.Fs.clock g.F.Fs.spare g.F.Fs.was old c.end.new.base made c.args.lane c.args.lane _ runs eq
     (still_acts g.F.Fs.view g.F.Fs.clock g.F.Fs.spare g.F.Fs.was (fs g) g.met.T.CommandTask.laws mid mid c.end.new.base c.args.lane c.args.lane runs runs _
     refl (λ v told. told) (no_time g.F.Fs.view g.F.Fs.clock g.F.Fs.spare g.F.Fs.was (fs g) g.met.T.CommandTask.laws old.fs) ready.sound.ordered.room c.end.ensures.ends none ready)
 
 pub returns-clause-acts : goal.returns-clause-acts
-returns-clause-acts g c = take_acts g.F.Fs.view g.F.Fs.clock g.F.Fs.spare g.F.Fs.was g.met.T.CommandTask.laws c.args.base.now c.quiet.new.base c.grant.new.self c.args.lane c.quiet.result _ (ap (λ x. x.claims) c.grant.ensures.same) (ap (λ x. next_of (books_of x)) c.grant.ensures.same) c.grant.ensures.spared c.grant.ensures.keeps c.quiet.ensures.acts
+returns-clause-acts g c =
+    let m = c.make_grant_room.ensures in
+    roomy_acts g.F.Fs.view g.F.Fs.clock g.F.Fs.spare g.F.Fs.was c.args.base.now c.take_free.new.base c.make_grant_room.new.self c.args.lane c.args.lane c.take_free.result _ (grant_room c.args.base.now.books c.make_grant_room.new.self m.same m.items) c.take_free.ensures.acts
 
-pub returns-clause-pins : goal.returns-clause-pins
-returns-clause-pins g c = pinned_then c.args.wants.pin c.args.lane c.quiet.result c.args.base.now.books.pins.items c.grant.new.self.pins.items c.quiet.new.base.books.pins.items c.quiet.ensures.goes (search rules) c.quiet.ensures.pins
+pub take_free-requires-clause-ready : goal.take_free-requires-clause-ready
+take_free-requires-clause-ready g c =
+    let m = c.make_grant_room.ensures in
+    roomy_ready g.F.Fs.view g.F.Fs.clock g.F.Fs.spare g.F.Fs.was c.args.base.now c.make_grant_room.new.self (Runs g.T.CommandTask.kind_of g.T.CommandTask.facts c.args.lane c.args.task.now) (grant_room c.args.base.now.books c.make_grant_room.new.self m.same m.items) (ap (λ b. b.history) m.same) c.requires.ready
 
-pub quiet-requires-clause-ready : goal.quiet-requires-clause-ready
-quiet-requires-clause-ready g c =
-    let t = c.args.task.now in
-    let e = c.grant.ensures in
-    take_ready g.F.Fs.view g.F.Fs.clock g.F.Fs.spare g.F.Fs.was g.met.T.CommandTask.laws c.args.base.now c.grant.new.self c.args.lane t c.args.wants (take_is c.args.wants (g.T.CommandTask.kind_of t) c.requires.kind) e.same e.spared e.keeps e.agrees c.requires.ready
+pub take_free-requires-clause-free : goal.take_free-requires-clause-free
+take_free-requires-clause-free g c =
+    let m = c.make_grant_room.ensures in
+    subst (λ (b : Books). Frees c.args.wants c.args.lane b) (sym (grant_room c.args.base.now.books c.make_grant_room.new.self m.same m.items)) (c.frees.ensures.0 c.if-not-frees.false)

@@ -1,6 +1,6 @@
-use Rattle.rely_guarantee.specs.Books.{books_of}
+use Rattle.std.proofs.Common.{inl, refl}
 use Rattle.rely_guarantee.proofs.Sounds.{IsFs}
-use Rattle.rely_guarantee.proofs.Lasting.{lasts_undoomed}
+use Rattle.rely_guarantee.proofs.Taken.{taken_lasts}
 use Rattle.rely_guarantee.proofs.act.task_act.Given as given
 use Rattle.rely_guarantee.proofs.act.task_act.Goals as goal
 
@@ -9,22 +9,25 @@ module _ (g : given.Over) where
   fs = record { only_now = g.met.F.Fs.only_now; bound = g.met.F.Fs.bound; told = g.met.F.Fs.told }
 
 pub returns-in-Quiet-clause-outlasts : goal.returns-in-Quiet-clause-outlasts
-returns-in-Quiet-clause-outlasts g c = lasts_undoomed g.F.Fs.view g.F.Fs.clock g.F.Fs.was (fs g) c.args.base.now.fs c.quiet.new.base.fs (books_of c.args.base.now.books) (books_of c.quiet.new.base.books) c.args.actor c.args.lane c.requires.ready.sound.ordered.undoomed c.quiet.ensures.acts.does c.quiet.ensures.time
+returns-in-Quiet-clause-outlasts g c = taken_lasts g.F.Fs.view g.F.Fs.clock g.F.Fs.spare g.F.Fs.was (fs g) g.met.T.CommandTask.laws c.args.base.now c.quiet.new.base c.args.actor c.args.lane c.args.task.now c.requires.by c.requires.ready c.quiet.ensures.wrote c.quiet.ensures.acts.does c.quiet.ensures.time (g.T.CommandTask.kind_of c.args.task.now) refl
 
 pub returns-in-Store-clause-outlasts : goal.returns-in-Store-clause-outlasts
-returns-in-Store-clause-outlasts g c = lasts_undoomed g.F.Fs.view g.F.Fs.clock g.F.Fs.was (fs g) c.args.base.now.fs c.store.new.base.fs (books_of c.args.base.now.books) (books_of c.store.new.base.books) c.args.actor c.args.lane c.requires.ready.sound.ordered.undoomed c.store.ensures.acts.does c.store.ensures.time
+returns-in-Store-clause-outlasts g c = taken_lasts g.F.Fs.view g.F.Fs.clock g.F.Fs.spare g.F.Fs.was (fs g) g.met.T.CommandTask.laws c.args.base.now c.store.new.base c.args.actor c.args.lane c.args.task.now c.requires.by c.requires.ready c.store.ensures.wrote c.store.ensures.acts.does c.store.ensures.time (g.T.CommandTask.kind_of c.args.task.now) refl
 
 pub returns-in-Take-clause-outlasts : goal.returns-in-Take-clause-outlasts
-returns-in-Take-clause-outlasts g c = lasts_undoomed g.F.Fs.view g.F.Fs.clock g.F.Fs.was (fs g) c.args.base.now.fs c.take.new.base.fs (books_of c.args.base.now.books) (books_of c.take.new.base.books) c.args.lane c.args.lane c.requires.ready.sound.ordered.undoomed c.take.ensures.acts.does c.take.ensures.time
+returns-in-Take-clause-outlasts g c = taken_lasts g.F.Fs.view g.F.Fs.clock g.F.Fs.spare g.F.Fs.was (fs g) g.met.T.CommandTask.laws c.args.base.now c.take.new.base c.args.lane c.args.lane c.args.task.now (inl refl) c.requires.ready c.take.ensures.wrote c.take.ensures.acts.does c.take.ensures.time (g.T.CommandTask.kind_of c.args.task.now) refl
 
 pub returns-in-Claim-clause-outlasts : goal.returns-in-Claim-clause-outlasts
-returns-in-Claim-clause-outlasts g c = lasts_undoomed g.F.Fs.view g.F.Fs.clock g.F.Fs.was (fs g) c.args.base.now.fs c.claim.new.base.fs (books_of c.args.base.now.books) (books_of c.claim.new.base.books) c.args.lane c.args.lane c.requires.ready.sound.ordered.undoomed c.claim.ensures.acts.does c.claim.ensures.time
+returns-in-Claim-clause-outlasts g c = taken_lasts g.F.Fs.view g.F.Fs.clock g.F.Fs.spare g.F.Fs.was (fs g) g.met.T.CommandTask.laws c.args.base.now c.claim.new.base c.args.lane c.args.lane c.args.task.now (inl refl) c.requires.ready c.claim.ensures.wrote c.claim.ensures.acts.does c.claim.ensures.time (g.T.CommandTask.kind_of c.args.task.now) refl
 
 pub returns-in-Show-clause-outlasts : goal.returns-in-Show-clause-outlasts
-returns-in-Show-clause-outlasts g c = lasts_undoomed g.F.Fs.view g.F.Fs.clock g.F.Fs.was (fs g) c.args.base.now.fs c.show.new.base.fs (books_of c.args.base.now.books) (books_of c.show.new.base.books) c.args.lane c.args.lane c.requires.ready.sound.ordered.undoomed c.show.ensures.acts.does c.show.ensures.time
+returns-in-Show-clause-outlasts g c = taken_lasts g.F.Fs.view g.F.Fs.clock g.F.Fs.spare g.F.Fs.was (fs g) g.met.T.CommandTask.laws c.args.base.now c.show.new.base c.args.lane c.args.lane c.args.task.now (inl refl) c.requires.ready c.show.ensures.wrote c.show.ensures.acts.does c.show.ensures.time (g.T.CommandTask.kind_of c.args.task.now) refl
 
 pub returns-in-Shown-clause-outlasts : goal.returns-in-Shown-clause-outlasts
-returns-in-Shown-clause-outlasts g c = lasts_undoomed g.F.Fs.view g.F.Fs.clock g.F.Fs.was (fs g) c.args.base.now.fs c.shown.new.base.fs (books_of c.args.base.now.books) (books_of c.shown.new.base.books) c.args.lane c.args.lane c.requires.ready.sound.ordered.undoomed c.shown.ensures.acts.does c.shown.ensures.time
+returns-in-Shown-clause-outlasts g c = taken_lasts g.F.Fs.view g.F.Fs.clock g.F.Fs.spare g.F.Fs.was (fs g) g.met.T.CommandTask.laws c.args.base.now c.shown.new.base c.args.lane c.args.lane c.args.task.now (inl refl) c.requires.ready c.shown.ensures.wrote c.shown.ensures.acts.does c.shown.ensures.time (g.T.CommandTask.kind_of c.args.task.now) refl
+
+pub returns-in-Remove-clause-outlasts : goal.returns-in-Remove-clause-outlasts
+returns-in-Remove-clause-outlasts g c = taken_lasts g.F.Fs.view g.F.Fs.clock g.F.Fs.spare g.F.Fs.was (fs g) g.met.T.CommandTask.laws c.args.base.now c.remove.new.base c.args.lane c.args.lane c.args.task.now (inl refl) c.requires.ready c.remove.ensures.wrote c.remove.ensures.acts.does c.remove.ensures.time (g.T.CommandTask.kind_of c.args.task.now) refl
 
 pub returns-in-Settle-clause-outlasts : goal.returns-in-Settle-clause-outlasts
-returns-in-Settle-clause-outlasts g c = lasts_undoomed g.F.Fs.view g.F.Fs.clock g.F.Fs.was (fs g) c.args.base.now.fs c.settle.new.base.fs (books_of c.args.base.now.books) (books_of c.settle.new.base.books) c.args.lane c.args.lane c.requires.ready.sound.ordered.undoomed c.settle.ensures.acts.does c.settle.ensures.time
+returns-in-Settle-clause-outlasts g c = taken_lasts g.F.Fs.view g.F.Fs.clock g.F.Fs.spare g.F.Fs.was (fs g) g.met.T.CommandTask.laws c.args.base.now c.settle.new.base c.args.lane c.args.lane c.args.task.now (inl refl) c.requires.ready c.settle.ensures.wrote c.settle.ensures.acts.does c.settle.ensures.time (g.T.CommandTask.kind_of c.args.task.now) refl

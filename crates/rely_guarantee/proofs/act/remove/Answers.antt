@@ -1,0 +1,64 @@
+use Rattle.std.proofs.Common.{◌+◌, Some, ap, inl, refl, subst}
+use Rattle.rely_guarantee.specs.Laws.{IsLastly, Runs}
+use Rattle.rely_guarantee.proofs.Sounds.{IsFs}
+use Rattle.rely_guarantee.proofs.Acting.{asks}
+use Rattle.rely_guarantee.proofs.Showing.{fewer_gone, more_tells, remove_is, owed_acts, more_counted, remove_parts, remove_pending, remove_runs}
+use Rattle.rely_guarantee.proofs.act.remove.Given as given
+use Rattle.rely_guarantee.proofs.act.remove.Goals as goal
+
+module _ (g : given.Over) where
+  fs : IsFs g.F.Fs.view g.F.Fs.clock g.F.Fs.was
+  fs = record { only_now = g.met.F.Fs.only_now; bound = g.met.F.Fs.bound; told = g.met.F.Fs.told }
+
+pub advance-requires : goal.advance-requires
+advance-requires g c = asks g.F.Fs.view g.F.Fs.clock g.F.Fs.spare g.F.Fs.was (fs g) g.met.T.CommandTask.laws c.args.base.now c.args.lane c.args.lane c.args.task.now (inl refl) c.requires.ready
+
+pub returns-in-Ok-clause-acts : goal.returns-in-Ok-clause-acts
+returns-in-Ok-clause-acts g c =
+    let e = c.in-Ok.ensures in
+    let r = c.requires in
+    let t = c.args.task.now in
+    let old = c.args.base.now in
+    let k = remove_is (g.T.CommandTask.kind_of t) r.kind in
+    let pays = c.pay_removal.ensures (fewer_gone g.F.Fs.view g.F.Fs.clock g.F.Fs.spare g.F.Fs.was (fs g) g.met.T.CommandTask.laws old k.0 k.1 c.args.lane (remove_pending g.F.Fs.view g.F.Fs.clock g.F.Fs.spare g.F.Fs.was (fs g) g.met.T.CommandTask.laws old c.args.lane t k.0 k.1 k.2 r.ready) r.ready.sound.ordered) in
+    owed_acts g.F.Fs.view g.F.Fs.clock g.F.Fs.spare g.F.Fs.was (fs g) g.met.T.CommandTask.laws old c.advance.new.fs c.pay_removal.new.self c.args.lane t k.0 k.1 (old.books.gone + 1) c.pay_removal.new.self.halted (Runs g.T.CommandTask.kind_of g.T.CommandTask.facts c.args.lane c.advance.new.self) _
+    pays (remove_pending g.F.Fs.view g.F.Fs.clock g.F.Fs.spare g.F.Fs.was (fs g) g.met.T.CommandTask.laws old c.args.lane t k.0 k.1 k.2 r.ready).0 (more_counted g.F.Fs.view g.F.Fs.clock g.F.Fs.spare g.F.Fs.was (fs g) g.met.T.CommandTask.laws old k.0 k.1 c.args.lane (remove_pending g.F.Fs.view g.F.Fs.clock g.F.Fs.spare g.F.Fs.was (fs g) g.met.T.CommandTask.laws old c.args.lane t k.0 k.1 k.2 r.ready) r.ready.sound.ordered)
+    (λ v told. let d = remove_parts g.F.Fs.view g.F.Fs.clock g.F.Fs.spare g.F.Fs.was (fs g) g.met.T.CommandTask.laws old c.args.lane t k.0 k.1 k.2 r.ready v told in (d.0, d.1))
+    r.ready.sound e.writes e.time e.room.at_most_one
+    (remove_runs g.F.Fs.view g.F.Fs.clock g.F.Fs.spare g.F.Fs.was (fs g) g.met.T.CommandTask.laws old c.advance.new.fs c.pay_removal.new.self c.args.lane t c.advance.new.self c.in-Ok.field-0 k.0 k.1 pays k.2 r.ready e.stepped e.after)
+
+pub returns-in-Err-clause-acts : goal.returns-in-Err-clause-acts
+returns-in-Err-clause-acts g c =
+    let e = c.in-Err.ensures in
+    let r = c.requires in
+    let t = c.args.task.now in
+    let old = c.args.base.now in
+    let k = remove_is (g.T.CommandTask.kind_of t) r.kind in
+    let pays = c.pay_removal.ensures (fewer_gone g.F.Fs.view g.F.Fs.clock g.F.Fs.spare g.F.Fs.was (fs g) g.met.T.CommandTask.laws old k.0 k.1 c.args.lane (remove_pending g.F.Fs.view g.F.Fs.clock g.F.Fs.spare g.F.Fs.was (fs g) g.met.T.CommandTask.laws old c.args.lane t k.0 k.1 k.2 r.ready) r.ready.sound.ordered) in
+    owed_acts g.F.Fs.view g.F.Fs.clock g.F.Fs.spare g.F.Fs.was (fs g) g.met.T.CommandTask.laws old c.advance.new.fs c.pay_removal.new.self c.args.lane t k.0 k.1 (old.books.gone + 1) (Some c.why_of-why.result) (Runs g.T.CommandTask.kind_of g.T.CommandTask.facts c.args.lane c.advance.new.self) _
+    pays (remove_pending g.F.Fs.view g.F.Fs.clock g.F.Fs.spare g.F.Fs.was (fs g) g.met.T.CommandTask.laws old c.args.lane t k.0 k.1 k.2 r.ready).0 (more_counted g.F.Fs.view g.F.Fs.clock g.F.Fs.spare g.F.Fs.was (fs g) g.met.T.CommandTask.laws old k.0 k.1 c.args.lane (remove_pending g.F.Fs.view g.F.Fs.clock g.F.Fs.spare g.F.Fs.was (fs g) g.met.T.CommandTask.laws old c.args.lane t k.0 k.1 k.2 r.ready) r.ready.sound.ordered)
+    (λ v told. let d = remove_parts g.F.Fs.view g.F.Fs.clock g.F.Fs.spare g.F.Fs.was (fs g) g.met.T.CommandTask.laws old c.args.lane t k.0 k.1 k.2 r.ready v told in (d.0, d.1))
+    r.ready.sound e.writes e.time e.room.at_most_one refl
+
+pub returns-in-Ok-clause-tells : goal.returns-in-Ok-clause-tells
+returns-in-Ok-clause-tells g c = λ v told.
+    let e = c.in-Ok.ensures in
+    let t = c.args.task.now in
+    let k = remove_is (g.T.CommandTask.kind_of t) c.requires.kind in
+    more_tells g.F.Fs.view g.F.Fs.clock g.F.Fs.spare g.F.Fs.was (fs g) g.met.T.CommandTask.laws t c.advance.new.self c.in-Ok.field-0 (λ last. subst IsLastly k.2 last) e.stepped v _ (e.after v told)
+
+pub returns-in-Ok-clause-gone : goal.returns-in-Ok-clause-gone
+returns-in-Ok-clause-gone g c =
+    let r = c.requires in
+    let t = c.args.task.now in
+    let old = c.args.base.now in
+    let k = remove_is (g.T.CommandTask.kind_of t) r.kind in
+    ap (λ b. b.gone) (c.pay_removal.ensures (fewer_gone g.F.Fs.view g.F.Fs.clock g.F.Fs.spare g.F.Fs.was (fs g) g.met.T.CommandTask.laws old k.0 k.1 c.args.lane (remove_pending g.F.Fs.view g.F.Fs.clock g.F.Fs.spare g.F.Fs.was (fs g) g.met.T.CommandTask.laws old c.args.lane t k.0 k.1 k.2 r.ready) r.ready.sound.ordered))
+
+pub returns-in-Err-clause-gone : goal.returns-in-Err-clause-gone
+returns-in-Err-clause-gone g c =
+    let r = c.requires in
+    let t = c.args.task.now in
+    let old = c.args.base.now in
+    let k = remove_is (g.T.CommandTask.kind_of t) r.kind in
+    ap (λ b. b.gone) (c.pay_removal.ensures (fewer_gone g.F.Fs.view g.F.Fs.clock g.F.Fs.spare g.F.Fs.was (fs g) g.met.T.CommandTask.laws old k.0 k.1 c.args.lane (remove_pending g.F.Fs.view g.F.Fs.clock g.F.Fs.spare g.F.Fs.was (fs g) g.met.T.CommandTask.laws old c.args.lane t k.0 k.1 k.2 r.ready) r.ready.sound.ordered))
