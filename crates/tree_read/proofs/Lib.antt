@@ -6,6 +6,6 @@ pub mod Walk
 pub mod Lines
 pub mod Stops
 pub mod Steps
-mod Openings
-mod Telling
+pub mod Openings
+pub mod Telling
 mod Running

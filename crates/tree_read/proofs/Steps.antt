@@ -15,18 +15,19 @@ use Rattle.ost_forms.specs.DirTree.{Entries}
 use Rattle.ost_forms.specs.declared.entry.FileItem.{FileItem}
 use Rattle.ost_forms.specs.declared.entry.FolderItem.{FolderItem}
 use Rattle.fs_trait.specs.View.{Disk}
-use Rattle.repo_model.specs.Objects.{Store, Stores, Has}
-use Rattle.repo_model.specs.Trees.{HasCommit, HasEntries, HasMeta, Names, Shows, name_of}
+use Rattle.repo_model.specs.Objects.{Store, Stores, IsMap, Has}
 use Rattle.repo_model.proofs.Stored.{stores_map}
+use Rattle.repo_model.specs.Trees.{HasCommit, HasEntries, HasMeta, Names, Shows, name_of}
+use Rattle.repo_model.specs.Whole.{Complete}
 use Rattle.tree_read.specs.declared.item.Named.{Named}
 use Rattle.tree_read.specs.declared.item.Named.TheVariants.{Folder, Attributes, File}
 use Rattle.tree_read.specs.declared.item.Item.{Item}
 use Rattle.tree_read.specs.Children.{Child, IsChild, item_of}
 use Rattle.tree_read.specs.Line.{InLine}
 use Rattle.tree_read.specs.Looks.{IsAbsent, IsDamaged}
-use Rattle.tree_read.specs.Order.{IsShort, HasName, NamesFar, IsKept, IsOwner, StopsAt, FirstAbsent, FirstDamaged}
+use Rattle.tree_read.specs.Order.{IsShort, HasName, NamesFar, IsKept, IsOwner, StopsAt, AbsentIn, DamagedIn}
 use Rattle.tree_read.specs.Reading.{Reading, Knows, Lists, IsFar, begun_at, weight, weight_of, left_of}
-use Rattle.tree_read.specs.Whole.{ReadsTree}
+use Rattle.tree_read.specs.Whole.{IsTree, ReadsTree}
 use Rattle.tree_read.specs.Walked.{Walked}
 use Rattle.tree_read.proofs.Lines.{may_push, line_taken, line_opened, line_begins, both, back, paths_push}
 use Rattle.tree_read.proofs.Merged.{only}
@@ -52,9 +53,9 @@ owner_child : (S : Store) (content : ℕ) (tree meta : List ℕ) (at : Path) (y 
 owner_child S content tree meta [] y o names is = ([], y, refl, names, is)
 owner_child S content tree meta (x ∷ at) y o names is = (x ∷ at, y, refl, names, is)
 
-module _ (d : Disk) (t : Reading) (items : List Item) (next : Item) (cut : t.pending ≡ items ++ next ∷ []) (k : Knows (Stores d) t) where
-  walked : Walked (Stores d) t.limits.content k.parts.tree k.parts.meta t.found (items ++ next ∷ [])
-  walked = subst (Walked (Stores d) t.limits.content k.parts.tree k.parts.meta t.found) cut k.walked
+module _ (S : Store) (one_each : IsMap S) (d : Disk) (t : Reading) (items : List Item) (next : Item) (cut : t.pending ≡ items ++ next ∷ []) (k : Knows S t) where
+  walked : Walked S t.limits.content k.parts.tree k.parts.meta t.found (items ++ next ∷ [])
+  walked = subst (Walked S t.limits.content k.parts.tree k.parts.meta t.found) cut k.walked
 
   line : InLine t.found (items ++ next ∷ [])
   line = subst (InLine t.found) cut k.line
@@ -65,35 +66,35 @@ module _ (d : Disk) (t : Reading) (items : List Item) (next : Item) (cut : t.pen
   in_pending : (i : Item) → Contains (items ++ next ∷ []) i → Contains t.pending i
   in_pending i h = subst (λ p. Contains p i) (sym cut) h
 
-  next_owned : IsOwner (Stores d) t.limits.content k.parts.tree k.parts.meta next.path (name_of kind.DirTree next.owner)
+  next_owned : IsOwner S t.limits.content k.parts.tree k.parts.meta next.path (name_of kind.DirTree next.owner)
   next_owned = k.owned next (in_pending next (Contains-append_right items (next ∷ []) next (Contains-push [] next)))
 
   -- reading stops at it
-  pub stops_here : (Wrong : Path → Type 0) → length t.found < t.limits.paths → Wrong next.path → StopsAt d t.limits k.parts.tree k.parts.meta (first_of next.named) Wrong
-  stops_here Wrong room wrong = stops d t.limits k.parts.tree k.parts.meta t.found items next walked line k.ascending Wrong (omega (arith, room, paths_length t.found)) wrong
+  pub stops_here : (Wrong : Path → Type 0) → length t.found < t.limits.paths → Wrong next.path → StopsAt S t.limits k.parts.tree k.parts.meta (first_of next.named) Wrong
+  stops_here Wrong room wrong = stops S t.limits k.parts.tree k.parts.meta t.found items next walked line k.ascending Wrong (omega (arith, room, paths_length t.found)) wrong
 
-  pub absent_here : (o : ObjName) → o ≡ first_of next.named → length t.found < t.limits.paths → IsAbsent d o → FirstAbsent d t.limits k.parts.tree k.parts.meta o
-  absent_here o is room absent = subst (FirstAbsent d t.limits k.parts.tree k.parts.meta) (sym is) (stops_here (λ at. IsAbsent d (first_of next.named)) room (subst (IsAbsent d) is absent))
+  pub absent_here : (o : ObjName) → o ≡ first_of next.named → length t.found < t.limits.paths → IsAbsent d o → AbsentIn S d t.limits k.parts.tree k.parts.meta o
+  absent_here o is room absent = subst (AbsentIn S d t.limits k.parts.tree k.parts.meta) (sym is) (stops_here (λ at. IsAbsent d (first_of next.named)) room (subst (IsAbsent d) is absent))
 
-  damaged_at : length t.found < t.limits.paths → IsDamaged d t.limits.content (first_of next.named) → FirstDamaged d t.limits k.parts.tree k.parts.meta (first_of next.named)
+  damaged_at : length t.found < t.limits.paths → IsDamaged d t.limits.content (first_of next.named) → DamagedIn S d t.limits k.parts.tree k.parts.meta (first_of next.named)
   damaged_at room damaged =
-      inl (stops_here (λ at. IsDamaged d t.limits.content (first_of next.named) ⊎ (((first_of next.named).kind ≡ kind.DirTree) × NamesFar (Stores d) (first_of next.named).csum at)) room (inl damaged))
+      inl (stops_here (λ at. IsDamaged d t.limits.content (first_of next.named) ⊎ (((first_of next.named).kind ≡ kind.DirTree) × NamesFar S (first_of next.named).csum at)) room (inl damaged))
 
-  pub damaged_here : (o : ObjName) → o ≡ first_of next.named → length t.found < t.limits.paths → IsDamaged d t.limits.content o → FirstDamaged d t.limits k.parts.tree k.parts.meta o
-  damaged_here o is room damaged = subst (FirstDamaged d t.limits k.parts.tree k.parts.meta) (sym is) (damaged_at room (subst (IsDamaged d t.limits.content) is damaged))
+  pub damaged_here : (o : ObjName) → o ≡ first_of next.named → length t.found < t.limits.paths → IsDamaged d t.limits.content o → DamagedIn S d t.limits k.parts.tree k.parts.meta o
+  damaged_here o is room damaged = subst (DamagedIn S d t.limits k.parts.tree k.parts.meta) (sym is) (damaged_at room (subst (IsDamaged d t.limits.content) is damaged))
 
-  pub full_here : t.limits.paths ≤ length t.found → FirstDamaged d t.limits k.parts.tree k.parts.meta (name_of kind.DirTree next.owner)
+  pub full_here : t.limits.paths ≤ length t.found → DamagedIn S d t.limits k.parts.tree k.parts.meta (name_of kind.DirTree next.owner)
   full_here full =
-      inr (too_many d t.limits k.parts.tree k.parts.meta t.found items next walked line k.ascending (name_of kind.DirTree next.owner) next_owned (omega (arith, full, k.few, paths_length t.found)))
+      inr (too_many S t.limits k.parts.tree k.parts.meta t.found items next walked line k.ascending (name_of kind.DirTree next.owner) next_owned (omega (arith, full, k.few, paths_length t.found)))
 
   -- its path was found
-  module _ (n : NodeName) (room : length t.found < t.limits.paths) (r : Replaces (Stores d) t.limits.content next ((next.path, n) ∷ []) []) where
-    pub takes_on : Knows (Stores d) (after_take t items next.path n)
+  module _ (n : NodeName) (room : length t.found < t.limits.paths) (r : Replaces S t.limits.content next ((next.path, n) ∷ []) []) where
+    pub takes_on : Knows S (after_take t items next.path n)
     takes_on = record {
       parts = k.parts;
       has = k.has;
-      walked = subst (Walked (Stores d) t.limits.content k.parts.tree k.parts.meta (t.found ++ (next.path, n) ∷ [])) (append-nil items)
-          (walked_on (Stores d) t.limits.content k.parts.tree k.parts.meta t.found ((next.path, n) ∷ []) items [] next walked r);
+      walked = subst (Walked S t.limits.content k.parts.tree k.parts.meta (t.found ++ (next.path, n) ∷ [])) (append-nil items)
+          (walked_on S t.limits.content k.parts.tree k.parts.meta t.found ((next.path, n) ∷ []) items [] next walked r);
       owned = λ i h. k.owned i (in_pending i (Contains-append_left items (next ∷ []) i h));
       line = line_taken t.found items next n line;
       ascending = subst IsAscending (sym (paths_push t.found next.path n)) (may_push t.found items next k.ascending line);
@@ -101,18 +102,18 @@ module _ (d : Disk) (t : Reading) (items : List Item) (next : Item) (cut : t.pen
       few = omega (arith, room, length-append t.found ((next.path, n) ∷ []));
     }
 
-  pub takes_file : (sum : List ℕ) → next.named ≡ File sum → length t.found < t.limits.paths → Has (Stores d) t.limits.content (name_of kind.File sum) → Knows (Stores d) (after_take t items next.path (node.Leaf sum))
-  takes_file sum is room has = takes_on (node.Leaf sum) room (file_replaces (Stores d) t.limits.content next sum is has)
+  pub takes_file : (sum : List ℕ) → next.named ≡ File sum → length t.found < t.limits.paths → Has S t.limits.content (name_of kind.File sum) → Knows S (after_take t items next.path (node.Leaf sum))
+  takes_file sum is room has = takes_on (node.Leaf sum) room (file_replaces S t.limits.content next sum is has)
 
-  pub takes_folder : (sum : List ℕ) (m : Meta) → next.named ≡ Attributes sum → length t.found < t.limits.paths → HasMeta (Stores d) sum m → Knows (Stores d) (after_take t items next.path (node.Folder m))
+  pub takes_folder : (sum : List ℕ) (m : Meta) → next.named ≡ Attributes sum → length t.found < t.limits.paths → HasMeta S sum m → Knows S (after_take t items next.path (node.Folder m))
   takes_folder sum m is room has =
       takes_on (node.Folder m) room
-      (attributes_replaces (Stores d) t.limits.content next sum m is has (λ x other. meta_one (Stores d) (stores_map d) sum x m other has) (record { bytes = has.bytes; stored = has.stored; formed = ∣ (m, has.reads) ∣₁ }))
+      (attributes_replaces S t.limits.content next sum m is has (λ x other. meta_one S one_each sum x m other has) (record { bytes = has.bytes; stored = has.stored; formed = ∣ (m, has.reads) ∣₁ }))
 
   -- its entries were read
-  module _ (tree meta : List ℕ) (is : next.named ≡ Folder tree meta) (e : Entries) (has : HasEntries (Stores d) tree e) where
-    one : (x : Entries) → HasEntries (Stores d) tree x → x ≡ e
-    one x other = entries_one (Stores d) (stores_map d) tree x e other has
+  module _ (tree meta : List ℕ) (is : next.named ≡ Folder tree meta) (e : Entries) (has : HasEntries S tree e) where
+    one : (x : Entries) → HasEntries S tree x → x ≡ e
+    one x other = entries_one S one_each tree x e other has
 
     file_there : (i : FileItem) → Contains e.files i → HasName e i.name
     file_there i among = inl (mapped (λ (x : FileItem). x.name) e.files i among)
@@ -124,14 +125,14 @@ module _ (d : Disk) (t : Reading) (items : List Item) (next : Item) (cut : t.pen
     child_there c (inl (i, among, same)) = subst (λ (x : Child). HasName e x.name) (sym same) (file_there i among)
     child_there c (inr (i, among, same)) = subst (λ (x : Child). HasName e x.name) (sym same) (folder_there i among)
 
-    pub far_here : IsFar next.path e → length t.found < t.limits.paths → FirstDamaged d t.limits k.parts.tree k.parts.meta (name_of kind.DirTree tree)
+    pub far_here : IsFar next.path e → length t.found < t.limits.paths → DamagedIn S d t.limits k.parts.tree k.parts.meta (name_of kind.DirTree tree)
     far_here f room =
         let first : first_of next.named ≡ name_of kind.DirTree tree = ap first_of is in
-        subst (FirstDamaged d t.limits k.parts.tree k.parts.meta) first
-        (inl (stops_here (λ at. IsDamaged d t.limits.content (first_of next.named) ⊎ (((first_of next.named).kind ≡ kind.DirTree) × NamesFar (Stores d) (first_of next.named).csum at)) room
+        subst (DamagedIn S d t.limits k.parts.tree k.parts.meta) first
+        (inl (stops_here (λ at. IsDamaged d t.limits.content (first_of next.named) ⊎ (((first_of next.named).kind ≡ kind.DirTree) × NamesFar S (first_of next.named).csum at)) room
         (inr (
           ap (λ (o : ObjName). o.kind) first,
-          subst (λ (o : ObjName). NamesFar (Stores d) o.csum next.path) (sym first) (record { entries = e; has = has; name = f.child.name; there = child_there f.child f.is; far = f.far }),
+          subst (λ (o : ObjName). NamesFar S o.csum next.path) (sym first) (record { entries = e; has = has; name = f.child.name; there = child_there f.child f.is; far = f.far }),
         ))))
 
     module _ (owner : List ℕ) (owned : next.owner ≡ owner) (below : List Item) (l : Lists next.path owner tree meta e below) where
@@ -145,44 +146,44 @@ module _ (d : Disk) (t : Reading) (items : List Item) (next : Item) (cut : t.pen
       named_child x (inl h) = let u = unmapped (λ (i : FileItem). i.name) e.files x h in (record { name = u.0.name; named = File u.0.file }, inl (u.0, u.1, refl), u.2)
       named_child x (inr h) = let u = unmapped (λ (i : FolderItem). i.name) e.folders x h in (record { name = u.0.name; named = Folder u.0.tree u.0.meta }, inr (u.0, u.1, refl), u.2)
 
-      not_far : NamesFar (Stores d) tree next.path → ⊥
+      not_far : NamesFar S tree next.path → ⊥
       not_far f =
           let there = subst (λ x. HasName x f.name) (one f.entries f.has) f.there in
           let c = named_child f.name there in
           f.far (subst (λ x. IsShort (under next.path x)) (sym c.2) (child_short c.0 c.1))
 
-      tree_kept : IsKept (Stores d) t.limits.content next.path (name_of kind.DirTree tree)
+      tree_kept : IsKept S t.limits.content next.path (name_of kind.DirTree tree)
       tree_kept = record { has = record { bytes = has.bytes; stored = has.stored; formed = ∣ (e, has.reads) ∣₁ }; short = λ same far. not_far far }
 
       new : List Item
       new = map (item_of next.path tree) l.children ++ itself ∷ []
 
-      tree_named : Names (Stores d) k.parts.tree k.parts.meta next.path (name_of kind.DirTree tree)
-      tree_named = subst (Names (Stores d) k.parts.tree k.parts.meta next.path) (ap first_of is) (next_named (Stores d) t.limits.content k.parts.tree k.parts.meta t.found items next walked line)
+      tree_named : Names S k.parts.tree k.parts.meta next.path (name_of kind.DirTree tree)
+      tree_named = subst (Names S k.parts.tree k.parts.meta next.path) (ap first_of is) (next_named S t.limits.content k.parts.tree k.parts.meta t.found items next walked line)
 
       abbrev Owned : Item → Type 0
-      Owned i = IsOwner (Stores d) t.limits.content k.parts.tree k.parts.meta i.path (name_of kind.DirTree i.owner)
+      Owned i = IsOwner S t.limits.content k.parts.tree k.parts.meta i.path (name_of kind.DirTree i.owner)
 
       new_owned : (i : Item) → Contains (map (item_of next.path tree) l.children) i ⊎ Contains (itself ∷ []) i → Owned i
       unfolding itself
       new_owned i (inl h) =
           let u = unmapped (item_of next.path tree) l.children i h in
-          subst Owned (sym u.2) (owner_child (Stores d) t.limits.content k.parts.tree k.parts.meta next.path u.0.name (name_of kind.DirTree tree) tree_named refl)
-      new_owned i (inr h) = subst Owned (only itself i h) (subst (λ o. IsOwner (Stores d) t.limits.content k.parts.tree k.parts.meta next.path (name_of kind.DirTree o)) owned next_owned)
+          subst Owned (sym u.2) (owner_child S t.limits.content k.parts.tree k.parts.meta next.path u.0.name (name_of kind.DirTree tree) tree_named refl)
+      new_owned i (inr h) = subst Owned (only itself i h) (subst (λ o. IsOwner S t.limits.content k.parts.tree k.parts.meta next.path (name_of kind.DirTree o)) owned next_owned)
 
       all_owned : (i : Item) → Contains items i ⊎ Contains new i → Owned i
       unfolding new
       all_owned i (inl h) = k.owned i (in_pending i (Contains-append_left items (next ∷ []) i h))
       all_owned i (inr h) = new_owned i (Contains-append_cases (map (item_of next.path tree) l.children) (itself ∷ []) i h)
 
-      opened_new : Knows (Stores d) (after_open t items new)
+      opened_new : Knows S (after_open t items new)
       unfolding new itself
       opened_new = record {
         parts = k.parts;
         has = k.has;
-        walked = subst (λ f. Walked (Stores d) t.limits.content k.parts.tree k.parts.meta f (items ++ new)) (append-nil t.found)
-            (walked_on (Stores d) t.limits.content k.parts.tree k.parts.meta t.found [] items new next walked
-            (folder_replaces (Stores d) t.limits.content next tree meta e l.children is has one tree_kept l.are itself refl refl));
+        walked = subst (λ f. Walked S t.limits.content k.parts.tree k.parts.meta f (items ++ new)) (append-nil t.found)
+            (walked_on S t.limits.content k.parts.tree k.parts.meta t.found [] items new next walked
+            (folder_replaces S t.limits.content next tree meta e l.children is has one tree_kept l.are itself refl refl));
         owned = λ i h. all_owned i (Contains-append_cases items new i h);
         line = line_opened t.found items next tree meta l.children itself is refl refl l.are.descending line l.short;
         ascending = k.ascending;
@@ -190,9 +191,9 @@ module _ (d : Disk) (t : Reading) (items : List Item) (next : Item) (cut : t.pen
         few = k.few;
       }
 
-      pub opened_on : Knows (Stores d) (after_open t items below)
+      pub opened_on : Knows S (after_open t items below)
       unfolding new itself
-      opened_on = subst (λ b. Knows (Stores d) (after_open t items b)) (sym l.items_are) opened_new
+      opened_on = subst (λ b. Knows S (after_open t items b)) (sym l.items_are) opened_new
 
 -- the line alone, without a disk
 pub line_open : (found : Nodes) (items : List Item) (next : Item) (tree meta owner : List ℕ) (e : Entries) (below : List Item) → next.named ≡ Folder tree meta → InLine found (items ++ next ∷ [])
@@ -207,38 +208,41 @@ none_ascend : IsAscending []
 unfolding IsStrictlySortedBy
 none_ascend = tt
 
-pub begun_on : (d : Disk) (t : Reading) (parts : CommitParts) (tree meta : List ℕ) → HasCommit (Stores d) t.commit parts → tree ≡ parts.tree → meta ≡ parts.meta → Knows (Stores d) (begun_at t tree meta)
-begun_on d t parts tree meta has is_tree is_meta =
+pub begun_on : (S : Store) (t : Reading) (parts : CommitParts) (tree meta : List ℕ) → HasCommit S t.commit parts → tree ≡ parts.tree → meta ≡ parts.meta → Knows S (begun_at t tree meta)
+begun_on S t parts tree meta has is_tree is_meta =
     let root : Item = at_item [] (Folder tree meta) tree in
     record {
       parts = parts;
       has = has;
-      walked = subst (λ x. Walked (Stores d) t.limits.content x parts.meta [] (root ∷ [])) is_tree
-          (subst (λ x. Walked (Stores d) t.limits.content tree x [] (root ∷ [])) is_meta (walked_none (Stores d) t.limits.content tree meta root refl refl));
-      owned = λ i h. subst (λ (i : Item). IsOwner (Stores d) t.limits.content parts.tree parts.meta i.path (name_of kind.DirTree i.owner)) (only root i h) (ap (name_of kind.DirTree) is_tree);
+      walked = subst (λ x. Walked S t.limits.content x parts.meta [] (root ∷ [])) is_tree
+          (subst (λ x. Walked S t.limits.content tree x [] (root ∷ [])) is_meta (walked_none S t.limits.content tree meta root refl refl));
+      owned = λ i h. subst (λ (i : Item). IsOwner S t.limits.content parts.tree parts.meta i.path (name_of kind.DirTree i.owner)) (only root i h) (ap (name_of kind.DirTree) is_tree);
       line = line_begins root refl;
       ascending = none_ascend;
       short = tt;
       few = omega arith;
     }
 
-pub whole : (d : Disk) (t : Reading) → Knows (Stores d) t → t.pending ≡ [] → ReadsTree d t.limits t.commit (Ok t.found)
-whole d t k none =
-    let w = subst (Walked (Stores d) t.limits.content k.parts.tree k.parts.meta t.found) none k.walked in
-    let all = walked_all (Stores d) t.limits.content k.parts.tree k.parts.meta t.found w in
+pub whole_in : (S : Store) → IsMap S → (t : Reading) → Knows S t → t.pending ≡ [] → Complete S t.limits t.commit × IsTree S t.commit t.found
+whole_in S one_each t k none =
+    let w = subst (Walked S t.limits.content k.parts.tree k.parts.meta t.found) none k.walked in
+    let all = walked_all S t.limits.content k.parts.tree k.parts.meta t.found w in
     let path_in : (p : Path) (n : NodeName) → Contains t.found (p, n) → Contains (paths_of t.found) p = λ p n h. mapped (λ (e : Path × NodeName). e.0) t.found (p, n) h in (
       record {
         parts = k.parts;
         here = k.has;
-        objects = λ p o names. (kept_all (Stores d) t.limits.content k.parts.tree k.parts.meta t.found w p o names).has;
+        objects = λ p o names. (kept_all S t.limits.content k.parts.tree k.parts.meta t.found w p o names).has;
         few = record { paths = paths_of t.found; few = omega (arith, k.few, paths_length t.found); all = λ p n s. path_in p n (all p n s) };
         short = λ p n s. each_of IsShort (paths_of t.found) p k.short (path_in p n (all p n s));
       },
       λ p n. (
         λ h. (k.parts, k.has, w.sound p n h),
-        λ s. all p n (subst (λ (c : CommitParts). Shows (Stores d) c.tree c.meta p n) (commit_of_map (Stores d) (stores_map d) t.commit s.0 k.parts s.1 k.has) s.2),
+        λ s. all p n (subst (λ (c : CommitParts). Shows S c.tree c.meta p n) (commit_of_map S one_each t.commit s.0 k.parts s.1 k.has) s.2),
       ),
     )
+
+pub whole : (d : Disk) (t : Reading) → Knows (Stores d) t → t.pending ≡ [] → ReadsTree d t.limits t.commit (Ok t.found)
+whole d t k none = whole_in (Stores d) (stores_map d) t k none
 
 -- ---- fewer steps are left
 

@@ -9,8 +9,7 @@ use Rattle.ost_types.specs.declared.object.Kind.TheVariants as kind
 use Rattle.ost_types.specs.declared.object.ObjName.{ObjName}
 use Rattle.ost_types.specs.Path.{Path, path_cmp}
 use Rattle.ost_types.specs.PathMap.{Nodes, IsAscending, paths_of}
-use Rattle.fs_trait.specs.View.{Disk}
-use Rattle.repo_model.specs.Objects.{Store, Stores}
+use Rattle.repo_model.specs.Objects.{Store}
 use Rattle.repo_model.specs.Trees.{Names, name_of}
 use Rattle.tree_read.specs.declared.item.Named.{Named}
 use Rattle.tree_read.specs.declared.item.Named.TheVariants.{Folder, Attributes, File}
@@ -113,26 +112,26 @@ module _ (S : Store) (content : ℕ) (tree meta : List ℕ) (found : Nodes) (ite
     all = λ q m less. elim (w.met q m.0 m.1) [ inl h ↦ h | inr still ↦ absurd (none_before q still.object still.waits less) ];
   }
 
-module _ (d : Disk) (limits : Limits) (tree meta : List ℕ) (found : Nodes) (items : List Item) (next : Item)
-    (w : Walked (Stores d) limits.content tree meta found (items ++ next ∷ [])) (l : InLine found (items ++ next ∷ [])) (ascending : IsAscending (paths_of found)) where
-  pub stops : (Wrong : Path → Type 0) → length (paths_of found) < limits.paths → Wrong next.path → StopsAt d limits tree meta (first_of next.named) Wrong
+module _ (S : Store) (limits : Limits) (tree meta : List ℕ) (found : Nodes) (items : List Item) (next : Item)
+    (w : Walked S limits.content tree meta found (items ++ next ∷ [])) (l : InLine found (items ++ next ∷ [])) (ascending : IsAscending (paths_of found)) where
+  pub stops : (Wrong : Path → Type 0) → length (paths_of found) < limits.paths → Wrong next.path → StopsAt S limits tree meta (first_of next.named) Wrong
   stops Wrong few wrong = record {
     at = next.path;
     paths = paths_of found;
-    named = next_named (Stores d) limits.content tree meta found items next w l;
-    kept = all_kept (Stores d) limits.content tree meta found items next w l;
-    before = are_before (Stores d) limits.content tree meta found items next w l ascending;
+    named = next_named S limits.content tree meta found items next w l;
+    kept = all_kept S limits.content tree meta found items next w l;
+    before = are_before S limits.content tree meta found items next w l ascending;
     few = few;
     wrong = wrong;
   }
 
-  pub too_many : (o : ObjName) → IsOwner (Stores d) limits.content tree meta next.path o → length (paths_of found) ≡ limits.paths → HasTooMany d limits tree meta o
+  pub too_many : (o : ObjName) → IsOwner S limits.content tree meta next.path o → length (paths_of found) ≡ limits.paths → HasTooMany S limits tree meta o
   too_many o owner full = record {
     at = next.path;
     paths = paths_of found;
-    met = (first_of next.named, next_named (Stores d) limits.content tree meta found items next w l);
+    met = (first_of next.named, next_named S limits.content tree meta found items next w l);
     owner = owner;
-    kept = kept_up_to (Stores d) limits.content tree meta found items next w l;
-    before = are_before (Stores d) limits.content tree meta found items next w l ascending;
+    kept = kept_up_to S limits.content tree meta found items next w l;
+    before = are_before S limits.content tree meta found items next w l ascending;
     full = full;
   }

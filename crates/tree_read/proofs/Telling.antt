@@ -16,7 +16,7 @@ use Rattle.fs_trait.specs.declared.types.FsErr.{FsErr}
 use Rattle.fs_trait.specs.declared.task.StepResult.{StepResult}
 use Rattle.fs_trait.specs.declared.task.StepResult.TheVariants as turn
 use Rattle.fs_trait.specs.View.{Disk}
-use Rattle.repo_model.specs.Objects.{Stores, Has}
+use Rattle.repo_model.specs.Objects.{Store, IsMap, Has}
 use Rattle.repo_model.specs.Trees.{HasCommit, HasEntries, HasMeta, name_of}
 use Rattle.tree_read.specs.declared.fault.TreeFault.{TreeFault}
 use Rattle.tree_read.specs.declared.fault.TreeFault.TheVariants as fault
@@ -26,8 +26,8 @@ use Rattle.tree_read.specs.declared.item.Item.{Item}
 use Rattle.tree_read.specs.declared.looked.Looked.{Looked}
 use Rattle.tree_read.specs.declared.looked.Looked.TheVariants.{Here, Absent, Damaged}
 use Rattle.tree_read.specs.Looks.{IsAbsent, IsDamaged, Looks, OfFolder, Reads}
-use Rattle.tree_read.specs.Order.{IsShort, FirstDamaged}
-use Rattle.tree_read.specs.Reading.{Reading, IsNext, IsSoFar, IsStepped, Knows, StepTells, Takes, IsOpened, OpensAt, begun_at, left_of}
+use Rattle.tree_read.specs.Order.{IsShort, DamagedIn}
+use Rattle.tree_read.specs.Reading.{Reading, IsNext, IsSoFar, IsStepped, Knows, TellsIn, Takes, IsOpened, OpensAt, begun_at, left_of}
 use Rattle.tree_read.proofs.Lines.{both}
 use Rattle.tree_read.proofs.Steps.{at_item, absent_here, damaged_here, full_here, far_here, takes_file, takes_folder, opened_on, begun_on, falls_taken, falls_opened, falls_begun}
 use Rattle.tree_read.proofs.Stops.{first_of}
@@ -54,32 +54,32 @@ of_reads bytes (Err e) reads = tt
 pub of_folder : (looked : Looked Meta) (m : Meta) → looked ≡ Here m → OfFolder (Ok looked) → IsFolderMode m.mode
 of_folder looked m is of = subst (λ l. OfFolder (Ok l)) is of
 
-module _ (d : Disk) (old : Reading) (named : Named) (owner : List ℕ) (n : IsNext old named owner) (so : IsSoFar (Stores d) old) where
+module _ (S : Store) (one_each : IsMap S) (d : Disk) (old : Reading) (named : Named) (owner : List ℕ) (n : IsNext old named owner) (so : IsSoFar S old) where
   next : Item
   next = at_item n.path named owner
 
-  pub stop_absent : (r : Turned) (o : ObjName) → r ≡ turn.Done (Err (fault.Absent o)) → o ≡ first_of named → IsAbsent d o → StepTells d old (Ok r) old
+  pub stop_absent : (r : Turned) (o : ObjName) → r ≡ turn.Done (Err (fault.Absent o)) → o ≡ first_of named → IsAbsent d o → TellsIn S d old (Ok r) old
   stop_absent r o is first absent =
       let k = so n.begun in
-      subst (λ r. StepTells d old (Ok r) old) (sym is) (inr (k.parts, k.has, absent_here d old n.items (at_item n.path named owner) n.cut k o first n.room absent))
+      subst (λ r. TellsIn S d old (Ok r) old) (sym is) (inr (k.parts, k.has, absent_here S one_each d old n.items (at_item n.path named owner) n.cut k o first n.room absent))
 
-  pub stop_damaged : (r : Turned) (o : ObjName) (limits : Limits) → r ≡ turn.Done (Err (fault.Damaged o)) → o ≡ first_of named → limits ≡ old.limits → IsDamaged d limits.content o → StepTells d old (Ok r) old
+  pub stop_damaged : (r : Turned) (o : ObjName) (limits : Limits) → r ≡ turn.Done (Err (fault.Damaged o)) → o ≡ first_of named → limits ≡ old.limits → IsDamaged d limits.content o → TellsIn S d old (Ok r) old
   stop_damaged r o limits is first same damaged =
       let k = so n.begun in
-      subst (λ r. StepTells d old (Ok r) old) (sym is)
-      (inr (k.parts, k.has, damaged_here d old n.items (at_item n.path named owner) n.cut k o first n.room (subst (λ (l : Limits). IsDamaged d l.content o) same damaged)))
+      subst (λ r. TellsIn S d old (Ok r) old) (sym is)
+      (inr (k.parts, k.has, damaged_here S one_each d old n.items (at_item n.path named owner) n.cut k o first n.room (subst (λ (l : Limits). IsDamaged d l.content o) same damaged)))
 
-pub more_file : (d : Disk) (old new : Reading) (limits : Limits) (file owner : List ℕ) → IsNext old (File file) owner → IsSoFar (Stores d) old → limits ≡ old.limits
-    → Has (Stores d) limits.content (name_of kind.File file) → Takes old (node.Leaf file) new → Knows (Stores d) new
-more_file d old new limits file owner n so same has takes =
+pub more_file : (S : Store) → IsMap S → (d : Disk) (old new : Reading) (limits : Limits) (file owner : List ℕ) → IsNext old (File file) owner → IsSoFar S old → limits ≡ old.limits
+    → Has S limits.content (name_of kind.File file) → Takes old (node.Leaf file) new → Knows S new
+more_file S one_each d old new limits file owner n so same has takes =
     let next = at_item n.path (File file) owner in
-    subst (Knows (Stores d)) (sym (takes n.items next n.cut))
-    (takes_file d old n.items next n.cut (so n.begun) file refl n.room (subst (λ (l : Limits). Has (Stores d) l.content (name_of kind.File file)) same has))
+    subst (Knows S) (sym (takes n.items next n.cut))
+    (takes_file S one_each d old n.items next n.cut (so n.begun) file refl n.room (subst (λ (l : Limits). Has S l.content (name_of kind.File file)) same has))
 
-pub more_folder : (d : Disk) (old new : Reading) (meta owner : List ℕ) (m : Meta) → IsNext old (Attributes meta) owner → IsSoFar (Stores d) old → HasMeta (Stores d) meta m → Takes old (node.Folder m) new → Knows (Stores d) new
-more_folder d old new meta owner m n so has takes =
+pub more_folder : (S : Store) → IsMap S → (d : Disk) (old new : Reading) (meta owner : List ℕ) (m : Meta) → IsNext old (Attributes meta) owner → IsSoFar S old → HasMeta S meta m → Takes old (node.Folder m) new → Knows S new
+more_folder S one_each d old new meta owner m n so has takes =
     let next = at_item n.path (Attributes meta) owner in
-    subst (Knows (Stores d)) (sym (takes n.items next n.cut)) (takes_folder d old n.items next n.cut (so n.begun) meta m refl n.room has)
+    subst (Knows S) (sym (takes n.items next n.cut)) (takes_folder S one_each d old n.items next n.cut (so n.begun) meta m refl n.room has)
 
 abbrev Steps : Reading → Reading → Type 0
 Steps old new = (new.commit ≡ old.commit) × (new.limits ≡ old.limits) × (left_of new < left_of old)
@@ -89,10 +89,10 @@ stepped_taken old new named owner x n takes =
     let e = takes n.items (at_item n.path named owner) n.cut in
     (ap (λ t. t.commit) e, ap (λ t. t.limits) e, subst (λ t. left_of t < left_of old) (sym e) (falls_taken old n.items n.path x n.begun n.room))
 
-pub more_opened : (d : Disk) (old new : Reading) (tree meta owner : List ℕ) (e : Entries) → IsNext old (Folder tree meta) owner → IsSoFar (Stores d) old → HasEntries (Stores d) tree e → OpensAt old owner tree meta e new → Knows (Stores d) new
-more_opened d old new tree meta owner e n so has o =
+pub more_opened : (S : Store) → IsMap S → (d : Disk) (old new : Reading) (tree meta owner : List ℕ) (e : Entries) → IsNext old (Folder tree meta) owner → IsSoFar S old → HasEntries S tree e → OpensAt old owner tree meta e new → Knows S new
+more_opened S one_each d old new tree meta owner e n so has o =
     let next = at_item n.path (Folder tree meta) owner in
-    subst (Knows (Stores d)) (sym (o.opens n.items next n.cut)) (opened_on d old n.items next n.cut (so n.begun) tree meta refl e has owner refl o.below (o.lists n.items next n.cut))
+    subst (Knows S) (sym (o.opens n.items next n.cut)) (opened_on S one_each d old n.items next n.cut (so n.begun) tree meta refl e has owner refl o.below (o.lists n.items next n.cut))
 
 pub stepped_opened : (old new : Reading) (tree meta owner : List ℕ) (e : Entries) → IsNext old (Folder tree meta) owner → OpensAt old owner tree meta e new → Steps old new
 stepped_opened old new tree meta owner e n o =
@@ -110,30 +110,30 @@ short_more items i x less is all s =
 
 -- ---- the commit
 
-pub more_commit : (d : Disk) (old new : Reading) (commit tree meta : List ℕ) → commit ≡ old.commit → (c : CommitParts) → HasCommit (Stores d) commit c → tree ≡ c.tree → meta ≡ c.meta → new ≡ begun_at old tree meta → Knows (Stores d) new
-more_commit d old new commit tree meta same c has is_tree is_meta e = subst (Knows (Stores d)) (sym e) (begun_on d old c tree meta (subst (λ s. HasCommit (Stores d) s c) same has) is_tree is_meta)
+pub more_commit : (S : Store) (d : Disk) (old new : Reading) (commit tree meta : List ℕ) → commit ≡ old.commit → (c : CommitParts) → HasCommit S commit c → tree ≡ c.tree → meta ≡ c.meta → new ≡ begun_at old tree meta → Knows S new
+more_commit S d old new commit tree meta same c has is_tree is_meta e = subst (Knows S) (sym e) (begun_on S old c tree meta (subst (λ s. HasCommit S s c) same has) is_tree is_meta)
 
-pub commit_absent : (d : Disk) (old : Reading) (r : Turned) (commit : List ℕ) → r ≡ turn.Done (Err (fault.Absent (name_of kind.Commit commit))) → commit ≡ old.commit → IsAbsent d (name_of kind.Commit commit) → StepTells d old (Ok r) old
-commit_absent d old r commit is same absent = subst (λ r. StepTells d old (Ok r) old) (sym is) (inl (ap (name_of kind.Commit) same, absent))
+pub commit_absent : (S : Store) (d : Disk) (old : Reading) (r : Turned) (commit : List ℕ) → r ≡ turn.Done (Err (fault.Absent (name_of kind.Commit commit))) → commit ≡ old.commit → IsAbsent d (name_of kind.Commit commit) → TellsIn S d old (Ok r) old
+commit_absent S d old r commit is same absent = subst (λ r. TellsIn S d old (Ok r) old) (sym is) (inl (ap (name_of kind.Commit) same, absent))
 
-pub commit_damaged : (d : Disk) (old : Reading) (r : Turned) (commit : List ℕ) (limits : Limits) → r ≡ turn.Done (Err (fault.Damaged (name_of kind.Commit commit))) → commit ≡ old.commit → limits ≡ old.limits
-    → IsDamaged d limits.content (name_of kind.Commit commit) → StepTells d old (Ok r) old
-commit_damaged d old r commit limits is same same_limits damaged =
-    subst (λ r. StepTells d old (Ok r) old) (sym is) (inl (ap (name_of kind.Commit) same, subst (λ (l : Limits). IsDamaged d l.content (name_of kind.Commit commit)) same_limits damaged))
+pub commit_damaged : (S : Store) (d : Disk) (old : Reading) (r : Turned) (commit : List ℕ) (limits : Limits) → r ≡ turn.Done (Err (fault.Damaged (name_of kind.Commit commit))) → commit ≡ old.commit → limits ≡ old.limits
+    → IsDamaged d limits.content (name_of kind.Commit commit) → TellsIn S d old (Ok r) old
+commit_damaged S d old r commit limits is same same_limits damaged =
+    subst (λ r. TellsIn S d old (Ok r) old) (sym is) (inl (ap (name_of kind.Commit) same, subst (λ (l : Limits). IsDamaged d l.content (name_of kind.Commit commit)) same_limits damaged))
 
 -- ---- a folder's entries
 
-pub opened_told : (d : Disk) (old new : Reading) (tree meta owner : List ℕ) (e : Entries) → IsNext old (Folder tree meta) owner → IsSoFar (Stores d) old → HasEntries (Stores d) tree e
-    → (r : Turned) → IsOpened old owner tree meta e (Ok r) new → StepTells d old (Ok r) new
-opened_told d old new tree meta owner e n so has turn.More o = more_opened d old new tree meta owner e n so has o
-opened_told d old new tree meta owner e n so has (turn.Done (Ok x)) o = absurd o
-opened_told d old new tree meta owner e n so has (turn.Done (Err (fault.Absent x))) o = absurd o
-opened_told d old new tree meta owner e n so has (turn.Done (Err (fault.Damaged x))) o =
+pub opened_told : (S : Store) → IsMap S → (d : Disk) (old new : Reading) (tree meta owner : List ℕ) (e : Entries) → IsNext old (Folder tree meta) owner → IsSoFar S old → HasEntries S tree e
+    → (r : Turned) → IsOpened old owner tree meta e (Ok r) new → TellsIn S d old (Ok r) new
+opened_told S one_each d old new tree meta owner e n so has turn.More o = more_opened S one_each d old new tree meta owner e n so has o
+opened_told S one_each d old new tree meta owner e n so has (turn.Done (Ok x)) o = absurd o
+opened_told S one_each d old new tree meta owner e n so has (turn.Done (Err (fault.Absent x))) o = absurd o
+opened_told S one_each d old new tree meta owner e n so has (turn.Done (Err (fault.Damaged x))) o =
     let k = so n.begun in
     let next = at_item n.path (Folder tree meta) owner in
-    inr (k.parts, k.has, subst (FirstDamaged d old.limits k.parts.tree k.parts.meta) (sym o.1) (far_here d old n.items next n.cut k tree meta refl e has (o.2 n.items next n.cut) n.room))
-opened_told d old new tree meta owner e n so has (turn.Done (Err (fault.Fs x))) o = absurd o
-opened_told d old new tree meta owner e n so has (turn.Done (Err fault.NoMemory)) o = absurd o
+    inr (k.parts, k.has, subst (DamagedIn S d old.limits k.parts.tree k.parts.meta) (sym o.1) (far_here S one_each d old n.items next n.cut k tree meta refl e has (o.2 n.items next n.cut) n.room))
+opened_told S one_each d old new tree meta owner e n so has (turn.Done (Err (fault.Fs x))) o = absurd o
+opened_told S one_each d old new tree meta owner e n so has (turn.Done (Err fault.NoMemory)) o = absurd o
 
 pub opened_stepped : (old new : Reading) (tree meta owner : List ℕ) (e : Entries) → IsNext old (Folder tree meta) owner → (r : Turned) → IsOpened old owner tree meta e (Ok r) new → IsStepped old (Ok r) new
 opened_stepped old new tree meta owner e n turn.More o = stepped_opened old new tree meta owner e n o
@@ -154,5 +154,5 @@ next_of t rest last named cut is begun room = record {
   room = room;
 }
 
-pub stop_full : (d : Disk) (t : Reading) (rest : List Item) (last : Item) (r : Turned) → t.pending ≡ rest ++ last ∷ [] → Knows (Stores d) t → r ≡ turn.Done (Err (fault.Damaged (name_of kind.DirTree last.owner))) → t.limits.paths ≤ length t.found → StepTells d t (Ok r) t
-stop_full d t rest last r cut k is full = subst (λ r. StepTells d t (Ok r) t) (sym is) (inr (k.parts, k.has, full_here d t rest last cut k full))
+pub stop_full : (S : Store) → IsMap S → (d : Disk) (t : Reading) (rest : List Item) (last : Item) (r : Turned) → t.pending ≡ rest ++ last ∷ [] → Knows S t → r ≡ turn.Done (Err (fault.Damaged (name_of kind.DirTree last.owner))) → t.limits.paths ≤ length t.found → TellsIn S d t (Ok r) t
+stop_full S one_each d t rest last r cut k is full = subst (λ r. TellsIn S d t (Ok r) t) (sym is) (inr (k.parts, k.has, full_here S one_each d t rest last cut k full))

@@ -57,29 +57,37 @@ module _ (S : Store) (content : ℕ) (tree meta : List ℕ) where
   IsOwner (x ∷ rest) o = (at : Path) × (y : Name) × (x ∷ rest ≡ under at y) × Names S tree meta at o × (o.kind ≡ kind.DirTree)
 
 -- Reading stops at this object of the path, before which nothing is wrong and fewer paths come than the limit.
-pub record StopsAt (d : Disk) (limits : Limits) (tree meta : List ℕ) (o : ObjName) (Wrong : Path → Type 0) : Type 0 where
+pub record StopsAt (S : Store) (limits : Limits) (tree meta : List ℕ) (o : ObjName) (Wrong : Path → Type 0) : Type 0 where
   pub at : Path
   pub paths : List Path
-  pub named : Names (Stores d) tree meta at o
-  pub kept : AllKeptBefore (Stores d) limits.content tree meta at o
-  pub before : ArePathsBefore (Stores d) limits.content tree meta at paths
+  pub named : Names S tree meta at o
+  pub kept : AllKeptBefore S limits.content tree meta at o
+  pub before : ArePathsBefore S limits.content tree meta at paths
   pub few : length paths < limits.paths
   pub wrong : Wrong at
 
 -- Reading stops at a path before which as many come as the limit allows: its owner is told.
-pub record HasTooMany (d : Disk) (limits : Limits) (tree meta : List ℕ) (o : ObjName) : Type 0 where
+pub record HasTooMany (S : Store) (limits : Limits) (tree meta : List ℕ) (o : ObjName) : Type 0 where
   pub at : Path
   pub paths : List Path
-  pub met : IsMet (Stores d) limits.content tree meta at
-  pub owner : IsOwner (Stores d) limits.content tree meta at o
-  pub kept : (q : Path) (a : ObjName) → Names (Stores d) tree meta q a → path_cmp q at ≡ Less → IsKept (Stores d) limits.content q a
-  pub before : ArePathsBefore (Stores d) limits.content tree meta at paths
+  pub met : IsMet S limits.content tree meta at
+  pub owner : IsOwner S limits.content tree meta at o
+  pub kept : (q : Path) (a : ObjName) → Names S tree meta q a → path_cmp q at ≡ Less → IsKept S limits.content q a
+  pub before : ArePathsBefore S limits.content tree meta at paths
   pub full : length paths ≡ limits.paths
 
+-- what is wrong first, by a store of what a disk has
+abbrev pub AbsentIn : Store → Disk → Limits → List ℕ → List ℕ → ObjName → Type 0
+AbsentIn S d limits tree meta o = StopsAt S limits tree meta o (λ at. IsAbsent d o)
+
+abbrev pub DamagedIn : Store → Disk → Limits → List ℕ → List ℕ → ObjName → Type 0
+DamagedIn S d limits tree meta o =
+    StopsAt S limits tree meta o (λ at. IsDamaged d limits.content o ⊎ ((o.kind ≡ kind.DirTree) × NamesFar S o.csum at))
+    ⊎ HasTooMany S limits tree meta o
+
+-- and by that of its objects
 abbrev pub FirstAbsent : Disk → Limits → List ℕ → List ℕ → ObjName → Type 0
-FirstAbsent d limits tree meta o = StopsAt d limits tree meta o (λ at. IsAbsent d o)
+FirstAbsent d = AbsentIn (Stores d) d
 
 abbrev pub FirstDamaged : Disk → Limits → List ℕ → List ℕ → ObjName → Type 0
-FirstDamaged d limits tree meta o =
-    StopsAt d limits tree meta o (λ at. IsDamaged d limits.content o ⊎ ((o.kind ≡ kind.DirTree) × NamesFar (Stores d) o.csum at))
-    ⊎ HasTooMany d limits tree meta o
+FirstDamaged d = DamagedIn (Stores d) d

@@ -25,8 +25,8 @@ use Rattle.tree_read.specs.Children.{Child, IsChild, AreChildren, item_of}
 use Rattle.tree_read.specs.Line.{InLine}
 use Rattle.tree_read.specs.Walked.{Walked}
 use Rattle.tree_read.specs.Looks.{IsAbsent, IsDamaged}
-use Rattle.tree_read.specs.Order.{IsShort, IsOwner, FirstAbsent, FirstDamaged}
-use Rattle.tree_read.specs.Whole.{AtCommitOr}
+use Rattle.tree_read.specs.Order.{AbsentIn, DamagedIn, IsOwner, IsShort}
+use Rattle.tree_read.specs.Whole.{AtCommitIn}
 
 pub record Reading : Type 0 where
   pub commit : List ℕ
@@ -51,16 +51,20 @@ pub record Knows (S : Store) (t : Reading) : Type 0 where
 abbrev pub IsSoFar : Store → Reading → Type 0
 IsSoFar S t = t.begun ≡ true → Knows S t
 
--- Each answer of a step over a disk: it goes on, has read all, or tells the first object that is missing or damaged.
+-- Each answer of a step, by a store of what a disk has: it goes on, has read all, or tells the first object that is missing or damaged.
+abbrev pub TellsIn : Store → Disk → Reading → Result (StepResult (Result (Unit {0}) TreeFault)) FsErr → Reading → Type 0
+TellsIn S d old (Ok turn.More) new = Knows S new
+TellsIn S d old (Ok (turn.Done (Ok x))) new = Knows S old × (old.pending ≡ [])
+TellsIn S d old (Ok (turn.Done (Err (fault.Absent o)))) new =
+    AtCommitIn S old.commit ((o ≡ name_of kind.Commit old.commit) × IsAbsent d o) (λ tree meta. AbsentIn S d old.limits tree meta o)
+TellsIn S d old (Ok (turn.Done (Err (fault.Damaged o)))) new =
+    AtCommitIn S old.commit ((o ≡ name_of kind.Commit old.commit) × IsDamaged d old.limits.content o) (λ tree meta. DamagedIn S d old.limits tree meta o)
+TellsIn S d old (Ok (turn.Done (Err f))) new = ⊥
+TellsIn S d old (Err e) new = OfNone e
+
+-- and by that of its objects
 abbrev pub StepTells : Disk → Reading → Result (StepResult (Result (Unit {0}) TreeFault)) FsErr → Reading → Type 0
-StepTells d old (Ok turn.More) new = Knows (Stores d) new
-StepTells d old (Ok (turn.Done (Ok x))) new = Knows (Stores d) old × (old.pending ≡ [])
-StepTells d old (Ok (turn.Done (Err (fault.Absent o)))) new =
-    AtCommitOr d old.commit ((o ≡ name_of kind.Commit old.commit) × IsAbsent d o) (λ tree meta. FirstAbsent d old.limits tree meta o)
-StepTells d old (Ok (turn.Done (Err (fault.Damaged o)))) new =
-    AtCommitOr d old.commit ((o ≡ name_of kind.Commit old.commit) × IsDamaged d old.limits.content o) (λ tree meta. FirstDamaged d old.limits tree meta o)
-StepTells d old (Ok (turn.Done (Err f))) new = ⊥
-StepTells d old (Err e) new = OfNone e
+StepTells d = TellsIn (Stores d) d
 
 -- a folder whose entries were read has its attributes left
 abbrev pub weight_of : Named → ℕ

@@ -22,9 +22,12 @@ use Rattle.tree_read.specs.declared.fault.TreeFault.TheVariants as fault
 abbrev pub IsTree : Store → List ℕ → Nodes → Type 0
 IsTree S commit map = (p : Path) (n : NodeName) → Contains map (p, n) ↔ TreeShows S commit p n
 
--- the commit itself is so, or it is there and its tree is so
+-- the commit itself is so, or a store has it and its tree is so
+abbrev pub AtCommitIn : Store → List ℕ → Type 0 → (List ℕ → List ℕ → Type 0) → Type 0
+AtCommitIn S commit Itself Below = Itself ⊎ ((c : CommitParts) × HasCommit S commit c × Below c.tree c.meta)
+
 abbrev pub AtCommitOr : Disk → List ℕ → Type 0 → (List ℕ → List ℕ → Type 0) → Type 0
-AtCommitOr d commit Itself Below = Itself ⊎ ((c : CommitParts) × HasCommit (Stores d) commit c × Below c.tree c.meta)
+AtCommitOr d = AtCommitIn (Stores d)
 
 -- The map is the tree, and the commit is whole within the limits; else the first object is told that is missing, or damaged.
 abbrev pub ReadsTree : Disk → Limits → List ℕ → Result Nodes TreeFault → Type 0

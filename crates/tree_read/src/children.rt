@@ -23,7 +23,7 @@ struct Last<'a> {
 }
 
 /// What is to be read below the folder at the path, whose entries these are: the last name first.
-pub fn children(
+pub fn children_of(
     alloc: Global,
     at: &FsPath,
     owner: &Csum,

@@ -9,6 +9,10 @@ mod objects;
 mod run;
 mod task;
 
+pub use children::children_of;
 pub use fault::TreeFault;
+pub use item::{Item, Named};
+pub use looked::Looked;
+pub use objects::{look_at_attributes, look_at_commit, look_at_entries};
 pub use run::tree_of;
-pub use task::TreeTask;
+pub use task::{TreeTask, are_short};

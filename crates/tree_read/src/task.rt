@@ -11,7 +11,7 @@ ghost use Rattle.tree_read.specs.declared.fault.TreeFault.TheVariants as faults;
 ghost use Rattle.tree_read.specs.declared.item.Named.TheVariants as named;
 ghost use Rattle.tree_read.specs.Reading.{AreShort, Fits, IsFarBelow, IsNext, IsOpened, IsSoFar, IsStepped, ListsBelow, Opens, Reading, StepTells, Takes, begun_at, left_of, weight};
 
-use crate::children::{children, is_short};
+use crate::children::{children_of, is_short};
 use crate::fault::TreeFault;
 use crate::item::{Item, Named};
 use crate::looked::Looked;
@@ -232,7 +232,7 @@ impl TreeTask {
         let Some((next, _)) = self.pending.split_last() else {
             return Ok(None);
         };
-        let mut below = children(self.alloc, &next.path, &tree, entries)?;
+        let mut below = children_of(self.alloc, &next.path, &tree, entries)?;
         if are_short(&below) {
             below.push(Item {
                 path: next.path.copy()?,
@@ -309,7 +309,8 @@ impl TreeTask {
     }
 }
 
-fn are_short(items: &[Item]) -> bool
+/// Whether the path of each has at most 64 names and 1,024 bytes.
+pub fn are_short(items: &[Item]) -> bool
     ensures { AreShort items.now result }
 {
     for item in items {

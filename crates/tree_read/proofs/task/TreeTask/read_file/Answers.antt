@@ -1,6 +1,8 @@
 use Rattle.std.proofs.Common.{refl, ap}
 use Rattle.ost_types.specs.declared.node.NodeName.TheVariants as node
 use Rattle.ost_types.specs.declared.object.Kind.TheVariants as kind
+use Rattle.repo_model.specs.Objects.{Stores}
+use Rattle.repo_model.proofs.Stored.{stores_map}
 use Rattle.repo_model.specs.Trees.{name_of}
 use Rattle.tree_read.specs.declared.item.Named.TheVariants as named
 use Rattle.tree_read.proofs.Telling.{is_here, is_absent, is_damaged, stop_absent, stop_damaged, more_file, stepped_taken}
@@ -9,7 +11,7 @@ use Rattle.tree_read.proofs.task.TreeTask.read_file.Goals as goal
 pub returns-in_ok-take-in-Here-clause-told : goal.returns-in_ok-take-in-Here-clause-told
 returns-in_ok-take-in-Here-clause-told g c = λ v is so.
     let has = is_here v.now c.self.inside.limits.content (name_of kind.File c.args.file) _ c.in_ok-look_at_file.field-0 c.in-Here.field-0 c.in-Here.is (c.in_ok-look_at_file.ensures.told v is) in
-    more_file v.now c.args.self.now c.take.new.self c.self.inside.limits c.args.file c.args._owner c.requires so (ap (λ t. t.limits) c.self.view_is) has c.in_ok-take-in-Here.ensures.ok
+    more_file (Stores v.now) (stores_map v.now) v.now c.args.self.now c.take.new.self c.self.inside.limits c.args.file c.args._owner c.requires so (ap (λ t. t.limits) c.self.view_is) has c.in_ok-take-in-Here.ensures.ok
 
 pub returns-in_ok-take-in-Here-clause-stepped : goal.returns-in_ok-take-in-Here-clause-stepped
 returns-in_ok-take-in-Here-clause-stepped g c = stepped_taken c.args.self.now c.take.new.self (named.File c.args.file) c.args._owner (node.Leaf c.args.file) c.requires c.in_ok-take-in-Here.ensures.ok
@@ -17,9 +19,9 @@ returns-in_ok-take-in-Here-clause-stepped g c = stepped_taken c.args.self.now c.
 pub returns-in-Absent-clause-told : goal.returns-in-Absent-clause-told
 returns-in-Absent-clause-told g c = λ v is so.
     let absent = is_absent v.now c.self.inside.limits.content (name_of kind.File c.args.file) _ c.in_ok-look_at_file.field-0 c.in-Absent.is (c.in_ok-look_at_file.ensures.told v is) in
-    stop_absent v.now c.args.self.now (named.File c.args.file) c.args._owner c.requires so c.absent.result (name_of kind.File c.args.file) c.absent.ensures refl absent
+    stop_absent (Stores v.now) (stores_map v.now) v.now c.args.self.now (named.File c.args.file) c.args._owner c.requires so c.absent.result (name_of kind.File c.args.file) c.absent.ensures refl absent
 
 pub returns-in-Damaged-clause-told : goal.returns-in-Damaged-clause-told
 returns-in-Damaged-clause-told g c = λ v is so.
     let damaged = is_damaged v.now c.self.inside.limits.content (name_of kind.File c.args.file) _ c.in_ok-look_at_file.field-0 c.in-Damaged.is (c.in_ok-look_at_file.ensures.told v is) in
-    stop_damaged v.now c.args.self.now (named.File c.args.file) c.args._owner c.requires so c.damaged.result (name_of kind.File c.args.file) c.self.inside.limits c.damaged.ensures refl (ap (λ t. t.limits) c.self.view_is) damaged
+    stop_damaged (Stores v.now) (stores_map v.now) v.now c.args.self.now (named.File c.args.file) c.args._owner c.requires so c.damaged.result (name_of kind.File c.args.file) c.self.inside.limits c.damaged.ensures refl (ap (λ t. t.limits) c.self.view_is) damaged

@@ -4,7 +4,7 @@ use Rattle.ost_forms.specs.DirTree.{IsAscending, file_names, folder_names}
 use Rattle.tree_read.proofs.Lasts.{apart_from}
 use Rattle.tree_read.proofs.Merged.{took_begin, took_more, took_all}
 use Rattle.tree_read.proofs.Shorts.{IsPath-child}
-use Rattle.tree_read.proofs.children.children.Goals as goal
+use Rattle.tree_read.proofs.children.children_of.Goals as goal
 
 pub loop-last-init : goal.loop-last-init
 loop-last-init c =

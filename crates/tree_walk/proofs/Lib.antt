@@ -1,0 +1,5 @@
+mod Empty
+mod Folders
+pub mod Standings
+pub mod Alike
+pub mod Rightly

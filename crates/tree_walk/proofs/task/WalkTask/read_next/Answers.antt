@@ -1,0 +1,11 @@
+use Rattle.std.proofs.Common.{◌≤◌, length, sym, ◌∙◌, ap, subst, arith}
+use Rattle.tree_walk.specs.Standing.{Standing}
+use Rattle.tree_walk.proofs.Standings.{standing_map}
+use Rattle.tree_read.proofs.Telling.{stop_full}
+use Rattle.tree_walk.proofs.task.WalkTask.read_next.Goals as goal
+
+pub returns-then-len-self-clause-told : goal.returns-then-len-self-clause-told
+returns-then-len-self-clause-told g c = λ v is so.
+    let cut = sym (ap (λ t. t.pending) c.self.view_is) ∙ sym c.deref.ensures.value ∙ c.in-Some.ensures.cases.0 in
+    let full = subst (λ t. t.limits.paths ≤ length t.found) c.self.view_is (omega (arith, c.if-len-self.true, c.len.ensures)) in
+    stop_full (Standing v.now) (standing_map v.now) v.now c.args.self.now c.in-Some.field-0-1.now c.in-Some.next.now c.damaged.result cut (so c.requires) c.damaged.ensures full
