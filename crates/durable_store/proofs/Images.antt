@@ -41,13 +41,13 @@ use Rattle.durable_store.proofs.Wholes.{whole_left}
 use Rattle.durable_store.proofs.Names.{kept_ascends, kept_contains, contains_kept, kept_few}
 
 -- whether something stands there
-there_true : (x : Value) → x ≢ Absent → is_there x ≡ true
+pub there_true : (x : Value) → x ≢ Absent → is_there x ≡ true
 there_true Absent there = absurd (there refl)
 there_true (Folder m) there = refl
 there_true (Link m t) there = refl
 there_true (File n) there = refl
 
-true_there : (x : Value) → is_there x ≡ true → x ≢ Absent
+pub true_there : (x : Value) → is_there x ≡ true → x ≢ Absent
 true_there x is none = let n : false ≡ true = sym (ap is_there none) ∙ is in cc
 
 mark_under : (commit : List ℕ) → mark_path commit ≡ under (folder_path State) (hex_of commit ++ codes ".commitpartial")

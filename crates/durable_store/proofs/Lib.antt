@@ -1,8 +1,13 @@
 pub mod Names
+pub mod Apart
 pub mod Wholes
+pub mod Vacating
+pub mod Removing
+pub mod Kept
 pub mod Holding
 pub mod Steps
 pub mod Images
+pub mod Cutting
 pub mod Starts
 pub mod Growing
 pub mod Keepings

@@ -1,71 +1,18 @@
 -- Names in order: one more of them, and those that pass a test.
-use Rattle.std.proofs.Common.{◌≡◌, ◌⊎◌, inl, inr, ⊎_elim, ℕ, ◌≤◌, ◌+◌, Bool, true, false, List, [], ◌∷◌, length, refl, sym, ◌∙◌, ap, subst, arith}
-use mathlib.Core.Path.{fun_ext}
+use Rattle.std.proofs.Common.{◌≡◌, ◌⊎◌, inl, inr, ⊎_elim, ◌≤◌, ◌+◌, Bool, true, false, List, [], ◌∷◌, length, refl, sym, ◌∙◌, ap, subst, arith}
 use Rattle.std.specs.Prelude.{Contains}
 use Rattle.std.specs.List.{filter}
 use Rattle.std.specs.List.Sorted.{IsStrictlySortedBy}
-use Rattle.std.specs.Cmp.{IsTotalOrder, on_total, then_total, tied_itself}
-use Rattle.std.specs.Cmp.Lexicographic.{slice_cmp}
-use Rattle.std.specs.Ordering.{nat_cmp, ordering_reverse, ordering_then}
+use Rattle.std.specs.Cmp.{tied_itself}
+use Rattle.std.specs.Ordering.{ordering_reverse}
 use Rattle.std.specs.declared.cmp.Ordering.{Ordering}
 use Rattle.std.specs.declared.cmp.Ordering.TheVariants.{Less, Equal, Greater}
 use Rattle.std.proofs.lemmas.Bool.{cond_both}
-use Rattle.std.proofs.lemmas.Cmp.{nat_cmp_total, nat_list_cmp_total}
 use Rattle.std.proofs.lemmas.List.Kept.{IsStrictlySortedBy-filter}
-use Rattle.std.specs.FinMap.{nat_cmp-IsAntisymmetric, slice_cmp-IsAntisymmetric}
-use Rattle.ost_types.specs.declared.object.Kind.{Kind}
-use Rattle.ost_types.specs.declared.object.Kind.TheVariants.{Commit, DirTree, DirMeta, File}
 use Rattle.ost_types.specs.declared.object.ObjName.{ObjName}
 use Rattle.tree_build.proofs.Lists.{Among, contained_among, among_contained, all_from, all_at}
-use Rattle.obj_store.specs.Listing.{kind_rank, name_cmp, then_by}
-
--- the order of names is total
-then_same : (a b : Ordering) → ordering_then a b ≡ then_by a b
-then_same Less b = refl
-then_same Equal b = refl
-then_same Greater b = refl
-
-sums_of : ObjName → List ℕ
-sums_of o = o.csum
-
-rank_of : ObjName → ℕ
-rank_of o = kind_rank o.kind
-
-name_order : IsTotalOrder name_cmp
-unfolding sums_of rank_of
-name_order = subst (λ r. IsTotalOrder r)
-    (fun_ext (λ a. fun_ext (λ b. then_same (slice_cmp nat_cmp a.csum b.csum) (nat_cmp (kind_rank a.kind) (kind_rank b.kind)))))
-    (then_total (on_total sums_of nat_list_cmp_total) (on_total rank_of nat_cmp_total))
-
-one_rank : (k l : Kind) → kind_rank k ≡ kind_rank l → k ≡ l
-one_rank Commit Commit e = refl
-one_rank Commit DirTree e = absurd (omega (arith, e))
-one_rank Commit DirMeta e = absurd (omega (arith, e))
-one_rank Commit File e = absurd (omega (arith, e))
-one_rank DirTree Commit e = absurd (omega (arith, e))
-one_rank DirTree DirTree e = refl
-one_rank DirTree DirMeta e = absurd (omega (arith, e))
-one_rank DirTree File e = absurd (omega (arith, e))
-one_rank DirMeta Commit e = absurd (omega (arith, e))
-one_rank DirMeta DirTree e = absurd (omega (arith, e))
-one_rank DirMeta DirMeta e = refl
-one_rank DirMeta File e = absurd (omega (arith, e))
-one_rank File Commit e = absurd (omega (arith, e))
-one_rank File DirTree e = absurd (omega (arith, e))
-one_rank File DirMeta e = absurd (omega (arith, e))
-one_rank File File e = refl
-
-both_equal : (x y : Ordering) → then_by x y ≡ Equal → (x ≡ Equal) × (y ≡ Equal)
-both_equal Equal y e = (refl, e)
-both_equal Less y e = let n : Less ≡ Equal = e in cc
-both_equal Greater y e = let n : Greater ≡ Equal = e in cc
-
-equal_names : (a b : ObjName) → name_cmp a b ≡ Equal → a ≡ b
-equal_names a b e =
-    let both = both_equal _ _ e in
-    let s : a.csum ≡ b.csum = slice_cmp-IsAntisymmetric nat_cmp-IsAntisymmetric a.csum b.csum both.0 in
-    let k : a.kind ≡ b.kind = one_rank a.kind b.kind (nat_cmp-IsAntisymmetric (kind_rank a.kind) (kind_rank b.kind) both.1) in
-    ap (λ x. record { csum = x; kind = a.kind }) s ∙ ap (λ y. record { csum = b.csum; kind = y }) k
+use Rattle.obj_store.specs.Listing.{name_cmp}
+use Rattle.obj_store.proofs.NameOrder.{equal_names, name_order}
 
 not_itself : (a : ObjName) → name_cmp a a ≡ Less → ⊥
 not_itself a less = let n : Less ≡ Equal = sym less ∙ tied_itself name_order a in cc

@@ -23,7 +23,7 @@ below_one v commit bytes name b c (inl x) (inr y) = absurd (x.0 (ap (λ (o : Obj
 below_one v commit bytes name b c (inr x) (inl y) = absurd (y.0 (ap (λ (o : ObjName). o.kind) x.0))
 below_one v commit bytes name b c (inr x) (inr y) = x.1 ∙ sym y.1
 
-below_map : (v : View) (commit bytes : List ℕ) → IsMap (Below v commit bytes)
+pub below_map : (v : View) (commit bytes : List ℕ) → IsMap (Below v commit bytes)
 below_map v commit bytes = record { one = below_one v commit bytes }
 
 -- a commit that each crash leaves whole

@@ -4,3 +4,4 @@ pub mod Writing
 pub mod Keeping
 pub mod Known
 pub mod Full
+pub mod Removals
