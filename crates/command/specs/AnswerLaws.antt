@@ -16,6 +16,7 @@ use Rattle.command.specs.Meaning.{Meaning}
 use Rattle.command.specs.Removed.{AreAmong, RemovesOnly}
 use Rattle.command.specs.Sees.{Sees}
 use Rattle.command.specs.Since.{Since, placed}
+use Rattle.command.specs.Sound.{IsSoundStore}
 use Rattle.command.specs.Tasks.{TaskSpec}
 
 -- the lane has no checkout claimed, as at the end of its command
@@ -23,10 +24,10 @@ abbrev pub HasNoClaims : ℕ → Books → Type 0
 HasNoClaims lane b = (c : Claim) → Contains b.claims c → c.lane ≢ lane
 
 pub record AnswerLaws {T W A : Type 0} (k : TaskSpec T) (m : Meaning W A) (d : Doing T W A) : Type 0 where
-  -- the last step has an answer, and what it says is so
+  -- the last step has an answer, and what it says is so; and what it shows, where the store is sound
   pub answers : (since : Since) (c : W) (t new : T) → d.pursues since c t → k.stepped t (turn.Done tt) new → IsSome (d.answer new)
   pub says : (since : Since) (p : State) (c : W) (t new : T) (a : A) → d.pursues since c t → k.stepped t (turn.Done tt) new → d.answer new ≡ Some a → m.says (placed since p) a c
-  pub shows : (since : Since) (lane : ℕ) (c : W) (t new : T) (v w : View) (b : Books) (a : A) → d.pursues since c t → k.facts lane t v b → k.leaves t (turn.Done tt) new v w → d.answer new ≡ Some a → m.shows since v a c
+  pub shows : (since : Since) (lane : ℕ) (c : W) (t new : T) (v w : View) (b : Books) (a : A) → d.pursues since c t → k.facts lane t v b → k.leaves t (turn.Done tt) new v w → d.answer new ≡ Some a → IsSoundStore since.limits v.now → m.shows since v a c
   -- and so is what it says where the view is told: the last step sees a state
   pub knows : (since : Since) (p : State) (lane : ℕ) (c : W) (t new : T) (v w : View) (b : Books) (a : A) → d.pursues since c t → k.facts lane t v b → k.leaves t (turn.Done tt) new v w → d.answer new ≡ Some a → Sees (k.kind t) lane b v w p → m.knows (placed since p) a c
   -- no answer tells of a commit that lasts that it isn't there, where commits are files; none that an object isn't there as its name says,
@@ -34,7 +35,7 @@ pub record AnswerLaws {T W A : Type 0} (k : TaskSpec T) (m : Meaning W A) (d : D
   pub lacks : (since : Since) (v : View) (a : A) (c : W) (commit : List ℕ) → CommitsAreFiles v.now → m.shows since v a c → m.lacks a commit → StaysFinished v commit → ⊥
   pub outside : (since : Since) (v : View) (a : A) (c : W) → IsGoodStore since.limits v.now → m.shows since v a c → m.outside a → ⊥
   pub full : (told : Told) (since : Since) (c : W) (t new : T) (a : A) → d.pursues since c t → k.stepped (d.hears told t) (turn.Done tt) new → d.answer new ≡ Some a → m.full a → since.limits.objects ≤ told.objects
-  -- what it leaves stands, and stays so while anyone acts, but for what that removes; so it is where more was removed
-  pub left : (since : Since) (actor lane : ℕ) (c : W) (t new : T) (v w : View) (b b' : Books) (a : A) → d.pursues since c t → k.facts lane t v b → k.leaves t (turn.Done tt) new v w → d.answer new ≡ Some a → Interference actor lane v b w b' → HasNoClaims lane b' → m.stays since [] a c w b'
+  -- what it leaves stands, where the store is sound, and stays so while anyone acts, but for what that removes; so it is where more was removed
+  pub left : (since : Since) (actor lane : ℕ) (c : W) (t new : T) (v w : View) (b b' : Books) (a : A) → d.pursues since c t → k.facts lane t v b → k.leaves t (turn.Done tt) new v w → d.answer new ≡ Some a → Interference actor lane v b w b' → HasNoClaims lane b' → IsSoundStore since.limits v.now → m.stays since [] a c w b'
   pub stays : (since : Since) (actor lane : ℕ) (out removed : List ObjName) (a : A) (c : W) (v w : View) (b b' : Books) → Interference actor lane v b w b' → RemovesOnly removed v w → m.stays since out a c v b → m.stays since (removed ++ out) a c w b'
   pub stays_wider : (since : Since) (out more : List ObjName) (a : A) (c : W) (v : View) (b : Books) → AreAmong out more → m.stays since out a c v b → m.stays since more a c v b

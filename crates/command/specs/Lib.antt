@@ -3,6 +3,7 @@ pub mod Revisions
 pub mod Removed
 pub mod Staging
 pub mod CommitFiles
+pub mod Sound
 pub mod Sees
 pub mod Meaning
 pub mod Doing

@@ -57,8 +57,6 @@ put_still file.Append s e v p x settles wrote = settles
 put_still file.SyncFile s e v p x settles wrote = settles
 put_still file.Look s e v p x settles wrote = settles
 put_still file.Replace s e v p x settles wrote = settles
-put_still file.Add s e v p x settles wrote = settles
-put_still file.Unlink s e v p x settles wrote = settles
 put_still file.Ended s e v p x settles wrote = settles
 
 change_still : (ph : Phase) (t : Change) (e : Event) (v : View) (p : Path) (x : Seen) → IsSettle (kind_in ph e) → writes_in ph t v p x → ⊥

@@ -81,12 +81,12 @@ answer_laws : AnswerLaws commit_tasks commit_means commit_doing
 answer_laws = record {
   answers = λ since c t new is step. subst IsSome (sym (commits_end since c t.work is new.work step.0).answer) refl;
   says = λ since p c t new a is step given. (let e = commits_end since c t.work is new.work step.0 in subst (λ x. commit_says since x c) (one (answer_of new.work) e.given a e.answer given) e.says);
-  shows = λ since lane c t new v w b a is f l given. tells since c t.work is v w a (says_of lane t.work new.work v w b a f l given);
+  shows = λ since lane c t new v w b a is f l given sound. tells since c t.work is v w a (says_of lane t.work new.work v w b a f l given);
   knows = λ since p lane c t new v w b a is f l given sees. commits_know lane since p c v w b t.work new.work a given is f l sees;
   lacks = λ since v a c commit files shows lacks finished. lacks;
   outside = λ since v a c good shows outside. outside;
   full = λ told since c t new a is step given full. (let e = commits_end since c (record t.work { objects = told.objects }) (commits_told since.limits c.branch c.tree.items (message_in since.start c) told.objects t.work is) new.work step.0 in e.full (subst commit_full (sym (one (answer_of new.work) e.given a e.answer given)) full));
-  left = λ since actor lane c t new v w b b' a is f l given does none. tt;
+  left = λ since actor lane c t new v w b b' a is f l given does none sound. tt;
   stays = λ since actor lane out removed a c v w b b' does only is. tt;
   stays_wider = λ since out more a c v b among is. tt;
 }

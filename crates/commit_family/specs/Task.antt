@@ -7,7 +7,7 @@ use Rattle.fs_trait.specs.Seen.{Seen}
 use Rattle.fs_trait.specs.View.{View}
 use Rattle.rely_guarantee.specs.Books.{Books}
 use Rattle.rely_guarantee.specs.Laws.{Kind, Laws}
-use Rattle.rely_guarantee.specs.Part.{laws_along}
+use Rattle.rely_guarantee.specs.Along.{laws_along}
 use Rattle.commit_build.specs.Committing.{IsMade}
 use Rattle.commit_command.specs.Facts.{commit_facts}
 use Rattle.commit_command.specs.Kinds.{commit_kind, commit_leaves, commit_needs, commit_stepped, commit_writes}

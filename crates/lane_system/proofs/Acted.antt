@@ -18,6 +18,7 @@ use Rattle.durable_store.specs.Brought.{AreAlone}
 use Rattle.durable_store.specs.Full.{HasAsMany, IsFull}
 use Rattle.command.specs.CommitFiles.{CommitsAreFiles}
 use Rattle.command.specs.Since.{placed as placed_at}
+use Rattle.command.specs.Sound.{IsSoundStore}
 use Rattle.command.proofs.Files.{stands_files}
 use Rattle.lane_system.specs.declared.act.Came.TheVariants.{Answered, More}
 use Rattle.lane_system.specs.declared.lane.Lane.{Lane}
@@ -53,7 +54,7 @@ use Rattle.lane_system.proofs.Giving.{Gives, is_answer}
 use Rattle.lane_system.proofs.Places.{at_split}
 use Rattle.lane_system.proofs.Prefixes.{longer}
 use Rattle.lane_system.proofs.Preserving.{SaysNow, founded_on, inside_on, lasts_on, said_on, staying_on}
-use Rattle.lane_system.proofs.Stored.{alone_given, alone_more, counted_given, counted_more, known_given, known_more, no_outside_given, stored_given, stored_more}
+use Rattle.lane_system.proofs.Stored.{alone_given, alone_more, counted_given, counted_more, known_given, known_more, no_outside_given, sound_given, stored_given, stored_more}
 use Rattle.lane_system.proofs.Taking.{told}
 
 -- What acts keep.
@@ -63,9 +64,9 @@ pub record ActKeeps {F T W A : Type 0} (f : FsSpec F) (c : Family T W A) (old ne
   pub inside : AreStored f c.means old v → AreInside f c.means old → AreInside f c.means new
   pub folders : (opening : Disk) → AreFolders c.means c.doing opening old v → Told (f.view new.base.fs) (λ w. AreFolders c.means c.doing opening new w)
   pub counted : AreCounted old v → Told (f.view new.base.fs) (λ w. AreCounted new w)
-  pub said : AreCounted old v → AreSaid c.means f.was old → AreSaid c.means f.was new
-  pub stays : AreStaying c.means old v → Told (f.view new.base.fs) (λ w. AreStaying c.means new w)
-  pub founded : (opening : View) → CommitsAreFiles v.now → AreFounded c.means opening old v → Told (f.view new.base.fs) (λ w. AreFounded c.means opening new w)
+  pub said : AreStored f c.means old v → AreCounted old v → AreSaid c.means f.was old → AreSaid c.means f.was new
+  pub stays : AreStored f c.means old v → AreStaying c.means old v → Told (f.view new.base.fs) (λ w. AreStaying c.means new w)
+  pub founded : (opening : View) → AreStored f c.means old v → CommitsAreFiles v.now → AreFounded c.means opening old v → Told (f.view new.base.fs) (λ w. AreFounded c.means opening new w)
   pub known : (opening : Disk) → AreKnown f c.means opening old v → Told (f.view new.base.fs) (λ w. AreKnown f c.means opening new w)
 
 module _ {F T W A : Type 0} (f : FsSpec F) (c : Family T W A) (fl : FsLaws f) (cl : FamilyLaws c) (limits : Limits) (lane : ℕ) (refs refs' : RefBook) (objects objects' : ℕ) (old new : Base F) (lanes : List (Lane T W A)) (given : ℕ) (l : Lane T W A)
@@ -139,10 +140,10 @@ module _ {F T W A : Type 0} (f : FsSpec F) (c : Family T W A) (fl : FsLaws f) (c
         },
       );
       counted = λ has. (w, (acts.does v told_v).1, counted_more f c fl cl limits lane refs refs' objects objects' old new lanes given l kept at v told_v l' x has);
-      said = λ has. said_on f c fl cl limits lane lane refs refs' objects objects' old new lanes (set lanes lane l') acts kept.sound.ordered (command_was lanes lane l l' at x.same) (length l.replies.items) _ begin None_ split (λ r words n. absurd n) starts v told_v kept.sound (λ r words n. absurd n);
+      said = λ stored has. said_on f c fl cl limits lane lane refs refs' objects objects' old new lanes (set lanes lane l') acts kept.sound.ordered (command_was lanes lane l l' at x.same) (length l.replies.items) _ begin None_ split (λ r words n. absurd n) starts v told_v kept.sound (λ r words n. absurd n);
       known = λ opening is. (w, (acts.does v told_v).1, known_more f c fl cl limits lane refs refs' objects objects' old new lanes given l kept at v told_v l' x opening is);
-      stays = staying_on f c fl cl limits lane lane refs refs' objects objects' old new lanes (set lanes lane l') acts kept.sound.ordered (command_was lanes lane l l' at x.same) (length l.replies.items) _ begin None_ split (λ r words n. absurd n) starts v told_v placed (λ r words n. absurd n);
-      founded = λ opening files. founded_on f c fl cl limits lane lane refs refs' objects objects' old new lanes (set lanes lane l') acts kept.sound.ordered (command_was lanes lane l l' at x.same) (length l.replies.items) _ begin None_ split (λ r words n. absurd n) starts v told_v opening files
+      stays = λ stored. staying_on f c fl cl limits lane lane refs refs' objects objects' old new lanes (set lanes lane l') acts kept.sound.ordered (command_was lanes lane l l' at x.same) (length l.replies.items) _ begin None_ split (λ r words n. absurd n) starts v told_v placed (λ r words n. absurd n);
+      founded = λ opening stored files. founded_on f c fl cl limits lane lane refs refs' objects objects' old new lanes (set lanes lane l') acts kept.sound.ordered (command_was lanes lane l l' at x.same) (length l.replies.items) _ begin None_ split (λ r words n. absurd n) starts v told_v opening files
           (λ r words n. absurd n) (commands_of l' given kept') placed (λ r words n. absurd n);
     }
 
@@ -180,13 +181,13 @@ module _ {F T W A : Type 0} (f : FsSpec F) (c : Family T W A) (fl : FsLaws f) (c
     of_new P is q words new_one = subst (λ (y : Reply A). P y.start words y.answer) (sym new_one.0)
         (subst (λ (d : W). P r.start d r.answer) (sym new_one.1) (subst (λ n. P n x.words r.answer) (sym begun) (subst (P start x.words) (sym answered) is)))
 
-    shows_new : (q : Reply A) (words : W) → IsNew q words → IfAnswer (λ a. c.means.shows (since_in limits old.books q.start) v a words) q.answer
-    shows_new = of_new (λ n d y. IfAnswer (λ a. c.means.shows (since_in limits old.books n) v a d) y) (g.shown.0 v told_v)
+    shows_new : IsSoundStore limits v.now → (q : Reply A) (words : W) → IsNew q words → IfAnswer (λ a. c.means.shows (since_in limits old.books q.start) v a words) q.answer
+    shows_new sound = of_new (λ n d y. IfAnswer (λ a. c.means.shows (since_in limits old.books n) v a d) y) (g.shown.0 v told_v sound)
 
     -- it tells of the view before the act
-    says_now : HasAsMany v.now objects → (q : Reply A) (words : W) → IsNew q words → SaysNow c.means (since_in limits old.books q.start) limits v (length old.books.history.items) q words
-    says_now has q words n = record {
-      shows = shows_new q words n;
+    says_now : IsSoundStore limits v.now → HasAsMany v.now objects → (q : Reply A) (words : W) → IsNew q words → SaysNow c.means (since_in limits old.books q.start) limits v (length old.books.history.items) q words
+    says_now sound has q words n = record {
+      shows = shows_new sound q words n;
       full = of_new (λ k d y. IfAnswer (λ a. c.means.full a → IsFull limits v.now) y) (full_by c.means.full limits objects v z has g.full) q words n;
       place = omega (arith, ap (λ (y : Reply A). y.place) n.0, place, longer lane lane old.books new.books acts_.books);
     }
@@ -259,6 +260,9 @@ module _ {F T W A : Type 0} (f : FsSpec F) (c : Family T W A) (fl : FsLaws f) (c
         (λ over. made_ended f c fl cl limits lane (length l.replies.items) refs refs' objects old new x.words l.task v w_ told_v (acts_.does v told_v).1 name over.0 over.1 z (f.refused new.fs) over.4 over.3 said)
         x.did.3
 
+    sound_of : AreStored f c.means (record { base = old; lanes = lanes; limits = limits; objects = objects }) v → IsSoundStore limits v.now
+    sound_of stored = sound_given f c fl cl limits lane refs refs' objects objects' old new lanes given l kept at v told_v l' z start x l'' r same grows begun stored
+
     -- where the store is good no answer tells otherwise
     seen_given : AreStored f c.means (record { base = old; lanes = lanes; limits = limits; objects = objects }) v → AreInside f c.means (record { base = old; lanes = lanes; limits = limits; objects = objects })
         → ((u : View) → f.was new.fs new.books.opened u → AreAlone (WasBrought c.means (record { base = new; lanes = set lanes lane l''; limits = limits; objects = objects' })) u.now) → (a n : ℕ) (q : Reply A) → IsTo (set lanes lane l'') a n q → ¬ (OfAnswer c.means.outside q.answer)
@@ -266,7 +270,7 @@ module _ {F T W A : Type 0} (f : FsSpec F) (c : Family T W A) (fl : FsLaws f) (c
         (λ before. was.seen (alone_given f c fl cl limits lane refs refs' objects objects' old new lanes given l kept at v told_v l' z start x l'' r same grows begun alone) a n q before is)
         (λ new_one.
         (let answer = is_answer c.means.outside q.answer is in
-        let shown = shows_new q x.words (new_one.2, refl) in
+        let shown = shows_new (sound_of stored) q x.words (new_one.2, refl) in
         no_outside_given f c fl cl limits lane refs refs' objects objects' old new lanes given l kept at v told_v l' z start x l'' r same grows begun stored alone q.start answer.0 (subst (IfAnswer (λ y. c.means.shows (since_in limits old.books q.start) v y x.words)) answer.1 shown) answer.2))
         (to_split lanes lane l l'' at same r grows a n q to)
 
@@ -297,12 +301,12 @@ module _ {F T W A : Type 0} (f : FsSpec F) (c : Family T W A) (fl : FsLaws f) (c
         },
       );
       counted = λ has. (w_, (acts_.does v told_v).1, counted_given f c fl cl limits lane refs refs' objects objects' old new lanes given l kept at v told_v l' z start x l'' r same grows begun has);
-      said = λ has. said_on f c fl cl limits lane lane refs refs' objects objects' old new lanes (set lanes lane l'') acts_ kept.sound.ordered (command_was lanes lane l l'' at same) (length l.replies.items) start is_start IsNew split_ (λ q words n. ap (λ (y : Reply A). y.start) n.0 ∙ begun) starts_ v told_v kept.sound (says_now has);
+      said = λ stored has. said_on f c fl cl limits lane lane refs refs' objects objects' old new lanes (set lanes lane l'') acts_ kept.sound.ordered (command_was lanes lane l l'' at same) (length l.replies.items) start is_start IsNew split_ (λ q words n. ap (λ (y : Reply A). y.start) n.0 ∙ begun) starts_ v told_v kept.sound (says_now (sound_of stored) has);
       known = λ opening is. (w_, (acts_.does v told_v).1, known_given f c fl cl limits lane refs refs' objects objects' old new lanes given l kept at v told_v l' z start x l'' r same grows begun opening is);
-      stays = staying_on f c fl cl limits lane lane refs refs' objects objects' old new lanes (set lanes lane l'') acts_ kept.sound.ordered (command_was lanes lane l l'' at same) (length l.replies.items) start is_start IsNew split_ (λ q words n. ap (λ (y : Reply A). y.start) n.0 ∙ begun) starts_ v told_v placed
-          (of_new (λ n d y. IfAnswer (λ a. c.means.stays (since_in limits old.books n) [] a d w_ (books_of new.books)) y) (g.stays w_ (acts_.does v told_v).1));
-      founded = λ opening files. founded_on f c fl cl limits lane lane refs refs' objects objects' old new lanes (set lanes lane l'') acts_ kept.sound.ordered (command_was lanes lane l l'' at same) (length l.replies.items) start is_start IsNew split_ (λ q words n. ap (λ (y : Reply A). y.start) n.0 ∙ begun) starts_ v told_v opening files
-          shows_new (commands_of l'' (given + 1) kept') placed (λ q words n. ap (λ (y : Reply A). y.place) n.0 ∙ place);
+      stays = λ stored. staying_on f c fl cl limits lane lane refs refs' objects objects' old new lanes (set lanes lane l'') acts_ kept.sound.ordered (command_was lanes lane l l'' at same) (length l.replies.items) start is_start IsNew split_ (λ q words n. ap (λ (y : Reply A). y.start) n.0 ∙ begun) starts_ v told_v placed
+          (of_new (λ n d y. IfAnswer (λ a. c.means.stays (since_in limits old.books n) [] a d w_ (books_of new.books)) y) (g.stays v w_ told_v (acts_.does v told_v).1 (sound_of stored)));
+      founded = λ opening stored files. founded_on f c fl cl limits lane lane refs refs' objects objects' old new lanes (set lanes lane l'') acts_ kept.sound.ordered (command_was lanes lane l l'' at same) (length l.replies.items) start is_start IsNew split_ (λ q words n. ap (λ (y : Reply A). y.start) n.0 ∙ begun) starts_ v told_v opening files
+          (shows_new (sound_of stored)) (commands_of l'' (given + 1) kept') placed (λ q words n. ap (λ (y : Reply A). y.place) n.0 ∙ place);
     }
 
 -- so it is of a whole act
@@ -314,8 +318,8 @@ preserves_by f c s s' keeps caused = record {
   inside = λ v told stored is. (keeps v told).inside stored is;
   folders = λ opening v told is. (keeps v told).folders opening is;
   counted = λ v told is. (keeps v told).counted is;
-  said = λ v told has is. (keeps v told).said has is;
-  stays = λ v told is. (keeps v told).stays is;
-  founded = λ opening v told stored is. (keeps v told).founded opening (stands_files s.limits (WasBrought c.means s) IsConfigured stored.names v stored.keeps.now) is;
+  said = λ v told stored has is. (keeps v told).said stored has is;
+  stays = λ v told stored is. (keeps v told).stays stored is;
+  founded = λ opening v told stored is. (keeps v told).founded opening stored (stands_files s.limits (WasBrought c.means s) IsConfigured stored.names v stored.keeps.now) is;
   known = λ opening v told is. (keeps v told).known opening is;
 }

@@ -12,7 +12,7 @@ use Rattle.rely_guarantee.specs.declared.kind.Outcome.{Outcome}
 use Rattle.rely_guarantee.specs.declared.kind.Outcome.TheVariants as came
 use Rattle.rely_guarantee.specs.declared.kind.Wants.{Wants}
 use Rattle.rely_guarantee.specs.Books.{books_of}
-use Rattle.rely_guarantee.specs.Laws.{Kind, Quiet, Store, Take, Claim, Show, Shown, Settle}
+use Rattle.rely_guarantee.specs.Laws.{Kind, Quiet, Store, Take, Claim, Show, Shown, Remove, Settle}
 use Rattle.rely_guarantee.specs.Pinning.{pin_in}
 use Rattle.rely_guarantee.specs.State.{stored}
 use Rattle.rely_guarantee.specs.SystemInvariant.{SystemInvariant}
@@ -51,8 +51,9 @@ use Rattle.lane_system.proofs.Setting.{comes_same}
 use Rattle.lane_system.proofs.Taking.{taken_acts, told, told_after, told_facts}
 
 -- nothing was done to the books and the disk
-pub nothing_acts : {F : Type 0} (f : FsSpec F) → FsLaws f → (actor lane : ℕ) (base : Base F) (refs refs' : RefBook) → SystemInvariant f.view f.clock f.spare f.was base → Tracks refs' (now_of base.books) → ((name : List ℕ) → HasRoom refs name → HasRoom refs' name) → Acts f actor lane refs refs' base base
-nothing_acts f fl actor lane base refs refs' sound tracks rooms = record {
+pub nothing_acts : {F : Type 0} (f : FsSpec F) → FsLaws f → (actor lane : ℕ) (base : Base F) (refs refs' : RefBook) → SystemInvariant f.view f.clock f.spare f.was base → Tracks refs' (now_of base.books) → ((name : List ℕ) → HasRoom refs name → HasRoom refs' name) → base.books.exclusive ≡ None → Acts f actor lane refs refs' base base
+nothing_acts f fl actor lane base refs refs' sound tracks rooms free = record {
+  free = (free, free);
   sound = sound;
   does = λ v told. (v, told, record { writes = record { only = λ p s may. inl may; now = λ p. inl refl }; books = (ends_refl actor lane base).spared; claims = λ c has. inl has });
   books = (ends_refl actor lane base).spared;
@@ -76,6 +77,7 @@ pin_asked Store name is = cc
 pin_asked (Claim other) name is = cc
 pin_asked (Show e) name is = cc
 pin_asked (Shown e n) name is = cc
+pin_asked (Remove e n) name is = cc
 pin_asked (Settle e) name is = cc
 
 -- a lane with the same fields
@@ -122,10 +124,10 @@ module _ {F T W A : Type 0} (f : FsSpec F) (c : Family T W A) (fl : FsLaws f) (c
 
     -- by what it came to
     acts_taken : (outcome : Outcome) (t' : T) → Takes f c limits lane lane number refs refs' objects old new x.words l.task outcome t' → Acts f lane lane refs refs' old new
-    acts_taken outcome t' y = taken_acts f c fl cl limits lane lane number refs refs' objects old new x.words l.task outcome t' y
+    acts_taken outcome t' y = taken_acts f c fl cl limits lane lane number refs refs' objects old new x.words l.task outcome t' y kept.unheld
 
     acts_same : new ≡ old → Acts f lane lane refs refs' old new
-    acts_same same = subst (λ (b : Base F). Acts f lane lane refs refs' old b) (sym same) (nothing_acts f fl lane lane old refs refs' kept.sound (subst (λ (b : Base F). Tracks refs' (now_of b.books)) same x.tracks) x.rooms)
+    acts_same same = subst (λ (b : Base F). Acts f lane lane refs refs' old b) (sym same) (nothing_acts f fl lane lane old refs refs' kept.sound (subst (λ (b : Base F). Tracks refs' (now_of b.books)) same x.tracks) x.rooms kept.unheld)
 
     each_lane : (acts : Acts f lane lane refs refs' old new) (m : Lane T W A) → LaneKept f c limits lane refs' new m → ((why : Halt) → old.books.halted ≡ Some why → new ≡ old) → (a : ℕ) (y : Lane T W A) → IsAt (set lanes lane m) a y → LaneKept f c limits a refs' new y
     each_lane acts m here over a y is = here_or_apart a lane
@@ -144,7 +146,7 @@ module _ {F T W A : Type 0} (f : FsSpec F) (c : Family T W A) (fl : FsLaws f) (c
     r' = record { work = t'; start = task_start old.books.history.items l.task }
 
     pub more_acts : Acts f lane lane refs refs' old new
-    more_acts = taken_acts f c fl cl limits lane lane (length l.replies.items) refs refs' objects old new x.words l.task came.More t' y
+    more_acts = taken_acts f c fl cl limits lane lane (length l.replies.items) refs refs' objects old new x.words l.task came.More t' y kept.unheld
 
     abbrev t : T
     t = told f c fl cl limits lane lane (length l.replies.items) refs refs' objects old new x.words l.task came.More t' y
@@ -170,7 +172,8 @@ module _ {F T W A : Type 0} (f : FsSpec F) (c : Family T W A) (fl : FsLaws f) (c
       few = omega (arith, length-set lanes lane l', kept.few);
       homes = more_acts.homes kept.homes;
       each = each_lane More x more_acts l' (kept_more f c fl cl limits lane lane refs refs' objects old new more_acts l l' x.words x.next x.same k t' x.replies x.did.1 y) (λ why over. absurd (let z : Some why ≡ None = sym over ∙ y.live in cc));
-      locked = λ live. locked_more lanes lane l l' at x.same old.books new.books (kept.locked y.live) (c.tasks.kind t) (λ wants is. (cl.commands.steps.locks (since_in limits old.books r'.start) x.words t wants after is).0) r' x.did.1 y.step.locks;
+      locked = λ live. locked_more lanes lane l l' at x.same old.books new.books (kept.locked y.live) (c.tasks.kind t) r' x.did.1 y.step.locks;
+      unheld = more_acts.free.1;
       pins = λ live. pinned_more (IsTold f.view) c.means limits lanes lane l l' at x.same lane old.books new.books more_acts.books early (kept.pins y.live) r' x.did.1 x.replies refl start_within x.words x.next (pin_in (c.tasks.kind t)) y.step.pins works;
       explained = λ strayed. absurd (let z : None ≡ Some halt.Strayed = sym y.live ∙ sym (live_more y.step) ∙ strayed in cc);
       accounted = accounted_more (IsTold f.view) c.means limits old.books new.books lanes given kept.accounted lane lane more_acts.books l l' at x.same x.words x.next early within x.replies t' x.did.1
@@ -199,12 +202,13 @@ module _ {F T W A : Type 0} (f : FsSpec F) (c : Family T W A) (fl : FsLaws f) (c
       each = λ a y is. (let z = kept.each a y is in record {
         is = z.is;
         runs = z.runs;
-        started = λ r task. started_stays f c fl cl limits lane lane refs refs' old old (nothing_acts f fl lane lane old refs refs' kept.sound tracks x.rooms) y r (z.started r task);
+        started = λ r task. started_stays f c fl cl limits lane lane refs refs' old old (nothing_acts f fl lane lane old refs refs' kept.sound tracks x.rooms kept.unheld) y r (z.started r task);
         replies = z.replies;
         in_order = z.in_order;
         halts = z.halts;
       });
       locked = kept.locked;
+      unheld = kept.unheld;
       pins = kept.pins;
       accounted = kept.accounted;
       explained = kept.explained;
@@ -255,8 +259,7 @@ module _ {F T W A : Type 0} (f : FsSpec F) (c : Family T W A) (fl : FsLaws f) (c
       locked_given : new.books.halted ≡ None → Locked new.books (set lanes lane l'')
       locked_given live = ⊎_elim
           (λ once. (let was = given_acts.live live in subst (λ (b : Base F). Locked b.books (set lanes lane l'')) (sym once.0) (locked_same lanes lane l l'' at words old.books (kept.locked was) (once_idle once.1 was))))
-          (λ over. locked_ended lanes lane l l'' at words old.books new.books (kept.locked over.4.live) _
-          (λ wants is. (cl.commands.steps.locks _ x.words _ wants (told_after f c fl cl limits lane lane (length l.replies.items) refs refs' objects old new x.words l.task over.0 over.1 over.4) is).0) over.0 over.2 (halts over.0 over.1 over.4) live over.4.step.locks)
+          (λ over. locked_ended lanes lane l l'' at words old.books new.books (kept.locked over.4.live) _ over.0 over.2 (halts over.0 over.1 over.4) live over.4.step.locks)
           x.did.3
 
       pins_given : new.books.halted ≡ None → AreInWork (IsTold f.view) c.means limits new.books (set lanes lane l'')
@@ -284,6 +287,7 @@ module _ {F T W A : Type 0} (f : FsSpec F) (c : Family T W A) (fl : FsLaws f) (c
         homes = given_acts.homes kept.homes;
         each = each_lane (Answered z start) x given_acts l'' (kept_given f c fl cl limits lane lane refs refs' objects old new given_acts l l'' x.words x.next words k z start given_start given_within task gives r answered begun place grows room) gives.over;
         locked = locked_given;
+        unheld = given_acts.free.1;
         pins = pins_given;
         explained = λ strayed. was_explained strayed old.books.halted refl;
         accounted = accounted_given (IsTold f.view) c.means limits old.books new.books lanes given kept.accounted lane lane given_acts.books l l'' at words x.words x.next early within r z grows task answered (begun ∙ given_start) place order taken gives.grows gives.left later_ends

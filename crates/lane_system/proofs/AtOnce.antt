@@ -42,13 +42,13 @@ module _ {F T W A : Type 0} (f : FsSpec F) (c : Family T W A) (limits : Limits) 
   over_gives why over x ends knows caused cut = record {
     answer = no_answer _ x caused.0;
     known = knows;
-    shown = (λ v told. no_answer _ x caused.0, caused.1);
+    shown = (λ v told sound. no_answer _ x caused.0, caused.1);
     full = no_answer _ x caused.0;
     idle = λ live. absurd (let z : Some why ≡ None = sym over ∙ live in cc);
     halts = ends;
     over = λ reason is. refl;
     explained = λ live strayed. absurd (let z : Some why ≡ None = sym over ∙ live in cc);
-    stays = λ w told. no_answer _ x caused.0;
+    stays = λ v w is_v is_w sound. no_answer _ x caused.0;
     grows = inl (refl, λ makes. none_made _ x caused.0 makes);
     pending = λ p at. inl at;
     left = λ p at mine. cut;
@@ -73,13 +73,13 @@ module _ {F T W A : Type 0} (f : FsSpec F) (c : Family T W A) (limits : Limits) 
   at_once_gives (ended.Answered a) is = subst (λ (o : Option (Running T)). Gives f c limits lane number objects base base words (task_start base.books.history.items o) (ended.Answered a)) (sym is.1) (record {
     answer = ((here a is.2).0, λ makes. absurd (is.2.2 makes));
     known = λ told. (here a is.2).1;
-    shown = (λ v told. is.2.5 v, tt);
+    shown = (λ v told sound. is.2.5 v, tt);
     full = λ full. absurd (is.2.3 full);
     idle = idle is.1;
     halts = tt;
     over = λ why over. refl;
     explained = λ live strayed. absurd (let z : None ≡ Some halt.Strayed = sym live ∙ strayed in cc);
-    stays = λ w told. is.2.6 w (books_of base.books);
+    stays = λ v w is_v is_w sound. is.2.6 w (books_of base.books);
     grows = inl (refl, λ makes. is.2.2 makes);
     pending = λ p at. inl at;
     left = λ p at mine. absurd (idle is.1 is.0 p at mine);
@@ -88,13 +88,13 @@ module _ {F T W A : Type 0} (f : FsSpec F) (c : Family T W A) (limits : Limits) 
   at_once_gives ended.NoMemory (inl is) = subst (λ (o : Option (Running T)). Gives f c limits lane number objects base base words (task_start base.books.history.items o) ended.NoMemory) (sym is.1) (record {
     answer = tt;
     known = λ told. tt;
-    shown = (λ v told. tt, tt);
+    shown = (λ v told sound. tt, tt);
     full = tt;
     idle = idle is.1;
     halts = tt;
     over = λ why over. refl;
     explained = λ live strayed. absurd (let z : None ≡ Some halt.Strayed = sym live ∙ strayed in cc);
-    stays = λ w told. tt;
+    stays = λ v w is_v is_w sound. tt;
     grows = inl (refl, λ makes. makes);
     pending = λ p at. inl at;
     left = λ p at mine. absurd (idle is.1 is.0 p at mine);

@@ -65,7 +65,8 @@ module _ {F T W A : Type 0} (f : FsSpec F) (c : Family T W A) (limits : Limits) 
       in_order = λ n m r q is too lt. none_at l.replies.items n r i.replies is;
       halts = λ n r is. none_at l.replies.items n r i.replies is;
     });
-    locked = λ live. record { exclusive = locks.1; turn = λ a is. none_some base.books.turn a locks.0 is };
+    locked = λ live. record { turn = λ a is. none_some base.books.turn a locks.0 is };
+    unheld = locks.1;
     pins = λ live p has. absurd (empty p (subst (λ (xs : List Pin). Contains xs p) pins has));
     explained = λ strayed. absurd (let z : None ≡ Some halt.Strayed = sym live ∙ strayed in cc);
     accounted = record {

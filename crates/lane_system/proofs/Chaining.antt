@@ -62,8 +62,8 @@ module _ {F T W A : Type 0} (f : FsSpec F) (c : Family T W A) (fl : FsLaws f) wh
     inside = λ v told stored is. is;
     folders = λ opening v told is. (v, told, is);
     counted = λ v told is. (v, told, is);
-    said = λ v told has is. is;
-    stays = λ v told is. (v, told, is);
+    said = λ v told stored has is. is;
+    stays = λ v told stored is. (v, told, is);
     founded = λ opening v told stored is. (v, told, is);
     known = λ opening v told is. (v, told, is);
   }
@@ -76,8 +76,8 @@ module _ {F T W A : Type 0} (f : FsSpec F) (c : Family T W A) (fl : FsLaws f) wh
     inside = λ v told stored is. (let z = x.good v told stored in y.inside z.0 z.1 z.2 (x.inside v told stored is));
     folders = λ opening v told is. (let z = x.folders opening v told is in y.folders opening z.0 z.1 z.2);
     counted = λ v told is. (let z = x.counted v told is in y.counted z.0 z.1 z.2);
-    said = λ v told has is. (let z = x.counted v told has in y.said z.0 z.1 z.2 (x.said v told has is));
-    stays = λ v told is. (let z = x.stays v told is in y.stays z.0 z.1 z.2);
+    said = λ v told stored has is. (let z = told_both (f.view b.base.fs) _ _ (x.good v told stored) (x.counted v told has) in y.said z.0 z.1 z.2.0 z.2.1 (x.said v told stored has is));
+    stays = λ v told stored is. (let z = told_both (f.view b.base.fs) _ _ (x.good v told stored) (x.stays v told stored is) in y.stays z.0 z.1 z.2.0 z.2.1);
     founded = λ opening v told stored is. (let z = told_both (f.view b.base.fs) _ _ (x.good v told stored) (x.founded opening v told stored is) in y.founded opening z.0 z.1 z.2.0 z.2.1);
     known = λ opening v told is. (let z = x.known opening v told is in y.known opening z.0 z.1 z.2);
   }

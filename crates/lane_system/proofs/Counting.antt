@@ -1,6 +1,5 @@
 -- As many objects stand as were counted, over an act.
 use Rattle.std.proofs.Common.{◌≡◌, ⊎_elim, ◌≤◌, ◌+◌, ℕ, refl, sym, ◌∙◌, ap, subst, arith, Option, Some, None}
-use Rattle.std.specs.Prelude.{Contains, min}
 use Rattle.ost_types.specs.declared.limits.Limits.{Limits}
 use Rattle.ost_types.specs.declared.object.ObjName.{ObjName}
 use Rattle.fs_trait.specs.declared.types.Value.TheVariants.{Absent}
@@ -15,9 +14,8 @@ use Rattle.obj_store.specs.declared.phase.Put.TheVariants.{Present, Stored}
 use Rattle.store_check.specs.Listing.{IsThere}
 use Rattle.rely_guarantee.specs.declared.books.Base.{Base}
 use Rattle.rely_guarantee.specs.declared.kind.Outcome.TheVariants as came
-use Rattle.rely_guarantee.specs.Books.{Books, books_of}
+use Rattle.rely_guarantee.specs.Books.{books_of}
 use Rattle.rely_guarantee.specs.Rely.{Guarantee}
-use Rattle.rely_guarantee.specs.SystemInvariant.{Ordered}
 use Rattle.rely_guarantee.proofs.Lasting.{next_doomed}
 use Rattle.ref_book.specs.declared.book.RefBook.{RefBook}
 use Rattle.durable_store.specs.Full.{HasAsMany, IsFull}
@@ -32,10 +30,10 @@ use Rattle.lane_system.specs.States.{since_in}
 use Rattle.lane_system.specs.Steps.{IsCounted}
 use Rattle.lane_system.proofs.Family.{FamilyLaws, FsLaws}
 use Rattle.lane_system.proofs.Giving.{if_answer}
-use Rattle.lane_system.proofs.Taking.{told}
+use Rattle.lane_system.proofs.Removals.{undoomed}
 
 -- objects stay, since none is removed
-module _ {F : Type 0} (clock spare : F → ℕ) (old : Base F) (ordered : Ordered clock spare old) (actor lane : ℕ) (v w : View) (writes : Writes (Guarantee (books_of old.books) v actor lane) v w) where
+module _ {F : Type 0} (old : Base F) (free : old.books.exclusive ≡ None) (actor lane : ℕ) (v w : View) (writes : Writes (Guarantee (books_of old.books) v actor lane) v w) where
   pub stays_there : (name : ObjName) → IsThere v.now name → IsThere w.now name
   stays_there name is = record {
     sum = is.sum;
@@ -43,7 +41,7 @@ module _ {F : Type 0} (clock spare : F → ℕ) (old : Base F) (ordered : Ordere
         (λ same. is.there (vacant_absent v.now (path_of name) (sym same ∙ ap (seen w.now) gone)))
         (λ wrote. ⊎_elim
         (λ comes. is.there (vacant_absent v.now (path_of name) comes.0))
-        (λ goes. ordered.undoomed _ (next_doomed (books_of old.books) _ goes.1))
+        (λ goes. undoomed old.books free _ (next_doomed (books_of old.books) _ goes.1))
         (wrote.objects name.kind name.csum (place-object name.kind name.csum is.sum)))
         (writes.now (path_of name));
   }

@@ -13,7 +13,7 @@ use Rattle.rely_guarantee.specs.declared.kind.Outcome.{Outcome}
 use Rattle.rely_guarantee.specs.declared.kind.Outcome.TheVariants as came
 use Rattle.rely_guarantee.specs.Books.{books_of}
 use Rattle.rely_guarantee.specs.Exact.{IsBooked}
-use Rattle.rely_guarantee.specs.Laws.{Kind, Quiet, Store, Take, Claim, Show, Shown, Settle, IsSettle, Holds}
+use Rattle.rely_guarantee.specs.Laws.{Kind, Quiet, Store, Take, Claim, Show, Shown, Remove, Settle, IsSettle, Holds}
 use Rattle.command.specs.declared.ended.Ended.{Ended}
 use Rattle.command.specs.declared.ended.Ended.TheVariants as ended
 use Rattle.lane_system.specs.Replies.{EndsBy, IsCutOff}
@@ -51,6 +51,11 @@ module _ (lane number moment : ℕ) (old new : rust.Books) where
   ends mine (Shown e n) came.Done end h b = absurd b
   ends mine (Shown e n) came.More end h b = absurd end
   ends mine (Shown e n) came.Blocked end h b = absurd end
+  ends mine (Remove e n) (came.Halted why) end h b = inr (b.0, λ is s. s)
+  ends mine (Remove e n) (came.Refused f) end h b = absurd b
+  ends mine (Remove e n) came.Done end h b = absurd b
+  ends mine (Remove e n) came.More end h b = absurd end
+  ends mine (Remove e n) came.Blocked end h b = absurd end
   ends mine (Settle e) came.Done end h b = inl (
     refl,
     record {
@@ -94,6 +99,11 @@ module _ (lane number moment : ℕ) (old new : rust.Books) where
   pending_by (Shown e n) came.Blocked b p is = absurd b
   pending_by (Shown e n) (came.Refused f) b p is = absurd b
   pending_by (Shown e n) came.Done b p is = absurd b
+  pending_by (Remove e n) came.More b p is = was (Remove e n) p b.1 is
+  pending_by (Remove e n) (came.Halted why) b p is = was (Remove e n) p b.1 is
+  pending_by (Remove e n) came.Blocked b p is = absurd b
+  pending_by (Remove e n) (came.Refused f) b p is = absurd b
+  pending_by (Remove e n) came.Done b p is = absurd b
   pending_by (Settle e) came.Done b p is = absurd (let z : None ≡ Some p = sym b.0 ∙ is in cc)
   pending_by (Settle e) (came.Halted why) b p is = was (Settle e) p b.1 is
   pending_by (Settle e) came.More b p is = absurd b
@@ -108,6 +118,7 @@ module _ (lane number moment : ℕ) (old new : rust.Books) where
   more_history (Claim name) b = b.0
   more_history (Show e) b = b.0
   more_history (Shown e n) b = b.0
+  more_history (Remove e n) b = b.0
   more_history (Settle e) b = absurd b
 
 module _ {T A : Type 0} (answer : T → Option A) (refused : Option Path) (t : T) (faults : ℕ) where

@@ -26,6 +26,7 @@ use Rattle.command.specs.declared.ended.Ended.{Ended}
 use Rattle.command.specs.declared.ended.Ended.TheVariants as ended
 use Rattle.command.specs.ChangeLaws.{IsRightSince}
 use Rattle.command.specs.Since.{Since, placed}
+use Rattle.command.specs.Sound.{IsSoundStore}
 use Rattle.lane_system.specs.declared.lane.Running.{Running}
 use Rattle.lane_system.specs.Family.{Family, FsSpec}
 use Rattle.lane_system.specs.LaneActs.{Takes, task_start}
@@ -55,7 +56,7 @@ pub record Gives {F T W A : Type 0} (f : FsSpec F) (c : Family T W A) (limits : 
   pub over : (why : Halt) → old.books.halted ≡ Some why → new ≡ old
   -- where the view is told no call is refused for what stands at its path
   pub explained : old.books.halted ≡ None → new.books.halted ≡ Some halt.Strayed → ¬ (IsTold f.view)
-  pub stays : (w : View) → f.view new.fs ≡ Some w → IfAnswer (λ a. c.means.stays (since_in limits old.books start) [] a words w (books_of new.books)) x
+  pub stays : (v w : View) → f.view old.fs ≡ Some v → f.view new.fs ≡ Some w → IsSoundStore limits v.now → IfAnswer (λ a. c.means.stays (since_in limits old.books start) [] a words w (books_of new.books)) x
   pub grows : Grows (λ a. c.means.makes a words) lane number x old.books.history.items new.books.history.items
   pub pending : (p : Pending) → new.books.pending ≡ Some p → (old.books.pending ≡ Some p) ⊎ ((p.lane ≡ lane) × (p.command ≡ number) × c.means.changes (since_in limits old.books start) words p.event)
   pub left : (p : Pending) → new.books.pending ≡ Some p → p.lane ≡ lane → IsCutOff (IsTold f.view) x
@@ -125,8 +126,8 @@ module _ {F T W A : Type 0} (f : FsSpec F) (c : Family T W A) (fl : FsLaws f) (c
     answer_a : Answers c.means lane number (placed since (now_of new.books)) new.books.history.items words a
     answer_a = (cl.commands.answers.says since (now_of new.books) words t t' a after done.steps only.1, makes_it)
 
-    shows_a : (v : View) → f.view old.fs ≡ Some v → c.means.shows since v a words
-    shows_a v is_v = let l = done.tells v is_v in cl.commands.answers.shows since lane words t t' v l.0 (books_of old.books) a after (facts v is_v) l.2 only.1
+    shows_a : (v : View) → f.view old.fs ≡ Some v → IsSoundStore limits v.now → c.means.shows since v a words
+    shows_a v is_v sound_v = let l = done.tells v is_v in cl.commands.answers.shows since lane words t t' v l.0 (books_of old.books) a after (facts v is_v) l.2 only.1 sound_v
 
     knows_a : IsTold f.view → c.means.knows (placed since (now_of new.books)) a words
     knows_a is_told =
@@ -139,17 +140,16 @@ module _ {F T W A : Type 0} (f : FsSpec F) (c : Family T W A) (fl : FsLaws f) (c
     full_a : c.means.full a → limits.objects ≤ objects
     full_a full = cl.commands.answers.full (record { objects = objects }) since words y.work t' a y.after done.steps only.1 full
 
-    stays_a : (w : View) → f.view new.fs ≡ Some w → c.means.stays since [] a words w (books_of new.books)
-    stays_a w is_w =
-        let v = fl.is.told new.fs old.fs w is_w in
-        let l = done.tells v.0 v.1 in
-        let z = y.step.acts.does v.0 v.1 in
+    stays_a : (v w : View) → f.view old.fs ≡ Some v → f.view new.fs ≡ Some w → IsSoundStore limits v.now → c.means.stays since [] a words w (books_of new.books)
+    stays_a v w is_v is_w sound_v =
+        let l = done.tells v is_v in
+        let z = y.step.acts.does v is_v in
         let one : Some l.0 ≡ Some w = sym l.1 ∙ is_w in
         let e : l.0 ≡ w = cc in
         let two : Some z.0 ≡ Some w = sym z.1 ∙ is_w in
         let g : z.0 ≡ w = cc in
-        cl.commands.answers.left since actor lane words t t' v.0 w (books_of old.books) (books_of new.books) a after (facts v.0 v.1) (subst (c.tasks.leaves t (turn.Done tt) t' v.0) e l.2) only.1
-        (subst (λ u. Interference actor lane v.0 (books_of old.books) u (books_of new.books)) g z.2) (no_claims lane old.books.claims.items new.books.claims.items done.claimed)
+        cl.commands.answers.left since actor lane words t t' v w (books_of old.books) (books_of new.books) a after (facts v is_v) (subst (c.tasks.leaves t (turn.Done tt) t' v) e l.2) only.1
+        (subst (λ u. Interference actor lane v (books_of old.books) u (books_of new.books)) g z.2) (no_claims lane old.books.claims.items new.books.claims.items done.claimed) sound_v
 
   -- where the view is told no step is refused for what stands at a path
   never_strays : outcome ≡ came.Halted halt.Strayed → ¬ (IsTold f.view)
@@ -243,13 +243,13 @@ module _ {F T W A : Type 0} (f : FsSpec F) (c : Family T W A) (fl : FsLaws f) (c
   taken_gives = record {
     answer = if_answer _ x answer_a;
     known = λ is_told. knows is_told x refl by;
-    shown = (λ v told. if_answer _ x (λ a is. shows_a a is v told), caused_by x by);
+    shown = (λ v told sound_v. if_answer _ x (λ a is. shows_a a is v told sound_v), caused_by x by);
     full = if_answer _ x full_a;
     idle = λ live. ⊎_elim (λ idle. idle) (λ h. absurd (let z : Some h.0 ≡ None = sym (halted_so h.0 h.1) ∙ live in cc)) (ended_or outcome refl end);
     halts = ends_by c.doing.answer (f.refused new.fs) t' (f.faults new.fs) new.books.halted outcome halted_so x by;
     over = λ why halted. absurd (let z : Some why ≡ None = sym halted ∙ y.live in cc);
     explained = λ live strayed. never_strays (halted_by outcome halt.Strayed refl end strayed);
-    stays = λ w is_w. if_answer _ x (λ a is. stays_a a is w is_w);
+    stays = λ v w is_v is_w sound_v. if_answer _ x (λ a is. stays_a a is v w is_v is_w sound_v);
     grows = grows_so;
     pending = λ p is. ⊎_elim
         (λ before. inl before)

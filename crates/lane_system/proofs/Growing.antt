@@ -8,7 +8,7 @@ use Rattle.rely_guarantee.specs.declared.kind.Outcome.{Outcome}
 use Rattle.rely_guarantee.specs.declared.kind.Outcome.TheVariants as came
 use Rattle.rely_guarantee.specs.Books.{Spared, books_of}
 use Rattle.rely_guarantee.specs.Exact.{IsBooked, IsEntered, IsNoted, IsUnbooked}
-use Rattle.rely_guarantee.specs.Laws.{Kind, Quiet, Store, Take, Claim, Show, Shown, Settle, Holds, NotPending}
+use Rattle.rely_guarantee.specs.Laws.{Kind, Quiet, Store, Take, Claim, Show, Shown, Remove, Settle, Holds, NotPending}
 use Rattle.rely_guarantee.specs.State.{events_of, stored}
 use Rattle.rely_guarantee.proofs.States.{events_push}
 
@@ -76,4 +76,5 @@ module _ (actor lane command moment : ℕ) (old new : rust.Books) (spared : Spar
   stored_grows (Claim name) outcome h b = same b
   stored_grows (Show e) outcome h b = show_grows e outcome h b
   stored_grows (Shown e n) outcome h b = shown_grows e n outcome b
+  stored_grows (Remove e n) outcome h b = shown_grows e n outcome b
   stored_grows (Settle e) outcome h b = settle_grows e outcome h b

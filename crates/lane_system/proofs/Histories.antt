@@ -8,7 +8,7 @@ use Rattle.rely_guarantee.specs.declared.kind.Outcome.{Outcome}
 use Rattle.rely_guarantee.specs.declared.kind.Outcome.TheVariants as came
 use Rattle.rely_guarantee.specs.Books.{books_of}
 use Rattle.rely_guarantee.specs.Exact.{IsBooked}
-use Rattle.rely_guarantee.specs.Laws.{Kind, Quiet, Store, Take, Claim, Show, Shown, Settle, Holds, NotPending}
+use Rattle.rely_guarantee.specs.Laws.{Kind, Quiet, Store, Take, Claim, Show, Shown, Remove, Settle, Holds, NotPending}
 use Rattle.rely_guarantee.specs.State.{first, after, events_of}
 use Rattle.rely_guarantee.proofs.States.{after_push, events_push}
 use Rattle.lane_system.specs.States.{now_of}
@@ -55,6 +55,7 @@ module _ (lane command moment : ℕ) (old new : rust.Books) where
   grown (Claim name) outcome h b = inl b.0
   grown (Show e) outcome h b = inl (shown_so e outcome b)
   grown (Shown e n) outcome h b = inl (held_so e n outcome b)
+  grown (Remove e n) outcome h b = inl (held_so e n outcome b)
   grown (Settle e) outcome h b = settled e outcome h b
 
   same_pending : NotPending lane (books_of old) → new.pending ≡ old.pending → NotPending lane (books_of new)
@@ -89,6 +90,7 @@ module _ (lane command moment : ℕ) (old new : rust.Books) where
   over_idle (Claim name) outcome over h b = same_pending h b.1
   over_idle (Show e) outcome over h b = show_over e outcome over h b
   over_idle (Shown e n) outcome over h b = shown_over e n outcome over b
+  over_idle (Remove e n) outcome over h b = shown_over e n outcome over b
   over_idle (Settle e) outcome over h b = settle_over e outcome over b
 
 -- the state after what was added

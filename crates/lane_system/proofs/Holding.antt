@@ -8,7 +8,7 @@ use Rattle.rely_guarantee.specs.declared.kind.Outcome.TheVariants as came
 use Rattle.rely_guarantee.specs.declared.kind.Wants.{Wants}
 use Rattle.rely_guarantee.specs.Books.{Books, Free, books_of}
 use Rattle.rely_guarantee.specs.Exact.{Opens}
-use Rattle.rely_guarantee.specs.Laws.{Kind, Quiet, Store, Take, Claim, Show, Shown, Settle}
+use Rattle.rely_guarantee.specs.Laws.{Kind, Quiet, Store, Take, Claim, Show, Shown, Remove, Settle}
 use Rattle.ref_book.specs.declared.book.RefBook.{RefBook}
 use Rattle.command.specs.declared.ended.Ended.{Ended}
 use Rattle.command.specs.declared.ended.Ended.TheVariants as ended
@@ -54,6 +54,7 @@ opens_by (Take wants) lane b asks none free =
 opens_by (Claim name) lane b asks none free = tt
 opens_by (Show e) lane b asks none free = (free_none b.exclusive lane none, free)
 opens_by (Shown e n) lane b asks none free = tt
+opens_by (Remove e n) lane b asks none free = tt
 opens_by (Settle e) lane b asks none free = tt
 
 -- a lock is free for the lane, or another has it
@@ -70,6 +71,7 @@ asks_free Quiet lane b asks opens = absurd asks
 asks_free Store lane b asks opens = absurd asks
 asks_free (Claim name) lane b asks opens = absurd asks
 asks_free (Shown e n) lane b asks opens = absurd asks
+asks_free (Remove e n) lane b asks opens = absurd asks
 asks_free (Settle e) lane b asks opens = absurd asks
 
 module _ {F T W A : Type 0} (f : FsSpec F) (c : Family T W A) (fl : FsLaws f) (cl : FamilyLaws c) (limits : Limits) (lane : ℕ) (refs refs' : RefBook) (objects objects' : ℕ) (old new : Base F) (lanes : List (Lane T W A)) (given : ℕ) (l l' : Lane T W A)
@@ -90,7 +92,7 @@ module _ {F T W A : Type 0} (f : FsSpec F) (c : Family T W A) (fl : FsLaws f) (c
       ⊎_elim
       (λ free. absurd (closed (opens_by _ lane (books_of old.books)
       (λ wants is. cl.commands.steps.locks _ x.words _ wants (told_after f c fl cl limits lane lane (length l.replies.items) refs refs' objects old new x.words l.task came.Blocked x.did.2 y) is)
-      (kept.locked y.live).exclusive free)))
+      kept.unheld free)))
       (λ other. (other.0, other.1, other.2, holder_has other.0 y.live other.2))
       (free_or old.books.turn lane)
 

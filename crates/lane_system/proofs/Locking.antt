@@ -10,7 +10,7 @@ use Rattle.rely_guarantee.specs.declared.kind.Outcome.TheVariants as came
 use Rattle.rely_guarantee.specs.declared.kind.Wants.{Wants}
 use Rattle.rely_guarantee.specs.Books.{Spared, books_of}
 use Rattle.rely_guarantee.specs.Exact.{IsGivenUp, Locks, exclusive_in, lock_taken, turn_in}
-use Rattle.rely_guarantee.specs.Laws.{Kind, Quiet, Store, Take, Claim, Show, Shown, Settle}
+use Rattle.rely_guarantee.specs.Laws.{Kind, Quiet, Store, Take, Claim, Show, Shown, Remove, Settle}
 use Rattle.rely_guarantee.specs.Pinning.{ArePinned, with_pin, without}
 use Rattle.rely_guarantee.proofs.Pinning.{with_cases, without_cases}
 use Rattle.command.specs.Meaning.{Meaning}
@@ -28,8 +28,8 @@ use Rattle.lane_system.proofs.Places.{here_or_apart}
 use Rattle.lane_system.proofs.Prefixes.{state_is}
 
 -- no step of this kind takes the lock of those that remove objects
-abbrev pub TakesNone : Kind → Type 0
-TakesNone k = (wants : Wants) → k ≡ Take wants → wants.exclusive ≡ false
+abbrev pub AsksNone : Kind → Type 0
+AsksNone k = (wants : Wants) → k ≡ Take wants → wants.exclusive ≡ false
 
 taken_by : (asks : Bool) (lane a : ℕ) (lock : Option ℕ) → lock_taken asks lane lock ≡ Some a → (a ≡ lane) ⊎ (lock ≡ Some a)
 taken_by true lane a lock is = inl (let e : a ≡ lane = (let z : Some lane ≡ Some a = is in cc) in e)
@@ -43,32 +43,42 @@ turn_from Quiet lane a lock is = inr is
 turn_from Store lane a lock is = inr is
 turn_from (Claim name) lane a lock is = inr is
 turn_from (Shown e n) lane a lock is = inr is
+turn_from (Remove e n) lane a lock is = inr is
 turn_from (Settle e) lane a lock is = inr is
 
-exclusive_none : (k : Kind) (lane : ℕ) → TakesNone k → exclusive_in k lane None ≡ None
+exclusive_none : (k : Kind) (lane : ℕ) → AsksNone k → exclusive_in k lane None ≡ None
 exclusive_none (Take wants) lane takes = ap (λ b. lock_taken b lane None) (takes wants refl)
 exclusive_none (Show e) lane takes = refl
 exclusive_none Quiet lane takes = refl
 exclusive_none Store lane takes = refl
 exclusive_none (Claim name) lane takes = refl
 exclusive_none (Shown e n) lane takes = refl
+exclusive_none (Remove e n) lane takes = refl
 exclusive_none (Settle e) lane takes = refl
 
 given_none : (lane : ℕ) (old new : Option ℕ) → old ≡ None → IsGivenUp lane old new → new ≡ None
 given_none lane old None none given = refl
 given_none lane old (Some x) none given = let z : None ≡ Some x = sym none ∙ (given x refl).1 in cc
 
-module _ {T W A : Type 0} (lanes : List (Lane T W A)) (lane : ℕ) (l l' : Lane T W A) (at : IsAt lanes lane l) (words : l'.words ≡ l.words) (old new : rust.Books) (was : Locked old lanes) (k : Kind) (takes : TakesNone k) where
+-- nobody holds it behind a step either
+module _ (k : Kind) (lane : ℕ) (old new : rust.Books) (takes : AsksNone k) (was : old.exclusive ≡ None) where
   none_in : exclusive_in k lane old.exclusive ≡ None
-  none_in = ap (exclusive_in k lane) was.exclusive ∙ exclusive_none k lane takes
+  none_in = ap (exclusive_in k lane) was ∙ exclusive_none k lane takes
 
+  pub unheld_on : (o : Outcome) → (o ≡ came.Blocked → ⊥) → Locks k lane o old new → new.exclusive ≡ None
+  unheld_on came.More not locks = locks.1 ∙ none_in
+  unheld_on (came.Halted why) not locks = locks.1 ∙ none_in
+  unheld_on came.Done not locks = given_none lane (exclusive_in k lane old.exclusive) new.exclusive none_in locks.1
+  unheld_on (came.Refused e) not locks = given_none lane (exclusive_in k lane old.exclusive) new.exclusive none_in locks.1
+  unheld_on came.Blocked not locks = absurd (not refl)
+
+module _ {T W A : Type 0} (lanes : List (Lane T W A)) (lane : ℕ) (l l' : Lane T W A) (at : IsAt lanes lane l) (words : l'.words ≡ l.words) (old new : rust.Books) (was : Locked old lanes) (k : Kind) where
   -- a lane that had it before, and goes on
   before : (a : ℕ) → a ≢ lane → old.turn ≡ Some a → (n : ℕ) × (r : Running T) × IsRunning (set lanes lane l') a n r
   before a ne is = (let w = was.turn a is in (w.0, w.1, running_apart lanes lane l l' at words a w.0 w.1 ne w.2))
 
   pub locked_more : (r : Running T) → l'.task ≡ Some r → Locks k lane came.More old new → Locked new (set lanes lane l')
   locked_more r task locks = record {
-    exclusive = locks.1 ∙ none_in;
     turn = λ a is. here_or_apart a lane
         (λ e. (length l'.replies.items, r, subst (λ i. IsRunning (set lanes lane l') i (length l'.replies.items) r) (sym e) (running_here lanes lane l l' at words (length l'.replies.items) r refl task)))
         (λ ne. ⊎_elim (λ mine. absurd (ne mine)) (λ had. before a ne had) (turn_from k lane a old.turn (sym locks.0 ∙ is)));
@@ -76,7 +86,6 @@ module _ {T W A : Type 0} (lanes : List (Lane T W A)) (lane : ℕ) (l l' : Lane 
 
   pub locked_over : IsGivenUp lane (turn_in k lane old.turn) new.turn × IsGivenUp lane (exclusive_in k lane old.exclusive) new.exclusive → Locked new (set lanes lane l')
   locked_over locks = record {
-    exclusive = given_none lane (exclusive_in k lane old.exclusive) new.exclusive none_in locks.1;
     turn = λ a is. (let g = locks.0 a is in ⊎_elim (λ mine. absurd (g.0 mine)) (λ had. before a g.0 had) (turn_from k lane a old.turn g.1));
   }
 
@@ -90,7 +99,6 @@ module _ {T W A : Type 0} (lanes : List (Lane T W A)) (lane : ℕ) (l l' : Lane 
 -- where nothing was done, by a lane without a task
 pub locked_same : {T W A : Type 0} (lanes : List (Lane T W A)) (lane : ℕ) (l l' : Lane T W A) (at : IsAt lanes lane l) (words : l'.words ≡ l.words) (b : rust.Books) → Locked b lanes → l.task ≡ None → Locked b (set lanes lane l')
 locked_same {T} {W} {A} lanes lane l l' at words b was none = record {
-  exclusive = was.exclusive;
   turn = λ a is. (let w = was.turn a is in here_or_apart a lane
       (λ e. absurd (let h = running_was lanes lane l l' at words w.0 w.1 (subst (λ i. IsRunning lanes i w.0 w.1) e w.2) in let z : None ≡ Some w.1 = sym none ∙ h.1 in cc))
       (λ ne. (w.0, w.1, running_apart lanes lane l l' at words a w.0 w.1 ne w.2)));

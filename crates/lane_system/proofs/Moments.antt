@@ -9,7 +9,7 @@ use Rattle.rely_guarantee.specs.declared.kind.Outcome.{Outcome}
 use Rattle.rely_guarantee.specs.declared.kind.Outcome.TheVariants as came
 use Rattle.rely_guarantee.specs.Books.{books_of}
 use Rattle.rely_guarantee.specs.Exact.{Causes, IsBooked, IsLive}
-use Rattle.rely_guarantee.specs.Laws.{Kind, Quiet, Store, Take, Claim, Show, Shown, Settle, Holds}
+use Rattle.rely_guarantee.specs.Laws.{Kind, Quiet, Store, Take, Claim, Show, Shown, Remove, Settle, Holds}
 use Rattle.rely_guarantee.specs.State.{Ascends}
 use Rattle.lane_system.specs.Acts.{Fails}
 use Rattle.lane_system.specs.Lanes.{IsAt}
@@ -38,6 +38,7 @@ module _ (lane command moment : ℕ) (old new : rust.Books) where
   moment_is (Claim name) outcome h b = unsettled (Claim name) outcome (λ e is. cc) h b
   moment_is (Show d) outcome h b = unsettled (Show d) outcome (λ e is. cc) h b
   moment_is (Shown d n) outcome h b = unsettled (Shown d n) outcome (λ e is. cc) h b
+  moment_is (Remove d n) outcome h b = unsettled (Remove d n) outcome (λ e is. cc) h b
   moment_is (Settle d) outcome h b = settled d outcome h b
 
 pub later_at : (moment : ℕ) (old new : List Entry) → IsLater moment old new → (k : ℕ) (e : Entry) → IsAt new k e → IsAt old k e ⊎ ((length old ≤ k) × (e.moment ≡ moment))

@@ -1,5 +1,5 @@
 -- What an act keeps of what was so since the opening.
-use Rattle.std.proofs.Common.{◌≡◌, ◌⊎◌, inl, inr, ⊎_elim, ◌<◌, ◌≤◌, ◌+◌, ℕ, zero, suc, refl, sym, ◌∙◌, ap, subst, arith, List, [], ◌∷◌, ◌++◌, length, Contains, Some}
+use Rattle.std.proofs.Common.{◌≡◌, ◌⊎◌, ⊎_elim, ◌<◌, ◌≤◌, ◌+◌, ℕ, zero, suc, sym, ◌∙◌, ap, subst, arith, List, [], ◌∷◌, ◌++◌, length, Contains, Some}
 use Rattle.std.specs.List.{flat_map}
 use Rattle.std.proofs.lemmas.List.Elements.{Contains-append_cases}
 use Rattle.ost_types.specs.declared.limits.Limits.{Limits}
@@ -16,7 +16,7 @@ use Rattle.rely_guarantee.specs.declared.event.Event.TheVariants.{SetRef, DropRe
 use Rattle.rely_guarantee.specs.Books.{books_of}
 use Rattle.rely_guarantee.specs.Lasting.{Outlasts, StaysFinished, StaysOn}
 use Rattle.rely_guarantee.specs.Rely.{Interference}
-use Rattle.rely_guarantee.specs.State.{Ascends, first, stored}
+use Rattle.rely_guarantee.specs.State.{first, stored}
 use Rattle.rely_guarantee.specs.SystemInvariant.{Ordered, SystemInvariant}
 use Rattle.rely_guarantee.proofs.Finished.{finished_stays}
 use Rattle.rely_guarantee.proofs.Lasting.{none_out, stays_image}
@@ -45,7 +45,7 @@ use Rattle.lane_system.proofs.Family.{FamilyLaws, FsLaws}
 use Rattle.lane_system.proofs.Giving.{if_answer, is_answer}
 use Rattle.lane_system.proofs.Moments.{moment_by, opened_by}
 use Rattle.lane_system.proofs.Prefixes.{since_is}
-use Rattle.lane_system.proofs.Removals.{gone_on, none_among, none_swept, removed_before, removes_none}
+use Rattle.lane_system.proofs.Removals.{gone_on, none_among, none_swept, removed_before, removes_none, undoomed}
 use Rattle.lane_system.proofs.Saying.{sees_now, sees_stay}
 
 -- a commit that a change sets its ref to lasts
@@ -107,7 +107,7 @@ module _ {F T W A : Type 0} (f : FsSpec F) (c : Family T W A) (fl : FsLaws f) (c
   only_grows k le = subst (λ (h : List Entry). AreAmong (gone_before k) (gone_since h (swept_in new.books) k)) (sym acts.books.grows) (gone_on old.books.history.items acts.books.more k (swept_in old.books) (swept_in new.books) still le)
     where
       still : AreAmong (swept_in old.books) (flat_map removed_by acts.books.more ++ swept_in new.books)
-      still o has = absurd (none_out o (subst (λ (l : List ObjName). Contains l o) (none_swept old.books ordered.undoomed) has))
+      still o has = absurd (none_out o (subst (λ (l : List ObjName). Contains l o) (none_swept old.books acts.free.0) has))
 
   removed_same : (from to : ℕ) → to ≤ length old.books.history.items → removed_in new.books.history.items from to ≡ removed_in old.books.history.items from to
   removed_same from to le = ap (λ (h : List Entry). removed_in h from to) acts.books.grows ∙ removed_before old.books.history.items acts.books.more from to le
@@ -116,11 +116,11 @@ module _ {F T W A : Type 0} (f : FsSpec F) (c : Family T W A) (fl : FsLaws f) (c
   told_at_end : (k place : ℕ) → k ≤ length old.books.history.items → place ≡ length new.books.history.items → AreAmong (gone_before k) (removed_in new.books.history.items k place)
   told_at_end k place le at o has = ⊎_elim
       (λ entered. subst (λ n. Contains (removed_in new.books.history.items k n) o) (sym at) entered)
-      (λ swept. absurd (none_out o (subst (λ (l : List ObjName). Contains l o) (none_swept new.books acts.sound.ordered.undoomed) swept)))
+      (λ swept. absurd (none_out o (subst (λ (l : List ObjName). Contains l o) (none_swept new.books acts.free.1) swept)))
       (Contains-append_cases (removed_in new.books.history.items k (length new.books.history.items)) (swept_in new.books) o (only_grows k le o has))
 
   only : RemovesOnly [] v w
-  only = removes_none (books_of old.books) v w actor lane ordered.undoomed does.writes
+  only = removes_none (books_of old.books) v w actor lane (undoomed old.books acts.free.0) does.writes
 
   -- what replies say of the disk
   abbrev pub WasSeenIn : Base F → Reply A → W → Type 0

@@ -1,5 +1,5 @@
 -- What was removed: over an act the lists only grow, and today's acts remove nothing.
-use Rattle.std.proofs.Common.{◌≡◌, ◌⊎◌, inl, inr, ⊎_elim, ◌<◌, ◌≤◌, ℕ, Bool, nat_lt, true, false, refl, sym, ◌∙◌, ap, subst, arith, List, [], ◌∷◌, ◌++◌, Contains, drop, take, length}
+use Rattle.std.proofs.Common.{◌≡◌, ◌⊎◌, inl, inr, ⊎_elim, ◌<◌, ◌≤◌, ℕ, Bool, nat_lt, true, false, refl, sym, ◌∙◌, ap, subst, arith, List, [], ◌∷◌, ◌++◌, Contains, drop, take, length, Option, None, IsSome}
 use Rattle.std.specs.List.{flat_map}
 use Rattle.std.proofs.lemmas.List.{drop-append-le, drop_all, drop_at, take-append-le, take_all}
 use Rattle.std.proofs.lemmas.List.Concat.{flat_map-append}
@@ -11,9 +11,13 @@ use Rattle.repo_layout.proofs.Places.{place-object}
 use Rattle.repo_model.specs.Objects.{path_of}
 use Rattle.rely_guarantee.specs.declared.books.Books as rust
 use Rattle.rely_guarantee.specs.declared.books.Entry.{Entry}
-use Rattle.rely_guarantee.specs.Books.{Books}
+use Rattle.rely_guarantee.specs.Books.{Books, books_of}
+use Rattle.rely_guarantee.specs.Exact.{taken_in}
+use Rattle.rely_guarantee.specs.Laws.{Kind, Quiet, Store, Take, Claim, Show, Shown, Remove, Settle}
+use Rattle.rely_guarantee.specs.Removing.{next_of}
 use Rattle.rely_guarantee.specs.Rely.{Guarantee}
 use Rattle.rely_guarantee.proofs.Lasting.{next_doomed, none_out}
+use Rattle.rely_guarantee.proofs.Locking.{doomed_held}
 use Rattle.command.specs.Removed.{AreAmong, RemovesOnly}
 use Rattle.lane_system.specs.Removals.{gone_since, removed_by, removed_in, swept_in}
 use Rattle.lane_system.proofs.Places.{fewer, not_fewer}
@@ -75,8 +79,22 @@ module _ (entries more : List Entry) (k : ℕ) where
 taken : (n : ℕ) (xs : List ObjName) (o : ObjName) → Contains (take n xs) o → Contains xs o
 taken n xs o = All-contains (Contains xs) (take n xs) o (All-take (Contains xs) n xs (All-contains_itself xs))
 
-pub none_swept : (b : rust.Books) → ((o : ObjName) → ¬ (Contains b.doomed.items o)) → swept_in b ≡ []
-none_swept b none = none_of (swept_in b) (λ o has. none o (taken b.gone b.doomed.items o has))
+pub undoomed : (b : rust.Books) → b.exclusive ≡ None → (o : ObjName) → ¬ (Contains (books_of b).doomed o)
+undoomed b free o has = (let held : false ≡ true = subst (λ (l : Option ℕ). IsSome l) free (doomed_held b.exclusive b.pending o has) in cc)
+
+pub none_swept : (b : rust.Books) → b.exclusive ≡ None → swept_in b ≡ []
+none_swept b free = none_of (swept_in b) (λ o has. undoomed b free o (taken b.gone (books_of b).doomed o has))
+
+-- no step takes any
+pub none_taken : (k : Kind) (b : rust.Books) → b.exclusive ≡ None → taken_in k (books_of b) ≡ []
+none_taken (Remove e owed) b free = none_of (next_of (books_of b)) (λ o has. undoomed b free o (next_doomed (books_of b) o has))
+none_taken Quiet b free = refl
+none_taken Store b free = refl
+none_taken (Take wants) b free = refl
+none_taken (Claim name) b free = refl
+none_taken (Show e) b free = refl
+none_taken (Shown e owed) b free = refl
+none_taken (Settle e) b free = refl
 
 pub removes_none : (b : Books) (v w : View) (actor lane : ℕ) → ((o : ObjName) → ¬ (Contains b.doomed o)) → Writes (Guarantee b v actor lane) v w → RemovesOnly [] v w
 removes_none b v w actor lane none writes o sum vacant = ⊎_elim

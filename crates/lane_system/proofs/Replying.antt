@@ -48,9 +48,9 @@ module _ {F T W A : Type 0} (f : FsSpec F) (c : Family T W A) (limits : Limits) 
   pub ends_of : (lane number : ℕ) (r : Reply A) → IsTo lanes lane number r → EndsBy base.books.halted (f.refused base.fs) (f.faults base.fs) r.answer
   ends_of lane number r to = (kept.each lane to.0 to.1).halts number r to.2
 
-  -- nothing is to be removed, so no removal goes on
+  -- nobody may remove objects, so no removal goes on
   pub told_of : IsAllTold f.view s
-  told_of ended whole = none_swept base.books kept.sound.ordered.undoomed
+  told_of ended whole = none_swept base.books kept.unheld
 
   module _ (cl : FamilyLaws c) where
     pub held_of : Held f.view c s

@@ -9,7 +9,7 @@ use Rattle.rely_guarantee.specs.declared.kind.Outcome.{Outcome}
 use Rattle.rely_guarantee.specs.declared.kind.Outcome.TheVariants as came
 use Rattle.rely_guarantee.specs.Books.{books_of}
 use Rattle.rely_guarantee.specs.Exact.{IsBooked, IsNoted, IsUnbooked}
-use Rattle.rely_guarantee.specs.Laws.{Kind, Quiet, Store, Take, Claim, Show, Shown, Settle, Holds}
+use Rattle.rely_guarantee.specs.Laws.{Kind, Quiet, Store, Take, Claim, Show, Shown, Remove, Settle, Holds}
 use Rattle.command.specs.ChangeLaws.{Founds}
 use Rattle.lane_system.specs.Acts.{ComesFrom}
 use Rattle.lane_system.specs.Lanes.{IsAt}
@@ -78,4 +78,5 @@ module _ (lane command moment : ℕ) (old new : rust.Books) (v : View) where
   founded_step (Claim name) outcome h b shows = comes_same (Founds v) old new b
   founded_step (Show e) outcome h b shows = show_step e outcome b (shows e refl)
   founded_step (Shown e n) outcome h b shows = shown_step e n outcome b
+  founded_step (Remove e n) outcome h b shows = shown_step e n outcome b
   founded_step (Settle e) outcome h b shows = settle_step e outcome h b

@@ -14,6 +14,7 @@ use Rattle.durable_store.specs.Brought.{AreAlone}
 use Rattle.durable_store.specs.Full.{HasAsMany}
 use Rattle.durable_store.proofs.Filling.{many_stay}
 use Rattle.command.specs.declared.ended.Ended.{Ended}
+use Rattle.command.specs.Sound.{IsSoundStore}
 use Rattle.lane_system.specs.declared.act.Came.TheVariants.{Answered, More}
 use Rattle.lane_system.specs.declared.lane.Lane.{Lane}
 use Rattle.lane_system.specs.declared.lane.Reply.{Reply}
@@ -34,7 +35,7 @@ use Rattle.lane_system.proofs.Counting.{came_there, many_on, stays_there}
 use Rattle.lane_system.proofs.Family.{FamilyLaws, FsLaws}
 use Rattle.lane_system.proofs.Moments.{opened_by}
 use Rattle.lane_system.proofs.Places.{here_or_apart}
-use Rattle.lane_system.proofs.Storing.{alone_before, counted_up, known_step, known_still, no_outside, stored_step, stored_still}
+use Rattle.lane_system.proofs.Storing.{alone_before, counted_up, known_step, known_still, no_outside, sound_now, stored_step, stored_still}
 use Rattle.lane_system.proofs.Taking.{told}
 
 -- a command that is done counted none
@@ -110,7 +111,7 @@ module _ {F T W A : Type 0} (f : FsSpec F) (c : Family T W A) (fl : FsLaws f) (c
     pub counted_more : HasAsMany v.now objects → HasAsMany (acts.does v told_v).0.now objects'
     counted_more =
         let does = acts.does v told_v in
-        many_on f.clock f.spare old kept.sound.ordered lane lane v does.0 does.2.writes objects objects' (c.doing.met x.did.0) x.did.2
+        many_on old kept.unheld lane lane v does.0 does.2.writes objects objects' (c.doing.met x.did.0) x.did.2
         (came_there f c fl cl limits lane lane number refs refs' objects old new x.words l.task x.did.0 x.did.3 v does.0 told_v does.1)
 
     pub alone_more : ((u : View) → f.was new.fs new.books.opened u → AreAlone (WasBrought c.means (record { base = new; lanes = set lanes lane l'; limits = limits; objects = objects' })) u.now) → (u : View) → f.was old.fs old.books.opened u → AreAlone (WasBrought c.means before) u.now
@@ -160,10 +161,14 @@ module _ {F T W A : Type 0} (f : FsSpec F) (c : Family T W A) (fl : FsLaws f) (c
     pub counted_given : HasAsMany v.now objects → HasAsMany (acts_.does v told_v).0.now objects'
     counted_given has =
         let does = acts_.does v told_v in
-        subst (HasAsMany does.0.now) (sym x.did.1) (many_stay v.now does.0.now (stays_there f.clock f.spare old kept.sound.ordered lane lane v does.0 does.2.writes) objects has)
+        subst (HasAsMany does.0.now) (sym x.did.1) (many_stay v.now does.0.now (stays_there old kept.unheld lane lane v does.0 does.2.writes) objects has)
 
     pub alone_given : ((u : View) → f.was new.fs new.books.opened u → AreAlone (WasBrought c.means behind_) u.now) → (u : View) → f.was old.fs old.books.opened u → AreAlone (WasBrought c.means before) u.now
     alone_given = alone_before f c fl cl limits lane lane refs refs' objects objects' old new lanes (set lanes lane l'') acts_ (command_stays lanes lane l l'' at same) begun_then begun_early (λ wide. omega (arith, x.did.1)) v told_v
+
+    pub sound_given : AreStored f c.means before v → IsSoundStore limits v.now
+    sound_given stored = sound_now f c fl cl limits lane lane refs refs' objects objects' old new lanes (set lanes lane l'') acts_ (command_stays lanes lane l l'' at same) begun_then begun_early (λ wide. omega (arith, x.did.1)) v told_v
+        stored (opened_by old.books.opened old.books.history.items (f.clock old.fs) kept.sound.ordered.ascends)
 
     pub no_outside_given : AreStored f c.means before v → ((u : View) → f.was new.fs new.books.opened u → AreAlone (WasBrought c.means behind_) u.now) → (n : ℕ) (a : A) → c.means.shows (since_in limits old.books n) v a x.words → c.means.outside a → ⊥
     no_outside_given stored alone n a = no_outside f c fl cl limits lane lane refs refs' objects objects' old new lanes (set lanes lane l'') acts_ (command_stays lanes lane l l'' at same) begun_then begun_early (λ wide. omega (arith, x.did.1)) v told_v

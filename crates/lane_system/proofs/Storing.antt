@@ -29,6 +29,7 @@ use Rattle.rely_guarantee.specs.State.{first}
 use Rattle.ref_book.specs.declared.book.RefBook.{RefBook}
 use Rattle.command.specs.declared.told.Told.{Told}
 use Rattle.command.specs.Since.{Since}
+use Rattle.command.specs.Sound.{IsSoundStore}
 use Rattle.store_check.specs.Good.{IsGoodStore}
 use Rattle.durable_store.specs.Brought.{AreAlone}
 use Rattle.durable_store.specs.Keeping.{KeepsGood}
@@ -135,6 +136,12 @@ module _ {F T W A : Type 0} (f : FsSpec F) (c : Family T W A) (fl : FsLaws f) (c
   pub alone_before : ((u : View) → f.was new.fs new.books.opened u → AreAlone (WasBrought c.means behind) u.now) → (u : View) → f.was old.fs old.books.opened u → AreAlone (WasBrought c.means before) u.now
   alone_before alone u had name bytes other is stored =
       alone u (subst (λ m. f.was new.fs m u) (sym acts.books.opened) (acts.time.keeps old.books.opened u (fl.is.bound old.fs old.books.opened u had) had)) name bytes other (wider name bytes is) stored
+
+  -- each object that stands is what its name says
+  pub sound_now : AreStored f c.means before v → old.books.opened ≤ f.clock old.fs → IsSoundStore limits v.now
+  sound_now stored from =
+      let now = fl.counts_now old.fs old.books.opened v from told_v in
+      (stored.keeps.since old.books.opened v.now (omega arith) (v, now, Image-now v (fl.tree old.fs v told_v))).sound
 
   -- and then no answer tells that an object isn't there as its name says
   pub no_outside : AreStored f c.means before v → old.books.opened ≤ f.clock old.fs → ((u : View) → f.was new.fs new.books.opened u → AreAlone (WasBrought c.means behind) u.now) → (since : Since) (a : A) (words : W) → since.limits ≡ limits → c.means.shows since v a words → c.means.outside a → ⊥

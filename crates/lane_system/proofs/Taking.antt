@@ -1,5 +1,6 @@
 -- What a step of a lane's task does that others may rely on.
-use Rattle.std.proofs.Common.{◌≡◌, ◌≢◌, ◌⊎◌, inl, inr, ⊎_elim, ◌<◌, ℕ, refl, sym, ◌∙◌, subst, arith, [], append-nil, Option, Some}
+use Rattle.std.proofs.Common.{◌≡◌, ◌≢◌, ◌⊎◌, inl, inr, ⊎_elim, ◌<◌, ℕ, refl, sym, ◌∙◌, subst, arith, List, [], append-nil, Option, Some, None}
+use Rattle.ost_types.specs.declared.object.ObjName.{ObjName}
 use Rattle.ost_types.specs.declared.limits.Limits.{Limits}
 use Rattle.fs_trait.specs.Change.{Writes}
 use Rattle.fs_trait.specs.Seen.{NotDirectory}
@@ -12,6 +13,7 @@ use Rattle.rely_guarantee.specs.declared.books.Base.{Base}
 use Rattle.rely_guarantee.specs.declared.kind.Outcome.{Outcome}
 use Rattle.rely_guarantee.specs.declared.kind.Outcome.TheVariants as came
 use Rattle.rely_guarantee.specs.Books.{Books, books_of}
+use Rattle.rely_guarantee.specs.Lasting.{Lasts}
 use Rattle.rely_guarantee.specs.Laws.{Holds}
 use Rattle.rely_guarantee.specs.Rely.{Guarantee, Interference}
 use Rattle.rely_guarantee.proofs.Mays.{stage_apart}
@@ -26,8 +28,10 @@ use Rattle.lane_system.specs.LaneActs.{Takes, task_start, told_by}
 use Rattle.lane_system.specs.States.{since_in}
 use Rattle.lane_system.proofs.Family.{FamilyLaws, FsLaws}
 use Rattle.lane_system.proofs.Growing.{stored_grows}
+use Rattle.lane_system.proofs.Locking.{AsksNone, unheld_on}
 use Rattle.lane_system.proofs.Moments.{fails_by, later_at, moment_is}
 use Rattle.lane_system.proofs.Places.{here_or_apart}
+use Rattle.lane_system.proofs.Removals.{none_taken}
 use Rattle.lane_system.proofs.Setting.{founded_step}
 
 -- held off, or not
@@ -85,8 +89,18 @@ module _ {F T W A : Type 0} (f : FsSpec F) (c : Family T W A) (fl : FsLaws f) (c
       home_by a v.0 w v.1 (subst (Writes (c.tasks.writes actor told v.0) v.0) e k.2) (subst (λ u. Interference actor lane v.0 (books_of old.books) u (books_of new.books)) g y.2) not few (homes a v.0 few v.1)))
       (held_or outcome)
 
-  pub taken_acts : Acts f actor lane refs refs' old new
-  taken_acts = record {
+  asks_none : AsksNone (c.tasks.kind told)
+  asks_none wants is = (cl.commands.steps.locks since words told wants told_after is).0
+
+  unheld_after : old.books.exclusive ≡ None → new.books.exclusive ≡ None
+  unheld_after free = ⊎_elim
+      (λ held. subst (λ (b : Base F). b.books.exclusive ≡ None) (sym (x.step.blocked held).0) free)
+      (λ not. unheld_on (c.tasks.kind told) lane old.books new.books asks_none free outcome not x.step.locks)
+      (held_or outcome)
+
+  pub taken_acts : old.books.exclusive ≡ None → Acts f actor lane refs refs' old new
+  taken_acts free = record {
+    free = (free, unheld_after free);
     sound = x.step.acts.sound;
     does = x.step.acts.does;
     books = x.step.acts.books;
@@ -94,7 +108,7 @@ module _ {F T W A : Type 0} (f : FsSpec F) (c : Family T W A) (fl : FsLaws f) (c
     live = λ live. x.live;
     tracks = x.step.tracks;
     rooms = λ name has. x.step.rooms name (x.grew name has);
-    lasts = x.step.lasts;
+    lasts = subst (λ (out : List ObjName). Lasts out f.view f.clock f.was old.fs new.fs) (none_taken (c.tasks.kind told) old.books free) x.step.lasts;
     time = x.step.time;
     moments = later_at (f.clock new.fs) old.books.history.items new.books.history.items (moment_is lane number (f.clock new.fs) old.books new.books (c.tasks.kind told) outcome told_holds x.step.booked);
     grows = stored_grows actor lane number (f.clock new.fs) old.books new.books x.step.acts.books (c.tasks.kind told) outcome told_holds x.step.booked;

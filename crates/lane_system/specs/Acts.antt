@@ -41,6 +41,8 @@ pub record Acts {F : Type 0} (f : FsSpec F) (actor lane : ℕ) (refs refs' : Ref
   pub live : new.books.halted ≡ None → old.books.halted ≡ None
   pub tracks : Tracks refs' (now_of new.books)
   pub rooms : (name : List ℕ) → HasRoom refs name → HasRoom refs' name
+  -- nobody holds the lock of those that remove objects
+  pub free : (old.books.exclusive ≡ None) × (new.books.exclusive ≡ None)
   -- the objects of the store, and time
   pub lasts : Lasts [] f.view f.clock f.was old.fs new.fs
   pub time : Elapses (f.clock old.fs) (f.clock new.fs) (f.was old.fs) (f.was new.fs) (f.view new.fs)

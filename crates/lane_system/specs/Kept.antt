@@ -57,9 +57,8 @@ pub record LaneKept {F T W A : Type 0} (f : FsSpec F) (c : Family T W A) (limits
   pub in_order : (number next : ℕ) (r q : Reply A) → IsAt l.replies.items number r → IsAt l.replies.items next q → number < next → r.place ≤ q.start
   pub halts : (number : ℕ) (r : Reply A) → IsAt l.replies.items number r → EndsBy base.books.halted (f.refused base.fs) (f.faults base.fs) r.answer
 
--- Whose the locks are: the ref lock is that of a lane whose command runs, and no other lock is held.
+-- Whose the ref lock is: that of a lane whose command runs.
 pub record Locked {T W A : Type 0} (b : rust.Books) (lanes : List (Lane T W A)) : Type 0 where
-  pub exclusive : b.exclusive ≡ None
   pub turn : (lane : ℕ) → b.turn ≡ Some lane → (number : ℕ) × (r : Running T) × IsRunning lanes lane number r
 
 -- The replies of all lanes with the history: each change that lasts was made by a command that was answered so, and the one that is
@@ -87,6 +86,8 @@ pub record Kept {F T W A : Type 0} (f : FsSpec F) (c : Family T W A) (limits : L
   pub homes : AreHomes (f.view base.fs)
   pub each : (lane : ℕ) (l : Lane T W A) → IsAt lanes lane l → LaneKept f c limits lane refs base l
   pub locked : base.books.halted ≡ None → Locked base.books lanes
+  -- no command takes the lock of those that remove objects yet
+  pub unheld : base.books.exclusive ≡ None
   pub pins : base.books.halted ≡ None → AreInWork (IsTold f.view) c.means limits base.books lanes
   pub accounted : Accounted (IsTold f.view) c.means limits base.books lanes given
   -- where the view is told no call is refused for what nothing here explains

@@ -25,8 +25,8 @@ pub record Preserves {F T W A : Type 0} (f : FsSpec F) (c : Family T W A) (old n
   pub inside : (v : View) → f.view old.base.fs ≡ Some v → AreStored f c.means old v → AreInside f c.means old → AreInside f c.means new
   pub folders : (opening : Disk) (v : View) → f.view old.base.fs ≡ Some v → AreFolders c.means c.doing opening old v → Told (f.view new.base.fs) (λ w. AreFolders c.means c.doing opening new w)
   pub counted : (v : View) → f.view old.base.fs ≡ Some v → AreCounted old v → Told (f.view new.base.fs) (λ w. AreCounted new w)
-  pub said : (v : View) → f.view old.base.fs ≡ Some v → AreCounted old v → AreSaid c.means f.was old → AreSaid c.means f.was new
-  pub stays : (v : View) → f.view old.base.fs ≡ Some v → AreStaying c.means old v → Told (f.view new.base.fs) (λ w. AreStaying c.means new w)
+  pub said : (v : View) → f.view old.base.fs ≡ Some v → AreStored f c.means old v → AreCounted old v → AreSaid c.means f.was old → AreSaid c.means f.was new
+  pub stays : (v : View) → f.view old.base.fs ≡ Some v → AreStored f c.means old v → AreStaying c.means old v → Told (f.view new.base.fs) (λ w. AreStaying c.means new w)
   pub founded : (opening v : View) → f.view old.base.fs ≡ Some v → AreStored f c.means old v → AreFounded c.means opening old v → Told (f.view new.base.fs) (λ w. AreFounded c.means opening new w)
   pub known : (opening : Disk) (v : View) → f.view old.base.fs ≡ Some v → AreKnown f c.means opening old v → Told (f.view new.base.fs) (λ w. AreKnown f c.means opening new w)
 

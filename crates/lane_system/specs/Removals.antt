@@ -1,19 +1,14 @@
 -- Which objects were removed: what the history tells, and what the books have of a removal that it doesn't tell yet.
-use Rattle.std.specs.Prelude.{ℕ, List, [], ◌++◌, drop, flat_map, length, take}
+use Rattle.std.specs.Prelude.{ℕ, List, ◌++◌, drop, flat_map, length, take}
 use Rattle.ost_types.specs.declared.object.ObjName.{ObjName}
 use Rattle.rely_guarantee.specs.declared.books.Books as rust
 use Rattle.rely_guarantee.specs.declared.books.Entry.{Entry}
-use Rattle.rely_guarantee.specs.declared.event.Event.{Event}
-use Rattle.rely_guarantee.specs.declared.event.Event.TheVariants.{Pruned}
-
--- what a change removed
-abbrev pub removed_by_event : Event → List ObjName
-removed_by_event (Pruned depth roots held removed) = removed
-removed_by_event e = []
+use Rattle.rely_guarantee.specs.Books.{books_of}
+use Rattle.rely_guarantee.specs.State as state
 
 -- what an entry of the history removed
 abbrev pub removed_by : Entry → List ObjName
-removed_by e = removed_by_event e.event
+removed_by e = state.removed_by e.event
 
 -- what the changes from this number on, and before that one, removed
 abbrev pub removed_in : List Entry → ℕ → ℕ → List ObjName
@@ -25,4 +20,4 @@ gone_since entries swept from = removed_in entries from (length entries) ++ swep
 
 -- by the books: what the removal that goes on, or was cut off, has removed so far
 abbrev pub swept_in : rust.Books → List ObjName
-swept_in b = take b.gone b.doomed.items
+swept_in b = take b.gone (books_of b).doomed

@@ -1,5 +1,5 @@
 -- What a reply says.
-use Rattle.std.specs.Prelude.{◌≡◌, ◌⊎◌, ◌≤◌, ◌++◌, ◌∷◌, [], ℕ, List, length, take, Option, Some, None}
+use Rattle.std.specs.Prelude.{◌≡◌, ◌⊎◌, ◌≤◌, ◌++◌, ◌∷◌, [], ℕ, List, length, take, Option, Some}
 use Rattle.ost_types.specs.declared.limits.Limits.{Limits}
 use Rattle.ost_types.specs.Path.{Path}
 use Rattle.fs_trait.specs.Count.{Rose}
@@ -13,6 +13,7 @@ use Rattle.command.specs.declared.ended.Ended.{Ended}
 use Rattle.command.specs.declared.ended.Ended.TheVariants.{Answered, NoMemory, DiskFault, Outside, Halted}
 use Rattle.command.specs.Meaning.{Meaning}
 use Rattle.command.specs.Since.{Since, begun_in, placed}
+use Rattle.command.specs.Sound.{IsSoundStore}
 use Rattle.lane_system.specs.declared.lane.Reply.{Reply}
 use Rattle.lane_system.specs.States.{state_after}
 
@@ -87,9 +88,9 @@ IsCaused halted before now DiskFault = Rose before now
 IsCaused halted before now (Halted count) = (halted ≡ Some halt.Failed) ⊎ Rose before now
 IsCaused halted before now x = Unit {0}
 
--- what a reply tells of the disk before its act, where the view is told, and of calls that failed in it
+-- what a reply tells of the disk before its act, where the view is told and the store sound, and of calls that failed in it
 abbrev pub Shown : {W A : Type 0} → Meaning W A → Since → Option View → Option Halt → ℕ → ℕ → W → Ended A → Type 0
-Shown m since view halted before now c x = ((v : View) → view ≡ Some v → IfAnswer (λ a. m.shows since v a c) x) × IsCaused halted before now x
+Shown m since view halted before now c x = ((v : View) → view ≡ Some v → IsSoundStore since.limits v.now → IfAnswer (λ a. m.shows since v a c) x) × IsCaused halted before now x
 
 -- A reply to a command of a lane: by the state at its start and the one at its place, which come in this order.
 pub record IsReply {W A : Type 0} (told : Type 0) (m : Meaning W A) (limits : Limits) (begin : State) (entries : List Entry) (lane number : ℕ) (c : W) (r : Reply A) : Type 0 where

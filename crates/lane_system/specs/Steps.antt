@@ -1,5 +1,5 @@
 -- A step of a task of a lane, as the books, the disk and the refs have it.
-use Rattle.std.specs.Prelude.{◌≡◌, ◌⊎◌, ◌+◌, ℕ, List, [], Option, Some, None, min}
+use Rattle.std.specs.Prelude.{◌≡◌, ◌⊎◌, ◌+◌, ℕ, List, Option, Some, None, min}
 use Rattle.ost_types.specs.declared.object.ObjName.{ObjName}
 use Rattle.ost_types.specs.Path.{Path}
 use Rattle.fs_trait.specs.Change.{Writes}
@@ -18,7 +18,7 @@ use Rattle.rely_guarantee.specs.declared.kind.Outcome.TheVariants as came
 use Rattle.rely_guarantee.specs.Books.{books_of}
 use Rattle.rely_guarantee.specs.Claiming.{AreClaimed, claim_in}
 use Rattle.rely_guarantee.specs.Exact as exact
-use Rattle.rely_guarantee.specs.Exact.{Causes, IsBooked, IsLive, Locks, Opens}
+use Rattle.rely_guarantee.specs.Exact.{Causes, IsBooked, IsLive, Locks, Opens, taken_in}
 use Rattle.rely_guarantee.specs.Lasting.{Lasts}
 use Rattle.rely_guarantee.specs.Laws as rely
 use Rattle.rely_guarantee.specs.Laws.{IsBy, Runs}
@@ -46,7 +46,7 @@ pub record Stepped {F T : Type 0} (f : FsSpec F) (k : TaskSpec T) (actor lane nu
   pub pins : ArePinned (pin_in (k.kind t)) lane outcome old.books.pins.items new.books.pins.items
   pub claimed : AreClaimed (claim_in (k.kind t)) lane outcome old.books.claims.items new.books.claims.items
   pub booked : IsBooked (k.kind t) lane number (f.clock new.fs) outcome old.books new.books
-  pub lasts : Lasts [] f.view f.clock f.was old.fs new.fs
+  pub lasts : Lasts (taken_in (k.kind t) (books_of old.books)) f.view f.clock f.was old.fs new.fs
   pub time : Elapses (f.clock old.fs) (f.clock new.fs) (f.was old.fs) (f.was new.fs) (f.view new.fs)
   pub cause : Causes (f.faults old.fs) (f.faults new.fs) outcome
   pub live : IsLive outcome old.books.halted new.books.halted

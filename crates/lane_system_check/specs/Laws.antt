@@ -1,5 +1,5 @@
 -- The laws of the family.
-use Rattle.std.proofs.Common.{◌≡◌, ◌≤◌, ◌+◌, ℕ, Bool, true, false, arith, refl, sym, ◌∙◌, ap, subst, Some}
+use Rattle.std.proofs.Common.{◌≡◌, ℕ, Bool, true, false, arith, refl, sym, ◌∙◌, ap, subst, Some}
 use Rattle.std.specs.Prelude.{◌==◌}
 use Rattle.fs_trait.specs.declared.task.StepResult.TheVariants as turn
 use Rattle.ost_types.specs.declared.object.ObjName.{ObjName}
@@ -13,13 +13,12 @@ use Rattle.durable_store.proofs.Silent.{silent_keeps}
 use Rattle.rely_guarantee.specs.declared.event.Event.{Event}
 use Rattle.rely_guarantee.specs.declared.kind.Wants.{Wants}
 use Rattle.rely_guarantee.specs.Books.{Books}
-use Rattle.rely_guarantee.specs.Laws.{Holds, IsClaim, IsSettle, IsShow, NotPending, Show, Settle, Take}
+use Rattle.rely_guarantee.specs.Laws.{Holds, IsClaim, IsSettle, NotPending, Show, Take}
 use Rattle.command.specs.AnswerLaws.{AnswerLaws}
 use Rattle.command.specs.ChangeLaws.{ChangeLaws}
 use Rattle.command.specs.FolderLaws.{FolderLaws}
 use Rattle.command.specs.HearLaws.{HearLaws}
 use Rattle.command.specs.Laws.{CommandLaws}
-use Rattle.command.specs.Since.{Since}
 use Rattle.command.specs.StepLaws.{AsksForRefs, StepLaws}
 use Rattle.command.specs.StoreLaws.{StoreLaws}
 use Rattle.command.specs.Tasks.{TaskSpec, task_spec}
@@ -107,12 +106,12 @@ answer_laws : AnswerLaws wait_tasks wait_means wait_doing
 answer_laws = record {
   answers = λ since c t new is step. refl;
   says = λ since p c t new a is step given. ends c t new a is step given;
-  shows = λ since lane c t new v w b a is f leaves given. tt;
+  shows = λ since lane c t new v w b a is f leaves given sound. tt;
   knows = λ since p lane c t new v w b a is f leaves given sees. tt;
   lacks = λ since v a c commit files seen lacks finished. lacks;
   outside = λ since v a c good shows outside. outside;
   full = λ told since c t new a is step given full. absurd full;
-  left = λ since actor lane c t new v w b b' a is f leaves given does gone. tt;
+  left = λ since actor lane c t new v w b b' a is f leaves given does gone sound. tt;
   stays = λ since actor lane out removed a c v w b b' does only is. tt;
   stays_wider = λ since out more a c v b among is. tt;
 }

@@ -61,12 +61,12 @@ answer_laws : AnswerLaws list_tasks list_means list_doing
 answer_laws = record {
   answers = λ since c t new is step. absurd is;
   says = λ since p c t new a is step given. absurd is;
-  shows = λ since lane c t new v w b a is f leaves given. tt;
+  shows = λ since lane c t new v w b a is f leaves given sound. tt;
   knows = λ since p lane c t new v w b a is f leaves given sees. tt;
   lacks = λ since v a c commit files seen lacks finished. lacks;
   outside = λ since v a c good seen outside. outside;
   full = λ told since c t new a is step given full. absurd full;
-  left = λ since actor lane c t new v w b b' a is f leaves given does gone. tt;
+  left = λ since actor lane c t new v w b b' a is f leaves given does gone sound. tt;
   stays = λ since actor lane out removed a c v w b b' does only is. tt;
   stays_wider = λ since out more a c v b among is. tt;
 }

@@ -63,12 +63,12 @@ answer_laws : AnswerLaws read_tasks read_means read_doing
 answer_laws = record {
   answers = λ since c t new is. has_answer t.work new.work;
   says = λ since p c t new a. ends_say since p c t.work new.work a;
-  shows = λ since lane c t new v w b a. ends_show since lane c t.work new.work v w b a;
+  shows = λ since lane c t new v w b a is f leaves given sound. ends_show since lane c t.work new.work v w b a is f leaves given;
   knows = λ since p lane c t new v w b a is f leaves given sees. tt;
   lacks = lacks_none;
   outside = outside_none;
   full = λ told since c t new a is step given full. absurd full;
-  left = λ since actor lane c t new v w b b' a is f leaves given does gone. tt;
+  left = λ since actor lane c t new v w b b' a is f leaves given does gone sound. tt;
   stays = λ since actor lane out removed a c v w b b' does only is. tt;
   stays_wider = λ since out more a c v b among is. tt;
 }

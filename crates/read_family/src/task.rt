@@ -1,4 +1,4 @@
-ghost use Rattle.rely_guarantee.specs.Part.{laws_along};
+ghost use Rattle.rely_guarantee.specs.Along.{laws_along};
 ghost use Rattle.read_command.specs.Commands.{read_kind, read_needs, read_writes, read_stepped, read_leaves, read_refuses, read_facts};
 ghost use Rattle.read_command.specs.Laws.{read_laws};
 

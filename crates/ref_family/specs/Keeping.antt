@@ -99,8 +99,6 @@ module _ (limits : Limits) (brings : Store) (lane : ℕ) (t : Change) (v : View)
       file_shows file.Look e wrote = absurd wrote
       file_shows file.Replace e (inl a) = ap Show (shows_new a.0 a.1)
       file_shows file.Replace e (inr a) = absurd (not_vacant a.1)
-      file_shows file.Add e wrote = ap Show (shows_new wrote.0 wrote.1)
-      file_shows file.Unlink e wrote = absurd (not_vacant wrote.1)
       file_shows file.SyncFolder e wrote = absurd wrote
       file_shows file.Ended e wrote = absurd wrote
 

@@ -104,12 +104,12 @@ answer_laws : AnswerLaws ref_tasks ref_means ref_doing
 answer_laws = record {
   answers = λ since c t new is step. subst IsSome (sym (ref_ends since.start c t.work new.work is step).answer) refl;
   says = λ since p c t new a is step given. (let e = ref_ends since.start c t.work new.work is step in subst (λ x. ref_says since.start x c) (one (answer_of new.work) e.given a e.answer given) e.says);
-  shows = λ since lane c t new v w b a is f leaves given. tells since.start lane c v w b a t.work is f (says_of lane t.work new.work v w b a f leaves given);
+  shows = λ since lane c t new v w b a is f leaves given sound. tells since.start lane c v w b a t.work is f (says_of lane t.work new.work v w b a f leaves given);
   knows = λ since p lane c t new v w b a. ref_tells (λ s branch commit work is. change_is s (words.Reset branch commit) work is) lane since p c t.work new.work v w b a;
   lacks = λ since. lacks_none;
   outside = λ since v a c good shown outside. outside;
   full = λ told since c t new a is step given full. absurd full;
-  left = λ since actor lane c t new v w b b' a is f leaves given does gone. tt;
+  left = λ since actor lane c t new v w b b' a is f leaves given does gone sound. tt;
   stays = λ since actor lane out removed a c v w b b' does only is. tt;
   stays_wider = λ since out more a c v b among is. tt;
 }

@@ -53,7 +53,6 @@ no_pin progress.Looking e wants name is pin =
     cc
 no_pin progress.Preparing e wants name is pin = cc
 no_pin progress.Showing e wants name is pin = cc
-no_pin progress.Shown e wants name is pin = cc
 no_pin progress.Settling e wants name is pin = cc
 no_pin progress.Ended e wants name is pin = cc
 
@@ -78,7 +77,6 @@ pub change_light : (p : Progress) (e : Event) (wants : Wants) → kind_at p e �
 change_light progress.Looking e wants is = let same : turn_wants ≡ wants = cc in subst AsksForRefs same (refl, refl, refl)
 change_light progress.Preparing e wants is = cc
 change_light progress.Showing e wants is = cc
-change_light progress.Shown e wants is = cc
 change_light progress.Settling e wants is = cc
 change_light progress.Ended e wants is = cc
 

@@ -36,7 +36,6 @@ pub change_own : {P : Type 0} (p : Progress) (e : Event) → kind_at p e ≡ Sto
 change_own progress.Looking e is = cc
 change_own progress.Preparing e is = cc
 change_own progress.Showing e is = cc
-change_own progress.Shown e is = cc
 change_own progress.Settling e is = cc
 change_own progress.Ended e is = cc
 
@@ -113,7 +112,6 @@ kind_settles progress.Settling d e is = cc
 kind_settles progress.Looking d e is = cc
 kind_settles progress.Preparing d e is = cc
 kind_settles progress.Showing d e is = cc
-kind_settles progress.Shown d e is = cc
 kind_settles progress.Ended d e is = cc
 
 pub ref_shown : (s : State) (c : RefWords) (t : RefCommand) (e : Event) → ref_pursues s c t → command_kind t ≡ Show e → ref_changes s c e

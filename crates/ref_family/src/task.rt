@@ -1,4 +1,4 @@
-ghost use Rattle.rely_guarantee.specs.Part.{laws_along};
+ghost use Rattle.rely_guarantee.specs.Along.{laws_along};
 ghost use Rattle.ref_command.specs.Commands.{command_kind, command_needs, command_writes, command_stepped, command_leaves, command_refuses, command_facts};
 ghost use Rattle.ref_command.specs.CommandLaws.{command_laws};
 

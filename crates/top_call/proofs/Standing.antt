@@ -24,8 +24,8 @@ stands_after f c old new before opening v told keeps stands =
         inside = keeps.inside v told stands.good stands.inside;
         folders = told_as (f.view new.base.fs) _ kept.0 at (keeps.folders opening.now v told stands.folders);
         counted = told_as (f.view new.base.fs) _ kept.0 at (keeps.counted v told stands.counted);
-        said = keeps.said v told stands.counted stands.said;
-        stays = told_as (f.view new.base.fs) _ kept.0 at (keeps.stays v told stands.stays);
+        said = keeps.said v told stands.good stands.counted stands.said;
+        stays = told_as (f.view new.base.fs) _ kept.0 at (keeps.stays v told stands.good stands.stays);
         founded = told_as (f.view new.base.fs) _ kept.0 at (keeps.founded opening v told stands.good stands.founded);
       },
     )
