@@ -24,7 +24,10 @@ use Rattle.checkout.specs.declared.checkout_phase.CheckoutPhase.TheVariants.{End
 use Rattle.checkout.specs.CheckoutFolder.{IsCheckout}
 use Rattle.checkout.specs.CheckoutWork.{Answer}
 use Rattle.checkout.specs.CheckoutSteps.{needs_in}
+use Rattle.repo_model.specs.Objects.{Stores}
 use Rattle.commit_checkout.proofs.TreeMaps.{tree_folder}
+use Rattle.tree_walk.specs.Standing.{AreRight}
+use Rattle.tree_walk.proofs.Rightly.{shown_rightly, shown_standing, whole_rightly}
 use Rattle.checkout_command.specs.declared.answer.CheckoutAnswer.{CheckoutAnswer}
 use Rattle.checkout_command.specs.declared.answer.CheckoutAnswer.TheVariants as answer
 use Rattle.checkout_command.specs.declared.command.CheckoutCommand.{CheckoutCommand}
@@ -33,7 +36,7 @@ use Rattle.checkout_command.specs.declared.made.Made.{Made}
 use Rattle.checkout_command.specs.declared.made.Made.TheVariants as made
 use Rattle.checkout_command.specs.declared.make.Make.{Make}
 use Rattle.checkout_command.specs.Answers.{IsCheckedOut, Says}
-use Rattle.checkout_command.specs.Asked.{Answers, Asked, asked, asked_by}
+use Rattle.checkout_command.specs.Asked.{Answers, Asked, IsOfFiles, IsRightFor, asked, asked_by}
 use Rattle.checkout_command.specs.Commands.{Facts, HasMade, IsNew, IsOwned, Making, Tells, answer_of, checkout_facts, checkout_kind, checkout_leaves, checkout_stepped}
 use Rattle.checkout_command.specs.Fits.{IsFitting}
 use Rattle.checkout_command.specs.Founded.{IsFinishedOf, IsOfFinished}
@@ -109,34 +112,35 @@ stopped_says d q (answer.Lacking p) told = absurd told
 all_ended : (m : Make) (d : Disk) → m.made ≡ made.All → IsFar m.made m.task d → m.task.phase ≡ EndedPhase
 all_ended m d is far = (subst (λ k. IsFar k m.task d) is far).0
 
-made_says : (lane : ℕ) (m : Make) (v : View) (b : Books) → Making lane m v b → m.made ≡ made.All → IsCheckedOut v.now m.request.limits m.request.commit m.request.name
-made_says lane m v b making is =
+made_says : (lane : ℕ) (m : Make) (v : View) (b : Books) → AreRight m.request.limits.content v.now → Making lane m v b → m.made ≡ made.All → IsCheckedOut v.now m.request.limits m.request.commit m.request.name
+made_says lane m v b right making is =
     let ended = all_ended m v.now is making.needs.far in
     let folder : IsCheckout v.now m.task.into m.task.tree = subst (λ ph. needs_in ph m.task v.now) ended making.needs.needs in
     record {
-      whole = making.whole;
-      folder = tree_folder v.now v.now m.request.commit (checkout_path m.request.name) m.task.tree making.map making.tree (subst (λ q. IsCheckout v.now q m.task.tree) making.needs.at folder);
+      whole = whole_rightly v.now m.request.limits right m.request.commit making.whole;
+      folder = tree_folder (Stores v.now) v.now m.request.commit (checkout_path m.request.name) m.task.tree making.map
+          (λ p n. (λ has. shown_rightly v.now m.request.commit p n ((making.tree p n).0 has), λ shown. (making.tree p n).1 (shown_standing v.now m.request.commit p n shown))) (subst (λ q. IsCheckout v.now q m.task.tree) making.needs.at folder);
     }
 
-make_says : (lane : ℕ) (m : Make) (v : View) (b : Books) (a : CheckoutAnswer) → Making lane m v b → MakeSays m v.now a → Says v.now m.request.limits m.request.commit m.request.name a
-make_says lane m v b answer.Done making told = made_says lane m v b making told
-make_says lane m v b (answer.DestExists p) making told = (told.1, told.2)
-make_says lane m v b (answer.NoCommit c) making told = absurd told
-make_says lane m v b (answer.Partial c) making told = absurd told
-make_says lane m v b (answer.Lacking p) making told = absurd told
+make_says : (lane : ℕ) (m : Make) (v : View) (b : Books) (a : CheckoutAnswer) → (IsOfFiles a → AreRight m.request.limits.content v.now) → Making lane m v b → MakeSays m v.now a → Says v.now m.request.limits m.request.commit m.request.name a
+make_says lane m v b answer.Done right making told = made_says lane m v b (right tt) making told
+make_says lane m v b (answer.DestExists p) right making told = (told.1, told.2)
+make_says lane m v b (answer.NoCommit c) right making told = absurd told
+make_says lane m v b (answer.Partial c) right making told = absurd told
+make_says lane m v b (answer.Lacking p) right making told = absurd told
 
-read_says : (d : Disk) (s : Reads) (a : CheckoutAnswer) → Tells (command.Read s) d a → Says d s.request.limits s.request.commit s.request.name a
-read_says d s (answer.Lacking p) told = told
-read_says d s answer.Done told = absurd told
-read_says d s (answer.DestExists p) told = absurd told
-read_says d s (answer.NoCommit c) told = absurd told
-read_says d s (answer.Partial c) told = absurd told
+read_says : (d : Disk) (s : Reads) (a : CheckoutAnswer) → (IsOfFiles a → AreRight s.request.limits.content d) → Tells (command.Read s) d a → Says d s.request.limits s.request.commit s.request.name a
+read_says d s (answer.Lacking p) right told = told (right tt)
+read_says d s answer.Done right told = absurd told
+read_says d s (answer.DestExists p) right told = absurd told
+read_says d s (answer.NoCommit c) right told = absurd told
+read_says d s (answer.Partial c) right told = absurd told
 
-answers_by : (lane : ℕ) (t : CheckoutCommand) (v : View) (b : Books) (a : CheckoutAnswer) → Facts lane t v b → Tells t v.now a → Answers v.now (asked t) a
-answers_by lane (command.Look r) v b a f told = stopped_says v.now (asked_by r) a told
-answers_by lane (command.Read s) v b a f told = read_says v.now s a told
-answers_by lane (command.Make m) v b a f told = make_says lane m v b a f.known told
-answers_by lane (command.Ended x) v b a f told = absurd f.known
+answers_by : (lane : ℕ) (t : CheckoutCommand) (v : View) (b : Books) (a : CheckoutAnswer) → (IsOfFiles a → IsRightFor (asked t) v.now) → Facts lane t v b → Tells t v.now a → Answers v.now (asked t) a
+answers_by lane (command.Look r) v b a right f told = stopped_says v.now (asked_by r) a told
+answers_by lane (command.Read s) v b a right f told = read_says v.now s a right told
+answers_by lane (command.Make m) v b a right f told = make_says lane m v b a right f.known told
+answers_by lane (command.Ended x) v b a right f told = absurd f.known
 
 not_finished : (d : Disk) (commit : List ℕ) (a : CheckoutAnswer) → SaysStopped d commit a → IsOfFinished a → ⊥
 not_finished d commit (answer.NoCommit c) told of = of
@@ -158,8 +162,8 @@ module _ (lane : ℕ) (t new : CheckoutCommand) (v w : View) (b : Books) (a : Ch
   told : Tells t v.now a
   told = subst (Tells t v.now) same leaves.3
 
-  pub says_of : (w ≡ v) × Answers v.now (asked t) a
-  says_of = (leaves.0, answers_by lane t v b a f told)
+  pub says_of : (w ≡ v) × ((IsOfFiles a → IsRightFor (asked t) v.now) → Answers v.now (asked t) a)
+  says_of = (leaves.0, λ right. answers_by lane t v b a right f told)
 
   pub finished_of : IsOfFinished a → IsFinishedOf (asked t) v
   finished_of of = finished_by lane t v b a f told of

@@ -12,7 +12,7 @@ use Rattle.repo_layout.specs.BootPaths.{checkout_path}
 use Rattle.checkout.specs.declared.checkout_phase.DestExists.{DestExists}
 use Rattle.checkout.specs.CheckoutWork.{Answer, Checkout, steps_in}
 use Rattle.checkout.specs.CheckoutSteps.{Needs, Tells, WritesOf}
-use Rattle.checkout.proofs.CheckoutRuns.{told_once}
+use Rattle.staged_file.proofs.Wholes.{told_once}
 use Rattle.checkout_command.specs.declared.answer.CheckoutAnswer.TheVariants as answer
 use Rattle.checkout_command.specs.declared.made.Made.{Made}
 use Rattle.checkout_command.specs.declared.make.Make.{Make}

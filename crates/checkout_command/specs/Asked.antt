@@ -3,7 +3,9 @@ use Rattle.std.specs.Prelude.{◌≡◌, ℕ, List, Option, Some, None}
 use Rattle.ost_types.specs.declared.limits.Limits.{Limits}
 use Rattle.ost_types.specs.Path.{Name}
 use Rattle.fs_trait.specs.View.{Disk}
+use Rattle.tree_walk.specs.Standing.{AreRight}
 use Rattle.checkout_command.specs.declared.answer.CheckoutAnswer.{CheckoutAnswer}
+use Rattle.checkout_command.specs.declared.answer.CheckoutAnswer.TheVariants as answer
 use Rattle.checkout_command.specs.declared.command.CheckoutCommand.{CheckoutCommand}
 use Rattle.checkout_command.specs.declared.command.CheckoutCommand.TheVariants.{Look, Read, Make, Ended}
 use Rattle.checkout_command.specs.declared.request.Request.{Request}
@@ -28,6 +30,17 @@ asked (Ended a) = None
 abbrev pub HasName : Name → Option Asked → Type 0
 HasName name None = ⊥
 HasName name (Some q) = q.name ≡ name
+
+-- it says that the commit is whole, or what of it is not
+abbrev pub IsOfFiles : CheckoutAnswer → Type 0
+IsOfFiles answer.Done = Unit {0}
+IsOfFiles (answer.Lacking p) = Unit {0}
+IsOfFiles a = ⊥
+
+-- each file that stands is what its name says, within the limits that it was asked for
+abbrev pub IsRightFor : Option Asked → Disk → Type 0
+IsRightFor None d = Unit {0}
+IsRightFor (Some q) d = AreRight q.limits.content d
 
 -- what the answer of a command that was asked this says
 abbrev pub Answers : Disk → Option Asked → CheckoutAnswer → Type 0

@@ -13,7 +13,6 @@ use Rattle.fs_trait.specs.View.{Disk, View}
 use Rattle.repo_layout.specs.declared.folder.Folder.TheVariants.{Checkouts}
 use Rattle.repo_layout.specs.Paths.{folder_path}
 use Rattle.repo_layout.specs.RefFile.{IsSum}
-use Rattle.repo_model.specs.Objects.{Stores}
 use Rattle.repo_model.specs.Whole.{Complete}
 use Rattle.rely_guarantee.specs.Books.{Books, IsClaimed}
 use Rattle.rely_guarantee.specs.Laws.{Kind, Quiet, Take}
@@ -21,6 +20,7 @@ use Rattle.ref_command.specs.declared.look_up.Found.TheVariants.{Whole}
 use Rattle.ref_command.specs.Commands.{pin_wants}
 use Rattle.ref_command.specs.Found.{IsFound}
 use Rattle.ref_command.specs.Pins.{IsPinned}
+use Rattle.tree_walk.specs.Standing.{AreRight, Standing}
 use Rattle.checkout.specs.CheckoutWork.{IsPlaced}
 use Rattle.commit_checkout.specs.TreeFolder.{IsTreeOf}
 use Rattle.checkout_command.specs.declared.answer.CheckoutAnswer.{CheckoutAnswer}
@@ -48,7 +48,7 @@ checkout_kind (command.Ended a) = Quiet
 -- what it knows of a disk; after its end nothing is asked of it
 abbrev pub checkout_needs : ℕ → CheckoutCommand → View → Type 0
 checkout_needs actor (command.Look r) v = Unit {0}
-checkout_needs actor (command.Read s) v = ReadKnows (Stores v.now) s
+checkout_needs actor (command.Read s) v = ReadKnows (Standing v.now) s
 checkout_needs actor (command.Make m) v = MakeNeeds m v.now
 checkout_needs actor (command.Ended a) v = ⊥
 
@@ -71,7 +71,7 @@ checkout_stepped t (turn.Done x) new = (a : CheckoutAnswer) × (new ≡ command.
 -- how it goes on
 abbrev pub Goes : CheckoutCommand → CheckoutCommand → View → View → Type 0
 Goes (command.Look r) (command.Read s) v w = (w ≡ v) × (s ≡ reading r) × IsFound v.now r.commit Whole × IsTree v.now
-Goes (command.Read s) (command.Read n) v w = (w ≡ v) × (n.request ≡ s.request) × ReadKnows (Stores v.now) n
+Goes (command.Read s) (command.Read n) v w = (w ≡ v) × (n.request ≡ s.request) × ReadKnows (Standing v.now) n
 Goes (command.Read s) (command.Make m) v w = (w ≡ v) × IsToMake v.now s.request m
 Goes (command.Make m) (command.Make n) v w = Makes m n v w
 Goes t new v w = ⊥
@@ -79,7 +79,7 @@ Goes t new v w = ⊥
 -- and what it answers
 abbrev pub Tells : CheckoutCommand → Disk → CheckoutAnswer → Type 0
 Tells (command.Look r) d a = SaysStopped d r.commit a
-Tells (command.Read s) d (answer.Lacking p) = SaysLacking d s.request.limits s.request.commit p
+Tells (command.Read s) d (answer.Lacking p) = AreRight s.request.limits.content d → SaysLacking d s.request.limits s.request.commit p
 Tells (command.Make m) d a = MakeSays m d a
 Tells t d a = ⊥
 
@@ -99,18 +99,18 @@ abbrev pub IsOwned : Made → Name → ℕ → Books → Type 0
 IsOwned made.Nothing name lane b = Unit {0}
 IsOwned m name lane b = IsClaimed name lane b
 
--- While the tree is made: that it is the commit's, which is whole, and what the next step needs.
+-- While the tree is made: that it is the commit's, which is whole but for what its files hold, and what the next step needs.
 pub record Making (lane : ℕ) (m : Make) (v : View) (b : Books) : Type 0 where
   pub map : IsPathMap m.task.tree
   pub placed : IsPlaced m.task.into m.task.tree
-  pub whole : Complete (Stores v.now) m.request.limits m.request.commit
-  pub tree : IsTreeOf (Stores v.now) m.request.commit m.task.tree
+  pub whole : Complete (Standing v.now) m.request.limits m.request.commit
+  pub tree : IsTreeOf (Standing v.now) m.request.commit m.task.tree
   pub needs : MakeNeeds m v.now
   pub owned : IsOwned m.made m.request.name lane b
 
 abbrev pub Known : ℕ → CheckoutCommand → View → Books → Type 0
 Known lane (command.Look r) v b = Unit {0}
-Known lane (command.Read s) v b = ReadKnows (Stores v.now) s
+Known lane (command.Read s) v b = ReadKnows (Standing v.now) s
 Known lane (command.Make m) v b = Making lane m v b
 Known lane (command.Ended a) v b = ⊥
 

@@ -10,7 +10,6 @@ use Rattle.fs_trait.specs.View.{View}
 use Rattle.fs_trait.proofs.Kept.{weaker}
 use Rattle.repo_layout.specs.BootPaths.{checkout_path}
 use Rattle.repo_layout.specs.Place.{Checkout as Checkouts, place}
-use Rattle.repo_model.specs.Objects.{Stores}
 use Rattle.repo_model.specs.Whole.{Complete}
 use Rattle.rely_guarantee.specs.Books.{Books, IsClaimed, Keeps}
 use Rattle.rely_guarantee.specs.Laws.{Claim, Owned, Quiet, Stood, Take}
@@ -21,10 +20,10 @@ use Rattle.ref_command.specs.Commands.{pin_wants}
 use Rattle.ref_command.specs.Found.{commit_name}
 use Rattle.ref_command.specs.Founding.{found_now}
 use Rattle.ref_command.specs.Pins.{IsPinned, others_pins, pinned_on}
+use Rattle.tree_walk.specs.Standing.{Standing}
 use Rattle.checkout.specs.CheckoutWork.{Answer, Checkout, IsPlaced, beginning}
 use Rattle.checkout.specs.CheckoutSteps as task
 use Rattle.commit_checkout.specs.TreeFolder.{IsTreeOf}
-use Rattle.commit_checkout.proofs.TreeMaps.{leaves_there}
 use Rattle.checkout_command.specs.declared.command.CheckoutCommand.{CheckoutCommand}
 use Rattle.checkout_command.specs.declared.command.CheckoutCommand.TheVariants as command
 use Rattle.checkout_command.specs.declared.made.Made.{Made}
@@ -33,10 +32,10 @@ use Rattle.checkout_command.specs.declared.make.Make.{Make}
 use Rattle.checkout_command.specs.Reads.{Reads}
 use Rattle.checkout_command.specs.declared.request.Request.{Request}
 use Rattle.checkout_command.specs.Commands.{Facts, Goes, IsHome, IsOwned, Making, checkout_kind}
-use Rattle.checkout_command.specs.Apart.{finished_apart, stored_apart}
+use Rattle.checkout_command.specs.Apart.{finished_apart, stands_apart}
 use Rattle.checkout_command.specs.Duties.{may_make, place_in}
 use Rattle.checkout_command.specs.Founded.{IsFounded}
-use Rattle.checkout_command.specs.Kept.{IsBegun, KeepsAll, far_kept, founded_kept, home_above, home_kept, needs_kept, pinned_keeps, reading_kept, tree_kept, whole_kept}
+use Rattle.checkout_command.specs.Kept.{IsBegun, KeepsAll, far_kept, founded_kept, home_above, home_kept, leaves_stand, needs_kept, pinned_keeps, reading_kept, tree_kept, whole_kept}
 use Rattle.checkout_command.specs.MakeSteps.{IsFar, IsGoing, IsMadeBy, Makes, make_kind, make_writes}
 use Rattle.checkout_command.specs.Phases.{needs_next, same_task}
 use Rattle.checkout_command.specs.ReadSteps.{IsToMake, ReadKnows, reading}
@@ -112,7 +111,7 @@ claimed_any made.Nothing name lane b claimed = tt
 claimed_any made.Part name lane b claimed = claimed
 claimed_any made.All name lane b claimed = claimed
 
-owned_next : (k j : Made) (name : Name) (lane : ℕ) (b b' : Books) → IsGoing k → Keeps lane b b' → Owned (make_kind k name) lane b' → IsOwned k name lane b → IsOwned j name lane b'
+owned_next : (k j : Made) (name : Name) (lane : ℕ) (b b' : Books) → IsGoing k → Keeps lane b b' → Owned (make_kind k name) lane b b' → IsOwned k name lane b → IsOwned j name lane b'
 owned_next made.Nothing j name lane b b' going keeps own owned = claimed_any j name lane b' own
 owned_next made.Part j name lane b b' going keeps own owned = claimed_any j name lane b' (claimed_gains lane b b' name keeps owned)
 owned_next made.All j name lane b b' going keeps own owned = absurd going
@@ -125,23 +124,23 @@ module _ (lane : ℕ) (m n : Make) (v w : View) (b b' : Books) (making : Making 
   inside p s a = let at = place_in m.made m v p s a in (m.request.name, at.0, at.1)
 
   own_keeps : KeepsAll v w m.request.commit
-  own_keeps o c reached stored = stored_apart (make_writes m v) v w makes.writes inside o c stored
+  own_keeps o c reached stands = stands_apart (make_writes m v) v w makes.writes inside o c stands
 
   task_is : (n.task.into ≡ m.task.into) × (n.task.tree ≡ m.task.tree)
   task_is = same_task m n v w making.needs makes
 
-  making_next : Keeps lane b b' → Owned (make_kind m.made m.request.name) lane b' → Making lane n w b'
+  making_next : Keeps lane b b' → Owned (make_kind m.made m.request.name) lane b b' → Making lane n w b'
   making_next keeps own = record {
     map = subst IsPathMap (sym task_is.1) making.map;
     placed = subst (λ q. IsPlaced q n.task.tree) (sym task_is.0) (subst (IsPlaced m.task.into) (sym task_is.1) making.placed);
-    whole = subst (λ (r : Request). Complete (Stores w.now) r.limits r.commit) (sym makes.request) (whole_kept v w m.request.commit own_keeps m.request.limits making.whole);
-    tree = subst (λ (r : Request). IsTreeOf (Stores w.now) r.commit n.task.tree) (sym makes.request)
-        (subst (IsTreeOf (Stores w.now) m.request.commit) (sym task_is.1) (tree_kept v w m.request.commit own_keeps m.request.limits m.task.tree making.whole making.tree));
+    whole = subst (λ (r : Request). Complete (Standing w.now) r.limits r.commit) (sym makes.request) (whole_kept v w m.request.commit own_keeps m.request.limits making.whole);
+    tree = subst (λ (r : Request). IsTreeOf (Standing w.now) r.commit n.task.tree) (sym makes.request)
+        (subst (IsTreeOf (Standing w.now) m.request.commit) (sym task_is.1) (tree_kept v w m.request.commit own_keeps m.request.limits m.task.tree making.whole making.tree));
     needs = needs_next m n v w making.map making.placed.shape making.needs makes;
     owned = subst (λ (r : Request). IsOwned n.made r.name lane b') (sym makes.request) (owned_next m.made n.made m.request.name lane b b' makes.going keeps own making.owned);
   }
 
-  pub make_next : IsFounded (command.Make m) v → IsHome v → IsPinned lane b m.request.commit → Keeps lane b b' → Owned (make_kind m.made m.request.name) lane b' → Facts lane (command.Make n) w b'
+  pub make_next : IsFounded (command.Make m) v → IsHome v → IsPinned lane b m.request.commit → Keeps lane b b' → Owned (make_kind m.made m.request.name) lane b b' → Facts lane (command.Make n) w b'
   make_next founded home pin keeps own = record {
     known = making_next keeps own;
     founded = subst (λ (r : Request). IsFinishedNow w r.commit) (sym makes.request) (finished_apart (make_writes m v) v w makes.writes inside m.request.commit founded);
@@ -149,18 +148,18 @@ module _ (lane : ℕ) (m n : Make) (v w : View) (b b' : Books) (making : Making 
     pinned = subst (λ (r : Request). IsPinned lane b' r.commit) (sym makes.request) (pinned_on lane b b' keeps.pins m.request.commit pin);
   }
 
-begins_to_read : (r : Request) (v : View) → ReadKnows (Stores v.now) (reading r)
+begins_to_read : (r : Request) (v : View) → ReadKnows (Standing v.now) (reading r)
 begins_to_read r v = record { commit = refl; limits = refl; so_far = λ begun. absurd (let n : false ≡ true = begun in cc) }
 
 begins_to_make : (lane : ℕ) (r : Request) (m : Make) (v : View) (b : Books) → IsToMake v.now r m → IsHome v → Making lane m v b
 begins_to_make lane r m v b is home =
     let at : m.task.into ≡ checkout_path r.name = ap (λ (t : Checkout). t.into) is.task in
-    let leaves = leaves_there v.now r.limits r.commit m.task.tree is.map is.whole is.tree in
+    let leaves = leaves_stand v.now r.limits r.commit m.task.tree is.map is.whole is.tree in
     record {
       map = is.map;
       placed = subst (λ q. IsPlaced q m.task.tree) (sym at) is.placed;
-      whole = subst (λ (q : Request). Complete (Stores v.now) q.limits q.commit) (sym is.request) is.whole;
-      tree = subst (λ (q : Request). IsTreeOf (Stores v.now) q.commit m.task.tree) (sym is.request) is.tree;
+      whole = subst (λ (q : Request). Complete (Standing v.now) q.limits q.commit) (sym is.request) is.whole;
+      tree = subst (λ (q : Request). IsTreeOf (Standing v.now) q.commit m.task.tree) (sym is.request) is.tree;
       needs = record {
         at = at ∙ ap (λ (q : Request). checkout_path q.name) (sym is.request);
         far = subst (λ k. IsFar k m.task v.now) (sym is.made) (is.task ∙ ap (λ q. beginning q m.task.tree) (sym at));
@@ -169,7 +168,7 @@ begins_to_make lane r m v b is home =
       owned = subst (λ k. IsOwned k m.request.name lane b) (sym is.made) tt;
     }
 
-pub facts_next : (actor lane : ℕ) (t new : CheckoutCommand) (v w : View) (b b' : Books) → Stood (checkout_kind t) actor lane b → Facts lane t v b → Goes t new v w → Keeps lane b b' → Owned (checkout_kind t) lane b' → Facts lane new w b'
+pub facts_next : (actor lane : ℕ) (t new : CheckoutCommand) (v w : View) (b b' : Books) → Stood (checkout_kind t) actor lane b → Facts lane t v b → Goes t new v w → Keeps lane b b' → Owned (checkout_kind t) lane b b' → Facts lane new w b'
 facts_next actor lane (command.Look r) (command.Read s) v w b b' stood f (same, is, found, tree) keeps own =
     let on : Facts lane (command.Read (reading r)) v b' = record { known = begins_to_read r v; founded = found_now v r.commit tree f.founded.0 f.founded.1 found; home = f.home; pinned = pinned_on lane b b' keeps.pins r.commit (stood.pin (commit_name r.commit) refl) } in
     subst (λ u. Facts lane (command.Read s) u b') (sym same) (subst (λ (q : Reads). Facts lane (command.Read q) v b') (sym is) on)

@@ -16,15 +16,15 @@ ghost use Rattle.rely_guarantee.specs.State.{State};
 ghost use Rattle.ref_command.specs.Facts.{StagingPathFree};
 ghost use Rattle.checkout_command.specs.declared.answer.CheckoutAnswer.{CheckoutAnswer as Answer};
 ghost use Rattle.checkout_command.specs.declared.command.CheckoutCommand.{CheckoutCommand as Command};
-ghost use Rattle.checkout_command.specs.Asked.{Answers, HasName, asked};
+ghost use Rattle.checkout_command.specs.Asked.{Answers, HasName, IsOfFiles, IsRightFor, asked};
 ghost use Rattle.checkout_command.specs.Commands.{IsNew, answer_of, checkout_facts, checkout_kind, checkout_leaves, checkout_left, checkout_stepped, checkout_writes};
 ghost use Rattle.checkout_command.specs.Fits.{IsFitting};
 ghost use Rattle.checkout_command.specs.Founded.{IsFinishedOf, IsOfFinished};
 
-/// What each answer says of the view before the last step, which is the one after it too. The commit is finished there, unless the
-/// answer says that it isn't.
+/// What each answer says of the view before the last step, which is the one after it too; those that speak of the commit's files, where
+/// each file that stands there is what its name says. The commit is finished there, unless the answer says that it isn't.
 pub fn answers_of_checkouts()
-    ensures says { (lane : ℕ) (t new : Command) (v w : View) (b : Books) (a : Answer) → checkout_facts lane t v b → checkout_leaves t (turn.Done tt) new v w → answer_of new ≡ Some a → (w ≡ v) × Answers v.now (asked t) a }
+    ensures says { (lane : ℕ) (t new : Command) (v w : View) (b : Books) (a : Answer) → checkout_facts lane t v b → checkout_leaves t (turn.Done tt) new v w → answer_of new ≡ Some a → (w ≡ v) × ((IsOfFiles a → IsRightFor (asked t) v.now) → Answers v.now (asked t) a) }
     ensures finished { (lane : ℕ) (t new : Command) (v w : View) (b : Books) (a : Answer) → checkout_facts lane t v b → checkout_leaves t (turn.Done tt) new v w → answer_of new ≡ Some a → IsOfFinished a → IsFinishedOf (asked t) v }
 {}
 

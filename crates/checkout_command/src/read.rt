@@ -1,10 +1,10 @@
-//! The tree of the commit is read, an object a step.
+//! The tree of the commit is walked, an object a step.
 ghost use Rattle.std.specs.Prelude.{◌≡◌, ◌≤◌, ◌↔◌, [], Some, IfOk, IfErr, IsTrue};
 ghost use Rattle.ost_types.specs.PathMap.{IsPathMap};
 ghost use Rattle.fs_trait.specs.View.{Disk, View};
 ghost use Rattle.fs_trait.specs.Effect.{HasCause, IsQuiet, OfNone};
-ghost use Rattle.repo_model.specs.Objects.{Stores};
 ghost use Rattle.tree_read.specs.Reading.{Knows};
+ghost use Rattle.tree_walk.specs.Standing.{Standing};
 ghost use Rattle.checkout_command.specs.ReadSteps.{CanMake, IsReadEnd, IsReadStepped, Lacks, ReadEnds, ReadKnows, ReadTells, read_left, reading};
 
 use crate::answer::lacking;
@@ -14,12 +14,13 @@ use fs_trait::{Fs, FsErr, StepResult};
 use ost_types::{FsPath, Kind, NoMemory, ObjName, PathMap};
 use std::marker::Model;
 use std::mem;
-use tree_read::{TreeFault, TreeTask};
+use tree_read::TreeFault;
+use tree_walk::WalkTask;
 
 #[derive(Drop, Debug)]
 pub struct Read {
     request: Request,
-    task: TreeTask,
+    task: WalkTask,
 }
 
 impl Model for Read {
@@ -37,7 +38,7 @@ impl Read {
     pub(crate) fn new(request: Request) -> Read
         ensures { result ≡ reading request }
     {
-        let task = TreeTask::new(request.alloc, request.commit, request.limits);
+        let task = WalkTask::new(request.alloc, request.commit, request.limits);
         Read { request, task }
     }
 
@@ -48,11 +49,11 @@ impl Read {
         self.task.left() + self.request.paths() as u128 + 2
     }
 
-    /// Reads the next object. None where it goes on.
+    /// Looks at the next object. None where it goes on.
     pub(crate) fn step<F: Fs>(&mut self, fs: &mut F) -> Result<Option<CheckoutCommand>, FsErr>
-        ensures told { (v : View) → F.view fs.old ≡ Some v → ReadKnows (Stores v.now) self.old → IfOk result (ReadTells v.now self.old self.new) }
+        ensures told { (v : View) → F.view fs.old ≡ Some v → ReadKnows (Standing v.now) self.old → IfOk result (ReadTells v.now self.old self.new) }
         ensures stepped { IfOk result (IsReadStepped self.old self.new) }
-        ensures named { (v : View) → F.view fs.old ≡ Some v → ReadKnows (Stores v.now) self.old → IfErr result OfNone }
+        ensures named { (v : View) → F.view fs.old ≡ Some v → ReadKnows (Standing v.now) self.old → IfErr result OfNone }
         ensures quiet { IsQuiet (F.clock fs.old) (F.clock fs.new) (F.was fs.old) (F.was fs.new) (F.view fs.old) (F.view fs.new) }
         ensures keeps_room { F.spare fs.old ≤ F.spare fs.new }
         ensures cause { HasCause (F.faults fs.old) (F.faults fs.new) result }
@@ -66,9 +67,9 @@ impl Read {
         }
     }
 
-    /// All was read, and is to be made. What isn't the tree of a commit isn't made.
+    /// All was seen, and is to be made. What isn't the tree of a commit isn't made.
     fn whole(&mut self) -> Result<CheckoutCommand, NoMemory>
-        ensures told { (d : Disk) → ReadKnows (Stores d) self.old → Knows (Stores d) self.old.task → self.old.task.pending ≡ [] → IfOk result (ReadEnds d self.old) }
+        ensures told { (d : Disk) → ReadKnows (Standing d) self.old → Knows (Standing d) self.old.task → self.old.task.pending ≡ [] → IfOk result (ReadEnds d self.old) }
         ensures stepped { IfOk result (IsReadEnd self.old) }
     {
         let request = self.request.copied()?;
@@ -99,7 +100,7 @@ impl Read {
         ensures { result ≡ self.old.task.found }
     {
         let request = &self.request;
-        let none = TreeTask::new(request.alloc, request.commit, request.limits);
+        let none = WalkTask::new(request.alloc, request.commit, request.limits);
         mem::replace(&mut self.task, none).into_found()
     }
 

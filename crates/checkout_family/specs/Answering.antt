@@ -1,14 +1,20 @@
 -- What a checkout answers, by its last step.
 use Rattle.std.proofs.Common.{◌≡◌, ◌≢◌, ℕ, true, false, refl, sym, ◌∙◌, ap, subst, List, Option, Some, None, IsSome, inr, []}
-use Rattle.ost_types.specs.declared.object.Kind.TheVariants.{Commit}
+use Rattle.ost_types.specs.declared.object.Kind.TheVariants.{Commit, File}
+use Rattle.ost_types.specs.declared.object.ObjName.{ObjName}
 use Rattle.ost_types.specs.Path.{Name}
 use Rattle.fs_trait.specs.declared.task.StepResult.TheVariants as turn
 use Rattle.fs_trait.specs.Image.{reads}
-use Rattle.fs_trait.specs.Seen.{Vacant, shows}
-use Rattle.fs_trait.specs.View.{View}
+use Rattle.fs_trait.specs.Seen.{Vacant, seen, shows}
+use Rattle.fs_trait.specs.View.{Disk, View}
 use Rattle.repo_layout.specs.BootPaths.{checkout_path}
 use Rattle.repo_layout.specs.Paths.{object_path}
+use Rattle.repo_layout.specs.RefFile.{IsSum}
+use Rattle.repo_model.specs.Objects.{path_of}
+use Rattle.repo_model.specs.Trees.{name_of}
+use Rattle.tree_walk.specs.Standing.{IsLeaf}
 use Rattle.store_check.specs.Good.{IsGoodStore}
+use Rattle.store_check.specs.Listing.{IsThere}
 use Rattle.rely_guarantee.specs.Books.{Books}
 use Rattle.rely_guarantee.specs.Lasting.{StaysFinished}
 use Rattle.rely_guarantee.specs.State.{State}
@@ -19,13 +25,14 @@ use Rattle.read_family.specs.Lackings.{lacking_never}
 use Rattle.checkout_command.specs.declared.answer.CheckoutAnswer.{CheckoutAnswer}
 use Rattle.checkout_command.specs.declared.answer.CheckoutAnswer.TheVariants as answer
 use Rattle.checkout_command.specs.declared.command.CheckoutCommand.{CheckoutCommand}
-use Rattle.checkout_command.specs.Asked.{Answers, Asked, asked}
+use Rattle.checkout_command.specs.Asked.{Answers, Asked, IsRightFor, asked}
 use Rattle.checkout_command.specs.Commands.{HasMade, answer_of, checkout_facts, checkout_leaves, checkout_stepped}
 use Rattle.checkout_command.specs.Fits.{Fits, IsFitting}
 use Rattle.checkout_command.specs.Founded.{IsFinishedOf}
 use Rattle.checkout_command.proofs.Ends.{finished_of, made_not, says_of}
 use Rattle.command.specs.CommitFiles.{CommitsAreFiles, commit_read, no_mark_read}
 use Rattle.command.specs.Since.{Since, placed}
+use Rattle.command.specs.Sound.{IsSoundStore}
 use Rattle.checkout_family.specs.declared.reply.CheckoutReply.{CheckoutReply}
 use Rattle.checkout_family.specs.declared.reply.CheckoutReply.TheVariants.{NoRef, Tried}
 use Rattle.checkout_family.specs.declared.words.CheckoutWords.{CheckoutWords}
@@ -53,13 +60,20 @@ ends_say since p c t new NoRef is step given = absurd (outer (answer_of new) giv
 ends_say since p c t new (Tried a) is step given =
     (is.0, is.1, fitting t new (record { limits = since.limits; commit = is.0; name = c.name }) a is.2 step (inner (answer_of new) a given))
 
-pub ends_show : (since : Since) (lane : ℕ) (c : CheckoutWords) (t new : CheckoutCommand) (v w : View) (b : Books) (a : CheckoutReply) → checkout_pursues since c t → checkout_facts lane t v b → checkout_leaves t (turn.Done tt) new v w → checkout_reply (answer_of new) ≡ Some a → checkout_shows since v a c
-ends_show since lane c t new v w b NoRef is f leaves given = tt
-ends_show since lane c t new v w b (Tried a) is f leaves given =
+leaf_there : (d : Disk) (o : ObjName) → IsSum o.csum → IsLeaf (shows d (path_of o)) → IsThere d o
+leaf_there d o sum leaf = record { sum = sum; there = λ none. subst IsLeaf (ap (λ x. seen d x) none) leaf }
+
+-- in a sound store the files are right
+pub right_for : (t : CheckoutCommand) (q : Asked) (d : Disk) → asked t ≡ Some q → IsSoundStore q.limits d → IsRightFor (asked t) d
+right_for t q d is sound = subst (λ o. IsRightFor o d) (sym is) (λ sum is_sum leaf. sound (name_of File sum) (leaf_there d (name_of File sum) is_sum leaf))
+
+pub ends_show : (since : Since) (lane : ℕ) (c : CheckoutWords) (t new : CheckoutCommand) (v w : View) (b : Books) (a : CheckoutReply) → checkout_pursues since c t → checkout_facts lane t v b → checkout_leaves t (turn.Done tt) new v w → checkout_reply (answer_of new) ≡ Some a → IsSoundStore since.limits v.now → checkout_shows since v a c
+ends_show since lane c t new v w b NoRef is f leaves given sound = tt
+ends_show since lane c t new v w b (Tried a) is f leaves given sound =
     let at = inner (answer_of new) a given in (
       is.0,
       is.1,
-      subst (λ o. Answers v.now o a) is.2 (says_of lane t new v w b a f leaves at).1,
+      subst (λ o. Answers v.now o a) is.2 ((says_of lane t new v w b a f leaves at).1 (λ of_files. right_for t (record { limits = since.limits; commit = is.0; name = c.name }) v.now is.2 sound)),
       λ of. subst (λ o. IsFinishedOf o v) is.2 (finished_of lane t new v w b a f leaves at of),
     )
 
@@ -93,7 +107,7 @@ outside_none since v (Tried (answer.DestExists path)) c good seen is = is
 module _ (since : Since) (lane : ℕ) (c : CheckoutWords) (t new : CheckoutCommand) (v w : View) (b : Books) (name : Name) (is : checkout_pursues since c t) (f : checkout_facts lane t v b) (leaves : checkout_leaves t (turn.Done tt) new v w) where
   stands : (path : List (List ℕ)) → checkout_reply (answer_of new) ≡ Some (Tried (answer.DestExists path)) → c.name ≡ name → shows v.now (checkout_path name) ≢ Vacant
   stands path given own =
-      let said = (says_of lane t new v w b (answer.DestExists path) f leaves (inner (answer_of new) (answer.DestExists path) given)).1 in
+      let said = (says_of lane t new v w b (answer.DestExists path) f leaves (inner (answer_of new) (answer.DestExists path) given)).1 (λ no. absurd no) in
       let at = subst (λ o. Answers v.now o (answer.DestExists path)) is.2 said in
       subst (λ p. shows v.now p ≢ Vacant) (at.0 ∙ ap checkout_path own) at.1
 

@@ -5,7 +5,7 @@ use Rattle.ost_types.specs.Path.{Name}
 use Rattle.rely_guarantee.specs.declared.event.Event.{Event}
 use Rattle.rely_guarantee.specs.declared.kind.Wants.{Wants}
 use Rattle.rely_guarantee.specs.Books.{Books}
-use Rattle.rely_guarantee.specs.Laws.{Kind, Quiet, Store, Take, Claim, Show, Shown, Settle, Holds, IsQuiet, IsSettle, NotPending}
+use Rattle.rely_guarantee.specs.Laws.{Kind, Quiet, Store, Take, Claim, Show, Shown, Remove, Settle, Holds, IsQuiet, IsSettle, NotPending}
 use Rattle.rely_guarantee.specs.Pinning.{pin_in}
 use Rattle.ref_command.specs.Commands.{pin_wants}
 use Rattle.ref_command.specs.Found.{commit_name}
@@ -27,6 +27,7 @@ quiet_unsettled (Take wants) quiet settles = settles
 quiet_unsettled (Claim name) quiet settles = settles
 quiet_unsettled (Show e) quiet settles = quiet
 quiet_unsettled (Shown e owed) quiet settles = quiet
+quiet_unsettled (Remove e owed) quiet settles = quiet
 quiet_unsettled (Settle e) quiet settles = quiet
 
 pub no_settle : (t : CheckoutCommand) → IsSettle (checkout_kind t) → ⊥

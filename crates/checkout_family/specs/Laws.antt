@@ -65,12 +65,12 @@ answer_laws : AnswerLaws checkout_tasks checkout_means checkout_doing
 answer_laws = record {
   answers = λ since c t new is. has_answer t.work new.work;
   says = λ since p c t new a. ends_say since p c t.work new.work a;
-  shows = λ since lane c t new v w b a. ends_show since lane c t.work new.work v w b a;
+  shows = λ since lane c t new v w b a is f leaves given sound. ends_show since lane c t.work new.work v w b a is f leaves given sound;
   knows = λ since p lane c t new v w b a is f leaves given sees. tt;
   lacks = lacks_none;
   outside = outside_none;
   full = λ told since c t new a is step given full. absurd full;
-  left = λ since actor lane c t new v w b b' a is f leaves given does gone. ends_leave since actor lane c t.work new.work v w b b' is f leaves does gone a given;
+  left = λ since actor lane c t new v w b b' a is f leaves given does gone sound. ends_leave since actor lane c t.work new.work v w b b' is f leaves does gone sound a given;
   stays = checkouts_stay;
   stays_wider = checkouts_wider;
 }

@@ -22,10 +22,11 @@ use Rattle.checkout_command.proofs.Ends.{IsClaimedOf, claimed_of, says_of}
 use Rattle.command.specs.AnswerLaws.{HasNoClaims}
 use Rattle.command.specs.Removed.{AreAmong, RemovesOnly}
 use Rattle.command.specs.Since.{Since}
+use Rattle.command.specs.Sound.{IsSoundStore}
 use Rattle.checkout_family.specs.declared.reply.CheckoutReply.{CheckoutReply}
 use Rattle.checkout_family.specs.declared.reply.CheckoutReply.TheVariants.{NoRef, Tried}
 use Rattle.checkout_family.specs.declared.words.CheckoutWords.{CheckoutWords}
-use Rattle.checkout_family.specs.Answering.{inner}
+use Rattle.checkout_family.specs.Answering.{inner, right_for}
 use Rattle.checkout_family.specs.Family.{checkout_pursues, checkout_reply, checkout_stays}
 use Rattle.checkout_family.specs.Folder.{StaysTree}
 use Rattle.checkout_family.specs.Kept.{spared_before, tree_on, tree_stands, unremoved_same}
@@ -48,14 +49,14 @@ tree_left limits actor lane v w b b' commit name does gone claimed same is = rec
   now = λ spared. subst (λ (u : View). IsCheckedOut u.now limits commit name) (sym same) is;
 }
 
-module _ (since : Since) (actor lane : ℕ) (c : CheckoutWords) (t new : CheckoutCommand) (v w : View) (b b' : Books) (is : checkout_pursues since c t) (f : checkout_facts lane t v b) (leaves : checkout_leaves t (turn.Done tt) new v w) (does : Interference actor lane v b w b') (gone : HasNoClaims lane b') where
+module _ (since : Since) (actor lane : ℕ) (c : CheckoutWords) (t new : CheckoutCommand) (v w : View) (b b' : Books) (is : checkout_pursues since c t) (f : checkout_facts lane t v b) (leaves : checkout_leaves t (turn.Done tt) new v w) (does : Interference actor lane v b w b') (gone : HasNoClaims lane b') (sound : IsSoundStore since.limits v.now) where
   done_left : answer_of new ≡ Some answer.Done → StaysTree since.limits [] is.0 c.name w b'
   done_left given =
       let said = says_of lane t new v w b answer.Done f leaves given in
       tree_left since.limits actor lane v w b b' is.0 c.name does gone
       (subst (λ o. IsClaimedOf o lane b) is.2 (claimed_of lane t new v w b f leaves given))
       said.0
-      (subst (λ o. Answers v.now o answer.Done) is.2 said.1)
+      (subst (λ o. Answers v.now o answer.Done) is.2 (said.1 (λ of_files. right_for t (record { limits = since.limits; commit = is.0; name = c.name }) v.now is.2 sound)))
 
   pub ends_leave : (a : CheckoutReply) → checkout_reply (answer_of new) ≡ Some a → checkout_stays since [] a c w b'
   ends_leave (Tried answer.Done) given = (is.0, is.1, done_left (inner (answer_of new) answer.Done given))

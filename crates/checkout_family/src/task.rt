@@ -1,4 +1,4 @@
-ghost use Rattle.rely_guarantee.specs.Part.{laws_along};
+ghost use Rattle.rely_guarantee.specs.Along.{laws_along};
 ghost use Rattle.checkout_command.specs.Commands.{checkout_kind, checkout_needs, checkout_writes, checkout_stepped, checkout_leaves, checkout_refuses, checkout_facts};
 ghost use Rattle.checkout_command.specs.Laws.{checkout_laws};
 

@@ -24,10 +24,10 @@ use Rattle.ost_forms.proofs.Parted.{one_commit}
 use Rattle.ost_objects.specs.Object.{HasForm}
 use Rattle.fs_trait.specs.View.{Disk}
 use Rattle.fs_trait.specs.Seen.{Seen, Vacant, Directory, Symlink, Leaf as SeenLeaf, shows}
-use Rattle.repo_model.specs.Objects.{Store, Stores, Has, object_in}
+use Rattle.repo_model.specs.Objects.{Store, Stores, IsMap, Has, object_in}
 use Rattle.repo_model.specs.Trees.{HasCommit, HasEntries, HasFolder, Shows, ShowsLeaf, Names, NamesFile, TreeShows, name_of}
 use Rattle.repo_model.specs.Whole.{Complete}
-use Rattle.repo_model.proofs.Stored.{stores_one}
+use Rattle.repo_model.proofs.Stored.{stores_map}
 use Rattle.checkout.specs.CheckoutFolder.{IsLeaf, leaf_path, Stands, IsCheckout, IsTreeMap, HasLeaves}
 use Rattle.checkout.specs.CheckoutWork.{IsPlaced}
 use Rattle.checkout.proofs.CheckoutMaps.{found, found_at, found_back}
@@ -147,32 +147,32 @@ fits_below into p room names few short =
     let q : IsPath p = IsPath-from_joined p names (omega (arith, few)) (omega (arith, b)) in
     (IsPath-append into p room.path q).0 (omega (arith, n, few), omega (arith, a, b))
 
-module _ (d : Disk) (limits : Limits) (commit : List ℕ) (tree : Nodes) (map : IsPathMap tree) (whole : Complete (Stores d) limits commit) (is : IsTreeOf (Stores d) commit tree) where
-  same_parts : (c : CommitParts) → HasCommit (Stores d) commit c → c ≡ whole.parts
+module _ (S : Store) (one_each : IsMap S) (limits : Limits) (commit : List ℕ) (tree : Nodes) (map : IsPathMap tree) (whole : Complete S limits commit) (is : IsTreeOf S commit tree) where
+  same_parts : (c : CommitParts) → HasCommit S commit c → c ≡ whole.parts
   same_parts c has =
       let here = whole.here in
-      let same : has.bytes ≡ here.bytes = stores_one d (name_of kind.Commit commit) has.bytes here.bytes has.stored here.stored in
+      let same : has.bytes ≡ here.bytes = one_each.one (name_of kind.Commit commit) has.bytes here.bytes has.stored here.stored in
       one_commit c whole.parts here.bytes has.reads.0.time here.reads.0.time (has.reads.0.form ∙ ap Some same) here.reads.0.form
 
-  shown_at : (p : Path) (n : NodeName) → node_at tree p ≡ Some n → Shows (Stores d) whole.parts.tree whole.parts.meta p n
+  shown_at : (p : Path) (n : NodeName) → node_at tree p ≡ Some n → Shows S whole.parts.tree whole.parts.meta p n
   shown_at p n has =
       let shown = (is p n).0 (found_back tree p n has) in
-      subst (λ (c : CommitParts). Shows (Stores d) c.tree c.meta p n) (same_parts shown.0 shown.1) shown.2
+      subst (λ (c : CommitParts). Shows S c.tree c.meta p n) (same_parts shown.0 shown.1) shown.2
 
-  found_at_path : (p : Path) (n : NodeName) → Shows (Stores d) whole.parts.tree whole.parts.meta p n → node_at tree p ≡ Some n
+  found_at_path : (p : Path) (n : NodeName) → Shows S whole.parts.tree whole.parts.meta p n → node_at tree p ≡ Some n
   found_at_path p n shown = found tree p n map.ascending ((is p n).1 (whole.parts, whole.here, shown))
 
   tree_map : IsTreeMap tree
   tree_map = record {
-    root = decide (node_at tree []) (λ none. root_shown (Stores d) limits.content whole.parts.tree whole.parts.meta whole.objects (λ k shown. none k (found_at_path [] (Folder k) shown)));
-    inner = λ f x n has. decide (node_at tree f) (λ none. folder_shown (Stores d) limits.content whole.parts.tree whole.parts.meta f x n whole.objects (shown_at (under f x) n has) (λ k shown. none k (found_at_path f (Folder k) shown)));
+    root = decide (node_at tree []) (λ none. root_shown S limits.content whole.parts.tree whole.parts.meta whole.objects (λ k shown. none k (found_at_path [] (Folder k) shown)));
+    inner = λ f x n has. decide (node_at tree f) (λ none. folder_shown S limits.content whole.parts.tree whole.parts.meta f x n whole.objects (shown_at (under f x) n has) (λ k shown. none k (found_at_path f (Folder k) shown)));
   }
 
   fits_at : (into : Path) → HasRoomBelow into → (p : Path) (n : NodeName) → node_at tree p ≡ Some n → IsPath (into ++ p)
   fits_at into room p n has =
       let shown = shown_at p n has in
       let short = whole.short p n shown in
-      fits_below into p room (names_shown (Stores d) whole.parts.tree whole.parts.meta p n shown) short.0 short.1
+      fits_below into p room (names_shown S whole.parts.tree whole.parts.meta p n shown) short.0 short.1
 
   pub tree_placed : (into : Path) → HasRoomBelow into → IsPlaced into tree
   tree_placed into room = record {
@@ -182,17 +182,21 @@ module _ (d : Disk) (limits : Limits) (commit : List ℕ) (tree : Nodes) (map : 
         fits_at into room (get_or tree k e).0 (get_or tree k e).1 (found_at tree k (get_or tree k e) map.ascending inside at);
   }
 
-  pub leaves_there : HasLeaves d tree
-  leaves_there p sum has =
-      let object : Has (Stores d) limits.content (name_of kind.File sum) = whole.objects p (name_of kind.File sum) (shown_named (Stores d) whole.parts.tree whole.parts.meta p sum (shown_at p (Leaf sum) has)) in
-      object_leaf limits.content (shows d (leaf_path sum)) object.bytes object.stored.there object.formed
+  -- a leaf of the map is named
+  pub leaf_is_named : (p : Path) (sum : List ℕ) → node_at tree p ≡ Some (Leaf sum) → Names S whole.parts.tree whole.parts.meta p (name_of kind.File sum)
+  leaf_is_named p sum has = shown_named S whole.parts.tree whole.parts.meta p sum (shown_at p (Leaf sum) has)
 
-pub tree_folder : (d e : Disk) (commit : List ℕ) (into : Path) (tree : Nodes) → IsPathMap tree → IsTreeOf (Stores d) commit tree → IsCheckout e into tree → IsTreeFolder e into (TreeShows (Stores d) commit)
-tree_folder d e commit into tree map is folder = record {
+pub leaves_there : (d : Disk) (limits : Limits) (commit : List ℕ) (tree : Nodes) → IsPathMap tree → Complete (Stores d) limits commit → IsTreeOf (Stores d) commit tree → HasLeaves d tree
+leaves_there d limits commit tree map whole is p sum has =
+    let object = whole.objects p (name_of kind.File sum) (leaf_is_named (Stores d) (stores_map d) limits commit tree map whole is p sum has) in
+    object_leaf limits.content (shows d (leaf_path sum)) object.bytes object.stored.there object.formed
+
+pub tree_folder : (S : Store) (e : Disk) (commit : List ℕ) (into : Path) (tree : Nodes) → IsPathMap tree → IsTreeOf S commit tree → IsCheckout e into tree → IsTreeFolder e into (TreeShows S commit)
+tree_folder S e commit into tree map is folder = record {
   each = λ p n shown. subst (Stands e into p) (found tree p n map.ascending ((is p n).1 shown)) (folder p);
   none = λ p none. vacant p none (node_at tree p) refl;
 }
   where
-    vacant : (p : Path) → ((n : NodeName) → TreeShows (Stores d) commit p n → ⊥) → (x : Option NodeName) → node_at tree p ≡ x → Stands e into p None
+    vacant : (p : Path) → ((n : NodeName) → TreeShows S commit p n → ⊥) → (x : Option NodeName) → node_at tree p ≡ x → Stands e into p None
     vacant p none None at = subst (Stands e into p) at (folder p)
     vacant p none (Some n) at = absurd (none n ((is p n).0 (found_back tree p n at)))
