@@ -166,7 +166,7 @@ begins_known d names roots depth flags found pending b are = record {
     near = λ j e less inside. let a = at_zero j e inside in omega (arith, a);
   };
   right = λ o m there. start o (inl (b.right o m));
-  begins = λ o root there. b.all o root are.ascending (in_store d names are o there);
+  begins = λ o root among. b.all o root are.ascending among;
   onward = λ o next m refers there. by o next m refers;
   found_marked = λ k c h. (b.zero (near_at k c) h).1;
   marked_found = λ c m. (0, b.commits c m);

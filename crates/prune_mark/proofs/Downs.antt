@@ -12,7 +12,7 @@ use Rattle.ost_types.specs.declared.object.Kind.TheVariants as kind
 use Rattle.ost_types.specs.declared.object.ObjName.{ObjName}
 use Rattle.obj_store.specs.Listing.{name_cmp}
 use Rattle.prune_mark.specs.Flags.{AreAscending, IsDown, IsMarked}
-use Rattle.prune_mark.specs.Doomed.{AreDoomed, AreDown, IsOfKind}
+use Rattle.prune_mark.specs.Doomed.{AreDown, AreUnmarked, IsOfKind}
 use Rattle.prune_mark.proofs.Search.{one_place}
 
 none_in : (x : ObjName) → Contains [] x → ⊥
@@ -91,8 +91,28 @@ pub wanted_other : (names : List ObjName) (flags : List Bool) (at : ℕ) (o : Ob
 wanted_other names flags at o true is k = ((λ t. let n : false ≡ true = t in cc), (λ b. absurd (k b.1)))
 wanted_other names flags at o false is k = ((λ t. (is, k)), (λ b. refl))
 
+-- of each name the flag is up, or it is on the list
+pub marked_or_listed : (names : List ObjName) (flags : List Bool) (doomed : List ObjName) → AreUnmarked names flags doomed → (o : ObjName) → Contains names o → IsMarked names flags o ⊎ Contains doomed o
+marked_or_listed names flags doomed a o (k, inside, is) = flagged (get_or flags k false) refl
+  where
+    which : (j : Kind) → o.kind ≡ j → (o.kind ≡ kind.Commit) ⊎ (o.kind ≡ kind.Commit → ⊥)
+    which kind.Commit e = inl e
+    which kind.DirTree e = inr (λ f. let n : kind.DirTree ≡ kind.Commit = sym e ∙ f in cc)
+    which kind.DirMeta e = inr (λ f. let n : kind.DirMeta ≡ kind.Commit = sym e ∙ f in cc)
+    which kind.File e = inr (λ f. let n : kind.File ≡ kind.Commit = sym e ∙ f in cc)
+
+    listed : IsDown names flags o k → Contains doomed o
+    listed down = subst (λ l. Contains l o) (sym a.both) (⊎_elim
+        (λ c. Contains-append_left a.commits a.others o (a.first.all k o inside down c))
+        (λ c. Contains-append_right a.commits a.others o (a.rest.all k o inside down c))
+        (which o.kind refl))
+
+    flagged : (v : Bool) → get_or flags k false ≡ v → IsMarked names flags o ⊎ Contains doomed o
+    flagged true e = inl (k, inside, is, e)
+    flagged false e = inr (listed (record { within = inside; is = is; down = e }))
+
 -- exactly the names without a mark are on the list
-pub doomed_exact : (names : List ObjName) (flags : List Bool) (doomed : List ObjName) → AreDoomed names flags doomed → AreAscending names → (o : ObjName) → Contains doomed o ↔ (Contains names o × (IsMarked names flags o → ⊥))
+pub doomed_exact : (names : List ObjName) (flags : List Bool) (doomed : List ObjName) → AreUnmarked names flags doomed → AreAscending names → (o : ObjName) → Contains doomed o ↔ (Contains names o × (IsMarked names flags o → ⊥))
 doomed_exact names flags doomed a sorted o = (to, from)
   where
     down : (k : ℕ) → IsDown names flags o k → Contains names o × (IsMarked names flags o → ⊥)
@@ -109,21 +129,5 @@ doomed_exact names flags doomed a sorted o = (to, from)
         (λ r. let e = a.rest.each o r in down e.0 e.2)
         (Contains-append_cases a.commits a.others o (subst (λ l. Contains l o) a.both h))
 
-    which : (k : Kind) → o.kind ≡ k → (o.kind ≡ kind.Commit) ⊎ (o.kind ≡ kind.Commit → ⊥)
-    which kind.Commit e = inl e
-    which kind.DirTree e = inr (λ f. let n : kind.DirTree ≡ kind.Commit = sym e ∙ f in cc)
-    which kind.DirMeta e = inr (λ f. let n : kind.DirMeta ≡ kind.Commit = sym e ∙ f in cc)
-    which kind.File e = inr (λ f. let n : kind.File ≡ kind.Commit = sym e ∙ f in cc)
-
-    listed : (k : ℕ) → IsDown names flags o k → Contains doomed o
-    listed k is = subst (λ l. Contains l o) (sym a.both) (⊎_elim
-        (λ c. Contains-append_left a.commits a.others o (a.first.all k o is.within is c))
-        (λ c. Contains-append_right a.commits a.others o (a.rest.all k o is.within is c))
-        (which o.kind refl))
-
-    flagged : (k : ℕ) → k < length names → get_or names k o ≡ o → (IsMarked names flags o → ⊥) → (v : Bool) → get_or flags k false ≡ v → Contains doomed o
-    flagged k inside is not_marked true e = absurd (not_marked (k, inside, is, e))
-    flagged k inside is not_marked false e = listed k (record { within = inside; is = is; down = e })
-
     from : Contains names o × (IsMarked names flags o → ⊥) → Contains doomed o
-    from b = flagged b.0.0 b.0.1 b.0.2 b.1 (get_or flags b.0.0 false) refl
+    from b = ⊎_elim (λ marked. absurd (b.1 marked)) (λ listed. listed) (marked_or_listed names flags doomed a o b.0)

@@ -1,8 +1,10 @@
 mod Told
-mod Search
+pub mod Search
 mod Flagged
 mod Spreading
 mod Parents
-mod Steps
+pub mod Steps
 mod Beginning
-mod Downs
+pub mod Downs
+mod Lasting
+mod Removed

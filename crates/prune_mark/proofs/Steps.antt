@@ -55,10 +55,14 @@ module _ (d : Disk) (roots : List ObjName) (old : State) (known : Knows d roots 
 
   -- Where nothing waits, exactly the reachable of the store are marked.
   pub finished : length old.found ≤ old.next → old.pending ≡ [] → MarksAll d roots old
-  finished all none o there = (
-    λ marked. known.right o marked there,
-    λ reached. (marked_all (Stores d) (Contains roots) old.depth (λ x. IsMarked old.names old.flags x × IsIn (Stores d) x) (λ x. ⊥) marks (λ x waits. waits) o reached there).0,
-  )
+  finished all none = record {
+    exact = λ o there. (
+      λ marked. known.right o marked there,
+      λ reached. (marked_all (Stores d) (Contains roots) old.depth (λ x. IsMarked old.names old.flags x × IsIn (Stores d) x) (λ x. ⊥) marks (λ x waits. waits) o reached there).0,
+    );
+    begins = known.begins;
+    onward = next_marked;
+  }
     where
       none_after : (n : Near) → IsAfter old.found old.next n → ⊥
       none_after n a = omega (arith, all, a.1, a.2)
@@ -68,16 +72,19 @@ module _ (d : Disk) (roots : List ObjName) (old : State) (known : Knows d roots 
       none_waits x (inr w) = let h = subst (λ l. Contains l w.0) none w.1 in omega (arith, h.1)
 
       in_line : (x : ObjName) → Begins (Stores d) (Contains roots) old.depth x → IsIn (Stores d) x → IsMarked old.names old.flags x
-      in_line x (inl root) is_in = known.begins x root is_in
+      in_line x (inl root) is_in = known.begins x root (here x is_in)
       in_line x (inr (k, commit, line, is)) is_in =
           let at = line_found (Stores d) (Contains roots) old.depth (WasFound d old.found) (WaitsAt d old.found old.next) known.nears (λ j c w. absurd (none_after (near_at j c) w.0)) k commit line (subst (IsIn (Stores d)) is is_in) in
           subst (IsMarked old.names old.flags) (sym is) (known.found_marked at.0 commit at.2.0)
+
+      next_marked : (x next : ObjName) → IsMarked old.names old.flags x → Refers (Stores d) x next → Contains old.names next → IsMarked old.names old.flags next
+      next_marked x next m refers among = ⊎_elim (λ w. absurd (none_waits x w)) (λ k. k) (known.onward x next m refers among)
 
       marks : Marks (Stores d) (Contains roots) old.depth (λ x. IsMarked old.names old.flags x × IsIn (Stores d) x) (λ x. ⊥)
       marks = record {
         right = λ x m. known.right x m.0 m.1;
         begins = λ x b is_in. (in_line x b is_in, is_in);
-        onward = λ x next m refers is_in. inr (⊎_elim (λ w. absurd (none_waits x w)) (λ k. k) (known.onward x next m.0 refers is_in), is_in);
+        onward = λ x next m refers is_in. inr (next_marked x next m.0 refers (here next is_in), is_in);
       }
 
   -- ---- the entries of a folder were looked into
@@ -89,20 +96,20 @@ module _ (d : Disk) (roots : List ObjName) (old : State) (known : Knows d roots 
     tree_in : Contains old.pending tree
     tree_in = subst (λ l. Contains l tree) (sym cut) (Contains-append_right rest (tree ∷ []) tree (0, omega arith, refl))
 
-    tree_waits : (o next : ObjName) → Refers (Stores d) o next → IsIn (Stores d) next → Waits old o → Waits after_tree o ⊎ IsMarked old.names flags' next
+    tree_waits : (o next : ObjName) → Refers (Stores d) o next → Contains old.names next → Waits old o → Waits after_tree o ⊎ IsMarked old.names flags' next
     tree_waits o next refers there (inl w) = inl (inl w)
     tree_waits o next refers there (inr (t, among, is)) = ⊎_elim
         (λ front. inl (inr (t, s.waits t front, is)))
         (λ last.
         let same : t ≡ tree = one_in old.names old.flags old.pending t tree last in
         let from : Refers (Stores d) (name_of kind.DirTree tree) next = subst (λ (x : ObjName). Refers (Stores d) x next) (is ∙ ap (name_of kind.DirTree) same) refers in
-        inr (s.all next (tree_names (Stores d) (stores_map d) tree e has next from) known.names_are.ascending (here next there)))
+        inr (s.all next (tree_names (Stores d) (stores_map d) tree e has next from) known.names_are.ascending there))
         (Contains-append_cases rest (tree ∷ []) t (subst (λ l. Contains l t) cut among))
 
-    tree_old : (o next : ObjName) → IsMarked old.names old.flags o → Refers (Stores d) o next → IsIn (Stores d) next → Waits after_tree o ⊎ IsMarked old.names flags' next
+    tree_old : (o next : ObjName) → IsMarked old.names old.flags o → Refers (Stores d) o next → Contains old.names next → Waits after_tree o ⊎ IsMarked old.names flags' next
     tree_old o next was refers there = ⊎_elim (tree_waits o next refers there) (λ m. inr (s.stays next m)) (known.onward o next was refers there)
 
-    tree_onward : (o next : ObjName) → IsMarked old.names flags' o → Refers (Stores d) o next → IsIn (Stores d) next → Waits after_tree o ⊎ IsMarked old.names flags' next
+    tree_onward : (o next : ObjName) → IsMarked old.names flags' o → Refers (Stores d) o next → Contains old.names next → Waits after_tree o ⊎ IsMarked old.names flags' next
     tree_onward o next m refers there = by refers
       where
         by : Refers (Stores d) o next → Waits after_tree o ⊎ IsMarked old.names flags' next
@@ -212,20 +219,20 @@ module _ (d : Disk) (roots : List ObjName) (old : State) (known : Knows d roots 
         (λ n. start o (inr (suc near.distance, n.0, parent near.distance near.commit n.0 in_line n.2 (parent_of n.0 n.1 (subst (IsIn (Stores d)) n.3 there)), n.3)))
         (f.new o m)
 
-    commit_waits : (o next : ObjName) → Refers (Stores d) o next → IsIn (Stores d) next → Waits old o → Waits after_commit o ⊎ IsMarked old.names flags' next
+    commit_waits : (o next : ObjName) → Refers (Stores d) o next → Contains old.names next → Waits old o → Waits after_commit o ⊎ IsMarked old.names flags' next
     commit_waits o next refers there (inl (j, q, a, is)) = ⊎_elim
         (λ e.
         let same : q ≡ near.commit = ap (λ (n : Near). n.commit) e in
         let from : Refers (Stores d) (name_of kind.Commit near.commit) next = subst (λ (x : ObjName). Refers (Stores d) x next) (is ∙ ap (name_of kind.Commit) same) refers in
-        inr (f.stays next (s.all next (folder_from next (commit_names (Stores d) (stores_map d) near.commit c has next from)) known.names_are.ascending (here next there))))
+        inr (f.stays next (s.all next (folder_from next (commit_names (Stores d) (stores_map d) near.commit c has next from)) known.names_are.ascending there)))
         (λ b. inl (inl (j, q, b, is)))
         (f.after (near_at j q) a)
     commit_waits o next refers there (inr (t, among, is)) = inl (inr (t, s.waits t among, is))
 
-    commit_old : (o next : ObjName) → IsMarked old.names old.flags o → Refers (Stores d) o next → IsIn (Stores d) next → Waits after_commit o ⊎ IsMarked old.names flags' next
+    commit_old : (o next : ObjName) → IsMarked old.names old.flags o → Refers (Stores d) o next → Contains old.names next → Waits after_commit o ⊎ IsMarked old.names flags' next
     commit_old o next before refers there = ⊎_elim (commit_waits o next refers there) (λ m. inr (f.stays next (s.stays next m))) (known.onward o next before refers there)
 
-    commit_onward : (o next : ObjName) → IsMarked old.names flags' o → Refers (Stores d) o next → IsIn (Stores d) next → Waits after_commit o ⊎ IsMarked old.names flags' next
+    commit_onward : (o next : ObjName) → IsMarked old.names flags' o → Refers (Stores d) o next → Contains old.names next → Waits after_commit o ⊎ IsMarked old.names flags' next
     commit_onward o next m refers there = by refers
       where
         by : Refers (Stores d) o next → Waits after_commit o ⊎ IsMarked old.names flags' next

@@ -17,7 +17,7 @@ pub record AreDown (names : List ObjName) (flags : List Bool) (commits : Bool) (
   pub ascending : AreAscending names → AreAscending down
 
 -- All names without a mark, the commits first, and then the others; each part in order.
-pub record AreDoomed (names : List ObjName) (flags : List Bool) (doomed : List ObjName) : Type 0 where
+pub record AreUnmarked (names : List ObjName) (flags : List Bool) (doomed : List ObjName) : Type 0 where
   pub commits : List ObjName
   pub others : List ObjName
   pub both : doomed ≡ commits ++ others

@@ -63,15 +63,18 @@ pub record Knows (d : Disk) (roots : List ObjName) (m : State) : Type 0 where
   pub nears : Nears (Stores d) (Contains roots) m.depth (WasFound d m.found) (WaitsAt d m.found m.next)
   pub line : InLine m.found m.next
   pub right : (o : ObjName) → IsMarked m.names m.flags o → IsIn (Stores d) o → Reachable (Stores d) (Contains roots) m.depth o
-  pub begins : (o : ObjName) → Contains roots o → IsIn (Stores d) o → IsMarked m.names m.flags o
-  pub onward : (o next : ObjName) → IsMarked m.names m.flags o → Refers (Stores d) o next → IsIn (Stores d) next → Waits m o ⊎ IsMarked m.names m.flags next
+  pub begins : (o : ObjName) → Contains roots o → Contains m.names o → IsMarked m.names m.flags o
+  pub onward : (o next : ObjName) → IsMarked m.names m.flags o → Refers (Stores d) o next → Contains m.names next → Waits m o ⊎ IsMarked m.names m.flags next
   pub found_marked : (k : ℕ) (commit : List ℕ) → Contains m.found (near_at k commit) → IsMarked m.names m.flags (name_of kind.Commit commit)
   pub marked_found : (commit : List ℕ) → IsMarked m.names m.flags (name_of kind.Commit commit) → (k : ℕ) × Contains m.found (near_at k commit)
   pub pending_marked : (tree : List ℕ) → Contains m.pending tree → IsMarked m.names m.flags (name_of kind.DirTree tree)
 
--- Exactly the reachable of the store are marked.
-abbrev pub MarksAll : Disk → List ObjName → State → Type 0
-MarksAll d roots m = (o : ObjName) → IsIn (Stores d) o → IsMarked m.names m.flags o ↔ Reachable (Stores d) (Contains roots) m.depth o
+-- Exactly the reachable of the store are marked; and of all that stands, what a marked object names is, and each root, also where it is
+-- damaged.
+pub record MarksAll (d : Disk) (roots : List ObjName) (m : State) : Type 0 where
+  pub exact : (o : ObjName) → IsIn (Stores d) o → IsMarked m.names m.flags o ↔ Reachable (Stores d) (Contains roots) m.depth o
+  pub begins : (o : ObjName) → Contains roots o → Contains m.names o → IsMarked m.names m.flags o
+  pub onward : (o next : ObjName) → IsMarked m.names m.flags o → Refers (Stores d) o next → Contains m.names next → IsMarked m.names m.flags next
 
 -- Why it goes no further: an object that was listed is away or damaged, a call failed or memory was wanted.
 abbrev pub Refuses : Disk → ℕ → List ObjName → MarkFault → Type 0

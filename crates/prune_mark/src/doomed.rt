@@ -2,7 +2,7 @@
 ghost use Rattle.std.specs.Prelude.{◌≡◌, ◌<◌, ◌↔◌, length, slice_index_or, Contains, IsTrue, IfOk};
 ghost use Rattle.ost_types.specs.declared.object.ObjName.{ObjName as Name};
 ghost use Rattle.prune_mark.specs.Flags.{AreAscending, IsDown, IsMarked};
-ghost use Rattle.prune_mark.specs.Doomed.{AreDoomed, AreDown, IsOfKind};
+ghost use Rattle.prune_mark.specs.Doomed.{AreDown, AreUnmarked, IsOfKind};
 
 use ost_types::{Kind, NoMemory, ObjName};
 use std::alloc::Global;
@@ -10,7 +10,7 @@ use std::alloc::Global;
 /// All names whose flags are down, the commits first, and then the others; each part in order.
 pub fn doomed_of(alloc: Global, names: &[ObjName], flags: &[bool]) -> Result<Vec<ObjName>, NoMemory>
     requires { length flags.now ≡ length names.now }
-    ensures order { IfOk result (λ v. AreDoomed names.now flags.now v.items) }
+    ensures order { IfOk result (λ v. AreUnmarked names.now flags.now v.items) }
     ensures exact { IfOk result (λ v. AreAscending names.now → (o : Name) → Contains v.items o ↔ (Contains names.now o × (IsMarked names.now flags.now o → ⊥))) }
 {
     let mut all = down(alloc, names, flags, true)?;

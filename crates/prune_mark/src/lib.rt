@@ -4,6 +4,7 @@
 mod doomed;
 mod fault;
 mod flags;
+mod laws;
 mod links;
 mod marking;
 mod objects;
@@ -11,5 +12,6 @@ mod roots;
 mod run;
 
 pub use fault::MarkFault;
+pub use laws::markings_last;
 pub use marking::Marking;
 pub use run::mark;

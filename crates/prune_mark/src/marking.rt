@@ -4,11 +4,15 @@ ghost use Rattle.ost_types.specs.declared.object.ObjName.{ObjName};
 ghost use Rattle.ost_types.specs.declared.object.ObjName.{ObjName as Name};
 ghost use Rattle.fs_trait.specs.View.{Disk, View};
 ghost use Rattle.fs_trait.specs.Effect.{IsQuiet};
+ghost use Rattle.repo_model.specs.Objects.{Stores};
+ghost use Rattle.reach.specs.Lines.{Reachable};
+ghost use Rattle.reach.specs.Marking.{AreDoomed};
+ghost use Rattle.reach.specs.Reach.{IsIn};
 ghost use Rattle.store_check.specs.Listing.{AreAll};
 ghost use Rattle.prune_mark.specs.Reads.{HasCauseOf, IsFailed};
 ghost use Rattle.prune_mark.specs.Flags.{AreAscending, IsMarked};
-ghost use Rattle.prune_mark.specs.Doomed.{AreDoomed};
-ghost use Rattle.prune_mark.specs.Marking.{IsFresh, IsStepped, Knows, OpensCommit, OpensTree, StepTells};
+ghost use Rattle.prune_mark.specs.Doomed.{AreUnmarked};
+ghost use Rattle.prune_mark.specs.Marking.{IsFresh, IsStepped, Knows, MarksAll, OpensCommit, OpensTree, StepTells};
 
 use crate::doomed::doomed_of;
 use crate::fault::MarkFault;
@@ -95,8 +99,9 @@ impl Marking {
 
     /// The names without a mark: the commits first, and then the others, each part ascending. Once all is done, what a prune removes.
     pub fn doomed(&self) -> Result<Vec<ObjName>, NoMemory>
-        ensures order { IfOk result (λ v. AreDoomed self.now.names self.now.flags v.items) }
+        ensures order { IfOk result (λ v. AreUnmarked self.now.names self.now.flags v.items) }
         ensures exact { IfOk result (λ v. AreAscending self.now.names → (o : Name) → Contains v.items o ↔ (Contains self.now.names o × (IsMarked self.now.names self.now.flags o → ⊥))) }
+        ensures removes { (d : Disk) (roots : List Name) → AreAll d self.now.names → ((o : Name) → Contains self.now.names o → IsIn (Stores d) o) → MarksAll d roots self.now → IfOk result (λ v. AreDoomed (Stores d) (Reachable (Stores d) (Contains roots) self.now.depth) (Contains v.items)) }
     {
         doomed_of(self.alloc, self.names.as_slice(), self.flags.as_slice())
     }

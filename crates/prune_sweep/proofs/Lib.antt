@@ -1,0 +1,7 @@
+mod Names
+mod Fronts
+mod Takes
+mod Losing
+mod Below
+mod Planning
+mod Going

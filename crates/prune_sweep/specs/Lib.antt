@@ -1,0 +1,6 @@
+pub mod Listing
+pub mod Lost
+pub mod Sweeping
+pub mod Steps
+pub mod Planned
+pub mod Swept
