@@ -6,6 +6,4 @@ mod run;
 pub use run::run_alone;
 
 #[cfg(test)]
-mod disk;
-#[cfg(test)]
 mod tests;

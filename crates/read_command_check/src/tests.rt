@@ -1,12 +1,29 @@
 //! What the program can't meet, since it opens no such repository: objects that go, or change, while it runs. What else is read of commits
 //! is told by the cases of `case_runner`.
-use crate::disk::{laid_out, put_bytes, put_named, put_root, put_second};
 use crate::run_alone;
-use ost_types::{Csum, FsPath, Kind, Limits, ObjName};
+use disk_fixtures::{laid_out, put_bytes, put_named, put_root};
+use fs_memory::MemFs;
+use ost_types::{Bytes, Csum, FsPath, Kind, Limits, ObjName};
 use read_command::{ReadAnswer, ReadCommand};
 use repo_layout::object_path;
 use std::alloc::Global;
 use std::test::Fail;
+
+/// A commit of the subject `second` at the second 1,700,000,001, with this parent.
+fn put_second(
+    fs: &mut MemFs,
+    alloc: Global,
+    root: &(Csum, Csum),
+    parent: &Csum,
+) -> Result<Csum, Fail> {
+    let mut bytes = Bytes::from_slice(alloc, parent.bytes())?;
+    bytes.append(b"second\0\0")?;
+    bytes.append(&[0, 0, 0, 0, 0x65, 0x53, 0xf1, 1])?;
+    bytes.append(root.0.bytes())?;
+    bytes.append(root.1.bytes())?;
+    bytes.append(&[0x50, 0x28, 0x27, 0x20, 0x20, 0])?;
+    Ok(put_named(fs, alloc, Kind::Commit, bytes.as_slice())?)
+}
 
 fn is_lacking(alloc: Global, answer: &ReadAnswer, csum: Csum, kind: Kind) -> Result<bool, Fail> {
     match answer {

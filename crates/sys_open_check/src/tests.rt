@@ -1,75 +1,28 @@
 //! What no words of the program ask for: an opening under other limits. What else an opening tells is told by the cases of `case_runner`.
-ghost use Rattle.ost_types.specs.Mode.{IsFileMode, IsFolderMode};
-
 use crate::open_again;
+use disk_fixtures::{laid_out, put_named};
 use fs_memory::MemFs;
-use fs_trait::Fs;
-use ost_types::{Csum, FsPath, Kind, Limits, Meta, ObjName, Xattrs};
+use ost_types::{Csum, FsPath, Kind, Limits, ObjName};
 use std::alloc::Global;
 use std::process::Abort;
 use std::test::Fail;
 use sys_open::{OpenFault, Why};
 
-fn folder_meta(alloc: Global) -> Meta
-    ensures { IsFolderMode result.mode }
-{
-    Meta {
-        uid: 0,
-        gid: 0,
-        mode: 0o040755,
-        xattrs: Xattrs::new(alloc),
-    }
-}
-
-fn file_meta(alloc: Global) -> Meta
-    ensures { IsFileMode result.mode }
-{
-    Meta {
-        uid: 0,
-        gid: 0,
-        mode: 0o100644,
-        xattrs: Xattrs::new(alloc),
-    }
-}
-
-fn add_file(fs: &mut MemFs, alloc: Global, at: &[u8], bytes: &[u8]) -> Result<(), Fail> {
-    let at = FsPath::parse(alloc, at)?;
-    fs.create(&at, &file_meta(alloc))?;
-    Ok(fs.append(&at, bytes)?)
-}
-
 const COMMIT: &[u8] =
     b"/ostree/repo/objects/b3/0605ed9370a39846c77ee0fc427b9e07ef40432f45037c89db106f36e49623.commit";
-
-const EMPTY: &[u8] =
-    b"/ostree/repo/objects/6e/340b9cffb37a989ca544e6bb780a2c78901d3fb33738768511a30617afa01d.dirtree";
-
-const META: &[u8] =
-    b"/ostree/repo/objects/44/6a0ef11b7cc167f3b603e585c7eeeeb675faa412d5ec73f62988eb0b6c5488.dirmeta";
 
 const COMMIT_BYTES: &[u8] =
     b"first\x00\x00\x00\x00\x00\x00\x00eS\xf1\x00n4\x0b\x9c\xff\xb3z\x98\x9c\xa5D\xe6\xbbx\x0a,x\x90\x1d?\xb378v\x85\x11\xa3\x06\x17\xaf\xa0\x1dDj\x0e\xf1\x1b|\xc1g\xf3\xb6\x03\xe5\x85\xc7\xee\xee\xb6u\xfa\xa4\x12\xd5\xecs\xf6)\x88\xeb\x0blT\x880\x07\x06\x00\x00\x00";
 
 // A commit of an empty folder, with its entries and its attributes.
 fn with_commit(alloc: Global) -> Result<MemFs, Fail> {
-    let folders: [&[u8]; 6] = [
-        b"/ostree",
-        b"/ostree/repo",
-        b"/ostree/repo/objects",
-        b"/ostree/repo/objects/b3",
-        b"/ostree/repo/objects/6e",
-        b"/ostree/repo/objects/44",
-    ];
-    let mut fs = MemFs::new(alloc)?;
-    for at in folders {
-        fs.mkdir(&FsPath::parse(alloc, at)?, &folder_meta(alloc))?;
-    }
-    add_file(&mut fs, alloc, COMMIT, COMMIT_BYTES)?;
-    add_file(&mut fs, alloc, EMPTY, b"\0")?;
-    add_file(
+    let mut fs = laid_out(alloc)?;
+    put_named(&mut fs, alloc, Kind::Commit, COMMIT_BYTES)?;
+    put_named(&mut fs, alloc, Kind::DirTree, b"\0")?;
+    put_named(
         &mut fs,
         alloc,
-        META,
+        Kind::DirMeta,
         b"\x00\x00\x00\x00\x00\x00\x00\x00\x00\x00A\xed",
     )?;
     Ok(fs)
