@@ -60,6 +60,9 @@ small_from field n (Err e) o is large same =
 pub number_one : (field : List ℕ) (m n : ℕ) → IsNumber (2 ^ 64) field m → IsNumber (2 ^ 64) field n → m ≡ n
 number_one field m n x y = decimal_injective m n x.below y.below (field_one field (decimal m) (decimal n) x.spelled y.spelled)
 
+pub small_one : (field : List ℕ) (m n : ℕ) → IsNumber (2 ^ 32) field m → IsNumber (2 ^ 32) field n → m ≡ n
+small_one field m n x y = decimal_injective m n (omega (arith, x.below)) (omega (arith, y.below)) (field_one field (decimal m) (decimal n) x.spelled y.spelled)
+
 no_text : IsSome {T = List ℕ} None → ⊥
 no_text some = search rules
 

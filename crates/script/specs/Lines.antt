@@ -6,7 +6,7 @@ use Rattle.ost_types.specs.Path.{Path, text_of}
 use Rattle.ost_types.specs.Csum.{hex_of}
 use Rattle.script.specs.Field.{escaped, field_text}
 use Rattle.script.specs.declared.answer.Answer.{Answer}
-use Rattle.script.specs.declared.answer.Answer.TheVariants.{Nothing, Refs, Commit, Log, Ls, Content, NoRef, NoCommit, Partial, NoPath, NotFile, DestExists, RefMoved, RefClash, BadTree, TooMany, NoMemory, DiskFault, Halted, Outside}
+use Rattle.script.specs.declared.answer.Answer.TheVariants.{Nothing, Refs, Commit, Log, Ls, Content, Pruned, NoRef, NoCommit, Partial, NoPath, NotFile, DestExists, RefMoved, RefClash, BadTree, TooMany, NoMemory, DiskFault, Halted, Outside}
 use Rattle.script.specs.declared.answer.Reply.{Reply}
 use Rattle.script.specs.declared.rows.LogRow.{LogRow}
 use Rattle.script.specs.declared.rows.LsRow.{LsRow}
@@ -47,6 +47,10 @@ abbrev pub value_text : Option (List ℕ) → List ℕ
 value_text None = codes "none"
 value_text (Some sum) = hex_of sum
 
+-- how many objects stay, and how many were removed
+abbrev pub pruned_text : ℕ → ℕ → List ℕ
+pruned_text kept removed = codes "ok " ++ (decimal kept ++ (32 ∷ decimal removed))
+
 -- an answer behind the two numbers of its line
 abbrev pub answer_text : Answer → List ℕ
 answer_text Nothing = codes "ok"
@@ -55,6 +59,7 @@ answer_text (Commit sum) = codes "ok " ++ hex_of sum
 answer_text (Log rows) = rows_text log_row rows.items
 answer_text (Ls rows) = rows_text ls_row rows.items
 answer_text (Content bytes) = codes "ok " ++ field_text bytes
+answer_text (Pruned kept removed) = pruned_text kept removed
 answer_text NoRef = codes "refused NoRef"
 answer_text (NoCommit sum) = codes "refused NoCommit " ++ hex_of sum
 answer_text (Partial sum) = codes "refused Partial " ++ hex_of sum

@@ -9,7 +9,7 @@ use Rattle.script.specs.Field.{IsField, IsNameField, IsNumber, IsPathField, IsTe
 use Rattle.script.specs.declared.command.Rev.{Rev}
 use Rattle.script.specs.declared.command.Rev.TheVariants.{Ref, Commit}
 use Rattle.script.specs.declared.command.Command.{Command}
-use Rattle.script.specs.declared.command.Command.TheVariants.{Refs, RevParse, Log, Ls, Cat, Checkout, Reset, DropRef, Commit as CommitTree}
+use Rattle.script.specs.declared.command.Command.TheVariants.{Refs, RevParse, Log, Ls, Cat, Checkout, Reset, DropRef, Prune, Commit as CommitTree}
 use Rattle.script.specs.declared.command.CommitLine.{CommitLine}
 use Rattle.script.specs.declared.command.Written.{Written}
 use Rattle.script.specs.declared.command.Written.TheVariants as written
@@ -42,6 +42,7 @@ spelled word.Cat = codes "cat"
 spelled word.Checkout = codes "checkout"
 spelled word.Reset = codes "reset"
 spelled word.DropRef = codes "drop"
+spelled word.Prune = codes "prune"
 spelled word.Commit = codes "commit"
 
 abbrev pub keyword_of : Command → Keyword
@@ -53,6 +54,7 @@ keyword_of (Cat rev path) = word.Cat
 keyword_of (Checkout rev name) = word.Checkout
 keyword_of (Reset branch commit) = word.Reset
 keyword_of (DropRef branch) = word.DropRef
+keyword_of (Prune depth) = word.Prune
 keyword_of (CommitTree branch tree subject body time) = word.Commit
 
 -- REV PATH
@@ -72,6 +74,7 @@ HasFields (Cat rev path) fields = AreRevPath fields rev path
 HasFields (Checkout rev name) fields = AreRevName fields rev name
 HasFields (Reset branch commit) fields = (f g : List ℕ) × (fields ≡ f ∷ g ∷ []) × IsBranch f branch × IsCommit g commit
 HasFields (DropRef branch) fields = (f : List ℕ) × (fields ≡ f ∷ []) × IsBranch f branch
+HasFields (Prune depth) fields = (f : List ℕ) × (fields ≡ f ∷ []) × IsNumber (2 ^ 32) f depth
 HasFields (CommitTree branch tree subject body time) fields = ⊥
 
 -- BRANCH TREE SUBJECT BODY TIME

@@ -2,7 +2,7 @@ use crate::rows::{LogRow, LsRow};
 use ost_types::{Bytes, Csum, FsPath};
 use repo_layout::RefName;
 
-/// What a command answered. The first six are those of a command that was done, the next ten refuse it, and the
+/// What a command answered. The first seven are those of a command that was done, the next ten refuse it, and the
 /// others end it for want of something outside.
 #[derive(Drop, Debug)]
 pub enum Answer {
@@ -18,6 +18,11 @@ pub enum Answer {
     Ls(Vec<LsRow>),
     /// What the regular file holds.
     Content(Bytes),
+    /// How many objects stay, and how many were removed.
+    Pruned {
+        kept: usize,
+        removed: usize,
+    },
     /// There is no such ref.
     NoRef,
     /// There is no such commit.

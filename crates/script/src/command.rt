@@ -46,6 +46,10 @@ pub enum Command {
     DropRef {
         branch: RefName,
     },
+    /// `prune` removes the objects that no commit of a ref leads to, nor a parent of one so many commits behind it.
+    Prune {
+        depth: u32,
+    },
     /// `commit` commits the tree, and makes the ref name the commit. Its time is in seconds since 1970.
     Commit {
         branch: RefName,

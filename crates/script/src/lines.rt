@@ -4,7 +4,7 @@ ghost use Rattle.std.specs.Fmt.{decimal};
 ghost use Rattle.ost_types.specs.Csum.{hex_of};
 ghost use Rattle.ost_types.specs.Path.{text_of};
 ghost use Rattle.script.specs.Field.{escaped, field_text};
-ghost use Rattle.script.specs.Lines.{answer_text, lane_lines, replies_text, reply_line, value_text};
+ghost use Rattle.script.specs.Lines.{answer_text, lane_lines, pruned_text, replies_text, reply_line, value_text};
 
 use crate::answer::{Answer, Reply};
 use crate::escape::{append_bytes, append_field};
@@ -63,6 +63,7 @@ fn append_answer(alloc: Global, text: &mut Bytes, answer: &Answer) -> Result<(),
         Answer::Log(rows) => append_log(alloc, text, rows),
         Answer::Ls(rows) => append_ls(alloc, text, rows),
         Answer::Content(content) => append_content(text, content),
+        Answer::Pruned { kept, removed } => append_pruned(alloc, text, *kept, *removed),
         Answer::NoRef => text.append(b"refused NoRef"),
         Answer::NoCommit(commit) => append_sum(text, b"refused NoCommit ", commit),
         Answer::Partial(commit) => append_sum(text, b"refused Partial ", commit),
@@ -123,6 +124,17 @@ fn append_content(text: &mut Bytes, content: &Bytes) -> Result<(), NoMemory>
 {
     text.append(b"ok ")?;
     append_bytes(text, content.as_slice())
+}
+
+fn append_pruned(
+    alloc: Global,
+    text: &mut Bytes,
+    kept: usize,
+    removed: usize,
+) -> Result<(), NoMemory>
+    ensures { OnOk result (text.new ≡ text.old ++ pruned_text kept removed) }
+{
+    text.append(format!(in alloc; "ok {kept} {removed}")?.as_bytes())
 }
 
 fn append_too_many(alloc: Global, text: &mut Bytes, count: u64) -> Result<(), NoMemory>

@@ -132,6 +132,18 @@ pub fn read_drop(alloc: Global, fields: &[&[u8]]) -> Result<Option<Written>, NoM
     }
 }
 
+pub fn read_prune(alloc: Global, fields: &[&[u8]]) -> Result<Option<Written>, NoMemory>
+    ensures { IfOk result (λ o. MatchOption o ((depth : ℕ) → ¬ (HasFields (command.Prune depth) (map (λ f. f.now) fields.now))) (λ c. (depth : ℕ) × (c ≡ written.Command (command.Prune depth)) × HasFields (command.Prune depth) (map (λ f. f.now) fields.now))) }
+{
+    let [depth] = fields else {
+        return Ok(None);
+    };
+    match read_u32(alloc, depth)? {
+        Some(depth) => Ok(Some(Written::Command(Command::Prune { depth }))),
+        None => Ok(None),
+    }
+}
+
 pub fn read_commit_words(alloc: Global, fields: &[&[u8]]) -> Result<Option<Written>, NoMemory>
     ensures { IfOk result (λ o. MatchOption o ((line : CommitLine) → ¬ (IsCommitLine (map (λ f. f.now) fields.now) line)) (λ c. (line : CommitLine) × (c ≡ written.Commit line) × IsCommitLine (map (λ f. f.now) fields.now) line)) }
 {

@@ -1,5 +1,5 @@
 use ost_types::{Bytes, FsPath, NoMemory, Text};
-use script::{Answer, LsRow, Reply, ScriptFault, read_words, write_replies};
+use script::{Answer, Command, LsRow, Reply, ScriptFault, read_words, write_replies};
 use std::alloc::Global;
 use std::test::Fail;
 
@@ -46,12 +46,71 @@ fn prints_rows_that_no_case_has(rt: HostRuntime) -> Result<(), Fail> {
     Ok(())
 }
 
-fn fault_of(alloc: Global, line: &[u8]) -> Result<Option<ScriptFault>, Fail> {
+#[test]
+fn prints_prunes(rt: HostRuntime) -> Result<(), Fail> {
+    let alloc = rt.alloc();
+    let told = printed(
+        alloc,
+        Answer::Pruned {
+            kept: 309,
+            removed: 0,
+        },
+    )?;
+    assert!(&rt; told.as_slice() == b"0 0 ok 309 0\n".as_slice());
+    let told = printed(
+        alloc,
+        Answer::Pruned {
+            kept: 5,
+            removed: 1,
+        },
+    )?;
+    assert!(&rt; told.as_slice() == b"0 0 ok 5 1\n".as_slice());
+    Ok(())
+}
+
+fn words_of(alloc: Global, line: &[u8]) -> Result<Vec<Text>, Fail> {
     let mut words = Vec::new(alloc);
     for word in line.split(|byte| *byte == b' ') {
         words.push(Text::parse(alloc, word)?.ok_or("no text")?)?;
     }
+    Ok(words)
+}
+
+fn fault_of(alloc: Global, line: &[u8]) -> Result<Option<ScriptFault>, Fail> {
+    let words = words_of(alloc, line)?;
     Ok(read_words(alloc, &words).err())
+}
+
+// How many parents stay, of a prune.
+fn depth_of(alloc: Global, line: &[u8]) -> Result<Option<u32>, Fail> {
+    let words = words_of(alloc, line)?;
+    let Ok(lanes) = read_words(alloc, &words) else {
+        return Ok(None);
+    };
+    let Some(lane) = lanes.first() else {
+        return Ok(None);
+    };
+    match lane.commands.first() {
+        Some(Command::Prune { depth }) => Ok(Some(*depth)),
+        _ => Ok(None),
+    }
+}
+
+#[test]
+fn reads_depths(rt: HostRuntime) -> Result<(), Fail> {
+    let alloc = rt.alloc();
+    let depth = depth_of(alloc, b"prune 0")?;
+    assert!(&rt; depth == Some(0));
+    let depth = depth_of(alloc, b"prune 4294967295")?;
+    assert!(&rt; depth == Some(4294967295));
+    let depth = depth_of(alloc, b"prune %31%30")?;
+    assert!(&rt; depth == Some(10));
+    let lines =
+        b"prune|prune 1 2|prune ~|prune 00|prune 01|prune +1|prune -1|prune 1a|prune 4294967296|prune 18446744073709551616|Prune 1";
+    for line in lines.split(|byte| *byte == b'|') {
+        assert!(&rt; fault_of(alloc, line)? == Some(ScriptFault::BadLine(1)));
+    }
+    Ok(())
 }
 
 // The program says the same of these and of words that are no command's.

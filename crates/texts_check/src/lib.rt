@@ -1,4 +1,4 @@
-//! The tests of the texts that no case reaches: two faults, and words of a commit.
+//! The tests of the texts that no case reaches: two faults, words of a commit, and depths of a prune.
 #![tactic(auto)]
 
 #[cfg(test)]
