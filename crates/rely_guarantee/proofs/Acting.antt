@@ -18,7 +18,6 @@ use Rattle.rely_guarantee.specs.declared.books.Pending.{Pending}
 use Rattle.rely_guarantee.specs.declared.event.Event.{Event}
 use Rattle.rely_guarantee.specs.declared.kind.Outcome.{Outcome}
 use Rattle.rely_guarantee.specs.declared.kind.Outcome.TheVariants as came
-use Rattle.rely_guarantee.specs.declared.kind.Halt.TheVariants as halt
 use Rattle.rely_guarantee.specs.Exact as exact
 use Rattle.rely_guarantee.specs.Exact.{IsRefusedBy, why_of}
 use Rattle.rely_guarantee.specs.State.{first, stored}
@@ -37,7 +36,7 @@ pub told_same : {P : View → Type 0} (view : Option View) (w : View) → view �
 told_same {P} view w is told = let e : Some told.0 ≡ Some w = sym told.1 ∙ is in let k : told.0 ≡ w = cc in subst P k told.2
 
 pub keeps_refl : (lane : ℕ) (b : Books) → Keeps lane b b
-keeps_refl lane b = record { exclusive = λ k. k; turn = λ k. k; sysroot = λ k. k; shared = λ x l k. k; holds = λ h l k. k; wants = λ w l k. k; pins = λ p l k. k; claims = λ c k. k; others = λ c l k. k }
+keeps_refl lane b = record { exclusive = λ k. k; turn = λ k. k; sysroot = λ k. k; holds = λ h l k. k; wants = λ w l k. k; pins = λ p l k. k; pinned = λ p l k. k; claims = λ c k. k; others = λ c l k. k }
 
 -- what is to be held for the next step
 pub before_holds : (next : Kind) (lane : ℕ) (b : Books) → IsBefore next → NotPending lane b → Holds next lane b

@@ -102,6 +102,7 @@ set_shows W v actor name commit seen lies is sum was = record {
   writes = writes;
   valid = (is, sum);
   was = λ t at. said_at name t seen v at was;
+  roots = λ s shown. tt;
 }
   where
     writes : (t : Topic) (s : Seen) → W (path_of t) s → ShownBy (SetRef name seen commit) t s
@@ -113,7 +114,7 @@ set_shows W v actor name commit seen lies is sum was = record {
 -- The unlink of a ref's file.
 pub drop_shows : (W : Path → Seen → Type 0) (v : View) (name seen : List ℕ) → ((p : Path) (s : Seen) → W p s → (p ≡ ref_path name) × (s ≡ Vacant))
     → IsRefName name → Says (RefOf name) (Some seen) (shows v.now (ref_path name)) → Shows W v (DropRef name seen)
-drop_shows W v name seen lies is was = record { writes = writes; valid = is; was = λ t at. said_at name t (Some seen) v at was }
+drop_shows W v name seen lies is was = record { writes = writes; valid = is; was = λ t at. said_at name t (Some seen) v at was; roots = λ s shown. tt }
   where
     writes : (t : Topic) (s : Seen) → W (path_of t) s → ShownBy (DropRef name seen) t s
     writes (RefOf n) s wrote =

@@ -12,7 +12,7 @@ use Rattle.rely_guarantee.specs.declared.books.Entry.{Entry}
 use Rattle.rely_guarantee.specs.declared.books.Pending.{Pending}
 use Rattle.rely_guarantee.specs.declared.event.Event.{Event}
 use Rattle.rely_guarantee.specs.State.{Topic, RefOf, Said, State, is_topic, target, before, gives, next, after, IsRun, events_of}
-use Rattle.rely_guarantee.specs.Disks.{path_of, IsLeaf, Says}
+use Rattle.rely_guarantee.specs.Disks.{path_of, IsLeaf, Logical, Says}
 use Rattle.rely_guarantee.specs.Books.{Books}
 use Rattle.rely_guarantee.specs.Rely.{Guarantee}
 use Rattle.rely_guarantee.specs.SystemInvariant.{Shown, Leads, NoStray, Known, Stands}
@@ -159,7 +159,7 @@ pub stands_show : (start : State) (entries : List Entry) (b : Books) (actor lane
     → Stands start entries None v → Stands start entries (Some p) w
 stands_show start entries b actor lane p W v w writes within change was = record {
   named = was.named;
-  run = run_push (events_of entries) p.event start (subst (λ (l : List Event). IsRun l start) (append-nil (events_of entries)) was.run) (record { valid = change.valid; was = seen_now });
+  run = run_push (events_of entries) p.event start (subst (λ (l : List Event). IsRun l start) (append-nil (events_of entries)) was.run) (record { valid = change.valid; was = seen_now; roots = change.roots value shown_now });
   known = known_show W v w writes b actor lane (after (events_of entries) start) p within change was.known;
   folders = folders_kept W v w writes b actor lane within was.folders;
   strays = strays_kept W v w writes b actor lane within was.strays;
@@ -170,11 +170,11 @@ stands_show start entries b actor lane p W v w writes within change was = record
     value : State
     value = after (events_of entries) start
 
+    shown_now : Logical v.now value
+    shown_now t = ⊎_elim (λ k. k) (λ bad. absurd bad) (was.known.each t _ (may_now v (path_of t)))
+
     seen_now : (t : Topic) → target p.event ≡ Some t → value t ≡ before p.event
-    seen_now t at = ⊎_elim
-        (λ k. says_one t (value t) (before p.event) _ k (change.was t at))
-        (λ bad. absurd bad)
-        (was.known.each t _ (may_now v (path_of t)))
+    seen_now t at = says_one t (value t) (before p.event) _ (shown_now t) (change.was t at)
 
 pub stands_settle : (start : State) (entries : List Entry) (p : Pending) (e : Entry) (v w : View) → e.event ≡ p.event → Writes Nothing v w → Final p.event w
     → Stands start entries (Some p) v → Stands start (entries ++ e ∷ []) None w

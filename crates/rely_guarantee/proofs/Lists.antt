@@ -11,6 +11,11 @@ apart_test a b other = by (nat_eq a b) refl
     by true is = absurd (other (let e : a ≡ b = grind (arith, nat_tests) in e))
     by false is = ap not is
 
+pub test_apart : (a b : ℕ) → not (nat_eq a b) ≡ true → a ≢ b
+test_apart a b is same =
+    let here : nat_eq a b ≡ true = grind (arith, nat_tests) in
+    let n : false ≡ true = sym (ap not here) ∙ is in cc
+
 -- two numbers that are the same unless they differ
 pub other_or_own : (a b : ℕ) → (a ≢ b → a ≡ b) → a ≡ b
 other_or_own a b h = by (nat_eq a b) refl
@@ -66,6 +71,14 @@ module _ {X : Type 0} where
       by : (b : Bool) → test y ≡ b → (Contains (filter test xs) x → Contains xs x) → Contains (y ∷ xs) x
       by true e rest = ⊎_elim (λ here. contains_here xs y x here) (λ later. contains_later xs y x (rest later)) (contains_cases (filter test xs) y x (let h : Contains (y ∷ filter test xs) x = rw e at has in h))
       by false e rest = contains_later xs y x (rest (let h : Contains (filter test xs) x = rw e at has in h))
+
+  pub filter_test : (test : X → Bool) (xs : List X) (x : X) → Contains (filter test xs) x → test x ≡ true
+  filter_test test [] x (k, lt, e) = absurd (omega (arith, lt))
+  filter_test test (y ∷ xs) x has = by (test y) refl (filter_test test xs x)
+    where
+      by : (b : Bool) → test y ≡ b → (Contains (filter test xs) x → test x ≡ true) → test x ≡ true
+      by true e rest = ⊎_elim (λ here. sym (ap test here) ∙ e) (λ later. rest later) (contains_cases (filter test xs) y x (let h : Contains (y ∷ filter test xs) x = rw e at has in h))
+      by false e rest = rest (let h : Contains (filter test xs) x = rw e at has in h)
 
   pub all_of : (P : X → Type 0) (xs : List X) → ((x : X) → Contains xs x → P x) → All P xs
   all_of P xs each = λ k d lt. each _ (Contains-get_or xs k d lt)

@@ -14,9 +14,13 @@ use Rattle.rely_guarantee.specs.declared.event.Event.TheVariants.{SetRef, DropRe
 use Rattle.rely_guarantee.specs.declared.kind.Wants.{Wants}
 use Rattle.rely_guarantee.specs.Books.{Books, books_of, doomed_of, Free, Frees, Agrees, Spared}
 use Rattle.rely_guarantee.specs.Change.{Dooms}
-use Rattle.rely_guarantee.specs.Exact.{lock_taken}
+use Rattle.rely_guarantee.specs.Exact.{NoNewShares, lock_taken}
 use Rattle.rely_guarantee.specs.State.{removed_by}
 use Rattle.rely_guarantee.proofs.Lists.{all_of}
+
+-- behind a step that left those that store as they were
+pub shares_since : (old mid new : rust.Books) → mid.shared.items ≡ old.shared.items → NoNewShares mid new → NoNewShares old new
+shares_since old mid new same fewer x has = subst (λ (l : List Share). Contains l x) same (fewer x has)
 
 -- what was free of others is, once the lane has more
 pub free_before : (lock lock' : Option ℕ) (lane : ℕ) → ((x : ℕ) → x ≢ lane → lock ≡ Some x → lock' ≡ Some x) → Free lock' lane → Free lock lane

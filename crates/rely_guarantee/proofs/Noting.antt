@@ -1,5 +1,5 @@
 -- The step that makes the folder of a checkout.
-use Rattle.std.proofs.Common.{◌≡◌, ◌≢◌, ◌⊎◌, ⊎_elim, inl, inr, ◌<◌, ◌≤◌, ℕ, refl, sym, ◌∙◌, ap, subst, List, [], ◌∷◌, ◌++◌, Contains, Option, Some}
+use Rattle.std.proofs.Common.{◌≡◌, ◌≢◌, ◌⊎◌, ⊎_elim, inl, inr, ◌≤◌, ℕ, refl, sym, ◌∙◌, ap, subst, List, [], ◌∷◌, ◌++◌, Contains, Option, Some}
 use Rattle.ost_types.specs.Path.{Name, Path}
 use Rattle.fs_trait.specs.declared.task.StepResult.{StepResult}
 use Rattle.fs_trait.specs.declared.task.StepResult.TheVariants as turn
@@ -12,7 +12,6 @@ use Rattle.repo_layout.specs.BootPaths.{checkout_path}
 use Rattle.rely_guarantee.specs.declared.books.Base.{Base}
 use Rattle.rely_guarantee.specs.declared.books.Books as rust
 use Rattle.rely_guarantee.specs.declared.books.Claim as claim
-use Rattle.rely_guarantee.specs.declared.kind.Outcome.{Outcome}
 use Rattle.rely_guarantee.specs.declared.kind.Outcome.TheVariants as came
 use Rattle.rely_guarantee.specs.Books.{Books, books_of, IsClaimed, Keeps, Spared}
 use Rattle.rely_guarantee.specs.SystemInvariant.{SystemInvariant}
@@ -80,7 +79,7 @@ module _ {F : Type 0} (view : F → Option View) (clock spare : F → ℕ) (was 
     no_others c other has = ⊎_elim (λ was_there. was_there) (λ e. absurd (other (sym (ap (λ (x : claim.Claim). x.lane) e)))) (claim_cases c has)
 
     noted_keeps : Keeps lane (books_of old.books) (books_of (claimed_books old.books noted))
-    noted_keeps = record { exclusive = λ k. k; turn = λ k. k; sysroot = λ k. k; shared = λ x l k. k; holds = λ h l k. k; wants = λ w l k. k; pins = λ p l k. k; claims = claim_stays; others = no_others }
+    noted_keeps = record { exclusive = λ k. k; turn = λ k. k; sysroot = λ k. k; holds = λ h l k. k; wants = λ w l k. k; pins = λ p l k. k; pinned = λ p l k. k; claims = claim_stays; others = no_others }
 
     noted_spared : Spared lane lane (books_of old.books) (books_of (claimed_books old.books noted))
     noted_spared =

@@ -1,6 +1,5 @@
 -- Which pins there are after an act.
-use Rattle.std.proofs.Common.{◌≡◌, ◌≢◌, ◌⊎◌, inl, inr, ⊎_elim, ℕ, Bool, true, false, not, nat_eq, refl, sym, ◌∙◌, ap, arith, List, [], ◌∷◌, ◌++◌, append-nil, Contains, Option, Some, None}
-use Rattle.std.specs.List.{filter}
+use Rattle.std.proofs.Common.{◌≡◌, ◌≢◌, ◌⊎◌, inl, inr, ⊎_elim, ℕ, true, nat_eq, refl, sym, ◌∙◌, ap, arith, List, [], ◌∷◌, ◌++◌, append-nil, Contains, Option, Some, None}
 use Rattle.std.proofs.lemmas.Bool.Decides.{nat_tests}
 use Rattle.std.proofs.lemmas.List.Elements.{filter-append}
 use Rattle.ost_types.specs.declared.object.ObjName.{ObjName}
@@ -8,7 +7,7 @@ use Rattle.rely_guarantee.specs.declared.books.Pin.{Pin}
 use Rattle.rely_guarantee.specs.declared.kind.Outcome.{Outcome}
 use Rattle.rely_guarantee.specs.declared.kind.Outcome.TheVariants as came
 use Rattle.rely_guarantee.specs.Pinning.{ArePinned, is_others, with_pin, without}
-use Rattle.rely_guarantee.proofs.Lists.{added_cases, contains_cases, filter_contains}
+use Rattle.rely_guarantee.proofs.Lists.{added_cases, filter_contains, filter_test, test_apart}
 
 -- a lane's own pin is none of the others'
 own_goes : (lane : ℕ) (object : ObjName) → without lane (record { lane = lane; object = object } ∷ []) ≡ []
@@ -38,19 +37,5 @@ with_cases (Some object) lane pins p has = ⊎_elim
     (added_cases pins (record { lane = lane; object = object }) p has)
 
 -- and each pin of the others is an old one, and not the lane's
-module _ {X : Type 0} where
-  filter_test : (test : X → Bool) (xs : List X) (x : X) → Contains (filter test xs) x → test x ≡ true
-  filter_test test [] x (k, lt, e) = absurd (omega (arith, lt))
-  filter_test test (y ∷ xs) x has = by (test y) refl (filter_test test xs x)
-    where
-      by : (b : Bool) → test y ≡ b → (Contains (filter test xs) x → test x ≡ true) → test x ≡ true
-      by true e rest = ⊎_elim (λ here. sym (ap test here) ∙ e) (λ later. rest later) (contains_cases (filter test xs) y x (let h : Contains (y ∷ filter test xs) x = rw e at has in h))
-      by false e rest = rest (let h : Contains (filter test xs) x = rw e at has in h)
-
-others_apart : (lane : ℕ) (p : Pin) → is_others lane p ≡ true → p.lane ≢ lane
-others_apart lane p is same =
-    let here : nat_eq p.lane lane ≡ true = grind (arith, nat_tests) in
-    let n : false ≡ true = sym (ap not here) ∙ is in cc
-
 pub without_cases : (lane : ℕ) (pins : List Pin) (p : Pin) → Contains (without lane pins) p → (p.lane ≢ lane) × Contains pins p
-without_cases lane pins p has = (others_apart lane p (filter_test (is_others lane) pins p has), filter_contains (is_others lane) pins p has)
+without_cases lane pins p has = (test_apart p.lane lane (filter_test (is_others lane) pins p has), filter_contains (is_others lane) pins p has)

@@ -247,7 +247,7 @@ module _ {F : Type 0} (view : F → Option View) (clock spare : F → ℕ) (was 
             let v = fslaws.told fs old.fs w told_w in
             laws.next lane lane t next v.0 w (books_of old.books) b (subst (λ (k : Kind). Stood k lane lane (books_of old.books)) (sym is) (turn_free, free)) (ready.task.facts v.0 v.1)
             (told_same (view fs) w told_w (subst (λ x. Told (view fs) (λ w. leaves t x next v.0 w)) more (after v.0 v.1)))
-            (record { exclusive = λ k. k; turn = λ k. refl; sysroot = λ k. k; shared = λ x l k. k; holds = λ x l k. k; wants = λ x l k. k; pins = λ x l k. k; claims = λ c k. k; others = λ c l k. k })
+            (record { exclusive = λ k. k; turn = λ k. refl; sysroot = λ k. k; holds = λ x l k. k; wants = λ x l k. k; pins = λ x l k. k; pinned = λ x l k. k; claims = λ c k. k; others = λ c l k. k })
             (subst (λ (k : Kind). Owned k lane (books_of old.books) b) (sym is) (doomed_shown lane command e (books_of old.books) (show_duty old lane t e is turn_free free ready v.0 v.1).2, refl));
         holds = follows_holds e (owed_by (kind next)) (kind next) lane b chain (record { command = command; turn = refl; pending = refl; owes = omega arith });
       }
@@ -361,7 +361,7 @@ module _ {F : Type 0} (view : F → Option View) (clock spare : F → ℕ) (was 
             let v = fslaws.told fs old.fs w told_w in
             laws.next lane lane t next v.0 w (books_of old.books) b (subst (λ (x : Kind). Stood x lane lane (books_of old.books)) (sym is) stood) (ready.task.facts v.0 v.1)
             (told_same (view fs) w told_w (subst (λ x. Told (view fs) (λ w. leaves t x next v.0 w)) more (after v.0 v.1)))
-            (record { exclusive = λ h. h; turn = λ h. h; sysroot = λ h. h; shared = λ x l h. h; holds = λ x l h. h; wants = λ x l h. h; pins = λ x l h. h; claims = λ c h. h; others = λ c l h. h })
+            (record { exclusive = λ h. h; turn = λ h. h; sysroot = λ h. h; holds = λ x l h. h; wants = λ x l h. h; pins = λ x l h. h; pinned = λ x l h. h; claims = λ c h. h; others = λ c l h. h })
             (subst (λ (x : Kind). Owned x lane (books_of old.books) b) (sym is) owned);
         holds = follows_holds e chain.0 (kind next) lane b chain.2
             (record { command = pend.command; turn = pend.turn; pending = pend.pending; owes = omega (arith, follows_owed e chain.0 (kind next) chain.2, chain.1, pend.owes) });

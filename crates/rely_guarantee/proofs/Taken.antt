@@ -1,5 +1,5 @@
 -- What an act takes from the store: what it removes, and nothing else.
-use Rattle.std.proofs.Common.{◌≡◌, ◌≢◌, inl, ℕ, Bool, true, false, nat_eq, refl, sym, ◌∙◌, ap, subst, arith, List, [], Contains, Option, Some, None}
+use Rattle.std.proofs.Common.{◌≡◌, ◌≢◌, ℕ, Bool, true, false, nat_eq, refl, sym, ◌∙◌, ap, subst, arith, List, [], Contains, Option, Some, None}
 use Rattle.std.proofs.lemmas.Bool.Decides.{nat_tests}
 use Rattle.ost_types.specs.declared.object.ObjName.{ObjName}
 use Rattle.ost_types.specs.Path.{Path}

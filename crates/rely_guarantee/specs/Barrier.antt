@@ -40,7 +40,7 @@ pub barrier_laws : Laws barrier_kind barrier_needs barrier_writes barrier_steppe
 barrier_laws = record {
   ready = λ actor lane t v b by f. tt;
   kept = λ actor lane mine t v w b b' other not does holds f. tt;
-  gains = λ lane t v b b' keeps f. tt;
+  gains = λ lane t v b b' keeps same f. tt;
   duty = λ actor lane t new v b agrees by stood f. ((λ p s wrote. absurd wrote), (λ q s wrote. absurd wrote));
   chain = λ t new step. absurd step;
   last = λ t new step. tt;

@@ -140,14 +140,15 @@ pub record Spared (actor lane : ℕ) (b b' : Books) : Type 0 where
   pub opened : b'.opened ≡ b.opened
   pub start : b'.start ≡ b.start
 
--- The lane goes on to have what it has.
+-- The lane goes on to have what it has, but for the lock of those that store, which is held for one act alone; and meanwhile nobody else
+-- pins anything, or claims a checkout.
 pub record Keeps (lane : ℕ) (b b' : Books) : Type 0 where
   pub exclusive : b.exclusive ≡ Some lane → b'.exclusive ≡ Some lane
   pub turn : b.turn ≡ Some lane → b'.turn ≡ Some lane
   pub sysroot : b.sysroot ≡ Some lane → b'.sysroot ≡ Some lane
-  pub shared : (x : Share) → x.lane ≡ lane → Contains b.shared x → Contains b'.shared x
   pub holds : (h : Hold) → h.lane ≡ lane → Contains b.holds h → Contains b'.holds h
   pub wants : (w : Want) → w.lane ≡ lane → Contains b.wants w → Contains b'.wants w
   pub pins : (p : Pin) → p.lane ≡ lane → Contains b.pins p → Contains b'.pins p
+  pub pinned : (p : Pin) → p.lane ≢ lane → Contains b'.pins p → Contains b.pins p
   pub claims : (c : Claim) → Contains b.claims c → Contains b'.claims c
   pub others : (c : Claim) → c.lane ≢ lane → Contains b'.claims c → Contains b.claims c

@@ -1,5 +1,5 @@
 -- What each answer of an act says, exactly.
-use Rattle.std.specs.Prelude.{◌≡◌, ◌≢◌, ◌⊎◌, ◌≤◌, ℕ, ◌+◌, List, ◌++◌, ◌∷◌, [], Bool, true, false, Option, Some, None}
+use Rattle.std.specs.Prelude.{◌≡◌, ◌≢◌, ◌⊎◌, ◌≤◌, ℕ, ◌+◌, List, ◌++◌, ◌∷◌, [], Contains, Bool, true, false, Option, Some, None}
 use Rattle.ost_types.specs.declared.object.ObjName.{ObjName}
 use Rattle.fs_trait.specs.Count.{Rose}
 use Rattle.fs_trait.specs.declared.task.StepResult.{StepResult}
@@ -11,6 +11,7 @@ use Rattle.fs_trait.specs.Image.{Told}
 use Rattle.fs_trait.specs.View.{View}
 use Rattle.rely_guarantee.specs.declared.books.Books as rust
 use Rattle.rely_guarantee.specs.declared.books.Pending.{Pending}
+use Rattle.rely_guarantee.specs.declared.books.Share.{Share}
 use Rattle.rely_guarantee.specs.declared.event.Event.{Event}
 use Rattle.rely_guarantee.specs.declared.kind.Halt.{Halt}
 use Rattle.rely_guarantee.specs.declared.kind.Halt.TheVariants as halt
@@ -146,9 +147,14 @@ IsLeft lane (came.Refused e) old new = IsGivenUp lane old new
 IsLeft lane (came.Halted why) old new = new ≡ old
 IsLeft lane outcome old new = Unit {0}
 
--- Whose the ref lock is after an act that wasn't held off, and whose the lock of those that remove objects.
+-- nobody has come to those that store
+abbrev pub NoNewShares : rust.Books → rust.Books → Type 0
+NoNewShares old new = (x : Share) → Contains new.shared.items x → Contains old.shared.items x
+
+-- Whose the ref lock is after an act that wasn't held off, and whose the lock of those that remove objects. That of those that store is
+-- held for one act alone: behind it nobody has it who hadn't it before.
 abbrev pub Locks : Kind → ℕ → Outcome → rust.Books → rust.Books → Type 0
-Locks kind lane outcome old new = IsLeft lane outcome (turn_in kind lane old.turn) new.turn × IsLeft lane outcome (exclusive_in kind lane old.exclusive) new.exclusive
+Locks kind lane outcome old new = IsLeft lane outcome (turn_in kind lane old.turn) new.turn × IsLeft lane outcome (exclusive_in kind lane old.exclusive) new.exclusive × NoNewShares old new
 
 -- how many objects were removed of those that are to be: none where their change is shown, and each before the call that takes it away
 abbrev pub gone_shown : Outcome → ℕ → ℕ

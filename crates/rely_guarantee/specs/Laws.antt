@@ -217,8 +217,8 @@ pub record Laws {T : Type 0} (kind : T → Kind) (needs : ℕ → T → View →
   pub ready : (actor lane : ℕ) (t : T) (v : View) (b : Books) → IsBy (kind t) actor lane → facts lane t v b → needs actor t v
   -- they survive what others may do
   pub kept : (actor lane mine : ℕ) (t : T) (v w : View) (b b' : Books) → mine ≢ actor → mine ≢ lane → Interference actor lane v b w b' → Holds (kind t) mine b → facts mine t v b → facts mine t w b'
-  -- and what the lane gains
-  pub gains : (lane : ℕ) (t : T) (v : View) (b b' : Books) → Keeps lane b b' → facts lane t v b → facts lane t v b'
+  -- and what the lane gains, where what is removed is as it was
+  pub gains : (lane : ℕ) (t : T) (v : View) (b b' : Books) → Keeps lane b b' → (b'.doomed ≡ b.doomed) × (b'.gone ≡ b.gone) → facts lane t v b → facts lane t v b'
   pub duty : (actor lane : ℕ) (t new : T) (v : View) (b : Books) → Agrees b → IsBy (kind t) actor lane → Stood (kind t) actor lane b → facts lane t v b → StepObligation (kind t) actor lane v b (writes actor t v) (leaves t (turn.Done tt) new v)
   pub chain : (t new : T) → stepped t turn.More new → Chain (kind t) (kind new)
   pub last : (t new : T) → stepped t (turn.Done tt) new → IsLastly (kind t)

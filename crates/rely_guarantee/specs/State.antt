@@ -1,9 +1,11 @@
 -- What the stored history says: the state at the beginning, and after each event.
-use Rattle.std.specs.Prelude.{◌≡◌, ◌+◌, ◌≤◌, ℕ, Bool, false, List, [], ◌∷◌, ◌++◌, map, nat_le, Option, Some, None, if◌then◌else◌}
+use Rattle.std.specs.Prelude.{◌≡◌, ◌↔◌, ◌+◌, ◌≤◌, ℕ, Bool, false, List, [], ◌∷◌, ◌++◌, map, nat_le, Contains, Option, Some, None, if◌then◌else◌}
+use Rattle.ost_types.specs.declared.object.Kind.TheVariants.{Commit}
 use Rattle.ost_types.specs.declared.object.ObjName.{ObjName}
 use Rattle.ost_types.specs.Path.{same_name}
 use Rattle.repo_layout.specs.RefName.{IsRefName}
 use Rattle.repo_layout.specs.RefFile.{IsSum}
+use Rattle.repo_model.specs.Trees.{name_of}
 use Rattle.rely_guarantee.specs.declared.books.Entry.{Entry}
 use Rattle.rely_guarantee.specs.declared.books.Pending.{Pending}
 use Rattle.rely_guarantee.specs.declared.event.Event.{Event}
@@ -69,10 +71,20 @@ is_topic (Some x) t = same_topic t x
 abbrev pub next : Event → State → State
 next e s t = if is_topic (target e) t then gives e else s t
 
+-- the commit is one that the state names
+abbrev pub IsCommitOf : State → ObjName → Type 0
+IsCommitOf s o = (t : Topic) × (commit : List ℕ) × Contains (commits_of (s t)) commit × (o ≡ name_of Commit commit)
+
+-- a prune's roots are the commits that the state names
+abbrev pub HasRoots : Event → State → Type 0
+HasRoots (Pruned depth roots held removed) s = (o : ObjName) → Contains roots o ↔ IsCommitOf s o
+HasRoots e s = Unit {0}
+
 -- the event may follow this state
 pub record Applies (e : Event) (s : State) : Type 0 where
   pub valid : IsValid e
   pub was : (t : Topic) → target e ≡ Some t → s t ≡ before e
+  pub roots : HasRoots e s
 
 -- the state after events
 abbrev pub after : List Event → State → State

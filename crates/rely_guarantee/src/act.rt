@@ -10,7 +10,7 @@ ghost use Rattle.rely_guarantee.specs.declared.kind.Halt.TheVariants as halt;
 ghost use Rattle.rely_guarantee.specs.declared.kind.Outcome.TheVariants as Outcome;
 ghost use Rattle.fs_trait.specs.declared.types.FsErr.TheVariants as FsErr;
 ghost use Rattle.rely_guarantee.specs.Books.{books_of, Free, Frees, HasGrantRoom};
-ghost use Rattle.rely_guarantee.specs.Exact.{Opens, Steps, Tells, IsUnbooked, IsHeldBy, IsShownBy, IsSettledBy, IsBooked, Causes, IsGivenUp, IsLeft, IsLive, IsRefusedBy, Locks, gone_in, taken_in, why_of};
+ghost use Rattle.rely_guarantee.specs.Exact.{Opens, Steps, Tells, IsUnbooked, IsHeldBy, IsShownBy, IsSettledBy, IsBooked, Causes, IsGivenUp, IsLeft, IsLive, IsRefusedBy, Locks, NoNewShares, gone_in, taken_in, why_of};
 ghost use Rattle.rely_guarantee.specs.Lasting.{Lasts};
 ghost use Rattle.rely_guarantee.specs.Pinning.{ArePinned, pin_in, without};
 ghost use Rattle.rely_guarantee.specs.Claiming.{AreClaimed, claim_in, of_others};
@@ -51,6 +51,7 @@ fn advance_with_room<T: CommandTask, F: Fs>(
 fn end<F>(base: &mut Base<F>, actor: u8, lane: u8)
     ensures ends { Ends actor lane base.old base.new }
     ensures given_up { IsGivenUp lane base.old.books.turn base.new.books.turn × IsGivenUp lane base.old.books.exclusive base.new.books.exclusive }
+    ensures shared { NoNewShares base.old.books base.new.books }
     ensures pins { base.new.books.pins.items ≡ without lane base.old.books.pins.items }
     ensures claims { base.new.books.claims.items ≡ of_others lane base.old.books.claims.items }
     ensures live { base.new.books.halted ≡ base.old.books.halted }
@@ -77,6 +78,7 @@ fn refuse<F: Fs>(base: &mut Base<F>, actor: u8, lane: u8, before: u64, e: FsErr)
     ensures answer { IsRefusedBy e result }
     ensures still { result ≡ Outcome.Refused e → e ≡ FsErr.Failed → F.clock base.old.fs ≡ before }
     ensures given_up { IsLeft lane result base.old.books.turn base.new.books.turn × IsLeft lane result base.old.books.exclusive base.new.books.exclusive }
+    ensures shared { NoNewShares base.old.books base.new.books }
     ensures pins { ArePinned None lane result base.old.books.pins.items base.new.books.pins.items }
     ensures claimed { AreClaimed None lane result base.old.books.claims.items base.new.books.claims.items }
     ensures live { IsLive result base.old.books.halted base.new.books.halted }
@@ -108,6 +110,7 @@ fn quiet<T: CommandTask, F: Fs>(base: &mut Base<F>, actor: u8, lane: u8, task: &
     ensures tells { Tells T.leaves T.refuses task.old result task.new (F.view base.old.fs) (F.view base.new.fs) }
     ensures goes { result ≢ Outcome.Blocked }
     ensures left { IsLeft lane result base.old.books.turn base.new.books.turn × IsLeft lane result base.old.books.exclusive base.new.books.exclusive }
+    ensures shared { NoNewShares base.old.books base.new.books }
     ensures pins { ArePinned None lane result base.old.books.pins.items base.new.books.pins.items }
     ensures claimed { AreClaimed None lane result base.old.books.claims.items base.new.books.claims.items }
     ensures booked { IsUnbooked base.old.books base.new.books }
@@ -355,7 +358,7 @@ fn take<T: CommandTask, F: Fs>(base: &mut Base<F>, lane: u8, wants: Wants, task:
     take_free(base, lane, wants, task)
 }
 
-/// So, where they are free, and there is room for them.
+/// So, where they are free, and there is room for them. The lock of those that store is held for this step alone.
 fn take_free<T: CommandTask, F: Fs>(
     base: &mut Base<F>,
     lane: u8,
@@ -384,7 +387,9 @@ fn take_free<T: CommandTask, F: Fs>(
         base.books.halted = Some(Halt::Failed);
         return Outcome::Halted(Halt::Failed);
     }
-    quiet(base, lane, lane, task)
+    let outcome = quiet(base, lane, lane, task);
+    base.books.stop_storing(lane);
+    outcome
 }
 
 /// The step that makes the folder of a checkout.
@@ -397,6 +402,7 @@ fn claim<T: CommandTask, F: Fs>(base: &mut Base<F>, lane: u8, task: &mut T) -> O
     ensures tells { Tells T.leaves T.refuses task.old result task.new (F.view base.old.fs) (F.view base.new.fs) }
     ensures goes { result ≢ Outcome.Blocked }
     ensures left { IsLeft lane result base.old.books.turn base.new.books.turn × IsLeft lane result base.old.books.exclusive base.new.books.exclusive }
+    ensures shared { NoNewShares base.old.books base.new.books }
     ensures pins { ArePinned None lane result base.old.books.pins.items base.new.books.pins.items }
     ensures claimed { AreClaimed (claim_in (T.kind_of task.old)) lane result base.old.books.claims.items base.new.books.claims.items }
     ensures booked { IsUnbooked base.old.books base.new.books }
@@ -432,6 +438,7 @@ fn claim_named<T: CommandTask, F: Fs>(
     ensures tells { Tells T.leaves T.refuses task.old result task.new (F.view base.old.fs) (F.view base.new.fs) }
     ensures goes { result ≢ Outcome.Blocked }
     ensures left { IsLeft lane result base.old.books.turn base.new.books.turn × IsLeft lane result base.old.books.exclusive base.new.books.exclusive }
+    ensures shared { NoNewShares base.old.books base.new.books }
     ensures pins { ArePinned None lane result base.old.books.pins.items base.new.books.pins.items }
     ensures claimed { AreClaimed (Some name) lane result base.old.books.claims.items base.new.books.claims.items }
     ensures booked { IsUnbooked base.old.books base.new.books }

@@ -9,7 +9,7 @@ ghost use Rattle.rely_guarantee.specs.declared.books.Share.{Share};
 ghost use Rattle.rely_guarantee.specs.declared.books.Want.{Want};
 ghost use Rattle.rely_guarantee.specs.Books.{books_of, Free, Frees, Granted, HasGrantRoom, Agrees, Spared, Keeps};
 ghost use Rattle.fs_trait.specs.Count.{last};
-ghost use Rattle.rely_guarantee.specs.Exact.{IsGivenUp, lock_taken};
+ghost use Rattle.rely_guarantee.specs.Exact.{IsGivenUp, NoNewShares, lock_taken};
 ghost use Rattle.rely_guarantee.specs.Pinning.{with_pin, without};
 ghost use Rattle.rely_guarantee.specs.Claiming.{of_others};
 
@@ -47,6 +47,7 @@ fn given_up(lock: Option<u8>, lane: u8) -> Option<u8>
 fn give_up_shares(shares: &mut Vec<Share>, lane: u8)
     ensures kept { (x : Share) → x.lane ≢ lane → Contains shares.old.items x → Contains shares.new.items x }
     ensures no_more { (x : Share) → Contains shares.new.items x → Contains shares.old.items x }
+    ensures given_up { (x : Share) → Contains shares.new.items x → x.lane ≢ lane }
 {
     shares.retain(|x| x.lane != lane);
 }
@@ -192,6 +193,7 @@ impl Books {
         ensures granted { IsTrue result → Granted wants.now actor lane (books_of self.new) }
         ensures spared { Spared actor lane (books_of self.old) (books_of self.new) }
         ensures keeps { Keeps lane (books_of self.old) (books_of self.new) }
+        ensures shared { (x : Share) → Contains self.new.shared.items x → Contains self.old.shared.items x ⊎ (x.lane ≡ lane) }
         ensures pinned { IsTrue result → self.new.pins.items ≡ with_pin wants.now.pin lane self.old.pins.items }
         ensures taken { (self.new.turn ≡ lock_taken wants.now.turn lane self.old.turn) × (self.new.exclusive ≡ lock_taken wants.now.exclusive lane self.old.exclusive) }
         ensures agrees { Agrees (books_of self.old) → Agrees (books_of self.new) }
@@ -205,10 +207,21 @@ impl Books {
         shared && held && pinned
     }
 
+    /// Gives up the lock of those that store, if the lane has it.
+    pub(crate) fn stop_storing(&mut self, lane: u8)
+        ensures same { self.new ≡ record self.old { shared = self.new.shared } }
+        ensures kept { (x : Share) → x.lane ≢ lane → Contains self.old.shared.items x → Contains self.new.shared.items x }
+        ensures no_more { NoNewShares self.old self.new }
+        ensures given_up { (x : Share) → Contains self.new.shared.items x → x.lane ≢ lane }
+    {
+        give_up_shares(&mut self.shared, lane);
+    }
+
     /// Gives up all that a lane holds.
     pub(crate) fn release(&mut self, actor: u8, lane: u8)
         ensures same { self.new ≡ record self.old { shared = self.new.shared; exclusive = self.new.exclusive; turn = self.new.turn; sysroot = self.new.sysroot; holds = self.new.holds; wants = self.new.wants; pins = self.new.pins; claims = self.new.claims } }
         ensures given_up { IsGivenUp lane self.old.turn self.new.turn × IsGivenUp lane self.old.exclusive self.new.exclusive }
+        ensures shared { NoNewShares self.old self.new }
         ensures pins { self.new.pins.items ≡ without lane self.old.pins.items }
         ensures claims { self.new.claims.items ≡ of_others lane self.old.claims.items }
         ensures no_more { (x : Claim) → Contains self.new.claims.items x → Contains self.old.claims.items x }

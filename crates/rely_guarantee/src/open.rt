@@ -16,6 +16,7 @@ impl Books {
     fn new(alloc: Global, opened: u64, start: Vec<(RefName, Csum)>) -> Books
         ensures fresh { result ≡ record { shared = result.shared; exclusive = None; turn = None; sysroot = None; holds = result.holds; wants = result.wants; pins = result.pins; gone = 0; claims = result.claims; uses = result.uses; history = result.history; pending = None; replies = 0; owed = 0; halted = None; opened = opened; start = start } }
         ensures history { result.history.items ≡ [] }
+        ensures shared { result.shared.items ≡ [] }
         ensures pins { result.pins.items ≡ [] }
         ensures claims { result.claims.items ≡ [] }
     {
@@ -55,7 +56,7 @@ impl<F: Fs> Base<F> {
         ensures live { result.books.halted ≡ None }
         ensures pins { result.books.pins.items ≡ [] }
         ensures claims { result.books.claims.items ≡ [] }
-        ensures free { (result.books.turn ≡ None) × (result.books.exclusive ≡ None) }
+        ensures free { (result.books.turn ≡ None) × (result.books.exclusive ≡ None) × (result.books.shared.items ≡ []) }
         ensures opened { result.books.opened ≡ opened }
         ensures sound { SystemInvariant F.view F.clock F.spare F.was result }
     {

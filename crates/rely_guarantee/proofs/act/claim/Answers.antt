@@ -4,6 +4,7 @@ use Rattle.rely_guarantee.proofs.Sounds.{IsFs}
 use Rattle.rely_guarantee.proofs.Showing.{no_time, still_acts}
 use Rattle.rely_guarantee.proofs.Noting.{claim_not}
 use Rattle.rely_guarantee.proofs.Rooms.{claim_room, roomy_acts, roomy_ready}
+use Rattle.rely_guarantee.proofs.Locking.{shares_since}
 use Rattle.rely_guarantee.proofs.act.claim.Given as given
 use Rattle.rely_guarantee.proofs.act.claim.Goals as goal
 
@@ -40,3 +41,9 @@ pub claim_named-requires-clause-ready : goal.claim_named-requires-clause-ready
 claim_named-requires-clause-ready g c =
     let m = c.make_claim_room.ensures in
     roomy_ready g.F.Fs.view g.F.Fs.clock g.F.Fs.spare g.F.Fs.was c.args.base.now c.make_claim_room.new.self (Runs g.T.CommandTask.kind_of g.T.CommandTask.facts c.args.lane c.args.task.now) (claim_room c.args.base.now.books c.make_claim_room.new.self m.same m.items) (ap (λ b. b.history) m.same) c.requires.ready
+
+pub returns-then-is_err-clause-shared : goal.returns-then-is_err-clause-shared
+returns-then-is_err-clause-shared g c = shares_since c.args.base.now.books c.make_claim_room.new.self c.end-then-is_err.new.base.books (ap (λ b. b.shared.items) c.make_claim_room.ensures.same) c.end-then-is_err.ensures.shared
+
+pub returns-clause-shared : goal.returns-clause-shared
+returns-clause-shared g c = shares_since c.args.base.now.books c.make_claim_room.new.self c.claim_named.new.base.books (ap (λ b. b.shared.items) c.make_claim_room.ensures.same) c.claim_named.ensures.shared

@@ -3,6 +3,7 @@ use Rattle.rely_guarantee.specs.Laws.{IsClaim, Runs}
 use Rattle.rely_guarantee.proofs.Sounds.{IsFs}
 use Rattle.rely_guarantee.proofs.Acting.{asks, none_stays, quiet_acts, refused_tells, tells_end}
 use Rattle.rely_guarantee.proofs.Noting.{claim_acts, claim_quiet, claim_stood}
+use Rattle.rely_guarantee.proofs.Locking.{shares_since}
 use Rattle.rely_guarantee.proofs.act.claim_named.Given as given
 use Rattle.rely_guarantee.proofs.act.claim_named.Goals as goal
 
@@ -47,3 +48,9 @@ returns-in-Err-clause-tells g c =
     refused_tells g.T.CommandTask.leaves g.T.CommandTask.refuses c.args.task.now c.advance_with_room.new.task c.refuse.result c.in-Err.e (g.F.Fs.view old) (g.F.Fs.view c.refuse.new.base.fs) c.refuse.ensures.answer e.refused
     (λ is named v told. ap g.F.Fs.view c.refuse.ensures.ends.fs
     ∙ none_stays g.F.Fs.view g.F.Fs.clock g.F.Fs.was g.met.F.Fs.only_now g.met.F.Fs.counts_now old mid e.time c.in-Err.e (λ failed. c.refuse.ensures.still is failed ∙ c.clock-before.ensures) (λ u told_u none. e.unchanged u told_u (ap Err none)) named v told)
+
+pub returns-in-Ok-Done-clause-shared : goal.returns-in-Ok-Done-clause-shared
+returns-in-Ok-Done-clause-shared g c = shares_since c.args.base.now.books c.advance_with_room.new.base.books c.end.new.base.books (ap (λ m. m.books.shared.items) c.in-Ok-Done.ensures.books) c.end.ensures.shared
+
+pub returns-in-Err-clause-shared : goal.returns-in-Err-clause-shared
+returns-in-Err-clause-shared g c = shares_since c.args.base.now.books c.advance_with_room.new.base.books c.refuse.new.base.books (ap (λ m. m.books.shared.items) c.in-Err.ensures.books) c.refuse.ensures.shared

@@ -1,8 +1,9 @@
-use Rattle.std.proofs.Common.{◌∙◌, ◌++◌, ◌∷◌, [], ℕ, Some, ap, inl, refl}
+use Rattle.std.proofs.Common.{◌∙◌, ◌++◌, ◌∷◌, [], ℕ, Some, ap, inl, refl, rules}
 use Rattle.rely_guarantee.specs.Laws.{Runs}
 use Rattle.rely_guarantee.proofs.Sounds.{IsFs}
 use Rattle.rely_guarantee.proofs.Acting.{asks}
 use Rattle.rely_guarantee.proofs.Showing.{settle_is, owed_acts, same_counted, settle_parts, settle_pending, settle_acts}
+use Rattle.rely_guarantee.proofs.Locking.{shares_since}
 use Rattle.rely_guarantee.proofs.act.settle.Given as given
 use Rattle.rely_guarantee.proofs.act.settle.Goals as goal
 
@@ -36,3 +37,6 @@ returns-in-Err-clause-acts g c =
     c.pay.ensures (settle_pending g.F.Fs.view g.F.Fs.clock g.F.Fs.spare g.F.Fs.was (fs g) g.met.T.CommandTask.laws old c.args.lane t k.0 k.1 r.ready) (same_counted g.F.Fs.view g.F.Fs.clock g.F.Fs.spare g.F.Fs.was (fs g) g.met.T.CommandTask.laws old r.ready.sound.ordered)
     (settle_parts g.F.Fs.view g.F.Fs.clock g.F.Fs.spare g.F.Fs.was (fs g) g.met.T.CommandTask.laws old c.args.lane t k.0 k.1 r.ready)
     r.ready.sound e.writes e.time e.room.at_most_one refl
+
+pub returns-else-not-acknowledge-clause-locks : goal.returns-else-not-acknowledge-clause-locks
+returns-else-not-acknowledge-clause-locks g c = (search rules, search rules, shares_since c.args.base.now.books c.acknowledge.new.self c.end.new.base.books (ap (λ b. b.shared.items) c.acknowledge.ensures.same) c.end.ensures.shared)

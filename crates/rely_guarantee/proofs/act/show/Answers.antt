@@ -1,7 +1,8 @@
-use Rattle.std.proofs.Common.{refl}
+use Rattle.std.proofs.Common.{refl, ap, rules}
 use Rattle.rely_guarantee.specs.Laws.{Runs}
 use Rattle.rely_guarantee.proofs.Sounds.{IsFs}
 use Rattle.rely_guarantee.proofs.Showing.{blocked_acts, still_acts, no_time, show_not, room_ready, room_acts}
+use Rattle.rely_guarantee.proofs.Locking.{shares_since}
 use Rattle.rely_guarantee.proofs.act.show.Given as given
 use Rattle.rely_guarantee.proofs.act.show.Goals as goal
 
@@ -40,3 +41,9 @@ pub show_event-requires-clause-ready : goal.show_event-requires-clause-ready
 show_event-requires-clause-ready g c =
     let m = c.make_room.ensures in
     room_ready g.F.Fs.view g.F.Fs.clock g.F.Fs.spare g.F.Fs.was (fs g) g.met.T.CommandTask.laws c.args.base.now c.make_room.new.self (Runs g.T.CommandTask.kind_of g.T.CommandTask.facts c.args.lane c.args.task.now) m.same m.items m.more c.requires.ready
+
+pub returns-then-is_err-clause-locks : goal.returns-then-is_err-clause-locks
+returns-then-is_err-clause-locks g c = (search rules, search rules, shares_since c.args.base.now.books c.make_room.new.self c.end-then-is_err.new.base.books (ap (λ b. b.shared.items) c.make_room.ensures.same) c.end-then-is_err.ensures.shared)
+
+pub returns-clause-locks : goal.returns-clause-locks
+returns-clause-locks g c = let l = c.show_event.ensures.locks in (search rules, search rules, shares_since c.args.base.now.books c.make_room.new.self c.show_event.new.base.books (ap (λ b. b.shared.items) c.make_room.ensures.same) l.2)

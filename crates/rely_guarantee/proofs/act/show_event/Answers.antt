@@ -1,9 +1,10 @@
-use Rattle.std.proofs.Common.{◌≡◌, ap, Err, Some, inl, refl, subst, sym, arith, ◌≤◌}
+use Rattle.std.proofs.Common.{ap, Err, Some, inl, refl, subst, sym, arith, ◌≤◌, rules}
 use Rattle.fs_trait.specs.Count.{last}
 use Rattle.rely_guarantee.specs.Laws.{IsLastly, IsShow, Runs}
 use Rattle.rely_guarantee.proofs.Sounds.{IsFs}
 use Rattle.rely_guarantee.proofs.Acting.{asks}
 use Rattle.rely_guarantee.proofs.Showing.{more_tells, still_acts, show_done, show_tells, show_not}
+use Rattle.rely_guarantee.proofs.Locking.{shares_since}
 use Rattle.rely_guarantee.proofs.act.show_event.Given as given
 use Rattle.rely_guarantee.proofs.act.show_event.Goals as goal
 
@@ -51,3 +52,6 @@ pub returns-in-Ok-clause-tells : goal.returns-in-Ok-clause-tells
 returns-in-Ok-clause-tells g c = λ v told.
     let e = c.in-Ok.ensures in
     more_tells g.F.Fs.view g.F.Fs.clock g.F.Fs.spare g.F.Fs.was (fs g) g.met.T.CommandTask.laws c.args.task.now c.advance_with_room.new.task c.in-Ok.field-0 (λ last. subst IsLastly c.requires.kind last) e.stepped v _ (e.after v told)
+
+pub returns-in-Err-NoMemory-clause-locks : goal.returns-in-Err-NoMemory-clause-locks
+returns-in-Err-NoMemory-clause-locks g c = (search rules, search rules, shares_since c.args.base.now.books c.advance_with_room.new.base.books c.end.new.base.books (ap (λ m. m.books.shared.items) c.in-Err-NoMemory.ensures.books) c.end.ensures.shared)

@@ -1,10 +1,11 @@
-use Rattle.std.proofs.Common.{ap, refl, subst, sym}
+use Rattle.std.proofs.Common.{ap, refl, subst, sym, rules}
 use Rattle.rely_guarantee.specs.Books.{Books, books_of, Frees}
 use Rattle.rely_guarantee.specs.Laws.{Kind, Runs, Holds, NotPending}
 use Rattle.rely_guarantee.proofs.Sounds.{IsFs}
 use Rattle.rely_guarantee.proofs.Showing.{blocked_acts, still_acts, no_time}
 use Rattle.rely_guarantee.proofs.Taking.{take_is}
 use Rattle.rely_guarantee.proofs.Rooms.{grant_room, roomy_acts, roomy_ready}
+use Rattle.rely_guarantee.proofs.Locking.{shares_since}
 use Rattle.rely_guarantee.proofs.act.take.Given as given
 use Rattle.rely_guarantee.proofs.act.take.Goals as goal
 
@@ -46,3 +47,9 @@ pub take_free-requires-clause-free : goal.take_free-requires-clause-free
 take_free-requires-clause-free g c =
     let m = c.make_grant_room.ensures in
     subst (λ (b : Books). Frees c.args.wants c.args.lane b) (sym (grant_room c.args.base.now.books c.make_grant_room.new.self m.same m.items)) (c.frees.ensures.0 c.if-not-frees.false)
+
+pub returns-then-is_err-clause-locks : goal.returns-then-is_err-clause-locks
+returns-then-is_err-clause-locks g c = (search rules, search rules, shares_since c.args.base.now.books c.make_grant_room.new.self c.end.new.base.books c.make_grant_room.ensures.items.0 c.end.ensures.shared)
+
+pub returns-clause-locks : goal.returns-clause-locks
+returns-clause-locks g c = let l = c.take_free.ensures.locks in (search rules, search rules, shares_since c.args.base.now.books c.make_grant_room.new.self c.take_free.new.base.books c.make_grant_room.ensures.items.0 l.2)
