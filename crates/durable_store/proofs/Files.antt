@@ -21,7 +21,7 @@ use Rattle.repo_model.specs.Trees.{name_of}
 use Rattle.durable_store.specs.Standing.{IsSoundSeen}
 
 -- the bytes of all members
-abbrev total : List (List ℕ) → ℕ
+abbrev pub total : List (List ℕ) → ℕ
 total [] = 0
 total (r ∷ rs) = length r + total rs
 
@@ -89,7 +89,8 @@ container_long (gv.entry x k) rs bytes e =
     let q = bind_some (each_part (pair x k) rs) tuple_of bytes e in
     omega (arith, body_long (pair x k) rs q.0 0 q.1, tuple_long q.0 bytes q.2)
 
-members_long : (text : List ℕ) (rs : List (List ℕ)) (bytes : List ℕ) → container_form text rs ≡ Some bytes → total rs ≤ length bytes
+-- so has the form of a type
+pub members_long : (text : List ℕ) (rs : List (List ℕ)) (bytes : List ℕ) → container_form text rs ≡ Some bytes → total rs ≤ length bytes
 members_long text rs bytes e =
     let k = bind_some (variant_kind text) (λ k. container k rs) bytes e in
     container_long k.0 rs bytes k.2
@@ -101,7 +102,7 @@ not_commit c sums form =
     let long = members_long _ (m.0 ∷ c.parent ∷ m.1 ∷ m.2 ∷ m.3 ∷ to_be_bytes w64 c.time ∷ c.tree ∷ c.meta ∷ []) [] m.4.whole in
     omega (arith, long, sums.meta)
 
-no_bytes : (content : ℕ) (bytes : List ℕ) → Some [] ≡ Some bytes → HasForm kind.Commit content bytes → ⊥
+pub no_bytes : (content : ℕ) (bytes : List ℕ) → Some [] ≡ Some bytes → HasForm kind.Commit content bytes → ⊥
 no_bytes content bytes is formed = ∥∥₁_elim (subst (HasForm kind.Commit content) (sym (some_is [] bytes is)) formed) (λ x y. absurd x) (λ c. not_commit c.0 c.1.1 c.1.0.form)
 
 pub commit_file : (content : ℕ) (commit : List ℕ) (s : Seen) → IsSoundSeen content (name_of kind.Commit commit) s → IsSome (bytes_in s)

@@ -13,5 +13,6 @@ pub mod Growing
 pub mod Keepings
 pub mod Silent
 pub mod Files
+pub mod Shapes
 pub mod Knowing
 pub mod Filling

@@ -140,3 +140,24 @@ module _ (t : ObjName → Bool) where
 
   pub kept_few : (xs : List ObjName) → length (filter t xs) ≤ length xs
   kept_few = few_kept
+
+-- ---- all but one
+
+abbrev not_equal : Ordering → Bool
+not_equal Less = true
+not_equal Equal = false
+not_equal Greater = true
+
+abbrev pub is_other : ObjName → ObjName → Bool
+is_other one a = not_equal (name_cmp a one)
+
+pub not_other : (one : ObjName) → is_other one one ≡ true → ⊥
+not_other one is = let n : false ≡ true = sym (ap not_equal (tied_itself name_order one)) ∙ is in cc
+
+pub other_or : (one a : ObjName) → (a ≡ one) ⊎ (is_other one a ≡ true)
+other_or one a = by (name_cmp a one) refl
+  where
+    by : (r : Ordering) → name_cmp a one ≡ r → (a ≡ one) ⊎ (is_other one a ≡ true)
+    by Less is = inr (ap not_equal is)
+    by Equal is = inl (equal_names a one is)
+    by Greater is = inr (ap not_equal is)
