@@ -6,5 +6,5 @@ mod Parents
 pub mod Steps
 mod Beginning
 pub mod Downs
-mod Lasting
+pub mod Lasting
 mod Removed

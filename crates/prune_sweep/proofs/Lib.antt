@@ -2,6 +2,6 @@ mod Names
 mod Fronts
 mod Takes
 mod Losing
-mod Below
+pub mod Below
 mod Planning
-mod Going
+pub mod Going

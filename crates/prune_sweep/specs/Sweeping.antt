@@ -83,15 +83,15 @@ IsBehindObjects unmarked marks part = ((part ≡ Mark) × (unmarked < marks)) �
 abbrev pub IsBehindCommits : Sweeping → Type 0
 IsBehindCommits r = ((r.part ≡ Object) × (r.gone < length r.removed)) ⊎ ((length r.removed ≤ r.gone) × IsBehindObjects r.unmarked (length r.marks) r.part)
 
--- what comes behind a part, once its step was made
+-- what comes behind a part, once its step was made; behind the last one nothing
 abbrev pub Follows : Part → Sweeping → Type 0
 Follows Begin r = ((r.part ≡ Commit) × (0 < r.commits)) ⊎ ((r.part ≡ Barrier) × (r.commits ≡ 0))
 Follows Commit r = ((r.part ≡ Commit) × (r.gone < r.commits)) ⊎ ((r.part ≡ Barrier) × (r.commits ≤ r.gone))
 Follows Barrier r = IsBehindCommits r
 Follows Object r = IsBehindCommits r
 Follows Mark r = IsBehindObjects r.unmarked (length r.marks) r.part
-Follows End r = r.part ≡ Over
-Follows Over r = r.part ≡ Over
+Follows End r = ⊥
+Follows Over r = ⊥
 
 -- how many objects and marks are gone behind a step of a part
 abbrev pub Advances : Part → Sweeping → Sweeping → Type 0

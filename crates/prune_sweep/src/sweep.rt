@@ -1,10 +1,11 @@
 //! Objects that go, one a step.
-ghost use Rattle.std.specs.Prelude.{◌≡◌, ◌≤◌, ◌<◌, ◌+◌, ◌^◌, length, map, Some, IfErr, OnOk};
+ghost use Rattle.std.specs.Prelude.{◌≡◌, ◌≤◌, ◌<◌, ◌+◌, ◌^◌, length, map, Some, IfErr, IsErrOf, OnOk};
+ghost use Rattle.fs_trait.specs.declared.types.FsErr.TheVariants as error;
 ghost use Rattle.fs_trait.specs.View.{View};
-ghost use Rattle.fs_trait.specs.Effect.{Elapses, HasCause, Next, OfFinding};
+ghost use Rattle.fs_trait.specs.Effect.{Elapses, HasCause, Next, OfFinding, OfNone};
 ghost use Rattle.repo_model.specs.Objects.{path_of};
 ghost use Rattle.prune_sweep.specs.declared.part.Part.TheVariants as part;
-ghost use Rattle.prune_sweep.specs.Sweeping.{IsStepped, KeepsRoom, calls_of};
+ghost use Rattle.prune_sweep.specs.Sweeping.{IsSoFar, IsStepped, KeepsRoom, calls_of};
 ghost use Rattle.prune_sweep.specs.Steps.{Does};
 
 mod steps;
@@ -71,7 +72,8 @@ impl Sweep {
 
     /// What the next step does.
     pub fn part(&self) -> Part
-        ensures { result ≡ self.now.part }
+        ensures part { result ≡ self.now.part }
+        ensures so_far { IsSoFar self.now }
     {
         self.part
     }
@@ -108,6 +110,7 @@ impl Sweep {
         ensures effect { (v : View) → F.view fs.old ≡ Some v → Does self.old v result (F.view fs.new) }
         ensures stepped { IsStepped self.old result self.new }
         ensures named { IfErr result OfFinding }
+        ensures refused { (self.old.part ≡ part.Begin → IfErr result OfNone) × (self.old.part ≡ part.Mark → IsErrOf result error.Missing → ⊥) }
         ensures time { Elapses (F.clock fs.old) (F.clock fs.new) (F.was fs.old) (F.was fs.new) (F.view fs.new) }
         ensures ticks { self.old.part ≡ part.End → OnOk result (Next (F.clock fs.old) (F.clock fs.new)) }
         ensures cause { HasCause (F.faults fs.old) (F.faults fs.new) result }

@@ -1,8 +1,8 @@
 //! The steps of a sweep, one function a part.
-ghost use Rattle.std.specs.Prelude.{◌≡◌, ◌⊎◌, ◌≤◌, ◌<◌, ◌+◌, length, Some, IfErr, IsErrOf, OnOk};
+ghost use Rattle.std.specs.Prelude.{◌≡◌, ◌≢◌, ◌⊎◌, ◌≤◌, ◌<◌, ◌+◌, length, Some, Ok, Err, IfErr, IsErrOf, OnOk};
 ghost use Rattle.fs_trait.specs.declared.types.FsErr.TheVariants as error;
 ghost use Rattle.fs_trait.specs.View.{View};
-ghost use Rattle.fs_trait.specs.Effect.{Elapses, HasCause, Next, OfFinding};
+ghost use Rattle.fs_trait.specs.Effect.{Elapses, HasCause, Next, OfFinding, OfNone};
 ghost use Rattle.prune_sweep.specs.declared.part.Part.TheVariants as part;
 ghost use Rattle.prune_sweep.specs.Sweeping.{Follows, IsBehindObjects, IsStepped, KeepsRoom};
 ghost use Rattle.prune_sweep.specs.Steps.{Does, TakesMark, TakesObject};
@@ -17,6 +17,7 @@ impl Sweep {
         requires { self.old.part ≡ part.Begin }
         ensures effect { (v : View) → F.view fs.old ≡ Some v → Does self.old v result (F.view fs.new) }
         ensures stepped { IsStepped self.old result self.new }
+        ensures refused { IfErr result OfNone }
         ensures named { IfErr result OfFinding }
         ensures time { Elapses (F.clock fs.old) (F.clock fs.new) (F.was fs.old) (F.was fs.new) (F.view fs.new) }
         ensures cause { HasCause (F.faults fs.old) (F.faults fs.new) result }
@@ -100,6 +101,7 @@ impl Sweep {
         requires { self.old.part ≡ part.Mark }
         ensures effect { (v : View) → F.view fs.old ≡ Some v → Does self.old v result (F.view fs.new) }
         ensures stepped { IsStepped self.old result self.new }
+        ensures marks { IsErrOf result error.Missing → ⊥ }
         ensures named { IfErr result OfFinding }
         ensures time { Elapses (F.clock fs.old) (F.clock fs.new) (F.was fs.old) (F.was fs.new) (F.view fs.new) }
         ensures cause { HasCause (F.faults fs.old) (F.faults fs.new) result }
@@ -143,6 +145,7 @@ fn behind_objects(unmarked: usize, marks: usize) -> Part
 /// Takes a mark away. That it is away already is as good: its commit's own command may have taken it.
 fn take_mark<F: Fs>(fs: &mut F, mark: &FsPath) -> Result<(), FsErr>
     ensures effect { (v : View) → F.view fs.old ≡ Some v → TakesMark mark.now v result (F.view fs.new) }
+    ensures marks { IsErrOf result error.Missing → ⊥ }
     ensures named { IfErr result OfFinding }
     ensures time { Elapses (F.clock fs.old) (F.clock fs.new) (F.was fs.old) (F.was fs.new) (F.view fs.new) }
     ensures cause { HasCause (F.faults fs.old) (F.faults fs.new) result }
@@ -150,7 +153,17 @@ fn take_mark<F: Fs>(fs: &mut F, mark: &FsPath) -> Result<(), FsErr>
     ensures enough { 0 < F.spare fs.old → IsErrOf result error.NoMemory → ⊥ }
 {
     match fs.unlink(mark) {
-        Err(FsErr::Missing) => Ok(()),
-        answer => answer,
+        Ok(()) => Ok(()),
+        Err(refusal) => unless_missing(refusal),
+    }
+}
+
+fn unless_missing(refusal: FsErr) -> Result<(), FsErr>
+    ensures away { refusal ≡ error.Missing → result ≡ Ok tt }
+    ensures other { (refusal ≢ error.Missing) → result ≡ Err refusal }
+{
+    match refusal {
+        FsErr::Missing => Ok(()),
+        refusal => Err(refusal),
     }
 }
