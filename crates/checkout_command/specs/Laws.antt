@@ -69,7 +69,7 @@ pub checkout_laws : Laws checkout_kind checkout_needs checkout_writes checkout_s
 checkout_laws = record {
   ready = λ actor lane t v b by f. ready_of actor lane t v b f;
   kept = λ actor lane mine t v w b b' not other does holds f. facts_kept actor lane mine t v w b b' other does f;
-  gains = λ lane t v b b' keeps f. facts_gain lane t v b b' keeps f;
+  gains = λ lane t v b b' keeps same f. facts_gain lane t v b b' keeps f;
   duty = λ actor lane t new v b agrees by stood f. duty_of t actor lane v b (checkout_leaves t (turn.Done tt) new v) f;
   chain = λ t new step. chain_of t (checkout_kind new) (before new);
   last = λ t new step. last_of t;

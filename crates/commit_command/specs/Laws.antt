@@ -324,7 +324,7 @@ pub commit_laws : Laws commit_kind commit_needs commit_writes commit_stepped com
 commit_laws = record {
   ready = λ actor lane t v b by f. ready_by t.change actor lane t v b f;
   kept = λ actor lane mine t v w b b' not other does holds f. kept_by t.change actor lane mine t v w b b' not other does f;
-  gains = λ lane t v b b' keeps f. gains_by t.change lane t v b b' keeps f;
+  gains = λ lane t v b b' keeps same f. gains_by t.change lane t v b b' keeps f;
   duty = λ actor lane t new v b agrees by stood f. duty_by t.change actor lane t new v b agrees by stood f;
   chain = λ t new step. chain_by t.change t new refl step;
   last = λ t new step. last_by t.change t new step;

@@ -1,5 +1,5 @@
 -- Where a command begins, and what its answer says.
-use Rattle.std.proofs.Common.{◌≡◌, inl, ℕ, Option, Some, List, sym, ◌∙◌, ap, subst}
+use Rattle.std.proofs.Common.{◌≡◌, inl, inr, ℕ, Option, Some, List, sym, ◌∙◌, ap, subst}
 use Rattle.fs_trait.specs.declared.task.StepResult.TheVariants as turn
 use Rattle.fs_trait.specs.Seen.{shows}
 use Rattle.fs_trait.specs.View.{Disk, View}
@@ -28,9 +28,9 @@ begins_of start entries pending lane v b (Ended a) stands new = absurd new
 
 pub answers_by : (t : ReadCommand) (d : Disk) (a : ReadAnswer) → Tells t d a → Answers d (asked t) a
 answers_by (Look l) d a told = inl told
-answers_by (Cat c) d a told = told
-answers_by (Ls s) d a told = told
-answers_by (Log g) d a told = told
+answers_by (Cat c) d a told = inr told
+answers_by (Ls s) d a told = inr told
+answers_by (Log g) d a told = inr told.0
 answers_by (Ended x) d a told = told
 
 not_read : (d : Disk) (commit : List ℕ) (a : ReadAnswer) → SaysStopped d commit a → IsRead a → ⊥

@@ -36,13 +36,15 @@ taken d old new c None knows has (parent, is, commit, limits, rows, next) =
       (record { commit = old.next; time = c.time; subject = c.subject }, rows, refl),
     )
 taken d old new c (Some (answer.Log rows)) knows has (none, is) =
-    let chain = chain_more (Stores d) old.commit old.rows.items old.next (record { commit = old.next; time = c.time; subject = c.subject }) (parts_of c) knows has refl refl refl in
-    subst (IsLog d old.commit) (sym is) (record {
-      some = some_last old.rows.items (record { commit = old.next; time = c.time; subject = c.subject });
-      next = (parts_of c).parent;
-      chain = chain;
-      ends = inl (ap parent_bytes none);
-    })
+    let chain = chain_more (Stores d) old.commit old.rows.items old.next (record { commit = old.next; time = c.time; subject = c.subject }) (parts_of c) knows has refl refl refl in (
+      subst (IsLog d old.commit) (sym is) (record {
+        some = some_last old.rows.items (record { commit = old.next; time = c.time; subject = c.subject });
+        next = (parts_of c).parent;
+        chain = chain;
+        ends = inl (ap parent_bytes none);
+      }),
+      λ first. subst (λ r. IsChain (Stores d) old.commit r []) (sym is) (subst (IsChain (Stores d) old.commit (old.rows.items ++ record { commit = old.next; time = c.time; subject = c.subject } ∷ [])) (ap parent_bytes none) chain),
+    )
 taken d old new c (Some (answer.Content b)) knows has t = absurd t
 taken d old new c (Some (answer.Ls rows)) knows has t = absurd t
 taken d old new c (Some (answer.NoCommit a)) knows has t = absurd t
@@ -54,13 +56,13 @@ taken d old new c (Some (answer.Lacking a)) knows has t = absurd t
 module _ (d : Disk) (old new : Log) (knows : LogKnows (Stores d) old) (sum : IsSum old.next) where
   -- the next commit is damaged
   pub damaged_next : (o : Option ReadAnswer) → o ≡ Some (answer.Lacking (path_of (name_of CommitKind old.next))) → IsDamaged d old.limits.content (name_of CommitKind old.next) → LogTells d old new o
-  damaged_next o is damaged = subst (LogTells d old new) (sym is) (name_of CommitKind old.next, refl, (old.rows.items, old.next, sum, knows, refl, inr damaged))
+  damaged_next o is damaged = subst (LogTells d old new) (sym is) ((name_of CommitKind old.next, refl, (old.rows.items, old.next, sum, knows, refl, inr damaged)), tt)
 
   -- it isn't there
   pub stopped : IsAbsent d (name_of CommitKind old.next) → (o : Option ReadAnswer) → Stops old o → LogTells d old new o
-  stopped absent (Some (answer.Lacking p)) (none, is) = (name_of CommitKind old.next, is, (old.rows.items, old.next, sum, knows, refl, inl (none, absent)))
+  stopped absent (Some (answer.Lacking p)) (none, is) = ((name_of CommitKind old.next, is, (old.rows.items, old.next, sum, knows, refl, inl (none, absent))), tt)
   stopped absent (Some (answer.Log rows)) (some, same) =
-      subst (IsLog d old.commit) (sym same) (record { some = some; next = old.next; chain = knows; ends = inr absent })
+      (subst (IsLog d old.commit) (sym same) (record { some = some; next = old.next; chain = knows; ends = inr absent }), λ none. absurd (some none))
   stopped absent (Some (answer.Content b)) s = absurd s
   stopped absent (Some (answer.Ls rows)) s = absurd s
   stopped absent (Some (answer.NoCommit a)) s = absurd s

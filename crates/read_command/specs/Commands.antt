@@ -23,13 +23,13 @@ use Rattle.ref_command.specs.Pins.{IsPinned}
 use Rattle.read_command.specs.declared.answer.ReadAnswer.{ReadAnswer}
 use Rattle.read_command.specs.declared.command.ReadCommand.{ReadCommand}
 use Rattle.read_command.specs.declared.command.ReadCommand.TheVariants.{Look, Cat, Ls, Log, Ended}
-use Rattle.read_command.specs.Answers.{SaysStopped}
-use Rattle.read_command.specs.Asked.{Answers, Asked, asked}
+use Rattle.read_command.specs.Answers.{SaysCat, SaysLog, SaysLs, SaysStopped}
+use Rattle.read_command.specs.Asked.{Asked, asked}
 use Rattle.read_command.specs.Fits.{IsFitting}
 use Rattle.read_command.specs.Founded.{IsFounded}
 use Rattle.read_command.specs.CatSteps.{CatKnows, cat_left}
 use Rattle.read_command.specs.LsSteps.{LsKnows}
-use Rattle.read_command.specs.LogSteps.{IsLonger, LogKnows, log_kind, log_left}
+use Rattle.read_command.specs.LogSteps.{EndsAtOnce, IsLonger, LogKnows, log_kind, log_left}
 use Rattle.read_command.specs.LookSteps.{look_left}
 
 -- the look pins the commit; `log` pins each other one when it reads it
@@ -81,7 +81,10 @@ Goes t d = Unit {0}
 
 abbrev pub Tells : ReadCommand → Disk → ReadAnswer → Type 0
 Tells (Look l) d a = SaysStopped d l.commit a
-Tells t d a = Answers d (asked t) a
+Tells (Cat c) d a = SaysCat d c.limits.content c.commit c.path a
+Tells (Ls s) d a = SaysLs d s.task.limits s.task.commit s.path a
+Tells (Log g) d a = SaysLog d g.limits.content g.commit a × EndsAtOnce d g.commit g.rows.items a
+Tells (Ended x) d a = ⊥
 
 -- a log has one row more at each step, and none at its beginning
 abbrev pub IsOnward : ReadCommand → ReadCommand → Type 0

@@ -77,7 +77,7 @@ pub read_laws : Laws read_kind read_needs read_writes read_stepped read_leaves r
 read_laws = record {
   ready = λ actor lane t v b by f. f.0;
   kept = λ actor lane mine t v w b b' not other does holds f. (knows_kept b v w actor lane does.writes mine other t f.2 f.0, founded_kept b v w actor lane does.writes mine other t f.2 f.1, are_pinned_on mine b b' (others_pins actor lane mine v w b b' other does) t f.2);
-  gains = λ lane t v b b' keeps f. (f.0, f.1, are_pinned_on lane b b' keeps.pins t f.2);
+  gains = λ lane t v b b' keeps same f. (f.0, f.1, are_pinned_on lane b b' keeps.pins t f.2);
   duty = λ actor lane t new v b agrees by stood f. duty_of t actor lane v b (read_leaves t (turn.Done tt) new v);
   chain = λ t new step. chain_of t (read_kind new) (before new);
   last = λ t new step. last_of t;

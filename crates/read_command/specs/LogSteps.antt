@@ -28,9 +28,14 @@ LogKnows S g = IsChain S g.commit g.rows.items g.next
 abbrev pub IsLonger : Log → Log → Type 0
 IsLonger old new = (r : LogRow) × (new.rows.items ≡ old.rows.items ++ r ∷ []) × (r.commit ≡ old.next)
 
+-- a log that ends with its first row ends with a commit that has no parent
+abbrev pub EndsAtOnce : Disk → List ℕ → List LogRow → ReadAnswer → Type 0
+EndsAtOnce d commit before (answer.Log rows) = before ≡ [] → IsChain (Stores d) commit rows.items []
+EndsAtOnce d commit before a = Unit {0}
+
 abbrev pub LogTells : Disk → Log → Log → Option ReadAnswer → Type 0
 LogTells d old new None = LogKnows (Stores d) new × IsLonger old new
-LogTells d old new (Some a) = SaysLog d old.limits.content old.commit a
+LogTells d old new (Some a) = SaysLog d old.limits.content old.commit a × EndsAtOnce d old.commit old.rows.items a
 
 -- at most so many steps go on: no list has so many rows
 abbrev pub log_left : List LogRow → ℕ

@@ -171,7 +171,7 @@ pub command_laws : Laws command_kind command_needs command_writes command_steppe
 command_laws = record {
   ready = ready_of;
   kept = kept_of;
-  gains = gains_of;
+  gains = λ lane t v b b' keeps same f. gains_of lane t v b b' keeps f;
   duty = duty_of;
   chain = chain_of;
   last = last_of;

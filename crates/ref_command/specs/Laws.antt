@@ -219,7 +219,7 @@ pub ref_laws : Laws ref_kind ref_needs ref_writes ref_stepped ref_leaves ref_fac
 ref_laws = record {
   ready = λ actor lane t v b by f. f.needs;
   kept = λ actor lane mine t v w b b' not other does holds f. facts_kept b v actor lane mine not other t.task w b' f does;
-  gains = λ lane t v b b' keeps f. facts_gain lane t.task v b b' keeps f;
+  gains = λ lane t v b b' keeps same f. facts_gain lane t.task v b b' keeps f;
   duty = λ actor lane t new v b agrees by stood f. change_duty b v actor lane t.task f agrees (λ w. leaves_in (turn.Done tt) new.answer t.task new.task v w) (λ settles w l. done_in new.answer t.task new.task v w settles l) stood;
   chain = λ t new step. change_chain t.task new.task step.0;
   last = λ t new step. change_last new.answer t.task new.task step;
