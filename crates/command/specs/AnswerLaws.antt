@@ -3,6 +3,7 @@ use Rattle.std.specs.Prelude.{◌≡◌, ◌≢◌, ◌≤◌, ◌++◌, ℕ, Li
 use Rattle.ost_types.specs.declared.object.ObjName.{ObjName}
 use Rattle.fs_trait.specs.declared.task.StepResult.TheVariants as turn
 use Rattle.fs_trait.specs.View.{View}
+use Rattle.repo_layout.specs.RefFile.{IsSum}
 use Rattle.store_check.specs.Good.{IsGoodStore}
 use Rattle.rely_guarantee.specs.declared.books.Claim.{Claim}
 use Rattle.rely_guarantee.specs.Books.{Books}
@@ -14,6 +15,7 @@ use Rattle.command.specs.CommitFiles.{CommitsAreFiles}
 use Rattle.command.specs.Doing.{Doing}
 use Rattle.command.specs.Meaning.{Meaning}
 use Rattle.command.specs.Removed.{AreAmong, RemovesOnly}
+use Rattle.command.specs.Removing.{IsAlone}
 use Rattle.command.specs.Sees.{Sees}
 use Rattle.command.specs.Since.{Since, placed}
 use Rattle.command.specs.Sound.{IsSoundStore}
@@ -30,6 +32,8 @@ pub record AnswerLaws {T W A : Type 0} (k : TaskSpec T) (m : Meaning W A) (d : D
   pub shows : (since : Since) (lane : ℕ) (c : W) (t new : T) (v w : View) (b : Books) (a : A) → d.pursues since c t → k.facts lane t v b → k.leaves t (turn.Done tt) new v w → d.answer new ≡ Some a → IsSoundStore since.limits v.now → m.shows since v a c
   -- and so is what it says where the view is told: the last step sees a state
   pub knows : (since : Since) (p : State) (lane : ℕ) (c : W) (t new : T) (v w : View) (b : Books) (a : A) → d.pursues since c t → k.facts lane t v b → k.leaves t (turn.Done tt) new v w → d.answer new ≡ Some a → Sees (k.kind t) lane b v w p → m.knows (placed since p) a c
+  -- that a commit isn't there is told by a step that nobody else's removal goes on beside
+  pub lacks_alone : (since : Since) (lane : ℕ) (c : W) (t new : T) (v w : View) (b : Books) (a : A) (commit : List ℕ) → d.pursues since c t → k.facts lane t v b → k.leaves t (turn.Done tt) new v w → d.answer new ≡ Some a → m.lacks a commit → IsSum commit → IsAlone (k.kind t)
   -- no answer tells of a commit that lasts that it isn't there, where commits are files; none that an object isn't there as its name says,
   -- where the store is good; and none that the store is full which isn't, by the count that the task was told before that step
   pub lacks : (since : Since) (v : View) (a : A) (c : W) (commit : List ℕ) → CommitsAreFiles v.now → m.shows since v a c → m.lacks a commit → StaysFinished v commit → ⊥

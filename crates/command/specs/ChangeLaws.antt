@@ -32,6 +32,8 @@ pub record ChangeLaws {T W A : Type 0} (k : TaskSpec T) (m : Meaning W A) (d : D
   -- the answer of the last step says so exactly where that step made the change last
   pub makes : (since : Since) (c : W) (t new : T) (a : A) → d.pursues since c t → k.stepped t (turn.Done tt) new → d.answer new ≡ Some a → IsSettle (k.kind t) → m.makes a c
   pub makes_not : (since : Since) (c : W) (t new : T) (a : A) → d.pursues since c t → k.stepped t (turn.Done tt) new → d.answer new ≡ Some a → (IsSettle (k.kind t) → ⊥) → m.makes a c → ⊥
+  -- and what it says of that change is so
+  pub tells : (since : Since) (c : W) (t new : T) (a : A) (e : Event) → d.pursues since c t → k.stepped t (turn.Done tt) new → d.answer new ≡ Some a → k.kind t ≡ Settle e → m.tells a e
   -- what a change that lasts leaves in the store stands, and stays so while the store's objects do, but for those that are removed
   pub kept : (since : Since) (opening : View) (lane : ℕ) (c : W) (t new : T) (v w : View) (b : Books) → IsRightSince opening v → d.pursues since c t → k.facts lane t v b → k.leaves t (turn.Done tt) new v w → IsSettle (k.kind t) → m.keeps since opening [] c w
   pub keeps : (since : Since) (opening : View) (out removed : List ObjName) (c : W) (v w : View) → IsRightSince opening v → Stays removed v w → m.keeps since opening out c v → m.keeps since opening (removed ++ out) c w

@@ -1,10 +1,11 @@
 -- What a task is to the command whose it is.
-use Rattle.std.specs.Prelude.{◌≡◌, ◌≤◌, ℕ, [], Option}
+use Rattle.std.specs.Prelude.{◌≤◌, ℕ, List, [], Option}
 use Rattle.ost_types.specs.declared.limits.Limits.{Limits}
 use Rattle.ost_types.specs.declared.object.ObjName.{ObjName}
 use Rattle.ost_types.specs.Path.{Name}
 use Rattle.fs_trait.specs.View.{View}
 use Rattle.obj_store.specs.declared.phase.Put.{Put}
+use Rattle.rely_guarantee.specs.declared.books.Pin.{Pin}
 use Rattle.rely_guarantee.specs.declared.event.Event.{Event}
 use Rattle.rely_guarantee.specs.Books.{Books}
 use Rattle.rely_guarantee.specs.State.{State}
@@ -29,6 +30,8 @@ pub record Doing (T W A : Type 0) : Type 1 where
   -- the task once it was told this, and what it was told last
   pub hears : Told → T → T
   pub heard : T → Told
+  -- the task before and after it was told what refs name and what is pinned
+  pub learns : RefBook → List Pin → T → T → Type 0
   -- what the next step of an actor waits for
   pub asks : ℕ → T → Option Query
   -- what the last step stored or found
@@ -46,9 +49,9 @@ most = 340282366920938463463374607431768211455
 abbrev pub HasRoomFor : {W A : Type 0} → Meaning W A → RefBook → Since → W → Type 0
 HasRoomFor m refs since c = (e : Event) → m.changes since c e → HasEventRoom refs e
 
--- an answer by the state alone: its command made no change, leaves nothing, has stored nothing, and found nothing in its way
+-- an answer by the state alone: its command made no change, leaves nothing, has stored nothing, found nothing in its way, and lacks no commit
 abbrev pub IsAnswer : {W A : Type 0} → Meaning W A → Since → W → A → Type 0
-IsAnswer m since c a = m.says since a c × m.knows since a c × (m.makes a c → ⊥) × (m.full a → ⊥) × ((name : Name) → m.finds a c name → ⊥) × ((v : View) → m.shows since v a c) × ((v : View) (b : Books) → m.stays since [] a c v b)
+IsAnswer m since c a = m.says since a c × m.knows since a c × (m.makes a c → ⊥) × (m.full a → ⊥) × ((name : Name) → m.finds a c name → ⊥) × ((v : View) → m.shows since v a c) × ((v : View) (b : Books) → m.stays since [] a c v b) × ((commit : List ℕ) → m.lacks a commit → ⊥)
 
 -- a task at its beginning, with room for its ref
 abbrev pub IsFirst : {T W A : Type 0} → Meaning W A → Doing T W A → ℕ → Since → W → RefBook → T → Type 0

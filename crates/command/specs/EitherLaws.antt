@@ -8,6 +8,8 @@ use Rattle.command.specs.Meaning.{Meaning}
 use Rattle.command.specs.Tasks.{TaskSpec}
 use Rattle.command.specs.StepLaws.{StepLaws}
 use Rattle.command.specs.HearLaws.{HearLaws}
+use Rattle.command.specs.LearnLaws.{LearnLaws}
+use Rattle.command.specs.RemoveLaws.{RemoveLaws}
 use Rattle.command.specs.ChangeLaws.{ChangeLaws}
 use Rattle.command.specs.AnswerLaws.{AnswerLaws}
 use Rattle.command.specs.StoreLaws.{StoreLaws}
@@ -58,6 +60,25 @@ module _ {S T W V A B : Type 0} {k : TaskSpec S} {l : TaskSpec T} {d : Doing S W
     back = λ told. elim [ Left t ↦ ap Left (one.back told t) | Right t ↦ ap Right (two.back told t) ];
   }
 
+  learn_laws : LearnLaws k d → LearnLaws l e → LearnLaws (either_tasks k l) (either_doing d e)
+  learn_laws one two = record {
+    kind = λ refs pins. elim [ Left t ↦ elim [ Left new ↦ one.kind refs pins t new | Right new ↦ λ learns. absurd learns ] | Right t ↦ elim [ Left new ↦ λ learns. absurd learns | Right new ↦ two.kind refs pins t new ] ];
+    pursues = λ refs pins since. elim [ Left c ↦ elim [ Left t ↦ elim [ Left new ↦ one.pursues refs pins since c t new | Right new ↦ λ learns. absurd learns ] | Right t ↦ λ new learns after. absurd after ] | Right c ↦ elim [ Left t ↦ λ new learns after. absurd after | Right t ↦ elim [ Left new ↦ λ learns. absurd learns | Right new ↦ two.pursues refs pins since c t new ] ] ];
+    left = λ refs pins. elim [ Left t ↦ elim [ Left new ↦ one.left refs pins t new | Right new ↦ λ learns. absurd learns ] | Right t ↦ elim [ Left new ↦ λ learns. absurd learns | Right new ↦ two.left refs pins t new ] ];
+    met = λ refs pins. elim [ Left t ↦ elim [ Left new ↦ one.met refs pins t new | Right new ↦ λ learns. absurd learns ] | Right t ↦ elim [ Left new ↦ λ learns. absurd learns | Right new ↦ two.met refs pins t new ] ];
+    made = λ refs pins. elim [ Left t ↦ elim [ Left new ↦ one.made refs pins t new | Right new ↦ λ name learns. absurd learns ] | Right t ↦ elim [ Left new ↦ λ name learns. absurd learns | Right new ↦ two.made refs pins t new ] ];
+    unmade = λ refs pins. elim [ Left t ↦ elim [ Left new ↦ one.unmade refs pins t new | Right new ↦ λ name learns. absurd learns ] | Right t ↦ elim [ Left new ↦ λ name learns. absurd learns | Right new ↦ two.unmade refs pins t new ] ];
+    facts = λ start entries pending refs pins lane. elim [ Left t ↦ elim [ Left new ↦ one.facts start entries pending refs pins lane t new | Right new ↦ λ v b is learns. absurd learns ] | Right t ↦ elim [ Left new ↦ λ v b is learns. absurd learns | Right new ↦ two.facts start entries pending refs pins lane t new ] ];
+  }
+
+module _ {S T : Type 0} {k : TaskSpec S} {l : TaskSpec T} where
+  remove_laws : RemoveLaws k → RemoveLaws l → RemoveLaws (either_tasks k l)
+  remove_laws one two = record {
+    removes = λ actor lane. elim [ Left t ↦ one.removes actor lane t | Right t ↦ two.removes actor lane t ];
+    takes = λ lane. elim [ Left t ↦ elim [ Left new ↦ one.takes lane t new | Right new ↦ λ v w b e owed o f is leaves. absurd leaves ] | Right t ↦ elim [ Left new ↦ λ v w b e owed o f is leaves. absurd leaves | Right new ↦ two.takes lane t new ] ];
+    ends = λ lane. elim [ Left t ↦ elim [ Left new ↦ one.ends lane t new | Right new ↦ λ v w b e f is prune leaves. absurd leaves ] | Right t ↦ elim [ Left new ↦ λ v w b e f is prune leaves. absurd leaves | Right new ↦ two.ends lane t new ] ];
+  }
+
 module _ {S T W V A B : Type 0} {k : TaskSpec S} {l : TaskSpec T} {m : Meaning W A} {n : Meaning V B} {d : Doing S W A} {e : Doing T V B} where
   change_laws : ChangeLaws k m d → ChangeLaws l n e → ChangeLaws (either_tasks k l) (either_means m n) (either_doing d e)
   change_laws one two = record {
@@ -66,6 +87,7 @@ module _ {S T W V A B : Type 0} {k : TaskSpec S} {l : TaskSpec T} {m : Meaning W
     founds = λ lane. elim [ Left t ↦ one.founds lane t | Right t ↦ two.founds lane t ];
     makes = λ since. elim [ Left c ↦ elim [ Left t ↦ elim [ Left new ↦ elim [ Left a ↦ λ after step is settles. one.makes since c t new a after step (from_left (d.answer new) a is) settles | Right a ↦ λ after step is settles. absurd (not_right (d.answer new) a is) ] | Right new ↦ λ a after step is settles. absurd step ] | Right t ↦ λ new a after step is settles. absurd after ] | Right c ↦ elim [ Left t ↦ λ new a after step is settles. absurd after | Right t ↦ elim [ Left new ↦ λ a after step is settles. absurd step | Right new ↦ elim [ Left a ↦ λ after step is settles. absurd (not_left (e.answer new) a is) | Right a ↦ λ after step is settles. two.makes since c t new a after step (from_right (e.answer new) a is) settles ] ] ] ];
     makes_not = λ since. elim [ Left c ↦ elim [ Left t ↦ elim [ Left new ↦ elim [ Left a ↦ λ after step is. one.makes_not since c t new a after step (from_left (d.answer new) a is) | Right a ↦ λ after step is. absurd (not_right (d.answer new) a is) ] | Right new ↦ λ a after step is. absurd step ] | Right t ↦ λ new a after step is. absurd after ] | Right c ↦ elim [ Left t ↦ λ new a after step is. absurd after | Right t ↦ elim [ Left new ↦ λ a after step is. absurd step | Right new ↦ elim [ Left a ↦ λ after step is. absurd (not_left (e.answer new) a is) | Right a ↦ λ after step is. two.makes_not since c t new a after step (from_right (e.answer new) a is) ] ] ] ];
+    tells = λ since. elim [ Left c ↦ elim [ Left t ↦ elim [ Left new ↦ elim [ Left a ↦ λ event after step is. one.tells since c t new a event after step (from_left (d.answer new) a is) | Right a ↦ λ event after step is. absurd (not_right (d.answer new) a is) ] | Right new ↦ λ a event after step is. absurd step ] | Right t ↦ λ new a event after step is. absurd after ] | Right c ↦ elim [ Left t ↦ λ new a event after step is. absurd after | Right t ↦ elim [ Left new ↦ λ a event after step is. absurd step | Right new ↦ elim [ Left a ↦ λ event after step is. absurd (not_left (e.answer new) a is) | Right a ↦ λ event after step is. two.tells since c t new a event after step (from_right (e.answer new) a is) ] ] ] ];
     kept = λ since opening lane. elim [ Left c ↦ elim [ Left t ↦ elim [ Left new ↦ one.kept since opening lane c t new | Right new ↦ λ v w b right after f leaves settles. absurd leaves ] | Right t ↦ λ new v w b right after f leaves settles. absurd after ] | Right c ↦ elim [ Left t ↦ λ new v w b right after f leaves settles. absurd after | Right t ↦ elim [ Left new ↦ λ v w b right after f leaves settles. absurd leaves | Right new ↦ two.kept since opening lane c t new ] ] ];
     keeps = λ since opening out removed. elim [ Left c ↦ one.keeps since opening out removed c | Right c ↦ two.keeps since opening out removed c ];
     keeps_on = λ since opening out removed. elim [ Left c ↦ one.keeps_on since opening out removed c | Right c ↦ two.keeps_on since opening out removed c ];
@@ -79,6 +101,7 @@ module _ {S T W V A B : Type 0} {k : TaskSpec S} {l : TaskSpec T} {m : Meaning W
     says = λ since p. elim [ Left c ↦ elim [ Left t ↦ elim [ Left new ↦ elim [ Left a ↦ λ after step is. one.says since p c t new a after step (from_left (d.answer new) a is) | Right a ↦ λ after step is. absurd (not_right (d.answer new) a is) ] | Right new ↦ λ a after step is. absurd step ] | Right t ↦ λ new a after step is. absurd after ] | Right c ↦ elim [ Left t ↦ λ new a after step is. absurd after | Right t ↦ elim [ Left new ↦ λ a after step is. absurd step | Right new ↦ elim [ Left a ↦ λ after step is. absurd (not_left (e.answer new) a is) | Right a ↦ λ after step is. two.says since p c t new a after step (from_right (e.answer new) a is) ] ] ] ];
     shows = λ since lane. elim [ Left c ↦ elim [ Left t ↦ elim [ Left new ↦ λ v w b. elim [ Left a ↦ λ after f leaves is. one.shows since lane c t new v w b a after f leaves (from_left (d.answer new) a is) | Right a ↦ λ after f leaves is. absurd (not_right (d.answer new) a is) ] | Right new ↦ λ v w b a after f leaves is. absurd leaves ] | Right t ↦ λ new v w b a after f leaves is. absurd after ] | Right c ↦ elim [ Left t ↦ λ new v w b a after f leaves is. absurd after | Right t ↦ elim [ Left new ↦ λ v w b a after f leaves is. absurd leaves | Right new ↦ λ v w b. elim [ Left a ↦ λ after f leaves is. absurd (not_left (e.answer new) a is) | Right a ↦ λ after f leaves is. two.shows since lane c t new v w b a after f leaves (from_right (e.answer new) a is) ] ] ] ];
     knows = λ since p lane. elim [ Left c ↦ elim [ Left t ↦ elim [ Left new ↦ λ v w b. elim [ Left a ↦ λ after f leaves is sees. one.knows since p lane c t new v w b a after f leaves (from_left (d.answer new) a is) sees | Right a ↦ λ after f leaves is sees. absurd (not_right (d.answer new) a is) ] | Right new ↦ λ v w b a after f leaves is sees. absurd leaves ] | Right t ↦ λ new v w b a after f leaves is sees. absurd after ] | Right c ↦ elim [ Left t ↦ λ new v w b a after f leaves is sees. absurd after | Right t ↦ elim [ Left new ↦ λ v w b a after f leaves is sees. absurd leaves | Right new ↦ λ v w b. elim [ Left a ↦ λ after f leaves is sees. absurd (not_left (e.answer new) a is) | Right a ↦ λ after f leaves is sees. two.knows since p lane c t new v w b a after f leaves (from_right (e.answer new) a is) sees ] ] ] ];
+    lacks_alone = λ since lane. elim [ Left c ↦ elim [ Left t ↦ elim [ Left new ↦ λ v w b. elim [ Left a ↦ λ commit after f leaves is. one.lacks_alone since lane c t new v w b a commit after f leaves (from_left (d.answer new) a is) | Right a ↦ λ commit after f leaves is. absurd (not_right (d.answer new) a is) ] | Right new ↦ λ v w b a commit after f leaves is. absurd leaves ] | Right t ↦ λ new v w b a commit after f leaves is. absurd after ] | Right c ↦ elim [ Left t ↦ λ new v w b a commit after f leaves is. absurd after | Right t ↦ elim [ Left new ↦ λ v w b a commit after f leaves is. absurd leaves | Right new ↦ λ v w b. elim [ Left a ↦ λ commit after f leaves is. absurd (not_left (e.answer new) a is) | Right a ↦ λ commit after f leaves is. two.lacks_alone since lane c t new v w b a commit after f leaves (from_right (e.answer new) a is) ] ] ] ];
     lacks = λ since v. elim [ Left a ↦ elim [ Left c ↦ one.lacks since v a c | Right c ↦ λ commit files shown. absurd shown ] | Right a ↦ elim [ Left c ↦ λ commit files shown. absurd shown | Right c ↦ two.lacks since v a c ] ];
     outside = λ since v. elim [ Left a ↦ elim [ Left c ↦ one.outside since v a c | Right c ↦ λ good shown. absurd shown ] | Right a ↦ elim [ Left c ↦ λ good shown. absurd shown | Right c ↦ two.outside since v a c ] ];
     full = λ told since. elim [ Left c ↦ elim [ Left t ↦ elim [ Left new ↦ elim [ Left a ↦ λ after step is full. one.full told since c t new a after step (from_left (d.answer new) a is) full | Right a ↦ λ after step is full. absurd (not_right (d.answer new) a is) ] | Right new ↦ λ a after step is full. absurd step ] | Right t ↦ λ new a after step is full. absurd after ] | Right c ↦ elim [ Left t ↦ λ new a after step is full. absurd after | Right t ↦ elim [ Left new ↦ λ a after step is full. absurd step | Right new ↦ elim [ Left a ↦ λ after step is full. absurd (not_left (e.answer new) a is) | Right a ↦ λ after step is full. two.full told since c t new a after step (from_right (e.answer new) a is) full ] ] ] ];
@@ -118,8 +141,10 @@ module _ {S T W V A B : Type 0} {k : TaskSpec S} {l : TaskSpec T} {m : Meaning W
   either_command_laws one two = record {
     steps = steps_laws one.steps two.steps;
     hears = hear_laws one.hears two.hears;
+    learns = learn_laws one.learns two.learns;
     changes = change_laws one.changes two.changes;
     answers = answer_laws one.answers two.answers;
     store = store_laws one.store two.store;
+    removes = remove_laws one.removes two.removes;
     folders = folder_laws one.folders two.folders;
   }

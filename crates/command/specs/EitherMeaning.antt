@@ -1,5 +1,5 @@
 -- What two families of commands say, as one.
-use Rattle.std.specs.Prelude.{ℕ, Option, Some, None}
+use Rattle.std.specs.Prelude.{Option, Some, None}
 use Rattle.rely_guarantee.specs.declared.either.Either.{Either}
 use Rattle.rely_guarantee.specs.declared.either.Either.TheVariants.{Left, Right}
 use Rattle.rely_guarantee.specs.Either.{either_kind, either_writes, either_stepped, either_leaves, either_refuses, either_facts}
@@ -39,6 +39,7 @@ either_means m n = record {
   fit = λ limits. on_side (m.fit limits) (n.fit limits);
   changes = λ since c e. on_side (λ w. m.changes since w e) (λ w. n.changes since w e) c;
   makes = same_side m.makes n.makes;
+  tells = λ a e. on_side (λ x. m.tells x e) (λ x. n.tells x e) a;
   says = λ since. same_side (m.says since) (n.says since);
   knows = λ since. same_side (m.knows since) (n.knows since);
   shows = λ since v. same_side (m.shows since v) (n.shows since v);
@@ -64,6 +65,7 @@ either_doing d e = record {
   left = side_value d.left e.left;
   hears = λ told. side_map (d.hears told) (e.hears told);
   heard = side_value d.heard e.heard;
+  learns = λ refs pins. same_side (d.learns refs pins) (e.learns refs pins);
   asks = λ actor. side_value (d.asks actor) (e.asks actor);
   met = side_value d.met e.met;
   holds = λ lane t v b. on_side (λ x. d.holds lane x v b) (λ x. e.holds lane x v b) t;

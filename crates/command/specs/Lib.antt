@@ -10,6 +10,9 @@ pub mod Doing
 pub mod Tasks
 pub mod StepLaws
 pub mod HearLaws
+pub mod LearnLaws
+pub mod Removing
+pub mod RemoveLaws
 pub mod ChangeLaws
 pub mod AnswerLaws
 pub mod StoreLaws

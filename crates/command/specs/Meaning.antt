@@ -1,8 +1,8 @@
 -- What the words and answers of a family of commands mean. Nothing here knows a task.
-use Rattle.std.specs.Prelude.{ℕ, List, Option}
+use Rattle.std.specs.Prelude.{ℕ, List}
 use Rattle.ost_types.specs.declared.limits.Limits.{Limits}
 use Rattle.ost_types.specs.declared.object.ObjName.{ObjName}
-use Rattle.ost_types.specs.Path.{Name, Path}
+use Rattle.ost_types.specs.Path.{Name}
 use Rattle.fs_trait.specs.View.{Disk, View}
 use Rattle.rely_guarantee.specs.declared.event.Event.{Event}
 use Rattle.rely_guarantee.specs.Books.{Books}
@@ -16,6 +16,8 @@ pub record Meaning (W A : Type 0) : Type 1 where
   pub changes : Since → W → Event → Type 0
   -- the answer of a command that made its change
   pub makes : A → W → Type 0
+  -- what the answer says of that change
+  pub tells : A → Event → Type 0
   -- what an answer says of the states at the beginning and at its place
   pub says : Since → A → W → Type 0
   -- and what it says of them where the view is told

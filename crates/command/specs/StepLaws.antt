@@ -1,5 +1,5 @@
 -- What a family proves of the steps of its tasks.
-use Rattle.std.specs.Prelude.{◌≡◌, ◌⊎◌, ◌<◌, ℕ, false, List, Option, None}
+use Rattle.std.proofs.Common.{◌≡◌, ◌⊎◌, ◌<◌, ℕ, false, true, List, Option, None, sym, ◌∙◌}
 use Rattle.fs_trait.specs.declared.task.StepResult.TheVariants as turn
 use Rattle.fs_trait.specs.declared.types.FsErr.{FsErr}
 use Rattle.fs_trait.specs.Change.{Writes}
@@ -18,9 +18,13 @@ use Rattle.command.specs.Since.{Since}
 use Rattle.command.specs.Staging.{StagingPathFree}
 use Rattle.command.specs.Tasks.{TaskSpec}
 
--- no lock is asked for but that of the refs and that of those that store
-abbrev pub AsksForRefs : Wants → Type 0
-AsksForRefs wants = (wants.exclusive ≡ false) × (wants.sysroot ≡ false) × (wants.hold ≡ None)
+-- No lock is asked for but that of the refs, that of those that store, and, together with that of the refs, that of those that remove.
+abbrev pub AsksInOrder : Wants → Type 0
+AsksInOrder wants = (wants.exclusive ≡ true → wants.turn ≡ true) × (wants.sysroot ≡ false) × (wants.hold ≡ None)
+
+-- so of a task that never asks for the lock of those that remove
+pub asks_in_order : (wants : Wants) → (wants.exclusive ≡ false) × (wants.sysroot ≡ false) × (wants.hold ≡ None) → AsksInOrder wants
+asks_in_order wants never = ((λ is. absurd (let z : false ≡ true = sym never.0 ∙ is in cc)), never.1, never.2)
 
 pub record StepLaws {T W A : Type 0} (k : TaskSpec T) (d : Doing T W A) : Type 0 where
   -- a task at its beginning has its facts, and nothing of it is shown
@@ -32,6 +36,6 @@ pub record StepLaws {T W A : Type 0} (k : TaskSpec T) (d : Doing T W A) : Type 0
   pub goes_on : (since : Since) (c : W) (t new : T) → d.pursues since c t → k.stepped t turn.More new → d.pursues since c new
   pub falls : (t new : T) → k.stepped t turn.More new → d.left new < d.left t
   -- no step takes a lock but these: that every run ends is known of them alone
-  pub locks : (since : Since) (c : W) (t : T) (wants : Wants) → d.pursues since c t → k.kind t ≡ Take wants → AsksForRefs wants
+  pub locks : (since : Since) (c : W) (t : T) (wants : Wants) → d.pursues since c t → k.kind t ≡ Take wants → AsksInOrder wants
   -- where the view is told a step is refused only by a call that failed or for want of memory
   pub refused : (start : State) (entries : List Entry) (pending : Option Pending) (lane : ℕ) (t : T) (v : View) (b : Books) (e : FsErr) → IsTree v.now → Stands start entries pending v → k.facts lane t v b → k.refuses t v e → OfNone e

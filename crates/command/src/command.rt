@@ -11,7 +11,7 @@ use crate::{Begun, Query, Told};
 use obj_store::Put;
 use ost_types::{Limits, NoMemory, ObjName};
 use ref_book::RefBook;
-use rely_guarantee::CommandTask;
+use rely_guarantee::{CommandTask, Pin};
 use std::alloc::Global;
 
 /// A family of commands: its tasks, and what its words and answers mean.
@@ -46,6 +46,10 @@ pub trait Command: CommandTask + Drop {
     fn hear(&mut self, told: Told) -> Told
         ensures hears { self.new ≡ doing.hears told self.old }
         ensures heard { result ≡ doing.heard self.old };
+
+    /// Tells the task behind a step of it that goes on what refs name then and what is pinned. One that doesn't wait for this is as it was.
+    fn learn(&mut self, refs: &RefBook, pins: &[Pin])
+        ensures { doing.learns refs.now pins.now self.old self.new };
 
     /// What the next step of this actor waits for.
     fn asks(&self, actor: u8) -> Option<Query>

@@ -5,7 +5,7 @@ use crate::{Begun, Command, Query, Told};
 use obj_store::Put;
 use ost_types::{Limits, NoMemory, ObjName};
 use ref_book::RefBook;
-use rely_guarantee::Either;
+use rely_guarantee::{Either, Pin};
 use std::alloc::Global;
 
 impl<A: Command, B: Command> Command for Either<A, B> {
@@ -40,6 +40,13 @@ impl<A: Command, B: Command> Command for Either<A, B> {
         match self {
             Either::Left(task) => task.hear(told),
             Either::Right(task) => task.hear(told),
+        }
+    }
+
+    fn learn(&mut self, refs: &RefBook, pins: &[Pin]) {
+        match self {
+            Either::Left(task) => task.learn(refs, pins),
+            Either::Right(task) => task.learn(refs, pins),
         }
     }
 
