@@ -15,6 +15,7 @@ use Rattle.checkout_command.specs.Commands.{HasMade, IsNew, answer_of, checkout_
 use Rattle.checkout_command.specs.Fits.{Fits}
 use Rattle.checkout_command.specs.Founded.{IsOfFinished}
 use Rattle.command.specs.Doing.{Doing}
+use Rattle.command.specs.LearnLaws.{learns_nothing}
 use Rattle.command.specs.Meaning.{Meaning}
 use Rattle.command.specs.Revisions.{IsNoRev, IsRev}
 use Rattle.command.specs.Since.{Since}
@@ -69,6 +70,7 @@ checkout_means = record {
   fit = λ limits c. Unit {0};
   changes = λ since c e. ⊥;
   makes = λ a c. ⊥;
+  tells = λ a e. Unit {0};
   says = checkout_says;
   knows = λ since a c. Unit {0};
   shows = checkout_shows;
@@ -102,6 +104,7 @@ checkout_doing = record {
   left = λ t. checkout_left t.work;
   hears = λ told t. t;
   heard = λ t. record { objects = 0 };
+  learns = learns_nothing;
   asks = λ actor t. None;
   met = λ t. None;
   holds = λ lane t v b. Unit {0};

@@ -14,9 +14,10 @@ use Rattle.checkout_command.specs.declared.command.CheckoutCommand.TheVariants a
 use Rattle.checkout_command.specs.Asked.{Asked, asked}
 use Rattle.checkout_command.specs.Commands.{IsNew, checkout_kind}
 use Rattle.checkout_command.proofs.Ends.{checkout_pin, checkout_quiet, quiet_kind}
-use Rattle.command.specs.StepLaws.{AsksForRefs}
+use Rattle.command.specs.Removing.{IsRemoving}
+use Rattle.command.specs.StepLaws.{AsksInOrder, asks_in_order}
 
--- nothing is shown or settled
+-- nothing is shown, settled or removed
 pub no_show : {P : Type 0} (t : CheckoutCommand) (e : Event) → checkout_kind t ≡ Show e → P
 no_show t e is = absurd (subst IsQuiet is (checkout_quiet t))
 
@@ -33,6 +34,19 @@ quiet_unsettled (Settle e) quiet settles = quiet
 pub no_settle : (t : CheckoutCommand) → IsSettle (checkout_kind t) → ⊥
 no_settle t = quiet_unsettled (checkout_kind t) (checkout_quiet t)
 
+quiet_stays : (k : Kind) → IsQuiet k → IsRemoving k → ⊥
+quiet_stays Quiet quiet removes = removes
+quiet_stays Store quiet removes = removes
+quiet_stays (Take wants) quiet removes = removes
+quiet_stays (Claim name) quiet removes = removes
+quiet_stays (Show e) quiet removes = quiet
+quiet_stays (Shown e owed) quiet removes = quiet
+quiet_stays (Remove e owed) quiet removes = quiet
+quiet_stays (Settle e) quiet removes = quiet
+
+pub no_removal : (t : CheckoutCommand) → IsRemoving (checkout_kind t) → ⊥
+no_removal t = quiet_stays (checkout_kind t) (checkout_quiet t)
+
 pub checkout_holds : (lane : ℕ) (t : CheckoutCommand) (b : Books) → IsNew t → NotPending lane b → Holds (checkout_kind t) lane b
 checkout_holds lane (command.Look r) b new none = none
 checkout_holds lane (command.Read s) b new none = absurd new
@@ -40,10 +54,10 @@ checkout_holds lane (command.Make m) b new none = absurd new
 checkout_holds lane (command.Ended a) b new none = absurd new
 
 -- no lock is asked for
-pin_light : (commit : List ℕ) (wants : Wants) → Take (pin_wants commit) ≡ Take wants → AsksForRefs wants
-pin_light commit wants is = let same : pin_wants commit ≡ wants = cc in subst AsksForRefs same (refl, refl, refl)
+pin_light : (commit : List ℕ) (wants : Wants) → Take (pin_wants commit) ≡ Take wants → AsksInOrder wants
+pin_light commit wants is = let same : pin_wants commit ≡ wants = cc in subst AsksInOrder same (asks_in_order (pin_wants commit) (refl, refl, refl))
 
-pub checkouts_light : (t : CheckoutCommand) (wants : Wants) → checkout_kind t ≡ Take wants → AsksForRefs wants
+pub checkouts_light : (t : CheckoutCommand) (wants : Wants) → checkout_kind t ≡ Take wants → AsksInOrder wants
 checkouts_light t wants is = ⊎_elim
     (λ quiet. let no : Quiet ≡ Take wants = sym quiet ∙ is in cc)
     (⊎_elim (λ takes. pin_light takes.0.commit wants (sym takes.2 ∙ is)) (λ claims. let no : Claim claims.0.name ≡ Take wants = sym claims.2 ∙ is in cc))

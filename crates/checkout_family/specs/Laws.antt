@@ -10,16 +10,19 @@ use Rattle.command.specs.ChangeLaws.{ChangeLaws}
 use Rattle.command.specs.FolderLaws.{FolderLaws}
 use Rattle.command.specs.HearLaws.{HearLaws}
 use Rattle.command.specs.Laws.{CommandLaws}
+use Rattle.command.specs.LearnLaws.{LearnLaws, no_learning}
+use Rattle.command.specs.RemoveLaws.{RemoveLaws, no_removals}
 use Rattle.command.specs.StepLaws.{StepLaws}
 use Rattle.command.specs.StoreLaws.{StoreLaws}
 use Rattle.command.specs.Tasks.{TaskSpec, task_spec}
 use Rattle.checkout_family.specs.declared.task.CheckoutsTask.{CheckoutsTask}
 use Rattle.durable_store.proofs.Silent.{apart_keeps}
+use Rattle.checkout_family.specs.Alone.{checkouts_alone}
 use Rattle.checkout_family.specs.Apart.{writes_apart}
 use Rattle.checkout_family.specs.Answering.{ends_say, ends_show, found, has_answer, lacks_none, outside_none}
 use Rattle.checkout_family.specs.Family.{checkout_doing, checkout_means}
 use Rattle.checkout_family.specs.Made.{ends_made, late_none}
-use Rattle.checkout_family.specs.Kinds.{checkout_holds, checkouts_light, claims_own, no_settle, no_show, pins_commit}
+use Rattle.checkout_family.specs.Kinds.{checkout_holds, checkouts_light, claims_own, no_removal, no_settle, no_show, pins_commit}
 use Rattle.checkout_family.specs.Staying.{checkouts_stay, checkouts_wider, ends_leave}
 
 abbrev pub checkout_tasks : TaskSpec CheckoutsTask
@@ -47,6 +50,9 @@ hear_laws = record {
   back = λ told t. refl;
 }
 
+learn_laws : LearnLaws checkout_tasks checkout_doing
+learn_laws = no_learning checkout_tasks checkout_doing (λ refs pins t new is. is)
+
 change_laws : ChangeLaws checkout_tasks checkout_means checkout_doing
 change_laws = record {
   shown = λ since c t e is kind. no_show t.work e kind;
@@ -54,6 +60,7 @@ change_laws = record {
   founds = λ lane t v b e f kind. no_show t.work e kind;
   makes = λ since c t new a is step given settles. no_settle t.work settles;
   makes_not = λ since c t new a is step given settles made. made;
+  tells = λ since c t new a e is step given kind. tt;
   kept = λ since opening lane c t new v w b right is f leaves settles. tt;
   keeps = λ since opening out removed c v w right stays is. tt;
   keeps_on = λ since opening out removed c v disk on is. tt;
@@ -67,6 +74,7 @@ answer_laws = record {
   says = λ since p c t new a. ends_say since p c t.work new.work a;
   shows = λ since lane c t new v w b a is f leaves given sound. ends_show since lane c t.work new.work v w b a is f leaves given sound;
   knows = λ since p lane c t new v w b a is f leaves given sees. tt;
+  lacks_alone = λ since lane c t new v w b a commit is f leaves given lacks sum. checkouts_alone t.work new.work v w a commit leaves given lacks;
   lacks = lacks_none;
   outside = outside_none;
   full = λ told since c t new a is step given full. absurd full;
@@ -81,13 +89,16 @@ store_laws = record {
   works = λ since c t wants name is kind pin. (is.0, is.1, pins_commit t.work (record { limits = since.limits; commit = is.0; name = c.name }) wants name is.2 kind pin);
   reaches = λ since lane c t v b wants name is f kind pin. tt;
   brings = λ since actor lane c t v b name s bytes is f sum wrote reads. no_objects actor t.work v name s sum wrote;
-  room = λ told since actor lane c t v b name s is f sum wrote. absurd (no_objects actor t.work v name s sum wrote);
-  stored = λ actor lane t new v w b name s f leaves sum wrote. absurd (no_objects actor t.work v name s sum wrote);
-  done = λ actor lane t new v w b name s f leaves sum wrote. absurd (no_objects actor t.work v name s sum wrote);
+  room = λ told since actor lane c t v b name s is f sum wrote stands. absurd (no_objects actor t.work v name s sum wrote);
+  stored = λ actor lane t new v w b name s f leaves sum wrote stands. absurd (no_objects actor t.work v name s sum wrote);
+  done = λ actor lane t new v w b name s f leaves sum wrote stands. absurd (no_objects actor t.work v name s sum wrote);
   lacked = λ told since c t new v w name is leaves met. cc;
   there = λ lane t v b name f met. cc;
-  keeps = λ since actor lane c t v b is f. apart_keeps since.limits (checkout_means.brings since c) v (checkout_writes actor t.work v) (writes_apart actor t.work v);
+  keeps = λ since actor lane c t v b is f still. apart_keeps since.limits (checkout_means.brings since c) v (checkout_writes actor t.work v) (writes_apart actor t.work v);
 }
+
+remove_laws : RemoveLaws checkout_tasks
+remove_laws = no_removals checkout_tasks (λ t. no_removal t.work)
 
 folder_laws : FolderLaws checkout_tasks checkout_means checkout_doing
 folder_laws = record {
@@ -106,8 +117,10 @@ pub checkout_command_laws : CommandLaws checkout_tasks checkout_means checkout_d
 checkout_command_laws = record {
   steps = step_laws;
   hears = hear_laws;
+  learns = learn_laws;
   changes = change_laws;
   answers = answer_laws;
   store = store_laws;
+  removes = remove_laws;
   folders = folder_laws;
 }

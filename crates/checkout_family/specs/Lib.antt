@@ -2,6 +2,7 @@ pub mod Folder
 pub mod Family
 pub mod Kinds
 pub mod Apart
+pub mod Alone
 pub mod Answering
 pub mod Kept
 pub mod Staying

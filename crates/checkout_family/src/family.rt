@@ -11,6 +11,7 @@ use command::{Begun, Command, Query, Told, commit_of};
 use obj_store::Put;
 use ost_types::{Csum, Limits, Name, NoMemory, ObjName, TryCopy};
 use ref_book::RefBook;
+use rely_guarantee::Pin;
 use std::alloc::Global;
 
 fn task_of(
@@ -63,6 +64,8 @@ impl Command for CheckoutsTask {
     fn hear(&mut self, _told: Told) -> Told {
         Told { objects: 0 }
     }
+
+    fn learn(&mut self, _refs: &RefBook, _pins: &[Pin]) {}
 
     fn asks(&self, _actor: u8) -> Option<Query> {
         None

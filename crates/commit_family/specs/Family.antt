@@ -1,5 +1,5 @@
 -- What a commit says, and what its task is to it.
-use Rattle.std.specs.Prelude.{◌≡◌, ◌+◌, ℕ, List, Some, None}
+use Rattle.std.specs.Prelude.{◌≡◌, ◌+◌, ℕ, List, None}
 use Rattle.ost_types.specs.declared.object.ObjName.{ObjName}
 use Rattle.fs_trait.specs.View.{Disk, View}
 use Rattle.tree_build.specs.Items.{IsLeastBad, IsTree}
@@ -15,6 +15,7 @@ use Rattle.rely_guarantee.specs.declared.event.Event.TheVariants as event
 use Rattle.rely_guarantee.specs.State.{State, RefOf}
 use Rattle.ref_family.specs.Knows.{HasMoved, HasStayed, IsFreeIn, LeastClashIn}
 use Rattle.command.specs.Doing.{Doing}
+use Rattle.command.specs.LearnLaws.{learns_nothing}
 use Rattle.command.specs.Meaning.{Meaning}
 use Rattle.command.specs.Since.{Since}
 use Rattle.commit_family.specs.declared.task.CommitsTask.{CommitsTask}
@@ -79,6 +80,7 @@ commit_means = record {
   fit = IsMakeable;
   changes = λ since. commit_changes since.start;
   makes = λ a c. commit_makes a;
+  tells = λ a e. Unit {0};
   says = commit_says;
   knows = commit_knows;
   shows = commit_shows;
@@ -107,6 +109,7 @@ commit_doing = record {
   left = λ t. commit_left t.work;
   hears = λ told t. record t { work = record t.work { objects = told.objects } };
   heard = λ t. record { objects = t.work.objects };
+  learns = learns_nothing;
   asks = λ actor t. None;
   met = λ t. met_in t.work.change t.work.build;
   holds = λ lane t. AreHeld lane t.work;

@@ -18,6 +18,8 @@ use Rattle.command.specs.ChangeLaws.{ChangeLaws}
 use Rattle.command.specs.FolderLaws.{FolderLaws}
 use Rattle.command.specs.HearLaws.{HearLaws}
 use Rattle.command.specs.Laws.{CommandLaws}
+use Rattle.command.specs.LearnLaws.{LearnLaws, no_learning}
+use Rattle.command.specs.RemoveLaws.{RemoveLaws, no_removals}
 use Rattle.command.specs.Staging.{StagingPathFree}
 use Rattle.command.specs.StepLaws.{StepLaws}
 use Rattle.command.specs.StoreLaws.{StoreLaws}
@@ -29,7 +31,7 @@ use Rattle.commit_family.specs.Ends.{commits_end}
 use Rattle.commit_family.specs.Family.{commit_brings, commit_doing, commit_full, commit_makes, commit_means, commit_says}
 use Rattle.commit_family.specs.Kept.{commits_keep, commits_keep_on, commits_kept, commits_on_wider, commits_wider, lasts_whole}
 use Rattle.commit_family.specs.Keeping.{commits_keep_store}
-use Rattle.commit_family.specs.Objects.{commits_bring, commits_lacked, commits_light, commits_pin, commits_room, its_object, no_checkout}
+use Rattle.commit_family.specs.Objects.{commits_bring, commits_lacked, commits_light, commits_pin, commits_room, its_object, no_checkout, no_removal}
 use Rattle.commit_family.specs.RefAnswers.{commits_know}
 use Rattle.commit_family.specs.Steps.{begins_holds, commits_founds, commits_settled, commits_shown, commits_step, commits_told, own_step}
 use Rattle.commit_family.specs.Stored.{commit_there}
@@ -63,6 +65,9 @@ hear_laws = record {
   back = λ told t. refl;
 }
 
+learn_laws : LearnLaws commit_tasks commit_doing
+learn_laws = no_learning commit_tasks commit_doing (λ refs pins t new is. is)
+
 change_laws : ChangeLaws commit_tasks commit_means commit_doing
 change_laws = record {
   shown = λ since c t e is. commits_shown since.limits c.branch c.tree.items (message_in since.start c) t.work e is;
@@ -70,6 +75,7 @@ change_laws = record {
   founds = λ lane t. commits_founds lane t.work;
   makes = λ since c t new a is step given k. (let e = commits_end since c t.work is new.work step.0 in subst commit_makes (one (answer_of new.work) e.given a e.answer given) (e.makes k));
   makes_not = λ since c t new a is step given none m. (let e = commits_end since c t.work is new.work step.0 in e.makes_not none (subst commit_makes (sym (one (answer_of new.work) e.given a e.answer given)) m));
+  tells = λ since c t new a e is step given kind. tt;
   kept = λ since opening lane c t new v w b same is f l k right. lasts_whole since.limits c.tree.items (message_in since.start c) w (commits_kept since.limits c.branch c.tree.items (message_in since.start c) opening lane t.work v w b same is new.work f l k right);
   keeps = λ since opening out removed c v w right stays kept. commits_keep since opening out removed c v w stays kept;
   keeps_on = λ since opening out removed c v disk on kept. commits_keep_on since opening out removed c v disk on kept;
@@ -83,6 +89,7 @@ answer_laws = record {
   says = λ since p c t new a is step given. (let e = commits_end since c t.work is new.work step.0 in subst (λ x. commit_says since x c) (one (answer_of new.work) e.given a e.answer given) e.says);
   shows = λ since lane c t new v w b a is f l given sound. tells since c t.work is v w a (says_of lane t.work new.work v w b a f l given);
   knows = λ since p lane c t new v w b a is f l given sees. commits_know lane since p c v w b t.work new.work a given is f l sees;
+  lacks_alone = λ since lane c t new v w b a commit is f l given lacks sum. absurd lacks;
   lacks = λ since v a c commit files shows lacks finished. lacks;
   outside = λ since v a c good shows outside. outside;
   full = λ told since c t new a is step given full. (let e = commits_end since c (record t.work { objects = told.objects }) (commits_told since.limits c.branch c.tree.items (message_in since.start c) told.objects t.work is) new.work step.0 in e.full (subst commit_full (sym (one (answer_of new.work) e.given a e.answer given)) full));
@@ -97,13 +104,16 @@ store_laws = record {
   works = λ since c t wants name is. commits_pin since.limits c.branch c.tree.items (message_in since.start c) t.work is wants name;
   reaches = λ since lane c t v b wants name is f kind pin. tt;
   brings = λ since actor lane c t v b name s bytes is f sum wrote reads. commits_bring since.limits c.branch c.tree.items (message_in since.start c) t.work is actor lane v b name s bytes f sum wrote reads;
-  room = λ told since actor lane c t v b name s is f sum wrote. commits_room since.limits c.branch c.tree.items (message_in since.start c) (record t.work { objects = told.objects }) (commits_told since.limits c.branch c.tree.items (message_in since.start c) told.objects t.work is) actor lane v b name s (counted lane told.objects t.work v b f) sum wrote;
-  stored = λ actor lane t new v w b name s f l sum wrote. commit_stored v w name s sum actor lane t.work new.work b f l wrote;
-  done = λ actor lane t new v w b name s f l sum wrote. commit_done v w name s sum actor lane t.work new.work b f l wrote;
+  room = λ told since actor lane c t v b name s is f sum wrote stands. commits_room since.limits c.branch c.tree.items (message_in since.start c) (record t.work { objects = told.objects }) (commits_told since.limits c.branch c.tree.items (message_in since.start c) told.objects t.work is) actor lane v b name s (counted lane told.objects t.work v b f) sum wrote;
+  stored = λ actor lane t new v w b name s f l sum wrote stands. commit_stored v w name s sum actor lane t.work new.work b f l wrote;
+  done = λ actor lane t new v w b name s f l sum wrote stands. commit_done v w name s sum actor lane t.work new.work b f l wrote;
   lacked = λ told since c t new v w name is l met. commits_lacked since.limits c.branch c.tree.items (message_in since.start c) (record t.work { objects = told.objects }) (commits_told since.limits c.branch c.tree.items (message_in since.start c) told.objects t.work is) new.work v w name l met;
   there = λ lane t v b name f met. commit_there lane t.work v b name Stored f met;
-  keeps = λ since actor lane c t v b is f. commits_keep_store since.limits (commit_brings since.start c) actor lane t.work v b f is.bounds (λ o of. (o, its_object since.limits c.branch c.tree.items (message_in since.start c) t.work is o of, refl, refl));
+  keeps = λ since actor lane c t v b is f still. commits_keep_store since.limits (commit_brings since.start c) actor lane t.work v b f is.bounds (λ o of. (o, its_object since.limits c.branch c.tree.items (message_in since.start c) t.work is o of, refl, refl));
 }
+
+remove_laws : RemoveLaws commit_tasks
+remove_laws = no_removals commit_tasks (λ t. no_removal t.work)
 
 folder_laws : FolderLaws commit_tasks commit_means commit_doing
 folder_laws = record {
@@ -122,8 +132,10 @@ pub commit_command_laws : CommandLaws commit_tasks commit_means commit_doing
 commit_command_laws = record {
   steps = step_laws;
   hears = hear_laws;
+  learns = learn_laws;
   changes = change_laws;
   answers = answer_laws;
   store = store_laws;
+  removes = remove_laws;
   folders = folder_laws;
 }

@@ -46,21 +46,35 @@ use Rattle.commit_command.proofs.Pinning.{pin_of}
 use Rattle.commit_command.proofs.Stored.{commit_room}
 use Rattle.ref_store.specs.Change.{progress_in}
 use Rattle.ref_command.specs.Kinds.{event}
-use Rattle.command.specs.StepLaws.{AsksForRefs}
+use Rattle.command.specs.Removing.{IsRemoving}
+use Rattle.command.specs.StepLaws.{AsksInOrder, asks_in_order}
 use Rattle.ref_family.specs.Objects.{change_light}
+use Rattle.ref_family.specs.Removing.{ref_stays}
 use Rattle.commit_family.specs.Pursues.{Commits}
 
 -- no lock is asked for but that of the refs and that of those that store
-build_light : (pinned : Bool) (o : Option ObjName) (wants : Wants) → build_kind pinned o ≡ Take wants → AsksForRefs wants
+build_light : (pinned : Bool) (o : Option ObjName) (wants : Wants) → build_kind pinned o ≡ Take wants → AsksInOrder wants
 build_light pinned None wants is = cc
-build_light pinned (Some name) wants is = let same : put_wants pinned name ≡ wants = cc in subst AsksForRefs same (refl, refl, refl)
+build_light pinned (Some name) wants is = let same : put_wants pinned name ≡ wants = cc in subst AsksInOrder same (asks_in_order (put_wants pinned name) (refl, refl, refl))
 
-light_by : (o : Option Naming) (t : CommitCommand) (wants : Wants) → kind_by o t ≡ Take wants → AsksForRefs wants
+light_by : (o : Option Naming) (t : CommitCommand) (wants : Wants) → kind_by o t ≡ Take wants → AsksInOrder wants
 light_by None t wants is = build_light t.pinned (storing_in t.build.phase) wants is
 light_by (Some n) t wants is = change_light (progress_in n.work.task.phase) (event n.work.task) wants is
 
-pub commits_light : (t : CommitCommand) (wants : Wants) → commit_kind t ≡ Take wants → AsksForRefs wants
+pub commits_light : (t : CommitCommand) (wants : Wants) → commit_kind t ≡ Take wants → AsksInOrder wants
 commits_light t wants is = light_by t.change t wants is
+
+-- no object is removed
+build_stays : (pinned : Bool) (o : Option ObjName) → IsRemoving (build_kind pinned o) → ⊥
+build_stays pinned None removes = removes
+build_stays pinned (Some name) removes = removes
+
+stays_by : (o : Option Naming) (t : CommitCommand) → IsRemoving (kind_by o t) → ⊥
+stays_by None t removes = build_stays t.pinned (storing_in t.build.phase) removes
+stays_by (Some n) t removes = ref_stays n.work.task removes
+
+pub no_removal : (t : CommitCommand) → IsRemoving (commit_kind t) → ⊥
+no_removal t removes = stays_by t.change t removes
 
 -- nothing is written at a checkout's path
 off_by : (o : Option Naming) (actor lane : ℕ) (t : CommitCommand) (v : View) (b : Books) (name : List ℕ) (s : Seen) → facts_by o lane t v b → writes_by o actor t v (checkout_path name) s → ⊥

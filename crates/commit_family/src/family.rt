@@ -7,6 +7,7 @@ use commit_command::{CommitAnswer, CommitCommand};
 use obj_store::Put;
 use ost_types::{Limits, NoMemory, ObjName, TryCopy, copy_all};
 use ref_book::RefBook;
+use rely_guarantee::Pin;
 use std::alloc::Global;
 
 impl Command for CommitsTask {
@@ -47,6 +48,8 @@ impl Command for CommitsTask {
             objects: self.work.tell(told.objects),
         }
     }
+
+    fn learn(&mut self, _refs: &RefBook, _pins: &[Pin]) {}
 
     fn asks(&self, _actor: u8) -> Option<Query> {
         None

@@ -9,6 +9,7 @@ use Rattle.rely_guarantee.specs.Books.{Books}
 use Rattle.rely_guarantee.specs.Laws.{Kind, Laws, Quiet}
 use Rattle.ref_book.specs.Tracks.{Lists}
 use Rattle.command.specs.Doing.{Doing}
+use Rattle.command.specs.LearnLaws.{learns_nothing}
 use Rattle.command.specs.Meaning.{Meaning}
 use Rattle.list_family.specs.declared.task.ListTask.{ListTask}
 use Rattle.list_family.specs.declared.words.ListWords.{ListWords}
@@ -34,7 +35,7 @@ pub list_task_laws : Laws list_kind (λ (actor : ℕ) (t : ListTask) (v : View).
 list_task_laws = record {
   ready = λ actor lane t v b by f. tt;
   kept = λ actor lane mine t v w b b' other not does holds f. tt;
-  gains = λ lane t v b b' keeps f. tt;
+  gains = λ lane t v b b' keeps same f. tt;
   duty = λ actor lane t new v b agrees by stood f. ((λ p s wrote. absurd wrote), (λ q s wrote. absurd wrote));
   chain = λ t new step. more_never step;
   last = λ t new step. tt;
@@ -48,6 +49,7 @@ list_means = record {
   fit = λ limits c. Unit {0};
   changes = λ since c e. ⊥;
   makes = λ a c. ⊥;
+  tells = λ a e. Unit {0};
   says = λ since a c. Lists a.items since.place;
   knows = λ since a c. Unit {0};
   shows = λ since v a c. Unit {0};
@@ -74,6 +76,7 @@ list_doing = record {
   left = λ t. 0;
   hears = λ told t. t;
   heard = λ t. record { objects = 0 };
+  learns = learns_nothing;
   asks = λ actor t. None;
   met = λ t. None;
   holds = λ lane t v b. Unit {0};

@@ -12,6 +12,8 @@ use Rattle.command.specs.ChangeLaws.{ChangeLaws}
 use Rattle.command.specs.FolderLaws.{FolderLaws}
 use Rattle.command.specs.HearLaws.{HearLaws}
 use Rattle.command.specs.Laws.{CommandLaws}
+use Rattle.command.specs.LearnLaws.{LearnLaws, no_learning}
+use Rattle.command.specs.RemoveLaws.{RemoveLaws, no_removals}
 use Rattle.command.specs.StepLaws.{StepLaws}
 use Rattle.command.specs.StoreLaws.{StoreLaws}
 use Rattle.command.specs.Tasks.{TaskSpec, task_spec}
@@ -43,6 +45,9 @@ hear_laws = record {
   back = λ told t. refl;
 }
 
+learn_laws : LearnLaws list_tasks list_doing
+learn_laws = no_learning list_tasks list_doing (λ refs pins t new is. is)
+
 change_laws : ChangeLaws list_tasks list_means list_doing
 change_laws = record {
   shown = λ since c t e is kind. is;
@@ -50,6 +55,7 @@ change_laws = record {
   founds = λ lane t v b e f kind. cc;
   makes = λ since c t new a is step given settles. is;
   makes_not = λ since c t new a is step given settles made. made;
+  tells = λ since c t new a e is step given kind. tt;
   kept = λ since opening lane c t new v w b right is f leaves settles. tt;
   keeps = λ since opening out removed c v w right stays is. tt;
   keeps_on = λ since opening out removed c v disk stays is. tt;
@@ -63,6 +69,7 @@ answer_laws = record {
   says = λ since p c t new a is step given. absurd is;
   shows = λ since lane c t new v w b a is f leaves given sound. tt;
   knows = λ since p lane c t new v w b a is f leaves given sees. tt;
+  lacks_alone = λ since lane c t new v w b a commit is f leaves given lacks sum. absurd lacks;
   lacks = λ since v a c commit files seen lacks finished. lacks;
   outside = λ since v a c good seen outside. outside;
   full = λ told since c t new a is step given full. absurd full;
@@ -77,13 +84,16 @@ store_laws = record {
   works = λ since c t wants name is kind pin. is;
   reaches = λ since lane c t v b wants name is f kind pin. is;
   brings = λ since actor lane c t v b name s bytes is f sum wrote reads. is;
-  room = λ told since actor lane c t v b name s is f sum wrote. absurd is;
-  stored = λ actor lane t new v w b name s f leaves sum wrote. absurd wrote;
-  done = λ actor lane t new v w b name s f leaves sum wrote. absurd wrote;
+  room = λ told since actor lane c t v b name s is f sum wrote stands. absurd is;
+  stored = λ actor lane t new v w b name s f leaves sum wrote stands. absurd wrote;
+  done = λ actor lane t new v w b name s f leaves sum wrote stands. absurd wrote;
   lacked = λ told since c t new v w name is leaves met. absurd is;
   there = λ lane t v b name f met. cc;
-  keeps = λ since actor lane c t v b is f. absurd is;
+  keeps = λ since actor lane c t v b is f still. absurd is;
 }
+
+remove_laws : RemoveLaws list_tasks
+remove_laws = no_removals list_tasks (λ t removes. removes)
 
 folder_laws : FolderLaws list_tasks list_means list_doing
 folder_laws = record {
@@ -102,8 +112,10 @@ pub list_command_laws : CommandLaws list_tasks list_means list_doing
 list_command_laws = record {
   steps = step_laws;
   hears = hear_laws;
+  learns = learn_laws;
   changes = change_laws;
   answers = answer_laws;
   store = store_laws;
+  removes = remove_laws;
   folders = folder_laws;
 }

@@ -6,6 +6,7 @@ use command::{Begun, Command, Query, Told};
 use obj_store::Put;
 use ost_types::{Csum, Limits, NoMemory, ObjName};
 use ref_book::RefBook;
+use rely_guarantee::Pin;
 use repo_layout::RefName;
 use std::alloc::Global;
 
@@ -33,6 +34,8 @@ impl Command for ListTask {
     fn hear(&mut self, _told: Told) -> Told {
         Told { objects: 0 }
     }
+
+    fn learn(&mut self, _refs: &RefBook, _pins: &[Pin]) {}
 
     fn asks(&self, _actor: u8) -> Option<Query> {
         None

@@ -5,7 +5,6 @@ use Rattle.ost_types.specs.declared.limits.Limits.{Limits}
 use Rattle.ost_types.specs.declared.object.Kind.TheVariants.{Commit}
 use Rattle.ost_forms.specs.Commit.{CommitParts}
 use Rattle.ost_objects.specs.Object.{IsNamed}
-use Rattle.fs_trait.specs.declared.types.Value.TheVariants.{Absent}
 use Rattle.fs_trait.specs.Image.{bytes_of, reads}
 use Rattle.fs_trait.specs.View.{Disk}
 use Rattle.repo_layout.specs.Paths.{object_path}
@@ -30,7 +29,7 @@ said_of d limits commit (ask.Cat path) rows says = absurd says
 pub log_said : (d : Disk) (limits : Limits) (commit : List ℕ) (a : Ask) (rows : Vec LogRow) → Says d limits commit a (answer.Log rows) → IsLog d commit rows.items
 log_said d limits commit a rows says = ⊎_elim (λ stopped. absurd stopped) (λ other. said_of d limits commit a rows other) says
 
-none_sum : (sum : List ℕ) → IsSum sum → sum ≡ [] → ⊥
+pub none_sum : (sum : List ℕ) → IsSum sum → sum ≡ [] → ⊥
 none_sum sum is none = omega (arith, is.whole, ap length none)
 
 module _ (d : Disk) where
@@ -38,7 +37,7 @@ module _ (d : Disk) where
   named commit c has = record { bytes = has.bytes; stored = has.stored.named; reads = has.reads }
 
   -- what comes behind the last row is its commit's parent
-  last_parent : (commit next parent : List ℕ) (front : List LogRow) (last : LogRow) → IsChain (Stores d) commit (front ++ last ∷ []) next → IsParent last.commit parent → next ≡ parent
+  pub last_parent : (commit next parent : List ℕ) (front : List LogRow) (last : LogRow) → IsChain (Stores d) commit (front ++ last ∷ []) next → IsParent last.commit parent → next ≡ parent
   unfolding IsChain
   last_parent commit next parent [] last chain of = chain.5 ∙ of chain.0 (subst (λ x. HasCommit IsNamed x chain.0) (sym chain.2) (named commit chain.0 chain.1))
   last_parent commit next parent (r ∷ front) last chain of = last_parent chain.0.parent next parent front last chain.5 of

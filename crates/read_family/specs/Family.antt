@@ -20,6 +20,7 @@ use Rattle.read_command.specs.Commands.{IsNew, answer_of, read_left}
 use Rattle.read_command.specs.Fits.{Fits}
 use Rattle.read_command.specs.Founded.{IsRead}
 use Rattle.command.specs.Doing.{Doing}
+use Rattle.command.specs.LearnLaws.{learns_nothing}
 use Rattle.command.specs.Meaning.{Meaning}
 use Rattle.command.specs.Revisions.{IsNoRev, IsRev}
 use Rattle.command.specs.Since.{Since}
@@ -79,6 +80,7 @@ read_means = record {
   fit = λ limits c. Unit {0};
   changes = λ since c e. ⊥;
   makes = λ a c. ⊥;
+  tells = λ a e. Unit {0};
   says = read_says;
   knows = λ since a c. Unit {0};
   shows = read_shows;
@@ -111,6 +113,7 @@ read_doing = record {
   left = λ t. read_left t.work;
   hears = λ told t. t;
   heard = λ t. record { objects = 0 };
+  learns = learns_nothing;
   asks = λ actor t. None;
   met = λ t. None;
   holds = λ lane t v b. Unit {0};

@@ -20,10 +20,11 @@ use Rattle.read_command.specs.Chains.{IsChain}
 use Rattle.read_command.specs.Commands.{IsNew, read_facts, read_kind}
 use Rattle.read_command.specs.Kept.{chain_up}
 use Rattle.read_command.specs.LogSteps.{log_kind}
-use Rattle.command.specs.StepLaws.{AsksForRefs}
+use Rattle.command.specs.Removing.{IsRemoving}
+use Rattle.command.specs.StepLaws.{AsksInOrder, asks_in_order}
 use Rattle.read_family.specs.Family.{Reaches, reaches_of, works_of}
 
--- only the lane itself takes its steps, and they show and settle nothing
+-- only the lane itself takes its steps, and they show, settle and remove nothing
 log_apart : {P : Type 0} (rows : List LogRow) (next : List ℕ) (e : Event) → log_kind rows next ≡ Show e → P
 log_apart [] next e is = cc
 log_apart (r ∷ rows) next e is = cc
@@ -45,6 +46,17 @@ no_settle (Cat c) is = is
 no_settle (Ls s) is = is
 no_settle (Log g) is = log_unsettled g.rows.items g.next is
 no_settle (Ended a) is = is
+
+log_stays : (rows : List LogRow) (next : List ℕ) → IsRemoving (log_kind rows next) → ⊥
+log_stays [] next is = is
+log_stays (r ∷ rows) next is = is
+
+pub reads_stay : (t : ReadCommand) → IsRemoving (read_kind t) → ⊥
+reads_stay (Look l) is = is
+reads_stay (Cat c) is = is
+reads_stay (Ls s) is = is
+reads_stay (Log g) is = log_stays g.rows.items g.next is
+reads_stay (Ended a) is = is
 
 log_own : {P : Type 0} (rows : List LogRow) (next : List ℕ) → log_kind rows next ≡ Store → P
 log_own [] next is = cc
@@ -79,14 +91,14 @@ log_pinned [] next wants name is pin = cc
 log_pinned (r ∷ rows) next wants name is pin = pinned next wants name is pin
 
 -- no lock is asked for
-pin_light : (commit : List ℕ) (wants : Wants) → Take (pin_wants commit) ≡ Take wants → AsksForRefs wants
-pin_light commit wants is = let same : pin_wants commit ≡ wants = cc in subst AsksForRefs same (refl, refl, refl)
+pin_light : (commit : List ℕ) (wants : Wants) → Take (pin_wants commit) ≡ Take wants → AsksInOrder wants
+pin_light commit wants is = let same : pin_wants commit ≡ wants = cc in subst AsksInOrder same (asks_in_order (pin_wants commit) (refl, refl, refl))
 
-log_light : (rows : List LogRow) (next : List ℕ) (wants : Wants) → log_kind rows next ≡ Take wants → AsksForRefs wants
+log_light : (rows : List LogRow) (next : List ℕ) (wants : Wants) → log_kind rows next ≡ Take wants → AsksInOrder wants
 log_light [] next wants is = cc
 log_light (r ∷ rows) next wants is = pin_light next wants is
 
-pub reads_light : (t : ReadCommand) (wants : Wants) → read_kind t ≡ Take wants → AsksForRefs wants
+pub reads_light : (t : ReadCommand) (wants : Wants) → read_kind t ≡ Take wants → AsksInOrder wants
 reads_light (Look l) wants is = pin_light l.commit wants is
 reads_light (Cat c) wants is = cc
 reads_light (Ls s) wants is = cc

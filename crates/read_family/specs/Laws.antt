@@ -11,14 +11,17 @@ use Rattle.command.specs.ChangeLaws.{ChangeLaws}
 use Rattle.command.specs.FolderLaws.{FolderLaws}
 use Rattle.command.specs.HearLaws.{HearLaws}
 use Rattle.command.specs.Laws.{CommandLaws}
+use Rattle.command.specs.LearnLaws.{LearnLaws, no_learning}
+use Rattle.command.specs.RemoveLaws.{RemoveLaws, no_removals}
 use Rattle.command.specs.StepLaws.{StepLaws}
 use Rattle.command.specs.StoreLaws.{StoreLaws}
 use Rattle.command.specs.Tasks.{TaskSpec, task_spec}
 use Rattle.read_family.specs.declared.task.ReadTask.{ReadTask}
 use Rattle.durable_store.proofs.Silent.{silent_keeps}
+use Rattle.read_family.specs.Alone.{reads_alone}
 use Rattle.read_family.specs.Answering.{ends_say, ends_show, has_answer, lacks_none, outside_none}
 use Rattle.read_family.specs.Family.{read_doing, read_means}
-use Rattle.read_family.specs.Kinds.{no_settle, no_show, pins_reach, pins_work, read_holds, reads_light}
+use Rattle.read_family.specs.Kinds.{no_settle, no_show, pins_reach, pins_work, read_holds, reads_light, reads_stay}
 
 abbrev pub read_tasks : TaskSpec ReadTask
 read_tasks = task_spec (λ t. read_kind t.work) (λ actor t. read_writes actor t.work) (λ t u new. read_stepped t.work u new.work) (λ t u new. read_leaves t.work u new.work) (λ t. read_refuses t.work) (λ lane t. read_facts lane t.work)
@@ -45,6 +48,9 @@ hear_laws = record {
   back = λ told t. refl;
 }
 
+learn_laws : LearnLaws read_tasks read_doing
+learn_laws = no_learning read_tasks read_doing (λ refs pins t new is. is)
+
 change_laws : ChangeLaws read_tasks read_means read_doing
 change_laws = record {
   shown = λ since c t e is kind. no_show t.work e kind;
@@ -52,6 +58,7 @@ change_laws = record {
   founds = λ lane t v b e f kind. no_show t.work e kind;
   makes = λ since c t new a is step given settles. no_settle t.work settles;
   makes_not = λ since c t new a is step given settles made. made;
+  tells = λ since c t new a e is step given kind. tt;
   kept = λ since opening lane c t new v w b right is f leaves settles. tt;
   keeps = λ since opening out removed c v w right stays is. tt;
   keeps_on = λ since opening out removed c v disk stays is. tt;
@@ -65,6 +72,7 @@ answer_laws = record {
   says = λ since p c t new a. ends_say since p c t.work new.work a;
   shows = λ since lane c t new v w b a is f leaves given sound. ends_show since lane c t.work new.work v w b a is f leaves given;
   knows = λ since p lane c t new v w b a is f leaves given sees. tt;
+  lacks_alone = λ since lane c t new v w b a commit is f leaves given lacks sum. reads_alone t.work new.work v w a commit leaves given lacks sum;
   lacks = lacks_none;
   outside = outside_none;
   full = λ told since c t new a is step given full. absurd full;
@@ -79,13 +87,16 @@ store_laws = record {
   works = λ since c t wants name is kind pin. (is.0, is.1, pins_work t.work (record { limits = since.limits; commit = is.0; ask = c.ask }) wants name is.2 kind pin);
   reaches = λ since lane c t v b wants name is f kind pin. (is.0, is.1, pins_reach lane t.work v b (record { limits = since.limits; commit = is.0; ask = c.ask }) wants name f is.2 kind pin);
   brings = λ since actor lane c t v b name s bytes is f sum wrote reads. absurd wrote;
-  room = λ told since actor lane c t v b name s is f sum wrote. absurd wrote;
-  stored = λ actor lane t new v w b name s f leaves sum wrote. absurd wrote;
-  done = λ actor lane t new v w b name s f leaves sum wrote. absurd wrote;
+  room = λ told since actor lane c t v b name s is f sum wrote stands. absurd wrote;
+  stored = λ actor lane t new v w b name s f leaves sum wrote stands. absurd wrote;
+  done = λ actor lane t new v w b name s f leaves sum wrote stands. absurd wrote;
   lacked = λ told since c t new v w name is leaves met. cc;
   there = λ lane t v b name f met. cc;
-  keeps = λ since actor lane c t v b is f. silent_keeps since.limits (read_means.brings since c) v (read_writes actor t.work v) (λ p s wrote. wrote);
+  keeps = λ since actor lane c t v b is f still. silent_keeps since.limits (read_means.brings since c) v (read_writes actor t.work v) (λ p s wrote. wrote);
 }
+
+remove_laws : RemoveLaws read_tasks
+remove_laws = no_removals read_tasks (λ t. reads_stay t.work)
 
 folder_laws : FolderLaws read_tasks read_means read_doing
 folder_laws = record {
@@ -104,8 +115,10 @@ pub read_command_laws : CommandLaws read_tasks read_means read_doing
 read_command_laws = record {
   steps = step_laws;
   hears = hear_laws;
+  learns = learn_laws;
   changes = change_laws;
   answers = answer_laws;
   store = store_laws;
+  removes = remove_laws;
   folders = folder_laws;
 }

@@ -11,6 +11,7 @@ use obj_store::Put;
 use ost_types::{Csum, Limits, NoMemory, ObjName, TryCopy};
 use read_command::{Ask, ReadAnswer, ReadCommand};
 use ref_book::RefBook;
+use rely_guarantee::Pin;
 use std::alloc::Global;
 
 fn task_of(alloc: Global, limits: Limits, commit: Csum, ask: &Ask) -> Result<ReadCommand, NoMemory>
@@ -62,6 +63,8 @@ impl Command for ReadTask {
     fn hear(&mut self, _told: Told) -> Told {
         Told { objects: 0 }
     }
+
+    fn learn(&mut self, _refs: &RefBook, _pins: &[Pin]) {}
 
     fn asks(&self, _actor: u8) -> Option<Query> {
         None

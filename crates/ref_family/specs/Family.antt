@@ -17,6 +17,7 @@ use Rattle.ref_command.specs.Commands.{answer_of, command_left}
 use Rattle.ref_command.specs.Facts.{IsRunning}
 use Rattle.ref_command.specs.Found.{IsFound, commit_name}
 use Rattle.command.specs.Doing.{Doing}
+use Rattle.command.specs.LearnLaws.{learns_nothing}
 use Rattle.command.specs.Meaning.{Meaning}
 use Rattle.command.specs.Revisions.{IsNoRev, IsRev}
 use Rattle.ref_family.specs.declared.task.RefsTask.{RefsTask}
@@ -83,6 +84,7 @@ ref_means = record {
   fit = λ limits c. Unit {0};
   changes = λ since. ref_changes since.start;
   makes = ref_makes;
+  tells = λ a e. Unit {0};
   says = λ since. ref_says since.start;
   knows = ref_knows;
   shows = λ since. ref_shows;
@@ -119,6 +121,7 @@ ref_doing = record {
   left = λ t. command_left t.work;
   hears = λ told t. t;
   heard = λ t. record { objects = 0 };
+  learns = learns_nothing;
   asks = λ actor t. None;
   met = λ t. None;
   holds = λ lane t v b. Unit {0};

@@ -21,6 +21,8 @@ use Rattle.command.specs.ChangeLaws.{ChangeLaws}
 use Rattle.command.specs.FolderLaws.{FolderLaws}
 use Rattle.command.specs.HearLaws.{HearLaws}
 use Rattle.command.specs.Laws.{CommandLaws}
+use Rattle.command.specs.LearnLaws.{LearnLaws, no_learning}
+use Rattle.command.specs.RemoveLaws.{RemoveLaws, no_removals}
 use Rattle.command.specs.Staging.{StagingPathFree}
 use Rattle.command.specs.StepLaws.{StepLaws}
 use Rattle.command.specs.StoreLaws.{StoreLaws}
@@ -32,6 +34,7 @@ use Rattle.ref_family.specs.Ends.{ref_ends}
 use Rattle.ref_family.specs.Family.{commit_lasts, ref_doing, ref_makes, ref_means, ref_pursues, ref_says, ref_shows}
 use Rattle.ref_family.specs.Keeping.{refs_keep}
 use Rattle.ref_family.specs.Objects.{lacks_none, no_checkout, no_object, pins_work, refs_light}
+use Rattle.ref_family.specs.Removing.{refs_alone, refs_stay}
 use Rattle.ref_family.specs.Steps.{change_is, own_step, ref_founds, ref_holds, ref_settled, ref_shown, ref_step}
 use Rattle.ref_family.specs.Telling.{ref_tells}
 
@@ -86,6 +89,9 @@ hear_laws = record {
   back = λ told t. refl;
 }
 
+learn_laws : LearnLaws ref_tasks ref_doing
+learn_laws = no_learning ref_tasks ref_doing (λ refs pins t new is. is)
+
 change_laws : ChangeLaws ref_tasks ref_means ref_doing
 change_laws = record {
   shown = λ since c t. ref_shown since.start c t.work;
@@ -93,6 +99,7 @@ change_laws = record {
   founds = λ lane t. ref_founds lane t.work;
   makes = λ since c t new a is step given k. (let e = ref_ends since.start c t.work new.work is step in subst (λ x. ref_makes x c) (one (answer_of new.work) e.given a e.answer given) (e.makes k));
   makes_not = λ since c t new a is step given k m. (let e = ref_ends since.start c t.work new.work is step in e.makes_not k (subst (λ x. ref_makes x c) (sym (one (answer_of new.work) e.given a e.answer given)) m));
+  tells = λ since c t new a e is step given kind. tt;
   kept = λ since opening lane c t new v w b right is f leaves k. tt;
   keeps = λ since opening out removed c v w right stays is. tt;
   keeps_on = λ since opening out removed c v disk stays is. tt;
@@ -106,6 +113,7 @@ answer_laws = record {
   says = λ since p c t new a is step given. (let e = ref_ends since.start c t.work new.work is step in subst (λ x. ref_says since.start x c) (one (answer_of new.work) e.given a e.answer given) e.says);
   shows = λ since lane c t new v w b a is f leaves given sound. tells since.start lane c v w b a t.work is f (says_of lane t.work new.work v w b a f leaves given);
   knows = λ since p lane c t new v w b a. ref_tells (λ s branch commit work is. change_is s (words.Reset branch commit) work is) lane since p c t.work new.work v w b a;
+  lacks_alone = λ since lane c t new v w b a commit is f leaves given lacks sum. refs_alone t.work new.work v w a commit leaves given lacks;
   lacks = λ since. lacks_none;
   outside = λ since v a c good shown outside. outside;
   full = λ told since c t new a is step given full. absurd full;
@@ -120,13 +128,16 @@ store_laws = record {
   works = λ since c t wants name. pins_work since.start c t.work wants name;
   reaches = λ since lane c t v b wants name is f kind pin. tt;
   brings = λ since actor lane c t v b name s bytes is f sum wrote reads. no_object actor lane t.work v b name s f sum wrote;
-  room = λ told since actor lane c t v b name s is f sum wrote. no_object actor lane t.work v b name s f sum wrote;
-  stored = λ actor lane t new v w b name s f leaves sum wrote. no_object actor lane t.work v b name s f sum wrote;
-  done = λ actor lane t new v w b name s f leaves sum wrote. no_object actor lane t.work v b name s f sum wrote;
+  room = λ told since actor lane c t v b name s is f sum wrote stands. no_object actor lane t.work v b name s f sum wrote;
+  stored = λ actor lane t new v w b name s f leaves sum wrote stands. no_object actor lane t.work v b name s f sum wrote;
+  done = λ actor lane t new v w b name s f leaves sum wrote stands. no_object actor lane t.work v b name s f sum wrote;
   lacked = λ told since c t new v w name is leaves met. cc;
   there = λ lane t v b name f met. cc;
-  keeps = λ since actor lane c t v b is f. refs_keep since.limits (ref_means.brings since c) actor lane t.work v b f;
+  keeps = λ since actor lane c t v b is f still. refs_keep since.limits (ref_means.brings since c) actor lane t.work v b f;
 }
+
+remove_laws : RemoveLaws ref_tasks
+remove_laws = no_removals ref_tasks (λ t. refs_stay t.work)
 
 folder_laws : FolderLaws ref_tasks ref_means ref_doing
 folder_laws = record {
@@ -145,8 +156,10 @@ pub ref_command_laws : CommandLaws ref_tasks ref_means ref_doing
 ref_command_laws = record {
   steps = step_laws;
   hears = hear_laws;
+  learns = learn_laws;
   changes = change_laws;
   answers = answer_laws;
   store = store_laws;
+  removes = remove_laws;
   folders = folder_laws;
 }

@@ -5,4 +5,5 @@ pub mod Steps
 pub mod Ends
 pub mod Objects
 pub mod Keeping
+pub mod Removing
 pub mod Laws

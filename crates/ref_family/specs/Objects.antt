@@ -31,7 +31,7 @@ use Rattle.ref_command.specs.Found.{IsFound, commit_name}
 use Rattle.ref_command.specs.Kinds.{event, kind_at, turn_wants}
 use Rattle.ref_command.proofs.Resets.{command_places}
 use Rattle.command.specs.CommitFiles.{CommitsAreFiles, commit_read, no_mark_read}
-use Rattle.command.specs.StepLaws.{AsksForRefs}
+use Rattle.command.specs.StepLaws.{AsksInOrder, asks_in_order}
 use Rattle.ref_family.specs.declared.words.RefWords.{RefWords}
 use Rattle.ref_family.specs.declared.words.RefWords.TheVariants as words
 use Rattle.ref_family.specs.Family.{ref_lacks, ref_pursues, ref_shows, ref_works}
@@ -66,21 +66,21 @@ pins_work s (words.DropRef branch) (Reset look plan) wants name is kind pin = ab
 pins_work s c (Change work) wants name is kind pin = no_pin (progress_in work.task.phase) (event work.task) wants name kind pin
 
 -- no lock is asked for but that of the refs
-pin_light : (commit : List ℕ) (wants : Wants) → Take (pin_wants commit) ≡ Take wants → AsksForRefs wants
-pin_light commit wants is = let same : pin_wants commit ≡ wants = cc in subst AsksForRefs same (refl, refl, refl)
+pin_light : (commit : List ℕ) (wants : Wants) → Take (pin_wants commit) ≡ Take wants → AsksInOrder wants
+pin_light commit wants is = let same : pin_wants commit ≡ wants = cc in subst AsksInOrder same (asks_in_order (pin_wants commit) (refl, refl, refl))
 
-found_light : (found : Option Found) (commit : List ℕ) (wants : Wants) → found_kind found commit ≡ Take wants → AsksForRefs wants
+found_light : (found : Option Found) (commit : List ℕ) (wants : Wants) → found_kind found commit ≡ Take wants → AsksInOrder wants
 found_light None commit wants is = pin_light commit wants is
 found_light (Some found) commit wants is = cc
 
-pub change_light : (p : Progress) (e : Event) (wants : Wants) → kind_at p e ≡ Take wants → AsksForRefs wants
-change_light progress.Looking e wants is = let same : turn_wants ≡ wants = cc in subst AsksForRefs same (refl, refl, refl)
+pub change_light : (p : Progress) (e : Event) (wants : Wants) → kind_at p e ≡ Take wants → AsksInOrder wants
+change_light progress.Looking e wants is = let same : turn_wants ≡ wants = cc in subst AsksInOrder same (asks_in_order turn_wants (refl, refl, refl))
 change_light progress.Preparing e wants is = cc
 change_light progress.Showing e wants is = cc
 change_light progress.Settling e wants is = cc
 change_light progress.Ended e wants is = cc
 
-pub refs_light : (t : RefCommand) (wants : Wants) → command_kind t ≡ Take wants → AsksForRefs wants
+pub refs_light : (t : RefCommand) (wants : Wants) → command_kind t ≡ Take wants → AsksInOrder wants
 refs_light (Parse look) wants is = pin_light look.commit wants is
 refs_light (Reset look plan) wants is = found_light look.found look.commit wants is
 refs_light (Change work) wants is = change_light (progress_in work.task.phase) (event work.task) wants is

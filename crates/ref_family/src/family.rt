@@ -7,6 +7,7 @@ use obj_store::Put;
 use ost_types::{Limits, NoMemory, ObjName, TryCopy};
 use ref_book::RefBook;
 use ref_command::{RefAnswer, RefCommand};
+use rely_guarantee::Pin;
 use std::alloc::Global;
 
 impl Command for RefsTask {
@@ -52,6 +53,8 @@ impl Command for RefsTask {
     fn hear(&mut self, _told: Told) -> Told {
         Told { objects: 0 }
     }
+
+    fn learn(&mut self, _refs: &RefBook, _pins: &[Pin]) {}
 
     fn asks(&self, _actor: u8) -> Option<Query> {
         None
