@@ -144,7 +144,7 @@ module _ {F T W A : Type 0} (f : FsSpec F) (c : Family T W A) (fl : FsLaws f) (c
       known = λ opening is. (w, (acts.does v told_v).1, known_more f c fl cl limits lane refs refs' objects objects' old new lanes given l kept at v told_v l' x opening is);
       stays = λ stored. staying_on f c fl cl limits lane lane refs refs' objects objects' old new lanes (set lanes lane l') acts kept.sound.ordered (command_was lanes lane l l' at x.same) (length l.replies.items) _ begin None_ split (λ r words n. absurd n) starts v told_v placed (λ r words n. absurd n);
       founded = λ opening stored files. founded_on f c fl cl limits lane lane refs refs' objects objects' old new lanes (set lanes lane l') acts kept.sound.ordered (command_was lanes lane l l' at x.same) (length l.replies.items) _ begin None_ split (λ r words n. absurd n) starts v told_v opening files
-          (λ r words n. absurd n) (commands_of l' given kept') placed (λ r words n. absurd n);
+          (λ r words n. absurd n) (commands_of l' given kept') placed (λ r words n. absurd n) (λ r words commit n sum. absurd n);
     }
 
   -- it has an answer
@@ -306,7 +306,8 @@ module _ {F T W A : Type 0} (f : FsSpec F) (c : Family T W A) (fl : FsLaws f) (c
       stays = λ stored. staying_on f c fl cl limits lane lane refs refs' objects objects' old new lanes (set lanes lane l'') acts_ kept.sound.ordered (command_was lanes lane l l'' at same) (length l.replies.items) start is_start IsNew split_ (λ q words n. ap (λ (y : Reply A). y.start) n.0 ∙ begun) starts_ v told_v placed
           (of_new (λ n d y. IfAnswer (λ a. c.means.stays (since_in limits old.books n) [] a d w_ (books_of new.books)) y) (g.stays v w_ told_v (acts_.does v told_v).1 (sound_of stored)));
       founded = λ opening stored files. founded_on f c fl cl limits lane lane refs refs' objects objects' old new lanes (set lanes lane l'') acts_ kept.sound.ordered (command_was lanes lane l l'' at same) (length l.replies.items) start is_start IsNew split_ (λ q words n. ap (λ (y : Reply A). y.start) n.0 ∙ begun) starts_ v told_v opening files
-          (shows_new (sound_of stored)) (commands_of l'' (given + 1) kept') placed (λ q words n. ap (λ (y : Reply A). y.place) n.0 ∙ place);
+          (shows_new (sound_of stored)) (commands_of l'' (given + 1) kept') placed (λ q words n. ap (λ (y : Reply A). y.place) n.0 ∙ place)
+          (λ q words commit n sum lacks. g.alone v told_v commit sum (subst (OfAnswer (λ a. c.means.lacks a commit)) (ap (λ (y : Reply A). y.answer) n.0 ∙ answered) lacks));
     }
 
 -- so it is of a whole act

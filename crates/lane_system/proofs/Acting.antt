@@ -1,5 +1,7 @@
 -- One act of one lane keeps what a system keeps.
 use Rattle.std.proofs.Common.{◌≡◌, ◌⊎◌, inl, inr, ⊎_elim, ◌<◌, ◌≤◌, ◌+◌, ℕ, refl, sym, ◌∙◌, ap, subst, arith, List, [], ◌∷◌, ◌++◌, append-nil, length, set, length-set, Option, Some, None}
+use Rattle.std.specs.List.{flat_map}
+use Rattle.std.proofs.lemmas.List.Elements.{Contains-append_right}
 use Rattle.std.proofs.lemmas.List.{set-get_or}
 use Rattle.std.specs.Prelude.{vec_capacity}
 use Rattle.std.specs.Global.{Vec}
@@ -17,7 +19,7 @@ use Rattle.rely_guarantee.specs.Pinning.{pin_in}
 use Rattle.rely_guarantee.specs.State.{stored}
 use Rattle.rely_guarantee.specs.SystemInvariant.{SystemInvariant}
 use Rattle.rely_guarantee.proofs.Acting.{ends_refl}
-use Rattle.rely_guarantee.proofs.Lasting.{lasts_refl}
+use Rattle.rely_guarantee.proofs.Lasting.{lasts_refl, none_out}
 use Rattle.ref_book.specs.declared.book.RefBook.{RefBook}
 use Rattle.ref_book.specs.Tracks.{HasRoom, Tracks}
 use Rattle.ost_types.specs.declared.object.ObjName.{ObjName}
@@ -35,6 +37,7 @@ use Rattle.lane_system.specs.Kept.{Kept, LaneKept, Locked}
 use Rattle.lane_system.specs.LaneActs.{IsAtOnce, LaneActs, Takes, task_start}
 use Rattle.lane_system.specs.Lanes.{IsAt, IsRunning, IsTo}
 use Rattle.lane_system.specs.Pins.{AreInWork, IsWorkOf}
+use Rattle.lane_system.specs.Removals.{removed_by, swept_in}
 use Rattle.lane_system.specs.Replies.{EndsToo, IsTold}
 use Rattle.lane_system.specs.States.{now_of, since_in}
 use Rattle.lane_system.specs.Steps.{Stepped}
@@ -48,12 +51,21 @@ use Rattle.lane_system.proofs.Keeping.{kept_given, kept_more, others_kept, start
 use Rattle.lane_system.proofs.Locking.{locked_ended, locked_more, locked_same, pinned_ended, pinned_more, pinned_same}
 use Rattle.lane_system.proofs.Places.{at_set_back, at_set_is, here_or_apart}
 use Rattle.lane_system.proofs.Setting.{comes_same}
+use Rattle.lane_system.proofs.Telling.{free_after}
 use Rattle.lane_system.proofs.Taking.{taken_acts, told, told_after, told_facts}
 
 -- nothing was done to the books and the disk
-pub nothing_acts : {F : Type 0} (f : FsSpec F) → FsLaws f → (actor lane : ℕ) (base : Base F) (refs refs' : RefBook) → SystemInvariant f.view f.clock f.spare f.was base → Tracks refs' (now_of base.books) → ((name : List ℕ) → HasRoom refs name → HasRoom refs' name) → base.books.exclusive ≡ None → Acts f actor lane refs refs' base base
-nothing_acts f fl actor lane base refs refs' sound tracks rooms free = record {
-  free = (free, free);
+pub nothing_acts : {F : Type 0} (f : FsSpec F) → FsLaws f → (actor lane : ℕ) (base : Base F) (refs refs' : RefBook) → SystemInvariant f.view f.clock f.spare f.was base → Tracks refs' (now_of base.books) → ((name : List ℕ) → HasRoom refs name → HasRoom refs' name) → Acts f actor lane refs refs' base base
+nothing_acts f fl actor lane base refs refs' sound tracks rooms = record {
+  locks = λ order. order;
+  out = [];
+  removal = record {
+    only = λ v told. (v, told, λ o sum vacant. inl vacant);
+    one = λ v told. inl (refl, omega arith);
+    told = λ o has. absurd (none_out o has);
+    still = λ o has. Contains-append_right (flat_map removed_by (ends_refl actor lane base).spared.more) (swept_in base.books) o has;
+    prunes = λ o has p is. absurd (none_out o has);
+  };
   sound = sound;
   does = λ v told. (v, told, record { writes = record { only = λ p s may. inl may; now = λ p. inl refl }; books = (ends_refl actor lane base).spared; claims = λ c has. inl has });
   books = (ends_refl actor lane base).spared;
@@ -124,10 +136,10 @@ module _ {F T W A : Type 0} (f : FsSpec F) (c : Family T W A) (fl : FsLaws f) (c
 
     -- by what it came to
     acts_taken : (outcome : Outcome) (t' : T) → Takes f c limits lane lane number refs refs' objects old new x.words l.task outcome t' → Acts f lane lane refs refs' old new
-    acts_taken outcome t' y = taken_acts f c fl cl limits lane lane number refs refs' objects old new x.words l.task outcome t' y kept.unheld
+    acts_taken outcome t' y = taken_acts f c fl cl limits lane lane number refs refs' objects old new x.words l.task outcome t' y kept.sound
 
     acts_same : new ≡ old → Acts f lane lane refs refs' old new
-    acts_same same = subst (λ (b : Base F). Acts f lane lane refs refs' old b) (sym same) (nothing_acts f fl lane lane old refs refs' kept.sound (subst (λ (b : Base F). Tracks refs' (now_of b.books)) same x.tracks) x.rooms kept.unheld)
+    acts_same same = subst (λ (b : Base F). Acts f lane lane refs refs' old b) (sym same) (nothing_acts f fl lane lane old refs refs' kept.sound (subst (λ (b : Base F). Tracks refs' (now_of b.books)) same x.tracks) x.rooms)
 
     each_lane : (acts : Acts f lane lane refs refs' old new) (m : Lane T W A) → LaneKept f c limits lane refs' new m → ((why : Halt) → old.books.halted ≡ Some why → new ≡ old) → (a : ℕ) (y : Lane T W A) → IsAt (set lanes lane m) a y → LaneKept f c limits a refs' new y
     each_lane acts m here over a y is = here_or_apart a lane
@@ -146,7 +158,7 @@ module _ {F T W A : Type 0} (f : FsSpec F) (c : Family T W A) (fl : FsLaws f) (c
     r' = record { work = t'; start = task_start old.books.history.items l.task }
 
     pub more_acts : Acts f lane lane refs refs' old new
-    more_acts = taken_acts f c fl cl limits lane lane (length l.replies.items) refs refs' objects old new x.words l.task came.More t' y kept.unheld
+    more_acts = taken_acts f c fl cl limits lane lane (length l.replies.items) refs refs' objects old new x.words l.task came.More t' y kept.sound
 
     abbrev t : T
     t = told f c fl cl limits lane lane (length l.replies.items) refs refs' objects old new x.words l.task came.More t' y
@@ -171,9 +183,10 @@ module _ {F T W A : Type 0} (f : FsSpec F) (c : Family T W A) (fl : FsLaws f) (c
       tracks = x.tracks;
       few = omega (arith, length-set lanes lane l', kept.few);
       homes = more_acts.homes kept.homes;
+      free = free_after f fl.is lane lane old new more_acts.does kept.free;
       each = each_lane More x more_acts l' (kept_more f c fl cl limits lane lane refs refs' objects old new more_acts l l' x.words x.next x.same k t' x.replies x.did.1 y) (λ why over. absurd (let z : Some why ≡ None = sym over ∙ y.live in cc));
       locked = λ live. locked_more lanes lane l l' at x.same old.books new.books (kept.locked y.live) (c.tasks.kind t) r' x.did.1 y.step.locks;
-      unheld = more_acts.free.1;
+      ordered = more_acts.locks kept.ordered;
       pins = λ live. pinned_more (IsTold f.view) c.means limits lanes lane l l' at x.same lane old.books new.books more_acts.books early (kept.pins y.live) r' x.did.1 x.replies refl start_within x.words x.next (pin_in (c.tasks.kind t)) y.step.pins works;
       explained = λ strayed. absurd (let z : None ≡ Some halt.Strayed = sym y.live ∙ sym (live_more y.step) ∙ strayed in cc);
       accounted = accounted_more (IsTold f.view) c.means limits old.books new.books lanes given kept.accounted lane lane more_acts.books l l' at x.same x.words x.next early within x.replies t' x.did.1
@@ -199,16 +212,17 @@ module _ {F T W A : Type 0} (f : FsSpec F) (c : Family T W A) (fl : FsLaws f) (c
       tracks = tracks;
       few = kept.few;
       homes = kept.homes;
+      free = kept.free;
       each = λ a y is. (let z = kept.each a y is in record {
         is = z.is;
         runs = z.runs;
-        started = λ r task. started_stays f c fl cl limits lane lane refs refs' old old (nothing_acts f fl lane lane old refs refs' kept.sound tracks x.rooms kept.unheld) y r (z.started r task);
+        started = λ r task. started_stays f c fl cl limits lane lane refs refs' old old (nothing_acts f fl lane lane old refs refs' kept.sound tracks x.rooms) y r (z.started r task);
         replies = z.replies;
         in_order = z.in_order;
         halts = z.halts;
       });
       locked = kept.locked;
-      unheld = kept.unheld;
+      ordered = kept.ordered;
       pins = kept.pins;
       accounted = kept.accounted;
       explained = kept.explained;
@@ -285,9 +299,10 @@ module _ {F T W A : Type 0} (f : FsSpec F) (c : Family T W A) (fl : FsLaws f) (c
         tracks = x.tracks;
         few = omega (arith, length-set lanes lane l'', kept.few);
         homes = given_acts.homes kept.homes;
+        free = free_after f fl.is lane lane old new given_acts.does kept.free;
         each = each_lane (Answered z start) x given_acts l'' (kept_given f c fl cl limits lane lane refs refs' objects old new given_acts l l'' x.words x.next words k z start given_start given_within task gives r answered begun place grows room) gives.over;
         locked = locked_given;
-        unheld = given_acts.free.1;
+        ordered = given_acts.locks kept.ordered;
         pins = pins_given;
         explained = λ strayed. was_explained strayed old.books.halted refl;
         accounted = accounted_given (IsTold f.view) c.means limits old.books new.books lanes given kept.accounted lane lane given_acts.books l l'' at words x.words x.next early within r z grows task answered (begun ∙ given_start) place order taken gives.grows gives.left later_ends

@@ -1,5 +1,5 @@
 -- What one act of a system says and keeps, for each way that it may end.
-use Rattle.std.proofs.Common.{◌≡◌, ◌<◌, ◌≤◌, ℕ, false, refl, sym, ◌∙◌, ap, subst, arith, List, [], ◌∷◌, ◌++◌, length, length-append, set, ⊎_elim, None}
+use Rattle.std.proofs.Common.{◌≡◌, ◌<◌, ◌≤◌, ℕ, refl, sym, ◌∙◌, ap, subst, arith, List, [], ◌∷◌, ◌++◌, length, length-append, set, ⊎_elim, None}
 use Rattle.std.specs.Prelude.{vec_capacity}
 use Rattle.ost_types.specs.declared.limits.Limits.{Limits}
 use Rattle.rely_guarantee.specs.declared.books.Base.{Base}

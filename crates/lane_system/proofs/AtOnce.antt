@@ -49,6 +49,7 @@ module _ {F T W A : Type 0} (f : FsSpec F) (c : Family T W A) (limits : Limits) 
     over = λ reason is. refl;
     explained = λ live strayed. absurd (let z : Some why ≡ None = sym over ∙ live in cc);
     stays = λ v w is_v is_w sound. no_answer _ x caused.0;
+    alone = λ v is_v commit sum lacks. absurd (none_made _ x caused.0 lacks);
     grows = inl (refl, λ makes. none_made _ x caused.0 makes);
     pending = λ p at. inl at;
     left = λ p at mine. cut;
@@ -80,6 +81,7 @@ module _ {F T W A : Type 0} (f : FsSpec F) (c : Family T W A) (limits : Limits) 
     over = λ why over. refl;
     explained = λ live strayed. absurd (let z : None ≡ Some halt.Strayed = sym live ∙ strayed in cc);
     stays = λ v w is_v is_w sound. is.2.6 w (books_of base.books);
+    alone = λ v is_v commit sum lacks. absurd (is.2.7 commit lacks);
     grows = inl (refl, λ makes. is.2.2 makes);
     pending = λ p at. inl at;
     left = λ p at mine. absurd (idle is.1 is.0 p at mine);
@@ -95,6 +97,7 @@ module _ {F T W A : Type 0} (f : FsSpec F) (c : Family T W A) (limits : Limits) 
     over = λ why over. refl;
     explained = λ live strayed. absurd (let z : None ≡ Some halt.Strayed = sym live ∙ strayed in cc);
     stays = λ v w is_v is_w sound. tt;
+    alone = λ v is_v commit sum lacks. absurd lacks;
     grows = inl (refl, λ makes. makes);
     pending = λ p at. inl at;
     left = λ p at mine. absurd (idle is.1 is.0 p at mine);

@@ -1,5 +1,5 @@
 -- A system at its beginning.
-use Rattle.std.proofs.Common.{◌≡◌, inl, inr, ◌≤◌, ℕ, suc, false, refl, sym, ◌∙◌, ap, subst, arith, List, [], ◌∷◌, length, Contains, Option, Some, None}
+use Rattle.std.proofs.Common.{◌≡◌, inl, inr, ◌≤◌, ℕ, suc, refl, sym, ◌∙◌, ap, subst, arith, List, [], ◌∷◌, length, Contains, Option, Some, None}
 use Rattle.ost_types.specs.declared.limits.Limits.{Limits}
 use Rattle.ost_types.specs.Path.{Name}
 use Rattle.ost_types.proofs.Paths.{is_below-self}
@@ -9,6 +9,7 @@ use Rattle.repo_layout.specs.Paths.{stage_path}
 use Rattle.rely_guarantee.specs.declared.books.Base.{Base}
 use Rattle.rely_guarantee.specs.declared.kind.Halt.TheVariants as halt
 use Rattle.rely_guarantee.specs.declared.books.Pin.{Pin}
+use Rattle.rely_guarantee.specs.declared.books.Share.{Share}
 use Rattle.rely_guarantee.specs.SystemInvariant.{SystemInvariant}
 use Rattle.ref_book.specs.declared.book.RefBook.{RefBook}
 use Rattle.ref_book.specs.Tracks.{Tracks}
@@ -19,7 +20,7 @@ use Rattle.lane_system.specs.declared.lane.Reply.{Reply}
 use Rattle.lane_system.specs.Causes.{AreCausedIn}
 use Rattle.lane_system.specs.Family.{Family, FsSpec}
 use Rattle.lane_system.specs.Folders.{HasItself}
-use Rattle.lane_system.specs.Kept.{AreHomes, AreIdle, Kept, RunsIn}
+use Rattle.lane_system.specs.Kept.{AreFree, AreHomes, AreIdle, Kept, RunsIn}
 use Rattle.lane_system.specs.Lanes.{IsAt, IsTo, count_of}
 use Rattle.lane_system.specs.Preserves.{Stands}
 use Rattle.lane_system.specs.States.{now_of}
@@ -51,12 +52,13 @@ module _ {F T W A : Type 0} (f : FsSpec F) (c : Family T W A) (limits : Limits) 
   no_replies : count_of lanes ≡ 0
   no_replies = count_none lanes (λ a l at. (idle a l at).replies)
 
-  pub kept_first : SystemInvariant f.view f.clock f.spare f.was base → Tracks refs (now_of base.books) → length lanes ≤ 8 → AreHomes (f.view base.fs) → (base.books.turn ≡ None) × (base.books.exclusive ≡ None) → base.books.pins.items ≡ [] → base.books.halted ≡ None → Kept f c limits base refs lanes 0
-  kept_first sound tracks few homes locks pins live = record {
+  pub kept_first : SystemInvariant f.view f.clock f.spare f.was base → Tracks refs (now_of base.books) → length lanes ≤ 8 → AreHomes (f.view base.fs) → AreFree (f.view base.fs) → (base.books.turn ≡ None) × (base.books.exclusive ≡ None) × (base.books.shared.items ≡ []) → base.books.pins.items ≡ [] → base.books.halted ≡ None → Kept f c limits base refs lanes 0
+  kept_first sound tracks few homes free locks pins live = record {
     sound = sound;
     tracks = tracks;
     few = few;
     homes = homes;
+    free = free;
     each = λ a l at. (let i = idle a l at in record {
       is = i.is;
       runs = λ live. subst (RunsIn c a (f.view base.fs) base.books) (sym i.task) (λ p is. none_some base.books.pending p pending is);
@@ -66,7 +68,7 @@ module _ {F T W A : Type 0} (f : FsSpec F) (c : Family T W A) (limits : Limits) 
       halts = λ n r is. none_at l.replies.items n r i.replies is;
     });
     locked = λ live. record { turn = λ a is. none_some base.books.turn a locks.0 is };
-    unheld = locks.1;
+    ordered = record { alone = λ a is. none_some base.books.exclusive a locks.1 is; unshared = λ y has. absurd (no_share y (subst (λ (xs : List Share). Contains xs y) locks.2 has)) };
     pins = λ live p has. absurd (empty p (subst (λ (xs : List Pin). Contains xs p) pins has));
     explained = λ strayed. absurd (let z : None ≡ Some halt.Strayed = sym live ∙ strayed in cc);
     accounted = record {
@@ -87,6 +89,9 @@ module _ {F T W A : Type 0} (f : FsSpec F) (c : Family T W A) (limits : Limits) 
     where
       empty : (p : Pin) → Contains [] p → ⊥
       empty p (k, lt, e) = omega (arith, lt)
+
+      no_share : (y : Share) → Contains [] y → ⊥
+      no_share y (k, lt, e) = omega (arith, lt)
 
   -- no call has failed since
   pub caused_first : (before : ℕ) → f.faults base.fs ≡ before → base.books.halted ≡ None → AreCausedIn before (f.faults base.fs) base.books.halted lanes

@@ -1,5 +1,5 @@
 -- What an act keeps of calls that failed, whether or not the view is told.
-use Rattle.std.proofs.Common.{◌≡◌, ◌⊎◌, inl, inr, ⊎_elim, ◌<◌, ◌≤◌, ◌+◌, ℕ, sym, subst, arith, List, [], ◌∷◌, ◌++◌, length, set, Option, Some}
+use Rattle.std.proofs.Common.{◌≡◌, ◌⊎◌, inl, inr, ⊎_elim, ◌≤◌, ℕ, sym, subst, arith, List, [], ◌∷◌, ◌++◌, length, set, Option, Some}
 use Rattle.ost_types.specs.declared.limits.Limits.{Limits}
 use Rattle.fs_trait.specs.Count.{Rose, last}
 use Rattle.rely_guarantee.specs.declared.books.Base.{Base}
@@ -18,7 +18,6 @@ use Rattle.lane_system.specs.Kept.{Kept}
 use Rattle.lane_system.specs.LaneActs.{LaneActs}
 use Rattle.lane_system.specs.Lanes.{IsAt, IsTo}
 use Rattle.lane_system.specs.Replies.{IsCaused, IsFailure}
-use Rattle.lane_system.specs.System.{System}
 use Rattle.lane_system.proofs.Acting.{given_acts, gives, more_acts}
 use Rattle.lane_system.proofs.Changing.{to_split, to_was}
 use Rattle.lane_system.proofs.Family.{FamilyLaws, FsLaws}

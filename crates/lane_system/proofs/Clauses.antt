@@ -23,12 +23,13 @@ use Rattle.lane_system.specs.LaneActs.{LaneActs, task_start}
 use Rattle.lane_system.specs.Lanes.{IsAt}
 use Rattle.lane_system.specs.Replies.{Shown}
 use Rattle.lane_system.specs.States.{since_in}
-use Rattle.lane_system.specs.Steps.{IsCounted}
+use Rattle.lane_system.specs.Steps.{IsCounted, standing}
 use Rattle.lane_system.specs.System.{System}
 use Rattle.lane_system.proofs.Acting.{given_acts, given_start, gives, more_acts}
 use Rattle.lane_system.proofs.Family.{FamilyLaws, FsLaws}
 use Rattle.lane_system.proofs.Giving.{Gives}
 use Rattle.lane_system.proofs.Places.{at_one, at_set, at_set_is}
+use Rattle.lane_system.proofs.Telling.{standing_less, standing_same}
 
 -- the books go on from what they were
 later_by : {F T W A : Type 0} (f : FsSpec F) (actor lane : ℕ) (refs refs' : RefBook) (old new : Base F) (acts : Acts f actor lane refs refs' old new) (lanes lanes' : List (Lane T W A)) (limits : Limits) (objects objects' : ℕ)
@@ -80,7 +81,7 @@ module _ {F T W A : Type 0} (f : FsSpec F) (c : Family T W A) (fl : FsLaws f) (c
           let its : Some r ≡ Some (record { work = x.did.0; start = task_start old.books.history.items l.task }) = sym task ∙ ap (λ (z : Lane T W A). z.task) same ∙ x.did.1 in
           let one : r.work ≡ x.did.0 = cc in
           stored v is name (subst (λ u. c.doing.met u ≡ Some (name, put.Stored)) one met));
-      bounded = λ v is le. bounded_by objects limits.objects objects' (c.doing.met x.did.0) x.did.2 (λ name met. (stored v is name met).0) le;
+      bounded = λ v is le. bounded_by (standing old.books.gone new.books.gone objects) limits.objects objects' (c.doing.met x.did.0) x.did.2 (λ name met. omega (arith, (stored v is name met).0, standing_less old.books.gone new.books.gone objects)) (omega (arith, le, standing_less old.books.gone new.books.gone objects));
     }
 
   -- it has an answer
@@ -131,12 +132,12 @@ module _ {F T W A : Type 0} (f : FsSpec F) (c : Family T W A) (fl : FsLaws f) (c
     objects_done = record {
       counts = x.did.1;
       stores = λ v is. tt;
-      bounded = λ v is le. subst (λ n. n ≤ limits.objects) (sym x.did.1) le;
+      bounded = λ v is le. omega (arith, x.did.1, le, standing_less old.books.gone new.books.gone objects);
     }
 
 -- where nothing was done
 pub objects_same : {F T W A : Type 0} (c : Family T W A) (view : F → Option View) (s : System F T W A) (lane : ℕ) → Objects c.doing view s s lane ask.Blocked × Objects c.doing view s s lane ask.Ended
 objects_same c view s lane = (
-  record { counts = refl; stores = λ v is. tt; bounded = λ v is le. le },
-  record { counts = refl; stores = λ v is. tt; bounded = λ v is le. le },
+  record { counts = sym (standing_same s.base.books.gone s.objects); stores = λ v is. tt; bounded = λ v is le. le },
+  record { counts = sym (standing_same s.base.books.gone s.objects); stores = λ v is. tt; bounded = λ v is le. le },
 )

@@ -1,5 +1,5 @@
 -- Who makes the folder of a checkout finds nothing there, and is alone.
-use Rattle.std.proofs.Common.{◌≡◌, ◌≢◌, ◌⊎◌, inl, inr, ⊎_elim, ℕ, refl, sym, ◌∙◌, ap, subst, List, [], ◌∷◌, ◌++◌, length, set, Option, Some, None}
+use Rattle.std.proofs.Common.{◌≡◌, ◌≢◌, ◌⊎◌, inl, inr, ⊎_elim, ℕ, refl, sym, ◌∙◌, subst, List, [], ◌∷◌, ◌++◌, length, set, Option, Some, None}
 use Rattle.ost_types.specs.declared.limits.Limits.{Limits}
 use Rattle.ost_types.specs.Path.{Name, Path}
 use Rattle.fs_trait.specs.declared.task.StepResult.TheVariants as turn
@@ -96,7 +96,7 @@ module _ {F T W A : Type 0} (f : FsSpec F) (c : Family T W A) (fl : FsLaws f) (c
       let same : k.0 ≡ w = cc in
       let leaves = subst (λ u. c.tasks.leaves t turn.More t' v u) same k.2 in
       ⊎_elim
-      (λ claims. inl (cl.tasks.claims lane t t' v w (books_of old.books) name claims x.step.steps (told_facts f c fl cl limits lane lane number refs refs' objects old new words task came.More t' x v told_v) leaves))
+      (λ claims. inl (cl.claims lane t t' v w (books_of old.books) name claims (told_facts f c fl cl limits lane lane number refs refs' objects old new words task came.More t' x v told_v) leaves))
       (λ had. inr (task_made c cl lane task x.work name x.is (cl.commands.hears.unmade (record { objects = objects }) x.work name had)))
       (cl.commands.folders.by_claim t t' v w name leaves made)
 

@@ -1,5 +1,5 @@
 -- What a step comes to, as the functions of an act tell it.
-use Rattle.std.proofs.Common.{◌≡◌, inr, ⊎_elim, ◌<◌, ℕ, refl, sym, ◌∙◌, subst, arith, List, [], ◌∷◌, length, get_or, Option, Some, None, IsSome}
+use Rattle.std.proofs.Common.{◌≡◌, inr, ⊎_elim, ◌<◌, ℕ, refl, sym, ◌∙◌, ap, subst, arith, List, [], ◌∷◌, length, get_or, Option, Some, None, IsSome}
 use Rattle.ost_types.specs.declared.limits.Limits.{Limits}
 use Rattle.ost_types.specs.Path.{Path}
 use Rattle.fs_trait.specs.declared.types.FsErr.{FsErr}
@@ -33,9 +33,10 @@ use Rattle.lane_system.specs.Kept.{LaneKept, RunsIn}
 use Rattle.lane_system.specs.LaneActs.{IsAtOnce, LaneActs, Takes, task_start, told_by}
 use Rattle.lane_system.specs.Lanes.{IsAt, IsNext}
 use Rattle.lane_system.specs.States.{now_of}
-use Rattle.lane_system.specs.Steps.{CountsAt, HasEnded, IsCutShort, IsEndedAs, IsRefusal, IsStray, Stepped}
+use Rattle.lane_system.specs.Steps.{CountsAt, HasEnded, IsCutShort, IsEndedAs, IsRefusal, IsStray, Stepped, standing}
+use Rattle.lane_system.proofs.Telling.{standing_same}
 use Rattle.lane_system.proofs.Doing.{begun_room, begun_runs, begun_takes, ended_acts, has_answer, held_acts, more_acts, running_takes, started_room}
-use Rattle.lane_system.proofs.Places.{at_is, at_one}
+use Rattle.lane_system.proofs.Places.{at_is}
 
 -- there is a next command where not all have replies
 pub at_some : {X : Type 0} (xs : List X) (i : ℕ) → i < length xs → (x : X) × IsAt xs i x
@@ -101,7 +102,10 @@ module _ {F T W A : Type 0} (f : FsSpec F) (c : Family T W A) (limits : Limits) 
 -- What the step of a task came to, as the functions tell it: u is the task before it, and u' the one after it, unless it was held off.
 module _ {F T W A : Type 0} (f : FsSpec F) (c : Family T W A) (limits : Limits) (lane number : ℕ) (refs mid refs' : RefBook) (objects objects' : ℕ) (old new : Base F) (l : Lane T W A) (words : W) (next : IsNext l words) (is_number : number ≡ length l.replies.items) (u u' : T) (outcome : Outcome)
     (took : (o : Outcome) (t : T) → Stepped f c.tasks lane lane (length l.replies.items) mid refs' o (told_by c.doing objects u) t old new → Takes f c limits lane lane (length l.replies.items) refs refs' objects old new words l.task o t)
-    (step : (t : T) × Stepped f c.tasks lane lane number mid refs' outcome (told_by c.doing objects u) t old new × ((outcome ≡ came.Blocked → ⊥) → u' ≡ t)) (counts : CountsAt c.doing objects u' outcome objects') where
+    (step : (t : T) × Stepped f c.tasks lane lane number mid refs' outcome (told_by c.doing objects u) t old new × ((outcome ≡ came.Blocked → ⊥) → u' ≡ t)) (counts : CountsAt c.doing (standing old.books.gone new.books.gone objects) u' outcome objects') where
+  abbrev left : ℕ
+  left = standing old.books.gone new.books.gone objects
+
   taken : (o : Outcome) → outcome ≡ o → Takes f c limits lane lane (length l.replies.items) refs refs' objects old new words l.task o step.0
   taken o is = took o step.0 (subst (λ (x : Outcome). Stepped f c.tasks lane lane (length l.replies.items) mid refs' x (told_by c.doing objects u) step.0 old new) is
       (subst (λ n. Stepped f c.tasks lane lane n mid refs' outcome (told_by c.doing objects u) step.0 old new) is_number step.1))
@@ -110,11 +114,11 @@ module _ {F T W A : Type 0} (f : FsSpec F) (c : Family T W A) (limits : Limits) 
   went o is not = subst (Takes f c limits lane lane (length l.replies.items) refs refs' objects old new words l.task o) (sym (step.2 (λ held. not (sym is ∙ held)))) (taken o is)
 
   pub comes_held : outcome ≡ came.Blocked → LaneActs f c limits lane lane refs refs' objects objects' old new l l Blocked
-  comes_held is = held_acts f c limits lane refs refs' objects objects' old new l words next step.0 (taken came.Blocked is) (subst (λ (o : Outcome). CountsAt c.doing objects u' o objects') is counts)
+  comes_held is = held_acts f c limits lane refs refs' objects objects' old new l words next step.0 (taken came.Blocked is) (subst (λ (o : Outcome). CountsAt c.doing left u' o objects') is counts ∙ ap (λ (b : Base F). standing old.books.gone b.books.gone objects) ((taken came.Blocked is).step.blocked refl).0 ∙ standing_same old.books.gone objects)
 
   pub comes_more : outcome ≡ came.More → (start : ℕ) → start ≡ task_start old.books.history.items l.task → LaneActs f c limits lane lane refs refs' objects objects' old new l (record { words = l.words; task = Some (record { work = u'; start = start }); replies = l.replies }) More
   comes_more is start from = subst (λ n. LaneActs f c limits lane lane refs refs' objects objects' old new l (record { words = l.words; task = Some (record { work = u'; start = n }); replies = l.replies }) More) (sym from)
-      (more_acts f c limits lane refs refs' objects objects' old new l words next u' (went came.More is (λ x. cc)) (subst (λ (o : Outcome). CountsAt c.doing objects u' o objects') is counts))
+      (more_acts f c limits lane refs refs' objects objects' old new l words next u' (went came.More is (λ x. cc)) (subst (λ (o : Outcome). CountsAt c.doing left u' o objects') is counts))
 
   module _ (held : outcome ≡ came.Blocked → ⊥) where
     pub comes_answered : CommandLaws c.tasks c.means c.doing → outcome ≡ came.Done → IsSome (c.doing.answer u')
@@ -123,7 +127,7 @@ module _ {F T W A : Type 0} (f : FsSpec F) (c : Family T W A) (limits : Limits) 
     pub comes_ended : (outcome ≡ came.More → ⊥) → (x : Ended A) → IsEndedAs c.doing.answer (f.refused new.fs) outcome u' (f.faults new.fs) x → (start : ℕ) → start ≡ task_start old.books.history.items l.task
         → LaneActs f c limits lane lane refs refs' objects objects' old new l (record { words = l.words; task = None; replies = l.replies }) (Answered x start)
     comes_ended more x by start from = subst (λ n. LaneActs f c limits lane lane refs refs' objects objects' old new l (record { words = l.words; task = None; replies = l.replies }) (Answered x n)) (sym from)
-        (ended_acts f c limits lane refs refs' objects objects' old new l words next u' outcome (has_ended outcome held more) (went outcome refl held) (counts_end c.doing objects objects' u' outcome more counts) x by)
+        (ended_acts f c limits lane refs refs' objects objects' old new l words next u' outcome (has_ended outcome held more) (went outcome refl held) (counts_end c.doing left objects' u' outcome more counts) x by)
 
 -- A command that begins: u is its task, before its first step.
 module _ {F T W A : Type 0} (f : FsSpec F) (c : Family T W A) (laws : CommandLaws c.tasks c.means c.doing) (limits : Limits) (lane : ℕ) (refs mid : RefBook) (objects : ℕ) (old : Base F) (l : Lane T W A) (words : W) (k : LaneKept f c limits lane refs old l) (none : l.task ≡ None)

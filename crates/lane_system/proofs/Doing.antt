@@ -1,5 +1,5 @@
 -- What the functions of an act come to, as what the act did.
-use Rattle.std.proofs.Common.{◌≡◌, inl, inr, ℕ, false, refl, sym, ap, subst, arith, List, length, Option, Some, None, IsSome}
+use Rattle.std.proofs.Common.{◌≡◌, inl, inr, ℕ, refl, sym, ap, subst, arith, List, length, Option, Some, None, IsSome}
 use Rattle.ost_types.specs.declared.limits.Limits.{Limits}
 use Rattle.fs_trait.specs.View.{View}
 use Rattle.rely_guarantee.specs.declared.books.Base.{Base}
@@ -27,7 +27,8 @@ use Rattle.lane_system.specs.Kept.{LaneKept, RunsIn, Started}
 use Rattle.lane_system.specs.LaneActs.{IsAtOnce, LaneActs, Takes, task_start, told_by}
 use Rattle.lane_system.specs.Lanes.{IsNext}
 use Rattle.lane_system.specs.States.{now_of, since_in}
-use Rattle.lane_system.specs.Steps.{CountsAt, HasEnded, IsEndedAs, Stepped}
+use Rattle.lane_system.specs.Steps.{CountsAt, HasEnded, IsEndedAs, Stepped, standing}
+use Rattle.lane_system.proofs.Telling.{standing_same}
 use Rattle.lane_system.proofs.Prefixes.{state_all}
 
 module _ {F T W A : Type 0} (f : FsSpec F) (c : Family T W A) (limits : Limits) (lane : ℕ) where
@@ -41,19 +42,19 @@ module _ {F T W A : Type 0} (f : FsSpec F) (c : Family T W A) (limits : Limits) 
     replies = refl;
     tracks = tracks;
     rooms = rooms;
-    did = (refl, refl, is, inl (refl, once));
+    did = (refl, sym (standing_same base.books.gone objects), is, inl (refl, once));
   }
 
   -- a step of the task
   module _ (refs refs' : RefBook) (objects objects' : ℕ) (old new : Base F) (l : Lane T W A) (words : W) (next : IsNext l words) (t : T) where
-    pub more_acts : Takes f c limits lane lane (length l.replies.items) refs refs' objects old new words l.task came.More t → CountsAt c.doing objects t came.More objects'
+    pub more_acts : Takes f c limits lane lane (length l.replies.items) refs refs' objects old new words l.task came.More t → CountsAt c.doing (standing old.books.gone new.books.gone objects) t came.More objects'
         → LaneActs f c limits lane lane refs refs' objects objects' old new l (record { words = l.words; task = Some (record { work = t; start = task_start old.books.history.items l.task }); replies = l.replies }) More
     more_acts x counts = record { words = words; next = next; same = refl; replies = refl; tracks = x.step.tracks; rooms = λ name has. x.step.rooms name (x.grew name has); did = (t, refl, counts, x) }
 
     pub held_acts : Takes f c limits lane lane (length l.replies.items) refs refs' objects old new words l.task came.Blocked t → objects' ≡ objects → LaneActs f c limits lane lane refs refs' objects objects' old new l l Blocked
     held_acts x counts = record { words = words; next = next; same = refl; replies = refl; tracks = x.step.tracks; rooms = λ name has. x.step.rooms name (x.grew name has); did = (refl, counts, t, x) }
 
-    pub ended_acts : (outcome : Outcome) → HasEnded outcome → Takes f c limits lane lane (length l.replies.items) refs refs' objects old new words l.task outcome t → objects' ≡ objects → (x : Ended A) → IsEndedAs c.doing.answer (f.refused new.fs) outcome t (f.faults new.fs) x
+    pub ended_acts : (outcome : Outcome) → HasEnded outcome → Takes f c limits lane lane (length l.replies.items) refs refs' objects old new words l.task outcome t → objects' ≡ standing old.books.gone new.books.gone objects → (x : Ended A) → IsEndedAs c.doing.answer (f.refused new.fs) outcome t (f.faults new.fs) x
         → LaneActs f c limits lane lane refs refs' objects objects' old new l (record { words = l.words; task = None; replies = l.replies }) (Answered x (task_start old.books.history.items l.task))
     ended_acts outcome end x counts answer by = record { words = words; next = next; same = refl; replies = refl; tracks = x.step.tracks; rooms = λ name has. x.step.rooms name (x.grew name has); did = (refl, counts, refl, inr (outcome, t, end, by, x)) }
 

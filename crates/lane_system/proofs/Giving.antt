@@ -7,6 +7,7 @@ use Rattle.std.proofs.lemmas.List.Elements.{All-contains, filter_passes}
 use Rattle.ost_types.specs.declared.limits.Limits.{Limits}
 use Rattle.fs_trait.specs.declared.task.StepResult.TheVariants as turn
 use Rattle.fs_trait.specs.View.{View}
+use Rattle.repo_layout.specs.RefFile.{IsSum}
 use Rattle.rely_guarantee.specs.declared.books.Base.{Base}
 use Rattle.rely_guarantee.specs.declared.books.Claim.{Claim}
 use Rattle.rely_guarantee.specs.declared.books.Entry.{Entry}
@@ -16,29 +17,35 @@ use Rattle.rely_guarantee.specs.declared.kind.Halt.{Halt}
 use Rattle.rely_guarantee.specs.declared.kind.Halt.TheVariants as halt
 use Rattle.rely_guarantee.specs.declared.kind.Outcome.{Outcome}
 use Rattle.rely_guarantee.specs.declared.kind.Outcome.TheVariants as came
-use Rattle.rely_guarantee.specs.Books.{books_of}
+use Rattle.rely_guarantee.specs.Books.{Books, Free, books_of}
 use Rattle.rely_guarantee.specs.Claiming.{is_other, of_others}
-use Rattle.rely_guarantee.specs.Laws.{IsSettle, NotPending, Settle}
+use Rattle.rely_guarantee.specs.Exact.{Opens}
+use Rattle.rely_guarantee.specs.Laws.{IsSettle, NotPending, Kind, Quiet, Store, Take, Claim as ClaimOf, Show, Shown as ShownStep, Remove, Settle}
 use Rattle.rely_guarantee.specs.Rely.{Interference}
 use Rattle.rely_guarantee.specs.SystemInvariant.{SystemInvariant}
 use Rattle.ref_book.specs.declared.book.RefBook.{RefBook}
 use Rattle.command.specs.declared.ended.Ended.{Ended}
 use Rattle.command.specs.declared.ended.Ended.TheVariants as ended
 use Rattle.command.specs.ChangeLaws.{IsRightSince}
+use Rattle.command.specs.Removing.{IsAlone}
 use Rattle.command.specs.Since.{Since, placed}
 use Rattle.command.specs.Sound.{IsSoundStore}
 use Rattle.lane_system.specs.declared.lane.Running.{Running}
 use Rattle.lane_system.specs.Family.{Family, FsSpec}
 use Rattle.lane_system.specs.LaneActs.{Takes, task_start}
 use Rattle.lane_system.specs.Lanes.{IsAt}
+use Rattle.lane_system.specs.Removals.{swept_in}
 use Rattle.lane_system.specs.Replies.{Answers, EndsBy, HasMade, IfAnswer, IsCaused, IsCutOff, IsTold, Knows, OfAnswer, Shown}
 use Rattle.lane_system.specs.States.{now_of, since_in}
 use Rattle.lane_system.specs.Steps.{HasEnded, IsEndedAs, Stepped}
 use Rattle.lane_system.proofs.Endings.{IsMine, IsSettled, answer_only, cut_off, ends, ends_by, failed_only, halted_only, outside_only, pending_by}
 use Rattle.lane_system.proofs.Family.{FamilyLaws, FsLaws}
 use Rattle.lane_system.proofs.Histories.{EndsUnshown, over_idle}
+use Rattle.lane_system.proofs.Locking.{exclusive_ended, exclusive_from}
 use Rattle.lane_system.proofs.Places.{at_split}
+use Rattle.lane_system.proofs.Removals.{none_of}
 use Rattle.lane_system.proofs.Seeing.{sees}
+use Rattle.lane_system.proofs.Sweeping.{swept_holder}
 use Rattle.lane_system.proofs.Taking.{told, told_after, told_facts, told_holds}
 
 -- the change that the command made is the last one, and no other answer says so
@@ -57,6 +64,7 @@ pub record Gives {F T W A : Type 0} (f : FsSpec F) (c : Family T W A) (limits : 
   -- where the view is told no call is refused for what stands at its path
   pub explained : old.books.halted ≡ None → new.books.halted ≡ Some halt.Strayed → ¬ (IsTold f.view)
   pub stays : (v w : View) → f.view old.fs ≡ Some v → f.view new.fs ≡ Some w → IsSoundStore limits v.now → IfAnswer (λ a. c.means.stays (since_in limits old.books start) [] a words w (books_of new.books)) x
+  pub alone : (v : View) → f.view old.fs ≡ Some v → (commit : List ℕ) → IsSum commit → OfAnswer (λ a. c.means.lacks a commit) x → swept_in new.books ≡ []
   pub grows : Grows (λ a. c.means.makes a words) lane number x old.books.history.items new.books.history.items
   pub pending : (p : Pending) → new.books.pending ≡ Some p → (old.books.pending ≡ Some p) ⊎ ((p.lane ≡ lane) × (p.command ≡ number) × c.means.changes (since_in limits old.books start) words p.event)
   pub left : (p : Pending) → new.books.pending ≡ Some p → p.lane ≡ lane → IsCutOff (IsTold f.view) x
@@ -88,6 +96,20 @@ is_answer P ended.DiskFault p = absurd p
 is_answer P (ended.Outside path) p = absurd p
 is_answer P (ended.Halted n) p = absurd p
 
+-- such a step finds the lock of those that remove free
+alone_free : (k : Kind) (lane : ℕ) (b : Books) → IsAlone k → Opens k lane b → Free b.exclusive lane
+alone_free Store lane b alone opens = opens
+alone_free (Take wants) lane b (inl asks) opens = (opens.exclusive asks).0
+alone_free (Take wants) lane b (inr (inl asks)) opens = (opens.turn asks).0
+alone_free (Take wants) lane b (inr (inr (inl asks))) opens = opens.shared asks
+alone_free (Take wants) lane b (inr (inr (inr asks))) opens = opens.pin asks
+alone_free (Show e) lane b alone opens = opens.0
+alone_free Quiet lane b alone opens = absurd alone
+alone_free (ClaimOf name) lane b alone opens = absurd alone
+alone_free (ShownStep e n) lane b alone opens = absurd alone
+alone_free (Remove e n) lane b alone opens = absurd alone
+alone_free (Settle e) lane b alone opens = absurd alone
+
 module _ {F T W A : Type 0} (f : FsSpec F) (c : Family T W A) (fl : FsLaws f) (cl : FamilyLaws c) (limits : Limits) (actor lane number : ℕ) (refs refs' : RefBook) (objects : ℕ) (old new : Base F) (words : W) (task : Option (Running T)) (outcome : Outcome) (t' : T)
     (y : Takes f c limits actor lane number refs refs' objects old new words task outcome t') (sound : SystemInvariant f.view f.clock f.spare f.was old) (mine : IsMine lane number old.books)
     (end : HasEnded outcome) (x : Ended A) (by : IsEndedAs c.doing.answer (f.refused new.fs) outcome t' (f.faults new.fs) x) where
@@ -117,9 +139,9 @@ module _ {F T W A : Type 0} (f : FsSpec F) (c : Family T W A) (fl : FsLaws f) (c
     done : Stepped f c.tasks actor lane number y.between refs' came.Done t t' old new
     done = subst (λ (o : Outcome). Stepped f c.tasks actor lane number y.between refs' o t t' old new) only.0 y.step
 
-    makes_it : c.means.makes a words → HasMade lane number (c.means.changes since words) new.books.history.items
+    makes_it : c.means.makes a words → HasMade lane number (λ e. c.means.changes since words e × c.means.tells a e) new.books.history.items
     makes_it makes = ⊎_elim
-        (λ s. (old.books.history.items, s.1.entry, s.1.grows, s.1.owner, s.1.command, cl.commands.changes.settled since words t s.1.entry.event after s.1.kind))
+        (λ s. (old.books.history.items, s.1.entry, s.1.grows, s.1.owner, s.1.command, (cl.commands.changes.settled since words t s.1.entry.event after s.1.kind, cl.commands.changes.tells since words t t' a s.1.entry.event after done.steps only.1 s.1.kind)))
         (λ n. absurd (cl.commands.changes.makes_not since words t t' a after done.steps only.1 (n.1 only.0) makes))
         its_end
 
@@ -139,6 +161,13 @@ module _ {F T W A : Type 0} (f : FsSpec F) (c : Family T W A) (fl : FsLaws f) (c
 
     full_a : c.means.full a → limits.objects ≤ objects
     full_a full = cl.commands.answers.full (record { objects = objects }) since words y.work t' a y.after done.steps only.1 full
+
+    -- no removal goes on where it tells that a commit isn't there
+    alone_a : (v : View) → f.view old.fs ≡ Some v → (commit : List ℕ) → IsSum commit → c.means.lacks a commit → swept_in new.books ≡ []
+    alone_a v is_v commit sum lacks = none_of (swept_in new.books) (λ o has. (let h = swept_holder new.books o has in
+        let free = alone_free (c.tasks.kind t) lane (books_of old.books) (let l = done.tells v is_v in cl.commands.answers.lacks_alone since lane words t t' v l.0 (books_of old.books) a commit after (facts v is_v) l.2 only.1 lacks sum) (done.opens (λ held. cc)) in
+        let own : h.pending.lane ≡ lane = ⊎_elim (λ mine_. mine_) (λ held. free h.pending.lane held) (exclusive_from (c.tasks.kind t) lane h.pending.lane came.Done old.books new.books (λ held. cc) done.locks h.alone) in
+        exclusive_ended (c.tasks.kind t) lane old.books new.books done.locks (subst (λ n. new.books.exclusive ≡ Some n) own h.alone)))
 
     stays_a : (v w : View) → f.view old.fs ≡ Some v → f.view new.fs ≡ Some w → IsSoundStore limits v.now → c.means.stays since [] a words w (books_of new.books)
     stays_a v w is_v is_w sound_v =
@@ -250,6 +279,7 @@ module _ {F T W A : Type 0} (f : FsSpec F) (c : Family T W A) (fl : FsLaws f) (c
     over = λ why halted. absurd (let z : Some why ≡ None = sym halted ∙ y.live in cc);
     explained = λ live strayed. never_strays (halted_by outcome halt.Strayed refl end strayed);
     stays = λ v w is_v is_w sound_v. if_answer _ x (λ a is. stays_a a is v w is_v is_w sound_v);
+    alone = λ v is_v commit sum lacks. (let a = is_answer (λ b. c.means.lacks b commit) x lacks in alone_a a.0 a.1 v is_v commit sum a.2);
     grows = grows_so;
     pending = λ p is. ⊎_elim
         (λ before. inl before)

@@ -1,7 +1,9 @@
 -- Which lane holds another off.
-use Rattle.std.proofs.Common.{◌≡◌, ◌≢◌, ◌⊎◌, inl, inr, ⊎_elim, ℕ, Bool, true, false, refl, sym, ◌∙◌, ap, subst, List, length, Option, Some, None}
+use Rattle.std.proofs.Common.{◌≡◌, ◌≢◌, ◌⊎◌, inl, inr, ⊎_elim, ℕ, Bool, true, false, refl, sym, ◌∙◌, ap, subst, List, [], ◌∷◌, All, Contains, arith, length, Option, Some, None}
 use Rattle.ost_types.specs.declared.limits.Limits.{Limits}
 use Rattle.rely_guarantee.specs.declared.books.Base.{Base}
+use Rattle.rely_guarantee.specs.declared.books.Books as rust
+use Rattle.rely_guarantee.specs.declared.books.Share.{Share}
 use Rattle.rely_guarantee.specs.declared.kind.Outcome.{Outcome}
 use Rattle.rely_guarantee.specs.declared.kind.Halt.TheVariants as halt
 use Rattle.rely_guarantee.specs.declared.kind.Outcome.TheVariants as came
@@ -12,12 +14,12 @@ use Rattle.rely_guarantee.specs.Laws.{Kind, Quiet, Store, Take, Claim, Show, Sho
 use Rattle.ref_book.specs.declared.book.RefBook.{RefBook}
 use Rattle.command.specs.declared.ended.Ended.{Ended}
 use Rattle.command.specs.declared.ended.Ended.TheVariants as ended
-use Rattle.command.specs.StepLaws.{AsksForRefs}
+use Rattle.command.specs.StepLaws.{AsksInOrder}
 use Rattle.lane_system.specs.declared.act.Came.TheVariants.{Answered, Blocked, More}
 use Rattle.lane_system.specs.declared.lane.Lane.{Lane}
 use Rattle.lane_system.specs.Booked.{HasCommand}
 use Rattle.lane_system.specs.Family.{Family, FsSpec}
-use Rattle.lane_system.specs.Kept.{Kept}
+use Rattle.lane_system.specs.Kept.{AreInOrder, Kept}
 use Rattle.lane_system.specs.LaneActs.{IsAtOnce, IsTaskOf, LaneActs, Takes, told_by}
 use Rattle.lane_system.specs.Lanes.{IsAt}
 use Rattle.lane_system.specs.Ranks.{Asks, AsksRefLock, IsHeldOff}
@@ -27,9 +29,9 @@ use Rattle.lane_system.proofs.Family.{FamilyLaws, FsLaws}
 use Rattle.lane_system.proofs.Places.{at_one, here_or_apart}
 use Rattle.lane_system.proofs.Taking.{told_after}
 
--- a step of this kind asks for no lock but that of the refs and that of those that store
-abbrev AsksNoOther : Kind → Type 0
-AsksNoOther k = (wants : Wants) → k ≡ Take wants → AsksForRefs wants
+-- a step of this kind asks for locks in order
+abbrev AsksSo : Kind → Type 0
+AsksSo k = (wants : Wants) → k ≡ Take wants → AsksInOrder wants
 
 never : {P : Type 0} (b : Bool) → b ≡ false → b ≡ true → P
 never b off on = absurd (let z : false ≡ true = sym off ∙ on in cc)
@@ -37,25 +39,31 @@ never b off on = absurd (let z : false ≡ true = sym off ∙ on in cc)
 free_none : (lock : Option ℕ) (lane : ℕ) → lock ≡ None → Free lock lane
 free_none lock lane none a is = let z : None ≡ Some a = sym none ∙ is in cc
 
+all_of_none : {X : Type 0} (P : X → Type 0) (xs : List X) → ((x : X) → ¬ (Contains xs x)) → All P xs
+all_of_none P [] none = λ k d less. absurd (omega (arith, less))
+all_of_none P (x ∷ xs) none = absurd (none x (0, omega arith, refl))
+
 -- where the ref lock is free for the lane, the step may be taken
-opens_by : (k : Kind) (lane : ℕ) (b : Books) → AsksNoOther k → b.exclusive ≡ None → Free b.turn lane → Opens k lane b
-opens_by Quiet lane b asks none free = tt
-opens_by Store lane b asks none free = free_none b.exclusive lane none
-opens_by (Take wants) lane b asks none free =
-    let other = asks wants refl in
-    record {
-      exclusive = λ is. never wants.exclusive other.0 is;
-      turn = λ is. (free_none b.exclusive lane none, free);
-      shared = λ is. free_none b.exclusive lane none;
-      pin = λ is. free_none b.exclusive lane none;
-      sysroot = λ is. never wants.sysroot other.1 is;
-      hold = λ is. free;
-    }
-opens_by (Claim name) lane b asks none free = tt
-opens_by (Show e) lane b asks none free = (free_none b.exclusive lane none, free)
-opens_by (Shown e n) lane b asks none free = tt
-opens_by (Remove e n) lane b asks none free = tt
-opens_by (Settle e) lane b asks none free = tt
+module _ (b : rust.Books) (lane : ℕ) (order : AreInOrder b) (free : Free b.turn lane) where
+  alone_free : Free b.exclusive lane
+  alone_free a is = free a (order.alone a is)
+
+  opens_by : (k : Kind) → AsksSo k → Opens k lane (books_of b)
+  opens_by Quiet asks = tt
+  opens_by Store asks = alone_free
+  opens_by (Take wants) asks = (let other = asks wants refl in record {
+    exclusive = λ is. (alone_free, free, all_of_none (λ (x : Share). x.lane ≡ lane) b.shared.items order.unshared);
+    turn = λ is. (alone_free, free);
+    shared = λ is. alone_free;
+    pin = λ is. alone_free;
+    sysroot = λ is. never wants.sysroot other.1 is;
+    hold = λ is. free;
+  })
+  opens_by (Claim name) asks = tt
+  opens_by (Show e) asks = (alone_free, free)
+  opens_by (Shown e n) asks = tt
+  opens_by (Remove e n) asks = tt
+  opens_by (Settle e) asks = tt
 
 -- a lock is free for the lane, or another has it
 free_or : (lock : Option ℕ) (lane : ℕ) → Free lock lane ⊎ ((other : ℕ) × (other ≢ lane) × (lock ≡ Some other))
@@ -90,9 +98,8 @@ module _ {F T W A : Type 0} (f : FsSpec F) (c : Family T W A) (fl : FsLaws f) (c
       let y = x.did.3 in
       let closed = (y.step.blocked refl).1 in
       ⊎_elim
-      (λ free. absurd (closed (opens_by _ lane (books_of old.books)
-      (λ wants is. cl.commands.steps.locks _ x.words _ wants (told_after f c fl cl limits lane lane (length l.replies.items) refs refs' objects old new x.words l.task came.Blocked x.did.2 y) is)
-      kept.unheld free)))
+      (λ free. absurd (closed (opens_by old.books lane kept.ordered free _
+      (λ wants is. cl.commands.steps.locks _ x.words _ wants (told_after f c fl cl limits lane lane (length l.replies.items) refs refs' objects old new x.words l.task came.Blocked x.did.2 y) is))))
       (λ other. (other.0, other.1, other.2, holder_has other.0 y.live other.2))
       (free_or old.books.turn lane)
 

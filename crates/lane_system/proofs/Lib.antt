@@ -2,12 +2,14 @@ pub mod Places
 pub mod Histories
 pub mod Setting
 pub mod Seeing
+pub mod Learning
 pub mod Family
 pub mod Prefixes
 pub mod Removals
 pub mod Moments
 pub mod Telling
 pub mod Growing
+pub mod Sweeping
 pub mod Taking
 pub mod Endings
 pub mod Giving

@@ -17,7 +17,7 @@ use Rattle.command.specs.Meaning.{Meaning}
 use Rattle.command.specs.Since.{Since, begun_in}
 use Rattle.lane_system.specs.declared.lane.Lane.{Lane}
 use Rattle.lane_system.specs.declared.lane.Running.{Running}
-use Rattle.lane_system.specs.Kept.{Locked}
+use Rattle.lane_system.specs.Kept.{AreInOrder, Locked}
 use Rattle.lane_system.specs.LaneActs.{task_start}
 use Rattle.lane_system.specs.Lanes.{IsAt, IsCommand, IsNext, IsRunning}
 use Rattle.lane_system.specs.Pins.{AreInWork, IsPinOf, IsWorkOf}
@@ -26,10 +26,6 @@ use Rattle.lane_system.specs.Steps.{HasEnded}
 use Rattle.lane_system.proofs.Changing.{command_stays, one_command, running_apart, running_here, running_was}
 use Rattle.lane_system.proofs.Places.{here_or_apart}
 use Rattle.lane_system.proofs.Prefixes.{state_is}
-
--- no step of this kind takes the lock of those that remove objects
-abbrev pub AsksNone : Kind → Type 0
-AsksNone k = (wants : Wants) → k ≡ Take wants → wants.exclusive ≡ false
 
 taken_by : (asks : Bool) (lane a : ℕ) (lock : Option ℕ) → lock_taken asks lane lock ≡ Some a → (a ≡ lane) ⊎ (lock ≡ Some a)
 taken_by true lane a lock is = inl (let e : a ≡ lane = (let z : Some lane ≡ Some a = is in cc) in e)
@@ -46,31 +42,60 @@ turn_from (Shown e n) lane a lock is = inr is
 turn_from (Remove e n) lane a lock is = inr is
 turn_from (Settle e) lane a lock is = inr is
 
-exclusive_none : (k : Kind) (lane : ℕ) → AsksNone k → exclusive_in k lane None ≡ None
-exclusive_none (Take wants) lane takes = ap (λ b. lock_taken b lane None) (takes wants refl)
-exclusive_none (Show e) lane takes = refl
-exclusive_none Quiet lane takes = refl
-exclusive_none Store lane takes = refl
-exclusive_none (Claim name) lane takes = refl
-exclusive_none (Shown e n) lane takes = refl
-exclusive_none (Remove e n) lane takes = refl
-exclusive_none (Settle e) lane takes = refl
+exclusive_in_from : (k : Kind) (lane a : ℕ) (lock : Option ℕ) → exclusive_in k lane lock ≡ Some a → (a ≡ lane) ⊎ (lock ≡ Some a)
+exclusive_in_from (Take wants) lane a lock is = taken_by wants.exclusive lane a lock is
+exclusive_in_from (Show e) lane a lock is = inr is
+exclusive_in_from Quiet lane a lock is = inr is
+exclusive_in_from Store lane a lock is = inr is
+exclusive_in_from (Claim name) lane a lock is = inr is
+exclusive_in_from (Shown e n) lane a lock is = inr is
+exclusive_in_from (Remove e n) lane a lock is = inr is
+exclusive_in_from (Settle e) lane a lock is = inr is
 
-given_none : (lane : ℕ) (old new : Option ℕ) → old ≡ None → IsGivenUp lane old new → new ≡ None
-given_none lane old None none given = refl
-given_none lane old (Some x) none given = let z : None ≡ Some x = sym none ∙ (given x refl).1 in cc
+-- who has the lock of those that remove behind a step is the lane, or had it before
+pub exclusive_from : (k : Kind) (lane a : ℕ) (o : Outcome) (old new : rust.Books) → (o ≡ came.Blocked → ⊥) → Locks k lane o old new → new.exclusive ≡ Some a → (a ≡ lane) ⊎ (old.exclusive ≡ Some a)
+exclusive_from k lane a came.More old new went locks is = exclusive_in_from k lane a old.exclusive (sym locks.1 ∙ is)
+exclusive_from k lane a (came.Halted why) old new went locks is = exclusive_in_from k lane a old.exclusive (sym locks.1 ∙ is)
+exclusive_from k lane a came.Done old new went locks is = exclusive_in_from k lane a old.exclusive (locks.1 a is).1
+exclusive_from k lane a (came.Refused e) old new went locks is = exclusive_in_from k lane a old.exclusive (locks.1 a is).1
+exclusive_from k lane a came.Blocked old new went locks is = absurd (went refl)
 
--- nobody holds it behind a step either
-module _ (k : Kind) (lane : ℕ) (old new : rust.Books) (takes : AsksNone k) (was : old.exclusive ≡ None) where
-  none_in : exclusive_in k lane old.exclusive ≡ None
-  none_in = ap (exclusive_in k lane) was ∙ exclusive_none k lane takes
+-- a command that has ended has it no more
+pub exclusive_ended : (k : Kind) (lane : ℕ) (old new : rust.Books) → Locks k lane came.Done old new → new.exclusive ≡ Some lane → ⊥
+exclusive_ended k lane old new locks is = (locks.1 lane is).0 refl
 
-  pub unheld_on : (o : Outcome) → (o ≡ came.Blocked → ⊥) → Locks k lane o old new → new.exclusive ≡ None
-  unheld_on came.More not locks = locks.1 ∙ none_in
-  unheld_on (came.Halted why) not locks = locks.1 ∙ none_in
-  unheld_on came.Done not locks = given_none lane (exclusive_in k lane old.exclusive) new.exclusive none_in locks.1
-  unheld_on (came.Refused e) not locks = given_none lane (exclusive_in k lane old.exclusive) new.exclusive none_in locks.1
-  unheld_on came.Blocked not locks = absurd (not refl)
+asked_both : (b c : Bool) (lane : ℕ) (lock other : Option ℕ) → (b ≡ true → c ≡ true) → lock_taken b lane lock ≡ Some lane → (lock ≡ Some lane → other ≡ Some lane) → lock_taken c lane other ≡ Some lane
+asked_both true c lane lock other both is was = ap (λ x. lock_taken x lane other) (both refl)
+asked_both false true lane lock other both is was = refl
+asked_both false false lane lock other both is was = was is
+
+-- the lane that has it has the ref lock in the same step
+both_in : (k : Kind) (lane : ℕ) (old : rust.Books) → ((wants : Wants) → k ≡ Take wants → wants.exclusive ≡ true → wants.turn ≡ true) → (old.exclusive ≡ Some lane → old.turn ≡ Some lane) → exclusive_in k lane old.exclusive ≡ Some lane → turn_in k lane old.turn ≡ Some lane
+both_in (Take wants) lane old asks was is = asked_both wants.exclusive wants.turn lane old.exclusive old.turn (asks wants refl) is was
+both_in (Show e) lane old asks was is = refl
+both_in Quiet lane old asks was is = was is
+both_in Store lane old asks was is = was is
+both_in (Claim name) lane old asks was is = was is
+both_in (Shown e n) lane old asks was is = was is
+both_in (Remove e n) lane old asks was is = was is
+both_in (Settle e) lane old asks was is = was is
+
+-- whose the one lock is, its the other one is, behind a step too
+module _ (k : Kind) (actor lane : ℕ) (old new : rust.Books) (asks : (wants : Wants) → k ≡ Take wants → wants.exclusive ≡ true → wants.turn ≡ true) (spared : Spared actor lane (books_of old) (books_of new)) (was : AreInOrder old) where
+  mine_on : (o : Outcome) → (o ≡ came.Blocked → ⊥) → Locks k lane o old new → new.exclusive ≡ Some lane → new.turn ≡ Some lane
+  mine_on came.More went locks is = locks.0 ∙ both_in k lane old asks (was.alone lane) (sym locks.1 ∙ is)
+  mine_on (came.Halted why) went locks is = locks.0 ∙ both_in k lane old asks (was.alone lane) (sym locks.1 ∙ is)
+  mine_on came.Done went locks is = absurd ((locks.1 lane is).0 refl)
+  mine_on (came.Refused e) went locks is = absurd ((locks.1 lane is).0 refl)
+  mine_on came.Blocked went locks is = absurd (went refl)
+
+  pub in_order_on : (o : Outcome) → (o ≡ came.Blocked → ⊥) → Locks k lane o old new → AreInOrder new
+  in_order_on o went locks = record {
+    alone = λ a is. here_or_apart a lane
+        (λ e. subst (λ x. new.turn ≡ Some x) (sym e) (mine_on o went locks (subst (λ x. new.exclusive ≡ Some x) e is)))
+        (λ ne. ⊎_elim (λ own. absurd (ne own)) (λ had. spared.turn a ne (was.alone a had)) (exclusive_from k lane a o old new went locks is));
+    unshared = λ x has. was.unshared x (locks.2 x has);
+  }
 
 module _ {T W A : Type 0} (lanes : List (Lane T W A)) (lane : ℕ) (l l' : Lane T W A) (at : IsAt lanes lane l) (words : l'.words ≡ l.words) (old new : rust.Books) (was : Locked old lanes) (k : Kind) where
   -- a lane that had it before, and goes on
@@ -90,8 +115,8 @@ module _ {T W A : Type 0} (lanes : List (Lane T W A)) (lane : ℕ) (l l' : Lane 
   }
 
   pub locked_ended : (o : Outcome) → HasEnded o → ((why : Halt) → o ≡ came.Halted why → new.halted ≡ Some why) → new.halted ≡ None → Locks k lane o old new → Locked new (set lanes lane l')
-  locked_ended came.Done end halts live locks = locked_over locks
-  locked_ended (came.Refused e) end halts live locks = locked_over locks
+  locked_ended came.Done end halts live locks = locked_over (locks.0, locks.1)
+  locked_ended (came.Refused e) end halts live locks = locked_over (locks.0, locks.1)
   locked_ended (came.Halted why) end halts live locks = absurd (let z : Some why ≡ None = sym (halts why refl) ∙ live in cc)
   locked_ended came.Blocked end halts live locks = absurd end
   locked_ended came.More end halts live locks = absurd end

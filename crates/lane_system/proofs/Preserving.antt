@@ -1,7 +1,6 @@
 -- What an act keeps of what was so since the opening.
 use Rattle.std.proofs.Common.{◌≡◌, ◌⊎◌, ⊎_elim, ◌<◌, ◌≤◌, ◌+◌, ℕ, zero, suc, sym, ◌∙◌, ap, subst, arith, List, [], ◌∷◌, ◌++◌, length, Contains, Some}
-use Rattle.std.specs.List.{flat_map}
-use Rattle.std.proofs.lemmas.List.Elements.{Contains-append_cases}
+use Rattle.std.proofs.lemmas.List.Elements.{Contains-append_cases, Contains-append_right}
 use Rattle.ost_types.specs.declared.limits.Limits.{Limits}
 use Rattle.ost_types.specs.declared.object.Kind.TheVariants.{Commit}
 use Rattle.ost_types.specs.declared.object.ObjName.{ObjName}
@@ -16,7 +15,8 @@ use Rattle.rely_guarantee.specs.declared.event.Event.TheVariants.{SetRef, DropRe
 use Rattle.rely_guarantee.specs.Books.{books_of}
 use Rattle.rely_guarantee.specs.Lasting.{Outlasts, StaysFinished, StaysOn}
 use Rattle.rely_guarantee.specs.Rely.{Interference}
-use Rattle.rely_guarantee.specs.State.{first, stored}
+use Rattle.repo_layout.specs.RefFile.{IsSum}
+use Rattle.rely_guarantee.specs.State.{IsRun, IsValid, State, events_of, first, next, pending_of, stored}
 use Rattle.rely_guarantee.specs.SystemInvariant.{Ordered, SystemInvariant}
 use Rattle.rely_guarantee.proofs.Finished.{finished_stays}
 use Rattle.rely_guarantee.proofs.Lasting.{none_out, stays_image}
@@ -26,6 +26,7 @@ use Rattle.command.specs.CommitFiles.{CommitsAreFiles}
 use Rattle.command.specs.ChangeLaws.{Founds, IsRightSince}
 use Rattle.command.specs.Meaning.{Meaning}
 use Rattle.command.specs.Removed.{AreAmong, RemovesOnly}
+use Rattle.command.specs.Removing.{IsPrune}
 use Rattle.command.specs.Since.{Since, begun_in}
 use Rattle.lane_system.specs.declared.lane.Lane.{Lane}
 use Rattle.lane_system.specs.declared.lane.Reply.{Reply}
@@ -35,7 +36,7 @@ use Rattle.lane_system.specs.Founded.{AreFounded, IsOut, Sets}
 use Rattle.lane_system.specs.Inside.{AreUnrefused}
 use Rattle.lane_system.specs.Lanes.{IsAt, IsCommand, IsTo}
 use Rattle.lane_system.specs.Lasting.{AreKept, IsChangeKept}
-use Rattle.lane_system.specs.Removals.{gone_since, removed_by, removed_in, swept_in}
+use Rattle.lane_system.specs.Removals.{gone_since, removed_in, swept_in}
 use Rattle.lane_system.specs.Replies.{IfAnswer, IsOutside, OfAnswer}
 use Rattle.lane_system.specs.Said.{AreSaid, WasSeen}
 use Rattle.lane_system.specs.States.{since_in, state_in}
@@ -45,7 +46,7 @@ use Rattle.lane_system.proofs.Family.{FamilyLaws, FsLaws}
 use Rattle.lane_system.proofs.Giving.{if_answer, is_answer}
 use Rattle.lane_system.proofs.Moments.{moment_by, opened_by}
 use Rattle.lane_system.proofs.Prefixes.{since_is}
-use Rattle.lane_system.proofs.Removals.{gone_on, none_among, none_swept, removed_before, removes_none, undoomed}
+use Rattle.lane_system.proofs.Removals.{gone_on, none_among, removed_before}
 use Rattle.lane_system.proofs.Saying.{sees_now, sees_stay}
 
 -- a commit that a change sets its ref to lasts
@@ -53,6 +54,23 @@ pub set_lasts : (v : View) (commit : List ℕ) (e : Event) → Founds v e → Se
 set_lasts v commit (SetRef name seen to) founds sets = subst (StaysFinished v) sets founds
 set_lasts v commit (DropRef name seen) founds sets = absurd sets
 set_lasts v commit (Pruned depth roots held removed) founds sets = absurd sets
+
+sets_sum : (commit : List ℕ) (e : Event) → Sets commit e → IsValid e → IsSum commit
+sets_sum commit (SetRef name seen to) sets valid = subst IsSum sets valid.1
+sets_sum commit (DropRef name seen) sets valid = absurd sets
+sets_sum commit (Pruned depth roots held removed) sets valid = absurd sets
+
+-- each change of the history can be
+valid_at : (entries : List Entry) (more : List Event) (s : State) (k : ℕ) (e : Entry) → IsRun (events_of entries ++ more) s → IsAt entries k e → IsValid e.event
+valid_at [] more s k e run at = absurd (omega (arith, at.0))
+valid_at (x ∷ rest) more s zero e run at = subst (λ (y : Entry). IsValid y.event) at.1 run.0.valid
+valid_at (x ∷ rest) more s (suc k) e run at = valid_at rest more (next x.event s) k e run.1 (omega (arith, at.0), at.1)
+
+-- no change that sets a ref removes objects
+sets_no_prune : (commit : List ℕ) (e : Event) → Sets commit e → IsPrune e → ⊥
+sets_no_prune commit (SetRef name seen to) sets prune = prune
+sets_no_prune commit (DropRef name seen) sets prune = sets
+sets_no_prune commit (Pruned depth roots held removed) sets prune = sets
 
 -- A reply that an act gives tells of the view before it; its place is no earlier than all changes that lasted there.
 pub record SaysNow {W A : Type 0} (m : Meaning W A) (since : Since) (limits : Limits) (v : View) (past : ℕ) (r : Reply A) (words : W) : Type 0 where
@@ -82,12 +100,12 @@ module _ {F T W A : Type 0} (f : FsSpec F) (c : Family T W A) (fl : FsLaws f) (c
   does : Interference actor lane v (books_of old.books) w (books_of new.books)
   does = (acts.does v told).2
 
-  out : Outlasts [] f.clock f.was old.fs new.fs v w
+  out : Outlasts acts.out f.clock f.was old.fs new.fs v w
   out =
       let l = acts.lasts v told in
       let one : Some l.0 ≡ Some w = sym l.1 ∙ told_w in
       let e : l.0 ≡ w = cc in
-      subst (Outlasts [] f.clock f.was old.fs new.fs v) e l.2
+      subst (Outlasts acts.out f.clock f.was old.fs new.fs v) e l.2
 
   since_same : (n : ℕ) → n ≤ length old.books.history.items → since_in limits new.books n ≡ since_in limits old.books n
   since_same n le = since_is actor lane old.books new.books acts.books limits n le
@@ -104,23 +122,31 @@ module _ {F T W A : Type 0} (f : FsSpec F) (c : Family T W A) (fl : FsLaws f) (c
   gone_now k = gone_since new.books.history.items (swept_in new.books) k
 
   only_grows : (k : ℕ) → k ≤ length old.books.history.items → AreAmong (gone_before k) (gone_now k)
-  only_grows k le = subst (λ (h : List Entry). AreAmong (gone_before k) (gone_since h (swept_in new.books) k)) (sym acts.books.grows) (gone_on old.books.history.items acts.books.more k (swept_in old.books) (swept_in new.books) still le)
-    where
-      still : AreAmong (swept_in old.books) (flat_map removed_by acts.books.more ++ swept_in new.books)
-      still o has = absurd (none_out o (subst (λ (l : List ObjName). Contains l o) (none_swept old.books acts.free.0) has))
+  only_grows k le = subst (λ (h : List Entry). AreAmong (gone_before k) (gone_since h (swept_in new.books) k)) (sym acts.books.grows) (gone_on old.books.history.items acts.books.more k (swept_in old.books) (swept_in new.books) acts.removal.still le)
+
+  -- what the act removed is gone since any change
+  taken_now : (k : ℕ) → AreAmong acts.out (gone_now k)
+  taken_now k o has = Contains-append_right (removed_in new.books.history.items k (length new.books.history.items)) (swept_in new.books) o (acts.removal.told o has)
+
+  with_taken : (k : ℕ) → k ≤ length old.books.history.items → AreAmong (acts.out ++ gone_before k) (gone_now k)
+  with_taken k le o has = ⊎_elim (λ took. taken_now k o took) (λ was. only_grows k le o was) (Contains-append_cases acts.out (gone_before k) o has)
 
   removed_same : (from to : ℕ) → to ≤ length old.books.history.items → removed_in new.books.history.items from to ≡ removed_in old.books.history.items from to
   removed_same from to le = ap (λ (h : List Entry). removed_in h from to) acts.books.grows ∙ removed_before old.books.history.items acts.books.more from to le
 
-  -- no removal goes on, so the changes before the end tell all that is gone
-  told_at_end : (k place : ℕ) → k ≤ length old.books.history.items → place ≡ length new.books.history.items → AreAmong (gone_before k) (removed_in new.books.history.items k place)
-  told_at_end k place le at o has = ⊎_elim
+  -- where no removal goes on the changes before the end tell all that is gone
+  told_at_end : swept_in new.books ≡ [] → (k place : ℕ) → k ≤ length old.books.history.items → place ≡ length new.books.history.items → AreAmong (gone_before k) (removed_in new.books.history.items k place)
+  told_at_end none k place le at o has = ⊎_elim
       (λ entered. subst (λ n. Contains (removed_in new.books.history.items k n) o) (sym at) entered)
-      (λ swept. absurd (none_out o (subst (λ (l : List ObjName). Contains l o) (none_swept new.books acts.free.1) swept)))
+      (λ swept. absurd (none_out o (subst (λ (l : List ObjName). Contains l o) none swept)))
       (Contains-append_cases (removed_in new.books.history.items k (length new.books.history.items)) (swept_in new.books) o (only_grows k le o has))
 
-  only : RemovesOnly [] v w
-  only = removes_none (books_of old.books) v w actor lane (undoomed old.books acts.free.0) does.writes
+  only : RemovesOnly acts.out v w
+  only =
+      let k = acts.removal.only v told in
+      let e : Some k.0 ≡ Some w = sym k.1 ∙ told_w in
+      let one : k.0 ≡ w = cc in
+      subst (RemovesOnly acts.out v) one k.2
 
   -- what replies say of the disk
   abbrev pub WasSeenIn : Base F → Reply A → W → Type 0
@@ -186,8 +212,8 @@ module _ {F T W A : Type 0} (f : FsSpec F) (c : Family T W A) (fl : FsLaws f) (c
       here r words le = subst (λ (s : Since). IfAnswer (λ x. c.means.stays s (gone_now r.place) x words w (books_of new.books)) r.answer) (sym (since_same r.start le))
 
       on : (r : Reply A) (words : W) → r.place ≤ length old.books.history.items → IfAnswer (λ x. c.means.stays (since r) (gone_before r.place) x words v (books_of old.books)) r.answer → IfAnswer (λ x. c.means.stays (since r) (gone_now r.place) x words w (books_of new.books)) r.answer
-      on r words le so = if_answer _ r.answer (λ x is. cl.commands.answers.stays_wider (since r) (gone_before r.place) (gone_now r.place) x words w (books_of new.books) (only_grows r.place le)
-          (cl.commands.answers.stays (since r) actor lane (gone_before r.place) [] x words v w (books_of old.books) (books_of new.books) does only (subst (IfAnswer _) is so)))
+      on r words le so = if_answer _ r.answer (λ x is. cl.commands.answers.stays_wider (since r) (acts.out ++ gone_before r.place) (gone_now r.place) x words w (books_of new.books) (with_taken r.place le)
+          (cl.commands.answers.stays (since r) actor lane (gone_before r.place) acts.out x words v w (books_of old.books) (books_of new.books) does only (subst (IfAnswer _) is so)))
 
       at_first : (r : Reply A) (words : W) → IfAnswer (λ x. c.means.stays (since r) [] x words w (books_of new.books)) r.answer → IfAnswer (λ x. c.means.stays (since r) (gone_now r.place) x words w (books_of new.books)) r.answer
       at_first r words so = if_answer _ r.answer (λ x is. cl.commands.answers.stays_wider (since r) [] (gone_now r.place) x words w (books_of new.books) (none_among (gone_now r.place)) (subst (IfAnswer _) is so))
@@ -221,15 +247,15 @@ module _ {F T W A : Type 0} (f : FsSpec F) (c : Family T W A) (fl : FsLaws f) (c
       on k e words at x =
           let since = begun_in limits x.start in
           let grows = only_grows (k + 1) (omega (arith, at.0)) in
-          let wider = λ (d : Disk). cl.commands.changes.keeps_on_wider since opening (gone_before (k + 1)) (gone_now (k + 1)) words d grows in
+          let taken = with_taken (k + 1) (omega (arith, at.0)) in
           record {
             start = x.start;
             makes = x.makes;
-            now = cl.commands.changes.keeps_wider since opening (gone_before (k + 1)) (gone_now (k + 1)) words w grows (cl.commands.changes.keeps since opening (gone_before (k + 1)) [] words v w was.right out.now x.now);
-            since = λ t d le left. wider d (⊎_elim
-                (λ earlier. x.since t d le earlier)
-                (λ later. cl.commands.changes.keeps_on since opening (gone_before (k + 1)) [] words v d later x.now)
-                (out.earlier t d left));
+            now = cl.commands.changes.keeps_wider since opening (acts.out ++ gone_before (k + 1)) (gone_now (k + 1)) words w taken (cl.commands.changes.keeps since opening (gone_before (k + 1)) acts.out words v w was.right out.now x.now);
+            since = λ t d le left. ⊎_elim
+                (λ earlier. cl.commands.changes.keeps_on_wider since opening (gone_before (k + 1)) (gone_now (k + 1)) words d grows (x.since t d le earlier))
+                (λ later. cl.commands.changes.keeps_on_wider since opening (acts.out ++ gone_before (k + 1)) (gone_now (k + 1)) words d taken (cl.commands.changes.keeps_on since opening (gone_before (k + 1)) acts.out words v d later x.now))
+                (out.earlier t d left);
           }
 
       image_of : (t : ℕ) (d : Disk) → f.clock new.fs ≤ t → Left (f.was new.fs) t d → StaysOn [] w d
@@ -241,23 +267,23 @@ module _ {F T W A : Type 0} (f : FsSpec F) (c : Family T W A) (fl : FsLaws f) (c
 
   -- and which commits are there
   pub founded_on : (opening : View) → CommitsAreFiles v.now → ((r : Reply A) (words : W) → IsNew r words → IfAnswer (λ a. c.means.shows (since_in limits old.books r.start) v a words) r.answer) → ((a n : ℕ) (r : Reply A) → IsTo lanes' a n r → (words : W) × IsCommand lanes' a n words)
-      → ((a n : ℕ) (r : Reply A) → IsTo lanes a n r → r.place ≤ length old.books.history.items) → ((r : Reply A) (words : W) → IsNew r words → r.place ≡ length new.books.history.items)
+      → ((a n : ℕ) (r : Reply A) → IsTo lanes a n r → r.place ≤ length old.books.history.items) → ((r : Reply A) (words : W) → IsNew r words → r.place ≡ length new.books.history.items) → ((r : Reply A) (words : W) (commit : List ℕ) → IsNew r words → IsSum commit → OfAnswer (λ a. c.means.lacks a commit) r.answer → swept_in new.books ≡ [])
       → AreFounded c.means opening before v → Told (f.view new.fs) (λ u. AreFounded c.means opening behind u)
-  founded_on opening files new_one has placed ends was = (
+  founded_on opening files new_one has placed ends alone was = (
     w,
     told_w,
     record {
-      stays = λ commit still is. on commit (was.stays commit (λ gone. still (only_grows 0 (omega arith) (name_of Commit commit) gone)) is);
-      each = λ k e at commit sets still. on commit (set_before k e at commit sets (λ there gone. still (only_grows (k + 1) (omega (arith, there.0)) (name_of Commit commit) gone)));
-      shown = λ p is commit sets still. on commit (⊎_elim (λ before. was.shown p before commit sets still) (λ founds. set_lasts v commit p.event founds sets) (come.shown p is));
+      stays = λ commit still is. on commit (λ took. still (taken_now 0 (name_of Commit commit) took)) (was.stays commit (λ gone. still (only_grows 0 (omega arith) (name_of Commit commit) gone)) is);
+      each = λ k e at commit sets still. on commit (λ took. still (taken_now (k + 1) (name_of Commit commit) took)) (set_before k e at commit sets (λ there gone. still (only_grows (k + 1) (omega (arith, there.0)) (name_of Commit commit) gone)));
+      shown = λ p is commit sets still. on commit (λ took. sets_no_prune commit p.event sets (acts.removal.prunes (name_of Commit commit) took p is)) (⊎_elim (λ before. was.shown p before commit sets still) (λ founds. set_lasts v commit p.event founds sets) (come.shown p is));
       present = record {
         finished = λ a n r commit to lacks still is. (let x = has a n r to in ⊎_elim
             (λ there. was.present.finished a n r commit there lacks (λ gone. still (subst (λ (l : List ObjName). IsOut l commit) (sym (removed_same 0 r.place (placed a n r there))) gone)) is)
-            (λ given. never r x.0 commit given lacks (was.stays commit (λ gone. still (told_at_end 0 r.place (omega arith) (ends r x.0 given) (name_of Commit commit) gone)) is))
+            (λ given. never r x.0 commit given lacks (was.stays commit (λ gone. still (told_at_end (alone r x.0 commit given is.there.sum lacks) 0 r.place (omega arith) (ends r x.0 given) (name_of Commit commit) gone)) is))
             (split a n r x.0 to x.1));
         set = λ a n r commit to lacks k e at lt still sets. (let x = has a n r to in ⊎_elim
             (λ there. was.present.set a n r commit there lacks k e (entry_was k e at (omega (arith, lt, placed a n r there))) lt (λ gone. still (subst (λ (l : List ObjName). IsOut l commit) (sym (removed_same (k + 1) r.place (placed a n r there))) gone)) sets)
-            (λ given. never r x.0 commit given lacks (set_before k e at commit sets (λ there gone. still (told_at_end (k + 1) r.place (omega (arith, there.0)) (ends r x.0 given) (name_of Commit commit) gone))))
+            (λ given. never r x.0 commit given lacks (set_before k e at commit sets (λ there gone. still (told_at_end (alone r x.0 commit given (set_sum k e at commit sets) lacks) (k + 1) r.place (omega (arith, there.0)) (ends r x.0 given) (name_of Commit commit) gone))))
             (split a n r x.0 to x.1));
       };
     },
@@ -266,8 +292,8 @@ module _ {F T W A : Type 0} (f : FsSpec F) (c : Family T W A) (fl : FsLaws f) (c
       come : ComesFrom (Founds v) old.books new.books
       come = acts.founded v told
 
-      on : (commit : List ℕ) → StaysFinished v commit → StaysFinished w commit
-      on commit = finished_stays [] v w commit out.now (none_out (name_of Commit commit))
+      on : (commit : List ℕ) → ¬ (IsOut acts.out commit) → StaysFinished v commit → StaysFinished w commit
+      on commit = finished_stays acts.out v w commit out.now
 
       -- a commit that a change set its ref to lasted before the act, if it wasn't removed
       set_before : (k : ℕ) (e : Entry) → IsAt new.books.history.items k e → (commit : List ℕ) → Sets commit e.event → (IsAt old.books.history.items k e → ¬ (IsOut (gone_before (k + 1)) commit)) → StaysFinished v commit
@@ -275,6 +301,10 @@ module _ {F T W A : Type 0} (f : FsSpec F) (c : Family T W A) (fl : FsLaws f) (c
           (λ there. was.each k e there commit sets (still there))
           (λ pending. was.shown pending.0 pending.1 commit (subst (Sets commit) pending.2 sets) (none_out (name_of Commit commit)))
           (come.lasting k e at)
+
+      -- what a change sets its ref to is a sum
+      set_sum : (k : ℕ) (e : Entry) → IsAt new.books.history.items k e → (commit : List ℕ) → Sets commit e.event → IsSum commit
+      set_sum k e at commit sets = sets_sum commit e.event sets (valid_at new.books.history.items (pending_of new.books.pending) (first new.books.start.items) k e (acts.sound.stands w told_w).run at)
 
       never : (r : Reply A) (words : W) (commit : List ℕ) → IsNew r words → OfAnswer (λ a. c.means.lacks a commit) r.answer → StaysFinished v commit → ⊥
       never r words commit given lacks lasts =

@@ -1,24 +1,16 @@
--- What was removed: over an act the lists only grow, and today's acts remove nothing.
+-- What was removed: over an act the lists only grow.
 use Rattle.std.proofs.Common.{◌≡◌, ◌⊎◌, inl, inr, ⊎_elim, ◌<◌, ◌≤◌, ℕ, Bool, nat_lt, true, false, refl, sym, ◌∙◌, ap, subst, arith, List, [], ◌∷◌, ◌++◌, Contains, drop, take, length, Option, None, IsSome}
 use Rattle.std.specs.List.{flat_map}
 use Rattle.std.proofs.lemmas.List.{drop-append-le, drop_all, drop_at, take-append-le, take_all}
 use Rattle.std.proofs.lemmas.List.Concat.{flat_map-append}
 use Rattle.std.proofs.lemmas.List.Elements.{All-contains, All-contains_itself, All-take, Contains-append_cases, Contains-append_left, Contains-append_right}
 use Rattle.ost_types.specs.declared.object.ObjName.{ObjName}
-use Rattle.fs_trait.specs.Change.{Writes}
-use Rattle.fs_trait.specs.View.{View}
-use Rattle.repo_layout.proofs.Places.{place-object}
-use Rattle.repo_model.specs.Objects.{path_of}
 use Rattle.rely_guarantee.specs.declared.books.Books as rust
 use Rattle.rely_guarantee.specs.declared.books.Entry.{Entry}
-use Rattle.rely_guarantee.specs.Books.{Books, books_of}
-use Rattle.rely_guarantee.specs.Exact.{taken_in}
-use Rattle.rely_guarantee.specs.Laws.{Kind, Quiet, Store, Take, Claim, Show, Shown, Remove, Settle}
-use Rattle.rely_guarantee.specs.Removing.{next_of}
-use Rattle.rely_guarantee.specs.Rely.{Guarantee}
-use Rattle.rely_guarantee.proofs.Lasting.{next_doomed, none_out}
+use Rattle.rely_guarantee.specs.Books.{books_of}
+use Rattle.rely_guarantee.proofs.Lasting.{none_out}
 use Rattle.rely_guarantee.proofs.Locking.{doomed_held}
-use Rattle.command.specs.Removed.{AreAmong, RemovesOnly}
+use Rattle.command.specs.Removed.{AreAmong}
 use Rattle.lane_system.specs.Removals.{gone_since, removed_by, removed_in, swept_in}
 use Rattle.lane_system.proofs.Places.{fewer, not_fewer}
 
@@ -33,7 +25,7 @@ pub none_among : (more : List ObjName) → AreAmong [] more
 none_among more o has = absurd (none_out o has)
 
 -- a list that contains nothing
-none_of : (xs : List ObjName) → ((o : ObjName) → ¬ (Contains xs o)) → xs ≡ []
+pub none_of : (xs : List ObjName) → ((o : ObjName) → ¬ (Contains xs o)) → xs ≡ []
 none_of [] none = refl
 none_of (x ∷ xs) none = absurd (none x (0, omega arith, refl))
 
@@ -76,7 +68,7 @@ module _ (entries more : List Entry) (k : ℕ) where
 
 -- ---- where nothing is to be removed
 
-taken : (n : ℕ) (xs : List ObjName) (o : ObjName) → Contains (take n xs) o → Contains xs o
+pub taken : (n : ℕ) (xs : List ObjName) (o : ObjName) → Contains (take n xs) o → Contains xs o
 taken n xs o = All-contains (Contains xs) (take n xs) o (All-take (Contains xs) n xs (All-contains_itself xs))
 
 pub undoomed : (b : rust.Books) → b.exclusive ≡ None → (o : ObjName) → ¬ (Contains (books_of b).doomed o)
@@ -84,20 +76,3 @@ undoomed b free o has = (let held : false ≡ true = subst (λ (l : Option ℕ).
 
 pub none_swept : (b : rust.Books) → b.exclusive ≡ None → swept_in b ≡ []
 none_swept b free = none_of (swept_in b) (λ o has. undoomed b free o (taken b.gone (books_of b).doomed o has))
-
--- no step takes any
-pub none_taken : (k : Kind) (b : rust.Books) → b.exclusive ≡ None → taken_in k (books_of b) ≡ []
-none_taken (Remove e owed) b free = none_of (next_of (books_of b)) (λ o has. undoomed b free o (next_doomed (books_of b) o has))
-none_taken Quiet b free = refl
-none_taken Store b free = refl
-none_taken (Take wants) b free = refl
-none_taken (Claim name) b free = refl
-none_taken (Show e) b free = refl
-none_taken (Shown e owed) b free = refl
-none_taken (Settle e) b free = refl
-
-pub removes_none : (b : Books) (v w : View) (actor lane : ℕ) → ((o : ObjName) → ¬ (Contains b.doomed o)) → Writes (Guarantee b v actor lane) v w → RemovesOnly [] v w
-removes_none b v w actor lane none writes o sum vacant = ⊎_elim
-    (λ same. inl (sym same ∙ vacant))
-    (λ m. ⊎_elim (λ comes. inl comes.0) (λ goes. absurd (none o (next_doomed b o goes.1))) (m.objects o.kind o.csum (place-object o.kind o.csum sum)))
-    (writes.now (path_of o))

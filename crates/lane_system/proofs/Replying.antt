@@ -1,5 +1,5 @@
 -- What the replies say, and what the commands that run hold, by what a system keeps.
-use Rattle.std.proofs.Common.{◌≡◌, ℕ, sym, subst, List}
+use Rattle.std.proofs.Common.{◌≡◌, ⊎_elim, ℕ, sym, subst, arith, List}
 use Rattle.ost_types.specs.declared.limits.Limits.{Limits}
 use Rattle.rely_guarantee.specs.declared.books.Base.{Base}
 use Rattle.rely_guarantee.specs.Books.{books_of}
@@ -19,7 +19,9 @@ use Rattle.lane_system.specs.System.{System}
 use Rattle.lane_system.proofs.Changing.{one_command}
 use Rattle.lane_system.proofs.Family.{FamilyLaws}
 use Rattle.lane_system.proofs.Places.{at_one}
-use Rattle.lane_system.proofs.Removals.{none_swept}
+use Rattle.lane_system.specs.Removals.{swept_in}
+use Rattle.lane_system.proofs.Removals.{none_of}
+use Rattle.lane_system.proofs.Sweeping.{swept_holder}
 
 module _ {F T W A : Type 0} (f : FsSpec F) (c : Family T W A) (limits : Limits) (base : Base F) (refs : RefBook) (lanes : List (Lane T W A)) (given objects : ℕ) (kept : Kept f c limits base refs lanes given) where
   abbrev pub s : System F T W A
@@ -48,9 +50,13 @@ module _ {F T W A : Type 0} (f : FsSpec F) (c : Family T W A) (limits : Limits) 
   pub ends_of : (lane number : ℕ) (r : Reply A) → IsTo lanes lane number r → EndsBy base.books.halted (f.refused base.fs) (f.faults base.fs) r.answer
   ends_of lane number r to = (kept.each lane to.0 to.1).halts number r to.2
 
-  -- nobody may remove objects, so no removal goes on
+  -- what is pending is a running command's, or that of one that was cut short; so then no removal goes on
   pub told_of : IsAllTold f.view s
-  told_of ended whole = none_swept base.books kept.unheld
+  told_of ended whole = none_of (swept_in base.books) (λ o has. (let h = swept_holder base.books o has in
+      let x = kept.accounted.shown h.pending h.is in ⊎_elim
+      (λ runs. (let r = runs.1 in absurd (omega (arith, ended h.pending.lane r.0 r.1, ((kept.each h.pending.lane r.0 r.1).started runs.0 r.3).next.0))))
+      (λ cut. absurd (whole h.pending.lane h.pending.command cut.0 cut.1 cut.2))
+      x.2))
 
   module _ (cl : FamilyLaws c) where
     pub held_of : Held f.view c s

@@ -1,20 +1,36 @@
 -- A step of a task that was told something.
-use Rattle.std.proofs.Common.{◌≡◌, ℕ, refl, sym, ◌∙◌, ap, subst}
+use Rattle.std.proofs.Common.{◌≡◌, ◌<◌, ◌≤◌, ◌+◌, ◌-◌, ⊎_elim, ℕ, Bool, nat_lt, true, false, if◌then◌else◌, refl, sym, ◌∙◌, ap, subst, arith, List, Option, Some, None}
+use Rattle.std.proofs.lemmas.Bool.Decides.{nat_tests}
+use Rattle.fs_trait.specs.Seen.{NotDirectory, shows}
+use Rattle.fs_trait.specs.View.{View}
+use Rattle.repo_layout.proofs.Places.{place-object}
+use Rattle.repo_model.specs.Objects.{path_of}
 use Rattle.rely_guarantee.specs.declared.books.Base.{Base}
+use Rattle.rely_guarantee.specs.declared.books.Books as rust
+use Rattle.rely_guarantee.specs.declared.books.Pending.{Pending}
+use Rattle.rely_guarantee.specs.declared.books.Pin.{Pin}
 use Rattle.rely_guarantee.specs.declared.event.Event.{Event}
+use Rattle.rely_guarantee.specs.declared.kind.Halt.TheVariants as halt
 use Rattle.rely_guarantee.specs.declared.kind.Outcome.{Outcome}
 use Rattle.rely_guarantee.specs.declared.kind.Outcome.TheVariants as came
-use Rattle.rely_guarantee.specs.Books.{books_of}
-use Rattle.rely_guarantee.specs.Laws.{Ready, Runs, Settle}
+use Rattle.rely_guarantee.specs.Books.{Agrees, books_of}
+use Rattle.rely_guarantee.specs.Exact.{Steps, Tells}
+use Rattle.rely_guarantee.specs.Laws.{Holds, Kind, NotPending, Ready, Runs, Settle}
+use Rattle.rely_guarantee.specs.Rely.{Interference}
+use Rattle.rely_guarantee.specs.State.{first}
+use Rattle.rely_guarantee.proofs.Mays.{objects_harmless}
+use Rattle.rely_guarantee.proofs.Sounds.{IsFs}
 use Rattle.ref_book.specs.declared.book.RefBook.{RefBook}
 use Rattle.ref_book.specs.Tracks.{HasEventRoom}
 use Rattle.command.specs.declared.told.Told.{Told}
 use Rattle.command.specs.Doing.{Doing}
 use Rattle.command.specs.HearLaws.{HearLaws}
+use Rattle.command.specs.LearnLaws.{LearnLaws}
 use Rattle.command.specs.Tasks.{TaskSpec}
-use Rattle.lane_system.specs.Family.{FsSpec}
+use Rattle.lane_system.specs.Family.{FsSpec, learning, leaves_on, stepped_on}
+use Rattle.lane_system.specs.Kept.{AreFree}
 use Rattle.lane_system.specs.LaneActs.{told_by}
-use Rattle.lane_system.specs.Steps.{CountsAt, Stepped}
+use Rattle.lane_system.specs.Steps.{CountsAt, IsCounted, Stepped, standing}
 
 module _ {F T : Type 0} (f : FsSpec F) (k : TaskSpec T) (lane : ℕ) (base : Base F) where
   -- before it
@@ -32,6 +48,137 @@ module _ {F T : Type 0} (f : FsSpec F) (k : TaskSpec T) (lane : ℕ) (base : Bas
   pub told_step : (number : ℕ) (refs refs' : RefBook) (o x : Outcome) (t u t' : T) (new : Base F) → u ≡ t → o ≡ x → Stepped f k lane lane number refs refs' o u t' base new → Stepped f k lane lane number refs refs' x t t' base new
   told_step number refs refs' o x t u t' new is same step = subst (λ y. Stepped f k lane lane number refs refs' y t t' base new) same (subst (λ y. Stepped f k lane lane number refs refs' o y t' base new) is step)
 
+-- nothing is pending where the lane has the lock of those that remove and shows nothing itself
+clear_of : (b : rust.Books) (lane : ℕ) → Agrees (books_of b) → ((p : Pending) → b.pending ≡ Some p → b.turn ≡ Some p.lane) → b.exclusive ≡ Some lane → NotPending lane (books_of b) → b.pending ≡ None
+clear_of b lane agrees owner alone none = by b.pending refl
+  where
+    by : (o : Option Pending) → b.pending ≡ o → b.pending ≡ None
+    by None is = is
+    by (Some p) is = absurd (none p is (agrees.turn lane p.lane alone (owner p is)))
+
+-- no act leaves a folder where an object would stand
+pub free_after : {F : Type 0} (f : FsSpec F) → IsFs f.view f.clock f.was → (actor lane : ℕ) (base new : Base F) → ((v : View) → f.view base.fs ≡ Some v → (w : View) × (f.view new.fs ≡ Some w) × Interference actor lane v (books_of base.books) w (books_of new.books)) → AreFree (f.view base.fs) → AreFree (f.view new.fs)
+free_after f is actor lane base new does free w told_w o sum =
+    let v = is.told new.fs base.fs w told_w in
+    let d = does v.0 v.1 in
+    let one : Some d.0 ≡ Some w = sym d.1 ∙ told_w in
+    let same : d.0 ≡ w = cc in
+    ⊎_elim
+    (λ still. subst NotDirectory (ap (λ (u : View). shows u.now (path_of o)) same) (subst NotDirectory (sym still) (free v.0 v.1 o sum)))
+    (λ wrote. subst NotDirectory (ap (λ (u : View). shows u.now (path_of o)) same) (objects_harmless (books_of base.books) v.0 actor lane o.kind o.csum (path_of o) _ wrote (place-object o.kind o.csum sum)))
+    (d.2.writes.now (path_of o))
+
+-- what it is told behind it is so
+module _ {F T W A : Type 0} (f : FsSpec F) (k : TaskSpec T) (d : Doing T W A) (laws : LearnLaws k d) (lane number : ℕ) (refs refs' : RefBook) (t mid new_t : T) (base new : Base F) (pins : List Pin)
+    (step : Stepped f k lane lane number refs refs' came.More t mid base new) (pins_are : pins ≡ new.books.pins.items) (free : AreFree (f.view new.fs)) (learns : d.learns refs' pins mid new_t) where
+  learnt_runs : Runs k.kind k.facts lane new_t (f.view new.fs) (books_of new.books)
+  learnt_runs =
+      let ordered = step.acts.sound.ordered in
+      record {
+        facts = λ v told. laws.facts (first new.books.start.items) new.books.history.items new.books.pending refs' pins lane mid new_t v (books_of new.books)
+            (record { stands = step.acts.sound.stands v told; tracks = step.tracks; pins_are = pins_are; free = free v told; clear = clear_of new.books lane ordered.agrees ordered.owner })
+            learns step.acts.tells.holds (step.acts.tells.facts v told);
+        holds = subst (λ (x : Kind). Holds x lane (books_of new.books)) (sym (laws.kind refs' pins mid new_t learns)) step.acts.tells.holds;
+      }
+
+  pub learnt_step : Stepped f (learning k d) lane lane number refs refs' came.More t new_t base new
+  learnt_step = record {
+    acts = record { sound = step.acts.sound; does = step.acts.does; books = step.acts.books; tells = learnt_runs };
+    steps = (mid, step.steps, (refs', pins, learns));
+    wrote = step.wrote;
+    tells = λ v told. (let x = step.tells v told in (x.0, x.1, (mid, x.2, (refs', pins, learns), step.steps)));
+    by = step.by;
+    blocked = step.blocked;
+    opens = step.opens;
+    locks = step.locks;
+    pins = step.pins;
+    claimed = step.claimed;
+    booked = step.booked;
+    gone = step.gone;
+    lasts = step.lasts;
+    time = step.time;
+    cause = step.cause;
+    live = step.live;
+    tracks = step.tracks;
+    rooms = step.rooms;
+  }
+
+  -- and it counts what it counted
+  pub learnt_counts : (left now : ℕ) → IsCounted left (d.met mid) now → CountsAt d left new_t came.More now
+  learnt_counts left now = subst (λ x. IsCounted left x now) (sym (laws.met refs' pins mid new_t learns))
+
+-- a step that doesn't go on is told nothing
+pub still_step : {F T W A : Type 0} (f : FsSpec F) (k : TaskSpec T) (d : Doing T W A) (lane number : ℕ) (refs refs' : RefBook) (o : Outcome) (t new_t : T) (base new : Base F) → (o ≡ came.More → ⊥) → Stepped f k lane lane number refs refs' o t new_t base new → Stepped f (learning k d) lane lane number refs refs' o t new_t base new
+still_step {F} {T} f k d lane number refs refs' o t new_t base new not step = record {
+  acts = step.acts;
+  steps = steps o not step.steps;
+  wrote = step.wrote;
+  tells = tells o not step.tells;
+  by = step.by;
+  blocked = step.blocked;
+  opens = step.opens;
+  locks = step.locks;
+  pins = step.pins;
+  claimed = step.claimed;
+  booked = step.booked;
+  gone = step.gone;
+  lasts = step.lasts;
+  time = step.time;
+  cause = step.cause;
+  live = step.live;
+  tracks = step.tracks;
+  rooms = step.rooms;
+}
+  where
+    steps : (x : Outcome) → (x ≡ came.More → ⊥) → Steps k.stepped t x new_t → Steps (stepped_on k d) t x new_t
+    steps came.More not is = absurd (not refl)
+    steps came.Done not is = is
+    steps came.Blocked not is = is
+    steps (came.Halted why) not is = is
+    steps (came.Refused e) not is = is
+
+    tells : (x : Outcome) → (x ≡ came.More → ⊥) → Tells k.leaves k.refuses t x new_t (f.view base.fs) (f.view new.fs) → Tells (leaves_on k d) k.refuses t x new_t (f.view base.fs) (f.view new.fs)
+    tells came.More not is = absurd (not refl)
+    tells came.Done not is = is
+    tells came.Blocked not is = is
+    tells (came.Halted halt.Failed) not is = is
+    tells (came.Halted halt.Strayed) not is = is
+    tells (came.Refused e) not is = is
+
+-- how many stand without those that the books tell as removed
+pub standing_none : (gone gone' count : ℕ) → gone' ≤ gone → standing gone gone' count ≡ count
+standing_none gone gone' count le = by (nat_lt gone gone') refl
+  where
+    by : (b : Bool) → nat_lt gone gone' ≡ b → (if b then count - 1 else count) ≡ count
+    by true is = absurd (let z : gone < gone' = grind (arith, nat_tests) in omega (arith, z, le))
+    by false is = refl
+
+pub standing_less : (gone gone' count : ℕ) → standing gone gone' count ≤ count
+standing_less gone gone' count = by (nat_lt gone gone')
+  where
+    by : (b : Bool) → (if b then count - 1 else count) ≤ count
+    by true = omega arith
+    by false = omega arith
+
+pub standing_more : (gone gone' count : ℕ) → count ≤ standing gone gone' count + 1
+standing_more gone gone' count = by (nat_lt gone gone')
+  where
+    by : (b : Bool) → count ≤ (if b then count - 1 else count) + 1
+    by true = omega arith
+    by false = omega arith
+
+-- one less where they tell of one more
+pub standing_one : (gone gone' count : ℕ) → gone < gone' → standing gone gone' count ≡ count - 1
+standing_one gone gone' count less = by (nat_lt gone gone') refl
+  where
+    by : (b : Bool) → nat_lt gone gone' ≡ b → (if b then count - 1 else count) ≡ count - 1
+    by true is = refl
+    by false is = absurd (let z : gone' ≤ gone = grind (arith, nat_tests) in omega (arith, z, less))
+
+-- no object was removed where the books tell of no more
+pub standing_same : (gone count : ℕ) → standing gone gone count ≡ count
+standing_same gone count = standing_none gone gone count (omega arith)
+
 pub told_room : {T : Type 0} (k : TaskSpec T) (refs : RefBook) (t u : T) → u ≡ t → ((e : Event) → k.kind t ≡ Settle e → HasEventRoom refs e) → (e : Event) → k.kind u ≡ Settle e → HasEventRoom refs e
 told_room k refs t u is room e kind = room e (sym (ap k.kind is) ∙ kind)
 
@@ -40,9 +187,10 @@ pub told_back : {T W A : Type 0} (k : TaskSpec T) (d : Doing T W A) → HearLaws
 told_back k d laws objects t u v w former told heard same again =
     again ∙ ap (λ x. d.hears x v) heard ∙ ap (d.hears (d.heard t)) (same ∙ told) ∙ laws.back (record { objects = objects }) t
 
-pub counts_rest : {T W A : Type 0} (d : Doing T W A) (objects : ℕ) (t : T) (o : Outcome) → (o ≡ came.More → ⊥) → CountsAt d objects t o objects
-counts_rest d objects t came.More not = absurd (not refl)
-counts_rest d objects t came.Done not = refl
-counts_rest d objects t came.Blocked not = refl
-counts_rest d objects t (came.Halted why) not = refl
-counts_rest d objects t (came.Refused e) not = refl
+-- what is counted behind a step that doesn't go on
+pub counts_rest : {T W A : Type 0} (d : Doing T W A) (left now : ℕ) (t : T) (o : Outcome) → (o ≡ came.More → ⊥) → now ≡ left → CountsAt d left t o now
+counts_rest d left now t came.More not is = absurd (not refl)
+counts_rest d left now t came.Done not is = is
+counts_rest d left now t came.Blocked not is = is
+counts_rest d left now t (came.Halted why) not is = is
+counts_rest d left now t (came.Refused e) not is = is

@@ -12,13 +12,14 @@ use Rattle.lane_system.specs.declared.ask.Ask.TheVariants.{More}
 use Rattle.lane_system.specs.declared.lane.Lane.{Lane}
 use Rattle.lane_system.specs.declared.lane.Running.{Running}
 use Rattle.lane_system.specs.Lanes.{IsAt}
-use Rattle.lane_system.specs.Steps.{IsCounted}
+use Rattle.lane_system.specs.Steps.{IsCounted, standing}
 use Rattle.lane_system.specs.System.{System}
 
--- How an act changes the number of objects: one more where it goes on and its step stored one, and else as it was.
+-- How an act changes the number of objects: one less where it removed one; one more where it goes on and its step stored one; and else
+-- as it was.
 abbrev pub Counted : {F T W A : Type 0} → Doing T W A → System F T W A → System F T W A → ℕ → Ask → Type 0
-Counted {F} {T} {W} {A} d old new actor More = (l : Lane T W A) × (r : Running T) × IsAt new.lanes actor l × (l.task ≡ Some r) × IsCounted old.objects (d.met r.work) new.objects
-Counted d old new actor ask = new.objects ≡ old.objects
+Counted {F} {T} {W} {A} d old new actor More = (l : Lane T W A) × (r : Running T) × IsAt new.lanes actor l × (l.task ≡ Some r) × IsCounted (standing old.base.books.gone new.base.books.gone old.objects) (d.met r.work) new.objects
+Counted d old new actor ask = new.objects ≡ standing old.base.books.gone new.base.books.gone old.objects
 
 -- an object that an act's step stored wasn't there before, and the store had room for it
 abbrev pub Stores : {F T W A : Type 0} → Doing T W A → System F T W A → System F T W A → ℕ → View → Ask → Type 0

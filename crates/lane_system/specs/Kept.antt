@@ -1,11 +1,12 @@
 -- What every value of a system keeps.
-use Rattle.std.specs.Prelude.{◌≡◌, ◌<◌, ◌≤◌, ℕ, List, [], length, vec_capacity, Option, Some, None}
+use Rattle.std.specs.Prelude.{◌≡◌, ◌<◌, ◌≤◌, ℕ, List, [], Contains, length, vec_capacity, Option, Some, None}
 use Rattle.ost_types.specs.declared.limits.Limits.{Limits}
 use Rattle.fs_trait.specs.View.{View}
 use Rattle.rely_guarantee.specs.declared.books.Base.{Base}
 use Rattle.rely_guarantee.specs.declared.books.Books as rust
 use Rattle.rely_guarantee.specs.declared.books.Entry.{Entry}
 use Rattle.rely_guarantee.specs.declared.books.Pending.{Pending}
+use Rattle.rely_guarantee.specs.declared.books.Share.{Share}
 use Rattle.rely_guarantee.specs.declared.kind.Halt.TheVariants as halt
 use Rattle.rely_guarantee.specs.Books.{books_of}
 use Rattle.rely_guarantee.specs.Laws.{NotPending, Runs}
@@ -15,7 +16,7 @@ use Rattle.ref_book.specs.declared.book.RefBook.{RefBook}
 use Rattle.ref_book.specs.Tracks.{Tracks}
 use Rattle.command.specs.Doing.{HasRoomFor}
 use Rattle.command.specs.Meaning.{Meaning}
-use Rattle.command.specs.Staging.{StagingPathFree}
+use Rattle.command.specs.Staging.{ObjectPathsFree, StagingPathFree}
 use Rattle.lane_system.specs.declared.lane.Lane.{Lane}
 use Rattle.lane_system.specs.declared.lane.Reply.{Reply}
 use Rattle.lane_system.specs.declared.lane.Running.{Running}
@@ -75,19 +76,28 @@ pub record Accounted {T W A : Type 0} (told : Type 0) (m : Meaning W A) (limits 
   pub count : given ≡ count_of lanes
   pub fewer : length b.history.items ≤ count_of lanes
 
+-- whose the lock of those that remove objects is, its the ref lock is; between acts nobody holds that of those that store
+pub record AreInOrder (b : rust.Books) : Type 0 where
+  pub alone : (lane : ℕ) → b.exclusive ≡ Some lane → b.turn ≡ Some lane
+  pub unshared : (x : Share) → ¬ (Contains b.shared.items x)
+
 -- no folder stands where an actor stages
 abbrev pub AreHomes : Option View → Type 0
 AreHomes view = (actor : ℕ) (v : View) → actor < 16 → view ≡ Some v → StagingPathFree actor v
+
+-- nor where an object would stand
+abbrev pub AreFree : Option View → Type 0
+AreFree view = (v : View) → view ≡ Some v → ObjectPathsFree v
 
 pub record Kept {F T W A : Type 0} (f : FsSpec F) (c : Family T W A) (limits : Limits) (base : Base F) (refs : RefBook) (lanes : List (Lane T W A)) (given : ℕ) : Type 0 where
   pub sound : SystemInvariant f.view f.clock f.spare f.was base
   pub tracks : Tracks refs (now_of base.books)
   pub few : length lanes ≤ 8
   pub homes : AreHomes (f.view base.fs)
+  pub free : AreFree (f.view base.fs)
   pub each : (lane : ℕ) (l : Lane T W A) → IsAt lanes lane l → LaneKept f c limits lane refs base l
   pub locked : base.books.halted ≡ None → Locked base.books lanes
-  -- no command takes the lock of those that remove objects yet
-  pub unheld : base.books.exclusive ≡ None
+  pub ordered : AreInOrder base.books
   pub pins : base.books.halted ≡ None → AreInWork (IsTold f.view) c.means limits base.books lanes
   pub accounted : Accounted (IsTold f.view) c.means limits base.books lanes given
   -- where the view is told no call is refused for what nothing here explains

@@ -1,5 +1,4 @@
 -- Which bytes a disk ever holds under names of objects.
-use Rattle.std.specs.Prelude.{ℕ}
 use Rattle.fs_trait.specs.View.{Disk, View}
 use Rattle.durable_store.specs.Known.{KeepsKnown, KnownBytes}
 use Rattle.command.specs.Meaning.{Meaning}

@@ -21,7 +21,7 @@ use Rattle.lane_system.specs.declared.lane.Running.{Running}
 use Rattle.lane_system.specs.Family.{Family, FsSpec}
 use Rattle.lane_system.specs.Lanes.{IsNext}
 use Rattle.lane_system.specs.States.{now_of, since_in}
-use Rattle.lane_system.specs.Steps.{HasEnded, IsCounted, IsEndedAs, Stepped}
+use Rattle.lane_system.specs.Steps.{HasEnded, IsCounted, IsEndedAs, Stepped, standing}
 
 -- how many changes lasted when the command began, or do now where it hasn't begun
 abbrev pub task_start : {T : Type 0} → List Entry → Option (Running T) → ℕ
@@ -64,10 +64,10 @@ abbrev pub Did : {F T W A : Type 0} → FsSpec F → Family T W A → Limits →
 Did {F} {T} f c limits actor lane number refs refs' objects objects' old new words task task' Blocked =
     (task' ≡ task) × (objects' ≡ objects) × (t' : T) × Takes f c limits actor lane number refs refs' objects old new words task came.Blocked t'
 Did {F} {T} f c limits actor lane number refs refs' objects objects' old new words task task' More =
-    (t' : T) × (task' ≡ Some (record { work = t'; start = task_start old.books.history.items task })) × IsCounted objects (c.doing.met t') objects'
+    (t' : T) × (task' ≡ Some (record { work = t'; start = task_start old.books.history.items task })) × IsCounted (standing old.books.gone new.books.gone objects) (c.doing.met t') objects'
     × Takes f c limits actor lane number refs refs' objects old new words task came.More t'
 Did {F} {T} f c limits actor lane number refs refs' objects objects' old new words task task' (Answered x start) =
-    (task' ≡ None) × (objects' ≡ objects) × (start ≡ task_start old.books.history.items task)
+    (task' ≡ None) × (objects' ≡ standing old.books.gone new.books.gone objects) × (start ≡ task_start old.books.history.items task)
     × (((new ≡ old) × IsAtOnce f c.means limits old words task x)
     ⊎ ((outcome : Outcome) × (t' : T) × HasEnded outcome × IsEndedAs c.doing.answer (f.refused new.fs) outcome t' (f.faults new.fs) x × Takes f c limits actor lane number refs refs' objects old new words task outcome t'))
 

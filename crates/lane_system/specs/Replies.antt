@@ -72,9 +72,9 @@ IsCutOff told x = ⊥
 abbrev pub HasMade : ℕ → ℕ → (Event → Type 0) → List Entry → Type 0
 HasMade lane number IsIt entries = (before : List Entry) × (last : Entry) × (entries ≡ before ++ last ∷ []) × (last.lane ≡ lane) × (last.command ≡ number) × IsIt last.event
 
--- an answer says what its family means; and the change that it says was made is the last one
+-- an answer says what its family means; and the change that it says was made is the last one, of which it tells what is so
 abbrev pub Answers : {W A : Type 0} → Meaning W A → ℕ → ℕ → Since → List Entry → W → A → Type 0
-Answers m lane number since entries c a = m.says since a c × (m.makes a c → HasMade lane number (m.changes (begun_in since.limits since.start) c) entries)
+Answers m lane number since entries c a = m.says since a c × (m.makes a c → HasMade lane number (λ e. m.changes (begun_in since.limits since.start) c e × m.tells a e) entries)
 
 -- what one says where the view is told; and there nothing else changes the disk
 abbrev pub Knows : {W A : Type 0} → Meaning W A → Since → W → Ended A → Type 0

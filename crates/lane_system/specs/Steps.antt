@@ -1,5 +1,5 @@
 -- A step of a task of a lane, as the books, the disk and the refs have it.
-use Rattle.std.specs.Prelude.{◌≡◌, ◌⊎◌, ◌+◌, ℕ, List, Option, Some, None, min}
+use Rattle.std.specs.Prelude.{◌≡◌, ◌⊎◌, ◌+◌, ◌-◌, ℕ, List, Option, Some, None, min, nat_lt, if◌then◌else◌}
 use Rattle.ost_types.specs.declared.object.ObjName.{ObjName}
 use Rattle.ost_types.specs.Path.{Path}
 use Rattle.fs_trait.specs.Change.{Writes}
@@ -18,7 +18,7 @@ use Rattle.rely_guarantee.specs.declared.kind.Outcome.TheVariants as came
 use Rattle.rely_guarantee.specs.Books.{books_of}
 use Rattle.rely_guarantee.specs.Claiming.{AreClaimed, claim_in}
 use Rattle.rely_guarantee.specs.Exact as exact
-use Rattle.rely_guarantee.specs.Exact.{Causes, IsBooked, IsLive, Locks, Opens, taken_in}
+use Rattle.rely_guarantee.specs.Exact.{Causes, IsBooked, IsLive, Locks, Opens, gone_in, taken_in}
 use Rattle.rely_guarantee.specs.Lasting.{Lasts}
 use Rattle.rely_guarantee.specs.Laws as rely
 use Rattle.rely_guarantee.specs.Laws.{IsBy, Runs}
@@ -46,6 +46,7 @@ pub record Stepped {F T : Type 0} (f : FsSpec F) (k : TaskSpec T) (actor lane nu
   pub pins : ArePinned (pin_in (k.kind t)) lane outcome old.books.pins.items new.books.pins.items
   pub claimed : AreClaimed (claim_in (k.kind t)) lane outcome old.books.claims.items new.books.claims.items
   pub booked : IsBooked (k.kind t) lane number (f.clock new.fs) outcome old.books new.books
+  pub gone : new.books.gone ≡ gone_in (k.kind t) outcome old.books.gone
   pub lasts : Lasts (taken_in (k.kind t) (books_of old.books)) f.view f.clock f.was old.fs new.fs
   pub time : Elapses (f.clock old.fs) (f.clock new.fs) (f.was old.fs) (f.was new.fs) (f.view new.fs)
   pub cause : Causes (f.faults old.fs) (f.faults new.fs) outcome
@@ -58,10 +59,14 @@ abbrev pub IsCounted : ℕ → Option (ObjName × Put) → ℕ → Type 0
 IsCounted count (Some (name, Stored)) next = next ≡ min (count + 1) 4294967295
 IsCounted count met next = next ≡ count
 
--- so it is where the step goes on
+-- how many there are without one that a step may have taken, by how many were removed before it and are behind it
+abbrev pub standing : ℕ → ℕ → ℕ → ℕ
+standing gone gone' count = if nat_lt gone gone' then count - 1 else count
+
+-- how many are counted behind a step
 abbrev pub CountsAt : {T W A : Type 0} → Doing T W A → ℕ → T → Outcome → ℕ → Type 0
-CountsAt d before t came.More now = IsCounted before (d.met t) now
-CountsAt d before t outcome now = now ≡ before
+CountsAt d left t came.More now = IsCounted left (d.met t) now
+CountsAt d left t outcome now = now ≡ left
 
 -- the command has ended
 abbrev pub HasEnded : Outcome → Type 0

@@ -1,5 +1,5 @@
 -- What the commands of the lanes bring into the store, and that it goes on to be good.
-use Rattle.std.specs.Prelude.{◌≡◌, ◌⊎◌, ◌<◌, ◌≤◌, ◌^◌, ℕ, List, length, None}
+use Rattle.std.specs.Prelude.{◌≡◌, ◌⊎◌, ◌<◌, ◌≤◌, ◌+◌, ◌^◌, ℕ, List, length, None}
 use Rattle.ost_types.specs.declared.limits.Limits.{Limits}
 use Rattle.ost_types.specs.declared.object.ObjName.{ObjName}
 use Rattle.fs_trait.specs.Seen.{Seen, Vacant}
@@ -10,12 +10,14 @@ use Rattle.rely_guarantee.specs.State.{State, first}
 use Rattle.sys_open.specs.Damages.{ShowsConfig}
 use Rattle.durable_store.specs.Keeping.{KeepsGood}
 use Rattle.command.specs.Meaning.{Meaning}
+use Rattle.command.specs.Removed.{AreAmong}
 use Rattle.command.specs.Since.{begun_in}
 use Rattle.lane_system.specs.declared.lane.Lane.{Lane}
 use Rattle.lane_system.specs.declared.lane.Reply.{Reply}
 use Rattle.lane_system.specs.declared.lane.Running.{Running}
 use Rattle.lane_system.specs.Family.{FsSpec}
 use Rattle.lane_system.specs.Lanes.{IsCommand, IsRunning, IsTo}
+use Rattle.lane_system.specs.Removals.{swept_in}
 use Rattle.lane_system.specs.States.{state_after}
 use Rattle.lane_system.specs.System.{System}
 
@@ -47,6 +49,7 @@ IsConfigured s = (s ≡ Vacant) ⊎ ShowsConfig s
 -- the commands brought that began. While commands go on there are no more names than were counted, which 32 bits can tell.
 pub record AreStored {F T W A : Type 0} (f : FsSpec F) (m : Meaning W A) (s : System F T W A) (v : View) : Type 0 where
   pub names : List ObjName
-  pub counted : s.base.books.halted ≡ None → length names ≤ s.objects
+  pub counted : s.base.books.halted ≡ None → length names ≤ s.objects + length (swept_in s.base.books)
+  pub swept : s.base.books.halted ≡ None → AreAmong (swept_in s.base.books) names
   pub narrow : s.limits.objects < 2 ^ 32
   pub keeps : KeepsGood (f.was s.base.fs) s.limits (WasBrought m s) IsConfigured names s.base.books.opened v

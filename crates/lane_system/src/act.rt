@@ -9,7 +9,7 @@ ghost use Rattle.ref_book.specs.Tracks.{Tracks};
 ghost use Rattle.command.specs.Staging.{StagingPathFree};
 ghost use Rattle.command.specs.Tasks.{task_spec};
 ghost use Rattle.lane_system.specs.Family.{family, fs_spec};
-ghost use Rattle.lane_system.specs.Kept.{LaneKept};
+ghost use Rattle.lane_system.specs.Kept.{AreFree, LaneKept};
 ghost use Rattle.lane_system.specs.LaneActs.{LaneActs};
 ghost use Rattle.lane_system.specs.States.{now_of};
 ghost use Rattle.lane_system.specs.Steps.{HasEnded, IsCutShort, IsEndedAs, IsRefusal, IsStray};
@@ -46,6 +46,7 @@ pub(crate) fn lane_act<F: Watch, C: Command>(
     requires sound { SystemInvariant F.view F.clock F.spare F.was base.old }
     requires tracks { Tracks refs.old (now_of base.old.books) }
     requires home { (v : View) → F.view base.old.fs ≡ Some v → StagingPathFree lane v }
+    requires free { AreFree (F.view base.old.fs) }
     requires kept { LaneKept (fs_spec F.view F.clock F.spare F.was F.faults F.refused) (family (task_spec C.kind_of C.writes_of C.stepped C.leaves C.refuses C.facts) C.means C.doing) limits lane refs.old base.old run.old }
     requires next { length run.old.replies.items < length run.old.words.items }
     ensures { LaneActs (fs_spec F.view F.clock F.spare F.was F.faults F.refused) (family (task_spec C.kind_of C.writes_of C.stepped C.leaves C.refuses C.facts) C.means C.doing) limits lane lane refs.old refs.new objects.old objects.new base.old base.new run.old run.new result }
@@ -71,6 +72,7 @@ fn live_act<F: Watch, C: Command>(
     requires live { base.old.books.halted ≡ None }
     requires tracks { Tracks refs.old (now_of base.old.books) }
     requires home { (v : View) → F.view base.old.fs ≡ Some v → StagingPathFree lane v }
+    requires free { AreFree (F.view base.old.fs) }
     requires kept { LaneKept (fs_spec F.view F.clock F.spare F.was F.faults F.refused) (family (task_spec C.kind_of C.writes_of C.stepped C.leaves C.refuses C.facts) C.means C.doing) limits lane refs.old base.old run.old }
     requires next { length run.old.replies.items < length run.old.words.items }
     ensures { LaneActs (fs_spec F.view F.clock F.spare F.was F.faults F.refused) (family (task_spec C.kind_of C.writes_of C.stepped C.leaves C.refuses C.facts) C.means C.doing) limits lane lane refs.old refs.new objects.old objects.new base.old base.new run.old run.new result }
@@ -125,6 +127,7 @@ fn begins<F: Watch, C: Command>(
     requires live { base.old.books.halted ≡ None }
     requires tracks { Tracks refs.old (now_of base.old.books) }
     requires home { (v : View) → F.view base.old.fs ≡ Some v → StagingPathFree lane v }
+    requires free { AreFree (F.view base.old.fs) }
     requires kept { LaneKept (fs_spec F.view F.clock F.spare F.was F.faults F.refused) (family (task_spec C.kind_of C.writes_of C.stepped C.leaves C.refuses C.facts) C.means C.doing) limits lane refs.old base.old run.old }
     requires next { (length run.old.replies.items < length run.old.words.items) × (run.old.task ≡ None) }
     ensures { LaneActs (fs_spec F.view F.clock F.spare F.was F.faults F.refused) (family (task_spec C.kind_of C.writes_of C.stepped C.leaves C.refuses C.facts) C.means C.doing) limits lane lane refs.old refs.new objects.old objects.new base.old base.new run.old run.new result }
@@ -173,6 +176,7 @@ fn goes_on<F: Watch, C: Command>(
 ) -> Came<C::Answer>
     requires sound { SystemInvariant F.view F.clock F.spare F.was base.old }
     requires live { base.old.books.halted ≡ None }
+    requires free { AreFree (F.view base.old.fs) }
     requires tracks { Tracks refs.old (now_of base.old.books) }
     requires kept { LaneKept (fs_spec F.view F.clock F.spare F.was F.faults F.refused) (family (task_spec C.kind_of C.writes_of C.stepped C.leaves C.refuses C.facts) C.means C.doing) _limits lane refs.old base.old (record run.old { task = Some running }) }
     requires next { (length run.old.replies.items < length run.old.words.items) × (run.old.task ≡ None) }

@@ -7,10 +7,11 @@ ghost use Rattle.rely_guarantee.specs.Laws.{Ready, Runs, Settle};
 ghost use Rattle.rely_guarantee.specs.State.{State, after, events_of};
 ghost use Rattle.ref_book.specs.Tracks.{Tracks, HasEventRoom, HasRoom};
 ghost use Rattle.command.specs.Tasks.{task_spec};
-ghost use Rattle.lane_system.specs.Family.{fs_spec};
+ghost use Rattle.lane_system.specs.Family.{fs_spec, learning};
+ghost use Rattle.lane_system.specs.Kept.{AreFree};
 ghost use Rattle.lane_system.specs.LaneActs.{told_by};
 ghost use Rattle.lane_system.specs.States.{now_of};
-ghost use Rattle.lane_system.specs.Steps.{CountsAt, IsCounted, Stepped};
+ghost use Rattle.lane_system.specs.Steps.{CountsAt, IsCounted, Stepped, standing};
 
 use command::{Command, Told};
 use fs_watch::Watch;
@@ -18,7 +19,8 @@ use obj_store::Put;
 use ref_book::RefBook;
 use rely_guarantee::{Base, Entry, Outcome, task_act};
 
-/// One step of a command's task, once it was told how many objects are in the store. One that is held off is left as it was.
+/// One step of a command's task, once it was told how many objects are in the store; behind a step that goes on it is told what refs name
+/// then, and what is pinned. One that is held off is left as it was.
 pub(crate) fn told_act<F: Watch, C: Command>(
     base: &mut Base<F>,
     refs: &mut RefBook,
@@ -28,23 +30,30 @@ pub(crate) fn told_act<F: Watch, C: Command>(
     work: &mut C,
 ) -> Outcome
     requires ready { Ready F.view F.clock F.spare F.was (Runs C.kind_of C.facts lane work.old) base.old }
+    requires free { AreFree (F.view base.old.fs) }
     requires tracks { Tracks refs.old (now_of base.old.books) }
     requires room { (e : Event) → C.kind_of (told_by C.doing objects.old work.old) ≡ Settle e → HasEventRoom refs.old e }
-    ensures step { (t : C) × Stepped (fs_spec F.view F.clock F.spare F.was F.faults F.refused) (task_spec C.kind_of C.writes_of C.stepped C.leaves C.refuses C.facts) lane lane number refs.old refs.new result (told_by C.doing objects.old work.old) t base.old base.new × ((result ≡ came.Blocked → ⊥) → work.new ≡ t) }
+    ensures step { (t : C) × Stepped (fs_spec F.view F.clock F.spare F.was F.faults F.refused) (learning (task_spec C.kind_of C.writes_of C.stepped C.leaves C.refuses C.facts) C.doing) lane lane number refs.old refs.new result (told_by C.doing objects.old work.old) t base.old base.new × ((result ≡ came.Blocked → ⊥) → work.new ≡ t) }
     ensures back { result ≡ came.Blocked → work.new ≡ work.old }
-    ensures counts { CountsAt C.doing objects.old work.new result objects.new }
+    ensures counts { CountsAt C.doing (standing base.old.books.gone base.new.books.gone objects.old) work.new result objects.new }
 {
     let former = work.hear(Told { objects: *objects });
+    let gone = base.books.gone;
     match running_act(base, refs, lane, number, work) {
         Outcome::Blocked => {
             work.hear(former);
             Outcome::Blocked
         }
         Outcome::More => {
+            count_removed(objects, gone, base.books.gone);
             count(objects, work);
+            work.learn(refs, base.books.pins());
             Outcome::More
         }
-        outcome => outcome,
+        outcome => {
+            count_removed(objects, gone, base.books.gone);
+            outcome
+        }
     }
 }
 
@@ -65,6 +74,15 @@ fn running_act<F: Watch, C: Command>(
     let outcome = task_act(base, lane, lane, number, work);
     note(&base.books.history, refs, before);
     outcome
+}
+
+/// One object less is in the store, where the books tell of one more that was removed.
+fn count_removed(objects: &mut u32, before: u64, now: u64)
+    ensures { objects.new ≡ standing before now objects.old }
+{
+    if now > before {
+        *objects = objects.saturating_sub(1);
+    }
 }
 
 /// One more object is in the store, where the task's last step put one there.

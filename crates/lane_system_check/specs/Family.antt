@@ -1,6 +1,7 @@
 -- What the commands say: each answers its number.
 use Rattle.std.specs.Prelude.{◌≡◌, ◌≤◌, ◌-◌, ℕ, Some, None}
 use Rattle.command.specs.Doing.{Doing}
+use Rattle.command.specs.LearnLaws.{learns_nothing}
 use Rattle.command.specs.Meaning.{Meaning}
 use Rattle.lane_system_check.specs.declared.task.WaitTask.{WaitTask}
 use Rattle.lane_system_check.specs.declared.words.WaitWords.{WaitWords}
@@ -15,6 +16,7 @@ wait_means = record {
   fit = λ limits c. Unit {0};
   changes = λ since c e. ⊥;
   makes = λ a c. ⊥;
+  tells = λ a e. Unit {0};
   says = λ since a c. a ≡ number_of c;
   knows = λ since a c. Unit {0};
   shows = λ since v a c. Unit {0};
@@ -44,6 +46,7 @@ wait_doing = record {
   left = λ t. t.number - t.taken;
   hears = λ told t. t;
   heard = λ t. record { objects = 0 };
+  learns = learns_nothing;
   asks = λ actor t. None;
   met = λ t. None;
   holds = λ lane t v b. Unit {0};

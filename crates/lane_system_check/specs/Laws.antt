@@ -19,7 +19,10 @@ use Rattle.command.specs.ChangeLaws.{ChangeLaws}
 use Rattle.command.specs.FolderLaws.{FolderLaws}
 use Rattle.command.specs.HearLaws.{HearLaws}
 use Rattle.command.specs.Laws.{CommandLaws}
-use Rattle.command.specs.StepLaws.{AsksForRefs, StepLaws}
+use Rattle.command.specs.LearnLaws.{LearnLaws, no_learning}
+use Rattle.command.specs.RemoveLaws.{RemoveLaws, no_removals}
+use Rattle.command.specs.Removing.{IsRemoving}
+use Rattle.command.specs.StepLaws.{AsksInOrder, StepLaws, asks_in_order}
 use Rattle.command.specs.StoreLaws.{StoreLaws}
 use Rattle.command.specs.Tasks.{TaskSpec, task_spec}
 use Rattle.lane_system_check.specs.declared.task.WaitTask.{WaitTask}
@@ -36,8 +39,8 @@ quiet true true lane b none = none
 quiet true false lane b none = none
 quiet false begins lane b none = none
 
-light : (holds begins : Bool) (wants : Wants) → kind_at holds begins ≡ Take wants → AsksForRefs wants
-light true true wants is = let same : lock_wants ≡ wants = cc in subst AsksForRefs same (refl, refl, refl)
+light : (holds begins : Bool) (wants : Wants) → kind_at holds begins ≡ Take wants → AsksInOrder wants
+light true true wants is = let same : lock_wants ≡ wants = cc in subst AsksInOrder same (asks_in_order lock_wants (refl, refl, refl))
 light true false wants is = cc
 light false begins wants is = cc
 
@@ -55,6 +58,11 @@ no_settle : {P : Type 0} (holds begins : Bool) → IsSettle (kind_at holds begin
 no_settle true true is = absurd is
 no_settle true false is = absurd is
 no_settle false begins is = absurd is
+
+no_removal : (holds begins : Bool) → IsRemoving (kind_at holds begins) → ⊥
+no_removal true true removes = removes
+no_removal true false removes = removes
+no_removal false begins removes = removes
 
 goes_on : (c : WaitWords) (t new : WaitTask) → wait_pursues c t → wait_stepped t turn.More new → wait_pursues c new
 goes_on (Echo number) t new is step = is
@@ -88,6 +96,9 @@ hear_laws = record {
   back = λ told t. refl;
 }
 
+learn_laws : LearnLaws wait_tasks wait_doing
+learn_laws = no_learning wait_tasks wait_doing (λ refs pins t new is. is)
+
 change_laws : ChangeLaws wait_tasks wait_means wait_doing
 change_laws = record {
   shown = λ since c t e is kind. no_show t.holds (t.taken == 0) e kind;
@@ -95,6 +106,7 @@ change_laws = record {
   founds = λ lane t v b e f kind. no_show t.holds (t.taken == 0) e kind;
   makes = λ since c t new a is step given settles. no_settle t.holds (t.taken == 0) settles;
   makes_not = λ since c t new a is step given settles made. made;
+  tells = λ since c t new a e is step given kind. tt;
   kept = λ since opening lane c t new v w b right is f leaves settles. tt;
   keeps = λ since opening out removed c v w right stays is. tt;
   keeps_on = λ since opening out removed c v disk stays is. tt;
@@ -108,6 +120,7 @@ answer_laws = record {
   says = λ since p c t new a is step given. ends c t new a is step given;
   shows = λ since lane c t new v w b a is f leaves given sound. tt;
   knows = λ since p lane c t new v w b a is f leaves given sees. tt;
+  lacks_alone = λ since lane c t new v w b a commit is f leaves given lacks sum. absurd lacks;
   lacks = λ since v a c commit files seen lacks finished. lacks;
   outside = λ since v a c good shows outside. outside;
   full = λ told since c t new a is step given full. absurd full;
@@ -122,13 +135,16 @@ store_laws = record {
   works = λ since c t wants name is kind pin. no_pin t.holds (t.taken == 0) wants name kind pin;
   reaches = λ since lane c t v b wants name is f kind pin. tt;
   brings = λ since actor lane c t v b name s bytes is f sum wrote reads. wrote;
-  room = λ told since actor lane c t v b name s is f sum wrote. absurd wrote;
-  stored = λ actor lane t new v w b name s f leaves sum wrote. absurd wrote;
-  done = λ actor lane t new v w b name s f leaves sum wrote. absurd wrote;
+  room = λ told since actor lane c t v b name s is f sum wrote stands. absurd wrote;
+  stored = λ actor lane t new v w b name s f leaves sum wrote stands. absurd wrote;
+  done = λ actor lane t new v w b name s f leaves sum wrote stands. absurd wrote;
   lacked = λ told since c t new v w name is leaves met. cc;
   there = λ lane t v b name f met. cc;
-  keeps = λ since actor lane c t v b is f. silent_keeps since.limits (wait_means.brings since c) v Nothing (λ p s wrote. wrote);
+  keeps = λ since actor lane c t v b is f still. silent_keeps since.limits (wait_means.brings since c) v Nothing (λ p s wrote. wrote);
 }
+
+remove_laws : RemoveLaws wait_tasks
+remove_laws = no_removals wait_tasks (λ t. no_removal t.holds (t.taken == 0))
 
 folder_laws : FolderLaws wait_tasks wait_means wait_doing
 folder_laws = record {
@@ -147,8 +163,10 @@ pub wait_command_laws : CommandLaws wait_tasks wait_means wait_doing
 wait_command_laws = record {
   steps = step_laws;
   hears = hear_laws;
+  learns = learn_laws;
   changes = change_laws;
   answers = answer_laws;
   store = store_laws;
+  removes = remove_laws;
   folders = folder_laws;
 }

@@ -56,7 +56,7 @@ pub wait_laws : Laws wait_kind (λ (actor : ℕ) (t : WaitTask) (v : View). Unit
 wait_laws = record {
   ready = λ actor lane t v b by f. tt;
   kept = λ actor lane mine t v w b b' other not does holds f. tt;
-  gains = λ lane t v b b' keeps f. tt;
+  gains = λ lane t v b b' keeps same f. tt;
   duty = λ actor lane t new v b agrees by stood f. owes_nothing t.holds (t.taken == 0) actor lane v b (wait_leaves t (turn.Done tt) new v);
   chain = λ t new step. chained t.holds (t.taken == 0) (wait_kind new) (before new.holds (new.taken == 0));
   last = λ t new step. lastly t.holds (t.taken == 0);

@@ -6,6 +6,7 @@ use command::{Begun, Command, Query, Told};
 use obj_store::Put;
 use ost_types::{Limits, NoMemory, ObjName};
 use ref_book::RefBook;
+use rely_guarantee::Pin;
 use std::alloc::Global;
 
 impl Command for WaitTask {
@@ -37,6 +38,8 @@ impl Command for WaitTask {
     fn hear(&mut self, _told: Told) -> Told {
         Told { objects: 0 }
     }
+
+    fn learn(&mut self, _refs: &RefBook, _pins: &[Pin]) {}
 
     fn asks(&self, _actor: u8) -> Option<Query> {
         None

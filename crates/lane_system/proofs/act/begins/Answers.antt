@@ -3,6 +3,7 @@ use Rattle.command.specs.declared.begun.Begun.TheVariants as begun
 use Rattle.command.specs.declared.ended.Ended.TheVariants as ended
 use Rattle.command.specs.Doing.{IsAnswer, IsBegun}
 use Rattle.command.specs.Since.{Since, begun_in}
+use Rattle.command.specs.Laws.{CommandLaws}
 use Rattle.command.specs.Tasks.{task_spec}
 use Rattle.lane_system.specs.declared.act.Came.TheVariants.{Answered, More}
 use Rattle.lane_system.specs.declared.lane.Running.{Running}
@@ -13,6 +14,7 @@ use Rattle.lane_system.specs.States.{now_of, since_in}
 use Rattle.lane_system.proofs.Coming.{comes_answered, comes_ended, comes_held, comes_more, first_ready, first_room, first_takes, has_ended, refused_named}
 use Rattle.lane_system.proofs.Doing.{once_acts}
 use Rattle.lane_system.proofs.Prefixes.{state_all}
+use Rattle.lane_system.proofs.Learning.{laws_on}
 use Rattle.lane_system.proofs.act.begins.Given as given
 use Rattle.lane_system.proofs.act.begins.Goals as goal
 
@@ -21,6 +23,9 @@ f g = fs_spec g.F.Fs.view g.F.Fs.clock g.F.Fs.spare g.F.Fs.was g.F.Fs.faults g.F
 
 abbrev family_of : (g : given.Over) → Family g.row.C.Denot g.row.C-Words.Denot g.row.C-Answer.Denot
 family_of g = family (task_spec g.C.CommandTask.kind_of g.C.CommandTask.writes_of g.C.CommandTask.stepped g.C.CommandTask.leaves g.C.CommandTask.refuses g.C.CommandTask.facts) g.C.Command.means g.C.Command.doing
+
+command_laws : (g : given.Over) → CommandLaws (family_of g).tasks (family_of g).means (family_of g).doing
+command_laws g = laws_on (task_spec g.C.CommandTask.kind_of g.C.CommandTask.writes_of g.C.CommandTask.stepped g.C.CommandTask.leaves g.C.CommandTask.refuses g.C.CommandTask.facts) g.C.Command.means g.C.Command.doing g.met.C.Command.command_laws
 
 pub begin-requires-clause-few : goal.begin-requires-clause-few
 begin-requires-clause-few g c = c.requires.few
@@ -46,7 +51,7 @@ told_act-requires-clause-ready g c =
     let words = c.index-words.result.now in
     let is : c.in-Ok-Runs.field-0 ≡ begun.Runs c.in-Ok-Runs.work = search rules in
     let began = subst (IsBegun g.C.Command.means g.C.Command.doing c.args.limits c.args.lane (now_of base.books) words c.begin.new.refs) is (c.in-Ok-Runs.ensures.begun (now_of base.books) c.requires.tracks) in
-    first_ready (f g) (family_of g) g.met.C.Command.command_laws c.args.limits c.args.lane c.args.refs.now c.begin.new.refs c.args.objects.now base l words c.requires.kept c.requires.next.1 c.requires.live c.requires.home c.requires.sound c.begin.ensures.rooms c.in-Ok-Runs.work began
+    first_ready (f g) (family_of g) (command_laws g) c.args.limits c.args.lane c.args.refs.now c.begin.new.refs c.args.objects.now base l words c.requires.kept c.requires.next.1 c.requires.live c.requires.home c.requires.sound c.begin.ensures.rooms c.in-Ok-Runs.work began
 
 pub told_act-requires-clause-tracks : goal.told_act-requires-clause-tracks
 told_act-requires-clause-tracks g c = c.begin.ensures.refs (now_of c.args.base.now.books) c.requires.tracks
@@ -58,7 +63,7 @@ told_act-requires-clause-room g c =
     let words = c.index-words.result.now in
     let is : c.in-Ok-Runs.field-0 ≡ begun.Runs c.in-Ok-Runs.work = search rules in
     let began = subst (IsBegun g.C.Command.means g.C.Command.doing c.args.limits c.args.lane (now_of base.books) words c.begin.new.refs) is (c.in-Ok-Runs.ensures.begun (now_of base.books) c.requires.tracks) in
-    first_room (f g) (family_of g) g.met.C.Command.command_laws c.args.limits c.args.lane c.args.refs.now c.begin.new.refs c.args.objects.now base l words c.requires.kept c.requires.next.1 c.requires.live c.requires.home c.requires.sound c.begin.ensures.rooms c.in-Ok-Runs.work began
+    first_room (f g) (family_of g) (command_laws g) c.args.limits c.args.lane c.args.refs.now c.begin.new.refs c.args.objects.now base l words c.requires.kept c.requires.next.1 c.requires.live c.requires.home c.requires.sound c.begin.ensures.rooms c.in-Ok-Runs.work began
 
 pub answer_at_end-requires : goal.answer_at_end-requires
 answer_at_end-requires g c =
@@ -72,8 +77,8 @@ answer_at_end-requires g c =
     record {
       ended = has_ended c.told_act.result (λ is. c.in_default.not-Blocked is) (λ is. c.in_default.not-More is);
       told = comes_answered (f g) (family_of g) c.args.limits c.args.lane c.number_of.result c.args.refs.now c.begin.new.refs c.told_act.new.refs c.args.objects.now c.told_act.new.objects base c.told_act.new.base l words next (c.number_of.ensures ∙ at) c.in-Ok-Runs.work c.told_act.new.work c.told_act.result
-          (first_takes (f g) (family_of g) g.met.C.Command.command_laws c.args.limits c.args.lane c.args.refs.now c.begin.new.refs c.args.objects.now base l words c.requires.kept c.requires.next.1 c.requires.live c.requires.home c.requires.sound c.begin.ensures.rooms c.in-Ok-Runs.work began c.told_act.new.refs c.told_act.new.base)
-          c.told_act.ensures.step c.told_act.ensures.counts (λ is. c.in_default.not-Blocked is) g.met.C.Command.command_laws;
+          (first_takes (f g) (family_of g) (command_laws g) c.args.limits c.args.lane c.args.refs.now c.begin.new.refs c.args.objects.now base l words c.requires.kept c.requires.next.1 c.requires.live c.requires.home c.requires.sound c.begin.ensures.rooms c.in-Ok-Runs.work began c.told_act.new.refs c.told_act.new.base)
+          c.told_act.ensures.step c.told_act.ensures.counts (λ is. c.in_default.not-Blocked is) (command_laws g);
       named = refused_named (g.F.Fs.faults base.fs) (g.F.Fs.faults c.told_act.new.base.fs) c.told_act.result c.told_act.ensures.step.1.cause;
     }
 
@@ -111,7 +116,7 @@ returns-in-Blocked g c =
     let is : c.in-Ok-Runs.field-0 ≡ begun.Runs c.in-Ok-Runs.work = search rules in
     let began = subst (IsBegun g.C.Command.means g.C.Command.doing c.args.limits c.args.lane (now_of base.books) words c.begin.new.refs) is (c.in-Ok-Runs.ensures.begun (now_of base.books) c.requires.tracks) in
     comes_held (f g) (family_of g) c.args.limits c.args.lane c.number_of.result c.args.refs.now c.begin.new.refs c.told_act.new.refs c.args.objects.now c.told_act.new.objects base c.told_act.new.base l words next (c.number_of.ensures ∙ at) c.in-Ok-Runs.work c.told_act.new.work c.told_act.result
-    (first_takes (f g) (family_of g) g.met.C.Command.command_laws c.args.limits c.args.lane c.args.refs.now c.begin.new.refs c.args.objects.now base l words c.requires.kept c.requires.next.1 c.requires.live c.requires.home c.requires.sound c.begin.ensures.rooms c.in-Ok-Runs.work began c.told_act.new.refs c.told_act.new.base)
+    (first_takes (f g) (family_of g) (command_laws g) c.args.limits c.args.lane c.args.refs.now c.begin.new.refs c.args.objects.now base l words c.requires.kept c.requires.next.1 c.requires.live c.requires.home c.requires.sound c.begin.ensures.rooms c.in-Ok-Runs.work began c.told_act.new.refs c.told_act.new.base)
     c.told_act.ensures.step c.told_act.ensures.counts c.in-Blocked.is
 
 pub returns-in-More : goal.returns-in-More
@@ -126,7 +131,7 @@ returns-in-More g c =
     let from : c.len-start.result ≡ task_start base.books.history.items l.task = (let n : c.len-start.result ≡ length base.books.history.items = search rules in n) ∙ ap (task_start base.books.history.items) (sym c.requires.next.1) in
     subst (λ (o : Option (Running g.row.C.Denot)). LaneActs (f g) (family_of g) c.args.limits c.args.lane c.args.lane c.args.refs.now c.told_act.new.refs c.args.objects.now c.told_act.new.objects base c.told_act.new.base l (record { words = l.words; task = o; replies = l.replies }) More) (sym c.replace.ensures.after)
     (comes_more (f g) (family_of g) c.args.limits c.args.lane c.number_of.result c.args.refs.now c.begin.new.refs c.told_act.new.refs c.args.objects.now c.told_act.new.objects base c.told_act.new.base l words next (c.number_of.ensures ∙ at) c.in-Ok-Runs.work c.told_act.new.work c.told_act.result
-    (first_takes (f g) (family_of g) g.met.C.Command.command_laws c.args.limits c.args.lane c.args.refs.now c.begin.new.refs c.args.objects.now base l words c.requires.kept c.requires.next.1 c.requires.live c.requires.home c.requires.sound c.begin.ensures.rooms c.in-Ok-Runs.work began c.told_act.new.refs c.told_act.new.base)
+    (first_takes (f g) (family_of g) (command_laws g) c.args.limits c.args.lane c.args.refs.now c.begin.new.refs c.args.objects.now base l words c.requires.kept c.requires.next.1 c.requires.live c.requires.home c.requires.sound c.begin.ensures.rooms c.in-Ok-Runs.work began c.told_act.new.refs c.told_act.new.base)
     c.told_act.ensures.step c.told_act.ensures.counts c.in-More.is c.len-start.result from)
 
 pub returns-in_default : goal.returns-in_default
@@ -141,5 +146,5 @@ returns-in_default g c =
     let from : c.len-start.result ≡ task_start base.books.history.items l.task = (let n : c.len-start.result ≡ length base.books.history.items = search rules in n) ∙ ap (task_start base.books.history.items) (sym c.requires.next.1) in
     subst (λ (o : Option (Running g.row.C.Denot)). LaneActs (f g) (family_of g) c.args.limits c.args.lane c.args.lane c.args.refs.now c.told_act.new.refs c.args.objects.now c.told_act.new.objects base c.told_act.new.base l (record { words = l.words; task = o; replies = l.replies }) (Answered c.answer_at_end.result c.len-start.result)) (sym c.requires.next.1)
     (comes_ended (f g) (family_of g) c.args.limits c.args.lane c.number_of.result c.args.refs.now c.begin.new.refs c.told_act.new.refs c.args.objects.now c.told_act.new.objects base c.told_act.new.base l words next (c.number_of.ensures ∙ at) c.in-Ok-Runs.work c.told_act.new.work c.told_act.result
-    (first_takes (f g) (family_of g) g.met.C.Command.command_laws c.args.limits c.args.lane c.args.refs.now c.begin.new.refs c.args.objects.now base l words c.requires.kept c.requires.next.1 c.requires.live c.requires.home c.requires.sound c.begin.ensures.rooms c.in-Ok-Runs.work began c.told_act.new.refs c.told_act.new.base)
+    (first_takes (f g) (family_of g) (command_laws g) c.args.limits c.args.lane c.args.refs.now c.begin.new.refs c.args.objects.now base l words c.requires.kept c.requires.next.1 c.requires.live c.requires.home c.requires.sound c.begin.ensures.rooms c.in-Ok-Runs.work began c.told_act.new.refs c.told_act.new.base)
     c.told_act.ensures.step c.told_act.ensures.counts (λ is. c.in_default.not-Blocked is) (λ is. c.in_default.not-More is) c.answer_at_end.result c.answer_at_end.ensures c.len-start.result from)

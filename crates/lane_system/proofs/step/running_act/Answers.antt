@@ -53,6 +53,7 @@ returns g c =
       pins = e.pins;
       claimed = e.claimed;
       booked = e.booked;
+      gone = e.gone;
       lasts = e.outlasts;
       time = e.time;
       cause = e.cause;

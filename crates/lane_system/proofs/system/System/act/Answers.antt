@@ -23,7 +23,7 @@ files_laws : (g : given.Over) → FsLaws (files_of g)
 files_laws g = record { is = record { only_now = g.met.F.Fs.only_now; bound = g.met.F.Fs.bound; told = g.met.F.Fs.told }; tree = g.met.F.Fs.tree; counts_now = g.met.F.Fs.counts_now }
 
 family_laws : (g : given.Over) → FamilyLaws (family_of g)
-family_laws g = laws_of (family_of g) _ g.met.C.CommandTask.laws g.met.C.Command.command_laws
+family_laws g = laws_of (task_spec g.C.CommandTask.kind_of g.C.CommandTask.writes_of g.C.CommandTask.stepped g.C.CommandTask.leaves g.C.CommandTask.refuses g.C.CommandTask.facts) g.C.Command.means g.C.Command.doing _ g.met.C.CommandTask.laws g.met.C.Command.command_laws
 
 pub returns-then-number-len : goal.returns-then-number-len
 returns-then-number-len g c =
@@ -60,6 +60,7 @@ lane_act-requires g c =
       sound = kept.sound;
       tracks = kept.tracks;
       home = λ v told. kept.homes c.args.actor v (omega (arith, within, kept.few)) told;
+      free = kept.free;
       kept = kept.each c.args.actor c.index_mut-lane.result.now at;
       next = omega (arith, c.if-command-len.false, c.len-command.ensures, c.len-2.ensures, c.index_mut-lane.result.now.words.ok.0, c.index_mut-lane.result.now.replies.ok.0);
     }

@@ -4,10 +4,11 @@ use Rattle.ost_types.specs.declared.limits.Limits.{Limits}
 use Rattle.rely_guarantee.specs.declared.books.Entry.{Entry}
 use Rattle.rely_guarantee.specs.State.{State, after, events_of, first}
 use Rattle.ref_book.specs.Tracks.{Tracks}
+use Rattle.durable_store.proofs.Shapes.{good_free}
 use Rattle.sys_open.specs.Opened as opening
 use Rattle.command.specs.Tasks.{task_spec}
 use Rattle.lane_system.specs.Family.{Family, FsSpec, family, fs_spec}
-use Rattle.lane_system.specs.Kept.{AreHomes, AreIdle}
+use Rattle.lane_system.specs.Kept.{AreFree, AreHomes, AreIdle}
 use Rattle.lane_system.specs.States.{now_of}
 use Rattle.lane_system.proofs.Beginning.{caused_first, homes_of, kept_first, stands_first}
 use Rattle.lane_system.proofs.system.System.begun.Given as given
@@ -40,7 +41,8 @@ invariant_of-result g c =
     let tracks : Tracks c.args.refs (now_of base.books) = subst (λ (s : State). Tracks c.args.refs s) (sym (no_events ∙ start)) c.requires.refs in
     let idle = subst (λ (l : Limits). AreIdle g.C.Command.means l c.args.lanes.items) (sym opened.limits) c.requires.idle in
     let homes = subst (λ x. AreHomes (g.F.Fs.view x)) (sym e.fs) (homes_of g.F.Fs.view g.F.Fs.clock g.F.Fs.was parts.fs parts.clock parts.refs.items opened.opened) in
-    kept_first (files_of g) (family_of g) parts.limits base c.args.refs c.args.lanes.items e.history e.pending idle e.sound tracks c.requires.few homes e.free e.pins e.live
+    let free : AreFree (g.F.Fs.view base.fs) = λ v told. good_free parts.limits v.now (opened.good.store v (subst (λ x. g.F.Fs.view x ≡ Some v) e.fs told)) in
+    kept_first (files_of g) (family_of g) parts.limits base c.args.refs c.args.lanes.items e.history e.pending idle e.sound tracks c.requires.few homes free e.free e.pins e.live
 
 pub returns : goal.returns
 returns g c =
@@ -58,6 +60,6 @@ returns g c =
       stands = λ v told.
           let there = subst (λ x. g.F.Fs.view x ≡ Some v) e.fs told in
           let good = subst (λ x. opening.KeepsGood g.F.Fs.view g.F.Fs.was x base.books.opened parts.limits parts.refs.items) (sym e.fs) (subst (λ (n : ℕ). opening.KeepsGood g.F.Fs.view g.F.Fs.was parts.fs n parts.limits parts.refs.items) (sym e.opened) opened.good) in
-          let stored = stored_first (files_of g) g.C.Command.means parts.limits base c.args.lanes.items parts.refs.items parts.objects.items c.count_of.result v told (g.met.F.Fs.tree parts.fs v there) (opened.opened.opening v there) good (opened.listed v there) (c.count_of.ensures ∙ ap (λ (n : ℕ). min n 4294967295) size) (search rules) in
+          let stored = stored_first (files_of g) g.C.Command.means parts.limits base c.args.lanes.items parts.refs.items parts.objects.items c.count_of.result v told (g.met.F.Fs.tree parts.fs v there) (opened.opened.opening v there) good (opened.listed v there) (c.count_of.ensures ∙ ap (λ (n : ℕ). min n 4294967295) size) (search rules) e.free.1 in
           stands_first (files_of g) (family_of g) parts.limits base c.args.refs c.args.lanes.items e.history e.pending idle c.count_of.result (g.F.Fs.faults c.args.opened.fs) now e.live v stored (counted_first parts.objects.items c.count_of.result v (opened.listed v there) (c.count_of.ensures ∙ ap (λ (n : ℕ). min n 4294967295) size));
     }

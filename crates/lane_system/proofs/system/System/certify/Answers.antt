@@ -23,7 +23,7 @@ abbrev family_of : (g : given.Over) → Family g.row.C.Denot g.row.C-Words.Denot
 family_of g = family (task_spec g.C.CommandTask.kind_of g.C.CommandTask.writes_of g.C.CommandTask.stepped g.C.CommandTask.leaves g.C.CommandTask.refuses g.C.CommandTask.facts) g.C.Command.means g.C.Command.doing
 
 family_laws : (g : given.Over) → FamilyLaws (family_of g)
-family_laws g = laws_of (family_of g) _ g.met.C.CommandTask.laws g.met.C.Command.command_laws
+family_laws g = laws_of (task_spec g.C.CommandTask.kind_of g.C.CommandTask.writes_of g.C.CommandTask.stepped g.C.CommandTask.leaves g.C.CommandTask.refuses g.C.CommandTask.facts) g.C.Command.means g.C.Command.doing _ g.met.C.CommandTask.laws g.met.C.Command.command_laws
 
 pub certify-requires : goal.certify-requires
 certify-requires g c = c.self.invariant.sound
