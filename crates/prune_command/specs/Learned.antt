@@ -1,0 +1,24 @@
+-- Where a prune begins: at what refs name, and at what other lanes have pinned.
+use Rattle.std.specs.Prelude.{◌≡◌, ◌++◌, ℕ, List, map}
+use Rattle.ost_types.specs.declared.object.Kind.TheVariants.{Commit}
+use Rattle.ost_types.specs.declared.object.ObjName.{ObjName}
+use Rattle.repo_model.specs.Trees.{name_of}
+use Rattle.rely_guarantee.specs.declared.books.Pin.{Pin}
+use Rattle.rely_guarantee.specs.State.{State}
+use Rattle.ref_book.specs.declared.book.RefBook.{RefBook}
+use Rattle.ref_book.specs.Tracks.{Lists, Tracks}
+use Rattle.prune_command.specs.declared.known.Known.{Known}
+
+abbrev pub object_of : Pin → ObjName
+object_of p = p.object
+
+-- the commit of a ref
+abbrev pub commit_of : List ℕ × List ℕ → ObjName
+commit_of row = name_of Commit row.1
+
+abbrev pub from_of : Known → List ObjName
+from_of k = k.roots ++ k.held
+
+-- they are the commits that all refs of the book name
+abbrev pub AreOfRefs : RefBook → List ObjName → Type 0
+AreOfRefs refs roots = (rows : List (List ℕ × List ℕ)) × ((s : State) → Tracks refs s → Lists rows s) × (roots ≡ map commit_of rows)

@@ -1,0 +1,14 @@
+pub mod Marks
+pub mod Learned
+pub mod Phases
+pub mod ListSteps
+pub mod MarkSteps
+pub mod SweepSteps
+pub mod Commands
+pub mod Asked
+pub mod Facts
+pub mod Answers
+pub mod Kept
+pub mod Nexts
+pub mod Duties
+pub mod Laws

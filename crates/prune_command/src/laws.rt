@@ -1,0 +1,1 @@
+//! What others may rest on, beside the contracts of the steps.
