@@ -58,7 +58,7 @@ module _ (told : Type 0) (limits : Limits) (start : State) (history : List Entry
   abbrev begun : State
   begun = state_after start history reply.start
 
-  made : HasMade e.lane e.command (means.changes (begun_in limits begun) (as_words c)) (take reply.place history)
+  made : (a : Answer) × HasMade e.lane e.command (λ x. means.changes (begun_in limits begun) (as_words c) x × means.tells a x) (take reply.place history)
   made =
       let was = replied.made k e at in
       let its = replied.each e.lane e.command reply to in
@@ -66,13 +66,13 @@ module _ (told : Type 0) (limits : Limits) (start : State) (history : List Entry
       let own : its.0 ≡ as_words c = one_command lanes e.lane e.command its.0 (as_words c) its.1 is in
       let a = is_answer (λ x. means.makes x was.3) reply.answer was.5 in
       let says = subst (λ (x : Ended Answer). IfAnswer (Answers means e.lane e.command (placed (begun_in limits begun) (state_after start history reply.place)) (take reply.place history) its.0) x) a.1 its.2.answer in
-      subst (λ (w : Words). HasMade e.lane e.command (means.changes (begun_in limits begun) w) (take reply.place history)) own (says.1 (subst (λ (w : Words). means.makes a.0 w) (same ∙ sym own) a.2))
+      (a.0, subst (λ (w : Words). HasMade e.lane e.command (λ x. means.changes (begun_in limits begun) w x × means.tells a.0 x) (take reply.place history)) own (says.1 (subst (λ (w : Words). means.makes a.0 w) (same ∙ sym own) a.2)))
 
   changes : commit_changes begun c e.event
   changes =
-      let front : take (k + 1) history ≡ made.0 ++ made.1 ∷ [] = ap (λ n. take n history) (sym (replied.made k e at).2) ∙ made.2 in
-      let last : e ≡ made.1 = front_last history made.0 k e made.1 at front in
-      subst (λ (x : Entry). commit_changes begun c x.event) (sym last) made.5
+      let front : take (k + 1) history ≡ made.1.0 ++ made.1.1 ∷ [] = ap (λ n. take n history) (sym (replied.made k e at).2) ∙ made.1.2 in
+      let last : e ≡ made.1.1 = front_last history made.1.0 k e made.1.1 at front in
+      subst (λ (x : Entry). commit_changes begun c x.event) (sym last) made.1.5.0
 
   -- which names the commit of any state that the change is of
   one_message : (s : State) → commit_changes s c e.event → message_in s c ≡ message_in begun c

@@ -6,6 +6,7 @@ use Rattle.checkout_family.specs.declared.reply.CheckoutReply.TheVariants as che
 use Rattle.command.specs.declared.ended.Ended.{Ended}
 use Rattle.command.specs.declared.ended.Ended.TheVariants as ended
 use Rattle.commit_command.specs.declared.answer.CommitAnswer.TheVariants as committed
+use Rattle.prune_command.specs.declared.answer.PruneAnswer.TheVariants as pruned
 use Rattle.read_command.specs.declared.answer.ReadAnswer.TheVariants as reading
 use Rattle.read_family.specs.declared.reply.ReadReply.TheVariants as reply
 use Rattle.ref_command.specs.declared.answer.RefAnswer.TheVariants as ref
@@ -45,7 +46,9 @@ outside_answer (Right (Right (Left (checkout.Tried (checked.NoCommit sum))))) is
 outside_answer (Right (Right (Left (checkout.Tried (checked.Partial sum))))) is = is
 outside_answer (Right (Right (Left (checkout.Tried (checked.DestExists path))))) is = is
 outside_answer (Right (Right (Left (checkout.Tried (checked.Lacking path))))) is = tt
-outside_answer (Right (Right (Right rows))) is = is
+outside_answer (Right (Right (Right (Left rows)))) is = is
+outside_answer (Right (Right (Right (Right (pruned.Pruned kept removed))))) is = is
+outside_answer (Right (Right (Right (Right (pruned.Outside path))))) is = tt
 
 pub outside_of : (x : Ended Answer) → IsOutside (answer_of x) → system.IsOutside x ⊎ OfAnswer means.outside x
 outside_of (ended.Answered a) is = inr (outside_answer a is)

@@ -6,6 +6,7 @@ use Rattle.checkout_family.specs.declared.reply.CheckoutReply.TheVariants as che
 use Rattle.command.specs.declared.ended.Ended.{Ended}
 use Rattle.command.specs.declared.ended.Ended.TheVariants as ended
 use Rattle.commit_command.specs.declared.answer.CommitAnswer.TheVariants as committed
+use Rattle.prune_command.specs.declared.answer.PruneAnswer.TheVariants as pruned
 use Rattle.read_command.specs.declared.answer.ReadAnswer.TheVariants as reading
 use Rattle.read_family.specs.declared.reply.ReadReply.TheVariants as reply
 use Rattle.ref_command.specs.declared.answer.RefAnswer.TheVariants as ref
@@ -45,7 +46,9 @@ no_failure (Right (Right (Left (checkout.Tried (checked.NoCommit sum))))) is = i
 no_failure (Right (Right (Left (checkout.Tried (checked.Partial sum))))) is = is
 no_failure (Right (Right (Left (checkout.Tried (checked.DestExists path))))) is = is
 no_failure (Right (Right (Left (checkout.Tried (checked.Lacking path))))) is = is
-no_failure (Right (Right (Right rows))) is = is
+no_failure (Right (Right (Right (Left rows)))) is = is
+no_failure (Right (Right (Right (Right (pruned.Pruned kept removed))))) is = is
+no_failure (Right (Right (Right (Right (pruned.Outside path))))) is = is
 
 pub failure_of : (x : Ended Answer) → IsFailure (answer_of x) → system.IsFailure x
 failure_of (ended.Answered a) is = absurd (no_failure a is)
@@ -84,7 +87,9 @@ absence_answer commit (Right (Right (Left (checkout.Tried (checked.NoCommit sum)
 absence_answer commit (Right (Right (Left (checkout.Tried (checked.Partial sum))))) is = is
 absence_answer commit (Right (Right (Left (checkout.Tried (checked.DestExists path))))) is = is
 absence_answer commit (Right (Right (Left (checkout.Tried (checked.Lacking path))))) is = is
-absence_answer commit (Right (Right (Right rows))) is = is
+absence_answer commit (Right (Right (Right (Left rows)))) is = is
+absence_answer commit (Right (Right (Right (Right (pruned.Pruned kept removed))))) is = is
+absence_answer commit (Right (Right (Right (Right (pruned.Outside path))))) is = is
 
 pub absence_of : (commit : List ℕ) (x : Ended Answer) → IsAbsence commit (answer_of x) → OfAnswer (λ a. means.lacks a commit) x
 absence_of commit (ended.Answered a) is = absence_answer commit a is

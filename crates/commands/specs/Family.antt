@@ -28,31 +28,36 @@ use Rattle.list_family.specs.declared.task.ListTask.{ListTask}
 use Rattle.list_family.specs.declared.words.ListWords.{ListWords}
 use Rattle.list_family.specs.Family.{Rows, list_doing, list_means}
 use Rattle.list_family.specs.Laws.{list_tasks}
+use Rattle.prune_command.specs.declared.answer.PruneAnswer.{PruneAnswer}
+use Rattle.prune_family.specs.declared.task.PruneTask.{PruneTask}
+use Rattle.prune_family.specs.declared.words.PruneWords.{PruneWords}
+use Rattle.prune_family.specs.Family.{prune_doing, prune_means}
+use Rattle.prune_family.specs.Laws.{prune_tasks}
 use Rattle.lane_system.specs.Family.{Family, family}
 use Rattle.lane_system.specs.declared.lane.Lane as system
 use Rattle.lane_system.specs.declared.lane.Reply as system_reply
 
 -- the tasks, the words and the answers
 abbrev pub Task : Type 0
-Task = Either (Either RefsTask ReadTask) (Either CommitsTask (Either CheckoutsTask ListTask))
+Task = Either (Either RefsTask ReadTask) (Either CommitsTask (Either CheckoutsTask (Either ListTask PruneTask)))
 
 abbrev pub Words : Type 0
-Words = Either (Either RefWords ReadWords) (Either CommitWords (Either CheckoutWords ListWords))
+Words = Either (Either RefWords ReadWords) (Either CommitWords (Either CheckoutWords (Either ListWords PruneWords)))
 
 abbrev pub Answer : Type 0
-Answer = Either (Either RefAnswer ReadReply) (Either CommitAnswer (Either CheckoutReply Rows))
+Answer = Either (Either RefAnswer ReadReply) (Either CommitAnswer (Either CheckoutReply (Either Rows PruneAnswer)))
 
 -- what they mean
 abbrev pub means : Meaning Words Answer
-means = either_means (either_means ref_means read_means) (either_means commit_means (either_means checkout_means list_means))
+means = either_means (either_means ref_means read_means) (either_means commit_means (either_means checkout_means (either_means list_means prune_means)))
 
 -- what the tasks are to their commands
 abbrev pub doing : Doing Task Words Answer
-doing = either_doing (either_doing ref_doing read_doing) (either_doing commit_doing (either_doing checkout_doing list_doing))
+doing = either_doing (either_doing ref_doing read_doing) (either_doing commit_doing (either_doing checkout_doing (either_doing list_doing prune_doing)))
 
 -- and what their steps are to the system
 abbrev pub tasks : TaskSpec Task
-tasks = either_tasks (either_tasks ref_tasks read_tasks) (either_tasks commit_tasks (either_tasks checkout_tasks list_tasks))
+tasks = either_tasks (either_tasks ref_tasks read_tasks) (either_tasks commit_tasks (either_tasks checkout_tasks (either_tasks list_tasks prune_tasks)))
 
 -- all of it
 abbrev pub program : Family Task Words Answer

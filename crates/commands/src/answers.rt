@@ -1,12 +1,13 @@
 //! What a command answers, as a script has it.
 ghost use Rattle.std.specs.Prelude.{◌≡◌};
-ghost use Rattle.commands.specs.Answers.{answer_of, checkout_answer, checkout_reply, commit_answer, read_answer, read_reply, ref_answer, reply_of, spoken};
+ghost use Rattle.commands.specs.Answers.{answer_of, checkout_answer, checkout_reply, commit_answer, prune_answer, read_answer, read_reply, ref_answer, reply_of, spoken};
 
 use crate::{CommandAnswer, CommandReply};
 use checkout_command::CheckoutAnswer;
 use checkout_family::CheckoutReply;
 use command::Ended;
 use commit_command::CommitAnswer;
+use prune_command::PruneAnswer;
 use read_command::ReadAnswer;
 use read_family::ReadReply;
 use ref_command::RefAnswer;
@@ -54,7 +55,8 @@ fn spoken(answer: CommandAnswer) -> Answer
         Either::Left(Either::Right(answer)) => read_reply(answer),
         Either::Right(Either::Left(answer)) => commit_answer(answer),
         Either::Right(Either::Right(Either::Left(answer))) => checkout_reply(answer),
-        Either::Right(Either::Right(Either::Right(rows))) => Answer::Refs(rows),
+        Either::Right(Either::Right(Either::Right(Either::Left(rows)))) => Answer::Refs(rows),
+        Either::Right(Either::Right(Either::Right(Either::Right(answer)))) => prune_answer(answer),
     }
 }
 
@@ -127,5 +129,14 @@ fn checkout_answer(answer: CheckoutAnswer) -> Answer
         CheckoutAnswer::Partial(commit) => Answer::Partial(commit),
         CheckoutAnswer::DestExists(path) => Answer::DestExists(path),
         CheckoutAnswer::Lacking(path) => Answer::Outside(path),
+    }
+}
+
+fn prune_answer(answer: PruneAnswer) -> Answer
+    ensures { result ≡ prune_answer answer }
+{
+    match answer {
+        PruneAnswer::Pruned { kept, removed } => Answer::Pruned { kept, removed },
+        PruneAnswer::Outside(path) => Answer::Outside(path),
     }
 }

@@ -5,6 +5,8 @@ use commit_family::{CommitWords, CommitsTask};
 use lane_system::{Lane, Reply};
 use list_family::{ListTask, ListWords};
 use ost_types::Csum;
+use prune_command::PruneAnswer;
+use prune_family::{PruneTask, PruneWords};
 use read_family::{ReadReply, ReadTask, ReadWords};
 use ref_command::RefAnswer;
 use ref_family::{RefWords, RefsTask};
@@ -14,19 +16,19 @@ use repo_layout::RefName;
 /// The task of a command. The nest is balanced, so that a case is few sides deep.
 pub type Commands = Either<
     Either<RefsTask, ReadTask>,
-    Either<CommitsTask, Either<CheckoutsTask, ListTask>>,
+    Either<CommitsTask, Either<CheckoutsTask, Either<ListTask, PruneTask>>>,
 >;
 
 /// A command with its fields.
 pub type CommandWords = Either<
     Either<RefWords, ReadWords>,
-    Either<CommitWords, Either<CheckoutWords, ListWords>>,
+    Either<CommitWords, Either<CheckoutWords, Either<ListWords, PruneWords>>>,
 >;
 
 /// What a command answers that is done.
 pub type CommandAnswer = Either<
     Either<RefAnswer, ReadReply>,
-    Either<CommitAnswer, Either<CheckoutReply, Vec<(RefName, Csum)>>>,
+    Either<CommitAnswer, Either<CheckoutReply, Either<Vec<(RefName, Csum)>, PruneAnswer>>>,
 >;
 
 /// A lane of a system of them, and a reply of it.

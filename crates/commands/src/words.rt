@@ -6,6 +6,7 @@ use crate::CommandWords;
 use checkout_family::CheckoutWords;
 use commit_family::CommitWords;
 use list_family::ListWords;
+use prune_family::PruneWords;
 use read_command::Ask;
 use read_family::ReadWords;
 use ref_family::RefWords;
@@ -47,7 +48,12 @@ pub fn words_of(command: Command) -> CommandWords
         Command::Checkout { rev, name } => {
             Either::Right(Either::Right(Either::Left(CheckoutWords { rev, name })))
         }
-        Command::Refs => Either::Right(Either::Right(Either::Right(ListWords::Refs))),
+        Command::Refs => {
+            Either::Right(Either::Right(Either::Right(Either::Left(ListWords::Refs))))
+        }
+        Command::Prune { depth } => {
+            Either::Right(Either::Right(Either::Right(Either::Right(PruneWords { depth }))))
+        }
     }
 }
 

@@ -22,6 +22,7 @@ answer_small (answer.Commit sum) inside = inl refl
 answer_small (answer.Log rows) inside = inl refl
 answer_small (answer.Ls rows) inside = inl refl
 answer_small (answer.Content bytes) inside = inl refl
+answer_small (answer.Pruned kept removed) inside = inl refl
 answer_small answer.NoMemory inside = inr (inr refl)
 answer_small (answer.Outside path) inside = absurd (inside tt)
 answer_small answer.DiskFault inside = inl refl

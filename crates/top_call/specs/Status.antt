@@ -22,6 +22,7 @@ answer_status (answer.Commit sum) = 0
 answer_status (answer.Log rows) = 0
 answer_status (answer.Ls rows) = 0
 answer_status (answer.Content bytes) = 0
+answer_status (answer.Pruned kept removed) = 0
 answer_status answer.NoMemory = 3
 answer_status (answer.Outside path) = 4
 answer_status answer.DiskFault = 0

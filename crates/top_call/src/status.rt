@@ -83,7 +83,8 @@ fn answer_status(answer: &Answer) -> u8
         | Answer::Commit(_)
         | Answer::Log(_)
         | Answer::Ls(_)
-        | Answer::Content(_) => 0,
+        | Answer::Content(_)
+        | Answer::Pruned { .. } => 0,
         Answer::NoRef
         | Answer::NoCommit(_)
         | Answer::Partial(_)
