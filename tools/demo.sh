@@ -1,6 +1,6 @@
 #!/bin/sh
-# Runs the program in a fresh folder: two trees are committed under one ref and looked into, one is checked out, and refs are set, listed
-# and removed.
+# Runs the program in a fresh folder: two trees are committed under one ref and looked into, one is checked out, refs are set, listed and
+# removed, and the objects of the first commit are pruned.
 set -eu
 cd "$(dirname "$0")/.."
 program=$PWD/build/ostree_cli
@@ -55,5 +55,8 @@ ask reset main "${commit##* }"
 ask reset main/next "${commit##* }"
 ask refs
 ask drop main
+ask prune 1
+ask prune 0
+ask log os/stable
 ask rev-parse main
 ask rev-parse

@@ -1,5 +1,5 @@
 #!/usr/bin/env python3
-"""The names of the objects in looks.cases and checkouts.cases of crates/case_runner/data, reckoned from OSTree's formats alone."""
+"""The names of the objects in looks.cases, checkouts.cases and prunes.cases of crates/case_runner/data, reckoned from OSTree's formats alone."""
 import hashlib
 import struct
 
@@ -109,5 +109,14 @@ def place():
     return [file(0, 0, 0o644, b"a"), commit((root, PLAIN), b"", b"", b"", 0)]
 
 
-for sum in readme() + odd() + twice() + place():
+def three():
+    """Three commits of one tree, each the parent of the next."""
+    root = dirtree([], [(b"d", dirtree([], []), PLAIN)])
+    names = [b""]
+    for number, subject in enumerate((b"first", b"second", b"third")):
+        names.append(commit((root, PLAIN), names[-1], subject, b"", 1700000000 + number))
+    return names[1:]
+
+
+for sum in readme() + odd() + twice() + place() + three():
     print(sum.hex())

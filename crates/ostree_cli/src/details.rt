@@ -98,10 +98,19 @@ Makes the ref name the commit.
 const DROP: &[u8] = b"\
 ostree_cli drop BRANCH
 
-Removes the ref. The commits that it named stay.
+Removes the ref. The commits that it named stay until a prune.
   ok
   refused NoRef            there is no ref of this name
   refused RefMoved A B     another lane changed the ref, from A to B
+";
+
+const PRUNE: &[u8] = b"\
+ostree_cli prune DEPTH
+
+Removes the objects that no ref leads to. Of each ref's commit DEPTH parents
+stay, too, with their trees; 0 keeps the refs' commits alone. What a command of
+another lane works with stays as well.
+  ok KEPT REMOVED          how many objects stay, and how many were removed
 ";
 
 /// What a command does, and what it answers; of any other word what `--help` alone prints.
@@ -118,6 +127,7 @@ pub fn detail(command: &str) -> &'static [u8] {
         "checkout" => CHECKOUT,
         "reset" => RESET,
         "drop" => DROP,
+        "prune" => PRUNE,
         _ => USAGE,
     }
 }

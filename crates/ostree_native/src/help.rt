@@ -42,6 +42,8 @@ Commands:
   checkout REV NAME     lay the commit's tree out in checkout/NAME
   reset BRANCH COMMIT   make the ref name the commit
   drop BRANCH           remove the ref
+  prune DEPTH           remove the objects that no ref leads to; DEPTH parents
+                        of each ref's commit stay, too
   --help                print this text
   --version             print the program's version
 
@@ -49,8 +51,9 @@ BRANCH is the name of a ref: 1 to 12 parts of A-Z a-z 0-9 - _ . that don't
 begin with a dot, joined by /, at most 255 bytes in all, and not 64 digits.
 COMMIT is 64 digits of 0-9 a-f. REV is a BRANCH or a COMMIT. PATH is / for the
 root, or each name behind a /, at most 64 names and 1,024 bytes. NAME is one
-name: 1 to 255 bytes of UTF-8 without / and zero, neither . nor .. A byte of a
-field may be written as % and two digits of 0-9 a-f.
+name: 1 to 255 bytes of UTF-8 without / and zero, neither . nor .. DEPTH is a
+number below 2^32. A byte of a field may be written as % and two digits of 0-9
+a-f.
 
 A script is lines that each end with a newline: ostree-script 1, then trees and
 lanes. The commands of a lane run one after the other.
@@ -70,8 +73,9 @@ Replies, one a command, lane by lane, by the numbers of lane and command:
   0 0 ok                  done
   0 1 ok COMMIT           done: the commit that was made, or that was asked for
   0 2 ok N                done: N lines follow, each behind a space
-  0 3 refused NoRef       the command was refused, and changed no ref
-  0 4 fault DiskFault     a call of the file system failed
+  0 3 ok KEPT REMOVED     done: so many objects stay, and so many were removed
+  0 4 refused NoRef       the command was refused, and changed no ref
+  0 5 fault DiskFault     a call of the file system failed
 A fault before the lanes is one line without numbers, such as `fault usage`.
 ostree_cli(1) tells each reply and what to do.
 
@@ -82,6 +86,7 @@ Examples:
   ostree_native ls os/main /etc
   ostree_native cat os/main /etc/motd
   ostree_native checkout os/main out
+  ostree_native prune 1
   ostree_native --schedule 0,1*1000 run <script
 
 Status:
