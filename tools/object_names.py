@@ -118,5 +118,18 @@ def three():
     return names[1:]
 
 
-for sum in readme() + odd() + twice() + place() + three():
+def shared():
+    """Two commits of trees that share all but one file, and then one more of the first tree. What the first one has alone comes first."""
+    one, two, below = (file(0, 0, 0o644, content) for content in (b"one", b"two", b"b"))
+    folder = (b"d", dirtree([(b"b", below)], []), PLAIN)
+    first, second = (dirtree([(b"a", sum)], [folder]) for sum in (one, two))
+    commits = [
+        commit((first, PLAIN), b"", b"first", b"", 1700000000),
+        commit((second, PLAIN), b"", b"second", b"", 1700000001),
+        commit((first, PLAIN), b"", b"third", b"", 1700000002),
+    ]
+    return [one, first, commits[0], two, second, commits[1], below, folder[1], PLAIN, commits[2]]
+
+
+for sum in readme() + odd() + twice() + place() + three() + shared():
     print(sum.hex())

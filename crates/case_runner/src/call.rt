@@ -17,7 +17,7 @@ pub struct Ran<F> {
     pub output: Vec<u8>,
     /// How many changes of refs last.
     pub lasting: u64,
-    /// Whether a change is shown, or may be, that doesn't last yet.
+    /// Whether a change is published, or may be, that doesn't last yet.
     pub is_pending: bool,
     /// The clock of the disk before the call.
     pub begun: u64,

@@ -8,7 +8,7 @@ use crate::{CheckoutAnswer, Make, Read, Request};
 use fs_trait::{Fs, FsErr, StepResult};
 use ost_types::{Csum, Limits, Name, NoMemory};
 use read_command::{pin_wants, sum_of_commit};
-use rely_guarantee::{CommandTask, Event, Step};
+use rely_guarantee::{CommandTask, Event, StepKind};
 use std::alloc::Global;
 
 /// The tree of a commit is checked out. Each step reads at most one object, or makes one node.
@@ -110,11 +110,11 @@ impl CommandTask for CheckoutCommand {
 
     ghost laws = { checkout_laws };
 
-    fn kind(&self) -> Step {
+    fn kind(&self) -> StepKind {
         match self {
-            CheckoutCommand::Look(request) => Step::Take(pin_wants(&request.commit)),
+            CheckoutCommand::Look(request) => StepKind::Take(pin_wants(&request.commit)),
             CheckoutCommand::Make(make) => make.kind(),
-            CheckoutCommand::Read(_) | CheckoutCommand::Ended(_) => Step::Quiet,
+            CheckoutCommand::Read(_) | CheckoutCommand::Ended(_) => StepKind::Quiet,
         }
     }
 

@@ -15,7 +15,7 @@ use crate::{CheckoutAnswer, Made, Request};
 use checkout::{CheckoutTask, DestExists};
 use fs_trait::{Fs, FsErr, StepResult};
 use ost_types::{FsPath, Name, NoMemory, PathMap, TryCopy};
-use rely_guarantee::Step;
+use rely_guarantee::StepKind;
 
 #[derive(Drop, Debug)]
 pub struct Make {
@@ -40,12 +40,12 @@ impl Make {
     }
 
     /// Who makes the folder claims it.
-    pub(crate) fn kind(&self) -> Step
+    pub(crate) fn kind(&self) -> StepKind
         ensures { result ≡ step_of (make_kind self.now.made self.now.request.name) }
     {
         match self.made {
-            Made::Nothing => Step::Claim,
-            Made::Part | Made::All => Step::Quiet,
+            Made::Nothing => StepKind::Claim,
+            Made::Part | Made::All => StepKind::Quiet,
         }
     }
 

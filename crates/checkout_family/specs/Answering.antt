@@ -67,9 +67,9 @@ leaf_there d o sum leaf = record { sum = sum; there = λ none. subst IsLeaf (ap 
 pub right_for : (t : CheckoutCommand) (q : Asked) (d : Disk) → asked t ≡ Some q → IsSoundStore q.limits d → IsRightFor (asked t) d
 right_for t q d is sound = subst (λ o. IsRightFor o d) (sym is) (λ sum is_sum leaf. sound (name_of File sum) (leaf_there d (name_of File sum) is_sum leaf))
 
-pub ends_show : (since : Since) (lane : ℕ) (c : CheckoutWords) (t new : CheckoutCommand) (v w : View) (b : Books) (a : CheckoutReply) → checkout_pursues since c t → checkout_facts lane t v b → checkout_leaves t (turn.Done tt) new v w → checkout_reply (answer_of new) ≡ Some a → IsSoundStore since.limits v.now → checkout_shows since v a c
-ends_show since lane c t new v w b NoRef is f leaves given sound = tt
-ends_show since lane c t new v w b (Tried a) is f leaves given sound =
+pub ends_publish : (since : Since) (lane : ℕ) (c : CheckoutWords) (t new : CheckoutCommand) (v w : View) (b : Books) (a : CheckoutReply) → checkout_pursues since c t → checkout_facts lane t v b → checkout_leaves t (turn.Done tt) new v w → checkout_reply (answer_of new) ≡ Some a → IsSoundStore since.limits v.now → checkout_shows since v a c
+ends_publish since lane c t new v w b NoRef is f leaves given sound = tt
+ends_publish since lane c t new v w b (Tried a) is f leaves given sound =
     let at = inner (answer_of new) a given in (
       is.0,
       is.1,

@@ -5,7 +5,7 @@ use Rattle.ost_types.specs.Path.{Name}
 use Rattle.rely_guarantee.specs.declared.event.Event.{Event}
 use Rattle.rely_guarantee.specs.declared.kind.Wants.{Wants}
 use Rattle.rely_guarantee.specs.Books.{Books}
-use Rattle.rely_guarantee.specs.Laws.{Kind, Quiet, Store, Take, Claim, Show, Shown, Remove, Settle, Holds, IsQuiet, IsSettle, NotPending}
+use Rattle.rely_guarantee.specs.Laws.{Kind, Quiet, Store, Take, Claim, Publish, Published, Remove, MakeDurable, Holds, IsQuiet, IsMakeDurable, NotPending}
 use Rattle.rely_guarantee.specs.Pinning.{pin_in}
 use Rattle.ref_command.specs.Commands.{pin_wants}
 use Rattle.ref_command.specs.Found.{commit_name}
@@ -17,32 +17,32 @@ use Rattle.checkout_command.proofs.Ends.{checkout_pin, checkout_quiet, quiet_kin
 use Rattle.command.specs.Removing.{IsRemoving}
 use Rattle.command.specs.StepLaws.{AsksInOrder, asks_in_order}
 
--- nothing is shown, settled or removed
-pub no_show : {P : Type 0} (t : CheckoutCommand) (e : Event) → checkout_kind t ≡ Show e → P
-no_show t e is = absurd (subst IsQuiet is (checkout_quiet t))
+-- nothing is published, made durable or removed
+pub no_publish : {P : Type 0} (t : CheckoutCommand) (e : Event) → checkout_kind t ≡ Publish e → P
+no_publish t e is = absurd (subst IsQuiet is (checkout_quiet t))
 
-quiet_unsettled : (k : Kind) → IsQuiet k → IsSettle k → ⊥
+quiet_unsettled : (k : Kind) → IsQuiet k → IsMakeDurable k → ⊥
 quiet_unsettled Quiet quiet settles = settles
 quiet_unsettled Store quiet settles = settles
 quiet_unsettled (Take wants) quiet settles = settles
 quiet_unsettled (Claim name) quiet settles = settles
-quiet_unsettled (Show e) quiet settles = quiet
-quiet_unsettled (Shown e owed) quiet settles = quiet
+quiet_unsettled (Publish e) quiet settles = quiet
+quiet_unsettled (Published e owed) quiet settles = quiet
 quiet_unsettled (Remove e owed) quiet settles = quiet
-quiet_unsettled (Settle e) quiet settles = quiet
+quiet_unsettled (MakeDurable e) quiet settles = quiet
 
-pub no_settle : (t : CheckoutCommand) → IsSettle (checkout_kind t) → ⊥
-no_settle t = quiet_unsettled (checkout_kind t) (checkout_quiet t)
+pub no_make_durable : (t : CheckoutCommand) → IsMakeDurable (checkout_kind t) → ⊥
+no_make_durable t = quiet_unsettled (checkout_kind t) (checkout_quiet t)
 
 quiet_stays : (k : Kind) → IsQuiet k → IsRemoving k → ⊥
 quiet_stays Quiet quiet removes = removes
 quiet_stays Store quiet removes = removes
 quiet_stays (Take wants) quiet removes = removes
 quiet_stays (Claim name) quiet removes = removes
-quiet_stays (Show e) quiet removes = quiet
-quiet_stays (Shown e owed) quiet removes = quiet
+quiet_stays (Publish e) quiet removes = quiet
+quiet_stays (Published e owed) quiet removes = quiet
 quiet_stays (Remove e owed) quiet removes = quiet
-quiet_stays (Settle e) quiet removes = quiet
+quiet_stays (MakeDurable e) quiet removes = quiet
 
 pub no_removal : (t : CheckoutCommand) → IsRemoving (checkout_kind t) → ⊥
 no_removal t = quiet_stays (checkout_kind t) (checkout_quiet t)

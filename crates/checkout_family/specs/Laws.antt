@@ -1,6 +1,6 @@
 -- The laws of a checkout as a command.
 use Rattle.std.proofs.Common.{refl, subst, sym, ◌∙◌, arith}
-use Rattle.rely_guarantee.specs.Laws.{IsSettle}
+use Rattle.rely_guarantee.specs.Laws.{IsMakeDurable}
 use Rattle.checkout_command.specs.Commands.{checkout_facts, checkout_kind, checkout_leaves, checkout_refuses, checkout_stepped, checkout_writes}
 use Rattle.checkout_command.proofs.Ends.{begins_of, made_claim, made_more}
 use Rattle.checkout_family.specs.Claimed.{made_by_claim, not_begun}
@@ -19,10 +19,10 @@ use Rattle.checkout_family.specs.declared.task.CheckoutsTask.{CheckoutsTask}
 use Rattle.durable_store.proofs.Silent.{apart_keeps}
 use Rattle.checkout_family.specs.Alone.{checkouts_alone}
 use Rattle.checkout_family.specs.Apart.{writes_apart}
-use Rattle.checkout_family.specs.Answering.{ends_say, ends_show, found, has_answer, lacks_none, outside_none}
+use Rattle.checkout_family.specs.Answering.{ends_say, ends_publish, found, has_answer, lacks_none, outside_none}
 use Rattle.checkout_family.specs.Family.{checkout_doing, checkout_means}
 use Rattle.checkout_family.specs.Made.{ends_made, late_none}
-use Rattle.checkout_family.specs.Kinds.{checkout_holds, checkouts_light, claims_own, no_removal, no_settle, no_show, pins_commit}
+use Rattle.checkout_family.specs.Kinds.{checkout_holds, checkouts_light, claims_own, no_removal, no_make_durable, no_publish, pins_commit}
 use Rattle.checkout_family.specs.Staying.{checkouts_stay, checkouts_wider, ends_leave}
 
 abbrev pub checkout_tasks : TaskSpec CheckoutsTask
@@ -55,10 +55,10 @@ learn_laws = no_learning checkout_tasks checkout_doing (λ refs pins t new is. i
 
 change_laws : ChangeLaws checkout_tasks checkout_means checkout_doing
 change_laws = record {
-  shown = λ since c t e is kind. no_show t.work e kind;
-  settled = λ since c t e is kind. no_settle t.work (subst IsSettle (sym kind) tt);
-  founds = λ lane t v b e f kind. no_show t.work e kind;
-  makes = λ since c t new a is step given settles. no_settle t.work settles;
+  shown = λ since c t e is kind. no_publish t.work e kind;
+  settled = λ since c t e is kind. no_make_durable t.work (subst IsMakeDurable (sym kind) tt);
+  founds = λ lane t v b e f kind. no_publish t.work e kind;
+  makes = λ since c t new a is step given settles. no_make_durable t.work settles;
   makes_not = λ since c t new a is step given settles made. made;
   tells = λ since c t new a e is step given kind. tt;
   kept = λ since opening lane c t new v w b right is f leaves settles. tt;
@@ -72,7 +72,7 @@ answer_laws : AnswerLaws checkout_tasks checkout_means checkout_doing
 answer_laws = record {
   answers = λ since c t new is. has_answer t.work new.work;
   says = λ since p c t new a. ends_say since p c t.work new.work a;
-  shows = λ since lane c t new v w b a is f leaves given sound. ends_show since lane c t.work new.work v w b a is f leaves given sound;
+  shows = λ since lane c t new v w b a is f leaves given sound. ends_publish since lane c t.work new.work v w b a is f leaves given sound;
   knows = λ since p lane c t new v w b a is f leaves given sees. tt;
   lacks_alone = λ since lane c t new v w b a commit is f leaves given lacks sum. checkouts_alone t.work new.work v w a commit leaves given lacks;
   lacks = lacks_none;

@@ -5,7 +5,7 @@ ghost use Rattle.checkout_command.specs.Laws.{checkout_laws};
 use checkout_command::CheckoutCommand;
 use fs_trait::{Fs, FsErr, StepResult};
 use ost_types::{Name, NoMemory};
-use rely_guarantee::{CommandTask, Event, Step};
+use rely_guarantee::{CommandTask, Event, StepKind};
 
 /// The task of a checkout.
 #[derive(Drop)]
@@ -30,7 +30,7 @@ impl CommandTask for CheckoutsTask {
 
     ghost laws = { laws_along (λ t. t.work) checkout_laws };
 
-    fn kind(&self) -> Step {
+    fn kind(&self) -> StepKind {
         self.work.kind()
     }
 

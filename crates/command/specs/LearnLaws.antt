@@ -11,9 +11,9 @@ use Rattle.rely_guarantee.specs.State.{State, after, events_of}
 use Rattle.rely_guarantee.specs.SystemInvariant.{Stands}
 use Rattle.ref_book.specs.declared.book.RefBook.{RefBook}
 use Rattle.ref_book.specs.Tracks.{Tracks}
+use Rattle.durable_store.specs.Free.{ObjectPathsFree}
 use Rattle.command.specs.Doing.{Doing}
 use Rattle.command.specs.Since.{Since}
-use Rattle.command.specs.Staging.{ObjectPathsFree}
 use Rattle.command.specs.Tasks.{TaskSpec}
 
 -- What a lane's task is told is so: these are the refs after all changes that last, and all pins; and nothing is shown where the lane has the
@@ -22,7 +22,7 @@ pub record IsLearnt (start : State) (entries : List Entry) (pending : Option Pen
   pub stands : Stands start entries pending v
   pub tracks : Tracks refs (after (events_of entries) start)
   pub pins_are : pins ≡ b.pins
-  pub free : ObjectPathsFree v
+  pub free : ObjectPathsFree v.now
   pub clear : b.exclusive ≡ Some lane → NotPending lane b → pending ≡ None
 
 pub record LearnLaws {T W A : Type 0} (k : TaskSpec T) (d : Doing T W A) : Type 0 where

@@ -6,7 +6,7 @@ use Rattle.fs_trait.specs.View.{View}
 use Rattle.store_check.specs.Listing.{IsThere}
 use Rattle.rely_guarantee.specs.declared.event.Event.{Event}
 use Rattle.rely_guarantee.specs.Books.{Books}
-use Rattle.rely_guarantee.specs.Laws.{Kind, Remove, Settle}
+use Rattle.rely_guarantee.specs.Laws.{Kind, Remove, MakeDurable}
 use Rattle.rely_guarantee.specs.Removing.{next_of}
 use Rattle.command.specs.Removing.{AreRemoved, IsPrune, IsRemoving, Removes}
 use Rattle.command.specs.Tasks.{TaskSpec}
@@ -17,18 +17,18 @@ pub record RemoveLaws {T : Type 0} (k : TaskSpec T) : Type 0 where
   -- one that takes an object and goes on took it from where it stood
   pub takes : (lane : ℕ) (t new : T) (v w : View) (b : Books) (e : Event) (owed : ℕ) (o : ObjName) → k.facts lane t v b → k.kind t ≡ Remove e owed → k.leaves t turn.More new v w → Contains (next_of b) o → IsThere v.now o
   -- and the last one leaves what was to be removed gone for good
-  pub ends : (lane : ℕ) (t new : T) (v w : View) (b : Books) (e : Event) → k.facts lane t v b → k.kind t ≡ Settle e → IsPrune e → k.leaves t (turn.Done tt) new v w → AreRemoved b v w
+  pub ends : (lane : ℕ) (t new : T) (v w : View) (b : Books) (e : Event) → k.facts lane t v b → k.kind t ≡ MakeDurable e → IsPrune e → k.leaves t (turn.Done tt) new v w → AreRemoved b v w
 
 by_remove : (kind : Kind) (e : Event) (owed : ℕ) → kind ≡ Remove e owed → IsRemoving kind
 by_remove kind e owed is = subst IsRemoving (sym is) tt
 
-by_settle : (kind : Kind) (e : Event) → kind ≡ Settle e → IsPrune e → IsRemoving kind
-by_settle kind e is prune = subst IsRemoving (sym is) prune
+by_make_durable : (kind : Kind) (e : Event) → kind ≡ MakeDurable e → IsPrune e → IsRemoving kind
+by_make_durable kind e is prune = subst IsRemoving (sym is) prune
 
 -- so of tasks that never remove
 pub no_removals : {T : Type 0} (k : TaskSpec T) → ((t : T) → ¬ (IsRemoving (k.kind t))) → RemoveLaws k
 no_removals k never = record {
   removes = λ actor lane t v b facts is. absurd (never t is);
   takes = λ lane t new v w b e owed o facts is leaves has. absurd (never t (by_remove (k.kind t) e owed is));
-  ends = λ lane t new v w b e facts is prune leaves. absurd (never t (by_settle (k.kind t) e is prune));
+  ends = λ lane t new v w b e facts is prune leaves. absurd (never t (by_make_durable (k.kind t) e is prune));
 }

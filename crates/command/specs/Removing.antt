@@ -8,7 +8,7 @@ use Rattle.repo_model.specs.Objects.{path_of}
 use Rattle.rely_guarantee.specs.declared.event.Event.{Event}
 use Rattle.rely_guarantee.specs.declared.event.Event.TheVariants.{SetRef, DropRef, Pruned}
 use Rattle.rely_guarantee.specs.Books.{Books}
-use Rattle.rely_guarantee.specs.Laws.{Kind, Store, Take, Show, Shown, Remove, Settle}
+use Rattle.rely_guarantee.specs.Laws.{Kind, Store, Take, Publish, Published, Remove, MakeDurable}
 use Rattle.durable_store.specs.Removals.{AreDifferent, AreKept, Except, IsRemoval}
 
 -- the change removes objects
@@ -19,16 +19,16 @@ IsPrune (Pruned depth roots held removed) = Unit {0}
 
 -- the step comes behind the one that shows such a change
 abbrev pub IsRemoving : Kind → Type 0
-IsRemoving (Shown e owed) = IsPrune e
+IsRemoving (Published e owed) = IsPrune e
 IsRemoving (Remove e owed) = Unit {0}
-IsRemoving (Settle e) = IsPrune e
+IsRemoving (MakeDurable e) = IsPrune e
 IsRemoving kind = ⊥
 
 -- such a step isn't taken while another lane has the lock of those that remove
 abbrev pub IsAlone : Kind → Type 0
 IsAlone Store = Unit {0}
 IsAlone (Take wants) = (wants.exclusive ≡ true) ⊎ (wants.turn ≡ true) ⊎ (wants.shared ≡ true) ⊎ IsSome wants.pin
-IsAlone (Show e) = Unit {0}
+IsAlone (Publish e) = Unit {0}
 IsAlone kind = ⊥
 
 -- what is written takes an object or a mark that isn't kept, where all that others rely on is; or nothing is written

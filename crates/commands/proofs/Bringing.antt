@@ -8,7 +8,7 @@ use Rattle.rely_guarantee.specs.declared.books.Entry.{Entry}
 use Rattle.rely_guarantee.specs.declared.books.Pending.{Pending}
 use Rattle.rely_guarantee.specs.declared.either.Either.TheVariants.{Left, Right}
 use Rattle.rely_guarantee.specs.State.{State, RefOf}
-use Rattle.durable_store.specs.Brought.{AreAlone}
+use Rattle.durable_store.specs.Brought.{NoHashCollisionOn}
 use Rattle.command.specs.declared.ended.Ended.{Ended}
 use Rattle.command.specs.Since.{begun_in, placed}
 use Rattle.commit_family.specs.declared.words.CommitWords.{CommitWords}
@@ -81,7 +81,7 @@ module _ (told : Type 0) (limits : Limits) (start : State) (history : List Entry
       let parent : s (RefOf c.branch) ≡ begun (RefOf c.branch) = cc in
       ap (λ p. message_of p c) parent
 
-  pub alone_on : (s : State) → commit_changes s c e.event → (d : Disk) → AreAlone (IsBroughtIn means limits start history lanes) d → IsAloneOn d c.tree.items (message_in s c)
+  pub alone_on : (s : State) → commit_changes s c e.event → (d : Disk) → NoHashCollisionOn (IsBroughtIn means limits start history lanes) d → IsAloneOn d c.tree.items (message_in s c)
   alone_on s change d alone o of bytes stored = alone o.name o.bytes bytes (record {
     lane = e.lane;
     number = e.command;

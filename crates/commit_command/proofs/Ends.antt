@@ -14,7 +14,7 @@ use Rattle.ref_store.specs.Steps.{HasValue}
 use Rattle.rely_guarantee.specs.declared.event.Event.{Event}
 use Rattle.rely_guarantee.specs.declared.event.Event.TheVariants.{SetRef}
 use Rattle.rely_guarantee.specs.Books.{Books}
-use Rattle.rely_guarantee.specs.Laws.{Quiet, Take, Show, Settle}
+use Rattle.rely_guarantee.specs.Laws.{Quiet, Take, Publish, MakeDurable}
 use Rattle.commit_build.specs.declared.phase.Phase.{Phase}
 use Rattle.commit_build.specs.declared.phase.Phase.TheVariants as phase
 use Rattle.commit_build.specs.declared.refusal.BuildRefusal.{BuildRefusal}
@@ -26,7 +26,7 @@ use Rattle.commit_build.specs.Whole.{its_commit}
 use Rattle.commit_build.proofs.PutSteps.{kept_as}
 use Rattle.ref_command.specs.declared.work.RefWork.{RefWork}
 use Rattle.ref_command.specs.Kinds.{Answer, event, leaves_in, stepped_in}
-use Rattle.ref_command.proofs.Ends.{settles_in}
+use Rattle.ref_command.proofs.Ends.{makes_durable_in}
 use Rattle.ref_command.proofs.Steps.{kind_shows}
 use Rattle.commit_command.specs.declared.answer.CommitAnswer.{CommitAnswer}
 use Rattle.commit_command.specs.declared.answer.CommitAnswer.TheVariants as answer
@@ -76,8 +76,8 @@ change_says : (r : Answer) (lane : ℕ) (t : CommitCommand) (n : Naming) (next :
 change_says None lane t n next v w b a is f l e = absurd l
 change_says (Some (Ok x)) lane t n next v w b a is f l e =
     let k : answer.Commit n.commit ≡ a = cc in
-    let settles : commit_kind t ≡ Settle (event n.work.task) = ap (λ o. kind_by o t) is ∙ settles_in n.work.task.phase (event n.work.task) l.stepped.1 f.ref.runs in
-    let named : Settle (event n.work.task) ≡ Settle (SetRef t.name t.build.message.parent n.commit) = ap Settle (event_is t n f.of ∙ ap (SetRef t.name t.build.message.parent) (sym f.of.commit)) in
+    let settles : commit_kind t ≡ MakeDurable (event n.work.task) = ap (λ o. kind_by o t) is ∙ makes_durable_in n.work.task.phase (event n.work.task) l.stepped.1 f.ref.runs in
+    let named : MakeDurable (event n.work.task) ≡ MakeDurable (SetRef t.name t.build.message.parent n.commit) = ap MakeDurable (event_is t n f.of ∙ ap (SetRef t.name t.build.message.parent) (sym f.of.commit)) in
     subst (λ y. Says y t v w) k (f.of.commit, f.tree, f.lasts, settles ∙ named)
 change_says (Some (Err (refusal.RefMoved seen now))) lane t n next v w b a is f l e =
     let k : answer.RefMoved seen now ≡ a = cc in
@@ -95,16 +95,16 @@ says_by (Some n) lane t new v w b a is f l e = change_says l.0.answer lane t n l
 pub says_of : (lane : ℕ) (t new : CommitCommand) (v w : View) (b : Books) (a : CommitAnswer) → commit_facts lane t v b → commit_leaves t (turn.Done tt) new v w → answer_of new ≡ Some a → Says a t v w
 says_of lane t new v w b a f l e = says_by t.change lane t new v w b a refl f l e
 
--- the change that is shown
-shown_by : (o : Option Naming) (lane : ℕ) (t : CommitCommand) (v : View) (b : Books) (e : Event) → facts_by o lane t v b → kind_by o t ≡ Show e → ShowsLasting e t v
-shown_by None lane t v b e f is = absurd (no_show t.pinned (storing_in t.build.phase) e is)
+-- the change that is published
+shown_by : (o : Option Naming) (lane : ℕ) (t : CommitCommand) (v : View) (b : Books) (e : Event) → facts_by o lane t v b → kind_by o t ≡ Publish e → ShowsLasting e t v
+shown_by None lane t v b e f is = absurd (no_publish t.pinned (storing_in t.build.phase) e is)
   where
-    no_show : (pinned : _) (o : Option ObjName) (e : Event) → build_kind pinned o ≡ Show e → ⊥
-    no_show pinned None e is = (let n : Quiet ≡ Show e = is in cc)
-    no_show pinned (Some name) e is = (let n : Take (kinds.put_wants pinned name) ≡ Show e = is in cc)
+    no_publish : (pinned : _) (o : Option ObjName) (e : Event) → build_kind pinned o ≡ Publish e → ⊥
+    no_publish pinned None e is = (let n : Quiet ≡ Publish e = is in cc)
+    no_publish pinned (Some name) e is = (let n : Take (kinds.put_wants pinned name) ≡ Publish e = is in cc)
 shown_by (Some n) lane t v b e f is = (sym (kind_shows (store.progress_in n.work.task.phase) (event n.work.task) e is) ∙ event_is t n f.of, f.tree, f.lasts)
 
-pub shown_of : (lane : ℕ) (t : CommitCommand) (v : View) (b : Books) (e : Event) → commit_facts lane t v b → commit_kind t ≡ Show e → ShowsLasting e t v
+pub shown_of : (lane : ℕ) (t : CommitCommand) (v : View) (b : Books) (e : Event) → commit_facts lane t v b → commit_kind t ≡ Publish e → ShowsLasting e t v
 shown_of lane t v b e f is = shown_by t.change lane t v b e f is
 
 -- one that is done has an answer

@@ -10,7 +10,7 @@ use Rattle.rely_guarantee.specs.declared.event.Event.TheVariants.{SetRef}
 use Rattle.rely_guarantee.specs.Books.{Books}
 use Rattle.rely_guarantee.specs.Disks.{IsLeaf}
 use Rattle.rely_guarantee.specs.Lasting.{StaysFinished}
-use Rattle.rely_guarantee.specs.Laws.{Show}
+use Rattle.rely_guarantee.specs.Laws.{Publish}
 use Rattle.commit_command.specs.declared.command.CommitCommand.{CommitCommand}
 use Rattle.commit_command.specs.Kinds.{commit_kind}
 use Rattle.commit_command.specs.Facts.{Lasts, commit_facts}
@@ -29,7 +29,7 @@ lasts_finished t v lasts = record {
   unmarked = record { each = λ s may leaf. no_leaf s (lasts.unmarked.each s may) leaf };
 }
 
-pub commit_founded : (lane : ℕ) (t : CommitCommand) (v : View) (b : Books) (name : List ℕ) (seen : Option (List ℕ)) (commit : List ℕ) → commit_facts lane t v b → commit_kind t ≡ Show (SetRef name seen commit) → StaysFinished v commit
+pub commit_founded : (lane : ℕ) (t : CommitCommand) (v : View) (b : Books) (name : List ℕ) (seen : Option (List ℕ)) (commit : List ℕ) → commit_facts lane t v b → commit_kind t ≡ Publish (SetRef name seen commit) → StaysFinished v commit
 commit_founded lane t v b name seen commit f is =
     let shown = shown_of lane t v b (SetRef name seen commit) f is in
     let event : SetRef name seen commit ≡ SetRef t.name t.build.message.parent (its_commit t.build).name.csum = shown.0 in

@@ -19,7 +19,7 @@ use Rattle.commit_build.specs.Committing.{Committing, IsMade, commit_of}
 use Rattle.commit_build.specs.Whole.{its_commit}
 use Rattle.rely_guarantee.specs.declared.event.Event.{Event}
 use Rattle.rely_guarantee.specs.declared.event.Event.TheVariants.{SetRef}
-use Rattle.rely_guarantee.specs.Laws.{Settle}
+use Rattle.rely_guarantee.specs.Laws.{MakeDurable}
 use Rattle.ref_command.specs.Kinds.{Answer}
 use Rattle.commit_command.specs.declared.answer.CommitAnswer.{CommitAnswer}
 use Rattle.commit_command.specs.declared.answer.CommitAnswer.TheVariants as answer
@@ -76,7 +76,7 @@ IsLacking items message d = (o : Object) × (((n : ℕ) × IsNumber (work items)
 -- the store has as many objects as it may, and one of the commit's isn't there. Nothing is changed by it. Of a refusal of the
 -- change: the ref's value, which isn't the commit's parent; or the least ref that can't stand beside it.
 abbrev pub Says : CommitAnswer → CommitCommand → View → View → Type 0
-Says (answer.Commit commit) t v w = (commit ≡ (its_commit t.build).name.csum) × IsTree t.build.items × Lasts t.build v × (commit_kind t ≡ Settle (SetRef t.name t.build.message.parent commit))
+Says (answer.Commit commit) t v w = (commit ≡ (its_commit t.build).name.csum) × IsTree t.build.items × Lasts t.build v × (commit_kind t ≡ MakeDurable (SetRef t.name t.build.message.parent commit))
 Says (answer.BadTree path) t v w = IsLeastBad t.build.items path × (w ≡ v)
 Says (answer.TooMany number) t v w = (t.build.limits.objects ≤ t.objects) × (number ≡ t.build.limits.objects + 1) × IsLacking t.build.items t.build.message v.now × (w ≡ v)
 Says (answer.RefMoved seen now) t v w = (seen ≡ t.build.message.parent) × HasValue v.now t.name now × (now ≢ seen)

@@ -20,7 +20,7 @@ use Rattle.ref_store.specs.Steps.{HereOfStage}
 use Rattle.layout_rules.proofs.Layouts.{fixed_other}
 use Rattle.rely_guarantee.specs.Books.{Books, Agrees, Granted, Keeps}
 use Rattle.rely_guarantee.specs.Rely.{Interference}
-use Rattle.rely_guarantee.specs.Laws.{Kind, Quiet, Store, Take, Claim, Show, Shown, Remove, Settle, Laws, IsBy, IsBefore, IsClaim, IsLastly, Chain, Owned, Stood, StepObligation}
+use Rattle.rely_guarantee.specs.Laws.{Kind, Quiet, Store, Take, Claim, Publish, Published, Remove, MakeDurable, Laws, IsBy, IsBefore, IsClaim, IsLastly, Chain, Owned, Stood, StepObligation}
 use Rattle.tree_build.specs.Objects as tree
 use Rattle.commit_build.specs.declared.phase.Phase.{Phase}
 use Rattle.commit_build.specs.declared.phase.Phase.TheVariants as phase
@@ -69,10 +69,10 @@ duty_each Quiet actor lane v b W D E work duty some = duty work
 duty_each Store actor lane v b W D E work duty some = duty work
 duty_each (Take wants) actor lane v b W D E work duty some = duty work
 duty_each (Claim name) actor lane v b W D E work duty some = duty work
-duty_each (Show e) actor lane v b W D E work duty some = duty work
-duty_each (Shown e owed) actor lane v b W D E work duty some = duty work
+duty_each (Publish e) actor lane v b W D E work duty some = duty work
+duty_each (Published e owed) actor lane v b W D E work duty some = duty work
 duty_each (Remove e owed) actor lane v b W D E work duty some = duty work
-duty_each (Settle e) actor lane v b W D E work duty some = ((duty work).0, λ w ends. let n = some w ends in (duty n.0).1 w n.1)
+duty_each (MakeDurable e) actor lane v b W D E work duty some = ((duty work).0, λ w ends. let n = some w ends in (duty n.0).1 w n.1)
 
 duty_by : (o : Option Naming) (actor lane : ℕ) (t new : CommitCommand) (v : View) (b : Books) → Agrees b → IsBy (kind_by o t) actor lane → Stood (kind_by o t) actor lane b → facts_by o lane t v b
     → StepObligation (kind_by o t) actor lane v b (writes_by o actor t v) (leaves_by o t (turn.Done tt) new v)

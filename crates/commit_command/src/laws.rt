@@ -14,7 +14,7 @@ ghost use Rattle.rely_guarantee.specs.declared.books.Pending.{Pending};
 ghost use Rattle.rely_guarantee.specs.declared.event.Event.{Event};
 ghost use Rattle.rely_guarantee.specs.State.{State};
 ghost use Rattle.rely_guarantee.specs.Books.{Books};
-ghost use Rattle.rely_guarantee.specs.Laws.{Show};
+ghost use Rattle.rely_guarantee.specs.Laws.{Publish};
 ghost use Rattle.rely_guarantee.specs.SystemInvariant.{Stands};
 ghost use Rattle.ref_command.specs.Facts.{StagingPathFree};
 ghost use Rattle.commit_command.specs.declared.answer.CommitAnswer.{CommitAnswer};
@@ -53,7 +53,7 @@ pub fn objects_that_are_stored()
 
 /// Only a commit that lasts is shown under the ref: no crash leaves it or an object of its tree away, or a mark of it.
 pub fn shown_commits_last()
-    ensures { (lane : ℕ) (t : CommitCommand) (v : View) (b : Books) (e : Event) → commit_facts lane t v b → commit_kind t ≡ Show e → ShowsLasting e t v }
+    ensures { (lane : ℕ) (t : CommitCommand) (v : View) (b : Books) (e : Event) → commit_facts lane t v b → commit_kind t ≡ Publish e → ShowsLasting e t v }
 {}
 
 /// What each answer says of the views before and after the step that gave it; and a commit that is done has one, whether the

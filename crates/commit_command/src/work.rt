@@ -8,7 +8,7 @@ ghost use Rattle.commit_command.specs.Laws.{commit_laws};
 use crate::CommitCommand;
 use fs_trait::{Fs, FsErr, StepResult};
 use ost_types::{Name, NoMemory, ObjName};
-use rely_guarantee::{CommandTask, Event, Step, Wants};
+use rely_guarantee::{CommandTask, Event, StepKind, Wants};
 
 fn put_wants(pinned: bool, name: ObjName) -> Wants
     ensures { result ≡ put_wants pinned name }
@@ -24,12 +24,12 @@ fn put_wants(pinned: bool, name: ObjName) -> Wants
 }
 
 /// A step that puts an object takes the lock of those that store, and the first one of an object pins it.
-fn build_kind(pinned: bool, storing: Option<ObjName>) -> Step
+fn build_kind(pinned: bool, storing: Option<ObjName>) -> StepKind
     ensures { result ≡ step_of (build_kind pinned storing) }
 {
     match storing {
-        None => Step::Quiet,
-        Some(name) => Step::Take(put_wants(pinned, name)),
+        None => StepKind::Quiet,
+        Some(name) => StepKind::Take(put_wants(pinned, name)),
     }
 }
 
@@ -50,7 +50,7 @@ impl CommandTask for CommitCommand {
 
     ghost laws = { commit_laws };
 
-    fn kind(&self) -> Step {
+    fn kind(&self) -> StepKind {
         match &self.change {
             None => build_kind(self.pinned, self.build.storing()),
             Some(naming) => naming.work.kind(),

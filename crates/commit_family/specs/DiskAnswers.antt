@@ -2,7 +2,7 @@
 use Rattle.std.proofs.Common.{◌≡◌, inl, inr, ⊎_elim, sym, ◌∙◌, ap, subst, Option, Some, None}
 use Rattle.fs_trait.specs.View.{View}
 use Rattle.rely_guarantee.specs.declared.event.Event.{Event}
-use Rattle.rely_guarantee.specs.Laws.{IsSettle, Settle}
+use Rattle.rely_guarantee.specs.Laws.{IsMakeDurable, MakeDurable}
 use Rattle.tree_build.specs.Building.{IsNumber}
 use Rattle.tree_build.specs.Items.{AreTyped}
 use Rattle.tree_build.specs.Objects.{work}
@@ -33,11 +33,11 @@ module _ (since : Since) (c : CommitWords) (t : CommitCommand) (is : Commits sin
   )
 
   -- the last step of a commit that was made is that of its change
-  reads_at : (o : Option Naming) (e : Event) → kind_by o t ≡ Settle e → ReadsIn c.tree.items (message_in since.start c) o → ReadsBack c.tree.items (message_in since.start c)
-  reads_at None e kind reads = absurd (build_not t.pinned (storing_in t.build.phase) (subst IsSettle (sym kind) tt))
+  reads_at : (o : Option Naming) (e : Event) → kind_by o t ≡ MakeDurable e → ReadsIn c.tree.items (message_in since.start c) o → ReadsBack c.tree.items (message_in since.start c)
+  reads_at None e kind reads = absurd (build_not t.pinned (storing_in t.build.phase) (subst IsMakeDurable (sym kind) tt))
   reads_at (Some n) e kind reads = reads
 
-  formed : (e : Event) → commit_kind t ≡ Settle e → IsFormed c.tree.items (message_in since.start c)
+  formed : (e : Event) → commit_kind t ≡ MakeDurable e → IsFormed c.tree.items (message_in since.start c)
   formed e kind = record { typed = subst AreTyped is.items is.made.typed; reads = reads_at t.change e kind is.reads }
 
   pub tells : (v w : View) (a : CommitAnswer) → Says a t v w → commit_shows since v a c

@@ -4,10 +4,10 @@ use Rattle.ost_types.specs.declared.limits.Limits.{Limits}
 use Rattle.fs_trait.specs.declared.task.StepResult.TheVariants as turn
 use Rattle.ref_store.specs.declared.refusal.RefRefusal.{RefRefusal}
 use Rattle.ref_store.specs.declared.refusal.RefRefusal.TheVariants as refusal
-use Rattle.rely_guarantee.specs.Laws.{IsSettle, Settle}
+use Rattle.rely_guarantee.specs.Laws.{IsMakeDurable, MakeDurable}
 use Rattle.ref_command.specs.declared.work.RefWork.{RefWork}
 use Rattle.ref_command.specs.Kinds.{Answer as Came, event, stepped_in}
-use Rattle.ref_command.proofs.Ends.{settles_in}
+use Rattle.ref_command.proofs.Ends.{makes_durable_in}
 use Rattle.tree_build.specs.Items.{IsLeastBad, IsTree}
 use Rattle.commit_build.specs.declared.refusal.BuildRefusal.{BuildRefusal}
 use Rattle.commit_build.specs.declared.refusal.BuildRefusal.TheVariants as built
@@ -35,8 +35,8 @@ pub record Ends (since : Since) (c : CommitWords) (t new : CommitCommand) : Type
   pub given : CommitAnswer
   pub answer : answer_of new ≡ Some given
   pub says : commit_says since given c
-  pub makes : IsSettle (commit_kind t) → commit_makes given
-  pub makes_not : (IsSettle (commit_kind t) → ⊥) → commit_makes given → ⊥
+  pub makes : IsMakeDurable (commit_kind t) → commit_makes given
+  pub makes_not : (IsMakeDurable (commit_kind t) → ⊥) → commit_makes given → ⊥
   pub full : commit_full given → since.limits.objects ≤ t.objects
 
 -- an object is put only of a tree that is one
@@ -55,7 +55,7 @@ linked_tree t (phase.Ended sum) links kept = absurd links
 
 module _ (since : Since) (c : CommitWords) (t : CommitCommand) (is : Commits since.limits c.branch c.tree.items (message_in since.start c) t) where
   -- the build was refused
-  built_ends : (r : BuildRefusal) (next : Committing) (new : CommitCommand) → (IsSettle (commit_kind t) → ⊥) → BuildSteps t.objects t.build (Some r) next → answer_of new ≡ built_answer (Some r) → Ends since c t new
+  built_ends : (r : BuildRefusal) (next : Committing) (new : CommitCommand) → (IsMakeDurable (commit_kind t) → ⊥) → BuildSteps t.objects t.build (Some r) next → answer_of new ≡ built_answer (Some r) → Ends since c t new
   built_ends (built.BadTree path) next new still step at = record { given = answer.BadTree path; answer = at; says = subst (λ i. IsLeastBad i path) is.items step.1.1; makes = λ k. absurd (still k); makes_not = λ none m. m; full = λ f. absurd f }
   built_ends (built.TooMany number) next new still step at = record {
     given = answer.TooMany number;
@@ -68,21 +68,21 @@ module _ (since : Since) (c : CommitWords) (t : CommitCommand) (is : Commits sin
 
   ends_at : (o : Option (List ℕ)) (new : CommitCommand) → t.change ≡ None → stepped_at o t (turn.Done tt) new → Ends since c t new
   ends_at None new none step = built_ends step.0 new.build new
-      (λ k. build_not t.pinned (storing_in t.build.phase) (subst (λ o. IsSettle (kind_by o t)) none k))
+      (λ k. build_not t.pinned (storing_in t.build.phase) (subst (λ o. IsMakeDurable (kind_by o t)) none k))
       step.2
       (ap answer_of step.1 ∙ ap (λ o. answer_by o (kinds.built t new.build (Some step.0))) none)
   ends_at (Some commit) new none step = absurd step
 
   -- the ref was changed, or that was refused
   module _ (n : Naming) (at : t.change ≡ Some n) (names : IsNaming c.branch (message_in since.start c).parent c.tree.items (sum_in since.start c) n) where
-    refused_not : (r : RefRefusal) (next : RefWork) → stepped_in (turn.Done tt) (Some (Err r)) n.work.task next.task → IsSettle (commit_kind t) → ⊥
-    refused_not r next step k = refusing n.work.task.phase (event n.work.task) step.1 (subst (λ o. IsSettle (kind_by o t)) at k)
+    refused_not : (r : RefRefusal) (next : RefWork) → stepped_in (turn.Done tt) (Some (Err r)) n.work.task next.task → IsMakeDurable (commit_kind t) → ⊥
+    refused_not r next step k = refusing n.work.task.phase (event n.work.task) step.1 (subst (λ o. IsMakeDurable (kind_by o t)) at k)
 
     naming_ends : (r : Came) (next : RefWork) (new : CommitCommand) → stepped_in (turn.Done tt) r n.work.task next.task → answer_of new ≡ change_answer n.commit r → Ends since c t new
     naming_ends None next new step given = absurd step
     naming_ends (Some (Ok x)) next new step given =
-        let settles : commit_kind t ≡ Settle (event n.work.task) = ap (λ o. kind_by o t) at ∙ settles_in n.work.task.phase (event n.work.task) step.0.1 names.changing.3 in
-        record { given = answer.Commit n.commit; answer = given; says = (names.commit, names.whole); makes = λ k. tt; makes_not = λ none m. none (subst IsSettle (sym settles) tt); full = λ f. absurd f }
+        let settles : commit_kind t ≡ MakeDurable (event n.work.task) = ap (λ o. kind_by o t) at ∙ makes_durable_in n.work.task.phase (event n.work.task) step.0.1 names.changing.3 in
+        record { given = answer.Commit n.commit; answer = given; says = (names.commit, names.whole); makes = λ k. tt; makes_not = λ none m. none (subst IsMakeDurable (sym settles) tt); full = λ f. absurd f }
     naming_ends (Some (Err (refusal.RefMoved seen now))) next new step given = record { given = answer.RefMoved seen now; answer = given; says = names.whole; makes = λ k. absurd (refused_not (refusal.RefMoved seen now) next step k); makes_not = λ none m. m; full = λ f. absurd f }
     naming_ends (Some (Err (refusal.RefClash other))) next new step given = record { given = answer.RefClash other; answer = given; says = names.whole; makes = λ k. absurd (refused_not (refusal.RefClash other) next step k); makes_not = λ none m. m; full = λ f. absurd f }
     naming_ends (Some (Err refusal.NoRef)) next new step given = record { given = answer.NoRef; answer = given; says = tt; makes = λ k. absurd (refused_not refusal.NoRef next step k); makes_not = λ none m. m; full = λ f. absurd f }

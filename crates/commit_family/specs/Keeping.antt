@@ -35,7 +35,7 @@ use Rattle.commit_durability.specs.Lasting.{IsOf}
 use Rattle.rely_guarantee.specs.declared.event.Event.TheVariants.{SetRef}
 use Rattle.rely_guarantee.specs.Books.{Books}
 use Rattle.rely_guarantee.specs.Lasting.{IsSafe, StaysFinished}
-use Rattle.rely_guarantee.specs.Laws.{Show}
+use Rattle.rely_guarantee.specs.Laws.{Publish}
 use Rattle.commit_command.specs.declared.command.CommitCommand.{CommitCommand}
 use Rattle.commit_command.specs.declared.naming.Naming.{Naming}
 use Rattle.commit_command.specs.Facts.{commit_facts, facts_by}
@@ -173,7 +173,7 @@ module _ (limits : Limits) (brings : Store) (t : Committing) (v : View) (needs :
 -- a step of the command: of the build, or of the change of the ref
 module _ (limits : Limits) (brings : Store) (actor lane : ℕ) (t : CommitCommand) (v : View) (b : Books) where
   keeps_by : (o : Option Naming) → facts_by o lane t v b → t.build.limits ≡ limits → ((x : Object) → IsOf t.build.items t.build.message x → brings x.name x.bytes)
-      → ((name : List ℕ) (seen : Option (List ℕ)) (commit : List ℕ) → kind_by o t ≡ Show (SetRef name seen commit) → StaysFinished v commit) → KeepsStore limits brings v (writes_by o actor t v)
+      → ((name : List ℕ) (seen : Option (List ℕ)) (commit : List ℕ) → kind_by o t ≡ Publish (SetRef name seen commit) → StaysFinished v commit) → KeepsStore limits brings v (writes_by o actor t v)
   keeps_by None f same each founded = keeps_within limits brings v (WritesOf t.build v) (writes_by None actor t v) (λ p s wrote. wrote.0) (build_keeps limits brings t.build v f.needs same each)
   keeps_by (Some n) f same each founded = change_keeps limits brings lane n.work.task v b f.ref founded
 

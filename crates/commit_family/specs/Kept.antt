@@ -22,7 +22,7 @@ use Rattle.rely_guarantee.specs.Books.{Books}
 use Rattle.rely_guarantee.specs.Disks.{IsLeaf}
 use Rattle.rely_guarantee.specs.Lasting as rely
 use Rattle.rely_guarantee.specs.Lasting.{IsSafe, Stays, StaysOn}
-use Rattle.rely_guarantee.specs.Laws.{IsSettle}
+use Rattle.rely_guarantee.specs.Laws.{IsMakeDurable}
 use Rattle.ref_command.specs.declared.work.RefWork.{RefWork}
 use Rattle.ref_command.specs.Kinds.{Answer as Came, event, kind_in, leaves_in, put_kind}
 use Rattle.tree_build.specs.Items.{AreItems, AreTyped, IsTree}
@@ -48,8 +48,8 @@ use Rattle.commit_family.specs.Pursues.{Commits, ReadsIn}
 use Rattle.commit_family.specs.Removed.{AreSpared, LastsBut, StandsBut}
 use Rattle.commit_family.specs.Steps.{build_not}
 
--- the step that makes a change last writes nothing,
-put_still : (ph : staged.Phase) (s : staging.Staged) (e : Event) (v : View) (p : Path) (x : Seen) → IsSettle (put_kind ph e) → staged_steps.writes_in ph s v p x → ⊥
+-- the step that makes a change durable writes nothing,
+put_still : (ph : staged.Phase) (s : staging.Staged) (e : Event) (v : View) (p : Path) (x : Seen) → IsMakeDurable (put_kind ph e) → staged_steps.writes_in ph s v p x → ⊥
 put_still file.SyncFolder s e v p x settles wrote = wrote
 put_still file.Clear s e v p x settles wrote = settles
 put_still file.Create s e v p x settles wrote = settles
@@ -59,7 +59,7 @@ put_still file.Look s e v p x settles wrote = settles
 put_still file.Replace s e v p x settles wrote = settles
 put_still file.Ended s e v p x settles wrote = settles
 
-change_still : (ph : Phase) (t : Change) (e : Event) (v : View) (p : Path) (x : Seen) → IsSettle (kind_in ph e) → writes_in ph t v p x → ⊥
+change_still : (ph : Phase) (t : Change) (e : Event) (v : View) (p : Path) (x : Seen) → IsMakeDurable (kind_in ph e) → writes_in ph t v p x → ⊥
 change_still phase.SyncFolder t e v p x settles wrote = wrote
 change_still (phase.Put f) t e v p x settles wrote = put_still f.phase f e v p x settles wrote
 change_still phase.Look t e v p x settles wrote = settles
@@ -77,7 +77,7 @@ still_stays v w was = record {
   unmarked = λ commit still safe none. record { each = λ s may leaf. none.each s (was _ s may) leaf };
 }
 
-leaves_still : (n : Naming) (next : RefWork) (r : Came) (v w : View) → IsSettle (kind_in n.work.task.phase (event n.work.task)) → leaves_in (turn.Done tt) r n.work.task next.task v w → Stays [] v w
+leaves_still : (n : Naming) (next : RefWork) (r : Came) (v w : View) → IsMakeDurable (kind_in n.work.task.phase (event n.work.task)) → leaves_in (turn.Done tt) r n.work.task next.task v w → Stays [] v w
 leaves_still n next None v w settles l = absurd l
 leaves_still n next (Some came) v w settles l = still_stays v w (λ p s may. ⊎_elim (λ was. was) (λ wrote. absurd (change_still n.work.task.phase n.work.task (event n.work.task) v p s settles wrote)) (l.writes.only p s may))
 
@@ -100,11 +100,11 @@ module _ (limits : Limits) (branch : List ℕ) (tree : List TreeItem) (message :
       (subst (λ m. NeverMarked (sum_of tree m) v) is.says (subst (λ i. NeverMarked (sum_of i t.build.message) v) is.items f.lasts.unmarked))
       (λ o of. same o.name (right o of))
 
-  kept_by : (o : Option Naming) (new : CommitCommand) → facts_by o lane t v b → ReadsIn tree message o → leaves_by o t (turn.Done tt) new v w → IsSettle (kind_by o t) → AreRight opening tree message → LastsIn limits tree message w
+  kept_by : (o : Option Naming) (new : CommitCommand) → facts_by o lane t v b → ReadsIn tree message o → leaves_by o t (turn.Done tt) new v w → IsMakeDurable (kind_by o t) → AreRight opening tree message → LastsIn limits tree message w
   kept_by None new f reads l settles right = absurd (build_not t.pinned (storing_in t.build.phase) settles)
   kept_by (Some n) new f reads l settles right = lasts_stays limits tree message v w (leaves_still n l.0 l.0.answer v w settles l.2) (lasting n f reads right)
 
-  pub commits_kept : (new : CommitCommand) → commit_facts lane t v b → commit_leaves t (turn.Done tt) new v w → IsSettle (commit_kind t) → AreRight opening tree message → LastsIn limits tree message w
+  pub commits_kept : (new : CommitCommand) → commit_facts lane t v b → commit_leaves t (turn.Done tt) new v w → IsMakeDurable (commit_kind t) → AreRight opening tree message → LastsIn limits tree message w
   commits_kept new f l settles right = kept_by t.change new f is.reads l settles right
 
 -- behind that step nothing of it has been removed yet

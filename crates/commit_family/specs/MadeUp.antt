@@ -20,7 +20,7 @@ use Rattle.commit_build.specs.declared.message.Message.{Message}
 use Rattle.commit_build.specs.Committing.{commit_of}
 use Rattle.commit_durability.specs.Lasting.{IsAloneOn, IsCommit, IsOf, sum_of}
 use Rattle.commit_durability.proofs.Holding.{its_commit, made_tree}
-use Rattle.durable_store.specs.Brought.{AreAlone, AreBrought, Having, MakeUp}
+use Rattle.durable_store.specs.Brought.{NoHashCollisionOn, AreBrought, Having, MakeUp}
 
 -- those of its tree, and its own
 abbrev pub objects_of : List TreeItem → Message → List Object
@@ -95,11 +95,11 @@ module _ (tree : List TreeItem) (message : Message) where
   brought_by brings each o among = each o (of_objects o among)
 
   -- no other bytes on the disk have a name of its own, where none have one of what is brought
-  pub alone_on : (brings : Store) (d : Disk) → ((o : Object) → IsOf tree message o → brings o.name o.bytes) → AreAlone brings d → IsAloneOn d tree message
+  pub alone_on : (brings : Store) (d : Disk) → ((o : Object) → IsOf tree message o → brings o.name o.bytes) → NoHashCollisionOn brings d → IsAloneOn d tree message
   alone_on brings d each alone o of bytes stored = alone o.name o.bytes bytes (each o of) stored
 
 -- and none have one of what is brought, where that is of commits of which this is so
-pub alone_brought : (brings : Store) (d : Disk) → ((name : ObjName) (bytes : List ℕ) → brings name bytes → (tree : List TreeItem) × (message : Message) × IsAloneOn d tree message × (o : Object) × IsOf tree message o × (o.name ≡ name) × (o.bytes ≡ bytes)) → AreAlone brings d
+pub alone_brought : (brings : Store) (d : Disk) → ((name : ObjName) (bytes : List ℕ) → brings name bytes → (tree : List TreeItem) × (message : Message) × IsAloneOn d tree message × (o : Object) × IsOf tree message o × (o.name ≡ name) × (o.bytes ≡ bytes)) → NoHashCollisionOn brings d
 alone_brought brings d of name bytes other is stored =
     let x = of name bytes is in
     let o : Object = x.3 in

@@ -8,7 +8,7 @@ use Rattle.rely_guarantee.specs.State.{State, RefOf}
 use Rattle.ref_command.specs.declared.work.RefWork.{RefWork}
 use Rattle.ref_command.specs.Facts.{Facts}
 use Rattle.ref_command.specs.Kinds.{Answer as Came, event, leaves_in, ref_kind}
-use Rattle.ref_command.proofs.Ends.{settles_in}
+use Rattle.ref_command.proofs.Ends.{makes_durable_in}
 use Rattle.commit_build.specs.declared.refusal.BuildRefusal.{BuildRefusal}
 use Rattle.commit_build.specs.declared.refusal.BuildRefusal.TheVariants as built
 use Rattle.commit_build.specs.Committing.{commit_in}
@@ -41,7 +41,7 @@ module _ (lane : ℕ) (since : Since) (p : State) (c : CommitWords) (v w : View)
         let k : answer.Commit n.commit ≡ a = cc in
         subst Knows k (set_free lane since.start p c.branch (Some (sum_in since.start c)) n.work next v w b f names.changing sees (sum_in since.start c)
         (event_is c.branch (since.start (RefOf c.branch)) (Some (sum_in since.start c)) n.work.task names.changing)
-        (settles_in n.work.task.phase (event n.work.task) l.stepped.1 f.runs))
+        (makes_durable_in n.work.task.phase (event n.work.task) l.stepped.1 f.runs))
     naming_knows (Some (Err (refusal.RefMoved seen now))) a l e =
         let k : answer.RefMoved seen now ≡ a = cc in
         subst Knows k (moved lane since.start p c.branch (Some (sum_in since.start c)) n.work next v w b f names.changing sees seen now l)

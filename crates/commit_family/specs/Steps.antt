@@ -10,7 +10,7 @@ use Rattle.ref_store.specs.Change.{progress_in}
 use Rattle.rely_guarantee.specs.declared.event.Event.{Event}
 use Rattle.rely_guarantee.specs.declared.event.Event.TheVariants as event
 use Rattle.rely_guarantee.specs.Books.{Books}
-use Rattle.rely_guarantee.specs.Laws.{Show, Settle, Store, IsBy, IsSettle, Holds, NotPending}
+use Rattle.rely_guarantee.specs.Laws.{Publish, MakeDurable, Store, IsBy, IsMakeDurable, Holds, NotPending}
 use Rattle.ref_command.specs.Kinds.{event as event_in}
 use Rattle.ref_command.proofs.Steps.{kind_shows}
 use Rattle.tree_build.specs.Items.{IsTree}
@@ -28,7 +28,7 @@ use Rattle.commit_command.specs.Kinds.{BuildSteps, build_kind, commit_kind, comm
 use Rattle.commit_command.specs.Laws.{commit_phase}
 use Rattle.commit_command.proofs.Founded.{commit_founded}
 use Rattle.command.specs.ChangeLaws.{Founds}
-use Rattle.ref_family.specs.Steps.{change_own, changing_step, event_is, kind_settles}
+use Rattle.ref_family.specs.Steps.{change_own, changing_step, event_is, kind_makes_durable}
 use Rattle.commit_family.specs.Pursues.{Commits, IsNaming, NamesIn, ReadsIn}
 
 -- at the beginning nothing of it is shown
@@ -121,38 +121,38 @@ pub commits_told : (limits : Limits) (branch : List ℕ) (tree : List TreeItem) 
 commits_told limits branch tree message objects t is = record { name = is.name; items = is.items; bounds = is.bounds; says = is.says; made = is.made; names = is.names; reads = is.reads }
 
 -- what it shows and makes last is its change
-build_shows : {P : Type 0} (pinned : Bool) (o : Option ObjName) (e : Event) → build_kind pinned o ≡ Show e → P
+build_shows : {P : Type 0} (pinned : Bool) (o : Option ObjName) (e : Event) → build_kind pinned o ≡ Publish e → P
 build_shows pinned None e is = cc
 build_shows pinned (Some name) e is = cc
 
-build_settles : {P : Type 0} (pinned : Bool) (o : Option ObjName) (e : Event) → build_kind pinned o ≡ Settle e → P
-build_settles pinned None e is = cc
-build_settles pinned (Some name) e is = cc
+build_makes_durable : {P : Type 0} (pinned : Bool) (o : Option ObjName) (e : Event) → build_kind pinned o ≡ MakeDurable e → P
+build_makes_durable pinned None e is = cc
+build_makes_durable pinned (Some name) e is = cc
 
-pub build_not : (pinned : Bool) (o : Option ObjName) → IsSettle (build_kind pinned o) → ⊥
+pub build_not : (pinned : Bool) (o : Option ObjName) → IsMakeDurable (build_kind pinned o) → ⊥
 build_not pinned None k = k
 build_not pinned (Some name) k = k
 
 naming_is : (branch : List ℕ) (seen : Option (List ℕ)) (tree : List TreeItem) (sum : List ℕ) (n : Naming) → IsNaming branch seen tree sum n → event_in n.work.task ≡ event.SetRef branch seen sum
 naming_is branch seen tree sum n is = event_is branch seen (Some sum) n.work.task is.changing
 
-shown_by : (branch : List ℕ) (seen : Option (List ℕ)) (tree : List TreeItem) (sum : List ℕ) (t : CommitCommand) (o : Option Naming) (e : Event) → NamesIn branch seen tree sum o → kind_by o t ≡ Show e → e ≡ event.SetRef branch seen sum
+shown_by : (branch : List ℕ) (seen : Option (List ℕ)) (tree : List TreeItem) (sum : List ℕ) (t : CommitCommand) (o : Option Naming) (e : Event) → NamesIn branch seen tree sum o → kind_by o t ≡ Publish e → e ≡ event.SetRef branch seen sum
 shown_by branch seen tree sum t None e names k = build_shows t.pinned (storing_in t.build.phase) e k
 shown_by branch seen tree sum t (Some n) e names k = sym (kind_shows (progress_in n.work.task.phase) (event_in n.work.task) e k) ∙ naming_is branch seen tree sum n names
 
-settled_by : (branch : List ℕ) (seen : Option (List ℕ)) (tree : List TreeItem) (sum : List ℕ) (t : CommitCommand) (o : Option Naming) (e : Event) → NamesIn branch seen tree sum o → kind_by o t ≡ Settle e → e ≡ event.SetRef branch seen sum
-settled_by branch seen tree sum t None e names k = build_settles t.pinned (storing_in t.build.phase) e k
-settled_by branch seen tree sum t (Some n) e names k = sym (kind_settles (progress_in n.work.task.phase) (event_in n.work.task) e k) ∙ naming_is branch seen tree sum n names
+settled_by : (branch : List ℕ) (seen : Option (List ℕ)) (tree : List TreeItem) (sum : List ℕ) (t : CommitCommand) (o : Option Naming) (e : Event) → NamesIn branch seen tree sum o → kind_by o t ≡ MakeDurable e → e ≡ event.SetRef branch seen sum
+settled_by branch seen tree sum t None e names k = build_makes_durable t.pinned (storing_in t.build.phase) e k
+settled_by branch seen tree sum t (Some n) e names k = sym (kind_makes_durable (progress_in n.work.task.phase) (event_in n.work.task) e k) ∙ naming_is branch seen tree sum n names
 
 module _ (limits : Limits) (branch : List ℕ) (tree : List TreeItem) (message : Message) (t : CommitCommand) (e : Event) (is : Commits limits branch tree message t) where
-  pub commits_shown : commit_kind t ≡ Show e → e ≡ event.SetRef branch message.parent (sum_of tree message)
+  pub commits_shown : commit_kind t ≡ Publish e → e ≡ event.SetRef branch message.parent (sum_of tree message)
   commits_shown k = shown_by branch message.parent tree (sum_of tree message) t t.change e is.names k
 
-  pub commits_settled : commit_kind t ≡ Settle e → e ≡ event.SetRef branch message.parent (sum_of tree message)
+  pub commits_settled : commit_kind t ≡ MakeDurable e → e ≡ event.SetRef branch message.parent (sum_of tree message)
   commits_settled k = settled_by branch message.parent tree (sum_of tree message) t t.change e is.names k
 
 -- the commit lasts then
-pub commits_founds : (lane : ℕ) (t : CommitCommand) (v : View) (b : Books) (e : Event) → commit_facts lane t v b → commit_kind t ≡ Show e → Founds v e
+pub commits_founds : (lane : ℕ) (t : CommitCommand) (v : View) (b : Books) (e : Event) → commit_facts lane t v b → commit_kind t ≡ Publish e → Founds v e
 commits_founds lane t v b (event.SetRef name seen commit) f k = commit_founded lane t v b name seen commit f k
 commits_founds lane t v b (event.DropRef name seen) f k = tt
 commits_founds lane t v b (event.Pruned depth roots held removed) f k = tt

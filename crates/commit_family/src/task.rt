@@ -5,7 +5,7 @@ ghost use Rattle.commit_family.specs.Task.{commits_stepped, commits_laws};
 use commit_command::CommitCommand;
 use fs_trait::{Fs, FsErr, StepResult};
 use ost_types::{Name, NoMemory};
-use rely_guarantee::{CommandTask, Event, Step};
+use rely_guarantee::{CommandTask, Event, StepKind};
 
 /// The task of a commit.
 #[derive(Drop)]
@@ -30,7 +30,7 @@ impl CommandTask for CommitsTask {
 
     ghost laws = { commits_laws };
 
-    fn kind(&self) -> Step {
+    fn kind(&self) -> StepKind {
         self.work.kind()
     }
 

@@ -35,7 +35,7 @@ use Rattle.rely_guarantee.specs.State.{RefOf}
 use Rattle.rely_guarantee.proofs.Lasting.{none_out, stays_image}
 use Rattle.rely_guarantee.proofs.Openings.{leaf_value}
 use Rattle.rely_guarantee.proofs.States.{says_leaf}
-use Rattle.durable_store.specs.Brought.{AreAlone, Having, MayRight}
+use Rattle.durable_store.specs.Brought.{NoHashCollisionOn, Having, MayRight}
 use Rattle.durable_store.specs.Standing.{IsHeld, IsKeptWhole, StoreStands}
 use Rattle.durable_store.proofs.Wholes.{whole_left}
 use Rattle.durable_store.proofs.Names.{kept_ascends, kept_contains, contains_kept, kept_few}
@@ -105,7 +105,7 @@ module _ (limits : Limits) (brings : Store) (config : Seen → Type 0) (names : 
   mark_may leads commit = subst (λ p. MayBe v p (shows d p)) (sym (mark_under commit)) (Image-under v d i (folder_path State) (hex_of commit ++ codes ".commitpartial") (Image-folder v d i (folder_path State) leads))
 
   -- a commit of brought bytes, on a disk where no other bytes have their names
-  module _ (commit : List ℕ) (sum : IsSum commit) (held : IsHeld limits brings v commit) (alone : AreAlone brings d) (finished : IsFinished d commit) where
+  module _ (commit : List ℕ) (sum : IsSum commit) (held : IsHeld limits brings v commit) (alone : NoHashCollisionOn brings d) (finished : IsFinished d commit) where
     abbrev objects : List Object
     objects = held.objects
 
@@ -146,7 +146,7 @@ module _ (limits : Limits) (brings : Store) (config : Seen → Type 0) (names : 
     held_left : Complete (Stores d) limits commit
     held_left = held.is.whole d all_here
 
-  pub whole_image : Leads v (folder_path State) → AreAlone brings d → (commit : List ℕ) → IsWhole d limits commit
+  pub whole_image : Leads v (folder_path State) → NoHashCollisionOn brings d → (commit : List ℕ) → IsWhole d limits commit
   whole_image leads alone commit sum finished = by (stands.commits commit sum)
     where
       by : IsKeptWhole limits brings v commit → Complete (Stores d) limits commit

@@ -14,7 +14,7 @@ use Rattle.repo_model.specs.Objects.{Store}
 use Rattle.rely_guarantee.specs.SystemInvariant.{Leads}
 use Rattle.store_check.specs.Good.{IsGoodStore}
 use Rattle.durable_store.specs.Keeping.{IsGoodDisk, KeepsGood}
-use Rattle.durable_store.specs.Brought.{AreAlone}
+use Rattle.durable_store.specs.Brought.{NoHashCollisionOn}
 use Rattle.durable_store.specs.Standing.{StoreStands}
 use Rattle.durable_store.proofs.Images.{config_image, few_image, founded_image, sound_image, whole_image}
 use Rattle.durable_store.proofs.Steps.{stands_wider}
@@ -30,7 +30,7 @@ disk_good limits brings config names v stands few leads d i = record {
 }
 
 -- so an opening finds nothing wrong with its store
-pub good_store : (limits : Limits) (brings : Store) (config : Seen → Type 0) (d : Disk) → IsGoodDisk limits brings config d → AreAlone brings d → IsGoodStore limits d
+pub good_store : (limits : Limits) (brings : Store) (config : Seen → Type 0) (d : Disk) → IsGoodDisk limits brings config d → NoHashCollisionOn brings d → IsGoodStore limits d
 good_store limits brings config d good alone = record { sound = good.sound; few = good.few; whole = good.whole alone; founded = good.founded }
 
 -- where more is brought

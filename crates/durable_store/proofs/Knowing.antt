@@ -12,7 +12,7 @@ use Rattle.fs_trait.specs.Effect.{Elapses}
 use Rattle.fs_trait.proofs.Claims.{Image-may}
 use Rattle.fs_trait.proofs.Effects.{may_now}
 use Rattle.repo_model.specs.Objects.{Store, object_in, path_of}
-use Rattle.durable_store.specs.Brought.{AreAlone}
+use Rattle.durable_store.specs.Brought.{NoHashCollisionOn}
 use Rattle.durable_store.specs.Known.{HoldsOnly, KeepsKnown, KnownBytes, MayHoldOnly, NoHashCollision}
 
 -- where nothing stands there are no bytes
@@ -71,5 +71,5 @@ module _ {F : Type 0} (view : F → Option View) (clock : F → ℕ) (was : F �
   }
 
 -- where no two known byte strings have one name, no other bytes have that of any which is brought
-pub alone_known : (opening : Disk) (brings : Store) → NoHashCollision opening brings → (d : Disk) → HoldsOnly (KnownBytes opening brings) d → AreAlone brings d
+pub alone_known : (opening : Disk) (brings : Store) → NoHashCollision opening brings → (d : Disk) → HoldsOnly (KnownBytes opening brings) d → NoHashCollisionOn brings d
 alone_known opening brings one d only name bytes other is stored = one.one name other bytes (only name other stored) (inr is)

@@ -28,6 +28,7 @@ use Rattle.fs_trait.specs.Seen.{Seen, Vacant, Directory, Symlink, Leaf, NotDirec
 use Rattle.repo_layout.specs.RefFile.{IsSum}
 use Rattle.repo_model.specs.Objects.{object_in, path_of}
 use Rattle.store_check.specs.Good.{IsGoodStore}
+use Rattle.durable_store.specs.Free.{ObjectPathsFree}
 use Rattle.durable_store.specs.Standing.{IsSoundSeen}
 use Rattle.durable_store.proofs.Files.{members_long, no_bytes}
 
@@ -99,7 +100,7 @@ sound_leaf content name (Symlink m target) is = tt
 sound_leaf content name (Leaf n m bytes) is = tt
 
 -- in a good store no folder stands where an object would
-pub good_free : (limits : Limits) (d : Disk) → IsGoodStore limits d → (o : ObjName) → IsSum o.csum → NotDirectory (shows d (path_of o))
+pub good_free : (limits : Limits) (d : Disk) → IsGoodStore limits d → ObjectPathsFree d
 good_free limits d good o sum = by (d.at (path_of o)) refl
   where
     by : (z : Value) → d.at (path_of o) ≡ z → NotDirectory (seen d z)

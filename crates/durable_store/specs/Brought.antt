@@ -34,5 +34,5 @@ abbrev pub IsHeldUp : View → List Object → List ℕ → Type 0
 IsHeldUp v objects commit = (name : ObjName) → name.kind ≢ Commit → Reach (MayRight v objects) (Is (name_of Commit commit)) name → IsSafe v name
 
 -- No other bytes on the disk have the name of bytes that are brought, which is their SHA-256.
-abbrev pub AreAlone : Store → Disk → Type 0
-AreAlone brings d = (name : ObjName) (bytes other : List ℕ) → brings name bytes → Stores d name other → other ≡ bytes
+abbrev pub NoHashCollisionOn : Store → Disk → Type 0
+NoHashCollisionOn brings d = (name : ObjName) (bytes other : List ℕ) → brings name bytes → Stores d name other → other ≡ bytes

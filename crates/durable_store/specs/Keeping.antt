@@ -11,7 +11,7 @@ use Rattle.repo_model.specs.Objects.{Store}
 use Rattle.store_check.specs.Commits.{IsFinished, IsWhole}
 use Rattle.store_check.specs.Listing.{HasFew}
 use Rattle.store_check.specs.Objects.{IsSound}
-use Rattle.durable_store.specs.Brought.{AreAlone}
+use Rattle.durable_store.specs.Brought.{NoHashCollisionOn}
 use Rattle.durable_store.specs.Standing.{StoreStands}
 
 -- Each object of the disk is what its name says, and there are no more than may be; each ref names a commit that is there and has no mark; of
@@ -21,7 +21,7 @@ pub record IsGoodDisk (limits : Limits) (brings : Store) (config : Seen → Type
   pub few : HasFew d limits.objects
   pub founded : (name commit : List ℕ) → Names d name commit → IsFinished d commit
   pub same : config (shows d config_path)
-  pub whole : AreAlone brings d → (commit : List ℕ) → IsWhole d limits commit
+  pub whole : NoHashCollisionOn brings d → (commit : List ℕ) → IsWhole d limits commit
 
 -- The store stands so in the view now, with no more names than objects may be, and each disk that a crash left at this moment or later is good.
 pub record KeepsGood (was : ℕ → View → Type 0) (limits : Limits) (brings : Store) (config : Seen → Type 0) (names : List ObjName) (moment : ℕ) (v : View) : Type 0 where

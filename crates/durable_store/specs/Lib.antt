@@ -5,3 +5,4 @@ pub mod Keeping
 pub mod Known
 pub mod Full
 pub mod Removals
+pub mod Free

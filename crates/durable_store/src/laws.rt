@@ -28,7 +28,7 @@ ghost use Rattle.rely_guarantee.specs.Rely.{Interference};
 ghost use Rattle.rely_guarantee.specs.Removing.{IsGuarded, IsRoot};
 ghost use Rattle.rely_guarantee.specs.State.{State};
 ghost use Rattle.rely_guarantee.specs.SystemInvariant.{Leads};
-ghost use Rattle.durable_store.specs.Brought.{AreAlone};
+ghost use Rattle.durable_store.specs.Brought.{NoHashCollisionOn};
 ghost use Rattle.durable_store.specs.Keeping.{IsGoodDisk, KeepsGood};
 ghost use Rattle.durable_store.specs.Known.{KeepsKnown, KnownBytes, MayHoldOnly, NoHashCollision};
 ghost use Rattle.durable_store.specs.Removals.{AreDifferent, AreKept, Except, IsRemoval, IsSettled};
@@ -56,7 +56,7 @@ pub fn names_of_stores<S: Writing>()
 pub fn images_of_stores<B: Storing>()
     ensures few { (limits : Limits) (names : List ObjName) (v : View) (d : Disk) (most : ℕ) → StoreStands limits B.brings B.config names v → Image v d → length names ≤ most → HasFew d most }
     ensures good { (limits : Limits) (names : List ObjName) (v : View) (d : Disk) → StoreStands limits B.brings B.config names v → length names ≤ limits.objects → ((f : Folder) → Leads v (folder_path f)) → Image v d → IsGoodDisk limits B.brings B.config d }
-    ensures store { (limits : Limits) (d : Disk) → IsGoodDisk limits B.brings B.config d → AreAlone B.brings d → IsGoodStore limits d }
+    ensures store { (limits : Limits) (d : Disk) → IsGoodDisk limits B.brings B.config d → NoHashCollisionOn B.brings d → IsGoodStore limits d }
 {}
 
 /// Each disk that a crash leaves from a moment on is good: from any that isn't before now, and over each act.
@@ -76,8 +76,8 @@ pub fn more_is_brought<F: Fs, B: Storing, C: Storing, S: Writing>()
 /// premise serves every disk and every view: that no two of these byte strings have one name.
 pub fn bytes_are_known<F: Fs, B: Storing>()
     ensures goes_on { (opening : Disk) (old new : F) (v w : View) (moment : ℕ) → F.view new ≡ Some w → Elapses (F.clock old) (F.clock new) (F.was old) (F.was new) (F.view new) → MayHoldOnly (KnownBytes opening B.brings) w → KeepsKnown (F.was old) (KnownBytes opening B.brings) moment v → KeepsKnown (F.was new) (KnownBytes opening B.brings) moment w }
-    ensures left { (opening : Disk) (fs : F) (v : View) (moment t : ℕ) (d : Disk) → NoHashCollision opening B.brings → KeepsKnown (F.was fs) (KnownBytes opening B.brings) moment v → moment ≤ t → Left (F.was fs) t d → AreAlone B.brings d }
-    ensures seen { (opening : Disk) (fs : F) (v u : View) (moment t : ℕ) → NoHashCollision opening B.brings → KeepsKnown (F.was fs) (KnownBytes opening B.brings) moment v → moment ≤ t → F.was fs t u → AreAlone B.brings u.now }
+    ensures left { (opening : Disk) (fs : F) (v : View) (moment t : ℕ) (d : Disk) → NoHashCollision opening B.brings → KeepsKnown (F.was fs) (KnownBytes opening B.brings) moment v → moment ≤ t → Left (F.was fs) t d → NoHashCollisionOn B.brings d }
+    ensures seen { (opening : Disk) (fs : F) (v u : View) (moment t : ℕ) → NoHashCollision opening B.brings → KeepsKnown (F.was fs) (KnownBytes opening B.brings) moment v → moment ≤ t → F.was fs t u → NoHashCollisionOn B.brings u.now }
 {}
 
 /// While objects are removed the store stands, with the same names. What isn't reachable may be removed; of that a commit goes at any

@@ -14,7 +14,7 @@ use Rattle.ref_book.specs.declared.book.RefBook.{RefBook}
 use Rattle.command.specs.declared.ended.Ended.{Ended}
 use Rattle.command.specs.declared.ended.Ended.TheVariants as ended
 use Rattle.command.specs.ChangeLaws.{IsRightSince}
-use Rattle.durable_store.specs.Brought.{AreAlone}
+use Rattle.durable_store.specs.Brought.{NoHashCollisionOn}
 use Rattle.durable_store.specs.Full.{HasAsMany, IsFull}
 use Rattle.command.specs.CommitFiles.{CommitsAreFiles}
 use Rattle.command.specs.Since.{placed as placed_at}
@@ -29,8 +29,8 @@ use Rattle.lane_system.specs.Causes.{AreCaused}
 use Rattle.lane_system.specs.Counts.{AreCounted}
 use Rattle.lane_system.specs.Family.{Family, FsSpec}
 use Rattle.lane_system.specs.Folders.{AreFolders, IsTaken}
-use Rattle.lane_system.specs.Founded.{AreFounded}
-use Rattle.lane_system.specs.Inside.{AreInside}
+use Rattle.lane_system.specs.Founded.{RefsNameDurableCommits}
+use Rattle.lane_system.specs.Inside.{NoExternalChange}
 use Rattle.lane_system.specs.Kept.{Kept}
 use Rattle.lane_system.specs.Known.{AreKnown}
 use Rattle.lane_system.specs.LaneActs.{LaneActs, task_start}
@@ -38,7 +38,7 @@ use Rattle.lane_system.specs.Lanes.{IsAt, IsCommand, IsTo}
 use Rattle.lane_system.specs.Lasting.{AreKept}
 use Rattle.lane_system.specs.Preserves.{Preserves}
 use Rattle.lane_system.specs.Replies.{IfAnswer, IsOutside, Knows, OfAnswer}
-use Rattle.lane_system.specs.Said.{AreSaid}
+use Rattle.lane_system.specs.Said.{RepliesHeldAtAPoint}
 use Rattle.lane_system.specs.States.{now_of, since_in}
 use Rattle.lane_system.specs.Staying.{AreStaying}
 use Rattle.lane_system.specs.Storing.{AreStored, IsConfigured, WasBrought}
@@ -54,19 +54,19 @@ use Rattle.lane_system.proofs.Giving.{Gives, is_answer}
 use Rattle.lane_system.proofs.Places.{at_split}
 use Rattle.lane_system.proofs.Prefixes.{longer}
 use Rattle.lane_system.proofs.Preserving.{SaysNow, founded_on, inside_on, lasts_on, said_on, staying_on}
-use Rattle.lane_system.proofs.Stored.{alone_given, alone_more, counted_given, counted_more, known_given, known_more, no_outside_given, sound_given, stored_given, stored_more}
+use Rattle.lane_system.proofs.StoreByEnding.{alone_given, alone_more, counted_given, counted_more, known_given, known_more, no_outside_given, sound_given, stored_given, stored_more}
 use Rattle.lane_system.proofs.Taking.{told}
 
 -- What acts keep.
 pub record ActKeeps {F T W A : Type 0} (f : FsSpec F) (c : Family T W A) (old new : System F T W A) (v : View) : Type 0 where
   pub lasts : (opening : View) → AreKept c.means f.was opening old v → Told (f.view new.base.fs) (λ w. AreKept c.means f.was opening new w)
   pub good : AreStored f c.means old v → Told (f.view new.base.fs) (λ w. AreStored f c.means new w)
-  pub inside : AreStored f c.means old v → AreInside f c.means old → AreInside f c.means new
+  pub inside : AreStored f c.means old v → NoExternalChange f c.means old → NoExternalChange f c.means new
   pub folders : (opening : Disk) → AreFolders c.means c.doing opening old v → Told (f.view new.base.fs) (λ w. AreFolders c.means c.doing opening new w)
   pub counted : AreCounted old v → Told (f.view new.base.fs) (λ w. AreCounted new w)
-  pub said : AreStored f c.means old v → AreCounted old v → AreSaid c.means f.was old → AreSaid c.means f.was new
+  pub said : AreStored f c.means old v → AreCounted old v → RepliesHeldAtAPoint c.means f.was old → RepliesHeldAtAPoint c.means f.was new
   pub stays : AreStored f c.means old v → AreStaying c.means old v → Told (f.view new.base.fs) (λ w. AreStaying c.means new w)
-  pub founded : (opening : View) → AreStored f c.means old v → CommitsAreFiles v.now → AreFounded c.means opening old v → Told (f.view new.base.fs) (λ w. AreFounded c.means opening new w)
+  pub founded : (opening : View) → AreStored f c.means old v → CommitsAreFiles v.now → RefsNameDurableCommits c.means opening old v → Told (f.view new.base.fs) (λ w. RefsNameDurableCommits c.means opening new w)
   pub known : (opening : Disk) → AreKnown f c.means opening old v → Told (f.view new.base.fs) (λ w. AreKnown f c.means opening new w)
 
 module _ {F T W A : Type 0} (f : FsSpec F) (c : Family T W A) (fl : FsLaws f) (cl : FamilyLaws c) (limits : Limits) (lane : ℕ) (refs refs' : RefBook) (objects objects' : ℕ) (old new : Base F) (lanes : List (Lane T W A)) (given : ℕ) (l : Lane T W A)
@@ -264,8 +264,8 @@ module _ {F T W A : Type 0} (f : FsSpec F) (c : Family T W A) (fl : FsLaws f) (c
     sound_of stored = sound_given f c fl cl limits lane refs refs' objects objects' old new lanes given l kept at v told_v l' z start x l'' r same grows begun stored
 
     -- where the store is good no answer tells otherwise
-    seen_given : AreStored f c.means (record { base = old; lanes = lanes; limits = limits; objects = objects }) v → AreInside f c.means (record { base = old; lanes = lanes; limits = limits; objects = objects })
-        → ((u : View) → f.was new.fs new.books.opened u → AreAlone (WasBrought c.means (record { base = new; lanes = set lanes lane l''; limits = limits; objects = objects' })) u.now) → (a n : ℕ) (q : Reply A) → IsTo (set lanes lane l'') a n q → ¬ (OfAnswer c.means.outside q.answer)
+    seen_given : AreStored f c.means (record { base = old; lanes = lanes; limits = limits; objects = objects }) v → NoExternalChange f c.means (record { base = old; lanes = lanes; limits = limits; objects = objects })
+        → ((u : View) → f.was new.fs new.books.opened u → NoHashCollisionOn (WasBrought c.means (record { base = new; lanes = set lanes lane l''; limits = limits; objects = objects' })) u.now) → (a n : ℕ) (q : Reply A) → IsTo (set lanes lane l'') a n q → ¬ (OfAnswer c.means.outside q.answer)
     seen_given stored was alone a n q to is = ⊎_elim
         (λ before. was.seen (alone_given f c fl cl limits lane refs refs' objects objects' old new lanes given l kept at v told_v l' z start x l'' r same grows begun alone) a n q before is)
         (λ new_one.

@@ -14,7 +14,7 @@ use Rattle.rely_guarantee.specs.declared.kind.Outcome.{Outcome}
 use Rattle.rely_guarantee.specs.declared.kind.Outcome.TheVariants as came
 use Rattle.rely_guarantee.specs.declared.kind.Wants.{Wants}
 use Rattle.rely_guarantee.specs.Books.{books_of}
-use Rattle.rely_guarantee.specs.Laws.{Kind, Quiet, Store, Take, Claim, Show, Shown, Remove, Settle}
+use Rattle.rely_guarantee.specs.Laws.{Kind, Quiet, Store, Take, Claim, Publish, Published, Remove, MakeDurable}
 use Rattle.rely_guarantee.specs.Pinning.{pin_in}
 use Rattle.rely_guarantee.specs.State.{stored}
 use Rattle.rely_guarantee.specs.SystemInvariant.{SystemInvariant}
@@ -87,10 +87,10 @@ pin_asked (Take wants) name is = (wants, refl, is)
 pin_asked Quiet name is = cc
 pin_asked Store name is = cc
 pin_asked (Claim other) name is = cc
-pin_asked (Show e) name is = cc
-pin_asked (Shown e n) name is = cc
+pin_asked (Publish e) name is = cc
+pin_asked (Published e n) name is = cc
 pin_asked (Remove e n) name is = cc
-pin_asked (Settle e) name is = cc
+pin_asked (MakeDurable e) name is = cc
 
 -- a lane with the same fields
 pub same_lane : {T W A : Type 0} (l l' : Lane T W A) → l'.words ≡ l.words → l'.task ≡ l.task → l'.replies ≡ l.replies → l' ≡ l

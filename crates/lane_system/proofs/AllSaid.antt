@@ -21,13 +21,13 @@ use Rattle.command.specs.ChangeLaws.{Founds}
 use Rattle.command.specs.Meaning.{Meaning}
 use Rattle.command.specs.Since.{begun_in}
 use Rattle.lane_system.specs.declared.lane.Lane.{Lane}
-use Rattle.lane_system.specs.Founded.{AreFoundedIn, ArePresentIn, IsOut, SetsFinished}
+use Rattle.lane_system.specs.Founded.{RefsNameDurableCommitsIn, ArePresentIn, IsOut, SetsFinished}
 use Rattle.lane_system.specs.Lasting.{AreKeptIn}
 use Rattle.lane_system.specs.Removals.{gone_since, removed_by, removed_in}
 use Rattle.lane_system.specs.Replies.{IfAnswer}
 use Rattle.lane_system.specs.States.{state_after}
 use Rattle.lane_system.specs.Staying.{AreStayingIn}
-use Rattle.lane_system.specs.Unremoved.{AllAreFounded, AllAreKept, AllArePresent, AllAreStaying, AreUnpruned}
+use Rattle.lane_system.specs.Unremoved.{AllRefsNameDurableCommits, AllAreKept, AllArePresent, AllAreStaying, AreUnpruned}
 use Rattle.lane_system.proofs.Preserving.{set_lasts}
 
 -- what entries that removed nothing removed
@@ -99,7 +99,7 @@ module _ {T W A : Type 0} (m : Meaning W A) (lanes : List (Lane T W A)) (entries
   not_gone : (k : ℕ) (commit : List ℕ) → ¬ (IsOut (gone_since entries [] k) commit)
   not_gone k commit is = none_out (name_of Commit commit) (subst (λ (out : List ObjName). IsOut out commit) (gone k) is)
 
-  pub all_founded : (opening v : View) (pending : Option Pending) → AreFoundedIn m opening entries [] pending lanes v ↔ AllAreFounded m opening entries pending lanes v
+  pub all_founded : (opening v : View) (pending : Option Pending) → RefsNameDurableCommitsIn m opening entries [] pending lanes v ↔ AllRefsNameDurableCommits m opening entries pending lanes v
   all_founded opening v pending = (
     λ is. record {
       stays = λ commit. is.stays commit (not_gone 0 commit);

@@ -13,7 +13,7 @@ use Rattle.rely_guarantee.specs.declared.kind.Halt.TheVariants as halt
 use Rattle.rely_guarantee.specs.declared.kind.Outcome.{Outcome}
 use Rattle.rely_guarantee.specs.declared.kind.Outcome.TheVariants as came
 use Rattle.rely_guarantee.specs.Exact.{Causes, HasRisen}
-use Rattle.rely_guarantee.specs.Laws.{Ready, Runs, Settle}
+use Rattle.rely_guarantee.specs.Laws.{Ready, Runs, MakeDurable}
 use Rattle.rely_guarantee.specs.SystemInvariant.{SystemInvariant}
 use Rattle.ref_book.specs.declared.book.RefBook.{RefBook}
 use Rattle.ref_book.specs.Tracks.{HasEventRoom, HasRoom}
@@ -136,7 +136,7 @@ module _ {F T W A : Type 0} (f : FsSpec F) (c : Family T W A) (laws : CommandLaw
   pub first_ready : Ready f.view f.clock f.spare f.was (Runs c.tasks.kind c.tasks.facts lane u) old
   first_ready = record { sound = sound; live = live; task = begun_runs f c limits lane laws refs mid old l words k none live home sound u is }
 
-  pub first_room : (e : Event) → c.tasks.kind (told_by c.doing objects u) ≡ Settle e → HasEventRoom mid e
+  pub first_room : (e : Event) → c.tasks.kind (told_by c.doing objects u) ≡ MakeDurable e → HasEventRoom mid e
   first_room = begun_room c laws limits lane (now_of old.books) words mid u is objects
 
   pub first_takes : (refs' : RefBook) (new : Base F) (o : Outcome) (t : T) → Stepped f c.tasks lane lane (length l.replies.items) mid refs' o (told_by c.doing objects u) t old new → Takes f c limits lane lane (length l.replies.items) refs refs' objects old new words l.task o t
@@ -149,7 +149,7 @@ module _ {F T W A : Type 0} (f : FsSpec F) (c : Family T W A) (laws : CommandLaw
   pub next_ready : SystemInvariant f.view f.clock f.spare f.was old → Ready f.view f.clock f.spare f.was (Runs c.tasks.kind c.tasks.facts lane r.work) old
   next_ready sound = record { sound = sound; live = live; task = subst (RunsIn c lane (f.view old.fs) old.books) task (k.runs live) }
 
-  pub next_room : (e : Event) → c.tasks.kind (told_by c.doing objects r.work) ≡ Settle e → HasEventRoom refs e
+  pub next_room : (e : Event) → c.tasks.kind (told_by c.doing objects r.work) ≡ MakeDurable e → HasEventRoom refs e
   next_room = started_room c laws limits refs old.books l r (k.started r task) objects
 
   abbrev pub next_words : W

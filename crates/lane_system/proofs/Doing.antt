@@ -8,7 +8,7 @@ use Rattle.rely_guarantee.specs.declared.event.Event.{Event}
 use Rattle.rely_guarantee.specs.declared.kind.Outcome.{Outcome}
 use Rattle.rely_guarantee.specs.declared.kind.Outcome.TheVariants as came
 use Rattle.rely_guarantee.specs.Books.{books_of}
-use Rattle.rely_guarantee.specs.Laws.{Runs, Settle}
+use Rattle.rely_guarantee.specs.Laws.{Runs, MakeDurable}
 use Rattle.rely_guarantee.specs.State.{State}
 use Rattle.rely_guarantee.specs.SystemInvariant.{SystemInvariant}
 use Rattle.ref_book.specs.declared.book.RefBook.{RefBook}
@@ -104,11 +104,11 @@ module _ {F T W A : Type 0} (f : FsSpec F) (c : Family T W A) (limits : Limits) 
       }
 
 -- there is room for the change that the next step makes last
-pub started_room : {T W A : Type 0} (c : Family T W A) → CommandLaws c.tasks c.means c.doing → (limits : Limits) (refs : RefBook) (b : rust.Books) (l : Lane T W A) (r : Running T) → Started c limits refs b l r → (objects : ℕ) (e : Event) → c.tasks.kind (told_by c.doing objects r.work) ≡ Settle e → HasEventRoom refs e
+pub started_room : {T W A : Type 0} (c : Family T W A) → CommandLaws c.tasks c.means c.doing → (limits : Limits) (refs : RefBook) (b : rust.Books) (l : Lane T W A) (r : Running T) → Started c limits refs b l r → (objects : ℕ) (e : Event) → c.tasks.kind (told_by c.doing objects r.work) ≡ MakeDurable e → HasEventRoom refs e
 started_room c laws limits refs b l r s objects e is =
     s.room e (laws.changes.settled (since_in limits b r.start) s.words (told_by c.doing objects r.work) e (laws.hears.pursues (record { objects = objects }) (since_in limits b r.start) s.words r.work s.after) is)
 
-pub begun_room : {T W A : Type 0} (c : Family T W A) → CommandLaws c.tasks c.means c.doing → (limits : Limits) (lane : ℕ) (s : State) (words : W) (refs : RefBook) (u : T) → IsBegun c.means c.doing limits lane s words refs (begun.Runs u) → (objects : ℕ) (e : Event) → c.tasks.kind (told_by c.doing objects u) ≡ Settle e → HasEventRoom refs e
+pub begun_room : {T W A : Type 0} (c : Family T W A) → CommandLaws c.tasks c.means c.doing → (limits : Limits) (lane : ℕ) (s : State) (words : W) (refs : RefBook) (u : T) → IsBegun c.means c.doing limits lane s words refs (begun.Runs u) → (objects : ℕ) (e : Event) → c.tasks.kind (told_by c.doing objects u) ≡ MakeDurable e → HasEventRoom refs e
 begun_room c laws limits lane s words refs u is objects e kind =
     is.2 e (laws.changes.settled (begun_in limits s) words (told_by c.doing objects u) e (laws.hears.pursues (record { objects = objects }) (begun_in limits s) words u is.1) kind)
 

@@ -13,7 +13,7 @@ use Rattle.rely_guarantee.specs.declared.kind.Outcome.{Outcome}
 use Rattle.rely_guarantee.specs.declared.kind.Outcome.TheVariants as came
 use Rattle.rely_guarantee.specs.Books.{books_of}
 use Rattle.rely_guarantee.specs.Exact.{IsBooked}
-use Rattle.rely_guarantee.specs.Laws.{Kind, Quiet, Store, Take, Claim, Show, Shown, Remove, Settle, IsSettle, Holds}
+use Rattle.rely_guarantee.specs.Laws.{Kind, Quiet, Store, Take, Claim, Publish, Published, Remove, MakeDurable, IsMakeDurable, Holds}
 use Rattle.command.specs.declared.ended.Ended.{Ended}
 use Rattle.command.specs.declared.ended.Ended.TheVariants as ended
 use Rattle.lane_system.specs.Replies.{EndsBy, IsCutOff}
@@ -22,7 +22,7 @@ use Rattle.lane_system.specs.Steps.{HasEnded, IsCutShort, IsEndedAs, IsRefusal, 
 -- The change was made to last: it is the last entry, of this command.
 pub record IsSettled (lane number : ℕ) (k : Kind) (old new : rust.Books) : Type 0 where
   pub entry : Entry
-  pub kind : k ≡ Settle entry.event
+  pub kind : k ≡ MakeDurable entry.event
   pub grows : new.history.items ≡ old.history.items ++ entry ∷ []
   pub owner : entry.lane ≡ lane
   pub command : entry.command ≡ number
@@ -33,30 +33,30 @@ IsMine lane number b = (p : Pending) → b.pending ≡ Some p → p.lane ≡ lan
 
 module _ (lane number moment : ℕ) (old new : rust.Books) where
   abbrev pub Ends : Kind → Outcome → Type 0
-  Ends k outcome = ((outcome ≡ came.Done) × IsSettled lane number k old new) ⊎ ((new.history.items ≡ old.history.items) × (outcome ≡ came.Done → IsSettle k → ⊥))
+  Ends k outcome = ((outcome ≡ came.Done) × IsSettled lane number k old new) ⊎ ((new.history.items ≡ old.history.items) × (outcome ≡ came.Done → IsMakeDurable k → ⊥))
 
-  -- a step that makes a change last adds it to the history, and no other last step changes that
+  -- a step that makes a change durable adds it to the history, and no other last step changes that
   pub ends : IsMine lane number old → (k : Kind) (outcome : Outcome) → HasEnded outcome → Holds k lane (books_of old) → IsBooked k lane number moment outcome old new → Ends k outcome
   ends mine Quiet outcome end h b = inr (b.0, λ is s. s)
   ends mine Store outcome end h b = inr (b.0, λ is s. s)
   ends mine (Take wants) outcome end h b = inr (b.0, λ is s. s)
   ends mine (Claim name) outcome end h b = inr (b.0, λ is s. s)
-  ends mine (Show e) (came.Halted why) end h b = inr (b.0, λ is s. s)
-  ends mine (Show e) (came.Refused f) end h b = inr (b.0, λ is s. s)
-  ends mine (Show e) came.Done end h b = absurd b
-  ends mine (Show e) came.More end h b = absurd end
-  ends mine (Show e) came.Blocked end h b = absurd end
-  ends mine (Shown e n) (came.Halted why) end h b = inr (b.0, λ is s. s)
-  ends mine (Shown e n) (came.Refused f) end h b = absurd b
-  ends mine (Shown e n) came.Done end h b = absurd b
-  ends mine (Shown e n) came.More end h b = absurd end
-  ends mine (Shown e n) came.Blocked end h b = absurd end
+  ends mine (Publish e) (came.Halted why) end h b = inr (b.0, λ is s. s)
+  ends mine (Publish e) (came.Refused f) end h b = inr (b.0, λ is s. s)
+  ends mine (Publish e) came.Done end h b = absurd b
+  ends mine (Publish e) came.More end h b = absurd end
+  ends mine (Publish e) came.Blocked end h b = absurd end
+  ends mine (Published e n) (came.Halted why) end h b = inr (b.0, λ is s. s)
+  ends mine (Published e n) (came.Refused f) end h b = absurd b
+  ends mine (Published e n) came.Done end h b = absurd b
+  ends mine (Published e n) came.More end h b = absurd end
+  ends mine (Published e n) came.Blocked end h b = absurd end
   ends mine (Remove e n) (came.Halted why) end h b = inr (b.0, λ is s. s)
   ends mine (Remove e n) (came.Refused f) end h b = absurd b
   ends mine (Remove e n) came.Done end h b = absurd b
   ends mine (Remove e n) came.More end h b = absurd end
   ends mine (Remove e n) came.Blocked end h b = absurd end
-  ends mine (Settle e) came.Done end h b = inl (
+  ends mine (MakeDurable e) came.Done end h b = inl (
     refl,
     record {
       entry = record { lane = lane; command = h.command; event = e; moment = moment };
@@ -66,49 +66,49 @@ module _ (lane number moment : ℕ) (old new : rust.Books) where
       command = mine _ h.pending refl;
     },
   )
-  ends mine (Settle e) (came.Halted why) end h b = inr (b.0, λ is s. (let z : came.Halted why ≡ came.Done = is in cc))
-  ends mine (Settle e) (came.Refused f) end h b = absurd b
-  ends mine (Settle e) came.More end h b = absurd end
-  ends mine (Settle e) came.Blocked end h b = absurd end
+  ends mine (MakeDurable e) (came.Halted why) end h b = inr (b.0, λ is s. (let z : came.Halted why ≡ came.Done = is in cc))
+  ends mine (MakeDurable e) (came.Refused f) end h b = absurd b
+  ends mine (MakeDurable e) came.More end h b = absurd end
+  ends mine (MakeDurable e) came.Blocked end h b = absurd end
 
-  abbrev pub IsShownNow : Kind → Pending → Type 0
-  IsShownNow k p = (old.pending ≡ Some p) ⊎ ((e : Event) × (k ≡ Show e) × (p ≡ record { lane = lane; command = number; event = e }))
+  abbrev pub IsPublishedNow : Kind → Pending → Type 0
+  IsPublishedNow k p = (old.pending ≡ Some p) ⊎ ((e : Event) × (k ≡ Publish e) × (p ≡ record { lane = lane; command = number; event = e }))
 
-  noted : (e : Event) (p : Pending) → new.pending ≡ Some (record { lane = lane; command = number; event = e }) → new.pending ≡ Some p → IsShownNow (Show e) p
+  noted : (e : Event) (p : Pending) → new.pending ≡ Some (record { lane = lane; command = number; event = e }) → new.pending ≡ Some p → IsPublishedNow (Publish e) p
   noted e p here is =
       let q : Pending = record { lane = lane; command = number; event = e } in
       let same : Some p ≡ Some q = sym is ∙ here in
       inr (e, refl, (let one : p ≡ q = cc in one))
 
-  was : (k : Kind) (p : Pending) → new.pending ≡ old.pending → new.pending ≡ Some p → IsShownNow k p
+  was : (k : Kind) (p : Pending) → new.pending ≡ old.pending → new.pending ≡ Some p → IsPublishedNow k p
   was k p same is = inl (sym same ∙ is)
 
   -- what is pending was so before, or is what the step shows
-  pub pending_by : (k : Kind) (outcome : Outcome) → IsBooked k lane number moment outcome old new → (p : Pending) → new.pending ≡ Some p → IsShownNow k p
+  pub pending_by : (k : Kind) (outcome : Outcome) → IsBooked k lane number moment outcome old new → (p : Pending) → new.pending ≡ Some p → IsPublishedNow k p
   pending_by Quiet outcome b p is = was Quiet p b.1 is
   pending_by Store outcome b p is = was Store p b.1 is
   pending_by (Take wants) outcome b p is = was (Take wants) p b.1 is
   pending_by (Claim name) outcome b p is = was (Claim name) p b.1 is
-  pending_by (Show e) came.More b p is = noted e p b.1 is
-  pending_by (Show e) (came.Halted why) b p is = noted e p b.1 is
-  pending_by (Show e) came.Blocked b p is = was (Show e) p b.1 is
-  pending_by (Show e) (came.Refused f) b p is = was (Show e) p b.1 is
-  pending_by (Show e) came.Done b p is = absurd b
-  pending_by (Shown e n) came.More b p is = was (Shown e n) p b.1 is
-  pending_by (Shown e n) (came.Halted why) b p is = was (Shown e n) p b.1 is
-  pending_by (Shown e n) came.Blocked b p is = absurd b
-  pending_by (Shown e n) (came.Refused f) b p is = absurd b
-  pending_by (Shown e n) came.Done b p is = absurd b
+  pending_by (Publish e) came.More b p is = noted e p b.1 is
+  pending_by (Publish e) (came.Halted why) b p is = noted e p b.1 is
+  pending_by (Publish e) came.Blocked b p is = was (Publish e) p b.1 is
+  pending_by (Publish e) (came.Refused f) b p is = was (Publish e) p b.1 is
+  pending_by (Publish e) came.Done b p is = absurd b
+  pending_by (Published e n) came.More b p is = was (Published e n) p b.1 is
+  pending_by (Published e n) (came.Halted why) b p is = was (Published e n) p b.1 is
+  pending_by (Published e n) came.Blocked b p is = absurd b
+  pending_by (Published e n) (came.Refused f) b p is = absurd b
+  pending_by (Published e n) came.Done b p is = absurd b
   pending_by (Remove e n) came.More b p is = was (Remove e n) p b.1 is
   pending_by (Remove e n) (came.Halted why) b p is = was (Remove e n) p b.1 is
   pending_by (Remove e n) came.Blocked b p is = absurd b
   pending_by (Remove e n) (came.Refused f) b p is = absurd b
   pending_by (Remove e n) came.Done b p is = absurd b
-  pending_by (Settle e) came.Done b p is = absurd (let z : None ≡ Some p = sym b.0 ∙ is in cc)
-  pending_by (Settle e) (came.Halted why) b p is = was (Settle e) p b.1 is
-  pending_by (Settle e) came.More b p is = absurd b
-  pending_by (Settle e) came.Blocked b p is = absurd b
-  pending_by (Settle e) (came.Refused f) b p is = absurd b
+  pending_by (MakeDurable e) came.Done b p is = absurd (let z : None ≡ Some p = sym b.0 ∙ is in cc)
+  pending_by (MakeDurable e) (came.Halted why) b p is = was (MakeDurable e) p b.1 is
+  pending_by (MakeDurable e) came.More b p is = absurd b
+  pending_by (MakeDurable e) came.Blocked b p is = absurd b
+  pending_by (MakeDurable e) (came.Refused f) b p is = absurd b
 
   -- a step that goes on leaves the history as it was
   pub more_history : (k : Kind) → IsBooked k lane number moment came.More old new → new.history.items ≡ old.history.items
@@ -116,10 +116,10 @@ module _ (lane number moment : ℕ) (old new : rust.Books) where
   more_history Store b = b.0
   more_history (Take wants) b = b.0
   more_history (Claim name) b = b.0
-  more_history (Show e) b = b.0
-  more_history (Shown e n) b = b.0
+  more_history (Publish e) b = b.0
+  more_history (Published e n) b = b.0
   more_history (Remove e n) b = b.0
-  more_history (Settle e) b = absurd b
+  more_history (MakeDurable e) b = absurd b
 
 module _ {T A : Type 0} (answer : T → Option A) (refused : Option Path) (t : T) (faults : ℕ) where
   stray_answer : (o : Option Path) (a : A) → IsStray o (ended.Answered a) → ⊥

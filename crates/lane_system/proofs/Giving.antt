@@ -20,7 +20,7 @@ use Rattle.rely_guarantee.specs.declared.kind.Outcome.TheVariants as came
 use Rattle.rely_guarantee.specs.Books.{Books, Free, books_of}
 use Rattle.rely_guarantee.specs.Claiming.{is_other, of_others}
 use Rattle.rely_guarantee.specs.Exact.{Opens}
-use Rattle.rely_guarantee.specs.Laws.{IsSettle, NotPending, Kind, Quiet, Store, Take, Claim as ClaimOf, Show, Shown as ShownStep, Remove, Settle}
+use Rattle.rely_guarantee.specs.Laws.{IsMakeDurable, NotPending, Kind, Quiet, Store, Take, Claim as ClaimOf, Publish, Published as PublishedStep, Remove, MakeDurable}
 use Rattle.rely_guarantee.specs.Rely.{Interference}
 use Rattle.rely_guarantee.specs.SystemInvariant.{SystemInvariant}
 use Rattle.ref_book.specs.declared.book.RefBook.{RefBook}
@@ -40,11 +40,11 @@ use Rattle.lane_system.specs.States.{now_of, since_in}
 use Rattle.lane_system.specs.Steps.{HasEnded, IsEndedAs, Stepped}
 use Rattle.lane_system.proofs.Endings.{IsMine, IsSettled, answer_only, cut_off, ends, ends_by, failed_only, halted_only, outside_only, pending_by}
 use Rattle.lane_system.proofs.Family.{FamilyLaws, FsLaws}
-use Rattle.lane_system.proofs.Histories.{EndsUnshown, over_idle}
+use Rattle.lane_system.proofs.Histories.{EndsUnpublished, over_idle}
 use Rattle.lane_system.proofs.Locking.{exclusive_ended, exclusive_from}
 use Rattle.lane_system.proofs.Places.{at_split}
 use Rattle.lane_system.proofs.Removals.{none_of}
-use Rattle.lane_system.proofs.Seeing.{sees}
+use Rattle.lane_system.proofs.LastSteps.{sees}
 use Rattle.lane_system.proofs.Sweeping.{swept_holder}
 use Rattle.lane_system.proofs.Taking.{told, told_after, told_facts, told_holds}
 
@@ -103,12 +103,12 @@ alone_free (Take wants) lane b (inl asks) opens = (opens.exclusive asks).0
 alone_free (Take wants) lane b (inr (inl asks)) opens = (opens.turn asks).0
 alone_free (Take wants) lane b (inr (inr (inl asks))) opens = opens.shared asks
 alone_free (Take wants) lane b (inr (inr (inr asks))) opens = opens.pin asks
-alone_free (Show e) lane b alone opens = opens.0
+alone_free (Publish e) lane b alone opens = opens.0
 alone_free Quiet lane b alone opens = absurd alone
 alone_free (ClaimOf name) lane b alone opens = absurd alone
-alone_free (ShownStep e n) lane b alone opens = absurd alone
+alone_free (PublishedStep e n) lane b alone opens = absurd alone
 alone_free (Remove e n) lane b alone opens = absurd alone
-alone_free (Settle e) lane b alone opens = absurd alone
+alone_free (MakeDurable e) lane b alone opens = absurd alone
 
 module _ {F T W A : Type 0} (f : FsSpec F) (c : Family T W A) (fl : FsLaws f) (cl : FamilyLaws c) (limits : Limits) (actor lane number : ℕ) (refs refs' : RefBook) (objects : ℕ) (old new : Base F) (words : W) (task : Option (Running T)) (outcome : Outcome) (t' : T)
     (y : Takes f c limits actor lane number refs refs' objects old new words task outcome t') (sound : SystemInvariant f.view f.clock f.spare f.was old) (mine : IsMine lane number old.books)
@@ -128,7 +128,7 @@ module _ {F T W A : Type 0} (f : FsSpec F) (c : Family T W A) (fl : FsLaws f) (c
   facts : (v : View) → f.view old.fs ≡ Some v → c.tasks.facts lane t v (books_of old.books)
   facts = told_facts f c fl cl limits actor lane number refs refs' objects old new words task outcome t' y
 
-  its_end : ((outcome ≡ came.Done) × IsSettled lane number (c.tasks.kind t) old.books new.books) ⊎ ((new.books.history.items ≡ old.books.history.items) × (outcome ≡ came.Done → IsSettle (c.tasks.kind t) → ⊥))
+  its_end : ((outcome ≡ came.Done) × IsSettled lane number (c.tasks.kind t) old.books new.books) ⊎ ((new.books.history.items ≡ old.books.history.items) × (outcome ≡ came.Done → IsMakeDurable (c.tasks.kind t) → ⊥))
   its_end = ends lane number (f.clock new.fs) old.books new.books mine (c.tasks.kind t) outcome end (told_holds f c fl cl limits actor lane number refs refs' objects old new words task outcome t' y) y.step.booked
 
   -- an answer of the family
@@ -208,8 +208,8 @@ module _ {F T W A : Type 0} (f : FsSpec F) (c : Family T W A) (fl : FsLaws f) (c
 
   -- nothing of it is pending, or all was ended
   ended_or : (o : Outcome) → o ≡ outcome → HasEnded o → NotPending lane (books_of new.books) ⊎ ((why : Halt) × (outcome ≡ came.Halted why))
-  ended_or came.Done is e = inl (over_idle lane number (f.clock new.fs) old.books new.books (c.tasks.kind t) outcome (subst EndsUnshown is tt) (told_holds f c fl cl limits actor lane number refs refs' objects old new words task outcome t' y) y.step.booked)
-  ended_or (came.Refused r) is e = inl (over_idle lane number (f.clock new.fs) old.books new.books (c.tasks.kind t) outcome (subst EndsUnshown is tt) (told_holds f c fl cl limits actor lane number refs refs' objects old new words task outcome t' y) y.step.booked)
+  ended_or came.Done is e = inl (over_idle lane number (f.clock new.fs) old.books new.books (c.tasks.kind t) outcome (subst EndsUnpublished is tt) (told_holds f c fl cl limits actor lane number refs refs' objects old new words task outcome t' y) y.step.booked)
+  ended_or (came.Refused r) is e = inl (over_idle lane number (f.clock new.fs) old.books new.books (c.tasks.kind t) outcome (subst EndsUnpublished is tt) (told_holds f c fl cl limits actor lane number refs refs' objects old new words task outcome t' y) y.step.booked)
   ended_or (came.Halted why) is e = inr (why, sym is)
   ended_or came.Blocked is e = absurd e
   ended_or came.More is e = absurd e
@@ -242,11 +242,11 @@ module _ {F T W A : Type 0} (f : FsSpec F) (c : Family T W A) (fl : FsLaws f) (c
       (λ n. inl (n.0, λ makes. (let a = is_answer (λ a. c.means.makes a words) x makes in cl.commands.changes.makes_not since words t t' a.0 after (done a.0 a.1).steps (only a.0 a.1).1 (n.1 (only a.0 a.1).0) a.2)))
       its_end
     where
-      made : outcome ≡ came.Done → (e : Event) → c.tasks.kind t ≡ Settle e → OfAnswer (λ a. c.means.makes a words) x
+      made : outcome ≡ came.Done → (e : Event) → c.tasks.kind t ≡ MakeDurable e → OfAnswer (λ a. c.means.makes a words) x
       made is e kind = made_by x refl (subst (λ (o : Outcome). IsEndedAs c.doing.answer (f.refused new.fs) o t' (f.faults new.fs) x) is by)
         where
           made_by : (z : Ended A) → x ≡ z → IsEndedAs c.doing.answer (f.refused new.fs) came.Done t' (f.faults new.fs) x → OfAnswer (λ a. c.means.makes a words) z
-          made_by (ended.Answered a) q so = cl.commands.changes.makes since words t t' a after (done a q).steps (only a q).1 (subst IsSettle (sym kind) tt)
+          made_by (ended.Answered a) q so = cl.commands.changes.makes since words t t' a after (done a q).steps (only a q).1 (subst IsMakeDurable (sym kind) tt)
           made_by ended.NoMemory q so = absurd (subst (OfAnswer _) q so)
           made_by ended.DiskFault q so = absurd (subst (OfAnswer _) q so)
           made_by (ended.Outside path) q so = absurd (subst (OfAnswer _) q so)
@@ -262,7 +262,7 @@ module _ {F T W A : Type 0} (f : FsSpec F) (c : Family T W A) (fl : FsLaws f) (c
       let one : Some l.0 ≡ Some w = sym l.1 ∙ is_w in
       let q : l.0 ≡ w = cc in (
         subst (c.means.changes since words) (sym event) (cl.commands.changes.settled since words t s.1.entry.event after s.1.kind),
-        cl.commands.changes.kept since opening lane words t t' v w (books_of old.books) right after (facts v is_v) (subst (c.tasks.leaves t (turn.Done tt) t' v) q l.2) (subst IsSettle (sym s.1.kind) tt),
+        cl.commands.changes.kept since opening lane words t t' v w (books_of old.books) right after (facts v is_v) (subst (c.tasks.leaves t (turn.Done tt) t' v) q l.2) (subst IsMakeDurable (sym s.1.kind) tt),
       )))
       (at_split old.books.history.items s.1.entry e k (subst (λ (h : List Entry). IsAt h k e) s.1.grows at)))
       (λ n. (let was = subst (λ (h : List Entry). IsAt h k e) n.0 at in absurd (omega (arith, was.0, late))))

@@ -8,7 +8,7 @@ use Rattle.rely_guarantee.specs.declared.kind.Outcome.{Outcome}
 use Rattle.rely_guarantee.specs.declared.kind.Outcome.TheVariants as came
 use Rattle.rely_guarantee.specs.Books.{Spared, books_of}
 use Rattle.rely_guarantee.specs.Exact.{IsBooked, IsEntered, IsNoted, IsUnbooked}
-use Rattle.rely_guarantee.specs.Laws.{Kind, Quiet, Store, Take, Claim, Show, Shown, Remove, Settle, Holds, NotPending}
+use Rattle.rely_guarantee.specs.Laws.{Kind, Quiet, Store, Take, Claim, Publish, Published, Remove, MakeDurable, Holds, NotPending}
 use Rattle.rely_guarantee.specs.State.{events_of, stored}
 use Rattle.rely_guarantee.proofs.States.{events_push}
 
@@ -48,33 +48,33 @@ module _ (actor lane command moment : ℕ) (old new : rust.Books) (spared : Spar
         ∙ sym (append-nil (stored old.history.items old.pending)),
   )
 
-  show_grows : (e : Event) (outcome : Outcome) → NotPending lane (books_of old) → IsBooked (Show e) lane command moment outcome old new → Grown
-  show_grows e came.More idle b = noted e idle b
-  show_grows e (came.Halted why) idle b = noted e idle b
-  show_grows e came.Blocked idle b = same b
-  show_grows e (came.Refused f) idle b = same b
-  show_grows e came.Done idle b = absurd b
+  publish_grows : (e : Event) (outcome : Outcome) → NotPending lane (books_of old) → IsBooked (Publish e) lane command moment outcome old new → Grown
+  publish_grows e came.More idle b = noted e idle b
+  publish_grows e (came.Halted why) idle b = noted e idle b
+  publish_grows e came.Blocked idle b = same b
+  publish_grows e (came.Refused f) idle b = same b
+  publish_grows e came.Done idle b = absurd b
 
-  shown_grows : (e : Event) (n : ℕ) (outcome : Outcome) → IsBooked (Shown e n) lane command moment outcome old new → Grown
-  shown_grows e n came.More b = same b
-  shown_grows e n (came.Halted why) b = same b
-  shown_grows e n came.Blocked b = absurd b
-  shown_grows e n (came.Refused f) b = absurd b
-  shown_grows e n came.Done b = absurd b
+  published_grows : (e : Event) (n : ℕ) (outcome : Outcome) → IsBooked (Published e n) lane command moment outcome old new → Grown
+  published_grows e n came.More b = same b
+  published_grows e n (came.Halted why) b = same b
+  published_grows e n came.Blocked b = absurd b
+  published_grows e n (came.Refused f) b = absurd b
+  published_grows e n came.Done b = absurd b
 
-  settle_grows : (e : Event) (outcome : Outcome) → Holds (Settle e) lane (books_of old) → IsBooked (Settle e) lane command moment outcome old new → Grown
-  settle_grows e came.Done h b = entered (record { lane = lane; command = h.command; event = e }) h.pending b
-  settle_grows e (came.Halted why) h b = same b
-  settle_grows e came.More h b = absurd b
-  settle_grows e came.Blocked h b = absurd b
-  settle_grows e (came.Refused f) h b = absurd b
+  make_durable_grows : (e : Event) (outcome : Outcome) → Holds (MakeDurable e) lane (books_of old) → IsBooked (MakeDurable e) lane command moment outcome old new → Grown
+  make_durable_grows e came.Done h b = entered (record { lane = lane; command = h.command; event = e }) h.pending b
+  make_durable_grows e (came.Halted why) h b = same b
+  make_durable_grows e came.More h b = absurd b
+  make_durable_grows e came.Blocked h b = absurd b
+  make_durable_grows e (came.Refused f) h b = absurd b
 
   pub stored_grows : (k : Kind) (outcome : Outcome) → Holds k lane (books_of old) → IsBooked k lane command moment outcome old new → Grown
   stored_grows Quiet outcome h b = same b
   stored_grows Store outcome h b = same b
   stored_grows (Take wants) outcome h b = same b
   stored_grows (Claim name) outcome h b = same b
-  stored_grows (Show e) outcome h b = show_grows e outcome h b
-  stored_grows (Shown e n) outcome h b = shown_grows e n outcome b
-  stored_grows (Remove e n) outcome h b = shown_grows e n outcome b
-  stored_grows (Settle e) outcome h b = settle_grows e outcome h b
+  stored_grows (Publish e) outcome h b = publish_grows e outcome h b
+  stored_grows (Published e n) outcome h b = published_grows e n outcome b
+  stored_grows (Remove e n) outcome h b = published_grows e n outcome b
+  stored_grows (MakeDurable e) outcome h b = make_durable_grows e outcome h b

@@ -10,7 +10,7 @@ use Rattle.rely_guarantee.specs.declared.kind.Outcome.TheVariants as came
 use Rattle.rely_guarantee.specs.declared.kind.Wants.{Wants}
 use Rattle.rely_guarantee.specs.Books.{Books, Free, books_of}
 use Rattle.rely_guarantee.specs.Exact.{Opens}
-use Rattle.rely_guarantee.specs.Laws.{Kind, Quiet, Store, Take, Claim, Show, Shown, Remove, Settle}
+use Rattle.rely_guarantee.specs.Laws.{Kind, Quiet, Store, Take, Claim, Publish, Published, Remove, MakeDurable}
 use Rattle.ref_book.specs.declared.book.RefBook.{RefBook}
 use Rattle.command.specs.declared.ended.Ended.{Ended}
 use Rattle.command.specs.declared.ended.Ended.TheVariants as ended
@@ -60,10 +60,10 @@ module _ (b : rust.Books) (lane : ℕ) (order : AreInOrder b) (free : Free b.tur
     hold = λ is. free;
   })
   opens_by (Claim name) asks = tt
-  opens_by (Show e) asks = (alone_free, free)
-  opens_by (Shown e n) asks = tt
+  opens_by (Publish e) asks = (alone_free, free)
+  opens_by (Published e n) asks = tt
   opens_by (Remove e n) asks = tt
-  opens_by (Settle e) asks = tt
+  opens_by (MakeDurable e) asks = tt
 
 -- a lock is free for the lane, or another has it
 free_or : (lock : Option ℕ) (lane : ℕ) → Free lock lane ⊎ ((other : ℕ) × (other ≢ lane) × (lock ≡ Some other))
@@ -74,13 +74,13 @@ free_or (Some a) lane = here_or_apart a lane
 
 asks_free : (k : Kind) (lane : ℕ) (b : Books) → AsksRefLock k → Opens k lane b → Free b.turn lane
 asks_free (Take wants) lane b asks opens = (opens.turn asks).1
-asks_free (Show e) lane b asks opens = opens.1
+asks_free (Publish e) lane b asks opens = opens.1
 asks_free Quiet lane b asks opens = absurd asks
 asks_free Store lane b asks opens = absurd asks
 asks_free (Claim name) lane b asks opens = absurd asks
-asks_free (Shown e n) lane b asks opens = absurd asks
+asks_free (Published e n) lane b asks opens = absurd asks
 asks_free (Remove e n) lane b asks opens = absurd asks
-asks_free (Settle e) lane b asks opens = absurd asks
+asks_free (MakeDurable e) lane b asks opens = absurd asks
 
 module _ {F T W A : Type 0} (f : FsSpec F) (c : Family T W A) (fl : FsLaws f) (cl : FamilyLaws c) (limits : Limits) (lane : ℕ) (refs refs' : RefBook) (objects objects' : ℕ) (old new : Base F) (lanes : List (Lane T W A)) (given : ℕ) (l l' : Lane T W A)
     (kept : Kept f c limits old refs lanes given) (at : IsAt lanes lane l) where

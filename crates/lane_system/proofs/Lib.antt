@@ -1,7 +1,7 @@
 pub mod Places
 pub mod Histories
 pub mod Setting
-pub mod Seeing
+pub mod LastSteps
 pub mod Learning
 pub mod Family
 pub mod Prefixes
@@ -20,7 +20,7 @@ mod Changing
 pub mod Accounting
 pub mod Locking
 pub mod Acting
-pub mod Saying
+pub mod RefsSeen
 pub mod Preserving
 pub mod AllSaid
 pub mod Folding
@@ -35,9 +35,9 @@ pub mod Doing
 pub mod Coming
 pub mod Clauses
 pub mod Counting
-pub mod Storing
-pub mod Stored
-pub mod StoredFirst
+pub mod StoreOverAct
+pub mod StoreByEnding
+pub mod StoreAtStart
 pub mod Acted
 pub mod Holding
 pub mod Asking

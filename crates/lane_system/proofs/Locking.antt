@@ -10,7 +10,7 @@ use Rattle.rely_guarantee.specs.declared.kind.Outcome.TheVariants as came
 use Rattle.rely_guarantee.specs.declared.kind.Wants.{Wants}
 use Rattle.rely_guarantee.specs.Books.{Spared, books_of}
 use Rattle.rely_guarantee.specs.Exact.{IsGivenUp, Locks, exclusive_in, lock_taken, turn_in}
-use Rattle.rely_guarantee.specs.Laws.{Kind, Quiet, Store, Take, Claim, Show, Shown, Remove, Settle}
+use Rattle.rely_guarantee.specs.Laws.{Kind, Quiet, Store, Take, Claim, Publish, Published, Remove, MakeDurable}
 use Rattle.rely_guarantee.specs.Pinning.{ArePinned, with_pin, without}
 use Rattle.rely_guarantee.proofs.Pinning.{with_cases, without_cases}
 use Rattle.command.specs.Meaning.{Meaning}
@@ -34,23 +34,23 @@ taken_by false lane a lock is = inr is
 -- who has the ref lock in a step is the lane, or had it before
 turn_from : (k : Kind) (lane a : ℕ) (lock : Option ℕ) → turn_in k lane lock ≡ Some a → (a ≡ lane) ⊎ (lock ≡ Some a)
 turn_from (Take wants) lane a lock is = taken_by wants.turn lane a lock is
-turn_from (Show e) lane a lock is = inl (let z : Some lane ≡ Some a = is in cc)
+turn_from (Publish e) lane a lock is = inl (let z : Some lane ≡ Some a = is in cc)
 turn_from Quiet lane a lock is = inr is
 turn_from Store lane a lock is = inr is
 turn_from (Claim name) lane a lock is = inr is
-turn_from (Shown e n) lane a lock is = inr is
+turn_from (Published e n) lane a lock is = inr is
 turn_from (Remove e n) lane a lock is = inr is
-turn_from (Settle e) lane a lock is = inr is
+turn_from (MakeDurable e) lane a lock is = inr is
 
 exclusive_in_from : (k : Kind) (lane a : ℕ) (lock : Option ℕ) → exclusive_in k lane lock ≡ Some a → (a ≡ lane) ⊎ (lock ≡ Some a)
 exclusive_in_from (Take wants) lane a lock is = taken_by wants.exclusive lane a lock is
-exclusive_in_from (Show e) lane a lock is = inr is
+exclusive_in_from (Publish e) lane a lock is = inr is
 exclusive_in_from Quiet lane a lock is = inr is
 exclusive_in_from Store lane a lock is = inr is
 exclusive_in_from (Claim name) lane a lock is = inr is
-exclusive_in_from (Shown e n) lane a lock is = inr is
+exclusive_in_from (Published e n) lane a lock is = inr is
 exclusive_in_from (Remove e n) lane a lock is = inr is
-exclusive_in_from (Settle e) lane a lock is = inr is
+exclusive_in_from (MakeDurable e) lane a lock is = inr is
 
 -- who has the lock of those that remove behind a step is the lane, or had it before
 pub exclusive_from : (k : Kind) (lane a : ℕ) (o : Outcome) (old new : rust.Books) → (o ≡ came.Blocked → ⊥) → Locks k lane o old new → new.exclusive ≡ Some a → (a ≡ lane) ⊎ (old.exclusive ≡ Some a)
@@ -72,13 +72,13 @@ asked_both false false lane lock other both is was = was is
 -- the lane that has it has the ref lock in the same step
 both_in : (k : Kind) (lane : ℕ) (old : rust.Books) → ((wants : Wants) → k ≡ Take wants → wants.exclusive ≡ true → wants.turn ≡ true) → (old.exclusive ≡ Some lane → old.turn ≡ Some lane) → exclusive_in k lane old.exclusive ≡ Some lane → turn_in k lane old.turn ≡ Some lane
 both_in (Take wants) lane old asks was is = asked_both wants.exclusive wants.turn lane old.exclusive old.turn (asks wants refl) is was
-both_in (Show e) lane old asks was is = refl
+both_in (Publish e) lane old asks was is = refl
 both_in Quiet lane old asks was is = was is
 both_in Store lane old asks was is = was is
 both_in (Claim name) lane old asks was is = was is
-both_in (Shown e n) lane old asks was is = was is
+both_in (Published e n) lane old asks was is = was is
 both_in (Remove e n) lane old asks was is = was is
-both_in (Settle e) lane old asks was is = was is
+both_in (MakeDurable e) lane old asks was is = was is
 
 -- whose the one lock is, its the other one is, behind a step too
 module _ (k : Kind) (actor lane : ℕ) (old new : rust.Books) (asks : (wants : Wants) → k ≡ Take wants → wants.exclusive ≡ true → wants.turn ≡ true) (spared : Spared actor lane (books_of old) (books_of new)) (was : AreInOrder old) where

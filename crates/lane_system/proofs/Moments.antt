@@ -9,7 +9,7 @@ use Rattle.rely_guarantee.specs.declared.kind.Outcome.{Outcome}
 use Rattle.rely_guarantee.specs.declared.kind.Outcome.TheVariants as came
 use Rattle.rely_guarantee.specs.Books.{books_of}
 use Rattle.rely_guarantee.specs.Exact.{Causes, IsBooked, IsLive}
-use Rattle.rely_guarantee.specs.Laws.{Kind, Quiet, Store, Take, Claim, Show, Shown, Remove, Settle, Holds}
+use Rattle.rely_guarantee.specs.Laws.{Kind, Quiet, Store, Take, Claim, Publish, Published, Remove, MakeDurable, Holds}
 use Rattle.rely_guarantee.specs.State.{Ascends}
 use Rattle.lane_system.specs.Acts.{Fails}
 use Rattle.lane_system.specs.Lanes.{IsAt}
@@ -21,10 +21,10 @@ abbrev pub IsLater : ℕ → List Entry → List Entry → Type 0
 IsLater moment old new = (new ≡ old) ⊎ ((e : Entry) × (e.moment ≡ moment) × (new ≡ old ++ e ∷ []))
 
 module _ (lane command moment : ℕ) (old new : rust.Books) where
-  unsettled : (k : Kind) (outcome : Outcome) → ((e : Event) → k ≡ Settle e → ⊥) → Holds k lane (books_of old) → IsBooked k lane command moment outcome old new → IsLater moment old.history.items new.history.items
+  unsettled : (k : Kind) (outcome : Outcome) → ((e : Event) → k ≡ MakeDurable e → ⊥) → Holds k lane (books_of old) → IsBooked k lane command moment outcome old new → IsLater moment old.history.items new.history.items
   unsettled k outcome never h b = ⊎_elim (λ same. inl same) (λ longer. absurd (never longer.entry.event longer.kind)) (grown lane command moment old new k outcome h b)
 
-  settled : (e : Event) (outcome : Outcome) → Holds (Settle e) lane (books_of old) → IsBooked (Settle e) lane command moment outcome old new → IsLater moment old.history.items new.history.items
+  settled : (e : Event) (outcome : Outcome) → Holds (MakeDurable e) lane (books_of old) → IsBooked (MakeDurable e) lane command moment outcome old new → IsLater moment old.history.items new.history.items
   settled e came.Done h b = inr (record { lane = lane; command = h.command; event = e; moment = moment }, refl, b.1 _ h.pending)
   settled e (came.Halted why) h b = inl b.0
   settled e came.More h b = absurd b
@@ -36,10 +36,10 @@ module _ (lane command moment : ℕ) (old new : rust.Books) where
   moment_is Store outcome h b = unsettled Store outcome (λ e is. cc) h b
   moment_is (Take wants) outcome h b = unsettled (Take wants) outcome (λ e is. cc) h b
   moment_is (Claim name) outcome h b = unsettled (Claim name) outcome (λ e is. cc) h b
-  moment_is (Show d) outcome h b = unsettled (Show d) outcome (λ e is. cc) h b
-  moment_is (Shown d n) outcome h b = unsettled (Shown d n) outcome (λ e is. cc) h b
+  moment_is (Publish d) outcome h b = unsettled (Publish d) outcome (λ e is. cc) h b
+  moment_is (Published d n) outcome h b = unsettled (Published d n) outcome (λ e is. cc) h b
   moment_is (Remove d n) outcome h b = unsettled (Remove d n) outcome (λ e is. cc) h b
-  moment_is (Settle d) outcome h b = settled d outcome h b
+  moment_is (MakeDurable d) outcome h b = settled d outcome h b
 
 pub later_at : (moment : ℕ) (old new : List Entry) → IsLater moment old new → (k : ℕ) (e : Entry) → IsAt new k e → IsAt old k e ⊎ ((length old ≤ k) × (e.moment ≡ moment))
 later_at moment old new (inl same) k e at = inl (subst (λ (l : List Entry). IsAt l k e) same at)

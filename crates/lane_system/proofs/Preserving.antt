@@ -32,13 +32,13 @@ use Rattle.lane_system.specs.declared.lane.Lane.{Lane}
 use Rattle.lane_system.specs.declared.lane.Reply.{Reply}
 use Rattle.lane_system.specs.Acts.{Acts, ComesFrom}
 use Rattle.lane_system.specs.Family.{Family, FsSpec}
-use Rattle.lane_system.specs.Founded.{AreFounded, IsOut, Sets}
+use Rattle.lane_system.specs.Founded.{RefsNameDurableCommits, IsOut, Sets}
 use Rattle.lane_system.specs.Inside.{AreUnrefused}
 use Rattle.lane_system.specs.Lanes.{IsAt, IsCommand, IsTo}
 use Rattle.lane_system.specs.Lasting.{AreKept, IsChangeKept}
 use Rattle.lane_system.specs.Removals.{gone_since, removed_in, swept_in}
 use Rattle.lane_system.specs.Replies.{IfAnswer, IsOutside, OfAnswer}
-use Rattle.lane_system.specs.Said.{AreSaid, WasSeen}
+use Rattle.lane_system.specs.Said.{RepliesHeldAtAPoint, WasSeen}
 use Rattle.lane_system.specs.States.{since_in, state_in}
 use Rattle.lane_system.specs.Staying.{AreStaying}
 use Rattle.lane_system.specs.System.{System}
@@ -47,7 +47,7 @@ use Rattle.lane_system.proofs.Giving.{if_answer, is_answer}
 use Rattle.lane_system.proofs.Moments.{moment_by, opened_by}
 use Rattle.lane_system.proofs.Prefixes.{since_is}
 use Rattle.lane_system.proofs.Removals.{gone_on, none_among, removed_before}
-use Rattle.lane_system.proofs.Saying.{sees_now, sees_stay}
+use Rattle.lane_system.proofs.RefsSeen.{sees_now, sees_stay}
 
 -- a commit that a change sets its ref to lasts
 pub set_lasts : (v : View) (commit : List ℕ) (e : Event) → Founds v e → Sets commit e → StaysFinished v commit
@@ -186,7 +186,7 @@ module _ {F T W A : Type 0} (f : FsSpec F) (c : Family T W A) (fl : FsLaws f) (c
           full = said.full;
         }
 
-    pub said_on : AreSaid c.means f.was before → AreSaid c.means f.was behind
+    pub said_on : RepliesHeldAtAPoint c.means f.was before → RepliesHeldAtAPoint c.means f.was behind
     said_on said a n r words to is = ⊎_elim
         (λ was. still_seen r words (within a n r was) (said a n r words was (commands a n words is)))
         (λ given. still_seen r words (omega (arith, its_start r words given, early)) (seen_now r words given))
@@ -268,7 +268,7 @@ module _ {F T W A : Type 0} (f : FsSpec F) (c : Family T W A) (fl : FsLaws f) (c
   -- and which commits are there
   pub founded_on : (opening : View) → CommitsAreFiles v.now → ((r : Reply A) (words : W) → IsNew r words → IfAnswer (λ a. c.means.shows (since_in limits old.books r.start) v a words) r.answer) → ((a n : ℕ) (r : Reply A) → IsTo lanes' a n r → (words : W) × IsCommand lanes' a n words)
       → ((a n : ℕ) (r : Reply A) → IsTo lanes a n r → r.place ≤ length old.books.history.items) → ((r : Reply A) (words : W) → IsNew r words → r.place ≡ length new.books.history.items) → ((r : Reply A) (words : W) (commit : List ℕ) → IsNew r words → IsSum commit → OfAnswer (λ a. c.means.lacks a commit) r.answer → swept_in new.books ≡ [])
-      → AreFounded c.means opening before v → Told (f.view new.fs) (λ u. AreFounded c.means opening behind u)
+      → RefsNameDurableCommits c.means opening before v → Told (f.view new.fs) (λ u. RefsNameDurableCommits c.means opening behind u)
   founded_on opening files new_one has placed ends alone was = (
     w,
     told_w,

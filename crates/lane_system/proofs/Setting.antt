@@ -9,7 +9,7 @@ use Rattle.rely_guarantee.specs.declared.kind.Outcome.{Outcome}
 use Rattle.rely_guarantee.specs.declared.kind.Outcome.TheVariants as came
 use Rattle.rely_guarantee.specs.Books.{books_of}
 use Rattle.rely_guarantee.specs.Exact.{IsBooked, IsNoted, IsUnbooked}
-use Rattle.rely_guarantee.specs.Laws.{Kind, Quiet, Store, Take, Claim, Show, Shown, Remove, Settle, Holds}
+use Rattle.rely_guarantee.specs.Laws.{Kind, Quiet, Store, Take, Claim, Publish, Published, Remove, MakeDurable, Holds}
 use Rattle.command.specs.ChangeLaws.{Founds}
 use Rattle.lane_system.specs.Acts.{ComesFrom}
 use Rattle.lane_system.specs.Lanes.{IsAt}
@@ -17,7 +17,7 @@ use Rattle.lane_system.proofs.Places.{at_split}
 
 -- the change that such a step shows does so
 abbrev pub ShowsFinished : View → Kind → Type 0
-ShowsFinished v k = (e : Event) → k ≡ Show e → Founds v e
+ShowsFinished v k = (e : Event) → k ≡ Publish e → Founds v e
 
 -- changes as they were
 pub comes_same : (P : Event → Type 0) (old new : rust.Books) → IsUnbooked old new → ComesFrom P old new
@@ -50,33 +50,33 @@ module _ (lane command moment : ℕ) (old new : rust.Books) (v : View) where
   abbrev Goes : Type 0
   Goes = ComesFrom (Founds v) old new
 
-  show_step : (e : Event) (outcome : Outcome) → IsBooked (Show e) lane command moment outcome old new → Founds v e → Goes
-  show_step e came.More b is = comes_shown (Founds v) lane command e old new b is
-  show_step e (came.Halted why) b is = comes_shown (Founds v) lane command e old new b is
-  show_step e came.Blocked b is = comes_same (Founds v) old new b
-  show_step e (came.Refused f) b is = comes_same (Founds v) old new b
-  show_step e came.Done b is = absurd b
+  publish_step : (e : Event) (outcome : Outcome) → IsBooked (Publish e) lane command moment outcome old new → Founds v e → Goes
+  publish_step e came.More b is = comes_shown (Founds v) lane command e old new b is
+  publish_step e (came.Halted why) b is = comes_shown (Founds v) lane command e old new b is
+  publish_step e came.Blocked b is = comes_same (Founds v) old new b
+  publish_step e (came.Refused f) b is = comes_same (Founds v) old new b
+  publish_step e came.Done b is = absurd b
 
-  shown_step : (e : Event) (n : ℕ) (outcome : Outcome) → IsBooked (Shown e n) lane command moment outcome old new → Goes
-  shown_step e n came.More b = comes_same (Founds v) old new b
-  shown_step e n (came.Halted why) b = comes_same (Founds v) old new b
-  shown_step e n came.Blocked b = absurd b
-  shown_step e n (came.Refused f) b = absurd b
-  shown_step e n came.Done b = absurd b
+  published_step : (e : Event) (n : ℕ) (outcome : Outcome) → IsBooked (Published e n) lane command moment outcome old new → Goes
+  published_step e n came.More b = comes_same (Founds v) old new b
+  published_step e n (came.Halted why) b = comes_same (Founds v) old new b
+  published_step e n came.Blocked b = absurd b
+  published_step e n (came.Refused f) b = absurd b
+  published_step e n came.Done b = absurd b
 
-  settle_step : (e : Event) (outcome : Outcome) → Holds (Settle e) lane (books_of old) → IsBooked (Settle e) lane command moment outcome old new → Goes
-  settle_step e came.Done h b = comes_settled (Founds v) old new (record { lane = lane; command = h.command; event = e }) moment h.pending b.0 (b.1 _ h.pending)
-  settle_step e (came.Halted why) h b = comes_same (Founds v) old new b
-  settle_step e came.More h b = absurd b
-  settle_step e came.Blocked h b = absurd b
-  settle_step e (came.Refused f) h b = absurd b
+  make_durable_step : (e : Event) (outcome : Outcome) → Holds (MakeDurable e) lane (books_of old) → IsBooked (MakeDurable e) lane command moment outcome old new → Goes
+  make_durable_step e came.Done h b = comes_settled (Founds v) old new (record { lane = lane; command = h.command; event = e }) moment h.pending b.0 (b.1 _ h.pending)
+  make_durable_step e (came.Halted why) h b = comes_same (Founds v) old new b
+  make_durable_step e came.More h b = absurd b
+  make_durable_step e came.Blocked h b = absurd b
+  make_durable_step e (came.Refused f) h b = absurd b
 
   pub founded_step : (k : Kind) (outcome : Outcome) → Holds k lane (books_of old) → IsBooked k lane command moment outcome old new → ShowsFinished v k → Goes
   founded_step Quiet outcome h b shows = comes_same (Founds v) old new b
   founded_step Store outcome h b shows = comes_same (Founds v) old new b
   founded_step (Take wants) outcome h b shows = comes_same (Founds v) old new b
   founded_step (Claim name) outcome h b shows = comes_same (Founds v) old new b
-  founded_step (Show e) outcome h b shows = show_step e outcome b (shows e refl)
-  founded_step (Shown e n) outcome h b shows = shown_step e n outcome b
-  founded_step (Remove e n) outcome h b shows = shown_step e n outcome b
-  founded_step (Settle e) outcome h b shows = settle_step e outcome h b
+  founded_step (Publish e) outcome h b shows = publish_step e outcome b (shows e refl)
+  founded_step (Published e n) outcome h b shows = published_step e n outcome b
+  founded_step (Remove e n) outcome h b shows = published_step e n outcome b
+  founded_step (MakeDurable e) outcome h b shows = make_durable_step e outcome h b

@@ -23,7 +23,7 @@ use Rattle.rely_guarantee.specs.declared.kind.Outcome.TheVariants as came
 use Rattle.rely_guarantee.specs.Books.{Free, Spared, books_of, doomed_of}
 use Rattle.rely_guarantee.specs.Change.{TakesNone}
 use Rattle.rely_guarantee.specs.Exact.{IsBooked, Locks, gone_in, taken_in}
-use Rattle.rely_guarantee.specs.Laws.{Holds, Kind, NotPending, Quiet, Store, Take, Claim, Show, Shown, Remove, Settle}
+use Rattle.rely_guarantee.specs.Laws.{Holds, Kind, NotPending, Quiet, Store, Take, Claim, Publish, Published, Remove, MakeDurable}
 use Rattle.rely_guarantee.specs.Removing.{next_of}
 use Rattle.rely_guarantee.specs.Rely.{Guarantee}
 use Rattle.rely_guarantee.specs.State as state
@@ -123,7 +123,7 @@ module _ (actor lane command moment : ℕ) (old new : rust.Books) (spared : Spar
       ∙ ap (drop (length old.history.items)) (sym spared.grows ∙ longer)
       ∙ drop_at old.history.items (x ∷ []) (length old.history.items) refl
 
-  -- while its change is shown nothing else changes of what is to be removed
+  -- while its change is published nothing else changes of what is to be removed
   module _ (e : Event) (n : ℕ) (more : new.gone ≡ n) (unbooked : new.pending ≡ old.pending) (lock : new.exclusive ≡ old.exclusive) where
     shown_swept : swept_in new ≡ take n (books_of old).doomed
     shown_swept = ap (λ k. take k (books_of new).doomed) more ∙ ap (take n) (same_doomed lock unbooked)
@@ -134,12 +134,12 @@ module _ (actor lane command moment : ℕ) (old new : rust.Books) (spared : Spar
   still_on Store outcome went holds booked locks gone o has = Contains-append_right (flat_map removed_by spared.more) (swept_in new) o (idle_still holds o has)
   still_on (Take wants) outcome went holds booked locks gone o has = Contains-append_right (flat_map removed_by spared.more) (swept_in new) o (idle_still holds o has)
   still_on (Claim name) outcome went holds booked locks gone o has = Contains-append_right (flat_map removed_by spared.more) (swept_in new) o (idle_still holds o has)
-  still_on (Show e) outcome went holds booked locks gone o has = Contains-append_right (flat_map removed_by spared.more) (swept_in new) o (idle_still holds o has)
-  still_on (Shown e n) came.More went holds booked locks gone o has = Contains-append_right (flat_map removed_by spared.more) (swept_in new) o (subst (λ (l : List ObjName). Contains l o) (sym (shown_swept e old.gone gone booked.1 locks.1)) has)
-  still_on (Shown e n) (came.Halted why) went holds booked locks gone o has = Contains-append_right (flat_map removed_by spared.more) (swept_in new) o (subst (λ (l : List ObjName). Contains l o) (sym (shown_swept e old.gone gone booked.1 locks.1)) has)
-  still_on (Shown e n) came.Done went holds booked locks gone o has = absurd booked
-  still_on (Shown e n) came.Blocked went holds booked locks gone o has = absurd booked
-  still_on (Shown e n) (came.Refused f) went holds booked locks gone o has = absurd booked
+  still_on (Publish e) outcome went holds booked locks gone o has = Contains-append_right (flat_map removed_by spared.more) (swept_in new) o (idle_still holds o has)
+  still_on (Published e n) came.More went holds booked locks gone o has = Contains-append_right (flat_map removed_by spared.more) (swept_in new) o (subst (λ (l : List ObjName). Contains l o) (sym (shown_swept e old.gone gone booked.1 locks.1)) has)
+  still_on (Published e n) (came.Halted why) went holds booked locks gone o has = Contains-append_right (flat_map removed_by spared.more) (swept_in new) o (subst (λ (l : List ObjName). Contains l o) (sym (shown_swept e old.gone gone booked.1 locks.1)) has)
+  still_on (Published e n) came.Done went holds booked locks gone o has = absurd booked
+  still_on (Published e n) came.Blocked went holds booked locks gone o has = absurd booked
+  still_on (Published e n) (came.Refused f) went holds booked locks gone o has = absurd booked
   still_on (Remove e n) came.More went holds booked locks gone o has = Contains-append_right (flat_map removed_by spared.more) (swept_in new) o (one_more e o has (shown_swept e (old.gone + 1) gone booked.1 locks.1))
     where
       one_more : (d : Event) (x : ObjName) → Contains (swept_in old) x → swept_in new ≡ take (old.gone + 1) (books_of old).doomed → Contains (swept_in new) x
@@ -149,15 +149,15 @@ module _ (actor lane command moment : ℕ) (old new : rust.Books) (spared : Spar
   still_on (Remove e n) came.Done went holds booked locks gone o has = absurd booked
   still_on (Remove e n) came.Blocked went holds booked locks gone o has = absurd booked
   still_on (Remove e n) (came.Refused f) went holds booked locks gone o has = absurd booked
-  still_on (Settle e) came.Done went holds booked locks gone o has =
+  still_on (MakeDurable e) came.Done went holds booked locks gone o has =
       let h = swept_holder old o has in
       let x : Entry = record { lane = h.pending.lane; command = h.pending.command; event = h.pending.event; moment = moment } in
       Contains-append_left (flat_map removed_by spared.more) (swept_in new) o
       (subst (λ (l : List Entry). Contains (flat_map removed_by l) o) (sym (more_is x (booked.1 h.pending h.is))) (subst (λ (l : List ObjName). Contains l o) (sym (append-nil (state.removed_by h.pending.event))) h.among))
-  still_on (Settle e) (came.Halted why) went holds booked locks gone o has = Contains-append_right (flat_map removed_by spared.more) (swept_in new) o (subst (λ (l : List ObjName). Contains l o) (sym (shown_swept e old.gone gone booked.1 locks.1)) has)
-  still_on (Settle e) came.More went holds booked locks gone o has = absurd booked
-  still_on (Settle e) came.Blocked went holds booked locks gone o has = absurd booked
-  still_on (Settle e) (came.Refused f) went holds booked locks gone o has = absurd booked
+  still_on (MakeDurable e) (came.Halted why) went holds booked locks gone o has = Contains-append_right (flat_map removed_by spared.more) (swept_in new) o (subst (λ (l : List ObjName). Contains l o) (sym (shown_swept e old.gone gone booked.1 locks.1)) has)
+  still_on (MakeDurable e) came.More went holds booked locks gone o has = absurd booked
+  still_on (MakeDurable e) came.Blocked went holds booked locks gone o has = absurd booked
+  still_on (MakeDurable e) (came.Refused f) went holds booked locks gone o has = absurd booked
 
   -- behind a step that removes the books tell what it took, too
   pub removed_more : (e : Event) (n : ℕ) (outcome : Outcome) → IsBooked (Remove e n) lane command moment outcome old new → Locks (Remove e n) lane outcome old new → new.gone ≡ old.gone + 1 → (swept_in new ≡ swept_in old ++ next_of (books_of old)) × (new.pending ≡ old.pending)
@@ -167,13 +167,13 @@ module _ (actor lane command moment : ℕ) (old new : rust.Books) (spared : Spar
   removed_more e n came.Blocked booked locks gone = absurd booked
   removed_more e n (came.Refused f) booked locks gone = absurd booked
 
-  -- behind another step that comes while its change is shown, what it told before
-  pub shown_same : (e : Event) (n : ℕ) (outcome : Outcome) → IsBooked (Shown e n) lane command moment outcome old new → Locks (Shown e n) lane outcome old new → new.gone ≡ old.gone → swept_in new ≡ swept_in old
-  shown_same e n came.More booked locks gone = shown_swept e old.gone gone booked.1 locks.1
-  shown_same e n (came.Halted why) booked locks gone = shown_swept e old.gone gone booked.1 locks.1
-  shown_same e n came.Done booked locks gone = absurd booked
-  shown_same e n came.Blocked booked locks gone = absurd booked
-  shown_same e n (came.Refused f) booked locks gone = absurd booked
+  -- behind another step that comes while its change is published, what it told before
+  pub published_same : (e : Event) (n : ℕ) (outcome : Outcome) → IsBooked (Published e n) lane command moment outcome old new → Locks (Published e n) lane outcome old new → new.gone ≡ old.gone → swept_in new ≡ swept_in old
+  published_same e n came.More booked locks gone = shown_swept e old.gone gone booked.1 locks.1
+  published_same e n (came.Halted why) booked locks gone = shown_swept e old.gone gone booked.1 locks.1
+  published_same e n came.Done booked locks gone = absurd booked
+  published_same e n came.Blocked booked locks gone = absurd booked
+  published_same e n (came.Refused f) booked locks gone = absurd booked
 
   pub told_on : (k : Kind) (outcome : Outcome) → IsBooked k lane command moment outcome old new → Locks k lane outcome old new → new.gone ≡ gone_in k outcome old.gone → AreAmong (taken_in k (books_of old)) (swept_in new)
   told_on (Remove e n) outcome booked locks gone o has = subst (λ (l : List ObjName). Contains l o) (sym (removed_more e n outcome booked locks gone).0) (Contains-append_right (swept_in old) (next_of (books_of old)) o has)
@@ -181,9 +181,9 @@ module _ (actor lane command moment : ℕ) (old new : rust.Books) (spared : Spar
   told_on Store outcome booked locks gone o has = absurd (none_out o has)
   told_on (Take wants) outcome booked locks gone o has = absurd (none_out o has)
   told_on (Claim name) outcome booked locks gone o has = absurd (none_out o has)
-  told_on (Show e) outcome booked locks gone o has = absurd (none_out o has)
-  told_on (Shown e n) outcome booked locks gone o has = absurd (none_out o has)
-  told_on (Settle e) outcome booked locks gone o has = absurd (none_out o has)
+  told_on (Publish e) outcome booked locks gone o has = absurd (none_out o has)
+  told_on (Published e n) outcome booked locks gone o has = absurd (none_out o has)
+  told_on (MakeDurable e) outcome booked locks gone o has = absurd (none_out o has)
 
   pub prunes_on : (k : Kind) (outcome : Outcome) → IsBooked k lane command moment outcome old new → Locks k lane outcome old new → new.gone ≡ gone_in k outcome old.gone → (o : ObjName) → Contains (taken_in k (books_of old)) o → (p : Pending) → new.pending ≡ Some p → IsPrune p.event
   prunes_on (Remove e n) outcome booked locks gone o has p is =
@@ -195,9 +195,9 @@ module _ (actor lane command moment : ℕ) (old new : rust.Books) (spared : Spar
   prunes_on Store outcome booked locks gone o has p is = absurd (none_out o has)
   prunes_on (Take wants) outcome booked locks gone o has p is = absurd (none_out o has)
   prunes_on (Claim name) outcome booked locks gone o has p is = absurd (none_out o has)
-  prunes_on (Show e) outcome booked locks gone o has p is = absurd (none_out o has)
-  prunes_on (Shown e n) outcome booked locks gone o has p is = absurd (none_out o has)
-  prunes_on (Settle e) outcome booked locks gone o has p is = absurd (none_out o has)
+  prunes_on (Publish e) outcome booked locks gone o has p is = absurd (none_out o has)
+  prunes_on (Published e n) outcome booked locks gone o has p is = absurd (none_out o has)
+  prunes_on (MakeDurable e) outcome booked locks gone o has p is = absurd (none_out o has)
 
   -- so many it takes
   pub takes_on : (k : Kind) (outcome : Outcome) → new.gone ≡ gone_in k outcome old.gone → ((e : Event) (n : ℕ) → k ≡ Remove e n → old.gone < length (books_of old).doomed) → TakesOne old new (taken_in k (books_of old))
@@ -206,13 +206,13 @@ module _ (actor lane command moment : ℕ) (old new : rust.Books) (spared : Spar
   takes_on Store outcome gone less = inl (refl, omega (arith, gone))
   takes_on (Take wants) outcome gone less = inl (refl, omega (arith, gone))
   takes_on (Claim name) outcome gone less = inl (refl, omega (arith, gone))
-  takes_on (Show e) came.More gone less = inl (refl, omega (arith, gone))
-  takes_on (Show e) (came.Halted why) gone less = inl (refl, omega (arith, gone))
-  takes_on (Show e) came.Done gone less = inl (refl, omega (arith, gone))
-  takes_on (Show e) came.Blocked gone less = inl (refl, omega (arith, gone))
-  takes_on (Show e) (came.Refused f) gone less = inl (refl, omega (arith, gone))
-  takes_on (Shown e n) outcome gone less = inl (refl, omega (arith, gone))
-  takes_on (Settle e) outcome gone less = inl (refl, omega (arith, gone))
+  takes_on (Publish e) came.More gone less = inl (refl, omega (arith, gone))
+  takes_on (Publish e) (came.Halted why) gone less = inl (refl, omega (arith, gone))
+  takes_on (Publish e) came.Done gone less = inl (refl, omega (arith, gone))
+  takes_on (Publish e) came.Blocked gone less = inl (refl, omega (arith, gone))
+  takes_on (Publish e) (came.Refused f) gone less = inl (refl, omega (arith, gone))
+  takes_on (Published e n) outcome gone less = inl (refl, omega (arith, gone))
+  takes_on (MakeDurable e) outcome gone less = inl (refl, omega (arith, gone))
 
   -- ---- a step that doesn't remove
 
@@ -233,10 +233,10 @@ module _ (actor lane command moment : ℕ) (old new : rust.Books) (spared : Spar
         apart Store is plain o h own = is h.pending h.is own
         apart (Take wants) is plain o h own = is h.pending h.is own
         apart (Claim name) is plain o h own = is h.pending h.is own
-        apart (Show e) is plain o h own = is h.pending h.is own
-        apart (Shown e n) is plain o h own = event_is e is.0.command is.0.pending plain o h
+        apart (Publish e) is plain o h own = is h.pending h.is own
+        apart (Published e n) is plain o h own = event_is e is.0.command is.0.pending plain o h
         apart (Remove e n) is plain o h own = plain tt
-        apart (Settle e) is plain o h own = event_is e is.command is.pending plain o h
+        apart (MakeDurable e) is plain o h own = event_is e is.command is.pending plain o h
 
     pub none_behind : (k : Kind) (outcome : Outcome) → (outcome ≡ came.Blocked → ⊥) → Holds k lane (books_of old) → ¬ (IsRemoving k) → IsBooked k lane command moment outcome old new → Locks k lane outcome old new → new.gone ≡ gone_in k outcome old.gone → swept_in new ≡ []
     none_behind k outcome went holds not booked locks gone = none_of (swept_in new) (λ o has. (let h = swept_holder new o has in
@@ -258,22 +258,22 @@ module _ (actor lane command moment : ℕ) (old new : rust.Books) (spared : Spar
         apart Store u went is plain b o has h who = was o h b.1 is who
         apart (Take wants) u went is plain b o has h who = was o h b.1 is who
         apart (Claim name) u went is plain b o has h who = was o h b.1 is who
-        apart (Show e) came.More went is plain b o has h who = none_out o has
-        apart (Show e) (came.Halted why) went is plain b o has h who = none_out o has
-        apart (Show e) (came.Refused f) went is plain b o has h who = was o h b.1 is who
-        apart (Show e) came.Done went is plain b o has h who = b
-        apart (Show e) came.Blocked went is plain b o has h who = went refl
-        apart (Shown e n) came.More went is plain b o has h who = event_is e is.0.command (b.1 ∙ is.0.pending) plain o h
-        apart (Shown e n) (came.Halted why) went is plain b o has h who = event_is e is.0.command (b.1 ∙ is.0.pending) plain o h
-        apart (Shown e n) (came.Refused f) went is plain b o has h who = b
-        apart (Shown e n) came.Done went is plain b o has h who = b
-        apart (Shown e n) came.Blocked went is plain b o has h who = b
+        apart (Publish e) came.More went is plain b o has h who = none_out o has
+        apart (Publish e) (came.Halted why) went is plain b o has h who = none_out o has
+        apart (Publish e) (came.Refused f) went is plain b o has h who = was o h b.1 is who
+        apart (Publish e) came.Done went is plain b o has h who = b
+        apart (Publish e) came.Blocked went is plain b o has h who = went refl
+        apart (Published e n) came.More went is plain b o has h who = event_is e is.0.command (b.1 ∙ is.0.pending) plain o h
+        apart (Published e n) (came.Halted why) went is plain b o has h who = event_is e is.0.command (b.1 ∙ is.0.pending) plain o h
+        apart (Published e n) (came.Refused f) went is plain b o has h who = b
+        apart (Published e n) came.Done went is plain b o has h who = b
+        apart (Published e n) came.Blocked went is plain b o has h who = b
         apart (Remove e n) u went is plain b o has h who = plain tt
-        apart (Settle e) came.Done went is plain b o has h who = (let z : None ≡ Some h.pending = sym b.0 ∙ h.is in cc)
-        apart (Settle e) (came.Halted why) went is plain b o has h who = event_is e is.command (b.1 ∙ is.pending) plain o h
-        apart (Settle e) (came.Refused f) went is plain b o has h who = b
-        apart (Settle e) came.More went is plain b o has h who = b
-        apart (Settle e) came.Blocked went is plain b o has h who = b
+        apart (MakeDurable e) came.Done went is plain b o has h who = (let z : None ≡ Some h.pending = sym b.0 ∙ h.is in cc)
+        apart (MakeDurable e) (came.Halted why) went is plain b o has h who = event_is e is.command (b.1 ∙ is.pending) plain o h
+        apart (MakeDurable e) (came.Refused f) went is plain b o has h who = b
+        apart (MakeDurable e) came.More went is plain b o has h who = b
+        apart (MakeDurable e) came.Blocked went is plain b o has h who = b
 
   -- it leaves what is told as removed as it was
   pub unremoving_same : (k : Kind) (outcome : Outcome) → (outcome ≡ came.Blocked → ⊥) → Holds k lane (books_of old) → ¬ (IsRemoving k) → IsBooked k lane command moment outcome old new → Locks k lane outcome old new → new.gone ≡ gone_in k outcome old.gone → swept_in new ≡ swept_in old

@@ -19,7 +19,7 @@ use Rattle.rely_guarantee.specs.declared.kind.Outcome.TheVariants as came
 use Rattle.rely_guarantee.specs.Books.{Books, books_of}
 use Rattle.rely_guarantee.specs.declared.kind.Wants.{Wants}
 use Rattle.rely_guarantee.specs.Exact.{Opens, taken_in}
-use Rattle.rely_guarantee.specs.Laws.{Holds, Kind, Quiet, Store, Take, Claim, Show, Shown, Remove, Settle, StepObligation, Stood}
+use Rattle.rely_guarantee.specs.Laws.{Holds, Kind, Quiet, Store, Take, Claim, Publish, Published, Remove, MakeDurable, StepObligation, Stood}
 use Rattle.rely_guarantee.specs.Rely.{Guarantee, Interference}
 use Rattle.rely_guarantee.specs.SystemInvariant.{SystemInvariant}
 use Rattle.rely_guarantee.proofs.Lasting.{none_out}
@@ -115,9 +115,9 @@ module _ {F T W A : Type 0} (f : FsSpec F) (c : Family T W A) (fl : FsLaws f) (c
     taken_held held Store is = refl
     taken_held held (Take wants) is = refl
     taken_held held (Claim name) is = refl
-    taken_held held (Show e) is = refl
-    taken_held held (Shown e n) is = refl
-    taken_held held (Settle e) is = refl
+    taken_held held (Publish e) is = refl
+    taken_held held (Published e n) is = refl
+    taken_held held (MakeDurable e) is = refl
 
     -- what such a step owes
     duty : (outcome ≡ came.Blocked → ⊥) → (k : Kind) → c.tasks.kind told ≡ k → Stood k actor lane (books_of old.books) → (v : View) → f.view old.fs ≡ Some v → StepObligation k actor lane v (books_of old.books) (c.tasks.writes actor told v) (cl.leaves told (turn.Done tt) told v)
@@ -132,10 +132,10 @@ module _ {F T W A : Type 0} (f : FsSpec F) (c : Family T W A) (fl : FsLaws f) (c
     only_by not Store is v w told_v may wrote = only_idle old.books v w actor lane may (held_as Store is)
     only_by not (Take wants) is v w told_v may wrote = only_idle old.books v w actor lane may (held_as (Take wants) is)
     only_by not (Claim name) is v w told_v may wrote = only_idle old.books v w actor lane may (held_as (Claim name) is)
-    only_by not (Show e) is v w told_v may wrote = only_idle old.books v w actor lane may (held_as (Show e) is)
-    only_by not (Shown e n) is v w told_v may wrote = only_taking (c.tasks.writes actor told v) v w wrote (duty not (Shown e n) is tt v told_v).2
+    only_by not (Publish e) is v w told_v may wrote = only_idle old.books v w actor lane may (held_as (Publish e) is)
+    only_by not (Published e n) is v w told_v may wrote = only_taking (c.tasks.writes actor told v) v w wrote (duty not (Published e n) is tt v told_v).2
     only_by not (Remove e n) is v w told_v may wrote = only_removing old.books v w actor lane may
-    only_by not (Settle e) is v w told_v may wrote = only_nothing (c.tasks.writes actor told v) v w wrote (λ p s wrote_p. (duty not (Settle e) is tt v told_v).0 p s wrote_p)
+    only_by not (MakeDurable e) is v w told_v may wrote = only_nothing (c.tasks.writes actor told v) v w wrote (λ p s wrote_p. (duty not (MakeDurable e) is tt v told_v).0 p s wrote_p)
 
     abbrev out : List ObjName
     out = taken_in (c.tasks.kind told) (books_of old.books)

@@ -15,7 +15,7 @@ use Rattle.rely_guarantee.specs.declared.kind.Outcome.{Outcome}
 use Rattle.rely_guarantee.specs.declared.kind.Outcome.TheVariants as came
 use Rattle.rely_guarantee.specs.Books.{Agrees, books_of}
 use Rattle.rely_guarantee.specs.Exact.{Steps, Tells}
-use Rattle.rely_guarantee.specs.Laws.{Holds, Kind, NotPending, Ready, Runs, Settle}
+use Rattle.rely_guarantee.specs.Laws.{Holds, Kind, NotPending, Ready, Runs, MakeDurable}
 use Rattle.rely_guarantee.specs.Rely.{Interference}
 use Rattle.rely_guarantee.specs.State.{first}
 use Rattle.rely_guarantee.proofs.Mays.{objects_harmless}
@@ -179,7 +179,7 @@ standing_one gone gone' count less = by (nat_lt gone gone') refl
 pub standing_same : (gone count : ℕ) → standing gone gone count ≡ count
 standing_same gone count = standing_none gone gone count (omega arith)
 
-pub told_room : {T : Type 0} (k : TaskSpec T) (refs : RefBook) (t u : T) → u ≡ t → ((e : Event) → k.kind t ≡ Settle e → HasEventRoom refs e) → (e : Event) → k.kind u ≡ Settle e → HasEventRoom refs e
+pub told_room : {T : Type 0} (k : TaskSpec T) (refs : RefBook) (t u : T) → u ≡ t → ((e : Event) → k.kind t ≡ MakeDurable e → HasEventRoom refs e) → (e : Event) → k.kind u ≡ MakeDurable e → HasEventRoom refs e
 told_room k refs t u is room e kind = room e (sym (ap k.kind is) ∙ kind)
 
 -- one that is told again what it was told before is as it was

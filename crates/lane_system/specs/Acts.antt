@@ -42,7 +42,7 @@ abbrev pub TakesOne : rust.Books → rust.Books → List ObjName → Type 0
 TakesOne old new out = ((out ≡ []) × (new.gone ≤ old.gone)) ⊎ ((old.gone < new.gone) × (o : ObjName) × (out ≡ o ∷ []))
 
 -- Where an act removed these objects, and its history has these entries more: nothing else went from its path; the books tell them as
--- removed, and what they told before is told now, or by the history; and the change that is shown then removes objects.
+-- removed, and what they told before is told now, or by the history; and the change that is published then removes objects.
 pub record IsRemovalOf {F : Type 0} (f : FsSpec F) (out : List ObjName) (actor lane : ℕ) (old new : Base F) (more : List Entry) : Type 0 where
   pub only : (v : View) → f.view old.fs ≡ Some v → Told (f.view new.fs) (λ w. RemovesOnly out v w)
   pub one : (v : View) → f.view old.fs ≡ Some v → TakesOne old.books new.books out

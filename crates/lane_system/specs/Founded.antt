@@ -39,12 +39,12 @@ SetsFinished out v e = (commit : List ℕ) → Sets commit e → ¬ (IsOut out c
 
 -- From a view at the opening on: a commit that each crash left then, without a mark, each crash leaves so now, and so it is with one that a
 -- change sets its ref to, if it wasn't removed since. No reply tells otherwise.
-pub record AreFoundedIn {T W A : Type 0} (m : Meaning W A) (opening : View) (entries : List Entry) (swept : List ObjName) (pending : Option Pending) (lanes : List (Lane T W A)) (v : View) : Type 0 where
+pub record RefsNameDurableCommitsIn {T W A : Type 0} (m : Meaning W A) (opening : View) (entries : List Entry) (swept : List ObjName) (pending : Option Pending) (lanes : List (Lane T W A)) (v : View) : Type 0 where
   pub stays : (commit : List ℕ) → ¬ (IsOut (gone_since entries swept 0) commit) → StaysFinished opening commit → StaysFinished v commit
   pub each : (k : ℕ) (e : Entry) → IsAt entries k e → SetsFinished (gone_since entries swept (k + 1)) v e.event
   pub shown : (p : Pending) → pending ≡ Some p → SetsFinished [] v p.event
   pub present : ArePresentIn m (StaysFinished opening) entries lanes
 
 -- so of a system
-abbrev pub AreFounded : {F T W A : Type 0} → Meaning W A → View → System F T W A → View → Type 0
-AreFounded m opening s v = AreFoundedIn m opening s.base.books.history.items (swept_in s.base.books) s.base.books.pending s.lanes v
+abbrev pub RefsNameDurableCommits : {F T W A : Type 0} → Meaning W A → View → System F T W A → View → Type 0
+RefsNameDurableCommits m opening s v = RefsNameDurableCommitsIn m opening s.base.books.history.items (swept_in s.base.books) s.base.books.pending s.lanes v

@@ -2,7 +2,7 @@
 use Rattle.std.specs.Prelude.{ℕ, List}
 use Rattle.fs_trait.specs.View.{View}
 use Rattle.repo_model.specs.Objects.{Store}
-use Rattle.durable_store.specs.Brought.{AreAlone}
+use Rattle.durable_store.specs.Brought.{NoHashCollisionOn}
 use Rattle.command.specs.Meaning.{Meaning}
 use Rattle.lane_system.specs.declared.lane.Lane.{Lane}
 use Rattle.lane_system.specs.declared.lane.Reply.{Reply}
@@ -18,10 +18,10 @@ AreUnrefused {T} {W} {A} lanes = (lane number : ℕ) (r : Reply A) → IsTo lane
 
 -- Nor does an answer say that an object isn't there as its name says, if since this moment reads never saw other bytes with the name of
 -- bytes that were brought.
-pub record AreInsideIn {T W A : Type 0} (m : Meaning W A) (was : ℕ → View → Type 0) (moment : ℕ) (brings : Store) (lanes : List (Lane T W A)) : Type 0 where
+pub record NoExternalChangeIn {T W A : Type 0} (m : Meaning W A) (was : ℕ → View → Type 0) (moment : ℕ) (brings : Store) (lanes : List (Lane T W A)) : Type 0 where
   pub unrefused : AreUnrefused lanes
-  pub seen : ((v : View) → was moment v → AreAlone brings v.now) → (lane number : ℕ) (r : Reply A) → IsTo lanes lane number r → ¬ (OfAnswer m.outside r.answer)
+  pub seen : ((v : View) → was moment v → NoHashCollisionOn brings v.now) → (lane number : ℕ) (r : Reply A) → IsTo lanes lane number r → ¬ (OfAnswer m.outside r.answer)
 
 -- so of a system, since its opening
-abbrev pub AreInside : {F T W A : Type 0} → FsSpec F → Meaning W A → System F T W A → Type 0
-AreInside f m s = AreInsideIn m (f.was s.base.fs) s.base.books.opened (WasBrought m s) s.lanes
+abbrev pub NoExternalChange : {F T W A : Type 0} → FsSpec F → Meaning W A → System F T W A → Type 0
+NoExternalChange f m s = NoExternalChangeIn m (f.was s.base.fs) s.base.books.opened (WasBrought m s) s.lanes

@@ -16,7 +16,8 @@ use Rattle.ref_book.specs.declared.book.RefBook.{RefBook}
 use Rattle.ref_book.specs.Tracks.{Tracks}
 use Rattle.command.specs.Doing.{HasRoomFor}
 use Rattle.command.specs.Meaning.{Meaning}
-use Rattle.command.specs.Staging.{ObjectPathsFree, StagingPathFree}
+use Rattle.durable_store.specs.Free.{ObjectPathsFree}
+use Rattle.command.specs.Staging.{StagingPathFree}
 use Rattle.lane_system.specs.declared.lane.Lane.{Lane}
 use Rattle.lane_system.specs.declared.lane.Reply.{Reply}
 use Rattle.lane_system.specs.declared.lane.Running.{Running}
@@ -87,7 +88,7 @@ AreHomes view = (actor : ℕ) (v : View) → actor < 16 → view ≡ Some v → 
 
 -- nor where an object would stand
 abbrev pub AreFree : Option View → Type 0
-AreFree view = (v : View) → view ≡ Some v → ObjectPathsFree v
+AreFree view = (v : View) → view ≡ Some v → ObjectPathsFree v.now
 
 pub record Kept {F T W A : Type 0} (f : FsSpec F) (c : Family T W A) (limits : Limits) (base : Base F) (refs : RefBook) (lanes : List (Lane T W A)) (given : ℕ) : Type 0 where
   pub sound : SystemInvariant f.view f.clock f.spare f.was base

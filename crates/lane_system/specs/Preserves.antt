@@ -6,11 +6,11 @@ use Rattle.lane_system.specs.Causes.{AreCaused}
 use Rattle.lane_system.specs.Counts.{AreCounted}
 use Rattle.lane_system.specs.Family.{Family, FsSpec}
 use Rattle.lane_system.specs.Folders.{AreFolders}
-use Rattle.lane_system.specs.Founded.{AreFounded}
-use Rattle.lane_system.specs.Inside.{AreInside}
+use Rattle.lane_system.specs.Founded.{RefsNameDurableCommits}
+use Rattle.lane_system.specs.Inside.{NoExternalChange}
 use Rattle.lane_system.specs.Known.{AreKnown}
 use Rattle.lane_system.specs.Lasting.{AreKept}
-use Rattle.lane_system.specs.Said.{AreSaid}
+use Rattle.lane_system.specs.Said.{RepliesHeldAtAPoint}
 use Rattle.lane_system.specs.Staying.{AreStaying}
 use Rattle.lane_system.specs.Storing.{AreStored}
 use Rattle.lane_system.specs.System.{System}
@@ -22,12 +22,12 @@ pub record Preserves {F T W A : Type 0} (f : FsSpec F) (c : Family T W A) (old n
   pub lasts : (opening v : View) → f.view old.base.fs ≡ Some v → AreKept c.means f.was opening old v → Told (f.view new.base.fs) (λ w. AreKept c.means f.was opening new w)
   pub good : (v : View) → f.view old.base.fs ≡ Some v → AreStored f c.means old v → Told (f.view new.base.fs) (λ w. AreStored f c.means new w)
   pub caused : (before : ℕ) → AreCaused f.faults before old → AreCaused f.faults before new
-  pub inside : (v : View) → f.view old.base.fs ≡ Some v → AreStored f c.means old v → AreInside f c.means old → AreInside f c.means new
+  pub inside : (v : View) → f.view old.base.fs ≡ Some v → AreStored f c.means old v → NoExternalChange f c.means old → NoExternalChange f c.means new
   pub folders : (opening : Disk) (v : View) → f.view old.base.fs ≡ Some v → AreFolders c.means c.doing opening old v → Told (f.view new.base.fs) (λ w. AreFolders c.means c.doing opening new w)
   pub counted : (v : View) → f.view old.base.fs ≡ Some v → AreCounted old v → Told (f.view new.base.fs) (λ w. AreCounted new w)
-  pub said : (v : View) → f.view old.base.fs ≡ Some v → AreStored f c.means old v → AreCounted old v → AreSaid c.means f.was old → AreSaid c.means f.was new
+  pub said : (v : View) → f.view old.base.fs ≡ Some v → AreStored f c.means old v → AreCounted old v → RepliesHeldAtAPoint c.means f.was old → RepliesHeldAtAPoint c.means f.was new
   pub stays : (v : View) → f.view old.base.fs ≡ Some v → AreStored f c.means old v → AreStaying c.means old v → Told (f.view new.base.fs) (λ w. AreStaying c.means new w)
-  pub founded : (opening v : View) → f.view old.base.fs ≡ Some v → AreStored f c.means old v → AreFounded c.means opening old v → Told (f.view new.base.fs) (λ w. AreFounded c.means opening new w)
+  pub founded : (opening v : View) → f.view old.base.fs ≡ Some v → AreStored f c.means old v → RefsNameDurableCommits c.means opening old v → Told (f.view new.base.fs) (λ w. RefsNameDurableCommits c.means opening new w)
   pub known : (opening : Disk) (v : View) → f.view old.base.fs ≡ Some v → AreKnown f c.means opening old v → Told (f.view new.base.fs) (λ w. AreKnown f c.means opening new w)
 
 -- All of it from an opening on, when the count of failed calls was this.
@@ -35,9 +35,9 @@ pub record Stands {F T W A : Type 0} (f : FsSpec F) (c : Family T W A) (before :
   pub lasts : AreKept c.means f.was opening s v
   pub good : AreStored f c.means s v
   pub caused : AreCaused f.faults before s
-  pub inside : AreInside f c.means s
+  pub inside : NoExternalChange f c.means s
   pub folders : AreFolders c.means c.doing opening.now s v
   pub counted : AreCounted s v
-  pub said : AreSaid c.means f.was s
+  pub said : RepliesHeldAtAPoint c.means f.was s
   pub stays : AreStaying c.means s v
-  pub founded : AreFounded c.means opening s v
+  pub founded : RefsNameDurableCommits c.means opening s v

@@ -1,6 +1,6 @@
 -- How many acts a lane may still need, and which lane holds it off.
 use Rattle.std.specs.Prelude.{◌≡◌, ◌≢◌, ◌<◌, ◌≤◌, ◌+◌, ◌-◌, ◌*◌, ℕ, zero, suc, true, List, [], ◌∷◌, length, Option, Some, None}
-use Rattle.rely_guarantee.specs.Laws.{Kind, Show, Take}
+use Rattle.rely_guarantee.specs.Laws.{Kind, Publish, Take}
 use Rattle.command.specs.Doing.{Doing, most}
 use Rattle.lane_system.specs.declared.ask.Ask.{Ask}
 use Rattle.lane_system.specs.declared.ask.Ask.TheVariants.{Done, More}
@@ -55,7 +55,7 @@ IsHeldOff s lane = (other : ℕ) × (other ≢ lane) × (s.base.books.turn ≡ S
 -- a step of this kind asks for the ref lock
 abbrev pub AsksRefLock : Kind → Type 0
 AsksRefLock (Take wants) = wants.turn ≡ true
-AsksRefLock (Show e) = Unit {0}
+AsksRefLock (Publish e) = Unit {0}
 AsksRefLock kind = ⊥
 
 -- so does the next step of the lane's command, which has begun

@@ -42,9 +42,9 @@ pub record WasSeen {W A : Type 0} (m : Meaning W A) (was : ℕ → View → Type
   pub full : IfAnswer (λ a. m.full a → IsFull limits shown.now) r.answer
 
 -- so of each reply to a command of these lanes
-abbrev pub AreSaidIn : {T W A : Type 0} → Meaning W A → (ℕ → View → Type 0) → ℕ → Limits → State → List Entry → Option Pending → List (Lane T W A) → Type 0
-AreSaidIn {T} {W} {A} m was opened limits begin entries pending lanes = (lane number : ℕ) (r : Reply A) (c : W) → IsTo lanes lane number r → IsCommand lanes lane number c → WasSeen m was opened limits begin entries pending r c
+abbrev pub RepliesHeldAtAPointIn : {T W A : Type 0} → Meaning W A → (ℕ → View → Type 0) → ℕ → Limits → State → List Entry → Option Pending → List (Lane T W A) → Type 0
+RepliesHeldAtAPointIn {T} {W} {A} m was opened limits begin entries pending lanes = (lane number : ℕ) (r : Reply A) (c : W) → IsTo lanes lane number r → IsCommand lanes lane number c → WasSeen m was opened limits begin entries pending r c
 
 -- so of a system, since its opening
-abbrev pub AreSaid : {F T W A : Type 0} → Meaning W A → (F → ℕ → View → Type 0) → System F T W A → Type 0
-AreSaid m was s = AreSaidIn m (was s.base.fs) s.base.books.opened s.limits (first s.base.books.start.items) s.base.books.history.items s.base.books.pending s.lanes
+abbrev pub RepliesHeldAtAPoint : {F T W A : Type 0} → Meaning W A → (F → ℕ → View → Type 0) → System F T W A → Type 0
+RepliesHeldAtAPoint m was s = RepliesHeldAtAPointIn m (was s.base.fs) s.base.books.opened s.limits (first s.base.books.start.items) s.base.books.history.items s.base.books.pending s.lanes

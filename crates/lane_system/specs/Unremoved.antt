@@ -40,8 +40,8 @@ pub record AllArePresent {T W A : Type 0} (m : Meaning W A) (Finished : List ℕ
   pub finished : (lane number : ℕ) (r : Reply A) (commit : List ℕ) → IsTo lanes lane number r → OfAnswer (λ a. m.lacks a commit) r.answer → ¬ (Finished commit)
   pub set : (lane number : ℕ) (r : Reply A) (commit : List ℕ) → IsTo lanes lane number r → OfAnswer (λ a. m.lacks a commit) r.answer → (k : ℕ) (e : Entry) → IsAt entries k e → k < r.place → ¬ (Sets commit e.event)
 
--- `AreFoundedIn` so
-pub record AllAreFounded {T W A : Type 0} (m : Meaning W A) (opening : View) (entries : List Entry) (pending : Option Pending) (lanes : List (Lane T W A)) (v : View) : Type 0 where
+-- `RefsNameDurableCommitsIn` so
+pub record AllRefsNameDurableCommits {T W A : Type 0} (m : Meaning W A) (opening : View) (entries : List Entry) (pending : Option Pending) (lanes : List (Lane T W A)) (v : View) : Type 0 where
   pub stays : (commit : List ℕ) → StaysFinished opening commit → StaysFinished v commit
   pub each : (k : ℕ) (e : Entry) → IsAt entries k e → Founds v e.event
   pub shown : (p : Pending) → pending ≡ Some p → Founds v p.event

@@ -3,7 +3,7 @@ ghost use Rattle.std.specs.Prelude.{◌≡◌, ◌≤◌, ◌<◌, ◌+◌, ℕ,
 ghost use Rattle.rely_guarantee.specs.declared.books.Entry.{Entry};
 ghost use Rattle.rely_guarantee.specs.declared.event.Event.{Event};
 ghost use Rattle.rely_guarantee.specs.declared.kind.Outcome.TheVariants as came;
-ghost use Rattle.rely_guarantee.specs.Laws.{Ready, Runs, Settle};
+ghost use Rattle.rely_guarantee.specs.Laws.{Ready, Runs, MakeDurable};
 ghost use Rattle.rely_guarantee.specs.State.{State, after, events_of};
 ghost use Rattle.ref_book.specs.Tracks.{Tracks, HasEventRoom, HasRoom};
 ghost use Rattle.command.specs.Tasks.{task_spec};
@@ -32,7 +32,7 @@ pub(crate) fn told_act<F: Watch, C: Command>(
     requires ready { Ready F.view F.clock F.spare F.was (Runs C.kind_of C.facts lane work.old) base.old }
     requires free { AreFree (F.view base.old.fs) }
     requires tracks { Tracks refs.old (now_of base.old.books) }
-    requires room { (e : Event) → C.kind_of (told_by C.doing objects.old work.old) ≡ Settle e → HasEventRoom refs.old e }
+    requires room { (e : Event) → C.kind_of (told_by C.doing objects.old work.old) ≡ MakeDurable e → HasEventRoom refs.old e }
     ensures step { (t : C) × Stepped (fs_spec F.view F.clock F.spare F.was F.faults F.refused) (learning (task_spec C.kind_of C.writes_of C.stepped C.leaves C.refuses C.facts) C.doing) lane lane number refs.old refs.new result (told_by C.doing objects.old work.old) t base.old base.new × ((result ≡ came.Blocked → ⊥) → work.new ≡ t) }
     ensures back { result ≡ came.Blocked → work.new ≡ work.old }
     ensures counts { CountsAt C.doing (standing base.old.books.gone base.new.books.gone objects.old) work.new result objects.new }
@@ -67,7 +67,7 @@ fn running_act<F: Watch, C: Command>(
 ) -> Outcome
     requires ready { Ready F.view F.clock F.spare F.was (Runs C.kind_of C.facts lane work.old) base.old }
     requires tracks { Tracks refs.old (now_of base.old.books) }
-    requires room { (e : Event) → C.kind_of work.old ≡ Settle e → HasEventRoom refs.old e }
+    requires room { (e : Event) → C.kind_of work.old ≡ MakeDurable e → HasEventRoom refs.old e }
     ensures { Stepped (fs_spec F.view F.clock F.spare F.was F.faults F.refused) (task_spec C.kind_of C.writes_of C.stepped C.leaves C.refuses C.facts) lane lane number refs.old refs.new result work.old work.new base.old base.new }
 {
     let before = base.books.history.len();

@@ -196,7 +196,7 @@ impl<F: Watch, C: Command> System<F, C> {
         &self.base.books.history
     }
 
-    /// The change that is shown, or may be, and doesn't last yet.
+    /// The change that is published, or may be, and doesn't last yet.
     pub fn pending(&self) -> &Option<Pending>
         ensures { result.now ≡ self.now.base.books.pending }
     {

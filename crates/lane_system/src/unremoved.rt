@@ -10,11 +10,11 @@ ghost use Rattle.rely_guarantee.specs.Books.{Books};
 ghost use Rattle.rely_guarantee.specs.Lasting.{StaysFinished};
 ghost use Rattle.rely_guarantee.specs.State.{State};
 ghost use Rattle.lane_system.specs.declared.lane.Lane.{Lane};
-ghost use Rattle.lane_system.specs.Founded.{AreFoundedIn, ArePresentIn};
+ghost use Rattle.lane_system.specs.Founded.{RefsNameDurableCommitsIn, ArePresentIn};
 ghost use Rattle.lane_system.specs.Lasting.{AreKeptIn};
 ghost use Rattle.lane_system.specs.Removals.{gone_since, removed_in};
 ghost use Rattle.lane_system.specs.Staying.{AreStayingIn};
-ghost use Rattle.lane_system.specs.Unremoved.{AllAreFounded, AllAreKept, AllArePresent, AllAreStaying, AreUnpruned};
+ghost use Rattle.lane_system.specs.Unremoved.{AllRefsNameDurableCommits, AllAreKept, AllArePresent, AllAreStaying, AreUnpruned};
 
 use command::Command;
 use fs_trait::Fs;
@@ -36,6 +36,6 @@ pub fn nothing_is_gone()
 pub fn all_is_said<F: Fs, C: Command>()
     ensures kept { (fs : F) (opening v : View) (limits : Limits) (lanes : List (Lane C C.Words C.Answer)) (entries : List Entry) → AreUnpruned entries → AreKeptIn C.means (F.was fs) opening limits lanes entries [] v ↔ AllAreKept C.means (F.was fs) opening limits lanes entries v }
     ensures present { (opening : View) (lanes : List (Lane C C.Words C.Answer)) (entries : List Entry) → AreUnpruned entries → ArePresentIn C.means (StaysFinished opening) entries lanes ↔ AllArePresent C.means (StaysFinished opening) entries lanes }
-    ensures founded { (opening v : View) (lanes : List (Lane C C.Words C.Answer)) (entries : List Entry) (pending : Option Pending) → AreUnpruned entries → AreFoundedIn C.means opening entries [] pending lanes v ↔ AllAreFounded C.means opening entries pending lanes v }
+    ensures founded { (opening v : View) (lanes : List (Lane C C.Words C.Answer)) (entries : List Entry) (pending : Option Pending) → AreUnpruned entries → RefsNameDurableCommitsIn C.means opening entries [] pending lanes v ↔ AllRefsNameDurableCommits C.means opening entries pending lanes v }
     ensures staying { (v : View) (b : Books) (limits : Limits) (begin : State) (lanes : List (Lane C C.Words C.Answer)) (entries : List Entry) → AreUnpruned entries → AreStayingIn C.means limits begin entries [] lanes v b ↔ AllAreStaying C.means limits begin entries lanes v b }
 {}

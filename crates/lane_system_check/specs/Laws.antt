@@ -13,7 +13,7 @@ use Rattle.durable_store.proofs.Silent.{silent_keeps}
 use Rattle.rely_guarantee.specs.declared.event.Event.{Event}
 use Rattle.rely_guarantee.specs.declared.kind.Wants.{Wants}
 use Rattle.rely_guarantee.specs.Books.{Books}
-use Rattle.rely_guarantee.specs.Laws.{Holds, IsClaim, IsSettle, NotPending, Show, Take}
+use Rattle.rely_guarantee.specs.Laws.{Holds, IsClaim, IsMakeDurable, NotPending, Publish, Take}
 use Rattle.command.specs.AnswerLaws.{AnswerLaws}
 use Rattle.command.specs.ChangeLaws.{ChangeLaws}
 use Rattle.command.specs.FolderLaws.{FolderLaws}
@@ -49,15 +49,15 @@ no_pin true true wants name is pin = let same : lock_wants ≡ wants = cc in (le
 no_pin true false wants name is pin = cc
 no_pin false begins wants name is pin = cc
 
-no_show : {P : Type 0} (holds begins : Bool) (e : Event) → kind_at holds begins ≡ Show e → P
-no_show true true e is = cc
-no_show true false e is = cc
-no_show false begins e is = cc
+no_publish : {P : Type 0} (holds begins : Bool) (e : Event) → kind_at holds begins ≡ Publish e → P
+no_publish true true e is = cc
+no_publish true false e is = cc
+no_publish false begins e is = cc
 
-no_settle : {P : Type 0} (holds begins : Bool) → IsSettle (kind_at holds begins) → P
-no_settle true true is = absurd is
-no_settle true false is = absurd is
-no_settle false begins is = absurd is
+no_make_durable : {P : Type 0} (holds begins : Bool) → IsMakeDurable (kind_at holds begins) → P
+no_make_durable true true is = absurd is
+no_make_durable true false is = absurd is
+no_make_durable false begins is = absurd is
 
 no_removal : (holds begins : Bool) → IsRemoving (kind_at holds begins) → ⊥
 no_removal true true removes = removes
@@ -101,10 +101,10 @@ learn_laws = no_learning wait_tasks wait_doing (λ refs pins t new is. is)
 
 change_laws : ChangeLaws wait_tasks wait_means wait_doing
 change_laws = record {
-  shown = λ since c t e is kind. no_show t.holds (t.taken == 0) e kind;
-  settled = λ since c t e is kind. no_settle t.holds (t.taken == 0) (subst IsSettle (sym kind) tt);
-  founds = λ lane t v b e f kind. no_show t.holds (t.taken == 0) e kind;
-  makes = λ since c t new a is step given settles. no_settle t.holds (t.taken == 0) settles;
+  shown = λ since c t e is kind. no_publish t.holds (t.taken == 0) e kind;
+  settled = λ since c t e is kind. no_make_durable t.holds (t.taken == 0) (subst IsMakeDurable (sym kind) tt);
+  founds = λ lane t v b e f kind. no_publish t.holds (t.taken == 0) e kind;
+  makes = λ since c t new a is step given settles. no_make_durable t.holds (t.taken == 0) settles;
   makes_not = λ since c t new a is step given settles made. made;
   tells = λ since c t new a e is step given kind. tt;
   kept = λ since opening lane c t new v w b right is f leaves settles. tt;

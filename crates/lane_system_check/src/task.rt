@@ -4,7 +4,7 @@ ghost use Rattle.lane_system_check.specs.Waiting.{lock_wants, wait_kind, wait_la
 
 use fs_trait::{Fs, FsErr, StepResult};
 use ost_types::{Name, NoMemory};
-use rely_guarantee::{CommandTask, Event, Step, Wants};
+use rely_guarantee::{CommandTask, Event, StepKind, Wants};
 
 /// The task of a wait.
 #[derive(Drop)]
@@ -44,11 +44,11 @@ impl CommandTask for WaitTask {
 
     ghost laws = { wait_laws };
 
-    fn kind(&self) -> Step {
+    fn kind(&self) -> StepKind {
         if self.holds && self.taken == 0 {
-            Step::Take(lock_wants())
+            StepKind::Take(lock_wants())
         } else {
-            Step::Quiet
+            StepKind::Quiet
         }
     }
 

@@ -5,7 +5,7 @@ ghost use Rattle.list_family.specs.Family.{list_kind, list_leaves, list_stepped,
 
 use fs_trait::{Fs, FsErr, StepResult};
 use ost_types::{Name, NoMemory};
-use rely_guarantee::{CommandTask, Event, Step};
+use rely_guarantee::{CommandTask, Event, StepKind};
 
 /// A task with nothing to do. No command of the family runs it, since the books alone answer them.
 #[derive(Drop)]
@@ -28,8 +28,8 @@ impl CommandTask for ListTask {
 
     ghost laws = { list_task_laws };
 
-    fn kind(&self) -> Step {
-        Step::Quiet
+    fn kind(&self) -> StepKind {
+        StepKind::Quiet
     }
 
     fn event(&self) -> Result<Event, NoMemory> {

@@ -34,7 +34,7 @@ use Rattle.prune_command.specs.SweepSteps.{Did, sweep_kind, sweep_needs, sweep_w
 abbrev pub change_of : PruneCommand → Sweeping → Event
 change_of t r = Pruned t.depth t.known.roots t.known.held r.removed
 
--- the lock of the lane that removes objects, and the one of the lane that shows a change
+-- the lock of the lane that removes objects, and the one of the lane that publishes a change
 abbrev pub prune_wants : Wants
 prune_wants = record { exclusive = true; turn = true; shared = false; sysroot = false; hold = None; pin = None }
 

@@ -27,7 +27,7 @@ use Rattle.rely_guarantee.specs.Books.{Books, Free}
 use Rattle.rely_guarantee.specs.Change.{Away, Dooms, Final, Shows, TakesNone}
 use Rattle.rely_guarantee.specs.Disks.{Logical, Says}
 use Rattle.rely_guarantee.specs.Laws as rely
-use Rattle.rely_guarantee.specs.Laws.{Chain, Claim, IsLastly, Kind, Quiet, Remove, Settle, Show, Shown, StepObligation, Take, Within}
+use Rattle.rely_guarantee.specs.Laws.{Chain, Claim, IsLastly, Kind, Quiet, Remove, MakeDurable, Publish, Published, StepObligation, Take, Within}
 use Rattle.rely_guarantee.specs.Rely.{Guarantee, HasNoRefs, NotPinned, may_at}
 use Rattle.rely_guarantee.specs.Removing.{IsGuarded, next_of}
 use Rattle.rely_guarantee.specs.State.{HasRoots, IsCommitOf, RefOf, Said, State, commits_of, target}
@@ -361,12 +361,12 @@ last_of t new step = ends_in t.phase t step.0 step.2
 
 -- no checkout is claimed
 sweep_unclaimed : (x : Part) (e : Event) (owed : ℕ) (name : Name) → sweep_kind x e owed ≡ Claim name → ⊥
-sweep_unclaimed part.Begin e owed name is = let no : Show e ≡ Claim name = is in cc
+sweep_unclaimed part.Begin e owed name is = let no : Publish e ≡ Claim name = is in cc
 sweep_unclaimed part.Commit e owed name is = let no : Remove e owed ≡ Claim name = is in cc
-sweep_unclaimed part.Barrier e owed name is = let no : Shown e owed ≡ Claim name = is in cc
+sweep_unclaimed part.Barrier e owed name is = let no : Published e owed ≡ Claim name = is in cc
 sweep_unclaimed part.Object e owed name is = let no : Remove e owed ≡ Claim name = is in cc
-sweep_unclaimed part.Mark e owed name is = let no : Shown e owed ≡ Claim name = is in cc
-sweep_unclaimed part.End e owed name is = let no : Settle e ≡ Claim name = is in cc
+sweep_unclaimed part.Mark e owed name is = let no : Published e owed ≡ Claim name = is in cc
+sweep_unclaimed part.End e owed name is = let no : MakeDurable e ≡ Claim name = is in cc
 sweep_unclaimed part.Over e owed name is = let no : Quiet ≡ Claim name = is in cc
 
 unclaimed_in : (p : Phase) (t : PruneCommand) (name : Name) → kind_in p t ≡ Claim name → ⊥

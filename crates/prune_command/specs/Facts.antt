@@ -3,12 +3,11 @@ use Rattle.std.specs.Prelude.{◌≡◌, ◌≢◌, ◌⊎◌, ℕ, List, Contai
 use Rattle.ost_types.specs.declared.object.Kind.TheVariants.{Commit}
 use Rattle.ost_types.specs.declared.object.ObjName.{ObjName}
 use Rattle.ost_types.specs.Path.{Path}
-use Rattle.fs_trait.specs.Seen.{IsDirectory, NotDirectory, shows}
+use Rattle.fs_trait.specs.Seen.{IsDirectory, shows}
 use Rattle.fs_trait.specs.View.{Disk, View}
 use Rattle.repo_layout.specs.declared.folder.Folder.TheVariants.{State}
 use Rattle.repo_layout.specs.Paths.{folder_path, mark_path, ref_path}
 use Rattle.repo_layout.specs.RefFile.{IsSum}
-use Rattle.repo_model.specs.Objects.{path_of}
 use Rattle.repo_model.specs.Trees.{name_of}
 use Rattle.reach.specs.Reach.{ObjNames}
 use Rattle.store_check.specs.Listing.{AreBelow, IsThere}
@@ -17,6 +16,7 @@ use Rattle.rely_guarantee.specs.Books.{Books}
 use Rattle.rely_guarantee.specs.Disks.{Says}
 use Rattle.rely_guarantee.specs.Removing.{IsOfState}
 use Rattle.rely_guarantee.specs.State.{RefOf}
+use Rattle.durable_store.specs.Free.{ObjectPathsFree}
 use Rattle.durable_store.specs.Removals.{AreKept, Except, IsSettled}
 use Rattle.durable_store.specs.Standing.{IsNeverThere}
 use Rattle.prune_mark.specs.Lasting.{ShowSameObjects}
@@ -43,16 +43,12 @@ pub record AreRootsOf (roots others : List ObjName) (lane : ℕ) (v : View) (b :
   pub right : (o : ObjName) → Contains roots o → IsOfRef v.now o
   pub held : (p : Pin) → Contains b.pins p → p.lane ≢ lane → Contains others p.object
 
--- no folder stands at the path of an object
-abbrev pub HasNoFolders : Disk → Type 0
-HasNoFolders d = (o : ObjName) → IsSum o.csum → NotDirectory (shows d (path_of o))
-
 -- The lane has both locks, and knows where it begins.
 pub record HasBegun (k : Known) (lane : ℕ) (v : View) (b : Books) : Type 0 where
   pub exclusive : b.exclusive ≡ Some lane
   pub turn : b.turn ≡ Some lane
   pub roots : AreRootsOf k.roots k.held lane v b
-  pub leaves : HasNoFolders v.now
+  pub leaves : ObjectPathsFree v.now
   pub state : IsDirectory (shows v.now (folder_path State))
 
 -- these are marks of commits that no crash leaves

@@ -31,12 +31,13 @@ use Rattle.prune_sweep.specs.declared.part.Part.TheVariants as part
 use Rattle.prune_sweep.specs.Sweeping.{Sweeping}
 use Rattle.prune_sweep.proofs.Below.{below_lasts}
 use Rattle.prune_sweep.proofs.Going.{swept_lasts}
+use Rattle.durable_store.specs.Free.{ObjectPathsFree}
 use Rattle.prune_command.specs.declared.command.PruneCommand.{PruneCommand}
 use Rattle.prune_command.specs.declared.known.Known.{Known}
 use Rattle.prune_command.specs.declared.phase.Phase.{Phase}
 use Rattle.prune_command.specs.declared.phase.Phase.TheVariants as phase
 use Rattle.prune_command.specs.Learned.{from_of}
-use Rattle.prune_command.specs.Facts.{AreNever, AreRootsOf, Facts, HasBegun, HasNoFolders, IsBehind, IsGoing, IsOfRef, KnownIn, SweepKnows}
+use Rattle.prune_command.specs.Facts.{AreNever, AreRootsOf, Facts, HasBegun, IsBehind, IsGoing, IsOfRef, KnownIn, SweepKnows}
 
 -- ---- from one view and its books to others
 
@@ -57,7 +58,7 @@ roots_on roots others lane v w b b' refs pins was = record {
     all o (RefOf name, Some c, s, may, says, commit, among, is) = was.all o (RefOf name, Some c, s, refs.may name c s says may, says, commit, among, is)
 
 pub begun_on : (k : Known) (lane : ℕ) (v w : View) (b b' : Books) → b'.exclusive ≡ Some lane → b'.turn ≡ Some lane → SparesRefs v w → ((p : Pin) → p.lane ≢ lane → Contains b'.pins p → Contains b.pins p)
-    → (HasNoFolders v.now → HasNoFolders w.now) → (IsDirectory (shows v.now (folder_path State)) → IsDirectory (shows w.now (folder_path State))) → HasBegun k lane v b → HasBegun k lane w b'
+    → (ObjectPathsFree v.now → ObjectPathsFree w.now) → (IsDirectory (shows v.now (folder_path State)) → IsDirectory (shows w.now (folder_path State))) → HasBegun k lane v b → HasBegun k lane w b'
 begun_on k lane v w b b' exclusive turn refs pins leaves state was = record {
   exclusive = exclusive;
   turn = turn;

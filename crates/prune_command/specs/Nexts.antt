@@ -47,13 +47,14 @@ use Rattle.prune_sweep.specs.Steps.{IsNext, IsNextMark}
 use Rattle.prune_sweep.specs.Sweeping.{Advances, AreFront, Follows, GoesOn, IsBehindCommits, IsBehindObjects, IsFresh, IsIn, IsSoFar, Sweeping, calls_of}
 use Rattle.prune_sweep.specs.Swept.{IsSwept}
 use Rattle.prune_sweep.proofs.Going.{at_taken, taken_at, swept_begins, swept_lasts, swept_more, unlinks_named}
+use Rattle.durable_store.specs.Free.{ObjectPathsFree}
 use Rattle.prune_command.specs.declared.command.PruneCommand.{PruneCommand}
 use Rattle.prune_command.specs.declared.known.Known.{Known}
 use Rattle.prune_command.specs.declared.phase.Phase.{Phase}
 use Rattle.prune_command.specs.declared.phase.Phase.TheVariants as phase
 use Rattle.prune_command.specs.Commands as command
 use Rattle.prune_command.specs.Commands.{change_of, kind_in, prune_kind, prune_leaves}
-use Rattle.prune_command.specs.Facts.{AreNever, Facts, HasBegun, HasNoFolders, IsBehind, IsGoing, IsToGo, KnownIn, SweepKnows}
+use Rattle.prune_command.specs.Facts.{AreNever, Facts, HasBegun, IsBehind, IsGoing, IsToGo, KnownIn, SweepKnows}
 use Rattle.prune_command.specs.Kept.{SparesRefs, begun_gains, begun_on, kept_pins, there_from}
 use Rattle.prune_command.specs.Learned.{from_of}
 use Rattle.prune_command.specs.SweepSteps.{Did, TookObject, sweep_kind}
@@ -76,7 +77,7 @@ module _ (v w : View) (W : Path → Seen → Type 0) (writes : Writes W v w) (sp
     now = λ name. ⊎_elim (λ same. same) (λ wrote. absurd (spares.refs name _ wrote)) (writes.now (ref_path name));
   }
 
-  own_leaves : HasNoFolders v.now → HasNoFolders w.now
+  own_leaves : ObjectPathsFree v.now → ObjectPathsFree w.now
   own_leaves leaves o sum = ⊎_elim
       (λ same. subst NotDirectory (sym same) (leaves o sum))
       (λ wrote. subst NotDirectory (sym (spares.vacant (path_of o) _ wrote)) tt)
@@ -386,7 +387,7 @@ module _ (k : Known) (depth lane : ℕ) (r : Sweeping) (v : View) (b : Books) (g
 -- ---- each step of the sweep
 
 module _ (k : Known) (depth lane : ℕ) (r new : Sweeping) (v w : View) (b b' : Books) (keeps : Keeps lane b b') (on : GoesOn r new) (so_far : IsSoFar r) (begun : HasBegun k lane v b) where
-  -- the change is shown
+  -- the change is published
   module _ (to_go : IsToGo k depth r v) where
     planned_there : (o : ObjName) (c : List ℕ) → Stores v.now o c → Stores to_go.planned o c
     planned_there o c has = stores_same v.now to_go.planned o c (sym (to_go.same o (IsSum-named o c has.named))) has

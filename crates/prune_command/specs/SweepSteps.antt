@@ -10,7 +10,7 @@ use Rattle.repo_layout.specs.Paths.{folder_path, mark_path}
 use Rattle.repo_model.specs.Objects.{path_of}
 use Rattle.store_check.specs.Listing.{IsThere}
 use Rattle.rely_guarantee.specs.declared.event.Event.{Event}
-use Rattle.rely_guarantee.specs.Laws.{Kind, Quiet, Remove, Settle, Show, Shown}
+use Rattle.rely_guarantee.specs.Laws.{Kind, Quiet, Remove, MakeDurable, Publish, Published}
 use Rattle.prune_sweep.specs.declared.part.Part.{Part}
 use Rattle.prune_sweep.specs.declared.part.Part.TheVariants as part
 use Rattle.prune_sweep.specs.Steps.{IsNext, IsNextMark}
@@ -21,12 +21,12 @@ use Rattle.prune_command.specs.declared.phase.Phase.TheVariants as phase
 
 -- The first step shows that these objects go. Each one goes in a step of its own, and the last sync makes it last.
 abbrev pub sweep_kind : Part → Event → ℕ → Kind
-sweep_kind part.Begin e owed = Show e
+sweep_kind part.Begin e owed = Publish e
 sweep_kind part.Commit e owed = Remove e owed
-sweep_kind part.Barrier e owed = Shown e owed
+sweep_kind part.Barrier e owed = Published e owed
 sweep_kind part.Object e owed = Remove e owed
-sweep_kind part.Mark e owed = Shown e owed
-sweep_kind part.End e owed = Settle e
+sweep_kind part.Mark e owed = Published e owed
+sweep_kind part.End e owed = MakeDurable e
 sweep_kind part.Over e owed = Quiet
 
 -- what is unlinked stands there, and marks have their folder

@@ -13,7 +13,7 @@ use fs_trait::{Fs, FsErr, StepResult};
 use ost_types::{Limits, Name, NoMemory, TryCopy};
 use prune_sweep::{Listing, Sweep};
 use ref_book::RefBook;
-use rely_guarantee::{CommandTask, Event, Pin, Step, Wants};
+use rely_guarantee::{CommandTask, Event, Pin, StepKind, Wants};
 use std::alloc::Global;
 use std::mem;
 
@@ -140,11 +140,11 @@ impl CommandTask for PruneCommand {
 
     ghost laws = { prune_laws };
 
-    fn kind(&self) -> Step {
+    fn kind(&self) -> StepKind {
         match &self.phase {
-            Phase::Waiting => Step::Take(prune_wants()),
+            Phase::Waiting => StepKind::Take(prune_wants()),
             Phase::Sweeping(sweep) => kind_of(sweep),
-            _ => Step::Quiet,
+            _ => StepKind::Quiet,
         }
     }
 

@@ -15,19 +15,19 @@ use crate::{Phase, PruneAnswer};
 use fs_trait::{Fs, FsErr, StepResult};
 use ost_types::{NoMemory, ObjNames};
 use prune_sweep::{Part, Sweep};
-use rely_guarantee::Step;
+use rely_guarantee::StepKind;
 use std::alloc::Global;
 
 /// What the next step is to the whole system.
-pub(crate) fn kind_of(sweep: &Sweep) -> Step
+pub(crate) fn kind_of(sweep: &Sweep) -> StepKind
     ensures { (e : Event) (owed : ℕ) → result ≡ step_of (sweep_kind sweep.now.part e owed) }
 {
     match sweep.part() {
-        Part::Begin => Step::Show,
-        Part::Commit | Part::Object => Step::Remove,
-        Part::Barrier | Part::Mark => Step::Shown,
-        Part::End => Step::Settle,
-        Part::Over => Step::Quiet,
+        Part::Begin => StepKind::Publish,
+        Part::Commit | Part::Object => StepKind::Remove,
+        Part::Barrier | Part::Mark => StepKind::Published,
+        Part::End => StepKind::MakeDurable,
+        Part::Over => StepKind::Quiet,
     }
 }
 

@@ -12,7 +12,7 @@ use Rattle.rely_guarantee.specs.declared.books.Pin.{Pin}
 use Rattle.rely_guarantee.specs.declared.event.Event.{Event}
 use Rattle.rely_guarantee.specs.declared.kind.Wants.{Wants}
 use Rattle.rely_guarantee.specs.Books.{Books}
-use Rattle.rely_guarantee.specs.Laws.{Kind, Quiet, Take, Claim, Show, Shown, Remove, Settle, Holds, IsSettle, NotPending}
+use Rattle.rely_guarantee.specs.Laws.{Kind, Quiet, Take, Claim, Publish, Published, Remove, MakeDurable, Holds, IsMakeDurable, NotPending}
 use Rattle.ref_book.specs.declared.book.RefBook.{RefBook}
 use Rattle.prune_sweep.specs.declared.part.Part.{Part}
 use Rattle.prune_sweep.specs.declared.part.Part.TheVariants as part
@@ -156,48 +156,48 @@ never_claims t name is = absurd (claims_none t.phase t name is)
 
 -- ---- the change that it makes
 
-part_show : (p : Part) (d : Event) (n : ℕ) (e : Event) → sweep_kind p d n ≡ Show e → d ≡ e
-part_show part.Begin d n e is = cc
-part_show part.Commit d n e is = cc
-part_show part.Barrier d n e is = cc
-part_show part.Object d n e is = cc
-part_show part.Mark d n e is = cc
-part_show part.End d n e is = cc
-part_show part.Over d n e is = cc
+part_publish : (p : Part) (d : Event) (n : ℕ) (e : Event) → sweep_kind p d n ≡ Publish e → d ≡ e
+part_publish part.Begin d n e is = cc
+part_publish part.Commit d n e is = cc
+part_publish part.Barrier d n e is = cc
+part_publish part.Object d n e is = cc
+part_publish part.Mark d n e is = cc
+part_publish part.End d n e is = cc
+part_publish part.Over d n e is = cc
 
-part_settle : (p : Part) (d : Event) (n : ℕ) (e : Event) → sweep_kind p d n ≡ Settle e → d ≡ e
-part_settle part.Begin d n e is = cc
-part_settle part.Commit d n e is = cc
-part_settle part.Barrier d n e is = cc
-part_settle part.Object d n e is = cc
-part_settle part.Mark d n e is = cc
-part_settle part.End d n e is = cc
-part_settle part.Over d n e is = cc
+part_make_durable : (p : Part) (d : Event) (n : ℕ) (e : Event) → sweep_kind p d n ≡ MakeDurable e → d ≡ e
+part_make_durable part.Begin d n e is = cc
+part_make_durable part.Commit d n e is = cc
+part_make_durable part.Barrier d n e is = cc
+part_make_durable part.Object d n e is = cc
+part_make_durable part.Mark d n e is = cc
+part_make_durable part.End d n e is = cc
+part_make_durable part.Over d n e is = cc
 
--- what is shown, and what is made to last
-shows_change : (p : Phase) (t : PruneCommand) (e : Event) → kind_in p t ≡ Show e → (r : Sweeping) × (change_of t r ≡ e)
+-- what is published, and what is made durable
+shows_change : (p : Phase) (t : PruneCommand) (e : Event) → kind_in p t ≡ Publish e → (r : Sweeping) × (change_of t r ≡ e)
 shows_change phase.Waiting t e is = cc
 shows_change phase.Unlearned t e is = cc
 shows_change (phase.Listing l) t e is = cc
 shows_change (phase.Marking m) t e is = cc
-shows_change (phase.Sweeping r) t e is = (r, part_show r.part (change_of t r) (calls_of r) e is)
+shows_change (phase.Sweeping r) t e is = (r, part_publish r.part (change_of t r) (calls_of r) e is)
 shows_change (phase.Over a) t e is = cc
 
-settles_change : (p : Phase) (t : PruneCommand) (e : Event) → kind_in p t ≡ Settle e → (r : Sweeping) × (p ≡ phase.Sweeping r) × (change_of t r ≡ e)
-settles_change phase.Waiting t e is = cc
-settles_change phase.Unlearned t e is = cc
-settles_change (phase.Listing l) t e is = cc
-settles_change (phase.Marking m) t e is = cc
-settles_change (phase.Sweeping r) t e is = (r, refl, part_settle r.part (change_of t r) (calls_of r) e is)
-settles_change (phase.Over a) t e is = cc
+makes_durable_change : (p : Phase) (t : PruneCommand) (e : Event) → kind_in p t ≡ MakeDurable e → (r : Sweeping) × (p ≡ phase.Sweeping r) × (change_of t r ≡ e)
+makes_durable_change phase.Waiting t e is = cc
+makes_durable_change phase.Unlearned t e is = cc
+makes_durable_change (phase.Listing l) t e is = cc
+makes_durable_change (phase.Marking m) t e is = cc
+makes_durable_change (phase.Sweeping r) t e is = (r, refl, part_make_durable r.part (change_of t r) (calls_of r) e is)
+makes_durable_change (phase.Over a) t e is = cc
 
-pub shows_prune : (since : Since) (c : PruneWords) (t : PruneCommand) (e : Event) → IsPruning since c t → prune_kind t ≡ Show e → IsPruneOf c.depth e
+pub shows_prune : (since : Since) (c : PruneWords) (t : PruneCommand) (e : Event) → IsPruning since c t → prune_kind t ≡ Publish e → IsPruneOf c.depth e
 shows_prune since c t e is kind = (let x = shows_change t.phase t e kind in subst (IsPruneOf c.depth) x.1 is.depth)
 
-pub settles_prune : (since : Since) (c : PruneWords) (t : PruneCommand) (e : Event) → IsPruning since c t → prune_kind t ≡ Settle e → IsPruneOf c.depth e
-settles_prune since c t e is kind = (let x = settles_change t.phase t e kind in subst (IsPruneOf c.depth) x.2 is.depth)
+pub makes_durable_prune : (since : Since) (c : PruneWords) (t : PruneCommand) (e : Event) → IsPruning since c t → prune_kind t ≡ MakeDurable e → IsPruneOf c.depth e
+makes_durable_prune since c t e is kind = (let x = makes_durable_change t.phase t e kind in subst (IsPruneOf c.depth) x.2 is.depth)
 
-pub shows_founded : (t : PruneCommand) (v : View) (e : Event) → prune_kind t ≡ Show e → Founds v e
+pub shows_founded : (t : PruneCommand) (v : View) (e : Event) → prune_kind t ≡ Publish e → Founds v e
 shows_founded t v e kind = (let x = shows_change t.phase t e kind in subst (Founds v) x.1 tt)
 
 -- ---- its answers
@@ -212,7 +212,7 @@ answer_is t new a step given =
     let one : step.0 ≡ a = cc in
     subst (Ends t.phase) one step.2
 
-made_in : (p : Phase) (t : PruneCommand) (a : PruneAnswer) → Ends p a → IsSettle (kind_in p t) → prune_makes a
+made_in : (p : Phase) (t : PruneCommand) (a : PruneAnswer) → Ends p a → IsMakeDurable (kind_in p t) → prune_makes a
 made_in p t (answer.Pruned kept removed) ends settles = tt
 made_in (phase.Sweeping r) t (answer.Outside o) ends settles = absurd ends
 made_in phase.Waiting t (answer.Outside o) ends settles = absurd settles
@@ -221,28 +221,28 @@ made_in (phase.Listing l) t (answer.Outside o) ends settles = absurd settles
 made_in (phase.Marking m) t (answer.Outside o) ends settles = absurd settles
 made_in (phase.Over b) t (answer.Outside o) ends settles = absurd settles
 
-pub ends_made : (t new : PruneCommand) (a : PruneAnswer) → prune_stepped t (turn.Done tt) new → prune_answer new ≡ Some a → IsSettle (prune_kind t) → prune_makes a
+pub ends_made : (t new : PruneCommand) (a : PruneAnswer) → prune_stepped t (turn.Done tt) new → prune_answer new ≡ Some a → IsMakeDurable (prune_kind t) → prune_makes a
 ends_made t new a step given = made_in t.phase t a (answer_is t new a step given)
 
-unmade_in : (p : Phase) (t : PruneCommand) (a : PruneAnswer) → IsOnItsWay p → Ends p a → (IsSettle (kind_in p t) → ⊥) → prune_makes a → ⊥
+unmade_in : (p : Phase) (t : PruneCommand) (a : PruneAnswer) → IsOnItsWay p → Ends p a → (IsMakeDurable (kind_in p t) → ⊥) → prune_makes a → ⊥
 unmade_in p t (answer.Outside o) way ends settles made = made
 unmade_in phase.Waiting t (answer.Pruned kept removed) way ends settles made = ends
 unmade_in phase.Unlearned t (answer.Pruned kept removed) way ends settles made = ends
 unmade_in (phase.Listing l) t (answer.Pruned kept removed) way ends settles made = ends
 unmade_in (phase.Marking m) t (answer.Pruned kept removed) way ends settles made = ends
-unmade_in (phase.Sweeping r) t (answer.Pruned kept removed) way ends settles made = ⊎_elim (λ last. settles (subst (λ x. IsSettle (sweep_kind x (change_of t r) (calls_of r))) (sym last) tt)) way ends.0
+unmade_in (phase.Sweeping r) t (answer.Pruned kept removed) way ends settles made = ⊎_elim (λ last. settles (subst (λ x. IsMakeDurable (sweep_kind x (change_of t r) (calls_of r))) (sym last) tt)) way ends.0
 unmade_in (phase.Over b) t (answer.Pruned kept removed) way ends settles made = way
 
-pub not_made : (since : Since) (c : PruneWords) (t new : PruneCommand) (a : PruneAnswer) → IsPruning since c t → prune_stepped t (turn.Done tt) new → prune_answer new ≡ Some a → (IsSettle (prune_kind t) → ⊥) → prune_makes a → ⊥
+pub not_made : (since : Since) (c : PruneWords) (t new : PruneCommand) (a : PruneAnswer) → IsPruning since c t → prune_stepped t (turn.Done tt) new → prune_answer new ≡ Some a → (IsMakeDurable (prune_kind t) → ⊥) → prune_makes a → ⊥
 not_made since c t new a is step given = unmade_in t.phase t a is.goes (answer_is t new a step given)
 
 tell_in : (t : PruneCommand) (r : Sweeping) (a : PruneAnswer) → Ends (phase.Sweeping r) a → prune_tells a (change_of t r)
 tell_in t r (answer.Pruned kept removed) ends = ends.2
 tell_in t r (answer.Outside o) ends = absurd ends
 
-pub ends_tell : (t new : PruneCommand) (a : PruneAnswer) (e : Event) → prune_stepped t (turn.Done tt) new → prune_answer new ≡ Some a → prune_kind t ≡ Settle e → prune_tells a e
+pub ends_tell : (t new : PruneCommand) (a : PruneAnswer) (e : Event) → prune_stepped t (turn.Done tt) new → prune_answer new ≡ Some a → prune_kind t ≡ MakeDurable e → prune_tells a e
 ends_tell t new a e step given kind =
-    let x = settles_change t.phase t e kind in
+    let x = makes_durable_change t.phase t e kind in
     subst (prune_tells a) x.2 (tell_in t x.0 a (subst (λ p. Ends p a) x.1 (answer_is t new a step given)))
 
 -- ---- what it writes holds no bytes

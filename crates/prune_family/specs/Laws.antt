@@ -14,7 +14,7 @@ use Rattle.prune_command.specs.Commands.{prune_kind, prune_leaves, prune_refuses
 use Rattle.prune_command.specs.Facts.{prune_facts}
 use Rattle.prune_family.specs.declared.task.PruneTask.{PruneTask}
 use Rattle.prune_family.specs.Family.{prune_doing, prune_means}
-use Rattle.prune_family.specs.Kinds.{asks_both, begins_of, begun_holds, ends_made, ends_tell, goes_on_its_way, has_answer, learns_on, never_claims, never_pins, not_made, settles_prune, shows_founded, shows_prune, writes_no_bytes}
+use Rattle.prune_family.specs.Kinds.{asks_both, begins_of, begun_holds, ends_made, ends_tell, goes_on_its_way, has_answer, learns_on, never_claims, never_pins, not_made, makes_durable_prune, shows_founded, shows_prune, writes_no_bytes}
 use Rattle.prune_family.specs.Learning.{learn_facts, learn_kind, learn_left}
 use Rattle.prune_family.specs.Removing.{ends_of, keeps_of, no_checkout, no_stage, removes_of, takes_of, vacant_only}
 use Rattle.prune_family.specs.Says.{ends_say, outside_no}
@@ -58,7 +58,7 @@ learn_laws = record {
 change_laws : ChangeLaws prune_tasks prune_means prune_doing
 change_laws = record {
   shown = λ since c t e is kind. shows_prune since c t.work e is kind;
-  settled = λ since c t e is kind. settles_prune since c t.work e is kind;
+  settled = λ since c t e is kind. makes_durable_prune since c t.work e is kind;
   founds = λ lane t v b e f kind. shows_founded t.work v e kind;
   makes = λ since c t new a is step given settles. ends_made t.work new.work a step given settles;
   makes_not = λ since c t new a is step given settles made. not_made since c t.work new.work a is step given settles made;

@@ -18,7 +18,7 @@ use Rattle.repo_model.specs.Objects.{Store, path_of}
 use Rattle.store_check.specs.Listing.{IsThere}
 use Rattle.rely_guarantee.specs.declared.event.Event.{Event}
 use Rattle.rely_guarantee.specs.Books.{Books}
-use Rattle.rely_guarantee.specs.Laws.{Quiet, Remove, Settle, Show, Shown, Take}
+use Rattle.rely_guarantee.specs.Laws.{Quiet, Remove, MakeDurable, Publish, Published, Take}
 use Rattle.rely_guarantee.specs.Removing.{next_of}
 use Rattle.durable_store.specs.Removals.{AreDifferent, Except, IsSettled}
 use Rattle.durable_store.specs.Writing.{KeepsStore}
@@ -150,7 +150,7 @@ module _ (k : Known) (depth lane : ℕ) (r : Sweeping) (v : View) (b : Books) (s
   sweep_removes part.Over e owed is knows removing = absurd removing
 
   sweep_takes : (x : Part) (d e : Event) (calls owed : ℕ) (o : ObjName) → SweepKnows x k depth lane r v b → sweep_kind x d calls ≡ Remove e owed → Contains (next_of b) o → IsThere v.now o
-  sweep_takes part.Begin d e calls owed o knows is has = (let no : Show d ≡ Remove e owed = is in cc)
+  sweep_takes part.Begin d e calls owed o knows is has = (let no : Publish d ≡ Remove e owed = is in cc)
   sweep_takes part.Commit d e calls owed o going is has = next_there k depth lane r v b going o has
   sweep_takes part.Barrier d e calls owed o going is has = next_there k depth lane r v b going o has
   sweep_takes part.Object d e calls owed o going is has = next_there k depth lane r v b going o has
@@ -158,12 +158,12 @@ module _ (k : Known) (depth lane : ℕ) (r : Sweeping) (v : View) (b : Books) (s
   sweep_takes part.End d e calls owed o going is has = next_there k depth lane r v b going o has
   sweep_takes part.Over d e calls owed o knows is has = absurd knows
 
-  sweep_ends : (x : Part) (d e : Event) (calls : ℕ) (w : View) → r.part ≡ x → SweepKnows x k depth lane r v b → sweep_kind x d calls ≡ Settle e → Did x r v w → AreRemoved b v w
-  sweep_ends part.Begin d e calls w at knows is did = (let no : Show d ≡ Settle e = is in cc)
-  sweep_ends part.Commit d e calls w at going is did = (let no : Remove d calls ≡ Settle e = is in cc)
-  sweep_ends part.Barrier d e calls w at going is did = (let no : Shown d calls ≡ Settle e = is in cc)
-  sweep_ends part.Object d e calls w at going is did = (let no : Remove d calls ≡ Settle e = is in cc)
-  sweep_ends part.Mark d e calls w at going is did = (let no : Shown d calls ≡ Settle e = is in cc)
+  sweep_ends : (x : Part) (d e : Event) (calls : ℕ) (w : View) → r.part ≡ x → SweepKnows x k depth lane r v b → sweep_kind x d calls ≡ MakeDurable e → Did x r v w → AreRemoved b v w
+  sweep_ends part.Begin d e calls w at knows is did = (let no : Publish d ≡ MakeDurable e = is in cc)
+  sweep_ends part.Commit d e calls w at going is did = (let no : Remove d calls ≡ MakeDurable e = is in cc)
+  sweep_ends part.Barrier d e calls w at going is did = (let no : Published d calls ≡ MakeDurable e = is in cc)
+  sweep_ends part.Object d e calls w at going is did = (let no : Remove d calls ≡ MakeDurable e = is in cc)
+  sweep_ends part.Mark d e calls w at going is did = (let no : Published d calls ≡ MakeDurable e = is in cc)
   sweep_ends part.End d e calls w at going is did = all_removed k depth lane r v b going w (in_part part.End at).0 did
   sweep_ends part.Over d e calls w at knows is did = absurd knows
 
@@ -203,11 +203,11 @@ takes_in (phase.Marking m) t lane v b e owed o known is has = (let no : Quiet �
 takes_in (phase.Sweeping r) t lane v b e owed o known is has = sweep_takes t.known t.depth lane r v b known.1 r.part (change_of t r) e (calls_of r) owed o known.2 is has
 takes_in (phase.Over a) t lane v b e owed o known is has = (let no : Quiet ≡ Remove e owed = is in cc)
 
-ends_in : (p : Phase) (t : PruneCommand) (lane : ℕ) (v w : View) (b : Books) (e : Event) (a : PruneAnswer) → KnownIn p t lane v b → kind_in p t ≡ Settle e → Tells t p a v w → AreRemoved b v w
-ends_in phase.Waiting t lane v w b e a known is tells = (let no : Take prune_wants ≡ Settle e = is in cc)
-ends_in phase.Unlearned t lane v w b e a known is tells = (let no : Quiet ≡ Settle e = is in cc)
-ends_in (phase.Listing l) t lane v w b e a known is tells = (let no : Quiet ≡ Settle e = is in cc)
-ends_in (phase.Marking m) t lane v w b e a known is tells = (let no : Quiet ≡ Settle e = is in cc)
+ends_in : (p : Phase) (t : PruneCommand) (lane : ℕ) (v w : View) (b : Books) (e : Event) (a : PruneAnswer) → KnownIn p t lane v b → kind_in p t ≡ MakeDurable e → Tells t p a v w → AreRemoved b v w
+ends_in phase.Waiting t lane v w b e a known is tells = (let no : Take prune_wants ≡ MakeDurable e = is in cc)
+ends_in phase.Unlearned t lane v w b e a known is tells = (let no : Quiet ≡ MakeDurable e = is in cc)
+ends_in (phase.Listing l) t lane v w b e a known is tells = (let no : Quiet ≡ MakeDurable e = is in cc)
+ends_in (phase.Marking m) t lane v w b e a known is tells = (let no : Quiet ≡ MakeDurable e = is in cc)
 ends_in (phase.Sweeping r) t lane v w b e (answer.Pruned kept removed) known is tells = sweep_ends t.known t.depth lane r v b known.1 r.part (change_of t r) e (calls_of r) w refl known.2 is tells
 ends_in (phase.Sweeping r) t lane v w b e (answer.Outside o) known is tells = absurd tells
 ends_in (phase.Over x) t lane v w b e a known is tells = absurd known
@@ -239,7 +239,7 @@ pub takes_of : (lane : ℕ) (t new : PruneCommand) (v w : View) (b : Books) (e :
 takes_of lane t new v w b e owed o f is leaves has = takes_in t.phase t lane v b e owed o f.known is has
 
 -- behind the last one all of it is gone for good
-pub ends_of : (lane : ℕ) (t new : PruneCommand) (v w : View) (b : Books) (e : Event) → prune_facts lane t v b → prune_kind t ≡ Settle e → IsPrune e → prune_leaves t (turn.Done tt) new v w → AreRemoved b v w
+pub ends_of : (lane : ℕ) (t new : PruneCommand) (v w : View) (b : Books) (e : Event) → prune_facts lane t v b → prune_kind t ≡ MakeDurable e → IsPrune e → prune_leaves t (turn.Done tt) new v w → AreRemoved b v w
 ends_of lane t new v w b e f is prune leaves = ends_in t.phase t lane v w b e leaves.0 f.known is leaves.3
 
 -- each other step writes nothing

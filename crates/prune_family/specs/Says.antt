@@ -213,8 +213,8 @@ shown_in phase.Unlearned t lane v w b a known ends told = absurd ends
 shown_in (phase.Listing l) t lane v w b a known ends told = absurd ends
 shown_in (phase.Over x) t lane v w b a known ends told = absurd known
 
-ends_show : (lane : ℕ) (t new : PruneCommand) (v w : View) (b : Books) (a : PruneAnswer) → prune_facts lane t v b → prune_leaves t (turn.Done tt) new v w → prune_answer new ≡ Some a → Says t.depth t.limits.content v.now a
-ends_show lane t new v w b a f leaves given =
+ends_publish : (lane : ℕ) (t new : PruneCommand) (v w : View) (b : Books) (a : PruneAnswer) → prune_facts lane t v b → prune_leaves t (turn.Done tt) new v w → prune_answer new ≡ Some a → Says t.depth t.limits.content v.now a
+ends_publish lane t new v w b a f leaves given =
     subst (Says t.depth t.limits.content v.now) same (shown_in t.phase t lane v w b leaves.0 f.known leaves.2 leaves.3)
   where
     same : leaves.0 ≡ a
@@ -230,7 +230,7 @@ outside_none limits v path good says =
 
 pub ends_say : (since : Since) (lane : ℕ) (c : PruneWords) (t new : PruneCommand) (v w : View) (b : Books) (a : PruneAnswer) → IsPruning since c t → prune_facts lane t v b → prune_leaves t (turn.Done tt) new v w → prune_answer new ≡ Some a → Says c.depth since.limits.content v.now a
 ends_say since lane c t new v w b a is f leaves given =
-    subst (λ (n : ℕ). Says n since.limits.content v.now a) is.depth (subst (λ (l : Limits). Says t.depth l.content v.now a) is.limits (ends_show lane t new v w b a f leaves given))
+    subst (λ (n : ℕ). Says n since.limits.content v.now a) is.depth (subst (λ (l : Limits). Says t.depth l.content v.now a) is.limits (ends_publish lane t new v w b a f leaves given))
 
 pub outside_no : (limits : Limits) (depth : ℕ) (v : View) (a : PruneAnswer) → IsGoodStore limits v.now → Says depth limits.content v.now a → prune_outside a → ⊥
 outside_no limits depth v (answer.Outside path) good says outside = outside_none limits v path good says

@@ -6,7 +6,7 @@ ghost use Rattle.prune_command.specs.Laws.{prune_laws};
 use fs_trait::{Fs, FsErr, StepResult};
 use ost_types::{Name, NoMemory};
 use prune_command::PruneCommand;
-use rely_guarantee::{CommandTask, Event, Step};
+use rely_guarantee::{CommandTask, Event, StepKind};
 
 /// The task of a prune.
 #[derive(Drop)]
@@ -31,7 +31,7 @@ impl CommandTask for PruneTask {
 
     ghost laws = { laws_along (λ t. t.work) prune_laws };
 
-    fn kind(&self) -> Step {
+    fn kind(&self) -> StepKind {
         self.work.kind()
     }
 

@@ -11,7 +11,7 @@ use crate::commits::{pin_wants, sum_of_commit};
 use crate::{Ask, Cat, Log, Look, Ls, ReadAnswer};
 use fs_trait::{Fs, FsErr, StepResult};
 use ost_types::{Csum, FsPath, Limits, Name, NoMemory};
-use rely_guarantee::{CommandTask, Event, Step};
+use rely_guarantee::{CommandTask, Event, StepKind};
 use std::alloc::Global;
 
 /// A command that reads a commit. Each step reads at most one object.
@@ -126,11 +126,11 @@ impl CommandTask for ReadCommand {
 
     ghost laws = { read_laws };
 
-    fn kind(&self) -> Step {
+    fn kind(&self) -> StepKind {
         match self {
-            ReadCommand::Look(look) => Step::Take(pin_wants(look.commit())),
+            ReadCommand::Look(look) => StepKind::Take(pin_wants(look.commit())),
             ReadCommand::Log(log) => log.kind(),
-            ReadCommand::Cat(_) | ReadCommand::Ls(_) | ReadCommand::Ended(_) => Step::Quiet,
+            ReadCommand::Cat(_) | ReadCommand::Ls(_) | ReadCommand::Ended(_) => StepKind::Quiet,
         }
     }
 

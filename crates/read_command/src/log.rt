@@ -14,7 +14,7 @@ use crate::objects::look_at_commit;
 use fs_trait::{Fs, FsErr};
 use ost_forms::Commit;
 use ost_types::{Csum, Kind, Limits, NoMemory};
-use rely_guarantee::Step;
+use rely_guarantee::StepKind;
 use script::LogRow;
 use std::alloc::Global;
 use std::mem;
@@ -48,13 +48,13 @@ impl Log {
     }
 
     /// The first commit is pinned already; each other one is pinned when it is read.
-    pub(crate) fn kind(&self) -> Step
+    pub(crate) fn kind(&self) -> StepKind
         ensures { result ≡ step_of (log_kind self.now.rows.items self.now.next) }
     {
         if self.rows.is_empty() {
-            Step::Quiet
+            StepKind::Quiet
         } else {
-            Step::Take(pin_wants(&self.next))
+            StepKind::Take(pin_wants(&self.next))
         }
     }
 

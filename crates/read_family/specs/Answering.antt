@@ -54,9 +54,9 @@ ends_say since p c t new NoRef is step given = absurd (outer (answer_of new) giv
 ends_say since p c t new (Read a) is step given =
     (is.0, is.1, fitting t new (record { limits = since.limits; commit = is.0; ask = c.ask }) a is.2 step (inner (answer_of new) a given))
 
-pub ends_show : (since : Since) (lane : ℕ) (c : ReadWords) (t new : ReadCommand) (v w : View) (b : Books) (a : ReadReply) → read_pursues since c t → read_facts lane t v b → read_leaves t (turn.Done tt) new v w → read_reply (answer_of new) ≡ Some a → read_shows since v a c
-ends_show since lane c t new v w b NoRef is f leaves given = tt
-ends_show since lane c t new v w b (Read a) is f leaves given =
+pub ends_publish : (since : Since) (lane : ℕ) (c : ReadWords) (t new : ReadCommand) (v w : View) (b : Books) (a : ReadReply) → read_pursues since c t → read_facts lane t v b → read_leaves t (turn.Done tt) new v w → read_reply (answer_of new) ≡ Some a → read_shows since v a c
+ends_publish since lane c t new v w b NoRef is f leaves given = tt
+ends_publish since lane c t new v w b (Read a) is f leaves given =
     let at = inner (answer_of new) a given in (
       is.0,
       is.1,

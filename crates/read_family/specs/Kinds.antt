@@ -7,7 +7,7 @@ use Rattle.repo_model.specs.Objects.{Stores}
 use Rattle.rely_guarantee.specs.declared.event.Event.{Event}
 use Rattle.rely_guarantee.specs.declared.kind.Wants.{Wants}
 use Rattle.rely_guarantee.specs.Books.{Books}
-use Rattle.rely_guarantee.specs.Laws.{Show, Store, Take, IsBy, IsSettle, Holds, NotPending}
+use Rattle.rely_guarantee.specs.Laws.{Publish, Store, Take, IsBy, IsMakeDurable, Holds, NotPending}
 use Rattle.ref_command.specs.Commands.{pin_wants}
 use Rattle.ref_command.specs.Found.{commit_name}
 use Rattle.script.specs.declared.rows.LogRow.{LogRow}
@@ -25,27 +25,27 @@ use Rattle.command.specs.StepLaws.{AsksInOrder, asks_in_order}
 use Rattle.read_family.specs.Family.{Reaches, reaches_of, works_of}
 
 -- only the lane itself takes its steps, and they show, settle and remove nothing
-log_apart : {P : Type 0} (rows : List LogRow) (next : List ℕ) (e : Event) → log_kind rows next ≡ Show e → P
+log_apart : {P : Type 0} (rows : List LogRow) (next : List ℕ) (e : Event) → log_kind rows next ≡ Publish e → P
 log_apart [] next e is = cc
 log_apart (r ∷ rows) next e is = cc
 
-pub no_show : {P : Type 0} (t : ReadCommand) (e : Event) → read_kind t ≡ Show e → P
-no_show (Look l) e is = cc
-no_show (Cat c) e is = cc
-no_show (Ls s) e is = cc
-no_show (Log g) e is = log_apart g.rows.items g.next e is
-no_show (Ended a) e is = cc
+pub no_publish : {P : Type 0} (t : ReadCommand) (e : Event) → read_kind t ≡ Publish e → P
+no_publish (Look l) e is = cc
+no_publish (Cat c) e is = cc
+no_publish (Ls s) e is = cc
+no_publish (Log g) e is = log_apart g.rows.items g.next e is
+no_publish (Ended a) e is = cc
 
-log_unsettled : (rows : List LogRow) (next : List ℕ) → IsSettle (log_kind rows next) → ⊥
+log_unsettled : (rows : List LogRow) (next : List ℕ) → IsMakeDurable (log_kind rows next) → ⊥
 log_unsettled [] next is = is
 log_unsettled (r ∷ rows) next is = is
 
-pub no_settle : (t : ReadCommand) → IsSettle (read_kind t) → ⊥
-no_settle (Look l) is = is
-no_settle (Cat c) is = is
-no_settle (Ls s) is = is
-no_settle (Log g) is = log_unsettled g.rows.items g.next is
-no_settle (Ended a) is = is
+pub no_make_durable : (t : ReadCommand) → IsMakeDurable (read_kind t) → ⊥
+no_make_durable (Look l) is = is
+no_make_durable (Cat c) is = is
+no_make_durable (Ls s) is = is
+no_make_durable (Log g) is = log_unsettled g.rows.items g.next is
+no_make_durable (Ended a) is = is
 
 log_stays : (rows : List LogRow) (next : List ℕ) → IsRemoving (log_kind rows next) → ⊥
 log_stays [] next is = is

@@ -2,7 +2,7 @@
 use Rattle.std.proofs.Common.{⊎_elim, refl, sym, ◌∙◌, subst, arith}
 use Rattle.fs_trait.specs.Seen.{NotDirectory}
 use Rattle.repo_layout.specs.Paths.{stage_path}
-use Rattle.rely_guarantee.specs.Laws.{IsClaim, IsSettle}
+use Rattle.rely_guarantee.specs.Laws.{IsClaim, IsMakeDurable}
 use Rattle.read_command.specs.Commands.{read_facts, read_kind, read_leaves, read_refuses, read_stepped, read_writes}
 use Rattle.read_command.specs.Laws.{no_read_claim}
 use Rattle.read_command.proofs.Ends.{begins_of}
@@ -19,9 +19,9 @@ use Rattle.command.specs.Tasks.{TaskSpec, task_spec}
 use Rattle.read_family.specs.declared.task.ReadTask.{ReadTask}
 use Rattle.durable_store.proofs.Silent.{silent_keeps}
 use Rattle.read_family.specs.Alone.{reads_alone}
-use Rattle.read_family.specs.Answering.{ends_say, ends_show, has_answer, lacks_none, outside_none}
+use Rattle.read_family.specs.Answering.{ends_say, ends_publish, has_answer, lacks_none, outside_none}
 use Rattle.read_family.specs.Family.{read_doing, read_means}
-use Rattle.read_family.specs.Kinds.{no_settle, no_show, pins_reach, pins_work, read_holds, reads_light, reads_stay}
+use Rattle.read_family.specs.Kinds.{no_make_durable, no_publish, pins_reach, pins_work, read_holds, reads_light, reads_stay}
 
 abbrev pub read_tasks : TaskSpec ReadTask
 read_tasks = task_spec (λ t. read_kind t.work) (λ actor t. read_writes actor t.work) (λ t u new. read_stepped t.work u new.work) (λ t u new. read_leaves t.work u new.work) (λ t. read_refuses t.work) (λ lane t. read_facts lane t.work)
@@ -53,10 +53,10 @@ learn_laws = no_learning read_tasks read_doing (λ refs pins t new is. is)
 
 change_laws : ChangeLaws read_tasks read_means read_doing
 change_laws = record {
-  shown = λ since c t e is kind. no_show t.work e kind;
-  settled = λ since c t e is kind. no_settle t.work (subst IsSettle (sym kind) tt);
-  founds = λ lane t v b e f kind. no_show t.work e kind;
-  makes = λ since c t new a is step given settles. no_settle t.work settles;
+  shown = λ since c t e is kind. no_publish t.work e kind;
+  settled = λ since c t e is kind. no_make_durable t.work (subst IsMakeDurable (sym kind) tt);
+  founds = λ lane t v b e f kind. no_publish t.work e kind;
+  makes = λ since c t new a is step given settles. no_make_durable t.work settles;
   makes_not = λ since c t new a is step given settles made. made;
   tells = λ since c t new a e is step given kind. tt;
   kept = λ since opening lane c t new v w b right is f leaves settles. tt;
@@ -70,7 +70,7 @@ answer_laws : AnswerLaws read_tasks read_means read_doing
 answer_laws = record {
   answers = λ since c t new is. has_answer t.work new.work;
   says = λ since p c t new a. ends_say since p c t.work new.work a;
-  shows = λ since lane c t new v w b a is f leaves given sound. ends_show since lane c t.work new.work v w b a is f leaves given;
+  shows = λ since lane c t new v w b a is f leaves given sound. ends_publish since lane c t.work new.work v w b a is f leaves given;
   knows = λ since p lane c t new v w b a is f leaves given sees. tt;
   lacks_alone = λ since lane c t new v w b a commit is f leaves given lacks sum. reads_alone t.work new.work v w a commit leaves given lacks sum;
   lacks = lacks_none;

@@ -5,7 +5,7 @@ ghost use Rattle.read_command.specs.Laws.{read_laws};
 use fs_trait::{Fs, FsErr, StepResult};
 use ost_types::{Name, NoMemory};
 use read_command::ReadCommand;
-use rely_guarantee::{CommandTask, Event, Step};
+use rely_guarantee::{CommandTask, Event, StepKind};
 
 /// The task of a command that reads a commit.
 #[derive(Drop)]
@@ -30,7 +30,7 @@ impl CommandTask for ReadTask {
 
     ghost laws = { laws_along (λ t. t.work) read_laws };
 
-    fn kind(&self) -> Step {
+    fn kind(&self) -> StepKind {
         self.work.kind()
     }
 

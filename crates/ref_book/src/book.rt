@@ -10,7 +10,7 @@ use std::alloc::Global;
 use std::collections::BTreeMap;
 
 /// What each ref names, found by its name in a time that grows with the logarithm of their number. Room for a ref is taken
-/// before its change is shown, so that the change itself takes no memory.
+/// before its change is published, so that the change itself takes no memory.
 #[derive(Drop)]
 pub struct RefBook {
     alloc: Global,

@@ -23,7 +23,7 @@ use Rattle.rely_guarantee.specs.SystemInvariant.{Stands}
 use Rattle.rely_guarantee.specs.State.{State}
 use Rattle.rely_guarantee.specs.declared.books.Entry.{Entry}
 use Rattle.rely_guarantee.specs.declared.books.Pending.{Pending}
-use Rattle.rely_guarantee.specs.Laws.{Settle}
+use Rattle.rely_guarantee.specs.Laws.{MakeDurable}
 use Rattle.ref_command.specs.declared.work.RefWork.{RefWork}
 use Rattle.ref_command.specs.declared.look_up.LookUp.{LookUp}
 use Rattle.ref_command.specs.declared.plan.Plan.{Plan}
@@ -50,30 +50,30 @@ reset_says Missing commit a t v w stop e is = let k : answer.NoCommit commit ≡
 reset_says Partial commit a t v w stop e is = let k : answer.Partial commit ≡ a = cc in subst (λ x. Says x t v w) k is
 reset_says Whole commit a t v w stop e is = absurd stop
 
-put_settles : (ph : staged.Phase) (e : Event) → staging.is_last ph ≡ true → IsRunning (progress_of ph) → put_kind ph e ≡ Settle e
-put_settles file.SyncFolder e last runs = refl
-put_settles file.Ended e last runs = absurd runs
-put_settles file.Clear e last runs = let n : false ≡ true = last in cc
-put_settles file.Create e last runs = let n : false ≡ true = last in cc
-put_settles file.Append e last runs = let n : false ≡ true = last in cc
-put_settles file.SyncFile e last runs = let n : false ≡ true = last in cc
-put_settles file.Look e last runs = let n : false ≡ true = last in cc
-put_settles file.Replace e last runs = let n : false ≡ true = last in cc
+put_makes_durable : (ph : staged.Phase) (e : Event) → staging.is_last ph ≡ true → IsRunning (progress_of ph) → put_kind ph e ≡ MakeDurable e
+put_makes_durable file.SyncFolder e last runs = refl
+put_makes_durable file.Ended e last runs = absurd runs
+put_makes_durable file.Clear e last runs = let n : false ≡ true = last in cc
+put_makes_durable file.Create e last runs = let n : false ≡ true = last in cc
+put_makes_durable file.Append e last runs = let n : false ≡ true = last in cc
+put_makes_durable file.SyncFile e last runs = let n : false ≡ true = last in cc
+put_makes_durable file.Look e last runs = let n : false ≡ true = last in cc
+put_makes_durable file.Replace e last runs = let n : false ≡ true = last in cc
 
-pub settles_in : (ph : Phase) (e : Event) → IsLast ph → IsRunning (progress_in ph) → kind_in ph e ≡ Settle e
-settles_in phase.Look e last runs = absurd last
-settles_in (phase.Clear c) e last runs = absurd last
-settles_in (phase.Walk y) e last runs = absurd last
-settles_in (phase.Put g) e last runs = put_settles g.phase e last runs
-settles_in phase.Unlink e last runs = absurd last
-settles_in phase.SyncFolder e last runs = refl
-settles_in phase.Ended e last runs = absurd runs
+pub makes_durable_in : (ph : Phase) (e : Event) → IsLast ph → IsRunning (progress_in ph) → kind_in ph e ≡ MakeDurable e
+makes_durable_in phase.Look e last runs = absurd last
+makes_durable_in (phase.Clear c) e last runs = absurd last
+makes_durable_in (phase.Walk y) e last runs = absurd last
+makes_durable_in (phase.Put g) e last runs = put_makes_durable g.phase e last runs
+makes_durable_in phase.Unlink e last runs = absurd last
+makes_durable_in phase.SyncFolder e last runs = refl
+makes_durable_in phase.Ended e last runs = absurd runs
 
 change_says : (lane : ℕ) (work new : RefWork) (r : Answer) (v w : View) (b : Books) (a : RefAnswer) → Facts lane work.task v b → leaves_in (turn.Done tt) r work.task new.task v w → change_answer r ≡ Some a → Says a (Change work) v w
 change_says lane work new None v w b a f l e = absurd l
 change_says lane work new (Some (Ok x)) v w b a f l e =
     let k : answer.Changed ≡ a = cc in
-    subst (λ y. Says y (Change work) v w) k (settles_in work.task.phase (event work.task) l.stepped.1 f.runs)
+    subst (λ y. Says y (Change work) v w) k (makes_durable_in work.task.phase (event work.task) l.stepped.1 f.runs)
 change_says lane work new (Some (Err (refusal.RefMoved seen now))) v w b a f l e =
     let k : answer.RefMoved seen now ≡ a = cc in
     subst (λ y. Says y (Change work) v w) k (work.task.name, (refl, sym l.tells.1), l.tells.2, l.tells.3)

@@ -11,19 +11,19 @@ use Rattle.ref_store.specs.declared.progress.Progress.{Progress}
 use Rattle.ref_store.specs.declared.progress.Progress.TheVariants as progress
 use Rattle.ref_store.specs.Change.{Change, Follows, Takes, is_owed, owed_after}
 use Rattle.rely_guarantee.specs.declared.event.Event.{Event}
-use Rattle.rely_guarantee.specs.Laws.{Kind, Quiet, Store, Take, Claim, Show, Shown, Remove, Settle, IsShow, IsSettle, IsLastly, KeepsRoom, owed_by}
+use Rattle.rely_guarantee.specs.Laws.{Kind, Quiet, Store, Take, Claim, Publish, Published, Remove, MakeDurable, IsPublish, IsMakeDurable, IsLastly, KeepsRoom, owed_by}
 use Rattle.ref_command.specs.declared.look_up.Found.{Found}
 use Rattle.ref_command.specs.Commands.{found_kind}
 use Rattle.ref_command.specs.Kinds.{kind_at, kind_in, put_kind, turn_wants}
 
-pub kind_shows : (p : Progress) (d e : Event) → kind_at p d ≡ Show e → d ≡ e
+pub kind_shows : (p : Progress) (d e : Event) → kind_at p d ≡ Publish e → d ≡ e
 kind_shows progress.Showing d e is = cc
-kind_shows progress.Looking d e is = let n : Take turn_wants ≡ Show e = is in cc
-kind_shows progress.Preparing d e is = let n : Quiet ≡ Show e = is in cc
-kind_shows progress.Settling d e is = let n : Settle d ≡ Show e = is in cc
-kind_shows progress.Ended d e is = let n : Quiet ≡ Show e = is in cc
+kind_shows progress.Looking d e is = let n : Take turn_wants ≡ Publish e = is in cc
+kind_shows progress.Preparing d e is = let n : Quiet ≡ Publish e = is in cc
+kind_shows progress.Settling d e is = let n : MakeDurable d ≡ Publish e = is in cc
+kind_shows progress.Ended d e is = let n : Quiet ≡ Publish e = is in cc
 
-put_ticks : (ph : staged.Phase) (e : Event) (a b : ℕ) → IsSettle (put_kind ph e) → staging.Takes ph a b → Next a b
+put_ticks : (ph : staged.Phase) (e : Event) (a b : ℕ) → IsMakeDurable (put_kind ph e) → staging.Takes ph a b → Next a b
 put_ticks file.SyncFolder e a b settles takes = takes
 put_ticks file.Clear e a b settles takes = absurd settles
 put_ticks file.Create e a b settles takes = absurd settles
@@ -34,7 +34,7 @@ put_ticks file.Replace e a b settles takes = absurd settles
 put_ticks file.Ended e a b settles takes = absurd settles
 
 -- the sync that settles ticks
-pub settle_ticks : (ph : Phase) (e : Event) (a b : ℕ) → IsSettle (kind_in ph e) → Takes ph a b → Next a b
+pub settle_ticks : (ph : Phase) (e : Event) (a b : ℕ) → IsMakeDurable (kind_in ph e) → Takes ph a b → Next a b
 settle_ticks phase.Look e a b settles takes = absurd settles
 settle_ticks (phase.Clear c) e a b settles takes = absurd settles
 settle_ticks (phase.Walk y) e a b settles takes = absurd settles
@@ -65,7 +65,7 @@ owed_is phase.Unlink e some = no_owed some
 owed_is phase.SyncFolder e some = refl
 owed_is phase.Ended e some = no_owed some
 
-put_after : (ph : staged.Phase) (s : staging.Staged) (d e : Event) → IsShow (put_kind ph d) → owed_by (put_kind (staging.next_in ph s).phase e) ≤ staging.owed_after ph
+put_after : (ph : staged.Phase) (s : staging.Staged) (d e : Event) → IsPublish (put_kind ph d) → owed_by (put_kind (staging.next_in ph s).phase e) ≤ staging.owed_after ph
 put_after file.Replace s d e shows = omega arith
 put_after file.Clear s d e shows = absurd shows
 put_after file.Create s d e shows = absurd shows
@@ -75,8 +75,8 @@ put_after file.Look s d e shows = absurd shows
 put_after file.SyncFolder s d e shows = absurd shows
 put_after file.Ended s d e shows = absurd shows
 
--- the step that shows the change leaves room for what is owed then
-pub shows_owed : (t : Change) (old new : Phase) (d e : Event) → Follows old new t → IsShow (kind_in old d) → owed_by (kind_in new e) ≤ owed_after old
+-- the step that publishes the change leaves room for what is owed then
+pub shows_owed : (t : Change) (old new : Phase) (d e : Event) → Follows old new t → IsPublish (kind_in old d) → owed_by (kind_in new e) ≤ owed_after old
 shows_owed t phase.Look new d e follows shows = absurd shows
 shows_owed t (phase.Clear c) new d e follows shows = absurd shows
 shows_owed t (phase.Walk y) new d e follows shows = absurd shows
@@ -98,15 +98,15 @@ shows_owed t phase.SyncFolder new d e follows shows = absurd shows
 shows_owed t phase.Ended new d e follows shows = absurd shows
 
 -- and isn't the last
-pub shows_lastly : {P : Type 0} (k : Kind) → IsShow k → IsLastly k → P
-shows_lastly (Show e) shows last = absurd last
+pub shows_lastly : {P : Type 0} (k : Kind) → IsPublish k → IsLastly k → P
+shows_lastly (Publish e) shows last = absurd last
 shows_lastly Quiet shows last = absurd shows
 shows_lastly Store shows last = absurd shows
 shows_lastly (Take wants) shows last = absurd shows
 shows_lastly (Claim name) shows last = absurd shows
-shows_lastly (Shown e owed) shows last = absurd shows
+shows_lastly (Published e owed) shows last = absurd shows
 shows_lastly (Remove e owed) shows last = absurd shows
-shows_lastly (Settle e) shows last = absurd shows
+shows_lastly (MakeDurable e) shows last = absurd shows
 
 -- a step that shows nothing and owes nothing takes the room of at most one call
 pub found_room : {T : Type 0} (found : Option Found) (commit : List ℕ) (next : Kind) (before now : ℕ) (r : Result T FsErr) → before ≤ now + 1 → KeepsRoom (found_kind found commit) next before now r

@@ -6,7 +6,7 @@ use Rattle.ref_room.specs.Clash.{IsLeastClash}
 use Rattle.ref_store.specs.Steps.{HasValue}
 use Rattle.ref_command.specs.declared.answer.RefAnswer.{RefAnswer}
 use Rattle.ref_command.specs.declared.answer.RefAnswer.TheVariants as answer
-use Rattle.rely_guarantee.specs.Laws.{Settle}
+use Rattle.rely_guarantee.specs.Laws.{MakeDurable}
 use Rattle.ref_command.specs.declared.command.RefCommand.{RefCommand}
 use Rattle.ref_command.specs.declared.command.RefCommand.TheVariants.{Parse, Reset, Change}
 use Rattle.ref_command.specs.declared.look_up.Found.TheVariants.{Missing, Partial, Whole}
@@ -20,9 +20,9 @@ IsOf (Change work) name seen = (work.task.name ≡ name) × (work.task.seen ≡ 
 IsOf t name seen = ⊥
 
 -- the step settled the change of the command's ref
-abbrev pub Settles : RefCommand → Type 0
-Settles (Change work) = ref_kind work ≡ Settle (event work.task)
-Settles t = ⊥
+abbrev pub MakesDurable : RefCommand → Type 0
+MakesDurable (Change work) = ref_kind work ≡ MakeDurable (event work.task)
+MakesDurable t = ⊥
 
 -- what is known of a command that begins
 abbrev pub Begins : ℕ → RefCommand → Type 0
@@ -38,5 +38,5 @@ Says (answer.NoCommit commit) t v w = IsFound v.now commit Missing
 Says (answer.Partial commit) t v w = IsFound v.now commit Partial
 Says (answer.RefMoved seen now) t v w = (name : List ℕ) × IsOf t name seen × HasValue v.now name now × (now ≢ seen)
 Says (answer.RefClash other) t v w = (name : List ℕ) × (seen : Option (List ℕ)) × IsOf t name seen × IsLeastClash v.now name other
-Says answer.Changed t v w = Settles t
+Says answer.Changed t v w = MakesDurable t
 Says answer.NoRef t v w = ⊥

@@ -36,7 +36,7 @@ use Rattle.rely_guarantee.specs.Objects.{IsObjectSeen}
 use Rattle.rely_guarantee.specs.Rely.{Guarantee, may_at, NotOthers, OwnTree, IsEmpty, HasNoRefs}
 use Rattle.rely_guarantee.specs.SystemInvariant.{Leads}
 use Rattle.rely_guarantee.specs.Change.{Still, Dooms, Shows, Final}
-use Rattle.rely_guarantee.specs.Laws.{IsSettle, StepObligation, Stood, Within}
+use Rattle.rely_guarantee.specs.Laws.{IsMakeDurable, StepObligation, Stood, Within}
 use Rattle.rely_guarantee.proofs.Calls.{own_file, ref_fits, stage_fits, stage_still, folder_still, set_shows, drop_shows, set_final, drop_final}
 use Rattle.ref_command.specs.Kinds.{event_of, event, put_kind, kind_in}
 use Rattle.ref_command.specs.Facts.{turn_in, Facts}
@@ -179,7 +179,7 @@ module _ (b : Books) (v : View) (actor lane : ℕ) (t : Change) (f : Facts lane 
     final : (w : View) → IsDone t w → Final (event t) w
     final w done = final_in t.value t.seen t.name w done.0 done.1 (subst IsSomeSum (sym file_of.value) file_of.sum)
 
-    put_duty : Agrees b → (Done : View → Type 0) (ph : staged.Phase) → (IsSettle (put_kind ph (event t)) → (w : View) → Done w → IsDone t w) → g.phase ≡ ph → Stood (put_kind ph (event t)) actor lane b → turn_in (put_kind ph (event t)) lane b
+    put_duty : Agrees b → (Done : View → Type 0) (ph : staged.Phase) → (IsMakeDurable (put_kind ph (event t)) → (w : View) → Done w → IsDone t w) → g.phase ≡ ph → Stood (put_kind ph (event t)) actor lane b → turn_in (put_kind ph (event t)) lane b
         → StepObligation (put_kind ph (event t)) actor lane v b (staging.writes_in ph g v) Done
     put_duty agrees Done file.Clear done e stood turn = (put_within (free turn) (alone agrees turn) file.Clear e, stage_still (staging.writes_in file.Clear g v) v lane (λ p s a. at_stage p a.0))
     put_duty agrees Done file.Create done e stood turn = (put_within (free turn) (alone agrees turn) file.Create e, stage_still (staging.writes_in file.Create g v) v lane (λ p s a. at_stage p a.0))
@@ -200,7 +200,7 @@ module _ (b : Books) (v : View) (actor lane : ℕ) (t : Change) (f : Facts lane 
   sync_final : t.phase ≡ phase.SyncFolder → (w : View) → IsDone t w → Final (event t) w
   sync_final is w done = final_in t.value t.seen t.name w done.0 done.1 (subst IsSomeSum (sym (made t v f.needs phase.SyncFolder is)) tt)
 
-  duty_in : Agrees b → (Done : View → Type 0) (ph : Phase) → (IsSettle (kind_in ph (event t)) → (w : View) → Done w → IsDone t w) → t.phase ≡ ph → Stood (kind_in ph (event t)) actor lane b → turn_in (kind_in ph (event t)) lane b
+  duty_in : Agrees b → (Done : View → Type 0) (ph : Phase) → (IsMakeDurable (kind_in ph (event t)) → (w : View) → Done w → IsDone t w) → t.phase ≡ ph → Stood (kind_in ph (event t)) actor lane b → turn_in (kind_in ph (event t)) lane b
       → StepObligation (kind_in ph (event t)) actor lane v b (writes_in ph t v) Done
   duty_in agrees Done phase.Look done is stood turn = ((λ p s a. absurd a), (λ q s a. absurd a))
   duty_in agrees Done (phase.Clear c) done is stood turn = (held agrees turn (phase.Clear c) is, clear_still c is)
@@ -211,6 +211,6 @@ module _ (b : Books) (v : View) (actor lane : ℕ) (t : Change) (f : Facts lane 
   duty_in agrees Done phase.Ended done is stood turn = ((λ p s a. absurd a), (λ q s a. absurd a))
 
 -- each step of a change keeps the obligation of its kind
-pub change_duty : (b : Books) (v : View) (actor lane : ℕ) (t : Change) → Facts lane t v b → Agrees b → (Done : View → Type 0) → (IsSettle (kind_in t.phase (event t)) → (w : View) → Done w → IsDone t w)
+pub change_duty : (b : Books) (v : View) (actor lane : ℕ) (t : Change) → Facts lane t v b → Agrees b → (Done : View → Type 0) → (IsMakeDurable (kind_in t.phase (event t)) → (w : View) → Done w → IsDone t w)
     → Stood (kind_in t.phase (event t)) actor lane b → StepObligation (kind_in t.phase (event t)) actor lane v b (WritesOf t v) Done
 change_duty b v actor lane t f agrees Done done stood = duty_in b v actor lane t f agrees Done t.phase done refl stood f.turn

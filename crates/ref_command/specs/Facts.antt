@@ -8,7 +8,7 @@ use Rattle.ref_store.specs.declared.progress.Progress.TheVariants as progress
 use Rattle.ref_store.specs.Change.{Change, progress_in}
 use Rattle.ref_store.specs.Steps.{Needs, HasSeen}
 use Rattle.rely_guarantee.specs.Books.{Books}
-use Rattle.rely_guarantee.specs.Laws.{Kind, Quiet, Store, Take, Claim, Show, Shown, Remove, Settle}
+use Rattle.rely_guarantee.specs.Laws.{Kind, Quiet, Store, Take, Claim, Publish, Published, Remove, MakeDurable}
 use Rattle.ref_command.specs.declared.work.RefWork.{RefWork}
 use Rattle.ref_command.specs.Kinds.{event, kind_in}
 
@@ -18,10 +18,10 @@ turn_in (Take wants) lane b = Unit {0}
 turn_in Quiet lane b = b.turn ≡ Some lane
 turn_in Store lane b = b.turn ≡ Some lane
 turn_in (Claim name) lane b = b.turn ≡ Some lane
-turn_in (Show e) lane b = b.turn ≡ Some lane
-turn_in (Shown e owed) lane b = b.turn ≡ Some lane
+turn_in (Publish e) lane b = b.turn ≡ Some lane
+turn_in (Published e owed) lane b = b.turn ≡ Some lane
 turn_in (Remove e owed) lane b = b.turn ≡ Some lane
-turn_in (Settle e) lane b = b.turn ≡ Some lane
+turn_in (MakeDurable e) lane b = b.turn ≡ Some lane
 
 -- it hasn't ended
 abbrev pub IsRunning : Progress → Type 0

@@ -28,7 +28,7 @@ use Rattle.ref_store.proofs.Seen.{seen_kept}
 use Rattle.rely_guarantee.specs.declared.event.Event.{Event}
 use Rattle.rely_guarantee.specs.Books.{Books, Keeps}
 use Rattle.rely_guarantee.specs.Rely.{Guarantee, Interference}
-use Rattle.rely_guarantee.specs.Laws.{Kind, Quiet, Store, Take, Claim, Show, Shown, Remove, Settle}
+use Rattle.rely_guarantee.specs.Laws.{Kind, Quiet, Store, Take, Claim, Publish, Published, Remove, MakeDurable}
 use Rattle.layout_rules.proofs.Layouts.{above_ref, fixed_other, in_heads}
 use Rattle.rely_guarantee.proofs.Mays.{folders_harmless, not_other, own_harmless, ref_leads_harmless, at_place, stage_apart}
 use Rattle.ref_command.specs.Kinds.{event, kind_in, put_kind}
@@ -57,10 +57,10 @@ turn_more Quiet lane b b' still turn = still turn
 turn_more Store lane b b' still turn = still turn
 turn_more (Take wants) lane b b' still turn = tt
 turn_more (Claim name) lane b b' still turn = still turn
-turn_more (Show e) lane b b' still turn = still turn
-turn_more (Shown e owed) lane b b' still turn = still turn
+turn_more (Publish e) lane b b' still turn = still turn
+turn_more (Published e owed) lane b b' still turn = still turn
 turn_more (Remove e owed) lane b b' still turn = still turn
-turn_more (Settle e) lane b b' still turn = still turn
+turn_more (MakeDurable e) lane b b' still turn = still turn
 
 -- what the lane gains is no harm
 pub facts_gain : (lane : ℕ) (t : Change) (v : View) (b b' : Books) → Keeps lane b b' → Facts lane t v b → Facts lane t v b'

@@ -17,7 +17,7 @@ use Rattle.ref_store.specs.Steps.{Needs, WritesOf, Tells, Refuses}
 use Rattle.rely_guarantee.specs.declared.event.Event.{Event}
 use Rattle.rely_guarantee.specs.declared.event.Event.TheVariants.{SetRef, DropRef}
 use Rattle.rely_guarantee.specs.declared.kind.Wants.{Wants}
-use Rattle.rely_guarantee.specs.Laws.{Kind, Quiet, Take, Show, Settle}
+use Rattle.rely_guarantee.specs.Laws.{Kind, Quiet, Take, Publish, MakeDurable}
 use Rattle.ref_command.specs.declared.work.RefWork.{RefWork}
 
 -- the event that the change is; what is removed had a value
@@ -33,13 +33,13 @@ event t = event_of t.value t.name t.seen
 abbrev pub turn_wants : Wants
 turn_wants = record { exclusive = false; turn = true; shared = false; sysroot = false; hold = None; pin = None }
 
--- The look takes the ref lock; making room and staging the file is quiet. The change is shown by the rename of its file, or by
+-- The look takes the ref lock; making room and staging the file is quiet. The change is published by the rename of its file, or by
 -- the unlink, and lasts by the sync of its folder.
 abbrev pub kind_at : Progress → Event → Kind
 kind_at progress.Looking e = Take turn_wants
 kind_at progress.Preparing e = Quiet
-kind_at progress.Showing e = Show e
-kind_at progress.Settling e = Settle e
+kind_at progress.Showing e = Publish e
+kind_at progress.Settling e = MakeDurable e
 kind_at progress.Ended e = Quiet
 
 abbrev pub put_kind : staged.Phase → Event → Kind

@@ -17,7 +17,7 @@ use Rattle.ref_store.proofs.Progresses.{after_look}
 use Rattle.rely_guarantee.specs.declared.event.Event.{Event}
 use Rattle.rely_guarantee.specs.Books.{Books, Keeps}
 use Rattle.rely_guarantee.specs.Laws as rely
-use Rattle.rely_guarantee.specs.Laws.{Kind, Quiet, Store, Take, Laws, IsBefore, IsClaim, IsSettle, IsLastly, Chain, Stood}
+use Rattle.rely_guarantee.specs.Laws.{Kind, Quiet, Store, Take, Laws, IsBefore, IsClaim, IsMakeDurable, IsLastly, Chain, Stood}
 use Rattle.ref_command.specs.Kinds.{event, kind_at, put_kind, kind_in, ref_kind, ref_needs, ref_writes, ref_stepped, ref_leaves, stepped_in, leaves_in, Answer, Leaves}
 use Rattle.ref_command.specs.Facts.{turn_in, IsRunning, Facts, ref_facts}
 use Rattle.ref_command.specs.Kept.{facts_kept, facts_gain, put_turn}
@@ -158,7 +158,7 @@ refusing_last phase.Unlink e may = absurd may
 refusing_last phase.SyncFolder e may = absurd may
 refusing_last phase.Ended e may = absurd may
 
-refusing_not : (ph : Phase) (e : Event) → IsRefusing ph → IsSettle (kind_in ph e) → ⊥
+refusing_not : (ph : Phase) (e : Event) → IsRefusing ph → IsMakeDurable (kind_in ph e) → ⊥
 refusing_not phase.Look e may settles = settles
 refusing_not (phase.Clear c) e may settles = settles
 refusing_not (phase.Walk y) e may settles = settles
@@ -173,7 +173,7 @@ change_last (Some (Ok x)) t new step = last_in t.phase (event t) step.0.1
 change_last (Some (Err r)) t new step = refusing_last t.phase (event t) step.1
 
 -- what a step that settles leaves
-done_in : (answer : Answer) (t new : Change) (v w : View) → IsSettle (kind_in t.phase (event t)) → leaves_in (turn.Done tt) answer t new v w → IsDone t w
+done_in : (answer : Answer) (t new : Change) (v w : View) → IsMakeDurable (kind_in t.phase (event t)) → leaves_in (turn.Done tt) answer t new v w → IsDone t w
 done_in None t new v w settles l = absurd l
 done_in (Some (Ok x)) t new v w settles l = let n : Needs (record t { phase = phase.Ended }) w = subst (λ u. Needs u w) l.stepped.0 l.needs in n.meets
 done_in (Some (Err r)) t new v w settles l = absurd (refusing_not t.phase (event t) l.may settles)
@@ -183,10 +183,10 @@ any_turn Quiet lane b turn = turn
 any_turn Store lane b turn = turn
 any_turn (Take wants) lane b turn = tt
 any_turn (rely.Claim name) lane b turn = turn
-any_turn (rely.Show e) lane b turn = turn
-any_turn (rely.Shown e owed) lane b turn = turn
+any_turn (rely.Publish e) lane b turn = turn
+any_turn (rely.Published e owed) lane b turn = turn
 any_turn (rely.Remove e owed) lane b turn = turn
-any_turn (rely.Settle e) lane b turn = turn
+any_turn (rely.MakeDurable e) lane b turn = turn
 
 -- the lane has the ref lock in each step
 turn_now : (ph : Phase) (e : Event) (actor lane : ℕ) (b : Books) → Stood (kind_in ph e) actor lane b → turn_in (kind_in ph e) lane b → b.turn ≡ Some lane

@@ -16,7 +16,7 @@ use crate::{RefAnswer, RefWork};
 use fs_trait::{Fs, FsErr, StepResult};
 use ost_types::{Csum, Name, NoMemory};
 use ref_store::RefRefusal;
-use rely_guarantee::{CommandTask, Event, Step, Wants};
+use rely_guarantee::{CommandTask, Event, StepKind, Wants};
 use repo_layout::RefName;
 use std::alloc::Global;
 
@@ -127,12 +127,12 @@ fn pin_wants(commit: &Csum) -> Wants
 }
 
 /// A look-up pins the commit, and behind it nothing is asked for.
-fn look_kind(look: &LookUp) -> Step
+fn look_kind(look: &LookUp) -> StepKind
     ensures { result ≡ step_of (found_kind look.now.found look.now.commit) }
 {
     match look.found() {
-        None => Step::Take(pin_wants(look.commit())),
-        Some(_) => Step::Quiet,
+        None => StepKind::Take(pin_wants(look.commit())),
+        Some(_) => StepKind::Quiet,
     }
 }
 
@@ -169,9 +169,9 @@ impl CommandTask for RefCommand {
 
     ghost laws = { command_laws };
 
-    fn kind(&self) -> Step {
+    fn kind(&self) -> StepKind {
         match self {
-            RefCommand::Parse(look) => Step::Take(pin_wants(look.commit())),
+            RefCommand::Parse(look) => StepKind::Take(pin_wants(look.commit())),
             RefCommand::Reset(look, _) => look_kind(look),
             RefCommand::Change(work) => work.kind(),
         }

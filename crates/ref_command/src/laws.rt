@@ -16,7 +16,7 @@ ghost use Rattle.rely_guarantee.specs.State.{State};
 ghost use Rattle.rely_guarantee.specs.Books.{Books};
 ghost use Rattle.rely_guarantee.specs.declared.event.Event.TheVariants.{SetRef};
 ghost use Rattle.rely_guarantee.specs.Lasting.{StaysFinished};
-ghost use Rattle.rely_guarantee.specs.Laws.{Show};
+ghost use Rattle.rely_guarantee.specs.Laws.{Publish};
 ghost use Rattle.rely_guarantee.specs.Rely.{Interference};
 ghost use Rattle.rely_guarantee.specs.SystemInvariant.{Stands};
 ghost use Rattle.ref_command.specs.declared.command.RefCommand.{RefCommand};
@@ -40,7 +40,7 @@ pub fn answers_of_commands()
 /// The step that sets a ref sets it to a commit that lasts: its object is left by each crash, and no mark of it is. All writes are
 /// at the lane's staging path and among the refs.
 pub fn resets_are_founded()
-    ensures founded { (lane : ℕ) (t : RefCommand) (v : View) (b : Books) (name : List ℕ) (seen : Option (List ℕ)) (commit : List ℕ) → command_facts lane t v b → command_kind t ≡ Show (SetRef name seen commit) → StaysFinished v commit }
+    ensures founded { (lane : ℕ) (t : RefCommand) (v : View) (b : Books) (name : List ℕ) (seen : Option (List ℕ)) (commit : List ℕ) → command_facts lane t v b → command_kind t ≡ Publish (SetRef name seen commit) → StaysFinished v commit }
     ensures places { (actor lane : ℕ) (t : RefCommand) (v : View) (b : Books) → command_facts lane t v b → (p : Path) (s : Seen) → command_writes actor t v p s → (place p ≡ Stage lane) ⊎ ((other : List ℕ) × (place p ≡ Ref other)) }
 {}
 

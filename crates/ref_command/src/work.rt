@@ -10,7 +10,7 @@ ghost use Rattle.ref_command.specs.Laws.{ref_laws};
 use fs_trait::{Fs, FsErr, StepResult};
 use ost_types::{Csum, Name, NoMemory, TryCopy};
 use ref_store::{Progress, RefRefusal, RefTask};
-use rely_guarantee::{CommandTask, Event, Step, Wants};
+use rely_guarantee::{CommandTask, Event, StepKind, Wants};
 use repo_layout::RefName;
 use std::alloc::Global;
 
@@ -73,14 +73,14 @@ fn turn_wants() -> Wants
     }
 }
 
-fn step_at(progress: Progress) -> Step
+fn step_at(progress: Progress) -> StepKind
     ensures { (e : Event) → result ≡ step_of (kind_at progress e) }
 {
     match progress {
-        Progress::Looking => Step::Take(turn_wants()),
-        Progress::Preparing | Progress::Ended => Step::Quiet,
-        Progress::Showing => Step::Show,
-        Progress::Settling => Step::Settle,
+        Progress::Looking => StepKind::Take(turn_wants()),
+        Progress::Preparing | Progress::Ended => StepKind::Quiet,
+        Progress::Showing => StepKind::Publish,
+        Progress::Settling => StepKind::MakeDurable,
     }
 }
 
@@ -110,7 +110,7 @@ impl CommandTask for RefWork {
 
     ghost laws = { ref_laws };
 
-    fn kind(&self) -> Step {
+    fn kind(&self) -> StepKind {
         step_at(self.task.progress())
     }
 

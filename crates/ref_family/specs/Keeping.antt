@@ -25,7 +25,7 @@ use Rattle.ref_store.proofs.StepLemmas.{meets_in, made}
 use Rattle.rely_guarantee.specs.declared.event.Event.TheVariants.{SetRef}
 use Rattle.rely_guarantee.specs.Books.{Books}
 use Rattle.rely_guarantee.specs.Disks.{IsLeaf, Says}
-use Rattle.rely_guarantee.specs.Laws.{Show}
+use Rattle.rely_guarantee.specs.Laws.{Publish}
 use Rattle.rely_guarantee.specs.State.{RefOf}
 use Rattle.rely_guarantee.proofs.Calls.{stage_no_ref}
 use Rattle.rely_guarantee.proofs.States.{says_leaf, says_one}
@@ -91,18 +91,18 @@ module _ (limits : Limits) (brings : Store) (lane : ℕ) (t : Change) (v : View)
           let same : commit ≡ file_of.commit = cc in
           ap (λ o. event_of o t.name t.seen) file_of.value ∙ ap (λ x. SetRef x t.seen file_of.commit) (sym n) ∙ ap (λ x. SetRef name t.seen x) (sym same)
 
-      file_shows : (ph : staged.Phase) → g.phase ≡ ph → staging.writes_in ph g v (ref_path name) s → kind_at (change.progress_of ph) (event t) ≡ Show (SetRef name t.seen commit)
+      file_shows : (ph : staged.Phase) → g.phase ≡ ph → staging.writes_in ph g v (ref_path name) s → kind_at (change.progress_of ph) (event t) ≡ Publish (SetRef name t.seen commit)
       file_shows file.Clear e wrote = absurd (not_vacant wrote.1)
       file_shows file.Create e wrote = absurd (not_staged g.stage file_of.stage wrote.0)
       file_shows file.Append e wrote = absurd (not_staged g.stage file_of.stage wrote.0)
       file_shows file.SyncFile e wrote = absurd wrote
       file_shows file.Look e wrote = absurd wrote
-      file_shows file.Replace e (inl a) = ap Show (shows_new a.0 a.1)
+      file_shows file.Replace e (inl a) = ap Publish (shows_new a.0 a.1)
       file_shows file.Replace e (inr a) = absurd (not_vacant a.1)
       file_shows file.SyncFolder e wrote = absurd wrote
       file_shows file.Ended e wrote = absurd wrote
 
-    shows_in : (ph : Phase) → t.phase ≡ ph → writes_in ph t v (ref_path name) s → kind_in ph (event t) ≡ Show (SetRef name t.seen commit)
+    shows_in : (ph : Phase) → t.phase ≡ ph → writes_in ph t v (ref_path name) s → kind_in ph (event t) ≡ Publish (SetRef name t.seen commit)
     shows_in phase.Look is wrote = absurd wrote
     shows_in (phase.Clear c) is wrote = absurd (not_vacant (clearing_lies c v (meets_in t v f.needs (phase.Clear c) is).1 (ref_path name) s wrote).vacant)
     shows_in (phase.Walk y) is wrote = absurd (no_leaf s (way_lies y v (meets_in t v f.needs (phase.Walk y) is).1 (ref_path name) s wrote).folder leaf)
@@ -111,7 +111,7 @@ module _ (limits : Limits) (brings : Store) (lane : ℕ) (t : Change) (v : View)
     shows_in phase.SyncFolder is wrote = absurd wrote
     shows_in phase.Ended is wrote = absurd wrote
 
-  pub change_keeps : ((name : List ℕ) (seen : Option (List ℕ)) (commit : List ℕ) → kind_in t.phase (event t) ≡ Show (SetRef name seen commit) → StaysFinished v commit) → KeepsStore limits brings v (WritesOf t v)
+  pub change_keeps : ((name : List ℕ) (seen : Option (List ℕ)) (commit : List ℕ) → kind_in t.phase (event t) ≡ Publish (SetRef name seen commit) → StaysFinished v commit) → KeepsStore limits brings v (WritesOf t v)
   change_keeps founded = record {
     objects = λ name sum s wrote. absurd (no_object name sum s wrote);
     one = inl no_object;

@@ -8,7 +8,7 @@ use Rattle.ref_store.specs.Change.{Change as Changing, IsStepped, progress_in}
 use Rattle.rely_guarantee.specs.declared.event.Event.{Event}
 use Rattle.rely_guarantee.specs.declared.event.Event.TheVariants as event
 use Rattle.rely_guarantee.specs.Books.{Books}
-use Rattle.rely_guarantee.specs.Laws.{Show, Settle, Store, IsBy, Holds, NotPending}
+use Rattle.rely_guarantee.specs.Laws.{Publish, MakeDurable, Store, IsBy, Holds, NotPending}
 use Rattle.rely_guarantee.specs.State.{State, RefOf}
 use Rattle.ref_command.specs.declared.work.RefWork.{RefWork}
 use Rattle.ref_command.specs.declared.look_up.LookUp.{LookUp}
@@ -99,32 +99,32 @@ change_is s (words.DropRef branch) work is =
     (d.0, d.1, event_is branch (s (RefOf branch)) None work.task is.0 ∙ d.2)
 change_is s (words.RevParse rev) work is = absurd is
 
-found_shows : {P : Type 0} (found : Option Found) (commit : List ℕ) (e : Event) → found_kind found commit ≡ Show e → P
+found_shows : {P : Type 0} (found : Option Found) (commit : List ℕ) (e : Event) → found_kind found commit ≡ Publish e → P
 found_shows None commit e is = cc
 found_shows (Some f) commit e is = cc
 
-found_settles : {P : Type 0} (found : Option Found) (commit : List ℕ) (e : Event) → found_kind found commit ≡ Settle e → P
-found_settles None commit e is = cc
-found_settles (Some f) commit e is = cc
+found_makes_durable : {P : Type 0} (found : Option Found) (commit : List ℕ) (e : Event) → found_kind found commit ≡ MakeDurable e → P
+found_makes_durable None commit e is = cc
+found_makes_durable (Some f) commit e is = cc
 
-pub kind_settles : (p : Progress) (d e : Event) → kind_at p d ≡ Settle e → d ≡ e
-kind_settles progress.Settling d e is = cc
-kind_settles progress.Looking d e is = cc
-kind_settles progress.Preparing d e is = cc
-kind_settles progress.Showing d e is = cc
-kind_settles progress.Ended d e is = cc
+pub kind_makes_durable : (p : Progress) (d e : Event) → kind_at p d ≡ MakeDurable e → d ≡ e
+kind_makes_durable progress.Settling d e is = cc
+kind_makes_durable progress.Looking d e is = cc
+kind_makes_durable progress.Preparing d e is = cc
+kind_makes_durable progress.Showing d e is = cc
+kind_makes_durable progress.Ended d e is = cc
 
-pub ref_shown : (s : State) (c : RefWords) (t : RefCommand) (e : Event) → ref_pursues s c t → command_kind t ≡ Show e → ref_changes s c e
+pub ref_shown : (s : State) (c : RefWords) (t : RefCommand) (e : Event) → ref_pursues s c t → command_kind t ≡ Publish e → ref_changes s c e
 ref_shown s c (Parse look) e is k = cc
 ref_shown s c (Reset look plan) e is k = found_shows look.found look.commit e k
 ref_shown s c (Change work) e is k = subst (ref_changes s c) (kind_shows (progress_in work.task.phase) (event work.task) e k) (change_is s c work is)
 
-pub ref_settled : (s : State) (c : RefWords) (t : RefCommand) (e : Event) → ref_pursues s c t → command_kind t ≡ Settle e → ref_changes s c e
+pub ref_settled : (s : State) (c : RefWords) (t : RefCommand) (e : Event) → ref_pursues s c t → command_kind t ≡ MakeDurable e → ref_changes s c e
 ref_settled s c (Parse look) e is k = cc
-ref_settled s c (Reset look plan) e is k = found_settles look.found look.commit e k
-ref_settled s c (Change work) e is k = subst (ref_changes s c) (kind_settles (progress_in work.task.phase) (event work.task) e k) (change_is s c work is)
+ref_settled s c (Reset look plan) e is k = found_makes_durable look.found look.commit e k
+ref_settled s c (Change work) e is k = subst (ref_changes s c) (kind_makes_durable (progress_in work.task.phase) (event work.task) e k) (change_is s c work is)
 
-pub ref_founds : (lane : ℕ) (t : RefCommand) (v : View) (b : Books) (e : Event) → command_facts lane t v b → command_kind t ≡ Show e → Founds v e
+pub ref_founds : (lane : ℕ) (t : RefCommand) (v : View) (b : Books) (e : Event) → command_facts lane t v b → command_kind t ≡ Publish e → Founds v e
 ref_founds lane t v b (event.SetRef name seen commit) f k = reset_founded lane t v b name seen commit f k
 ref_founds lane t v b (event.DropRef name seen) f k = tt
 ref_founds lane t v b (event.Pruned depth roots held removed) f k = tt

@@ -32,12 +32,12 @@ use Rattle.ref_command.specs.Commands.{IsStop, answer_of, change_answer, command
 use Rattle.ref_command.specs.Duties.{says_had}
 use Rattle.ref_command.specs.Facts.{Facts, turn_in}
 use Rattle.ref_command.specs.Kinds.{Answer as Came, event, kind_in, leaves_in, ref_kind}
-use Rattle.ref_command.proofs.Ends.{settles_in}
+use Rattle.ref_command.proofs.Ends.{makes_durable_in}
 use Rattle.rely_guarantee.specs.declared.event.Event.{Event}
 use Rattle.rely_guarantee.specs.declared.event.Event.TheVariants as event
 use Rattle.rely_guarantee.specs.Books.{Books}
 use Rattle.rely_guarantee.specs.Disks.{IsLeaf, Logical, Says}
-use Rattle.rely_guarantee.specs.Laws.{Settle}
+use Rattle.rely_guarantee.specs.Laws.{MakeDurable}
 use Rattle.rely_guarantee.specs.State.{State, Topic, RefOf, Said, gives, target}
 use Rattle.rely_guarantee.proofs.States.{says_one}
 use Rattle.command.specs.Sees.{IsState, Sees}
@@ -169,7 +169,7 @@ module _ (lane : ℕ) (s p : State) (branch : List ℕ) (value : Option (List �
       )
 
   -- a ref that was set is there, so that no other clashes with it
-  pub set_free : (commit : List ℕ) → event work.task ≡ event.SetRef branch (s (RefOf branch)) commit → kind_in work.task.phase (event work.task) ≡ Settle (event work.task) → IsFreeIn p branch
+  pub set_free : (commit : List ℕ) → event work.task ≡ event.SetRef branch (s (RefOf branch)) commit → kind_in work.task.phase (event work.task) ≡ MakeDurable (event work.task) → IsFreeIn p branch
   set_free commit sets settles =
       let saw : IsState w.now p × ((t : Topic) → target (event work.task) ≡ Some t → p t ≡ gives (event work.task)) = subst (λ k. Sees k lane b v w p) settles sees in
       let there : p (RefOf branch) ≡ Some commit = subst (λ (e : Event). (t : Topic) → target e ≡ Some t → p t ≡ gives e) sets saw.1 (RefOf branch) refl in
@@ -179,7 +179,7 @@ module _ (lane : ℕ) (s p : State) (branch : List ℕ) (value : Option (List �
   reset_tells commit None a sets l e = absurd l
   reset_tells commit (Some (Ok x)) a sets l e =
       let k : answer.Changed ≡ a = cc in
-      subst (reset_knows s p branch) k (set_free commit sets (settles_in work.task.phase (event work.task) l.stepped.1 f.runs))
+      subst (reset_knows s p branch) k (set_free commit sets (makes_durable_in work.task.phase (event work.task) l.stepped.1 f.runs))
   reset_tells commit (Some (Err (refusal.RefMoved seen now))) a sets l e =
       let k : answer.RefMoved seen now ≡ a = cc in
       subst (reset_knows s p branch) k (moved seen now l)

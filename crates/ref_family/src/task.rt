@@ -5,7 +5,7 @@ ghost use Rattle.ref_command.specs.CommandLaws.{command_laws};
 use fs_trait::{Fs, FsErr, StepResult};
 use ost_types::{Name, NoMemory};
 use ref_command::RefCommand;
-use rely_guarantee::{CommandTask, Event, Step};
+use rely_guarantee::{CommandTask, Event, StepKind};
 
 /// The task of a command that looks a commit up or changes a ref.
 #[derive(Drop)]
@@ -30,7 +30,7 @@ impl CommandTask for RefsTask {
 
     ghost laws = { laws_along (λ t. t.work) command_laws };
 
-    fn kind(&self) -> Step {
+    fn kind(&self) -> StepKind {
         self.work.kind()
     }
 

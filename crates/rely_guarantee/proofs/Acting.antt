@@ -25,7 +25,7 @@ use Rattle.rely_guarantee.specs.Books.{Books, books_of, Spared, Keeps}
 use Rattle.rely_guarantee.specs.Rely.{Guarantee, Interference}
 use Rattle.rely_guarantee.specs.SystemInvariant.{Ordered, SystemInvariant}
 use Rattle.rely_guarantee.specs.Change.{Still}
-use Rattle.rely_guarantee.specs.Laws.{Kind, Quiet, Store, Take, Claim, Show, Shown, Remove, Settle, Laws, StepObligation, Within, IsQuiet, IsPlain, IsBy, IsBefore, Owned, Chain, Holds, Stood, NotPending, IsPending, Runs, Ready, Tells, Acts, Ends, IsEnd}
+use Rattle.rely_guarantee.specs.Laws.{Kind, Quiet, Store, Take, Claim, Publish, Published, Remove, MakeDurable, Laws, StepObligation, Within, IsQuiet, IsPlain, IsBy, IsBefore, Owned, Chain, Holds, Stood, NotPending, IsPending, Runs, Ready, Tells, Acts, Ends, IsEnd}
 use Rattle.rely_guarantee.proofs.States.{ascends_later}
 use Rattle.rely_guarantee.proofs.Knowns.{stands_quiet}
 use Rattle.rely_guarantee.proofs.Claiming.{claims_stand}
@@ -44,40 +44,40 @@ before_holds Quiet lane b is none = none
 before_holds Store lane b is none = none
 before_holds (Take wants) lane b is none = none
 before_holds (Claim name) lane b is none = none
-before_holds (Show e) lane b is none = none
-before_holds (Shown e owed) lane b is none = absurd is
+before_holds (Publish e) lane b is none = none
+before_holds (Published e owed) lane b is none = absurd is
 before_holds (Remove e owed) lane b is none = absurd is
-before_holds (Settle e) lane b is none = absurd is
+before_holds (MakeDurable e) lane b is none = absurd is
 
 pub quiet_not : (kind : Kind) (lane : ℕ) (b : Books) → IsQuiet kind → Holds kind lane b → NotPending lane b
 quiet_not Quiet lane b is h = h
 quiet_not Store lane b is h = h
 quiet_not (Take wants) lane b is h = h
 quiet_not (Claim name) lane b is h = h
-quiet_not (Show e) lane b is h = absurd is
-quiet_not (Shown e owed) lane b is h = absurd is
+quiet_not (Publish e) lane b is h = absurd is
+quiet_not (Published e owed) lane b is h = absurd is
 quiet_not (Remove e owed) lane b is h = absurd is
-quiet_not (Settle e) lane b is h = absurd is
+quiet_not (MakeDurable e) lane b is h = absurd is
 
 quiet_chain : (kind next : Kind) → IsQuiet kind → Chain kind next → IsBefore next
 quiet_chain Quiet next is c = c
 quiet_chain Store next is c = c
 quiet_chain (Take wants) next is c = c
 quiet_chain (Claim name) next is c = c
-quiet_chain (Show e) next is c = absurd is
-quiet_chain (Shown e owed) next is c = absurd is
+quiet_chain (Publish e) next is c = absurd is
+quiet_chain (Published e owed) next is c = absurd is
 quiet_chain (Remove e owed) next is c = absurd is
-quiet_chain (Settle e) next is c = absurd is
+quiet_chain (MakeDurable e) next is c = absurd is
 
 pub plain_quiet : (kind : Kind) → IsPlain kind → IsQuiet kind
 plain_quiet Quiet is = tt
 plain_quiet Store is = tt
 plain_quiet (Take wants) is = tt
 plain_quiet (Claim name) is = absurd is
-plain_quiet (Show e) is = absurd is
-plain_quiet (Shown e owed) is = absurd is
+plain_quiet (Publish e) is = absurd is
+plain_quiet (Published e owed) is = absurd is
 plain_quiet (Remove e owed) is = absurd is
-plain_quiet (Settle e) is = absurd is
+plain_quiet (MakeDurable e) is = absurd is
 
 -- behind it the lane has nothing of its own
 plain_owned : (kind : Kind) (lane : ℕ) (b b' : Books) → IsPlain kind → Owned kind lane b b'
@@ -85,10 +85,10 @@ plain_owned Quiet lane b b' is = tt
 plain_owned Store lane b b' is = tt
 plain_owned (Take wants) lane b b' is = tt
 plain_owned (Claim name) lane b b' is = absurd is
-plain_owned (Show e) lane b b' is = absurd is
-plain_owned (Shown e owed) lane b b' is = absurd is
+plain_owned (Publish e) lane b b' is = absurd is
+plain_owned (Published e owed) lane b b' is = absurd is
 plain_owned (Remove e owed) lane b b' is = absurd is
-plain_owned (Settle e) lane b b' is = absurd is
+plain_owned (MakeDurable e) lane b b' is = absurd is
 
 own : (W : Path → Seen → Type 0) (b : Books) (v : View) (actor lane : ℕ) (kind : Kind) → IsBy kind actor lane → (kind ≡ Store → ⊥) → Within W (Guarantee b v lane lane) → Within W (Guarantee b v actor lane)
 own W b v actor lane kind by not within = subst (λ (a : ℕ). Within W (Guarantee b v a lane)) (sym (⊎_elim (λ e. e) (λ s. absurd (not s)) by)) within
@@ -98,10 +98,10 @@ quiet_duty Quiet actor lane v b W Done is by d = (own W b v actor lane Quiet by 
 quiet_duty Store actor lane v b W Done is by d = d
 quiet_duty (Take wants) actor lane v b W Done is by d = (own W b v actor lane (Take wants) by (λ (z : Take wants ≡ Store). cc) d.0, d.1)
 quiet_duty (Claim name) actor lane v b W Done is by d = (own W b v actor lane (Claim name) by (λ (z : Claim name ≡ Store). cc) d.0, d.1)
-quiet_duty (Show e) actor lane v b W Done is by d = absurd is
-quiet_duty (Shown e owed) actor lane v b W Done is by d = absurd is
+quiet_duty (Publish e) actor lane v b W Done is by d = absurd is
+quiet_duty (Published e owed) actor lane v b W Done is by d = absurd is
 quiet_duty (Remove e owed) actor lane v b W Done is by d = absurd is
-quiet_duty (Settle e) actor lane v b W Done is by d = absurd is
+quiet_duty (MakeDurable e) actor lane v b W Done is by d = absurd is
 
 module _ {F : Type 0} (view : F → Option View) (clock spare : F → ℕ) (was : F → ℕ → View → Type 0) (fslaws : IsFs view clock was)
     {T : Type 0} {kind : T → Kind} {needs : ℕ → T → View → Type 0} {writes : ℕ → T → View → Path → Seen → Type 0} {stepped : T → StepResult (Unit {0}) → T → Type 0} {leaves : T → StepResult (Unit {0}) → T → View → View → Type 0} {facts : ℕ → T → View → Books → Type 0}
@@ -216,10 +216,10 @@ module _ {T : Type 0} {kind : T → Kind} {needs : ℕ → T → View → Type 0
       by Store h = not_mine h
       by (Take wants) h = not_mine h
       by (Claim name) h = not_mine h
-      by (Show e) h = not_mine h
-      by (Shown e owed) h = (still e owed h.0, h.1)
+      by (Publish e) h = not_mine h
+      by (Published e owed) h = (still e owed h.0, h.1)
       by (Remove e owed) h = (still e owed h.0, h.1)
-      by (Settle e) h = still e 1 h
+      by (MakeDurable e) h = still e 1 h
 
   pub runs_kept : {F : Type 0} (view : F → Option View) (told : (fs gs : F) (v : View) → view fs ≡ Some v → Told (view gs) (λ w. Unit {0})) (actor lane mine : ℕ) (t : T) (fs gs : F) (b b' : Books) → mine ≢ actor → mine ≢ lane
       → ((v : View) → view fs ≡ Some v → (w : View) × (view gs ≡ Some w) × Interference actor lane v b w b') → Spared actor lane b b' → Runs kind facts mine t (view fs) b → Runs kind facts mine t (view gs) b'
@@ -273,7 +273,7 @@ refused_tells leaves refuses t new outcome e before now answer why still = ⊎_e
     other)
     answer
 
--- a step that shows a change, or is owed by one, is never refused for what stands at a path where the view is told
+-- a step that publishes a change, or is owed by one, is never refused for what stands at a path where the view is told
 pub owing_tells : {T : Type 0} (leaves : T → StepResult (Unit {0}) → T → View → View → Type 0) (refuses : T → View → FsErr → Type 0) (t new : T) (e : FsErr) (before now : Option View)
     → ((v : View) → before ≡ Some v → OfNone e) → (e ≡ err.NoMemory → ⊥) → exact.Tells leaves refuses t (came.Halted (why_of e)) new before now
 owing_tells leaves refuses t new err.Failed before now none roomy = tt

@@ -21,7 +21,7 @@ use Rattle.rely_guarantee.specs.State.{Topic, RefOf, Said}
 use Rattle.rely_guarantee.specs.Disks.{path_of, IsLeaf, Says}
 use Rattle.rely_guarantee.specs.Books.{Books, Free, IsClaimed}
 use Rattle.rely_guarantee.specs.Rely.{Guarantee, may_at, NotOthers, OwnTree, HasNoRefs}
-use Rattle.rely_guarantee.specs.SystemInvariant.{ShownBy, Leads}
+use Rattle.rely_guarantee.specs.SystemInvariant.{PublishedBy, Leads}
 use Rattle.rely_guarantee.specs.Change.{Still, Shows, Final}
 use Rattle.rely_guarantee.proofs.States.{says_vacant}
 
@@ -105,7 +105,7 @@ set_shows W v actor name commit seen lies is sum was = record {
   roots = λ s shown. tt;
 }
   where
-    writes : (t : Topic) (s : Seen) → W (path_of t) s → ShownBy (SetRef name seen commit) t s
+    writes : (t : Topic) (s : Seen) → W (path_of t) s → PublishedBy (SetRef name seen commit) t s
     writes (RefOf n) s wrote = ⊎_elim
         (λ at. absurd (stage_no_ref (RefOf n) (ref_path n) actor at refl))
         (λ k. (ap (λ x. Some (RefOf x)) (sym (ref_path-injective n name k.0)), (sum, k.1)))
@@ -116,12 +116,12 @@ pub drop_shows : (W : Path → Seen → Type 0) (v : View) (name seen : List ℕ
     → IsRefName name → Says (RefOf name) (Some seen) (shows v.now (ref_path name)) → Shows W v (DropRef name seen)
 drop_shows W v name seen lies is was = record { writes = writes; valid = is; was = λ t at. said_at name t (Some seen) v at was; roots = λ s shown. tt }
   where
-    writes : (t : Topic) (s : Seen) → W (path_of t) s → ShownBy (DropRef name seen) t s
+    writes : (t : Topic) (s : Seen) → W (path_of t) s → PublishedBy (DropRef name seen) t s
     writes (RefOf n) s wrote =
         let k = lies (ref_path n) s wrote in
         (ap (λ x. Some (RefOf x)) (sym (ref_path-injective n name k.0)), subst (λ y. Says (RefOf n) None y) (sym k.1) (says_vacant (RefOf n)))
 
--- The sync that makes it last.
+-- The sync that makes it durable.
 pub set_final : (w : View) (name commit : List ℕ) (seen : Option (List ℕ)) → IsSum commit → ((s : Seen) → MayBe w (ref_path name) s → bytes_in s ≡ Some (ref_text commit))
     → ((f : Path) (x : List ℕ) → ref_path name ≡ under f x → Leads w f) → Final (SetRef name seen commit) w
 set_final w name commit seen sum only leads = record {

@@ -20,7 +20,7 @@ use Rattle.rely_guarantee.specs.declared.books.Pending.{Pending}
 use Rattle.rely_guarantee.specs.declared.event.Event.{Event}
 use Rattle.rely_guarantee.specs.State.{Topic, RefOf, Said, State, is_topic, target, gives, next, after, IsNamed, events_of, stored, acked}
 use Rattle.rely_guarantee.specs.Disks.{path_of, IsLeaf, Says, Logical, HasRef, IsOther}
-use Rattle.rely_guarantee.specs.SystemInvariant.{ShownBy, Shown, Known, NoStray, Stands, Fits}
+use Rattle.rely_guarantee.specs.SystemInvariant.{PublishedBy, Published, Known, NoStray, Stands, Fits}
 use Rattle.rely_guarantee.proofs.States.{topic_is, topic_none, next_here, next_apart, after_push, run_front, after_named, length-events, acked_few, says_vacant}
 
 no_root : (t : Topic) → path_of t ≡ [] → ⊥
@@ -85,9 +85,9 @@ module _ (start : State) (entries : List Entry) (pending : Option Pending) (v : 
 few : (t : ℕ) (entries : List Entry) → acked t entries ≤ length (events_of entries)
 few t entries = omega (arith, acked_few t entries, length-events entries)
 
--- While a change is shown, a disk is before it or after it.
-shown_fits : (start : State) (entries : List Entry) (p : Pending) (v : View) → Stands start entries (Some p) v → (t : ℕ) (d : Disk) → Image v d → Fits start entries (events_of entries ++ p.event ∷ []) t d
-shown_fits start entries p v stands t d i = by (target p.event) refl
+-- While a change is published, a disk is before it or after it.
+published_fits : (start : State) (entries : List Entry) (p : Pending) (v : View) → Stands start entries (Some p) v → (t : ℕ) (d : Disk) → Image v d → Fits start entries (events_of entries ++ p.event ∷ []) t d
+published_fits start entries p v stands t d i = by (target p.event) refl
   where
     events : List Event
     events = events_of entries
@@ -95,8 +95,8 @@ shown_fits start entries p v stands t d i = by (target p.event) refl
     value : State
     value = after events start
 
-    known : (q : Topic) → Says q (value q) (shows d (path_of q)) ⊎ ShownBy p.event q (shows d (path_of q))
-    known q = known_at (Shown (Some p)) value v stands.known d i q
+    known : (q : Topic) → Says q (value q) (shows d (path_of q)) ⊎ PublishedBy p.event q (shows d (path_of q))
+    known q = known_at (Published (Some p)) value v stands.known d i q
 
     named : IsNamed value
     named = after_named events start (run_front events (p.event ∷ []) start stands.run) stands.named
@@ -139,10 +139,10 @@ shown_fits start entries p v stands t d i = by (target p.event) refl
 
 -- what a crash leaves now
 pub fits_now : (start : State) (entries : List Entry) (pending : Option Pending) (v : View) → Stands start entries pending v → (t : ℕ) (d : Disk) → Image v d → Fits start entries (stored entries pending) t d
-fits_now start entries (Some p) v stands t d i = shown_fits start entries p v stands t d i
+fits_now start entries (Some p) v stands t d i = published_fits start entries p v stands t d i
 fits_now start entries None v stands t d i =
     let events = events_of entries in
-    let logical : Logical d (after events start) = λ q. ⊎_elim (λ k. k) (λ bad. absurd bad) (known_at (Shown None) (after events start) v stands.known d i q) in
+    let logical : Logical d (after events start) = λ q. ⊎_elim (λ k. k) (λ bad. absurd bad) (known_at (Published None) (after events start) v stands.known d i q) in
     record {
       past = events;
       rest = [];
@@ -156,5 +156,5 @@ fits_now start entries None v stands t d i =
 pub fits_all : (start : State) (entries : List Entry) (v : View) → Stands start entries None v → (d : Disk) → Image v d → IsSane d × Logical d (after (events_of entries) start)
 fits_all start entries v stands d i =
     let events = events_of entries in
-    let logical : Logical d (after events start) = λ q. ⊎_elim (λ k. k) (λ bad. absurd bad) (known_at (Shown None) (after events start) v stands.known d i q) in
+    let logical : Logical d (after events start) = λ q. ⊎_elim (λ k. k) (λ bad. absurd bad) (known_at (Published None) (after events start) v stands.known d i q) in
     (sane start entries None v stands d i (after events start) (after_named events start (run_front events [] start stands.run) stands.named) logical, logical)

@@ -15,7 +15,7 @@ use Rattle.rely_guarantee.specs.State.{Topic, RefOf, Said, State, is_topic, targ
 use Rattle.rely_guarantee.specs.Disks.{path_of, IsLeaf, Logical, Says}
 use Rattle.rely_guarantee.specs.Books.{Books}
 use Rattle.rely_guarantee.specs.Rely.{Guarantee}
-use Rattle.rely_guarantee.specs.SystemInvariant.{Shown, Leads, NoStray, Known, Stands}
+use Rattle.rely_guarantee.specs.SystemInvariant.{Published, Leads, NoStray, Known, Stands}
 use Rattle.rely_guarantee.specs.Change.{Still, Away, Shows, Final}
 use Rattle.rely_guarantee.specs.Laws.{Within, NotPending}
 use Rattle.rely_guarantee.proofs.States.{topic_is, topic_none, next_here, next_apart, after_push, events_push, run_push, says_leaf, says_one}
@@ -24,12 +24,12 @@ use Rattle.layout_rules.proofs.Layouts.{above_ref}
 use Rattle.rely_guarantee.proofs.Mays.{not_other, ref_turn, leads_stay, folders_harmless, kinds_harmless, reached_harmless, strays_harmless}
 
 -- what has a value shows it now, where nothing is shown
-leaf_now : (value : State) (v : View) → Known (Shown None) value v → (name commit : List ℕ) → value (RefOf name) ≡ Some commit → IsLeaf (shows v.now (ref_path name))
+leaf_now : (value : State) (v : View) → Known (Published None) value v → (name commit : List ℕ) → value (RefOf name) ≡ Some commit → IsLeaf (shows v.now (ref_path name))
 leaf_now value v known name commit is =
     says_leaf name commit _ (⊎_elim (λ k. subst (λ y. Says (RefOf name) y (shows v.now (ref_path name))) is k) (λ bad. absurd bad) (known.each (RefOf name) _ (may_now v (ref_path name))))
 
 -- what nothing says has no value
-none_here : (value : State) (v : View) → Known (Shown None) value v → (t : Topic) → Says t None (shows v.now (path_of t)) → value t ≡ None
+none_here : (value : State) (v : View) → Known (Published None) value v → (t : Topic) → Says t None (shows v.now (path_of t)) → value t ≡ None
 none_here value v known t none = ⊎_elim (λ k. says_one t (value t) None _ k none) (λ bad. absurd bad) (known.each t _ (may_now v (path_of t)))
 
 module _ (W : Path → Seen → Type 0) (v w : View) (writes : Writes W v w) where
@@ -38,7 +38,7 @@ module _ (W : Path → Seen → Type 0) (v w : View) (writes : Writes W v w) whe
   leads_on f harmless leads = firm_kept W (LeadsTo f) v w writes harmless leads
 
   -- the folders above what has a value, where a writer within Guarantee that isn't held off finds each value there now
-  pub leads_within : (b : Books) (actor lane : ℕ) (value : State) → Within W (Guarantee b v actor lane) → Known (Shown None) value v → (t : Topic) (f : Path) (x : List ℕ) → path_of t ≡ under f x → (value t ≡ None) ⊎ Leads w f
+  pub leads_within : (b : Books) (actor lane : ℕ) (value : State) → Within W (Guarantee b v actor lane) → Known (Published None) value v → (t : Topic) (f : Path) (x : List ℕ) → path_of t ≡ under f x → (value t ≡ None) ⊎ Leads w f
   leads_within b actor lane value within known (RefOf name) f x e = ⊎_elim (λ none. inl none) (λ leads. by (value (RefOf name)) refl leads) (known.leads (RefOf name) f x e)
     where
       by : (said : Said) → value (RefOf name) ≡ said → Leads v f → (value (RefOf name) ≡ None) ⊎ Leads w f
@@ -60,7 +60,7 @@ module _ (W : Path → Seen → Type 0) (v w : View) (writes : Writes W v w) whe
     leads = leads_away b actor lane shown value within away known;
   }
 
-  known_still : (b : Books) (actor lane : ℕ) (value : State) → Within W (Guarantee b v actor lane) → Still W v → Known (Shown None) value v → Known (Shown None) value w
+  known_still : (b : Books) (actor lane : ℕ) (value : State) → Within W (Guarantee b v actor lane) → Still W v → Known (Published None) value v → Known (Published None) value w
   known_still b actor lane value within still known = record {
     each = λ t s may. ⊎_elim (known.each t s)
         (λ wrote. let k = still t s wrote in inl (subst (λ y. Says t y s) (sym (none_here value v known t k.1)) k.0))
@@ -74,16 +74,16 @@ module _ (W : Path → Seen → Type 0) (v w : View) (writes : Writes W v w) whe
 
   -- a step that changes nothing that the state speaks of
   pub known_quiet : (b : Books) (actor lane : ℕ) (value : State) → Within W (Guarantee b v actor lane) → Still W v → ((p : Pending) → b.pending ≡ Some p → b.turn ≡ Some p.lane) → NotPending lane b
-      → Known (Shown b.pending) value v → Known (Shown b.pending) value w
+      → Known (Published b.pending) value v → Known (Published b.pending) value w
   known_quiet b actor lane value within still owner not known = by b.pending refl
     where
-      by : (o : Option Pending) → b.pending ≡ o → Known (Shown b.pending) value w
-      by None is = subst (λ (o : Option Pending). Known (Shown o) value w) (sym is) (known_still b actor lane value within still (subst (λ (o : Option Pending). Known (Shown o) value v) is known))
-      by (Some p) is = known_away b actor lane (Shown b.pending) value within (still_away b actor lane p is (owner p is) not within) known
+      by : (o : Option Pending) → b.pending ≡ o → Known (Published b.pending) value w
+      by None is = subst (λ (o : Option Pending). Known (Published o) value w) (sym is) (known_still b actor lane value within still (subst (λ (o : Option Pending). Known (Published o) value v) is known))
+      by (Some p) is = known_away b actor lane (Published b.pending) value within (still_away b actor lane p is (owner p is) not within) known
 
-  -- the one that shows a change
-  pub known_show : (b : Books) (actor lane : ℕ) (value : State) (p : Pending) → Within W (Guarantee b v actor lane) → Shows W v p.event → Known (Shown None) value v → Known (Shown (Some p)) value w
-  known_show b actor lane value p within change known = record {
+  -- the one that publishes a change
+  pub known_publish : (b : Books) (actor lane : ℕ) (value : State) (p : Pending) → Within W (Guarantee b v actor lane) → Shows W v p.event → Known (Published None) value v → Known (Published (Some p)) value w
+  known_publish b actor lane value p within change known = record {
     each = λ t s may. ⊎_elim
         (λ was. ⊎_elim (λ k. inl k) (λ bad. absurd bad) (known.each t s was))
         (λ wrote. inr (change.writes t s wrote))
@@ -104,9 +104,9 @@ module _ (W : Path → Seen → Type 0) (v w : View) (writes : Writes W v w) whe
   pub reached_kept : (b : Books) (actor lane : ℕ) → Within W (Guarantee b v actor lane) → ((p : Path) (s : Seen) → MayBe v p s → IsBounded p s) → (p : Path) (s : Seen) → MayBe w p s → IsBounded p s
   reached_kept b actor lane within was = firm_kept W IsBounded v w writes (λ p s wrote. reached_harmless b v actor lane p s (within p s wrote)) was
 
--- the sync that makes it last
-pub known_settle : (value : State) (v w : View) (p : Pending) → Writes Nothing v w → Final p.event w → Known (Shown (Some p)) value v → Known (Shown None) (next p.event value) w
-known_settle value v w p writes final known = record {
+-- the sync that makes it durable
+pub known_make_durable : (value : State) (v w : View) (p : Pending) → Writes Nothing v w → Final p.event w → Known (Published (Some p)) value v → Known (Published None) (next p.event value) w
+known_make_durable value v w p writes final known = record {
   each = λ t s may. inl (each t s may (is_topic (target p.event) t) refl);
   leads = λ t f x e. leads t f x e (is_topic (target p.event) t) refl;
 }
@@ -148,19 +148,19 @@ pub stands_away : (start : State) (entries : List Entry) (b : Books) (actor lane
 stands_away start entries b actor lane W v w writes within away was = record {
   named = was.named;
   run = was.run;
-  known = known_away W v w writes b actor lane (Shown b.pending) (after (events_of entries) start) within away was.known;
+  known = known_away W v w writes b actor lane (Published b.pending) (after (events_of entries) start) within away was.known;
   folders = folders_kept W v w writes b actor lane within was.folders;
   strays = strays_kept W v w writes b actor lane within was.strays;
   kinds = kinds_kept W v w writes b actor lane within was.kinds;
   reached = reached_kept W v w writes b actor lane within was.reached;
 }
 
-pub stands_show : (start : State) (entries : List Entry) (b : Books) (actor lane : ℕ) (p : Pending) (W : Path → Seen → Type 0) (v w : View) → Writes W v w → Within W (Guarantee b v actor lane) → Shows W v p.event
+pub stands_publish : (start : State) (entries : List Entry) (b : Books) (actor lane : ℕ) (p : Pending) (W : Path → Seen → Type 0) (v w : View) → Writes W v w → Within W (Guarantee b v actor lane) → Shows W v p.event
     → Stands start entries None v → Stands start entries (Some p) w
-stands_show start entries b actor lane p W v w writes within change was = record {
+stands_publish start entries b actor lane p W v w writes within change was = record {
   named = was.named;
   run = run_push (events_of entries) p.event start (subst (λ (l : List Event). IsRun l start) (append-nil (events_of entries)) was.run) (record { valid = change.valid; was = seen_now; roots = change.roots value shown_now });
-  known = known_show W v w writes b actor lane (after (events_of entries) start) p within change was.known;
+  known = known_publish W v w writes b actor lane (after (events_of entries) start) p within change was.known;
   folders = folders_kept W v w writes b actor lane within was.folders;
   strays = strays_kept W v w writes b actor lane within was.strays;
   kinds = kinds_kept W v w writes b actor lane within was.kinds;
@@ -176,12 +176,12 @@ stands_show start entries b actor lane p W v w writes within change was = record
     seen_now : (t : Topic) → target p.event ≡ Some t → value t ≡ before p.event
     seen_now t at = says_one t (value t) (before p.event) _ (shown_now t) (change.was t at)
 
-pub stands_settle : (start : State) (entries : List Entry) (p : Pending) (e : Entry) (v w : View) → e.event ≡ p.event → Writes Nothing v w → Final p.event w
+pub stands_make_durable : (start : State) (entries : List Entry) (p : Pending) (e : Entry) (v w : View) → e.event ≡ p.event → Writes Nothing v w → Final p.event w
     → Stands start entries (Some p) v → Stands start (entries ++ e ∷ []) None w
-stands_settle start entries p e v w same writes final was = record {
+stands_make_durable start entries p e v w same writes final was = record {
   named = was.named;
   run = subst (λ (l : List Event). IsRun l start) (sym (append-nil (events_of (entries ++ e ∷ [])) ∙ pushed)) was.run;
-  known = subst (λ (s : State). Known (Shown None) s w) (sym state) (known_settle (after (events_of entries) start) v w p writes final was.known);
+  known = subst (λ (s : State). Known (Published None) s w) (sym state) (known_make_durable (after (events_of entries) start) v w p writes final was.known);
   folders = λ f q s may. was.folders f q s (kept q s may);
   strays = λ q s may. was.strays q s (kept q s may);
   kinds = λ q s may. was.kinds q s (kept q s may);

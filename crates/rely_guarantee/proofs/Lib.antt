@@ -7,7 +7,7 @@ pub mod Locking
 pub mod Claiming
 pub mod Sounds
 pub mod Acting
-pub mod Showing
+pub mod Publishing
 pub mod Taking
 pub mod Noting
 mod Rooms

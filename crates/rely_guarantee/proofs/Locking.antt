@@ -62,9 +62,9 @@ doomed_taken false lane lock pending free none = refl
 doomed_taken true lane None pending free none = doomed_apart lane pending none
 doomed_taken true lane (Some x) pending free none = ap (λ n. doomed_of (Some n) pending) (sym (free refl x refl))
 
--- once a change is shown it is what that one removes
-pub doomed_shown : (lane command : ℕ) (e : Event) (b : Books) → Dooms lane b e → doomed_of b.exclusive (Some (record { lane = lane; command = command; event = e })) ≡ removed_by e
-doomed_shown lane command e b dooms = by e b.exclusive dooms refl
+-- once a change is published it is what that one removes
+pub doomed_published : (lane command : ℕ) (e : Event) (b : Books) → Dooms lane b e → doomed_of b.exclusive (Some (record { lane = lane; command = command; event = e })) ≡ removed_by e
+doomed_published lane command e b dooms = by e b.exclusive dooms refl
   where
     shown : Event → Pending
     shown d = record { lane = lane; command = command; event = d }

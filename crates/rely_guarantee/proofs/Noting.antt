@@ -15,7 +15,7 @@ use Rattle.rely_guarantee.specs.declared.books.Claim as claim
 use Rattle.rely_guarantee.specs.declared.kind.Outcome.TheVariants as came
 use Rattle.rely_guarantee.specs.Books.{Books, books_of, IsClaimed, Keeps, Spared}
 use Rattle.rely_guarantee.specs.SystemInvariant.{SystemInvariant}
-use Rattle.rely_guarantee.specs.Laws.{Kind, Quiet, Store, Take, Claim, Show, Shown, Remove, Settle, Laws, IsBefore, IsClaim, IsQuiet, Chain, Holds, NotPending, Owned, Stood, Runs, Ready, Acts}
+use Rattle.rely_guarantee.specs.Laws.{Kind, Quiet, Store, Take, Claim, Publish, Published, Remove, MakeDurable, Laws, IsBefore, IsClaim, IsQuiet, Chain, Holds, NotPending, Owned, Stood, Runs, Ready, Acts}
 use Rattle.rely_guarantee.proofs.Lists.{added_cases, added_contains, contains_added}
 use Rattle.rely_guarantee.proofs.Locking.{spared_refl}
 use Rattle.rely_guarantee.proofs.Sounds.{IsFs}
@@ -26,20 +26,20 @@ claim_is Quiet is = absurd is
 claim_is Store is = absurd is
 claim_is (Take wants) is = absurd is
 claim_is (Claim name) is = (name, refl)
-claim_is (Show e) is = absurd is
-claim_is (Shown e owed) is = absurd is
+claim_is (Publish e) is = absurd is
+claim_is (Published e owed) is = absurd is
 claim_is (Remove e owed) is = absurd is
-claim_is (Settle e) is = absurd is
+claim_is (MakeDurable e) is = absurd is
 
 pub claim_quiet : (k : Kind) → IsClaim k → IsQuiet k
 claim_quiet Quiet is = absurd is
 claim_quiet Store is = absurd is
 claim_quiet (Take wants) is = absurd is
 claim_quiet (Claim name) is = tt
-claim_quiet (Show e) is = absurd is
-claim_quiet (Shown e owed) is = absurd is
+claim_quiet (Publish e) is = absurd is
+claim_quiet (Published e owed) is = absurd is
 claim_quiet (Remove e owed) is = absurd is
-claim_quiet (Settle e) is = absurd is
+claim_quiet (MakeDurable e) is = absurd is
 
 module _ {F : Type 0} (view : F → Option View) (clock spare : F → ℕ) (was : F → ℕ → View → Type 0) (fslaws : IsFs view clock was)
     {T : Type 0} {kind : T → Kind} {needs : ℕ → T → View → Type 0} {writes : ℕ → T → View → Path → Seen → Type 0} {stepped : T → StepResult (Unit {0}) → T → Type 0} {leaves : T → StepResult (Unit {0}) → T → View → View → Type 0} {facts : ℕ → T → View → Books → Type 0}

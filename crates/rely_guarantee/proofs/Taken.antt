@@ -18,7 +18,7 @@ use Rattle.rely_guarantee.specs.Exact.{taken_in}
 use Rattle.rely_guarantee.specs.Lasting.{Lasts, Stays}
 use Rattle.rely_guarantee.specs.Rely.{Guarantee, Interference}
 use Rattle.rely_guarantee.specs.Removing.{next_of}
-use Rattle.rely_guarantee.specs.Laws.{Kind, Quiet, Store, Take, Claim, Show, Shown, Remove, Settle, IsBy, Laws, StepObligation, Stood, Holds, NotPending, Runs, Ready}
+use Rattle.rely_guarantee.specs.Laws.{Kind, Quiet, Store, Take, Claim, Publish, Published, Remove, MakeDurable, IsBy, Laws, StepObligation, Stood, Holds, NotPending, Runs, Ready}
 use Rattle.rely_guarantee.proofs.Acting.{told_same}
 use Rattle.rely_guarantee.proofs.Lasting.{lasts_stays, next_doomed, none_out, stays_act, stays_by, stays_more, stays_taking}
 use Rattle.rely_guarantee.proofs.Locking.{doomed_apart}
@@ -82,8 +82,8 @@ module _ {F : Type 0} (view : F → Option View) (clock spare : F → ℕ) (was 
       by Store is = idle (held Store is)
       by (Take wants) is = idle (held (Take wants) is)
       by (Claim name) is = idle (held (Claim name) is)
-      by (Show e) is = idle (held (Show e) is)
-      by (Shown e owed) is = stays [] (λ v w told_v told_w writes_w. (let d = duty (Shown e owed) is tt v told_v in let x = wrote_in v w told_v told_w in
+      by (Publish e) is = idle (held (Publish e) is)
+      by (Published e owed) is = stays [] (λ v w told_v told_w writes_w. (let d = duty (Published e owed) is tt v told_v in let x = wrote_in v w told_v told_w in
           stays_taking (books_of old.books) v w lane lane (weaker (writes actor t v) (Guarantee (books_of old.books) v lane lane) v w d.0 x) (writes actor t v) x d.0 d.2))
       by (Remove e owed) is = stays (next_of (books_of old.books)) (λ v w told_v told_w. stays_act (books_of old.books) v w actor lane)
-      by (Settle e) is = stays [] (λ v w told_v told_w writes_w. none_stays (books_of old.books) v w actor lane (writes actor t v) (duty (Settle e) is tt v told_v).0 writes_w (wrote_in v w told_v told_w))
+      by (MakeDurable e) is = stays [] (λ v w told_v told_w writes_w. none_stays (books_of old.books) v w actor lane (writes actor t v) (duty (MakeDurable e) is tt v told_v).0 writes_w (wrote_in v w told_v told_w))

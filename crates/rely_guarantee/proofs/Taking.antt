@@ -25,7 +25,7 @@ use Rattle.rely_guarantee.specs.Books.{Books, books_of, doomed_of, Agrees, Frees
 use Rattle.rely_guarantee.specs.Rely.{Guarantee, may_at, NotPinned}
 use Rattle.rely_guarantee.specs.Removing.{Goes, IsGuarded, IsRoot, next_of}
 use Rattle.rely_guarantee.specs.Exact.{NoNewShares, lock_taken}
-use Rattle.rely_guarantee.specs.Laws.{Kind, Quiet, Store, Take, Claim, Show, Shown, Remove, Settle, Laws, IsStore, IsTake, Holds, IsPending, NotPending, Runs, Ready, Tells, Acts}
+use Rattle.rely_guarantee.specs.Laws.{Kind, Quiet, Store, Take, Claim, Publish, Published, Remove, MakeDurable, Laws, IsStore, IsTake, Holds, IsPending, NotPending, Runs, Ready, Tells, Acts}
 use Rattle.rely_guarantee.specs.SystemInvariant.{Ordered}
 use Rattle.rely_guarantee.proofs.Lists.{all_of, other_or_own}
 use Rattle.rely_guarantee.proofs.Locking.{doomed_taken, free_before, spared_refl, spared_then}
@@ -82,20 +82,20 @@ store_is Quiet is = absurd is
 store_is Store is = refl
 store_is (Take wants) is = absurd is
 store_is (Claim name) is = absurd is
-store_is (Show e) is = absurd is
-store_is (Shown e owed) is = absurd is
+store_is (Publish e) is = absurd is
+store_is (Published e owed) is = absurd is
 store_is (Remove e owed) is = absurd is
-store_is (Settle e) is = absurd is
+store_is (MakeDurable e) is = absurd is
 
 pub take_is : (wants : Wants) (k : Kind) → IsTake wants k → k ≡ Take wants
 take_is wants Quiet is = absurd is
 take_is wants Store is = absurd is
 take_is wants (Take w) is = ap Take is
 take_is wants (Claim name) is = absurd is
-take_is wants (Show e) is = absurd is
-take_is wants (Shown e owed) is = absurd is
+take_is wants (Publish e) is = absurd is
+take_is wants (Published e owed) is = absurd is
 take_is wants (Remove e owed) is = absurd is
-take_is wants (Settle e) is = absurd is
+take_is wants (MakeDurable e) is = absurd is
 
 -- what is removed goes on to be so, where a lane that shows nothing has more locks
 pub granted_doomed : (b b' : rust.Books) (lane : ℕ) (wants : Wants) → b' ≡ record b { shared = b'.shared; exclusive = b'.exclusive; turn = b'.turn; sysroot = b'.sysroot; holds = b'.holds; pins = b'.pins } → Frees wants lane (books_of b)
@@ -128,10 +128,10 @@ holds_on k lane b shared = by k
     by Store h = h
     by (Take wants) h = h
     by (Claim name) h = h
-    by (Show e) h = h
-    by (Shown e owed) h = (still e owed h.0, h.1)
+    by (Publish e) h = h
+    by (Published e owed) h = (still e owed h.0, h.1)
     by (Remove e owed) h = (still e owed h.0, h.1)
-    by (Settle e) h = still e 1 h
+    by (MakeDurable e) h = still e 1 h
 
 -- The lane is no more among those that store, and all else is as it was.
 module _ (b : rust.Books) (left : rust.Books) (lane : ℕ) (kept : (x : Share) → x.lane ≢ lane → Contains b.shared.items x → Contains left.shared.items x) (fewer : NoNewShares b left) where

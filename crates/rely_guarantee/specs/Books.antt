@@ -38,7 +38,7 @@ pub record Books : Type 0 where
   pub opened : ℕ
   pub start : List (List ℕ × List ℕ)
 
--- what the holder of Exclusive removes is what its change that is shown says
+-- what the holder of Exclusive removes is what its change that is published says
 abbrev pub doomed_of : Option ℕ → Option Pending → List ObjName
 doomed_of (Some holder) (Some p) = if nat_eq holder p.lane then removed_by p.event else []
 doomed_of exclusive pending = []

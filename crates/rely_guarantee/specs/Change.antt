@@ -11,7 +11,7 @@ use Rattle.rely_guarantee.specs.declared.event.Event.TheVariants.{Pruned}
 use Rattle.rely_guarantee.specs.Books.{Books}
 use Rattle.rely_guarantee.specs.State.{Topic, State, target, before, gives, IsValid, HasRoots}
 use Rattle.rely_guarantee.specs.Disks.{path_of, Logical, Says}
-use Rattle.rely_guarantee.specs.SystemInvariant.{ShownBy, Leads}
+use Rattle.rely_guarantee.specs.SystemInvariant.{PublishedBy, Leads}
 
 -- Nothing that the state speaks of changes: at its paths nothing is written but what has no value in the place of what has none.
 abbrev pub Still : (Path → Seen → Type 0) → View → Type 0
@@ -33,7 +33,7 @@ Dooms lane b e = Unit {0}
 -- The event's value, and nothing else, is written at the paths that the state speaks of; the event can be, what it changes shows now
 -- what it says that it was, and its roots are those of the state that the view shows.
 pub record Shows (W : Path → Seen → Type 0) (v : View) (e : Event) : Type 0 where
-  pub writes : (t : Topic) (s : Seen) → W (path_of t) s → ShownBy e t s
+  pub writes : (t : Topic) (s : Seen) → W (path_of t) s → PublishedBy e t s
   pub valid : IsValid e
   pub was : (t : Topic) → target e ≡ Some t → Says t (before e) (shows v.now (path_of t))
   pub roots : (s : State) → Logical v.now s → HasRoots e s

@@ -9,7 +9,7 @@ use Rattle.fs_trait.specs.Seen.{Seen}
 use Rattle.rely_guarantee.specs.declared.either.Either.{Either}
 use Rattle.rely_guarantee.specs.declared.either.Either.TheVariants.{Left, Right}
 use Rattle.rely_guarantee.specs.Books.{Books}
-use Rattle.rely_guarantee.specs.Laws.{Kind, Quiet, Store, Take, Claim, Show, Shown, Remove, Settle, Laws, StepObligation}
+use Rattle.rely_guarantee.specs.Laws.{Kind, Quiet, Store, Take, Claim, Publish, Published, Remove, MakeDurable, Laws, StepObligation}
 
 abbrev pub either_kind : {A B : Type 0} → (A → Kind) → (B → Kind) → Either A B → Kind
 either_kind ka kb (Left a) = ka a
@@ -47,10 +47,10 @@ duty_more Quiet actor lane v b W Done Never none d = d
 duty_more Store actor lane v b W Done Never none d = d
 duty_more (Take wants) actor lane v b W Done Never none d = d
 duty_more (Claim name) actor lane v b W Done Never none d = d
-duty_more (Show e) actor lane v b W Done Never none d = d
-duty_more (Shown e owed) actor lane v b W Done Never none d = d
+duty_more (Publish e) actor lane v b W Done Never none d = d
+duty_more (Published e owed) actor lane v b W Done Never none d = d
 duty_more (Remove e owed) actor lane v b W Done Never none d = d
-duty_more (Settle e) actor lane v b W Done Never none d = (d.0, λ w bad. absurd (none w bad))
+duty_more (MakeDurable e) actor lane v b W Done Never none d = (d.0, λ w bad. absurd (none w bad))
 
 module _ {A B : Type 0} {ka : A → Kind} {na : ℕ → A → View → Type 0} {wa : ℕ → A → View → Path → Seen → Type 0} {sa : A → StepResult (Unit {0}) → A → Type 0} {la : A → StepResult (Unit {0}) → A → View → View → Type 0} {fa : ℕ → A → View → Books → Type 0}
     {kb : B → Kind} {nb : ℕ → B → View → Type 0} {wb : ℕ → B → View → Path → Seen → Type 0} {sb : B → StepResult (Unit {0}) → B → Type 0} {lb : B → StepResult (Unit {0}) → B → View → View → Type 0} {fb : ℕ → B → View → Books → Type 0} where

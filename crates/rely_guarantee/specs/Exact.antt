@@ -19,7 +19,7 @@ use Rattle.rely_guarantee.specs.declared.kind.Outcome.{Outcome}
 use Rattle.rely_guarantee.specs.declared.kind.Outcome.TheVariants as came
 use Rattle.rely_guarantee.specs.Books.{Books, Free, Frees}
 use Rattle.rely_guarantee.specs.Removing.{next_of}
-use Rattle.rely_guarantee.specs.Laws.{Kind, Quiet, Store, Take, Claim, Show, Shown, Remove, Settle}
+use Rattle.rely_guarantee.specs.Laws.{Kind, Quiet, Store, Take, Claim, Publish, Published, Remove, MakeDurable}
 
 -- what others leave free for such a step
 abbrev pub Opens : Kind → ℕ → Books → Type 0
@@ -27,10 +27,10 @@ Opens Quiet lane b = Unit {0}
 Opens Store lane b = Free b.exclusive lane
 Opens (Take wants) lane b = Frees wants lane b
 Opens (Claim name) lane b = Unit {0}
-Opens (Show e) lane b = Free b.exclusive lane × Free b.turn lane
-Opens (Shown e owed) lane b = Unit {0}
+Opens (Publish e) lane b = Free b.exclusive lane × Free b.turn lane
+Opens (Published e owed) lane b = Unit {0}
 Opens (Remove e owed) lane b = Unit {0}
-Opens (Settle e) lane b = Unit {0}
+Opens (MakeDurable e) lane b = Unit {0}
 
 -- how the task went on
 abbrev pub Steps : {T : Type 0} → (T → StepResult (Unit {0}) → T → Type 0) → T → Outcome → T → Type 0
@@ -62,34 +62,34 @@ abbrev pub IsEntered : ℕ → rust.Books → rust.Books → Type 0
 IsEntered moment old new = (new.pending ≡ None)
     × ((p : Pending) → old.pending ≡ Some p → new.history.items ≡ old.history.items ++ record { lane = p.lane; command = p.command; event = p.event; moment = moment } ∷ [])
 
-abbrev pub IsShownBy : ℕ → ℕ → Event → Outcome → rust.Books → rust.Books → Type 0
-IsShownBy lane command e came.More old new = IsNoted lane command e old new
-IsShownBy lane command e (came.Halted why) old new = IsNoted lane command e old new
-IsShownBy lane command e came.Blocked old new = IsUnbooked old new
-IsShownBy lane command e (came.Refused f) old new = IsUnbooked old new
-IsShownBy lane command e came.Done old new = ⊥
+abbrev pub IsPublishedBy : ℕ → ℕ → Event → Outcome → rust.Books → rust.Books → Type 0
+IsPublishedBy lane command e came.More old new = IsNoted lane command e old new
+IsPublishedBy lane command e (came.Halted why) old new = IsNoted lane command e old new
+IsPublishedBy lane command e came.Blocked old new = IsUnbooked old new
+IsPublishedBy lane command e (came.Refused f) old new = IsUnbooked old new
+IsPublishedBy lane command e came.Done old new = ⊥
 
-abbrev pub IsSettledBy : ℕ → Outcome → rust.Books → rust.Books → Type 0
-IsSettledBy moment came.Done old new = IsEntered moment old new
-IsSettledBy moment (came.Halted why) old new = IsUnbooked old new
-IsSettledBy moment outcome old new = ⊥
+abbrev pub IsMadeDurableBy : ℕ → Outcome → rust.Books → rust.Books → Type 0
+IsMadeDurableBy moment came.Done old new = IsEntered moment old new
+IsMadeDurableBy moment (came.Halted why) old new = IsUnbooked old new
+IsMadeDurableBy moment outcome old new = ⊥
 
--- a change that is shown stays pending
+-- a change that is published stays pending
 abbrev pub IsHeldBy : Outcome → rust.Books → rust.Books → Type 0
 IsHeldBy came.More old new = IsUnbooked old new
 IsHeldBy (came.Halted why) old new = IsUnbooked old new
 IsHeldBy outcome old new = ⊥
 
--- What the books have of the step: the one that shows a change notes it as pending, also where the call failed, and the one
--- that makes it last makes of it the last entry of the history. No other step changes either.
+-- What the books have of the step: the one that publishes a change notes it as pending, also where the call failed, and the one
+-- that makes it durable makes of it the last entry of the history. No other step changes either.
 abbrev pub IsBooked : Kind → ℕ → ℕ → ℕ → Outcome → rust.Books → rust.Books → Type 0
-IsBooked (Show e) lane command moment outcome old new = IsShownBy lane command e outcome old new
-IsBooked (Settle e) lane command moment outcome old new = IsSettledBy moment outcome old new
+IsBooked (Publish e) lane command moment outcome old new = IsPublishedBy lane command e outcome old new
+IsBooked (MakeDurable e) lane command moment outcome old new = IsMadeDurableBy moment outcome old new
 IsBooked Quiet lane command moment outcome old new = IsUnbooked old new
 IsBooked Store lane command moment outcome old new = IsUnbooked old new
 IsBooked (Take wants) lane command moment outcome old new = IsUnbooked old new
 IsBooked (Claim name) lane command moment outcome old new = IsUnbooked old new
-IsBooked (Shown e owed) lane command moment outcome old new = IsHeldBy outcome old new
+IsBooked (Published e owed) lane command moment outcome old new = IsHeldBy outcome old new
 IsBooked (Remove e owed) lane command moment outcome old new = IsHeldBy outcome old new
 
 -- A command ends for a call that failed, and all of them for a failed change, only where the count of faults rose. One command alone ends
@@ -128,7 +128,7 @@ lock_taken false lane lock = lock
 -- whose a lock is in such a step
 abbrev pub turn_in : Kind → ℕ → Option ℕ → Option ℕ
 turn_in (Take wants) lane lock = lock_taken wants.turn lane lock
-turn_in (Show e) lane lock = Some lane
+turn_in (Publish e) lane lock = Some lane
 turn_in kind lane lock = lock
 
 abbrev pub exclusive_in : Kind → ℕ → Option ℕ → Option ℕ
@@ -156,14 +156,14 @@ NoNewShares old new = (x : Share) → Contains new.shared.items x → Contains o
 abbrev pub Locks : Kind → ℕ → Outcome → rust.Books → rust.Books → Type 0
 Locks kind lane outcome old new = IsLeft lane outcome (turn_in kind lane old.turn) new.turn × IsLeft lane outcome (exclusive_in kind lane old.exclusive) new.exclusive × NoNewShares old new
 
--- how many objects were removed of those that are to be: none where their change is shown, and each before the call that takes it away
-abbrev pub gone_shown : Outcome → ℕ → ℕ
-gone_shown came.More gone = 0
-gone_shown (came.Halted why) gone = 0
-gone_shown outcome gone = gone
+-- how many objects were removed of those that are to be: none where their change is published, and each before the call that takes it away
+abbrev pub gone_published : Outcome → ℕ → ℕ
+gone_published came.More gone = 0
+gone_published (came.Halted why) gone = 0
+gone_published outcome gone = gone
 
 abbrev pub gone_in : Kind → Outcome → ℕ → ℕ
-gone_in (Show e) outcome gone = gone_shown outcome gone
+gone_in (Publish e) outcome gone = gone_published outcome gone
 gone_in (Remove e owed) outcome gone = gone + 1
 gone_in kind outcome gone = gone
 

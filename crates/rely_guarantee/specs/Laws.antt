@@ -15,8 +15,8 @@ use Rattle.rely_guarantee.specs.declared.books.Pending.{Pending}
 use Rattle.rely_guarantee.specs.declared.event.Event.{Event}
 use Rattle.rely_guarantee.specs.declared.kind.Outcome.{Outcome}
 use Rattle.rely_guarantee.specs.declared.kind.Outcome.TheVariants as came
-use Rattle.rely_guarantee.specs.declared.kind.Step.{Step}
-use Rattle.rely_guarantee.specs.declared.kind.Step.TheVariants as step
+use Rattle.rely_guarantee.specs.declared.kind.StepKind.{StepKind}
+use Rattle.rely_guarantee.specs.declared.kind.StepKind.TheVariants as step
 use Rattle.rely_guarantee.specs.declared.kind.Wants.{Wants}
 use Rattle.rely_guarantee.specs.Books.{Books, books_of, Free, Granted, Agrees, Spared, Keeps, IsClaimed}
 use Rattle.rely_guarantee.specs.Rely.{Guarantee, Interference}
@@ -30,26 +30,26 @@ pub data Kind : Type 0 where
   Store : Kind  -- so too, and another actor may take it
   Take : Wants → Kind  -- so too, once these locks are taken
   Claim : Name → Kind  -- it makes the folder of this checkout, which is the lane's from then on
-  Show : Event → Kind  -- it shows this change
-  Shown : Event → ℕ → Kind  -- it comes between showing and settling; so many calls are owed, itself among them
+  Publish : Event → Kind  -- it publishes this change
+  Published : Event → ℕ → Kind  -- it comes between publishing and making durable; so many calls are owed, itself among them
   Remove : Event → ℕ → Kind  -- so too, and it takes the next object that is to be removed from its path
-  Settle : Event → Kind  -- it makes the change last
+  MakeDurable : Event → Kind  -- it makes the change durable
 
-abbrev pub step_of : Kind → Step
+abbrev pub step_of : Kind → StepKind
 step_of Quiet = step.Quiet
 step_of Store = step.Store
 step_of (Take wants) = step.Take wants
 step_of (Claim name) = step.Claim
-step_of (Show e) = step.Show
-step_of (Shown e owed) = step.Shown
+step_of (Publish e) = step.Publish
+step_of (Published e owed) = step.Published
 step_of (Remove e owed) = step.Remove
-step_of (Settle e) = step.Settle
+step_of (MakeDurable e) = step.MakeDurable
 
 -- how many calls are owed, this step's among them
 abbrev pub owed_by : Kind → ℕ
-owed_by (Shown e owed) = owed
+owed_by (Published e owed) = owed
 owed_by (Remove e owed) = owed
-owed_by (Settle e) = 1
+owed_by (MakeDurable e) = 1
 owed_by k = 0
 
 -- a lane takes its own steps, and others may take those that store
@@ -73,10 +73,10 @@ Holds Quiet lane b = NotPending lane b
 Holds Store lane b = NotPending lane b
 Holds (Take wants) lane b = NotPending lane b
 Holds (Claim name) lane b = NotPending lane b
-Holds (Show e) lane b = NotPending lane b
-Holds (Shown e owed) lane b = IsPending e owed lane b × (0 < owed)
+Holds (Publish e) lane b = NotPending lane b
+Holds (Published e owed) lane b = IsPending e owed lane b × (0 < owed)
 Holds (Remove e owed) lane b = IsPending e owed lane b × (0 < owed)
-Holds (Settle e) lane b = IsPending e 1 lane b
+Holds (MakeDurable e) lane b = IsPending e 1 lane b
 
 -- what nobody else may hold in such a step, and what the lane holds then
 abbrev pub Stood : Kind → ℕ → ℕ → Books → Type 0
@@ -84,16 +84,16 @@ Stood Quiet actor lane b = Unit {0}
 Stood Store actor lane b = Free b.exclusive lane
 Stood (Take wants) actor lane b = Granted wants actor lane b
 Stood (Claim name) actor lane b = Unit {0}
-Stood (Show e) actor lane b = Free b.turn lane × Free b.exclusive lane
-Stood (Shown e owed) actor lane b = Unit {0}
+Stood (Publish e) actor lane b = Free b.turn lane × Free b.exclusive lane
+Stood (Published e owed) actor lane b = Unit {0}
 Stood (Remove e owed) actor lane b = Unit {0}
-Stood (Settle e) actor lane b = Unit {0}
+Stood (MakeDurable e) actor lane b = Unit {0}
 
 -- the change is still shown, or to be settled now
 abbrev pub Follows : Event → ℕ → Kind → Type 0
-Follows e most (Shown d owed) = (d ≡ e) × (owed ≤ most) × (0 < owed)
+Follows e most (Published d owed) = (d ≡ e) × (owed ≤ most) × (0 < owed)
 Follows e most (Remove d owed) = (d ≡ e) × (owed ≤ most) × (0 < owed)
-Follows e most (Settle d) = (d ≡ e) × (1 ≤ most)
+Follows e most (MakeDurable d) = (d ≡ e) × (1 ≤ most)
 Follows e most k = ⊥
 
 -- nothing is shown
@@ -102,45 +102,45 @@ IsBefore Quiet = Unit {0}
 IsBefore Store = Unit {0}
 IsBefore (Take wants) = Unit {0}
 IsBefore (Claim name) = Unit {0}
-IsBefore (Show e) = Unit {0}
-IsBefore (Shown e owed) = ⊥
+IsBefore (Publish e) = Unit {0}
+IsBefore (Published e owed) = ⊥
 IsBefore (Remove e owed) = ⊥
-IsBefore (Settle e) = ⊥
+IsBefore (MakeDurable e) = ⊥
 
--- which kind of step may follow; each step but the one that shows the change may pay one owed call
+-- which kind of step may follow; each step but the one that publishes the change may pay one owed call
 abbrev pub Chain : Kind → Kind → Type 0
 Chain Quiet next = IsBefore next
 Chain Store next = IsBefore next
 Chain (Take wants) next = IsBefore next
 Chain (Claim name) next = IsBefore next
-Chain (Show e) next = Follows e (owed_by next) next
-Chain (Shown e owed) next = (most : ℕ) × (owed ≡ suc most) × Follows e most next
+Chain (Publish e) next = Follows e (owed_by next) next
+Chain (Published e owed) next = (most : ℕ) × (owed ≡ suc most) × Follows e most next
 Chain (Remove e owed) next = (most : ℕ) × (owed ≡ suc most) × Follows e most next
-Chain (Settle e) next = ⊥
+Chain (MakeDurable e) next = ⊥
 
--- the step shows a change, or makes it last
-abbrev pub IsShow : Kind → Type 0
-IsShow (Show e) = Unit {0}
-IsShow k = ⊥
+-- the step publishes a change, or makes it durable
+abbrev pub IsPublish : Kind → Type 0
+IsPublish (Publish e) = Unit {0}
+IsPublish k = ⊥
 
-abbrev pub IsSettle : Kind → Type 0
-IsSettle (Settle e) = Unit {0}
-IsSettle k = ⊥
+abbrev pub IsMakeDurable : Kind → Type 0
+IsMakeDurable (MakeDurable e) = Unit {0}
+IsMakeDurable k = ⊥
 
-abbrev pub IsShown : Kind → Type 0
-IsShown (Shown e owed) = Unit {0}
-IsShown k = ⊥
+abbrev pub IsPublished : Kind → Type 0
+IsPublished (Published e owed) = Unit {0}
+IsPublished k = ⊥
 
 abbrev pub IsRemove : Kind → Type 0
 IsRemove (Remove e owed) = Unit {0}
 IsRemove k = ⊥
 
--- the step shows a change or is owed by one
+-- the step publishes a change or is owed by one
 abbrev pub IsOwing : Kind → Type 0
-IsOwing (Show e) = Unit {0}
-IsOwing (Shown e owed) = Unit {0}
+IsOwing (Publish e) = Unit {0}
+IsOwing (Published e owed) = Unit {0}
 IsOwing (Remove e owed) = Unit {0}
-IsOwing (Settle e) = Unit {0}
+IsOwing (MakeDurable e) = Unit {0}
 IsOwing k = ⊥
 
 abbrev pub IsStore : Kind → Type 0
@@ -174,8 +174,8 @@ IsClaim k = ⊥
 -- claims, and how far it is with what it removes.
 abbrev pub Owned : Kind → ℕ → Books → Books → Type 0
 Owned (Claim name) lane b b' = IsClaimed name lane b'
-Owned (Show e) lane b b' = (b'.doomed ≡ removed_by e) × (b'.gone ≡ 0)
-Owned (Shown e owed) lane b b' = (b'.doomed ≡ b.doomed) × (b'.gone ≡ b.gone)
+Owned (Publish e) lane b b' = (b'.doomed ≡ removed_by e) × (b'.gone ≡ 0)
+Owned (Published e owed) lane b b' = (b'.doomed ≡ b.doomed) × (b'.gone ≡ b.gone)
 Owned (Remove e owed) lane b b' = (b'.doomed ≡ b.doomed) × (b'.gone ≡ b.gone + 1)
 Owned kind lane b b' = Unit {0}
 
@@ -184,7 +184,7 @@ Owned kind lane b b' = Unit {0}
 pub record KeepsRoom {T : Type 0} (kind next : Kind) (before now : ℕ) (result : Result T FsErr) : Type 0 where
   pub at_most_one : before ≤ now + 1
   pub enough : 0 < owed_by kind → 0 < before → IsErrOf result err.NoMemory → ⊥
-  pub ready : IsShow kind → OnOk result (owed_by next ≤ now)
+  pub ready : IsPublish kind → OnOk result (owed_by next ≤ now)
 
 abbrev pub Within : (Path → Seen → Type 0) → (Path → Seen → Type 0) → Type 0
 Within W M = (p : Path) (s : Seen) → W p s → M p s
@@ -195,21 +195,21 @@ StepObligation Quiet actor lane v b W Done = Within W (Guarantee b v lane lane) 
 StepObligation Store actor lane v b W Done = Within W (Guarantee b v actor lane) × Still W v
 StepObligation (Take wants) actor lane v b W Done = Within W (Guarantee b v lane lane) × Still W v
 StepObligation (Claim name) actor lane v b W Done = Within W (Guarantee b v lane lane) × Still W v
-StepObligation (Show e) actor lane v b W Done = Within W (Guarantee b v lane lane) × Shows W v e × Dooms lane b e
-StepObligation (Shown e owed) actor lane v b W Done = Within W (Guarantee b v lane lane) × Away W × TakesNone W v
+StepObligation (Publish e) actor lane v b W Done = Within W (Guarantee b v lane lane) × Shows W v e × Dooms lane b e
+StepObligation (Published e owed) actor lane v b W Done = Within W (Guarantee b v lane lane) × Away W × TakesNone W v
 StepObligation (Remove e owed) actor lane v b W Done = Within W (Guarantee b v lane lane) × Away W × (b.gone < length b.doomed)
-StepObligation (Settle e) actor lane v b W Done = Within W Nothing × ((w : View) → Done w → Final e w)
+StepObligation (MakeDurable e) actor lane v b W Done = Within W Nothing × ((w : View) → Done w → Final e w)
 
--- the step that shows a change isn't the last one
+-- the step that publishes a change isn't the last one
 abbrev pub IsLastly : Kind → Type 0
 IsLastly Quiet = Unit {0}
 IsLastly Store = Unit {0}
 IsLastly (Take wants) = Unit {0}
 IsLastly (Claim name) = Unit {0}
-IsLastly (Show e) = ⊥
-IsLastly (Shown e owed) = ⊥
+IsLastly (Publish e) = ⊥
+IsLastly (Published e owed) = ⊥
 IsLastly (Remove e owed) = ⊥
-IsLastly (Settle e) = Unit {0}
+IsLastly (MakeDurable e) = Unit {0}
 
 -- the laws of a kind of task
 pub record Laws {T : Type 0} (kind : T → Kind) (needs : ℕ → T → View → Type 0) (writes : ℕ → T → View → Path → Seen → Type 0) (stepped : T → StepResult (Unit {0}) → T → Type 0) (leaves : T → StepResult (Unit {0}) → T → View → View → Type 0) (facts : ℕ → T → View → Books → Type 0) : Type 0 where

@@ -22,13 +22,13 @@ use Rattle.rely_guarantee.specs.Disks.{path_of, IsLeaf, Says, Logical, IsOther}
 use Rattle.rely_guarantee.specs.Books.{books_of, Agrees}
 
 -- what is shown is the event's value
-abbrev pub ShownBy : Event → Topic → Seen → Type 0
-ShownBy e t s = (target e ≡ Some t) × Says t (gives e) s
+abbrev pub PublishedBy : Event → Topic → Seen → Type 0
+PublishedBy e t s = (target e ≡ Some t) × Says t (gives e) s
 
 -- what is shown is the pending event's value
-abbrev pub Shown : Option Pending → Topic → Seen → Type 0
-Shown None t s = ⊥
-Shown (Some p) t s = ShownBy p.event t s
+abbrev pub Published : Option Pending → Topic → Seen → Type 0
+Published None t s = ⊥
+Published (Some p) t s = PublishedBy p.event t s
 
 -- each crash leaves these folders, and the root
 abbrev pub Leads : View → Path → Type 0
@@ -48,7 +48,7 @@ pub record Known (shown : Topic → Seen → Type 0) (value : State) (v : View) 
 pub record Stands (start : State) (entries : List Entry) (pending : Option Pending) (v : View) : Type 0 where
   pub named : IsNamed start
   pub run : IsRun (stored entries pending) start
-  pub known : Known (Shown pending) (after (events_of entries) start) v
+  pub known : Known (Published pending) (after (events_of entries) start) v
   pub folders : (f : Folder) → Leads v (folder_path f)
   pub strays : (p : Path) (s : Seen) → MayBe v p s → NoStray p s
   pub kinds : (p : Path) (s : Seen) → MayBe v p s → IsSuited p s

@@ -10,13 +10,13 @@ ghost use Rattle.rely_guarantee.specs.declared.kind.Halt.TheVariants as halt;
 ghost use Rattle.rely_guarantee.specs.declared.kind.Outcome.TheVariants as Outcome;
 ghost use Rattle.fs_trait.specs.declared.types.FsErr.TheVariants as FsErr;
 ghost use Rattle.rely_guarantee.specs.Books.{books_of, Free, Frees, HasGrantRoom};
-ghost use Rattle.rely_guarantee.specs.Exact.{Opens, Steps, Tells, IsUnbooked, IsHeldBy, IsShownBy, IsSettledBy, IsBooked, Causes, IsGivenUp, IsLeft, IsLive, IsRefusedBy, Locks, NoNewShares, gone_in, taken_in, why_of};
+ghost use Rattle.rely_guarantee.specs.Exact.{Opens, Steps, Tells, IsUnbooked, IsHeldBy, IsPublishedBy, IsMadeDurableBy, IsBooked, Causes, IsGivenUp, IsLeft, IsLive, IsRefusedBy, Locks, NoNewShares, gone_in, taken_in, why_of};
 ghost use Rattle.rely_guarantee.specs.Lasting.{Lasts};
 ghost use Rattle.rely_guarantee.specs.Pinning.{ArePinned, pin_in, without};
 ghost use Rattle.rely_guarantee.specs.Claiming.{AreClaimed, claim_in, of_others};
-ghost use Rattle.rely_guarantee.specs.Laws.{IsShow, IsShown, IsRemove, IsOwing, IsSettle, IsPlain, IsStore, IsTake, IsClaim, KeepsRoom, owed_by, Ready, Runs, IsBy, Stood, Acts, Ends, IsEnd, Claim, Show, Shown, Settle};
+ghost use Rattle.rely_guarantee.specs.Laws.{IsPublish, IsPublished, IsRemove, IsOwing, IsMakeDurable, IsPlain, IsStore, IsTake, IsClaim, KeepsRoom, owed_by, Ready, Runs, IsBy, Stood, Acts, Ends, IsEnd, Claim, Publish, Published, MakeDurable};
 
-use crate::{Base, CommandTask, Event, Halt, Outcome, Step, Wants, is_free};
+use crate::{Base, CommandTask, Event, Halt, Outcome, StepKind, Wants, is_free};
 use fs_trait::{Fs, FsErr, StepResult};
 use ost_types::Name;
 
@@ -38,7 +38,7 @@ fn advance_with_room<T: CommandTask, F: Fs>(
     ensures stepped { IfOk result (λ turn. T.stepped task.old turn task.new) }
     ensures after { (v : View) → F.view base.old.fs ≡ Some v → IfOk result (λ turn. Told (F.view base.new.fs) (λ w. T.leaves task.old turn task.new v w)) }
     ensures room { base.old.books.owed ≤ F.spare base.new.fs }
-    ensures ready { IsShow (T.kind_of task.old) → OnOk result (owed_by (T.kind_of task.new) ≤ F.spare base.new.fs) }
+    ensures ready { IsPublish (T.kind_of task.old) → OnOk result (owed_by (T.kind_of task.new) ≤ F.spare base.new.fs) }
 {
     let Some(calls) = base.books.owed.checked_add(1) else {
         return Err(FsErr::NoMemory);
@@ -130,10 +130,15 @@ fn quiet<T: CommandTask, F: Fs>(base: &mut Base<F>, actor: u8, lane: u8, task: &
     }
 }
 
-/// The step that shows a change.
-fn show<T: CommandTask, F: Fs>(base: &mut Base<F>, lane: u8, command: u32, task: &mut T) -> Outcome
+/// The step that publishes a change.
+fn publish<T: CommandTask, F: Fs>(
+    base: &mut Base<F>,
+    lane: u8,
+    command: u32,
+    task: &mut T,
+) -> Outcome
     requires ready { Ready F.view F.clock F.spare F.was (Runs T.kind_of T.facts lane task.old) base.old }
-    requires kind { IsShow (T.kind_of task.old) }
+    requires kind { IsPublish (T.kind_of task.old) }
     ensures acts { Acts F.view F.clock F.spare F.was lane lane result (Runs T.kind_of T.facts lane task.new) base.old base.new }
     ensures steps { Steps T.stepped task.old result task.new }
     ensures wrote { (v : View) → F.view base.old.fs ≡ Some v → Told (F.view base.new.fs) (λ w. Writes (T.writes_of lane task.old v) v w) }
@@ -143,7 +148,7 @@ fn show<T: CommandTask, F: Fs>(base: &mut Base<F>, lane: u8, command: u32, task:
     ensures locks { Locks (T.kind_of task.old) lane result base.old.books base.new.books }
     ensures pins { ArePinned None lane result base.old.books.pins.items base.new.books.pins.items }
     ensures claimed { AreClaimed None lane result base.old.books.claims.items base.new.books.claims.items }
-    ensures booked { (e : Event) → T.kind_of task.old ≡ Show e → IsShownBy lane command e result base.old.books base.new.books }
+    ensures booked { (e : Event) → T.kind_of task.old ≡ Publish e → IsPublishedBy lane command e result base.old.books base.new.books }
     ensures time { Elapses (F.clock base.old.fs) (F.clock base.new.fs) (F.was base.old.fs) (F.was base.new.fs) (F.view base.new.fs) }
     ensures cause { Causes (F.faults base.old.fs) (F.faults base.new.fs) result }
     ensures live { IsLive result base.old.books.halted base.new.books.halted }
@@ -160,11 +165,11 @@ fn show<T: CommandTask, F: Fs>(base: &mut Base<F>, lane: u8, command: u32, task:
         end(base, lane, lane);
         return Outcome::Refused(FsErr::NoMemory);
     }
-    show_event(base, lane, command, event, task)
+    publish_event(base, lane, command, event, task)
 }
 
 /// So, once nobody else holds it off, and there is room for its entry.
-fn show_event<T: CommandTask, F: Fs>(
+fn publish_event<T: CommandTask, F: Fs>(
     base: &mut Base<F>,
     lane: u8,
     command: u32,
@@ -172,7 +177,7 @@ fn show_event<T: CommandTask, F: Fs>(
     task: &mut T,
 ) -> Outcome
     requires ready { Ready F.view F.clock F.spare F.was (Runs T.kind_of T.facts lane task.old) base.old }
-    requires kind { T.kind_of task.old ≡ Show event }
+    requires kind { T.kind_of task.old ≡ Publish event }
     requires free { Free base.old.books.exclusive lane × Free base.old.books.turn lane }
     requires entry { vec_len base.old.books.history < vec_capacity base.old.books.history }
     ensures acts { Acts F.view F.clock F.spare F.was lane lane result (Runs T.kind_of T.facts lane task.new) base.old base.new }
@@ -183,7 +188,7 @@ fn show_event<T: CommandTask, F: Fs>(
     ensures locks { Locks (T.kind_of task.old) lane result base.old.books base.new.books }
     ensures pins { ArePinned None lane result base.old.books.pins.items base.new.books.pins.items }
     ensures claimed { AreClaimed None lane result base.old.books.claims.items base.new.books.claims.items }
-    ensures booked { IsShownBy lane command event result base.old.books base.new.books }
+    ensures booked { IsPublishedBy lane command event result base.old.books base.new.books }
     ensures time { Elapses (F.clock base.old.fs) (F.clock base.new.fs) (F.was base.old.fs) (F.was base.new.fs) (F.view base.new.fs) }
     ensures cause { Causes (F.faults base.old.fs) (F.faults base.new.fs) result }
     ensures live { IsLive result base.old.books.halted base.new.books.halted }
@@ -191,7 +196,7 @@ fn show_event<T: CommandTask, F: Fs>(
 {
     match advance_with_room(base, lane, task) {
         Ok(_) => {
-            base.books.show(lane, command, event, task.owes());
+            base.books.publish(lane, command, event, task.owes());
             Outcome::More
         }
         Err(FsErr::NoMemory) => {
@@ -200,17 +205,17 @@ fn show_event<T: CommandTask, F: Fs>(
         }
         Err(e) => {
             let why = why_of(e);
-            base.books.show(lane, command, event, 0);
+            base.books.publish(lane, command, event, 0);
             base.books.halted = Some(why);
             Outcome::Halted(why)
         }
     }
 }
 
-/// A step between the one that shows a change and the one that makes it last.
-fn shown<T: CommandTask, F: Fs>(base: &mut Base<F>, lane: u8, task: &mut T) -> Outcome
+/// A step between the one that publishes a change and the one that makes it durable.
+fn published<T: CommandTask, F: Fs>(base: &mut Base<F>, lane: u8, task: &mut T) -> Outcome
     requires ready { Ready F.view F.clock F.spare F.was (Runs T.kind_of T.facts lane task.old) base.old }
-    requires kind { IsShown (T.kind_of task.old) }
+    requires kind { IsPublished (T.kind_of task.old) }
     ensures acts { Acts F.view F.clock F.spare F.was lane lane result (Runs T.kind_of T.facts lane task.new) base.old base.new }
     ensures steps { Steps T.stepped task.old result task.new }
     ensures wrote { (v : View) → F.view base.old.fs ≡ Some v → Told (F.view base.new.fs) (λ w. Writes (T.writes_of lane task.old v) v w) }
@@ -266,10 +271,10 @@ fn remove<T: CommandTask, F: Fs>(base: &mut Base<F>, lane: u8, task: &mut T) -> 
     }
 }
 
-/// The step that makes it last, which acknowledges it.
-fn settle<T: CommandTask, F: Fs>(base: &mut Base<F>, lane: u8, task: &mut T) -> Outcome
+/// The step that makes it durable, which acknowledges it.
+fn make_durable<T: CommandTask, F: Fs>(base: &mut Base<F>, lane: u8, task: &mut T) -> Outcome
     requires ready { Ready F.view F.clock F.spare F.was (Runs T.kind_of T.facts lane task.old) base.old }
-    requires kind { IsSettle (T.kind_of task.old) }
+    requires kind { IsMakeDurable (T.kind_of task.old) }
     ensures acts { Acts F.view F.clock F.spare F.was lane lane result (Runs T.kind_of T.facts lane task.new) base.old base.new }
     ensures steps { Steps T.stepped task.old result task.new }
     ensures wrote { (v : View) → F.view base.old.fs ≡ Some v → Told (F.view base.new.fs) (λ w. Writes (T.writes_of lane task.old v) v w) }
@@ -278,7 +283,7 @@ fn settle<T: CommandTask, F: Fs>(base: &mut Base<F>, lane: u8, task: &mut T) -> 
     ensures locks { Locks (T.kind_of task.old) lane result base.old.books base.new.books }
     ensures pins { ArePinned None lane result base.old.books.pins.items base.new.books.pins.items }
     ensures claimed { AreClaimed None lane result base.old.books.claims.items base.new.books.claims.items }
-    ensures booked { IsSettledBy (F.clock base.new.fs) result base.old.books base.new.books }
+    ensures booked { IsMadeDurableBy (F.clock base.new.fs) result base.old.books base.new.books }
     ensures time { Elapses (F.clock base.old.fs) (F.clock base.new.fs) (F.was base.old.fs) (F.was base.new.fs) (F.view base.new.fs) }
     ensures cause { Causes (F.faults base.old.fs) (F.faults base.new.fs) result }
     ensures live { IsLive result base.old.books.halted base.new.books.halted }
@@ -492,13 +497,13 @@ pub fn task_act<T: CommandTask, F: Fs>(
     ensures gone { base.new.books.gone ≡ gone_in (T.kind_of task.old) result base.old.books.gone }
 {
     match task.kind() {
-        Step::Quiet => quiet(base, actor, lane, task),
-        Step::Store => store(base, actor, lane, task),
-        Step::Take(wants) => take(base, lane, wants, task),
-        Step::Claim => claim(base, lane, task),
-        Step::Show => show(base, lane, command, task),
-        Step::Shown => shown(base, lane, task),
-        Step::Remove => remove(base, lane, task),
-        Step::Settle => settle(base, lane, task),
+        StepKind::Quiet => quiet(base, actor, lane, task),
+        StepKind::Store => store(base, actor, lane, task),
+        StepKind::Take(wants) => take(base, lane, wants, task),
+        StepKind::Claim => claim(base, lane, task),
+        StepKind::Publish => publish(base, lane, command, task),
+        StepKind::Published => published(base, lane, task),
+        StepKind::Remove => remove(base, lane, task),
+        StepKind::MakeDurable => make_durable(base, lane, task),
     }
 }

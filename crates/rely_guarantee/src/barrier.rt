@@ -1,6 +1,6 @@
 ghost use Rattle.rely_guarantee.specs.Barrier.{barrier_kind, barrier_needs, barrier_writes, barrier_stepped, barrier_leaves, barrier_refuses, barrier_facts, barrier_laws};
 
-use crate::{CommandTask, Event, Step};
+use crate::{CommandTask, Event, StepKind};
 use fs_trait::{Fs, FsErr, StepResult};
 use ost_types::{Name, NoMemory};
 
@@ -25,8 +25,8 @@ impl CommandTask for Barrier {
 
     ghost laws = { barrier_laws };
 
-    fn kind(&self) -> Step {
-        Step::Quiet
+    fn kind(&self) -> StepKind {
+        StepKind::Quiet
     }
 
     fn event(&self) -> Result<Event, NoMemory> {

@@ -13,7 +13,7 @@ pub struct Entry {
     pub moment: u64,
 }
 
-/// A change that is shown, or may be, and doesn't last yet.
+/// A change that is published, or may be, and doesn't last yet.
 #[derive(Drop, Debug)]
 pub struct Pending {
     pub lane: u8,
@@ -72,7 +72,7 @@ pub struct Books {
     pub shared: Vec<Share>,
     /// The lane that removes objects.
     pub exclusive: Option<u8>,
-    /// The lane that shows a change.
+    /// The lane that publishes a change.
     pub turn: Option<u8>,
     /// The lane that works on the list of deployments.
     pub sysroot: Option<u8>,

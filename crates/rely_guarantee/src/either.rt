@@ -1,7 +1,7 @@
 ghost use Rattle.std.specs.Prelude.{◌≡◌};
 ghost use Rattle.rely_guarantee.specs.Either.{either_kind, either_needs, either_writes, either_stepped, either_leaves, either_refuses, either_facts, either_laws};
 
-use crate::{CommandTask, Event, Step};
+use crate::{CommandTask, Event, StepKind};
 use fs_trait::{Fs, FsErr, StepResult};
 use ost_types::{Name, NoMemory};
 
@@ -29,7 +29,7 @@ impl<A: CommandTask, B: CommandTask> CommandTask for Either<A, B> {
 
     ghost laws = { either_laws A.laws B.laws };
 
-    fn kind(&self) -> Step {
+    fn kind(&self) -> StepKind {
         match self {
             Either::Left(task) => task.kind(),
             Either::Right(task) => task.kind(),

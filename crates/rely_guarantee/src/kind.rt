@@ -3,7 +3,7 @@ use ost_types::ObjName;
 
 /// What a task's next step is to the whole system.
 #[derive(Clone, Copy, Debug, PartialEq, Eq)]
-pub enum Step {
+pub enum StepKind {
     /// It changes nothing that the state speaks of.
     Quiet,
     /// So too, and another actor may take it.
@@ -12,14 +12,14 @@ pub enum Step {
     Take(Wants),
     /// It makes the folder of a checkout, which is the lane's from then on.
     Claim,
-    /// It shows a change.
-    Show,
-    /// It comes between the step that shows a change and the one that makes it last.
-    Shown,
+    /// It publishes a change.
+    Publish,
+    /// It comes between the step that publishes a change and the one that makes it durable.
+    Published,
     /// So too, and it takes the next object that is to be removed from its path.
     Remove,
-    /// It makes a change last.
-    Settle,
+    /// It makes a change durable.
+    MakeDurable,
 }
 
 /// What a lane asks for at once.

@@ -20,7 +20,7 @@ pub use books::{Base, Books, Claim, Entry, Hold, Pending, Pin, Share, Use, Want}
 pub use crash::certify;
 pub use either::Either;
 pub use event::Event;
-pub use kind::{Halt, Outcome, Step, Wants};
+pub use kind::{Halt, Outcome, StepKind, Wants};
 pub use last::{openings_last, runs_outlast, stores_that_last};
 pub(crate) use locks::is_free;
 pub use work::CommandTask;

@@ -268,8 +268,8 @@ impl Books {
         self.claims.push(Claim { lane, name }).is_ok()
     }
 
-    /// The lane's change is shown, or may be.
-    pub(crate) fn show(&mut self, lane: u8, command: u32, event: Event, owed: u64)
+    /// The lane's change is published, or may be.
+    pub(crate) fn publish(&mut self, lane: u8, command: u32, event: Event, owed: u64)
         ensures { self.new ≡ record self.old { turn = Some lane; pending = Some (record { lane = lane; command = command; event = event }); gone = 0; owed = owed } }
     {
         self.turn = Some(lane);

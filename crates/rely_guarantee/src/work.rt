@@ -10,9 +10,9 @@ ghost use Rattle.fs_trait.specs.Change.{Writes};
 ghost use Rattle.fs_trait.specs.Effect.{Elapses, HasCause, Next, OfNone};
 ghost use Rattle.rely_guarantee.specs.declared.event.Event.{Event};
 ghost use Rattle.rely_guarantee.specs.Books.{Books};
-ghost use Rattle.rely_guarantee.specs.Laws.{Kind, Claim, Show, IsOwing, IsSettle, KeepsRoom, Laws, step_of, owed_by};
+ghost use Rattle.rely_guarantee.specs.Laws.{Kind, Claim, Publish, IsOwing, IsMakeDurable, KeepsRoom, Laws, step_of, owed_by};
 
-use crate::{Event, Step};
+use crate::{Event, StepKind};
 use fs_trait::{Fs, FsErr, StepResult};
 use ost_types::{Name, NoMemory};
 
@@ -38,12 +38,12 @@ pub trait CommandTask {
     /// What is so of the view and the books while others act, for a task of this lane.
     ghost facts: { ℕ → Self → View → Books → Type 0 };
 
-    fn kind(&self) -> Step
+    fn kind(&self) -> StepKind
         ensures { result ≡ step_of (kind_of self.now) };
 
     /// The change that the next step shows.
     fn event(&self) -> Result<Event, NoMemory>
-        ensures { (e : Event) → kind_of self.now ≡ Show e → IfOk result (λ x. x ≡ e) };
+        ensures { (e : Event) → kind_of self.now ≡ Publish e → IfOk result (λ x. x ≡ e) };
 
     /// The checkout whose folder the next step makes.
     fn claim(&self) -> Result<Name, NoMemory>
@@ -59,7 +59,7 @@ pub trait CommandTask {
         ensures writes { (v : View) → F.view fs.old ≡ Some v → Told (F.view fs.new) (λ w. Writes (writes_of actor self.old v) v w) }
         ensures unchanged { (v : View) → F.view fs.old ≡ Some v → IsErrOf result err.NoMemory → F.view fs.new ≡ Some v }
         ensures time { Elapses (F.clock fs.old) (F.clock fs.new) (F.was fs.old) (F.was fs.new) (F.view fs.new) }
-        ensures ticks { IsSettle (kind_of self.old) → OnOk result (Next (F.clock fs.old) (F.clock fs.new)) }
+        ensures ticks { IsMakeDurable (kind_of self.old) → OnOk result (Next (F.clock fs.old) (F.clock fs.new)) }
         ensures stepped { IfOk result (λ turn. stepped self.old turn self.new) }
         ensures after { (v : View) → F.view fs.old ≡ Some v → IfOk result (λ turn. Told (F.view fs.new) (λ w. leaves self.old turn self.new v w)) }
         ensures refused { (v : View) → F.view fs.old ≡ Some v → IfErr result (refuses self.old v) }

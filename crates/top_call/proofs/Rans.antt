@@ -21,11 +21,11 @@ use Rattle.durable_store.specs.Known.{KeepsKnown, KnownBytes}
 use Rattle.lane_system.specs.Known.{AreKnown}
 use Rattle.lane_system.specs.Lanes.{IsAt}
 use Rattle.lane_system.specs.Preserves.{Stands}
-use Rattle.lane_system.specs.Inside.{AreInsideIn}
+use Rattle.lane_system.specs.Inside.{NoExternalChangeIn}
 use Rattle.lane_system.specs.Removals.{swept_in}
 use Rattle.lane_system.specs.Replied.{Replied}
 use Rattle.lane_system.specs.Replies.{IsTold}
-use Rattle.lane_system.specs.Said.{AreSaidIn}
+use Rattle.lane_system.specs.Said.{RepliesHeldAtAPointIn}
 use Rattle.lane_system.specs.Storing.{WasBrought}
 use Rattle.lane_system.specs.Folders.{IsMade, IsNamed}
 use Rattle.lane_system.specs.System.{System}
@@ -128,8 +128,8 @@ module _ {F : Type 0} (f : FsSpec F) (opened : Opened F) (limits : Limits) (v : 
       whole = is.swept is.ended;
       kept = stands.lasts;
       stored = λ t d from left. left_good f s w stands.good t d (subst (λ n. n ≤ t) (sym moment) from) left;
-      inside = subst (λ n. AreInsideIn means (f.was s.base.fs) n (WasBrought means s) s.lanes) moment stands.inside;
-      said = subst (λ n. AreSaidIn means (f.was s.base.fs) n s.limits (first s.base.books.start.items) s.base.books.history.items s.base.books.pending s.lanes) moment stands.said;
+      inside = subst (λ n. NoExternalChangeIn means (f.was s.base.fs) n (WasBrought means s) s.lanes) moment stands.inside;
+      said = subst (λ n. RepliesHeldAtAPointIn means (f.was s.base.fs) n s.limits (first s.base.books.start.items) s.base.books.history.items s.base.books.pending s.lanes) moment stands.said;
       known = subst (λ n. KeepsKnown (f.was s.base.fs) (KnownBytes v.now (WasBrought means s)) n w) moment knows;
       present = record {
         finished = λ lane number r commit to absent unremoved finished. stands.founded.present.finished lane number r commit to absent unremoved (finished_opened (first opened.refs) begins.0 begins.2.opening tree commit finished.0 finished.1);

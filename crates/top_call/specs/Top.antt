@@ -17,11 +17,11 @@ use Rattle.script.specs.declared.answer.Reply.{Reply}
 use Rattle.script.specs.declared.command.Command.{Command}
 use Rattle.lane_system.specs.Folders.{AreFoldersIn}
 use Rattle.lane_system.specs.Founded.{ArePresentIn}
-use Rattle.lane_system.specs.Inside.{AreInsideIn}
+use Rattle.lane_system.specs.Inside.{NoExternalChangeIn}
 use Rattle.lane_system.specs.Lasting.{AreKeptIn}
 use Rattle.lane_system.specs.Replied.{Replied}
 use Rattle.lane_system.specs.Replies.{IsTold}
-use Rattle.lane_system.specs.Said.{AreSaidIn}
+use Rattle.lane_system.specs.Said.{RepliesHeldAtAPointIn}
 use Rattle.lane_system.specs.Staying.{AreStayingIn}
 use Rattle.lane_system.specs.Storing.{IsBroughtIn, IsConfigured}
 use Rattle.lane_system.specs.Sweeping.{AreWhole}
@@ -34,7 +34,7 @@ use Rattle.layout_rules.specs.Checks.{IsSane}
 use Rattle.repo_layout.specs.RefFile.{IsSum}
 use Rattle.store_check.specs.Commits.{IsFinished}
 use Rattle.durable_store.specs.Keeping.{IsGoodDisk}
-use Rattle.durable_store.specs.Brought.{AreAlone}
+use Rattle.durable_store.specs.Brought.{NoHashCollisionOn}
 use Rattle.durable_store.specs.Known.{KeepsKnown, KnownBytes}
 use Rattle.repo_model.specs.Objects.{Store}
 use Rattle.sys_open.specs.Damages.{IsGood}
@@ -85,7 +85,7 @@ abbrev pub StaysOn : TopFault → Type 0 → Type 0
 StaysOn (Open fault) P = StaysOnDamage fault P
 StaysOn fault P = Unit {0}
 
--- the change that is shown
+-- the change that is published
 abbrev pub event_of : Option Pending → Option Event
 event_of None = None
 event_of (Some p) = Some p.event
@@ -110,7 +110,7 @@ IsStopped d (Open fault) = (limits : Limits) × AreStandard limits × IsToldOf l
 -- which was begun, each commit without a mark is whole; so a sane disk is good then: it opens.
 pub record LeftGood (limits : Limits) (brings : Store) (d : Disk) : Type 0 where
   pub store : IsGoodDisk limits brings IsConfigured d
-  pub opens : IsSane d → AreAlone brings d → IsGood limits d
+  pub opens : IsSane d → NoHashCollisionOn brings d → IsGood limits d
 
 -- What a run of lanes with these commands leaves: the repository was good, and from the refs that it had then all is as the
 -- headline says. The lanes have these commands, as words of their families, and these replies, as answers of theirs. Each reply is by its
@@ -143,8 +143,8 @@ pub record Ran {F : Type 0} (limits : Limits) (view : F → Option View) (clock 
   pub whole : AreWhole (IsTold view) lanes → swept ≡ []
   pub kept : AreKeptIn means (was fs) begun limits lanes history swept w
   pub stored : (t : ℕ) (d : Disk) → before + 1 ≤ t → Left (was fs) t d → LeftGood limits (IsBroughtIn means limits start history lanes) d
-  pub inside : AreInsideIn means (was fs) (before + 1) (IsBroughtIn means limits start history lanes) lanes
-  pub said : AreSaidIn means (was fs) (before + 1) limits start history by lanes
+  pub inside : NoExternalChangeIn means (was fs) (before + 1) (IsBroughtIn means limits start history lanes) lanes
+  pub said : RepliesHeldAtAPointIn means (was fs) (before + 1) limits start history by lanes
   pub known : KeepsKnown (was fs) (KnownBytes v.now (IsBroughtIn means limits start history lanes)) (before + 1) w
   pub present : ArePresentIn means (λ commit. IsSum commit × IsFinished begun.now commit) history lanes
   pub books : Books

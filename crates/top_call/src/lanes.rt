@@ -39,7 +39,7 @@ pub struct LanesEnd<F> {
     pub fs: F,
     /// The changes that last, in the order in which they came.
     pub history: Vec<Entry>,
-    /// The change that is shown, or may be, and doesn't last yet.
+    /// The change that is published, or may be, and doesn't last yet.
     pub pending: Option<Pending>,
     /// The replies of each lane.
     pub replies: Vec<Vec<Reply>>,

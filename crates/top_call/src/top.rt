@@ -41,7 +41,7 @@ pub struct Ended<F> {
     pub fault: Option<TopFault>,
     /// The changes that last, in the order in which they came.
     pub history: Vec<Entry>,
-    /// The change that is shown, or may be, and doesn't last yet.
+    /// The change that is published, or may be, and doesn't last yet.
     pub pending: Option<Event>,
     /// The replies of each lane.
     pub replies: Vec<Vec<Reply>>,

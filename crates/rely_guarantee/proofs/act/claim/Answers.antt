@@ -1,7 +1,7 @@
 use Rattle.std.proofs.Common.{ap, refl}
 use Rattle.rely_guarantee.specs.Laws.{Runs}
 use Rattle.rely_guarantee.proofs.Sounds.{IsFs}
-use Rattle.rely_guarantee.proofs.Showing.{no_time, still_acts}
+use Rattle.rely_guarantee.proofs.Publishing.{no_time, still_acts}
 use Rattle.rely_guarantee.proofs.Noting.{claim_not}
 use Rattle.rely_guarantee.proofs.Rooms.{claim_room, roomy_acts, roomy_ready}
 use Rattle.rely_guarantee.proofs.Locking.{shares_since}

@@ -2,7 +2,7 @@ use Rattle.std.proofs.Common.{◌+◌, Some, ap, inl, refl, subst}
 use Rattle.rely_guarantee.specs.Laws.{IsLastly, Runs}
 use Rattle.rely_guarantee.proofs.Sounds.{IsFs}
 use Rattle.rely_guarantee.proofs.Acting.{asks}
-use Rattle.rely_guarantee.proofs.Showing.{fewer_gone, more_tells, remove_is, owed_acts, more_counted, remove_parts, remove_pending, remove_runs}
+use Rattle.rely_guarantee.proofs.Publishing.{fewer_gone, more_tells, remove_is, owed_acts, more_counted, remove_parts, remove_pending, remove_runs}
 use Rattle.rely_guarantee.proofs.act.remove.Given as given
 use Rattle.rely_guarantee.proofs.act.remove.Goals as goal
 

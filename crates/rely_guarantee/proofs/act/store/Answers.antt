@@ -1,5 +1,5 @@
 use Rattle.rely_guarantee.proofs.Sounds.{IsFs}
-use Rattle.rely_guarantee.proofs.Showing.{blocked_acts}
+use Rattle.rely_guarantee.proofs.Publishing.{blocked_acts}
 use Rattle.rely_guarantee.proofs.act.store.Given as given
 use Rattle.rely_guarantee.proofs.act.store.Goals as goal
 

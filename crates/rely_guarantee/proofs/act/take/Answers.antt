@@ -2,7 +2,7 @@ use Rattle.std.proofs.Common.{ap, refl, subst, sym, rules}
 use Rattle.rely_guarantee.specs.Books.{Books, books_of, Frees}
 use Rattle.rely_guarantee.specs.Laws.{Kind, Runs, Holds, NotPending}
 use Rattle.rely_guarantee.proofs.Sounds.{IsFs}
-use Rattle.rely_guarantee.proofs.Showing.{blocked_acts, still_acts, no_time}
+use Rattle.rely_guarantee.proofs.Publishing.{blocked_acts, still_acts, no_time}
 use Rattle.rely_guarantee.proofs.Taking.{take_is}
 use Rattle.rely_guarantee.proofs.Rooms.{grant_room, roomy_acts, roomy_ready}
 use Rattle.rely_guarantee.proofs.Locking.{shares_since}

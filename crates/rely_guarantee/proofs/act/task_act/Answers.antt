@@ -20,14 +20,14 @@ returns-in-Take-clause-outlasts g c = taken_lasts g.F.Fs.view g.F.Fs.clock g.F.F
 pub returns-in-Claim-clause-outlasts : goal.returns-in-Claim-clause-outlasts
 returns-in-Claim-clause-outlasts g c = taken_lasts g.F.Fs.view g.F.Fs.clock g.F.Fs.spare g.F.Fs.was (fs g) g.met.T.CommandTask.laws c.args.base.now c.claim.new.base c.args.lane c.args.lane c.args.task.now (inl refl) c.requires.ready c.claim.ensures.wrote c.claim.ensures.acts.does c.claim.ensures.time (g.T.CommandTask.kind_of c.args.task.now) refl
 
-pub returns-in-Show-clause-outlasts : goal.returns-in-Show-clause-outlasts
-returns-in-Show-clause-outlasts g c = taken_lasts g.F.Fs.view g.F.Fs.clock g.F.Fs.spare g.F.Fs.was (fs g) g.met.T.CommandTask.laws c.args.base.now c.show.new.base c.args.lane c.args.lane c.args.task.now (inl refl) c.requires.ready c.show.ensures.wrote c.show.ensures.acts.does c.show.ensures.time (g.T.CommandTask.kind_of c.args.task.now) refl
+pub returns-in-Publish-clause-outlasts : goal.returns-in-Publish-clause-outlasts
+returns-in-Publish-clause-outlasts g c = taken_lasts g.F.Fs.view g.F.Fs.clock g.F.Fs.spare g.F.Fs.was (fs g) g.met.T.CommandTask.laws c.args.base.now c.publish.new.base c.args.lane c.args.lane c.args.task.now (inl refl) c.requires.ready c.publish.ensures.wrote c.publish.ensures.acts.does c.publish.ensures.time (g.T.CommandTask.kind_of c.args.task.now) refl
 
-pub returns-in-Shown-clause-outlasts : goal.returns-in-Shown-clause-outlasts
-returns-in-Shown-clause-outlasts g c = taken_lasts g.F.Fs.view g.F.Fs.clock g.F.Fs.spare g.F.Fs.was (fs g) g.met.T.CommandTask.laws c.args.base.now c.shown.new.base c.args.lane c.args.lane c.args.task.now (inl refl) c.requires.ready c.shown.ensures.wrote c.shown.ensures.acts.does c.shown.ensures.time (g.T.CommandTask.kind_of c.args.task.now) refl
+pub returns-in-Published-clause-outlasts : goal.returns-in-Published-clause-outlasts
+returns-in-Published-clause-outlasts g c = taken_lasts g.F.Fs.view g.F.Fs.clock g.F.Fs.spare g.F.Fs.was (fs g) g.met.T.CommandTask.laws c.args.base.now c.published.new.base c.args.lane c.args.lane c.args.task.now (inl refl) c.requires.ready c.published.ensures.wrote c.published.ensures.acts.does c.published.ensures.time (g.T.CommandTask.kind_of c.args.task.now) refl
 
 pub returns-in-Remove-clause-outlasts : goal.returns-in-Remove-clause-outlasts
 returns-in-Remove-clause-outlasts g c = taken_lasts g.F.Fs.view g.F.Fs.clock g.F.Fs.spare g.F.Fs.was (fs g) g.met.T.CommandTask.laws c.args.base.now c.remove.new.base c.args.lane c.args.lane c.args.task.now (inl refl) c.requires.ready c.remove.ensures.wrote c.remove.ensures.acts.does c.remove.ensures.time (g.T.CommandTask.kind_of c.args.task.now) refl
 
-pub returns-in-Settle-clause-outlasts : goal.returns-in-Settle-clause-outlasts
-returns-in-Settle-clause-outlasts g c = taken_lasts g.F.Fs.view g.F.Fs.clock g.F.Fs.spare g.F.Fs.was (fs g) g.met.T.CommandTask.laws c.args.base.now c.settle.new.base c.args.lane c.args.lane c.args.task.now (inl refl) c.requires.ready c.settle.ensures.wrote c.settle.ensures.acts.does c.settle.ensures.time (g.T.CommandTask.kind_of c.args.task.now) refl
+pub returns-in-MakeDurable-clause-outlasts : goal.returns-in-MakeDurable-clause-outlasts
+returns-in-MakeDurable-clause-outlasts g c = taken_lasts g.F.Fs.view g.F.Fs.clock g.F.Fs.spare g.F.Fs.was (fs g) g.met.T.CommandTask.laws c.args.base.now c.make_durable.new.base c.args.lane c.args.lane c.args.task.now (inl refl) c.requires.ready c.make_durable.ensures.wrote c.make_durable.ensures.acts.does c.make_durable.ensures.time (g.T.CommandTask.kind_of c.args.task.now) refl

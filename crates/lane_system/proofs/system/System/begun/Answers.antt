@@ -12,7 +12,7 @@ use Rattle.lane_system.specs.Kept.{AreFree, AreHomes, AreIdle}
 use Rattle.lane_system.specs.States.{now_of}
 use Rattle.lane_system.proofs.Beginning.{caused_first, homes_of, kept_first, stands_first}
 use Rattle.lane_system.proofs.system.System.begun.Given as given
-use Rattle.lane_system.proofs.StoredFirst.{counted_first, stored_first}
+use Rattle.lane_system.proofs.StoreAtStart.{counted_first, stored_first}
 use Rattle.lane_system.proofs.system.System.begun.Goals as goal
 
 abbrev files_of : (g : given.Over) → FsSpec g.row.F.Denot

@@ -1,10 +1,10 @@
 use Rattle.std.proofs.Common.{refl, ap, rules}
 use Rattle.rely_guarantee.specs.Laws.{Runs}
 use Rattle.rely_guarantee.proofs.Sounds.{IsFs}
-use Rattle.rely_guarantee.proofs.Showing.{blocked_acts, still_acts, no_time, show_not, room_ready, room_acts}
+use Rattle.rely_guarantee.proofs.Publishing.{blocked_acts, still_acts, no_time, publish_not, room_ready, room_acts}
 use Rattle.rely_guarantee.proofs.Locking.{shares_since}
-use Rattle.rely_guarantee.proofs.act.show.Given as given
-use Rattle.rely_guarantee.proofs.act.show.Goals as goal
+use Rattle.rely_guarantee.proofs.act.publish.Given as given
+use Rattle.rely_guarantee.proofs.act.publish.Goals as goal
 
 module _ (g : given.Over) where
   fs : IsFs g.F.Fs.view g.F.Fs.clock g.F.Fs.was
@@ -20,7 +20,7 @@ returns-in_default-clause-acts g c =
     let t = c.args.task.now in
     still_acts g.F.Fs.view g.F.Fs.clock g.F.Fs.spare g.F.Fs.was (fs g) g.met.T.CommandTask.laws old old c.end.new.base c.args.lane c.args.lane (Runs g.T.CommandTask.kind_of g.T.CommandTask.facts c.args.lane t) (Runs g.T.CommandTask.kind_of g.T.CommandTask.facts c.args.lane t) _
     refl (λ v told. told) (no_time g.F.Fs.view g.F.Fs.clock g.F.Fs.spare g.F.Fs.was (fs g) g.met.T.CommandTask.laws old.fs) r.ready.sound.ordered.room c.end.ensures.ends
-    (show_not g.F.Fs.view g.F.Fs.clock g.F.Fs.spare g.F.Fs.was (fs g) g.met.T.CommandTask.laws old c.args.lane t r.kind r.ready) r.ready
+    (publish_not g.F.Fs.view g.F.Fs.clock g.F.Fs.spare g.F.Fs.was (fs g) g.met.T.CommandTask.laws old c.args.lane t r.kind r.ready) r.ready
 
 pub returns-then-is_err-clause-acts : goal.returns-then-is_err-clause-acts
 returns-then-is_err-clause-acts g c =
@@ -35,10 +35,10 @@ returns-then-is_err-clause-acts g c =
     room_acts g.F.Fs.view g.F.Fs.clock g.F.Fs.spare g.F.Fs.was (fs g) g.met.T.CommandTask.laws old c.end-then-is_err.new.base made c.args.lane c.args.lane _ runs m.same m.items
     (still_acts g.F.Fs.view g.F.Fs.clock g.F.Fs.spare g.F.Fs.was (fs g) g.met.T.CommandTask.laws mid mid c.end-then-is_err.new.base c.args.lane c.args.lane runs runs _
     refl (λ v told. told) (no_time g.F.Fs.view g.F.Fs.clock g.F.Fs.spare g.F.Fs.was (fs g) g.met.T.CommandTask.laws old.fs) ready.sound.ordered.room c.end-then-is_err.ensures.ends
-    (show_not g.F.Fs.view g.F.Fs.clock g.F.Fs.spare g.F.Fs.was (fs g) g.met.T.CommandTask.laws mid c.args.lane t r.kind ready) ready)
+    (publish_not g.F.Fs.view g.F.Fs.clock g.F.Fs.spare g.F.Fs.was (fs g) g.met.T.CommandTask.laws mid c.args.lane t r.kind ready) ready)
 
-pub show_event-requires-clause-ready : goal.show_event-requires-clause-ready
-show_event-requires-clause-ready g c =
+pub publish_event-requires-clause-ready : goal.publish_event-requires-clause-ready
+publish_event-requires-clause-ready g c =
     let m = c.make_room.ensures in
     room_ready g.F.Fs.view g.F.Fs.clock g.F.Fs.spare g.F.Fs.was (fs g) g.met.T.CommandTask.laws c.args.base.now c.make_room.new.self (Runs g.T.CommandTask.kind_of g.T.CommandTask.facts c.args.lane c.args.task.now) m.same m.items m.more c.requires.ready
 
@@ -46,4 +46,4 @@ pub returns-then-is_err-clause-locks : goal.returns-then-is_err-clause-locks
 returns-then-is_err-clause-locks g c = (search rules, search rules, shares_since c.args.base.now.books c.make_room.new.self c.end-then-is_err.new.base.books (ap (λ b. b.shared.items) c.make_room.ensures.same) c.end-then-is_err.ensures.shared)
 
 pub returns-clause-locks : goal.returns-clause-locks
-returns-clause-locks g c = let l = c.show_event.ensures.locks in (search rules, search rules, shares_since c.args.base.now.books c.make_room.new.self c.show_event.new.base.books (ap (λ b. b.shared.items) c.make_room.ensures.same) l.2)
+returns-clause-locks g c = let l = c.publish_event.ensures.locks in (search rules, search rules, shares_since c.args.base.now.books c.make_room.new.self c.publish_event.new.base.books (ap (λ b. b.shared.items) c.make_room.ensures.same) l.2)

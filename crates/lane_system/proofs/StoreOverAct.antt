@@ -14,7 +14,7 @@ use Rattle.store_check.specs.Listing.{IsThere}
 use Rattle.rely_guarantee.specs.declared.event.Event.{Event}
 use Rattle.rely_guarantee.specs.declared.event.Event.TheVariants.{SetRef, DropRef, Pruned}
 use Rattle.rely_guarantee.specs.Exact.{IsBooked, Locks, gone_in}
-use Rattle.rely_guarantee.specs.Laws.{Holds, Kind, Quiet, Store, Take, Claim, Show, Shown, Remove, Settle, StepObligation, Stood}
+use Rattle.rely_guarantee.specs.Laws.{Holds, Kind, Quiet, Store, Take, Claim, Publish, Published, Remove, MakeDurable, StepObligation, Stood}
 use Rattle.rely_guarantee.specs.Removing.{next_of}
 use Rattle.rely_guarantee.proofs.Lasting.{none_out}
 use Rattle.rely_guarantee.proofs.Mays.{at_place}
@@ -23,7 +23,7 @@ use Rattle.durable_store.specs.Writing.{Adds}
 use Rattle.command.specs.Removed.{AreAmong}
 use Rattle.command.specs.Removing.{IsPrune, IsRemoving, Removes}
 use Rattle.lane_system.specs.Removals.{swept_in}
-use Rattle.lane_system.proofs.Sweeping.{next_some, removed_more, settled_none, shown_same, storing_none, unremoving_same}
+use Rattle.lane_system.proofs.Sweeping.{next_some, removed_more, settled_none, published_same, storing_none, unremoving_same}
 use Rattle.lane_system.proofs.Telling.{standing_less, standing_more, standing_none}
 use Rattle.ost_types.specs.declared.limits.Limits.{Limits}
 use Rattle.ost_types.specs.declared.object.ObjName.{ObjName}
@@ -54,7 +54,7 @@ use Rattle.command.specs.declared.told.Told.{Told}
 use Rattle.command.specs.Since.{Since}
 use Rattle.command.specs.Sound.{IsSoundStore}
 use Rattle.store_check.specs.Good.{IsGoodStore}
-use Rattle.durable_store.specs.Brought.{AreAlone}
+use Rattle.durable_store.specs.Brought.{NoHashCollisionOn}
 use Rattle.durable_store.specs.Keeping.{KeepsGood}
 use Rattle.durable_store.specs.Known.{KeepsKnown, KnownBytes, MayHoldOnly}
 use Rattle.durable_store.specs.Standing.{StoreStands}
@@ -100,13 +100,13 @@ event_or (Pruned depth roots held removed) = inl tt
 -- a step removes, or it doesn't
 removing_or : (k : Kind) → IsRemoving k ⊎ ¬ (IsRemoving k)
 removing_or (Remove e n) = inl tt
-removing_or (Shown e n) = event_or e
-removing_or (Settle e) = event_or e
+removing_or (Published e n) = event_or e
+removing_or (MakeDurable e) = event_or e
 removing_or Quiet = inr (λ is. is)
 removing_or Store = inr (λ is. is)
 removing_or (Take wants) = inr (λ is. is)
 removing_or (Claim name) = inr (λ is. is)
-removing_or (Show e) = inr (λ is. is)
+removing_or (Publish e) = inr (λ is. is)
 
 -- An act, by which no command is forgotten that began.
 module _ {F T W A : Type 0} (f : FsSpec F) (c : Family T W A) (fl : FsLaws f) (cl : FamilyLaws c) (limits : Limits) (actor lane : ℕ) (refs refs' : RefBook) (objects objects' : ℕ) (old new : Base F) (lanes lanes' : List (Lane T W A))
@@ -176,7 +176,7 @@ module _ {F T W A : Type 0} (f : FsSpec F) (c : Family T W A) (fl : FsLaws f) (c
   known_still same opening known = knows opening (subst (MayHoldOnly (KnownBytes opening (WasBrought c.means behind))) (sym same) (all_known opening known).now) known
 
   -- if reads never saw other bytes with the name of what was brought, they didn't before
-  pub alone_before : ((u : View) → f.was new.fs new.books.opened u → AreAlone (WasBrought c.means behind) u.now) → (u : View) → f.was old.fs old.books.opened u → AreAlone (WasBrought c.means before) u.now
+  pub alone_before : ((u : View) → f.was new.fs new.books.opened u → NoHashCollisionOn (WasBrought c.means behind) u.now) → (u : View) → f.was old.fs old.books.opened u → NoHashCollisionOn (WasBrought c.means before) u.now
   alone_before alone u had name bytes other is stored =
       alone u (subst (λ m. f.was new.fs m u) (sym acts.books.opened) (acts.time.keeps old.books.opened u (fl.is.bound old.fs old.books.opened u had) had)) name bytes other (wider name bytes is) stored
 
@@ -187,7 +187,7 @@ module _ {F T W A : Type 0} (f : FsSpec F) (c : Family T W A) (fl : FsLaws f) (c
       (stored.keeps.since old.books.opened v.now (omega arith) (v, now, Image-now v (fl.tree old.fs v told_v))).sound
 
   -- and then no answer tells that an object isn't there as its name says
-  pub no_outside : AreStored f c.means before v → old.books.opened ≤ f.clock old.fs → ((u : View) → f.was new.fs new.books.opened u → AreAlone (WasBrought c.means behind) u.now) → (since : Since) (a : A) (words : W) → since.limits ≡ limits → c.means.shows since v a words → c.means.outside a → ⊥
+  pub no_outside : AreStored f c.means before v → old.books.opened ≤ f.clock old.fs → ((u : View) → f.was new.fs new.books.opened u → NoHashCollisionOn (WasBrought c.means behind) u.now) → (since : Since) (a : A) (words : W) → since.limits ≡ limits → c.means.shows since v a words → c.means.outside a → ⊥
   no_outside stored from alone since a words bounds shown is =
       let now = fl.counts_now old.fs old.books.opened v from told_v in
       let good = stored.keeps.since old.books.opened v.now (omega arith) (v, now, Image-now v (fl.tree old.fs v told_v)) in
@@ -280,13 +280,13 @@ module _ {F T W A : Type 0} (f : FsSpec F) (c : Family T W A) (fl : FsLaws f) (c
       unremoved o Store plain_ is = omega (arith, is)
       unremoved o (Take wants) plain_ is = omega (arith, is)
       unremoved o (Claim name) plain_ is = omega (arith, is)
-      unremoved came.More (Show e) plain_ is = omega (arith, is)
-      unremoved (came.Halted why) (Show e) plain_ is = omega (arith, is)
-      unremoved came.Done (Show e) plain_ is = omega (arith, is)
-      unremoved came.Blocked (Show e) plain_ is = omega (arith, is)
-      unremoved (came.Refused f) (Show e) plain_ is = omega (arith, is)
-      unremoved o (Shown e n) plain_ is = omega (arith, is)
-      unremoved o (Settle e) plain_ is = omega (arith, is)
+      unremoved came.More (Publish e) plain_ is = omega (arith, is)
+      unremoved (came.Halted why) (Publish e) plain_ is = omega (arith, is)
+      unremoved came.Done (Publish e) plain_ is = omega (arith, is)
+      unremoved came.Blocked (Publish e) plain_ is = omega (arith, is)
+      unremoved (came.Refused f) (Publish e) plain_ is = omega (arith, is)
+      unremoved o (Published e n) plain_ is = omega (arith, is)
+      unremoved o (MakeDurable e) plain_ is = omega (arith, is)
 
       left_same : left ≡ objects
       left_same = standing_none old.books.gone new.books.gone objects (unremoved outcome kind plain y.step.gone)
@@ -408,13 +408,13 @@ module _ {F T W A : Type 0} (f : FsSpec F) (c : Family T W A) (fl : FsLaws f) (c
               stands_named o there = stored.keeps.now.listed.all o there.sum (shows v.now (path_of o)) (may_now v (path_of o)) (λ none. there.there (vacant_absent v.now (path_of o) none))
 
           -- its last step: the names are those of what stands
-          settled : (e : Event) → kind ≡ Settle e → IsPrune e → outcome ≡ came.Done → AreStored f c.means behind w
+          settled : (e : Event) → kind ≡ MakeDurable e → IsPrune e → outcome ≡ came.Done → AreStored f c.means behind w
           settled e is prune went =
               let k = subst (λ o. Tells c.tasks.leaves c.tasks.refuses t o t' (f.view old.fs) (f.view new.fs)) went y.step.tells v told_v in
               let ends = cl.commands.removes.ends lane t t' v k.0 (books_of old.books) e facts is prune k.2 in
               let synced : w ≡ all_synced v = sym (here k.0 k.1) ∙ ends.synced in
               let next = all_now stored.names v keeps.now.listed in
-              let booked : IsBooked (Settle e) lane number (f.clock new.fs) came.Done old.books new.books = subst (λ o. IsBooked (Settle e) lane number (f.clock new.fs) o old.books new.books) went (subst (λ x. IsBooked x lane number (f.clock new.fs) outcome old.books new.books) is y.step.booked) in
+              let booked : IsBooked (MakeDurable e) lane number (f.clock new.fs) came.Done old.books new.books = subst (λ o. IsBooked (MakeDurable e) lane number (f.clock new.fs) o old.books new.books) went (subst (λ x. IsBooked x lane number (f.clock new.fs) outcome old.books new.books) is y.step.booked) in
               let none : swept_in new.books ≡ [] = settled_none new.books booked.0 in
               let gone : new.books.gone ≡ old.books.gone = subst (λ x. new.books.gone ≡ gone_in x outcome old.books.gone) is y.step.gone in
               let fewer : length next.0 + length (swept_in old.books) ≤ length stored.names = fewer_names stored.names next.0 (swept_in old.books) v keeps.now.listed next.1 ends.different (λ o has. (stored.swept y.live o has, ends.away o has)) in
@@ -426,10 +426,10 @@ module _ {F T W A : Type 0} (f : FsSpec F) (c : Family T W A) (fl : FsLaws f) (c
               (λ live o has. absurd (none_out o (subst (λ (l : List ObjName). Contains l o) none has)))
 
           -- between: nothing is taken from its path
-          shown : (e : Event) (n : ℕ) → kind ≡ Shown e n → AreStored f c.means behind w
+          shown : (e : Event) (n : ℕ) → kind ≡ Published e n → AreStored f c.means behind w
           shown e n is =
               let gone : new.books.gone ≡ old.books.gone = subst (λ x. new.books.gone ≡ gone_in x outcome old.books.gone) is y.step.gone in
-              let swept_same_ : swept_in new.books ≡ swept_in old.books = shown_same actor lane number (f.clock new.fs) old.books new.books acts.books e n outcome (subst (λ k. IsBooked k lane number (f.clock new.fs) outcome old.books new.books) is y.step.booked) (subst (λ k. Locks k lane outcome old.books new.books) is y.step.locks) gone in
+              let swept_same_ : swept_in new.books ≡ swept_in old.books = published_same actor lane number (f.clock new.fs) old.books new.books acts.books e n outcome (subst (λ k. IsBooked k lane number (f.clock new.fs) outcome old.books new.books) is y.step.booked) (subst (λ k. Locks k lane outcome old.books new.books) is y.step.locks) gone in
               let same : left ≡ objects = standing_none old.books.gone new.books.gone objects (omega (arith, gone)) in
               same_names
               (λ live. omega (arith, stored.counted y.live, ap length swept_same_, same, left_counted stored.narrow))
@@ -444,14 +444,14 @@ module _ {F T W A : Type 0} (f : FsSpec F) (c : Family T W A) (fl : FsLaws f) (c
           by (Remove e n) came.Done is went r = absurd (booked_as (Remove e n) came.Done is went)
           by (Remove e n) came.Blocked is went r = absurd (taken went)
           by (Remove e n) (came.Refused d) is went r = absurd (booked_as (Remove e n) (came.Refused d) is went)
-          by (Shown e n) came.More is went r = shown e n is
-          by (Shown e n) came.Done is went r = absurd (booked_as (Shown e n) came.Done is went)
-          by (Shown e n) came.Blocked is went r = absurd (taken went)
-          by (Shown e n) (came.Refused d) is went r = absurd (booked_as (Shown e n) (came.Refused d) is went)
-          by (Settle e) came.Done is went r = settled e is r went
-          by (Settle e) came.More is went r = absurd (booked_as (Settle e) came.More is went)
-          by (Settle e) came.Blocked is went r = absurd (taken went)
-          by (Settle e) (came.Refused d) is went r = absurd (booked_as (Settle e) (came.Refused d) is went)
+          by (Published e n) came.More is went r = shown e n is
+          by (Published e n) came.Done is went r = absurd (booked_as (Published e n) came.Done is went)
+          by (Published e n) came.Blocked is went r = absurd (taken went)
+          by (Published e n) (came.Refused d) is went r = absurd (booked_as (Published e n) (came.Refused d) is went)
+          by (MakeDurable e) came.Done is went r = settled e is r went
+          by (MakeDurable e) came.More is went r = absurd (booked_as (MakeDurable e) came.More is went)
+          by (MakeDurable e) came.Blocked is went r = absurd (taken went)
+          by (MakeDurable e) (came.Refused d) is went r = absurd (booked_as (MakeDurable e) (came.Refused d) is went)
           by Quiet came.More is went r = absurd r
           by Quiet came.Done is went r = absurd r
           by Quiet came.Blocked is went r = absurd r
@@ -468,10 +468,10 @@ module _ {F T W A : Type 0} (f : FsSpec F) (c : Family T W A) (fl : FsLaws f) (c
           by (Claim name) came.Done is went r = absurd r
           by (Claim name) came.Blocked is went r = absurd r
           by (Claim name) (came.Refused d) is went r = absurd r
-          by (Show e) came.More is went r = absurd r
-          by (Show e) came.Done is went r = absurd r
-          by (Show e) came.Blocked is went r = absurd r
-          by (Show e) (came.Refused d) is went r = absurd r
+          by (Publish e) came.More is went r = absurd r
+          by (Publish e) came.Done is went r = absurd r
+          by (Publish e) came.Blocked is went r = absurd r
+          by (Publish e) (came.Refused d) is went r = absurd r
 
     pub stored_step : AreStored f c.means before v → AreStored f c.means behind w
     stored_step stored = ⊎_elim (λ removing. stored_removing removing stored) (λ plain. stored_plain plain stored) (removing_or kind)

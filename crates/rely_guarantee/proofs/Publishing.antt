@@ -1,4 +1,4 @@
--- The step that shows a change, those behind it, and the one that makes it last.
+-- The step that publishes a change, those behind it, and the one that makes it durable.
 use Rattle.std.proofs.Common.{◌≡◌, inl, inr, ◌+◌, ◌-◌, ◌<◌, ◌≤◌, ℕ, suc, refl, sym, ◌∙◌, ap, subst, arith, List, [], ◌∷◌, ◌++◌, append-nil, Contains, Option, Some, None}
 use Rattle.std.specs.Vec.{vec_len, vec_capacity}
 use Rattle.ost_types.specs.Path.{Path}
@@ -26,11 +26,11 @@ use Rattle.rely_guarantee.specs.Books.{Books, books_of, doomed_of, Free, Agrees,
 use Rattle.rely_guarantee.specs.Rely.{Guarantee, Interference}
 use Rattle.rely_guarantee.specs.SystemInvariant.{AreThere, Ordered, Stands, SystemInvariant}
 use Rattle.rely_guarantee.specs.Change.{Away, TakesNone, Dooms, Shows, Final}
-use Rattle.rely_guarantee.specs.Laws.{Kind, Quiet, Store, Take, Claim, Show, Shown, Remove, Settle, Laws, StepObligation, Within, Owned, IsShow, IsShown, IsRemove, IsSettle, IsLastly, Chain, Follows, Holds, Stood, NotPending, IsPending, Runs, Ready, Tells, Acts, Ends, owed_by}
+use Rattle.rely_guarantee.specs.Laws.{Kind, Quiet, Store, Take, Claim, Publish, Published, Remove, MakeDurable, Laws, StepObligation, Within, Owned, IsPublish, IsPublished, IsRemove, IsMakeDurable, IsLastly, Chain, Follows, Holds, Stood, NotPending, IsPending, Runs, Ready, Tells, Acts, Ends, owed_by}
 use Rattle.rely_guarantee.proofs.States.{ascends_later, ascends_push, events_push, acked_late}
-use Rattle.rely_guarantee.proofs.Knowns.{stands_show, stands_away, stands_settle}
+use Rattle.rely_guarantee.proofs.Knowns.{stands_publish, stands_away, stands_make_durable}
 use Rattle.rely_guarantee.proofs.Claiming.{claims_stand}
-use Rattle.rely_guarantee.proofs.Locking.{doomed_apart, doomed_held, doomed_idle, doomed_shown, spared_refl, spared_then}
+use Rattle.rely_guarantee.proofs.Locking.{doomed_apart, doomed_held, doomed_idle, doomed_published, spared_refl, spared_then}
 use Rattle.rely_guarantee.proofs.Sounds.{IsFs, sound_goes}
 use Rattle.rely_guarantee.proofs.Acting.{told_same, ended_claims, ends_ordered}
 
@@ -44,60 +44,60 @@ follows_holds e most Quiet lane b c h = absurd c
 follows_holds e most Store lane b c h = absurd c
 follows_holds e most (Take wants) lane b c h = absurd c
 follows_holds e most (Claim name) lane b c h = absurd c
-follows_holds e most (Show d) lane b c h = absurd c
-follows_holds e most (Shown d owed) lane b c h = (subst (λ (x : Event). IsPending x owed lane b) (sym c.0) h, c.2)
+follows_holds e most (Publish d) lane b c h = absurd c
+follows_holds e most (Published d owed) lane b c h = (subst (λ (x : Event). IsPending x owed lane b) (sym c.0) h, c.2)
 follows_holds e most (Remove d owed) lane b c h = (subst (λ (x : Event). IsPending x owed lane b) (sym c.0) h, c.2)
-follows_holds e most (Settle d) lane b c h = subst (λ (x : Event). IsPending x 1 lane b) (sym c.0) h
+follows_holds e most (MakeDurable d) lane b c h = subst (λ (x : Event). IsPending x 1 lane b) (sym c.0) h
 
 pub follows_owed : (e : Event) (most : ℕ) (next : Kind) → Follows e most next → owed_by next ≤ most
 follows_owed e most Quiet c = absurd c
 follows_owed e most Store c = absurd c
 follows_owed e most (Take wants) c = absurd c
 follows_owed e most (Claim name) c = absurd c
-follows_owed e most (Show d) c = absurd c
-follows_owed e most (Shown d owed) c = c.1
+follows_owed e most (Publish d) c = absurd c
+follows_owed e most (Published d owed) c = c.1
 follows_owed e most (Remove d owed) c = c.1
-follows_owed e most (Settle d) c = c.1
+follows_owed e most (MakeDurable d) c = c.1
 
-pub show_is : (k : Kind) → IsShow k → (e : Event) × (k ≡ Show e)
-show_is Quiet is = absurd is
-show_is Store is = absurd is
-show_is (Take wants) is = absurd is
-show_is (Claim name) is = absurd is
-show_is (Show e) is = (e, refl)
-show_is (Shown e owed) is = absurd is
-show_is (Remove e owed) is = absurd is
-show_is (Settle e) is = absurd is
+pub publish_is : (k : Kind) → IsPublish k → (e : Event) × (k ≡ Publish e)
+publish_is Quiet is = absurd is
+publish_is Store is = absurd is
+publish_is (Take wants) is = absurd is
+publish_is (Claim name) is = absurd is
+publish_is (Publish e) is = (e, refl)
+publish_is (Published e owed) is = absurd is
+publish_is (Remove e owed) is = absurd is
+publish_is (MakeDurable e) is = absurd is
 
-pub shown_is : (k : Kind) → IsShown k → (e : Event) × (owed : ℕ) × (k ≡ Shown e owed)
-shown_is Quiet is = absurd is
-shown_is Store is = absurd is
-shown_is (Take wants) is = absurd is
-shown_is (Claim name) is = absurd is
-shown_is (Show e) is = absurd is
-shown_is (Shown e owed) is = (e, owed, refl)
-shown_is (Remove e owed) is = absurd is
-shown_is (Settle e) is = absurd is
+pub published_is : (k : Kind) → IsPublished k → (e : Event) × (owed : ℕ) × (k ≡ Published e owed)
+published_is Quiet is = absurd is
+published_is Store is = absurd is
+published_is (Take wants) is = absurd is
+published_is (Claim name) is = absurd is
+published_is (Publish e) is = absurd is
+published_is (Published e owed) is = (e, owed, refl)
+published_is (Remove e owed) is = absurd is
+published_is (MakeDurable e) is = absurd is
 
 pub remove_is : (k : Kind) → IsRemove k → (e : Event) × (owed : ℕ) × (k ≡ Remove e owed)
 remove_is Quiet is = absurd is
 remove_is Store is = absurd is
 remove_is (Take wants) is = absurd is
 remove_is (Claim name) is = absurd is
-remove_is (Show e) is = absurd is
-remove_is (Shown e owed) is = absurd is
+remove_is (Publish e) is = absurd is
+remove_is (Published e owed) is = absurd is
 remove_is (Remove e owed) is = (e, owed, refl)
-remove_is (Settle e) is = absurd is
+remove_is (MakeDurable e) is = absurd is
 
-pub settle_is : (k : Kind) → IsSettle k → (e : Event) × (k ≡ Settle e)
-settle_is Quiet is = absurd is
-settle_is Store is = absurd is
-settle_is (Take wants) is = absurd is
-settle_is (Claim name) is = absurd is
-settle_is (Show e) is = absurd is
-settle_is (Shown e owed) is = absurd is
-settle_is (Remove e owed) is = absurd is
-settle_is (Settle e) is = (e, refl)
+pub make_durable_is : (k : Kind) → IsMakeDurable k → (e : Event) × (k ≡ MakeDurable e)
+make_durable_is Quiet is = absurd is
+make_durable_is Store is = absurd is
+make_durable_is (Take wants) is = absurd is
+make_durable_is (Claim name) is = absurd is
+make_durable_is (Publish e) is = absurd is
+make_durable_is (Published e owed) is = absurd is
+make_durable_is (Remove e owed) is = absurd is
+make_durable_is (MakeDurable e) is = (e, refl)
 
 module _ {F : Type 0} (view : F → Option View) (clock spare : F → ℕ) (was : F → ℕ → View → Type 0) (fslaws : IsFs view clock was)
     {T : Type 0} {kind : T → Kind} {needs : ℕ → T → View → Type 0} {writes : ℕ → T → View → Path → Seen → Type 0} {stepped : T → StepResult (Unit {0}) → T → Type 0} {leaves : T → StepResult (Unit {0}) → T → View → View → Type 0} {facts : ℕ → T → View → Books → Type 0}
@@ -157,23 +157,23 @@ module _ {F : Type 0} (view : F → Option View) (clock spare : F → ℕ) (was 
   pub more_tells : (t next : T) (u : StepResult (Unit {0})) → (IsLastly (kind t) → ⊥) → stepped t u next → (v : View) (now : Option View) → Told now (λ w. leaves t u next v w) → Told now (λ w. leaves t turn.More next v w)
   more_tells t next u not step v now told = subst (λ x. Told now (λ w. leaves t x next v w)) (more_of t next u not step) told
 
-  -- the books while the change is shown
+  -- the books while the change is published
   abbrev pub pending_books : rust.Books → ℕ → ℕ → Event → ℕ → Option Halt → rust.Books
   pending_books b lane command e owed halted = record b { turn = Some lane; pending = Some (record { lane = lane; command = command; event = e }); gone = 0; owed = owed; halted = halted }
 
-  show_duty : (old : Base F) (lane : ℕ) (t : T) (e : Event) → kind t ≡ Show e → Free old.books.turn lane → Free old.books.exclusive lane → Ready view clock spare was (Runs kind facts lane t) old → (v : View) → view old.fs ≡ Some v
+  publish_duty : (old : Base F) (lane : ℕ) (t : T) (e : Event) → kind t ≡ Publish e → Free old.books.turn lane → Free old.books.exclusive lane → Ready view clock spare was (Runs kind facts lane t) old → (v : View) → view old.fs ≡ Some v
       → Within (writes lane t v) (Guarantee (books_of old.books) v lane lane) × Shows (writes lane t v) v e × Dooms lane (books_of old.books) e
-  show_duty old lane t e is turn_free free ready v told =
+  publish_duty old lane t e is turn_free free ready v told =
       subst (λ (k : Kind). StepObligation k lane lane v (books_of old.books) (writes lane t v) (leaves t (turn.Done tt) t v)) is
       (laws.duty lane lane t t v (books_of old.books) ready.sound.ordered.agrees (inl refl) (subst (λ (k : Kind). Stood k lane lane (books_of old.books)) (sym is) (turn_free, free)) (ready.task.facts v told))
 
-  show_none : (old : Base F) (lane : ℕ) (t : T) (e : Event) → kind t ≡ Show e → Free old.books.turn lane → Ready view clock spare was (Runs kind facts lane t) old → old.books.pending ≡ None
-  show_none old lane t e is turn_free ready =
+  publish_none : (old : Base F) (lane : ℕ) (t : T) (e : Event) → kind t ≡ Publish e → Free old.books.turn lane → Ready view clock spare was (Runs kind facts lane t) old → old.books.pending ≡ None
+  publish_none old lane t e is turn_free ready =
       let none : NotPending lane (books_of old.books) = subst (λ (k : Kind). Holds k lane (books_of old.books)) is ready.task.holds in
       no_pending old.books.pending (λ p has. none p has (turn_free p.lane (ready.sound.ordered.owner p has)))
 
-  show_spared : (b : rust.Books) (lane command : ℕ) (e : Event) (owed : ℕ) (h : Option Halt) → b.pending ≡ None → Free b.turn lane → Free b.exclusive lane → Spared lane lane (books_of b) (books_of (pending_books b lane command e owed h))
-  show_spared b lane command e owed h none turn_free free =
+  publish_spared : (b : rust.Books) (lane command : ℕ) (e : Event) (owed : ℕ) (h : Option Halt) → b.pending ≡ None → Free b.turn lane → Free b.exclusive lane → Spared lane lane (books_of b) (books_of (pending_books b lane command e owed h))
+  publish_spared b lane command e owed h none turn_free free =
       let p : Pending = record { lane = lane; command = command; event = e } in
       let s = spared_refl lane lane (books_of b) in
       record {
@@ -199,15 +199,15 @@ module _ {F : Type 0} (view : F → Option View) (clock spare : F → ℕ) (was 
         start = refl;
       }
 
-  pub show_acts : (old : Base F) (fs : F) (lane command : ℕ) (t next : T) (e : Event) (owed : ℕ) (h : Option Halt) (outcome : Outcome) → kind t ≡ Show e → Free old.books.turn lane → Free old.books.exclusive lane → vec_len old.books.history < vec_capacity old.books.history
+  pub publish_acts : (old : Base F) (fs : F) (lane command : ℕ) (t next : T) (e : Event) (owed : ℕ) (h : Option Halt) (outcome : Outcome) → kind t ≡ Publish e → Free old.books.turn lane → Free old.books.exclusive lane → vec_len old.books.history < vec_capacity old.books.history
       → Ready view clock spare was (Runs kind facts lane t) old → Wrote old.fs fs lane t → Calls old.fs fs → owed ≤ spare fs → owed ≤ last
       → Tells view (Runs kind facts lane next) outcome (record { fs = fs; books = pending_books old.books lane command e owed h })
       → Acts view clock spare was lane lane outcome (Runs kind facts lane next) old (record { fs = fs; books = pending_books old.books lane command e owed h })
-  show_acts old fs lane command t next e owed h outcome is turn_free free room ready wrote time owes small tells =
+  publish_acts old fs lane command t next e owed h outcome is turn_free free room ready wrote time owes small tells =
       let p : Pending = record { lane = lane; command = command; event = e } in
-      let none = show_none old lane t e is turn_free ready in
+      let none = publish_none old lane t e is turn_free ready in
       let ord = ready.sound.ordered in
-      let spared = show_spared old.books lane command e owed h none turn_free free in
+      let spared = publish_spared old.books lane command e owed h none turn_free free in
       record {
         sound = sound_goes view clock spare was fslaws old (record { fs = fs; books = pending_books old.books lane command e owed h }) (e ∷ []) ready.sound time
             (record {
@@ -223,23 +223,23 @@ module _ {F : Type 0} (view : F → Option View) (clock spare : F → ℕ) (was 
             (rw none (ap (λ (l : List Event). l ++ e ∷ []) (sym (append-nil (events_of old.books.history.items)))))
             (λ t le. refl)
             (λ v w told_v told_w stands.
-            let d = show_duty old lane t e is turn_free free ready v told_v in
-            stands_show (first old.books.start.items) old.books.history.items (books_of old.books) lane lane p (writes lane t v) v w (told_same (view fs) w told_w (wrote v told_v)) d.0 d.1
+            let d = publish_duty old lane t e is turn_free free ready v told_v in
+            stands_publish (first old.books.start.items) old.books.history.items (books_of old.books) lane lane p (writes lane t v) v w (told_same (view fs) w told_w (wrote v told_v)) d.0 d.1
             (subst (λ (o : Option Pending). Stands (first old.books.start.items) old.books.history.items o v) none stands))
             (λ v w told_v told_w there.
-            let d = show_duty old lane t e is turn_free free ready v told_v in
+            let d = publish_duty old lane t e is turn_free free ready v told_v in
             claims_stand (books_of old.books) v w lane lane (weaker (writes lane t v) (Guarantee (books_of old.books) v lane lane) v w d.0 (told_same (view fs) w told_w (wrote v told_v))) old.books.claims.items old.books.claims.items (λ c has. has) there);
-        does = λ v told. let w = wrote v told in let d = show_duty old lane t e is turn_free free ready v told in
+        does = λ v told. let w = wrote v told in let d = publish_duty old lane t e is turn_free free ready v told in
             (w.0, w.1, record { writes = weaker (writes lane t v) (Guarantee (books_of old.books) v lane lane) v w.0 d.0 w.2; books = spared; claims = λ c has. inl has });
         books = spared;
         tells = tells;
       }
 
-  pub show_runs : (old : Base F) (fs : F) (lane command : ℕ) (t next : T) (u : StepResult (Unit {0})) (e : Event) → kind t ≡ Show e → Free old.books.turn lane → Free old.books.exclusive lane → Ready view clock spare was (Runs kind facts lane t) old
+  pub publish_runs : (old : Base F) (fs : F) (lane command : ℕ) (t next : T) (u : StepResult (Unit {0})) (e : Event) → kind t ≡ Publish e → Free old.books.turn lane → Free old.books.exclusive lane → Ready view clock spare was (Runs kind facts lane t) old
       → stepped t u next → ((v : View) → view old.fs ≡ Some v → Told (view fs) (λ w. leaves t u next v w))
       → Runs kind facts lane next (view fs) (books_of (pending_books old.books lane command e (owed_by (kind next)) old.books.halted))
-  show_runs old fs lane command t next u e is turn_free free ready step after =
-      let more : u ≡ turn.More = more_of t next u (λ last. let bad : IsLastly (Show e) = subst IsLastly is last in bad) step in
+  publish_runs old fs lane command t next u e is turn_free free ready step after =
+      let more : u ≡ turn.More = more_of t next u (λ last. let bad : IsLastly (Publish e) = subst IsLastly is last in bad) step in
       let b : Books = books_of (pending_books old.books lane command e (owed_by (kind next)) old.books.halted) in
       let chain : Follows e (owed_by (kind next)) (kind next) = subst (λ (k : Kind). Chain k (kind next)) is (laws.chain t next (subst (λ x. stepped t x next) more step)) in
       record {
@@ -248,7 +248,7 @@ module _ {F : Type 0} (view : F → Option View) (clock spare : F → ℕ) (was 
             laws.next lane lane t next v.0 w (books_of old.books) b (subst (λ (k : Kind). Stood k lane lane (books_of old.books)) (sym is) (turn_free, free)) (ready.task.facts v.0 v.1)
             (told_same (view fs) w told_w (subst (λ x. Told (view fs) (λ w. leaves t x next v.0 w)) more (after v.0 v.1)))
             (record { exclusive = λ k. k; turn = λ k. refl; sysroot = λ k. k; holds = λ x l k. k; wants = λ x l k. k; pins = λ x l k. k; pinned = λ x l k. k; claims = λ c k. k; others = λ c l k. k })
-            (subst (λ (k : Kind). Owned k lane (books_of old.books) b) (sym is) (doomed_shown lane command e (books_of old.books) (show_duty old lane t e is turn_free free ready v.0 v.1).2, refl));
+            (subst (λ (k : Kind). Owned k lane (books_of old.books) b) (sym is) (doomed_published lane command e (books_of old.books) (publish_duty old lane t e is turn_free free ready v.0 v.1).2, refl));
         holds = follows_holds e (owed_by (kind next)) (kind next) lane b chain (record { command = command; turn = refl; pending = refl; owes = omega arith });
       }
 
@@ -326,9 +326,9 @@ module _ {F : Type 0} (view : F → Option View) (clock spare : F → ℕ) (was 
   pub fewer_gone : (old : Base F) (e : Event) (n lane : ℕ) → IsPending e n lane (books_of old.books) × (0 < n) → Ordered clock spare old → old.books.gone < last
   fewer_gone old e n lane pend ord = omega (arith, ord.counted, pend.0.owes, pend.1)
 
-  pub shown_parts : (old : Base F) (lane : ℕ) (t : T) (e : Event) (n : ℕ) → kind t ≡ Shown e n → Ready view clock spare was (Runs kind facts lane t) old → (v : View) → view old.fs ≡ Some v
+  pub published_parts : (old : Base F) (lane : ℕ) (t : T) (e : Event) (n : ℕ) → kind t ≡ Published e n → Ready view clock spare was (Runs kind facts lane t) old → (v : View) → view old.fs ≡ Some v
       → Within (writes lane t v) (Guarantee (books_of old.books) v lane lane) × Away (writes lane t v) × TakesNone (writes lane t v) v
-  shown_parts old lane t e n is ready v told =
+  published_parts old lane t e n is ready v told =
       subst (λ (k : Kind). StepObligation k lane lane v (books_of old.books) (writes lane t v) (leaves t (turn.Done tt) t v)) is
       (laws.duty lane lane t t v (books_of old.books) ready.sound.ordered.agrees (inl refl) (subst (λ (k : Kind). Stood k lane lane (books_of old.books)) (sym is) tt) (ready.task.facts v told))
 
@@ -340,8 +340,8 @@ module _ {F : Type 0} (view : F → Option View) (clock spare : F → ℕ) (was 
       (laws.duty lane lane t t v (books_of old.books) ready.sound.ordered.agrees (inl refl) (subst (λ (k : Kind). Stood k lane lane (books_of old.books)) (sym is) tt) (ready.task.facts v told)) in
       (d.0, d.1)
 
-  pub shown_pending : (old : Base F) (lane : ℕ) (t : T) (e : Event) (n : ℕ) → kind t ≡ Shown e n → Ready view clock spare was (Runs kind facts lane t) old → IsPending e n lane (books_of old.books) × (0 < n)
-  shown_pending old lane t e n is ready = subst (λ (k : Kind). Holds k lane (books_of old.books)) is ready.task.holds
+  pub published_pending : (old : Base F) (lane : ℕ) (t : T) (e : Event) (n : ℕ) → kind t ≡ Published e n → Ready view clock spare was (Runs kind facts lane t) old → IsPending e n lane (books_of old.books) × (0 < n)
+  published_pending old lane t e n is ready = subst (λ (k : Kind). Holds k lane (books_of old.books)) is ready.task.holds
 
   pub remove_pending : (old : Base F) (lane : ℕ) (t : T) (e : Event) (n : ℕ) → kind t ≡ Remove e n → Ready view clock spare was (Runs kind facts lane t) old → IsPending e n lane (books_of old.books) × (0 < n)
   remove_pending old lane t e n is ready = subst (λ (k : Kind). Holds k lane (books_of old.books)) is ready.task.holds
@@ -367,11 +367,11 @@ module _ {F : Type 0} (view : F → Option View) (clock spare : F → ℕ) (was 
             (record { command = pend.command; turn = pend.turn; pending = pend.pending; owes = omega (arith, follows_owed e chain.0 (kind next) chain.2, chain.1, pend.owes) });
       })
 
-  pub shown_runs : (old : Base F) (fs : F) (paid : rust.Books) (lane : ℕ) (t next : T) (u : StepResult (Unit {0})) (e : Event) (n : ℕ) → paid ≡ record old.books { owed = old.books.owed - 1; gone = old.books.gone } → kind t ≡ Shown e n → Ready view clock spare was (Runs kind facts lane t) old
+  pub published_runs : (old : Base F) (fs : F) (paid : rust.Books) (lane : ℕ) (t next : T) (u : StepResult (Unit {0})) (e : Event) (n : ℕ) → paid ≡ record old.books { owed = old.books.owed - 1; gone = old.books.gone } → kind t ≡ Published e n → Ready view clock spare was (Runs kind facts lane t) old
       → stepped t u next → ((v : View) → view old.fs ≡ Some v → Told (view fs) (λ w. leaves t u next v w))
       → Runs kind facts lane next (view fs) (books_of paid)
-  shown_runs old fs paid lane t next u e n pays is ready step after =
-      owed_runs old fs paid lane t next u e n old.books.gone (Shown e n) pays is (shown_pending old lane t e n is ready).0 (λ bad. bad) (λ x c. c) tt (refl, refl) ready step after
+  published_runs old fs paid lane t next u e n pays is ready step after =
+      owed_runs old fs paid lane t next u e n old.books.gone (Published e n) pays is (published_pending old lane t e n is ready).0 (λ bad. bad) (λ x c. c) tt (refl, refl) ready step after
 
   pub remove_runs : (old : Base F) (fs : F) (paid : rust.Books) (lane : ℕ) (t next : T) (u : StepResult (Unit {0})) (e : Event) (n : ℕ) → paid ≡ record old.books { owed = old.books.owed - 1; gone = old.books.gone + 1 } → kind t ≡ Remove e n → Ready view clock spare was (Runs kind facts lane t) old
       → stepped t u next → ((v : View) → view old.fs ≡ Some v → Told (view fs) (λ w. leaves t u next v w))
@@ -379,24 +379,24 @@ module _ {F : Type 0} (view : F → Option View) (clock spare : F → ℕ) (was 
   remove_runs old fs paid lane t next u e n pays is ready step after =
       owed_runs old fs paid lane t next u e n (old.books.gone + 1) (Remove e n) pays is (remove_pending old lane t e n is ready).0 (λ bad. bad) (λ x c. c) tt (refl, refl) ready step after
 
-  pub settle_pending : (old : Base F) (lane : ℕ) (t : T) (e : Event) → kind t ≡ Settle e → Ready view clock spare was (Runs kind facts lane t) old → IsPending e 1 lane (books_of old.books)
-  settle_pending old lane t e is ready = subst (λ (k : Kind). Holds k lane (books_of old.books)) is ready.task.holds
+  pub make_durable_pending : (old : Base F) (lane : ℕ) (t : T) (e : Event) → kind t ≡ MakeDurable e → Ready view clock spare was (Runs kind facts lane t) old → IsPending e 1 lane (books_of old.books)
+  make_durable_pending old lane t e is ready = subst (λ (k : Kind). Holds k lane (books_of old.books)) is ready.task.holds
 
-  settle_duty : (old : Base F) (lane : ℕ) (t next : T) (e : Event) → kind t ≡ Settle e → Ready view clock spare was (Runs kind facts lane t) old → (v : View) → view old.fs ≡ Some v
+  make_durable_duty : (old : Base F) (lane : ℕ) (t next : T) (e : Event) → kind t ≡ MakeDurable e → Ready view clock spare was (Runs kind facts lane t) old → (v : View) → view old.fs ≡ Some v
       → Within (writes lane t v) Nothing × ((w : View) → leaves t (turn.Done tt) next v w → Final e w)
-  settle_duty old lane t next e is ready v told =
+  make_durable_duty old lane t next e is ready v told =
       subst (λ (k : Kind). StepObligation k lane lane v (books_of old.books) (writes lane t v) (leaves t (turn.Done tt) next v)) is
       (laws.duty lane lane t next v (books_of old.books) ready.sound.ordered.agrees (inl refl) (subst (λ (k : Kind). Stood k lane lane (books_of old.books)) (sym is) tt) (ready.task.facts v told))
 
-  pub settle_parts : (old : Base F) (lane : ℕ) (t : T) (e : Event) → kind t ≡ Settle e → Ready view clock spare was (Runs kind facts lane t) old → (v : View) → view old.fs ≡ Some v
+  pub make_durable_parts : (old : Base F) (lane : ℕ) (t : T) (e : Event) → kind t ≡ MakeDurable e → Ready view clock spare was (Runs kind facts lane t) old → (v : View) → view old.fs ≡ Some v
       → Within (writes lane t v) (Guarantee (books_of old.books) v lane lane) × Away (writes lane t v)
-  settle_parts old lane t e is ready v told = let d = settle_duty old lane t t e is ready v told in ((λ p s wrote. absurd (d.0 p s wrote)), (λ q s wrote. absurd (d.0 _ s wrote)))
+  make_durable_parts old lane t e is ready v told = let d = make_durable_duty old lane t t e is ready v told in ((λ p s wrote. absurd (d.0 p s wrote)), (λ q s wrote. absurd (d.0 _ s wrote)))
 
-  pub settle_more : (t next : T) (u : StepResult (Unit {0})) (e : Event) → kind t ≡ Settle e → u ≡ turn.More → stepped t u next → ⊥
-  settle_more t next u e is more step = let bad : Chain (Settle e) (kind next) = subst (λ (k : Kind). Chain k (kind next)) is (laws.chain t next (subst (λ x. stepped t x next) more step)) in bad
+  pub make_durable_more : (t next : T) (u : StepResult (Unit {0})) (e : Event) → kind t ≡ MakeDurable e → u ≡ turn.More → stepped t u next → ⊥
+  make_durable_more t next u e is more step = let bad : Chain (MakeDurable e) (kind next) = subst (λ (k : Kind). Chain k (kind next)) is (laws.chain t next (subst (λ x. stepped t x next) more step)) in bad
 
-  settle_spared : (b b' : rust.Books) (lane : ℕ) (en : Entry) (p : Pending) → b' ≡ record b { history = b'.history; pending = None; owed = 0 } → b'.history.items ≡ b.history.items ++ en ∷ [] → b.pending ≡ Some p → p.lane ≡ lane → Spared lane lane (books_of b) (books_of b')
-  settle_spared b b' lane en p same grows pend own_p =
+  make_durable_spared : (b b' : rust.Books) (lane : ℕ) (en : Entry) (p : Pending) → b' ≡ record b { history = b'.history; pending = None; owed = 0 } → b'.history.items ≡ b.history.items ++ en ∷ [] → b.pending ≡ Some p → p.lane ≡ lane → Spared lane lane (books_of b) (books_of b')
+  make_durable_spared b b' lane en p same grows pend own_p =
       let s = spared_refl lane lane (books_of b) in
       let mine : (q : Pending) → b.pending ≡ Some q → q.lane ≡ lane = (λ q is. let one : Some p ≡ Some q = sym pend ∙ is in let k : p ≡ q = cc in ap (λ (x : Pending). x.lane) (sym k) ∙ own_p) in
       subst (λ (x : rust.Books). Spared lane lane (books_of b) (books_of x)) (sym same)
@@ -423,15 +423,15 @@ module _ {F : Type 0} (view : F → Option View) (clock spare : F → ℕ) (was 
         start = refl;
       })
 
-  -- The step that makes the change last.
-  pub settle_acts : (old mid new : Base F) (lane : ℕ) (t next : T) (u : StepResult (Unit {0})) (e : Event) (runs : Option View → Books → Type 0) → kind t ≡ Settle e
+  -- The step that makes the change durable.
+  pub make_durable_acts : (old mid new : Base F) (lane : ℕ) (t next : T) (u : StepResult (Unit {0})) (e : Event) (runs : Option View → Books → Type 0) → kind t ≡ MakeDurable e
       → mid.books ≡ record old.books { history = mid.books.history; pending = None; owed = 0 }
       → ((p : Pending) → old.books.pending ≡ Some p → mid.books.history.items ≡ old.books.history.items ++ record { lane = p.lane; command = p.command; event = p.event; moment = clock mid.fs } ∷ [])
       → Ends lane lane mid new → Ready view clock spare was (Runs kind facts lane t) old → Wrote old.fs mid.fs lane t → Calls old.fs mid.fs → Next (clock old.fs) (clock mid.fs)
       → u ≡ turn.Done tt → ((v : View) → view old.fs ≡ Some v → Told (view mid.fs) (λ w. leaves t u next v w))
       → Acts view clock spare was lane lane came.Done runs old new
-  settle_acts old mid new lane t next u e runs is same entry ends ready wrote time ticks done after =
-      let pend = settle_pending old lane t e is ready in
+  make_durable_acts old mid new lane t next u e runs is same entry ends ready wrote time ticks done after =
+      let pend = make_durable_pending old lane t e is ready in
       let p : Pending = record { lane = lane; command = pend.command; event = e } in
       let en : Entry = record { lane = lane; command = pend.command; event = e; moment = clock mid.fs } in
       let grows : mid.books.history.items ≡ old.books.history.items ++ en ∷ [] = entry p pend.pending in
@@ -444,7 +444,7 @@ module _ {F : Type 0} (view : F → Option View) (clock spare : F → ℕ) (was 
       let fewer : (c : claim.Claim) → Contains new.books.claims.items c → Contains old.books.claims.items c = (λ c has. subst (λ (b : rust.Books). Contains b.claims.items c) same (ends.claims c has)) in
       let ord = ready.sound.ordered in
       let agrees : Agrees (books_of mid.books) = subst (λ (b : rust.Books). Agrees (books_of b)) (sym same) (record { turn = ord.agrees.turn; shared = ord.agrees.shared; doomed = doomed_held old.books.exclusive None }) in
-      let spared = spared_then lane lane (books_of old.books) (books_of mid.books) (books_of new.books) (settle_spared old.books mid.books lane en p same grows pend.pending refl) ends.spared in
+      let spared = spared_then lane lane (books_of old.books) (books_of mid.books) (books_of new.books) (make_durable_spared old.books mid.books lane en p same grows pend.pending refl) ends.spared in
       record {
         sound = sound_goes view clock spare was fslaws old new [] ready.sound (subst (Calls old.fs) (sym ends.fs) time)
             (record {
@@ -461,48 +461,48 @@ module _ {F : Type 0} (view : F → Option View) (clock spare : F → ℕ) (was 
             (λ t le. rw history (acked_late t old.books.history.items en (omega (arith, le, ticks.is))))
             (λ v w told_v told_w stands.
             let told_m : view mid.fs ≡ Some w = ap view (sym ends.fs) ∙ told_w in
-            let d = settle_duty old lane t next e is ready v told_v in
-            rw (history, none) (stands_settle (first old.books.start.items) old.books.history.items p en v w refl
+            let d = make_durable_duty old lane t next e is ready v told_v in
+            rw (history, none) (stands_make_durable (first old.books.start.items) old.books.history.items p en v w refl
             (weaker (writes lane t v) Nothing v w d.0 (told_same (view mid.fs) w told_m (wrote v told_v)))
             (d.1 w (told_same (view mid.fs) w told_m (subst (λ x. Told (view mid.fs) (λ w. leaves t x next v w)) done (after v told_v))))
             (subst (λ (o : Option Pending). Stands (first old.books.start.items) old.books.history.items o v) pend.pending stands)))
             (λ v w told_v told_w there.
             let told_m : view mid.fs ≡ Some w = ap view (sym ends.fs) ∙ told_w in
-            let d = settle_duty old lane t next e is ready v told_v in
+            let d = make_durable_duty old lane t next e is ready v told_v in
             claims_stand (books_of old.books) v w lane lane (weaker (writes lane t v) (Guarantee (books_of old.books) v lane lane) v w (λ q s k. absurd (d.0 q s k)) (told_same (view mid.fs) w told_m (wrote v told_v))) old.books.claims.items new.books.claims.items fewer there);
-        does = λ v told. let w = wrote v told in let d = settle_duty old lane t next e is ready v told in
+        does = λ v told. let w = wrote v told in let d = make_durable_duty old lane t next e is ready v told in
             (w.0, ap view ends.fs ∙ w.1, record { writes = weaker (writes lane t v) (Guarantee (books_of old.books) v lane lane) v w.0 (λ q s k. absurd (d.0 q s k)) w.2; books = spared; claims = λ c has. inl (fewer c has) });
         books = spared;
         tells = tt;
       }
 
   -- what it comes to in the books
-  books_shown : (old mid : Base F) (shown : rust.Books) (lane command : ℕ) (e : Event) (owed : ℕ) → mid ≡ record old { fs = mid.fs }
+  books_published : (old mid : Base F) (shown : rust.Books) (lane command : ℕ) (e : Event) (owed : ℕ) → mid ≡ record old { fs = mid.fs }
       → shown ≡ record mid.books { turn = Some lane; pending = Some (record { lane = lane; command = command; event = e }); gone = 0; owed = owed } → shown ≡ pending_books old.books lane command e owed old.books.halted
-  books_shown old mid shown lane command e owed only shows = shows ∙ ap (λ (m : Base F). record m.books { turn = Some lane; pending = Some (record { lane = lane; command = command; event = e }); gone = 0; owed = owed }) only
+  books_published old mid shown lane command e owed only shows = shows ∙ ap (λ (m : Base F). record m.books { turn = Some lane; pending = Some (record { lane = lane; command = command; event = e }); gone = 0; owed = owed }) only
 
-  pub show_done : (old mid : Base F) (shown : rust.Books) (lane command : ℕ) (t next : T) (e : Event) (owed : ℕ) (h : Option Halt) (outcome : Outcome) → mid ≡ record old { fs = mid.fs }
+  pub publish_done : (old mid : Base F) (shown : rust.Books) (lane command : ℕ) (t next : T) (e : Event) (owed : ℕ) (h : Option Halt) (outcome : Outcome) → mid ≡ record old { fs = mid.fs }
       → shown ≡ record mid.books { turn = Some lane; pending = Some (record { lane = lane; command = command; event = e }); gone = 0; owed = owed }
-      → kind t ≡ Show e → Free old.books.exclusive lane × Free old.books.turn lane → vec_len old.books.history < vec_capacity old.books.history → Ready view clock spare was (Runs kind facts lane t) old → Wrote old.fs mid.fs lane t → Calls old.fs mid.fs → owed ≤ spare mid.fs → owed ≤ last
+      → kind t ≡ Publish e → Free old.books.exclusive lane × Free old.books.turn lane → vec_len old.books.history < vec_capacity old.books.history → Ready view clock spare was (Runs kind facts lane t) old → Wrote old.fs mid.fs lane t → Calls old.fs mid.fs → owed ≤ spare mid.fs → owed ≤ last
       → Tells view (Runs kind facts lane next) outcome (record { fs = mid.fs; books = record shown { halted = h } })
       → Acts view clock spare was lane lane outcome (Runs kind facts lane next) old (record { fs = mid.fs; books = record shown { halted = h } })
-  show_done old mid shown lane command t next e owed h outcome only shows is free room ready wrote time owes small tells =
+  publish_done old mid shown lane command t next e owed h outcome only shows is free room ready wrote time owes small tells =
       subst (λ (b : rust.Books). Tells view (Runs kind facts lane next) outcome (record { fs = mid.fs; books = record b { halted = h } }) → Acts view clock spare was lane lane outcome (Runs kind facts lane next) old (record { fs = mid.fs; books = record b { halted = h } }))
-      (sym (books_shown old mid shown lane command e owed only shows))
-      (show_acts old mid.fs lane command t next e owed h outcome is free.1 free.0 room ready wrote time owes small) tells
+      (sym (books_published old mid shown lane command e owed only shows))
+      (publish_acts old mid.fs lane command t next e owed h outcome is free.1 free.0 room ready wrote time owes small) tells
 
-  pub show_tells : (old mid : Base F) (shown : rust.Books) (lane command : ℕ) (t next : T) (u : StepResult (Unit {0})) (e : Event) (owed : ℕ) → mid ≡ record old { fs = mid.fs }
+  pub publish_tells : (old mid : Base F) (shown : rust.Books) (lane command : ℕ) (t next : T) (u : StepResult (Unit {0})) (e : Event) (owed : ℕ) → mid ≡ record old { fs = mid.fs }
       → shown ≡ record mid.books { turn = Some lane; pending = Some (record { lane = lane; command = command; event = e }); gone = 0; owed = owed } → owed ≡ owed_by (kind next)
-      → kind t ≡ Show e → Free old.books.exclusive lane × Free old.books.turn lane → Ready view clock spare was (Runs kind facts lane t) old
+      → kind t ≡ Publish e → Free old.books.exclusive lane × Free old.books.turn lane → Ready view clock spare was (Runs kind facts lane t) old
       → stepped t u next → ((v : View) → view old.fs ≡ Some v → Told (view mid.fs) (λ w. leaves t u next v w))
       → Runs kind facts lane next (view mid.fs) (books_of shown)
-  show_tells old mid shown lane command t next u e owed only shows owes is free ready step after =
-      subst (λ (b : rust.Books). Runs kind facts lane next (view mid.fs) (books_of b)) (sym (books_shown old mid shown lane command e owed only shows))
+  publish_tells old mid shown lane command t next u e owed only shows owes is free ready step after =
+      subst (λ (b : rust.Books). Runs kind facts lane next (view mid.fs) (books_of b)) (sym (books_published old mid shown lane command e owed only shows))
       (subst (λ (n : ℕ). Runs kind facts lane next (view mid.fs) (books_of (pending_books old.books lane command e n old.books.halted))) (sym owes)
-      (show_runs old mid.fs lane command t next u e is free.1 free.0 ready step after))
+      (publish_runs old mid.fs lane command t next u e is free.1 free.0 ready step after))
 
-  pub show_not : (old : Base F) (lane : ℕ) (t : T) → IsShow (kind t) → Ready view clock spare was (Runs kind facts lane t) old → NotPending lane (books_of old.books)
-  show_not old lane t is ready = let e = show_is (kind t) is in subst (λ (k : Kind). Holds k lane (books_of old.books)) e.1 ready.task.holds
+  pub publish_not : (old : Base F) (lane : ℕ) (t : T) → IsPublish (kind t) → Ready view clock spare was (Runs kind facts lane t) old → NotPending lane (books_of old.books)
+  publish_not old lane t is ready = let e = publish_is (kind t) is in subst (λ (k : Kind). Holds k lane (books_of old.books)) e.1 ready.task.holds
 
   -- once there is room for an entry
   room_only : (old mid : Base F) → mid.fs ≡ old.fs → mid.books ≡ record old.books { history = mid.books.history } → mid.books.history.items ≡ old.books.history.items → books_of mid.books ≡ books_of old.books

@@ -10,7 +10,7 @@ use Rattle.rely_guarantee.specs.declared.event.Event.{Event}
 use Rattle.rely_guarantee.specs.declared.kind.Outcome.TheVariants as came
 use Rattle.rely_guarantee.specs.Books.{Agrees, Books, Free, books_of}
 use Rattle.rely_guarantee.specs.Exact.{IsBooked, IsUnbooked, Opens}
-use Rattle.rely_guarantee.specs.Laws.{Kind, Quiet, Store, Take, Claim, Show, Shown, Remove, Settle, Holds, NotPending}
+use Rattle.rely_guarantee.specs.Laws.{Kind, Quiet, Store, Take, Claim, Publish, Published, Remove, MakeDurable, Holds, NotPending}
 use Rattle.rely_guarantee.specs.SystemInvariant.{Stands}
 use Rattle.rely_guarantee.specs.State.{State, Topic, first, gives, is_topic, target, after, events_of}
 use Rattle.rely_guarantee.proofs.Goods.{fits_all}
@@ -58,10 +58,10 @@ module _ (lane command moment : ℕ) (old new : rust.Books) (agrees : Agrees (bo
   sees Store holds opens booked = λ has. before holds (held_free lane (books_of old) agrees has) booked
   sees (Take wants) holds opens booked = λ has. before holds (⊎_elim (λ asks. (opens.turn asks).1) (λ more. ⊎_elim (λ asks. (opens.exclusive asks).1) (λ mine. held_free lane (books_of old) agrees mine) more) has) booked
   sees (Claim name) holds opens booked = λ has. before holds (held_free lane (books_of old) agrees has) booked
-  sees (Show e) holds opens booked = absurd booked
-  sees (Shown e owed) holds opens booked = absurd booked
+  sees (Publish e) holds opens booked = absurd booked
+  sees (Published e owed) holds opens booked = absurd booked
   sees (Remove e owed) holds opens booked = absurd booked
-  sees (Settle e) holds opens booked = (
+  sees (MakeDurable e) holds opens booked = (
     state_of (first new.start.items) new.history.items new.pending w then booked.0 tree',
     entered (record { lane = lane; command = holds.command; event = e; moment = moment }) (booked.1 _ holds.pending),
   )

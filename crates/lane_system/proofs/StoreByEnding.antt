@@ -8,7 +8,7 @@ use Rattle.rely_guarantee.specs.declared.kind.Outcome.{Outcome}
 use Rattle.rely_guarantee.specs.declared.kind.Outcome.TheVariants as came
 use Rattle.rely_guarantee.specs.Exact.{IsLive}
 use Rattle.ref_book.specs.declared.book.RefBook.{RefBook}
-use Rattle.durable_store.specs.Brought.{AreAlone}
+use Rattle.durable_store.specs.Brought.{NoHashCollisionOn}
 use Rattle.durable_store.specs.Full.{HasAsMany}
 use Rattle.command.specs.declared.ended.Ended.{Ended}
 use Rattle.command.specs.Removed.{RemovesOnly}
@@ -33,7 +33,7 @@ use Rattle.lane_system.proofs.Counting.{came_there, many_left, many_on}
 use Rattle.lane_system.proofs.Family.{FamilyLaws, FsLaws}
 use Rattle.lane_system.proofs.Moments.{opened_by}
 use Rattle.lane_system.proofs.Places.{here_or_apart}
-use Rattle.lane_system.proofs.Storing.{alone_before, known_step, known_still, no_outside, sound_now, stored_step, stored_still}
+use Rattle.lane_system.proofs.StoreOverAct.{alone_before, known_step, known_still, no_outside, sound_now, stored_step, stored_still}
 use Rattle.lane_system.proofs.Telling.{standing_same}
 
 -- a command that is done counted none
@@ -111,7 +111,7 @@ module _ {F T W A : Type 0} (f : FsSpec F) (c : Family T W A) (fl : FsLaws f) (c
         many_on old.books new.books acts.out v does.0 (only_of acts) (acts.removal.one v told_v) objects objects' (c.doing.met x.did.0) x.did.2
         (came_there f c fl cl limits lane lane number refs refs' objects old new x.words l.task x.did.0 x.did.3 v does.0 told_v does.1)
 
-    pub alone_more : ((u : View) → f.was new.fs new.books.opened u → AreAlone (WasBrought c.means (record { base = new; lanes = set lanes lane l'; limits = limits; objects = objects' })) u.now) → (u : View) → f.was old.fs old.books.opened u → AreAlone (WasBrought c.means before) u.now
+    pub alone_more : ((u : View) → f.was new.fs new.books.opened u → NoHashCollisionOn (WasBrought c.means (record { base = new; lanes = set lanes lane l'; limits = limits; objects = objects' })) u.now) → (u : View) → f.was old.fs old.books.opened u → NoHashCollisionOn (WasBrought c.means before) u.now
     alone_more = alone_before f c fl cl limits lane lane refs refs' objects objects' old new lanes (set lanes lane l') acts (command_stays lanes lane l l' at x.same) begun_on begun_early v told_v
 
   -- it has an answer
@@ -162,13 +162,13 @@ module _ {F T W A : Type 0} (f : FsSpec F) (c : Family T W A) (fl : FsLaws f) (c
         let does = acts_.does v told_v in
         subst (HasAsMany does.0.now) (sym x.did.1) (many_left old.books new.books acts_.out v does.0 (only_of acts_) (acts_.removal.one v told_v) objects has)
 
-    pub alone_given : ((u : View) → f.was new.fs new.books.opened u → AreAlone (WasBrought c.means behind_) u.now) → (u : View) → f.was old.fs old.books.opened u → AreAlone (WasBrought c.means before) u.now
+    pub alone_given : ((u : View) → f.was new.fs new.books.opened u → NoHashCollisionOn (WasBrought c.means behind_) u.now) → (u : View) → f.was old.fs old.books.opened u → NoHashCollisionOn (WasBrought c.means before) u.now
     alone_given = alone_before f c fl cl limits lane lane refs refs' objects objects' old new lanes (set lanes lane l'') acts_ (command_stays lanes lane l l'' at same) begun_then begun_early v told_v
 
     pub sound_given : AreStored f c.means before v → IsSoundStore limits v.now
     sound_given stored = sound_now f c fl cl limits lane lane refs refs' objects objects' old new lanes (set lanes lane l'') acts_ (command_stays lanes lane l l'' at same) begun_then begun_early v told_v
         stored (opened_by old.books.opened old.books.history.items (f.clock old.fs) kept.sound.ordered.ascends)
 
-    pub no_outside_given : AreStored f c.means before v → ((u : View) → f.was new.fs new.books.opened u → AreAlone (WasBrought c.means behind_) u.now) → (n : ℕ) (a : A) → c.means.shows (since_in limits old.books n) v a x.words → c.means.outside a → ⊥
+    pub no_outside_given : AreStored f c.means before v → ((u : View) → f.was new.fs new.books.opened u → NoHashCollisionOn (WasBrought c.means behind_) u.now) → (n : ℕ) (a : A) → c.means.shows (since_in limits old.books n) v a x.words → c.means.outside a → ⊥
     no_outside_given stored alone n a = no_outside f c fl cl limits lane lane refs refs' objects objects' old new lanes (set lanes lane l'') acts_ (command_stays lanes lane l l'' at same) begun_then begun_early v told_v
         stored (opened_by old.books.opened old.books.history.items (f.clock old.fs) kept.sound.ordered.ascends) alone (since_in limits old.books n) a x.words refl

@@ -2,10 +2,10 @@ use Rattle.std.proofs.Common.{◌∙◌, ◌++◌, ◌∷◌, [], ℕ, Some, ap,
 use Rattle.rely_guarantee.specs.Laws.{Runs}
 use Rattle.rely_guarantee.proofs.Sounds.{IsFs}
 use Rattle.rely_guarantee.proofs.Acting.{asks}
-use Rattle.rely_guarantee.proofs.Showing.{settle_is, owed_acts, same_counted, settle_parts, settle_pending, settle_acts}
+use Rattle.rely_guarantee.proofs.Publishing.{make_durable_is, owed_acts, same_counted, make_durable_parts, make_durable_pending, make_durable_acts}
 use Rattle.rely_guarantee.proofs.Locking.{shares_since}
-use Rattle.rely_guarantee.proofs.act.settle.Given as given
-use Rattle.rely_guarantee.proofs.act.settle.Goals as goal
+use Rattle.rely_guarantee.proofs.act.make_durable.Given as given
+use Rattle.rely_guarantee.proofs.act.make_durable.Goals as goal
 
 module _ (g : given.Over) where
   fs : IsFs g.F.Fs.view g.F.Fs.clock g.F.Fs.was
@@ -20,8 +20,8 @@ returns-else-not-acknowledge-clause-acts g c =
     let r = c.requires in
     let t = c.args.task.now in
     let old = c.args.base.now in
-    let k = settle_is (g.T.CommandTask.kind_of t) r.kind in
-    settle_acts g.F.Fs.view g.F.Fs.clock g.F.Fs.spare g.F.Fs.was (fs g) g.met.T.CommandTask.laws old (record { fs = c.advance.new.fs; books = c.acknowledge.new.self }) c.end.new.base c.args.lane t c.advance.new.self c.in-Ok-Done.field-0 k.0 (Runs g.T.CommandTask.kind_of g.T.CommandTask.facts c.args.lane c.advance.new.self) k.1
+    let k = make_durable_is (g.T.CommandTask.kind_of t) r.kind in
+    make_durable_acts g.F.Fs.view g.F.Fs.clock g.F.Fs.spare g.F.Fs.was (fs g) g.met.T.CommandTask.laws old (record { fs = c.advance.new.fs; books = c.acknowledge.new.self }) c.end.new.base c.args.lane t c.advance.new.self c.in-Ok-Done.field-0 k.0 (Runs g.T.CommandTask.kind_of g.T.CommandTask.facts c.args.lane c.advance.new.self) k.1
     c.acknowledge.ensures.same
     (λ p is. c.acknowledge.ensures.entry c.if-not-acknowledge.false p is ∙ ap (λ (m : ℕ). old.books.history.items ++ record { lane = p.lane; command = p.command; event = p.event; moment = m } ∷ []) c.clock-moment.ensures)
     c.end.ensures.ends r.ready e.writes e.time (e.ticks r.kind) c.in-Ok-Done.field-0-is e.after
@@ -32,10 +32,10 @@ returns-in-Err-clause-acts g c =
     let r = c.requires in
     let t = c.args.task.now in
     let old = c.args.base.now in
-    let k = settle_is (g.T.CommandTask.kind_of t) r.kind in
+    let k = make_durable_is (g.T.CommandTask.kind_of t) r.kind in
     owed_acts g.F.Fs.view g.F.Fs.clock g.F.Fs.spare g.F.Fs.was (fs g) g.met.T.CommandTask.laws old c.advance.new.fs c.pay.new.self c.args.lane t k.0 1 old.books.gone (Some c.why_of-why.result) (Runs g.T.CommandTask.kind_of g.T.CommandTask.facts c.args.lane c.advance.new.self) _
-    c.pay.ensures (settle_pending g.F.Fs.view g.F.Fs.clock g.F.Fs.spare g.F.Fs.was (fs g) g.met.T.CommandTask.laws old c.args.lane t k.0 k.1 r.ready) (same_counted g.F.Fs.view g.F.Fs.clock g.F.Fs.spare g.F.Fs.was (fs g) g.met.T.CommandTask.laws old r.ready.sound.ordered)
-    (settle_parts g.F.Fs.view g.F.Fs.clock g.F.Fs.spare g.F.Fs.was (fs g) g.met.T.CommandTask.laws old c.args.lane t k.0 k.1 r.ready)
+    c.pay.ensures (make_durable_pending g.F.Fs.view g.F.Fs.clock g.F.Fs.spare g.F.Fs.was (fs g) g.met.T.CommandTask.laws old c.args.lane t k.0 k.1 r.ready) (same_counted g.F.Fs.view g.F.Fs.clock g.F.Fs.spare g.F.Fs.was (fs g) g.met.T.CommandTask.laws old r.ready.sound.ordered)
+    (make_durable_parts g.F.Fs.view g.F.Fs.clock g.F.Fs.spare g.F.Fs.was (fs g) g.met.T.CommandTask.laws old c.args.lane t k.0 k.1 r.ready)
     r.ready.sound e.writes e.time e.room.at_most_one refl
 
 pub returns-else-not-acknowledge-clause-locks : goal.returns-else-not-acknowledge-clause-locks

@@ -1,12 +1,12 @@
 use Rattle.std.proofs.Common.{ap, Err, Some, inl, refl, subst, sym, arith, ◌≤◌, rules}
 use Rattle.fs_trait.specs.Count.{last}
-use Rattle.rely_guarantee.specs.Laws.{IsLastly, IsShow, Runs}
+use Rattle.rely_guarantee.specs.Laws.{IsLastly, IsPublish, Runs}
 use Rattle.rely_guarantee.proofs.Sounds.{IsFs}
 use Rattle.rely_guarantee.proofs.Acting.{asks}
-use Rattle.rely_guarantee.proofs.Showing.{more_tells, still_acts, show_done, show_tells, show_not}
+use Rattle.rely_guarantee.proofs.Publishing.{more_tells, still_acts, publish_done, publish_tells, publish_not}
 use Rattle.rely_guarantee.proofs.Locking.{shares_since}
-use Rattle.rely_guarantee.proofs.act.show_event.Given as given
-use Rattle.rely_guarantee.proofs.act.show_event.Goals as goal
+use Rattle.rely_guarantee.proofs.act.publish_event.Given as given
+use Rattle.rely_guarantee.proofs.act.publish_event.Goals as goal
 
 module _ (g : given.Over) where
   fs : IsFs g.F.Fs.view g.F.Fs.clock g.F.Fs.was
@@ -22,12 +22,12 @@ returns-in-Ok-clause-acts g c =
     let mid = c.advance_with_room.new.base in
     let next = c.advance_with_room.new.task in
     let old = c.args.base.now in
-    let is : IsShow (g.T.CommandTask.kind_of c.args.task.now) = subst IsShow (sym r.kind) tt in
+    let is : IsPublish (g.T.CommandTask.kind_of c.args.task.now) = subst IsPublish (sym r.kind) tt in
     let room : c.owes.result ≤ g.F.Fs.spare mid.fs = subst (λ n. n ≤ g.F.Fs.spare mid.fs) (sym c.owes.ensures) (e.ready is) in
     let small : c.owes.result ≤ last = omega (arith, c.owes.type_inv) in
-    show_done g.F.Fs.view g.F.Fs.clock g.F.Fs.spare g.F.Fs.was (fs g) g.met.T.CommandTask.laws old mid c.show.new.self c.args.lane c.args.command c.args.task.now next c.args.event c.owes.result c.show.new.self.halted _
-    e.books c.show.ensures r.kind r.free r.entry r.ready e.writes e.time room small
-    (show_tells g.F.Fs.view g.F.Fs.clock g.F.Fs.spare g.F.Fs.was (fs g) g.met.T.CommandTask.laws old mid c.show.new.self c.args.lane c.args.command c.args.task.now next c.in-Ok.field-0 c.args.event c.owes.result e.books c.show.ensures c.owes.ensures r.kind r.free r.ready e.stepped e.after)
+    publish_done g.F.Fs.view g.F.Fs.clock g.F.Fs.spare g.F.Fs.was (fs g) g.met.T.CommandTask.laws old mid c.publish.new.self c.args.lane c.args.command c.args.task.now next c.args.event c.owes.result c.publish.new.self.halted _
+    e.books c.publish.ensures r.kind r.free r.entry r.ready e.writes e.time room small
+    (publish_tells g.F.Fs.view g.F.Fs.clock g.F.Fs.spare g.F.Fs.was (fs g) g.met.T.CommandTask.laws old mid c.publish.new.self c.args.lane c.args.command c.args.task.now next c.in-Ok.field-0 c.args.event c.owes.result e.books c.publish.ensures c.owes.ensures r.kind r.free r.ready e.stepped e.after)
 
 pub returns-in-Err-NoMemory-clause-acts : goal.returns-in-Err-NoMemory-clause-acts
 returns-in-Err-NoMemory-clause-acts g c =
@@ -35,9 +35,9 @@ returns-in-Err-NoMemory-clause-acts g c =
     let r = c.requires in
     let mid = c.advance_with_room.new.base in
     let old = c.args.base.now in
-    let is : IsShow (g.T.CommandTask.kind_of c.args.task.now) = subst IsShow (sym r.kind) tt in
+    let is : IsPublish (g.T.CommandTask.kind_of c.args.task.now) = subst IsPublish (sym r.kind) tt in
     still_acts g.F.Fs.view g.F.Fs.clock g.F.Fs.spare g.F.Fs.was (fs g) g.met.T.CommandTask.laws old mid c.end.new.base c.args.lane c.args.lane (Runs g.T.CommandTask.kind_of g.T.CommandTask.facts c.args.lane c.args.task.now) (Runs g.T.CommandTask.kind_of g.T.CommandTask.facts c.args.lane c.advance_with_room.new.task) _
-    e.books (λ v told. e.unchanged v told (ap Err c.in-Err-NoMemory.field-0-is)) e.time e.room c.end.ensures.ends (show_not g.F.Fs.view g.F.Fs.clock g.F.Fs.spare g.F.Fs.was (fs g) g.met.T.CommandTask.laws old c.args.lane c.args.task.now is r.ready) r.ready
+    e.books (λ v told. e.unchanged v told (ap Err c.in-Err-NoMemory.field-0-is)) e.time e.room c.end.ensures.ends (publish_not g.F.Fs.view g.F.Fs.clock g.F.Fs.spare g.F.Fs.was (fs g) g.met.T.CommandTask.laws old c.args.lane c.args.task.now is r.ready) r.ready
 
 pub returns-in-Err-clause-acts : goal.returns-in-Err-clause-acts
 returns-in-Err-clause-acts g c =
@@ -45,8 +45,8 @@ returns-in-Err-clause-acts g c =
     let r = c.requires in
     let mid = c.advance_with_room.new.base in
     let next = c.advance_with_room.new.task in
-    show_done g.F.Fs.view g.F.Fs.clock g.F.Fs.spare g.F.Fs.was (fs g) g.met.T.CommandTask.laws c.args.base.now mid c.show-in-Err.new.self c.args.lane c.args.command c.args.task.now next c.args.event 0 (Some c.why_of-why.result) _
-    e.books c.show-in-Err.ensures r.kind r.free r.entry r.ready e.writes e.time (omega arith) (omega arith) refl
+    publish_done g.F.Fs.view g.F.Fs.clock g.F.Fs.spare g.F.Fs.was (fs g) g.met.T.CommandTask.laws c.args.base.now mid c.publish-in-Err.new.self c.args.lane c.args.command c.args.task.now next c.args.event 0 (Some c.why_of-why.result) _
+    e.books c.publish-in-Err.ensures r.kind r.free r.entry r.ready e.writes e.time (omega arith) (omega arith) refl
 
 pub returns-in-Ok-clause-tells : goal.returns-in-Ok-clause-tells
 returns-in-Ok-clause-tells g c = λ v told.
