@@ -1,6 +1,6 @@
 -- What is known of a store while the tree is walked, and what those steps tell and do. Files aren't read, so of these it is known only that
 -- they stand (`Standing`).
-use Rattle.std.specs.Prelude.{◌≡◌, ◌<◌, ◌≤◌, ◌+◌, ℕ, [], length, false, Option, Some, None}
+use Rattle.std.specs.Prelude.{◌≡◌, ◌<◌, ◌≤◌, ◌+◌, ℕ, length, Option, Some, None}
 use Rattle.ost_types.specs.declared.object.ObjName.{ObjName}
 use Rattle.ost_types.specs.Path.{Path}
 use Rattle.ost_types.specs.PathMap.{IsPathMap}
@@ -8,7 +8,7 @@ use Rattle.fs_trait.specs.View.{Disk}
 use Rattle.repo_layout.specs.BootPaths.{checkout_path}
 use Rattle.repo_model.specs.Objects.{Store, path_of}
 use Rattle.repo_model.specs.Whole.{Complete}
-use Rattle.tree_read.specs.Reading.{IsSoFar, left_of}
+use Rattle.tree_read.specs.Reading.{IsSoFar, left_of, unread}
 use Rattle.tree_walk.specs.Standing.{AreRight, Standing}
 use Rattle.checkout.specs.CheckoutWork.{IsPlaced, beginning}
 use Rattle.commit_checkout.specs.TreeFolder.{IsTreeOf}
@@ -24,7 +24,7 @@ use Rattle.checkout_command.specs.MakeSteps.{make_left}
 
 -- at its beginning
 abbrev pub reading : Request → Reads
-reading r = record { request = r; task = record { commit = r.commit; limits = r.limits; begun = false; pending = []; found = [] } }
+reading r = record { request = r; task = unread r.commit r.limits }
 
 -- at most so many steps go on, those that make the tree among them
 abbrev pub read_left : Reads → ℕ

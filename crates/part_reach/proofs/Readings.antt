@@ -16,8 +16,10 @@ use Rattle.tree_read.specs.declared.item.Item.{Item}
 use Rattle.tree_read.specs.Items.{NamesFrom, ShowsFrom}
 use Rattle.tree_read.specs.Order.{IsKept, IsOwner, NamesFar}
 use Rattle.tree_read.specs.Reading.{Knows, Reading}
+use Rattle.tree_read.specs.Remembered.{Memory, Recalls}
 use Rattle.tree_read.specs.Walked as walk
 use Rattle.tree_read.specs.Walked.{Walked}
+use Rattle.tree_read.proofs.Recalling.{recalls_over}
 use Rattle.reach.specs.Reach.{Is, ObjNames, Reach, Refers, onward, start}
 use Rattle.reach.specs.Removed.{Part}
 use Rattle.reach.proofs.Parts.{entries_part, folder_part, names_part, names_up, shows_part}
@@ -96,6 +98,13 @@ module _ (S : Store) (keep : ObjNames) (closed : (o next : ObjName) → keep o �
     owner_part [] o owner = owner
     owner_part (x ∷ rest) o owner = (owner.0, owner.1, owner.2, names_part S keep closed tree meta owner.0 o kt km owner.3, owner.4)
 
+    recalls_part : (m : Memory) → Recalls S content tree meta m → Recalls P content tree meta m
+    recalls_part = recalls_over S P content tree meta
+        (λ sum e n has. record { bytes = has.bytes; stored = (has.stored, root_kept n.0 (name_of kind.DirTree sum) n.1); reads = has.reads })
+        (λ sum a n has. record { bytes = has.bytes; stored = (has.stored, root_kept n.0 (name_of kind.DirMeta sum) n.1); reads = has.reads })
+        (λ sum n has. has_part content (name_of kind.File sum) (root_kept n.0 (name_of kind.File sum) n.1) has)
+        (λ o n. (n.0, names_part S keep closed tree meta n.0 o kt km n.1))
+
     module _ (found : Nodes) (items : List Item) (w : Walked S content tree meta found items) where
       at_itself : (i : Item) (o : ObjName) → Contains items i → NamesFrom S i.named [] o → keep o
       at_itself i o among names = root_kept i.path o (w.named i.path o (record { item = i; among = among; names = record { rest = []; below = sym (append-nil i.path); names = names } }))
@@ -158,6 +167,7 @@ module _ (S : Store) (keep : ObjNames) (closed : (o next : ObjName) → keep o �
         ascending = k.ascending;
         short = k.short;
         few = k.few;
+        recalls = recalls_part t.limits.content k.parts.tree k.parts.meta kt km t.remembered k.recalls;
       }
 
 -- It holds in the part that is reached from the commit.

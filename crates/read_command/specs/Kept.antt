@@ -19,7 +19,7 @@ use Rattle.read_command.specs.declared.command.ReadCommand.TheVariants.{Look, Ca
 use Rattle.read_command.specs.CatSteps.{KnowsAt}
 use Rattle.read_command.specs.Chains.{IsChain}
 use Rattle.read_command.specs.Commands as command
-use Rattle.read_command.specs.Onward.{names_up, walked_up, way_up}
+use Rattle.read_command.specs.Onward.{names_up, recalls_up, walked_up, way_up}
 
 module _ (S T : Store) (more : (name : ObjName) (b : List ℕ) → S name b → T name b) where
   commit_up : (sum : List ℕ) (c : CommitParts) → HasCommit S sum c → HasCommit T sum c
@@ -45,6 +45,7 @@ module _ (S T : Store) (one : IsMap T) (more : (name : ObjName) (b : List ℕ) �
     ascending = k.ascending;
     short = k.short;
     few = k.few;
+    recalls = recalls_up S T more one t.limits.content k.parts.tree k.parts.meta t.remembered k.recalls;
   }
 
   cat_up : (at : Place) (c : Cat) → KnowsAt at S c → KnowsAt at T c

@@ -1,6 +1,7 @@
 -- The first step of a command.
-use Rattle.std.specs.Prelude.{◌≡◌, ◌+◌, ◌*◌, ℕ, [], length, false}
+use Rattle.std.specs.Prelude.{◌≡◌, ◌+◌, ◌*◌, ℕ, [], length}
 use Rattle.fs_trait.specs.View.{Disk}
+use Rattle.tree_read.specs.Reading.{unread}
 use Rattle.ref_command.specs.declared.look_up.Found.TheVariants.{Whole}
 use Rattle.ref_command.specs.Found.{IsFound}
 use Rattle.read_command.specs.declared.cat.Place.TheVariants as place
@@ -24,7 +25,7 @@ look_left l = ask_left l.ask l.limits.paths
 -- what was asked begins
 abbrev pub BeginsBy : Ask → look.Look → ReadCommand → Type 0
 BeginsBy (ask.Cat path) l (Cat c) = c ≡ record { alloc = l.alloc; limits = l.limits; commit = l.commit; path = path; place = place.Commit }
-BeginsBy (ask.Ls path) l (Ls s) = s ≡ record { alloc = l.alloc; path = path; task = record { commit = l.commit; limits = l.limits; begun = false; pending = []; found = [] } }
+BeginsBy (ask.Ls path) l (Ls s) = s ≡ record { alloc = l.alloc; path = path; task = unread l.commit l.limits }
 BeginsBy ask.Log l (Log g) = (g.limits ≡ l.limits) × (g.commit ≡ l.commit) × (g.rows.items ≡ []) × (g.next ≡ l.commit)
 BeginsBy a l t = ⊥
 

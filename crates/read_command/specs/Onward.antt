@@ -19,6 +19,8 @@ use Rattle.tree_read.specs.Items.{NamesFrom, ShowsFrom}
 use Rattle.tree_read.specs.Order.{IsKept}
 use Rattle.tree_read.specs.Walked as walk
 use Rattle.tree_read.specs.Walked.{Walked}
+use Rattle.tree_read.specs.Remembered.{Memory, Recalls}
+use Rattle.tree_read.proofs.Recalling.{recalls_over}
 use Rattle.read_command.specs.Ways.{Way}
 use Rattle.read_command.specs.WayLaws.{Attributes, folder_shown, leaf_shown, names_way, shown_folder, shown_leaf, tree_way, way_more, way_names}
 
@@ -101,6 +103,10 @@ module _ (S T : Store) (more : (name : ObjName) (b : List ℕ) → S name b → 
   shows_from_up (Folder tree meta) rest n shown = shows_up S T more tree meta rest n shown
   shows_from_up (AttributesOf meta) rest n shown = (shown.0, shown.1, meta_up meta shown.1 shown.2, shown.3)
   shows_from_up (File sum) rest n shown = shown
+
+  pub recalls_up : (tree meta : List ℕ) (m : Memory) → Recalls S content tree meta m → Recalls T content tree meta m
+  recalls_up tree meta = recalls_over S T content tree meta (λ sum e n has. entries_up sum e has) (λ sum a n has. meta_up sum a has) (λ sum n has. has_up S T more content (name_of kind.File sum) has)
+      (λ o n. (n.0, names_up tree meta n.0 o n.1))
 
   waits_up : (items : List Item) (p : Path) (o : ObjName) → walk.Waits S content items p o → walk.Waits T content items p o
   waits_up items p o w = record { item = w.item; among = w.among; names = record { rest = w.names.rest; below = w.names.below; names = names_from_up w.item.named w.names.rest o w.names.names } }

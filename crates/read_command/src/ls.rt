@@ -1,9 +1,9 @@
 //! `ls` reads the whole tree, and lists a part of it.
-ghost use Rattle.std.specs.Prelude.{◌≡◌, ◌≤◌, Some, None, [], false, IfOk, IfErr, OnErr};
+ghost use Rattle.std.specs.Prelude.{◌≡◌, ◌≤◌, Some, None, IfOk, IfErr, OnErr};
 ghost use Rattle.fs_trait.specs.View.{View};
 ghost use Rattle.fs_trait.specs.Effect.{HasCause, IsQuiet, OfNone};
 ghost use Rattle.repo_model.specs.Objects.{Stores};
-ghost use Rattle.tree_read.specs.Reading.{left_of};
+ghost use Rattle.tree_read.specs.Reading.{left_of, unread};
 ghost use Rattle.read_command.specs.LsSteps.{IsListed, IsLsStepped, LsKnows, LsTells};
 
 use crate::ReadAnswer;
@@ -23,7 +23,7 @@ pub struct Ls {
 
 impl Ls {
     pub(crate) fn new(alloc: Global, limits: Limits, commit: Csum, path: FsPath) -> Ls
-        ensures { result ≡ record { alloc = alloc; path = path; task = record { commit = commit; limits = limits; begun = false; pending = []; found = [] } } }
+        ensures { result ≡ record { alloc = alloc; path = path; task = unread commit limits } }
     {
         Ls {
             alloc,

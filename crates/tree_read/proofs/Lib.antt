@@ -5,6 +5,8 @@ mod Shorts
 pub mod Walk
 pub mod Lines
 pub mod Stops
+pub mod Recalling
+pub mod TreeStores
 pub mod Steps
 pub mod Openings
 pub mod Telling

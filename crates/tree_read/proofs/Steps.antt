@@ -11,6 +11,7 @@ use Rattle.ost_types.specs.declared.object.ObjName.{ObjName}
 use Rattle.ost_types.specs.Path.{Path, Name, under}
 use Rattle.ost_types.specs.PathMap.{Nodes, IsAscending, paths_of}
 use Rattle.ost_forms.specs.Commit.{CommitParts}
+use Rattle.ost_forms.specs.declared.dirtree.DirTree.{DirTree}
 use Rattle.ost_forms.specs.DirTree.{Entries}
 use Rattle.ost_forms.specs.declared.entry.FileItem.{FileItem}
 use Rattle.ost_forms.specs.declared.entry.FolderItem.{FolderItem}
@@ -27,10 +28,12 @@ use Rattle.tree_read.specs.Line.{InLine}
 use Rattle.tree_read.specs.Looks.{IsAbsent, IsDamaged}
 use Rattle.tree_read.specs.Order.{IsShort, HasName, NamesFar, IsKept, IsOwner, StopsAt, AbsentIn, DamagedIn}
 use Rattle.tree_read.specs.Reading.{Reading, Knows, Lists, IsFar, begun_at, weight, weight_of, left_of}
+use Rattle.tree_read.specs.Remembered.{GainsFile, GainsMeta, GainsTree, IsNamed, Memory, Recalls, entries_in}
 use Rattle.tree_read.specs.Whole.{IsTree, ReadsTree}
 use Rattle.tree_read.specs.Walked.{Walked}
 use Rattle.tree_read.proofs.Lines.{may_push, line_taken, line_opened, line_begins, both, back, paths_push}
 use Rattle.tree_read.proofs.Merged.{only}
+use Rattle.tree_read.proofs.Recalling.{recalls_file, recalls_meta, recalls_nothing, recalls_tree}
 use Rattle.tree_read.proofs.Stops.{first_of, each_of, next_named, stops, too_many}
 use Rattle.tree_read.proofs.Walk.{Replaces, walked_on, walked_all, kept_all, walked_none, file_replaces, attributes_replaces, folder_replaces, mapped, unmapped, entries_one, meta_one, commit_of_map}
 
@@ -39,11 +42,11 @@ use Rattle.tree_read.proofs.Walk.{Replaces, walked_on, walked_all, kept_all, wal
 abbrev pub at_item : Path → Named → List ℕ → Item
 at_item path named owner = record { path = path; named = named; owner = owner }
 
-abbrev pub after_take : Reading → List Item → Path → NodeName → Reading
-after_take t items path n = record { commit = t.commit; limits = t.limits; begun = t.begun; pending = items; found = t.found ++ (path, n) ∷ [] }
+abbrev pub after_take : Reading → List Item → Path → NodeName → Memory → Reading
+after_take t items path n m = record { commit = t.commit; limits = t.limits; begun = t.begun; pending = items; found = t.found ++ (path, n) ∷ []; remembered = m }
 
-abbrev pub after_open : Reading → List Item → List Item → Reading
-after_open t items below = record { commit = t.commit; limits = t.limits; begun = t.begun; pending = items ++ below; found = t.found }
+abbrev pub after_open : Reading → List Item → List Item → Memory → Reading
+after_open t items below m = record { commit = t.commit; limits = t.limits; begun = t.begun; pending = items ++ below; found = t.found; remembered = m }
 
 paths_length : (found : Nodes) → length (paths_of found) ≡ length found
 paths_length [] = refl
@@ -69,6 +72,9 @@ module _ (S : Store) (one_each : IsMap S) (d : Disk) (t : Reading) (items : List
   next_owned : IsOwner S t.limits.content k.parts.tree k.parts.meta next.path (name_of kind.DirTree next.owner)
   next_owned = k.owned next (in_pending next (Contains-append_right items (next ∷ []) next (Contains-push [] next)))
 
+  next_object : (o : ObjName) → o ≡ first_of next.named → IsNamed S k.parts.tree k.parts.meta o
+  next_object o is = (next.path, subst (Names S k.parts.tree k.parts.meta next.path) (sym is) (next_named S t.limits.content k.parts.tree k.parts.meta t.found items next walked line))
+
   -- reading stops at it
   pub stops_here : (Wrong : Path → Type 0) → length t.found < t.limits.paths → Wrong next.path → StopsAt S t.limits k.parts.tree k.parts.meta (first_of next.named) Wrong
   stops_here Wrong room wrong = stops S t.limits k.parts.tree k.parts.meta t.found items next walked line k.ascending Wrong (omega (arith, room, paths_length t.found)) wrong
@@ -88,8 +94,8 @@ module _ (S : Store) (one_each : IsMap S) (d : Disk) (t : Reading) (items : List
       inr (too_many S t.limits k.parts.tree k.parts.meta t.found items next walked line k.ascending (name_of kind.DirTree next.owner) next_owned (omega (arith, full, k.few, paths_length t.found)))
 
   -- its path was found
-  module _ (n : NodeName) (room : length t.found < t.limits.paths) (r : Replaces S t.limits.content next ((next.path, n) ∷ []) []) where
-    pub takes_on : Knows S (after_take t items next.path n)
+  module _ (n : NodeName) (m : Memory) (room : length t.found < t.limits.paths) (r : Replaces S t.limits.content next ((next.path, n) ∷ []) []) (recalls : Recalls S t.limits.content k.parts.tree k.parts.meta m) where
+    takes_on : Knows S (after_take t items next.path n m)
     takes_on = record {
       parts = k.parts;
       has = k.has;
@@ -100,15 +106,19 @@ module _ (S : Store) (one_each : IsMap S) (d : Disk) (t : Reading) (items : List
       ascending = subst IsAscending (sym (paths_push t.found next.path n)) (may_push t.found items next k.ascending line);
       short = subst (AllByRecursion IsShort) (sym (paths_push t.found next.path n)) (both IsShort (paths_of t.found) (next.path ∷ []) k.short (next_short, tt));
       few = omega (arith, room, length-append t.found ((next.path, n) ∷ []));
+      recalls = recalls;
     }
 
-  pub takes_file : (sum : List ℕ) → next.named ≡ File sum → length t.found < t.limits.paths → Has S t.limits.content (name_of kind.File sum) → Knows S (after_take t items next.path (node.Leaf sum))
-  takes_file sum is room has = takes_on (node.Leaf sum) room (file_replaces S t.limits.content next sum is has)
+  pub takes_file : (sum : List ℕ) (new : Memory) → next.named ≡ File sum → length t.found < t.limits.paths → Has S t.limits.content (name_of kind.File sum) → GainsFile t.remembered new sum → Knows S (after_take t items next.path (node.Leaf sum) new)
+  takes_file sum new is room has gains =
+      takes_on (node.Leaf sum) new room (file_replaces S t.limits.content next sum is has)
+      (recalls_file S t.limits.content k.parts.tree k.parts.meta t.remembered new k.recalls sum gains has (next_object (name_of kind.File sum) (sym (ap first_of is))))
 
-  pub takes_folder : (sum : List ℕ) (m : Meta) → next.named ≡ Attributes sum → length t.found < t.limits.paths → HasMeta S sum m → Knows S (after_take t items next.path (node.Folder m))
-  takes_folder sum m is room has =
-      takes_on (node.Folder m) room
+  pub takes_folder : (sum : List ℕ) (m : Meta) (new : Memory) → next.named ≡ Attributes sum → length t.found < t.limits.paths → HasMeta S sum m → GainsMeta t.remembered new sum m → Knows S (after_take t items next.path (node.Folder m) new)
+  takes_folder sum m new is room has gains =
+      takes_on (node.Folder m) new room
       (attributes_replaces S t.limits.content next sum m is has (λ x other. meta_one S one_each sum x m other has) (record { bytes = has.bytes; stored = has.stored; formed = ∣ (m, has.reads) ∣₁ }))
+      (recalls_meta S t.limits.content k.parts.tree k.parts.meta t.remembered new k.recalls sum m gains has (next_object (name_of kind.DirMeta sum) (sym (ap first_of is))))
 
   -- its entries were read
   module _ (tree meta : List ℕ) (is : next.named ≡ Folder tree meta) (e : Entries) (has : HasEntries S tree e) where
@@ -135,7 +145,7 @@ module _ (S : Store) (one_each : IsMap S) (d : Disk) (t : Reading) (items : List
           subst (λ (o : ObjName). NamesFar S o.csum next.path) (sym first) (record { entries = e; has = has; name = f.child.name; there = child_there f.child f.is; far = f.far }),
         ))))
 
-    module _ (owner : List ℕ) (owned : next.owner ≡ owner) (below : List Item) (l : Lists next.path owner tree meta e below) where
+    module _ (owner : List ℕ) (owned : next.owner ≡ owner) (below : List Item) (l : Lists next.path owner tree meta e below) (m : Memory) (recalls : Recalls S t.limits.content k.parts.tree k.parts.meta m) where
       itself : Item
       itself = at_item next.path (Attributes meta) owner
 
@@ -176,7 +186,7 @@ module _ (S : Store) (one_each : IsMap S) (d : Disk) (t : Reading) (items : List
       all_owned i (inl h) = k.owned i (in_pending i (Contains-append_left items (next ∷ []) i h))
       all_owned i (inr h) = new_owned i (Contains-append_cases (map (item_of next.path tree) l.children) (itself ∷ []) i h)
 
-      opened_new : Knows S (after_open t items new)
+      opened_new : Knows S (after_open t items new m)
       unfolding new itself
       opened_new = record {
         parts = k.parts;
@@ -189,11 +199,18 @@ module _ (S : Store) (one_each : IsMap S) (d : Disk) (t : Reading) (items : List
         ascending = k.ascending;
         short = k.short;
         few = k.few;
+        recalls = recalls;
       }
 
-      pub opened_on : Knows S (after_open t items below)
+      opened_known : Knows S (after_open t items below m)
       unfolding new itself
-      opened_on = subst (λ b. Knows S (after_open t items b)) (sym l.items_are) opened_new
+      opened_known = subst (λ b. Knows S (after_open t items b m)) (sym l.items_are) opened_new
+
+  pub opened_on : (tree meta : List ℕ) → next.named ≡ Folder tree meta → (x : DirTree) → HasEntries S tree (entries_in x) → (owner : List ℕ) → next.owner ≡ owner → (below : List Item) → Lists next.path owner tree meta (entries_in x) below
+      → (m : Memory) → GainsTree t.remembered m tree x → Knows S (after_open t items below m)
+  opened_on tree meta is x has owner owned below l m gains =
+      opened_known tree meta is (entries_in x) has owner owned below l m
+      (recalls_tree S t.limits.content k.parts.tree k.parts.meta t.remembered m k.recalls tree x gains has (next_object (name_of kind.DirTree tree) (sym (ap first_of is))))
 
 -- the line alone, without a disk
 pub line_open : (found : Nodes) (items : List Item) (next : Item) (tree meta owner : List ℕ) (e : Entries) (below : List Item) → next.named ≡ Folder tree meta → InLine found (items ++ next ∷ [])
@@ -221,6 +238,7 @@ begun_on S t parts tree meta has is_tree is_meta =
       ascending = none_ascend;
       short = tt;
       few = omega arith;
+      recalls = recalls_nothing S t.limits.content parts.tree parts.meta;
     }
 
 pub whole_in : (S : Store) → IsMap S → (t : Reading) → Knows S t → t.pending ≡ [] → Complete S t.limits t.commit × IsTree S t.commit t.found
@@ -266,15 +284,15 @@ weight_little [] = omega arith
 weight_little (x ∷ []) = weighs_little x.named
 weight_little (x ∷ y ∷ items) = weight_little (y ∷ items)
 
-pub falls_taken : (t : Reading) (items : List Item) (path : Path) (n : NodeName) → t.begun ≡ true → length t.found < t.limits.paths → left_of (after_take t items path n) < left_of t
-falls_taken t items path n begun room =
+pub falls_taken : (t : Reading) (items : List Item) (path : Path) (n : NodeName) (m : Memory) → t.begun ≡ true → length t.found < t.limits.paths → left_of (after_take t items path n m) < left_of t
+falls_taken t items path n m begun room =
     let more = length-append t.found ((path, n) ∷ []) in
     let little = weight_little items in
     rw begun (omega (arith, more, little, room))
 
-pub falls_opened : (t : Reading) (items below : List Item) (path : Path) (tree meta owner : List ℕ) (e : Entries) → t.begun ≡ true → t.pending ≡ items ++ at_item path (Folder tree meta) owner ∷ []
-    → Lists path owner tree meta e below → left_of (after_open t items below) < left_of t
-falls_opened t items below path tree meta owner e begun cut l =
+pub falls_opened : (t : Reading) (items below : List Item) (path : Path) (tree meta owner : List ℕ) (e : Entries) (m : Memory) → t.begun ≡ true → t.pending ≡ items ++ at_item path (Folder tree meta) owner ∷ []
+    → Lists path owner tree meta e below → left_of (after_open t items below m) < left_of t
+falls_opened t items below path tree meta owner e m begun cut l =
     let was : weight t.pending ≡ 1 = ap weight cut ∙ weight_last items (at_item path (Folder tree meta) owner) in
     let first = map (item_of path tree) l.children in
     let is : weight (items ++ below) ≡ 0 =

@@ -6,4 +6,6 @@ pub mod Order
 pub mod Line
 pub mod Walked
 pub mod Whole
+pub mod Remembered
+pub mod TreeStore
 pub mod Reading

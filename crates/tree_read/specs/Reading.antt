@@ -8,6 +8,7 @@ use Rattle.ost_types.specs.declared.object.Kind.TheVariants as kind
 use Rattle.ost_types.specs.Path.{Path, under}
 use Rattle.ost_types.specs.PathMap.{Nodes, IsAscending, paths_of}
 use Rattle.ost_forms.specs.Commit.{CommitParts}
+use Rattle.ost_forms.specs.declared.dirtree.DirTree.{DirTree}
 use Rattle.ost_forms.specs.DirTree.{Entries}
 use Rattle.fs_trait.specs.declared.types.FsErr.{FsErr}
 use Rattle.fs_trait.specs.declared.task.StepResult.{StepResult}
@@ -25,6 +26,7 @@ use Rattle.tree_read.specs.Children.{Child, IsChild, AreChildren, item_of}
 use Rattle.tree_read.specs.Line.{InLine}
 use Rattle.tree_read.specs.Walked.{Walked}
 use Rattle.tree_read.specs.Looks.{IsAbsent, IsDamaged}
+use Rattle.tree_read.specs.Remembered.{GainsTree, Memory, Recalls, entries_in, nothing}
 use Rattle.tree_read.specs.Order.{AbsentIn, DamagedIn, IsOwner, IsShort}
 use Rattle.tree_read.specs.Whole.{AtCommitIn}
 
@@ -36,8 +38,14 @@ pub record Reading : Type 0 where
   -- what wasn't read yet, the next of it last
   pub pending : List Item
   pub found : Nodes
+  pub remembered : Memory
 
--- What was found and what waits make up the tree that the store has, and what was found comes before all that waits.
+-- before the commit was read
+abbrev pub unread : List ℕ → Limits → Reading
+unread commit limits = record { commit = commit; limits = limits; begun = false; pending = []; found = []; remembered = nothing }
+
+-- What was found and what waits make up the tree that the store has, and what was found comes before all that waits. What is
+-- remembered is what the store has.
 pub record Knows (S : Store) (t : Reading) : Type 0 where
   pub parts : CommitParts
   pub has : HasCommit S t.commit parts
@@ -47,6 +55,7 @@ pub record Knows (S : Store) (t : Reading) : Type 0 where
   pub ascending : IsAscending (paths_of t.found)
   pub short : AllByRecursion IsShort (paths_of t.found)
   pub few : length t.found ≤ t.limits.paths
+  pub recalls : Recalls S t.limits.content parts.tree parts.meta t.remembered
 
 abbrev pub IsSoFar : Store → Reading → Type 0
 IsSoFar S t = t.begun ≡ true → Knows S t
@@ -101,17 +110,21 @@ pub record IsNext (t : Reading) (named : Named) (owner : List ℕ) : Type 0 wher
   pub begun : t.begun ≡ true
   pub room : length t.found < t.limits.paths
 
--- its path was found to show the node
-abbrev pub Takes : Reading → NodeName → Reading → Type 0
-Takes old n new =
+-- the same with another memory
+abbrev pub with_memory : Reading → Memory → Reading
+with_memory t m = record t { remembered = m }
+
+-- its path was found to show the node, and this is remembered now
+abbrev pub Takes : Reading → NodeName → Memory → Reading → Type 0
+Takes old n m new =
     (items : List Item) (next : Item) → old.pending ≡ items ++ next ∷ []
-    → new ≡ record { commit = old.commit; limits = old.limits; begun = old.begun; pending = items; found = old.found ++ (next.path, n) ∷ [] }
+    → new ≡ record { commit = old.commit; limits = old.limits; begun = old.begun; pending = items; found = old.found ++ (next.path, n) ∷ []; remembered = m }
 
 -- these items came in its place
-abbrev pub Opens : Reading → List Item → Reading → Type 0
-Opens old below new =
+abbrev pub Opens : Reading → List Item → Memory → Reading → Type 0
+Opens old below m new =
     (items : List Item) (next : Item) → old.pending ≡ items ++ next ∷ []
-    → new ≡ record { commit = old.commit; limits = old.limits; begun = old.begun; pending = items ++ below; found = old.found }
+    → new ≡ record { commit = old.commit; limits = old.limits; begun = old.begun; pending = items ++ below; found = old.found; remembered = m }
 
 -- these items may come in its place
 pub record Fits (t : Reading) (below : List Item) : Type 0 where
@@ -122,7 +135,7 @@ pub record Fits (t : Reading) (below : List Item) : Type 0 where
 
 -- the root, once the commit was read
 abbrev pub begun_at : Reading → List ℕ → List ℕ → Reading
-begun_at old tree meta = record { commit = old.commit; limits = old.limits; begun = true; pending = record { path = []; named = Folder tree meta; owner = tree } ∷ []; found = [] }
+begun_at old tree meta = record { commit = old.commit; limits = old.limits; begun = true; pending = record { path = []; named = Folder tree meta; owner = tree } ∷ []; found = []; remembered = nothing }
 
 -- The items are those of the entries of a folder at the path, and its attributes.
 pub record Lists (at : Path) (owner tree meta : List ℕ) (e : Entries) (items : List Item) : Type 0 where
@@ -148,14 +161,15 @@ ListsBelow t owner tree meta e below = (items : List Item) (next : Item) → t.p
 abbrev pub IsFarBelow : Reading → Entries → Type 0
 IsFarBelow t e = (items : List Item) (next : Item) → t.pending ≡ items ++ next ∷ [] → IsFar next.path e
 
-pub record OpensAt (old : Reading) (owner tree meta : List ℕ) (e : Entries) (new : Reading) : Type 0 where
+pub record OpensAt (old : Reading) (owner tree meta : List ℕ) (t : DirTree) (new : Reading) : Type 0 where
   pub below : List Item
-  pub lists : ListsBelow old owner tree meta e below
-  pub opens : Opens old below new
+  pub lists : ListsBelow old owner tree meta (entries_in t) below
+  pub opens : Opens old below new.remembered new
+  pub gains : GainsTree old.remembered new.remembered tree t
 
 -- Each answer of opening the next item, a folder with these entries.
-abbrev pub IsOpened : Reading → List ℕ → List ℕ → List ℕ → Entries → Result (StepResult (Result (Unit {0}) TreeFault)) NoMemory → Reading → Type 0
-IsOpened old owner tree meta e (Ok turn.More) new = OpensAt old owner tree meta e new
-IsOpened old owner tree meta e (Ok (turn.Done (Err (fault.Damaged o)))) new = (new ≡ old) × (o ≡ name_of kind.DirTree tree) × IsFarBelow old e
-IsOpened old owner tree meta e (Ok r) new = ⊥
-IsOpened old owner tree meta e (Err none) new = new ≡ old
+abbrev pub IsOpened : Reading → List ℕ → List ℕ → List ℕ → DirTree → Result (StepResult (Result (Unit {0}) TreeFault)) NoMemory → Reading → Type 0
+IsOpened old owner tree meta t (Ok turn.More) new = OpensAt old owner tree meta t new
+IsOpened old owner tree meta t (Ok (turn.Done (Err (fault.Damaged o)))) new = (new ≡ old) × (o ≡ name_of kind.DirTree tree) × IsFarBelow old (entries_in t)
+IsOpened old owner tree meta t (Ok r) new = ⊥
+IsOpened old owner tree meta t (Err none) new = new ≡ old

@@ -1,5 +1,5 @@
 -- Two stores with the same folders and commits: what is known of a walk by the one is known by the other, where that has the files.
-use Rattle.std.proofs.Common.{◌≡◌, ◌⊎◌, inl, inr, ⊎_elim, ℕ, List, [], ◌∷◌, sym, subst}
+use Rattle.std.proofs.Common.{◌≡◌, inl, inr, ⊎_elim, ℕ, List, [], ◌∷◌, sym, subst}
 use Rattle.ost_types.specs.declared.limits.Limits.{Limits}
 use Rattle.ost_types.specs.declared.meta.Meta.{Meta}
 use Rattle.ost_types.specs.declared.node.NodeName.{NodeName}
@@ -19,8 +19,10 @@ use Rattle.tree_read.specs.declared.item.Named.TheVariants.{Folder, Attributes, 
 use Rattle.tree_read.specs.Items.{NamesFrom, ShowsFrom}
 use Rattle.tree_read.specs.Order.{ArePathsBefore, HasTooMany, IsKept, IsMet, IsOwner, NamesFar, StopsAt}
 use Rattle.tree_read.specs.Reading.{Knows, Reading}
+use Rattle.tree_read.specs.Remembered.{Memory, Recalls}
 use Rattle.tree_read.specs.Walked as walk
 use Rattle.tree_read.specs.Walked.{Walked}
+use Rattle.tree_read.proofs.Recalling.{recalls_over}
 
 -- an object that is no file's
 abbrev pub IsFolderish : ObjName → Type 0
@@ -117,6 +119,10 @@ module _ (S T : Store) (more : HasFolders S T) (less : HasFolders T S) (limits :
       met = λ p o names. ⊎_elim (λ h. inl h) (λ m. inr (record { object = m.object; waits = waits_up S T more content items p m.object m.waits })) (w.met p o (down p o names));
     }
 
+    recalls_up : (m : Memory) → Recalls S content tree meta m → Recalls T content tree meta m
+    recalls_up = recalls_over S T content tree meta (λ sum e n has. entries_up S T more sum e has) (λ sum a n has. meta_up S T more sum a has) (λ sum n has. files sum has)
+        (λ o n. (n.0, names_up S T more tree meta n.0 o n.1))
+
     met_up : (p : Path) → IsMet S content tree meta p → IsMet T content tree meta p
     met_up p m = (m.0, names_up S T more tree meta p m.0 m.1)
 
@@ -160,6 +166,8 @@ module _ (S T : Store) (more : HasFolders S T) (less : HasFolders T S) (limits :
     ascending = k.ascending;
     short = k.short;
     few = k.few;
+    recalls = subst (λ (l : Limits). Recalls T l.content k.parts.tree k.parts.meta t.remembered) (sym within)
+        (recalls_up k.parts.tree k.parts.meta t.remembered (subst (λ (l : Limits). Recalls S l.content k.parts.tree k.parts.meta t.remembered) within k.recalls));
   }
 
   pub complete_up : (commit : List ℕ) → Complete S limits commit → Complete T limits commit

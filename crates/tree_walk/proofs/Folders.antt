@@ -1,5 +1,5 @@
 -- A folder in a file's place is damage.
-use Rattle.std.proofs.Common.{◌≡◌, ◌+◌, ◌^◌, inl, ℕ, Bool, true, false, List, [], ◌∷◌, ◌++◌, length, Some, None, if◌then◌else◌, refl, sym, ◌∙◌, ap, arith}
+use Rattle.std.proofs.Common.{◌≡◌, ◌^◌, inl, ℕ, Bool, true, false, List, [], ◌∷◌, ◌++◌, length, Some, None, if◌then◌else◌, refl, sym, ◌∙◌, ap, arith}
 use Rattle.std.specs.Prelude.{nat_lt}
 use Rattle.std.specs.Int.{w32, to_be_bytes}
 use Rattle.gv_core.proofs.Sizes.{bind_some}
