@@ -1,0 +1,18 @@
+//! The tasks of a repository, each stepped over a disk whose calls are counted.
+#![tactic(auto)]
+
+mod bench;
+mod disk;
+mod files;
+mod prunes;
+mod puts;
+mod refs;
+mod report;
+mod stop;
+mod swaps;
+mod tasks;
+mod work;
+
+pub use report::Report;
+pub use stop::Stop;
+pub use tasks::step_tasks;
