@@ -1,16 +1,23 @@
 # make          proves and builds the program, and leaves it at build/ostree_cli
 # make check    the gate: every proof, edit, test and stored run
 # make demo     builds if need be, and runs the program in a fresh folder
-# make install  copies the program, its man page and its completions below $(PREFIX)
+# make native   proves and builds the program on the machine's own files, and leaves it at build/ostree_native
+# make install  copies the program, its man page and its completions below $(PREFIX), and those of ostree_native where that is built
 PREFIX ?= /usr/local
 MAN_PAGES = $(PREFIX)/share/man/man1
 BASH_COMPLETIONS = $(PREFIX)/share/bash-completion/completions
 ZSH_COMPLETIONS = $(PREFIX)/share/zsh/site-functions
 PROGRAM = build/ostree_cli
+NATIVE = build/ostree_native
 SOURCES = crates.txt HANDLES $(shell find crates -path '*/out' -prune -o -type f -print)
 
 $(PROGRAM): $(SOURCES)
 	tools/build.py
+
+$(NATIVE): $(SOURCES)
+	tools/build.py ostree_native
+
+native: $(NATIVE)
 
 check:
 	@echo "Proves every crate and every test, tries each edit and runs each program, all from nothing: some 80 minutes on four processors, two and a half hours on two (docs/gate.md)."
@@ -28,8 +35,13 @@ install: $(PROGRAM)
 	cp man/ostree_cli.1 "$(MAN_PAGES)/ostree_cli.1"
 	cp completion/ostree_cli.bash "$(BASH_COMPLETIONS)/ostree_cli"
 	cp completion/_ostree_cli "$(ZSH_COMPLETIONS)/_ostree_cli"
+	if [ -e $(NATIVE) ]; then \
+		cp $(NATIVE) "$(PREFIX)/bin/ostree_native" && \
+		cp man/ostree_native.1 "$(MAN_PAGES)/ostree_native.1" && \
+		cp completion/ostree_cli.bash "$(BASH_COMPLETIONS)/ostree_native"; \
+	fi
 
 clean:
 	rm -rf build crates/*/out
 
-.PHONY: check demo install clean
+.PHONY: check demo install native clean

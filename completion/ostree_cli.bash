@@ -1,4 +1,4 @@
-# bash completion of ostree_cli: commands, options, and the refs of the current folder.
+# bash completion of ostree_cli and ostree_native: commands, options, and the refs of the current folder.
 
 # The refs are looked up as files. The program itself would check the whole repository first, and meanwhile keep any other run out.
 # A name that begins with `-` stands only behind `--`, and isn't offered.
@@ -32,7 +32,7 @@ _ostree_cli() {
 	else
 		case $fields,$command in
 		0,) words='init run refs rev-parse log ls cat checkout reset drop prune' ;;
-		1,--help) words='init run commit refs rev-parse log ls cat checkout reset drop prune' ;;
+		1,--help) [[ ${COMP_WORDS[0]} == *ostree_native ]] || words='init run commit refs rev-parse log ls cat checkout reset drop prune' ;;
 		1,rev-parse | 1,log | 1,ls | 1,cat | 1,checkout | 1,reset | 1,drop) words=$(_ostree_cli_refs) ;;
 		esac
 	fi
@@ -40,4 +40,4 @@ _ostree_cli() {
 	mapfile -t COMPREPLY < <(compgen -W "$words" -- "$current")
 }
 
-complete -F _ostree_cli ostree_cli
+complete -F _ostree_cli ostree_cli ostree_native

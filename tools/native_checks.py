@@ -3,18 +3,28 @@
 
     tools/native_checks.py [WORD]...
 
-The words choose from: reads, writes, odd, rounds, lock. Without words all are done. It needs root, `ostree`, and the program at
-build/ostree_native (tools/build.py ostree_native). All is done in a fresh folder below TMPDIR. Status: 0 where all comparisons hold, else 1.
+The words choose from: reads, writes, odd, rounds, prunes, killed, system, lock. Without words all are done. It needs root, `ostree`, and the
+program at build/ostree_native (tools/build.py ostree_native), or at the path that OSTREE_NATIVE names. All is done in a fresh folder below
+TMPDIR, where /usr/share has to have room. `system` takes a tree of Debian's packages where `debootstrap` is there and its packages are
+within reach, and else one of this machine's own programs. Status: 0 where all comparisons hold, else 1.
 """
+import calendar
 import fcntl
+import hashlib
 import os
+import platform
+import random
+import re
 import shutil
+import signal
 import stat
 import subprocess
 import sys
 import tempfile
+import time
 
-PROGRAM = os.path.join(os.getcwd(), "build", "ostree_native")
+PROGRAM = os.environ.get("OSTREE_NATIVE") or os.path.join(os.getcwd(), "build", "ostree_native")
+COMMIT = ["commit", "--no-xattrs", "--no-bindings"]
 
 
 class Fault(Exception):
@@ -47,19 +57,27 @@ def new_folder(room, name):
     return folder
 
 
+def sum_of(path):
+    """The SHA-256 of a file's bytes."""
+    it = hashlib.sha256()
+    with open(path, "rb") as opened:
+        while part := opened.read(1 << 20):
+            it.update(part)
+    return it.hexdigest()
+
+
 def nodes_in(top):
-    """Each node below a folder, with what makes it: kind, owner, group, permissions, bytes or target."""
+    """Each node below a folder, with what makes it: kind, owner, group, permissions, the sum of its bytes, or its target."""
     found = {}
     for at, folders, files in os.walk(top):
         for name in [""] + files + [it for it in folders if os.path.islink(os.path.join(at, it))]:
             path = os.path.join(at, name) if name else at
             it = os.lstat(path)
-            held = b""
+            held = ""
             if stat.S_ISLNK(it.st_mode):
-                held = os.fsencode(os.readlink(path))
+                held = os.readlink(path)
             elif stat.S_ISREG(it.st_mode):
-                with open(path, "rb") as opened:
-                    held = opened.read()
+                held = sum_of(path)
             found[os.path.relpath(path, top)] = (it.st_mode, it.st_uid, it.st_gid, held)
     return found
 
@@ -75,7 +93,7 @@ def odd_tree(folder):
     os.mkdir(folder)
     os.mkdir(f"{folder}/sticky")
     os.mkdir(f"{folder}/group")
-    for name, mode, owner in (("set-id", 0o6755, (0, 0)), ("none", 0, (0, 0)), ("other", 0o640, (1234, 4321)), ("n" * 255, 0o644, (0, 0)), ("empty", 0o4711, (7, 8))):
+    for name, mode, owner in (("set-id", 0o6755, (0, 0)), ("set-user", 0o4755, (0, 0)), ("none", 0, (0, 0)), ("other", 0o640, (1234, 4321)), ("n" * 255, 0o644, (0, 0)), ("empty", 0o4711, (7, 8))):
         with open(f"{folder}/{name}", "w", encoding="utf-8") as it:
             it.write("" if name == "empty" else f"what {name} holds\n")
         os.chown(f"{folder}/{name}", *owner)
@@ -93,23 +111,94 @@ def init(folder):
     theirs(folder, "init", "--mode=bare")
 
 
+def bytes_of(field):
+    """What a field of a reply says."""
+    return b"" if field == "~" else re.sub(rb"%(..)", lambda it: bytes.fromhex(it[1].decode()), field.encode())
+
+
+def rows_of(reply):
+    """The lines of a reply that lists, each as its fields."""
+    first, *rows = reply.splitlines()
+    holds(first == f"0 0 ok {len(rows)}", f"a list: {first}")
+    return [row.split() for row in rows]
+
+
+def own_log(folder, rev):
+    """Each commit's sum, time and subject."""
+    return [(sum_, int(time_), bytes_of(subject).decode()) for sum_, time_, subject in rows_of(ours(folder, "log", rev))]
+
+
+def their_log(folder, rev):
+    """The same as `ostree` tells it."""
+    told = []
+    for text in re.split("^commit ", theirs(folder, "log", rev), flags=re.MULTILINE)[1:]:
+        head, _, body = text.partition("\n\n")
+        date = re.search(r"^Date: +(.*) \+0000$", head, re.MULTILINE)[1]
+        subject = "" if "(no subject)" in head else body.splitlines()[0].strip()
+        told.append((head.split()[0], calendar.timegm(time.strptime(date, "%Y-%m-%d %H:%M:%S")), subject))
+    return told
+
+
+def own_nodes(folder, rev):
+    """Each path of a commit: a folder's owner, group and mode, and a leaf's sum."""
+    nodes = {}
+    for kind, *words in rows_of(ours(folder, "ls", rev, "/")):
+        nodes[bytes_of(words[-1])] = tuple(words[:-1]) if kind == "folder" else words[0]
+    return nodes
+
+
+def their_nodes(folder, rev):
+    """The same as `ostree` tells it."""
+    nodes = {}
+    for line in ran(["ostree", "--repo=ostree/repo", "ls", "-R", "-C", rev], folder).split(b"\n")[:-1]:
+        mode, owner, group, _, rest = line.split(None, 4)
+        if mode[:1] == b"d":
+            path = rest.split(b" ", 2)[2]
+            nodes[path] = (owner.decode(), group.decode(), f"{int(mode[1:], 8):o}")
+        else:
+            sum_, path = rest.split(b" ", 1)
+            nodes[path.split(b" -> ")[0] if mode[:1] == b"l" else path] = sum_.decode()
+    return nodes
+
+
+def same_bytes(folder, rev, top):
+    """Compares some files by `cat`, all of ours in one run."""
+    files = sorted(path for path, node in nodes_in(top).items() if stat.S_ISREG(node[0]) and os.path.getsize(f"{top}/{path}") < 1 << 20)
+    paths = files[:: max(1, len(files) // 20)][:64]
+    lane = [f"cat {rev} /{spelled(path)}" for path in paths]
+    said = ours(folder, "run", text="\n".join(["ostree-script 1", "lane", *lane, "end", ""]).encode()).splitlines()
+    holds(len(said) == len(paths), "cat")
+    for number, path in enumerate(paths):
+        first, content = said[number].rsplit(" ", 1)
+        holds(first == f"0 {number} ok", f"cat of {path}: {first}")
+        holds(bytes_of(content) == ran(["ostree", "--repo=ostree/repo", "cat", rev, "/" + path], folder), f"cat of {path}")
+
+
+def spelled(text):
+    """A text as a field."""
+    return "".join(chr(byte) if 0x21 <= byte < 0x7F and byte != 0x25 else f"%{byte:02x}" for byte in os.fsencode(text))
+
+
 def check_reads(room):
     """What ostree commits is read by ours."""
     folder = new_folder(room, "reads")
     init(folder)
-    for count, source in enumerate(it for it in ("/etc", "/usr/share/doc/apt", "/usr/share/base-files") if os.path.isdir(it)):
-        sum_ = theirs(folder, "commit", "--no-xattrs", "--no-bindings", "-b", "os/main", "-s", f"commit{count}", source).strip()
+    for count, source in enumerate(("/etc", "/usr/share")):
+        words = ["-b", "os/main", "-s", f"commit {count}", "-m", "body", f"--timestamp=@{1700000000 + count}", source]
+        sum_ = theirs(folder, *COMMIT, *words).strip()
+        holds(ours(folder, "init") == "", "init")
         holds(ours(folder, "rev-parse", "os/main") == f"0 0 ok {sum_}\n", "rev-parse")
-        log = ours(folder, "log", "os/main").splitlines()
-        wanted = [line.split()[1] for line in theirs(folder, "log", "os/main").splitlines() if line.startswith("commit ")]
-        holds([line.split()[0] for line in log[1:]] == wanted, "log")
-        rows = ours(folder, "ls", "os/main", "/").splitlines()[1:]
-        holds(len(rows) == len(theirs(folder, "ls", "-R", "os/main").splitlines()), "ls")
+        log = own_log(folder, "os/main")
+        holds(log == their_log(folder, "os/main") and len(log) == count + 1, "log")
+        nodes = own_nodes(folder, "os/main")
+        holds(nodes == their_nodes(folder, "os/main"), "ls")
         ours(folder, "checkout", "os/main", f"ours{count}")
         theirs(folder, "checkout", "-H", "os/main", f"theirs{count}")
         same_trees(f"{folder}/checkout/ours{count}", f"{folder}/theirs{count}", f"checkout of {source}")
+        same_bytes(folder, "os/main", f"{folder}/theirs{count}")
+        print(f"reads: of {source}, {len(nodes):,} nodes: init, rev-parse, log, ls, cat and checkout are as ostree has them")
     theirs(folder, "fsck")
-    print("reads: log, ls and checkouts are those of ostree, and fsck finds nothing")
+    shutil.rmtree(folder)
 
 
 def check_writes(room):
@@ -132,16 +221,18 @@ end
 """
     sum_ = ours(folder, "run", text=script).split()[3]
     holds(theirs(folder, "rev-parse", "os/main").strip() == sum_, "rev-parse")
-    # Ours doesn't lay this folder out, and the fsck of ostree wants it.
-    os.makedirs(f"{folder}/ostree/repo/refs/remotes", exist_ok=True)
     theirs(folder, "fsck")
     shown = theirs(folder, "show", "os/main")
     holds("first" in shown and "body" in shown, "show")
     theirs(folder, "checkout", "-H", "os/main", "theirs")
     ours(folder, "checkout", "os/main", "ours")
     same_trees(f"{folder}/checkout/ours", f"{folder}/theirs", "checkout of a script's tree")
-    again = theirs(folder, "commit", "--no-xattrs", "--no-bindings", "-b", "os/again", "--timestamp=@1700000000", "-s", "first", "-m", "body", "theirs").strip()
+    again = theirs(folder, *COMMIT, "-b", "os/again", "--timestamp=@1700000000", "-s", "first", "-m", "body", "theirs").strip()
     holds(theirs(folder, "diff", "os/main", "os/again") == "", "diff")
+    changed = script.replace(b"=secret%0a", b"=another").replace(b"file /etc/void 9 9 0 ~ =\n", b"file /etc/zero 9 9 0 ~ =\n")
+    ours(folder, "run", text=changed)
+    said = sorted(line.split() for line in theirs(folder, "diff", "os/main^", "os/main").splitlines())
+    holds(said == [["A", "/etc/zero"], ["D", "/etc/void"], ["M", "/etc/shadow"]], f"diff of two trees of ours: {said}")
     holds(theirs(folder, "rev-parse", "os/again").strip() == again, "rev-parse of the other")
     for path, mode in (("bin/su", 0o104755), ("etc/void", 0o100000), ("tmp", 0o041777), ("bin", 0o042755)):
         holds(os.lstat(f"{folder}/checkout/ours/{path}").st_mode == mode, f"mode of {path}")
@@ -156,9 +247,10 @@ def check_odd(room):
     folder = new_folder(room, "odd")
     init(folder)
     odd_tree(f"{folder}/source")
-    theirs(folder, "commit", "--no-xattrs", "--no-bindings", "-b", "odd", "source")
+    theirs(folder, *COMMIT, "-b", "odd", "source")
     ours(folder, "checkout", "odd", "out")
     same_trees(f"{folder}/checkout/out", f"{folder}/source", "odd nodes")
+    holds(os.lstat(f"{folder}/checkout/out/set-user").st_mode == 0o104755, "mode 4755")
     holds(ours(folder, "cat", "odd", "/other") == "0 0 ok what%20other%20holds%0a\n", "cat")
     print("odd: set-id bits, mode 0, owners, links to nowhere and long names go through both")
 
@@ -173,7 +265,7 @@ def check_rounds(room, rounds=20):
         with open(f"{folder}/source/file", "w", encoding="utf-8") as it:
             it.write(f"round {count}\n")
         if count % 2 == 0:
-            sums.append(theirs(folder, "commit", "--no-xattrs", "--no-bindings", "-b", "main", "-s", f"r{count}", "source").strip())
+            sums.append(theirs(folder, *COMMIT, "-b", "main", "-s", f"r{count}", "source").strip())
         else:
             lines = f"ostree-script 1\ntree 0\nfolder / 0 0 755 ~\nfile /file 0 0 644 ~ =round%20{count}%0a\nend\nlane\ncommit main 0 r{count} ~ {1700000000 + count}\nend\n"
             sums.append(ours(folder, "run", text=lines.encode()).split()[3])
@@ -183,6 +275,153 @@ def check_rounds(room, rounds=20):
     holds(log == sums[::-1], "log")
     theirs(folder, "fsck")
     print(f"rounds: {rounds} commits by both in turn, each the parent of the next")
+
+
+def script_of(files, *commits):
+    """A script with one tree of files, and commits of it."""
+    nodes = [f"file /{name} 0 0 644 ~ ={text}" for name, text in sorted(files.items())]
+    return "\n".join(["ostree-script 1", "tree 0", "folder / 0 0 755 ~", *nodes, "end", "lane", *commits, "end", ""]).encode()
+
+
+def objects_in(folder):
+    """The names of the objects that stand there."""
+    found = set()
+    for at, _, names in os.walk(f"{folder}/ostree/repo/objects"):
+        found.update(f"{os.path.basename(at)}{name}" for name in names)
+    return found
+
+
+def check_prunes(room):
+    """Ours and ostree leave the same objects of copies of one repository."""
+    folder = new_folder(room, "prunes")
+    init(folder)
+    os.mkdir(f"{folder}/source")
+    for count in range(12):
+        branch = ("main", "side/other", "gone")[count % 3]
+        if count < 6:
+            files = {f"f{number}": f"{number % 5}.{count}" for number in range(20)}
+            ours(folder, "run", text=script_of(files, f"commit {branch} 0 c{count} ~ {1700000000 + count}"))
+        else:
+            for number in range(20):
+                with open(f"{folder}/source/f{number}", "w", encoding="utf-8") as it:
+                    it.write(f"{number % 7}.{count}")
+            theirs(folder, *COMMIT, "-b", branch, "source")
+    ours(folder, "drop", "gone")
+    before = objects_in(folder)
+    for depth in (0, 1, 2, 9):
+        one, two = f"{folder}/ours{depth}", f"{folder}/theirs{depth}"
+        for place in (one, two):
+            os.mkdir(place)
+            ran(["cp", "-a", f"{folder}/ostree", place], folder)
+        said = ours(one, "prune", str(depth)).split()
+        theirs(two, "prune", "--refs-only", f"--depth={depth}")
+        left = objects_in(one)
+        holds(left == objects_in(two), f"prune {depth}: what is left: {sorted(left ^ objects_in(two))[:4]}")
+        holds(said == ["0", "0", "ok", str(len(left)), str(len(before) - len(left))], f"prune {depth}: {said}")
+        holds(len(left) < len(before), f"prune {depth}: nothing went")
+        for place in (one, two):
+            theirs(place, "fsck")
+            ours(place, "init")
+    print(f"prunes: of {len(before)} objects, ours leaves those that ostree leaves, at each of four depths, and fsck finds nothing")
+
+
+def mixed(chance, folder, count):
+    """A command, by its name, words and input."""
+    branch = chance.choice(["main", "other", "side/one"])
+    name = chance.choice(["commit", "commit", "commit", "reset", "drop", "checkout", "prune", "log", "ls"])
+    if name == "commit":
+        files = {f"f{number}": f"{chance.randrange(50)}.{number}" for number in range(chance.randrange(1, 40))}
+        return name, ["run"], script_of(files, f"commit {branch} 0 c{count} ~ {1700000000 + count}")
+    if name == "reset":
+        commits = [it[:-7] for it in objects_in(folder) if it.endswith(".commit")] or ["0" * 64]
+        return name, ["reset", branch, chance.choice(sorted(commits))], None
+    words = {"drop": [branch], "checkout": [branch, f"c{count}"], "prune": [str(chance.randrange(3))], "log": [branch], "ls": [branch, "/"]}
+    return name, [name, *words[name]], None
+
+
+def run_or_kill(words, folder, text, moment):
+    """Runs a command, and kills it at a moment, if one is given: its status."""
+    child = subprocess.Popen([PROGRAM, *words], cwd=folder, stdin=subprocess.PIPE, stdout=subprocess.PIPE, stderr=subprocess.PIPE)
+    if moment is None:
+        said, _ = child.communicate(text)
+        holds(child.returncode in (0, 1), f"{words}: status {child.returncode}: {said[-200:]!r}")
+        return child.returncode
+    try:
+        child.stdin.write(text or b"")
+        child.stdin.close()
+    except BrokenPipeError:
+        pass
+    time.sleep(moment)
+    child.send_signal(signal.SIGKILL)
+    child.stdout.read()
+    child.stderr.read()
+    return child.wait()
+
+
+def check_killed(room, count=1000, every=100):
+    """Mixed commands, half of which are killed at random times: ostree finds nothing wrong."""
+    folder = new_folder(room, "killed")
+    init(folder)
+    chance, seconds, statuses = random.Random(1), {}, {}
+    for number in range(count):
+        name, words, text = mixed(chance, folder, number)
+        moment = chance.uniform(0, 1.2 * seconds[name]) if name in seconds and chance.random() < 0.5 else None
+        begun = time.monotonic()
+        status = run_or_kill(words, folder, text, moment)
+        if status == 0 and moment is None:
+            seconds[name] = time.monotonic() - begun
+        statuses[status] = statuses.get(status, 0) + 1
+        if number % every == every - 1:
+            holds(ours(folder, "init") == "", "init")
+            theirs(folder, "fsck")
+            shown = {line.split()[0]: line.split()[1] for line in ours(folder, "refs").splitlines()[1:]}
+            holds(shown == {name: theirs(folder, "rev-parse", name).strip() for name in theirs(folder, "refs").split()}, "refs")
+            shutil.rmtree(f"{folder}/checkout", ignore_errors=True)
+    killed, refused = statuses.get(-signal.SIGKILL, 0), statuses.get(1, 0)
+    print(f"killed: of {count:,} commands {killed} were killed and {refused} refused; each {every} fsck found nothing, and both list the same refs")
+
+
+def this_machine(top):
+    """A tree of this machine's programs and libraries."""
+    for name in ("bin", "sbin", "lib", "lib32", "lib64", "libx32"):
+        if os.path.islink(f"/{name}"):
+            os.symlink(os.readlink(f"/{name}"), f"{top}/{name}")
+        elif os.path.isdir(f"/{name}"):
+            ran(["cp", "-a", f"/{name}", top], "/")
+    for name in ("usr/bin", "usr/sbin", "usr/lib64", "usr/lib/x86_64-linux-gnu"):
+        if os.path.isdir(f"/{name}"):
+            os.makedirs(os.path.dirname(f"{top}/{name}"), exist_ok=True)
+            ran(["cp", "-a", f"/{name}", f"{top}/{name}"], "/")
+    os.mkdir(f"{top}/etc")
+
+
+def bootstrapped(top):
+    """Debian's packages in a folder, or what this machine has: which of them."""
+    if shutil.which("debootstrap"):
+        suite = platform.freedesktop_os_release().get("VERSION_CODENAME", "stable")
+        made = subprocess.run(["debootstrap", "--variant=minbase", suite, top], capture_output=True, check=False)
+        if made.returncode == 0:
+            return f"Debian's packages ({suite})"
+        shutil.rmtree(top, ignore_errors=True)
+    os.makedirs(top)
+    this_machine(top)
+    return "this machine's programs"
+
+
+def check_system(room):
+    """Programs run in a checkout of a whole system."""
+    folder = new_folder(room, "system")
+    init(folder)
+    what = bootstrapped(f"{folder}/source")
+    # ostree has no devices, FIFOs and sockets.
+    ran(["find", "source", "!", "-type", "f", "!", "-type", "d", "!", "-type", "l", "-delete"], folder)
+    theirs(folder, *COMMIT, "-b", "debian", "source")
+    ours(folder, "checkout", "debian", "root")
+    same_trees(f"{folder}/checkout/root", f"{folder}/source", "the system")
+    ran(["chroot", "checkout/root", "/bin/true"], folder)
+    holds(ran(["chroot", "checkout/root", "/bin/sh", "-c", "echo $((6 * 7))"], folder) == b"42\n", "chroot to a shell")
+    print(f"system: /bin/true and /bin/sh run in a checkout of {what}, {len(nodes_in(folder + '/source')):,} nodes")
+    shutil.rmtree(folder)
 
 
 def check_lock(room):
@@ -204,7 +443,16 @@ def check_lock(room):
     print("lock: ours is refused while another holds the lock, and follows no link to it")
 
 
-CHECKS = {"reads": check_reads, "writes": check_writes, "odd": check_odd, "rounds": check_rounds, "lock": check_lock}
+CHECKS = {
+    "reads": check_reads,
+    "writes": check_writes,
+    "odd": check_odd,
+    "rounds": check_rounds,
+    "prunes": check_prunes,
+    "killed": check_killed,
+    "system": check_system,
+    "lock": check_lock,
+}
 
 
 def main():
@@ -212,7 +460,7 @@ def main():
     if not set(words) <= CHECKS.keys():
         sys.exit(__doc__)
     if os.geteuid() != 0 or not shutil.which("ostree") or not os.path.exists(PROGRAM):
-        sys.exit("It needs root, ostree, and build/ostree_native.")
+        sys.exit("It needs root, ostree, and the program.")
     room = tempfile.mkdtemp(prefix="native-")
     wrong = 0
     for word in words:

@@ -1,13 +1,18 @@
 //! Calls that change a file system.
 use crate::look::look;
-use crate::meta::{content, meta, path, target};
+use crate::meta::{Owner, content, meta, path, target};
 use crate::word::word;
 use fs_trait::{Fs, FsErr};
 use ost_types::{FsPath, Meta, Text, is_file_mode, is_folder_mode, is_link_mode};
 use sheet::{Fields, Stop, number, text};
 
-/// What a call of this name answers.
-pub fn call<F: Fs>(fs: &mut F, name: &str, fields: &mut Fields) -> Result<Vec<u8>, Stop> {
+/// What a call of this name answers. What it makes without an owner is this one's.
+pub fn call<F: Fs>(
+    fs: &mut F,
+    owner: Owner,
+    name: &str,
+    fields: &mut Fields,
+) -> Result<Vec<u8>, Stop> {
     match name {
         "faults" => number(fields.alloc(), fs.faults()),
         "clock" => number(fields.alloc(), fs.clock()),
@@ -21,15 +26,20 @@ pub fn call<F: Fs>(fs: &mut F, name: &str, fields: &mut Fields) -> Result<Vec<u8
         | "rmdir"
         | "sync_file"
         | "sync_dir"
-        | "sync_all" => change(fs, name, fields),
+        | "sync_all" => change(fs, owner, name, fields),
         _ => look(fs, name, fields),
     }
 }
 
 // The clock goes on with each.
-fn change<F: Fs>(fs: &mut F, name: &str, fields: &mut Fields) -> Result<Vec<u8>, Stop> {
+fn change<F: Fs>(
+    fs: &mut F,
+    owner: Owner,
+    name: &str,
+    fields: &mut Fields,
+) -> Result<Vec<u8>, Stop> {
     let before = fs.clock();
-    let answer = make(fs, name, fields)?;
+    let answer = make(fs, owner, name, fields)?;
     let is_later = before < fs.clock();
     text(
         fields.alloc(),
@@ -37,15 +47,20 @@ fn change<F: Fs>(fs: &mut F, name: &str, fields: &mut Fields) -> Result<Vec<u8>,
     )
 }
 
-fn make<F: Fs>(fs: &mut F, name: &str, fields: &mut Fields) -> Result<Result<(), FsErr>, Stop> {
+fn make<F: Fs>(
+    fs: &mut F,
+    owner: Owner,
+    name: &str,
+    fields: &mut Fields,
+) -> Result<Result<(), FsErr>, Stop> {
     if name == "sync_all" {
         return Ok(fs.sync_all());
     }
     let at = path(fields)?;
     match name {
-        "mkdir" => mkdir(fs, &at, &meta(fields, 0o040755)?),
-        "create" => create(fs, &at, &meta(fields, 0o100644)?),
-        "symlink" => symlink(fs, &at, &target(fields)?, &meta(fields, 0o120777)?),
+        "mkdir" => mkdir(fs, &at, &meta(fields, owner, 0o040755)?),
+        "create" => create(fs, &at, &meta(fields, owner, 0o100644)?),
+        "symlink" => symlink(fs, &at, &target(fields)?, &meta(fields, owner, 0o120777)?),
         "append" => Ok(fs.append(&at, &content(fields)?)),
         "link" => Ok(fs.link(&at, &path(fields)?)),
         "rename" => rename(fs, &at, &path(fields)?),

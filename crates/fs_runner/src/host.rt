@@ -1,43 +1,41 @@
 //! Sheets over the machine's file system.
 use crate::call::call;
 use crate::machine::{Watch, Watched};
-use crate::meta::path;
+use crate::meta::{Owner, path};
 use crate::on_host::on_host;
+use crate::over::OverMachine;
 use crate::word::word;
-use fs_host::HostFs;
-use fs_trait::Fs;
-use host_files::{InTurn, Machine, Syncer};
+use host_files::Machine;
 use sheet::{Bench, Fields, Stop, number, text};
 use std::io::ErrorKind;
 
-type WatchedFs<'a, R> = HostFs<Watched<'a, R>, InTurn<Watched<'a, R>>>;
-
 /// The machine, and up to two file systems over its folder.
 #[derive(Drop)]
-pub struct HostBench<'a, R: Machine> {
+pub struct HostBench<'a, R: Machine, F: OverMachine<Watched<'a, R>>> {
     rt: R,
     watch: &'a Watch,
-    first: Option<WatchedFs<'a, R>>,
-    second: Option<WatchedFs<'a, R>>,
+    owner: Owner,
+    first: Option<F>,
+    second: Option<F>,
 }
 
-impl<'a, R: Machine> HostBench<'a, R> {
-    pub fn new(rt: R, watch: &'a Watch) -> HostBench<'a, R> {
+impl<'a, R: Machine, F: OverMachine<Watched<'a, R>>> HostBench<'a, R, F> {
+    pub fn new(rt: R, watch: &'a Watch, owner: Owner) -> HostBench<'a, R, F> {
         HostBench {
             rt,
             watch,
+            owner,
             first: None,
             second: None,
         }
     }
 
-    fn opened(&self) -> Result<WatchedFs<'a, R>, Stop> {
+    fn opened(&self) -> Result<F, Stop> {
         let host = Watched {
             rt: self.rt.clone()?,
             watch: self.watch,
         };
-        let syncer = InTurn::new(host.clone()?);
-        Ok(HostFs::new(host, syncer)?)
+        Ok(F::over(host)?)
     }
 
     // The one before ends first.
@@ -63,7 +61,7 @@ impl<'a, R: Machine> HostBench<'a, R> {
     }
 }
 
-impl<'a, R: Machine> Bench for HostBench<'a, R> {
+impl<'a, R: Machine, F: OverMachine<Watched<'a, R>>> Bench for HostBench<'a, R, F> {
     fn answer(&mut self, name: &str, fields: Fields) -> Result<Vec<u8>, Stop> {
         let mut fields = fields;
         match name {
@@ -74,34 +72,36 @@ impl<'a, R: Machine> Bench for HostBench<'a, R> {
             "close" => self.close(),
             "loses" => self.watch.loses.set(fields.text()? == "syncs"),
             "links" => self.watch.link.set(link_error(fields.text()?)?),
-            "second" => return answer_second(self.second.as_mut(), &mut fields),
+            "second" => return answer_second(self.second.as_mut(), self.owner, &mut fields),
             _ if name.starts_with("host_") => return on_host(&self.rt, name, &mut fields),
-            _ => return answer_of(self.first.as_mut(), name, &mut fields),
+            _ => return answer_of(self.first.as_mut(), self.owner, name, &mut fields),
         }
         text(fields.alloc(), "ok")
     }
 }
 
 // The call that stands behind it, on the second file system.
-fn answer_second<R: Machine, S: Syncer>(
-    fs: Option<&mut HostFs<R, S>>,
+fn answer_second<R, F: OverMachine<R>>(
+    fs: Option<&mut F>,
+    owner: Owner,
     fields: &mut Fields,
 ) -> Result<Vec<u8>, Stop> {
     let name = fields.text()?;
-    answer_of(fs, name, fields)
+    answer_of(fs, owner, name, fields)
 }
 
-fn answer_of<R: Machine, S: Syncer>(
-    fs: Option<&mut HostFs<R, S>>,
+fn answer_of<R, F: OverMachine<R>>(
+    fs: Option<&mut F>,
+    owner: Owner,
     name: &str,
     fields: &mut Fields,
 ) -> Result<Vec<u8>, Stop> {
     let fs = fs.ok_or(Stop::Unknown)?;
     if name == "rename" {
         let (from, to) = (path(fields)?, path(fields)?);
-        return text(fields.alloc(), word(fs.rename(&from, &to)));
+        return text(fields.alloc(), word(fs.rename_any(&from, &to)));
     }
-    call(fs, name, fields)
+    call(fs, owner, name, fields)
 }
 
 // `work` where they don't fail.

@@ -11,7 +11,7 @@ pub fn look<F: Fs>(fs: &mut F, name: &str, fields: &mut Fields) -> Result<Vec<u8
     let at = path(fields)?;
     match name {
         "read" | "read_part" | "list" => text(alloc, word(read(fs, name, &at))),
-        "kind" | "stat" | "look" => see(alloc, fs, name, &at),
+        "kind" | "stat" | "mode" | "look" => see(alloc, fs, name, &at),
         "bytes" => told_bytes(alloc, fs.read(&at)),
         "part" => part(fs, &at, fields),
         "names" => told_names(alloc, fs.list(&at)),
@@ -65,13 +65,14 @@ fn told_names(alloc: Global, found: Result<Names, FsErr>) -> Result<Vec<u8>, Sto
     }
 }
 
-// What stands there: its kind; all that is known of it; or a file by its bytes.
+// What stands there: its kind; all that is known of it; its mode; or a file by its bytes.
 fn see<F: Fs>(alloc: Global, fs: &mut F, how: &str, at: &FsPath) -> Result<Vec<u8>, Stop> {
     match fs.stat(at) {
         Ok(None) => text(alloc, "none"),
         Ok(Some(node)) => match how {
             "kind" => text(alloc, kind_of(&node)),
             "stat" => told_node(alloc, &node),
+            "mode" => told_mode(alloc, &node),
             _ => held(alloc, fs, at, &node),
         },
         Err(fault) => text(alloc, fault_word(fault)),
@@ -84,6 +85,11 @@ fn kind_of(node: &Node) -> &'static str {
         Node::File { .. } => "file",
         Node::Link { .. } => "link",
     }
+}
+
+fn told_mode(alloc: Global, node: &Node) -> Result<Vec<u8>, Stop> {
+    let (Node::Folder(meta) | Node::File { meta, .. } | Node::Link { meta, .. }) = node;
+    text(alloc, format!(in alloc; "{:o}", meta.mode)?.as_str())
 }
 
 fn told_node(alloc: Global, node: &Node) -> Result<Vec<u8>, Stop> {

@@ -5,6 +5,7 @@ use std::cell::Cell;
 use std::fs::{Metadata, OpenOptions};
 use std::io;
 use std::io::ErrorKind;
+use std::path::PathBuf;
 use std::rt::Files;
 
 /// The file whose opens are counted.
@@ -121,6 +122,18 @@ impl<R: Machine> Files for Watched<'_, R> {
 
     fn create_dir_with_mode(&self, path: &str, mode: u32) -> io::Result<()> {
         self.rt.create_dir_with_mode(path, mode)
+    }
+
+    fn read_link<B: Allocator>(&self, alloc: B, path: &str) -> io::Result<PathBuf<B>> {
+        self.rt.read_link(alloc, path)
+    }
+
+    fn symlink(&self, original: &str, link: &str) -> io::Result<()> {
+        self.rt.symlink(original, link)
+    }
+
+    fn lchown(&self, path: &str, uid: Option<u32>, gid: Option<u32>) -> io::Result<()> {
+        self.rt.lchown(path, uid, gid)
     }
 }
 

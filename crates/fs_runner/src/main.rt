@@ -9,15 +9,21 @@ mod machine;
 mod memory;
 mod meta;
 mod on_host;
+mod over;
 mod streams;
 mod threads;
 mod word;
 
+use fs_host::HostFs;
+use fs_native::NativeFs;
 use host::HostBench;
-use machine::Watch;
+use host_files::InTurn;
+use machine::{Watch, Watched};
 use memory::MemoryBench;
+use meta::Owner;
 use ost_types::NoMemory;
 use sheet::{Report, Stop, run_sheet};
+use std::os::unix::fs::MetadataExt;
 use std::process::ExitCode;
 use std::{env, fs, io};
 use streams::StreamBench;
@@ -84,14 +90,37 @@ fn run_over(rt: &HostRuntime, over: &str, sheet: &str, report: &mut Report) -> R
     match over {
         "memory" => run_sheet(alloc, &mut MemoryBench::new(alloc)?, sheet, report),
         "host" => run_over_host(rt, sheet, report),
+        "native" => run_over_native(rt, sheet, report),
         "streams" => run_sheet(alloc, &mut StreamBench::new(rt.clone()?), sheet, report),
         _ => Err(Stop::Unknown),
     }
 }
 
+type Over<'a> = Watched<'a, HostRuntime>;
+
 fn run_over_host(rt: &HostRuntime, sheet: &str, report: &mut Report) -> Result<(), Stop> {
     let watch = Watch::new();
-    let mut bench = HostBench::new(rt.clone()?, &watch);
+    let mut bench: HostBench<HostRuntime, HostFs<Over, InTurn<Over>>> = HostBench::new(
+        rt.clone()?,
+        &watch,
+        Owner::ROOT,
+    );
+    run_sheet(rt.alloc(), &mut bench, sheet, report)
+}
+
+// What is made has the owner of the current folder, so that this needs no root.
+fn run_over_native(rt: &HostRuntime, sheet: &str, report: &mut Report) -> Result<(), Stop> {
+    let here = fs::symlink_metadata(rt, ".").map_err(|_| Stop::Unknown)?;
+    let owner = Owner {
+        uid: here.uid(),
+        gid: here.gid(),
+    };
+    let watch = Watch::new();
+    let mut bench: HostBench<HostRuntime, NativeFs<Over, InTurn<Over>>> = HostBench::new(
+        rt.clone()?,
+        &watch,
+        owner,
+    );
     run_sheet(rt.alloc(), &mut bench, sheet, report)
 }
 

@@ -1,5 +1,6 @@
 //! Sheets over the file system in memory.
 use crate::call::call;
+use crate::meta::Owner;
 use crate::word::word;
 use fs_memory::{Choice, FailAt, MemFs};
 use fs_trait::Fs;
@@ -84,7 +85,7 @@ fn answer_of(fs: &mut MemFs, name: &str, fields: &mut Fields) -> Result<Vec<u8>,
         "reserve" => text(fields.alloc(), word(fs.reserve(fields.number()?))),
         "fail_undone" => fail_at(fs, fields, false),
         "fail_done" => fail_at(fs, fields, true),
-        _ => call(fs, name, fields),
+        _ => call(fs, Owner::ROOT, name, fields),
     }
 }
 

@@ -28,22 +28,41 @@ pub fn content(fields: &mut Fields) -> Result<Vec<u8>, Stop> {
     }
 }
 
-/// Owner, group, mode in octal digits, and extended attributes `NAME=VALUE`; where there are none, 0, 0 and this mode.
-pub fn meta(fields: &mut Fields, mode: u32) -> Result<Meta, Stop> {
+/// Who owns what is made without an owner of its own.
+#[derive(Clone, Copy, Debug, PartialEq, Eq)]
+pub struct Owner {
+    pub uid: u32,
+    pub gid: u32,
+}
+
+impl Owner {
+    pub const ROOT: Owner = Owner { uid: 0, gid: 0 };
+}
+
+/// Owner, group, mode in octal digits, and extended attributes `NAME=VALUE`; where there are none, this owner and this mode.
+pub fn meta(fields: &mut Fields, owner: Owner, mode: u32) -> Result<Meta, Stop> {
     let alloc = fields.alloc();
     let mut meta = Meta {
-        uid: 0,
-        gid: 0,
+        uid: owner.uid,
+        gid: owner.gid,
         mode,
         xattrs: Xattrs::new(alloc),
     };
     if fields.has_more() {
-        meta.uid = fields.small()?;
-        meta.gid = fields.small()?;
+        meta.uid = number_or(fields.text()?, owner.uid)?;
+        meta.gid = number_or(fields.text()?, owner.gid)?;
         meta.mode = u32::from_str_radix(fields.text()?, 8).map_err(|_| Stop::Unknown)?;
         meta.xattrs = xattrs(alloc, fields.others())?;
     }
     Ok(meta)
+}
+
+// `-` stands for the one that is given.
+fn number_or(field: &str, given: u32) -> Result<u32, Stop> {
+    match field {
+        "-" => Ok(given),
+        _ => field.parse::<u32>().map_err(|_| Stop::Unknown),
+    }
 }
 
 fn xattrs(alloc: Global, fields: Option<&str>) -> Result<Xattrs, Stop> {

@@ -15,6 +15,7 @@ pub fn on_host<R: Files + AllocGlobal>(
     match name {
         "host_bytes" => Ok(fs::read(rt, at).map_err(|_| Stop::Unknown)?),
         "host_mode" => mode(rt, at, fields),
+        "host_time" => time(rt, at, fields),
         "host_kind" => text(fields.alloc(), kind(rt, at)),
         _ => text(fields.alloc(), done(change(rt, name, at, fields)?)),
     }
@@ -64,12 +65,23 @@ fn lengthen<R: Files + AllocGlobal>(rt: &R, at: &str, len: u64) -> io::Result<()
 fn mode<R: Files + AllocGlobal>(rt: &R, at: &str, fields: &Fields) -> Result<Vec<u8>, Stop> {
     match fs::symlink_metadata(rt, at) {
         Ok(metadata) => {
-            let mode = metadata.mode() & 0o777;
+            let mode = metadata.mode() & 0o7777;
             text(
                 fields.alloc(),
                 format!(in fields.alloc(); "{mode:o}")?.as_str(),
             )
         }
+        Err(_) => text(fields.alloc(), "none"),
+    }
+}
+
+// When it was written last, in seconds since 1970.
+fn time<R: Files + AllocGlobal>(rt: &R, at: &str, fields: &Fields) -> Result<Vec<u8>, Stop> {
+    match fs::symlink_metadata(rt, at) {
+        Ok(metadata) => text(
+            fields.alloc(),
+            format!(in fields.alloc(); "{}", metadata.mtime())?.as_str(),
+        ),
         Err(_) => text(fields.alloc(), "none"),
     }
 }
