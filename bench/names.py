@@ -88,8 +88,10 @@ def main(folder):
             for _ in range(3):
                 shutil.rmtree(f"{top}/checkout", ignore_errors=True)
                 runs.append(measured([PROGRAM, *words], top))
-            best = min(runs, key=lambda run: run[1])
-            print(f"{' '.join(words)}: {best[1]:.2f} s, {best[0].splitlines()[0]}", flush=True)
+            if words[0] != "init" and not runs[0][0].startswith("0 0 ok"):
+                sys.exit(f"{words[0]}: {runs[0][0][:80]}")
+            _, clock, used, memory = (min(column) for column in zip(*runs))
+            print(f"{' '.join(words)}: {clock:.2f} s, {used:.2f} s of the processor, {memory:.0f} MiB", flush=True)
     finally:
         shutil.rmtree(top)
 
