@@ -20,7 +20,7 @@ $(NATIVE): $(SOURCES)
 native: $(NATIVE)
 
 check:
-	@echo "Proves every crate and every test, tries each edit and runs each program, all from nothing: some 80 minutes on four processors, two and a half hours on two (docs/gate.md)."
+	@echo "Proves every crate and every test, tries each edit and runs each program, all from nothing: some 90 minutes on four processors, almost three hours on two (docs/gate.md)."
 	@echo "It tells a crate as soon as it is proved, and its last line is how many passed and failed."
 	rt ci
 	python3 tools/crates_table.py --check
