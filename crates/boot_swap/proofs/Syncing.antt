@@ -10,7 +10,7 @@ use Rattle.fs_trait.proofs.Effects.{all_synced-firm, all_synced-writes, folder_s
 use Rattle.fs_trait.proofs.Claims.{folder_shows}
 use Rattle.fs_trait.proofs.Facts.{shows_kept}
 use Rattle.fs_trait.proofs.Refusals.{no_folder-there}
-use Rattle.ref_room.proofs.Answering.{Step}
+use Rattle.fs_trait.proofs.Answering.{Step}
 use Rattle.repo_layout.specs.declared.fixed.Version.{Version}
 use Rattle.repo_layout.specs.declared.folder.Folder.TheVariants.{Boot, Ostree}
 use Rattle.repo_layout.specs.Fixed.{number}

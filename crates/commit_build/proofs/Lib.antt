@@ -3,7 +3,6 @@ pub mod Mild
 pub mod Synced
 pub mod Advances
 pub mod PutSteps
-pub mod Answering
 pub mod PhaseSteps
 pub mod WorkSteps
 pub mod PutTells

@@ -26,7 +26,7 @@ use Rattle.commit_build.specs.declared.phase.Phase.{Phase}
 use Rattle.commit_build.specs.declared.phase.Phase.TheVariants as phase
 use Rattle.commit_build.specs.Committing.{Committing, IsPut, IsPutCommit, IsMade, kept_in, named_commit}
 use Rattle.commit_build.specs.Steps.{Needs, needs_in, came_in, refuses_in, WritesOf, writes_in, HasHomes, NotLeaf, TakesLeaf, is_leaf_node}
-use Rattle.commit_build.proofs.Answering.{Step}
+use Rattle.fs_trait.proofs.Answering.{Step}
 use Rattle.commit_build.proofs.Mild.{Mild, mild_mark, no_write, homes_kept, sure_kept}
 use Rattle.commit_build.proofs.Synced.{synced_sure, unmarked, leaf_there, never_marked}
 use Rattle.commit_build.proofs.PutSteps.{needs_as, kept_as}

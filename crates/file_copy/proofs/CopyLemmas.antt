@@ -13,7 +13,7 @@ use Rattle.fs_trait.specs.Change.{Writes}
 use Rattle.fs_trait.proofs.Claims.{reads_shows}
 use Rattle.fs_trait.proofs.Facts.{shows_kept}
 use Rattle.fs_trait.proofs.Kept.{weaker}
-use Rattle.ref_room.proofs.Answering.{Step}
+use Rattle.fs_trait.proofs.Answering.{Step}
 use Rattle.staging.specs.declared.phase.Phase.{Phase}
 use Rattle.staging.specs.declared.phase.Phase.TheVariants.{Clear, Create, Append, SyncFile, Ended}
 use Rattle.staging.specs.Draft as staged

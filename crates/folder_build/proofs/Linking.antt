@@ -18,7 +18,7 @@ use Rattle.fs_trait.proofs.Effects.{named-writes, moved-writes, shows_named, sho
 use Rattle.fs_trait.proofs.Ways.{way-folder, way-there}
 use Rattle.fs_trait.proofs.Claims.{folder_shows}
 use Rattle.fs_trait.proofs.Facts.{vacant_absent, no_new-free, shows_kept, Fails-writes}
-use Rattle.ref_room.proofs.Answering.{Step}
+use Rattle.fs_trait.proofs.Answering.{Step}
 use Rattle.checkout.specs.Remove as removal
 use Rattle.checkout.specs.Remove.{Removing, turn_in}
 use Rattle.checkout.specs.RemoveSteps as steps

@@ -20,7 +20,7 @@ use Rattle.fs_trait.proofs.Effects.{named-writes, created-writes, extended-write
 use Rattle.fs_trait.proofs.Claims.{folder_shows}
 use Rattle.fs_trait.proofs.Facts.{vacant_absent, no_new-free, shows_kept, leaf_file, may_held, under-not_below}
 use Rattle.fs_trait.proofs.Refusals.{no_file-there}
-use Rattle.ref_room.proofs.Answering.{Step}
+use Rattle.fs_trait.proofs.Answering.{Step}
 use Rattle.checkout.proofs.RemoveBelow.{not_true}
 use Rattle.folder_build.specs.declared.node.Content.TheVariants.{Folder, File, Link}
 use Rattle.folder_build.specs.declared.node.NewNode.{NewNode}

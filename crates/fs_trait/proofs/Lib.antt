@@ -11,3 +11,4 @@ pub mod Facts
 pub mod Claims
 pub mod Converse
 pub mod Quiet
+pub mod Answering

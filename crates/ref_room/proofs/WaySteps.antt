@@ -27,7 +27,7 @@ use Rattle.ref_room.specs.Clash.{way_to, IsAbove, IsClash, IsLeastClash, IsFreeA
 use Rattle.ref_room.specs.Way.{Walked, Needs, WritesOf, writes_in, here_in, leg_of, leg_at, folder, next_folder, next_in, is_over, folder_meta}
 use Rattle.ref_room.proofs.Names.{way_to-more, way_to-all, ways-below, above-way, way-above, ref_path-one}
 use Rattle.ref_room.proofs.Disks.{leaf_no_folder, leaf_there, directory_no_leaf, may_directory, below_absent, self_not_less}
-use Rattle.ref_room.proofs.Answering.{Step}
+use Rattle.fs_trait.proofs.Answering.{Step}
 
 -- the folder that is reached next is one further
 pub next_name : (t : Walked) → t.reached + 1 < length (parts_of t.name) → (x : Name) × (next_folder t ≡ under (folder t) x)

@@ -24,7 +24,7 @@ use Rattle.repo_layout.proofs.Places.{place-ref, place-stage, place-apart}
 use Rattle.ref_room.specs.Clash.{way_to, ref_folder}
 use Rattle.ref_room.specs.Clearing.{IsLeaf}
 use Rattle.ref_room.proofs.Names.{ref_folder-under}
-use Rattle.ref_room.proofs.Answering.{Step}
+use Rattle.fs_trait.proofs.Answering.{Step}
 use Rattle.staged_file.specs.Steps.{IsPlaced}
 use Rattle.ref_store.specs.declared.phase.Phase.{Phase}
 use Rattle.ref_store.specs.declared.phase.Phase.TheVariants as phase

@@ -2,7 +2,7 @@ use Rattle.std.proofs.Common.{◌≡◌, ◌-◌, ℕ, List, arith, sym, ◌∙�
 use Rattle.std.proofs.lemmas.Bool.{eqb-true}
 use Rattle.std.proofs.lemmas.Result.{err_from_is_err_and}
 use Rattle.fs_trait.specs.Effect.{OfNone, inode_of, part}
-use Rattle.ref_room.proofs.Answering.{read_fails}
+use Rattle.fs_trait.proofs.Answering.{read_fails}
 use Rattle.file_copy.proofs.PieceLemmas.{asked_part, length_part, read_free}
 use Rattle.file_copy.proofs.pieces.read_piece.Goals as goal
 

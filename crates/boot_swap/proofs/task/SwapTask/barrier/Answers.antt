@@ -1,6 +1,6 @@
 use Rattle.std.proofs.Common.{sym, subst}
 use Rattle.std.proofs.lemmas.Result.{err_from_is_err_and}
-use Rattle.ref_room.proofs.Answering.{err_fails, err_writes, ok_after, ok_writes}
+use Rattle.fs_trait.proofs.Answering.{err_fails, err_writes, ok_after, ok_writes}
 use Rattle.boot_swap.specs.Steps.{Needs, Refuses}
 use Rattle.boot_swap.proofs.Making.{at_phase, needs_at}
 use Rattle.boot_swap.proofs.Refusing.{failed, no_memory, wrote_as}

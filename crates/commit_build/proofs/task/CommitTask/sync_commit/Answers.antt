@@ -2,7 +2,7 @@ use Rattle.std.proofs.Common.{None, sym, subst, ap, ◌∙◌}
 use Rattle.commit_build.specs.declared.phase.Phase.TheVariants as phases
 use Rattle.commit_build.specs.Committing.{Committing}
 use Rattle.commit_build.specs.Steps.{Needs}
-use Rattle.commit_build.proofs.Answering.{ok_writes, ok_after, err_writes}
+use Rattle.fs_trait.proofs.Answering.{ok_writes, ok_after, err_writes}
 use Rattle.commit_build.proofs.PhaseSteps.{as_is, calm_tells, sync_commit}
 use Rattle.commit_build.proofs.task.CommitTask.sync_commit.Goals as goal
 

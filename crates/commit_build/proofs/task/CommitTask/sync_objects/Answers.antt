@@ -2,7 +2,7 @@ use Rattle.std.proofs.Common.{None, sym, subst, ap, ◌∙◌}
 use Rattle.commit_build.specs.declared.phase.Phase.TheVariants as phases
 use Rattle.commit_build.specs.Committing.{Committing}
 use Rattle.commit_build.specs.Steps.{Needs}
-use Rattle.commit_build.proofs.Answering.{ok_writes, ok_after, err_writes}
+use Rattle.fs_trait.proofs.Answering.{ok_writes, ok_after, err_writes}
 use Rattle.commit_build.proofs.PhaseSteps.{calm_tells, sync_objects}
 use Rattle.commit_build.proofs.task.CommitTask.sync_objects.Goals as goal
 

@@ -1,7 +1,7 @@
 use Rattle.std.proofs.Common.{sym, subst}
 use Rattle.std.proofs.lemmas.Result.{err_from_is_err_and}
 use Rattle.commit_build.specs.Steps.{Needs, Refuses}
-use Rattle.commit_build.proofs.Answering.{ok_writes, ok_after, err_writes, err_fails, err_unchanged}
+use Rattle.fs_trait.proofs.Answering.{ok_writes, ok_after, err_writes, err_fails, err_unchanged}
 use Rattle.commit_build.proofs.PhaseSteps.{as_is, sync_state_at}
 use Rattle.commit_build.proofs.task.CommitTask.sync_state.Goals as goal
 

@@ -1,7 +1,7 @@
 use Rattle.std.proofs.Common.{sym, ◌∙◌, ap, subst}
 use Rattle.std.proofs.lemmas.Result.{err_from_is_err_and}
 use Rattle.fs_trait.specs.Effect.{OfNone}
-use Rattle.ref_room.proofs.Answering.{ok_writes, ok_after, err_writes, err_fails}
+use Rattle.fs_trait.proofs.Answering.{ok_writes, ok_after, err_writes, err_fails}
 use Rattle.file_copy.specs.Copying.{Copying}
 use Rattle.file_copy.specs.CopySteps.{Needs}
 use Rattle.file_copy.proofs.CopyLemmas.{as_is, sync_file}

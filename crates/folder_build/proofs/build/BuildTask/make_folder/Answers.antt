@@ -1,6 +1,6 @@
 use Rattle.std.proofs.Common.{sym, ◌∙◌, ap, subst}
 use Rattle.std.proofs.lemmas.Result.{err_from_is_err_and}
-use Rattle.ref_room.proofs.Answering.{ok_writes, ok_after, err_writes, err_fails}
+use Rattle.fs_trait.proofs.Answering.{ok_writes, ok_after, err_writes, err_fails}
 use Rattle.folder_build.specs.Build.{Building, IsNumber}
 use Rattle.folder_build.specs.Steps.{Needs, Refuses}
 use Rattle.checkout.proofs.CheckoutAnswering.{looked_none, looked_some}

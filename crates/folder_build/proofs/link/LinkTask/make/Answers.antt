@@ -1,6 +1,6 @@
 use Rattle.std.proofs.Common.{sym, ◌∙◌, ap, subst}
 use Rattle.std.proofs.lemmas.Result.{err_from_is_err_and}
-use Rattle.ref_room.proofs.Answering.{ok_writes, ok_after, err_writes, err_fails}
+use Rattle.fs_trait.proofs.Answering.{ok_writes, ok_after, err_writes, err_fails}
 use Rattle.folder_build.specs.Link.{Linking}
 use Rattle.folder_build.specs.LinkSteps.{Needs, Refuses}
 use Rattle.folder_build.proofs.Linking.{failed, make_at, no_memory}

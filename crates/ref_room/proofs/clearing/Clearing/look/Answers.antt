@@ -12,7 +12,7 @@ use Rattle.repo_layout.specs.Paths.{ref_path}
 use Rattle.repo_layout.specs.Refs.{is_leaf}
 use Rattle.ref_room.specs.Clash.{IsNoRef}
 use Rattle.ref_room.specs.Clearing.{Cleared, Needs, Refuses}
-use Rattle.ref_room.proofs.Answering.{read_fails}
+use Rattle.fs_trait.proofs.Answering.{read_fails}
 use Rattle.ref_room.proofs.Disks.{looked_nothing, looked_folder, looked_leaf}
 use Rattle.ref_room.proofs.ClearingSteps.{looked_absent, looked_found, looked_opened}
 use Rattle.ref_room.proofs.clearing.Clearing.look.Goals as goal

@@ -6,7 +6,7 @@ use Rattle.fs_trait.specs.Seen.{shows, IsDirectory}
 use Rattle.repo_layout.specs.Refs.{is_leaf}
 use Rattle.ref_room.specs.declared.way.Leg.TheVariants.{Make}
 use Rattle.ref_room.specs.Way.{Needs, Refuses, Walked, next_folder, next_in}
-use Rattle.ref_room.proofs.Answering.{ok_writes, ok_after, err_writes, err_fails, err_unchanged}
+use Rattle.fs_trait.proofs.Answering.{ok_writes, ok_after, err_writes, err_fails, err_unchanged}
 use Rattle.ref_room.proofs.Disks.{looked_nothing, looked_folder, looked_leaf}
 use Rattle.ref_room.proofs.WaySteps.{found, made, least}
 use Rattle.ref_room.proofs.way.Way.make.Goals as goal

@@ -2,7 +2,7 @@ use Rattle.std.proofs.Common.{sym, ◌∙◌, ap, subst}
 use Rattle.std.proofs.lemmas.Result.{err_from_is_err_and}
 use Rattle.fs_trait.specs.Image.{Told}
 use Rattle.ref_room.specs.Way.{Needs, Refuses, Walked, folder, next_in, is_over}
-use Rattle.ref_room.proofs.Answering.{ok_writes, ok_after, err_writes, err_fails}
+use Rattle.fs_trait.proofs.Answering.{ok_writes, ok_after, err_writes, err_fails}
 use Rattle.ref_room.proofs.WaySteps.{synced, synced_free}
 use Rattle.ref_room.proofs.way.Way.sync.Goals as goal
 use Rattle.ref_room.proofs.way.Way.sync.Goals.{then-is_over, else-is_over}

@@ -1,6 +1,6 @@
 use Rattle.std.proofs.Common.{sym, ◌∙◌, ap, subst}
 use Rattle.std.proofs.lemmas.Result.{err_from_is_err_and}
-use Rattle.ref_room.proofs.Answering.{ok_writes, ok_after, err_writes, err_fails}
+use Rattle.fs_trait.proofs.Answering.{ok_writes, ok_after, err_writes, err_fails}
 use Rattle.ref_store.specs.Change.{Change}
 use Rattle.ref_store.specs.Steps.{Needs, Refuses}
 use Rattle.ref_store.proofs.StepLemmas.{is_unlink, unlink, as_is, failed, no_memory}
