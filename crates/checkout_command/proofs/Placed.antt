@@ -1,25 +1,17 @@
 -- A map is a tree where each of its paths lies in a folder.
-use Rattle.std.proofs.Common.{◌≡◌, ℕ, ◌<◌, ◌≤◌, ◌+◌, Bool, true, false, [], ◌∷◌, ◌++◌, length, take, drop, get_or, Some, sym, ◌∙◌, ap, refl, subst}
+use Rattle.std.proofs.Common.{◌≡◌, ℕ, ◌<◌, ◌≤◌, ◌+◌, Bool, true, false, List, [], ◌∷◌, ◌++◌, length, take, get_or, Some, None, sym, ◌∙◌, ap, refl, subst}
 use Rattle.std.specs.Prelude.{◌↔◌, All, IsTrue}
-use Rattle.std.proofs.lemmas.List.{take-append-drop, take_all, take_more}
+use Rattle.std.proofs.lemmas.List.{take_all, take_more}
 use Rattle.std.proofs.lemmas.List.Elements.{All-push}
+use Rattle.ost_types.specs.declared.meta.Meta.{Meta}
 use Rattle.ost_types.specs.declared.node.NodeName.{NodeName}
+use Rattle.ost_types.specs.declared.node.NodeName.TheVariants.{Folder, Leaf}
 use Rattle.ost_types.specs.Path.{Name, Path, IsPath, under}
 use Rattle.ost_types.specs.PathMap.{Nodes, IsPathMap, node_at}
 use Rattle.ost_types.proofs.Paths.{under-folder, under-not_root}
-use Rattle.ref_room.proofs.Names.{IsPath-front}
 use Rattle.checkout.specs.CheckoutWork.{IsPlaced}
 use Rattle.checkout.proofs.CheckoutMaps.{found_at, found_back}
 use Rattle.checkout_command.specs.Placing.{Fits, HasFolderAt, IsInFolder}
-
--- a front of a path is one
-pub front_path : (p : Path) (n : ℕ) → IsPath p → IsPath (take n p)
-front_path p n is = IsPath-front (take n p) (drop n p) (subst IsPath (sym (take-append-drop n p)) is)
-
-pub next_path : (names : Path) (n : ℕ) (x : Name) (p : Path) → IsPath names → n < length names → p ≡ take n names → x ≡ get_or names n x → IsPath (under p x)
-next_path names n x p path inside is at =
-    let more : take (n + 1) names ≡ under p x = take_more names n x inside ∙ ap (λ y. take n names ++ y ∷ []) (sym at) ∙ ap (λ q. under q x) (sym is) in
-    subst IsPath more (front_path names (n + 1) path)
 
 pub in_root : (tree : Nodes) (p : Path) → p ≡ [] → IsInFolder tree p
 in_root tree p none f x is = absurd (under-not_root f x (sym is ∙ none))
@@ -28,6 +20,22 @@ pub in_folder : (tree : Nodes) (p folder q : Path) (x : Name) (b : Bool) → p �
 in_folder tree p folder q x b is at iff = (
   λ t. λ f y e. subst (HasFolderAt tree) (at ∙ under-folder folder f x y (sym is ∙ e)) (iff.0 t),
   λ h. iff.1 (subst (HasFolderAt tree) (sym at) (h folder x is)),
+)
+
+-- what a search found tells whether there is a folder
+pub folder_found : (tree items : Nodes) (p : Path) (m : Meta) → items ≡ tree → node_at items p ≡ Some (Folder m) → IsTrue true ↔ HasFolderAt tree p
+folder_found tree items p m same found = (λ t. (m, subst (λ (x : Nodes). node_at x p ≡ Some (Folder m)) same found), λ has. refl)
+
+pub leaf_found : (tree items : Nodes) (p : Path) (csum : List ℕ) → items ≡ tree → node_at items p ≡ Some (Leaf csum) → IsTrue false ↔ HasFolderAt tree p
+leaf_found tree items p csum same found = (
+  λ t. absurd (let n : false ≡ true = t in cc),
+  λ has. absurd (let e : Some (Folder has.0) ≡ Some (Leaf csum) = sym has.1 ∙ subst (λ (x : Nodes). node_at x p ≡ Some (Leaf csum)) same found in cc),
+)
+
+pub none_found : (tree items : Nodes) (p : Path) → items ≡ tree → node_at items p ≡ None → IsTrue false ↔ HasFolderAt tree p
+none_found tree items p same found = (
+  λ t. absurd (let n : false ≡ true = t in cc),
+  λ has. absurd (let e : Some (Folder has.0) ≡ None = sym has.1 ∙ subst (λ (x : Nodes). node_at x p ≡ None) same found in cc),
 )
 
 pub placed_all : (into : Path) (tree : Nodes) → HasFolderAt tree [] → All (λ e. Fits into tree e.0) tree → IsPlaced into tree

@@ -74,7 +74,7 @@ impl Read {
     {
         let request = self.request.copied()?;
         let into = self.request.path()?;
-        if !self.can_make(&into)? {
+        if !self.can_make(&into) {
             return self.lacks(&ObjName {
                 csum: request.commit,
                 kind: Kind::Commit,
@@ -85,15 +85,15 @@ impl Read {
     }
 
     /// Whether it is a tree within the limits that may be made at the path.
-    fn can_make(&self, into: &FsPath) -> Result<bool, NoMemory>
-        ensures can { IfOk result (λ b. IsTrue b ↔ CanMake into.now self.now) }
+    fn can_make(&self, into: &FsPath) -> bool
+        ensures can { IsTrue result ↔ CanMake into.now self.now }
         ensures map { IsPathMap self.now.task.found }
     {
         let tree = self.task.found();
         if tree.as_slice().len() as u64 > self.request.paths() as u64 {
-            return Ok(false);
+            return false;
         }
-        is_placed(self.request.alloc, into, tree)
+        is_placed(into, tree)
     }
 
     fn taken(&mut self) -> PathMap
