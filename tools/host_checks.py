@@ -1,9 +1,9 @@
 #!/usr/bin/env python3
 """Tries what the machine does to ostree_cli's folder: two processes at once, odd files, limits, modes.
 
-Usage: tools/host_checks.py [pairs [N]] [fifo] [long] [limit] [modes] [sync]
+Usage: tools/host_checks.py [pairs [N]] [fifo] [long] [limit] [modes] [sync] [threads]
 
-From the top of the repository, after `make`; with no word all. `sync` needs strace.
+From the top of the repository, after `make`; with no word all. `sync` and `threads` need strace.
 
 pairs   N times (300) two processes commit in one folder at once: at most one ends with a fault, and the folder opens then
 fifo    a FIFO where objects are staged: a fault that is told, and nothing waits for it
@@ -11,6 +11,7 @@ long    a file of 1 TiB at an object's path, as the configuration and as a ref: 
 limit   a limit of file sizes, whose signal is ignored: a fault that is told, and the folder opens without it
 modes   with no umask: files are 0600 and folders 0700
 sync    one of the threads fails to sync its young file: no change is told or shown, and the folder opens without it
+threads no thread can be made: an opening tells the same on one, of a folder that is whole, and of one with two damaged objects the first
 
 Each check prints a line; any that fails ends the run with status 1.
 """
@@ -162,8 +163,38 @@ def sync():
     return opens() or (f"status {it.returncode}, {it.stdout.strip()!r}", True)
 
 
+def alone(words):
+    """The same where no thread can be made, and how many could not."""
+    said = os.path.join(FOLDER, "threads")
+    traced = ["strace", "-f", "-qq", "-e", "trace=clone,clone3", "-e", "inject=clone,clone3:error=EAGAIN", "-o", said, PROGRAM] + words
+    it = subprocess.run(traced, cwd=FOLDER, capture_output=True, text=True, timeout=SECONDS)
+    with open(said, encoding="ascii", errors="replace") as lines:
+        return (it.returncode, it.stdout), sum("INJECTED" in line for line in lines)
+
+
+def threads():
+    fresh()
+    # More than are hashed by one thread.
+    for number in range(8):
+        ask(["run"], script(number, "a" * (1 << 16)))
+    told = []
+    for damaged in (False, True):
+        files = sorted(os.path.join(at, name) for at, _, names in os.walk(os.path.join(REPOSITORY, "objects")) for name in names if name.endswith(".file"))
+        for path in (files[0], files[-1]) if damaged else ():
+            with open(path, "r+b") as it:
+                it.seek(-1, os.SEEK_END)
+                it.write(b"!")
+        by_threads, (by_one, refused) = ask(["refs"]), alone(["refs"])
+        if by_threads != by_one or (by_one[0] == 0) == damaged or refused == 0:
+            return f"{by_threads!r} by threads, and where {refused} could not be made {by_one!r}"
+        if damaged and os.path.relpath(files[0], FOLDER) not in by_one[1]:
+            return f"{by_one[1]!r}, and the first is {files[0]}"
+        told.append(refused)
+    return f"{told[0]} and {told[1]} threads could not be made", True
+
+
 def main():
-    checks = {"pairs": pairs, "fifo": fifo, "long": long, "limit": limit, "modes": modes, "sync": sync}
+    checks = {"pairs": pairs, "fifo": fifo, "long": long, "limit": limit, "modes": modes, "sync": sync, "threads": threads}
     words = [word for word in sys.argv[1:] if not word.isdigit()] or list(checks)
     counts = [int(word) for word in sys.argv[1:] if word.isdigit()]
     failed = 0
