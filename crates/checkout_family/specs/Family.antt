@@ -74,6 +74,7 @@ checkout_means = record {
   says = checkout_says;
   knows = λ since a c. Unit {0};
   shows = checkout_shows;
+  remains = λ since v a c. Unit {0};
   stays = checkout_stays;
   keeps = λ since opening out c v. Unit {0};
   keeps_on = λ since opening out c disk. Unit {0};

@@ -43,6 +43,7 @@ either_means m n = record {
   says = λ since. same_side (m.says since) (n.says since);
   knows = λ since. same_side (m.knows since) (n.knows since);
   shows = λ since v. same_side (m.shows since v) (n.shows since v);
+  remains = λ since v. same_side (m.remains since v) (n.remains since v);
   stays = λ since out a c v b. same_side (λ x w. m.stays since out x w v b) (λ x w. n.stays since out x w v b) a c;
   keeps = λ since opening out c v. on_side (λ w. m.keeps since opening out w v) (λ w. n.keeps since opening out w v) c;
   keeps_on = λ since opening out c disk. on_side (λ w. m.keeps_on since opening out w disk) (λ w. n.keeps_on since opening out w disk) c;

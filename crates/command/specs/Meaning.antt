@@ -24,6 +24,8 @@ pub record Meaning (W A : Type 0) : Type 1 where
   pub knows : Since → A → W → Type 0
   -- and of the disk before the act that gave it
   pub shows : Since → View → A → W → Type 0
+  -- and behind it
+  pub remains : Since → View → A → W → Type 0
   -- what one leaves outside of the store, from then on, whoever acts
   pub stays : Since → List ObjName → A → W → View → Books → Type 0
   -- what a change that lasts leaves in the store, where the first view is that of the opening

@@ -84,6 +84,7 @@ commit_means = record {
   says = commit_says;
   knows = commit_knows;
   shows = commit_shows;
+  remains = λ since v a c. Unit {0};
   stays = λ since out a c v b. Unit {0};
   keeps = commit_keeps;
   keeps_on = commit_keeps_on;

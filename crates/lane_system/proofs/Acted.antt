@@ -1,5 +1,5 @@
 -- What an act keeps of what was so since the opening, for each way that it may end.
-use Rattle.std.proofs.Common.{◌≡◌, ◌≢◌, ◌⊎◌, inl, inr, ⊎_elim, ◌≤◌, ◌+◌, ℕ, refl, sym, ◌∙◌, ap, subst, arith, List, [], ◌∷◌, ◌++◌, length, set, Some, None}
+use Rattle.std.proofs.Common.{◌≡◌, ◌≢◌, ◌⊎◌, inl, inr, ⊎_elim, ◌<◌, ◌≤◌, ◌+◌, ℕ, refl, sym, ◌∙◌, ap, subst, arith, List, [], ◌∷◌, ◌++◌, length, set, Some, None}
 use Rattle.ost_types.specs.declared.limits.Limits.{Limits}
 use Rattle.ost_types.specs.Path.{Name}
 use Rattle.fs_trait.specs.Image.{Told}
@@ -17,7 +17,7 @@ use Rattle.command.specs.ChangeLaws.{IsRightSince}
 use Rattle.durable_store.specs.Brought.{NoHashCollisionOn}
 use Rattle.durable_store.specs.Full.{HasAsMany, IsFull}
 use Rattle.command.specs.CommitFiles.{CommitsAreFiles}
-use Rattle.command.specs.Since.{placed as placed_at}
+use Rattle.command.specs.Since.{Since, placed as placed_at}
 use Rattle.command.specs.Sound.{IsSoundStore}
 use Rattle.command.proofs.Files.{stands_files}
 use Rattle.lane_system.specs.declared.act.Came.TheVariants.{Answered, More}
@@ -37,6 +37,7 @@ use Rattle.lane_system.specs.LaneActs.{LaneActs, task_start}
 use Rattle.lane_system.specs.Lanes.{IsAt, IsCommand, IsTo}
 use Rattle.lane_system.specs.Lasting.{AreKept}
 use Rattle.lane_system.specs.Preserves.{Preserves}
+use Rattle.lane_system.specs.Remaining.{IsLast, LastRemains}
 use Rattle.lane_system.specs.Replies.{IfAnswer, IsOutside, Knows, OfAnswer}
 use Rattle.lane_system.specs.Said.{RepliesHeldAtAPoint}
 use Rattle.lane_system.specs.States.{now_of, since_in}
@@ -51,8 +52,8 @@ use Rattle.lane_system.proofs.Endings.{more_history}
 use Rattle.lane_system.proofs.Family.{FamilyLaws, FsLaws}
 use Rattle.lane_system.proofs.Folding.{comes, made_goes, made_still, none_in_the_way, stands_in_the_way, taken_by, taken_stays}
 use Rattle.lane_system.proofs.Giving.{Gives, is_answer}
-use Rattle.lane_system.proofs.Places.{at_split}
-use Rattle.lane_system.proofs.Prefixes.{longer}
+use Rattle.lane_system.proofs.Places.{at_set, at_split}
+use Rattle.lane_system.proofs.Prefixes.{longer, since_is}
 use Rattle.lane_system.proofs.Preserving.{SaysNow, founded_on, inside_on, lasts_on, said_on, staying_on}
 use Rattle.lane_system.proofs.StoreByEnding.{alone_given, alone_more, counted_given, counted_more, known_given, known_more, no_outside_given, sound_given, stored_given, stored_more}
 use Rattle.lane_system.proofs.Taking.{told}
@@ -66,6 +67,7 @@ pub record ActKeeps {F T W A : Type 0} (f : FsSpec F) (c : Family T W A) (old ne
   pub counted : AreCounted old v → Told (f.view new.base.fs) (λ w. AreCounted new w)
   pub said : AreStored f c.means old v → AreCounted old v → RepliesHeldAtAPoint c.means f.was old → RepliesHeldAtAPoint c.means f.was new
   pub stays : AreStored f c.means old v → AreStaying c.means old v → Told (f.view new.base.fs) (λ w. AreStaying c.means new w)
+  pub remains : LastRemains c.means old v → Told (f.view new.base.fs) (λ w. LastRemains c.means new w)
   pub founded : (opening : View) → AreStored f c.means old v → CommitsAreFiles v.now → RefsNameDurableCommits c.means opening old v → Told (f.view new.base.fs) (λ w. RefsNameDurableCommits c.means opening new w)
   pub known : (opening : Disk) → AreKnown f c.means opening old v → Told (f.view new.base.fs) (λ w. AreKnown f c.means opening new w)
 
@@ -108,6 +110,10 @@ module _ {F T W A : Type 0} (f : FsSpec F) (c : Family T W A) (fl : FsLaws f) (c
         let one : r ≡ record { work = x.did.0; start = task_start old.books.history.items l.task } = cc in
         made_more f c fl cl limits lane (length l.replies.items) refs refs' objects old new x.words l.task v w told_v (acts.does v told_v).1 name x.did.0 x.did.3 (subst (λ (q : Running T). c.doing.made q.work name) one made)
 
+    -- it has a command left
+    still_has : length l'.replies.items < length l'.words.items
+    still_has = omega (arith, ap (λ z. length z.items) x.replies, ap (λ z. length z.items) x.same, x.next.0)
+
     pub more_keeps : ActKeeps f c (record { base = old; lanes = lanes; limits = limits; objects = objects }) (record { base = new; lanes = set lanes lane l'; limits = limits; objects = objects' }) v
     unfolding acts
     more_keeps = record {
@@ -143,13 +149,14 @@ module _ {F T W A : Type 0} (f : FsSpec F) (c : Family T W A) (fl : FsLaws f) (c
       said = λ stored has. said_on f c fl cl limits lane lane refs refs' objects objects' old new lanes (set lanes lane l') acts kept.sound.ordered (command_was lanes lane l l' at x.same) (length l.replies.items) _ begin None_ split (λ r words n. absurd n) starts v told_v kept.sound (λ r words n. absurd n);
       known = λ opening is. (w, (acts.does v told_v).1, known_more f c fl cl limits lane refs refs' objects objects' old new lanes given l kept at v told_v l' x opening is);
       stays = λ stored. staying_on f c fl cl limits lane lane refs refs' objects objects' old new lanes (set lanes lane l') acts kept.sound.ordered (command_was lanes lane l l' at x.same) (length l.replies.items) _ begin None_ split (λ r words n. absurd n) starts v told_v placed (λ r words n. absurd n);
+      remains = λ was. (w, (acts.does v told_v).1, λ over. absurd (over lane (l', at_set lanes lane l' at.0, still_has)));
       founded = λ opening stored files. founded_on f c fl cl limits lane lane refs refs' objects objects' old new lanes (set lanes lane l') acts kept.sound.ordered (command_was lanes lane l l' at x.same) (length l.replies.items) _ begin None_ split (λ r words n. absurd n) starts v told_v opening files
           (λ r words n. absurd n) (commands_of l' given kept') placed (λ r words n. absurd n) (λ r words commit n sum. absurd n);
     }
 
   -- it has an answer
   module _ (l' : Lane T W A) (z : Ended A) (start : ℕ) (x : LaneActs f c limits lane lane refs refs' objects objects' old new l l' (Answered z start)) (l'' : Lane T W A) (r : Reply A) (same : l''.words ≡ l.words) (free : l''.task ≡ None) (grows : l''.replies.items ≡ l.replies.items ++ r ∷ [])
-      (answered : r.answer ≡ z) (begun : r.start ≡ start) (place : r.place ≡ length new.books.history.items) (kept' : Kept f c limits new refs' (set lanes lane l'') (given + 1)) where
+      (answered : r.answer ≡ z) (begun : r.start ≡ start) (place : r.place ≡ length new.books.history.items) (kept' : Kept f c limits new refs' (set lanes lane l'') (given + 1)) (order : r.order ≡ given) where
     acts_ : Acts f lane lane refs refs' old new
     acts_ = given_acts f c fl cl limits lane refs refs' objects objects' old new lanes given l l' kept at z start x
 
@@ -201,6 +208,14 @@ module _ {F T W A : Type 0} (f : FsSpec F) (c : Family T W A) (fl : FsLaws f) (c
     outside_not ended.NoMemory knows is = is
     outside_not ended.DiskFault knows is = is
     outside_not (ended.Halted n) knows is = is
+
+    -- behind the act its reply is the last one
+    last_remains : (a n : ℕ) (q : Reply A) (words : W) → IsTo (set lanes lane l'') a n q → IsCommand (set lanes lane l'') a n words → IsLast (set lanes lane l'') q → IfAnswer (λ a. c.means.remains (since_in limits new.books q.start) w_ a words) q.answer
+    last_remains a n q words to is last = ⊎_elim
+        (λ before. absurd (let least = last lane (length l.replies.items) r (to_new lanes lane l l'' at same r grows) in omega (arith, least, order, kept.accounted.count, kept.accounted.numbered.below a n q before)))
+        (λ one. subst (λ (s : Since). IfAnswer (λ b. c.means.remains s w_ b words) q.answer) (sym (since_is lane lane old.books new.books acts_.books limits q.start (omega (arith, ap (λ (y : Reply A). y.start) one.0, begun, is_start))))
+        (of_new (λ k d y. IfAnswer (λ b. c.means.remains (since_in limits old.books k) w_ b d) y) (g.remains v w_ told_v (acts_.does v told_v).1) q words one))
+        (split_ a n q words to is)
 
     -- its change is its command's
     lasts_new : (opening : View) → IsRightSince opening v → (k : ℕ) (e : Entry) (words : W) → IsAt new.books.history.items k e → length old.books.history.items ≤ k → IsCommand (set lanes lane l'') e.lane e.command words
@@ -305,6 +320,7 @@ module _ {F T W A : Type 0} (f : FsSpec F) (c : Family T W A) (fl : FsLaws f) (c
       known = λ opening is. (w_, (acts_.does v told_v).1, known_given f c fl cl limits lane refs refs' objects objects' old new lanes given l kept at v told_v l' z start x l'' r same grows begun opening is);
       stays = λ stored. staying_on f c fl cl limits lane lane refs refs' objects objects' old new lanes (set lanes lane l'') acts_ kept.sound.ordered (command_was lanes lane l l'' at same) (length l.replies.items) start is_start IsNew split_ (λ q words n. ap (λ (y : Reply A). y.start) n.0 ∙ begun) starts_ v told_v placed
           (of_new (λ n d y. IfAnswer (λ a. c.means.stays (since_in limits old.books n) [] a d w_ (books_of new.books)) y) (g.stays v w_ told_v (acts_.does v told_v).1 (sound_of stored)));
+      remains = λ was. (w_, (acts_.does v told_v).1, λ over. last_remains);
       founded = λ opening stored files. founded_on f c fl cl limits lane lane refs refs' objects objects' old new lanes (set lanes lane l'') acts_ kept.sound.ordered (command_was lanes lane l l'' at same) (length l.replies.items) start is_start IsNew split_ (λ q words n. ap (λ (y : Reply A). y.start) n.0 ∙ begun) starts_ v told_v opening files
           (shows_new (sound_of stored)) (commands_of l'' (given + 1) kept') placed (λ q words n. ap (λ (y : Reply A). y.place) n.0 ∙ place)
           (λ q words commit n sum lacks. g.alone v told_v commit sum (subst (OfAnswer (λ a. c.means.lacks a commit)) (ap (λ (y : Reply A). y.answer) n.0 ∙ answered) lacks));
@@ -321,6 +337,7 @@ preserves_by f c s s' keeps caused = record {
   counted = λ v told is. (keeps v told).counted is;
   said = λ v told stored has is. (keeps v told).said stored has is;
   stays = λ v told stored is. (keeps v told).stays stored is;
+  remains = λ v told is. (keeps v told).remains is;
   founded = λ opening v told stored is. (keeps v told).founded opening stored (stands_files s.limits (WasBrought c.means s) IsConfigured stored.names v stored.keeps.now) is;
   known = λ opening v told is. (keeps v told).known opening is;
 }

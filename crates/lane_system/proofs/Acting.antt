@@ -248,7 +248,7 @@ module _ {F T W A : Type 0} (f : FsSpec F) (c : Family T W A) (fl : FsLaws f) (c
     pub gives : Gives f c limits lane (length l.replies.items) objects old new x.words start z
     gives = subst (λ n. Gives f c limits lane (length l.replies.items) objects old new x.words n z) (sym given_start) (⊎_elim
         (λ at_once. subst (λ (b : Base F). Gives f c limits lane (length l.replies.items) objects old b x.words (task_start old.books.history.items l.task) z) (sym at_once.0)
-        (at_once_gives f c limits lane (length l.replies.items) objects old x.words l.task k.runs kept.explained z at_once.1))
+        (at_once_gives f c cl limits lane (length l.replies.items) objects old x.words l.task k.runs kept.explained z at_once.1))
         (λ ended. taken_gives f c fl cl limits lane lane (length l.replies.items) refs refs' objects old new x.words l.task ended.0 ended.1 ended.4 kept.sound (mine ended.4.live) ended.2 z ended.3)
         x.did.3)
 

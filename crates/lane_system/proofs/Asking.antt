@@ -117,7 +117,7 @@ module _ {F T W A : Type 0} (f : FsSpec F) (c : Family T W A) (fl : FsLaws f) (c
         objects = objects_done f c fl cl limits lane refs refs' objects objects' old new lanes given l l' kept at z start x l'' r words task grows answered begun place order;
         preserves = preserves_by f c s (after l'')
             (λ v told. given_keeps f c fl cl limits lane refs refs' objects objects' old new lanes given l kept at v told l' z start x l'' r words task grows answered begun place
-            (kept_answered f c fl cl limits lane refs refs' objects objects' old new lanes given l l' kept at z start x l'' r words task grows room answered begun place order taken))
+            (kept_answered f c fl cl limits lane refs refs' objects objects' old new lanes given l l' kept at z start x l'' r words task grows room answered begun place order taken) order)
             (given_caused f c fl cl limits lane refs refs' objects objects' old new lanes given l kept at l' z start x l'' r words grows answered);
         ranks = ranked_done c.doing s (after l'') lane l l'' (moves_done f c fl cl limits lane refs refs' objects objects' old new lanes given l l' kept at z start x l'' r words task grows answered begun place order) r lane (length l.replies.items) grows task;
         held = λ is. cc;

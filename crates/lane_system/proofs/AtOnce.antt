@@ -18,10 +18,11 @@ use Rattle.lane_system.specs.Kept.{RunsIn}
 use Rattle.lane_system.specs.LaneActs.{IsAtOnce, task_start}
 use Rattle.lane_system.specs.Replies.{EndsBy, EndsToo, IfAnswer, IsCaused, IsCutOff, IsTold, Knows, OfAnswer}
 use Rattle.lane_system.specs.States.{now_of, since_in}
+use Rattle.lane_system.proofs.Family.{FamilyLaws}
 use Rattle.lane_system.proofs.Giving.{Gives}
 use Rattle.lane_system.proofs.Prefixes.{state_all}
 
-module _ {F T W A : Type 0} (f : FsSpec F) (c : Family T W A) (limits : Limits) (lane number objects : ℕ) (base : Base F) (words : W) (task : Option (Running T)) (runs : base.books.halted ≡ None → RunsIn c lane (f.view base.fs) base.books task)
+module _ {F T W A : Type 0} (f : FsSpec F) (c : Family T W A) (cl : FamilyLaws c) (limits : Limits) (lane number objects : ℕ) (base : Base F) (words : W) (task : Option (Running T)) (runs : base.books.halted ≡ None → RunsIn c lane (f.view base.fs) base.books task)
     (never : base.books.halted ≡ Some halt.Strayed → ¬ (IsTold f.view)) where
   -- a lane without a task has nothing pending
   idle : task ≡ None → base.books.halted ≡ None → NotPending lane (books_of base.books)
@@ -43,6 +44,7 @@ module _ {F T W A : Type 0} (f : FsSpec F) (c : Family T W A) (limits : Limits) 
     answer = no_answer _ x caused.0;
     known = knows;
     shown = (λ v told sound. no_answer _ x caused.0, caused.1);
+    remains = λ v w is_v is_w. no_answer _ x caused.0;
     full = no_answer _ x caused.0;
     idle = λ live. absurd (let z : Some why ≡ None = sym over ∙ live in cc);
     halts = ends;
@@ -75,6 +77,7 @@ module _ {F T W A : Type 0} (f : FsSpec F) (c : Family T W A) (limits : Limits) 
     answer = ((here a is.2).0, λ makes. absurd (is.2.2 makes));
     known = λ told. (here a is.2).1;
     shown = (λ v told sound. is.2.5 v, tt);
+    remains = λ v w is_v is_w. cl.commands.answers.remains_at_once (since_in limits base.books at_end) words a w is.2;
     full = λ full. absurd (is.2.3 full);
     idle = idle is.1;
     halts = tt;
@@ -91,6 +94,7 @@ module _ {F T W A : Type 0} (f : FsSpec F) (c : Family T W A) (limits : Limits) 
     answer = tt;
     known = λ told. tt;
     shown = (λ v told sound. tt, tt);
+    remains = λ v w is_v is_w. tt;
     full = tt;
     idle = idle is.1;
     halts = tt;

@@ -119,6 +119,7 @@ module _ {F T W A : Type 0} (f : FsSpec F) (c : Family T W A) (limits : Limits) 
     counted = many;
     said = λ a n r words to is. absurd (no_reply a n r to);
     stays = λ a n r words to is. absurd (no_reply a n r to);
+    remains = λ over a n r words to is last. absurd (no_reply a n r to);
     founded = record {
       stays = λ commit still is. is;
       each = λ k e at. none_at base.books.history.items k e history at;

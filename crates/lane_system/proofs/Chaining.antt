@@ -64,6 +64,7 @@ module _ {F T W A : Type 0} (f : FsSpec F) (c : Family T W A) (fl : FsLaws f) wh
     counted = λ v told is. (v, told, is);
     said = λ v told stored has is. is;
     stays = λ v told stored is. (v, told, is);
+    remains = λ v told is. (v, told, is);
     founded = λ opening v told stored is. (v, told, is);
     known = λ opening v told is. (v, told, is);
   }
@@ -78,6 +79,7 @@ module _ {F T W A : Type 0} (f : FsSpec F) (c : Family T W A) (fl : FsLaws f) wh
     counted = λ v told is. (let z = x.counted v told is in y.counted z.0 z.1 z.2);
     said = λ v told stored has is. (let z = told_both (f.view b.base.fs) _ _ (x.good v told stored) (x.counted v told has) in y.said z.0 z.1 z.2.0 z.2.1 (x.said v told stored has is));
     stays = λ v told stored is. (let z = told_both (f.view b.base.fs) _ _ (x.good v told stored) (x.stays v told stored is) in y.stays z.0 z.1 z.2.0 z.2.1);
+    remains = λ v told is. (let z = x.remains v told is in y.remains z.0 z.1 z.2);
     founded = λ opening v told stored is. (let z = told_both (f.view b.base.fs) _ _ (x.good v told stored) (x.founded opening v told stored is) in y.founded opening z.0 z.1 z.2.0 z.2.1);
     known = λ opening v told is. (let z = x.known opening v told is in y.known opening z.0 z.1 z.2);
   }

@@ -56,6 +56,7 @@ pub record Gives {F T W A : Type 0} (f : FsSpec F) (c : Family T W A) (limits : 
   pub answer : IfAnswer (Answers c.means lane number (placed (since_in limits old.books start) (now_of new.books)) new.books.history.items words) x
   pub known : IsTold f.view → Knows c.means (placed (since_in limits old.books start) (now_of new.books)) words x
   pub shown : Shown c.means (since_in limits old.books start) (f.view old.fs) old.books.halted (f.faults old.fs) (f.faults new.fs) words x
+  pub remains : (v w : View) → f.view old.fs ≡ Some v → f.view new.fs ≡ Some w → IfAnswer (λ a. c.means.remains (since_in limits old.books start) w a words) x
   pub full : IfAnswer (λ a. c.means.full a → limits.objects ≤ objects) x
   -- nothing of the lane is pending, unless all were ended
   pub idle : new.books.halted ≡ None → NotPending lane (books_of new.books)
@@ -150,6 +151,13 @@ module _ {F T W A : Type 0} (f : FsSpec F) (c : Family T W A) (fl : FsLaws f) (c
 
     shows_a : (v : View) → f.view old.fs ≡ Some v → IsSoundStore limits v.now → c.means.shows since v a words
     shows_a v is_v sound_v = let l = done.tells v is_v in cl.commands.answers.shows since lane words t t' v l.0 (books_of old.books) a after (facts v is_v) l.2 only.1 sound_v
+
+    remains_a : (v w : View) → f.view old.fs ≡ Some v → f.view new.fs ≡ Some w → c.means.remains since w a words
+    remains_a v w is_v is_w =
+        let l = done.tells v is_v in
+        let one : Some l.0 ≡ Some w = sym l.1 ∙ is_w in
+        let e : l.0 ≡ w = cc in
+        cl.commands.answers.remains since lane words t t' v w (books_of old.books) a after (facts v is_v) (subst (c.tasks.leaves t (turn.Done tt) t' v) e l.2) only.1
 
     knows_a : IsTold f.view → c.means.knows (placed since (now_of new.books)) a words
     knows_a is_told =
@@ -273,6 +281,7 @@ module _ {F T W A : Type 0} (f : FsSpec F) (c : Family T W A) (fl : FsLaws f) (c
     answer = if_answer _ x answer_a;
     known = λ is_told. knows is_told x refl by;
     shown = (λ v told sound_v. if_answer _ x (λ a is. shows_a a is v told sound_v), caused_by x by);
+    remains = λ v w is_v is_w. if_answer _ x (λ a is. remains_a a is v w is_v is_w);
     full = if_answer _ x full_a;
     idle = λ live. ⊎_elim (λ idle. idle) (λ h. absurd (let z : Some h.0 ≡ None = sym (halted_so h.0 h.1) ∙ live in cc)) (ended_or outcome refl end);
     halts = ends_by c.doing.answer (f.refused new.fs) t' (f.faults new.fs) new.books.halted outcome halted_so x by;

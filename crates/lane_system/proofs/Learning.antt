@@ -56,6 +56,8 @@ module _ {T W A : Type 0} (k : TaskSpec T) (m : Meaning W A) (d : Doing T W A) (
     answers = l.answers;
     says = l.says;
     shows = l.shows;
+    remains = l.remains;
+    remains_at_once = l.remains_at_once;
     knows = l.knows;
     lacks_alone = l.lacks_alone;
     lacks = l.lacks;

@@ -23,6 +23,7 @@ pub mod Storing
 pub mod Inside
 pub mod Folders
 pub mod Staying
+pub mod Remaining
 pub mod Known
 pub mod Preserves
 pub mod Unremoved

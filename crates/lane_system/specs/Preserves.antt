@@ -10,6 +10,7 @@ use Rattle.lane_system.specs.Founded.{RefsNameDurableCommits}
 use Rattle.lane_system.specs.Inside.{NoExternalChange}
 use Rattle.lane_system.specs.Known.{AreKnown}
 use Rattle.lane_system.specs.Lasting.{AreKept}
+use Rattle.lane_system.specs.Remaining.{LastRemains}
 use Rattle.lane_system.specs.Said.{RepliesHeldAtAPoint}
 use Rattle.lane_system.specs.Staying.{AreStaying}
 use Rattle.lane_system.specs.Storing.{AreStored}
@@ -17,7 +18,8 @@ use Rattle.lane_system.specs.System.{System}
 
 -- What held of the old system holds of the new one: what each change made lasts; the store is good; failed calls are the causes of what is
 -- told of them; nobody else changed the disk; folders of checkouts are those that were claimed, and stay; as many objects stand as were
--- counted; replies were so at a moment; refs name commits that last; objects are those of the opening and those that were brought.
+-- counted; replies were so at a moment, and the last one is so still, once no command is left; refs name commits that last; objects are those
+-- of the opening and those that were brought.
 pub record Preserves {F T W A : Type 0} (f : FsSpec F) (c : Family T W A) (old new : System F T W A) : Type 0 where
   pub lasts : (opening v : View) → f.view old.base.fs ≡ Some v → AreKept c.means f.was opening old v → Told (f.view new.base.fs) (λ w. AreKept c.means f.was opening new w)
   pub good : (v : View) → f.view old.base.fs ≡ Some v → AreStored f c.means old v → Told (f.view new.base.fs) (λ w. AreStored f c.means new w)
@@ -27,6 +29,7 @@ pub record Preserves {F T W A : Type 0} (f : FsSpec F) (c : Family T W A) (old n
   pub counted : (v : View) → f.view old.base.fs ≡ Some v → AreCounted old v → Told (f.view new.base.fs) (λ w. AreCounted new w)
   pub said : (v : View) → f.view old.base.fs ≡ Some v → AreStored f c.means old v → AreCounted old v → RepliesHeldAtAPoint c.means f.was old → RepliesHeldAtAPoint c.means f.was new
   pub stays : (v : View) → f.view old.base.fs ≡ Some v → AreStored f c.means old v → AreStaying c.means old v → Told (f.view new.base.fs) (λ w. AreStaying c.means new w)
+  pub remains : (v : View) → f.view old.base.fs ≡ Some v → LastRemains c.means old v → Told (f.view new.base.fs) (λ w. LastRemains c.means new w)
   pub founded : (opening v : View) → f.view old.base.fs ≡ Some v → AreStored f c.means old v → RefsNameDurableCommits c.means opening old v → Told (f.view new.base.fs) (λ w. RefsNameDurableCommits c.means opening new w)
   pub known : (opening : Disk) (v : View) → f.view old.base.fs ≡ Some v → AreKnown f c.means opening old v → Told (f.view new.base.fs) (λ w. AreKnown f c.means opening new w)
 
@@ -40,4 +43,5 @@ pub record Stands {F T W A : Type 0} (f : FsSpec F) (c : Family T W A) (before :
   pub counted : AreCounted s v
   pub said : RepliesHeldAtAPoint c.means f.was s
   pub stays : AreStaying c.means s v
+  pub remains : LastRemains c.means s v
   pub founded : RefsNameDurableCommits c.means opening s v

@@ -53,6 +53,7 @@ list_means = record {
   says = λ since a c. Lists a.items since.place;
   knows = λ since a c. Unit {0};
   shows = λ since v a c. Unit {0};
+  remains = λ since v a c. Unit {0};
   stays = λ since out a c v b. Unit {0};
   keeps = λ since opening out c v. Unit {0};
   keeps_on = λ since opening out c disk. Unit {0};

@@ -46,6 +46,7 @@ prune_means = record {
   says = λ since a c. Unit {0};
   knows = λ since a c. Unit {0};
   shows = λ since v a c. Says c.depth since.limits.content v.now a;
+  remains = λ since v a c. Says c.depth since.limits.content v.now a;
   stays = λ since out a c v b. Unit {0};
   keeps = λ since opening out c v. Unit {0};
   keeps_on = λ since opening out c disk. Unit {0};

@@ -17,7 +17,7 @@ use Rattle.prune_family.specs.Family.{prune_doing, prune_means}
 use Rattle.prune_family.specs.Kinds.{asks_both, begins_of, begun_holds, ends_made, ends_tell, goes_on_its_way, has_answer, learns_on, never_claims, never_pins, not_made, makes_durable_prune, shows_founded, shows_prune, writes_no_bytes}
 use Rattle.prune_family.specs.Learning.{learn_facts, learn_kind, learn_left}
 use Rattle.prune_family.specs.Removing.{ends_of, keeps_of, no_checkout, no_stage, removes_of, takes_of, vacant_only}
-use Rattle.prune_family.specs.Says.{ends_say, outside_no}
+use Rattle.prune_family.specs.Says.{ends_remain, ends_say, outside_no}
 
 abbrev pub prune_tasks : TaskSpec PruneTask
 prune_tasks = task_spec (λ t. prune_kind t.work) (λ actor t. prune_writes actor t.work) (λ t u new. prune_stepped t.work u new.work) (λ t u new. prune_leaves t.work u new.work) (λ t. prune_refuses t.work) (λ lane t. prune_facts lane t.work)
@@ -75,6 +75,8 @@ answer_laws = record {
   answers = λ since c t new is step. has_answer t.work new.work step;
   says = λ since p c t new a is step given. tt;
   shows = λ since lane c t new v w b a is f leaves given sound. ends_say since lane c t.work new.work v w b a is f leaves given;
+  remains = λ since lane c t new v w b a is f leaves given. ends_remain since lane c t.work new.work v w b a is f leaves given;
+  remains_at_once = λ since c a v is. is.5 v;
   knows = λ since p lane c t new v w b a is f leaves given sees. tt;
   lacks_alone = λ since lane c t new v w b a commit is f leaves given lacks sum. absurd lacks;
   lacks = λ since v a c commit files shows lacks finished. lacks;

@@ -19,7 +19,7 @@ use Rattle.ost_types.specs.declared.object.ObjName.{ObjName}
 use Rattle.ost_types.specs.Path.{Path}
 use Rattle.fs_trait.specs.declared.task.StepResult.TheVariants as turn
 use Rattle.fs_trait.specs.Seen.{shows}
-use Rattle.fs_trait.specs.View.{Disk, View}
+use Rattle.fs_trait.specs.View.{Disk, View, all_synced}
 use Rattle.fs_trait.proofs.Claims.{reads_shows}
 use Rattle.fs_trait.proofs.Effects.{may_now}
 use Rattle.repo_layout.specs.Paths.{ref_path}
@@ -43,6 +43,7 @@ use Rattle.rely_guarantee.specs.Books.{Books}
 use Rattle.rely_guarantee.specs.State.{RefOf}
 use Rattle.durable_store.proofs.Images.{there_true, true_there}
 use Rattle.durable_store.proofs.Names.{contains_kept, kept_ascends, kept_contains}
+use Rattle.prune_sweep.specs.declared.part.Part.{Part}
 use Rattle.prune_sweep.specs.declared.part.Part.TheVariants as part
 use Rattle.prune_sweep.specs.Planned.{IsPlanned}
 use Rattle.prune_sweep.specs.Sweeping as sweeping
@@ -58,6 +59,7 @@ use Rattle.prune_command.specs.Answers.{HasDamaged, Says, ShowsPruned}
 use Rattle.prune_command.specs.Commands.{Ends, Tells, prune_answer, prune_leaves}
 use Rattle.prune_command.specs.Facts.{AreRootsOf, HasBegun, IsGoing, KnownIn, SweepKnows, prune_facts}
 use Rattle.prune_command.specs.Learned.{from_of}
+use Rattle.prune_command.specs.SweepSteps.{Did}
 use Rattle.command.specs.Since.{Since}
 use Rattle.prune_family.specs.declared.words.PruneWords.{PruneWords}
 use Rattle.prune_family.specs.Family.{IsPruning, prune_outside}
@@ -231,6 +233,25 @@ outside_none limits v path good says =
 pub ends_say : (since : Since) (lane : ℕ) (c : PruneWords) (t new : PruneCommand) (v w : View) (b : Books) (a : PruneAnswer) → IsPruning since c t → prune_facts lane t v b → prune_leaves t (turn.Done tt) new v w → prune_answer new ≡ Some a → Says c.depth since.limits.content v.now a
 ends_say since lane c t new v w b a is f leaves given =
     subst (λ (n : ℕ). Says n since.limits.content v.now a) is.depth (subst (λ (l : Limits). Says t.depth l.content v.now a) is.limits (ends_publish lane t new v w b a f leaves given))
+
+-- the last step changes nothing that reads see
+did_now : (p : Part) (r : Sweeping) (v w : View) → (p ≡ part.End) ⊎ (p ≡ part.Over) → Did p r v w → w.now ≡ v.now
+unfolding all_synced
+did_now p r v w (inl end) did = ap (λ (u : View). u.now) (let is : w ≡ all_synced v = subst (λ x. Did x r v w) end did in is)
+did_now p r v w (inr over) did = ap (λ (u : View). u.now) (let is : w ≡ v = subst (λ x. Did x r v w) over did in is)
+
+still_now : (p : Phase) (t : PruneCommand) (a : PruneAnswer) (v w : View) → Ends p a → Tells t p a v w → w.now ≡ v.now
+still_now (phase.Marking m) t (answer.Outside path) v w ends told = ap (λ (u : View). u.now) told.0
+still_now (phase.Sweeping r) t (answer.Pruned kept removed) v w ends told = did_now r.part r v w ends.0 told
+still_now (phase.Marking m) t (answer.Pruned kept removed) v w ends told = absurd ends
+still_now (phase.Sweeping r) t (answer.Outside path) v w ends told = absurd ends
+still_now phase.Waiting t a v w ends told = absurd ends
+still_now phase.Unlearned t a v w ends told = absurd ends
+still_now (phase.Listing l) t a v w ends told = absurd ends
+still_now (phase.Over x) t a v w ends told = absurd told
+
+pub ends_remain : (since : Since) (lane : ℕ) (c : PruneWords) (t new : PruneCommand) (v w : View) (b : Books) (a : PruneAnswer) → IsPruning since c t → prune_facts lane t v b → prune_leaves t (turn.Done tt) new v w → prune_answer new ≡ Some a → Says c.depth since.limits.content w.now a
+ends_remain since lane c t new v w b a is f leaves given = subst (λ d. Says c.depth since.limits.content d a) (sym (still_now t.phase t leaves.0 v w leaves.2 leaves.3)) (ends_say since lane c t new v w b a is f leaves given)
 
 pub outside_no : (limits : Limits) (depth : ℕ) (v : View) (a : PruneAnswer) → IsGoodStore limits v.now → Says depth limits.content v.now a → prune_outside a → ⊥
 outside_no limits depth v (answer.Outside path) good says outside = outside_none limits v path good says

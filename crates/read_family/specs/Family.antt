@@ -84,6 +84,7 @@ read_means = record {
   says = read_says;
   knows = λ since a c. Unit {0};
   shows = read_shows;
+  remains = λ since v a c. Unit {0};
   stays = λ since out a c v b. Unit {0};
   keeps = λ since opening out c v. Unit {0};
   keeps_on = λ since opening out c disk. Unit {0};

@@ -88,6 +88,7 @@ ref_means = record {
   says = λ since. ref_says since.start;
   knows = ref_knows;
   shows = λ since. ref_shows;
+  remains = λ since v a c. Unit {0};
   stays = λ since out a c v b. Unit {0};
   keeps = λ since opening out c v. Unit {0};
   keeps_on = λ since opening out c disk. Unit {0};

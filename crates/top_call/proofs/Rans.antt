@@ -137,6 +137,7 @@ module _ {F : Type 0} (f : FsSpec F) (opened : Opened F) (limits : Limits) (v : 
       };
       books = books_of s.base.books;
       stays = stands.stays;
+      remains = stands.remains (λ lane has. omega (arith, has.2, is.ended lane has.0 has.1));
       folders = folders_before s.lanes v.now begins.0.now w.now begins.2.keeps (record { made = λ name there. named_of s.lanes begins.0.now name (stands.folders.made name there); taken = stands.folders.taken; clear = clear_in s.lanes begins.0.now w.now stands.folders.clear });
     }
 

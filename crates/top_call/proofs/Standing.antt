@@ -26,6 +26,7 @@ stands_after f c old new before opening v told keeps stands =
         counted = told_as (f.view new.base.fs) _ kept.0 at (keeps.counted v told stands.counted);
         said = keeps.said v told stands.good stands.counted stands.said;
         stays = told_as (f.view new.base.fs) _ kept.0 at (keeps.stays v told stands.good stands.stays);
+        remains = told_as (f.view new.base.fs) _ kept.0 at (keeps.remains v told stands.remains);
         founded = told_as (f.view new.base.fs) _ kept.0 at (keeps.founded opening v told stands.good stands.founded);
       },
     )

@@ -22,6 +22,7 @@ use Rattle.lane_system.specs.Lasting.{AreKeptIn}
 use Rattle.lane_system.specs.Replied.{Replied}
 use Rattle.lane_system.specs.Replies.{IsTold}
 use Rattle.lane_system.specs.Said.{RepliesHeldAtAPointIn}
+use Rattle.lane_system.specs.Remaining.{LastRemainsIn}
 use Rattle.lane_system.specs.Staying.{AreStayingIn}
 use Rattle.lane_system.specs.Storing.{IsBroughtIn, IsConfigured}
 use Rattle.lane_system.specs.Sweeping.{AreWhole}
@@ -124,6 +125,7 @@ pub record LeftGood (limits : Limits) (brings : Store) (d : Disk) : Type 0 where
 -- opened, or that a ref was set to before, if it wasn't removed since. What each command left outside of the store stands at the end, as the
 -- folder of a checkout that was done, which is its commit's tree; each such folder that stands then stood at the beginning, or a command
 -- checks out to its name; and none is told to stand in the way but one that stood at the beginning, or that another command checks out to.
+-- What the reply that came last shows behind its command is so at the end, as that of a prune, that what is reachable is all that there is.
 pub record Ran {F : Type 0} (limits : Limits) (view : F → Option View) (clock : F → ℕ) (was : F → ℕ → View → Type 0) (v : View) (before : ℕ) (commands : List (List Command)) (fs : F) (history : List Entry) (pending : Option Event) (replies : List (List Reply)) (w : View) : Type 0 where
   pub good : IsGood limits v.now
   pub start : State
@@ -149,6 +151,7 @@ pub record Ran {F : Type 0} (limits : Limits) (view : F → Option View) (clock 
   pub present : ArePresentIn means (λ commit. IsSum commit × IsFinished begun.now commit) history lanes
   pub books : Books
   pub stays : AreStayingIn means limits start history swept lanes w books
+  pub remains : LastRemainsIn means limits start history lanes w
   pub folders : AreFoldersIn means lanes v.now w.now
 
 -- so, of lanes that these words ask for, where an input has this left
