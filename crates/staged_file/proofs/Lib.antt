@@ -1,5 +1,5 @@
 pub mod StepLemmas
-pub mod Answering
 pub mod Wholes
+pub mod StageLemmas
 pub mod Stable
 pub mod Begins

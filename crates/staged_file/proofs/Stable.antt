@@ -9,10 +9,13 @@ use Rattle.fs_trait.specs.Seen.{Seen, Vacant, Leaf, shows, MayBe, IsDirectory, N
 use Rattle.fs_trait.specs.Change.{Writes, Meets, Harmless, LeadsTo, Own}
 use Rattle.fs_trait.proofs.Kept.{meets_kept}
 use Rattle.fs_trait.proofs.Facts.{leaf_file, leaf_not_directory}
+use Rattle.staging.specs.Steps as stages
+use Rattle.staging.proofs.Stable.{staging_lies}
 use Rattle.staged_file.specs.declared.phase.Phase.{Phase}
 use Rattle.staged_file.specs.declared.phase.Phase.TheVariants.{Clear, Create, Append, SyncFile, Look, Replace, SyncFolder, Ended}
-use Rattle.staged_file.specs.Staged.{Staged, lock_in}
-use Rattle.staged_file.specs.Steps.{IsBegun, IsFileWith, IsPart, IsWhole, writes_in, WritesOf, firm_in, FirmOf, here_in, HereOf, Needs}
+use Rattle.staged_file.specs.Staged.{Staged, draft_of, is_staging, lock_in, stage_in}
+use Rattle.staged_file.specs.Steps.{IsFileWith, IsWhole, writes_in, WritesOf, firm_in, FirmOf, here_in, HereOf, Needs}
+use Rattle.staged_file.proofs.StageLemmas.{stage_needs}
 
 -- Where a write of the next step lies: at the staging path, or, under the task's lock, at the target, where it is the whole
 -- file with its attributes. A file that is written is a new one or the staged one, and takes no folder's place.
@@ -22,20 +25,17 @@ pub record Lies (t : Staged) (v : View) (p : Path) (s : Seen) : Type 0 where
   pub folders : NotDirectory (shows v.now p)
 
 module _ (t : Staged) (v : View) (needs : Needs t v) where
-  from_new : (s : Seen) → IsBegun t v s → (n : ℕ) (m : Meta) (b : List ℕ) → s ≡ Leaf n m b → IsFresh n v ⊎ (v.now.at t.stage ≡ File n)
-  from_new s file n m b e =
-      let l : Leaf file.0 t.meta file.1.0 ≡ Leaf n m b = sym file.1.1 ∙ e in
-      let i : file.0 ≡ n = cc in
-      inl (subst (λ k. IsFresh k v) i file.2)
+  -- while the file is staged, as staging does
+  stage_lies : (ph : Phase) → t.phase ≡ ph → is_staging ph ≡ true → (p : Path) (s : Seen) → stages.writes_in (stage_in ph) (draft_of t) v p s → Lies t v p s
+  stage_lies ph is on p s a =
+      let l = staging_lies (draft_of t) v (stage_needs t v needs (ap is_staging is ∙ on)) p s (subst (λ f. stages.writes_in (stage_in f) (draft_of t) v p s) (sym is) a) in
+      record { place = inl l.place; comes = l.comes; folders = l.folders }
 
-  from_stage : (s : Seen) → IsPart t v s → (n : ℕ) (m : Meta) (b : List ℕ) → s ≡ Leaf n m b → IsFresh n v ⊎ (v.now.at t.stage ≡ File n)
-  from_stage s file n m b e =
-      let l : Leaf file.0 t.meta file.1.0 ≡ Leaf n m b = sym file.1.1 ∙ e in
+  from_whole : (s : Seen) → IsWhole t v s → (n : ℕ) (m : Meta) (b : List ℕ) → s ≡ Leaf n m b → IsFresh n v ⊎ (v.now.at t.stage ≡ File n)
+  from_whole s file n m b e =
+      let l : Leaf file.0 t.meta t.bytes ≡ Leaf n m b = sym file.1 ∙ e in
       let i : file.0 ≡ n = cc in
       inr (file.2 ∙ ap File i)
-
-  whole_part : (s : Seen) → IsWhole t v s → IsPart t v s
-  whole_part s file = (file.0, (t.bytes, file.1), file.2)
 
   from_none : (s : Seen) → s ≡ Vacant → (n : ℕ) (m : Meta) (b : List ℕ) → s ≡ Leaf n m b → IsFresh n v ⊎ (v.now.at t.stage ≡ File n)
   from_none s none n m b e = let l : Vacant ≡ Leaf n m b = sym none ∙ e in cc
@@ -43,19 +43,17 @@ module _ (t : Staged) (v : View) (needs : Needs t v) where
   no_folder : (p q : Path) → p ≡ q → NotDirectory (shows v.now q) → NotDirectory (shows v.now p)
   no_folder p q e is = subst (λ r. NotDirectory (shows v.now r)) (sym e) is
 
-  file_there : (c : List ℕ) → shows v.now t.stage ≡ Leaf needs.inode t.meta c → NotDirectory (shows v.now t.stage)
-  file_there c is = leaf_not_directory _ needs.inode t.meta c is
-
   lies : (ph : Phase) → t.phase ≡ ph → Meets (firm_in ph t needs.inode) (here_in ph t needs.inode) v → (p : Path) (s : Seen) → writes_in ph t v p s → Lies t v p s
-  lies Clear is now p s a = record { place = inl a.0; comes = from_none s a.1; folders = no_folder p t.stage a.0 ((now.here t.stage).0 refl) }
-  lies Create is now p s a = record { place = inl a.0; comes = from_new s a.1; folders = no_folder p t.stage a.0 (subst NotDirectory (sym ((now.here t.stage).0 refl)) tt) }
-  lies Append is now p s a = record { place = inl a.0; comes = from_stage s a.1; folders = no_folder p t.stage a.0 (file_there _ (now.here t.stage refl)) }
-  lies SyncFile is now p s a = absurd a
-  lies Look is now p s a = absurd a
-  lies Replace is now p s (inl a) = record { place = inr (a.0, (a.1.0, a.1.1), ap (λ ph. lock_in ph t) is); comes = from_stage s (whole_part s a.1); folders = no_folder p t.at a.0 ((now.here t.at).1 refl) }
-  lies Replace is now p s (inr a) = record { place = inl a.0; comes = from_none s a.1; folders = no_folder p t.stage a.0 (file_there _ ((now.here t.stage).0 refl)) }
-  lies SyncFolder is now p s a = absurd a
-  lies Ended is now p s a = absurd a
+  lies Clear is now p s a = stage_lies Clear is refl p s a
+  lies Create is now p s a = stage_lies Create is refl p s a
+  lies Append is now p s a = stage_lies Append is refl p s a
+  lies Replace is now p s (inl a) = record { place = inr (a.0, (a.1.0, a.1.1), ap (λ ph. lock_in ph t) is); comes = from_whole s a.1; folders = no_folder p t.at a.0 ((now.here t.at).1 refl) }
+  lies Replace is now p s (inr a) = record {
+    place = inl a.0;
+    comes = from_none s a.1;
+    folders = no_folder p t.stage a.0 (leaf_not_directory _ needs.inode t.meta t.bytes ((now.here t.stage).0 refl));
+  }
+  lies ph is now p s a = absurd a
 
   pub staged_lies : (p : Path) (s : Seen) → WritesOf t v p s → Lies t v p s
   staged_lies = lies t.phase refl needs.meets
@@ -107,12 +105,9 @@ module _ (W : Path → Seen → Type 0) (t : Staged) (v : View) (spares : Spares
   here_out : (ph : Phase) → t.phase ≡ ph → Meets (firm_in ph t needs.inode) (here_in ph t needs.inode) v → Harmless W (here_in ph t needs.inode)
   here_out Clear is now p s wrote = ((λ e. absurd (not_stage p s wrote e)), (λ in_. spares.parents p s in_ ((now.here p).1 in_) wrote))
   here_out Create is now p s wrote = ((λ e. absurd (not_stage p s wrote e)), (λ in_. spares.parents p s in_ ((now.here p).1 in_) wrote))
-  here_out Append is now p s wrote = λ e. absurd (not_stage p s wrote e)
-  here_out SyncFile is now p s wrote = λ e. absurd (not_stage p s wrote e)
-  here_out Look is now p s wrote = λ e. absurd (not_stage p s wrote e)
   here_out Replace is now p s wrote = ((λ e. absurd (not_stage p s wrote e)), (λ e. absurd (at_target Replace is p s wrote e)))
   here_out SyncFolder is now p s wrote = ((λ e. absurd (at_target SyncFolder is p s wrote e)), λ e. absurd (not_stage p s wrote e))
-  here_out Ended is now p s wrote = λ e. absurd (not_stage p s wrote e)
+  here_out ph is now p s wrote = λ e. absurd (not_stage p s wrote e)
 
   -- The facts of the task stay true.
   pub staged_kept : (w : View) → Writes W v w → Needs t w

@@ -1,5 +1,5 @@
 -- A file on its way to a path, and which step comes next.
-use Rattle.std.specs.Prelude.{◌≡◌, ◌⊎◌, ◌≤◌, ◌<◌, ◌+◌, ◌-◌, nat_lt, ℕ, Bool, true, false, List, length, Option, Some, Result, Ok, Err, IsErrOf, OnOk, if◌then◌else◌}
+use Rattle.std.specs.Prelude.{◌≡◌, ◌≤◌, ◌<◌, ◌+◌, nat_lt, ℕ, Bool, true, false, List, length, Option, Some, Result, Ok, Err, IsErrOf, OnOk, if◌then◌else◌}
 use Rattle.ost_types.specs.declared.meta.Meta.{Meta}
 use Rattle.ost_types.specs.Path.{Path}
 use Rattle.fs_trait.specs.declared.types.FsErr.{FsErr}
@@ -11,6 +11,10 @@ use Rattle.fs_trait.specs.declared.task.Need.TheVariants as need
 use Rattle.fs_trait.specs.declared.types.Node.{Node}
 use Rattle.fs_trait.specs.declared.types.Node.TheVariants.{Folder}
 use Rattle.fs_trait.specs.Effect.{Next}
+use Rattle.staging.specs.declared.phase.Phase as staging
+use Rattle.staging.specs.declared.phase.Phase.TheVariants as stage
+use Rattle.staging.specs.Draft as draft
+use Rattle.staging.specs.Draft.{Draft}
 use Rattle.staged_file.specs.declared.phase.Phase.{Phase}
 use Rattle.staged_file.specs.declared.phase.Phase.TheVariants.{Clear, Create, Append, SyncFile, Look, Replace, SyncFolder, Ended}
 
@@ -30,12 +34,36 @@ abbrev pub is_directory : Option Node → Bool
 is_directory (Some (Folder m)) = true
 is_directory x = false
 
--- the most bytes that one step appends
-abbrev pub piece : ℕ
-piece = 1048576
+-- how far the file is staged in each phase
+abbrev pub stage_in : Phase → staging.Phase
+stage_in Clear = stage.Clear
+stage_in Create = stage.Create
+stage_in Append = stage.Append
+stage_in SyncFile = stage.SyncFile
+stage_in ph = stage.Ended
+
+-- the phase in which it is staged so far: the look at the target comes once the whole file is
+abbrev pub phase_of : staging.Phase → Phase
+phase_of stage.Clear = Clear
+phase_of stage.Create = Create
+phase_of stage.Append = Append
+phase_of stage.SyncFile = SyncFile
+phase_of stage.Ended = Look
+
+-- whether the next step stages the file
+abbrev pub is_staging : Phase → Bool
+is_staging Clear = true
+is_staging Create = true
+is_staging Append = true
+is_staging SyncFile = true
+is_staging ph = false
+
+-- the file as it is staged
+abbrev pub draft_of : Staged → Draft
+draft_of t = record { stage = t.stage; meta = t.meta; bytes = t.bytes; phase = stage_in t.phase; written = t.written }
 
 abbrev pub piece_end : Staged → ℕ
-piece_end t = if nat_lt piece (length t.bytes - t.written) then t.written + piece else length t.bytes
+piece_end t = draft.piece_end (draft_of t)
 
 -- so many bytes are written
 abbrev pub filled : ℕ → Staged → Staged
@@ -67,16 +95,12 @@ IsStepped old (Ok More) new = (new ≡ next old) × (is_last old.phase ≡ false
 IsStepped old (Ok (Done x)) new = (new ≡ next old) × (is_last old.phase ≡ true)
 IsStepped old (Err e) new = new ≡ old
 
--- no more steps than this are left: each byte counts as one
+-- no more steps than this are left: those that stage the file, each byte as one, and then the look, the rename and the folder's sync
 abbrev pub left_in : Phase → Staged → ℕ
-left_in Clear t = 7 + length t.bytes
-left_in Create t = 6 + length t.bytes
-left_in Append t = 5 + (length t.bytes - t.written)
-left_in SyncFile t = 4
-left_in Look t = 3
 left_in Replace t = 2
 left_in SyncFolder t = 1
 left_in Ended t = 0
+left_in ph t = draft.left_in (stage_in ph) (draft_of t) + 3
 
 abbrev pub left : Staged → ℕ
 left t = left_in t.phase t
@@ -92,10 +116,9 @@ lock_in ph t = t.lock
 
 -- how a step moves the clock
 abbrev pub Takes : Phase → ℕ → ℕ → Type 0
-Takes Clear before now = Next before now ⊎ (now ≡ before)
-Takes Look before now = now ≡ before
-Takes Ended before now = now ≡ before
-Takes ph before now = Next before now
+Takes Replace before now = Next before now
+Takes SyncFolder before now = Next before now
+Takes ph before now = draft.Takes (stage_in ph) before now
 
 -- the steps behind the one that shows the file are owed
 abbrev pub is_owed : Phase → Bool

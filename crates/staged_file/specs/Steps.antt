@@ -1,17 +1,16 @@
 -- What each step of a staged file needs, writes and is refused for.
-use Rattle.std.specs.Prelude.{◌≡◌, ◌≢◌, ℕ, true, false, List, take}
+use Rattle.std.specs.Prelude.{◌≡◌, ◌≢◌, ℕ, false, List}
 use Rattle.ost_types.specs.declared.meta.Meta.{Meta}
-use Rattle.ost_types.specs.Path.{Name, Path, under, is_in, is_below}
+use Rattle.ost_types.specs.Path.{Name, Path, under, is_below}
 use Rattle.fs_trait.specs.declared.types.FsErr.{FsErr}
 use Rattle.fs_trait.specs.declared.types.FsErr.TheVariants.{Failed, NoMemory, Exists}
-use Rattle.fs_trait.specs.declared.types.Value.TheVariants.{File}
 use Rattle.fs_trait.specs.View.{View}
-use Rattle.fs_trait.specs.Effect.{IsFresh}
 use Rattle.fs_trait.specs.Seen.{Seen, Vacant, Leaf, shows, IsDirectory, NotDirectory}
-use Rattle.fs_trait.specs.Change.{Meets, Moves, OfInode, LeadsTo, Own}
+use Rattle.fs_trait.specs.Change.{Meets, Moves, LeadsTo, Own}
+use Rattle.staging.specs.Steps as staging
 use Rattle.staged_file.specs.declared.phase.Phase.{Phase}
 use Rattle.staged_file.specs.declared.phase.Phase.TheVariants.{Clear, Create, Append, SyncFile, Look, Replace, SyncFolder, Ended}
-use Rattle.staged_file.specs.Staged.{Staged}
+use Rattle.staged_file.specs.Staged.{Staged, draft_of, stage_in}
 
 -- where the task's paths lie: the target in its folder, and the staging path elsewhere, not on the way there
 pub record IsPlaced (stage folder at : Path) : Type 0 where
@@ -24,28 +23,14 @@ pub record IsPlaced (stage folder at : Path) : Type 0 where
 abbrev pub IsFileWith : Meta → List ℕ → Seen → Type 0
 IsFileWith m b s = (n : ℕ) × (s ≡ Leaf n m b)
 
--- a new file with the task's attributes
-abbrev pub IsBegun : Staged → View → Seen → Type 0
-IsBegun t v s = (n : ℕ) × OfInode n t.meta s × IsFresh n v
-
--- the staged file, with any bytes
-abbrev pub IsPart : Staged → View → Seen → Type 0
-IsPart t v s = (n : ℕ) × OfInode n t.meta s × (v.now.at t.stage ≡ File n)
-
 -- the staged file, with all its bytes
 abbrev pub IsWhole : Staged → View → Seen → Type 0
-IsWhole t v s = (n : ℕ) × (s ≡ Leaf n t.meta t.bytes) × (v.now.at t.stage ≡ File n)
+IsWhole t v s = staging.IsWhole (draft_of t) v s
 
 -- what the next step may write
 abbrev pub writes_in : Phase → Staged → View → Path → Seen → Type 0
-writes_in Clear t v p s = (p ≡ t.stage) × (s ≡ Vacant)
-writes_in Create t v p s = (p ≡ t.stage) × IsBegun t v s
-writes_in Append t v p s = (p ≡ t.stage) × IsPart t v s
-writes_in SyncFile t v p s = ⊥
-writes_in Look t v p s = ⊥
 writes_in Replace t v p s = Moves t.stage t.at (IsWhole t v) p s
-writes_in SyncFolder t v p s = ⊥
-writes_in Ended t v p s = ⊥
+writes_in ph t v p s = staging.writes_in (stage_in ph) (draft_of t) v p s
 
 abbrev pub WritesOf : Staged → View → Path → Seen → Type 0
 WritesOf t v = writes_in t.phase t v
@@ -71,14 +56,10 @@ FirmOf t n = firm_in t.phase t n
 
 -- and of what is there now
 abbrev pub here_in : Phase → Staged → ℕ → Path → Seen → Type 0
-here_in Clear t n p s = (p ≡ t.stage → NotDirectory s) × (is_in p t.stage ≡ true → IsDirectory s)
-here_in Create t n p s = (p ≡ t.stage → s ≡ Vacant) × (is_in p t.stage ≡ true → IsDirectory s)
-here_in Append t n p s = p ≡ t.stage → s ≡ Leaf n t.meta (take t.written t.bytes)
-here_in SyncFile t n p s = p ≡ t.stage → s ≡ Leaf n t.meta t.bytes
-here_in Look t n p s = p ≡ t.stage → s ≡ Leaf n t.meta t.bytes
 here_in Replace t n p s = (p ≡ t.stage → s ≡ Leaf n t.meta t.bytes) × (p ≡ t.at → NotDirectory s)
 here_in SyncFolder t n p s = (p ≡ t.at → s ≡ Leaf n t.meta t.bytes) × (p ≡ t.stage → s ≡ Vacant)
 here_in Ended t n p s = p ≡ t.stage → s ≡ Vacant
+here_in ph t n p s = staging.here_in (stage_in ph) (draft_of t) n p s
 
 abbrev pub HereOf : Staged → ℕ → Path → Seen → Type 0
 HereOf t n = here_in t.phase t n

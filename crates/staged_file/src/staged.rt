@@ -8,6 +8,7 @@ mod steps;
 use crate::Phase;
 use fs_trait::Need;
 use ost_types::{Bytes, FsPath, Meta};
+use staging::Staging;
 use std::marker::Model;
 
 /// What file is to be made, and where.
@@ -29,22 +30,23 @@ pub struct Plan {
 /// target's folder. A crash at any moment leaves at the target what was there, or the whole file.
 #[derive(Drop, Debug)]
 pub struct StagedFile {
-    plan: Plan,
+    // the file at its staging path
+    file: Staging,
+    folder: FsPath,
+    at: FsPath,
+    lock: Need,
     phase: Phase,
-    // how many of the bytes are staged
-    written: usize,
 }
 
 impl Model for StagedFile {
-    ghost use Rattle.std.specs.Prelude.{◌≤◌, length};
-    ghost use Rattle.ost_types.specs.Mode.{IsFileMode};
-    ghost use Rattle.staged_file.specs.Staged.{Staged};
+    ghost use Rattle.std.specs.Prelude.{◌≡◌};
+    ghost use Rattle.staged_file.specs.Staged.{Staged, stage_in};
 
     ghost Value = { Staged };
 
-    ghost view = { λ a. record { stage = a.plan.stage; folder = a.plan.folder; at = a.plan.at; meta = a.plan.meta; bytes = a.plan.bytes; lock = a.plan.lock; phase = a.phase; written = a.written } };
+    ghost view = { λ a. record { stage = a.file.stage; folder = a.folder; at = a.at; meta = a.file.meta; bytes = a.file.bytes; lock = a.lock; phase = a.phase; written = a.file.written } };
 
-    ghost invariant = { λ a. IsFileMode a.plan.meta.mode × (a.written ≤ length a.plan.bytes) };
+    ghost invariant = { λ a. a.file.phase ≡ stage_in a.phase };
 }
 
 impl StagedFile {
@@ -52,10 +54,20 @@ impl StagedFile {
         requires { IsFileMode plan.meta.mode }
         ensures { result ≡ record { stage = plan.stage; folder = plan.folder; at = plan.at; meta = plan.meta; bytes = plan.bytes; lock = plan.lock; phase = phase.Clear; written = 0 } }
     {
+        let Plan {
+            stage,
+            folder,
+            at,
+            meta,
+            bytes,
+            lock,
+        } = plan;
         StagedFile {
-            plan,
+            file: Staging::new(staging::Plan { stage, meta, bytes }),
+            folder,
+            at,
+            lock,
             phase: Phase::Clear,
-            written: 0,
         }
     }
 
@@ -66,7 +78,7 @@ impl StagedFile {
         match self.phase {
             Phase::Clear | Phase::Create | Phase::Append | Phase::SyncFile | Phase::Ended =>
                 Need::Nothing,
-            _ => self.plan.lock,
+            _ => self.lock,
         }
     }
 
@@ -74,16 +86,11 @@ impl StagedFile {
     pub fn left(&self) -> u128
         ensures { result ≡ left self.now }
     {
-        let len = self.plan.bytes.as_slice().len();
         match self.phase {
-            Phase::Clear => 7 + len as u128,
-            Phase::Create => 6 + len as u128,
-            Phase::Append => 5 + (len - self.written) as u128,
-            Phase::SyncFile => 4,
-            Phase::Look => 3,
             Phase::Replace => 2,
             Phase::SyncFolder => 1,
             Phase::Ended => 0,
+            _ => self.file.left() + 3,
         }
     }
 

@@ -6,13 +6,13 @@ use Rattle.fs_trait.specs.declared.types.Value.TheVariants.{File}
 use Rattle.fs_trait.specs.View.{View}
 use Rattle.fs_trait.specs.Effect.{IsFresh}
 use Rattle.fs_trait.specs.Seen.{Seen, Vacant, Leaf, shows, MayBe, IsDirectory, NotDirectory}
-use Rattle.fs_trait.specs.Change.{Writes, Meets, Harmless, Own, IsNewFile, IsFileOf}
+use Rattle.fs_trait.specs.Change.{Writes, Meets, Harmless, Own}
 use Rattle.fs_trait.proofs.Kept.{meets_kept}
 use Rattle.fs_trait.proofs.Facts.{leaf_file, leaf_not_directory}
 use Rattle.staging.specs.declared.phase.Phase.{Phase}
 use Rattle.staging.specs.declared.phase.Phase.TheVariants.{Clear, Create, Append, SyncFile, Ended}
 use Rattle.staging.specs.Draft.{Draft}
-use Rattle.staging.specs.Steps.{writes_in, WritesOf, firm_in, FirmOf, here_in, HereOf, Needs}
+use Rattle.staging.specs.Steps.{IsBegun, IsPart, writes_in, WritesOf, firm_in, FirmOf, here_in, HereOf, Needs}
 
 -- Where a write of the next step lies: at the staging path. It is no folder, and takes no folder's place; a file that is written
 -- is a new one or the staged one.
@@ -23,17 +23,17 @@ pub record Lies (t : Draft) (v : View) (p : Path) (s : Seen) : Type 0 where
   pub folders : NotDirectory (shows v.now p)
 
 module _ (t : Draft) (v : View) (needs : Needs t v) where
-  from_new : (s : Seen) → IsNewFile v s → (n : ℕ) (m : Meta) (b : List ℕ) → s ≡ Leaf n m b → IsFresh n v ⊎ (v.now.at t.stage ≡ File n)
+  from_new : (s : Seen) → IsBegun t v s → (n : ℕ) (m : Meta) (b : List ℕ) → s ≡ Leaf n m b → IsFresh n v ⊎ (v.now.at t.stage ≡ File n)
   from_new s file n m b e =
-      let l : Leaf file.0 file.1 file.2 ≡ Leaf n m b = sym file.3 ∙ e in
+      let l : Leaf file.0 t.meta file.1.0 ≡ Leaf n m b = sym file.1.1 ∙ e in
       let i : file.0 ≡ n = cc in
-      inl (subst (λ k. IsFresh k v) i file.4)
+      inl (subst (λ k. IsFresh k v) i file.2)
 
-  from_stage : (s : Seen) → IsFileOf v t.stage s → (n : ℕ) (m : Meta) (b : List ℕ) → s ≡ Leaf n m b → IsFresh n v ⊎ (v.now.at t.stage ≡ File n)
+  from_stage : (s : Seen) → IsPart t v s → (n : ℕ) (m : Meta) (b : List ℕ) → s ≡ Leaf n m b → IsFresh n v ⊎ (v.now.at t.stage ≡ File n)
   from_stage s file n m b e =
-      let l : Leaf file.0 file.1 file.2 ≡ Leaf n m b = sym file.3 ∙ e in
+      let l : Leaf file.0 t.meta file.1.0 ≡ Leaf n m b = sym file.1.1 ∙ e in
       let i : file.0 ≡ n = cc in
-      inr (file.4 ∙ ap File i)
+      inr (file.2 ∙ ap File i)
 
   from_none : (s : Seen) → s ≡ Vacant → (n : ℕ) (m : Meta) (b : List ℕ) → s ≡ Leaf n m b → IsFresh n v ⊎ (v.now.at t.stage ≡ File n)
   from_none s none n m b e = let l : Vacant ≡ Leaf n m b = sym none ∙ e in cc
@@ -50,13 +50,13 @@ module _ (t : Draft) (v : View) (needs : Needs t v) where
   }
   lies Create now p s a = record {
     place = a.0;
-    file = leaf_not_directory s a.1.0 a.1.1 a.1.2 a.1.3;
+    file = leaf_not_directory s a.1.0 t.meta a.1.1.0 a.1.1.1;
     comes = from_new s a.1;
     folders = no_folder p t.stage a.0 (subst NotDirectory (sym ((now.here t.stage).0 refl)) tt);
   }
   lies Append now p s a = record {
     place = a.0;
-    file = leaf_not_directory s a.1.0 a.1.1 a.1.2 a.1.3;
+    file = leaf_not_directory s a.1.0 t.meta a.1.1.0 a.1.1.1;
     comes = from_stage s a.1;
     folders = no_folder p t.stage a.0 (leaf_not_directory _ needs.inode t.meta (take t.written t.bytes) (now.here t.stage refl));
   }

@@ -121,7 +121,7 @@ module _ (t : Draft) (v : View) (tree : IsTree v.now) (needs : Needs t v) where
       let s = needs.placed in
       let folder : is_folder (v.now.at s.0) ≡ true = folder_shows v.now s.0 ((now.here s.0).1 (subst (λ q. is_in s.0 q ≡ true) (sym s.2) (is_in-under s.0 s.1))) in
       let absent : v.now.at t.stage ≡ Absent = vacant_absent v.now t.stage ((now.here t.stage).0 refl) in
-      let writes : Writes (writes_in Create t v) v w = weaker (At t.stage (OfInode n m)) (writes_in Create t v) v w (λ p s a. (a.0, (n, m, a.1.0, a.1.1, fresh))) (created-writes v t.stage m n fresh) in
+      let writes : Writes (writes_in Create t v) v w = weaker (At t.stage (OfInode n m)) (writes_in Create t v) v w (λ p s a. (a.0, (n, a.1, fresh))) (created-writes v t.stage m n fresh) in
       record {
         free = subst (λ q. v.now.at q ≡ Absent → no_new q v.now ≡ None) (sym s.2) (no_new-free v.now s.0 s.1 tree folder) absent;
         writes = written Create w is writes;
@@ -138,14 +138,15 @@ module _ (t : Draft) (v : View) (tree : IsTree v.now) (needs : Needs t v) where
       let now = meets_in Append is in
       let here = now.here t.stage refl in
       let file = leaf_file v.now t.stage n t.meta (take t.written t.bytes) here in
+      let meta = meta_shown v.now t.stage n t.meta (take t.written t.bytes) here in
       let own : (q : Path) → Holds v q (File n) → q ≡ t.stage = λ q held. now.firm q _ (may_held v q n held) (v.now.meta n) (v.now.bytes n) refl in
-      let writes : Writes (writes_in Append t v) v w = weaker (At t.stage (OfInode n (v.now.meta n))) (writes_in Append t v) v w (λ p s a. (a.0, (n, v.now.meta n, a.1.0, a.1.1, file.0))) (extended-writes_own v n b t.stage own) in
+      let writes : Writes (writes_in Append t v) v w = weaker (At t.stage (OfInode n (v.now.meta n))) (writes_in Append t v) v w (λ p s a. (a.0, (n, subst (λ m. OfInode n m s) meta a.1, file.0))) (extended-writes_own v n b t.stage own) in
       record {
         free = no_file-there v.now tree t.stage n file.0;
         writes = written Append w is writes;
         after = filled_needs t end n w needs.placed
             (firm_kept (writes_in Append t v) (firm_in Append t n) v w writes (λ p s a. λ m b e. a.0) now.firm)
-            (shows_extended v n b t.stage file.0 ∙ ap (λ c. Leaf n (v.now.meta n) (c ++ b)) file.1 ∙ ap (Leaf n (v.now.meta n)) same ∙ ap (λ m. Leaf n m (take end t.bytes)) (meta_shown v.now t.stage n t.meta (take t.written t.bytes) here));
+            (shows_extended v n b t.stage file.0 ∙ ap (λ c. Leaf n (v.now.meta n) (c ++ b)) file.1 ∙ ap (Leaf n (v.now.meta n)) same ∙ ap (λ m. Leaf n m (take end t.bytes)) meta);
       }
 
   stage_inode : (b : List ℕ) → shows v.now t.stage ≡ Leaf needs.inode t.meta b → needs.inode ≡ inode_of (v.now.at t.stage)

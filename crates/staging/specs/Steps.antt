@@ -5,8 +5,9 @@ use Rattle.fs_trait.specs.declared.types.FsErr.{FsErr}
 use Rattle.fs_trait.specs.declared.types.FsErr.TheVariants.{Failed, NoMemory}
 use Rattle.fs_trait.specs.declared.types.Value.TheVariants.{File}
 use Rattle.fs_trait.specs.View.{View}
+use Rattle.fs_trait.specs.Effect.{IsFresh}
 use Rattle.fs_trait.specs.Seen.{Seen, Vacant, Leaf, IsDirectory, NotDirectory}
-use Rattle.fs_trait.specs.Change.{Meets, Own, Fixed, IsNewFile, IsFileOf}
+use Rattle.fs_trait.specs.Change.{Meets, OfInode, Own, Fixed}
 use Rattle.staging.specs.declared.phase.Phase.{Phase}
 use Rattle.staging.specs.declared.phase.Phase.TheVariants.{Clear, Create, Append, SyncFile, Ended}
 use Rattle.staging.specs.Draft.{Draft}
@@ -15,6 +16,14 @@ use Rattle.staging.specs.Draft.{Draft}
 abbrev pub IsPlaced : Path → Type 0
 IsPlaced stage = (g : Path) × (y : Name) × (stage ≡ under g y)
 
+-- a new file with its attributes
+abbrev pub IsBegun : Draft → View → Seen → Type 0
+IsBegun t v s = (n : ℕ) × OfInode n t.meta s × IsFresh n v
+
+-- the staged file, with any bytes
+abbrev pub IsPart : Draft → View → Seen → Type 0
+IsPart t v s = (n : ℕ) × OfInode n t.meta s × (v.now.at t.stage ≡ File n)
+
 -- the staged file, with its attributes and all its bytes
 abbrev pub IsWhole : Draft → View → Seen → Type 0
 IsWhole t v s = (n : ℕ) × (s ≡ Leaf n t.meta t.bytes) × (v.now.at t.stage ≡ File n)
@@ -22,8 +31,8 @@ IsWhole t v s = (n : ℕ) × (s ≡ Leaf n t.meta t.bytes) × (v.now.at t.stage 
 -- what the next step may write
 abbrev pub writes_in : Phase → Draft → View → Path → Seen → Type 0
 writes_in Clear t v p s = (p ≡ t.stage) × (s ≡ Vacant)
-writes_in Create t v p s = (p ≡ t.stage) × IsNewFile v s
-writes_in Append t v p s = (p ≡ t.stage) × IsFileOf v t.stage s
+writes_in Create t v p s = (p ≡ t.stage) × IsBegun t v s
+writes_in Append t v p s = (p ≡ t.stage) × IsPart t v s
 writes_in SyncFile t v p s = ⊥
 writes_in Ended t v p s = ⊥
 
