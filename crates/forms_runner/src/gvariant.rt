@@ -50,8 +50,10 @@ fn is_written(alloc: Global, kind: &GvKind, value: &Value, bytes: &[u8]) -> Resu
     if !fits(kind, value) {
         return Ok(false);
     }
-    let written = encode(alloc, kind, value).map_err(|_| Stop::NoMemory)?;
-    Ok(written.as_slice() == bytes)
+    match encode(alloc, kind, value) {
+        Ok(written) => Ok(written.as_slice() == bytes),
+        Err(_) => Err(Stop::NoMemory),
+    }
 }
 
 fn shown(alloc: Global, value: &Value) -> Result<Vec<u8>, Stop> {

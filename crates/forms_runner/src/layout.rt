@@ -1,4 +1,5 @@
 //! Calls of `repo_layout`.
+use crate::known::known;
 use crate::types::{object_name, sum, told_path};
 use ost_types::{FsPath, NoMemory, TryCopy};
 use repo_layout::{
@@ -90,7 +91,7 @@ fn place(name: &str, fields: &mut Fields) -> Result<Result<FsPath, NoMemory>, St
 }
 
 fn stage(alloc: Global, actor: u32) -> Result<Result<FsPath, NoMemory>, Stop> {
-    let actor = u8::try_from(actor).map_err(|_| Stop::Unknown)?;
+    let actor = known(u8::try_from(actor))?;
     if actor >= 16 {
         return Err(Stop::Unknown);
     }

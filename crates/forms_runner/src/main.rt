@@ -6,6 +6,7 @@ mod configs;
 mod faults;
 mod forms;
 mod gvariant;
+mod known;
 mod layout;
 mod many;
 mod map;

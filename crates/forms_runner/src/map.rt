@@ -1,4 +1,5 @@
 //! A map of paths.
+use crate::known::known;
 use crate::types::path;
 use ost_types::{Csum, Meta, NodeName, PathMap, TryCopy, Xattrs, is_folder_mode};
 use sheet::{Fields, Stop, number, text, yes_or_no};
@@ -44,7 +45,7 @@ impl MapBench {
     // A path, and the byte that the sum has 32 times. Tells whether it fits.
     fn put_leaf(&mut self, fields: &mut Fields) -> Result<Vec<u8>, Stop> {
         let path = path(fields)?;
-        let byte = u8::try_from(fields.small()?).map_err(|_| Stop::Unknown)?;
+        let byte = known(u8::try_from(fields.small()?))?;
         if !self.map.fits(&path) {
             return yes_or_no(fields.alloc(), false);
         }

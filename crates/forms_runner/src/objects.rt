@@ -172,9 +172,16 @@ fn told_long(alloc: Global, question: &str, fault: ObjFault) -> Result<Vec<u8>, 
 
 // The group and the bytes of a copy of an item.
 fn item_copied(fields: &mut Fields) -> Result<Vec<u8>, Stop> {
+    let item = item(fields)?;
+    told_item(fields.alloc(), &item.copy()?)
+}
+
+// A file of an owner and a group, and its bytes.
+fn item(fields: &mut Fields) -> Result<TreeItem, Stop> {
     let alloc = fields.alloc();
     let (uid, gid) = (fields.small()?, fields.small()?);
-    let item = TreeItem {
+    let bytes = Bytes::from_vec(fields.bytes()?);
+    Ok(TreeItem {
         path: FsPath::root(alloc),
         meta: Meta {
             uid,
@@ -182,11 +189,13 @@ fn item_copied(fields: &mut Fields) -> Result<Vec<u8>, Stop> {
             mode: 0o100644,
             xattrs: Xattrs::new(alloc),
         },
-        body: Some(BodySpec::Given(Bytes::from_vec(fields.bytes()?))),
-    };
-    let copy = item.copy()?;
-    let mut told = text(alloc, format!(in alloc; "{} ", copy.meta.gid)?.as_str())?;
-    if let Some(BodySpec::Given(bytes)) = &copy.body {
+        body: Some(BodySpec::Given(bytes)),
+    })
+}
+
+fn told_item(alloc: Global, item: &TreeItem) -> Result<Vec<u8>, Stop> {
+    let mut told = text(alloc, format!(in alloc; "{} ", item.meta.gid)?.as_str())?;
+    if let Some(BodySpec::Given(bytes)) = &item.body {
         told.extend_from_slice(bytes.as_slice())?;
     }
     Ok(told)

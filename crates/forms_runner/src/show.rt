@@ -1,5 +1,6 @@
 //! A value as text.
-use gv_core::Value;
+use crate::known::known;
+use gv_core::{GvKind, Value};
 use sheet::Stop;
 use std::alloc::Global;
 
@@ -20,54 +21,71 @@ fn show_all(alloc: Global, out: &mut String, values: &[Value]) -> Result<(), Sto
 #[cycle(show)]
 pub fn show(alloc: Global, out: &mut String, value: &Value) -> Result<(), Stop> {
     match value {
-        Value::Byte(n) => out.push_str(&format!(in alloc; "y{n}")?)?,
-        Value::Bool(b) => out.push_str(if *b { "b1" } else { "b0" })?,
-        Value::I16(n) => out.push_str(&format!(in alloc; "n{n}")?)?,
-        Value::U16(n) => out.push_str(&format!(in alloc; "q{n}")?)?,
-        Value::I32(n) => out.push_str(&format!(in alloc; "i{n}")?)?,
-        Value::U32(n) => out.push_str(&format!(in alloc; "u{n}")?)?,
-        Value::I64(n) => out.push_str(&format!(in alloc; "x{n}")?)?,
-        Value::U64(n) => out.push_str(&format!(in alloc; "t{n}")?)?,
-        Value::Handle(n) => out.push_str(&format!(in alloc; "h{n}")?)?,
-        Value::Double(bytes) => show_double(alloc, out, bytes)?,
-        Value::Str(text) => {
-            out.push('\'')?;
-            out.push_str(str_of(text.as_slice())?)?;
-            out.push('\'')?;
-        }
+        Value::Byte(n) => show_number(alloc, out, 'y', *n as i128),
+        Value::Bool(b) => show_number(alloc, out, 'b', *b as i128),
+        Value::I16(n) => show_number(alloc, out, 'n', *n as i128),
+        Value::U16(n) => show_number(alloc, out, 'q', *n as i128),
+        Value::I32(n) => show_number(alloc, out, 'i', *n as i128),
+        Value::U32(n) => show_number(alloc, out, 'u', *n as i128),
+        Value::I64(n) => show_number(alloc, out, 'x', *n as i128),
+        Value::U64(n) => show_number(alloc, out, 't', *n as i128),
+        Value::Handle(n) => show_number(alloc, out, 'h', *n as i128),
+        Value::Double(bytes) => show_double(alloc, out, bytes),
+        Value::Str(text) => show_text(out, text.as_slice()),
         Value::Array(items) => {
             out.push('[')?;
             show_all(alloc, out, items)?;
-            out.push(']')?;
+            end(out, ']')
         }
         Value::Tuple(items) => {
             out.push('(')?;
             show_all(alloc, out, items)?;
-            out.push(')')?;
+            end(out, ')')
         }
         Value::Entry(key, item) => {
             out.push('{')?;
             show(alloc, out, key)?;
             out.push(':')?;
             show(alloc, out, item)?;
-            out.push('}')?;
+            end(out, '}')
         }
         Value::Maybe(content) => match content {
             Some(item) => {
                 out.push('+')?;
-                show(alloc, out, item)?;
+                show(alloc, out, item)
             }
-            None => out.push('-')?,
+            None => end(out, '-'),
         },
         Value::Variant(kind, item) => {
-            out.push('<')?;
-            out.push_str(str_of(kind.text())?)?;
-            out.push(' ')?;
+            begin_variant(out, kind)?;
             show(alloc, out, item)?;
-            out.push('>')?;
+            end(out, '>')
         }
     }
+}
+
+fn show_number(alloc: Global, out: &mut String, letter: char, n: i128) -> Result<(), Stop> {
+    out.push(letter)?;
+    out.push_str(&format!(in alloc; "{n}")?)?;
     Ok(())
+}
+
+fn show_text(out: &mut String, text: &[u8]) -> Result<(), Stop> {
+    out.push('\'')?;
+    out.push_str(str_of(text)?)?;
+    out.push('\'')?;
+    Ok(())
+}
+
+fn begin_variant(out: &mut String, kind: &GvKind) -> Result<(), Stop> {
+    out.push('<')?;
+    out.push_str(str_of(kind.text())?)?;
+    out.push(' ')?;
+    Ok(())
+}
+
+fn end(out: &mut String, mark: char) -> Result<(), Stop> {
+    Ok(out.push(mark)?)
 }
 
 fn show_double(alloc: Global, out: &mut String, bytes: &[u8; 8]) -> Result<(), Stop> {
@@ -79,5 +97,5 @@ fn show_double(alloc: Global, out: &mut String, bytes: &[u8; 8]) -> Result<(), S
 }
 
 fn str_of(bytes: &[u8]) -> Result<&str, Stop> {
-    std::str::from_utf8(bytes).map_err(|_| Stop::Unknown)
+    known(std::str::from_utf8(bytes))
 }

@@ -1,4 +1,5 @@
 //! Calls of `ost_types`.
+use crate::known::known;
 use crate::map::MapBench;
 use crate::texts::{bytes_made, name_read, names_made, text_read};
 use ost_types::{
@@ -42,7 +43,7 @@ impl Bench for TypeBench {
 /// The path of the next field.
 pub fn path(fields: &mut Fields) -> Result<FsPath, Stop> {
     let text = fields.bytes()?;
-    FsPath::parse(fields.alloc(), &text).map_err(|_| Stop::Unknown)
+    known(FsPath::parse(fields.alloc(), &text))
 }
 
 /// The sum of the next field, which has its digits.
@@ -135,7 +136,7 @@ fn of_sums(name: &str, fields: &mut Fields) -> Result<Vec<u8>, Stop> {
 
 // Of which type a mode in octal digits is.
 fn mode_kind(fields: &mut Fields) -> Result<Vec<u8>, Stop> {
-    let mode = u32::from_str_radix(fields.text()?, 8).map_err(|_| Stop::Unknown)?;
+    let mode = known(u32::from_str_radix(fields.text()?, 8))?;
     text(
         fields.alloc(),
         match (is_folder_mode(mode), is_file_mode(mode), is_link_mode(mode)) {
