@@ -1,4 +1,3 @@
-pub mod Looks
 pub mod Files
 pub mod Entering
 pub mod Ways

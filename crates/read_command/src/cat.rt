@@ -9,13 +9,13 @@ ghost use Rattle.read_command.specs.CatSteps.{CatKnows, CatTells, Enters, IsCatS
 
 use crate::ReadAnswer;
 use crate::answer::lacking_of;
+use crate::body::look_at_body;
 use crate::entry::{Entry, entry_of};
-use crate::looked::Looked;
-use crate::objects::{look_at_attributes, look_at_body, look_at_commit, look_at_entries};
 use fs_trait::{Fs, FsErr};
 use ost_forms::{Body, DirTree};
 use ost_types::{Csum, FsPath, Kind, Limits, NoMemory, TryCopy};
 use std::alloc::Global;
+use tree_read::{Looked, look_at_attributes, look_at_commit, look_at_entries};
 
 /// How far it has come.
 #[derive(Clone, Copy, Debug)]

@@ -2,6 +2,7 @@
 #![tactic(auto)]
 
 mod answer;
+mod body;
 mod cat;
 mod command;
 mod commits;
@@ -9,9 +10,7 @@ mod entry;
 mod laws;
 mod log;
 mod look;
-mod looked;
 mod ls;
-mod objects;
 mod rows;
 
 pub use answer::ReadAnswer;

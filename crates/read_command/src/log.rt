@@ -9,8 +9,6 @@ ghost use Rattle.read_command.specs.LogSteps.{IsAsBefore, IsLogStepped, LogKnows
 use crate::ReadAnswer;
 use crate::answer::lacking_of;
 use crate::commits::{pin_wants, sum_of_commit};
-use crate::looked::Looked;
-use crate::objects::look_at_commit;
 use fs_trait::{Fs, FsErr};
 use ost_forms::Commit;
 use ost_types::{Csum, Kind, Limits, NoMemory};
@@ -18,6 +16,7 @@ use rely_guarantee::StepKind;
 use script::LogRow;
 use std::alloc::Global;
 use std::mem;
+use tree_read::{Looked, look_at_commit};
 
 #[derive(Drop, Debug)]
 pub struct Log {

@@ -1,4 +1,4 @@
-mod Told
+pub mod Told
 mod Lasts
 pub mod Merged
 mod Shorts

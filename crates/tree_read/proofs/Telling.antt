@@ -25,7 +25,7 @@ use Rattle.tree_read.specs.declared.item.Named.TheVariants.{Folder, Attributes, 
 use Rattle.tree_read.specs.declared.item.Item.{Item}
 use Rattle.tree_read.specs.declared.looked.Looked.{Looked}
 use Rattle.tree_read.specs.declared.looked.Looked.TheVariants.{Here, Absent, Damaged}
-use Rattle.tree_read.specs.Looks.{IsAbsent, IsDamaged, Looks, OfFolder, Reads}
+use Rattle.tree_read.specs.Looks.{IsAbsent, IsDamaged, OfFolder, Reads}
 use Rattle.tree_read.specs.Order.{IsShort, DamagedIn}
 use Rattle.tree_read.specs.Remembered.{GainsFile, GainsMeta, Memory, entries_in}
 use Rattle.tree_read.specs.Reading.{Reading, IsNext, IsSoFar, IsStepped, Knows, TellsIn, Takes, IsFarBelow, IsOpened, ListsBelow, Opens, OpensAt, begun_at, left_of, with_memory}
@@ -37,17 +37,7 @@ use Rattle.tree_read.proofs.Stops.{first_of}
 abbrev Turned : Type 0
 Turned = StepResult (Result (Unit {0}) TreeFault)
 
-module _ {T : Type 0} (d : Disk) (content : ℕ) (name : ObjName) (P : T → Type 0) (looked : Looked T) where
-  pub is_here : (x : T) → looked ≡ Here x → Looks d content name P (Ok looked) → P x
-  is_here x is told = subst (λ l. Looks d content name P (Ok l)) is told
-
-  pub is_absent : looked ≡ Absent → Looks d content name P (Ok looked) → IsAbsent d name
-  is_absent is told = subst (λ l. Looks d content name P (Ok l)) is told
-
-  pub is_damaged : looked ≡ Damaged → Looks d content name P (Ok looked) → IsDamaged d content name
-  is_damaged is told = subst (λ l. Looks d content name P (Ok l)) is told
-
-pub of_reads : (bytes : List ℕ) (r : Result (Looked Meta) FsErr) → Reads kind.DirMeta bytes (λ m. ReadsDirMeta (λ x. x) bytes (Ok m)) r → OfFolder r
+pub of_reads : (bytes : List ℕ) (r : Result (Looked Meta) FsErr) → Reads kind.DirMeta 0 bytes (λ m. ReadsDirMeta (λ x. x) bytes (Ok m)) r → OfFolder r
 of_reads bytes (Ok (Here m)) reads = reads.1
 of_reads bytes (Ok Absent) reads = tt
 of_reads bytes (Ok Damaged) reads = tt

@@ -1,4 +1,4 @@
--- What is told of one object of a tree.
+-- What is told of one object of a commit.
 use Rattle.std.specs.Prelude.{◌≡◌, ◌≢◌, ℕ, List, Result, Ok, Err}
 use Rattle.ost_types.specs.declared.meta.Meta.{Meta}
 use Rattle.ost_types.specs.declared.object.Kind.{Kind}
@@ -34,13 +34,13 @@ Looks d content name P (Ok Absent) = IsAbsent d name
 Looks d content name P (Ok Damaged) = IsDamaged d content name
 Looks d content name P (Err e) = OfNone e
 
--- Each answer of the reader of a kind over bytes that are there.
-abbrev pub Reads : {T : Type 0} → Kind → List ℕ → (T → Type 0) → Result (Looked T) FsErr → Type 0
-Reads kind bytes P (Ok (Here x)) = P x
-Reads kind bytes P (Ok Absent) = ⊥
-Reads kind bytes P (Ok Damaged) = (e : ObjFault) × Misreads kind 0 bytes e × (e ≢ read.NoMemory)
-Reads kind bytes P (Err fs.NoMemory) = Unit {0}
-Reads kind bytes P (Err e) = ⊥
+-- Each answer of the reader of a kind over bytes that are there, where content of a file has at most so many.
+abbrev pub Reads : {T : Type 0} → Kind → ℕ → List ℕ → (T → Type 0) → Result (Looked T) FsErr → Type 0
+Reads kind content bytes P (Ok (Here x)) = P x
+Reads kind content bytes P (Ok Absent) = ⊥
+Reads kind content bytes P (Ok Damaged) = (e : ObjFault) × Misreads kind content bytes e × (e ≢ read.NoMemory)
+Reads kind content bytes P (Err fs.NoMemory) = Unit {0}
+Reads kind content bytes P (Err e) = ⊥
 
 -- the attributes that are there are a folder's
 abbrev pub OfFolder : Result (Looked Meta) FsErr → Type 0

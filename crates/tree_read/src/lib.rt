@@ -17,7 +17,7 @@ pub use children::children_of;
 pub use fault::TreeFault;
 pub use item::{Item, Named};
 pub use looked::Looked;
-pub use objects::{look_at_attributes, look_at_commit, look_at_entries};
+pub use objects::{look_at_attributes, look_at_commit, look_at_entries, look_at_object};
 pub use run::tree_of;
 pub use task::TreeTask;
 pub use walking::{TreeWalk, are_short};

@@ -1,7 +1,10 @@
-//! One object of a tree is read.
+//! One object of a commit is read. It is there where it is what its name says: its bytes have that sum and the form of the kind, where content of
+//! a file has at most `limits.content` bytes. It is absent where nothing stands at its path, and damaged where anything else does. An error is a
+//! call that failed, or wanted for memory.
 ghost use Rattle.std.specs.Prelude.{◌≡◌, ◌≤◌, ℕ, List, Some, Ok};
 ghost use Rattle.ost_types.specs.declared.object.Kind.TheVariants as kinds;
-ghost use Rattle.ost_forms.specs.Commit.{CommitParts, ReadsCommit};
+ghost use Rattle.ost_forms.specs.Commit.{ReadsCommit};
+ghost use Rattle.ost_forms.specs.CommitRow.{parts_of};
 ghost use Rattle.ost_forms.specs.DirTree.{ReadsDirTree};
 ghost use Rattle.ost_forms.specs.DirMeta.{ReadsDirMeta};
 ghost use Rattle.fs_trait.specs.View.{View};
@@ -15,13 +18,13 @@ ghost use Rattle.tree_read.specs.Looks.{Looks, OfFolder, Reads};
 use crate::looked::Looked;
 use fs_trait::{Fs, FsErr};
 use obj_store::{LoadFault, load};
-use ost_forms::{DirTree, ObjFault, read_commit, read_dirmeta, read_dirtree};
+use ost_forms::{Commit, DirTree, ObjFault, read_commit, read_dirmeta, read_dirtree};
 use ost_objects::Checked;
 use ost_types::{Csum, Kind, Limits, Meta, ObjName};
 use std::alloc::Global;
 
-/// The object of this name.
-fn look<F: Fs>(
+/// The object of this name, with its bytes.
+pub fn look_at_object<F: Fs>(
     alloc: Global,
     fs: &mut F,
     name: &ObjName,
@@ -41,14 +44,14 @@ fn look<F: Fs>(
     }
 }
 
-/// The names of the root's entries and attributes in a commit.
+/// The whole commit.
 pub fn look_at_commit<F: Fs>(
     alloc: Global,
     fs: &mut F,
     commit: &Csum,
     limits: &Limits,
-) -> Result<Looked<(Csum, Csum)>, FsErr>
-    ensures told { (v : View) → F.view fs.old ≡ Some v → Looks v.now limits.now.content (name_of kinds.Commit commit.now) (λ root. (c : CommitParts) × HasCommit (Stores v.now) commit.now c × (root.0 ≡ c.tree) × (root.1 ≡ c.meta)) result }
+) -> Result<Looked<Commit>, FsErr>
+    ensures told { (v : View) → F.view fs.old ≡ Some v → Looks v.now limits.now.content (name_of kinds.Commit commit.now) (λ c. HasCommit (Stores v.now) commit.now (parts_of c)) result }
     ensures quiet { IsQuiet (F.clock fs.old) (F.clock fs.new) (F.was fs.old) (F.was fs.new) (F.view fs.old) (F.view fs.new) }
     ensures keeps_room { F.spare fs.old ≤ F.spare fs.new }
     ensures cause { HasCause (F.faults fs.old) (F.faults fs.new) result }
@@ -57,7 +60,7 @@ pub fn look_at_commit<F: Fs>(
         csum: *commit,
         kind: Kind::Commit,
     };
-    match look(alloc, fs, &name, limits)? {
+    match look_at_object(alloc, fs, &name, limits)? {
         Looked::Here(object) => commit_of(alloc, &object),
         Looked::Absent => Ok(Looked::Absent),
         Looked::Damaged => Ok(Looked::Damaged),
@@ -80,7 +83,7 @@ pub fn look_at_entries<F: Fs>(
         csum: *tree,
         kind: Kind::DirTree,
     };
-    match look(alloc, fs, &name, limits)? {
+    match look_at_object(alloc, fs, &name, limits)? {
         Looked::Here(object) => entries_of(alloc, &object),
         Looked::Absent => Ok(Looked::Absent),
         Looked::Damaged => Ok(Looked::Damaged),
@@ -104,7 +107,7 @@ pub fn look_at_attributes<F: Fs>(
         csum: *meta,
         kind: Kind::DirMeta,
     };
-    match look(alloc, fs, &name, limits)? {
+    match look_at_object(alloc, fs, &name, limits)? {
         Looked::Here(object) => attributes_of(alloc, &object),
         Looked::Absent => Ok(Looked::Absent),
         Looked::Damaged => Ok(Looked::Damaged),
@@ -127,25 +130,25 @@ pub fn look_at_file<F: Fs>(
         csum: *file,
         kind: Kind::File,
     };
-    match look(alloc, fs, &name, limits)? {
+    match look_at_object(alloc, fs, &name, limits)? {
         Looked::Here(object) => file_of(&object),
         Looked::Absent => Ok(Looked::Absent),
         Looked::Damaged => Ok(Looked::Damaged),
     }
 }
 
-fn commit_of(alloc: Global, object: &Checked) -> Result<Looked<(Csum, Csum)>, FsErr>
-    ensures { Reads (kinds.Commit) object.now.bytes (λ root. (c : CommitParts) × ReadsCommit (λ x. x) object.now.bytes (Ok c) × (root.0 ≡ c.tree) × (root.1 ≡ c.meta)) result }
+fn commit_of(alloc: Global, object: &Checked) -> Result<Looked<Commit>, FsErr>
+    ensures { Reads kinds.Commit 0 object.now.bytes (λ c. ReadsCommit (λ x. x) object.now.bytes (Ok (parts_of c))) result }
 {
     match read_commit(alloc, object.bytes()) {
-        Ok(commit) => Ok(Looked::Here((commit.tree, commit.meta))),
+        Ok(commit) => Ok(Looked::Here(commit)),
         Err(ObjFault::NoMemory) => Err(FsErr::NoMemory),
         Err(_) => Ok(Looked::Damaged),
     }
 }
 
 fn entries_of(alloc: Global, object: &Checked) -> Result<Looked<DirTree>, FsErr>
-    ensures { Reads (kinds.DirTree) object.now.bytes (λ t. ReadsDirTree (λ x. x) object.now.bytes (Ok (record { files = t.files; folders = t.folders }))) result }
+    ensures { Reads kinds.DirTree 0 object.now.bytes (λ t. ReadsDirTree (λ x. x) object.now.bytes (Ok (record { files = t.files; folders = t.folders }))) result }
 {
     match read_dirtree(alloc, object.bytes()) {
         Ok(tree) => Ok(Looked::Here(tree)),
@@ -155,7 +158,7 @@ fn entries_of(alloc: Global, object: &Checked) -> Result<Looked<DirTree>, FsErr>
 }
 
 fn attributes_of(alloc: Global, object: &Checked) -> Result<Looked<Meta>, FsErr>
-    ensures { Reads (kinds.DirMeta) object.now.bytes (λ m. ReadsDirMeta (λ x. x) object.now.bytes (Ok m)) result }
+    ensures { Reads kinds.DirMeta 0 object.now.bytes (λ m. ReadsDirMeta (λ x. x) object.now.bytes (Ok m)) result }
 {
     match read_dirmeta(alloc, object.bytes()) {
         Ok(folder) => Ok(Looked::Here(folder.meta)),

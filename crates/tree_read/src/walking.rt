@@ -145,8 +145,8 @@ impl TreeWalk {
         ensures cause { HasCause (F.faults fs.old) (F.faults fs.new) result }
     {
         match look_at_commit(self.alloc, fs, &self.commit, &self.limits)? {
-            Looked::Here(root) => {
-                self.begin(root.0, root.1)?;
+            Looked::Here(commit) => {
+                self.begin(commit.tree, commit.meta)?;
                 Ok(StepResult::More)
             }
             Looked::Absent => Ok(absent(self.commit, Kind::Commit)),

@@ -6,4 +6,4 @@ use Rattle.tree_read.proofs.objects.look_at_entries.Goals as goal
 pub returns-in-Here-clause-told : goal.returns-in-Here-clause-told
 returns-in-Here-clause-told g c = λ v is.
     let it = found v.now c.args.limits.now.content (name_of kinds.DirTree c.args.tree.now) c.in_ok-object.field-0 c.in-Here.object c.in-Here.is (c.in_ok-object.ensures.told v is) in
-    told v.now c.args.limits.now.content (name_of kinds.DirTree c.args.tree.now) _ _ c.in-Here.object.bytes it.stored (λ e m. m) (λ t x. record { bytes = _; stored = it.stored; reads = x }) c.entries_of.result c.entries_of.ensures
+    told v.now c.args.limits.now.content 0 (name_of kinds.DirTree c.args.tree.now) _ _ c.in-Here.object.bytes it.stored (λ e m. m) (λ t x. record { bytes = _; stored = it.stored; reads = x }) c.entries_of.result c.entries_of.ensures

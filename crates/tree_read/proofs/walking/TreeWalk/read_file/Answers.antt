@@ -4,7 +4,8 @@ use Rattle.ost_types.specs.declared.object.Kind.TheVariants as kind
 use Rattle.repo_model.specs.Trees.{name_of}
 use Rattle.tree_read.specs.declared.item.Named.TheVariants as named
 use Rattle.tree_read.specs.Remembered.{GainsFile}
-use Rattle.tree_read.proofs.Telling.{is_here, is_absent, is_damaged, stop_absent, stop_damaged, more_file, stepped_taken, taken_begun, taken_kept, taken_memory}
+use Rattle.tree_read.proofs.Told.{is_here, is_absent, is_damaged}
+use Rattle.tree_read.proofs.Telling.{stop_absent, stop_damaged, more_file, stepped_taken, taken_begun, taken_kept, taken_memory}
 use Rattle.tree_read.proofs.walking.TreeWalk.read_file.Goals as goal
 
 pub keep_file-requires : goal.keep_file-requires

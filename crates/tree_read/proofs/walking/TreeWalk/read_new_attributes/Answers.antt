@@ -7,7 +7,8 @@ use Rattle.repo_model.specs.Trees.{name_of}
 use Rattle.tree_read.specs.declared.item.Named.TheVariants as named
 use Rattle.tree_read.specs.Remembered.{GainsMeta}
 use Rattle.tree_read.proofs.TreeStores.{meta_in}
-use Rattle.tree_read.proofs.Telling.{is_here, is_absent, is_damaged, of_folder, taken_kept, taken_begun, taken_memory, stop_absent, stop_damaged, more_folder, stepped_taken}
+use Rattle.tree_read.proofs.Told.{is_here, is_absent, is_damaged}
+use Rattle.tree_read.proofs.Telling.{of_folder, taken_kept, taken_begun, taken_memory, stop_absent, stop_damaged, more_folder, stepped_taken}
 use Rattle.tree_read.proofs.walking.TreeWalk.read_new_attributes.Goals as goal
 
 pub take-requires : goal.take-requires

@@ -3,7 +3,8 @@ use Rattle.ost_types.specs.declared.object.Kind.TheVariants as kind
 use Rattle.repo_model.specs.Trees.{name_of}
 use Rattle.tree_read.specs.declared.item.Named.TheVariants as named
 use Rattle.tree_read.proofs.TreeStores.{folder_in}
-use Rattle.tree_read.proofs.Telling.{is_here, is_absent, is_damaged, stop_absent, stop_damaged, opened_told, opened_stepped}
+use Rattle.tree_read.proofs.Told.{is_here, is_absent, is_damaged}
+use Rattle.tree_read.proofs.Telling.{stop_absent, stop_damaged, opened_told, opened_stepped}
 use Rattle.tree_read.proofs.walking.TreeWalk.read_new_entries.Goals as goal
 
 pub returns-in_ok-open-in-Here-clause-told : goal.returns-in_ok-open-in-Here-clause-told
