@@ -1,10 +1,28 @@
-//! Calls that change a file system.
+//! Calls of any file system, by their names.
 use crate::look::look;
 use crate::meta::{Owner, content, meta, path, target};
 use crate::word::word;
 use fs_trait::{Fs, FsErr};
 use ost_types::{FsPath, Meta, Text, is_file_mode, is_folder_mode, is_link_mode};
-use sheet::{Fields, Stop, number, text};
+use sheet::{Fields, Stop, text};
+
+// A call that changes something.
+#[derive(Clone, Copy)]
+enum Kind {
+    Mkdir,
+    Create,
+    Symlink,
+    Append,
+    Link,
+    Rename,
+    Unlink,
+    Rmdir,
+    SyncFile,
+    SyncDir,
+    SyncAll,
+}
+
+type Made = Result<Result<(), FsErr>, Stop>;
 
 /// What a call of this name answers. What it makes without an owner is this one's.
 pub fn call<F: Fs>(
@@ -13,21 +31,26 @@ pub fn call<F: Fs>(
     name: &str,
     fields: &mut Fields,
 ) -> Result<Vec<u8>, Stop> {
+    match kind_named(name) {
+        Some(kind) => change(fs, owner, kind, fields),
+        None => look(fs, name, fields),
+    }
+}
+
+fn kind_named(name: &str) -> Option<Kind> {
     match name {
-        "faults" => number(fields.alloc(), fs.faults()),
-        "clock" => number(fields.alloc(), fs.clock()),
-        "mkdir"
-        | "create"
-        | "symlink"
-        | "append"
-        | "link"
-        | "rename"
-        | "unlink"
-        | "rmdir"
-        | "sync_file"
-        | "sync_dir"
-        | "sync_all" => change(fs, owner, name, fields),
-        _ => look(fs, name, fields),
+        "mkdir" => Some(Kind::Mkdir),
+        "create" => Some(Kind::Create),
+        "symlink" => Some(Kind::Symlink),
+        "append" => Some(Kind::Append),
+        "link" => Some(Kind::Link),
+        "rename" => Some(Kind::Rename),
+        "unlink" => Some(Kind::Unlink),
+        "rmdir" => Some(Kind::Rmdir),
+        "sync_file" => Some(Kind::SyncFile),
+        "sync_dir" => Some(Kind::SyncDir),
+        "sync_all" => Some(Kind::SyncAll),
+        _ => None,
     }
 }
 
@@ -35,11 +58,11 @@ pub fn call<F: Fs>(
 fn change<F: Fs>(
     fs: &mut F,
     owner: Owner,
-    name: &str,
+    kind: Kind,
     fields: &mut Fields,
 ) -> Result<Vec<u8>, Stop> {
     let before = fs.clock();
-    let answer = make(fs, owner, name, fields)?;
+    let answer = make(fs, owner, kind, fields)?;
     let is_later = before < fs.clock();
     text(
         fields.alloc(),
@@ -47,67 +70,80 @@ fn change<F: Fs>(
     )
 }
 
-fn make<F: Fs>(
-    fs: &mut F,
-    owner: Owner,
-    name: &str,
-    fields: &mut Fields,
-) -> Result<Result<(), FsErr>, Stop> {
-    if name == "sync_all" {
-        return Ok(fs.sync_all());
-    }
-    let at = path(fields)?;
-    match name {
-        "mkdir" => mkdir(fs, &at, &meta(fields, owner, 0o040755)?),
-        "create" => create(fs, &at, &meta(fields, owner, 0o100644)?),
-        "symlink" => symlink(fs, &at, &target(fields)?, &meta(fields, owner, 0o120777)?),
-        "append" => Ok(fs.append(&at, &content(fields)?)),
-        "link" => Ok(fs.link(&at, &path(fields)?)),
-        "rename" => rename(fs, &at, &path(fields)?),
-        _ => Ok(change_one(fs, name, &at)),
+fn make<F: Fs>(fs: &mut F, owner: Owner, kind: Kind, fields: &mut Fields) -> Made {
+    match kind {
+        Kind::SyncAll => Ok(fs.sync_all()),
+        _ => make_at(fs, owner, kind, &path(fields)?, fields),
     }
 }
 
-fn change_one<F: Fs>(fs: &mut F, name: &str, at: &FsPath) -> Result<(), FsErr> {
-    match name {
-        "unlink" => fs.unlink(at),
-        "rmdir" => fs.rmdir(at),
-        "sync_file" => fs.sync_file(at),
-        _ => fs.sync_dir(at),
+fn make_at<F: Fs>(fs: &mut F, owner: Owner, kind: Kind, at: &FsPath, fields: &mut Fields) -> Made {
+    match kind {
+        Kind::Mkdir => mkdir(fs, owner, at, fields),
+        Kind::Create => create(fs, owner, at, fields),
+        Kind::Symlink => symlink(fs, owner, at, fields),
+        Kind::Append => append(fs, at, fields),
+        Kind::Link | Kind::Rename => make_from(fs, kind, at, fields),
+        _ => Ok(change_one(fs, kind, at)),
     }
 }
 
-fn mkdir<F: Fs>(fs: &mut F, at: &FsPath, meta: &Meta) -> Result<Result<(), FsErr>, Stop> {
+fn mkdir<F: Fs>(fs: &mut F, owner: Owner, at: &FsPath, fields: &mut Fields) -> Made {
+    let meta = meta(fields, owner, 0o040755)?;
     if !is_folder_mode(meta.mode) {
         return Err(Stop::Unknown);
     }
-    Ok(fs.mkdir(at, meta))
+    Ok(fs.mkdir(at, &meta))
 }
 
-fn create<F: Fs>(fs: &mut F, at: &FsPath, meta: &Meta) -> Result<Result<(), FsErr>, Stop> {
+fn create<F: Fs>(fs: &mut F, owner: Owner, at: &FsPath, fields: &mut Fields) -> Made {
+    let meta = meta(fields, owner, 0o100644)?;
     if !is_file_mode(meta.mode) {
         return Err(Stop::Unknown);
     }
-    Ok(fs.create(at, meta))
+    Ok(fs.create(at, &meta))
 }
 
-fn symlink<F: Fs>(
-    fs: &mut F,
-    at: &FsPath,
-    target: &Text,
-    meta: &Meta,
-) -> Result<Result<(), FsErr>, Stop> {
+fn symlink<F: Fs>(fs: &mut F, owner: Owner, at: &FsPath, fields: &mut Fields) -> Made {
+    let target = target(fields)?;
+    let meta = meta(fields, owner, 0o120777)?;
+    symlink_to(fs, at, &target, &meta)
+}
+
+fn symlink_to<F: Fs>(fs: &mut F, at: &FsPath, target: &Text, meta: &Meta) -> Made {
     if !is_link_mode(meta.mode) || target.as_slice().is_empty() {
         return Err(Stop::Unknown);
     }
     Ok(fs.symlink(at, target, meta))
 }
 
+fn append<F: Fs>(fs: &mut F, at: &FsPath, fields: &mut Fields) -> Made {
+    let bytes = content(fields)?;
+    Ok(fs.append(at, &bytes))
+}
+
+fn make_from<F: Fs>(fs: &mut F, kind: Kind, from: &FsPath, fields: &mut Fields) -> Made {
+    let to = path(fields)?;
+    match kind {
+        Kind::Link => Ok(fs.link(from, &to)),
+        _ => rename(fs, from, &to),
+    }
+}
+
 // Two names of one file may not be given to it.
-fn rename<F: Fs>(fs: &mut F, from: &FsPath, to: &FsPath) -> Result<Result<(), FsErr>, Stop> {
+fn rename<F: Fs>(fs: &mut F, from: &FsPath, to: &FsPath) -> Made {
     match fs.same(from, to) {
         Ok(false) => Ok(fs.rename(from, to)),
         Ok(true) => Err(Stop::Unknown),
         Err(fault) => Ok(Err(fault)),
+    }
+}
+
+fn change_one<F: Fs>(fs: &mut F, kind: Kind, at: &FsPath) -> Result<(), FsErr> {
+    match kind {
+        Kind::Unlink => fs.unlink(at),
+        Kind::Rmdir => fs.rmdir(at),
+        Kind::SyncFile => fs.sync_file(at),
+        _ => fs.sync_dir(at),
     }
 }

@@ -7,6 +7,7 @@ use crate::over::OverMachine;
 use crate::word::word;
 use host_files::Machine;
 use sheet::{Bench, Fields, Stop, number, text};
+use std::alloc::Global;
 use std::io::ErrorKind;
 
 /// The machine, and up to two file systems over its folder.
@@ -55,9 +56,42 @@ impl<'a, R: Machine, F: OverMachine<Watched<'a, R>>> HostBench<'a, R, F> {
         Ok(())
     }
 
-    fn close(&mut self) {
+    fn close(&mut self) -> Result<(), Stop> {
         drop(self.first.take());
         drop(self.second.take());
+        Ok(())
+    }
+
+    // Whether a sync fails.
+    fn set_loses(&self, fields: &mut Fields) -> Result<(), Stop> {
+        let what = fields.text()?;
+        self.watch.loses.set(what == "syncs");
+        Ok(())
+    }
+
+    // The error of each link.
+    fn set_links(&self, fields: &mut Fields) -> Result<(), Stop> {
+        let error = link_error(fields.text()?)?;
+        self.watch.link.set(error);
+        Ok(())
+    }
+
+    // The call that stands behind it, on the second file system.
+    fn answer_second(&mut self, fields: &mut Fields) -> Result<Vec<u8>, Stop> {
+        let name = fields.text()?;
+        answer_of(self.second.as_mut(), self.owner, name, fields)
+    }
+
+    // What opens and closes, and what the machine is to answer; else a call of the first file system.
+    fn set_or_answer(&mut self, name: &str, fields: &mut Fields) -> Result<Vec<u8>, Stop> {
+        match name {
+            "open" | "new" => done(fields.alloc(), self.open()),
+            "open_second" => done(fields.alloc(), self.open_second()),
+            "close" => done(fields.alloc(), self.close()),
+            "loses" => done(fields.alloc(), self.set_loses(fields)),
+            "links" => done(fields.alloc(), self.set_links(fields)),
+            _ => answer_of(self.first.as_mut(), self.owner, name, fields),
+        }
     }
 }
 
@@ -65,29 +99,18 @@ impl<'a, R: Machine, F: OverMachine<Watched<'a, R>>> Bench for HostBench<'a, R, 
     fn answer(&mut self, name: &str, fields: Fields) -> Result<Vec<u8>, Stop> {
         let mut fields = fields;
         match name {
-            "opens" => return number(fields.alloc(), self.watch.opens.get() as u64),
-            "looks" => return number(fields.alloc(), self.watch.looks.replace(0) as u64),
-            "open" | "new" => self.open()?,
-            "open_second" => self.open_second()?,
-            "close" => self.close(),
-            "loses" => self.watch.loses.set(fields.text()? == "syncs"),
-            "links" => self.watch.link.set(link_error(fields.text()?)?),
-            "second" => return answer_second(self.second.as_mut(), self.owner, &mut fields),
-            _ if name.starts_with("host_") => return on_host(&self.rt, name, &mut fields),
-            _ => return answer_of(self.first.as_mut(), self.owner, name, &mut fields),
+            "opens" => number(fields.alloc(), self.watch.opens.get() as u64),
+            "looks" => number(fields.alloc(), self.watch.looks.replace(0) as u64),
+            "second" => self.answer_second(&mut fields),
+            _ if name.starts_with("host_") => on_host(&self.rt, name, &mut fields),
+            _ => self.set_or_answer(name, &mut fields),
         }
-        text(fields.alloc(), "ok")
     }
 }
 
-// The call that stands behind it, on the second file system.
-fn answer_second<R, F: OverMachine<R>>(
-    fs: Option<&mut F>,
-    owner: Owner,
-    fields: &mut Fields,
-) -> Result<Vec<u8>, Stop> {
-    let name = fields.text()?;
-    answer_of(fs, owner, name, fields)
+fn done(alloc: Global, answer: Result<(), Stop>) -> Result<Vec<u8>, Stop> {
+    answer?;
+    text(alloc, "ok")
 }
 
 fn answer_of<R, F: OverMachine<R>>(
@@ -98,24 +121,30 @@ fn answer_of<R, F: OverMachine<R>>(
 ) -> Result<Vec<u8>, Stop> {
     let fs = fs.ok_or(Stop::Unknown)?;
     if name == "rename" {
-        let (from, to) = (path(fields)?, path(fields)?);
-        return text(fields.alloc(), word(fs.rename_any(&from, &to)));
+        return rename_any(fs, fields);
     }
     call(fs, owner, name, fields)
 }
 
+fn rename_any<R, F: OverMachine<R>>(fs: &mut F, fields: &mut Fields) -> Result<Vec<u8>, Stop> {
+    let from = path(fields)?;
+    let to = path(fields)?;
+    let answer = fs.rename_any(&from, &to);
+    text(fields.alloc(), word(answer))
+}
+
 // `work` where they don't fail.
 fn link_error(name: &str) -> Result<Option<ErrorKind>, Stop> {
-    Ok(Some(match name {
-        "work" => return Ok(None),
-        "crosses_devices" => ErrorKind::CrossesDevices,
-        "too_many_links" => ErrorKind::TooManyLinks,
-        "permission_denied" => ErrorKind::PermissionDenied,
-        "unsupported" => ErrorKind::Unsupported,
-        "storage_full" => ErrorKind::StorageFull,
-        "read_only_filesystem" => ErrorKind::ReadOnlyFilesystem,
-        "not_found" => ErrorKind::NotFound,
-        "other" => ErrorKind::Other,
-        _ => return Err(Stop::Unknown),
-    }))
+    match name {
+        "work" => Ok(None),
+        "crosses_devices" => Ok(Some(ErrorKind::CrossesDevices)),
+        "too_many_links" => Ok(Some(ErrorKind::TooManyLinks)),
+        "permission_denied" => Ok(Some(ErrorKind::PermissionDenied)),
+        "unsupported" => Ok(Some(ErrorKind::Unsupported)),
+        "storage_full" => Ok(Some(ErrorKind::StorageFull)),
+        "read_only_filesystem" => Ok(Some(ErrorKind::ReadOnlyFilesystem)),
+        "not_found" => Ok(Some(ErrorKind::NotFound)),
+        "other" => Ok(Some(ErrorKind::Other)),
+        _ => Err(Stop::Unknown),
+    }
 }

@@ -1,21 +1,56 @@
 //! Calls that read.
-use crate::meta::{add_meta, path};
+use crate::meta::{add_meta, add_word, path};
 use crate::word::{fault_word, word};
 use fs_trait::{Fs, FsErr, Node};
-use ost_types::{Bytes, FsPath, Names};
-use sheet::{Fields, Stop, text, yes_or_no};
+use ost_types::{Bytes, FsPath, Meta, Names};
+use sheet::{Fields, Stop, number, text, yes_or_no};
 use std::alloc::Global;
 
 pub fn look<F: Fs>(fs: &mut F, name: &str, fields: &mut Fields) -> Result<Vec<u8>, Stop> {
-    let alloc = fields.alloc();
+    match name {
+        "faults" => number(fields.alloc(), fs.faults()),
+        "clock" => number(fields.alloc(), fs.clock()),
+        _ => look_at(fs, name, fields),
+    }
+}
+
+fn look_at<F: Fs>(fs: &mut F, name: &str, fields: &mut Fields) -> Result<Vec<u8>, Stop> {
     let at = path(fields)?;
     match name {
-        "read" | "read_part" | "list" => text(alloc, word(read(fs, name, &at))),
-        "kind" | "stat" | "mode" | "look" => see(alloc, fs, name, &at),
-        "bytes" => told_bytes(alloc, fs.read(&at)),
         "part" => part(fs, &at, fields),
-        "names" => told_names(alloc, fs.list(&at)),
-        "same" => told_same(alloc, fs.same(&at, &path(fields)?)),
+        "same" => same(fs, &at, fields),
+        _ => see(fields.alloc(), fs, name, &at),
+    }
+}
+
+fn part<F: Fs>(fs: &mut F, at: &FsPath, fields: &mut Fields) -> Result<Vec<u8>, Stop> {
+    let from = fields.number()?;
+    let max = fields.small()?;
+    if max < 1 {
+        return Err(Stop::Unknown);
+    }
+    told_bytes(fields.alloc(), fs.read_part(at, from, max))
+}
+
+fn same<F: Fs>(fs: &mut F, at: &FsPath, fields: &mut Fields) -> Result<Vec<u8>, Stop> {
+    let other = path(fields)?;
+    told_same(fields.alloc(), fs.same(at, &other))
+}
+
+fn told_same(alloc: Global, found: Result<bool, FsErr>) -> Result<Vec<u8>, Stop> {
+    match found {
+        Ok(is_same) => yes_or_no(alloc, is_same),
+        Err(fault) => text(alloc, fault_word(fault)),
+    }
+}
+
+// What needs no more than the path.
+fn see<F: Fs>(alloc: Global, fs: &mut F, name: &str, at: &FsPath) -> Result<Vec<u8>, Stop> {
+    match name {
+        "read" | "read_part" | "list" => text(alloc, word(read(fs, name, at))),
+        "kind" | "stat" | "mode" | "look" => see_node(alloc, fs, name, at),
+        "bytes" => told_bytes(alloc, fs.read(at)),
+        "names" => told_names(alloc, fs.list(at)),
         _ => Err(Stop::Unknown),
     }
 }
@@ -28,14 +63,6 @@ fn read<F: Fs>(fs: &mut F, name: &str, at: &FsPath) -> Result<(), FsErr> {
     }
 }
 
-fn part<F: Fs>(fs: &mut F, at: &FsPath, fields: &mut Fields) -> Result<Vec<u8>, Stop> {
-    let (from, max) = (fields.number()?, fields.small()?);
-    if max < 1 {
-        return Err(Stop::Unknown);
-    }
-    told_bytes(fields.alloc(), fs.read_part(at, from, max))
-}
-
 fn told_bytes(alloc: Global, found: Result<Bytes, FsErr>) -> Result<Vec<u8>, Stop> {
     match found {
         Ok(bytes) => Ok(bytes.into_vec()),
@@ -43,39 +70,43 @@ fn told_bytes(alloc: Global, found: Result<Bytes, FsErr>) -> Result<Vec<u8>, Sto
     }
 }
 
-fn told_same(alloc: Global, found: Result<bool, FsErr>) -> Result<Vec<u8>, Stop> {
+fn told_names(alloc: Global, found: Result<Names, FsErr>) -> Result<Vec<u8>, Stop> {
     match found {
-        Ok(is_same) => yes_or_no(alloc, is_same),
+        Ok(names) => joined(alloc, &names),
         Err(fault) => text(alloc, fault_word(fault)),
     }
 }
 
 // Each name behind a space.
-fn told_names(alloc: Global, found: Result<Names, FsErr>) -> Result<Vec<u8>, Stop> {
-    match found {
-        Ok(names) => {
-            let mut told = text(alloc, "names")?;
-            for name in names.as_slice() {
-                told.push(b' ')?;
-                told.extend_from_slice(name.as_slice())?;
-            }
-            Ok(told)
-        }
+fn joined(alloc: Global, names: &Names) -> Result<Vec<u8>, Stop> {
+    let mut told = text(alloc, "names")?;
+    for name in names.as_slice() {
+        add_word(&mut told, name.as_slice())?;
+    }
+    Ok(told)
+}
+
+// What stands there: its kind; all that is known of it; its mode; or a file by its bytes.
+fn see_node<F: Fs>(alloc: Global, fs: &mut F, how: &str, at: &FsPath) -> Result<Vec<u8>, Stop> {
+    match fs.stat(at) {
+        Ok(None) => text(alloc, "none"),
+        Ok(Some(node)) => see_known(alloc, fs, how, at, &node),
         Err(fault) => text(alloc, fault_word(fault)),
     }
 }
 
-// What stands there: its kind; all that is known of it; its mode; or a file by its bytes.
-fn see<F: Fs>(alloc: Global, fs: &mut F, how: &str, at: &FsPath) -> Result<Vec<u8>, Stop> {
-    match fs.stat(at) {
-        Ok(None) => text(alloc, "none"),
-        Ok(Some(node)) => match how {
-            "kind" => text(alloc, kind_of(&node)),
-            "stat" => told_node(alloc, &node),
-            "mode" => told_mode(alloc, &node),
-            _ => held(alloc, fs, at, &node),
-        },
-        Err(fault) => text(alloc, fault_word(fault)),
+fn see_known<F: Fs>(
+    alloc: Global,
+    fs: &mut F,
+    how: &str,
+    at: &FsPath,
+    node: &Node,
+) -> Result<Vec<u8>, Stop> {
+    match how {
+        "kind" => text(alloc, kind_of(node)),
+        "stat" => told_node(alloc, node),
+        "mode" => told_mode(alloc, node),
+        _ => held(alloc, fs, at, node),
     }
 }
 
@@ -87,27 +118,36 @@ fn kind_of(node: &Node) -> &'static str {
     }
 }
 
-fn told_mode(alloc: Global, node: &Node) -> Result<Vec<u8>, Stop> {
+fn meta_of(node: &Node) -> &Meta {
     let (Node::Folder(meta) | Node::File { meta, .. } | Node::Link { meta, .. }) = node;
-    text(alloc, format!(in alloc; "{:o}", meta.mode)?.as_str())
+    meta
+}
+
+fn told_mode(alloc: Global, node: &Node) -> Result<Vec<u8>, Stop> {
+    let mode = meta_of(node).mode;
+    let told = format!(in alloc; "{mode:o}")?;
+    text(alloc, told.as_str())
 }
 
 fn told_node(alloc: Global, node: &Node) -> Result<Vec<u8>, Stop> {
     let mut told = text(alloc, kind_of(node))?;
-    match node {
-        Node::Folder(meta) => add_meta(alloc, &mut told, meta)?,
-        Node::File { meta, len } => {
-            let front = format!(in alloc; " {len}")?;
-            told.extend_from_slice(front.as_bytes())?;
-            add_meta(alloc, &mut told, meta)?;
-        }
-        Node::Link { meta, target } => {
-            told.push(b' ')?;
-            told.extend_from_slice(target.as_slice())?;
-            add_meta(alloc, &mut told, meta)?;
-        }
-    }
+    add_own(alloc, &mut told, node)?;
+    add_meta(alloc, &mut told, meta_of(node))?;
     Ok(told)
+}
+
+// What only a node of its kind has.
+fn add_own(alloc: Global, told: &mut Vec<u8>, node: &Node) -> Result<(), Stop> {
+    match node {
+        Node::Folder(_) => Ok(()),
+        Node::File { len, .. } => add_len(alloc, told, *len),
+        Node::Link { target, .. } => add_word(told, target.as_slice()),
+    }
+}
+
+fn add_len(alloc: Global, told: &mut Vec<u8>, len: u64) -> Result<(), Stop> {
+    let len = number(alloc, len)?;
+    add_word(told, &len)
 }
 
 fn held<F: Fs>(alloc: Global, fs: &mut F, at: &FsPath, node: &Node) -> Result<Vec<u8>, Stop> {
@@ -119,12 +159,16 @@ fn held<F: Fs>(alloc: Global, fs: &mut F, at: &FsPath, node: &Node) -> Result<Ve
 
 fn held_bytes(alloc: Global, found: Result<Bytes, FsErr>, len: u64) -> Result<Vec<u8>, Stop> {
     match found {
-        Ok(bytes) if bytes.as_slice().len() as u64 == len => {
-            let mut told = text(alloc, "file ")?;
-            told.extend_from_slice(bytes.as_slice())?;
-            Ok(told)
-        }
-        Ok(_) => text(alloc, "another length"),
+        Ok(bytes) => told_file(alloc, bytes.as_slice(), len),
         Err(fault) => text(alloc, fault_word(fault)),
     }
+}
+
+fn told_file(alloc: Global, bytes: &[u8], len: u64) -> Result<Vec<u8>, Stop> {
+    if bytes.len() as u64 != len {
+        return text(alloc, "another length");
+    }
+    let mut told = text(alloc, "file")?;
+    add_word(&mut told, bytes)?;
+    Ok(told)
 }

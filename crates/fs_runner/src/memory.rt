@@ -16,11 +16,14 @@ pub struct MemoryBench {
 
 impl MemoryBench {
     pub fn new(alloc: Global) -> Result<MemoryBench, Stop> {
-        Ok(MemoryBench {
-            first: MemFs::new(alloc)?,
-            left: MemFs::new(alloc)?,
-        })
+        let first = new_disk(alloc)?;
+        let left = new_disk(alloc)?;
+        Ok(MemoryBench { first, left })
     }
+}
+
+fn new_disk(alloc: Global) -> Result<MemFs, Stop> {
+    Ok(MemFs::new(alloc)?)
 }
 
 impl Bench for MemoryBench {
@@ -39,35 +42,45 @@ impl MemoryBench {
     // The call that stands behind it, on what the crash left.
     fn answer_left(&mut self, fields: &mut Fields) -> Result<Vec<u8>, Stop> {
         match fields.text()? {
-            "crash" => {
-                let left = image(&self.left, fields)?;
-                drop(std::mem::replace(&mut self.left, left));
-                text(fields.alloc(), "ok")
-            }
+            "crash" => crash_again(&mut self.left, fields),
             name => answer_of(&mut self.left, name, fields),
         }
     }
 }
 
 fn renew(fs: &mut MemFs, fields: &Fields) -> Result<Vec<u8>, Stop> {
-    drop(std::mem::replace(fs, MemFs::new(fields.alloc())?));
+    let disk = new_disk(fields.alloc())?;
+    drop(std::mem::replace(fs, disk));
     text(fields.alloc(), "ok")
 }
 
 fn crash(fs: &MemFs, fields: &mut Fields, into: &mut MemFs) -> Result<Vec<u8>, Stop> {
-    drop(std::mem::replace(into, image(fs, fields)?));
+    let left = image(fs, fields)?;
+    drop(std::mem::replace(into, left));
     text(fields.alloc(), "ok")
 }
 
-// A moment, a digit for each choice or `-`, and the byte that stands for what wasn't synced.
+fn crash_again(fs: &mut MemFs, fields: &mut Fields) -> Result<Vec<u8>, Stop> {
+    let left = image(fs, fields)?;
+    drop(std::mem::replace(fs, left));
+    text(fields.alloc(), "ok")
+}
+
+// A moment, and what a crash leaves of that.
 fn image(fs: &MemFs, fields: &mut Fields) -> Result<MemFs, Stop> {
     let moment = fields.number()?;
+    let choice = choice(fields)?;
     if moment > fs.moments() {
         return Err(Stop::Unknown);
     }
+    Ok(fs.image(moment, &choice)?)
+}
+
+// A digit for each choice or `-`, and the byte that stands for what wasn't synced.
+fn choice(fields: &mut Fields) -> Result<Choice, Stop> {
     let picks = picks(fields.alloc(), fields.text()?)?;
     let fill = u8::try_from(fields.small()?).map_err(|_| Stop::Unknown)?;
-    Ok(fs.image(moment, &Choice { picks, fill })?)
+    Ok(Choice { picks, fill })
 }
 
 fn picks(alloc: Global, digits: &str) -> Result<Vec<u32>, Stop> {

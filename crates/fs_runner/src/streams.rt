@@ -1,7 +1,8 @@
 //! Sources and sinks.
+use crate::meta::add_word;
 use fs_host::{StdSink, StdSource};
 use fs_memory::{MemSink, MemSource};
-use fs_trait::{Sink, Source};
+use fs_trait::{Sink, Source, SourceErr};
 use ost_types::Bytes;
 use sheet::{Bench, Fields, Stop, bytes_of};
 use std::alloc::Global;
@@ -67,50 +68,93 @@ fn take_from_memory(fields: &mut Fields) -> Result<Vec<u8>, Stop> {
 
 // How many bytes are asked for, and how often. Tells of each time how many came and what stands in the room for them.
 fn take<S: Source>(source: &mut S, fields: &mut Fields) -> Result<Vec<u8>, Stop> {
-    let alloc = fields.alloc();
-    let (size, times) = (fields.small()?, fields.small()?);
-    let mut told = Vec::new(alloc);
-    let mut into = Vec::new(alloc);
+    let mut into = room(fields)?;
+    let times = fields.small()?;
+    let mut told = taken(source, &mut into, times, fields.alloc())?;
+    add_faults(fields.alloc(), &mut told, source.faults())?;
+    Ok(told)
+}
+
+fn room(fields: &mut Fields) -> Result<Vec<u8>, Stop> {
+    let size = fields.small()?;
+    let mut into = Vec::new(fields.alloc());
     for _ in 0..size {
         into.push(0u8)?;
     }
+    Ok(into)
+}
+
+fn taken<S: Source>(
+    source: &mut S,
+    into: &mut [u8],
+    times: u32,
+    alloc: Global,
+) -> Result<Vec<u8>, Stop> {
+    let mut told = Vec::new(alloc);
     for _ in 0..times {
-        match source.take(&mut into) {
-            Ok(count) => {
-                add_number(alloc, &mut told, count as u64)?;
-                told.extend_from_slice(&into)?;
-                told.push(b' ')?;
-            }
-            Err(_) => told.extend_from_slice(b"failed ")?,
-        }
+        let count = source.take(into);
+        add_taken(alloc, &mut told, count, into)?;
     }
-    add_faults(alloc, &mut told, source.faults())?;
     Ok(told)
+}
+
+fn add_taken(
+    alloc: Global,
+    told: &mut Vec<u8>,
+    count: Result<usize, SourceErr>,
+    into: &[u8],
+) -> Result<(), Stop> {
+    let Ok(count) = count else {
+        return add_failed(told);
+    };
+    add_number(alloc, told, count as u64)?;
+    told.extend_from_slice(into)?;
+    told.push(b' ')?;
+    Ok(())
 }
 
 // How many bytes it takes, and which call of it fails.
 fn put_into_memory(fields: &mut Fields) -> Result<Vec<u8>, Stop> {
+    let mut sink = memory_sink(fields)?;
+    let mut told = put(&mut sink, fields)?;
+    add_word(&mut told, sink.bytes())?;
+    Ok(told)
+}
+
+fn memory_sink(fields: &mut Fields) -> Result<MemSink, Stop> {
     let room = fields.small()? as usize;
     let fail = vec![in fields.alloc(); fields.number()?]?;
-    let mut sink = MemSink::new(fields.alloc(), room, fail)?;
-    let mut told = put(&mut sink, fields)?;
-    told.push(b' ')?;
-    told.extend_from_slice(sink.bytes())?;
-    Ok(told)
+    Ok(MemSink::new(fields.alloc(), room, fail)?)
 }
 
 // Puts each field, and tells how many bytes of it were taken.
 fn put<K: Sink>(sink: &mut K, fields: &mut Fields) -> Result<Vec<u8>, Stop> {
     let alloc = fields.alloc();
+    let words = fields.others().ok_or(Stop::Unknown)?;
     let mut told = Vec::new(alloc);
-    for field in fields.others().ok_or(Stop::Unknown)?.split(' ') {
-        match sink.put(&bytes_of(alloc, field)?) {
-            Ok(count) => add_number(alloc, &mut told, count as u64)?,
-            Err(_) => told.extend_from_slice(b"failed ")?,
-        }
+    for word in words.split(' ') {
+        put_one(sink, alloc, &mut told, word)?;
     }
     add_faults(alloc, &mut told, sink.faults())?;
     Ok(told)
+}
+
+fn put_one<K: Sink>(
+    sink: &mut K,
+    alloc: Global,
+    told: &mut Vec<u8>,
+    word: &str,
+) -> Result<(), Stop> {
+    let bytes = bytes_of(alloc, word)?;
+    match sink.put(&bytes) {
+        Ok(count) => add_number(alloc, told, count as u64),
+        Err(_) => add_failed(told),
+    }
+}
+
+fn add_failed(told: &mut Vec<u8>) -> Result<(), Stop> {
+    told.extend_from_slice(b"failed ")?;
+    Ok(())
 }
 
 fn add_number(alloc: Global, told: &mut Vec<u8>, number: u64) -> Result<(), Stop> {
