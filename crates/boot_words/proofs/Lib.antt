@@ -1,3 +1,3 @@
 mod Numbers
 mod Splits
-mod Words
+pub mod Words

@@ -1,0 +1,10 @@
+mod PathLemmas
+mod Looking
+mod Following
+mod Lists
+mod Unique
+mod Entering
+mod WordLemmas
+mod Owning
+mod Sorting
+mod Answered
