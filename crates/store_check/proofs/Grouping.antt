@@ -1,14 +1,16 @@
 -- From what was read of a group of objects to what is told of them.
 use Rattle.std.proofs.Common.{◌≡◌, ◌⊎◌, inl, inr, ℕ, ◌+◌, ◌<◌, ◌≤◌, List, [], ◌∷◌, ◌++◌, length, slice_index_or, sym, ◌∙◌, ap, subst, arith, Option, Some, None, Err}
 use Rattle.std.proofs.lemmas.List.{get_or_append_left, get_or_default, get_or_push, length-append}
+use Rattle.ost_types.specs.declared.object.Kind.{Kind}
+use Rattle.ost_types.specs.declared.object.Kind.TheVariants as kind
 use Rattle.ost_types.specs.declared.object.ObjName.{ObjName}
-use Rattle.ost_forms.specs.declared.fault.ObjFault.TheVariants as reads
 use Rattle.ost_objects.specs.declared.fault.CheckFault.{CheckFault}
 use Rattle.ost_objects.specs.declared.fault.CheckFault.TheVariants as check
 use Rattle.fs_trait.specs.Effect.{OfNone}
 use Rattle.fs_trait.specs.declared.types.FsErr.{FsErr}
 use Rattle.fs_trait.specs.declared.types.FsErr.TheVariants as fs
 use Rattle.fs_trait.specs.View.{Disk}
+use Rattle.repo_model.specs.Objects.{Stores}
 use Rattle.obj_store.specs.declared.fault.LoadFault.{LoadFault}
 use Rattle.obj_store.specs.declared.fault.LoadFault.TheVariants as load
 use Rattle.obj_store.specs.Lookup.{fault_of}
@@ -16,7 +18,8 @@ use Rattle.obj_store.proofs.LongFiles.{loads_err}
 use Rattle.store_check.specs.declared.fault.ObjectsFault.{ObjectsFault}
 use Rattle.store_check.specs.declared.group.Entry.{Entry}
 use Rattle.store_check.specs.declared.group.Group.{Group}
-use Rattle.store_check.specs.Groups.{AreRead, AreSoundBefore, AreTested, Found, FoundIn, IsGroup, IsRead, IsStopped, IsWhatStands, IsWithin, IsWrong, TellsOf, TellsStop, Tests}
+use Rattle.store_check.specs.Groups.{AreRead, AreSoundBefore, AreTested, Found, FoundIn, IsGroup, IsRead, IsStopped, IsWhatStands, IsWithin, IsWrong, TellsOf, TellsStop, Tests, kept_of, left_of}
+use Rattle.store_check.specs.Keeping.{AreStored}
 use Rattle.store_check.specs.Listing.{AreAll}
 use Rattle.store_check.specs.Objects.{ChecksEach, IsBad, IsSound}
 use Rattle.store_check.proofs.Damages.{first_bad}
@@ -51,6 +54,28 @@ module _ (d : Disk) (content : ℕ) (names : List ObjName) (from : ℕ) (old new
         named ∙ r.1 ∙ get_or_default names (from + k) o.name e.name r.0,
         subst (λ n. TellsOf d content n e.fault) (sym named) (tells_of d content o.name o.bytes o.fault e.fault r.2.0 r.2.1 t.1),
       )
+
+-- what is left is what stands there
+kept_is : (k : Kind) (bytes left : List ℕ) → kept_of k bytes ≡ Some left → bytes ≡ left
+kept_is kind.Commit bytes left is = cc
+kept_is kind.DirTree bytes left is = cc
+kept_is kind.DirMeta bytes left is = let no : None ≡ Some left = is in cc
+kept_is kind.File bytes left is = let no : None ≡ Some left = is in cc
+
+module _ (d : Disk) (content : ℕ) (name : ObjName) (left : List ℕ) where
+  stored_of : (bytes : Option (List ℕ)) (before fault : Option CheckFault) → IsWhatStands d name bytes → FoundIn name content bytes before fault → left_of name.kind bytes fault ≡ Some left → Stores d name left
+  stored_of None before fault stands found is = let no : None ≡ Some left = is in cc
+  stored_of (Some bytes) before (Some fault) stands found is = let no : None ≡ Some left = is in cc
+  stored_of (Some bytes) before None stands found is = subst (Stores d name) (kept_is name.kind bytes left is) (record { there = stands; named = found.0 })
+
+module _ (d : Disk) (content : ℕ) (names : List ObjName) (from : ℕ) (old new : List Entry) where
+  pub stored : AreRead d names from old → length new ≡ length old → ((i : ℕ) (e : Entry) → i < length old → Tests content (slice_index_or old i e) (slice_index_or new i e)) → AreStored d new
+  stored read same each e left among is =
+      let within : among.0 < length old = (let less = among.1 in omega (arith, less, same)) in
+      let o = slice_index_or old among.0 e in
+      let t : Tests content o e = subst (Tests content o) among.2 (each among.0 e within) in
+      let r = read among.0 o within (get_or_default old among.0 e o within) in
+      subst (λ n. Stores d n left) (sym t.0) (stored_of d content o.name left o.bytes o.fault e.fault r.2.0 t.1 (sym t.2 ∙ is))
 
 -- an entry more was read
 module _ (d : Disk) (names : List ObjName) (from : ℕ) where

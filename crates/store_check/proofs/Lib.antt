@@ -7,6 +7,7 @@ mod Wholes
 mod FirstRefs
 mod Remembering
 mod Grouping
+mod Keeps
 mod Marking
 mod Ends
 mod Bounds

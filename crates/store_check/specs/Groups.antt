@@ -1,6 +1,8 @@
 -- What is read of objects, and what is found in it.
 use Rattle.std.specs.Prelude.{◌≡◌, ◌≢◌, ◌<◌, ◌≤◌, ◌+◌, ℕ, List, length, slice_index_or, Option, Some, None, Result, Ok, Err}
 use Rattle.sha2.specs.Sha256.{sha256}
+use Rattle.ost_types.specs.declared.object.Kind.{Kind}
+use Rattle.ost_types.specs.declared.object.Kind.TheVariants as kind
 use Rattle.ost_types.specs.declared.object.ObjName.{ObjName}
 use Rattle.ost_forms.specs.declared.fault.ObjFault.TheVariants as reads
 use Rattle.ost_objects.specs.declared.fault.CheckFault.{CheckFault}
@@ -17,9 +19,11 @@ use Rattle.obj_store.specs.declared.fault.LoadFault.TheVariants.{Fs, Damaged, No
 use Rattle.obj_store.specs.Lookup.{OpensAt}
 use Rattle.store_check.specs.declared.group.Entry.{Entry}
 use Rattle.store_check.specs.declared.group.Group.{Group}
+use Rattle.store_check.specs.declared.kept.Kept.{Kept}
 use Rattle.store_check.specs.declared.fault.ObjectsFault.{ObjectsFault}
 use Rattle.store_check.specs.declared.fault.ObjectsFault.TheVariants as objects
 use Rattle.store_check.specs.Faults.{FailedBy}
+use Rattle.store_check.specs.Keeping.{AreKept}
 use Rattle.store_check.specs.Objects.{ChecksEach, IsBad, IsFirstOf, IsSound}
 
 -- these bytes are what stands at the object's path
@@ -63,9 +67,21 @@ abbrev pub FoundIn : ObjName → ℕ → Option (List ℕ) → Option CheckFault
 FoundIn name content None before after = after ≡ before
 FoundIn name content (Some bytes) before after = Found name content bytes after
 
+-- what is kept of a sound object: the bytes of a commit and of the entries of a folder, and nothing of others
+abbrev pub kept_of : Kind → List ℕ → Option (List ℕ)
+kept_of kind.Commit bytes = Some bytes
+kept_of kind.DirTree bytes = Some bytes
+kept_of kind.DirMeta bytes = None
+kept_of kind.File bytes = None
+
+-- and of what was read
+abbrev pub left_of : Kind → Option (List ℕ) → Option CheckFault → Option (List ℕ)
+left_of k (Some bytes) None = kept_of k bytes
+left_of k bytes fault = None
+
 -- an entry once its bytes were looked into
 abbrev pub Tests : ℕ → Entry → Entry → Type 0
-Tests content old new = (new.name ≡ old.name) × FoundIn old.name content old.bytes old.fault new.fault
+Tests content old new = (new.name ≡ old.name) × FoundIn old.name content old.bytes old.fault new.fault × (new.bytes ≡ left_of old.name.kind old.bytes new.fault)
 
 -- what an entry tells of the disk then
 abbrev pub TellsOf : Disk → ℕ → ObjName → Option CheckFault → Type 0
@@ -80,10 +96,15 @@ AreTested d content names from group = (k : ℕ) (e : Entry) → k < length grou
 abbrev pub AreSoundBefore : Disk → ℕ → List ObjName → ℕ → Type 0
 AreSoundBefore d content names count = (k : ℕ) (name : ObjName) → k < count → slice_index_or names k name ≡ name → IsSound d content name
 
+-- so, and what is kept of objects is theirs
+pub record IsDone (d : Disk) (content : ℕ) (names : List ObjName) (count : ℕ) (kept : Kept) : Type 0 where
+  pub sound : AreSoundBefore d content names count
+  pub theirs : AreKept d kept
+
 -- Each answer of the check of a group, which tells the place behind it,
-abbrev pub ChecksGroup : Disk → ℕ → List ObjName → Result ℕ ObjectsFault → Type 0
-ChecksGroup d content names (Ok next) = AreSoundBefore d content names next
-ChecksGroup d content names (Err fault) = ChecksEach d content (Err fault)
+abbrev pub ChecksGroup : Disk → ℕ → List ObjName → Kept → Result ℕ ObjectsFault → Type 0
+ChecksGroup d content names kept (Ok next) = IsDone d content names next kept
+ChecksGroup d content names kept (Err fault) = ChecksEach d content (Err fault)
 
 -- and of its entries up to that place.
 abbrev pub ChecksEntries : Disk → ℕ → List ObjName → ℕ → Result (Unit {0}) ObjectsFault → Type 0

@@ -2,6 +2,7 @@ pub mod Faults
 pub mod Listing
 pub mod Objects
 pub mod Groups
+pub mod Keeping
 pub mod Commits
 pub mod Finished
 pub mod Refs

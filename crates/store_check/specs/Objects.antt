@@ -1,6 +1,5 @@
 -- What is told of the objects of a disk.
 use Rattle.std.specs.Prelude.{◌≡◌, ◌⊎◌, ◌≤◌, ◌+◌, ℕ, List, length, Option, Some, None, Result, Ok, Err}
-use Rattle.std.specs.Global.{Vec}
 use Rattle.std.specs.declared.cmp.Ordering.TheVariants.{Less}
 use Rattle.ost_types.specs.declared.limits.Limits.{Limits}
 use Rattle.ost_types.specs.declared.object.Kind.TheVariants as kind
@@ -15,6 +14,9 @@ use Rattle.obj_store.specs.declared.fault.LoadFault.TheVariants as load
 use Rattle.obj_store.specs.Lookup.{Loads}
 use Rattle.store_check.specs.declared.fault.ObjectsFault.{ObjectsFault}
 use Rattle.store_check.specs.declared.fault.ObjectsFault.TheVariants.{TooMany, Damaged, Fs, NoMemory}
+use Rattle.store_check.specs.declared.kept.Kept.{Kept}
+use Rattle.store_check.specs.declared.kept.SoundObjects.{SoundObjects}
+use Rattle.store_check.specs.Keeping.{AreKept}
 use Rattle.store_check.specs.Listing.{IsThere, AreAll, HasFew, HasMore}
 
 -- What stands at the object's path, if anything does, is the object of that name, and reads as its kind, where content of a file
@@ -38,17 +40,22 @@ pub record AreSound (d : Disk) (limits : Limits) (names : List ObjName) : Type 0
   pub few : length names ≤ limits.objects
   pub sound : (name : ObjName) → IsSound d limits.content name
 
+-- These are their names, and what is kept of them is theirs.
+pub record AreFound (d : Disk) (limits : Limits) (objects : SoundObjects) : Type 0 where
+  pub sound : AreSound d limits objects.names.items
+  pub theirs : AreKept d objects.kept
+
 -- Each answer of the check of all objects.
-abbrev pub ChecksObjects : Disk → Limits → Result (Vec ObjName) ObjectsFault → Type 0
-ChecksObjects d limits (Ok names) = AreSound d limits names.items
+abbrev pub ChecksObjects : Disk → Limits → Result SoundObjects ObjectsFault → Type 0
+ChecksObjects d limits (Ok objects) = AreFound d limits objects
 ChecksObjects d limits (Err (TooMany n)) = (n ≡ limits.objects + 1) × HasMore d limits.objects
 ChecksObjects d limits (Err (Damaged name fault)) = HasFew d limits.objects × IsFirstBad d limits.content name fault
 ChecksObjects d limits (Err (Fs e)) = OfNone e
 ChecksObjects d limits (Err NoMemory) = Unit {0}
 
 -- Each answer of the check of those that were listed.
-abbrev pub ChecksEach : Disk → ℕ → Result (Unit {0}) ObjectsFault → Type 0
-ChecksEach d content (Ok x) = (name : ObjName) → IsSound d content name
+abbrev pub ChecksEach : Disk → ℕ → Result Kept ObjectsFault → Type 0
+ChecksEach d content (Ok kept) = ((name : ObjName) → IsSound d content name) × AreKept d kept
 ChecksEach d content (Err (TooMany n)) = ⊥
 ChecksEach d content (Err (Damaged name fault)) = IsFirstBad d content name fault
 ChecksEach d content (Err (Fs e)) = OfNone e

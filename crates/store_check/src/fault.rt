@@ -27,6 +27,14 @@ impl From<FsErr> for ObjectsFault {
     }
 }
 
+impl From<NoMemory> for ObjectsFault {
+    ghost from_gives = { λ _ f. f ≡ objects.NoMemory };
+
+    fn from(_e: NoMemory) -> ObjectsFault {
+        ObjectsFault::NoMemory
+    }
+}
+
 impl From<AllocError> for ObjectsFault {
     ghost from_gives = { λ _ f. f ≡ objects.NoMemory };
 

@@ -5,12 +5,12 @@ ghost use Rattle.fs_trait.specs.View.{View};
 ghost use Rattle.fs_trait.specs.Effect.{IsQuiet};
 ghost use Rattle.obj_store.specs.Lookup.{HasCauseOf, fault_of};
 ghost use Rattle.store_check.specs.declared.group.Entry.{Entry as EntryValue};
-ghost use Rattle.store_check.specs.Groups.{Found, IsGroup, IsRead, IsStopped, IsWithin, StopsBy, Tests};
+ghost use Rattle.store_check.specs.Groups.{IsGroup, IsRead, IsStopped, IsWithin, StopsBy, Tests, kept_of};
 
 use fs_trait::Fs;
 use obj_store::{LoadFault, open_object};
 use ost_objects::{CheckFault, Checked, check};
-use ost_types::{Bytes, Limits, NoMemory, ObjName};
+use ost_types::{Bytes, Kind, Limits, NoMemory, ObjName};
 use std::alloc::Global;
 use std::thread::{Threads, available_parallelism, for_each_mut};
 
@@ -24,7 +24,7 @@ const SHARED: usize = 262_144;
 #[derive(Drop)]
 pub struct Entry {
     pub name: ObjName,
-    /// As an object of its kind; None where nothing stands there.
+    /// As an object of its kind; None where nothing stands there. Once they were looked into, only those that are kept are left.
     pub bytes: Option<Bytes>,
     pub fault: Option<CheckFault>,
 }
@@ -37,23 +37,31 @@ impl Entry {
         }
     }
 
-    /// Looks into the bytes, and lets them go.
+    /// Looks into the bytes, and lets them go unless they are kept.
     fn test(&mut self, alloc: Global, limits: &Limits)
         ensures { Tests limits.now.content self.old self.new }
     {
         if let Some(bytes) = self.bytes.take() {
-            self.fault = fault_in(alloc, self.name, bytes, limits);
+            match check(alloc, self.name, bytes, limits) {
+                Ok(object) => {
+                    self.fault = no_fault(&object);
+                    self.bytes = kept(object);
+                }
+                Err(refused) => self.fault = Some(refused.1),
+            }
         }
     }
 }
 
-/// What is wrong with bytes that are to be the object of this name.
-fn fault_in(alloc: Global, name: ObjName, bytes: Bytes, limits: &Limits) -> Option<CheckFault>
-    ensures { Found name limits.now.content bytes result }
+/// The bytes of a commit, or of the entries of a folder: those are looked into again for what they name.
+fn kept(object: Checked) -> Option<Bytes>
+    ensures { result ≡ kept_of object.name.kind object.bytes }
 {
-    match check(alloc, name, bytes, limits) {
-        Ok(object) => no_fault(&object),
-        Err(refused) => Some(refused.1),
+    match object.name.kind {
+        Kind::Commit => Some(object.into_bytes()),
+        Kind::DirTree => Some(object.into_bytes()),
+        Kind::DirMeta => None,
+        Kind::File => None,
     }
 }
 

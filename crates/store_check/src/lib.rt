@@ -9,6 +9,7 @@ mod finished;
 mod folders;
 mod found;
 mod group;
+mod kept;
 mod listing;
 mod marks;
 mod objects;
@@ -16,5 +17,6 @@ mod refs;
 
 pub use commits::check_commits;
 pub use fault::{CommitsFault, ObjectsFault};
+pub use kept::{Kept, SoundObjects};
 pub use listing::list_objects;
 pub use objects::check_objects;

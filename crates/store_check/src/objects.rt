@@ -4,12 +4,13 @@ ghost use Rattle.fs_trait.specs.View.{View};
 ghost use Rattle.fs_trait.specs.Effect.{IsQuiet};
 ghost use Rattle.store_check.specs.declared.fault.ObjectsFault.TheVariants as objects;
 ghost use Rattle.store_check.specs.Faults.{HasCauseOf, ObjectsFailed, FailedBy};
-ghost use Rattle.store_check.specs.Groups.{AreSoundBefore, AreTested, ChecksEntries, ChecksGroup, IsNewFailure, IsWrong, TellsRefusal, TellsStop};
+ghost use Rattle.store_check.specs.Groups.{AreSoundBefore, AreTested, ChecksEntries, ChecksGroup, IsDone, IsNewFailure, IsWrong, TellsRefusal, TellsStop};
 ghost use Rattle.store_check.specs.Listing.{AreAll};
 ghost use Rattle.store_check.specs.Objects.{ChecksEach, ChecksObjects, Finds, IsFirstOf};
 
 use crate::fault::ObjectsFault;
 use crate::group::{Entry, load_fault, no_fault, read_group, test_group};
+use crate::kept::{Kept, SoundObjects};
 use crate::listing::list_objects;
 use fs_trait::Fs;
 use obj_store::{LoadFault, load};
@@ -22,13 +23,13 @@ use std::thread::Threads;
 /// first is told that doesn't, by its path. Where there are more than the limit, that alone is told.
 ///
 /// Each object is read once, and no more than 16 MiB of them, or one object, at a time; these are hashed by as many threads as there
-/// are processors. Nothing is written.
+/// are processors. Of commits and entries of folders up to 64 MiB are kept, in the order of their names. Nothing is written.
 pub fn check_objects<R: Threads + Sync, F: Fs>(
     rt: &R,
     alloc: Global,
     fs: &mut F,
     limits: &Limits,
-) -> Result<Vec<ObjName>, ObjectsFault>
+) -> Result<SoundObjects, ObjectsFault>
     ensures told { (v : View) → F.view fs.old ≡ Some v → ChecksObjects v.now limits.now result }
     ensures quiet { IsQuiet (F.clock fs.old) (F.clock fs.new) (F.was fs.old) (F.was fs.new) (F.view fs.old) (F.view fs.new) }
     ensures keeps_room { F.spare fs.old ≤ F.spare fs.new }
@@ -36,8 +37,8 @@ pub fn check_objects<R: Threads + Sync, F: Fs>(
 {
     let names = list_objects(alloc, fs)?;
     check_number(names.len(), limits)?;
-    check_each(rt, alloc, fs, names.as_slice(), limits)?;
-    Ok(names)
+    let kept = check_each(rt, alloc, fs, names.as_slice(), limits)?;
+    Ok(SoundObjects { names, kept })
 }
 
 /// Whether so many objects aren't more than the limit.
@@ -57,18 +58,19 @@ fn check_each<R: Threads + Sync, F: Fs>(
     fs: &mut F,
     names: &[ObjName],
     limits: &Limits,
-) -> Result<(), ObjectsFault>
+) -> Result<Kept, ObjectsFault>
     requires { (v : View) → F.view fs.old ≡ Some v → AreAll v.now names.now }
     ensures told { (v : View) → F.view fs.old ≡ Some v → ChecksEach v.now limits.now.content result }
     ensures quiet { IsQuiet (F.clock fs.old) (F.clock fs.new) (F.was fs.old) (F.was fs.new) (F.view fs.old) (F.view fs.new) }
     ensures keeps_room { F.spare fs.old ≤ F.spare fs.new }
     ensures cause { HasCauseOf (F.faults fs.old) (F.faults fs.new) (ObjectsFailed result) }
 {
+    let mut kept = Kept::new(alloc);
     let mut from = 0;
     'groups: while from < names.len() {
-        from = check_group(rt, alloc, fs, names, from, limits)?;
+        from = check_group(rt, alloc, fs, names, from, &mut kept, limits)?;
     }
-    Ok(())
+    Ok(kept)
 }
 
 /// The place of the name behind a group that is whole, or the first fault.
@@ -78,13 +80,14 @@ fn check_group<R: Threads + Sync, F: Fs>(
     fs: &mut F,
     names: &[ObjName],
     from: usize,
+    kept: &mut Kept,
     limits: &Limits,
 ) -> Result<usize, ObjectsFault>
     requires within { from < length names.now }
     requires all { (v : View) → F.view fs.old ≡ Some v → AreAll v.now names.now }
-    requires before { (v : View) → F.view fs.old ≡ Some v → AreSoundBefore v.now limits.now.content names.now from }
+    requires before { (v : View) → F.view fs.old ≡ Some v → IsDone v.now limits.now.content names.now from kept.old }
     ensures next { IfOk result (λ next. (from < next) × (next ≤ length names.now)) }
-    ensures told { (v : View) → F.view fs.old ≡ Some v → ChecksGroup v.now limits.now.content names.now result }
+    ensures told { (v : View) → F.view fs.old ≡ Some v → ChecksGroup v.now limits.now.content names.now kept.new result }
     ensures quiet { IsQuiet (F.clock fs.old) (F.clock fs.new) (F.was fs.old) (F.was fs.new) (F.view fs.old) (F.view fs.new) }
     ensures keeps_room { F.spare fs.old ≤ F.spare fs.new }
     ensures cause { HasCauseOf (F.faults fs.old) (F.faults fs.new) (ObjectsFailed result) }
@@ -98,7 +101,10 @@ fn check_group<R: Threads + Sync, F: Fs>(
     check_entries(alloc, fs, names, from, &entries, limits)?;
     let next = from + entries.len();
     match stop {
-        None => Ok(next),
+        None => {
+            kept.add_all(entries)?;
+            Ok(next)
+        }
         Some(fault) => Err(stopped(alloc, fs, names[next], fault, limits)),
     }
 }

@@ -79,9 +79,9 @@ fn objects_of<R: Threads + Sync, F: Fs>(
     ensures quiet { IsQuiet (F.clock fs.old) (F.clock fs.new) (F.was fs.old) (F.was fs.new) (F.view fs.old) (F.view fs.new) }
     ensures reason { HasReason (F.faults fs.old) (F.faults fs.new) result }
 {
-    let names = read_objects(rt, alloc, fs, limits)?;
-    look_at_commits(alloc, fs, names.as_slice(), refs, limits)?;
-    Ok(names)
+    let found = read_objects(rt, alloc, fs, limits)?;
+    look_at_commits(alloc, fs, &found, refs, limits)?;
+    Ok(found.names)
 }
 
 /// Makes all checks, in their order.

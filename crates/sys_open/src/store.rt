@@ -3,7 +3,7 @@ ghost use Rattle.std.specs.Prelude.{◌≡◌, Some, IfOk};
 ghost use Rattle.store_check.specs.declared.fault.ObjectsFault.TheVariants as objects;
 ghost use Rattle.fs_trait.specs.View.{View};
 ghost use Rattle.fs_trait.specs.Effect.{IsQuiet};
-ghost use Rattle.store_check.specs.Objects.{AreSound};
+ghost use Rattle.store_check.specs.Objects.{AreFound};
 ghost use Rattle.sys_open.specs.Damages.{Objects};
 ghost use Rattle.sys_open.specs.Faults.{HasReason};
 ghost use Rattle.sys_open.specs.Opening.{ToldBy};
@@ -16,22 +16,22 @@ use ost_types::{Csum, FsPath, Limits, ObjName};
 use repo_layout::{Folder, RefName, folder_path, object_path};
 use std::alloc::Global;
 use std::thread::Threads;
-use store_check::{CommitsFault, ObjectsFault, check_commits, check_objects};
+use store_check::{CommitsFault, ObjectsFault, SoundObjects, check_commits, check_objects};
 
-/// Reads each object, and tells the names of all, ascending.
+/// Reads each object, and tells the names of all, ascending, and what is kept of them.
 pub fn read_objects<R: Threads + Sync, F: Fs>(
     rt: &R,
     alloc: Global,
     fs: &mut F,
     limits: &Limits,
-) -> Result<Vec<ObjName>, OpenFault>
+) -> Result<SoundObjects, OpenFault>
     ensures told { (v : View) → F.view fs.old ≡ Some v → ToldBy Objects limits.now v.now result }
-    ensures sound { (v : View) → F.view fs.old ≡ Some v → IfOk result (λ names. AreSound v.now limits.now names.items) }
+    ensures found { (v : View) → F.view fs.old ≡ Some v → IfOk result (AreFound v.now limits.now) }
     ensures quiet { IsQuiet (F.clock fs.old) (F.clock fs.new) (F.was fs.old) (F.was fs.new) (F.view fs.old) (F.view fs.new) }
     ensures reason { HasReason (F.faults fs.old) (F.faults fs.new) result }
 {
     match check_objects(rt, alloc, fs, limits) {
-        Ok(names) => Ok(names),
+        Ok(found) => Ok(found),
         Err(fault) => Err(of_objects(alloc, fault)),
     }
 }
@@ -66,20 +66,20 @@ fn bad_object(alloc: Global, name: ObjName, fault: CheckFault) -> OpenFault
     }
 }
 
-/// Reads what the commits without a mark name, and looks whether the refs name such commits.
+/// Looks into what the commits without a mark name, and whether the refs name such commits.
 pub fn look_at_commits<F: Fs>(
     alloc: Global,
     fs: &mut F,
-    names: &[ObjName],
+    found: &SoundObjects,
     refs: &[(RefName, Csum)],
     limits: &Limits,
 ) -> Result<(), OpenFault>
-    requires { (v : View) → F.view fs.old ≡ Some v → AreSound v.now limits.now names.now }
+    requires { (v : View) → F.view fs.old ≡ Some v → AreFound v.now limits.now found.now }
     ensures told { (v : View) → F.view fs.old ≡ Some v → LooksAtCommits limits.now v.now refs.now result }
     ensures quiet { IsQuiet (F.clock fs.old) (F.clock fs.new) (F.was fs.old) (F.was fs.new) (F.view fs.old) (F.view fs.new) }
     ensures reason { HasReason (F.faults fs.old) (F.faults fs.new) result }
 {
-    match check_commits(alloc, fs, names, refs, limits) {
+    match check_commits(alloc, fs, found, refs, limits) {
         Ok(()) => Ok(()),
         Err(fault) => Err(of_commits(alloc, fault)),
     }

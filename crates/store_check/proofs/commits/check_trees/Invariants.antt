@@ -9,7 +9,7 @@ use Rattle.store_check.proofs.commits.check_trees.Given as goal
 -- the commits so far are whole, and so are the folders that are known
 abbrev pub invariant-loop-name : goal.invariant-loop-name
 invariant-loop-name g l = record {
-  whole : (v : View) → g.F.Fs.view l.fn.fs ≡ Some v → SoFar (PassesName v.now l.limits) l.names l.name-index;
+  whole : (v : View) → g.F.Fs.view l.fn.fs ≡ Some v → SoFar (PassesName v.now l.limits) l.name-items l.name-index;
   known : (v : View) → g.F.Fs.view l.fn.fs ≡ Some v → AreKnown v.now l.limits.content l.known;
   quiet : IsQuiet (g.F.Fs.clock l.fn.fs) (g.F.Fs.clock l.fs) (g.F.Fs.was l.fn.fs) (g.F.Fs.was l.fs) (g.F.Fs.view l.fn.fs) (g.F.Fs.view l.fs);
   room : g.F.Fs.spare l.fn.fs ≤ g.F.Fs.spare l.fs;

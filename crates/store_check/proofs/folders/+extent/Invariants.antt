@@ -17,7 +17,7 @@ decreases-with_folder g l = 3 * l.depth + 1
 -- the folders so far are whole
 abbrev pub invariant-folders_extent-loop-item : goal.invariant-folders_extent-loop-item
 invariant-folders_extent-loop-item g l = record {
-  so_far : (v : View) → g.F.Fs.view l.fn.fs ≡ Some v → FoldersSoFar v.now l.limits.content l.names l.folders l.fn.files l.item-index l.extent;
+  so_far : (v : View) → g.F.Fs.view l.fn.fs ≡ Some v → FoldersSoFar v.now l.limits.content l.objects.names.items l.folders l.fn.files l.item-index l.extent;
   known : (v : View) → g.F.Fs.view l.fn.fs ≡ Some v → AreKnown v.now l.limits.content l.known;
   quiet : IsQuiet (g.F.Fs.clock l.fn.fs) (g.F.Fs.clock l.fs) (g.F.Fs.was l.fn.fs) (g.F.Fs.was l.fs) (g.F.Fs.view l.fn.fs) (g.F.Fs.view l.fs);
   room : g.F.Fs.spare l.fn.fs ≤ g.F.Fs.spare l.fs;

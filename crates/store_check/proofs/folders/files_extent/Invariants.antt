@@ -3,4 +3,4 @@ use Rattle.store_check.proofs.folders.files_extent.Given as goal
 
 -- the objects of the files so far are listed
 abbrev pub invariant-loop-item : goal.invariant-loop-item
-invariant-loop-item l = FilesSoFar l.names l.files l.item-index l.extent
+invariant-loop-item l = FilesSoFar l.objects.names.items l.files l.item-index l.extent

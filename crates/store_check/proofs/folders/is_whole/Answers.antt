@@ -8,4 +8,4 @@ returns-in-Some-2-clause-told g c = λ v told less.
     let e = c.in-Some-2.extent in
     let root = in_some _ _ _ c.in-Some.is (c.in_ok-root.ensures.told v told) in
     let known = in_some _ _ _ c.in-Some-2.is (c.in_ok-extent.ensures.told v (c.root_of.ensures.quiet.view ∙ told)) in
-    commit_whole v.now c.args.limits.now c.args.names.now (c.requires.sound v told) c.args.commit.now root.0 c.in-Some.root.0 c.in-Some.root.1 e root.1 root.2 root.3 (c.is_listed.ensures (search rules)) known e.deep e.long (ltb-true e.paths c.args.limits.now.paths less)
+    commit_whole v.now c.args.limits.now c.args.objects.now.names.items (c.requires.found v told).sound c.args.commit.now root.0 c.in-Some.root.0 c.in-Some.root.1 e root.1 root.2 root.3 (c.is_listed.ensures (search rules)) known e.deep e.long (ltb-true e.paths c.args.limits.now.paths less)
