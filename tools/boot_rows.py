@@ -12,7 +12,7 @@ import re
 import sys
 
 DATA = f"{os.path.dirname(os.path.dirname(os.path.abspath(__file__)))}/crates/boot_runner/data"
-SHEETS = [("entries", "entries"), ("deployments", "deployments"), ("swaps", "swaps"), ("drawn", "swaps")]
+SHEETS = [("entries", "entries"), ("deployments", "deployments"), ("swaps", "swaps"), ("drawn", "swaps"), ("lists", "swaps")]
 FOLDER = ("folder",)
 
 
@@ -271,6 +271,53 @@ class Disk:
             rows.append((version_of(found), member))
         return ",".join(member for _, member in sorted(rows, reverse=True)) or "-"
 
+    def read(self):
+        """The rows of the list, or the first rule that doesn't hold, and where."""
+        if "/boot/loader" not in self.nodes:
+            return "-"
+        loader = {"loader.0": 0, "loader.1": 1}.get(self.link("/boot/loader"))
+        if loader is None:
+            return "bad_link /boot/loader"
+        sub = {f"boot.{loader}.{it}": it for it in (0, 1)}.get(self.link(f"/ostree/boot.{loader}"))
+        if sub is None:
+            return f"bad_link /ostree/boot.{loader}"
+        folder = f"/boot/loader.{loader}/entries"
+        nodes = {f"{folder}/{it}": self.nodes[f"{folder}/{it}"] for it in self.names(folder) if it.endswith(".conf")}
+        files = {path: node[1] for path, node in nodes.items() if node[0] == "file"}
+        if len(files) > 8:
+            return f"too_many {folder}"
+        texts = {}
+        for path, data in files.items():
+            if len(data) > 2**20:
+                return f"too_long {path}"
+            texts[path] = read_entry(data)
+            if isinstance(texts[path], str):
+                return f"unread {path} {texts[path]}"
+        links = {path: link_of(loader, named(found)[0]) for path, found in texts.items()}
+        led = {path: link and self.led(f"/ostree/boot.{loader}.{sub}/{'/'.join(link)}", link[0]) for path, link in links.items()}
+        for path, member in led.items():
+            if isinstance(member, str):
+                return member
+        rows = [(path, texts[path], links[path], led[path]) for path in led]
+        for row in rows:
+            if not self.is_own(row, [it for it in rows if it is not row]):
+                return f"no_deployment {row[0]}"
+        return ",".join(told_row(it) for it in sorted(rows, key=lambda it: -version_of(it[1]))) or "-"
+
+    def led(self, path, stateroot):
+        """The deployment of this stateroot that a link leads to, None where nothing stands there, or the word that something else does."""
+        if path not in self.nodes:
+            return None
+        target = re.fullmatch(r"\.\./\.\./\.\./deploy/(.*)/deploy/([0-9a-f]{64})\.(0|[1-9][0-9]*)", self.link(path) or "")
+        is_led = target is not None and target[1] == stateroot and int(target[3]) < 2**32
+        return target.groups() if is_led else f"bad_link {path}"
+
+    def is_own(self, row, others):
+        _, found, _, member = row
+        if member is None or self.nodes.get("/ostree/deploy/{}/deploy/{}.{}".format(*member)) != FOLDER:
+            return False
+        return all(it[3] != member and version_of(it[1]) != version_of(found) for it in others)
+
     def look(self, path):
         kind, *rest = self.nodes.get(path, ("none",))
         if kind == "folder":
@@ -282,6 +329,10 @@ class Disk:
             return self.list().encode()
         if name == "look":
             return self.look(fields)
+        if name == "read":
+            return self.read().encode()
+        if name == "read_failing":
+            return b"%d failed" % self.count_of_reads()
         if name in ("swap", "unsynced", "crashes", "failures"):
             return self.swapped(name, items_of(fields))
         self.change(name, *fields.split(" "))
@@ -297,14 +348,31 @@ class Disk:
             return b"ok"
         return f"{old} or {new}".encode() if name == "unsynced" else b"old new, new" if old != new else b"old, old"
 
+    def count_of_reads(self):
+        """Where the list is read: two links and the folder are looked at, and of each member the entry, the link and the deployment."""
+        return 3 + 3 * len(self.entries(int(self.link("/boot/loader")[-1])))
+
     def change(self, name, path, *rest):
         if name == "new":
             self.__init__()
         elif name == "remove":
             del self.nodes[path]
         else:
-            data = [bytes_of(it) for it in rest]
-            self.make(path, *{"make_folder": FOLDER, "make_file": ("file", *data), "make_link": ("link", *(it.decode() for it in data))}[name])
+            node = {"make_folder": lambda: FOLDER, "make_file": lambda data: ("file", data), "make_link": lambda data: ("link", data.decode())}[name]
+            self.make(path, *node(*map(bytes_of, rest)))
+
+
+def link_of(loader, word):
+    """The stateroot, the sum and the number of the link that a word names through this version, if it names one."""
+    name = rb"([A-Za-z0-9_-][A-Za-z0-9._-]{0,63})"
+    told = re.fullmatch(rb"/ostree/boot\.%d/" % loader + name + rb"/([0-9a-f]{64})/(0|[1-9][0-9]*)", word)
+    return tuple(it.decode() for it in told.groups()) if told and int(told[3]) < 2**32 else None
+
+
+def told_row(row):
+    path, found, (_, kernel, number), (stateroot, commit, serial) = row
+    words = [it.decode() for it in words_of(found[b"options"]) if not it.startswith(b"ostree=")]
+    return "|".join([path.rpartition("/")[2], str(version_of(found)), ":".join([stateroot, f"{commit[:2]}.{serial}", *words]), f"{kernel}/{number}"])
 
 
 # ---- sheets
@@ -379,6 +447,7 @@ def drawn(count):
         for path in [*paths_of(disk, items_of(told), version)]:
             print(f"look {path} = {shown(disk.look(path))}")
         print(f"list = {disk.list()}")
+        print(f"read = {disk.read()}")
 
 
 def paths_of(disk, items, version):

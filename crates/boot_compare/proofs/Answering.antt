@@ -81,13 +81,3 @@ sorted_apart (x ∷ names) sorted =
 
 pub listing_listed : (d : Disk) (at : Path) (names : List Name) → IsListing d at names → IsListed d at names
 listing_listed d at names listing = record { apart = sorted_apart names listing.ascending; all = listing.all }
-
-pub nothing_listed : (d : Disk) (at : Path) (e : FsErr) → IsTree d → no_folder at d ≡ Some e → (names : List Name) → names ≡ [] → IsListed d at names
-nothing_listed d at e tree refused names none = subst (IsListed d at) (sym none) (record {
-  apart = tt;
-  all = λ x there. absurd (there (tree.folders at x (no_folder_at (folder_or_not (d.at at)))));
-})
-  where
-    no_folder_at : (is_folder (d.at at) ≡ true) ⊎ (is_folder (d.at at) ≡ false) → is_folder (d.at at) ≡ false
-    no_folder_at (inl folder) = let n : None ≡ Some e = sym (no_folder-there d tree at folder) ∙ refused in cc
-    no_folder_at (inr is) = is

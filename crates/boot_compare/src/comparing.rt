@@ -8,9 +8,10 @@ ghost use Rattle.boot_model.specs.declared.item.BootItem.{BootItem as Item};
 ghost use Rattle.boot_compare.specs.declared.comparing.Compared.TheVariants as compared;
 ghost use Rattle.boot_compare.specs.Comparing.{Compares, IsSeen, IsTakenFrom, Tells, ended, passed};
 
-use crate::reads::{is_entry_name, list_names, read_file};
+use crate::reads::read_file;
 use crate::texts::{all_texts, take_text};
 use boot_model::BootItem;
+use boot_read::{is_entry_name, list_names};
 use fs_trait::{Fs, FsErr};
 use ost_types::{Bytes, FsPath, Name, NoMemory};
 use repo_layout::{Fixed, Version, fixed_path};

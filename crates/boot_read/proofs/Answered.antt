@@ -1,5 +1,5 @@
 -- Of one disk there is one answer.
-use Rattle.std.proofs.Common.{◌≡◌, ◌≢◌, ◌⊎◌, inl, inr, ⊎_elim, ℕ, zero, suc, ◌+◌, ◌<◌, ◌≤◌, ◌^◌, ◌++◌, codes, List, [], ◌∷◌, map, length, get_or, Result, Ok, Err, refl, sym, ◌∙◌, ap, subst, arith, All}
+use Rattle.std.proofs.Common.{◌≡◌, ◌⊎◌, inl, inr, ⊎_elim, ℕ, zero, suc, ◌+◌, ◌<◌, ◌≤◌, ◌^◌, ◌++◌, codes, List, [], ◌∷◌, map, length, Result, Ok, Err, refl, sym, ◌∙◌, ap, subst, arith}
 use Rattle.std.specs.Prelude.{Contains}
 use Rattle.std.specs.Cmp.Lexicographic.{slice_cmp}
 use Rattle.std.specs.FinMap.{nat_cmp-IsAntisymmetric, slice_cmp-IsAntisymmetric}
@@ -31,7 +31,7 @@ use Rattle.boot_read.specs.Faults.IsFirstBadLink.{OfLoader, OfVersion, OfEntry}
 use Rattle.boot_read.specs.Links.{HasSub, IsItemLink, IsNamed, LeadsOn, item_link}
 use Rattle.boot_read.specs.Rows.{AreBootRows, IsBootRow}
 use Rattle.boot_read.specs.Rules.{AreFew, AreMany, ComesBefore, HasOwn, IsBadItem, IsFirst, Lacks}
-use Rattle.boot_read.proofs.Lists.{before_self, mapped, not_both}
+use Rattle.boot_read.proofs.Lists.{before_self, mapped}
 use Rattle.boot_read.proofs.Unique.{leads_once, named_once, not_unread, read_once, same_path, unread_once}
 
 abbrev Answer : Type 0

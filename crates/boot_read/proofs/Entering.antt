@@ -1,17 +1,15 @@
 -- The entries of a version, found in the listing of their folder, and read.
-use Rattle.std.proofs.Common.{◌≡◌, ◌≢◌, ◌⊎◌, inl, inr, ℕ, ◌+◌, ◌-◌, ◌<◌, ◌≤◌, ◌&&◌, ◌++◌, ◌∷◌, [], List, map, length, get_or, take, drop, filter, codes, Bool, true, false, if◌then◌else◌, Option, Some, None, Ok, Err, refl, sym, ◌∙◌, ap, subst, arith, All, append-nil, append_assoc, length-append}
+use Rattle.std.proofs.Common.{◌≡◌, ◌≢◌, ℕ, ◌+◌, ◌-◌, ◌<◌, ◌≤◌, ◌&&◌, ◌++◌, ◌∷◌, [], List, map, length, get_or, take, drop, filter, codes, Bool, true, false, if◌then◌else◌, Option, Some, None, Ok, Err, refl, sym, ◌∙◌, ap, subst, arith, All, append-nil, append_assoc, length-append}
 use Rattle.std.specs.Prelude.{Contains}
 use Rattle.std.specs.Cmp.Lexicographic.{slice_cmp}
 use Rattle.std.specs.Option.{option_map}
 use Rattle.std.specs.Ordering.{nat_cmp}
-use Rattle.std.specs.List.Sorted.{IsStrictlySortedBy}
 use Rattle.std.proofs.lemmas.Bool.{and_from, and_parts}
 use Rattle.std.proofs.lemmas.List.{length-map, length-take, map_push, take-append-drop, take_all}
 use Rattle.std.proofs.lemmas.List.Elements.{All-contains, All-nil, All-push, filter-append, filter_more, filter_passes}
 use Rattle.std.proofs.lemmas.List.Kept.{IsStrictlySortedBy-filter}
 use Rattle.ost_types.specs.Path.{Name, Path, same_name, under}
 use Rattle.ost_types.proofs.Paths.{same_name-Decides}
-use Rattle.fs_trait.specs.declared.types.Value.{Value}
 use Rattle.fs_trait.specs.declared.types.Value.TheVariants.{Absent}
 use Rattle.fs_trait.specs.Effect.{IsListing}
 use Rattle.fs_trait.specs.Image.{reads}
@@ -30,10 +28,10 @@ use Rattle.boot_read.specs.declared.fault.ListFault.TheVariants.{BadLink, TooMan
 use Rattle.boot_read.specs.declared.files.EntryFile.{EntryFile}
 use Rattle.boot_read.specs.declared.texts.EntryText.{EntryText}
 use Rattle.boot_read.specs.Entries.{AreEntries, IsEntry, IsRead, IsUnread, entries_limit, entry_limit}
-use Rattle.boot_read.specs.Faults.{AreRead, HasEntries, HasFolders, IsFault, IsFirstTooMany, IsFirstUnread}
-use Rattle.boot_read.specs.Rules.{AreFew, IsFirst}
+use Rattle.boot_read.specs.Faults.{AreRead, HasFolders, IsFault, IsFirstTooMany, IsFirstUnread}
+use Rattle.boot_read.specs.Rules.{AreFew}
 use Rattle.boot_read.specs.Steps.{AreFiles, AreTexts, IsFileAt, IsFileOf, IsPushed, IsTextOf, TellsUnread}
-use Rattle.boot_read.proofs.Lists.{SoFar, first_so_far, in_filter, in_map, length_all, mapped, names_all}
+use Rattle.boot_read.proofs.Lists.{SoFar, first_so_far, in_filter, length_all, mapped, names_all}
 use Rattle.boot_read.proofs.Unique.{not_unread}
 
 -- ---- which names are those of entries

@@ -1,5 +1,5 @@
 -- From the entry to the link that it names, and from the link to the deployment.
-use Rattle.std.proofs.Common.{◌≡◌, ◌≢◌, ◌==◌, ℕ, Bool, true, false, List, map, length, get_or, ◌<◌, ◌≤◌, Option, Some, None, Result, Ok, Err, refl, sym, ◌∙◌, ap, subst, arith, All}
+use Rattle.std.proofs.Common.{◌≡◌, ◌≢◌, ◌==◌, ℕ, true, false, List, length, get_or, ◌<◌, ◌≤◌, Option, Some, None, Result, Ok, Err, refl, sym, ◌∙◌, ap, subst, arith}
 use Rattle.std.specs.Prelude.{IfErr, IfOk, MatchOption, MatchResult}
 use Rattle.std.proofs.lemmas.Bool.Decides.{Decides-eqb}
 use Rattle.std.proofs.lemmas.List.Elements.{All-contains}
@@ -28,7 +28,7 @@ use Rattle.boot_read.specs.Faults.IsFirstBadLink.{OfEntry}
 use Rattle.boot_read.specs.Links.{EntryNames, IsItemLink, IsNamed, LeadsOn, item_link}
 use Rattle.boot_read.specs.Rows.{IsLedRow}
 use Rattle.boot_read.specs.Rules.{IsBadItem}
-use Rattle.boot_read.specs.Steps.{AreFollowed, AreTexts, HasNoBad, IsFollowed, IsRowOf, IsTextOf, LeadsNot, NamesIt, NamesNothing, NodeLeads, TellsBadItem, TellsOther, row_of}
+use Rattle.boot_read.specs.Steps.{AreFollowed, AreTexts, HasNoBad, IsFollowed, IsRowOf, IsTextOf, NamesIt, NamesNothing, NodeLeads, TellsBadItem, TellsOther, row_of}
 use Rattle.boot_read.proofs.Entering.{are_read}
 use Rattle.boot_read.proofs.Lists.{SoFar, first_so_far, length_all, mapped, names_all}
 use Rattle.boot_read.proofs.Looking.{link_at, link_from, there_at}
@@ -140,7 +140,7 @@ module _ (d : Disk) (loader sub : ℕ) (file : Name) (entry : BlsEntry) (read : 
     tells_bad (TooMany path) told = absurd told
     tells_bad (BadEntry path fault) told = absurd told
     tells_bad (NoDeployment path) told = absurd told
-    tells_bad (Fs error) told = tt
+    tells_bad (Fs error) told = told
     tells_bad NoMemory told = tt
 
 -- ---- all entries
@@ -185,7 +185,7 @@ tells_first_bad d loader sub texts are folders k text all inside is so_far (BadL
 tells_first_bad d loader sub texts are folders k text all inside is so_far (TooMany path) told = absurd told
 tells_first_bad d loader sub texts are folders k text all inside is so_far (BadEntry path fault) told = absurd told
 tells_first_bad d loader sub texts are folders k text all inside is so_far (NoDeployment path) told = absurd told
-tells_first_bad d loader sub texts are folders k text all inside is so_far (Fs error) told = tt
+tells_first_bad d loader sub texts are folders k text all inside is so_far (Fs error) told = told
 tells_first_bad d loader sub texts are folders k text all inside is so_far NoMemory told = tt
 
 pub are_linked : (d : Disk) (loader sub : ℕ) (all : List Followed) → AreRead d loader sub → AreFollowed d loader sub all → AreLinked d loader sub

@@ -1,12 +1,9 @@
 -- What the answers of the file system say of a file, of a folder and of what stands at a path.
-use Rattle.std.proofs.Common.{◌≡◌, ◌≢◌, ◌⊎◌, inl, inr, ℕ, zero, suc, ◌<◌, ◌≤◌, true, false, refl, sym, ◌∙◌, ap, subst, List, [], ◌∷◌, length, take, arith, Option, Some, None, Result, Ok, Err}
+use Rattle.std.proofs.Common.{◌≡◌, ◌≢◌, ◌⊎◌, inl, inr, ℕ, zero, suc, ◌<◌, ◌≤◌, true, false, refl, sym, ◌∙◌, ap, subst, List, [], length, take, arith, Option, Some, None, Result, Ok, Err}
 use Rattle.std.specs.Prelude.{IfErr, IfOk, MatchOption}
-use Rattle.std.specs.Cmp.Lexicographic.{slice_cmp}
-use Rattle.std.specs.Ordering.{nat_cmp}
 use Rattle.std.specs.Option.{option_map}
 use Rattle.std.specs.List.Sorted.{IsStrictlySortedBy}
-use Rattle.ost_types.specs.declared.meta.Meta.{Meta}
-use Rattle.ost_types.specs.Path.{Name, Path, under}
+use Rattle.ost_types.specs.Path.{Name, Path}
 use Rattle.fs_trait.specs.declared.types.Value.{Value}
 use Rattle.fs_trait.specs.declared.types.Value.TheVariants.{Absent, Folder, Link, File}
 use Rattle.fs_trait.specs.declared.types.Node as node
@@ -14,7 +11,7 @@ use Rattle.fs_trait.specs.declared.types.FsErr.{FsErr}
 use Rattle.fs_trait.specs.declared.types.FsErr.TheVariants.{Failed}
 use Rattle.fs_trait.specs.View.{Disk}
 use Rattle.fs_trait.specs.Image.{IsTree, is_folder, reads}
-use Rattle.fs_trait.specs.Seen.{Seen, Vacant, Directory, Symlink, Leaf, seen, shows}
+use Rattle.fs_trait.specs.Seen.{Vacant, Directory, Symlink, Leaf, seen, shows}
 use Rattle.fs_trait.specs.Effect.{IsListing, IsNode, inode_of, no_file, no_folder, or_else, part, unless_file, way}
 use Rattle.fs_trait.proofs.Images.{folder_or_not}
 use Rattle.fs_trait.proofs.Refusals.{no_file-there, no_folder-there}
@@ -26,7 +23,7 @@ use Rattle.boot_model.specs.Entries.{boot_target, loader_target}
 use Rattle.boot_model.specs.Listing.{IsLinkTo, Selects}
 use Rattle.boot_read.specs.declared.fault.ListFault.{ListFault}
 use Rattle.boot_read.specs.declared.fault.ListFault.TheVariants.{BadLink, TooMany, BadEntry, NoDeployment, Fs, NoMemory}
-use Rattle.boot_read.specs.Faults.{HasCauseOf, IsFault, IsOfCall, NoFolder, NoLoader}
+use Rattle.boot_read.specs.Faults.{HasCauseOf, IsFault, IsOfCall, IsOfNoCall, NamesNoRule, NoLoader}
 use Rattle.boot_read.specs.Links.{HasSub}
 use Rattle.boot_read.specs.Steps.{IsNodeTo, either_of, is_folder_node}
 
@@ -41,19 +38,28 @@ abbrev err_of : (T : Type 0) → ListFault → Result T ListFault
 err_of T e = Err e
 
 -- a fault that no call gave has no cause in one
-pub no_cause : {T : Type 0} (before now : ℕ) (r : Result T ListFault) → before ≤ now → IfErr r (λ e. e ≢ Fs Failed) → HasCauseOf before now r
-no_cause {T} before now (Ok x) later no_call = record { later = later; failed = λ is. let n : Ok x ≡ err_of T (Fs Failed) = is in cc }
-no_cause {T} before now (Err e) later no_call = record { later = later; failed = λ is. absurd (no_call (let n : err_of T e ≡ err_of T (Fs Failed) = is in cc)) }
+names_none : (e : ListFault) → IsOfNoCall e → NamesNoRule e
+names_none (BadLink path) no_call = tt
+names_none (TooMany path) no_call = tt
+names_none (BadEntry path fault) no_call = tt
+names_none (NoDeployment path) no_call = tt
+names_none (Fs error) no_call = absurd no_call
+names_none NoMemory no_call = tt
 
-pub fault_cause : {T : Type 0} (before now : ℕ) (e : ListFault) → before ≤ now → e ≢ Fs Failed → HasCauseOf {T = T} before now (Err e)
-fault_cause {T} before now e later no_call = record { later = later; failed = λ is. absurd (no_call (let n : err_of T e ≡ err_of T (Fs Failed) = is in cc)) }
+pub fault_cause : {T : Type 0} (before now : ℕ) (e : ListFault) → before ≤ now → IsOfNoCall e → HasCauseOf {T = T} before now (Err e)
+fault_cause {T} before now e later no_call = record {
+  later = later;
+  failed = λ is. let n : err_of T e ≡ err_of T (Fs Failed) = is in let same : e ≡ Fs Failed = cc in absurd (subst IsOfNoCall same no_call);
+  named = names_none e no_call;
+}
+
+pub no_cause : {T : Type 0} (before now : ℕ) (r : Result T ListFault) → before ≤ now → IfErr r IsOfNoCall → HasCauseOf before now r
+no_cause {T} before now (Ok x) later no_call = record { later = later; failed = λ is. let n : Ok x ≡ err_of T (Fs Failed) = is in cc; named = tt }
+no_cause {T} before now (Err e) later no_call = fault_cause before now e later no_call
 
 pub memory_cause : {T : Type 0} (before now : ℕ) (r : Result T ListFault) → before ≤ now → IfErr r (λ e. e ≡ NoMemory) → HasCauseOf before now r
-memory_cause {T} before now (Ok x) later memory = record { later = later; failed = λ is. let n : Ok x ≡ err_of T (Fs Failed) = is in cc }
-memory_cause {T} before now (Err e) later memory = record {
-  later = later;
-  failed = λ is. let n : err_of T e ≡ err_of T (Fs Failed) = is in let s : e ≡ Fs Failed = cc in let f : Fs Failed ≡ NoMemory = sym s ∙ memory in cc;
-}
+memory_cause {T} before now (Ok x) later memory = no_cause before now (Ok x) later tt
+memory_cause {T} before now (Err e) later memory = no_cause before now (Err e) later (subst IsOfNoCall (sym memory) tt)
 
 pub memory_only : {T : Type 0} (r : Result T ListFault) → IfErr r (λ e. e ≡ NoMemory) → IfErr r IsOfCall
 memory_only (Ok x) memory = tt
@@ -64,7 +70,7 @@ of_call d (BadLink path) is = absurd is
 of_call d (TooMany path) is = absurd is
 of_call d (BadEntry path fault) is = absurd is
 of_call d (NoDeployment path) is = absurd is
-of_call d (Fs error) is = tt
+of_call d (Fs error) is = is
 of_call d NoMemory is = tt
 
 -- ---- a file

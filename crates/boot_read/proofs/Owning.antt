@@ -1,5 +1,5 @@
 -- Entries with and without a deployment of their own.
-use Rattle.std.proofs.Common.{◌≡◌, ◌≢◌, ◌⊎◌, inl, inr, ◌==◌, ◌&&◌, ◌||◌, not, ℕ, Bool, true, false, List, map, length, get_or, ◌<◌, ◌≤◌, Option, Some, None, refl, sym, ◌∙◌, ap, subst, arith, All}
+use Rattle.std.proofs.Common.{◌≡◌, ◌≢◌, ◌⊎◌, inl, inr, ◌==◌, ◌&&◌, ◌||◌, not, ℕ, Bool, true, false, List, length, get_or, ◌<◌, ◌≤◌, Option, Some, None, refl, sym, ◌∙◌, ap, subst, arith}
 use Rattle.std.specs.Prelude.{Contains}
 use Rattle.std.specs.List.{list_any}
 use Rattle.std.proofs.lemmas.Bool.{and_from, and_parts, not-true}
@@ -19,12 +19,12 @@ use Rattle.boot_read.specs.declared.fault.ListFault.{ListFault}
 use Rattle.boot_read.specs.declared.fault.ListFault.TheVariants.{BadLink, TooMany, BadEntry, NoDeployment, Fs, NoMemory}
 use Rattle.boot_read.specs.declared.links.Followed.{Followed}
 use Rattle.boot_read.specs.declared.row.BootRow.{BootRow}
-use Rattle.boot_read.specs.Entries.{AreEntries, IsEntry, IsRead}
+use Rattle.boot_read.specs.Entries.{AreEntries, IsRead}
 use Rattle.boot_read.specs.Faults.{AreLinked, IsFault, IsFirstLack}
 use Rattle.boot_read.specs.Links.{LeadsOn}
-use Rattle.boot_read.specs.Rows.{IsBootRow, IsLedRow}
+use Rattle.boot_read.specs.Rows.{IsLedRow}
 use Rattle.boot_read.specs.Rules.{HasOwn, HaveSameVersion, Lacks, LeadsToId}
-use Rattle.boot_read.specs.Steps.{AreFollowed, AreOwned, IsFollowed, IsOwned, IsRowOf, LeadsNot, TellsLack, is_twin, leads_to}
+use Rattle.boot_read.specs.Steps.{AreFollowed, AreOwned, IsFollowed, IsOwned, IsRowOf, TellsLack, is_twin, leads_to}
 use Rattle.boot_read.proofs.Lists.{SoFar, first_so_far, length_all, mapped, names_all}
 use Rattle.boot_read.proofs.Unique.{leads_once, read_once}
 
@@ -217,5 +217,5 @@ tells_first_lack d loader sub all are before k followed rows inside is so_far (N
 tells_first_lack d loader sub all are before k followed rows inside is so_far (BadLink path) told = absurd told
 tells_first_lack d loader sub all are before k followed rows inside is so_far (TooMany path) told = absurd told
 tells_first_lack d loader sub all are before k followed rows inside is so_far (BadEntry path fault) told = absurd told
-tells_first_lack d loader sub all are before k followed rows inside is so_far (Fs error) told = tt
+tells_first_lack d loader sub all are before k followed rows inside is so_far (Fs error) told = told
 tells_first_lack d loader sub all are before k followed rows inside is so_far NoMemory told = tt

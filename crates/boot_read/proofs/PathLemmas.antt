@@ -1,16 +1,14 @@
 -- Names and paths of entries and links are names and paths.
-use Rattle.std.proofs.Common.{◌≡◌, ◌≢◌, ◌≤◌, ◌<◌, ◌+◌, ◌^◌, inl, inr, ℕ, IsTrue, List, [], ◌∷◌, ◌++◌, length, slice_index, codes, refl, sym, ap, subst, arith, All, length-append}
+use Rattle.std.proofs.Common.{◌≡◌, ◌≢◌, ◌≤◌, ◌<◌, ◌+◌, ◌^◌, inl, inr, ℕ, IsTrue, List, [], ◌∷◌, ◌++◌, length, slice_index, codes, refl, ap, subst, arith, All, length-append}
 use Rattle.std.specs.Fmt.{decimal}
-use Rattle.std.specs.List.{AllByRecursion}
-use Rattle.std.specs.Str.Parse.{AllDigits}
 use Rattle.std.proofs.lemmas.Bool.Decides.{nat_tests}
 use Rattle.std.proofs.lemmas.Fmt.{length-decimal-le, decimal_is_IsNumeral}
 use Rattle.std.proofs.lemmas.List.Elements.{All-from_get_or, All-from_recursion, All-weaker}
 use Rattle.std.proofs.lemmas.Str.{IsUtf8-from_ascii}
 use Rattle.std.proofs.lemmas.Str.Ascii.{IsAscii-from_all}
 use Rattle.std.proofs.lemmas.Str.Parse.{digit_at}
-use Rattle.ost_types.specs.Csum.{hex_of, IsHexDigit, IsHexSum}
-use Rattle.ost_types.specs.Path.{Name, Path, AreNames, IsPath, joined, text_of, under}
+use Rattle.ost_types.specs.Csum.{IsHexDigit, IsHexSum}
+use Rattle.ost_types.specs.Path.{Name, Path, AreNames, IsPath, joined, under}
 use Rattle.ost_types.specs.Text.{IsName}
 use Rattle.ost_types.proofs.Joined.{IsPath-from_joined, joined-append, text-joined}
 use Rattle.ost_types.proofs.Splitting.{AreNames-append}

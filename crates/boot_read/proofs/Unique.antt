@@ -1,14 +1,13 @@
 -- Of one disk an entry is read in one way, names one link, and leads to one deployment.
-use Rattle.std.proofs.Common.{◌≡◌, ◌≢◌, ℕ, List, [], ◌∷◌, ◌++◌, length, ◌≤◌, ◌<◌, ◌^◌, Option, Some, None, Result, Ok, Err, refl, sym, ◌∙◌, ap, subst, arith}
+use Rattle.std.proofs.Common.{◌≡◌, ℕ, List, [], ◌∷◌, ◌++◌, length, ◌≤◌, ◌<◌, ◌^◌, Option, Some, None, Result, Ok, Err, refl, sym, ◌∙◌, ap, subst, arith}
 use Rattle.std.proofs.lemmas.List.{append_cancel_left}
 use Rattle.ost_types.specs.Path.{Name, Path}
 use Rattle.fs_trait.specs.View.{Disk}
-use Rattle.fs_trait.specs.Seen.{Vacant, Symlink, shows}
+use Rattle.fs_trait.specs.Seen.{Symlink}
 use Rattle.boot_model.specs.declared.item.DepId.{DepId}
 use Rattle.boot_model.specs.Listing.{HasEntry}
 use Rattle.bls_entry.specs.declared.entry.BlsEntry.{BlsEntry}
 use Rattle.bls_entry.specs.declared.fault.BlsFault.{BlsFault}
-use Rattle.bls_entry.specs.declared.fault.BlsFault as bls
 use Rattle.bls_entry.specs.declared.key.Key.TheVariants.{Version}
 use Rattle.bls_entry.specs.Entry.{IsVersionOf, value_of}
 use Rattle.bls_entry.specs.Options.{HasOstree, ostree_key}

@@ -1,5 +1,5 @@
 -- The words of options, one after the other.
-use Rattle.std.proofs.Common.{◌≡◌, ◌≢◌, ◌⊎◌, inl, inr, ℕ, ◌+◌, ◌-◌, ◌<◌, ◌≤◌, if◌then◌else◌, Bool, true, false, List, [], ◌∷◌, ◌++◌, All, length, get_or, take, drop, filter, not, refl, sym, ◌∙◌, ap, subst, arith, append-nil, append_assoc, length-append, length-drop}
+use Rattle.std.proofs.Common.{◌≡◌, ◌≢◌, ℕ, ◌+◌, ◌-◌, ◌<◌, ◌≤◌, Bool, true, false, List, [], ◌∷◌, ◌++◌, All, length, get_or, take, drop, filter, not, refl, sym, ◌∙◌, ap, subst, arith, append-nil, append_assoc, length-append, length-drop}
 use Rattle.std.specs.List.{slice_split}
 use Rattle.std.specs.Str.{IsUtf8}
 use Rattle.std.proofs.lemmas.Bool.Decides.{nat_tests}
@@ -12,8 +12,8 @@ use Rattle.std.proofs.lemmas.Str.Ascii.{IsAscii-from_all}
 use Rattle.ost_types.specs.Path.{same_name}
 use Rattle.ost_types.specs.Text.{IsText}
 use Rattle.bls_entry.specs.Line.{EndsOrBegins, is_blank}
-use Rattle.bls_entry.specs.Options.{is_ostree, words_of}
-use Rattle.boot_read.specs.Entries.{kept_word, other_words}
+use Rattle.bls_entry.specs.Options.{is_ostree}
+use Rattle.boot_read.specs.Entries.{other_words}
 
 -- ---- words
 
@@ -23,18 +23,23 @@ is_other w = not (is_ostree w)
 abbrev is_some : List ℕ → Bool
 is_some w = not (same_name w [])
 
+-- those of a word alone, which may be empty
+abbrev pub kept_word : List ℕ → List (List ℕ)
+kept_word word = filter is_other (filter is_some (word ∷ []))
+
 split : (word : List ℕ) (parts : List (List ℕ)) → filter is_other (filter is_some (word ∷ parts)) ≡ kept_word word ++ filter is_other (filter is_some parts)
 split word parts = ap (filter is_other) (filter-append is_some (word ∷ []) parts) ∙ filter-append is_other (filter is_some (word ∷ [])) (filter is_some parts)
 
-words_at : (text word : List ℕ) (b : ℕ) (rest : List ℕ) → text ≡ word ++ b ∷ rest → All (λ x. is_blank x ≡ false) word → is_blank b ≡ true → other_words text ≡ kept_word word ++ other_words rest
+pub alone : (word : List ℕ) → All (λ x. is_blank x ≡ false) word → other_words word ≡ kept_word word
+alone word plain = ap (λ parts. filter is_other (filter is_some parts)) (slice_split_none is_blank word plain)
+
+words_at : (text word : List ℕ) (b : ℕ) (rest : List ℕ) → text ≡ word ++ b ∷ rest → All (λ x. is_blank x ≡ false) word → is_blank b ≡ true → other_words text ≡ other_words word ++ other_words rest
 words_at text word b rest cut plain blank =
     ap other_words cut ∙ ap (λ parts. filter is_other (filter is_some parts)) (slice_split_at is_blank word b rest plain blank) ∙ split word (slice_split is_blank rest)
+    ∙ ap (λ words. words ++ other_words rest) (sym (alone word plain))
 
-words_all : (text : List ℕ) → All (λ x. is_blank x ≡ false) text → other_words text ≡ kept_word text ++ []
-words_all text plain = ap (λ parts. filter is_other (filter is_some parts)) (slice_split_none is_blank text plain) ∙ split text []
-
-words_cut : (text word rest : List ℕ) → text ≡ word ++ rest → All (λ x. is_blank x ≡ false) word → EndsOrBegins true rest → other_words text ≡ kept_word word ++ other_words (drop 1 rest)
-words_cut text word [] cut plain ends = ap other_words (cut ∙ append-nil word) ∙ words_all word plain
+words_cut : (text word rest : List ℕ) → text ≡ word ++ rest → All (λ x. is_blank x ≡ false) word → EndsOrBegins true rest → other_words text ≡ other_words word ++ other_words (drop 1 rest)
+words_cut text word [] cut plain ends = ap other_words (cut ∙ append-nil word) ∙ sym (append-nil (other_words word))
 words_cut text word (b ∷ rest) cut plain ends = words_at text word b rest cut plain ends
 
 pub words_none : (text : List ℕ) → length text ≡ 0 → other_words text ≡ []
@@ -45,12 +50,12 @@ rest_is : (rest : List ℕ) → take (length rest - 1) (drop 1 rest) ≡ drop 1 
 rest_is rest = take_all (length rest - 1) (drop 1 rest) (omega (arith, length-drop 1 rest))
 
 -- the words where the text ends with the word
-pub words_end : (text word rest : List ℕ) → text ≡ word ++ rest → All (λ x. is_blank x ≡ false) word → length rest < 1 → other_words text ≡ kept_word word ++ other_words rest
+pub words_end : (text word rest : List ℕ) → text ≡ word ++ rest → All (λ x. is_blank x ≡ false) word → length rest < 1 → other_words text ≡ other_words word ++ other_words rest
 words_end text word [] cut plain less = words_cut text word [] cut plain tt
 words_end text word (b ∷ rest) cut plain less = absurd (omega (arith, less))
 
-pub words_more : (text word rest : List ℕ) → text ≡ word ++ rest → All (λ x. is_blank x ≡ false) word → EndsOrBegins true rest → other_words text ≡ kept_word word ++ other_words (take (length rest - 1) (drop 1 rest))
-words_more text word rest cut plain ends = words_cut text word rest cut plain ends ∙ ap (λ r. kept_word word ++ other_words r) (sym (rest_is rest))
+pub words_more : (text word rest : List ℕ) → text ≡ word ++ rest → All (λ x. is_blank x ≡ false) word → EndsOrBegins true rest → other_words text ≡ other_words word ++ other_words (take (length rest - 1) (drop 1 rest))
+words_more text word rest cut plain ends = words_cut text word rest cut plain ends ∙ ap (λ r. other_words word ++ other_words r) (sym (rest_is rest))
 
 -- ---- texts
 
@@ -98,12 +103,3 @@ texts_end text word (b ∷ rest) cut less is = absurd (omega (arith, less))
 pub texts_more : (text word rest : List ℕ) → text ≡ word ++ rest → EndsOrBegins true rest → 1 ≤ length rest → IsText text → IsText word × IsText (take (length rest - 1) (drop 1 rest))
 texts_more text word [] cut ends some is = absurd (omega (arith, some))
 texts_more text word (b ∷ rest) cut ends some is = (text_word text word b rest cut ends is, subst IsText (sym (rest_is (b ∷ rest))) (text_rest text word b rest cut ends is))
-
--- what isn't kept is empty or names a deployment
-pub not_kept : (word : List ℕ) → (same_name word [] ≡ true) ⊎ (is_ostree word ≡ true) → kept_word word ≡ []
-not_kept word (inl e) = rw e refl
-not_kept word (inr e) = by (same_name word [])
-  where
-    by : (t : Bool) → filter is_other (if not t then word ∷ [] else []) ≡ []
-    by true = refl
-    by false = rw e refl

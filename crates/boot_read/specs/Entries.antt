@@ -1,9 +1,9 @@
 -- The boot entries of a version, and how each is read (Boot Loader Specification, "Type #1").
-use Rattle.std.specs.Prelude.{◌≡◌, ◌≢◌, ◌<◌, ◌≤◌, ◌↔◌, ◌∷◌, [], not, ℕ, List, length, filter, Contains, Ok, Err}
+use Rattle.std.specs.Prelude.{◌≢◌, ◌<◌, ◌≤◌, ◌↔◌, not, ℕ, List, length, filter, Contains, Ok, Err}
 use Rattle.std.specs.Cmp.Lexicographic.{slice_cmp}
 use Rattle.std.specs.List.Sorted.{IsStrictlySortedBy}
 use Rattle.std.specs.Ordering.{nat_cmp}
-use Rattle.ost_types.specs.Path.{Name, same_name}
+use Rattle.ost_types.specs.Path.{Name}
 use Rattle.fs_trait.specs.View.{Disk}
 use Rattle.boot_model.specs.Listing.{HasEntry}
 use Rattle.bls_entry.specs.declared.entry.BlsEntry.{BlsEntry}
@@ -51,7 +51,3 @@ pub record IsUnread (d : Disk) (loader : ℕ) (file : Name) (fault : EntryFault)
 -- the words of the options that name no deployment
 abbrev pub other_words : List ℕ → List (List ℕ)
 other_words options = filter (λ word. not (is_ostree word)) (words_of options)
-
--- those among a word alone, which may be empty
-abbrev pub kept_word : List ℕ → List (List ℕ)
-kept_word word = filter (λ w. not (is_ostree w)) (filter (λ w. not (same_name w [])) (word ∷ []))

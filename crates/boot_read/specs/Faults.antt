@@ -1,8 +1,9 @@
 -- What is first wrong with the list of deployments of a disk: a rule that doesn't hold, where those before it do.
-use Rattle.std.specs.Prelude.{◌≡◌, ◌≢◌, ◌≤◌, ℕ, List, Result, Ok, Err, IsErrOf}
+use Rattle.std.specs.Prelude.{◌≡◌, ◌≢◌, ◌≤◌, ℕ, List, Result, Ok, Err, IfErr, IsErrOf}
 use Rattle.ost_types.specs.Path.{Name, Path}
 use Rattle.fs_trait.specs.Count.{Rose}
 use Rattle.fs_trait.specs.declared.types.FsErr.TheVariants.{Failed}
+use Rattle.fs_trait.specs.Effect.{OfNone}
 use Rattle.fs_trait.specs.View.{Disk}
 use Rattle.fs_trait.specs.Seen.{Vacant, shows}
 use Rattle.repo_layout.specs.BootPaths.{boot_link_path, entry_path, loader_path}
@@ -95,12 +96,12 @@ IsFault d (BadLink path) = IsFirstBadLink d path
 IsFault d (TooMany path) = IsFirstTooMany d path
 IsFault d (BadEntry path fault) = IsFirstUnread d path fault
 IsFault d (NoDeployment path) = IsFirstLack d path
-IsFault d (Fs error) = Unit {0}
+IsFault d (Fs error) = OfNone error
 IsFault d NoMemory = Unit {0}
 
 -- a call failed, or memory was wanted
 abbrev pub IsOfCall : ListFault → Type 0
-IsOfCall (Fs error) = Unit {0}
+IsOfCall (Fs error) = OfNone error
 IsOfCall NoMemory = Unit {0}
 IsOfCall fault = ⊥
 
@@ -119,7 +120,18 @@ IsOfDisk answer = Unit {0}
 abbrev pub AnsweredOnce : Type 0
 AnsweredOnce = (d : Disk) (a b : Result (List BootRow) ListFault) → IsOfDisk a → IsOfDisk b → Answers d a → Answers d b → a ≡ b
 
--- A call failed only where the count of faults rose, or stands at its last value.
+-- no call of the file system gave it
+abbrev pub IsOfNoCall : ListFault → Type 0
+IsOfNoCall (Fs error) = ⊥
+IsOfNoCall fault = Unit {0}
+
+-- where a call gave it, that failed or lacked memory: no call is made that a rule of paths refuses
+abbrev pub NamesNoRule : ListFault → Type 0
+NamesNoRule (Fs error) = OfNone error
+NamesNoRule fault = Unit {0}
+
+-- A call failed only where the count of faults rose, or stands at its last value. It is so whether the view is told or not.
 pub record HasCauseOf {T : Type 0} (before now : ℕ) (result : Result T ListFault) : Type 0 where
   pub later : before ≤ now
   pub failed : IsErrOf result (Fs Failed) → Rose before now
+  pub named : IfErr result NamesNoRule

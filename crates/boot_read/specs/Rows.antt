@@ -8,7 +8,7 @@ use Rattle.fs_trait.specs.View.{Disk}
 use Rattle.fs_trait.specs.Seen.{Vacant, shows}
 use Rattle.repo_layout.specs.BootPaths.{loader_path}
 use Rattle.repo_layout.specs.Paths.{deploy_path}
-use Rattle.boot_model.specs.Listing.{Row, Selects}
+use Rattle.boot_model.specs.Listing.{Selects}
 use Rattle.bls_entry.specs.declared.entry.BlsEntry.{BlsEntry}
 use Rattle.boot_read.specs.declared.row.BootRow.{BootRow}
 use Rattle.boot_read.specs.Entries.{IsEntry, IsRead, entries_limit, other_words}
@@ -40,7 +40,3 @@ pub record AreBootRows (d : Disk) (loader sub : ℕ) (rows : List BootRow) : Typ
 abbrev pub AreRowsOf : Disk → List BootRow → Type 0
 AreRowsOf d rows = ((shows d loader_path ≡ Vacant) × (rows ≡ []))
     ⊎ ((loader : ℕ) × (sub : ℕ) × Selects d loader × HasSub d loader sub × AreBootRows d loader sub rows)
-
--- a row without the sum and the number of its link, as the list that a disk boots has it
-abbrev pub plain_row : BootRow → Row
-plain_row r = record { file = r.file; version = r.version; member = record { id = r.id; kargs = r.kargs } }

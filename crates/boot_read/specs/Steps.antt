@@ -3,6 +3,7 @@ use Rattle.std.specs.Prelude.{◌≡◌, ◌≢◌, ◌+◌, ◌-◌, ◌≤◌,
 use Rattle.ost_types.specs.declared.meta.Meta.{Meta}
 use Rattle.ost_types.specs.Path.{Name, Path, same_name}
 use Rattle.fs_trait.specs.declared.types.Node as node
+use Rattle.fs_trait.specs.Effect.{OfNone}
 use Rattle.fs_trait.specs.View.{Disk}
 use Rattle.fs_trait.specs.Seen.{Vacant, shows}
 use Rattle.repo_layout.specs.declared.fixed.Version.{Version}
@@ -15,9 +16,8 @@ use Rattle.deploy_list.specs.Lists.{is_id}
 use Rattle.bls_entry.specs.declared.entry.BlsEntry.{BlsEntry}
 use Rattle.boot_words.specs.declared.word.NamedLink.{NamedLink}
 use Rattle.boot_words.specs.Words.{LeadsTo}
-use Rattle.boot_read.specs.declared.fault.EntryFault.{EntryFault}
 use Rattle.boot_read.specs.declared.fault.ListFault.{ListFault}
-use Rattle.boot_read.specs.declared.fault.ListFault.TheVariants.{BadLink, TooMany, BadEntry, NoDeployment, Fs, NoMemory}
+use Rattle.boot_read.specs.declared.fault.ListFault.TheVariants.{BadLink, BadEntry, NoDeployment, Fs, NoMemory}
 use Rattle.boot_read.specs.declared.row.BootRow.{BootRow}
 use Rattle.boot_read.specs.declared.files.EntryFile.{EntryFile}
 use Rattle.boot_read.specs.declared.texts.EntryText.{EntryText}
@@ -106,14 +106,14 @@ pub record NodeLeads (n : node.Node) (os : Name) (id : DepId) : Type 0 where
 -- something stands at the path that is no link to a deployment of this stateroot
 abbrev pub TellsOther : Disk → Path → Name → ListFault → Type 0
 TellsOther d at os (BadLink path) = (path ≡ at) × (shows d at ≢ Vacant) × ((id : DepId) → ¬ (IsItemLink d at os id))
-TellsOther d at os (Fs error) = Unit {0}
+TellsOther d at os (Fs error) = OfNone error
 TellsOther d at os NoMemory = Unit {0}
 TellsOther d at os fault = ⊥
 
 -- what is told of an entry's link of another form
 abbrev pub TellsBadItem : Disk → ℕ → ℕ → Name → ListFault → Type 0
 TellsBadItem d loader sub file (BadLink path) = IsBadItem d loader sub file path
-TellsBadItem d loader sub file (Fs error) = Unit {0}
+TellsBadItem d loader sub file (Fs error) = OfNone error
 TellsBadItem d loader sub file NoMemory = Unit {0}
 TellsBadItem d loader sub file fault = ⊥
 
@@ -175,7 +175,7 @@ is_folder_node (Some (node.TheVariants.File m len)) = false
 -- what is told of an entry without a deployment of its own
 abbrev pub TellsLack : Disk → ℕ → ℕ → Name → ListFault → Type 0
 TellsLack d loader sub file (NoDeployment path) = (path ≡ entry_path loader file) × Lacks d loader sub file
-TellsLack d loader sub file (Fs error) = Unit {0}
+TellsLack d loader sub file (Fs error) = OfNone error
 TellsLack d loader sub file NoMemory = Unit {0}
 TellsLack d loader sub file fault = ⊥
 

@@ -33,10 +33,10 @@ pub enum ListFault {
     /// The entry leads to no deployment of its own.
     #[error("the boot entry leads to no deployment of its own")]
     NoDeployment(FsPath),
-    /// A call of the file system failed.
+    /// A call of the file system failed, or wanted memory.
     #[error("a call of the file system failed")]
     Fs(FsErr),
-    /// Memory was wanted and there was none.
+    /// Memory was wanted beside the calls, and there was none.
     #[error("memory was wanted and there was none")]
     NoMemory,
 }

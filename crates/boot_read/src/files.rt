@@ -1,5 +1,5 @@
 //! The files of the entries of a version.
-ghost use Rattle.std.specs.Prelude.{◌≡◌, ◌≤◌, length, Some, IfOk, IfErr, MatchResult};
+ghost use Rattle.std.specs.Prelude.{◌≡◌, ◌≤◌, ℕ, length, Some, IfOk, IfErr, MatchResult};
 ghost use Rattle.fs_trait.specs.View.{View};
 ghost use Rattle.fs_trait.specs.Effect.{IsListing, IsQuiet};
 ghost use Rattle.repo_layout.specs.Fixed.{entries_path, number};
@@ -32,16 +32,15 @@ pub(crate) fn entry_files<F: Fs>(
     alloc: Global,
     fs: &mut F,
     loader: Version,
-    sub: Version,
 ) -> Result<Vec<EntryFile>, ListFault>
-    ensures told { (v : View) → F.view fs.old ≡ Some v → HasFolders v.now (number loader) (number sub) → MatchResult result (λ files. AreFiles v.now (number loader) files.items) (IsFault v.now) }
+    ensures told { (v : View) (sub : ℕ) → F.view fs.old ≡ Some v → HasFolders v.now (number loader) sub → MatchResult result (λ files. AreFiles v.now (number loader) files.items) (IsFault v.now) }
     ensures quiet { IsQuiet (F.clock fs.old) (F.clock fs.new) (F.was fs.old) (F.was fs.new) (F.view fs.old) (F.view fs.new) }
     ensures room { F.spare fs.old ≤ F.spare fs.new }
     ensures cause { HasCauseOf (F.faults fs.old) (F.faults fs.new) result }
 {
     let folder = fixed_path(alloc, Fixed::Entries(loader))?;
     let names = list_names(fs, alloc, &folder)?;
-    files_in(alloc, fs, loader, sub, folder, names.as_slice())
+    files_in(alloc, fs, loader, folder, names.as_slice())
 }
 
 // those among the names in the folder of entries
@@ -49,17 +48,15 @@ fn files_in<F: Fs>(
     alloc: Global,
     fs: &mut F,
     loader: Version,
-    sub: Version,
     folder: FsPath,
     names: &[Name],
 ) -> Result<Vec<EntryFile>, ListFault>
     requires { folder ≡ entries_path (number loader) }
-    ensures told { (v : View) → F.view fs.old ≡ Some v → IsListing v.now folder names.now → HasFolders v.now (number loader) (number sub) → MatchResult result (λ files. AreFiles v.now (number loader) files.items) (IsFault v.now) }
+    ensures told { (v : View) (sub : ℕ) → F.view fs.old ≡ Some v → IsListing v.now folder names.now → HasFolders v.now (number loader) sub → MatchResult result (λ files. AreFiles v.now (number loader) files.items) (IsFault v.now) }
     ensures quiet { IsQuiet (F.clock fs.old) (F.clock fs.new) (F.was fs.old) (F.was fs.new) (F.view fs.old) (F.view fs.new) }
     ensures room { F.spare fs.old ≤ F.spare fs.new }
     ensures cause { HasCauseOf (F.faults fs.old) (F.faults fs.new) result }
 {
-    let _sub = sub;
     let mut files = Vec::with_capacity(alloc, ENTRIES_LIMIT)?;
     for name in names {
         let found = entry_file(alloc, fs, loader, name)?;

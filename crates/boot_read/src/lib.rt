@@ -19,5 +19,6 @@ mod words;
 pub use fault::{EntryFault, ListFault};
 pub use laws::lists_are_read_once;
 pub use list::read_list;
+pub use reads::{is_entry_name, list_names};
 pub use row::BootRow;
 pub use texts::ENTRY_LIMIT;

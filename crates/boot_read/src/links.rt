@@ -6,10 +6,9 @@ ghost use Rattle.fs_trait.specs.Effect.{IsNode, IsQuiet};
 ghost use Rattle.fs_trait.specs.Seen.{Vacant, shows};
 ghost use Rattle.repo_layout.specs.Fixed.{number};
 ghost use Rattle.boot_model.specs.declared.item.DepId.{DepId as Id};
-ghost use Rattle.fs_trait.specs.declared.types.FsErr.TheVariants.{Failed};
 ghost use Rattle.boot_read.specs.declared.fault.ListFault.TheVariants as fault;
 ghost use Rattle.boot_read.specs.Entries.{IsRead};
-ghost use Rattle.boot_read.specs.Faults.{HasCauseOf, HasFolders, IsFault};
+ghost use Rattle.boot_read.specs.Faults.{HasCauseOf, HasFolders, IsFault, IsOfNoCall};
 ghost use Rattle.boot_read.specs.Links.{IsItemLink};
 ghost use Rattle.boot_read.specs.Steps.{AreFollowed, AreTexts, HasNoBad, IsFollowed, IsRowOf, NamesIt, NamesNothing, NodeLeads, TellsBadItem, TellsOther, row_of};
 ghost use Rattle.boot_words.specs.Words.{IsNamedLink, LeadsNowhere, LeadsTo, NamesLink, NamesNoLink, NamesNone};
@@ -215,7 +214,7 @@ fn deployment_at<F: Fs>(
 // the deployment to which this leads that stands at the path
 fn led_by(alloc: Global, node: &Node, at: FsPath, os: &OsName) -> Result<Option<DepId>, ListFault>
     ensures told { (d : Disk) → IsNode d (d.at at) (Some node.now) → MatchResult result (λ o. MatchOption o (shows d at ≡ Vacant) (IsItemLink d at os.now)) (TellsOther d at os.now) }
-    ensures no_call { IfErr result (λ e. e ≢ fault.Fs Failed) }
+    ensures no_call { IfErr result IsOfNoCall }
 {
     let led = deployment_of(alloc, node, os)?;
     match led {

@@ -41,10 +41,10 @@ fn rows_of<F: Fs>(alloc: Global, fs: &mut F, loader: Version) -> Result<Vec<Boot
     ensures cause { HasCauseOf (F.faults fs.old) (F.faults fs.new) result }
 {
     let sub = sub_version(alloc, fs, loader)?;
-    let files = entry_files(alloc, fs, loader, sub)?;
-    let texts = entry_texts(alloc, loader, sub, &files)?;
+    let files = entry_files(alloc, fs, loader)?;
+    let texts = entry_texts(alloc, loader, &files)?;
     let all = follow_all(alloc, fs, loader, sub, &texts)?;
-    let rows = owned_rows(alloc, fs, loader, sub, &all)?;
+    let rows = owned_rows(alloc, fs, loader, &all)?;
     let sorted = by_version(rows)?;
     Ok(sorted)
 }

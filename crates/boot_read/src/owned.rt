@@ -1,14 +1,11 @@
 //! Which entries have a deployment of their own.
-ghost use Rattle.std.specs.Prelude.{◌≡◌, ◌≢◌, ◌≤◌, ℕ, not, Some, IfOk, MatchResult};
+ghost use Rattle.std.specs.Prelude.{◌≡◌, ◌≤◌, ℕ, not, Some, IfErr, IfOk, MatchResult};
 ghost use Rattle.std.specs.List.{list_any};
 ghost use Rattle.fs_trait.specs.View.{Disk, View};
 ghost use Rattle.fs_trait.specs.Image.{is_folder};
-ghost use Rattle.fs_trait.specs.Effect.{HasCause, IsQuiet};
+ghost use Rattle.fs_trait.specs.Effect.{HasCause, IsQuiet, OfNone};
 ghost use Rattle.repo_layout.specs.Fixed.{number};
-ghost use Rattle.repo_layout.specs.Paths.{deploy_path};
-ghost use Rattle.fs_trait.specs.declared.types.FsErr.TheVariants.{Failed};
-ghost use Rattle.boot_read.specs.declared.fault.ListFault.TheVariants as fault;
-ghost use Rattle.boot_read.specs.Faults.{AreLinked, HasCauseOf, IsFault};
+ghost use Rattle.boot_read.specs.Faults.{AreLinked, HasCauseOf, IsFault, IsOfNoCall};
 ghost use Rattle.boot_read.specs.Rules.{Lacks};
 ghost use Rattle.boot_read.specs.Steps.{AreFollowed, AreOwned, IsFollowed, IsOwned, TellsLack, is_folder_node, is_twin, leads_to};
 ghost use Rattle.deploy_list.specs.Lists.{is_id};
@@ -19,7 +16,7 @@ use crate::places::entry_at;
 use crate::row::BootRow;
 use boot_model::DepId;
 use fs_trait::{Fs, FsErr, Node};
-use ost_types::{Name, TryCopy};
+use ost_types::{FsPath, Name, TryCopy};
 use repo_layout::{Version, deploy_path};
 use std::alloc::Global;
 
@@ -28,17 +25,16 @@ pub(crate) fn owned_rows<F: Fs>(
     alloc: Global,
     fs: &mut F,
     loader: Version,
-    sub: Version,
     all: &[Followed],
 ) -> Result<Vec<BootRow>, ListFault>
-    ensures told { (v : View) → F.view fs.old ≡ Some v → AreLinked v.now (number loader) (number sub) → AreFollowed v.now (number loader) (number sub) all.now → MatchResult result (λ rows. AreOwned v.now (number loader) (number sub) rows.items) (IsFault v.now) }
+    ensures told { (v : View) (sub : ℕ) → F.view fs.old ≡ Some v → AreLinked v.now (number loader) sub → AreFollowed v.now (number loader) sub all.now → MatchResult result (λ rows. AreOwned v.now (number loader) sub rows.items) (IsFault v.now) }
     ensures quiet { IsQuiet (F.clock fs.old) (F.clock fs.new) (F.was fs.old) (F.was fs.new) (F.view fs.old) (F.view fs.new) }
     ensures room { F.spare fs.old ≤ F.spare fs.new }
     ensures cause { HasCauseOf (F.faults fs.old) (F.faults fs.new) result }
 {
     let mut rows = Vec::with_capacity(alloc, all.len())?;
     for followed in all {
-        let row = owned_row(alloc, fs, loader, sub, all, followed)?;
+        let row = owned_row(alloc, fs, loader, all, followed)?;
         rows.push(row)?;
     }
     Ok(rows)
@@ -48,18 +44,17 @@ fn owned_row<F: Fs>(
     alloc: Global,
     fs: &mut F,
     loader: Version,
-    sub: Version,
     all: &[Followed],
     followed: &Followed,
 ) -> Result<BootRow, ListFault>
-    ensures told { (v : View) → F.view fs.old ≡ Some v → AreFollowed v.now (number loader) (number sub) all.now → IsFollowed v.now (number loader) (number sub) followed.now → MatchResult result (λ row. (row.file ≡ followed.now.name) × IsOwned v.now (number loader) (number sub) row) (TellsLack v.now (number loader) (number sub) followed.now.name) }
+    ensures told { (v : View) (sub : ℕ) → F.view fs.old ≡ Some v → AreFollowed v.now (number loader) sub all.now → IsFollowed v.now (number loader) sub followed.now → MatchResult result (λ row. (row.file ≡ followed.now.name) × IsOwned v.now (number loader) sub row) (TellsLack v.now (number loader) sub followed.now.name) }
     ensures quiet { IsQuiet (F.clock fs.old) (F.clock fs.new) (F.was fs.old) (F.was fs.new) (F.view fs.old) (F.view fs.new) }
     ensures room { F.spare fs.old ≤ F.spare fs.new }
     ensures cause { HasCauseOf (F.faults fs.old) (F.faults fs.new) result }
 {
     match &followed.row {
         None => Err(no_deployment(alloc, loader, &followed.name)),
-        Some(row) => checked_row(alloc, fs, loader, sub, all, followed, row),
+        Some(row) => checked_row(alloc, fs, loader, all, followed, row),
     }
 }
 
@@ -68,22 +63,21 @@ fn checked_row<F: Fs>(
     alloc: Global,
     fs: &mut F,
     loader: Version,
-    sub: Version,
     all: &[Followed],
     followed: &Followed,
     row: &BootRow,
 ) -> Result<BootRow, ListFault>
     requires { followed.now.row ≡ Some row.now }
-    ensures told { (v : View) → F.view fs.old ≡ Some v → AreFollowed v.now (number loader) (number sub) all.now → IsFollowed v.now (number loader) (number sub) followed.now → MatchResult result (λ row. (row.file ≡ followed.now.name) × IsOwned v.now (number loader) (number sub) row) (TellsLack v.now (number loader) (number sub) followed.now.name) }
+    ensures told { (v : View) (sub : ℕ) → F.view fs.old ≡ Some v → AreFollowed v.now (number loader) sub all.now → IsFollowed v.now (number loader) sub followed.now → MatchResult result (λ row. (row.file ≡ followed.now.name) × IsOwned v.now (number loader) sub row) (TellsLack v.now (number loader) sub followed.now.name) }
     ensures quiet { IsQuiet (F.clock fs.old) (F.clock fs.new) (F.was fs.old) (F.was fs.new) (F.view fs.old) (F.view fs.new) }
     ensures room { F.spare fs.old ≤ F.spare fs.new }
     ensures cause { HasCauseOf (F.faults fs.old) (F.faults fs.new) result }
 {
-    let _sub = sub;
     if !is_alone(all, row) {
         return Err(no_deployment(alloc, loader, &followed.name));
     }
-    let there = has_folder(alloc, fs, &row.id)?;
+    let at = deploy_path(alloc, &row.id.os, &row.id.commit, row.id.serial)?;
+    let there = has_folder(fs, &at)?;
     if !there {
         return Err(no_deployment(alloc, loader, &followed.name));
     }
@@ -92,7 +86,7 @@ fn checked_row<F: Fs>(
 
 fn no_deployment(alloc: Global, loader: Version, file: &Name) -> ListFault
     ensures told { (d : Disk) (sub : ℕ) → Lacks d (number loader) sub file.now → TellsLack d (number loader) sub file.now result }
-    ensures no_call { result ≢ fault.Fs Failed }
+    ensures no_call { IsOfNoCall result }
 {
     match entry_at(alloc, loader, file) {
         Ok(at) => ListFault::NoDeployment(at),
@@ -134,15 +128,15 @@ fn is_same(a: &DepId, b: &DepId) -> bool
     a.os == b.os && a.commit == b.commit && a.serial == b.serial
 }
 
-// whether a folder stands where the deployment is
-fn has_folder<F: Fs>(alloc: Global, fs: &mut F, id: &DepId) -> Result<bool, FsErr>
-    ensures told { (v : View) → F.view fs.old ≡ Some v → IfOk result (λ yes. yes ≡ is_folder (v.now.at (deploy_path id.now.os id.now.commit id.now.serial))) }
+// whether a folder stands there
+fn has_folder<F: Fs>(fs: &mut F, at: &FsPath) -> Result<bool, FsErr>
+    ensures told { (v : View) → F.view fs.old ≡ Some v → IfOk result (λ yes. yes ≡ is_folder (v.now.at at.now)) }
+    ensures named { IfErr result OfNone }
     ensures quiet { IsQuiet (F.clock fs.old) (F.clock fs.new) (F.was fs.old) (F.was fs.new) (F.view fs.old) (F.view fs.new) }
     ensures room { F.spare fs.old ≤ F.spare fs.new }
     ensures cause { HasCause (F.faults fs.old) (F.faults fs.new) result }
 {
-    let at = deploy_path(alloc, &id.os, &id.commit, id.serial)?;
-    let node = fs.stat(&at)?;
+    let node = fs.stat(at)?;
     Ok(is_some_folder(&node))
 }
 

@@ -22,6 +22,7 @@ pub(crate) fn loader_path(alloc: Global) -> Result<FsPath, NoMemory>
 pub(crate) fn entry_at(alloc: Global, loader: Version, file: &Name) -> Result<FsPath, NoMemory>
     ensures { IfOk result (λ p. p ≡ entry_path (numbered loader) file.now) }
 {
+    // known by this: a name may stand in the folder
     let _file = file.as_slice();
     fixed_path(alloc, Fixed::Entries(loader))?.child(file)
 }

@@ -28,7 +28,7 @@ pub(crate) fn read_front<F: Fs>(fs: &mut F, at: &FsPath, most: u32) -> Result<Op
 }
 
 /// The names in a folder, ascending; none where no folder stands there.
-pub(crate) fn list_names<F: Fs>(fs: &mut F, alloc: Global, at: &FsPath) -> Result<Names, FsErr>
+pub fn list_names<F: Fs>(fs: &mut F, alloc: Global, at: &FsPath) -> Result<Names, FsErr>
     ensures told { (v : View) → F.view fs.old ≡ Some v → IfOk result (IsListing v.now at.now) }
     ensures named { IfErr result OfNone }
     ensures quiet { IsQuiet (F.clock fs.old) (F.clock fs.new) (F.was fs.old) (F.was fs.new) (F.view fs.old) (F.view fs.new) }
@@ -44,7 +44,7 @@ pub(crate) fn list_names<F: Fs>(fs: &mut F, alloc: Global, at: &FsPath) -> Resul
 }
 
 /// Whether a file of this name is an entry.
-pub(crate) fn is_entry_name(name: &Name) -> bool
+pub fn is_entry_name(name: &Name) -> bool
     ensures { IsTrue result ↔ ends_conf name.now }
 {
     let bytes = name.as_slice();

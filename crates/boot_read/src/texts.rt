@@ -1,14 +1,12 @@
 //! What the entries say.
-ghost use Rattle.std.specs.Prelude.{◌≡◌, ◌≢◌, ◌<◌, ◌≤◌, true, false, length, IfErr, IfOk, MatchResult};
+ghost use Rattle.std.specs.Prelude.{◌≡◌, ◌≢◌, ◌<◌, ◌≤◌, ℕ, true, false, length, IfErr, IfOk, MatchResult};
 ghost use Rattle.fs_trait.specs.View.{Disk};
 ghost use Rattle.repo_layout.specs.Fixed.{number};
-ghost use Rattle.fs_trait.specs.declared.types.FsErr.TheVariants.{Failed};
-ghost use Rattle.boot_read.specs.declared.fault.ListFault.TheVariants as faults;
 ghost use Rattle.boot_read.specs.declared.fault.EntryFault.TheVariants as entries;
 ghost use Rattle.bls_entry.specs.declared.fault.BlsFault.TheVariants as bls;
 ghost use Rattle.bls_entry.specs.Reading.{Reads};
 ghost use Rattle.boot_read.specs.Entries.{IsRead, IsUnread, entry_limit};
-ghost use Rattle.boot_read.specs.Faults.{HasFolders, IsFault};
+ghost use Rattle.boot_read.specs.Faults.{HasFolders, IsFault, IsOfNoCall};
 ghost use Rattle.boot_read.specs.Steps.{AreFiles, AreTexts, IsFileOf, TellsUnread};
 
 use crate::fault::{EntryFault, ListFault};
@@ -33,13 +31,11 @@ pub(crate) struct EntryText {
 pub(crate) fn entry_texts(
     alloc: Global,
     loader: Version,
-    sub: Version,
     files: &[EntryFile],
 ) -> Result<Vec<EntryText>, ListFault>
-    ensures told { (d : Disk) → HasFolders d (number loader) (number sub) → AreFiles d (number loader) files.now → MatchResult result (λ texts. AreTexts d (number loader) texts.items) (IsFault d) }
-    ensures no_call { IfErr result (λ e. e ≢ faults.Fs Failed) }
+    ensures told { (d : Disk) (sub : ℕ) → HasFolders d (number loader) sub → AreFiles d (number loader) files.now → MatchResult result (λ texts. AreTexts d (number loader) texts.items) (IsFault d) }
+    ensures no_call { IfErr result IsOfNoCall }
 {
-    let _sub = sub;
     let mut texts = Vec::with_capacity(alloc, files.len())?;
     for file in files {
         let entry = entry_of(alloc, loader, file)?;
@@ -51,7 +47,7 @@ pub(crate) fn entry_texts(
 
 fn entry_of(alloc: Global, loader: Version, file: &EntryFile) -> Result<BlsEntry, ListFault>
     ensures told { (d : Disk) → IsFileOf d (number loader) file.now → MatchResult result (IsRead d (number loader) file.now.name) (TellsUnread d (number loader) file.now.name) }
-    ensures no_call { IfErr result (λ e. e ≢ faults.Fs Failed) }
+    ensures no_call { IfErr result IsOfNoCall }
 {
     if is_too_long(&file.bytes) {
         return Err(bad_entry(alloc, loader, &file.name, EntryFault::TooLong));
@@ -79,7 +75,7 @@ fn read_bytes(alloc: Global, bytes: &Bytes) -> Result<BlsEntry, BlsFault>
 // what is told of an entry that has this fault
 fn unread(alloc: Global, loader: Version, file: &Name, fault: BlsFault) -> ListFault
     ensures told { (d : Disk) → (fault ≢ bls.NoMemory → IsUnread d (number loader) file.now (entries.Unread fault)) → TellsUnread d (number loader) file.now result }
-    ensures no_call { result ≢ faults.Fs Failed }
+    ensures no_call { IsOfNoCall result }
 {
     match kept_fault(fault) {
         Ok(kept) => bad_entry(alloc, loader, file, kept),
@@ -100,7 +96,7 @@ fn kept_fault(fault: BlsFault) -> Result<EntryFault, NoMemory>
 
 fn bad_entry(alloc: Global, loader: Version, file: &Name, fault: EntryFault) -> ListFault
     ensures told { (d : Disk) → IsUnread d (number loader) file.now fault → TellsUnread d (number loader) file.now result }
-    ensures no_call { result ≢ faults.Fs Failed }
+    ensures no_call { IsOfNoCall result }
 {
     match entry_at(alloc, loader, file) {
         Ok(at) => ListFault::BadEntry(at, fault),

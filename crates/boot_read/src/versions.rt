@@ -6,9 +6,7 @@ ghost use Rattle.repo_layout.specs.declared.fixed.Version.{Version as Which};
 ghost use Rattle.repo_layout.specs.BootPaths.{boot_link_path, loader_path};
 ghost use Rattle.repo_layout.specs.Fixed.{number};
 ghost use Rattle.boot_model.specs.Listing.{Selects};
-ghost use Rattle.fs_trait.specs.declared.types.FsErr.TheVariants.{Failed};
-ghost use Rattle.boot_read.specs.declared.fault.ListFault.TheVariants as fault;
-ghost use Rattle.boot_read.specs.Faults.{HasCauseOf, IsFault};
+ghost use Rattle.boot_read.specs.Faults.{HasCauseOf, IsFault, IsOfNoCall};
 ghost use Rattle.boot_read.specs.Links.{HasSub};
 ghost use Rattle.boot_read.specs.Steps.{IsNodeTo, IsSelected, either_of};
 
@@ -38,7 +36,7 @@ pub(crate) fn selected<F: Fs>(alloc: Global, fs: &mut F) -> Result<Option<Versio
 // the version that a link in the place of the boot loader's selects
 fn loader_version(node: &Node, at: FsPath) -> Result<Option<Version>, ListFault>
     ensures told { (d : Disk) → IsNode d (d.at at) (Some node.now) → at ≡ loader_path → MatchResult result (IsSelected d) (IsFault d) }
-    ensures no_call { IfErr result (λ e. e ≢ fault.Fs Failed) }
+    ensures no_call { IfErr result IsOfNoCall }
 {
     let version = version_of(
         node,
@@ -73,7 +71,7 @@ pub(crate) fn sub_version<F: Fs>(
 // which folder of links a link in the place of the version's leads to
 fn link_version(node: &Node, at: FsPath, loader: Version) -> Result<Version, ListFault>
     ensures told { (d : Disk) → IsNode d (d.at at) (Some node.now) → at ≡ boot_link_path (number loader) → Selects d (number loader) → MatchResult result (λ sub. HasSub d (number loader) (number sub)) (IsFault d) }
-    ensures no_call { IfErr result (λ e. e ≢ fault.Fs Failed) }
+    ensures no_call { IfErr result IsOfNoCall }
 {
     let version = version_of(
         node,

@@ -2,7 +2,7 @@
 ghost use Rattle.std.specs.Prelude.{◌≡◌, ◌<◌, ◌++◌, true, false, length, All, IfOk, OnOk};
 ghost use Rattle.ost_types.specs.Text.{IsText};
 ghost use Rattle.bls_entry.specs.Line.{EndsOrBegins, is_blank};
-ghost use Rattle.boot_read.specs.Entries.{kept_word, other_words};
+ghost use Rattle.boot_read.specs.Entries.{other_words};
 
 use ost_types::{NoMemory, Text, Texts};
 use std::alloc::Global;
@@ -21,10 +21,11 @@ pub(crate) fn other_words(alloc: Global, options: &Text) -> Result<Texts, NoMemo
     Ok(words)
 }
 
-// a word that names no deployment
+// the word, unless it is empty or names a deployment
 fn push_word(alloc: Global, words: &mut Texts, word: &[u8]) -> Result<(), NoMemory>
-    requires { IsText word.now }
-    ensures { OnOk result (words.new ≡ words.old ++ kept_word word.now) }
+    requires text { IsText word.now }
+    requires plain { All (λ b. is_blank b ≡ false) word.now }
+    ensures { OnOk result (words.new ≡ words.old ++ other_words word.now) }
 {
     if word.is_empty() || word.starts_with(b"ostree=") {
         return Ok(());
@@ -37,7 +38,8 @@ fn push_word(alloc: Global, words: &mut Texts, word: &[u8]) -> Result<(), NoMemo
 
 // the word at the front, and what stands behind the blank after it
 fn split_word(text: &[u8]) -> (&[u8], &[u8])
-    ensures words { other_words text.now ≡ kept_word result.0.now ++ other_words result.1.now }
+    ensures words { other_words text.now ≡ other_words result.0.now ++ other_words result.1.now }
+    ensures plain { All (λ b. is_blank b ≡ false) result.0.now }
     ensures shorter { 0 < length text.now → length result.1.now < length text.now }
     ensures texts { IsText text.now → IsText result.0.now × IsText result.1.now }
 {

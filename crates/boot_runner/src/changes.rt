@@ -1,7 +1,7 @@
 //! Changes of a disk beside those of a swap.
 use crate::looks::{known, path_of};
 use crate::untold::Untold;
-use boot_model::BootItem;
+use boot_model::{BootItem, DepId};
 use fs_trait::{Fs, FsErr};
 use ost_types::{FsPath, Meta, Text, Xattrs, is_file_mode, is_folder_mode, is_link_mode};
 use sheet::{Fields, Stop, text};
@@ -9,16 +9,19 @@ use std::alloc::Global;
 
 /// A call that changes the disk: the path, and a file's bytes or a link's target.
 pub fn change(fs: &mut Untold, name: &str, fields: &mut Fields) -> Result<Vec<u8>, Stop> {
-    let alloc = fields.alloc();
-    let at = path_of(alloc, fields.text()?)?;
+    let at = path_of(fields.alloc(), fields.text()?)?;
+    change_at(fs, name, &at, fields)?;
+    text(fields.alloc(), "ok")
+}
+
+fn change_at(fs: &mut Untold, name: &str, at: &FsPath, fields: &mut Fields) -> Result<(), Stop> {
     match name {
-        "make_folder" => make_folder(fs, alloc, &at)?,
-        "make_file" => make_file(fs, alloc, &at, &fields.bytes()?)?,
-        "make_link" => make_link(fs, alloc, &at, &fields.bytes()?)?,
-        "remove" => known(fs.unlink(&at))?,
-        _ => return Err(Stop::Unknown),
+        "make_folder" => make_folder(fs, fields.alloc(), at),
+        "make_file" => make_file(fs, at, fields),
+        "make_link" => make_link(fs, at, fields),
+        "remove" => known(fs.unlink(at)),
+        _ => Err(Stop::Unknown),
     }
-    text(alloc, "ok")
 }
 
 fn meta(alloc: Global, mode: u32) -> Meta {
@@ -42,45 +45,63 @@ fn make_folder(fs: &mut Untold, alloc: Global, at: &FsPath) -> Result<(), Stop> 
     }
 }
 
-fn make_file(fs: &mut Untold, alloc: Global, at: &FsPath, bytes: &[u8]) -> Result<(), Stop> {
-    let meta = meta(alloc, 0o100644);
+fn make_file(fs: &mut Untold, at: &FsPath, fields: &mut Fields) -> Result<(), Stop> {
+    let bytes = fields.bytes()?;
+    let meta = meta(fields.alloc(), 0o100644);
     if !is_file_mode(meta.mode) {
         return Err(Stop::Unknown);
     }
     known(fs.create(at, &meta))?;
-    known(fs.append(at, bytes))
+    known(fs.append(at, &bytes))
 }
 
-fn make_link(fs: &mut Untold, alloc: Global, at: &FsPath, target: &[u8]) -> Result<(), Stop> {
-    let meta = meta(alloc, 0o120777);
-    let target = Text::parse(alloc, target)?.ok_or(Stop::Unknown)?;
+fn make_link(fs: &mut Untold, at: &FsPath, fields: &mut Fields) -> Result<(), Stop> {
+    let target = target(fields)?;
+    let meta = meta(fields.alloc(), 0o120777);
     if !is_link_mode(meta.mode) || target.as_slice().is_empty() {
         return Err(Stop::Unknown);
     }
     known(fs.symlink(at, &target, &meta))
 }
 
+fn target(fields: &mut Fields) -> Result<Text, Stop> {
+    let bytes = fields.bytes()?;
+    Text::parse(fields.alloc(), &bytes)?.ok_or(Stop::Unknown)
+}
+
 /// The folders that a sysroot has before anything boots.
 pub fn lay_out(fs: &mut Untold, alloc: Global) -> Result<(), Stop> {
     for folder in ["/boot", "/boot/ostree", "/ostree", "/ostree/deploy"] {
-        make_folder(fs, alloc, &path_of(alloc, folder)?)?;
+        make_folder_named(fs, alloc, folder)?;
     }
     known(fs.sync_all())
+}
+
+fn make_folder_named(fs: &mut Untold, alloc: Global, at: &str) -> Result<(), Stop> {
+    let at = path_of(alloc, at)?;
+    make_folder(fs, alloc, &at)
 }
 
 /// The folders of these deployments, all of which then outlast a crash.
 pub fn deploy(fs: &mut Untold, alloc: Global, items: &[BootItem]) -> Result<(), Stop> {
     for item in items {
-        let os = item.id.os.as_slice();
-        let os = std::str::from_utf8(os).map_err(|_| Stop::Unknown)?;
-        let stateroot = format!(in alloc; "/ostree/deploy/{os}")?;
-        make_folder(fs, alloc, &path_of(alloc, stateroot.as_str())?)?;
-        let all = format!(in alloc; "/ostree/deploy/{os}/deploy")?;
-        make_folder(fs, alloc, &path_of(alloc, all.as_str())?)?;
-        let byte = item.id.commit.bytes()[0];
-        let digits = format!(in alloc; "{byte:02x}")?.repeat(alloc, 32)?;
-        let one = format!(in alloc; "{all}/{digits}.{}", item.id.serial)?;
-        make_folder(fs, alloc, &path_of(alloc, one.as_str())?)?;
+        deploy_one(fs, alloc, &item.id)?;
     }
     known(fs.sync_all())
+}
+
+fn deploy_one(fs: &mut Untold, alloc: Global, id: &DepId) -> Result<(), Stop> {
+    let os = std::str::from_utf8(id.os.as_slice()).map_err(|_| Stop::Unknown)?;
+    let stateroot = format!(in alloc; "/ostree/deploy/{os}")?;
+    make_folder_named(fs, alloc, stateroot.as_str())?;
+    let all = format!(in alloc; "{stateroot}/deploy")?;
+    make_folder_named(fs, alloc, all.as_str())?;
+    make_deployment(fs, alloc, all.as_str(), id)
+}
+
+fn make_deployment(fs: &mut Untold, alloc: Global, all: &str, id: &DepId) -> Result<(), Stop> {
+    let byte = id.commit.bytes()[0];
+    let digits = format!(in alloc; "{byte:02x}")?.repeat(alloc, 32)?;
+    let one = format!(in alloc; "{all}/{digits}.{}", id.serial)?;
+    make_folder_named(fs, alloc, one.as_str())
 }

@@ -47,13 +47,18 @@ pub fn add_each(
 ) -> Result<(), Stop> {
     let choices = 1u32.checked_shl(names).ok_or(Stop::Unknown)?;
     for choice in 0..choices {
-        let mut picks = Vec::new(alloc);
-        for name in 0..FEW {
-            picks.push(if (choice >> name) & 1 == 0 { 0 } else { LAST })?;
-        }
-        add_left(alloc, disk, moment, picks, outcome)?;
+        add_left(alloc, disk, moment, picks_of(alloc, choice)?, outcome)?;
     }
     Ok(())
+}
+
+// The oldest or the last value for each name, by the bits of a choice.
+fn picks_of(alloc: Global, choice: u32) -> Result<Vec<u32>, Stop> {
+    let mut picks = Vec::new(alloc);
+    for name in 0..FEW {
+        picks.push(if (choice >> name) & 1 == 0 { 0 } else { LAST })?;
+    }
+    Ok(picks)
 }
 
 // Choices of any value for each name.
@@ -65,14 +70,24 @@ fn add_sampled(
 ) -> Result<(), Stop> {
     let mut seed = 1u32;
     for _ in 0..SAMPLES {
-        let mut picks = Vec::new(alloc);
-        for _ in 0..64 {
-            seed = seed.wrapping_mul(1_664_525).wrapping_add(1_013_904_223);
-            picks.push((seed >> 16) % 60)?;
-        }
-        add_left(alloc, disk, moment, picks, outcome)?;
+        add_left(
+            alloc,
+            disk,
+            moment,
+            sampled_picks(alloc, &mut seed)?,
+            outcome,
+        )?;
     }
     Ok(())
+}
+
+fn sampled_picks(alloc: Global, seed: &mut u32) -> Result<Vec<u32>, Stop> {
+    let mut picks = Vec::new(alloc);
+    for _ in 0..64 {
+        *seed = seed.wrapping_mul(1_664_525).wrapping_add(1_013_904_223);
+        picks.push((*seed >> 16) % 60)?;
+    }
+    Ok(picks)
 }
 
 // Where so many calls changed names since all was synced. Each changes one name, and at most one of them another one.

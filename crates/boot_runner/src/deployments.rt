@@ -28,26 +28,35 @@ impl Bench for DeploymentBench {
 
 // The paths of the tree; one that ends with `/` is a folder.
 fn kernel(fields: &mut Fields) -> Result<Vec<u8>, Stop> {
-    let alloc = fields.alloc();
-    let tree = tree_of(alloc, fields.others().unwrap_or(""))?;
+    let tree = tree_of(fields.alloc(), fields.others().unwrap_or(""))?;
     match kver_of(&tree)? {
-        Ok(kver) => Ok(Vec::from_slice(alloc, kver.as_slice())?),
-        Err(KernelFault::EtcInTree) => text(alloc, "etc_in_tree"),
-        Err(KernelFault::NoDefaults) => text(alloc, "no_defaults"),
-        Err(KernelFault::NoKernel) => text(alloc, "no_kernel"),
-        Err(KernelFault::TwoKernels) => text(alloc, "two_kernels"),
+        Ok(kver) => Ok(Vec::from_slice(fields.alloc(), kver.as_slice())?),
+        Err(fault) => text(fields.alloc(), fault_word(&fault)),
+    }
+}
+
+fn fault_word(fault: &KernelFault) -> &'static str {
+    match fault {
+        KernelFault::EtcInTree => "etc_in_tree",
+        KernelFault::NoDefaults => "no_defaults",
+        KernelFault::NoKernel => "no_kernel",
+        KernelFault::TwoKernels => "two_kernels",
     }
 }
 
 fn tree_of(alloc: Global, paths: &str) -> Result<PathMap, Stop> {
     let mut tree = PathMap::new(alloc);
     for word in paths.split(' ') {
-        match word.strip_suffix('/') {
-            Some(folder) => add_folder(alloc, &mut tree, path(alloc, folder)?)?,
-            None => add_leaf(&mut tree, path(alloc, word)?)?,
-        }
+        add_node(alloc, &mut tree, word)?;
     }
     Ok(tree)
+}
+
+fn add_node(alloc: Global, tree: &mut PathMap, word: &str) -> Result<(), Stop> {
+    match word.strip_suffix('/') {
+        Some(folder) => add_folder(alloc, tree, path(alloc, folder)?),
+        None => add_leaf(tree, path(alloc, word)?),
+    }
 }
 
 fn path(alloc: Global, text: &str) -> Result<FsPath, Stop> {
@@ -81,13 +90,18 @@ fn add_leaf(tree: &mut PathMap, path: FsPath) -> Result<(), Stop> {
 
 // Of the kernel and the initramfs, whole or in pieces of this size.
 fn summed(fields: &mut Fields, size: Option<usize>) -> Result<Vec<u8>, Stop> {
-    let (kernel, initramfs) = (fields.bytes()?, fields.bytes()?);
-    let sum = match size {
-        None => bootcsum(&kernel, &initramfs),
-        Some(1) => of_ones(&kernel, &initramfs),
-        Some(_) => of_threes(&kernel, &initramfs),
-    };
+    let kernel = fields.bytes()?;
+    let initramfs = fields.bytes()?;
+    let sum = sum_of(&kernel, &initramfs, size);
     Ok(Vec::from_slice(fields.alloc(), sum.to_hex().as_slice())?)
+}
+
+fn sum_of(kernel: &[u8], initramfs: &[u8], size: Option<usize>) -> Csum {
+    match size {
+        None => bootcsum(kernel, initramfs),
+        Some(1) => of_ones(kernel, initramfs),
+        Some(_) => of_threes(kernel, initramfs),
+    }
 }
 
 fn of_ones(kernel: &[u8], initramfs: &[u8]) -> Csum {
@@ -157,8 +171,12 @@ fn kept(fields: &mut Fields) -> Result<Vec<u8>, Stop> {
     let list = deps_of(alloc, fields.text()?)?;
     let os = os_of(alloc, fields.text()?)?;
     let used = ids_of(alloc, fields.text()?)?;
-    let mut told = text(alloc, "places")?;
     let places = kept_behind(alloc, &list, &os, &used)?;
+    told_places(alloc, &places)
+}
+
+fn told_places(alloc: Global, places: &[usize]) -> Result<Vec<u8>, Stop> {
+    let mut told = text(alloc, "places")?;
     for place in places {
         let place = format!(in alloc; " {place}")?;
         told.extend_from_slice(place.as_bytes())?;

@@ -25,43 +25,61 @@ fn read(name: &str, fields: &mut Fields) -> Result<Vec<u8>, Stop> {
     let alloc = fields.alloc();
     let bytes = bytes_of(alloc, fields.others().unwrap_or(""))?;
     match read_entry(alloc, &bytes) {
-        Err(fault) => told_fault(alloc, fault),
-        Ok(entry) => match name {
-            "reads" => text(alloc, "ok"),
-            "read" => told(alloc, &entry),
-            "written" => written(alloc, &entry),
-            "leads" => leads(alloc, &entry),
-            _ => Err(Stop::Unknown),
-        },
+        Err(fault) => told_unread(alloc, fault),
+        Ok(entry) => read_of(alloc, name, &entry),
     }
 }
 
-fn told_fault(alloc: Global, fault: BlsFault) -> Result<Vec<u8>, Stop> {
+fn read_of(alloc: Global, name: &str, entry: &BlsEntry) -> Result<Vec<u8>, Stop> {
+    match name {
+        "reads" => text(alloc, "ok"),
+        "read" => told(alloc, entry),
+        "written" => written(alloc, entry),
+        "leads" => leads(alloc, entry),
+        _ => Err(Stop::Unknown),
+    }
+}
+
+/// What is wrong with the text of an entry.
+pub fn told_unread(alloc: Global, fault: BlsFault) -> Result<Vec<u8>, Stop> {
     match fault {
-        BlsFault::BadLine(line) => text(alloc, format!(in alloc; "line {line}")?.as_str()),
+        BlsFault::BadLine(line) => told_line(alloc, line),
         BlsFault::NoOptions => text(alloc, "no_options"),
         BlsFault::NoOstree => text(alloc, "no_ostree"),
         BlsFault::NoMemory => Err(Stop::NoMemory),
     }
 }
 
+fn told_line(alloc: Global, line: u64) -> Result<Vec<u8>, Stop> {
+    let told = format!(in alloc; "line {line}")?;
+    text(alloc, told.as_str())
+}
+
 // The version, title, options, kernel and initramfs, with a `|` between any two.
 fn told(alloc: Global, entry: &BlsEntry) -> Result<Vec<u8>, Stop> {
-    let initrd = match &entry.initrd {
-        Some(initrd) => initrd.as_str(),
-        None => "none",
-    };
     let mut told = number(alloc, entry.version as u64)?;
     for part in [
         entry.title.as_str(),
         entry.options.as_str(),
         entry.linux.as_str(),
-        initrd,
+        initrd_of(entry),
     ] {
-        told.push(b'|')?;
-        told.extend_from_slice(part.as_bytes())?;
+        add_part(&mut told, part)?;
     }
     Ok(told)
+}
+
+fn initrd_of(entry: &BlsEntry) -> &str {
+    match &entry.initrd {
+        Some(initrd) => initrd.as_str(),
+        None => "none",
+    }
+}
+
+fn add_part(told: &mut Vec<u8>, part: &str) -> Result<(), Stop> {
+    told.push(b'|')?;
+    told.extend_from_slice(part.as_bytes())?;
+    Ok(())
 }
 
 fn written(alloc: Global, entry: &BlsEntry) -> Result<Vec<u8>, Stop> {

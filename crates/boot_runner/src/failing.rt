@@ -10,8 +10,8 @@ use fs_trait::{Fs, FsErr};
 use sheet::Stop;
 use std::alloc::Global;
 
-// The disk as a crash leaves it that takes each last value: its calls are numbered from 1.
-fn fresh(alloc: Global, disk: &MemFs) -> Result<Untold, Stop> {
+/// The disk as a crash leaves it that takes each last value: its calls are numbered from 1.
+pub fn fresh(alloc: Global, disk: &MemFs) -> Result<Untold, Stop> {
     let choice = Choice {
         picks: Vec::new(alloc),
         fill: 0,
@@ -59,21 +59,29 @@ fn fails_at(
     outcome: &mut Outcome,
 ) -> Result<bool, Stop> {
     let mut fs = fresh(alloc, disk)?;
-    let plan = vec![in alloc; plan]?;
-    fs.disk.fail_at(plan);
-    let items = items_of(alloc, list)?;
-    let answer = swap_to(alloc, &mut fs, items)?;
+    fs.disk.fail_at(vec![in alloc; plan]?);
+    let answer = swap_to_list(alloc, &mut fs, list)?;
     if fs.disk.faults() == 0 {
         return Ok(false);
     }
     if !is_failed(&answer) {
         outcome.add_other();
     }
-    let shown = listing(alloc, &mut fs.disk)?;
-    outcome.add(&shown);
-    let moment = fs.disk.moments();
-    add_each(alloc, &fs.disk, moment, 3, outcome)?;
+    add_shown(alloc, &mut fs.disk, outcome)?;
     Ok(true)
+}
+
+fn swap_to_list(alloc: Global, fs: &mut Untold, list: &str) -> Result<Result<(), FsErr>, Stop> {
+    let items = items_of(alloc, list)?;
+    swap_to(alloc, fs, items)
+}
+
+// What stands there, and what a crash leaves.
+fn add_shown(alloc: Global, disk: &mut MemFs, outcome: &mut Outcome) -> Result<(), Stop> {
+    let shown = listing(alloc, disk)?;
+    outcome.add(&shown);
+    let moment = disk.moments();
+    add_each(alloc, disk, moment, 3, outcome)
 }
 
 fn is_failed(answer: &Result<(), FsErr>) -> bool {
@@ -85,8 +93,7 @@ fn is_failed(answer: &Result<(), FsErr>) -> bool {
 
 fn add_whole(alloc: Global, disk: &MemFs, list: &str, outcome: &mut Outcome) -> Result<(), Stop> {
     let mut fs = fresh(alloc, disk)?;
-    let items = items_of(alloc, list)?;
-    let answer = swap_to(alloc, &mut fs, items)?;
+    let answer = swap_to_list(alloc, &mut fs, list)?;
     if answer.is_err() {
         outcome.add_other();
     }

@@ -4,7 +4,7 @@ ghost use Rattle.std.specs.Prelude.{◌≤◌, length};
 use crate::looks::{known, path_of};
 use fs_memory::MemFs;
 use fs_trait::{Fs, Node};
-use ost_types::FsPath;
+use ost_types::{FsPath, Names};
 use sheet::{Stop, text};
 use std::alloc::Global;
 
@@ -33,11 +33,16 @@ fn members(alloc: Global, fs: &mut MemFs) -> Result<Vec<u8>, Stop> {
         _ => return Err(Stop::Unknown),
     };
     let rows = rows(alloc, fs, loader)?;
+    joined(alloc, &rows)
+}
+
+// The rows with `,` between them; `-` is none.
+fn joined(alloc: Global, rows: &[Row]) -> Result<Vec<u8>, Stop> {
     if rows.is_empty() {
         return text(alloc, "-");
     }
     let mut all = Vec::new(alloc);
-    for row in &rows {
+    for row in rows {
         if !all.is_empty() {
             all.push(b',')?;
         }
@@ -76,20 +81,36 @@ fn rows(alloc: Global, fs: &mut MemFs, loader: &str) -> Result<Vec<Row>, Stop> {
     if !is_folder(alloc, fs, folder.as_str())? {
         return Ok(rows);
     }
-    let names = known(fs.list(&path_of(alloc, folder.as_str())?))?;
+    let names = names_in(alloc, fs, folder.as_str())?;
     for name in names.as_slice() {
-        if !name.as_str().ends_with(".conf") {
-            continue;
-        }
-        let entry = format!(in alloc; "{folder}/{}", name.as_str())?;
-        let entry = path_of(alloc, entry.as_str())?;
-        if is_file(fs, &entry)? {
-            let row = row_at(alloc, fs, loader, &entry)?;
-            let place = place_of(&rows, row.version);
-            rows.insert(place, row)?;
+        if name.as_str().ends_with(".conf") {
+            let entry = format!(in alloc; "{folder}/{}", name.as_str())?;
+            add_row(alloc, fs, loader, entry.as_str(), &mut rows)?;
         }
     }
     Ok(rows)
+}
+
+fn names_in(alloc: Global, fs: &mut MemFs, folder: &str) -> Result<Names, Stop> {
+    let folder = path_of(alloc, folder)?;
+    known(fs.list(&folder))
+}
+
+// The entry that stands there, if it is a file.
+fn add_row(
+    alloc: Global,
+    fs: &mut MemFs,
+    loader: &str,
+    entry: &str,
+    rows: &mut Vec<Row>,
+) -> Result<(), Stop> {
+    let entry = path_of(alloc, entry)?;
+    if is_file(fs, &entry)? {
+        let row = row_at(alloc, fs, loader, &entry)?;
+        let place = place_of(rows, row.version);
+        rows.insert(place, row)?;
+    }
+    Ok(())
 }
 
 fn row_at(alloc: Global, fs: &mut MemFs, loader: &str, at: &FsPath) -> Result<Row, Stop> {
@@ -154,13 +175,21 @@ fn value_of<'a>(entry: &'a str, key: &str) -> Result<&'a str, Stop> {
 // What `/ostree/boot.<loader>/<stateroot>/<sum>/<number>` leads to.
 fn deployment(alloc: Global, fs: &mut MemFs, loader: &str, named: &str) -> Result<Vec<u8>, Stop> {
     let link = format!(in alloc; "/ostree/boot.{loader}")?;
-    let rest = named.strip_prefix(link.as_str()).ok_or(Stop::Unknown)?;
-    let rest = rest.strip_prefix('/').ok_or(Stop::Unknown)?;
+    let rest = rest_behind(named, link.as_str())?;
     let folder = links_at(alloc, fs, loader, link.as_str())?;
     let member = format!(in alloc; "/ostree/{folder}/{rest}")?;
     let place = place_at(alloc, fs, member.as_str())?;
-    let (os, _) = rest.split_once('/').ok_or(Stop::Unknown)?;
-    told_place(alloc, os, place.as_str())
+    told_member(alloc, rest, place.as_str())
+}
+
+fn rest_behind<'a>(named: &'a str, link: &str) -> Result<&'a str, Stop> {
+    let rest = named.strip_prefix(link).ok_or(Stop::Unknown)?;
+    rest.strip_prefix('/').ok_or(Stop::Unknown)
+}
+
+fn told_member(alloc: Global, named: &str, place: &str) -> Result<Vec<u8>, Stop> {
+    let (os, _) = named.split_once('/').ok_or(Stop::Unknown)?;
+    told_place(alloc, os, place)
 }
 
 // The folder of links that a version's link names.
@@ -195,11 +224,20 @@ fn place_at(alloc: Global, fs: &mut MemFs, link: &str) -> Result<String, Stop> {
 // Of `<stateroot>/deploy/<commit>.<serial>` the commit's first two digits, where the stateroot is this one.
 fn told_place(alloc: Global, os: &str, place: &str) -> Result<Vec<u8>, Stop> {
     let (stateroot, rest) = place.split_once('/').ok_or(Stop::Unknown)?;
+    if stateroot != os {
+        return Err(Stop::Unknown);
+    }
+    let (digits, serial) = digits_and_serial(rest)?;
+    let told = format!(in alloc; "{os}:{digits}.{serial}")?;
+    text(alloc, told.as_str())
+}
+
+fn digits_and_serial(rest: &str) -> Result<(&str, &str), Stop> {
     let named = rest.strip_prefix("deploy/").ok_or(Stop::Unknown)?;
     let (commit, serial) = named.split_once('.').ok_or(Stop::Unknown)?;
     let (digits, _) = commit.split_at_checked(2).ok_or(Stop::Unknown)?;
-    if stateroot != os || commit.len() != 64 {
+    if commit.len() != 64 {
         return Err(Stop::Unknown);
     }
-    text(alloc, format!(in alloc; "{os}:{digits}.{serial}")?.as_str())
+    Ok((digits, serial))
 }

@@ -20,17 +20,22 @@ pub fn path_of(alloc: Global, text: &str) -> Result<FsPath, Stop> {
 
 /// A link's target, `file` and its bytes, a folder's names, or `none`.
 pub fn look(fs: &mut MemFs, fields: &mut Fields) -> Result<Vec<u8>, Stop> {
-    let alloc = fields.alloc();
-    let at = path_of(alloc, fields.text()?)?;
-    match known(fs.stat(&at))? {
+    let at = path_of(fields.alloc(), fields.text()?)?;
+    look_at(fs, fields.alloc(), &at)
+}
+
+fn look_at(fs: &mut MemFs, alloc: Global, at: &FsPath) -> Result<Vec<u8>, Stop> {
+    match known(fs.stat(at))? {
         None => text(alloc, "none"),
-        Some(Node::Link { target, .. }) => {
-            let told = format!(in alloc; "to {}", target.as_str())?;
-            text(alloc, told.as_str())
-        }
-        Some(Node::File { .. }) => Ok(known(fs.read(&at))?.into_vec()),
-        Some(Node::Folder(_)) => told_names(alloc, &known(fs.list(&at))?),
+        Some(Node::Link { target, .. }) => told_link(alloc, target.as_str()),
+        Some(Node::File { .. }) => Ok(known(fs.read(at))?.into_vec()),
+        Some(Node::Folder(_)) => told_names(alloc, &known(fs.list(at))?),
     }
+}
+
+fn told_link(alloc: Global, target: &str) -> Result<Vec<u8>, Stop> {
+    let told = format!(in alloc; "to {target}")?;
+    text(alloc, told.as_str())
 }
 
 // Each name behind a space.

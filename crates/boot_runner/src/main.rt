@@ -12,6 +12,7 @@ mod listing;
 mod looks;
 mod members;
 mod outcome;
+mod reading;
 mod swaps;
 mod untold;
 

@@ -23,15 +23,18 @@ fn item_of(alloc: Global, member: &str) -> Result<BootItem, Stop> {
     let (os, rest) = cut(member)?;
     let (named, rest) = cut(rest)?;
     let (kver, rest) = cut(rest)?;
-    let (kernel, words) = match rest.split_once(':') {
+    let (kernel, words) = kernel_and_words(rest);
+    let id = named_id(alloc, os, named)?;
+    let kargs = words_of(alloc, words)?;
+    let kernel = kernel_of(alloc, kver, kernel)?;
+    Ok(BootItem { id, kargs, kernel })
+}
+
+fn kernel_and_words(rest: &str) -> (&str, Option<&str>) {
+    match rest.split_once(':') {
         Some((kernel, words)) => (kernel, Some(words)),
         None => (rest, None),
-    };
-    Ok(BootItem {
-        id: named_id(alloc, os, named)?,
-        kargs: words_of(alloc, words)?,
-        kernel: kernel_of(alloc, kver, kernel)?,
-    })
+    }
 }
 
 fn cut(rest: &str) -> Result<(&str, &str), Stop> {
@@ -63,12 +66,13 @@ pub fn commit_of(digits: &str) -> Result<Csum, Stop> {
 }
 
 fn kernel_of(alloc: Global, kver: &str, files: &str) -> Result<Kernel, Stop> {
+    let kver = Name::parse(alloc, kver.as_bytes())?.ok_or(Stop::Unknown)?;
     let (kernel, initramfs) = match files.split_once('+') {
         Some((kernel, initramfs)) => (kernel, Some(initramfs)),
         None => (files, None),
     };
     Ok(Kernel {
-        kver: Name::parse(alloc, kver.as_bytes())?.ok_or(Stop::Unknown)?,
+        kver,
         bootcsum: bootcsum(kernel.as_bytes(), initramfs.unwrap_or("").as_bytes()),
         initramfs: initramfs.is_some(),
     })
@@ -105,13 +109,28 @@ pub fn told_items(alloc: Global, items: &[BootItem]) -> Result<Vec<u8>, Stop> {
 }
 
 fn add_item(alloc: Global, told: &mut Vec<u8>, item: &BootItem) -> Result<(), Stop> {
-    told.extend_from_slice(item.id.os.as_slice())?;
-    let commit = item.id.commit.bytes()[0];
-    let named = format!(in alloc; ":{commit:02x}.{}", item.id.serial)?;
-    told.extend_from_slice(named.as_bytes())?;
-    for word in item.kargs.as_slice() {
+    add_deployment(alloc, told, &item.id, &item.kargs)
+}
+
+/// The name of a deployment, and each of these words behind a `:`.
+pub fn add_deployment(
+    alloc: Global,
+    told: &mut Vec<u8>,
+    id: &DepId,
+    words: &Texts,
+) -> Result<(), Stop> {
+    add_id(alloc, told, id)?;
+    for word in words.as_slice() {
         told.push(b':')?;
         told.extend_from_slice(word.as_slice())?;
     }
+    Ok(())
+}
+
+fn add_id(alloc: Global, told: &mut Vec<u8>, id: &DepId) -> Result<(), Stop> {
+    let commit = id.commit.bytes()[0];
+    let named = format!(in alloc; ":{commit:02x}.{}", id.serial)?;
+    told.extend_from_slice(id.os.as_slice())?;
+    told.extend_from_slice(named.as_bytes())?;
     Ok(())
 }

@@ -7,6 +7,7 @@ use crate::listing::listing;
 use crate::looks::{known, look};
 use crate::members::{items_of, told_items};
 use crate::outcome::Outcome;
+use crate::reading::{read, read_failing};
 use crate::untold::Untold;
 use boot_model::BootItem;
 use boot_swap::swap;
@@ -39,11 +40,10 @@ impl Bench for SwapBench {
     fn answer(&mut self, name: &str, fields: Fields) -> Result<Vec<u8>, Stop> {
         let mut fields = fields;
         match name {
-            "new" => {
-                drop(std::mem::replace(&mut self.fs, new_disk(fields.alloc())?));
-                text(fields.alloc(), "ok")
-            }
+            "new" => renew(&mut self.fs, &fields),
             "list" => listing(fields.alloc(), &mut self.fs.disk),
+            "read" => read(fields.alloc(), &mut self.fs.disk),
+            "read_failing" => read_failing(fields.alloc(), &self.fs.disk),
             "look" => look(&mut self.fs.disk, &mut fields),
             "swap" => swapped(&mut self.fs, &mut fields),
             "unsynced" => swapped_unsynced(&mut self.fs, &mut fields),
@@ -52,6 +52,12 @@ impl Bench for SwapBench {
             _ => change(&mut self.fs, name, &mut fields),
         }
     }
+}
+
+fn renew(fs: &mut Untold, fields: &Fields) -> Result<Vec<u8>, Stop> {
+    let disk = new_disk(fields.alloc())?;
+    drop(std::mem::replace(fs, disk));
+    text(fields.alloc(), "ok")
 }
 
 /// Lets the list boot.

@@ -1,7 +1,5 @@
-use Rattle.std.proofs.Common.{◌≡◌, ◌+◌, true, false, Some, sym, ◌∙◌, subst}
+use Rattle.std.proofs.Common.{◌≡◌, ◌+◌, true, false, sym, ◌∙◌}
 use Rattle.repo_layout.specs.Fixed.{number}
-use Rattle.std.specs.Option.{option_map}
-use Rattle.fs_trait.specs.Image.{reads}
 use Rattle.boot_read.specs.Entries.{entry_limit}
 use Rattle.boot_read.specs.Steps.{IsFileAt}
 use Rattle.boot_read.proofs.Entering.{file_at, no_file, other_name}

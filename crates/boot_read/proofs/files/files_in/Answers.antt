@@ -1,4 +1,4 @@
-use Rattle.std.proofs.Common.{◌≡◌, true, false, refl, sym, ◌∙◌, subst, arith}
+use Rattle.std.proofs.Common.{sym, ◌∙◌, subst, arith}
 use Rattle.std.proofs.lemmas.Result.{err_from_is_err_and}
 use Rattle.fs_trait.specs.Effect.{IsListing}
 use Rattle.fs_trait.proofs.Quiet.{IsQuiet-refl, IsQuiet-trans}
@@ -34,20 +34,20 @@ loop-name-preserved g c =
     }
 
 pub returns-in_err-found-clause-told : goal.returns-in_err-found-clause-told
-returns-in_err-found-clause-told g c = λ v told listing folders.
+returns-in_err-found-clause-told g c = λ v sub told listing folders.
     let error = err_from_is_err_and c.from_residual-in_err-found.result c.from_residual-in_err-found.ensures.1 in
     rw (error.1, error.2) (of_call v.now _ c.in_err-found.ensures.err)
 
 pub returns-then-not-branch-clause-told : goal.returns-then-not-branch-clause-told
-returns-then-not-branch-clause-told g c = λ v told listing folders.
+returns-then-not-branch-clause-told g c = λ v sub told listing folders.
     let i = c.loop-name.invariant in
     let full = subst (λ b. IsPushed c.loop-name.files.items c.in_ok-found.found b c.push_file.new.files.items) c.if-not-branch.true c.in_ok-push_file.ensures in
     let here = subst (λ p. IsListing v.now p c.args.names.now) (c.requires ∙ sym i.folder) listing in
-    too_many v.now (number c.args.loader) c.args.names.now c.loop-name.folder i.folder here (number c.args.sub) folders
+    too_many v.now (number c.args.loader) c.args.names.now c.loop-name.folder i.folder here sub folders
     (over v.now (number c.args.loader) c.args.names.now c.loop-name.name-index c.name-item.result c.loop-name-test.true c.name-item.is c.in_ok-found.found c.loop-name.files.items _
     (c.in_ok-found.ensures.told v (i.quiet.view ∙ told)) full (i.files v told))
 
 pub returns-clause-told : goal.returns-clause-told
-returns-clause-told g c = λ v told listing folders.
+returns-clause-told g c = λ v sub told listing folders.
     let i = c.loop-name.invariant in
     all_files v.now (number c.args.loader) c.args.names.now c.args.folder c.requires listing c.loop-name.name-index c.loop-name.files.items c.loop-name-test.false i.few (i.files v told)

@@ -1,4 +1,4 @@
-use Rattle.std.proofs.Common.{◌≡◌, subst}
+use Rattle.std.proofs.Common.{subst}
 use Rattle.fs_trait.specs.Effect.{IsNode}
 use Rattle.boot_read.proofs.Looking.{no_cause, vacant_at}
 use Rattle.boot_read.proofs.links.deployment_at.Goals as goal

@@ -1,4 +1,3 @@
-use Rattle.std.proofs.Common.{◌≡◌, subst}
 use Rattle.std.proofs.lemmas.Result.{err_from_is_err_and}
 use Rattle.repo_layout.specs.Fixed.{number}
 use Rattle.boot_read.proofs.Following.{followed_is}

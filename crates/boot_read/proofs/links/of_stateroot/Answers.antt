@@ -1,4 +1,4 @@
-use Rattle.std.proofs.Common.{◌≡◌, subst}
+use Rattle.std.proofs.Common.{subst}
 use Rattle.std.specs.Prelude.{MatchOption}
 use Rattle.boot_words.specs.Words.{LeadsNowhere, LeadsTo}
 use Rattle.boot_read.proofs.links.of_stateroot.Goals as goal

@@ -1,4 +1,4 @@
-use Rattle.std.proofs.Common.{◌≡◌, subst}
+use Rattle.std.proofs.Common.{subst}
 use Rattle.std.specs.Prelude.{MatchOption}
 use Rattle.repo_layout.specs.Fixed.{number}
 use Rattle.boot_words.specs.Words.{IsNamedLink, NamesNone}

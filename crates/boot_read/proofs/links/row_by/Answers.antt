@@ -1,9 +1,5 @@
-use Rattle.std.proofs.Common.{◌≡◌, subst}
-use Rattle.std.specs.Prelude.{MatchOption}
 use Rattle.std.proofs.lemmas.Result.{err_from_is_err_and}
-use Rattle.fs_trait.specs.Seen.{Vacant, shows}
 use Rattle.repo_layout.specs.Fixed.{number}
-use Rattle.boot_read.specs.Links.{IsItemLink}
 use Rattle.boot_read.proofs.Following.{item_told, tells_bad, vacant_told}
 use Rattle.boot_read.proofs.Looking.{memory_cause}
 use Rattle.boot_read.proofs.links.row_by.Goals as goal

@@ -1,4 +1,4 @@
-use Rattle.std.proofs.Common.{◌≡◌, subst}
+use Rattle.std.proofs.Common.{subst}
 use Rattle.repo_layout.specs.Fixed.{number}
 use Rattle.bls_entry.specs.Reading.{Reads}
 use Rattle.boot_read.proofs.Entering.{read_as, too_long, unread_as}
