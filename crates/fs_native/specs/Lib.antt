@@ -1,5 +1,3 @@
-pub mod Attributes
 pub mod Counts
 pub mod Laws
-pub mod Look
 pub mod Young

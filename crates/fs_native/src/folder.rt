@@ -13,17 +13,17 @@ ghost use Rattle.host_files.specs.HostPath.{host_text};
 ghost use Rattle.host_files.specs.Refusal.{answered};
 ghost use Rattle.host_files.specs.Reserved.{IsInPlace};
 ghost use Rattle.host_files.specs.declared.refusal.Refusal.TheVariants.{Failed};
-ghost use Rattle.fs_native.specs.Attributes.{IsGivable};
+ghost use Rattle.native_nodes.specs.Attributes.{IsGivable};
 ghost use Rattle.fs_native.specs.Young.{IsSettled};
 
-use crate::{
-    Attributes, LINK_MODE, Leaf, Look, Standing, Young, read_content, restore, show_folder,
-    spell_young, start_here, walk,
-};
+use crate::{Young, start_here, walk};
 use fs_trait::{FsErr, Node};
 use host_files::{
     Changed, Fault, HostPath, Known, Machine, Mark, NoStart, PLACE, Refusal, Syncer, extend_leaf,
     rename, spell_parent, sync,
+};
+use native_nodes::{
+    Attributes, LINK_MODE, Leaf, Look, Standing, read_content, restore, show_folder, spell_young,
 };
 use ost_types::{Bytes, FsPath, Meta, Name, Names, NoMemory, Text};
 use std::alloc::Global;
@@ -409,11 +409,7 @@ impl<R: Machine, S: Syncer> CurrentFolder<R, S> {
         ensures spelled { OnOk result (self.new.path ≡ host_text at.now) }
         ensures changed { self.new.changed ≡ self.old.changed }
     {
-        match self.walk(at)? {
-            Standing::Folder => Ok(()),
-            Standing::Absent => Err(Refusal::Missing),
-            Standing::Young(_) | Standing::Leaf(_) => Err(Refusal::NotFolder),
-        }
+        self.walk(at)?.as_folder()
     }
 
     // What stands at a path. A young leaf is found as it is to be, and the text is then that of the reserved place where it lies.

@@ -6,23 +6,14 @@ ghost use Rattle.host_files.specs.Reserved.{IsInPlace};
 ghost use Rattle.host_files.specs.declared.refusal.Refusal.TheVariants.{Failed};
 ghost use Rattle.host_files.specs.HostPath.{host_text};
 
-use crate::{Leaf, Look, Young};
+use crate::Young;
 use host_files::{Fault, HostPath, Known, PLACE, Refusal, spell};
+use native_nodes::{Look, Standing};
 use ost_types::FsPath;
 use std::rt::Files;
 
-/// What stands at a path.
-#[derive(Clone, Copy, Debug, PartialEq, Eq)]
-pub enum Standing {
-    Absent,
-    Folder,
-    /// The young leaf of this number.
-    Young(u32),
-    Leaf(Leaf),
-}
-
 /// Whether a path is that of the reserved place, or leads through it.
-pub fn is_reserved(at: &FsPath) -> bool
+fn is_reserved(at: &FsPath) -> bool
     ensures { IsTrue result ↔ IsInPlace at.now }
 {
     match at.names().first() {
@@ -75,7 +66,7 @@ fn walk_folders<R: Files>(
     for end in 1..parent.len() {
         pass_front(rt, known, young, parent.split_at_checked(end))?;
     }
-    pass(look(rt, known, young, parent)?)
+    look(rt, known, young, parent)?.as_folder()
 }
 
 // Walks through the folder whose text is the front of one that goes on with a slash behind it.
@@ -90,22 +81,8 @@ fn pass_front<R: Files>(
     ensures emptying { IfErr (answered result) OfEmptying }
 {
     match parts {
-        Some((front, rest)) if rest.starts_with('/') => pass(look(rt, known, young, front)?),
+        Some((front, rest)) if rest.starts_with('/') => look(rt, known, young, front)?.as_folder(),
         _ => Ok(()),
-    }
-}
-
-// Whether a path can go on below what stands there.
-fn pass(standing: Standing) -> Result<(), Refusal>
-    ensures folder { OnOk result (standing ≡ Standing.Folder) }
-    ensures placing { IfErr (answered result) OfPlacing }
-    ensures finding { IfErr (answered result) OfFinding }
-    ensures emptying { IfErr (answered result) OfEmptying }
-{
-    match standing {
-        Standing::Folder => Ok(()),
-        Standing::Absent => Err(Refusal::Missing),
-        Standing::Young(_) | Standing::Leaf(_) => Err(Refusal::NotFolder),
     }
 }
 

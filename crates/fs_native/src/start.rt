@@ -1,6 +1,6 @@
 //! What is done before the first call.
-use crate::{Look, PLACE_TEXT};
 use host_files::{Machine, Mark, NoStart, new_folder, start, sync};
+use native_nodes::{Look, PLACE_TEXT};
 use std::fs::File;
 
 /// Locks the current folder, and syncs all below it unless the mark says that nothing is unsynced there. Gives the open

@@ -3,11 +3,11 @@ ghost use Rattle.std.specs.Prelude.{◌≡◌, ◌≢◌, ◌<◌, ◌≤◌, �
 ghost use Rattle.fs_trait.specs.Effect.{OfNone};
 ghost use Rattle.fs_native.specs.Young.{AreSynced, IsSettled};
 
-use crate::{
-    Attributes, LINK_MODE, PLACE_TEXT, add_bytes, finish, new_link, new_private, spell_young,
-};
 use fs_trait::FsErr;
 use host_files::{Fault, HostPath, Share, Syncer, YoungFile, extend_leaf, rename, sync};
+use native_nodes::{
+    Attributes, LINK_MODE, PLACE_TEXT, add_bytes, finish, new_link, new_private, spell_young,
+};
 use ost_types::NoMemory;
 use std::alloc::{AllocError, Global};
 use std::collections::BTreeMap;

@@ -1,7 +1,7 @@
 //! What stands at a text of the machine. No link is followed.
 ghost use Rattle.std.specs.Prelude.{◌≡◌, ◌↔◌, IsTrue};
 ghost use Rattle.std.specs.Fs.{metadata_mode};
-ghost use Rattle.fs_native.specs.Look.{Shows, IsOneFile};
+ghost use Rattle.native_nodes.specs.Look.{Shows, IsOneFile};
 
 use crate::Attributes;
 use host_files::Fault;

@@ -3,9 +3,9 @@ use Rattle.std.specs.Prelude.{◌≡◌, ℕ, IsFalse, Result, Ok, Err}
 use Rattle.ost_types.specs.Mode.{IsFolderMode, IsFileMode, IsLinkMode}
 use Rattle.host_files.specs.Front.{IsLeafMode}
 use Rattle.host_files.specs.declared.refusal.Fault.{Fault}
-use Rattle.fs_native.specs.declared.look.Leaf.{Leaf}
-use Rattle.fs_native.specs.declared.look.Look.{Look}
-use Rattle.fs_native.specs.declared.look.Look.TheVariants as look
+use Rattle.native_nodes.specs.declared.look.Leaf.{Leaf}
+use Rattle.native_nodes.specs.declared.look.Look.{Look}
+use Rattle.native_nodes.specs.declared.look.Look.TheVariants as look
 
 -- neither a folder, nor a regular file, nor a link
 pub record IsOther (mode : ℕ) : Type 0 where

@@ -1,8 +1,8 @@
 //! What the machine keeps of a node's attributes: owner, group and mode.
 ghost use Rattle.std.specs.Prelude.{◌≡◌, ◌*◌, ◌+◌, ◌<◌, ℕ, [], MatchOption};
 ghost use Rattle.std.specs.Fs.{metadata_mode, permissions_mode};
-ghost use Rattle.fs_native.specs.Attributes.{IsGivable, Gives};
-ghost use Rattle.fs_native.specs.declared.attributes.Attributes.{Attributes};
+ghost use Rattle.native_nodes.specs.Attributes.{IsGivable, Gives};
+ghost use Rattle.native_nodes.specs.declared.attributes.Attributes.{Attributes};
 
 use ost_types::{Meta, Xattrs};
 use std::alloc::Global;

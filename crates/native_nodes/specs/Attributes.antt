@@ -1,7 +1,7 @@
 -- Attributes of nodes, and what the machine keeps of them.
 use Rattle.std.specs.Prelude.{◌≡◌, ◌<◌, ◌≤◌, ◌⊎◌, ℕ, []}
 use Rattle.ost_types.specs.declared.meta.Meta.{Meta}
-use Rattle.fs_native.specs.declared.attributes.Attributes.{Attributes}
+use Rattle.native_nodes.specs.declared.attributes.Attributes.{Attributes}
 
 -- The machine can be given them: none is extended, and the owner and the group aren't the number by which POSIX's `chown` leaves one as it is.
 pub record IsGivable (m : Meta) : Type 0 where
