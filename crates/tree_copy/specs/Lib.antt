@@ -1,0 +1,4 @@
+pub mod TreeFolder
+pub mod TreeNode
+pub mod TreeWork
+pub mod TreeSteps
