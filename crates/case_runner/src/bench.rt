@@ -30,7 +30,12 @@ impl<'a, R: Threads + Sync> Bench<'a, R> {
 
     /// Runs the case over a disk in memory, to its end or to what differs first.
     pub fn run_case(&mut self, case: &Case) -> Result<(), Stop> {
-        let mut fs = MemFs::new(self.alloc)?;
+        self.run_copy_of(MemFs::new(self.alloc)?, case)
+    }
+
+    // Over a copy of the disk that the case begins with.
+    fn run_copy_of<D: CaseDisk>(&mut self, fs: D, case: &Case) -> Result<(), Stop> {
+        let mut fs = fs;
         self.add_disk(&mut fs, &case.disk)?;
         match copy_of(self.alloc, &fs)? {
             Some(copy) => self.run_steps(copy, case),
@@ -87,16 +92,20 @@ impl<'a, R: Threads + Sync> Bench<'a, R> {
     }
 
     fn run_family<D: CaseDisk>(&mut self, fs: &D, call: &Call) -> Result<(), Stop> {
-        let Some(disk) = copy_of(self.alloc, fs)? else {
-            return Ok(());
-        };
+        match copy_of(self.alloc, fs)? {
+            Some(disk) => self.run_members(&disk, call),
+            None => Ok(()),
+        }
+    }
+
+    fn run_members(&mut self, disk: &MemFs, call: &Call) -> Result<(), Stop> {
         match &call.family {
             Family::Once => Ok(()),
-            Family::Calls(failing) => self.run_failing(&disk, call, failing),
-            Family::Lines(name) => self.run_lines(&disk, call, name),
-            Family::Bytes(map) => self.run_bytes(&disk, call, map),
-            Family::Schedules(schedules) => self.run_schedules(&disk, call, *schedules),
-            Family::Removals(removals) => self.run_removals(&disk, call, removals),
+            Family::Calls(failing) => self.run_failing(disk, call, failing),
+            Family::Lines(name) => self.run_lines(disk, call, name),
+            Family::Bytes(map) => self.run_bytes(disk, call, map),
+            Family::Schedules(schedules) => self.run_schedules(disk, call, *schedules),
+            Family::Removals(removals) => self.run_removals(disk, call, removals),
         }
     }
 
@@ -128,6 +137,18 @@ impl<'a, R: Threads + Sync> Bench<'a, R> {
         self.calls = self.calls.saturating_add(1);
         let words = words_of(self.alloc, &asked.words)?;
         call_program(self.threads, self.alloc, fs, &words, input, plan)
+    }
+
+    /// Whether it is as expected, where its disk is no longer wanted.
+    pub fn judge<D: CaseDisk>(
+        &mut self,
+        call: &Call,
+        ran: Ran<D>,
+        outcome: Option<usize>,
+        member: &Member,
+    ) -> Result<(), Stop> {
+        let _ = self.check_member(call, ran, outcome, member)?;
+        Ok(())
     }
 
     /// Whether it is as expected; where the number of its outcome is told, as this one expects it. The disk comes back.

@@ -2,7 +2,7 @@
 use crate::stop::Stop;
 use case_book::Plan;
 use fs_memory::{MemSink, MemSource};
-use fs_trait::Fs;
+use fs_trait::{Fs, Sink, Source};
 use fs_watch::Watched;
 use ost_types::{Bytes, Limits};
 use std::alloc::Global;
@@ -28,6 +28,11 @@ impl<F: Fs> Ran<F> {
     pub fn changes(&self) -> u64 {
         self.fs.clock().saturating_sub(self.begun)
     }
+
+    /// Whether a call of the disk failed.
+    pub fn has_failed(&self) -> bool {
+        self.fs.faults() > 0
+    }
 }
 
 // The room of a sink that isn't told.
@@ -42,55 +47,72 @@ pub fn call_program<R: Threads + Sync, F: Fs>(
     input: Bytes,
     plan: &Plan,
 ) -> Result<Ran<F>, Stop> {
-    let begun = fs.clock();
-    let mut input = MemSource::new(input, Vec::from_slice(alloc, &plan.source)?);
+    let mut source = MemSource::new(input, Vec::from_slice(alloc, &plan.source)?);
     match plan.objects {
-        Some(objects) => call_within(threads, alloc, fs, words, &mut input, objects),
-        None => {
-            let fail = Vec::from_slice(alloc, &plan.sink)?;
-            let mut out = MemSink::new(alloc, plan.room.unwrap_or(ROOM), fail)?;
-            let ended = ostree(
-                threads,
-                alloc,
-                words,
-                Watched::new(fs),
-                &mut input,
-                &mut out,
-            );
-            ran_of(alloc, ended, out.bytes(), begun)
-        }
+        Some(objects) => call_within(threads, alloc, fs, words, &mut source, objects),
+        None => call_whole(threads, alloc, fs, words, &mut source, plan),
     }
 }
 
-fn ran_of<F: Fs>(
-    alloc: Global,
-    ended: Ended<Watched<F>>,
-    output: &[u8],
-    begun: u64,
-) -> Result<Ran<F>, Stop> {
-    Ok(Ran {
-        fs: ended.fs.into_inner(),
-        status: ended.status,
-        output: Vec::from_slice(alloc, output)?,
-        lasting: ended.history.len() as u64,
-        is_pending: ended.pending.is_some(),
-        begun,
-    })
-}
-
-// The parts of a call, where the repository may have no more objects than this.
-fn call_within<R: Threads + Sync, F: Fs>(
+// With a sink as the plan has it.
+fn call_whole<R: Threads + Sync, F: Fs>(
     threads: &R,
     alloc: Global,
     fs: F,
     words: &[String],
-    input: &mut MemSource,
+    source: &mut MemSource,
+    plan: &Plan,
+) -> Result<Ran<F>, Stop> {
+    let begun = fs.clock();
+    let mut sink = sink_of(alloc, plan)?;
+    let ended = ended_over(threads, alloc, fs, words, source, &mut sink);
+    let mut ran = ran_of(alloc, ended, begun);
+    ran.output.extend_from_slice(sink.bytes())?;
+    Ok(ran)
+}
+
+fn sink_of(alloc: Global, plan: &Plan) -> Result<MemSink, Stop> {
+    let fail = Vec::from_slice(alloc, &plan.sink)?;
+    Ok(MemSink::new(alloc, plan.room.unwrap_or(ROOM), fail)?)
+}
+
+// Over any source and any sink.
+fn ended_over<R: Threads + Sync, F: Fs, S: Source, K: Sink>(
+    threads: &R,
+    alloc: Global,
+    fs: F,
+    words: &[String],
+    source: &mut S,
+    sink: &mut K,
+) -> Ended<Watched<F>> {
+    ostree(threads, alloc, words, Watched::new(fs), source, sink)
+}
+
+// Without what was printed.
+fn ran_of<F: Fs>(alloc: Global, ended: Ended<Watched<F>>, begun: u64) -> Ran<F> {
+    Ran {
+        fs: ended.fs.into_inner(),
+        status: ended.status,
+        output: Vec::new(alloc),
+        lasting: ended.history.len() as u64,
+        is_pending: ended.pending.is_some(),
+        begun,
+    }
+}
+
+// The parts of a call, where the repository may have no more objects than this.
+fn call_within<R: Threads + Sync, F: Fs, S: Source>(
+    threads: &R,
+    alloc: Global,
+    fs: F,
+    words: &[String],
+    source: &mut S,
     objects: u32,
 ) -> Result<Ran<F>, Stop> {
     let begun = fs.clock();
     let mut limits = Limits::standard();
     limits.objects = objects;
-    match asked_lanes(alloc, words, input) {
+    match asked_lanes(alloc, words, source) {
         Ok(asked) => match run_asked(threads, alloc, Watched::new(fs), asked, limits) {
             Ok(parts) => ended_within(alloc, parts, begun),
             Err((fs, fault)) => stopped_within(alloc, fs.into_inner(), fault, begun),

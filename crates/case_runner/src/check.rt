@@ -6,7 +6,7 @@ use crate::nodes::{check_nodes, lists, stands_at};
 use crate::say::{say_crash, say_other, say_outcomes};
 use crate::stop::Stop;
 use case_book::{Check, Crash, Outcome, Plan, Printed};
-use fs_memory::Choice;
+use fs_memory::{Choice, MemFs};
 use ost_types::{Bytes, FsPath};
 use std::alloc::Global;
 use std::thread::Threads;
@@ -88,13 +88,19 @@ impl<'a, R: Threads + Sync> Bench<'a, R> {
         back: u64,
         picks: &[u32],
     ) -> Result<(), Stop> {
-        let choice = Choice {
-            picks: Vec::from_slice(self.alloc, picks)?,
-            fill: 1,
-        };
-        let Some(left) = ran.fs.left(back, &choice)? else {
-            return Ok(());
-        };
+        match left_of(self.alloc, &ran.fs, back, picks)? {
+            Some(left) => self.check_left(left, crash, back, picks),
+            None => Ok(()),
+        }
+    }
+
+    fn check_left<D: CaseDisk>(
+        &mut self,
+        left: D,
+        crash: &Crash,
+        back: u64,
+        picks: &[u32],
+    ) -> Result<(), Stop> {
         let input = self.input(&crash.asked)?;
         let plan = no_plan(self.alloc);
         let again = self.call(left, &crash.asked, input, &plan)?;
@@ -104,6 +110,19 @@ impl<'a, R: Threads + Sync> Bench<'a, R> {
         let text = say_crash(self.alloc, crash, &again, back, picks)?;
         Err(Stop::Differs(text))
     }
+}
+
+fn left_of<D: CaseDisk>(
+    alloc: Global,
+    fs: &D,
+    back: u64,
+    picks: &[u32],
+) -> Result<Option<MemFs>, Stop> {
+    let choice = Choice {
+        picks: Vec::from_slice(alloc, picks)?,
+        fill: 1,
+    };
+    fs.left(back, &choice)
 }
 
 fn is_one_printed<F>(printed: &[Printed], ran: &Ran<F>) -> bool {

@@ -28,7 +28,7 @@ impl<R: Machine, S: Syncer> CaseDisk for HostFs<R, S> {
     }
 }
 
-impl CaseDisk for Meddled {
+impl<D: Fs> CaseDisk for Meddled<D> {
     fn left(&self, _back: u64, _choice: &Choice) -> Result<Option<MemFs>, Stop> {
         Ok(None)
     }

@@ -44,12 +44,11 @@ impl<'a, R: Threads + Sync> Bench<'a, R> {
 
     // Whether there was such a call.
     fn run_failing_at(&mut self, fs: &MemFs, call: &Call, plan: FailAt) -> Result<bool, Stop> {
-        let mut copy = fresh(self.alloc, fs)?;
-        copy.fail_at(vec![in self.alloc; plan]?);
         let input = self.input(&call.asked)?;
+        let copy = failing(self.alloc, fs, plan)?;
         let ran = self.call(copy, &call.asked, input, &call.plan)?;
-        let has_failed = ran.fs.faults() > 0;
-        let _ = self.check_member(call, ran, None, &Member::Failing(plan))?;
+        let has_failed = ran.has_failed();
+        self.judge(call, ran, None, &Member::Failing(plan))?;
         Ok(has_failed)
     }
 
@@ -74,16 +73,27 @@ impl<'a, R: Threads + Sync> Bench<'a, R> {
         range: Range,
     ) -> Result<(), Stop> {
         for number in range.first..=range.last.unwrap_or(CALLS) {
-            let disk = Meddled::new(fresh(self.alloc, fs)?, number, at.copy()?);
-            let input = self.input(&call.asked)?;
-            let ran = self.call(disk, &call.asked, input, &call.plan)?;
-            let was_made = ran.fs.was_reached();
-            let _ = self.check_member(call, ran, None, &Member::Removed(number))?;
-            if !was_made && range.last.is_none() {
+            if !self.run_removal(fs, call, at, number)? && range.last.is_none() {
                 return Ok(());
             }
         }
         Ok(())
+    }
+
+    // Whether there was such a call.
+    fn run_removal(
+        &mut self,
+        fs: &MemFs,
+        call: &Call,
+        at: &FsPath,
+        number: u64,
+    ) -> Result<bool, Stop> {
+        let input = self.input(&call.asked)?;
+        let disk = Meddled::new(fresh(self.alloc, fs)?, number, at.copy()?);
+        let ran = self.call(disk, &call.asked, input, &call.plan)?;
+        let was_made = ran.fs.was_reached();
+        self.judge(call, ran, None, &Member::Removed(number))?;
+        Ok(was_made)
     }
 
     /// With each line of the text in the place of `$`.
@@ -97,13 +107,25 @@ impl<'a, R: Threads + Sync> Bench<'a, R> {
     }
 
     fn run_line(&mut self, fs: &MemFs, call: &Call, line: &[u8]) -> Result<(), Stop> {
-        let copy = fresh(self.alloc, fs)?;
         let input = self.input(&call.asked)?;
         let input = replaced(self.alloc, input.as_slice(), line)?;
         let asked = asked_with(self.alloc, &call.asked, line)?;
-        let ran = self.call(copy, &asked, input, &call.plan)?;
-        let _ = self.check_member(call, ran, None, &Member::Line(line))?;
-        Ok(())
+        self.run_copy(fs, call, &asked, input, None, &Member::Line(line))
+    }
+
+    // On a copy of the disk, with these words and this input.
+    fn run_copy(
+        &mut self,
+        fs: &MemFs,
+        call: &Call,
+        asked: &Asked,
+        input: Bytes,
+        outcome: Option<usize>,
+        member: &Member,
+    ) -> Result<(), Stop> {
+        let copy = fresh(self.alloc, fs)?;
+        let ran = self.call(copy, asked, input, &call.plan)?;
+        self.judge(call, ran, outcome, member)
     }
 
     /// With each byte of the input left out.
@@ -127,11 +149,8 @@ impl<'a, R: Threads + Sync> Bench<'a, R> {
         place: usize,
         outcome: Option<usize>,
     ) -> Result<(), Stop> {
-        let copy = fresh(self.alloc, fs)?;
         let input = without(self.alloc, input.as_slice(), place)?;
-        let ran = self.call(copy, &call.asked, input, &call.plan)?;
-        let _ = self.check_member(call, ran, outcome, &Member::Byte(place))?;
-        Ok(())
+        self.run_copy(fs, call, &call.asked, input, outcome, &Member::Byte(place))
     }
 
     /// By each schedule of up to two switches.
@@ -170,12 +189,16 @@ impl<'a, R: Threads + Sync> Bench<'a, R> {
     }
 
     fn run_schedule(&mut self, fs: &MemFs, call: &Call, schedule: &str) -> Result<(), Stop> {
-        let copy = fresh(self.alloc, fs)?;
         let input = self.input(&call.asked)?;
         let asked = asked_with(self.alloc, &call.asked, schedule.as_bytes())?;
-        let ran = self.call(copy, &asked, input, &call.plan)?;
-        let _ = self.check_member(call, ran, None, &Member::Line(schedule.as_bytes()))?;
-        Ok(())
+        self.run_copy(
+            fs,
+            call,
+            &asked,
+            input,
+            None,
+            &Member::Line(schedule.as_bytes()),
+        )
     }
 }
 
@@ -185,6 +208,14 @@ fn fresh(alloc: Global, fs: &MemFs) -> Result<MemFs, Stop> {
         Some(copy) => Ok(copy),
         None => Err(Stop::NoMemory),
     }
+}
+
+// A copy of the disk, of which one call fails.
+fn failing(alloc: Global, fs: &MemFs, plan: FailAt) -> Result<MemFs, Stop> {
+    let plan = vec![in alloc; plan]?;
+    let mut copy = fresh(alloc, fs)?;
+    copy.fail_at(plan);
+    Ok(copy)
 }
 
 // No run of a case makes so many calls of the disk.

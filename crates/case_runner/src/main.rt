@@ -83,8 +83,8 @@ fn run_case<R: Threads + Sync>(
 ) -> io::Result<bool> {
     let mut bench = Bench::new(threads, rt.alloc(), book);
     let ended = bench.run_case(case);
-    print!(rt; "{}", text_of(case.name.as_slice()))?;
-    let is_so = tell(rt, name, case, ended, bench.calls)?;
+    let title = text_of(case.name.as_slice());
+    let is_so = tell(rt, name, case, title, ended, bench.calls)?;
     if case.is_host {
         Ok(run_over_host(rt, threads, name, book, case)? && is_so)
     } else {
@@ -108,29 +108,39 @@ fn run_over_host<R: Threads + Sync>(
         Ok(host) => bench.run_over(host, case),
         Err(NoMemory) => Err(Stop::NoMemory),
     };
-    print!(rt; "  over the host")?;
-    tell(rt, name, case, ended, bench.calls)
+    tell(rt, name, case, "  over the host", ended, bench.calls)
 }
 
 fn tell(
     rt: &HostRuntime,
     name: &str,
     case: &Case,
+    title: &str,
     ended: Result<(), Stop>,
     calls: u64,
 ) -> io::Result<bool> {
     match ended {
         Ok(()) => {
-            println!(rt; ": {calls}")?;
+            println!(rt; "{title}: {calls}")?;
             Ok(true)
         }
         Err(stop) => {
-            println!(rt; ": wrong")?;
-            eprintln!(rt; "{name}: {}", text_of(case.name.as_slice()))?;
-            print_stop(rt, &stop)?;
+            tell_stop(rt, name, case, title, &stop)?;
             Ok(false)
         }
     }
+}
+
+fn tell_stop(
+    rt: &HostRuntime,
+    name: &str,
+    case: &Case,
+    title: &str,
+    stop: &Stop,
+) -> io::Result<()> {
+    println!(rt; "{title}: wrong")?;
+    eprintln!(rt; "{name}: {}", text_of(case.name.as_slice()))?;
+    print_stop(rt, stop)
 }
 
 fn print_stop(rt: &HostRuntime, stop: &Stop) -> io::Result<()> {

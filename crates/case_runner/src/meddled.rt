@@ -1,19 +1,18 @@
-//! A disk in memory that another program changes between two calls.
+//! A disk that another program changes between two calls.
 ghost use Rattle.std.specs.Prelude.{◌≡◌, ◌≢◌, ◌≤◌, ℕ, None, IfErr, IsErrOf, true, false};
 ghost use Rattle.fs_trait.specs.Count.{last};
 ghost use Rattle.fs_trait.specs.Effect.{HasCause, IsCounted, Next, OfEmptying, OfFinding, OfNone, OfPlacing, Ticks};
 ghost use Rattle.fs_trait.specs.declared.types.FsErr.TheVariants as error;
 ghost use Rattle.case_runner.specs.Laws.{not_told};
 
-use fs_memory::MemFs;
 use fs_trait::{Fs, FsErr, Node};
 use ost_types::{Bytes, FsPath, Meta, Names, Text};
 
-/// A disk in memory that tells nothing of what it holds, as that of a machine, and from which another program removes a leaf. A changing
-/// call that wants for memory has failed.
+/// A disk that tells nothing of what it holds, as that of a machine, and from which another program removes a leaf. A changing call that
+/// wants for memory has failed.
 #[derive(Drop)]
-pub struct Meddled {
-    disk: MemFs,
+pub struct Meddled<D: Fs> {
+    disk: D,
     clock: u64,
     faults: u64,
     calls: u64,
@@ -22,9 +21,9 @@ pub struct Meddled {
     at: FsPath,
 }
 
-impl Meddled {
+impl<D: Fs> Meddled<D> {
     /// The leaf is removed before the call of this number, counted from 1.
-    pub fn new(disk: MemFs, number: u64, at: FsPath) -> Meddled {
+    pub fn new(disk: D, number: u64, at: FsPath) -> Meddled<D> {
         Meddled {
             disk,
             clock: 0,
@@ -110,7 +109,7 @@ impl Meddled {
     }
 }
 
-impl Fs for Meddled {
+impl<D: Fs> Fs for Meddled<D> {
     ghost view = { λ _. None };
 
     ghost clock = { λ s. s.clock };

@@ -2,7 +2,7 @@
 use crate::call::Ran;
 use crate::stop::Stop;
 use case_book::{Call, Crash, Outcome, Printed};
-use fs_memory::{FailAt, MemFs};
+use fs_memory::FailAt;
 use fs_trait::Fs;
 use ost_types::{Bytes, FsPath};
 use std::alloc::Global;
@@ -76,10 +76,10 @@ pub fn say_outcomes<F: Fs>(
 }
 
 /// The same of a call behind a crash.
-pub fn say_crash(
+pub fn say_crash<F: Fs>(
     alloc: Global,
     crash: &Crash,
-    ran: &Ran<MemFs>,
+    ran: &Ran<F>,
     back: u64,
     picks: &[u32],
 ) -> Result<Bytes, Stop> {

@@ -34,6 +34,8 @@ pub struct Call {
     pub second: String,
 }
 
+type Made = Result<Result<(), FsErr>, Stop>;
+
 pub fn path(alloc: Global, text: &str) -> Result<FsPath, Stop> {
     match FsPath::parse(alloc, text.as_bytes()) {
         Ok(path) => Ok(path),
@@ -41,22 +43,30 @@ pub fn path(alloc: Global, text: &str) -> Result<FsPath, Stop> {
     }
 }
 
-fn meta_of(alloc: Global, mode: u32, is_owned: bool) -> Result<Meta, Stop> {
-    let mut meta = Meta {
+fn meta_of(alloc: Global, mode: u32) -> Meta {
+    Meta {
         uid: 0,
         gid: 0,
         mode,
         xattrs: Xattrs::new(alloc),
-    };
-    if is_owned {
-        meta.uid = 1;
-        let xattr = Xattr {
-            name: Bytes::from_slice(alloc, b"user.a\0")?,
-            value: Bytes::from_slice(alloc, b"x")?,
-        };
-        meta.xattrs.push(xattr)?;
     }
-    Ok(meta)
+}
+
+fn owned_meta_of(alloc: Global, mode: u32) -> Result<Meta, Stop> {
+    let mut xattrs = Xattrs::new(alloc);
+    xattrs.push(xattr(alloc)?)?;
+    Ok(Meta {
+        uid: 1,
+        gid: 0,
+        mode,
+        xattrs,
+    })
+}
+
+fn xattr(alloc: Global) -> Result<Xattr, Stop> {
+    let name = Bytes::from_slice(alloc, b"user.a\0")?;
+    let value = Bytes::from_slice(alloc, b"x")?;
+    Ok(Xattr { name, value })
 }
 
 fn mkdir<F: Fs>(fs: &mut F, at: &FsPath, meta: &Meta) -> Result<(), FsErr> {
@@ -67,6 +77,11 @@ fn mkdir<F: Fs>(fs: &mut F, at: &FsPath, meta: &Meta) -> Result<(), FsErr> {
     }
 }
 
+fn mkdir_owned<F: Fs>(alloc: Global, fs: &mut F, at: &FsPath) -> Made {
+    let meta = owned_meta_of(alloc, 0o041777)?;
+    Ok(mkdir(fs, at, &meta))
+}
+
 fn create<F: Fs>(fs: &mut F, at: &FsPath, meta: &Meta) -> Result<(), FsErr> {
     if is_file_mode(meta.mode) {
         fs.create(at, meta)
@@ -75,7 +90,19 @@ fn create<F: Fs>(fs: &mut F, at: &FsPath, meta: &Meta) -> Result<(), FsErr> {
     }
 }
 
-fn symlink<F: Fs>(fs: &mut F, at: &FsPath, target: &Text, meta: &Meta) -> Result<(), FsErr> {
+fn create_owned<F: Fs>(alloc: Global, fs: &mut F, at: &FsPath) -> Made {
+    let meta = owned_meta_of(alloc, 0o104755)?;
+    Ok(create(fs, at, &meta))
+}
+
+fn symlink<F: Fs>(alloc: Global, fs: &mut F, at: &FsPath, target: &str) -> Made {
+    match Text::parse(alloc, target.as_bytes())? {
+        Some(target) => Ok(symlink_to(fs, at, &target, &meta_of(alloc, 0o120777))),
+        None => Ok(Err(FsErr::Failed)),
+    }
+}
+
+fn symlink_to<F: Fs>(fs: &mut F, at: &FsPath, target: &Text, meta: &Meta) -> Result<(), FsErr> {
     if is_link_mode(meta.mode) && !target.as_slice().is_empty() {
         fs.symlink(at, target, meta)
     } else {
@@ -83,21 +110,18 @@ fn symlink<F: Fs>(fs: &mut F, at: &FsPath, target: &Text, meta: &Meta) -> Result
     }
 }
 
-fn make_link<F: Fs>(
-    alloc: Global,
-    fs: &mut F,
-    at: &FsPath,
-    target: &str,
-) -> Result<Result<(), FsErr>, Stop> {
-    let meta = meta_of(alloc, 0o120777, false)?;
-    match Text::parse(alloc, target.as_bytes())? {
-        Some(target) => Ok(symlink(fs, at, &target, &meta)),
-        None => Ok(Err(FsErr::Failed)),
-    }
+fn link<F: Fs>(alloc: Global, fs: &mut F, from: &FsPath, to: &str) -> Made {
+    let to = path(alloc, to)?;
+    Ok(fs.link(from, &to))
+}
+
+fn rename<F: Fs>(alloc: Global, fs: &mut F, from: &FsPath, to: &str) -> Made {
+    let to = path(alloc, to)?;
+    Ok(rename_apart(fs, from, &to))
 }
 
 // Two names of one file aren't given to `rename`.
-fn rename<F: Fs>(fs: &mut F, from: &FsPath, to: &FsPath) -> Result<(), FsErr> {
+fn rename_apart<F: Fs>(fs: &mut F, from: &FsPath, to: &FsPath) -> Result<(), FsErr> {
     if fs.same(from, to)? {
         Ok(())
     } else {
@@ -109,31 +133,35 @@ impl Call {
     /// Whether it changes something on any file system where nothing refuses it: a rename to a name of the same file isn't made.
     pub fn is_made<F: Fs>(&self, alloc: Global, fs: &mut F) -> Result<bool, Stop> {
         match self.kind {
-            Kind::Rename => {
-                let (from, to) = (
-                    path(alloc, self.at.as_str())?,
-                    path(alloc, self.second.as_str())?,
-                );
-                Ok(!fs.same(&from, &to)?)
-            }
+            Kind::Rename => Ok(!self.is_of_one(alloc, fs)?),
             _ => Ok(true),
         }
     }
 
-    /// What a file system answers to it.
-    pub fn perform<F: Fs>(&self, alloc: Global, fs: &mut F) -> Result<Result<(), FsErr>, Stop> {
+    // Whether both paths lead to one file.
+    fn is_of_one<F: Fs>(&self, alloc: Global, fs: &mut F) -> Result<bool, Stop> {
         let at = path(alloc, self.at.as_str())?;
-        let second = self.second.as_str();
+        let second = path(alloc, self.second.as_str())?;
+        Ok(fs.same(&at, &second)?)
+    }
+
+    /// What a file system answers to it.
+    pub fn perform<F: Fs>(&self, alloc: Global, fs: &mut F) -> Made {
+        let at = path(alloc, self.at.as_str())?;
+        self.perform_at(alloc, fs, &at)
+    }
+
+    fn perform_at<F: Fs>(&self, alloc: Global, fs: &mut F, at: &FsPath) -> Made {
         match self.kind {
-            Kind::Mkdir => Ok(mkdir(fs, &at, &meta_of(alloc, 0o040755, false)?)),
-            Kind::MkdirOwned => Ok(mkdir(fs, &at, &meta_of(alloc, 0o041777, true)?)),
-            Kind::Create => Ok(create(fs, &at, &meta_of(alloc, 0o100644, false)?)),
-            Kind::CreateOwned => Ok(create(fs, &at, &meta_of(alloc, 0o104755, true)?)),
-            Kind::Append => Ok(fs.append(&at, second.as_bytes())),
-            Kind::Symlink => make_link(alloc, fs, &at, second),
-            Kind::Link => Ok(fs.link(&at, &path(alloc, second)?)),
-            Kind::Rename => Ok(rename(fs, &at, &path(alloc, second)?)),
-            _ => Ok(self.perform_on_one(fs, &at)),
+            Kind::Mkdir => Ok(mkdir(fs, at, &meta_of(alloc, 0o040755))),
+            Kind::MkdirOwned => mkdir_owned(alloc, fs, at),
+            Kind::Create => Ok(create(fs, at, &meta_of(alloc, 0o100644))),
+            Kind::CreateOwned => create_owned(alloc, fs, at),
+            Kind::Append => Ok(fs.append(at, self.second.as_bytes())),
+            Kind::Symlink => symlink(alloc, fs, at, self.second.as_str()),
+            Kind::Link => link(alloc, fs, at, self.second.as_str()),
+            Kind::Rename => rename(alloc, fs, at, self.second.as_str()),
+            _ => Ok(self.perform_on_one(fs, at)),
         }
     }
 

@@ -1,7 +1,7 @@
 //! What a crash may leave at a moment, by the images of the file system in memory.
 use crate::names::NameValues;
 use crate::stop::Stop;
-use crate::tree::{Tree, read_tree};
+use crate::tree::{Seen, Tree, read_tree};
 use fs_memory::{Choice, MemFs};
 use std::alloc::Global;
 use std::collections::BTreeMap;
@@ -38,14 +38,20 @@ impl Moment {
             return Ok(false);
         };
         if self.tree.is_none() || self.picks != picks {
-            let mut image = self.image(mem, &picks)?;
-            self.tree = Some(read_tree(self.alloc, &mut image)?);
-            self.picks = picks;
+            self.ask(mem, picks)?;
         }
         match &self.tree {
             Some(image) => Ok(self.is_same(image, tree)),
             None => Ok(false),
         }
+    }
+
+    fn ask(&mut self, mem: &MemFs, picks: Vec<u32>) -> Result<(), Stop> {
+        let mut image = self.image(mem, &picks)?;
+        let tree = read_tree(self.alloc, &mut image)?;
+        drop(self.tree.replace(tree));
+        drop(std::mem::replace(&mut self.picks, picks));
+        Ok(())
     }
 
     fn image(&self, mem: &MemFs, picks: &[u32]) -> Result<MemFs, Stop> {
@@ -63,12 +69,13 @@ impl Moment {
     fn is_same(&self, image: &Tree, tree: &Tree) -> bool {
         image.len() == tree.len()
             && tree.iter().all(|(text, seen)| match image.get(text.as_str()) {
-                Some(other) => {
-                    seen.is_like(other)
-                        && (seen.bytes() == other.bytes() || self.names.is_loose(text.as_str()))
-                }
+                Some(other) => self.is_same_at(text.as_str(), seen, other),
                 None => false,
             })
+    }
+
+    fn is_same_at(&self, text: &str, seen: &Seen, other: &Seen) -> bool {
+        seen.is_like(other) && (seen.bytes() == other.bytes() || self.names.is_loose(text))
     }
 
     /// The image that is this tree, byte for byte. None where there's none.

@@ -51,18 +51,25 @@ impl NameValues {
     }
 
     pub fn copy(&self) -> Result<NameValues, Stop> {
-        let mut copy = NameValues::new(self.alloc);
+        let mut names = BTreeMap::new(self.alloc);
         for (text, values) in &self.names {
-            let all = Vec::from_slice(self.alloc, &values.all)?;
-            copy.names.insert(String::from_str(self.alloc, text.as_str())?, Values { all })?;
+            let text = String::from_str(self.alloc, text.as_str())?;
+            names.insert(text, values.copy(self.alloc)?)?;
         }
+        let nodes = self.copied_nodes()?;
+        Ok(NameValues {
+            alloc: self.alloc,
+            names,
+            nodes,
+        })
+    }
+
+    fn copied_nodes(&self) -> Result<Vec<Entry>, Stop> {
+        let mut nodes = Vec::new(self.alloc);
         for entry in &self.nodes {
-            copy.nodes.push(Entry {
-                seen: entry.seen.copy()?,
-                is_synced: entry.is_synced,
-            })?;
+            nodes.push(entry.copy()?)?;
         }
-        Ok(copy)
+        Ok(nodes)
     }
 
     fn now(&self, text: &str) -> Value {
@@ -78,16 +85,26 @@ impl NameValues {
             values.all.push(value)?;
             return Ok(());
         }
-        let mut all = Vec::new(self.alloc);
-        all.push(None)?;
-        all.push(value)?;
+        self.name_first(text, value)
+    }
+
+    fn name_first(&mut self, text: &str, value: Value) -> Result<(), Stop> {
+        let values = Values {
+            all: vec![in self.alloc; None, value]?,
+        };
         self.names
-            .insert(String::from_str(self.alloc, text)?, Values { all })?;
+            .insert(String::from_str(self.alloc, text)?, values)?;
         Ok(())
     }
 
+    // What stands there now.
+    fn seen(&self, text: &str, mem: &mut MemFs) -> Result<Seen, Stop> {
+        let at = path(self.alloc, text)?;
+        read_node(self.alloc, mem, &at, text)
+    }
+
     fn add(&mut self, text: &str, mem: &mut MemFs) -> Result<(), Stop> {
-        let seen = read_node(self.alloc, mem, &path(self.alloc, text)?, text)?;
+        let seen = self.seen(text, mem)?;
         let is_synced = !matches!(seen, Seen::File(_, _));
         let number = self.nodes.len();
         self.nodes.push(Entry { seen, is_synced })?;
@@ -102,12 +119,20 @@ impl NameValues {
     }
 
     fn grow(&mut self, text: &str, mem: &mut MemFs) -> Result<(), Stop> {
-        let seen = read_node(self.alloc, mem, &path(self.alloc, text)?, text)?;
+        let seen = self.seen(text, mem)?;
         if let Some(entry) = self.entry(text) {
-            entry.seen = seen;
-            entry.is_synced = false;
+            let grown = Entry {
+                seen,
+                is_synced: false,
+            };
+            drop(std::mem::replace(entry, grown));
         }
         Ok(())
+    }
+
+    fn rename(&mut self, from: &str, to: &str) -> Result<(), Stop> {
+        self.name(to, self.now(from))?;
+        self.name(from, None)
     }
 
     /// After a call that was made.
@@ -116,26 +141,27 @@ impl NameValues {
         match call.kind {
             Kind::Append => self.grow(at, mem),
             Kind::Link => self.name(second, self.now(at)),
-            Kind::Rename => {
-                self.name(second, self.now(at))?;
-                self.name(at, None)
-            }
+            Kind::Rename => self.rename(at, second),
             Kind::Unlink | Kind::Rmdir => self.name(at, None),
-            Kind::SyncFile => {
-                if let Some(entry) = self.entry(at) {
-                    entry.is_synced = true;
-                }
-                Ok(())
-            }
-            Kind::SyncDir => {
-                self.sync_folder(at);
-                Ok(())
-            }
-            Kind::SyncAll => {
-                self.sync_all();
+            Kind::SyncFile | Kind::SyncDir | Kind::SyncAll => {
+                self.note_sync(call.kind, at);
                 Ok(())
             }
             _ => self.add(at, mem),
+        }
+    }
+
+    fn note_sync(&mut self, kind: Kind, at: &str) {
+        match kind {
+            Kind::SyncFile => self.sync_file(at),
+            Kind::SyncDir => self.sync_folder(at),
+            _ => self.sync_all(),
+        }
+    }
+
+    fn sync_file(&mut self, at: &str) {
+        if let Some(entry) = self.entry(at) {
+            entry.is_synced = true;
         }
     }
 
@@ -152,6 +178,10 @@ impl NameValues {
         for (_, values) in &mut self.names {
             values.keep_last();
         }
+        self.sync_nodes();
+    }
+
+    fn sync_nodes(&mut self) {
         for entry in &mut self.nodes {
             entry.is_synced = true;
         }
@@ -180,17 +210,20 @@ impl NameValues {
             if values.all.len() < 2 {
                 continue;
             }
-            let place = if is_folder_in(tree, folder_of(text.as_str())) {
-                self.place_of(values, tree.get(text.as_str()))
-            } else {
-                Some(0)
-            };
-            match place {
+            match self.pick(tree, text.as_str(), values) {
                 Some(place) => picks.push(u32::try_from(place).unwrap_or(0))?,
                 None => return Ok(None),
             }
         }
         Ok(Some(picks))
+    }
+
+    fn pick(&self, tree: &Tree, text: &str, values: &Values) -> Option<usize> {
+        if is_folder_in(tree, folder_of(text)) {
+            self.place_of(values, tree.get(text))
+        } else {
+            Some(0)
+        }
     }
 
     /// Whether the file at a path may have any bytes.
@@ -210,28 +243,41 @@ impl NameValues {
 
     /// The names after a crash that left this tree.
     pub fn left(&self, tree: &Tree) -> Result<NameValues, Stop> {
-        let mut left = self.copy()?;
-        left.names = BTreeMap::new(self.alloc);
+        let mut left = NameValues::new(self.alloc);
         for (text, values) in &self.names {
             let seen = tree.get(text.as_str());
             if let Some(place) = self.place_of(values, seen) {
-                let mut all = Vec::new(self.alloc);
-                all.push(if seen.is_some() {
+                let value = if seen.is_some() {
                     values.all.get(place).copied().flatten()
                 } else {
                     None
-                })?;
-                left.names.insert(String::from_str(self.alloc, text.as_str())?, Values { all })?;
+                };
+                left.keep(text.as_str(), value)?;
             }
         }
-        for entry in &mut left.nodes {
-            entry.is_synced = true;
-        }
+        left.nodes = self.copied_nodes()?;
+        left.sync_nodes();
         Ok(left)
+    }
+
+    // The name has this value alone.
+    fn keep(&mut self, text: &str, value: Value) -> Result<(), Stop> {
+        let values = Values {
+            all: vec![in self.alloc; value]?,
+        };
+        self.names
+            .insert(String::from_str(self.alloc, text)?, values)?;
+        Ok(())
     }
 }
 
 impl Values {
+    fn copy(&self, alloc: Global) -> Result<Values, Stop> {
+        Ok(Values {
+            all: Vec::from_slice(alloc, &self.all)?,
+        })
+    }
+
     fn keep_last(&mut self) {
         if let Some(last) = self.all.pop() {
             self.all.clear();
@@ -241,6 +287,13 @@ impl Values {
 }
 
 impl Entry {
+    fn copy(&self) -> Result<Entry, Stop> {
+        Ok(Entry {
+            seen: self.seen.copy()?,
+            is_synced: self.is_synced,
+        })
+    }
+
     // Whether it may be what was seen.
     fn fits(&self, seen: &Seen) -> bool {
         self.seen.is_like(seen) && (!self.is_synced || self.seen.bytes() == seen.bytes())

@@ -54,32 +54,31 @@ pub struct Run {
 
 /// Runs the script of a number, and two more, each on what the one before left once it was ended, or killed, or its power cut.
 pub fn run_script(alloc: Global, number: u64) -> Result<Counts, Stop> {
-    let mut run = Run {
-        alloc,
-        number,
-        random: Random::new(!number),
-        mem: MemFs::new(alloc)?,
-        counts: Counts::none(),
-    };
+    let mut run = Run::new(alloc, number)?;
     let mut at = Moment::new(alloc, 0, NameValues::new(alloc));
     let mut disk = Disk::new(alloc)?;
     let mut made = 0;
     for part in 0..3u64 {
-        let mut script = Script::new(alloc, number.wrapping_mul(4).wrapping_add(part), made);
-        if part == 0 {
-            script.add_layout()?;
-        }
-        script.add_blocks()?;
+        let script = script_of(alloc, number, part, made)?;
         made = script.made();
         let (left, last) = run.run_part(disk, at, script.into_calls())?;
-        let Some((mem, next)) = run.goes_on(&left, last)? else {
+        let Some(next) = run.goes_on(&left, last)? else {
             return Ok(run.counts);
         };
-        run.mem = mem;
         at = next;
         disk = left;
     }
     Ok(run.counts)
+}
+
+// The script of a part of a run.
+fn script_of(alloc: Global, number: u64, part: u64, made: u64) -> Result<Script, Stop> {
+    let mut script = Script::new(alloc, number.wrapping_mul(4).wrapping_add(part), made);
+    if part == 0 {
+        script.add_layout()?;
+    }
+    script.add_blocks()?;
+    Ok(script)
 }
 
 fn start_on<'a>(alloc: Global, drive: &'a RefCell<Drive>) -> Result<DiskFs<'a>, Stop> {
@@ -131,6 +130,17 @@ fn disk_of(alloc: Global, drive: &RefCell<Drive>) -> Result<Disk, Stop> {
 }
 
 impl Run {
+    fn new(alloc: Global, number: u64) -> Result<Run, Stop> {
+        let mem = MemFs::new(alloc)?;
+        Ok(Run {
+            alloc,
+            number,
+            random: Random::new(!number),
+            mem,
+            counts: Counts::none(),
+        })
+    }
+
     // Makes the calls on what a run before left. Gives the disk then, of which nothing is lost or what wasn't synced, and what
     // the file system may show on it.
     fn run_part(
@@ -140,29 +150,50 @@ impl Run {
         calls: Vec<Call>,
     ) -> Result<(Disk, (Moment, Moment)), Stop> {
         let drive = RefCell::new(Drive::new(self.alloc, disk, true));
-        let mut fs = start_on(self.alloc, &drive)?;
-        let mut before = Moment::new(self.alloc, 0, at.names().copy()?);
-        let mut after = at;
-        let begun = disk_of(self.alloc, &drive)?;
-        self.check(&[begun], &mut before, &mut after)?;
-        drop(images_of(&drive, self.alloc));
-        if self.random.below(2) == 0 {
-            stop_after(&drive, 1 + self.random.below(90));
-        }
+        let last = self.run_calls(&drive, at, calls)?;
+        let disk = disk_of(self.alloc, &drive)?;
+        Ok((self.left_of(disk)?, last))
+    }
+
+    // Makes the calls on a drive, unless it is stopped before. Gives what the file system may show then.
+    fn run_calls(
+        &mut self,
+        drive: &RefCell<Drive>,
+        at: Moment,
+        calls: Vec<Call>,
+    ) -> Result<(Moment, Moment), Stop> {
+        let mut fs = start_on(self.alloc, drive)?;
+        let (mut before, mut after) = self.begin(drive, at)?;
         for call in calls {
-            if is_stopped(&drive) {
+            if is_stopped(drive) {
                 break;
             }
-            (before, after) = self.step(&mut fs, &drive, &call, after)?;
+            (before, after) = self.step(&mut fs, drive, &call, after)?;
         }
         drop(fs);
-        self.check(&images_of(&drive, self.alloc), &mut before, &mut after)?;
-        let disk = disk_of(self.alloc, &drive)?;
-        let left = match self.random.below(3) {
-            0 => disk.after_loss(Loss::Some(self.random.number()))?,
-            _ => disk,
-        };
-        Ok((left, (before, after)))
+        self.check(&images_of(drive, self.alloc), &mut before, &mut after)?;
+        Ok((before, after))
+    }
+
+    // What may be shown before the first call. By chance the drive stops at some call of the machine.
+    fn begin(&mut self, drive: &RefCell<Drive>, at: Moment) -> Result<(Moment, Moment), Stop> {
+        let mut before = Moment::new(self.alloc, 0, at.names().copy()?);
+        let mut after = at;
+        let begun = disk_of(self.alloc, drive)?;
+        self.check(&[begun], &mut before, &mut after)?;
+        drop(images_of(drive, self.alloc));
+        if self.random.below(2) == 0 {
+            stop_after(drive, 1 + self.random.below(90));
+        }
+        Ok((before, after))
+    }
+
+    // By chance what wasn't synced is lost.
+    fn left_of(&mut self, disk: Disk) -> Result<Disk, Stop> {
+        match self.random.below(3) {
+            0 => Ok(disk.after_loss(Loss::Some(self.random.number()))?),
+            _ => Ok(disk),
+        }
     }
 
     // Makes one call on both file systems, and cuts the power after each call of the machine that it made.
@@ -174,22 +205,32 @@ impl Run {
         at: Moment,
     ) -> Result<(Moment, Moment), Stop> {
         let mut names = at.names().copy()?;
-        let mut before = at;
-        let is_made = call.is_made(self.alloc, &mut self.mem)? && call.is_made(self.alloc, fs)?;
-        if is_made {
-            let wanted = call.perform(self.alloc, &mut self.mem)?;
-            let found = call.perform(self.alloc, fs)?;
-            if !is_stopped(drive) {
-                self.check_answer(call, wanted, found)?;
-            }
-            if wanted.is_ok() {
-                names.note(call, &mut self.mem)?;
-            }
-            self.counts.calls = self.counts.calls.saturating_add(1);
+        if call.is_made(self.alloc, &mut self.mem)? && call.is_made(self.alloc, fs)? {
+            self.make(fs, drive, call, &mut names)?;
         }
+        let mut before = at;
         let mut after = Moment::new(self.alloc, self.mem.clock(), names);
         self.check(&images_of(drive, self.alloc), &mut before, &mut after)?;
         Ok((before, after))
+    }
+
+    fn make<'a>(
+        &mut self,
+        fs: &mut DiskFs<'a>,
+        drive: &'a RefCell<Drive>,
+        call: &Call,
+        names: &mut NameValues,
+    ) -> Result<(), Stop> {
+        let wanted = call.perform(self.alloc, &mut self.mem)?;
+        let found = call.perform(self.alloc, fs)?;
+        if !is_stopped(drive) {
+            self.check_answer(call, wanted, found)?;
+        }
+        if wanted.is_ok() {
+            names.note(call, &mut self.mem)?;
+        }
+        self.counts.calls = self.counts.calls.saturating_add(1);
+        Ok(())
     }
 
     fn check_answer(
@@ -222,14 +263,25 @@ impl Run {
     ) -> Result<(), Stop> {
         for image in images {
             for loss in self.losses() {
-                let tree = tree_on(self.alloc, image.after_loss(loss)?)?;
-                self.counts.cuts = self.counts.cuts.saturating_add(1);
-                if !after.may_leave(&self.mem, &tree)? && !before.may_leave(&self.mem, &tree)? {
-                    return Err(self.lost(loss)?);
-                }
+                self.check_loss(image, loss, before, after)?;
             }
         }
         Ok(())
+    }
+
+    fn check_loss(
+        &mut self,
+        image: &Disk,
+        loss: Loss,
+        before: &mut Moment,
+        after: &mut Moment,
+    ) -> Result<(), Stop> {
+        let tree = tree_on(self.alloc, image.after_loss(loss)?)?;
+        self.counts.cuts = self.counts.cuts.saturating_add(1);
+        if after.may_leave(&self.mem, &tree)? || before.may_leave(&self.mem, &tree)? {
+            return Ok(());
+        }
+        Err(self.lost(loss)?)
     }
 
     fn losses(&mut self) -> [Loss; 3] {
@@ -253,22 +305,25 @@ impl Run {
     }
 
     // What the next run begins with: the image that the disk shows. None where it shows a file with bytes that weren't synced.
-    fn goes_on(
-        &mut self,
-        disk: &Disk,
-        last: (Moment, Moment),
-    ) -> Result<Option<(MemFs, Moment)>, Stop> {
+    fn goes_on(&mut self, disk: &Disk, last: (Moment, Moment)) -> Result<Option<Moment>, Stop> {
         let (mut before, mut after) = last;
         let images = images_at_start(self.alloc, disk.copy()?)?;
         self.check(&images, &mut before, &mut after)?;
         let tree = tree_on(self.alloc, disk.copy()?)?;
         self.counts.starts = self.counts.starts.saturating_add(1);
-        for moment in [&after, &before] {
-            if let Some(mem) = moment.image_of(&self.mem, &tree)? {
-                let names = moment.names().left(&tree)?;
-                return Ok(Some((mem, Moment::new(self.alloc, 0, names))));
-            }
+        match self.begun_with(&after, &tree)? {
+            Some(next) => Ok(Some(next)),
+            None => self.begun_with(&before, &tree),
         }
-        Ok(None)
+    }
+
+    // Begins with the image of this moment that is this tree, if there is one.
+    fn begun_with(&mut self, moment: &Moment, tree: &Tree) -> Result<Option<Moment>, Stop> {
+        let Some(mem) = moment.image_of(&self.mem, tree)? else {
+            return Ok(None);
+        };
+        let names = moment.names().left(tree)?;
+        drop(std::mem::replace(&mut self.mem, mem));
+        Ok(Some(Moment::new(self.alloc, 0, names)))
     }
 }

@@ -2,7 +2,7 @@
 use crate::call::path;
 use crate::stop::Stop;
 use fs_trait::{Fs, Node};
-use ost_types::{Bytes, FsPath, Meta, TryCopy};
+use ost_types::{Bytes, FsPath, Meta, Names, Text, TryCopy};
 use std::alloc::Global;
 use std::collections::BTreeMap;
 
@@ -78,16 +78,32 @@ fn read_folder<F: Fs>(
     folders: &mut Vec<String>,
     tree: &mut Tree,
 ) -> Result<(), Stop> {
-    let at = if folder.is_empty() { "/" } else { folder };
-    let names = fs.list(&path(alloc, at)?)?;
+    let names = names_in(alloc, fs, folder)?;
     for name in names.as_slice() {
         let text = format!(in alloc; "{folder}/{}", name.as_str())?;
-        let seen = read_node(alloc, fs, &path(alloc, text.as_str())?, text.as_str())?;
-        if seen.is_folder() {
-            folders.push(String::from_str(alloc, text.as_str())?)?;
-        }
-        tree.insert(text, seen)?;
+        read_child(alloc, fs, text, folders, tree)?;
     }
+    Ok(())
+}
+
+fn names_in<F: Fs>(alloc: Global, fs: &mut F, folder: &str) -> Result<Names, Stop> {
+    let at = path(alloc, if folder.is_empty() { "/" } else { folder })?;
+    Ok(fs.list(&at)?)
+}
+
+fn read_child<F: Fs>(
+    alloc: Global,
+    fs: &mut F,
+    text: String,
+    folders: &mut Vec<String>,
+    tree: &mut Tree,
+) -> Result<(), Stop> {
+    let at = path(alloc, text.as_str())?;
+    let seen = read_node(alloc, fs, &at, text.as_str())?;
+    if seen.is_folder() {
+        folders.push(String::from_str(alloc, text.as_str())?)?;
+    }
+    tree.insert(text, seen)?;
     Ok(())
 }
 
@@ -95,11 +111,16 @@ fn read_folder<F: Fs>(
 pub fn read_node<F: Fs>(alloc: Global, fs: &mut F, at: &FsPath, text: &str) -> Result<Seen, Stop> {
     match fs.stat(at)? {
         Some(Node::Folder(meta)) => Ok(Seen::Folder(meta)),
-        Some(Node::File { meta, .. }) => Ok(Seen::File(meta, fs.read(at)?)),
-        Some(Node::Link { meta, target }) => Ok(Seen::Link(
-            meta,
-            Bytes::from_slice(alloc, target.as_slice())?,
-        )),
+        Some(Node::File { meta, .. }) => read_file(fs, at, meta),
+        Some(Node::Link { meta, target }) => read_link(alloc, meta, &target),
         None => Err(Stop::Wrong(String::from_str(alloc, text)?)),
     }
+}
+
+fn read_file<F: Fs>(fs: &mut F, at: &FsPath, meta: Meta) -> Result<Seen, Stop> {
+    Ok(Seen::File(meta, fs.read(at)?))
+}
+
+fn read_link(alloc: Global, meta: Meta, target: &Text) -> Result<Seen, Stop> {
+    Ok(Seen::Link(meta, Bytes::from_slice(alloc, target.as_slice())?))
 }
