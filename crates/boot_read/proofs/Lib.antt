@@ -7,4 +7,4 @@ mod Entering
 mod WordLemmas
 mod Owning
 mod Sorting
-mod Answered
+pub mod Answered

@@ -1,0 +1,4 @@
+pub mod Same
+pub mod Standing
+pub mod Staying
+pub mod Unwritten

@@ -1,0 +1,170 @@
+-- No act writes where the list is read, nor on the way there.
+use Rattle.std.proofs.Common.{◌≡◌, inl, inr, ⊎_elim, ℕ, Bool, true, false, refl, sym, ◌∙◌, subst, List, [], ◌∷◌, ◌++◌, codes, if◌then◌else◌, ◌==◌, length, take, drop}
+use Rattle.std.specs.Fmt.{decimal}
+use Rattle.ost_types.specs.Csum.{hex_of}
+use Rattle.ost_types.specs.Path.{Name, Path, same_name, same_path}
+use Rattle.fs_trait.specs.View.{Disk, View}
+use Rattle.fs_trait.specs.Seen.{Seen, shows}
+use Rattle.repo_layout.specs.BootPaths.{boot_folder_path, boot_link_path, boot_link_stage_path, entry_path, loader_folder_path, loader_path, loader_stage_path, origin_path, staged_path}
+use Rattle.repo_layout.specs.Paths.{deploy_path}
+use Rattle.repo_layout.specs.Place.{Place, Config, Stage, Ref, ObjectsFolder, Object, Mark, Summary, Deployment, Etc, Origin, Staged, BootLink, BootLinkStage, BootFolder, Loader, LoaderStage, LoaderFolder, KernelCopy, Checkout, Other, place, only_at, sum_of, boot_place, kernel_place, ostree_place, deploy_place, deployed_place, boot_links_place, in_deployment}
+use Rattle.layout_rules.proofs.Layouts.{below_split}
+use Rattle.rely_guarantee.specs.Books.{Books}
+use Rattle.rely_guarantee.specs.Rely.{Guarantee, Interference, may_at}
+use Rattle.boot_read.specs.declared.row.BootRow.{BootRow}
+use Rattle.durable_list.specs.Standing.{IsInVersion, IsListPath, IsOnTheWay, SparesList}
+
+-- what boots, what is deployed, and what is no place of the layout
+abbrev pub IsBoot : Place → Type 0
+IsBoot (Deployment os commit serial rest) = Unit {0}
+IsBoot (Etc os commit serial rest) = Unit {0}
+IsBoot (Origin os commit serial) = Unit {0}
+IsBoot Staged = Unit {0}
+IsBoot (BootLink version) = Unit {0}
+IsBoot BootLinkStage = Unit {0}
+IsBoot (BootFolder version sub rest) = Unit {0}
+IsBoot Loader = Unit {0}
+IsBoot LoaderStage = Unit {0}
+IsBoot (LoaderFolder version rest) = Unit {0}
+IsBoot (KernelCopy os bootcsum rest) = Unit {0}
+IsBoot (Other p) = Unit {0}
+IsBoot x = ⊥
+
+unwritten : (b : Books) (actor lane : ℕ) (x : Place) (s : Seen) → IsBoot x → may_at b actor lane x s → ⊥
+unwritten b actor lane Config s is at = is
+unwritten b actor lane (Stage a) s is at = is
+unwritten b actor lane (Ref n) s is at = is
+unwritten b actor lane (ObjectsFolder d) s is at = is
+unwritten b actor lane (Object k c) s is at = is
+unwritten b actor lane (Mark c) s is at = is
+unwritten b actor lane Summary s is at = is
+unwritten b actor lane (Deployment o c n r) s is at = at
+unwritten b actor lane (Etc o c n r) s is at = at
+unwritten b actor lane (Origin o c n) s is at = at
+unwritten b actor lane Staged s is at = at
+unwritten b actor lane (BootLink n) s is at = at
+unwritten b actor lane BootLinkStage s is at = at
+unwritten b actor lane (BootFolder n m r) s is at = at
+unwritten b actor lane Loader s is at = at
+unwritten b actor lane LoaderStage s is at = at
+unwritten b actor lane (LoaderFolder n r) s is at = at
+unwritten b actor lane (KernelCopy o c r) s is at = at
+unwritten b actor lane (Checkout n r) s is at = is
+unwritten b actor lane (Other p) s is at = at
+
+either : (b : Bool) (x y : Place) → IsBoot x → IsBoot y → IsBoot (if b then x else y)
+either true x y one other = one
+either false x y one other = other
+
+only : (path p : Path) (x : Place) → IsBoot x → IsBoot (only_at path p x)
+only path p x is = either (same_path path p) x (Other p) is tt
+
+in_kernels : (p rest : Path) → IsBoot (kernel_place p rest)
+unfolding kernel_place
+in_kernels p [] = tt
+in_kernels p (folder ∷ rest) = only _ p (KernelCopy _ _ rest) tt
+
+in_boot : (p rest : Path) → IsBoot (boot_place p rest)
+unfolding boot_place
+in_boot p [] = tt
+in_boot p (part ∷ rest) = either (length part == 8) _ _ (only _ p (LoaderFolder _ rest) tt)
+    (either (same_name part (codes "loader")) _ _ (only loader_path p Loader tt)
+    (either (same_name part (codes "ostree")) _ _ (in_kernels p rest) (only loader_stage_path p LoaderStage tt)))
+
+deployed : (os : Name) (commit : List ℕ) (serial : ℕ) (rest : Path) → IsBoot (in_deployment os commit serial rest)
+deployed os commit serial [] = tt
+deployed os commit serial (x ∷ rest) = either (same_name x (codes "etc")) (Etc os commit serial rest) (Deployment os commit serial (x ∷ rest)) tt tt
+
+in_deploy : (p rest : Path) → IsBoot (deploy_place p rest)
+unfolding deploy_place deployed_place
+in_deploy p [] = tt
+in_deploy p (os ∷ []) = tt
+in_deploy p (os ∷ deploy ∷ []) = tt
+in_deploy p (os ∷ deploy ∷ id ∷ rest) = either (same_name deploy (codes "deploy")) _ (Other p)
+    (either (same_path (origin_path os (sum_of (take 64 id)) _) p) (Origin os _ _) _ tt (only _ p (in_deployment os _ _ rest) (deployed os _ _ rest))) tt
+
+in_links : (p : Path) (part : Name) (rest : Path) → IsBoot (boot_links_place p part rest)
+unfolding boot_links_place
+in_links p part rest = either (length part == 6) _ _ (only _ p (BootLink _) tt)
+    (either (same_name (take 1 (drop 6 part)) (codes ".")) _ _ (only _ p (BootFolder _ _ rest) tt) (only boot_link_stage_path p BootLinkStage tt))
+
+beside : (b : Bool) (x y : Place) → b ≡ false → IsBoot y → IsBoot (if b then x else y)
+beside true x y e is = let n : true ≡ false = e in cc
+beside false x y e is = is
+
+in_ostree : (p : Path) (part : Name) (rest : Path) → same_name part (codes "repo") ≡ false → IsBoot (ostree_place p (part ∷ rest))
+unfolding ostree_place
+in_ostree p part rest other = beside (same_name part (codes "repo")) _ _ other
+    (either (same_name part (codes "deploy")) _ _ (in_deploy p rest)
+    (either (same_name part (codes "staged")) _ _ (only staged_path p Staged tt) (in_links p part rest)))
+
+below_boot : (rest : Path) → IsBoot (place (codes "boot" ∷ rest))
+unfolding place
+below_boot rest = in_boot (codes "boot" ∷ rest) rest
+
+at_ostree : IsBoot (place (codes "ostree" ∷ []))
+unfolding place ostree_place
+at_ostree = tt
+
+below_ostree : (part : Name) (rest : Path) → same_name part (codes "repo") ≡ false → IsBoot (place (codes "ostree" ∷ part ∷ rest))
+unfolding place
+below_ostree part rest other = in_ostree (codes "ostree" ∷ part ∷ rest) part rest other
+
+at_root : IsBoot (place [])
+unfolding place
+at_root = tt
+
+-- ---- what lies on the way
+
+way_boot : (p rest more : Path) → codes "boot" ∷ more ≡ p ++ rest → IsBoot (place p)
+way_boot [] rest more e = at_root
+way_boot (x ∷ p) rest more e = let first : codes "boot" ≡ x = cc in subst (λ y. IsBoot (place (y ∷ p))) first (below_boot p)
+
+way_ostree : (p rest more : Path) (part : Name) → same_name part (codes "repo") ≡ false → codes "ostree" ∷ part ∷ more ≡ p ++ rest → IsBoot (place p)
+way_ostree [] rest more part other e = at_root
+way_ostree (x ∷ []) rest more part other e = let first : codes "ostree" ≡ x = cc in subst (λ y. IsBoot (place (y ∷ []))) first at_ostree
+way_ostree (x ∷ y ∷ p) rest more part other e =
+    let first : codes "ostree" ≡ x = cc in
+    let second : part ≡ y = cc in
+    subst (λ z. IsBoot (place (z ∷ y ∷ p))) first (below_ostree y p (subst (λ z. same_name z (codes "repo") ≡ false) second other))
+
+from_entries : (p rest : Path) (loader : ℕ) (file : Name) → entry_path loader file ≡ p ++ rest → IsBoot (place p)
+unfolding loader_folder_path
+from_entries p rest loader file e = way_boot p rest ((codes "loader." ++ decimal loader) ∷ codes "entries" ∷ file ∷ []) e
+
+from_link : (p rest : Path) (loader : ℕ) → boot_link_path loader ≡ p ++ rest → IsBoot (place p)
+unfolding boot_link_path
+from_link p rest loader e = way_ostree p rest [] (codes "boot." ++ decimal loader) refl e
+
+from_links : (p rest more : Path) (loader sub : ℕ) → boot_folder_path loader sub ++ more ≡ p ++ rest → IsBoot (place p)
+unfolding boot_folder_path
+from_links p rest more loader sub e = way_ostree p rest more (codes "boot." ++ (decimal loader ++ (46 ∷ decimal sub))) refl e
+
+from_deployment : (p rest : Path) (os : Name) (commit : List ℕ) (serial : ℕ) → deploy_path os commit serial ≡ p ++ rest → IsBoot (place p)
+unfolding deploy_path
+from_deployment p rest os commit serial e = way_ostree p rest (os ∷ codes "deploy" ∷ (hex_of commit ++ (46 ∷ decimal serial)) ∷ []) (codes "deploy") refl e
+
+pub on_the_way : (d : Disk) (rows : List BootRow) (p : Path) → IsOnTheWay d rows p → IsBoot (place p)
+on_the_way d rows p (at, is, below) = by is
+  where
+    split : (rest : Path) × (at ≡ p ++ rest)
+    split = below_split p at below
+
+    in_version : (loader : ℕ) → IsInVersion d loader at → IsBoot (place p)
+    in_version loader (inl e) = from_link p split.0 loader (sym e ∙ split.1)
+    in_version loader (inr (inl (file, e))) = from_entries p split.0 loader file (sym e ∙ split.1)
+    in_version loader (inr (inr (sub, has, more, e))) = from_links p split.0 more loader sub (sym e ∙ split.1)
+
+    by : IsListPath d rows at → IsBoot (place p)
+    by (inl e) = way_boot p split.0 (codes "loader" ∷ []) (sym e ∙ split.1)
+    by (inr (inl (loader, selects, inside))) = in_version loader inside
+    by (inr (inr (row, among, e))) = from_deployment p split.0 row.id.os row.id.commit row.id.serial (sym e ∙ split.1)
+
+pub act_spares : (rows : List BootRow) (v w : View) (b b' : Books) (actor lane : ℕ) → Interference actor lane v b w b' → SparesList rows v w
+act_spares rows v w b b' actor lane does = record {
+  now = λ p way. ⊎_elim (λ same. same) (λ may. absurd (none p (shows w.now p) way may)) (does.writes.now p);
+  each = λ p s way may. ⊎_elim (λ was. inl was) (λ wrote. absurd (none p s way wrote)) (does.writes.only p s may);
+}
+  where
+    none : (p : Path) (s : Seen) → IsOnTheWay v.now rows p → Guarantee b v actor lane p s → ⊥
+    none p s way may = unwritten b actor lane (place p) s (on_the_way v.now rows p way) may.at

@@ -1,0 +1,47 @@
+-- That each crash leaves the list of deployments that boots (OSTree manual, "Deployments").
+use Rattle.std.specs.Prelude.{◌≡◌, ◌⊎◌, ◌≤◌, ◌++◌, ℕ, IsTrue, List, Contains}
+use Rattle.ost_types.specs.Path.{Name, Path, is_below}
+use Rattle.fs_trait.specs.View.{Disk, View}
+use Rattle.fs_trait.specs.Seen.{Seen, MayBe, shows}
+use Rattle.fs_trait.specs.Change.{Left}
+use Rattle.repo_layout.specs.BootPaths.{boot_folder_path, boot_link_path, entry_path, loader_path}
+use Rattle.repo_layout.specs.Paths.{deploy_path}
+use Rattle.boot_model.specs.Listing.{Selects}
+use Rattle.boot_read.specs.declared.row.BootRow.{BootRow}
+use Rattle.boot_read.specs.Links.{HasSub}
+use Rattle.boot_read.specs.Rows.{AreRowsOf}
+
+-- the version's link, a file beside its entries, or what stands in the folder that its link names
+abbrev pub IsInVersion : Disk → ℕ → Path → Type 0
+IsInVersion d loader p = (p ≡ boot_link_path loader)
+    ⊎ ((file : Name) × (p ≡ entry_path loader file))
+    ⊎ ((sub : ℕ) × HasSub d loader sub × (rest : Path) × (p ≡ boot_folder_path loader sub ++ rest))
+
+-- the folder of a deployment of the list
+abbrev pub IsDeployment : List BootRow → Path → Type 0
+IsDeployment rows p = (row : BootRow) × Contains rows row × (p ≡ deploy_path row.id.os row.id.commit row.id.serial)
+
+-- where a disk's list is read: the boot loader's link, the version that it selects, and the folders of the deployments
+abbrev pub IsListPath : Disk → List BootRow → Path → Type 0
+IsListPath d rows p = (p ≡ loader_path)
+    ⊎ ((loader : ℕ) × Selects d loader × IsInVersion d loader p)
+    ⊎ IsDeployment rows p
+
+-- the path lies on the way to where the list is read, or it is read there
+abbrev pub IsOnTheWay : Disk → List BootRow → Path → Type 0
+IsOnTheWay d rows p = (at : Path) × IsListPath d rows at × IsTrue (is_below p at)
+
+-- The rows are the list, and wherever it is read, and on the way there, each crash leaves what there is now.
+pub record ListStands (rows : List BootRow) (v : View) : Type 0 where
+  pub are : AreRowsOf v.now rows
+  pub sure : (p : Path) (s : Seen) → IsOnTheWay v.now rows p → MayBe v p s → s ≡ shows v.now p
+
+-- From one view to a later one: where the list is read, and on the way there, nothing else is shown, or may be after a crash.
+pub record SparesList (rows : List BootRow) (v w : View) : Type 0 where
+  pub now : (p : Path) → IsOnTheWay v.now rows p → shows w.now p ≡ shows v.now p
+  pub each : (p : Path) (s : Seen) → IsOnTheWay v.now rows p → MayBe w p s → MayBe v p s ⊎ (s ≡ shows v.now p)
+
+-- The list stands in the view now, and each disk that a crash left at this moment or later has it.
+pub record KeepsList (was : ℕ → View → Type 0) (rows : List BootRow) (moment : ℕ) (v : View) : Type 0 where
+  pub stands : ListStands rows v
+  pub since : (t : ℕ) (d : Disk) → moment ≤ t → Left was t d → AreRowsOf d rows

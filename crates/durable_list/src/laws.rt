@@ -1,0 +1,32 @@
+//! The laws of the list that boots, as functions whose contracts are the laws.
+ghost use Rattle.std.specs.Prelude.{◌≡◌, ◌≤◌, ℕ, List, Some};
+ghost use Rattle.ost_types.specs.Path.{Path};
+ghost use Rattle.fs_trait.specs.View.{Disk, View};
+ghost use Rattle.fs_trait.specs.Image.{Image, IsTree};
+ghost use Rattle.fs_trait.specs.Seen.{Always, shows};
+ghost use Rattle.fs_trait.specs.Effect.{Elapses};
+ghost use Rattle.rely_guarantee.specs.Books.{Books};
+ghost use Rattle.rely_guarantee.specs.Rely.{Interference};
+ghost use Rattle.boot_read.specs.declared.row.BootRow.{BootRow};
+ghost use Rattle.boot_read.specs.Rows.{AreRowsOf};
+ghost use Rattle.durable_list.specs.Standing.{KeepsList, ListStands, SparesList};
+
+use fs_trait::Fs;
+
+/// Behind a sync of all the list that is read stands; it goes on to over whatever spares it; and each crash leaves it.
+pub fn lists_stand()
+    ensures begins { (rows : List BootRow) (v : View) → ((p : Path) → Always v p (shows v.now p)) → AreRowsOf v.now rows → ListStands rows v }
+    ensures goes_on { (rows : List BootRow) (v w : View) → SparesList rows v w → ListStands rows v → ListStands rows w }
+    ensures images { (rows : List BootRow) (v : View) (d : Disk) → IsTree v.now → ListStands rows v → Image v d → AreRowsOf d rows }
+{}
+
+/// Each disk that a crash leaves from a moment on has the list: from any that isn't before now, and over each act that spares it.
+pub fn lists_stay<F: Fs>()
+    ensures begins { (rows : List BootRow) (fs : F) (v : View) (moment : ℕ) → F.view fs ≡ Some v → F.clock fs ≤ moment → ListStands rows v → KeepsList (F.was fs) rows moment v }
+    ensures goes_on { (rows : List BootRow) (old new : F) (v w : View) (moment : ℕ) → F.view new ≡ Some w → Elapses (F.clock old) (F.clock new) (F.was old) (F.was new) (F.view new) → SparesList rows v w → KeepsList (F.was old) rows moment v → KeepsList (F.was new) rows moment w }
+{}
+
+/// No act writes where the list is read: no command changes what boots.
+pub fn acts_spare_lists()
+    ensures { (rows : List BootRow) (v w : View) (b b' : Books) (actor lane : ℕ) → Interference actor lane v b w b' → SparesList rows v w }
+{}

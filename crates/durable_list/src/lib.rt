@@ -1,0 +1,6 @@
+//! The list of deployments that a disk boots stays what it is over all writes that spare what it is read from, and each crash leaves it.
+#![tactic(auto)]
+
+mod laws;
+
+pub use laws::{acts_spare_lists, lists_stand, lists_stay};
