@@ -32,6 +32,9 @@ use Rattle.lane_system.specs.Folders.{AreFolders, IsTaken}
 use Rattle.lane_system.specs.Founded.{RefsNameDurableCommits}
 use Rattle.lane_system.specs.Inside.{NoExternalChange}
 use Rattle.lane_system.specs.Kept.{Kept}
+use Rattle.boot_read.specs.declared.row.BootRow.{BootRow}
+use Rattle.lane_system.specs.Booting.{BootsStill}
+use Rattle.lane_system.proofs.Booting.{list_still}
 use Rattle.lane_system.specs.Known.{AreKnown}
 use Rattle.lane_system.specs.LaneActs.{LaneActs, task_start}
 use Rattle.lane_system.specs.Lanes.{IsAt, IsCommand, IsTo}
@@ -70,6 +73,7 @@ pub record ActKeeps {F T W A : Type 0} (f : FsSpec F) (c : Family T W A) (old ne
   pub remains : LastRemains c.means old v → Told (f.view new.base.fs) (λ w. LastRemains c.means new w)
   pub founded : (opening : View) → AreStored f c.means old v → CommitsAreFiles v.now → RefsNameDurableCommits c.means opening old v → Told (f.view new.base.fs) (λ w. RefsNameDurableCommits c.means opening new w)
   pub known : (opening : Disk) → AreKnown f c.means opening old v → Told (f.view new.base.fs) (λ w. AreKnown f c.means opening new w)
+  pub boots : (rows : List BootRow) → BootsStill f rows old v → Told (f.view new.base.fs) (λ w. BootsStill f rows new w)
 
 module _ {F T W A : Type 0} (f : FsSpec F) (c : Family T W A) (fl : FsLaws f) (cl : FamilyLaws c) (limits : Limits) (lane : ℕ) (refs refs' : RefBook) (objects objects' : ℕ) (old new : Base F) (lanes : List (Lane T W A)) (given : ℕ) (l : Lane T W A)
     (kept : Kept f c limits old refs lanes given) (at : IsAt lanes lane l) (v : View) (told_v : f.view old.fs ≡ Some v) where
@@ -148,6 +152,7 @@ module _ {F T W A : Type 0} (f : FsSpec F) (c : Family T W A) (fl : FsLaws f) (c
       counted = λ has. (w, (acts.does v told_v).1, counted_more f c fl cl limits lane refs refs' objects objects' old new lanes given l kept at v told_v l' x has);
       said = λ stored has. said_on f c fl cl limits lane lane refs refs' objects objects' old new lanes (set lanes lane l') acts kept.sound.ordered (command_was lanes lane l l' at x.same) (length l.replies.items) _ begin None_ split (λ r words n. absurd n) starts v told_v kept.sound (λ r words n. absurd n);
       known = λ opening is. (w, (acts.does v told_v).1, known_more f c fl cl limits lane refs refs' objects objects' old new lanes given l kept at v told_v l' x opening is);
+      boots = λ rows is. (w, (acts.does v told_v).1, list_still f fl lane lane refs refs' old new acts v told_v rows is);
       stays = λ stored. staying_on f c fl cl limits lane lane refs refs' objects objects' old new lanes (set lanes lane l') acts kept.sound.ordered (command_was lanes lane l l' at x.same) (length l.replies.items) _ begin None_ split (λ r words n. absurd n) starts v told_v placed (λ r words n. absurd n);
       remains = λ was. (w, (acts.does v told_v).1, λ over. absurd (over lane (l', at_set lanes lane l' at.0, still_has)));
       founded = λ opening stored files. founded_on f c fl cl limits lane lane refs refs' objects objects' old new lanes (set lanes lane l') acts kept.sound.ordered (command_was lanes lane l l' at x.same) (length l.replies.items) _ begin None_ split (λ r words n. absurd n) starts v told_v opening files
@@ -318,6 +323,7 @@ module _ {F T W A : Type 0} (f : FsSpec F) (c : Family T W A) (fl : FsLaws f) (c
       counted = λ has. (w_, (acts_.does v told_v).1, counted_given f c fl cl limits lane refs refs' objects objects' old new lanes given l kept at v told_v l' z start x l'' r same grows begun has);
       said = λ stored has. said_on f c fl cl limits lane lane refs refs' objects objects' old new lanes (set lanes lane l'') acts_ kept.sound.ordered (command_was lanes lane l l'' at same) (length l.replies.items) start is_start IsNew split_ (λ q words n. ap (λ (y : Reply A). y.start) n.0 ∙ begun) starts_ v told_v kept.sound (says_now (sound_of stored) has);
       known = λ opening is. (w_, (acts_.does v told_v).1, known_given f c fl cl limits lane refs refs' objects objects' old new lanes given l kept at v told_v l' z start x l'' r same grows begun opening is);
+      boots = λ rows is. (w_, (acts_.does v told_v).1, list_still f fl lane lane refs refs' old new acts_ v told_v rows is);
       stays = λ stored. staying_on f c fl cl limits lane lane refs refs' objects objects' old new lanes (set lanes lane l'') acts_ kept.sound.ordered (command_was lanes lane l l'' at same) (length l.replies.items) start is_start IsNew split_ (λ q words n. ap (λ (y : Reply A). y.start) n.0 ∙ begun) starts_ v told_v placed
           (of_new (λ n d y. IfAnswer (λ a. c.means.stays (since_in limits old.books n) [] a d w_ (books_of new.books)) y) (g.stays v w_ told_v (acts_.does v told_v).1 (sound_of stored)));
       remains = λ was. (w_, (acts_.does v told_v).1, λ over. last_remains);
@@ -340,4 +346,5 @@ preserves_by f c s s' keeps caused = record {
   remains = λ v told is. (keeps v told).remains is;
   founded = λ opening v told stored is. (keeps v told).founded opening stored (stands_files s.limits (WasBrought c.means s) IsConfigured stored.names v stored.keeps.now) is;
   known = λ opening v told is. (keeps v told).known opening is;
+  boots = λ rows v told is. (keeps v told).boots rows is;
 }

@@ -67,6 +67,7 @@ module _ {F T W A : Type 0} (f : FsSpec F) (c : Family T W A) (fl : FsLaws f) wh
     remains = λ v told is. (v, told, is);
     founded = λ opening v told stored is. (v, told, is);
     known = λ opening v told is. (v, told, is);
+    boots = λ rows v told is. (v, told, is);
   }
 
   pub preserves_then : (a b e : System F T W A) → Preserves f c a b → Preserves f c b e → Preserves f c a e
@@ -82,4 +83,5 @@ module _ {F T W A : Type 0} (f : FsSpec F) (c : Family T W A) (fl : FsLaws f) wh
     remains = λ v told is. (let z = x.remains v told is in y.remains z.0 z.1 z.2);
     founded = λ opening v told stored is. (let z = told_both (f.view b.base.fs) _ _ (x.good v told stored) (x.founded opening v told stored is) in y.founded opening z.0 z.1 z.2.0 z.2.1);
     known = λ opening v told is. (let z = x.known opening v told is in y.known opening z.0 z.1 z.2);
+    boots = λ rows v told is. (let z = x.boots rows v told is in y.boots rows z.0 z.1 z.2);
   }

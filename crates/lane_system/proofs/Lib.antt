@@ -38,6 +38,7 @@ pub mod Counting
 pub mod StoreOverAct
 pub mod StoreByEnding
 pub mod StoreAtStart
+pub mod Booting
 pub mod Acted
 pub mod Holding
 pub mod Asking

@@ -13,6 +13,7 @@ pub mod Ranks
 pub mod Counts
 pub mod Pins
 pub mod Held
+pub mod Booting
 pub mod Causes
 pub mod Removals
 pub mod Sweeping

@@ -113,6 +113,7 @@ impl<F: Watch, C: Command> System<F, C> {
             faults: _,
             limits,
             objects,
+            rows: _,
             checkouts: _,
         } = opened.into_parts();
         System {

@@ -1,11 +1,25 @@
 -- No check of a good disk fails.
-use Rattle.std.proofs.Common.{⊎_elim}
+use Rattle.std.proofs.Common.{◌≡◌, ⊎_elim, List, Result, Ok, Err}
 use Rattle.ost_types.specs.declared.limits.Limits.{Limits}
 use Rattle.ost_types.specs.Path.{Path}
 use Rattle.fs_trait.specs.View.{Disk}
+use Rattle.boot_read.specs.declared.fault.ListFault.{ListFault}
+use Rattle.boot_read.specs.declared.fault.ListFault.TheVariants as list
+use Rattle.boot_read.specs.declared.row.BootRow.{BootRow}
+use Rattle.boot_read.specs.Faults as lists
+use Rattle.boot_read.proofs.Answered.{answered_once}
 use Rattle.store_check.proofs.Excluded.{damaged_has, few_more, whole_lacks}
 use Rattle.sys_open.specs.declared.fault.Why.{Why}
-use Rattle.sys_open.specs.Damages.{Check, Places, Config, RefFiles, Objects, Commits, Staging, Fails, IsFault, IsGood, Passes}
+use Rattle.sys_open.specs.Damages.{Check, Places, Config, RefFiles, Objects, Commits, BootList, Staging, Fails, IsFault, IsGood, IsToldOfList, Passes}
+
+-- what is told of the list is of the disk, and of no call
+of_disk : (fault : ListFault) (p : Path) (why : Why) → IsToldOfList fault p why → lists.IsOfDisk (Err fault)
+of_disk (list.BadLink at) p why told = tt
+of_disk (list.TooMany at) p why told = tt
+of_disk (list.BadEntry at found) p why told = tt
+of_disk (list.NoDeployment at) p why told = tt
+of_disk (list.Fs e) p why told = absurd told
+of_disk list.NoMemory p why told = absurd told
 
 -- a check that passes doesn't fail too
 pub passes_fails : (check : Check) (limits : Limits) (d : Disk) (p : Path) (why : Why) → Passes check limits d → Fails check limits d p why → ⊥
@@ -20,6 +34,8 @@ passes_fails Commits limits d p why passes fails = ⊎_elim
     (λ first. whole_lacks d limits first.commit fails.object (passes.0 first.commit) first.sum first.finished first.lacks)
     (λ ref. ref.1.wrong (passes.1 ref.1.name ref.1.commit ref.1.names))
     fails.first
+passes_fails BootList limits d p why passes fails =
+    let n : Ok passes.0 ≡ Err fails.fault = answered_once d (Ok passes.0) (Err fails.fault) tt (of_disk fails.fault p why fails.told) passes.1 fails.first in cc
 passes_fails Staging limits d p why passes (told, least) = least.wrong (passes p)
 
 pub fault_good : (limits : Limits) (d : Disk) (p : Path) (why : Why) → IsFault limits d p why → IsGood limits d → ⊥

@@ -17,6 +17,7 @@ mod Checking
 mod Configs
 mod RefLists
 mod Stores
+mod BootLists
 mod Laying
 mod StageClearing
 mod ChangedPlaces
@@ -26,6 +27,7 @@ mod Beginning
 mod Crashing
 pub mod Goods
 mod Reopening
+mod ListKept
 mod StoreKept
 mod Opens
 pub mod Exclusive

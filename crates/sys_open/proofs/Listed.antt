@@ -7,7 +7,8 @@ use Rattle.fs_trait.specs.View.{Disk, View}
 use Rattle.fs_trait.specs.Image.{Told}
 use Rattle.fs_trait.specs.Effect.{IsQuiet}
 use Rattle.fs_trait.specs.Change.{Left}
-use Rattle.sys_open.specs.Opened.{AreCheckouts, IsListed, IsOpened, KeepsGood}
+use Rattle.boot_read.specs.declared.row.BootRow.{BootRow}
+use Rattle.sys_open.specs.Opened.{AreCheckouts, IsListed, IsOpened, KeepsGood, KeepsRows}
 use Rattle.sys_open.specs.Opening.{KeepsSince}
 
 module _ (before now : ℕ) (past since : ℕ → View → Type 0) (old view : Option View) (quiet : IsQuiet before now past since old view) where
@@ -37,6 +38,12 @@ module _ {F : Type 0} (view : F → Option View) (clock : F → ℕ) (was : F �
   good_still opened limits refs is = record {
     store = λ w now. is.store w (sym quiet.view ∙ now);
     config = λ w now. is.config w (sym quiet.view ∙ now);
+    since = λ w now t e from left. is.since w (sym quiet.view ∙ now) t e from (left_still t e left);
+  }
+
+  pub rows_still : (opened : ℕ) (rows : List BootRow) → KeepsRows view was fs opened rows → KeepsRows view was gs opened rows
+  rows_still opened rows is = record {
+    now = λ w now. is.now w (sym quiet.view ∙ now);
     since = λ w now t e from left. is.since w (sym quiet.view ∙ now) t e from (left_still t e left);
   }
 

@@ -13,15 +13,18 @@ use Rattle.rely_guarantee.specs.Disks.{Logical}
 use Rattle.fs_trait.specs.Seen.{Always, seen, shows}
 use Rattle.fs_trait.proofs.Facts.{vacant_absent}
 use Rattle.repo_layout.specs.Paths.{folder_path, stage_path}
+use Rattle.boot_read.specs.declared.row.BootRow.{BootRow}
+use Rattle.boot_read.specs.Rows.{AreRowsOf}
 use Rattle.store_check.specs.Listing.{AreAll}
 use Rattle.layout_rules.specs.Checks.{IsSane}
 use Rattle.layout_rules.proofs.Layouts.{below_split}
 use Rattle.sys_open.specs.Changes.{IsArranged, Keeps}
 use Rattle.sys_open.specs.Damages.{IsGood}
-use Rattle.sys_open.specs.Opened.{IsListed, IsOpened, KeepsGood}
+use Rattle.sys_open.specs.Opened.{IsListed, IsOpened, KeepsGood, KeepsRows}
 use Rattle.sys_open.specs.Opening.{AreAscending, Begins, IsGoodSince, KeepsSince}
 use Rattle.sys_open.proofs.Beginning.{logical_kept}
 use Rattle.sys_open.proofs.Goods.{sane_of, store_of}
+use Rattle.sys_open.proofs.ListKept.{rows_kept}
 use Rattle.sys_open.proofs.Reopening.{still_sane}
 use Rattle.sys_open.proofs.StoreKept.{all_kept, still_good}
 use Rattle.sys_open.proofs.Walks.{absent_below}
@@ -68,6 +71,12 @@ module _ {F : Type 0} (view : F → Option View) (clock : F → ℕ) (was : F �
 
   pub is_listed : (names : List ObjName) → ((v : View) → view old ≡ Some v → AreAll v.now names) → IsListed view new names
   is_listed names all w now = let h = here w now in all_kept h.0.now w.now h.2.keeps names (all h.0 h.1)
+
+  pub keeps_rows : (rows : List BootRow) → ((v : View) → view old ≡ Some v → AreRowsOf v.now rows) → KeepsRows view was new opened rows
+  keeps_rows rows are = record {
+    now = λ w now. let h = here w now in rows_kept h.0.now w.now h.2.keeps rows (are h.0 h.1);
+    since = λ w now t e from left. let h = here w now in rows_kept h.0.now e (keeps h.0 h.1 t e from left) rows (are h.0 h.1);
+  }
 
   pub folders_there : (w : View) → view new ≡ Some w → (f : Folder) → is_folder (w.now.at (folder_path f)) ≡ true
   folders_there w now = (here w now).2.opening.folders

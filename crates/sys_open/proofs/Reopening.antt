@@ -31,7 +31,7 @@ use Rattle.sys_open.proofs.Beginning.{leaf_was}
 use Rattle.sys_open.proofs.ChangedPlaces.{no_rule, put_is_path}
 
 -- no folder that is laid out lies where there is to be none
-other : (f : Folder) → place (folder_path f) ≡ Other (folder_path f)
+pub other : (f : Folder) → place (folder_path f) ≡ Other (folder_path f)
 other f = fixed_other f (folder_path f) (is_below-self (folder_path f))
 
 no_link : (version : ℕ) (f : Folder) (p : Path) → version < 10 → p ≡ folder_path f → place p ≡ BootLink version → ⊥

@@ -27,7 +27,8 @@ use Rattle.sys_open.specs.Damages.{HasConfig, IsGood, ShowsConfig}
 use Rattle.sys_open.proofs.Beginning.{leaf_shown, leaf_value, leaf_was}
 use Rattle.sys_open.proofs.Holding.{commit_leaf}
 use Rattle.sys_open.proofs.ChangedPlaces.{config_put, mark_unchanged, object_unchanged}
-use Rattle.sys_open.proofs.Goods.{config_of, good_of, sane_of, store_of}
+use Rattle.sys_open.proofs.Goods.{config_of, good_of, list_of, sane_of, store_of}
+use Rattle.sys_open.proofs.ListKept.{list_kept}
 use Rattle.sys_open.proofs.Reopening.{still_sane}
 
 module _ (d e : Disk) (keeps : Keeps d e) where
@@ -99,4 +100,4 @@ module _ (d e : Disk) (keeps : Keeps d e) where
   pub still_good : (limits : Limits) → IsGood limits d → IsGood limits e
   still_good limits good =
       let sane = sane_of limits d good in
-      good_of limits e (still_sane d e sane keeps) (config_kept (config_of limits d good)) (store_kept limits sane (store_of limits d good))
+      good_of limits e (still_sane d e sane keeps) (config_kept (config_of limits d good)) (store_kept limits sane (store_of limits d good)) (list_kept d e keeps (list_of limits d good))

@@ -15,11 +15,16 @@ use Rattle.repo_model.specs.Objects.{path_of}
 use Rattle.repo_model.specs.Trees.{name_of}
 use Rattle.repo_config.specs.Config.{IsConfig}
 use Rattle.layout_rules.specs.Checks as rules
+use Rattle.boot_read.specs.declared.fault.ListFault.{ListFault}
+use Rattle.boot_read.specs.declared.fault.ListFault.TheVariants as list
+use Rattle.boot_read.specs.declared.row.BootRow.{BootRow}
+use Rattle.boot_read.specs.Faults as lists
+use Rattle.boot_read.specs.Rows.{AreRowsOf}
 use Rattle.store_check.specs.Commits.{IsFinished, IsFirstIncomplete, IsWhole}
 use Rattle.store_check.specs.Listing.{HasFew, HasMore}
 use Rattle.store_check.specs.Objects.{IsFirstBad, IsSound}
 use Rattle.sys_open.specs.declared.fault.Why.{Why}
-use Rattle.sys_open.specs.declared.fault.Why.TheVariants.{BadConfig, BadRef, BadObject, Incomplete, TooMany, WrongKind}
+use Rattle.sys_open.specs.declared.fault.Why.TheVariants.{BadConfig, BadRef, BadObject, Incomplete, TooMany, WrongKind, BadLink, BadEntry, NoDeployment}
 
 -- The checks, in the order in which they are made.
 pub data Check : Type 0 where
@@ -28,6 +33,7 @@ pub data Check : Type 0 where
   RefFiles : Check  -- each leaf at or below the folder of refs is a ref file under the path of a good name
   Objects : Check  -- each object is what its name says, and there aren't too many
   Commits : Check  -- each commit without a mark is whole, and each ref names one that is there
+  BootList : Check  -- the disk boots a list of deployments, or nothing
   Staging : Check  -- what stands at a staging path can be removed
 
 abbrev pub turn : Check → ℕ
@@ -36,6 +42,7 @@ turn Config = 2
 turn RefFiles = 3
 turn Objects = 4
 turn Commits = 5
+turn BootList = 6
 turn Staging = 8
 
 -- a regular file is shown that is a configuration
@@ -58,6 +65,10 @@ AreWhole limits d = (commit : List ℕ) → IsWhole d limits commit
 abbrev pub AreFounded : Disk → Type 0
 AreFounded d = (name commit : List ℕ) → Names d name commit → IsFinished d commit
 
+-- the disk boots a list, of which there may be no rows
+abbrev pub BootsList : Disk → Type 0
+BootsList d = (rows : List BootRow) × AreRowsOf d rows
+
 -- What a check asks of a disk.
 abbrev pub Passes : Check → Limits → Disk → Type 0
 Passes Places limits d = (p : Path) → rules.Asks rules.Kinds d p
@@ -65,6 +76,7 @@ Passes Config limits d = HasConfig d
 Passes RefFiles limits d = (p : Path) → rules.Asks rules.RefFiles d p
 Passes Objects limits d = AreSound limits d
 Passes Commits limits d = AreWhole limits d × AreFounded d
+Passes BootList limits d = BootsList d
 Passes Staging limits d = (p : Path) → rules.Asks rules.Staging d p
 
 -- A repository is opened on a disk that passes all of them.
@@ -107,6 +119,20 @@ pub record HasIncomplete (limits : Limits) (d : Disk) (p : Path) (why : Why) : T
   pub told : why ≡ Incomplete object
   pub first : IsFirstIncomplete d limits p object ⊎ (AreWhole limits d × IsFirstUnfounded d p object)
 
+-- what is told of a fault of the list, at which path
+abbrev pub IsToldOfList : ListFault → Path → Why → Type 0
+IsToldOfList (list.BadLink at) p why = (p ≡ at) × (why ≡ BadLink)
+IsToldOfList (list.TooMany at) p why = (p ≡ at) × (why ≡ TooMany 9)
+IsToldOfList (list.BadEntry at fault) p why = (p ≡ at) × (why ≡ BadEntry fault)
+IsToldOfList (list.NoDeployment at) p why = (p ≡ at) × (why ≡ NoDeployment)
+IsToldOfList fault p why = ⊥
+
+-- What is first wrong with the list.
+pub record HasBadList (d : Disk) (p : Path) (why : Why) : Type 0 where
+  pub fault : ListFault
+  pub first : lists.IsFault d fault
+  pub told : IsToldOfList fault p why
+
 -- Where a check fails, and what is told of it.
 abbrev pub Fails : Check → Limits → Disk → Path → Why → Type 0
 Fails Places limits d p why = (why ≡ WrongKind) × IsLeast (rules.Asks rules.Kinds d) p
@@ -114,6 +140,7 @@ Fails Config limits d p why = (why ≡ BadConfig) × (p ≡ config_path) × (¬ 
 Fails RefFiles limits d p why = (why ≡ BadRef) × IsLeast (rules.Asks rules.RefFiles d) p
 Fails Objects limits d p why = HasTooMany limits d p why ⊎ HasBadObject limits d p why
 Fails Commits limits d p why = HasIncomplete limits d p why
+Fails BootList limits d p why = HasBadList d p why
 Fails Staging limits d p why = (why ≡ WrongKind) × IsLeast (rules.Asks rules.Staging d) p
 
 -- The first check that fails, and what is told of it.

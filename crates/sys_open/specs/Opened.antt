@@ -3,12 +3,14 @@ use Rattle.std.specs.Prelude.{◌≡◌, ◌≤◌, ℕ, List, Option, Some}
 use Rattle.ost_types.specs.declared.limits.Limits.{Limits}
 use Rattle.ost_types.specs.declared.object.ObjName.{ObjName}
 use Rattle.ost_types.specs.Path.{Name}
-use Rattle.fs_trait.specs.View.{View}
+use Rattle.fs_trait.specs.View.{Disk, View}
 use Rattle.fs_trait.specs.Change.{Left}
 use Rattle.fs_trait.specs.Effect.{IsListing}
 use Rattle.fs_trait.specs.Seen.{shows}
 use Rattle.repo_layout.specs.declared.folder.Folder.TheVariants.{Checkouts}
 use Rattle.repo_layout.specs.Paths.{config_path, folder_path}
+use Rattle.boot_read.specs.declared.row.BootRow.{BootRow}
+use Rattle.boot_read.specs.Rows.{AreRowsOf}
 use Rattle.store_check.specs.Good.{IsGoodStore}
 use Rattle.store_check.specs.Listing.{AreAll}
 use Rattle.rely_guarantee.specs.State.{first}
@@ -17,7 +19,7 @@ use Rattle.sys_open.specs.Damages.{ShowsConfig}
 use Rattle.sys_open.specs.Opening.{AreAscending, HasNoStages, IsGoodSince}
 
 -- An open repository as plain data: the file system, the refs, the clock after the first barrier, the count of failed calls at
--- the beginning, the limits, the names of all objects, and those of the checkouts.
+-- the beginning, the limits, the names of all objects, the rows of the list that boots, and the names of the checkouts.
 pub record Opened (F : Type 0) : Type 0 where
   pub fs : F
   pub refs : List (List ℕ × List ℕ)
@@ -25,6 +27,7 @@ pub record Opened (F : Type 0) : Type 0 where
   pub faults : ℕ
   pub limits : Limits
   pub objects : List ObjName
+  pub rows : List BootRow
   pub checkouts : List Name
 
 -- What every open repository keeps: a system can begin on it with these refs, and each crash since that moment left a sane disk
@@ -46,6 +49,11 @@ pub record KeepsGood {F : Type 0} (view : F → Option View) (was : F → ℕ �
   pub store : (w : View) → view fs ≡ Some w → IsGoodStore limits w.now
   pub config : (w : View) → view fs ≡ Some w → ShowsConfig (shows w.now config_path)
   pub since : (w : View) → view fs ≡ Some w → IsGoodSince (Left (was fs)) opened limits (first refs)
+
+-- Where the view is told: these are the rows of the list that boots, and each disk that a crash left since the first barrier boots it.
+pub record KeepsRows {F : Type 0} (view : F → Option View) (was : F → ℕ → View → Type 0) (fs : F) (opened : ℕ) (rows : List BootRow) : Type 0 where
+  pub now : (w : View) → view fs ≡ Some w → AreRowsOf w.now rows
+  pub since : (w : View) → view fs ≡ Some w → (t : ℕ) (d : Disk) → opened ≤ t → Left (was fs) t d → AreRowsOf d rows
 
 -- where the view is told, these are the names in the folder of checkouts
 abbrev pub AreCheckouts : {F : Type 0} → (F → Option View) → F → List Name → Type 0

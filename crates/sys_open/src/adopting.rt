@@ -7,15 +7,17 @@ ghost use Rattle.obj_store.specs.Lookup.{HasCauseOf, Loads};
 ghost use Rattle.fs_trait.specs.Change.{Left};
 ghost use Rattle.rely_guarantee.specs.State.{first};
 ghost use Rattle.sys_open.specs.declared.fault.OpenFault.TheVariants as fault;
+ghost use Rattle.boot_read.specs.Rows.{AreRowsOf};
 ghost use Rattle.store_check.specs.Listing.{AreAll};
 ghost use Rattle.sys_open.specs.Changes.{Changes, Works};
 ghost use Rattle.sys_open.specs.Damages.{IsGood};
-ghost use Rattle.sys_open.specs.Opened.{AreCheckouts, IsListed, IsOpened, KeepsGood};
+ghost use Rattle.sys_open.specs.Opened.{AreCheckouts, IsListed, IsOpened, KeepsGood, KeepsRows};
 ghost use Rattle.sys_open.specs.Opening.{AreAscending, Begins, IsGoodSince, IsToldOf, KeepsSince, StaysOnDamage};
 
 use crate::checkouts::checkouts;
 use crate::fault::OpenFault;
 use crate::opening::open;
+use boot_read::BootRow;
 use fs_trait::Fs;
 use obj_store::{LoadFault, load};
 use ost_objects::Checked;
@@ -28,8 +30,9 @@ use std::thread::Threads;
 /// An open repository, on which a system can begin.
 ///
 /// Each value keeps, for any file system that tells its view: all is synced, the folders of the layout and the configuration are
-/// there, nothing stands at a staging path, these are the names of all objects and of the checkouts, its objects, commits and refs
-/// are good, and each crash since the first barrier left a good disk with these refs, which opens again with them.
+/// there, nothing stands at a staging path, these are the names of all objects and of the checkouts and the list that boots, its
+/// objects, commits and refs are good, and each crash since the first barrier left a good disk with these refs and this list, which
+/// opens again with them.
 #[derive(Drop)]
 pub struct Opened<F: Fs> {
     fs: F,
@@ -38,17 +41,18 @@ pub struct Opened<F: Fs> {
     faults: u64,
     limits: Limits,
     objects: Vec<ObjName>,
+    rows: Vec<BootRow>,
     checkouts: Names,
 }
 
 impl<F: Fs> Model for Opened<F> {
-    ghost use Rattle.sys_open.specs.Opened.{AreCheckouts, IsListed, IsOpened, KeepsGood, Opened};
+    ghost use Rattle.sys_open.specs.Opened.{AreCheckouts, IsListed, IsOpened, KeepsGood, KeepsRows, Opened};
 
     ghost Value = { Opened F };
 
-    ghost view = { λ o. record { fs = o.fs; refs = o.refs.items; clock = o.clock; faults = o.faults; limits = o.limits; objects = o.objects.items; checkouts = o.checkouts } };
+    ghost view = { λ o. record { fs = o.fs; refs = o.refs.items; clock = o.clock; faults = o.faults; limits = o.limits; objects = o.objects.items; rows = o.rows.items; checkouts = o.checkouts } };
 
-    ghost invariant = { λ o. IsOpened F.view F.clock F.was o.fs o.clock o.refs.items × IsListed F.view o.fs o.objects.items × KeepsGood F.view F.was o.fs o.clock o.limits o.refs.items × AreCheckouts F.view o.fs o.checkouts };
+    ghost invariant = { λ o. IsOpened F.view F.clock F.was o.fs o.clock o.refs.items × IsListed F.view o.fs o.objects.items × KeepsGood F.view F.was o.fs o.clock o.limits o.refs.items × AreCheckouts F.view o.fs o.checkouts × KeepsRows F.view F.was o.fs o.clock o.rows.items };
 }
 
 /// What an open repository is taken apart into, for a system that begins on it.
@@ -64,6 +68,8 @@ pub struct OpenedParts<F> {
     pub limits: Limits,
     /// The names of all objects, ascending.
     pub objects: Vec<ObjName>,
+    /// The list of deployments that boots, the one that boots first coming first.
+    pub rows: Vec<BootRow>,
     /// The names of the checkouts, ascending.
     pub checkouts: Names,
 }
@@ -83,6 +89,14 @@ impl<F: Fs> Opened<F> {
         ensures listed { IsListed F.view self.now.fs self.now.objects }
     {
         &self.objects
+    }
+
+    /// The list of deployments that boots, the one that boots first coming first.
+    pub fn rows(&self) -> &[BootRow]
+        ensures rows { result.now ≡ self.now.rows }
+        ensures keeps { KeepsRows F.view F.was self.now.fs self.now.clock self.now.rows }
+    {
+        &self.rows
     }
 
     /// The names in the folder of checkouts, ascending.
@@ -120,6 +134,7 @@ impl<F: Fs> Opened<F> {
             faults: _,
             limits: _,
             objects: _,
+            rows: _,
             checkouts: _,
         } = self;
         fs
@@ -133,11 +148,13 @@ impl<F: Fs> Opened<F> {
         ensures faults { result.faults ≡ self.faults }
         ensures limits { result.limits ≡ self.limits }
         ensures objects { result.objects.items ≡ self.objects }
+        ensures rows { result.rows.items ≡ self.rows }
         ensures checkouts { result.checkouts ≡ self.checkouts }
         ensures opened { IsOpened F.view F.clock F.was result.fs result.clock result.refs.items }
         ensures listed { IsListed F.view result.fs result.objects.items }
         ensures good { KeepsGood F.view F.was result.fs result.clock result.limits result.refs.items }
         ensures named { AreCheckouts F.view result.fs result.checkouts }
+        ensures boots { KeepsRows F.view F.was result.fs result.clock result.rows.items }
     {
         let Opened {
             fs,
@@ -146,6 +163,7 @@ impl<F: Fs> Opened<F> {
             faults,
             limits,
             objects,
+            rows,
             checkouts,
         } = self;
         OpenedParts {
@@ -155,6 +173,7 @@ impl<F: Fs> Opened<F> {
             faults,
             limits,
             objects,
+            rows,
             checkouts,
         }
     }
@@ -168,7 +187,7 @@ pub fn adopt<R: Threads + Sync, F: Fs>(
     fs: F,
     limits: Limits,
 ) -> Result<Opened<F>, (F, OpenFault)>
-    ensures good { (v : View) → F.view fs ≡ Some v → IfOk result (λ o. IsGood limits v.now) }
+    ensures good { (v : View) → F.view fs ≡ Some v → IfOk result (λ o. IsGood limits v.now × AreRowsOf v.now o.rows) }
     ensures begins { (v : View) → F.view fs ≡ Some v → IfOk result (λ o. Told (F.view o.fs) (Begins o.refs v)) }
     ensures keeps { (v : View) → F.view fs ≡ Some v → IfOk result (λ o. KeepsSince (Left (F.was o.fs)) o.clock v.now) }
     ensures since { (v : View) → F.view fs ≡ Some v → IfOk result (λ o. IsGoodSince (Left (F.was o.fs)) o.clock limits (first o.refs)) }
@@ -177,7 +196,7 @@ pub fn adopt<R: Threads + Sync, F: Fs>(
     ensures works { (v : View) → F.view fs ≡ Some v → IfOk result (λ o. Works (Changes v.now) v (F.clock fs) (F.clock o.fs) (F.was fs) (F.was o.fs) (F.view o.fs)) }
     ensures undone { (v : View) → F.view fs ≡ Some v → IfErr result (λ e. Works (Changes v.now) v (F.clock fs) (F.clock e.0) (F.was fs) (F.was e.0) (F.view e.0)) }
     ensures objects { (v : View) → F.view fs ≡ Some v → IfOk result (λ o. Told (F.view o.fs) (λ w. AreAll w.now o.objects)) }
-    ensures checkouts { IfOk result (λ o. AreCheckouts F.view o.fs o.checkouts) }
+    ensures stands { IfOk result (λ o. AreCheckouts F.view o.fs o.checkouts × KeepsRows F.view F.was o.fs o.clock o.rows) }
     ensures ascending { IfOk result (λ o. AreAscending o.refs) }
     ensures opened { IfOk result (λ o. Next (F.clock fs) o.clock) }
     ensures begun { IfOk result (λ o. (o.faults ≡ F.faults fs) × (o.limits ≡ limits)) }
@@ -195,6 +214,7 @@ pub fn adopt<R: Threads + Sync, F: Fs>(
                 faults,
                 limits,
                 objects: found.objects,
+                rows: found.rows,
                 checkouts,
             }),
             Err(fault) => Err((fs, fault)),

@@ -5,6 +5,7 @@ ghost use Rattle.fs_trait.specs.Effect.{IsQuiet};
 ghost use Rattle.repo_layout.specs.Paths.{heads};
 ghost use Rattle.rely_guarantee.specs.State.{first};
 ghost use Rattle.rely_guarantee.specs.Disks.{Logical};
+ghost use Rattle.boot_read.specs.Rows.{AreRowsOf};
 ghost use Rattle.store_check.specs.Listing.{AreAll};
 ghost use Rattle.sys_open.specs.declared.fault.Why.TheVariants.{BadRef, WrongKind};
 ghost use Rattle.sys_open.specs.Faults.{HasReason};
@@ -13,6 +14,7 @@ ghost use Rattle.sys_open.specs.Walk.{Walked};
 ghost use Rattle.sys_open.specs.Opening.{Answers, AreAscending, AreRefsOf};
 ghost use Rattle.sys_open.specs.Stored.{ToldOfStore};
 
+use crate::boot_list::read_boot_list;
 use crate::config::check_config;
 use crate::fault::{OpenFault, Why};
 use crate::found::Found;
@@ -22,6 +24,7 @@ use crate::least::{damage, lesser};
 use crate::refs::read_refs;
 use crate::stages::check_stages;
 use crate::store::{look_at_commits, read_objects};
+use boot_read::BootRow;
 use fs_trait::Fs;
 use ost_types::{Csum, Limits, ObjName};
 use repo_layout::{Folder, RefName, folder_path};
@@ -35,6 +38,8 @@ pub struct Contents {
     pub refs: Vec<(RefName, Csum)>,
     /// The names of all objects, ascending.
     pub objects: Vec<ObjName>,
+    /// The list that boots, the one that boots first coming first.
+    pub rows: Vec<BootRow>,
 }
 
 // Looks at each place of the layout. The least one is told at which something stands that it doesn't allow.
@@ -94,6 +99,7 @@ pub fn check<R: Threads + Sync, F: Fs>(
     ensures told { (v : View) → F.view fs.old ≡ Some v → Answers limits.now v.now result }
     ensures refs { (v : View) → F.view fs.old ≡ Some v → IfOk result (λ c. Logical v.now (first c.refs.items)) }
     ensures objects { (v : View) → F.view fs.old ≡ Some v → IfOk result (λ c. AreAll v.now c.objects.items) }
+    ensures rows { (v : View) → F.view fs.old ≡ Some v → IfOk result (λ c. AreRowsOf v.now c.rows.items) }
     ensures ascending { IfOk result (λ c. AreAscending c.refs.items) }
     ensures quiet { IsQuiet (F.clock fs.old) (F.clock fs.new) (F.was fs.old) (F.was fs.new) (F.view fs.old) (F.view fs.new) }
     ensures reason { HasReason (F.faults fs.old) (F.faults fs.new) result }
@@ -102,6 +108,11 @@ pub fn check<R: Threads + Sync, F: Fs>(
     check_config(alloc, fs)?;
     let refs = refs_of(alloc, fs)?;
     let objects = objects_of(rt, alloc, fs, refs.as_slice(), limits)?;
+    let rows = read_boot_list(alloc, fs)?;
     check_stages(alloc, fs)?;
-    Ok(Contents { refs, objects })
+    Ok(Contents {
+        refs,
+        objects,
+        rows,
+    })
 }

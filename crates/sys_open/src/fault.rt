@@ -2,6 +2,7 @@ ghost use Rattle.std.specs.Prelude.{◌≡◌, ◌⊎◌};
 ghost use Rattle.sys_open.specs.declared.fault.OpenFault.TheVariants as fault;
 ghost use Rattle.sys_open.specs.Faults.{IsRefusal};
 
+use boot_read::EntryFault;
 use fs_trait::FsErr;
 use ost_objects::CheckFault;
 use ost_types::{FsPath, NoMemory, ObjName, TryCopy};
@@ -20,11 +21,18 @@ pub enum Why {
     /// This object is missing, or names a path that is past a limit: of the commit without a mark whose object has this path. Of
     /// the ref whose file has it, it is the commit that the ref names, which is missing or has a mark.
     Incomplete(ObjName),
-    /// There are more objects than the limit, which is one less than this.
+    /// There are more objects than the limit, which is one less than this; or, at the folder of boot entries, more of them than the
+    /// eight that there may be.
     TooMany(u64),
     /// Something else than a folder stands in a folder's place, a folder where a leaf belongs, or something else than a
     /// regular file at the path of a mark; or a folder at a staging path has a name that is too long for a path.
     WrongKind,
+    /// What stands there isn't the link by which a list of deployments boots.
+    BadLink,
+    /// The file is no boot entry.
+    BadEntry(EntryFault),
+    /// The boot entry leads to no deployment of its own.
+    NoDeployment,
 }
 
 /// Why a repository isn't opened.

@@ -5,6 +5,7 @@
 mod adopting;
 mod arrange;
 mod barrier;
+mod boot_list;
 mod check;
 mod checkouts;
 mod children;

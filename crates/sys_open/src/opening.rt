@@ -7,6 +7,7 @@ ghost use Rattle.fs_trait.specs.Effect.{Next};
 ghost use Rattle.fs_trait.specs.Change.{Left};
 ghost use Rattle.sys_open.specs.Faults.{HasReason, IsInterruption};
 ghost use Rattle.layout_rules.specs.Checks.{IsSane};
+ghost use Rattle.boot_read.specs.Rows.{AreRowsOf};
 ghost use Rattle.store_check.specs.Listing.{AreAll};
 ghost use Rattle.sys_open.specs.Changes.{Changes, IsArranged, Works};
 ghost use Rattle.sys_open.specs.Damages.{HasConfig};
@@ -16,6 +17,7 @@ use crate::arrange::arrange;
 use crate::barrier::barrier;
 use crate::check::check;
 use crate::fault::OpenFault;
+use boot_read::BootRow;
 use fs_trait::Fs;
 use ost_types::{Csum, Limits, ObjName};
 use repo_layout::RefName;
@@ -50,6 +52,8 @@ pub struct Findings {
     pub refs: Vec<(RefName, Csum)>,
     /// The names of all objects, ascending.
     pub objects: Vec<ObjName>,
+    /// The list that boots, the one that boots first coming first.
+    pub rows: Vec<BootRow>,
     /// The clock after the first barrier.
     pub clock: u64,
 }
@@ -64,7 +68,7 @@ pub fn open<R: Threads + Sync, F: Fs>(
 ) -> Result<Findings, OpenFault>
     ensures told { (v : View) → F.view fs.old ≡ Some v → Answers limits.now v.now result }
     ensures begins { (v : View) → F.view fs.old ≡ Some v → IfOk result (λ o. Told (F.view fs.new) (λ w. Begins o.refs.items v w)) }
-    ensures objects { (v : View) → F.view fs.old ≡ Some v → IfOk result (λ o. AreAll v.now o.objects.items) }
+    ensures found { (v : View) → F.view fs.old ≡ Some v → IfOk result (λ o. AreAll v.now o.objects.items × AreRowsOf v.now o.rows.items) }
     ensures still { (v : View) → F.view fs.old ≡ Some v → OnDamage result (F.view fs.new ≡ Some (all_synced v)) }
     ensures works { (v : View) → F.view fs.old ≡ Some v → Works (Changes v.now) v (F.clock fs.old) (F.clock fs.new) (F.was fs.old) (F.was fs.new) (F.view fs.new) }
     ensures keeps { (v : View) → F.view fs.old ≡ Some v → IfOk result (λ o. KeepsSince (Left (F.was fs.new)) o.clock v.now) }
@@ -81,6 +85,7 @@ pub fn open<R: Threads + Sync, F: Fs>(
     Ok(Findings {
         refs: contents.refs,
         objects: contents.objects,
+        rows: contents.rows,
         clock,
     })
 }

@@ -18,6 +18,10 @@ use Rattle.script.specs.declared.command.Lane as script
 use Rattle.lane_system.specs.Family.{FsSpec}
 use Rattle.repo_model.specs.Objects.{Stores}
 use Rattle.durable_store.specs.Known.{KeepsKnown, KnownBytes}
+use Rattle.boot_read.specs.declared.row.BootRow.{BootRow}
+use Rattle.boot_read.specs.Rows.{AreRowsOf}
+use Rattle.durable_list.specs.Standing.{KeepsList}
+use Rattle.lane_system.specs.Booting.{BootsStill}
 use Rattle.lane_system.specs.Known.{AreKnown}
 use Rattle.lane_system.specs.Lanes.{IsAt}
 use Rattle.lane_system.specs.Preserves.{Stands}
@@ -91,7 +95,7 @@ named_of lanes d name (inl there) = inl there
 named_of lanes d name (inr (lane, number, by)) = inr (lane, number, by.0)
 
 module _ {F : Type 0} (f : FsSpec F) (opened : Opened F) (limits : Limits) (v : View) (before : ℕ) (commands : List (List Command)) (good : IsGood limits v.now) (within : opened.limits ≡ limits) (barrier : opened.clock ≡ before + 1) (begins : Told (f.view opened.fs) (Begins opened.refs v)) (tree : IsTree begins.0.now)
-    (holds : KeepsKnown (f.was opened.fs) (Stores v.now) opened.clock begins.0) where
+    (holds : KeepsKnown (f.was opened.fs) (Stores v.now) opened.clock begins.0) (rows : List BootRow) (listed : AreRowsOf v.now rows) (lists : KeepsList (f.was opened.fs) rows opened.clock begins.0) where
   module _ (own : List (List Words)) (scripted_as : own ≡ map (λ row. map words_of row) commands) (fs : F) (history : List Entry) (pending : Option Pending) (replies : List (List Reply)) (is : RanOn f opened own fs history pending replies) where
     abbrev s : System F Task Words Answer
     s = is.system
@@ -108,8 +112,11 @@ module _ {F : Type 0} (f : FsSpec F) (opened : Opened F) (limits : Limits) (v : 
     holds_since : Told (f.view s.base.fs) (λ w. AreKnown f means v.now s w)
     holds_since = is.known v.now begins.0 begins.1 holds
 
-    ran_there : (w : View) → f.view s.base.fs ≡ Some w → Stands f program (f.faults opened.fs) begins.0 s w → AreKnown f means v.now s w → Ran s.limits f.view f.clock f.was v before commands s.base.fs s.base.books.history.items (event_of s.base.books.pending) (replies_of s.lanes) w
-    ran_there w told stands knows = record {
+    boots_since : Told (f.view s.base.fs) (λ w. BootsStill f rows s w)
+    boots_since = is.boots rows begins.0 begins.1 lists
+
+    ran_there : (w : View) → f.view s.base.fs ≡ Some w → Stands f program (f.faults opened.fs) begins.0 s w → AreKnown f means v.now s w → BootsStill f rows s w → Ran s.limits f.view f.clock f.was v before commands s.base.fs s.base.books.history.items (event_of s.base.books.pending) (replies_of s.lanes) w
+    ran_there w told stands knows boots = record {
       good = subst (λ l. IsGood l v.now) (sym same) good;
       start = first s.base.books.start.items;
       state = subst (λ refs. Logical v.now (first refs)) (sym is.start) begins.2.same;
@@ -127,7 +134,7 @@ module _ {F : Type 0} (f : FsSpec F) (opened : Opened F) (limits : Limits) (v : 
       swept = swept_in s.base.books;
       whole = is.swept is.ended;
       kept = stands.lasts;
-      stored = λ t d from left. left_good f s w stands.good t d (subst (λ n. n ≤ t) (sym moment) from) left;
+      stored = λ t d from left. left_good f s w stands.good (λ u e late was. (rows, boots.since u e late was)) t d (subst (λ n. n ≤ t) (sym moment) from) left;
       inside = subst (λ n. NoExternalChangeIn means (f.was s.base.fs) n (WasBrought means s) s.lanes) moment stands.inside;
       said = subst (λ n. RepliesHeldAtAPointIn means (f.was s.base.fs) n s.limits (first s.base.books.start.items) s.base.books.history.items s.base.books.pending s.lanes) moment stands.said;
       known = subst (λ n. KeepsKnown (f.was s.base.fs) (KnownBytes v.now (WasBrought means s)) n w) moment knows;
@@ -139,6 +146,9 @@ module _ {F : Type 0} (f : FsSpec F) (opened : Opened F) (limits : Limits) (v : 
       stays = stands.stays;
       remains = stands.remains (λ lane has. omega (arith, has.2, is.ended lane has.0 has.1));
       folders = folders_before s.lanes v.now begins.0.now w.now begins.2.keeps (record { made = λ name there. named_of s.lanes begins.0.now name (stands.folders.made name there); taken = stands.folders.taken; clear = clear_in s.lanes begins.0.now w.now stands.folders.clear });
+      rows = rows;
+      listed = listed;
+      boots = subst (λ n. KeepsList (f.was s.base.fs) rows n w) moment boots;
     }
 
     pub ran_on : Told (f.view fs) (Ran limits f.view f.clock f.was v before commands fs history (event_of pending) replies)
@@ -148,7 +158,7 @@ module _ {F : Type 0} (f : FsSpec F) (opened : Opened F) (limits : Limits) (v : 
         (subst (λ h. Told (f.view s.base.fs) (Ran s.limits f.view f.clock f.was v before commands s.base.fs h (event_of pending) replies)) (sym is.changes)
         (subst (λ p. Told (f.view s.base.fs) (Ran s.limits f.view f.clock f.was v before commands s.base.fs s.base.books.history.items (event_of p) replies)) (sym is.change)
         (subst (λ r. Told (f.view s.base.fs) (Ran s.limits f.view f.clock f.was v before commands s.base.fs s.base.books.history.items (event_of s.base.books.pending) r)) (sym is.given)
-        (stood.0, stood.1, ran_there stood.0 stood.1 stood.2 (told_as (f.view s.base.fs) _ stood.0 stood.1 holds_since))))))
+        (stood.0, stood.1, ran_there stood.0 stood.1 stood.2 (told_as (f.view s.base.fs) _ stood.0 stood.1 holds_since) (told_as (f.view s.base.fs) _ stood.0 stood.1 boots_since))))))
 
 -- so it is of any file system what was answered, and what calls that failed are told of
 module _ {F : Type 0} (f : FsSpec F) (opened : Opened F) (own : List (List Words)) (fs : F) (history : List Entry) (pending : Option Pending) (replies : List (List Reply)) (is : RanOn f opened own fs history pending replies) where
@@ -189,12 +199,12 @@ answered f opened limits scripts (Ok p) within is =
     answered_on f opened (map (λ lane. map words_of lane.commands.items) scripts) p.fs p.history.items p.pending (map (λ replies. replies.items) p.replies.items) is limits (commands_of scripts) (scripted scripts) within
 
 pub ran : {F : Type 0} (f : FsSpec F) (opened : Opened F) (limits : Limits) (v : View) (before : ℕ) (scripts : List script.Lane) (r : Result (LanesEnd F) (F × TopFault)) → IsGood limits v.now → opened.limits ≡ limits → opened.clock ≡ before + 1
-    → (begins : Told (f.view opened.fs) (Begins opened.refs v)) → IsTree begins.0.now → KeepsKnown (f.was opened.fs) (Stores v.now) opened.clock begins.0
+    → (begins : Told (f.view opened.fs) (Begins opened.refs v)) → IsTree begins.0.now → KeepsKnown (f.was opened.fs) (Stores v.now) opened.clock begins.0 → (rows : List BootRow) → AreRowsOf v.now rows → KeepsList (f.was opened.fs) rows opened.clock begins.0
     → IfOk r (λ p. RanOn f opened (map (λ lane. map words_of lane.commands.items) scripts) p.fs p.history.items p.pending (map (λ replies. replies.items) p.replies.items))
     → IfOk r (λ p. Told (f.view p.fs) (Ran limits f.view f.clock f.was v before (commands_of scripts) p.fs p.history.items (event_of p.pending) (map (λ replies. replies.items) p.replies.items)))
-ran f opened limits v before scripts (Err e) good within barrier begins tree holds is = tt
-ran f opened limits v before scripts (Ok p) good within barrier begins tree holds is =
-    ran_on f opened limits v before (commands_of scripts) good within barrier begins tree holds (map (λ lane. map words_of lane.commands.items) scripts) (scripted scripts) p.fs p.history.items p.pending (map (λ replies. replies.items) p.replies.items) is
+ran f opened limits v before scripts (Err e) good within barrier begins tree holds rows listed lists is = tt
+ran f opened limits v before scripts (Ok p) good within barrier begins tree holds rows listed lists is =
+    ran_on f opened limits v before (commands_of scripts) good within barrier begins tree holds rows listed lists (map (λ lane. map words_of lane.commands.items) scripts) (scripted scripts) p.fs p.history.items p.pending (map (λ replies. replies.items) p.replies.items) is
 
 pub caused : {F : Type 0} (f : FsSpec F) (opened : Opened F) (scripts : List script.Lane) (r : Result (LanesEnd F) (F × TopFault))
     → IfOk r (λ p. RanOn f opened (map (λ lane. map words_of lane.commands.items) scripts) p.fs p.history.items p.pending (map (λ replies. replies.items) p.replies.items))

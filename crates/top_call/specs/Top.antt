@@ -34,6 +34,9 @@ use Rattle.sys_open.specs.declared.fault.OpenFault.TheVariants as opening
 use Rattle.layout_rules.specs.Checks.{IsSane}
 use Rattle.repo_layout.specs.RefFile.{IsSum}
 use Rattle.store_check.specs.Commits.{IsFinished}
+use Rattle.boot_read.specs.declared.row.BootRow.{BootRow}
+use Rattle.boot_read.specs.Rows.{AreRowsOf}
+use Rattle.durable_list.specs.Standing.{KeepsList}
 use Rattle.durable_store.specs.Keeping.{IsGoodDisk}
 use Rattle.durable_store.specs.Brought.{NoHashCollisionOn}
 use Rattle.durable_store.specs.Known.{KeepsKnown, KnownBytes}
@@ -126,6 +129,7 @@ pub record LeftGood (limits : Limits) (brings : Store) (d : Disk) : Type 0 where
 -- folder of a checkout that was done, which is its commit's tree; each such folder that stands then stood at the beginning, or a command
 -- checks out to its name; and none is told to stand in the way but one that stood at the beginning, or that another command checks out to.
 -- What the reply that came last shows behind its command is so at the end, as that of a prune, that what is reachable is all that there is.
+-- And the disk boots the list of deployments that it booted at the beginning, at the end and after each crash since the first barrier.
 pub record Ran {F : Type 0} (limits : Limits) (view : F → Option View) (clock : F → ℕ) (was : F → ℕ → View → Type 0) (v : View) (before : ℕ) (commands : List (List Command)) (fs : F) (history : List Entry) (pending : Option Event) (replies : List (List Reply)) (w : View) : Type 0 where
   pub good : IsGood limits v.now
   pub start : State
@@ -153,6 +157,9 @@ pub record Ran {F : Type 0} (limits : Limits) (view : F → Option View) (clock 
   pub stays : AreStayingIn means limits start history swept lanes w books
   pub remains : LastRemainsIn means limits start history lanes w
   pub folders : AreFoldersIn means lanes v.now w.now
+  pub rows : List BootRow
+  pub listed : AreRowsOf v.now rows
+  pub boots : KeepsList (was fs) rows (before + 1) w
 
 -- so, of lanes that these words ask for, where an input has this left
 abbrev pub RanBy : {F : Type 0} → Option (List ℕ) → List (List ℕ) → (F → Option View) → (F → ℕ) → (F → ℕ → View → Type 0) → View → ℕ → F → List Entry → Option Event → List (List Reply) → View → Type 0

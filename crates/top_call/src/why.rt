@@ -2,8 +2,10 @@
 ghost use Rattle.std.specs.Prelude.{◌≡◌, ◌++◌, ◌∷◌, [], IfOk};
 ghost use Rattle.std.specs.Fmt.{decimal};
 ghost use Rattle.ost_types.specs.Csum.{hex_of};
-ghost use Rattle.top_call.specs.Whys.{incomplete_of, object_end, unreadable_end, why_end};
+ghost use Rattle.top_call.specs.Whys.{entry_end, incomplete_of, text_end, object_end, unreadable_end, why_end};
 
+use bls_entry::BlsFault;
+use boot_read::EntryFault;
 use ost_forms::ObjFault;
 use ost_objects::CheckFault;
 use ost_types::{Bytes, Csum, Kind, NoMemory};
@@ -21,6 +23,29 @@ pub fn why_end(alloc: Global, why: Why) -> Result<Bytes, NoMemory>
         Why::Incomplete(object) => sum_line(alloc, incomplete_of(object.kind), &object.csum),
         Why::TooMany(number) => number_line(alloc, b" TooMany ", number),
         Why::WrongKind => Bytes::from_slice(alloc, b" WrongKind\n"),
+        Why::BadLink => Bytes::from_slice(alloc, b" BadLink\n"),
+        Why::BadEntry(fault) => entry_end(alloc, fault),
+        Why::NoDeployment => Bytes::from_slice(alloc, b" NoDeployment\n"),
+    }
+}
+
+fn entry_end(alloc: Global, fault: EntryFault) -> Result<Bytes, NoMemory>
+    ensures { IfOk result (λ t. t ≡ entry_end fault) }
+{
+    match fault {
+        EntryFault::TooLong => Bytes::from_slice(alloc, b" BadEntry TooLong\n"),
+        EntryFault::Unread(fault) => text_end(alloc, fault),
+    }
+}
+
+fn text_end(alloc: Global, fault: BlsFault) -> Result<Bytes, NoMemory>
+    ensures { IfOk result (λ t. t ≡ text_end fault) }
+{
+    match fault {
+        BlsFault::BadLine(line) => number_line(alloc, b" BadEntry BadLine ", line),
+        BlsFault::NoOptions => Bytes::from_slice(alloc, b" BadEntry NoOptions\n"),
+        BlsFault::NoOstree => Bytes::from_slice(alloc, b" BadEntry NoOstree\n"),
+        BlsFault::NoMemory => Bytes::from_slice(alloc, b" BadEntry\n"),
     }
 }
 

@@ -6,6 +6,7 @@ use Rattle.fs_trait.specs.Seen.{Always, shows}
 use Rattle.fs_trait.specs.Change.{Left, Nothing, Writes}
 use Rattle.rely_guarantee.specs.State.{first}
 use Rattle.rely_guarantee.specs.Disks.{Logical}
+use Rattle.boot_read.specs.Rows.{AreRowsOf}
 use Rattle.store_check.specs.Listing.{AreAll}
 use Rattle.layout_rules.specs.Checks.{IsSane}
 use Rattle.sys_open.specs.declared.check.Contents.{Contents}
@@ -107,6 +108,8 @@ returns-clause-keeps g c = λ v told.
     (subst (λ t. KeepsSince (Left (g.F.Fs.was c.settle.new.fs)) t (all_synced v).now) (c.check.ensures.quiet.clock ∙ sym c.clock-clock.ensures)
     (since_keeps (all_synced v) (g.met.F.Fs.tree c.check.new.fs (all_synced v) now) (synced_always v) _ _ _ _ _ _ (g.met.F.Fs.only_now c.check.new.fs) now (c.settle.ensures.works (all_synced v) now)))
 
-pub returns-clause-objects : goal.returns-clause-objects
-returns-clause-objects g c = λ v told.
-    subst (λ d. AreAll d c.in_ok-contents.contents.objects.items) (synced_now v) (c.in_ok-contents.ensures.objects (all_synced v) (c.in_ok-barrier.ensures.synced v told))
+pub returns-clause-found : goal.returns-clause-found
+returns-clause-found g c = λ v told.
+    let synced = c.in_ok-barrier.ensures.synced v told in
+    subst (λ d. AreAll d c.in_ok-contents.contents.objects.items × AreRowsOf d c.in_ok-contents.contents.rows.items) (synced_now v)
+    (c.in_ok-contents.ensures.objects (all_synced v) synced, c.in_ok-contents.ensures.rows (all_synced v) synced)
