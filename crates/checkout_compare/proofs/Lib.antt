@@ -1,0 +1,7 @@
+mod Orders
+mod Lists
+mod Values
+mod Listings
+mod Walking
+mod Ends
+pub mod Checkouts

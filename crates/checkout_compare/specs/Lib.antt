@@ -1,0 +1,4 @@
+pub mod Compare
+pub mod Order
+pub mod Looking
+pub mod SoFar

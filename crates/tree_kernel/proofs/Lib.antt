@@ -1,0 +1,6 @@
+mod PathLemmas
+pub mod FindLemmas
+mod OnceLemmas
+mod StepLemmas
+mod SumLemmas
+pub mod Kept

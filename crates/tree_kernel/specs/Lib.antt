@@ -1,0 +1,5 @@
+pub mod Boots
+pub mod Sizes
+pub mod Sum
+pub mod Summing
+pub mod Telling
