@@ -1,0 +1,4 @@
+pub mod Copies
+pub mod Compared
+pub mod Work
+pub mod Steps
