@@ -3,7 +3,7 @@
 
     tools/native_checks.py [WORD]...
 
-The words choose from: reads, writes, odd, rounds, prunes, killed, system, lock. Without words all are done. It needs root, `ostree`, and the
+The words choose from: reads, writes, odd, rounds, prunes, killed, deployments, lists, system, lock. Without words all are done. It needs root, `ostree`, and the
 program at build/ostree_native (tools/build.py ostree_native), or at the path that OSTREE_NATIVE names. All is done in a fresh folder below
 TMPDIR, where /usr/share has to have room. `system` takes a tree of Debian's packages where `debootstrap` is there and its packages are
 within reach, and else one of this machine's own programs. Status: 0 where all comparisons hold, else 1.
@@ -381,6 +381,123 @@ def check_killed(room, count=1000, every=100):
     print(f"killed: of {count:,} commands {killed} were killed and {refused} refused; each {every} fsck found nothing, and both list the same refs")
 
 
+def admin(folder, *words):
+    return ran(["ostree", "admin", words[0], "--sysroot=.", *words[1:]], folder).decode()
+
+
+def write(path, text):
+    os.makedirs(os.path.dirname(path), exist_ok=True)
+    with open(path, "w", encoding="utf-8") as it:
+        it.write(text)
+
+
+def bootable(top, count, kernel):
+    """Makes a folder a tree that ostree deploys: a system's name, a kernel, and what that mounts first."""
+    for path in ("usr/etc/os-release", "usr/lib/os-release"):
+        write(f"{top}/{path}", f'ID=test\nVERSION_ID={count}\nPRETTY_NAME="Test {count}"\n')
+    write(f"{top}/usr/lib/modules/6.1.0/vmlinuz", f"kernel {kernel}")
+    write(f"{top}/usr/lib/modules/6.1.0/initramfs.img", f"initramfs {kernel}")
+
+
+def new_sysroot(room, name):
+    """A sysroot with two stateroots, and a tree of its own beside what ostree makes."""
+    folder = new_folder(room, name)
+    admin(folder, "init-fs", ".")
+    for stateroot in ("one", "two"):
+        admin(folder, "os-init", stateroot)
+    os.mkdir(f"{folder}/source")
+    return folder
+
+
+def deploy(folder, count, kernel):
+    """Commits a tree and deploys it in one of the two stateroots, in turn."""
+    bootable(f"{folder}/source", count, kernel)
+    theirs(folder, *COMMIT, "-b", "main", "source")
+    admin(folder, "deploy", f"--os={('one', 'two')[count % 2]}", "--retain", f"--karg=count={count}", "main")
+
+
+def take(folder):
+    """Removes a folder with deployments in it, which ostree keeps from changes."""
+    subprocess.run(["chattr", "-R", "-f", "-i", folder], capture_output=True, check=False)
+    shutil.rmtree(folder)
+
+
+def booted(folder):
+    """All that stands where a boot loader and a deployment's start look."""
+    told = {"status": admin(folder, "status")}
+    for place in ("boot", "ostree/deploy", *sorted(it for it in os.listdir(f"{folder}/ostree") if it.startswith("boot."))):
+        path = f"{folder}/{place}" if place == "boot" else f"{folder}/ostree/{place.removeprefix('ostree/')}"
+        told[place] = os.readlink(path) if os.path.islink(path) else nodes_in(path)
+    return told
+
+
+def check_deployments(room):
+    """Ours opens what ostree deploys, and leaves all of it as it is."""
+    folder = new_sysroot(room, "deployments")
+    holds(ours(folder, "init") == "", "a sysroot without deployments")
+    for count in range(8):
+        deploy(folder, count, count // 3)
+        before = booted(folder)
+        holds(ours(folder, "init") == "", f"{count + 1} deployments")
+        ours(folder, "run", text=script_of({"file": f"{count}"}, f"commit own 0 c{count} ~ {1700000000 + count}"))
+        ours(folder, "checkout", "own", f"c{count}")
+        ours(folder, "prune", "0")
+        holds(booted(folder) == before, f"{count + 1} deployments: something of them was changed")
+        theirs(folder, "fsck")
+    deploy(folder, 8, 3)
+    holds(ours(folder, "refs", status=8).startswith("fault open Damaged /boot/loader.") and admin(folder, "status"), "nine deployments")
+    for count in range(9, 1, -1):
+        admin(folder, "undeploy", str((count * 5) % count))
+        holds(ours(folder, "init") == "", f"{count - 1} deployments after an undeploy")
+    admin(folder, "cleanup")
+    theirs(folder, "refs", "--delete", "main")
+    ours(folder, "prune", "0")
+    theirs(folder, "fsck")
+    left = re.search("[0-9a-f]{64}", admin(folder, "status"))[0]
+    theirs(folder, "checkout", "-U", left, "checked")
+    take(folder)
+    print("deployments: of lists of none to eight deployments ours opens each and changes nothing, and a ninth is told; after a prune the last is whole")
+
+
+def check_lists(room):
+    """What is wrong in a list of deployments that ostree made is told at its path."""
+    folder = new_sysroot(room, "lists")
+    for count in range(2):
+        deploy(folder, count, 0)
+    version = os.readlink(f"{folder}/boot/loader").removeprefix("loader.")
+    entries = f"boot/loader.{version}/entries"
+    first, second = sorted(os.listdir(f"{folder}/{entries}"))
+    with open(f"{folder}/{entries}/{first}", encoding="utf-8") as it:
+        link = re.search("ostree=/(.*)", it.read())[1]
+    link = link.replace(f"boot.{version}", os.readlink(f"{folder}/ostree/boot.{version}"))
+    deployment = os.path.normpath(os.path.join(os.path.dirname(link), os.readlink(f"{folder}/{link}")))
+    rows = [
+        ("ln -sfn loader.7 boot/loader", "/boot/loader BadLink"),
+        ("rm boot/loader && touch boot/loader", "/boot/loader BadLink"),
+        (f"rm ostree/boot.{version}", f"/ostree/boot.{version} BadLink"),
+        (f"ln -sfn boot.{version}.7 ostree/boot.{version}", f"/ostree/boot.{version} BadLink"),
+        (f"for n in 1 2 3 4 5 6 7; do cp {entries}/{first} {entries}/$n.conf; done", f"/{entries} TooMany 9"),
+        (f"echo version 2 >>{entries}/{second}", f"/{entries}/{second} BadEntry BadLine 6"),
+        (f"echo version 2 >>{entries}/{second} && echo title >{entries}/{first}", f"/{entries}/{first} BadEntry BadLine 1"),
+        (f"echo title none >{entries}/{first}", f"/{entries}/{first} BadEntry NoOptions"),
+        (f"echo options quiet >{entries}/{first}", f"/{entries}/{first} BadEntry NoOstree"),
+        (f"ln -sfn elsewhere {link}", f"/{link} BadLink"),
+        (f"rm {link}", f"/{entries}/{first} NoDeployment"),
+        (f"chattr -f -i {deployment}; mv {deployment} gone", f"/{entries}/{first} NoDeployment"),
+        (f"cp {entries}/{first} {entries}/z.conf", f"/{entries}/{first} NoDeployment"),
+    ]
+    for change, fault in rows:
+        place = f"{folder}/changed"
+        os.mkdir(place)
+        ran(["cp", "-a", f"{folder}/boot", f"{folder}/ostree", place], folder)
+        ran(["sh", "-c", change], place)
+        said = ours(place, "refs", status=8)
+        holds(said == f"fault open Damaged {fault}\n", f"{change}: {said}")
+        take(place)
+    take(folder)
+    print(f"lists: each of {len(rows)} faults in a list that ostree made is told at its path")
+
+
 def this_machine(top):
     """A tree of this machine's programs and libraries."""
     for name in ("bin", "sbin", "lib", "lib32", "lib64", "libx32"):
@@ -450,6 +567,8 @@ CHECKS = {
     "rounds": check_rounds,
     "prunes": check_prunes,
     "killed": check_killed,
+    "deployments": check_deployments,
+    "lists": check_lists,
     "system": check_system,
     "lock": check_lock,
 }
