@@ -17,7 +17,7 @@ use Rattle.store_check.specs.Good.{IsGoodStore}
 use Rattle.store_check.specs.Listing.{IsThere}
 use Rattle.rely_guarantee.specs.Books.{Books}
 use Rattle.rely_guarantee.specs.Lasting.{StaysFinished}
-use Rattle.rely_guarantee.specs.State.{State}
+use Rattle.rely_guarantee.specs.State.{SystemState}
 use Rattle.ref_command.specs.declared.look_up.Found.TheVariants.{Missing, Partial}
 use Rattle.ref_command.specs.Found.{IsFound}
 use Rattle.read_command.specs.declared.look.Ask.TheVariants as ask
@@ -55,7 +55,7 @@ fitting t new q a is step given =
     let same : step.0 ≡ a = (let e : Some step.0 ≡ Some a = sym (ap answer_of step.1) ∙ given in cc) in
     subst (Fits q.commit q.name) same (subst (λ o. IsFitting o step.0) is step.2)
 
-pub ends_say : (since : Since) (p : State) (c : CheckoutWords) (t new : CheckoutCommand) (a : CheckoutReply) → checkout_pursues since c t → checkout_stepped t (turn.Done tt) new → checkout_reply (answer_of new) ≡ Some a → checkout_says (placed since p) a c
+pub ends_say : (since : Since) (p : SystemState) (c : CheckoutWords) (t new : CheckoutCommand) (a : CheckoutReply) → checkout_pursues since c t → checkout_stepped t (turn.Done tt) new → checkout_reply (answer_of new) ≡ Some a → checkout_says (placed since p) a c
 ends_say since p c t new NoRef is step given = absurd (outer (answer_of new) given)
 ends_say since p c t new (Tried a) is step given =
     (is.0, is.1, fitting t new (record { limits = since.limits; commit = is.0; name = c.name }) a is.2 step (inner (answer_of new) a given))

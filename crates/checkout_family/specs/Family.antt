@@ -27,23 +27,23 @@ use Rattle.checkout_family.specs.Folder.{StaysTree}
 
 -- the answer is one to a checkout of this name, of the commit that was named at the beginning
 abbrev pub checkout_says : Since → CheckoutReply → CheckoutWords → Type 0
-checkout_says since NoRef c = IsNoRev c.rev since.start
-checkout_says since (Tried a) c = (commit : List ℕ) × IsRev c.rev since.start commit × Fits commit c.name a
+checkout_says since NoRef c = IsNoRev c.rev since.start.refs
+checkout_says since (Tried a) c = (commit : List ℕ) × IsRev c.rev since.start.refs commit × Fits commit c.name a
 
 -- and what it says of that commit and of the folder is so; unless it says that the commit isn't there, or has a mark, it is there without
 -- one
 abbrev pub checkout_shows : Since → View → CheckoutReply → CheckoutWords → Type 0
 checkout_shows since v NoRef c = Unit {0}
-checkout_shows since v (Tried a) c = (commit : List ℕ) × IsRev c.rev since.start commit × Says v.now since.limits commit c.name a × (IsOfFinished a → IsFinishedNow v commit)
+checkout_shows since v (Tried a) c = (commit : List ℕ) × IsRev c.rev since.start.refs commit × Says v.now since.limits commit c.name a × (IsOfFinished a → IsFinishedNow v commit)
 
 -- once it is done, the folder stays the tree of that commit
 abbrev pub checkout_stays : Since → List ObjName → CheckoutReply → CheckoutWords → View → Books → Type 0
-checkout_stays since out (Tried answer.Done) c v b = (commit : List ℕ) × IsRev c.rev since.start commit × StaysTree since.limits out commit c.name v b
+checkout_stays since out (Tried answer.Done) c v b = (commit : List ℕ) × IsRev c.rev since.start.refs commit × StaysTree since.limits out commit c.name v b
 checkout_stays since out a c v b = Unit {0}
 
 -- what is pinned: the commit that is named
 abbrev pub checkout_works : Since → CheckoutWords → ObjName → Type 0
-checkout_works since c name = (commit : List ℕ) × IsRev c.rev since.start commit × (name ≡ commit_name commit)
+checkout_works since c name = (commit : List ℕ) × IsRev c.rev since.start.refs commit × (name ≡ commit_name commit)
 
 -- something stands at the folder's path
 abbrev pub checkout_finds : CheckoutReply → CheckoutWords → Name → Type 0
@@ -91,7 +91,7 @@ checkout_means = record {
 
 -- it checks out the commit that was named at the beginning, to this name
 abbrev pub checkout_pursues : Since → CheckoutWords → CheckoutCommand → Type 0
-checkout_pursues since c t = (commit : List ℕ) × IsRev c.rev since.start commit × (asked t ≡ Some (record { limits = since.limits; commit = commit; name = c.name }))
+checkout_pursues since c t = (commit : List ℕ) × IsRev c.rev since.start.refs commit × (asked t ≡ Some (record { limits = since.limits; commit = commit; name = c.name }))
 
 abbrev pub checkout_reply : Option CheckoutAnswer → Option CheckoutReply
 checkout_reply None = None

@@ -6,6 +6,7 @@ ghost use Rattle.checkout_family.specs.Family.{checkout_means, checkout_doing, c
 ghost use Rattle.checkout_family.specs.Laws.{checkout_command_laws};
 
 use crate::{CheckoutReply, CheckoutWords, CheckoutsTask};
+use boot_model::DepId;
 use checkout_command::{CheckoutAnswer, CheckoutCommand};
 use command::{Begun, Command, Query, Told, commit_of};
 use obj_store::Put;
@@ -50,6 +51,7 @@ impl Command for CheckoutsTask {
         refs: &mut RefBook,
         limits: Limits,
         _lane: u8,
+        _deployments: &[DepId],
         words: &CheckoutWords,
     ) -> Result<Begun<CheckoutsTask, CheckoutReply>, NoMemory> {
         match commit_of(refs, &words.rev) {

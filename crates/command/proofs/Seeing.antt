@@ -19,7 +19,7 @@ use Rattle.command.specs.Sees.{HoldsOff, IsState, Sees}
 
 -- the state that the changes so far make
 abbrev pub now_of : rust.Books → State
-now_of b = after (events_of b.history.items) (first b.start.items)
+now_of b = after (events_of b.history.items) (first b.start.refs.items)
 
 -- who holds others off has the ref lock free for itself
 free_of : (lane : ℕ) (b : Books) → Agrees b → HoldsOff lane b → Free b.turn lane
@@ -36,16 +36,16 @@ state_of start entries pending v stands none tree =
     let f = fits_all start entries v (subst (λ o. Stands start entries o v) none stands) v.now (Image-now v tree) in
     record { tree = tree; sane = f.0; logical = f.1 }
 
-module _ (lane command moment : ℕ) (old new : rust.Books) (start : new.start.items ≡ old.start.items) (agrees : Agrees (books_of old)) (owner : (p : Pending) → old.pending ≡ Some p → old.turn ≡ Some p.lane)
-    (v w : View) (stands : Stands (first old.start.items) old.history.items old.pending v) (then : Stands (first new.start.items) new.history.items new.pending w) (tree : IsTree v.now) (tree' : IsTree w.now) where
+module _ (lane command moment : ℕ) (old new : rust.Books) (start : new.start.refs.items ≡ old.start.refs.items) (agrees : Agrees (books_of old)) (owner : (p : Pending) → old.pending ≡ Some p → old.turn ≡ Some p.lane)
+    (v w : View) (stands : Stands (first old.start.refs.items) old.history.items old.pending v) (then : Stands (first new.start.refs.items) new.history.items new.pending w) (tree : IsTree v.now) (tree' : IsTree w.now) where
   before : NotPending lane (books_of old) → Free old.turn lane → IsUnbooked old new → IsState v.now (now_of new)
   before none free same =
-      let is : now_of new ≡ now_of old = ap (λ (h : List Entry). after (events_of h) (first new.start.items)) same.0 ∙ ap (λ x. after (events_of old.history.items) (first x)) start in
-      subst (IsState v.now) (sym is) (state_of (first old.start.items) old.history.items old.pending v stands (none_pending old.turn old.pending lane owner none free) tree)
+      let is : now_of new ≡ now_of old = ap (λ (h : List Entry). after (events_of h) (first new.start.refs.items)) same.0 ∙ ap (λ x. after (events_of old.history.items) (first x)) start in
+      subst (IsState v.now) (sym is) (state_of (first old.start.refs.items) old.history.items old.pending v stands (none_pending old.turn old.pending lane owner none free) tree)
 
   entered : (x : Entry) → new.history.items ≡ old.history.items ++ x ∷ [] → (t : Topic) → target x.event ≡ Some t → now_of new t ≡ gives x.event
   entered x grows t is =
-      let from : State = first new.start.items in
+      let from : State = first new.start.refs.items in
       let past : State = after (events_of old.history.items) from in
       ap (λ (h : List Entry). after (events_of h) from t) grows
       ∙ ap (λ (l : List Event). after l from t) (events_push old.history.items x)
@@ -61,6 +61,6 @@ module _ (lane command moment : ℕ) (old new : rust.Books) (start : new.start.i
   sees_by (Published e owed) holds opens booked = absurd booked
   sees_by (Remove e owed) holds opens booked = absurd booked
   sees_by (MakeDurable e) holds opens booked = (
-    state_of (first new.start.items) new.history.items new.pending w then booked.0 tree',
+    state_of (first new.start.refs.items) new.history.items new.pending w then booked.0 tree',
     entered (record { lane = lane; command = holds.command; event = e; moment = moment }) (booked.1 _ holds.pending),
   )

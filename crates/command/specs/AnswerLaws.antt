@@ -9,7 +9,7 @@ use Rattle.rely_guarantee.specs.declared.books.Claim.{Claim}
 use Rattle.rely_guarantee.specs.Books.{Books}
 use Rattle.rely_guarantee.specs.Lasting.{StaysFinished}
 use Rattle.rely_guarantee.specs.Rely.{Interference}
-use Rattle.rely_guarantee.specs.State.{State}
+use Rattle.rely_guarantee.specs.State.{SystemState}
 use Rattle.command.specs.declared.told.Told.{Told}
 use Rattle.command.specs.CommitFiles.{CommitsAreFiles}
 use Rattle.command.specs.Doing.{Doing, IsAnswer}
@@ -28,13 +28,13 @@ HasNoClaims lane b = (c : Claim) → Contains b.claims c → c.lane ≢ lane
 pub record AnswerLaws {T W A : Type 0} (k : TaskSpec T) (m : Meaning W A) (d : Doing T W A) : Type 0 where
   -- the last step has an answer, and what it says is so; and what it shows, where the store is sound
   pub answers : (since : Since) (c : W) (t new : T) → d.pursues since c t → k.stepped t (turn.Done tt) new → IsSome (d.answer new)
-  pub says : (since : Since) (p : State) (c : W) (t new : T) (a : A) → d.pursues since c t → k.stepped t (turn.Done tt) new → d.answer new ≡ Some a → m.says (placed since p) a c
+  pub says : (since : Since) (p : SystemState) (c : W) (t new : T) (a : A) → d.pursues since c t → k.stepped t (turn.Done tt) new → d.answer new ≡ Some a → m.says (placed since p) a c
   pub shows : (since : Since) (lane : ℕ) (c : W) (t new : T) (v w : View) (b : Books) (a : A) → d.pursues since c t → k.facts lane t v b → k.leaves t (turn.Done tt) new v w → d.answer new ≡ Some a → IsSoundStore since.limits v.now → m.shows since v a c
   -- so is what it shows behind that step; an answer by the state alone shows nothing there
   pub remains : (since : Since) (lane : ℕ) (c : W) (t new : T) (v w : View) (b : Books) (a : A) → d.pursues since c t → k.facts lane t v b → k.leaves t (turn.Done tt) new v w → d.answer new ≡ Some a → m.remains since w a c
   pub remains_at_once : (since : Since) (c : W) (a : A) (v : View) → IsAnswer m since c a → m.remains since v a c
   -- and so is what it says where the view is told: the last step sees a state
-  pub knows : (since : Since) (p : State) (lane : ℕ) (c : W) (t new : T) (v w : View) (b : Books) (a : A) → d.pursues since c t → k.facts lane t v b → k.leaves t (turn.Done tt) new v w → d.answer new ≡ Some a → Sees (k.kind t) lane b v w p → m.knows (placed since p) a c
+  pub knows : (since : Since) (p : SystemState) (lane : ℕ) (c : W) (t new : T) (v w : View) (b : Books) (a : A) → d.pursues since c t → k.facts lane t v b → k.leaves t (turn.Done tt) new v w → d.answer new ≡ Some a → Sees (k.kind t) lane b v w p.refs → m.knows (placed since p) a c
   -- that a commit isn't there is told by a step that nobody else's removal goes on beside
   pub lacks_alone : (since : Since) (lane : ℕ) (c : W) (t new : T) (v w : View) (b : Books) (a : A) (commit : List ℕ) → d.pursues since c t → k.facts lane t v b → k.leaves t (turn.Done tt) new v w → d.answer new ≡ Some a → m.lacks a commit → IsSum commit → IsAlone (k.kind t)
   -- no answer tells of a commit that lasts that it isn't there, where commits are files; none that an object isn't there as its name says,

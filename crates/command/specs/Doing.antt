@@ -8,7 +8,7 @@ use Rattle.obj_store.specs.declared.phase.Put.{Put}
 use Rattle.rely_guarantee.specs.declared.books.Pin.{Pin}
 use Rattle.rely_guarantee.specs.declared.event.Event.{Event}
 use Rattle.rely_guarantee.specs.Books.{Books}
-use Rattle.rely_guarantee.specs.State.{State}
+use Rattle.rely_guarantee.specs.State.{SystemState}
 use Rattle.ref_book.specs.declared.book.RefBook.{RefBook}
 use Rattle.ref_book.specs.Tracks.{HasEventRoom}
 use Rattle.command.specs.declared.begun.Begun.{Begun}
@@ -58,6 +58,6 @@ abbrev pub IsFirst : {T W A : Type 0} → Meaning W A → Doing T W A → ℕ �
 IsFirst m d lane since c refs t = d.begins lane t × d.pursues since c t × HasRoomFor m refs since c × (d.left t ≤ most)
 
 -- what a command's first act came to by the books alone
-abbrev pub IsBegun : {T W A : Type 0} → Meaning W A → Doing T W A → Limits → ℕ → State → W → RefBook → Begun T A → Type 0
+abbrev pub IsBegun : {T W A : Type 0} → Meaning W A → Doing T W A → Limits → ℕ → SystemState → W → RefBook → Begun T A → Type 0
 IsBegun m d limits lane s c refs (Answered a) = IsAnswer m (begun_in limits s) c a
 IsBegun m d limits lane s c refs (Runs t) = IsFirst m d lane (begun_in limits s) c refs t

@@ -1,6 +1,6 @@
 ghost use Rattle.std.specs.Prelude.{◌≡◌, ◌<◌, ℕ, List, IfOk};
 ghost use Rattle.ost_types.specs.declared.limits.Limits.{Limits};
-ghost use Rattle.rely_guarantee.specs.State.{State};
+ghost use Rattle.rely_guarantee.specs.State.{State, SystemState};
 ghost use Rattle.ref_book.specs.Tracks.{Tracks, HasRoom};
 ghost use Rattle.command.specs.Meaning.{Meaning};
 ghost use Rattle.command.specs.Doing.{Doing, IsBegun};
@@ -8,6 +8,7 @@ ghost use Rattle.command.specs.Tasks.{task_spec};
 ghost use Rattle.command.specs.Laws.{CommandLaws};
 
 use crate::{Begun, Query, Told};
+use boot_model::DepId;
 use obj_store::Put;
 use ost_types::{Limits, NoMemory, ObjName};
 use ref_book::RefBook;
@@ -28,19 +29,20 @@ pub trait Command: CommandTask + Drop {
     /// What a task is to its command.
     ghost doing: { Doing Self Self.Words Self.Answer };
 
-    /// What the command's first act comes to by the books alone.
+    /// What the command's first act comes to by the books alone: the refs, and the deployments that boot.
     fn begin(
         alloc: Global,
         refs: &mut RefBook,
         limits: Limits,
         lane: u8,
+        deployments: &[DepId],
         words: &Self::Words,
     ) -> Result<Begun<Self, Self::Answer>, NoMemory>
         requires few { lane < 8 }
         requires fit { means.fit limits words.now }
         ensures refs { (s : State) → Tracks refs.old s → Tracks refs.new s }
         ensures rooms { (name : List ℕ) → HasRoom refs.old name → HasRoom refs.new name }
-        ensures begun { (s : State) → Tracks refs.old s → IfOk result (IsBegun means doing limits lane s words.now refs.new) };
+        ensures begun { (s : SystemState) → Tracks refs.old s.refs → s.deployments ≡ deployments.now → IfOk result (IsBegun means doing limits lane s words.now refs.new) };
 
     /// Tells the task what it has to know before its next step, and answers what it was told before.
     fn hear(&mut self, told: Told) -> Told

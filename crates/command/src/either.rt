@@ -2,6 +2,7 @@ ghost use Rattle.command.specs.EitherMeaning.{either_means, either_doing};
 ghost use Rattle.command.specs.EitherLaws.{either_command_laws};
 
 use crate::{Begun, Command, Query, Told};
+use boot_model::DepId;
 use obj_store::Put;
 use ost_types::{Limits, NoMemory, ObjName};
 use ref_book::RefBook;
@@ -22,14 +23,15 @@ impl<A: Command, B: Command> Command for Either<A, B> {
         refs: &mut RefBook,
         limits: Limits,
         lane: u8,
+        deployments: &[DepId],
         words: &Either<A::Words, B::Words>,
     ) -> Result<Begun<Either<A, B>, Either<A::Answer, B::Answer>>, NoMemory> {
         match words {
-            Either::Left(words) => match A::begin(alloc, refs, limits, lane, words)? {
+            Either::Left(words) => match A::begin(alloc, refs, limits, lane, deployments, words)? {
                 Begun::Answered(answer) => Ok(Begun::Answered(Either::Left(answer))),
                 Begun::Runs(task) => Ok(Begun::Runs(Either::Left(task))),
             },
-            Either::Right(words) => match B::begin(alloc, refs, limits, lane, words)? {
+            Either::Right(words) => match B::begin(alloc, refs, limits, lane, deployments, words)? {
                 Begun::Answered(answer) => Ok(Begun::Answered(Either::Right(answer))),
                 Begun::Runs(task) => Ok(Begun::Runs(Either::Right(task))),
             },

@@ -7,7 +7,7 @@ use Rattle.commit_durability.specs.Lasting.{IsAloneOn, IsOf}
 use Rattle.rely_guarantee.specs.declared.books.Entry.{Entry}
 use Rattle.rely_guarantee.specs.declared.books.Pending.{Pending}
 use Rattle.rely_guarantee.specs.declared.either.Either.TheVariants.{Left, Right}
-use Rattle.rely_guarantee.specs.State.{State, RefOf}
+use Rattle.rely_guarantee.specs.State.{State, RefOf, SystemState}
 use Rattle.durable_store.specs.Brought.{NoHashCollisionOn}
 use Rattle.command.specs.declared.ended.Ended.{Ended}
 use Rattle.command.specs.Since.{begun_in, placed}
@@ -46,7 +46,7 @@ one_command lanes lane number c d one two =
 abbrev pub as_words : CommitWords → Words
 as_words c = Right (Left c)
 
-module _ (told : Type 0) (limits : Limits) (start : State) (history : List Entry) (by : Option Pending) (lanes : List Lane) (replied : Replied told means limits start history by lanes)
+module _ (told : Type 0) (limits : Limits) (start : SystemState) (history : List Entry) (by : Option Pending) (lanes : List Lane) (replied : Replied told means limits start history by lanes)
     (k : ℕ) (e : Entry) (c : CommitWords) (at : IsAt history k e) (is : IsCommand lanes e.lane e.command (as_words c)) where
   -- the reply to the command says that it made the change
   abbrev reply : Reply
@@ -55,7 +55,7 @@ module _ (told : Type 0) (limits : Limits) (start : State) (history : List Entry
   to : IsTo lanes e.lane e.command reply
   to = (replied.made k e at).1
 
-  abbrev begun : State
+  abbrev begun : SystemState
   begun = state_after start history reply.start
 
   made : (a : Answer) × HasMade e.lane e.command (λ x. means.changes (begun_in limits begun) (as_words c) x × means.tells a x) (take reply.place history)
@@ -68,17 +68,17 @@ module _ (told : Type 0) (limits : Limits) (start : State) (history : List Entry
       let says = subst (λ (x : Ended Answer). IfAnswer (Answers means e.lane e.command (placed (begun_in limits begun) (state_after start history reply.place)) (take reply.place history) its.0) x) a.1 its.2.answer in
       (a.0, subst (λ (w : Words). HasMade e.lane e.command (λ x. means.changes (begun_in limits begun) w x × means.tells a.0 x) (take reply.place history)) own (says.1 (subst (λ (w : Words). means.makes a.0 w) (same ∙ sym own) a.2)))
 
-  changes : commit_changes begun c e.event
+  changes : commit_changes begun.refs c e.event
   changes =
       let front : take (k + 1) history ≡ made.1.0 ++ made.1.1 ∷ [] = ap (λ n. take n history) (sym (replied.made k e at).2) ∙ made.1.2 in
       let last : e ≡ made.1.1 = front_last history made.1.0 k e made.1.1 at front in
-      subst (λ (x : Entry). commit_changes begun c x.event) (sym last) made.1.5.0
+      subst (λ (x : Entry). commit_changes begun.refs c x.event) (sym last) made.1.5.0
 
   -- which names the commit of any state that the change is of
-  one_message : (s : State) → commit_changes s c e.event → message_in s c ≡ message_in begun c
+  one_message : (s : State) → commit_changes s c e.event → message_in s c ≡ message_in begun.refs c
   one_message s change =
       let one = sym change ∙ changes in
-      let parent : s (RefOf c.branch) ≡ begun (RefOf c.branch) = cc in
+      let parent : s (RefOf c.branch) ≡ begun.refs (RefOf c.branch) = cc in
       ap (λ p. message_of p c) parent
 
   pub alone_on : (s : State) → commit_changes s c e.event → (d : Disk) → NoHashCollisionOn (IsBroughtIn means limits start history lanes) d → IsAloneOn d c.tree.items (message_in s c)

@@ -6,6 +6,7 @@ use Rattle.checkout_family.specs.declared.reply.CheckoutReply.TheVariants as che
 use Rattle.command.specs.declared.ended.Ended.{Ended}
 use Rattle.command.specs.declared.ended.Ended.TheVariants as ended
 use Rattle.commit_command.specs.declared.answer.CommitAnswer.TheVariants as committed
+use Rattle.list_family.specs.declared.answer.ListAnswer.TheVariants as listed
 use Rattle.prune_command.specs.declared.answer.PruneAnswer.TheVariants as pruned
 use Rattle.read_command.specs.declared.answer.ReadAnswer.TheVariants as reading
 use Rattle.read_family.specs.declared.reply.ReadReply.TheVariants as reply
@@ -46,7 +47,8 @@ outside_answer (Right (Right (Left (checkout.Tried (checked.NoCommit sum))))) is
 outside_answer (Right (Right (Left (checkout.Tried (checked.Partial sum))))) is = is
 outside_answer (Right (Right (Left (checkout.Tried (checked.DestExists path))))) is = is
 outside_answer (Right (Right (Left (checkout.Tried (checked.Lacking path))))) is = tt
-outside_answer (Right (Right (Right (Left rows)))) is = is
+outside_answer (Right (Right (Right (Left (listed.Refs rows))))) is = is
+outside_answer (Right (Right (Right (Left (listed.Status rows))))) is = is
 outside_answer (Right (Right (Right (Right (pruned.Pruned kept removed))))) is = is
 outside_answer (Right (Right (Right (Right (pruned.Outside path))))) is = tt
 

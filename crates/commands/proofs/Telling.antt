@@ -6,6 +6,7 @@ use Rattle.checkout_family.specs.declared.reply.CheckoutReply.TheVariants as che
 use Rattle.command.specs.declared.ended.Ended.{Ended}
 use Rattle.command.specs.declared.ended.Ended.TheVariants as ended
 use Rattle.commit_command.specs.declared.answer.CommitAnswer.TheVariants as committed
+use Rattle.list_family.specs.declared.answer.ListAnswer.TheVariants as listed
 use Rattle.prune_command.specs.declared.answer.PruneAnswer.TheVariants as pruned
 use Rattle.read_command.specs.declared.answer.ReadAnswer.TheVariants as reading
 use Rattle.read_family.specs.declared.reply.ReadReply.TheVariants as reply
@@ -46,7 +47,8 @@ no_failure (Right (Right (Left (checkout.Tried (checked.NoCommit sum))))) is = i
 no_failure (Right (Right (Left (checkout.Tried (checked.Partial sum))))) is = is
 no_failure (Right (Right (Left (checkout.Tried (checked.DestExists path))))) is = is
 no_failure (Right (Right (Left (checkout.Tried (checked.Lacking path))))) is = is
-no_failure (Right (Right (Right (Left rows)))) is = is
+no_failure (Right (Right (Right (Left (listed.Refs rows))))) is = is
+no_failure (Right (Right (Right (Left (listed.Status rows))))) is = is
 no_failure (Right (Right (Right (Right (pruned.Pruned kept removed))))) is = is
 no_failure (Right (Right (Right (Right (pruned.Outside path))))) is = is
 
@@ -87,7 +89,8 @@ absence_answer commit (Right (Right (Left (checkout.Tried (checked.NoCommit sum)
 absence_answer commit (Right (Right (Left (checkout.Tried (checked.Partial sum))))) is = is
 absence_answer commit (Right (Right (Left (checkout.Tried (checked.DestExists path))))) is = is
 absence_answer commit (Right (Right (Left (checkout.Tried (checked.Lacking path))))) is = is
-absence_answer commit (Right (Right (Right (Left rows)))) is = is
+absence_answer commit (Right (Right (Right (Left (listed.Refs rows))))) is = is
+absence_answer commit (Right (Right (Right (Left (listed.Status rows))))) is = is
 absence_answer commit (Right (Right (Right (Right (pruned.Pruned kept removed))))) is = is
 absence_answer commit (Right (Right (Right (Right (pruned.Outside path))))) is = is
 

@@ -8,6 +8,8 @@ use Rattle.checkout_family.specs.declared.reply.CheckoutReply.{CheckoutReply}
 use Rattle.checkout_family.specs.declared.reply.CheckoutReply.TheVariants as checkout
 use Rattle.commit_command.specs.declared.answer.CommitAnswer.{CommitAnswer}
 use Rattle.commit_command.specs.declared.answer.CommitAnswer.TheVariants as committed
+use Rattle.list_family.specs.declared.answer.ListAnswer.{ListAnswer}
+use Rattle.list_family.specs.declared.answer.ListAnswer.TheVariants as listed
 use Rattle.prune_command.specs.declared.answer.PruneAnswer.{PruneAnswer}
 use Rattle.prune_command.specs.declared.answer.PruneAnswer.TheVariants as pruned
 use Rattle.read_command.specs.declared.answer.ReadAnswer.{ReadAnswer}
@@ -64,6 +66,10 @@ abbrev pub checkout_reply : CheckoutReply → script.Answer
 checkout_reply checkout.NoRef = answer.NoRef
 checkout_reply (checkout.Tried a) = checkout_answer a
 
+abbrev pub list_answer : ListAnswer → script.Answer
+list_answer (listed.Refs rows) = answer.Refs rows
+list_answer (listed.Status rows) = answer.Status rows
+
 abbrev pub prune_answer : PruneAnswer → script.Answer
 prune_answer (pruned.Pruned kept removed) = answer.Pruned kept removed
 prune_answer (pruned.Outside path) = answer.Outside path
@@ -74,7 +80,7 @@ spoken (Left (Left a)) = ref_answer a
 spoken (Left (Right a)) = read_reply a
 spoken (Right (Left a)) = commit_answer a
 spoken (Right (Right (Left a))) = checkout_reply a
-spoken (Right (Right (Right (Left rows)))) = answer.Refs rows
+spoken (Right (Right (Right (Left a)))) = list_answer a
 spoken (Right (Right (Right (Right a)))) = prune_answer a
 
 -- and of one that ended so

@@ -24,9 +24,10 @@ use Rattle.checkout_family.specs.declared.task.CheckoutsTask.{CheckoutsTask}
 use Rattle.checkout_family.specs.declared.words.CheckoutWords.{CheckoutWords}
 use Rattle.checkout_family.specs.Family.{checkout_doing, checkout_means}
 use Rattle.checkout_family.specs.Laws.{checkout_tasks}
+use Rattle.list_family.specs.declared.answer.ListAnswer.{ListAnswer}
 use Rattle.list_family.specs.declared.task.ListTask.{ListTask}
 use Rattle.list_family.specs.declared.words.ListWords.{ListWords}
-use Rattle.list_family.specs.Family.{Rows, list_doing, list_means}
+use Rattle.list_family.specs.Family.{list_doing, list_means}
 use Rattle.list_family.specs.Laws.{list_tasks}
 use Rattle.prune_command.specs.declared.answer.PruneAnswer.{PruneAnswer}
 use Rattle.prune_family.specs.declared.task.PruneTask.{PruneTask}
@@ -45,7 +46,7 @@ abbrev pub Words : Type 0
 Words = Either (Either RefWords ReadWords) (Either CommitWords (Either CheckoutWords (Either ListWords PruneWords)))
 
 abbrev pub Answer : Type 0
-Answer = Either (Either RefAnswer ReadReply) (Either CommitAnswer (Either CheckoutReply (Either Rows PruneAnswer)))
+Answer = Either (Either RefAnswer ReadReply) (Either CommitAnswer (Either CheckoutReply (Either ListAnswer PruneAnswer)))
 
 -- what they mean
 abbrev pub means : Meaning Words Answer

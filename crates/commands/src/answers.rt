@@ -1,12 +1,13 @@
 //! What a command answers, as a script has it.
 ghost use Rattle.std.specs.Prelude.{◌≡◌};
-ghost use Rattle.commands.specs.Answers.{answer_of, checkout_answer, checkout_reply, commit_answer, prune_answer, read_answer, read_reply, ref_answer, reply_of, spoken};
+ghost use Rattle.commands.specs.Answers.{answer_of, checkout_answer, checkout_reply, commit_answer, list_answer, prune_answer, read_answer, read_reply, ref_answer, reply_of, spoken};
 
 use crate::{CommandAnswer, CommandReply};
 use checkout_command::CheckoutAnswer;
 use checkout_family::CheckoutReply;
 use command::Ended;
 use commit_command::CommitAnswer;
+use list_family::ListAnswer;
 use prune_command::PruneAnswer;
 use read_command::ReadAnswer;
 use read_family::ReadReply;
@@ -55,7 +56,7 @@ fn spoken(answer: CommandAnswer) -> Answer
         Either::Left(Either::Right(answer)) => read_reply(answer),
         Either::Right(Either::Left(answer)) => commit_answer(answer),
         Either::Right(Either::Right(Either::Left(answer))) => checkout_reply(answer),
-        Either::Right(Either::Right(Either::Right(Either::Left(rows)))) => Answer::Refs(rows),
+        Either::Right(Either::Right(Either::Right(Either::Left(answer)))) => list_answer(answer),
         Either::Right(Either::Right(Either::Right(Either::Right(answer)))) => prune_answer(answer),
     }
 }
@@ -129,6 +130,15 @@ fn checkout_answer(answer: CheckoutAnswer) -> Answer
         CheckoutAnswer::Partial(commit) => Answer::Partial(commit),
         CheckoutAnswer::DestExists(path) => Answer::DestExists(path),
         CheckoutAnswer::Lacking(path) => Answer::Outside(path),
+    }
+}
+
+fn list_answer(answer: ListAnswer) -> Answer
+    ensures { result ≡ list_answer answer }
+{
+    match answer {
+        ListAnswer::Refs(rows) => Answer::Refs(rows),
+        ListAnswer::Status(rows) => Answer::Status(rows),
     }
 }
 

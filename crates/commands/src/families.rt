@@ -3,15 +3,13 @@ use checkout_family::{CheckoutReply, CheckoutWords, CheckoutsTask};
 use commit_command::CommitAnswer;
 use commit_family::{CommitWords, CommitsTask};
 use lane_system::{Lane, Reply};
-use list_family::{ListTask, ListWords};
-use ost_types::Csum;
+use list_family::{ListAnswer, ListTask, ListWords};
 use prune_command::PruneAnswer;
 use prune_family::{PruneTask, PruneWords};
 use read_family::{ReadReply, ReadTask, ReadWords};
 use ref_command::RefAnswer;
 use ref_family::{RefWords, RefsTask};
 use rely_guarantee::Either;
-use repo_layout::RefName;
 
 /// The task of a command. The nest is balanced, so that a case is few sides deep.
 pub type Commands = Either<
@@ -28,7 +26,7 @@ pub type CommandWords = Either<
 /// What a command answers that is done.
 pub type CommandAnswer = Either<
     Either<RefAnswer, ReadReply>,
-    Either<CommitAnswer, Either<CheckoutReply, Either<Vec<(RefName, Csum)>, PruneAnswer>>>,
+    Either<CommitAnswer, Either<CheckoutReply, Either<ListAnswer, PruneAnswer>>>,
 >;
 
 /// A lane of a system of them, and a reply of it.

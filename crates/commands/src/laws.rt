@@ -6,7 +6,7 @@ ghost use Rattle.commit_durability.specs.Lasting.{IsAloneOn};
 ghost use Rattle.rely_guarantee.specs.declared.books.Entry.{Entry};
 ghost use Rattle.rely_guarantee.specs.declared.books.Pending.{Pending};
 ghost use Rattle.rely_guarantee.specs.declared.either.Either.TheVariants.{Left, Right};
-ghost use Rattle.rely_guarantee.specs.State.{State};
+ghost use Rattle.rely_guarantee.specs.State.{SystemState};
 ghost use Rattle.durable_store.specs.Brought.{NoHashCollisionOn};
 ghost use Rattle.command.specs.declared.ended.Ended.{Ended};
 ghost use Rattle.command.specs.Since.{begun_in};
@@ -47,5 +47,5 @@ pub fn outsides_tell_alike()
 /// Where no other bytes on a disk have the name of bytes that a command brings which began, none have that of an object of a commit that a
 /// change is of.
 pub fn commits_are_alone<F: Fs>()
-    ensures { (limits : Limits) (start : State) (history : List Entry) (by : Option Pending) (lanes : List Lane) (k : ℕ) (e : Entry) (c : CommitWords) (s : State) (d : Disk) → Replied (IsTold F.view) means limits start history by lanes → IsAt history k e → IsCommand lanes e.lane e.command (Right (Left c)) → means.changes (begun_in limits s) (Right (Left c)) e.event → NoHashCollisionOn (IsBroughtIn means limits start history lanes) d → IsAloneOn d c.tree.items (message_in s c) }
+    ensures { (limits : Limits) (start : SystemState) (history : List Entry) (by : Option Pending) (lanes : List Lane) (k : ℕ) (e : Entry) (c : CommitWords) (s : SystemState) (d : Disk) → Replied (IsTold F.view) means limits start history by lanes → IsAt history k e → IsCommand lanes e.lane e.command (Right (Left c)) → means.changes (begun_in limits s) (Right (Left c)) e.event → NoHashCollisionOn (IsBroughtIn means limits start history lanes) d → IsAloneOn d c.tree.items (message_in s.refs c) }
 {}

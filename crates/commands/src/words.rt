@@ -51,6 +51,9 @@ pub fn words_of(command: Command) -> CommandWords
         Command::Refs => {
             Either::Right(Either::Right(Either::Right(Either::Left(ListWords::Refs))))
         }
+        Command::Status => {
+            Either::Right(Either::Right(Either::Right(Either::Left(ListWords::Status))))
+        }
         Command::Prune { depth } => {
             Either::Right(Either::Right(Either::Right(Either::Right(PruneWords { depth }))))
         }

@@ -6,7 +6,7 @@ use Rattle.commit_build.specs.declared.message.Message.{Message}
 use Rattle.commit_build.specs.declared.phase.Phase.TheVariants as phase
 use Rattle.commit_build.specs.Committing.{Committing}
 use Rattle.commit_durability.specs.Lasting.{sum_of}
-use Rattle.rely_guarantee.specs.State.{State, RefOf}
+use Rattle.rely_guarantee.specs.State.{SystemState, RefOf}
 use Rattle.ref_book.specs.declared.book.RefBook.{RefBook}
 use Rattle.ref_book.specs.Tracks.{HasEventRoom, HasRoom}
 use Rattle.commit_command.specs.declared.command.CommitCommand.{CommitCommand}
@@ -25,28 +25,28 @@ first_of lane limits items message = record { actor = lane; items = items; limit
 abbrev pub message_by : Option (List ℕ) → List ℕ → List ℕ → ℕ → Message
 message_by parent subject body time = record { parent = parent; subject = subject; body = body; time = time }
 
-module _ (limits : Limits) (lane : ℕ) (s : State) (c : CommitWords) (t : CommitCommand) where
-  after : IsCommitOf c.branch (first_of lane limits c.tree.items (message_in s c)) t → Begins lane t → Commits limits c.branch c.tree.items (message_in s c) t
+module _ (limits : Limits) (lane : ℕ) (s : SystemState) (c : CommitWords) (t : CommitCommand) where
+  after : IsCommitOf c.branch (first_of lane limits c.tree.items (message_in s.refs c)) t → Begins lane t → Commits limits c.branch c.tree.items (message_in s.refs c) t
   after is begins = record {
     name = is.name;
     items = ap (λ (x : Committing). x.items) is.build;
     bounds = ap (λ (x : Committing). x.limits) is.build;
     says = ap (λ (x : Committing). x.message) is.build;
     made = begins.made;
-    names = subst (NamesIn c.branch (message_in s c).parent c.tree.items (sum_of c.tree.items (message_in s c))) (sym is.change) tt;
-    reads = subst (ReadsIn c.tree.items (message_in s c)) (sym is.change) tt;
+    names = subst (NamesIn c.branch (message_in s.refs c).parent c.tree.items (sum_of c.tree.items (message_in s.refs c))) (sym is.change) tt;
+    reads = subst (ReadsIn c.tree.items (message_in s.refs c)) (sym is.change) tt;
   }
 
   pub commit_begun : (name : List ℕ) (seen : Option (List ℕ)) (items : List TreeItem) (subject body : List ℕ) (refs : RefBook)
-      → IsCommitOf name (first_of lane limits items (message_by seen subject body c.time)) t → Begins lane t → name ≡ c.branch → seen ≡ s (RefOf c.branch) → items ≡ c.tree.items → subject ≡ c.subject → body ≡ c.body → HasRoom refs c.branch → commit_left t < 340282366920938463463374607431768211456
+      → IsCommitOf name (first_of lane limits items (message_by seen subject body c.time)) t → Begins lane t → name ≡ c.branch → seen ≡ s.refs (RefOf c.branch) → items ≡ c.tree.items → subject ≡ c.subject → body ≡ c.body → HasRoom refs c.branch → commit_left t < 340282366920938463463374607431768211456
       → IsFirst commit_means commit_doing lane (begun_in limits s) c refs (record { work = t })
   commit_begun name seen items subject body refs is begins named had all said told room left =
-      let build : t.build ≡ first_of lane limits c.tree.items (message_in s c) =
+      let build : t.build ≡ first_of lane limits c.tree.items (message_in s.refs c) =
       is.build
       ∙ ap (λ x. first_of lane limits x (message_by seen subject body c.time)) all
       ∙ ap (λ x. first_of lane limits c.tree.items (message_by x subject body c.time)) had
-      ∙ ap (λ x. first_of lane limits c.tree.items (message_by (s (RefOf c.branch)) x body c.time)) said
-      ∙ ap (λ x. first_of lane limits c.tree.items (message_by (s (RefOf c.branch)) c.subject x c.time)) told in (
+      ∙ ap (λ x. first_of lane limits c.tree.items (message_by (s.refs (RefOf c.branch)) x body c.time)) said
+      ∙ ap (λ x. first_of lane limits c.tree.items (message_by (s.refs (RefOf c.branch)) c.subject x c.time)) told in (
         begins,
         after (record { name = is.name ∙ named; build = build; objects = is.objects; refusal = is.refusal; change = is.change }) begins,
         λ e changes. subst (HasEventRoom refs) (sym changes) room,

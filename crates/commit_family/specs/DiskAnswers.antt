@@ -21,8 +21,8 @@ use Rattle.commit_family.specs.Family.{commit_shows}
 use Rattle.commit_family.specs.Pursues.{Commits, ReadsIn}
 use Rattle.commit_family.specs.Steps.{build_not}
 
-module _ (since : Since) (c : CommitWords) (t : CommitCommand) (is : Commits since.limits c.branch c.tree.items (message_in since.start c) t) where
-  lacking : (v : View) → IsLacking t.build.items t.build.message v.now → IsLacking c.tree.items (message_in since.start c) v.now
+module _ (since : Since) (c : CommitWords) (t : CommitCommand) (is : Commits since.limits c.branch c.tree.items (message_in since.start.refs c) t) where
+  lacking : (v : View) → IsLacking t.build.items t.build.message v.now → IsLacking c.tree.items (message_in since.start.refs c) v.now
   lacking v l = (
     l.0,
     ⊎_elim
@@ -33,11 +33,11 @@ module _ (since : Since) (c : CommitWords) (t : CommitCommand) (is : Commits sin
   )
 
   -- the last step of a commit that was made is that of its change
-  reads_at : (o : Option Naming) (e : Event) → kind_by o t ≡ MakeDurable e → ReadsIn c.tree.items (message_in since.start c) o → ReadsBack c.tree.items (message_in since.start c)
+  reads_at : (o : Option Naming) (e : Event) → kind_by o t ≡ MakeDurable e → ReadsIn c.tree.items (message_in since.start.refs c) o → ReadsBack c.tree.items (message_in since.start.refs c)
   reads_at None e kind reads = absurd (build_not t.pinned (storing_in t.build.phase) (subst IsMakeDurable (sym kind) tt))
   reads_at (Some n) e kind reads = reads
 
-  formed : (e : Event) → commit_kind t ≡ MakeDurable e → IsFormed c.tree.items (message_in since.start c)
+  formed : (e : Event) → commit_kind t ≡ MakeDurable e → IsFormed c.tree.items (message_in since.start.refs c)
   formed e kind = record { typed = subst AreTyped is.items is.made.typed; reads = reads_at t.change e kind is.reads }
 
   pub tells : (v w : View) (a : CommitAnswer) → Says a t v w → commit_shows since v a c

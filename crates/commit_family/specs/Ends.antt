@@ -53,7 +53,7 @@ linked_tree t (phase.Unmark sum) links kept = absurd links
 linked_tree t (phase.SyncState sum) links kept = absurd links
 linked_tree t (phase.Ended sum) links kept = absurd links
 
-module _ (since : Since) (c : CommitWords) (t : CommitCommand) (is : Commits since.limits c.branch c.tree.items (message_in since.start c) t) where
+module _ (since : Since) (c : CommitWords) (t : CommitCommand) (is : Commits since.limits c.branch c.tree.items (message_in since.start.refs c) t) where
   -- the build was refused
   built_ends : (r : BuildRefusal) (next : Committing) (new : CommitCommand) → (IsMakeDurable (commit_kind t) → ⊥) → BuildSteps t.objects t.build (Some r) next → answer_of new ≡ built_answer (Some r) → Ends since c t new
   built_ends (built.BadTree path) next new still step at = record { given = answer.BadTree path; answer = at; says = subst (λ i. IsLeastBad i path) is.items step.1.1; makes = λ k. absurd (still k); makes_not = λ none m. m; full = λ f. absurd f }
@@ -74,7 +74,7 @@ module _ (since : Since) (c : CommitWords) (t : CommitCommand) (is : Commits sin
   ends_at (Some commit) new none step = absurd step
 
   -- the ref was changed, or that was refused
-  module _ (n : Naming) (at : t.change ≡ Some n) (names : IsNaming c.branch (message_in since.start c).parent c.tree.items (sum_in since.start c) n) where
+  module _ (n : Naming) (at : t.change ≡ Some n) (names : IsNaming c.branch (message_in since.start.refs c).parent c.tree.items (sum_in since.start.refs c) n) where
     refused_not : (r : RefRefusal) (next : RefWork) → stepped_in (turn.Done tt) (Some (Err r)) n.work.task next.task → IsMakeDurable (commit_kind t) → ⊥
     refused_not r next step k = refusing n.work.task.phase (event n.work.task) step.1 (subst (λ o. IsMakeDurable (kind_by o t)) at k)
 
@@ -87,7 +87,7 @@ module _ (since : Since) (c : CommitWords) (t : CommitCommand) (is : Commits sin
     naming_ends (Some (Err (refusal.RefClash other))) next new step given = record { given = answer.RefClash other; answer = given; says = names.whole; makes = λ k. absurd (refused_not (refusal.RefClash other) next step k); makes_not = λ none m. m; full = λ f. absurd f }
     naming_ends (Some (Err refusal.NoRef)) next new step given = record { given = answer.NoRef; answer = given; says = tt; makes = λ k. absurd (refused_not refusal.NoRef next step k); makes_not = λ none m. m; full = λ f. absurd f }
 
-  ends_by : (o : Option Naming) (new : CommitCommand) → t.change ≡ o → NamesIn c.branch (message_in since.start c).parent c.tree.items (sum_in since.start c) o → stepped_by o t (turn.Done tt) new → Ends since c t new
+  ends_by : (o : Option Naming) (new : CommitCommand) → t.change ≡ o → NamesIn c.branch (message_in since.start.refs c).parent c.tree.items (sum_in since.start.refs c) o → stepped_by o t (turn.Done tt) new → Ends since c t new
   ends_by None new at names step = ends_at (commit_in t.build.phase) new at step
   ends_by (Some n) new at names step = naming_ends n at names step.0.answer step.0 new step.2 (ap answer_of step.1)
 

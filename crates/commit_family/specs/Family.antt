@@ -34,7 +34,7 @@ commit_makes a = ⊥
 
 -- the tree is looked at before anything else
 abbrev pub commit_says : Since → CommitAnswer → CommitWords → Type 0
-commit_says since (answer.Commit sum) c = (sum ≡ sum_in since.start c) × IsTree c.tree.items
+commit_says since (answer.Commit sum) c = (sum ≡ sum_in since.start.refs c) × IsTree c.tree.items
 commit_says since (answer.BadTree path) c = IsLeastBad c.tree.items path
 commit_says since (answer.TooMany number) c = (number ≡ since.limits.objects + 1) × IsTree c.tree.items
 commit_says since (answer.RefMoved seen now) c = IsTree c.tree.items
@@ -43,26 +43,26 @@ commit_says since answer.NoRef c = Unit {0}
 
 -- what it says of the refs
 abbrev pub commit_knows : Since → CommitAnswer → CommitWords → Type 0
-commit_knows since (answer.Commit sum) c = IsFreeIn since.place c.branch
-commit_knows since (answer.RefMoved seen now) c = HasMoved since.start since.place c.branch seen now
-commit_knows since (answer.RefClash other) c = LeastClashIn since.place c.branch other × HasStayed since.start since.place c.branch
+commit_knows since (answer.Commit sum) c = IsFreeIn since.place.refs c.branch
+commit_knows since (answer.RefMoved seen now) c = HasMoved since.start.refs since.place.refs c.branch seen now
+commit_knows since (answer.RefClash other) c = LeastClashIn since.place.refs c.branch other × HasStayed since.start.refs since.place.refs c.branch
 commit_knows since answer.NoRef c = ⊥
 commit_knows since (answer.BadTree path) c = Unit {0}
 commit_knows since (answer.TooMany number) c = Unit {0}
 
 -- and of the disk: a commit that was made lasts, and one that there is no room for isn't there whole
 abbrev pub commit_shows : Since → View → CommitAnswer → CommitWords → Type 0
-commit_shows since v (answer.Commit sum) c = LastsWith c.tree.items sum v × IsFormed c.tree.items (message_in since.start c)
-commit_shows since v (answer.TooMany number) c = IsLacking c.tree.items (message_in since.start c) v.now
+commit_shows since v (answer.Commit sum) c = LastsWith c.tree.items sum v × IsFormed c.tree.items (message_in since.start.refs c)
+commit_shows since v (answer.TooMany number) c = IsLacking c.tree.items (message_in since.start.refs c) v.now
 commit_shows since v a c = Unit {0}
 
 -- Where what stood at the paths of its objects at the opening had their names, the commit lasts, but for what was removed,
 abbrev pub commit_keeps : Since → View → List ObjName → CommitWords → View → Type 0
-commit_keeps since opening out c v = AreRight opening c.tree.items (message_in since.start c) → LastsBut out since.limits c.tree.items (message_in since.start c) v
+commit_keeps since opening out c v = AreRight opening c.tree.items (message_in since.start.refs c) → LastsBut out since.limits c.tree.items (message_in since.start.refs c) v
 
 -- and stands so on each disk that a crash left.
 abbrev pub commit_keeps_on : Since → View → List ObjName → CommitWords → Disk → Type 0
-commit_keeps_on since opening out c d = AreRight opening c.tree.items (message_in since.start c) → StandsBut out since.limits c.tree.items (message_in since.start c) d
+commit_keeps_on since opening out c d = AreRight opening c.tree.items (message_in since.start.refs c) → StandsBut out since.limits c.tree.items (message_in since.start.refs c) d
 
 -- an object of the commit: one of its tree, or the commit's own
 abbrev pub commit_works : State → CommitWords → ObjName → Type 0
@@ -78,7 +78,7 @@ commit_full a = ⊥
 abbrev pub commit_means : Meaning CommitWords CommitAnswer
 commit_means = record {
   fit = IsMakeable;
-  changes = λ since. commit_changes since.start;
+  changes = λ since. commit_changes since.start.refs;
   makes = λ a c. commit_makes a;
   tells = λ a e. Unit {0};
   says = commit_says;
@@ -88,19 +88,19 @@ commit_means = record {
   stays = λ since out a c v b. Unit {0};
   keeps = commit_keeps;
   keeps_on = commit_keeps_on;
-  works = λ since. commit_works since.start;
+  works = λ since. commit_works since.start.refs;
   reaches = λ since c name. Unit {0};
   claims = λ c name. ⊥;
   checks_out = λ a c name. ⊥;
   finds = λ a c name. ⊥;
-  brings = λ since. commit_brings since.start;
+  brings = λ since. commit_brings since.start.refs;
   lacks = λ a commit. ⊥;
   outside = λ a. ⊥;
   full = commit_full;
 }
 
 abbrev pub commit_pursues : Since → CommitWords → CommitsTask → Type 0
-commit_pursues since c t = Commits since.limits c.branch c.tree.items (message_in since.start c) t.work
+commit_pursues since c t = Commits since.limits c.branch c.tree.items (message_in since.start.refs c) t.work
 
 abbrev pub commit_doing : Doing CommitsTask CommitWords CommitAnswer
 commit_doing = record {

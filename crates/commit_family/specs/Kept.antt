@@ -148,11 +148,11 @@ module _ (limits : Limits) (tree : List TreeItem) (message : Message) (out remov
   lasts_but = record { safe = safe; right = right; unmarked = unmarked; whole = whole }
 
 pub commits_keep : (since : Since) (opening : View) (out removed : List ObjName) (c : CommitWords) (v w : View) → Stays removed v w → commit_keeps since opening out c v → commit_keeps since opening (removed ++ out) c w
-commits_keep since opening out removed c v w stays kept = λ right. lasts_but since.limits c.tree.items (message_in since.start c) out removed v w stays (kept right)
+commits_keep since opening out removed c v w stays kept = λ right. lasts_but since.limits c.tree.items (message_in since.start.refs c) out removed v w stays (kept right)
 
 -- and on each disk that a crash left since
 pub commits_keep_on : (since : Since) (opening : View) (out removed : List ObjName) (c : CommitWords) (v : View) (disk : Disk) → StaysOn removed v disk → commit_keeps since opening out c v → commit_keeps_on since opening (removed ++ out) c disk
-commits_keep_on since opening out removed c v disk on kept = λ right. stands_but since.limits c.tree.items (message_in since.start c) out removed v disk on (kept right)
+commits_keep_on since opening out removed c v disk on kept = λ right. stands_but since.limits c.tree.items (message_in since.start.refs c) out removed v disk on (kept right)
 
 -- so it is where more was removed
 module _ (limits : Limits) (tree : List TreeItem) (message : Message) (out more : List ObjName) (among : AreAmong out more) where
@@ -172,7 +172,7 @@ module _ (limits : Limits) (tree : List TreeItem) (message : Message) (out more 
   }
 
 pub commits_wider : (since : Since) (opening : View) (out more : List ObjName) (c : CommitWords) (v : View) → AreAmong out more → commit_keeps since opening out c v → commit_keeps since opening more c v
-commits_wider since opening out more c v among kept = λ right. lasts_wider since.limits c.tree.items (message_in since.start c) out more among v (kept right)
+commits_wider since opening out more c v among kept = λ right. lasts_wider since.limits c.tree.items (message_in since.start.refs c) out more among v (kept right)
 
 pub commits_on_wider : (since : Since) (opening : View) (out more : List ObjName) (c : CommitWords) (disk : Disk) → AreAmong out more → commit_keeps_on since opening out c disk → commit_keeps_on since opening more c disk
-commits_on_wider since opening out more c disk among kept = λ right. stands_wider since.limits c.tree.items (message_in since.start c) out more among disk (kept right)
+commits_on_wider since opening out more c disk among kept = λ right. stands_wider since.limits c.tree.items (message_in since.start.refs c) out more among disk (kept right)

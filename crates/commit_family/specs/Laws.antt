@@ -48,7 +48,7 @@ step_laws = record {
   begun = λ start entries pending lane t v b. begins_of start entries pending lane v b t.work;
   quiet = λ lane t. begins_holds lane t.work;
   stages = λ who actor lane t v w b is by f wrote home. (let same : who ≡ lane = ⊎_elim (λ x. x ∙ own_step actor lane t.work by) (λ x. x) is in subst (λ k. StagingPathFree k w) (sym same) (own_of actor lane t.work v w b f wrote (subst (λ k. StagingPathFree k v) same home)));
-  goes_on = λ since c t new is step. commits_step since.limits c.branch c.tree.items (message_in since.start c) t.work is new.work step.0 step.1;
+  goes_on = λ since c t new is step. commits_step since.limits c.branch c.tree.items (message_in since.start.refs c) t.work is new.work step.0 step.1;
   falls = λ t new step. falls_of t.work new.work step.0;
   locks = λ since c t wants is. commits_light t.work wants;
   refused = λ start entries pending lane t v b e. refused_of start entries pending lane v b t.work e;
@@ -58,7 +58,7 @@ hear_laws : HearLaws commit_tasks commit_doing
 hear_laws = record {
   facts = λ told lane t v b. counted lane told.objects t.work v b;
   holds = λ told lane t b holds. subst (λ k. kinds.Holds k lane b) (sym (same_kind told.objects t.work)) holds;
-  pursues = λ told since c t is. commits_told since.limits c.branch c.tree.items (message_in since.start c) told.objects t.work is;
+  pursues = λ told since c t is. commits_told since.limits c.branch c.tree.items (message_in since.start.refs c) told.objects t.work is;
   left = λ told t. omega (arith, same_left told.objects t.work);
   made = λ told t name made. made;
   unmade = λ told t name made. made;
@@ -70,13 +70,13 @@ learn_laws = no_learning commit_tasks commit_doing (λ refs pins t new is. is)
 
 change_laws : ChangeLaws commit_tasks commit_means commit_doing
 change_laws = record {
-  shown = λ since c t e is. commits_shown since.limits c.branch c.tree.items (message_in since.start c) t.work e is;
-  settled = λ since c t e is. commits_settled since.limits c.branch c.tree.items (message_in since.start c) t.work e is;
+  shown = λ since c t e is. commits_shown since.limits c.branch c.tree.items (message_in since.start.refs c) t.work e is;
+  settled = λ since c t e is. commits_settled since.limits c.branch c.tree.items (message_in since.start.refs c) t.work e is;
   founds = λ lane t. commits_founds lane t.work;
   makes = λ since c t new a is step given k. (let e = commits_end since c t.work is new.work step.0 in subst commit_makes (one (answer_of new.work) e.given a e.answer given) (e.makes k));
   makes_not = λ since c t new a is step given none m. (let e = commits_end since c t.work is new.work step.0 in e.makes_not none (subst commit_makes (sym (one (answer_of new.work) e.given a e.answer given)) m));
   tells = λ since c t new a e is step given kind. tt;
-  kept = λ since opening lane c t new v w b same is f l k right. lasts_whole since.limits c.tree.items (message_in since.start c) w (commits_kept since.limits c.branch c.tree.items (message_in since.start c) opening lane t.work v w b same is new.work f l k right);
+  kept = λ since opening lane c t new v w b same is f l k right. lasts_whole since.limits c.tree.items (message_in since.start.refs c) w (commits_kept since.limits c.branch c.tree.items (message_in since.start.refs c) opening lane t.work v w b same is new.work f l k right);
   keeps = λ since opening out removed c v w right stays kept. commits_keep since opening out removed c v w stays kept;
   keeps_on = λ since opening out removed c v disk on kept. commits_keep_on since opening out removed c v disk on kept;
   keeps_wider = λ since opening out more c v among kept. commits_wider since opening out more c v among kept;
@@ -94,7 +94,7 @@ answer_laws = record {
   lacks_alone = λ since lane c t new v w b a commit is f l given lacks sum. absurd lacks;
   lacks = λ since v a c commit files shows lacks finished. lacks;
   outside = λ since v a c good shows outside. outside;
-  full = λ told since c t new a is step given full. (let e = commits_end since c (record t.work { objects = told.objects }) (commits_told since.limits c.branch c.tree.items (message_in since.start c) told.objects t.work is) new.work step.0 in e.full (subst commit_full (sym (one (answer_of new.work) e.given a e.answer given)) full));
+  full = λ told since c t new a is step given full. (let e = commits_end since c (record t.work { objects = told.objects }) (commits_told since.limits c.branch c.tree.items (message_in since.start.refs c) told.objects t.work is) new.work step.0 in e.full (subst commit_full (sym (one (answer_of new.work) e.given a e.answer given)) full));
   left = λ since actor lane c t new v w b b' a is f l given does none sound. tt;
   stays = λ since actor lane out removed a c v w b b' does only is. tt;
   stays_wider = λ since out more a c v b among is. tt;
@@ -103,15 +103,15 @@ answer_laws = record {
 store_laws : StoreLaws commit_tasks commit_means commit_doing
 store_laws = record {
   holds = λ lane t v b f. held_of lane t.work v b f;
-  works = λ since c t wants name is. commits_pin since.limits c.branch c.tree.items (message_in since.start c) t.work is wants name;
+  works = λ since c t wants name is. commits_pin since.limits c.branch c.tree.items (message_in since.start.refs c) t.work is wants name;
   reaches = λ since lane c t v b wants name is f kind pin. tt;
-  brings = λ since actor lane c t v b name s bytes is f sum wrote reads. commits_bring since.limits c.branch c.tree.items (message_in since.start c) t.work is actor lane v b name s bytes f sum wrote reads;
-  room = λ told since actor lane c t v b name s is f sum wrote stands. commits_room since.limits c.branch c.tree.items (message_in since.start c) (record t.work { objects = told.objects }) (commits_told since.limits c.branch c.tree.items (message_in since.start c) told.objects t.work is) actor lane v b name s (counted lane told.objects t.work v b f) sum wrote;
+  brings = λ since actor lane c t v b name s bytes is f sum wrote reads. commits_bring since.limits c.branch c.tree.items (message_in since.start.refs c) t.work is actor lane v b name s bytes f sum wrote reads;
+  room = λ told since actor lane c t v b name s is f sum wrote stands. commits_room since.limits c.branch c.tree.items (message_in since.start.refs c) (record t.work { objects = told.objects }) (commits_told since.limits c.branch c.tree.items (message_in since.start.refs c) told.objects t.work is) actor lane v b name s (counted lane told.objects t.work v b f) sum wrote;
   stored = λ actor lane t new v w b name s f l sum wrote stands. commit_stored v w name s sum actor lane t.work new.work b f l wrote;
   done = λ actor lane t new v w b name s f l sum wrote stands. commit_done v w name s sum actor lane t.work new.work b f l wrote;
-  lacked = λ told since c t new v w name is l met. commits_lacked since.limits c.branch c.tree.items (message_in since.start c) (record t.work { objects = told.objects }) (commits_told since.limits c.branch c.tree.items (message_in since.start c) told.objects t.work is) new.work v w name l met;
+  lacked = λ told since c t new v w name is l met. commits_lacked since.limits c.branch c.tree.items (message_in since.start.refs c) (record t.work { objects = told.objects }) (commits_told since.limits c.branch c.tree.items (message_in since.start.refs c) told.objects t.work is) new.work v w name l met;
   there = λ lane t v b name f met. commit_there lane t.work v b name Stored f met;
-  keeps = λ since actor lane c t v b is f still. commits_keep_store since.limits (commit_brings since.start c) actor lane t.work v b f is.bounds (λ o of. (o, its_object since.limits c.branch c.tree.items (message_in since.start c) t.work is o of, refl, refl));
+  keeps = λ since actor lane c t v b is f still. commits_keep_store since.limits (commit_brings since.start.refs c) actor lane t.work v b f is.bounds (λ o of. (o, its_object since.limits c.branch c.tree.items (message_in since.start.refs c) t.work is o of, refl, refl));
 }
 
 remove_laws : RemoveLaws commit_tasks

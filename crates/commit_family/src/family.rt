@@ -2,6 +2,7 @@ ghost use Rattle.commit_family.specs.Family.{commit_means, commit_doing};
 ghost use Rattle.commit_family.specs.Laws.{commit_command_laws};
 
 use crate::{CommitWords, CommitsTask};
+use boot_model::DepId;
 use command::{Begun, Command, Query, Told};
 use commit_command::{CommitAnswer, CommitCommand};
 use obj_store::Put;
@@ -24,6 +25,7 @@ impl Command for CommitsTask {
         refs: &mut RefBook,
         limits: Limits,
         lane: u8,
+        _deployments: &[DepId],
         words: &CommitWords,
     ) -> Result<Begun<CommitsTask, CommitAnswer>, NoMemory> {
         refs.make_room(&words.branch)?;

@@ -55,7 +55,7 @@ use Rattle.lane_system.proofs.Telling.{free_after}
 use Rattle.lane_system.proofs.Taking.{taken_acts, told, told_after, told_facts}
 
 -- nothing was done to the books and the disk
-pub nothing_acts : {F : Type 0} (f : FsSpec F) → FsLaws f → (actor lane : ℕ) (base : Base F) (refs refs' : RefBook) → SystemInvariant f.view f.clock f.spare f.was base → Tracks refs' (now_of base.books) → ((name : List ℕ) → HasRoom refs name → HasRoom refs' name) → Acts f actor lane refs refs' base base
+pub nothing_acts : {F : Type 0} (f : FsSpec F) → FsLaws f → (actor lane : ℕ) (base : Base F) (refs refs' : RefBook) → SystemInvariant f.view f.clock f.spare f.was base → Tracks refs' (now_of base.books).refs → ((name : List ℕ) → HasRoom refs name → HasRoom refs' name) → Acts f actor lane refs refs' base base
 nothing_acts f fl actor lane base refs refs' sound tracks rooms = record {
   locks = λ order. order;
   out = [];
@@ -139,7 +139,7 @@ module _ {F T W A : Type 0} (f : FsSpec F) (c : Family T W A) (fl : FsLaws f) (c
     acts_taken outcome t' y = taken_acts f c fl cl limits lane lane number refs refs' objects old new x.words l.task outcome t' y kept.sound
 
     acts_same : new ≡ old → Acts f lane lane refs refs' old new
-    acts_same same = subst (λ (b : Base F). Acts f lane lane refs refs' old b) (sym same) (nothing_acts f fl lane lane old refs refs' kept.sound (subst (λ (b : Base F). Tracks refs' (now_of b.books)) same x.tracks) x.rooms)
+    acts_same same = subst (λ (b : Base F). Acts f lane lane refs refs' old b) (sym same) (nothing_acts f fl lane lane old refs refs' kept.sound (subst (λ (b : Base F). Tracks refs' (now_of b.books).refs) same x.tracks) x.rooms)
 
     each_lane : (acts : Acts f lane lane refs refs' old new) (m : Lane T W A) → LaneKept f c limits lane refs' new m → ((why : Halt) → old.books.halted ≡ Some why → new ≡ old) → (a : ℕ) (y : Lane T W A) → IsAt (set lanes lane m) a y → LaneKept f c limits a refs' new y
     each_lane acts m here over a y is = here_or_apart a lane
@@ -228,8 +228,8 @@ module _ {F T W A : Type 0} (f : FsSpec F) (c : Family T W A) (fl : FsLaws f) (c
       explained = kept.explained;
     }))
       where
-        tracks : Tracks refs' (now_of old.books)
-        tracks = subst (λ (b : Base F). Tracks refs' (now_of b.books)) held_same x.tracks
+        tracks : Tracks refs' (now_of old.books).refs
+        tracks = subst (λ (b : Base F). Tracks refs' (now_of b.books).refs) held_same x.tracks
 
   -- it has an answer
   module _ (z : Ended A) (start : ℕ) (x : LaneActs f c limits lane lane refs refs' objects objects' old new l l' (Answered z start)) where

@@ -15,7 +15,7 @@ use Rattle.rely_guarantee.specs.declared.event.Event.{Event}
 use Rattle.rely_guarantee.specs.declared.event.Event.TheVariants.{SetRef, DropRef, Pruned}
 use Rattle.rely_guarantee.specs.Books.{Books}
 use Rattle.rely_guarantee.specs.Lasting.{StaysFinished}
-use Rattle.rely_guarantee.specs.State.{State}
+use Rattle.rely_guarantee.specs.State.{SystemState}
 use Rattle.rely_guarantee.proofs.Lasting.{none_out}
 use Rattle.command.specs.ChangeLaws.{Founds}
 use Rattle.command.specs.Meaning.{Meaning}
@@ -115,7 +115,7 @@ module _ {T W A : Type 0} (m : Meaning W A) (lanes : List (Lane T W A)) (entries
     },
   )
 
-  pub all_staying : (v : View) (b : Books) (limits : Limits) (begin : State) → AreStayingIn m limits begin entries [] lanes v b ↔ AllAreStaying m limits begin entries lanes v b
+  pub all_staying : (v : View) (b : Books) (limits : Limits) (begin : SystemState) → AreStayingIn m limits begin entries [] lanes v b ↔ AllAreStaying m limits begin entries lanes v b
   all_staying v b limits begin = (
     λ is a n r c to of. subst (λ (out : List ObjName). IfAnswer (λ x. m.stays (begun_in limits (state_after begin entries r.start)) out x c v b) r.answer) (gone r.place) (is a n r c to of),
     λ is a n r c to of. subst (λ (out : List ObjName). IfAnswer (λ x. m.stays (begun_in limits (state_after begin entries r.start)) out x c v b) r.answer) (sym (gone r.place)) (is a n r c to of),

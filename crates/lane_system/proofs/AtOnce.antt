@@ -6,7 +6,7 @@ use Rattle.rely_guarantee.specs.declared.kind.Halt.{Halt}
 use Rattle.rely_guarantee.specs.declared.kind.Halt.TheVariants as halt
 use Rattle.rely_guarantee.specs.Books.{books_of}
 use Rattle.rely_guarantee.specs.Laws.{NotPending}
-use Rattle.rely_guarantee.specs.State.{State}
+use Rattle.rely_guarantee.specs.State.{SystemState}
 use Rattle.command.specs.declared.ended.Ended.{Ended}
 use Rattle.command.specs.declared.ended.Ended.TheVariants as ended
 use Rattle.command.specs.Doing.{IsAnswer}
@@ -34,7 +34,7 @@ module _ {F T W A : Type 0} (f : FsSpec F) (c : Family T W A) (cl : FamilyLaws c
   -- the state at the beginning is the one now
   here : (a : A) → IsAnswer c.means (since_in limits base.books at_end) words a → c.means.says (placed (since_in limits base.books at_end) (now_of base.books)) a words × c.means.knows (placed (since_in limits base.books at_end) (now_of base.books)) a words
   here a is =
-      let same : since_in limits base.books at_end ≡ placed (since_in limits base.books at_end) (now_of base.books) = ap (λ (s : State). placed (since_in limits base.books at_end) s) (state_all base.books at_end refl) in
+      let same : since_in limits base.books at_end ≡ placed (since_in limits base.books at_end) (now_of base.books) = ap (λ (s : SystemState). placed (since_in limits base.books at_end) s) (state_all base.books at_end refl) in
       (subst (λ (s : Since). c.means.says s a words) same is.0, subst (λ (s : Since). c.means.knows s a words) same is.1)
 
   -- so is one that was given since no command goes on

@@ -52,7 +52,7 @@ module _ {F T W A : Type 0} (f : FsSpec F) (c : Family T W A) (limits : Limits) 
   no_replies : count_of lanes ≡ 0
   no_replies = count_none lanes (λ a l at. (idle a l at).replies)
 
-  pub kept_first : SystemInvariant f.view f.clock f.spare f.was base → Tracks refs (now_of base.books) → length lanes ≤ 8 → AreHomes (f.view base.fs) → AreFree (f.view base.fs) → (base.books.turn ≡ None) × (base.books.exclusive ≡ None) × (base.books.shared.items ≡ []) → base.books.pins.items ≡ [] → base.books.halted ≡ None → Kept f c limits base refs lanes 0
+  pub kept_first : SystemInvariant f.view f.clock f.spare f.was base → Tracks refs (now_of base.books).refs → length lanes ≤ 8 → AreHomes (f.view base.fs) → AreFree (f.view base.fs) → (base.books.turn ≡ None) × (base.books.exclusive ≡ None) × (base.books.shared.items ≡ []) → base.books.pins.items ≡ [] → base.books.halted ≡ None → Kept f c limits base refs lanes 0
   kept_first sound tracks few homes free locks pins live = record {
     sound = sound;
     tracks = tracks;

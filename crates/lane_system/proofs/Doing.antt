@@ -9,7 +9,7 @@ use Rattle.rely_guarantee.specs.declared.kind.Outcome.{Outcome}
 use Rattle.rely_guarantee.specs.declared.kind.Outcome.TheVariants as came
 use Rattle.rely_guarantee.specs.Books.{books_of}
 use Rattle.rely_guarantee.specs.Laws.{Runs, MakeDurable}
-use Rattle.rely_guarantee.specs.State.{State}
+use Rattle.rely_guarantee.specs.State.{SystemState}
 use Rattle.rely_guarantee.specs.SystemInvariant.{SystemInvariant}
 use Rattle.ref_book.specs.declared.book.RefBook.{RefBook}
 use Rattle.ref_book.specs.Tracks.{HasEventRoom, HasRoom, Tracks}
@@ -33,7 +33,7 @@ use Rattle.lane_system.proofs.Prefixes.{state_all}
 
 module _ {F T W A : Type 0} (f : FsSpec F) (c : Family T W A) (limits : Limits) (lane : ℕ) where
   -- an answer at once
-  pub once_acts : (refs refs' : RefBook) (objects : ℕ) (base : Base F) (l : Lane T W A) (words : W) (x : Ended A) (start : ℕ) → IsNext l words → Tracks refs' (now_of base.books) → ((name : List ℕ) → HasRoom refs name → HasRoom refs' name) → start ≡ task_start base.books.history.items l.task → IsAtOnce f c.means limits base words l.task x
+  pub once_acts : (refs refs' : RefBook) (objects : ℕ) (base : Base F) (l : Lane T W A) (words : W) (x : Ended A) (start : ℕ) → IsNext l words → Tracks refs' (now_of base.books).refs → ((name : List ℕ) → HasRoom refs name → HasRoom refs' name) → start ≡ task_start base.books.history.items l.task → IsAtOnce f c.means limits base words l.task x
       → LaneActs f c limits lane lane refs refs' objects objects base base l (record { words = l.words; task = None; replies = l.replies }) (Answered x start)
   once_acts refs refs' objects base l words x start next tracks rooms is once = record {
     words = words;
@@ -108,7 +108,7 @@ pub started_room : {T W A : Type 0} (c : Family T W A) → CommandLaws c.tasks c
 started_room c laws limits refs b l r s objects e is =
     s.room e (laws.changes.settled (since_in limits b r.start) s.words (told_by c.doing objects r.work) e (laws.hears.pursues (record { objects = objects }) (since_in limits b r.start) s.words r.work s.after) is)
 
-pub begun_room : {T W A : Type 0} (c : Family T W A) → CommandLaws c.tasks c.means c.doing → (limits : Limits) (lane : ℕ) (s : State) (words : W) (refs : RefBook) (u : T) → IsBegun c.means c.doing limits lane s words refs (begun.Runs u) → (objects : ℕ) (e : Event) → c.tasks.kind (told_by c.doing objects u) ≡ MakeDurable e → HasEventRoom refs e
+pub begun_room : {T W A : Type 0} (c : Family T W A) → CommandLaws c.tasks c.means c.doing → (limits : Limits) (lane : ℕ) (s : SystemState) (words : W) (refs : RefBook) (u : T) → IsBegun c.means c.doing limits lane s words refs (begun.Runs u) → (objects : ℕ) (e : Event) → c.tasks.kind (told_by c.doing objects u) ≡ MakeDurable e → HasEventRoom refs e
 begun_room c laws limits lane s words refs u is objects e kind =
     is.2 e (laws.changes.settled (begun_in limits s) words (told_by c.doing objects u) e (laws.hears.pursues (record { objects = objects }) (begun_in limits s) words u is.1) kind)
 

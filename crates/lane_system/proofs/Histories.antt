@@ -1,6 +1,7 @@
 -- How the history and what is pending go on in a step of a task.
 use Rattle.std.proofs.Common.{◌≡◌, ◌⊎◌, inl, inr, ◌<◌, ◌≤◌, ◌+◌, ℕ, refl, sym, ◌∙◌, ap, subst, arith, List, [], ◌∷◌, ◌++◌, drop, length, length-append, slice_index_or, Some, None}
 use Rattle.std.proofs.lemmas.List.{drop_at, drop_all}
+use Rattle.rely_guarantee.specs.declared.books.Start.{Start}
 use Rattle.rely_guarantee.specs.declared.books.Books as rust
 use Rattle.rely_guarantee.specs.declared.books.Entry.{Entry}
 use Rattle.rely_guarantee.specs.declared.event.Event.{Event}
@@ -95,18 +96,18 @@ module _ (lane command moment : ℕ) (old new : rust.Books) where
 
 -- the state after what was added
 module _ (k : Kind) (old new : rust.Books) where
-  pub now_goes : new.start.items ≡ old.start.items → (new.history.items ≡ old.history.items) ⊎ IsLonger k old.history.items new.history.items
-      → after (events_of (drop (length old.history.items) new.history.items)) (now_of old) ≡ now_of new
+  pub now_goes : new.start ≡ old.start → (new.history.items ≡ old.history.items) ⊎ IsLonger k old.history.items new.history.items
+      → after (events_of (drop (length old.history.items) new.history.items)) (now_of old).refs ≡ (now_of new).refs
   now_goes start (inl same) =
-      ap (λ l. after (events_of l) (now_of old)) (drop_all (length old.history.items) new.history.items (omega (arith, ap length same)))
-      ∙ ap (λ l. after (events_of l) (first old.start.items)) (sym same) ∙ ap (λ s. after (events_of new.history.items) (first s)) (sym start)
+      ap (λ l. after (events_of l) (now_of old).refs) (drop_all (length old.history.items) new.history.items (omega (arith, ap length same)))
+      ∙ ap (λ l. after (events_of l) (first old.start.refs.items)) (sym same) ∙ ap (λ (s : Start). after (events_of new.history.items) (first s.refs.items)) (sym start)
   now_goes start (inr longer) =
       let x = longer.entry in
-      ap (λ l. after (events_of l) (now_of old)) (ap (drop (length old.history.items)) longer.grows ∙ drop_at old.history.items (x ∷ []) (length old.history.items) refl)
-      ∙ sym (after_push (events_of old.history.items) x.event (first old.start.items))
-      ∙ ap (λ l. after l (first old.start.items)) (sym (events_push old.history.items x))
-      ∙ ap (λ l. after (events_of l) (first old.start.items)) (sym longer.grows)
-      ∙ ap (λ s. after (events_of new.history.items) (first s)) (sym start)
+      ap (λ l. after (events_of l) (now_of old).refs) (ap (drop (length old.history.items)) longer.grows ∙ drop_at old.history.items (x ∷ []) (length old.history.items) refl)
+      ∙ sym (after_push (events_of old.history.items) x.event (first old.start.refs.items))
+      ∙ ap (λ l. after l (first old.start.refs.items)) (sym (events_push old.history.items x))
+      ∙ ap (λ l. after (events_of l) (first old.start.refs.items)) (sym longer.grows)
+      ∙ ap (λ (s : Start). after (events_of new.history.items) (first s.refs.items)) (sym start)
 
   -- at most one more entry
   pub few_more : (new.history.items ≡ old.history.items) ⊎ IsLonger k old.history.items new.history.items → length new.history.items ≤ length old.history.items + 1

@@ -3,6 +3,7 @@ use Rattle.std.proofs.Common.{◌≡◌, ◌≢◌, ◌⊎◌, ⊎_elim, ◌≤�
 use Rattle.std.proofs.Math.Seq.{take-length}
 use Rattle.std.specs.Prelude.{vec_capacity}
 use Rattle.ost_types.specs.declared.limits.Limits.{Limits}
+use Rattle.rely_guarantee.specs.declared.books.Start.{Start}
 use Rattle.rely_guarantee.specs.declared.books.Base.{Base}
 use Rattle.rely_guarantee.specs.declared.books.Entry.{Entry}
 use Rattle.rely_guarantee.specs.declared.event.Event.{Event}
@@ -12,7 +13,7 @@ use Rattle.rely_guarantee.specs.declared.kind.Halt.TheVariants as halt
 use Rattle.rely_guarantee.specs.declared.kind.Outcome.TheVariants as came
 use Rattle.rely_guarantee.specs.Books.{Books, Spared, books_of}
 use Rattle.rely_guarantee.specs.Laws.{NotPending}
-use Rattle.rely_guarantee.specs.State.{State, first}
+use Rattle.rely_guarantee.specs.State.{SystemState, opening_state}
 use Rattle.rely_guarantee.proofs.Acting.{runs_kept}
 use Rattle.ref_book.specs.declared.book.RefBook.{RefBook}
 use Rattle.ref_book.specs.Tracks.{HasEventRoom, HasRoom}
@@ -66,11 +67,11 @@ module _ {F T W A : Type 0} (f : FsSpec F) (c : Family T W A) (fl : FsLaws f) (c
         room = λ e changes. event_room refs refs' e acts.rooms (s.room e (subst (λ (x : Since). c.means.changes x s.words e) same changes));
       }
 
-  pub replies_stay : (mine number : ℕ) (words : W) (r : Reply A) → IsReply (IsTold f.view) c.means limits (first old.books.start.items) old.books.history.items mine number words r → IsReply (IsTold f.view) c.means limits (first new.books.start.items) new.books.history.items mine number words r
+  pub replies_stay : (mine number : ℕ) (words : W) (r : Reply A) → IsReply (IsTold f.view) c.means limits (opening_state old.books.start) old.books.history.items mine number words r → IsReply (IsTold f.view) c.means limits (opening_state new.books.start) new.books.history.items mine number words r
   replies_stay mine number words r is =
-      subst (λ b. IsReply (IsTold f.view) c.means limits (first b) new.books.history.items mine number words r) (sym acts.books.start)
-      (subst (λ (h : List Entry). IsReply (IsTold f.view) c.means limits (first old.books.start.items) h mine number words r) (sym acts.books.grows)
-      (reply_stays (IsTold f.view) c.means limits (first old.books.start.items) old.books.history.items acts.books.more mine number words r is))
+      subst (λ (b : Start). IsReply (IsTold f.view) c.means limits (opening_state b) new.books.history.items mine number words r) (sym acts.books.start)
+      (subst (λ (h : List Entry). IsReply (IsTold f.view) c.means limits (opening_state old.books.start) h mine number words r) (sym acts.books.grows)
+      (reply_stays (IsTold f.view) c.means limits (opening_state old.books.start) old.books.history.items acts.books.more mine number words r is))
 
   module _ (mine : ℕ) (not : mine ≢ actor) (other : mine ≢ lane) where
     others_run : (o : Option (Running T)) → RunsIn c mine (f.view old.fs) old.books o → RunsIn c mine (f.view new.fs) new.books o
@@ -138,7 +139,7 @@ module _ {F T W A : Type 0} (f : FsSpec F) (c : Family T W A) (fl : FsLaws f) (c
   -- and one whose command has its reply
   module _ (x : Ended A) (start : ℕ) (is_start : start ≡ task_start old.books.history.items l.task) (early : start ≤ length old.books.history.items) (task : l'.task ≡ None) (g : Gives f c limits lane (length l.replies.items) objects old new words start x)
       (r : Reply A) (answered : r.answer ≡ x) (begun : r.start ≡ start) (place : r.place ≡ length new.books.history.items) (given : l'.replies.items ≡ l.replies.items ++ r ∷ []) (room : vec_capacity l.replies ≤ vec_capacity l'.replies) where
-    its_reply : IsReply (IsTold f.view) c.means limits (first new.books.start.items) new.books.history.items lane (length l.replies.items) words r
+    its_reply : IsReply (IsTold f.view) c.means limits (opening_state new.books.start) new.books.history.items lane (length l.replies.items) words r
     its_reply =
         let s : state_in new.books r.start ≡ state_in old.books start = ap (state_in new.books) begun ∙ state_is actor lane old.books new.books acts.books start early in
         let p : state_in new.books r.place ≡ now_of new.books = state_all new.books r.place place in
@@ -147,13 +148,13 @@ module _ {F T W A : Type 0} (f : FsSpec F) (c : Family T W A) (fl : FsLaws f) (c
           begun = omega (arith, begun, place, early, longer actor lane old.books new.books acts.books);
           within = omega (arith, place);
           answer =
-              subst (λ (z : State). IfAnswer (Answers c.means lane (length l.replies.items) (placed (begun_in limits z) (state_in new.books r.place)) (take r.place new.books.history.items) words) r.answer) (sym s)
-              (subst (λ (z : State). IfAnswer (Answers c.means lane (length l.replies.items) (placed (begun_in limits (state_in old.books start)) z) (take r.place new.books.history.items) words) r.answer) (sym p)
+              subst (λ (z : SystemState). IfAnswer (Answers c.means lane (length l.replies.items) (placed (begun_in limits z) (state_in new.books r.place)) (take r.place new.books.history.items) words) r.answer) (sym s)
+              (subst (λ (z : SystemState). IfAnswer (Answers c.means lane (length l.replies.items) (placed (begun_in limits (state_in old.books start)) z) (take r.place new.books.history.items) words) r.answer) (sym p)
               (subst (λ (h : List Entry). IfAnswer (Answers c.means lane (length l.replies.items) (placed (begun_in limits (state_in old.books start)) (now_of new.books)) h words) r.answer) (sym all)
               (subst (IfAnswer (Answers c.means lane (length l.replies.items) (placed (since_in limits old.books start) (now_of new.books)) new.books.history.items words)) (sym answered) g.answer)));
           known = λ is_told.
-              subst (λ (z : State). Knows c.means (placed (begun_in limits z) (state_in new.books r.place)) words r.answer) (sym s)
-              (subst (λ (z : State). Knows c.means (placed (begun_in limits (state_in old.books start)) z) words r.answer) (sym p)
+              subst (λ (z : SystemState). Knows c.means (placed (begun_in limits z) (state_in new.books r.place)) words r.answer) (sym s)
+              (subst (λ (z : SystemState). Knows c.means (placed (begun_in limits (state_in old.books start)) z) words r.answer) (sym p)
               (subst (Knows c.means (placed (since_in limits old.books start) (now_of new.books)) words) (sym answered) (g.known is_told)));
         }
 
@@ -176,7 +177,7 @@ module _ {F T W A : Type 0} (f : FsSpec F) (c : Family T W A) (fl : FsLaws f) (c
           (λ here. (
             words,
             subst (λ n. IsAt l'.words.items n words) (sym here.0) (subst (λ v. IsAt v.items (length l.replies.items) words) (sym same) next),
-            subst (λ n. IsReply (IsTold f.view) c.means limits (first new.books.start.items) new.books.history.items lane n words q) (sym here.0) (subst (IsReply (IsTold f.view) c.means limits (first new.books.start.items) new.books.history.items lane (length l.replies.items) words) (sym here.1) its_reply),
+            subst (λ n. IsReply (IsTold f.view) c.means limits (opening_state new.books.start) new.books.history.items lane n words q) (sym here.0) (subst (IsReply (IsTold f.view) c.means limits (opening_state new.books.start) new.books.history.items lane (length l.replies.items) words) (sym here.1) its_reply),
           ))
           (reply_split number q at);
       in_order = λ number after_ q w at bt lt. ⊎_elim

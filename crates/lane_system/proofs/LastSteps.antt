@@ -3,6 +3,7 @@ use Rattle.std.proofs.Common.{◌≡◌, ◌≢◌, inl, inr, ⊎_elim, ℕ, ref
 use Rattle.fs_trait.specs.View.{View}
 use Rattle.fs_trait.specs.Image.{IsTree}
 use Rattle.fs_trait.proofs.Images.{Image-now}
+use Rattle.rely_guarantee.specs.declared.books.Start.{Start}
 use Rattle.rely_guarantee.specs.declared.books.Books as rust
 use Rattle.rely_guarantee.specs.declared.books.Entry.{Entry}
 use Rattle.rely_guarantee.specs.declared.books.Pending.{Pending}
@@ -37,23 +38,23 @@ held_free : (lane : ℕ) (b : Books) → Agrees b → HoldsOff lane b → Free b
 held_free lane b agrees (inl mine) = free_of b.turn lane mine
 held_free lane b agrees (inr alone) = λ y is. agrees.turn lane y alone is
 
-module _ (lane command moment : ℕ) (old new : rust.Books) (agrees : Agrees (books_of old)) (start : new.start.items ≡ old.start.items) (owner : (p : Pending) → old.pending ≡ Some p → old.turn ≡ Some p.lane)
-    (v w : View) (stands : Stands (first old.start.items) old.history.items old.pending v) (then : Stands (first new.start.items) new.history.items new.pending w) (tree : IsTree v.now) (tree' : IsTree w.now) where
-  before : NotPending lane (books_of old) → Free old.turn lane → IsUnbooked old new → IsState v.now (now_of new)
+module _ (lane command moment : ℕ) (old new : rust.Books) (agrees : Agrees (books_of old)) (start : new.start ≡ old.start) (owner : (p : Pending) → old.pending ≡ Some p → old.turn ≡ Some p.lane)
+    (v w : View) (stands : Stands (first old.start.refs.items) old.history.items old.pending v) (then : Stands (first new.start.refs.items) new.history.items new.pending w) (tree : IsTree v.now) (tree' : IsTree w.now) where
+  before : NotPending lane (books_of old) → Free old.turn lane → IsUnbooked old new → IsState v.now (now_of new).refs
   before none free same =
-      let is : now_of new ≡ now_of old = ap (λ (h : List Entry). after (events_of h) (first new.start.items)) same.0 ∙ ap (λ x. after (events_of old.history.items) (first x)) start in
-      subst (IsState v.now) (sym is) (state_of (first old.start.items) old.history.items old.pending v stands (none_pending old.turn old.pending lane owner none free) tree)
+      let is : (now_of new).refs ≡ (now_of old).refs = ap (λ (h : List Entry). after (events_of h) (first new.start.refs.items)) same.0 ∙ ap (λ (x : Start). after (events_of old.history.items) (first x.refs.items)) start in
+      subst (IsState v.now) (sym is) (state_of (first old.start.refs.items) old.history.items old.pending v stands (none_pending old.turn old.pending lane owner none free) tree)
 
-  entered : (x : Entry) → new.history.items ≡ old.history.items ++ x ∷ [] → (t : Topic) → target x.event ≡ Some t → now_of new t ≡ gives x.event
+  entered : (x : Entry) → new.history.items ≡ old.history.items ++ x ∷ [] → (t : Topic) → target x.event ≡ Some t → (now_of new).refs t ≡ gives x.event
   entered x grows t is =
-      let from : State = first new.start.items in
+      let from : State = first new.start.refs.items in
       let past : State = after (events_of old.history.items) from in
       ap (λ (h : List Entry). after (events_of h) from t) grows
       ∙ ap (λ (l : List Event). after l from t) (events_push old.history.items x)
       ∙ ap (λ (s : State). s t) (after_push (events_of old.history.items) x.event from)
       ∙ next_here x.event t past (ap (λ o. is_topic o t) is ∙ topic_self t)
 
-  pub sees : (k : Kind) → Holds k lane (books_of old) → Opens k lane (books_of old) → IsBooked k lane command moment came.Done old new → Sees k lane (books_of old) v w (now_of new)
+  pub sees : (k : Kind) → Holds k lane (books_of old) → Opens k lane (books_of old) → IsBooked k lane command moment came.Done old new → Sees k lane (books_of old) v w (now_of new).refs
   sees Quiet holds opens booked = λ has. before holds (held_free lane (books_of old) agrees has) booked
   sees Store holds opens booked = λ has. before holds (held_free lane (books_of old) agrees has) booked
   sees (Take wants) holds opens booked = λ has. before holds (⊎_elim (λ asks. (opens.turn asks).1) (λ more. ⊎_elim (λ asks. (opens.exclusive asks).1) (λ mine. held_free lane (books_of old) agrees mine) more) has) booked
@@ -62,6 +63,6 @@ module _ (lane command moment : ℕ) (old new : rust.Books) (agrees : Agrees (bo
   sees (Published e owed) holds opens booked = absurd booked
   sees (Remove e owed) holds opens booked = absurd booked
   sees (MakeDurable e) holds opens booked = (
-    state_of (first new.start.items) new.history.items new.pending w then booked.0 tree',
+    state_of (first new.start.refs.items) new.history.items new.pending w then booked.0 tree',
     entered (record { lane = lane; command = holds.command; event = e; moment = moment }) (booked.1 _ holds.pending),
   )

@@ -8,6 +8,7 @@ use Rattle.fs_trait.specs.Change.{Left}
 use Rattle.fs_trait.specs.Image.{Image, Told}
 use Rattle.fs_trait.specs.View.{Disk, View}
 use Rattle.repo_model.specs.Trees.{name_of}
+use Rattle.rely_guarantee.specs.declared.books.Start.{Start}
 use Rattle.rely_guarantee.specs.declared.books.Base.{Base}
 use Rattle.rely_guarantee.specs.declared.books.Entry.{Entry}
 use Rattle.rely_guarantee.specs.declared.event.Event.{Event}
@@ -16,7 +17,7 @@ use Rattle.rely_guarantee.specs.Books.{books_of}
 use Rattle.rely_guarantee.specs.Lasting.{Outlasts, StaysFinished, StaysOn}
 use Rattle.rely_guarantee.specs.Rely.{Interference}
 use Rattle.repo_layout.specs.RefFile.{IsSum}
-use Rattle.rely_guarantee.specs.State.{IsRun, IsValid, State, events_of, first, next, pending_of, stored}
+use Rattle.rely_guarantee.specs.State.{IsRun, IsValid, State, events_of, first, next, pending_of, stored, opening_state}
 use Rattle.rely_guarantee.specs.SystemInvariant.{Ordered, SystemInvariant}
 use Rattle.rely_guarantee.proofs.Finished.{finished_stays}
 use Rattle.rely_guarantee.proofs.Lasting.{none_out, stays_image}
@@ -150,7 +151,7 @@ module _ {F T W A : Type 0} (f : FsSpec F) (c : Family T W A) (fl : FsLaws f) (c
 
   -- what replies say of the disk
   abbrev pub WasSeenIn : Base F → Reply A → W → Type 0
-  WasSeenIn base r words = WasSeen c.means (f.was base.fs) base.books.opened limits (first base.books.start.items) base.books.history.items base.books.pending r words
+  WasSeenIn base r words = WasSeen c.means (f.was base.fs) base.books.opened limits (opening_state base.books.start) base.books.history.items base.books.pending r words
 
   still_seen : (r : Reply A) (words : W) → r.start ≤ length old.books.history.items → WasSeenIn old r words → WasSeenIn new r words
   still_seen r words le x = record {
@@ -162,8 +163,8 @@ module _ {F T W A : Type 0} (f : FsSpec F) (c : Family T W A) (fl : FsLaws f) (c
     place = x.place;
     from = x.from;
     to = x.to;
-    refs = sees_stay (first old.books.start.items) (first new.books.start.items) (stored old.books.history.items old.books.pending) (stored new.books.history.items new.books.pending) acts.grows.0 x.place x.shown.now
-        (ap (λ l. first l) acts.books.start) acts.grows.1 x.refs;
+    refs = sees_stay (first old.books.start.refs.items) (first new.books.start.refs.items) (stored old.books.history.items old.books.pending) (stored new.books.history.items new.books.pending) acts.grows.0 x.place x.shown.now
+        (ap (λ (s : Start). first s.refs.items) acts.books.start) acts.grows.1 x.refs;
     seen = subst (λ (s : Since). IfAnswer (λ a. c.means.shows s x.shown a words) r.answer) (sym (since_same r.start le)) x.seen;
     full = x.full;
   }
@@ -304,7 +305,7 @@ module _ {F T W A : Type 0} (f : FsSpec F) (c : Family T W A) (fl : FsLaws f) (c
 
       -- what a change sets its ref to is a sum
       set_sum : (k : ℕ) (e : Entry) → IsAt new.books.history.items k e → (commit : List ℕ) → Sets commit e.event → IsSum commit
-      set_sum k e at commit sets = sets_sum commit e.event sets (valid_at new.books.history.items (pending_of new.books.pending) (first new.books.start.items) k e (acts.sound.stands w told_w).run at)
+      set_sum k e at commit sets = sets_sum commit e.event sets (valid_at new.books.history.items (pending_of new.books.pending) (first new.books.start.refs.items) k e (acts.sound.stands w told_w).run at)
 
       never : (r : Reply A) (words : W) (commit : List ℕ) → IsNew r words → OfAnswer (λ a. c.means.lacks a commit) r.answer → StaysFinished v commit → ⊥
       never r words commit given lacks lasts =

@@ -33,7 +33,7 @@ stored_few entries pending = omega (arith, length-append (events_of entries) (pe
 
 -- reads see what a crash may leave: the refs after all changes that last, or after the one that is shown too
 pub sees_now : {F : Type 0} (f : FsSpec F) → FsLaws f → (base : Base F) → SystemInvariant f.view f.clock f.spare f.was base → (v : View) → f.view base.fs ≡ Some v
-    → SeesRefs (first base.books.start.items) (stored base.books.history.items base.books.pending) (length base.books.history.items) v.now
+    → SeesRefs (first base.books.start.refs.items) (stored base.books.history.items base.books.pending) (length base.books.history.items) v.now
 sees_now f fl base sound v told =
     let tree = fl.tree base.fs v told in
     let clock = f.clock base.fs in

@@ -75,7 +75,7 @@ module _ {F T W A : Type 0} (f : FsSpec F) (k : TaskSpec T) (d : Doing T W A) (l
   learnt_runs =
       let ordered = step.acts.sound.ordered in
       record {
-        facts = λ v told. laws.facts (first new.books.start.items) new.books.history.items new.books.pending refs' pins lane mid new_t v (books_of new.books)
+        facts = λ v told. laws.facts (first new.books.start.refs.items) new.books.history.items new.books.pending refs' pins lane mid new_t v (books_of new.books)
             (record { stands = step.acts.sound.stands v told; tracks = step.tracks; pins_are = pins_are; free = free v told; clear = clear_of new.books lane ordered.agrees ordered.owner })
             learns step.acts.tells.holds (step.acts.tells.facts v told);
         holds = subst (λ (x : Kind). Holds x lane (books_of new.books)) (sym (laws.kind refs' pins mid new_t learns)) step.acts.tells.holds;

@@ -57,7 +57,7 @@ pub record Acts {F : Type 0} (f : FsSpec F) (actor lane : ℕ) (refs refs' : Ref
   pub homes : AreHomes (f.view old.fs) → AreHomes (f.view new.fs)
   -- commands that go on went on before
   pub live : new.books.halted ≡ None → old.books.halted ≡ None
-  pub tracks : Tracks refs' (now_of new.books)
+  pub tracks : Tracks refs' (now_of new.books).refs
   pub rooms : (name : List ℕ) → HasRoom refs name → HasRoom refs' name
   pub locks : AreInOrder old.books → AreInOrder new.books
   -- the objects that it may have removed, the others, which stay, and time

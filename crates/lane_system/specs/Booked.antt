@@ -2,7 +2,7 @@
 use Rattle.std.specs.Prelude.{◌≡◌, ◌<◌, ◌≤◌, ◌++◌, ◌∷◌, [], ℕ, List, length, map, slice_set, Option, Some, None}
 use Rattle.fs_trait.specs.View.{View}
 use Rattle.rely_guarantee.specs.declared.books.Entry.{Entry}
-use Rattle.rely_guarantee.specs.State.{first}
+use Rattle.rely_guarantee.specs.State.{opening_state}
 use Rattle.command.specs.declared.ended.Ended.{Ended}
 use Rattle.command.specs.Meaning.{Meaning}
 use Rattle.lane_system.specs.declared.ask.Ask.{Ask}
@@ -27,7 +27,7 @@ commands_of s = map (λ l. l.words.items) s.lanes
 
 -- what the beginning was stays, as do the bounds, and the history only grows
 abbrev pub IsLater : {F T W A : Type 0} → System F T W A → System F T W A → Type 0
-IsLater old new = (new.base.books.start.items ≡ old.base.books.start.items) × (new.base.books.opened ≡ old.base.books.opened)
+IsLater old new = (new.base.books.start ≡ old.base.books.start) × (new.base.books.opened ≡ old.base.books.opened)
     × (more : List Entry) × (new.base.books.history.items ≡ old.base.books.history.items ++ more) × (new.limits ≡ old.limits)
 
 -- What the answer to the lane's next command tells where its act began: of the disk and of calls that failed in it, and of the objects in
@@ -68,4 +68,4 @@ Acted {F} {T} {W} {A} Tells old new actor (Done lane command) = (l : Lane T W A)
 
 -- what the replies say of the history
 abbrev pub IsReplied : {F T W A : Type 0} → (F → Option View) → Meaning W A → System F T W A → Type 0
-IsReplied view m s = Replied (IsTold view) m s.limits (first s.base.books.start.items) s.base.books.history.items s.base.books.pending s.lanes
+IsReplied view m s = Replied (IsTold view) m s.limits (opening_state s.base.books.start) s.base.books.history.items s.base.books.pending s.lanes

@@ -10,7 +10,7 @@ use Rattle.rely_guarantee.specs.declared.books.Share.{Share}
 use Rattle.rely_guarantee.specs.declared.kind.Halt.TheVariants as halt
 use Rattle.rely_guarantee.specs.Books.{books_of}
 use Rattle.rely_guarantee.specs.Laws.{NotPending, Runs}
-use Rattle.rely_guarantee.specs.State.{first}
+use Rattle.rely_guarantee.specs.State.{opening_state}
 use Rattle.rely_guarantee.specs.SystemInvariant.{SystemInvariant}
 use Rattle.ref_book.specs.declared.book.RefBook.{RefBook}
 use Rattle.ref_book.specs.Tracks.{Tracks}
@@ -55,7 +55,7 @@ pub record LaneKept {F T W A : Type 0} (f : FsSpec F) (c : Family T W A) (limits
   pub is : IsLane c.means limits l
   pub runs : base.books.halted ≡ None → RunsIn c lane (f.view base.fs) base.books l.task
   pub started : (r : Running T) → l.task ≡ Some r → Started c limits refs base.books l r
-  pub replies : (number : ℕ) (r : Reply A) → IsAt l.replies.items number r → (words : W) × IsAt l.words.items number words × IsReply (IsTold f.view) c.means limits (first base.books.start.items) base.books.history.items lane number words r
+  pub replies : (number : ℕ) (r : Reply A) → IsAt l.replies.items number r → (words : W) × IsAt l.words.items number words × IsReply (IsTold f.view) c.means limits (opening_state base.books.start) base.books.history.items lane number words r
   pub in_order : (number next : ℕ) (r q : Reply A) → IsAt l.replies.items number r → IsAt l.replies.items next q → number < next → r.place ≤ q.start
   pub halts : (number : ℕ) (r : Reply A) → IsAt l.replies.items number r → EndsBy base.books.halted (f.refused base.fs) (f.faults base.fs) r.answer
 
@@ -68,7 +68,7 @@ pub record Locked {T W A : Type 0} (b : rust.Books) (lanes : List (Lane T W A)) 
 -- were ended each reply says so.
 pub record Accounted {T W A : Type 0} (told : Type 0) (m : Meaning W A) (limits : Limits) (b : rust.Books) (lanes : List (Lane T W A)) (given : ℕ) : Type 0 where
   pub made : (k : ℕ) (e : Entry) → IsAt b.history.items k e → WasMade m lanes k e
-  pub shown : (p : Pending) → b.pending ≡ Some p → IsPendingOf told m limits (first b.start.items) b.history.items lanes p
+  pub shown : (p : Pending) → b.pending ≡ Some p → IsPendingOf told m limits (opening_state b.start) b.history.items lanes p
   pub going : (p : Pending) → b.pending ≡ Some p → b.halted ≡ None → (r : Running T) × IsRunning lanes p.lane p.command r
   -- no command takes the lock on the list of deployments yet
   pub untaken : (lane number : ℕ) (r : Reply A) → IsTo lanes lane number r → r.taken ≡ None
@@ -92,7 +92,7 @@ AreFree view = (v : View) → view ≡ Some v → ObjectPathsFree v.now
 
 pub record Kept {F T W A : Type 0} (f : FsSpec F) (c : Family T W A) (limits : Limits) (base : Base F) (refs : RefBook) (lanes : List (Lane T W A)) (given : ℕ) : Type 0 where
   pub sound : SystemInvariant f.view f.clock f.spare f.was base
-  pub tracks : Tracks refs (now_of base.books)
+  pub tracks : Tracks refs (now_of base.books).refs
   pub few : length lanes ≤ 8
   pub homes : AreHomes (f.view base.fs)
   pub free : AreFree (f.view base.fs)

@@ -77,6 +77,6 @@ pub record LaneActs {F T W A : Type 0} (f : FsSpec F) (c : Family T W A) (limits
   pub next : IsNext l words
   pub same : l'.words ≡ l.words
   pub replies : l'.replies ≡ l.replies
-  pub tracks : Tracks refs' (now_of new.books)
+  pub tracks : Tracks refs' (now_of new.books).refs
   pub rooms : (name : List ℕ) → HasRoom refs name → HasRoom refs' name
   pub did : Did f c limits actor lane (length l.replies.items) refs refs' objects objects' old new words l.task l'.task result

@@ -5,7 +5,7 @@ use Rattle.ost_types.specs.declared.object.ObjName.{ObjName}
 use Rattle.fs_trait.specs.Change.{Left}
 use Rattle.fs_trait.specs.View.{Disk, View}
 use Rattle.rely_guarantee.specs.declared.books.Entry.{Entry}
-use Rattle.rely_guarantee.specs.State.{State}
+use Rattle.rely_guarantee.specs.State.{SystemState}
 use Rattle.command.specs.ChangeLaws.{IsRightSince}
 use Rattle.command.specs.Meaning.{Meaning}
 use Rattle.command.specs.Since.{begun_in}
@@ -17,7 +17,7 @@ use Rattle.lane_system.specs.System.{System}
 -- The change of this number is its command's, which began in some state; and what it leaves in the store stands now, and on each disk that a
 -- crash left since the change lasts, but for what was removed since.
 pub record IsChangeKept {W A : Type 0} (m : Meaning W A) (was : ℕ → View → Type 0) (opening : View) (limits : Limits) (entries : List Entry) (swept : List ObjName) (k : ℕ) (e : Entry) (c : W) (v : View) : Type 0 where
-  pub start : State
+  pub start : SystemState
   pub makes : m.changes (begun_in limits start) c e.event
   pub now : m.keeps (begun_in limits start) opening (gone_since entries swept (k + 1)) c v
   pub since : (t : ℕ) (d : Disk) → e.moment ≤ t → Left was t d → m.keeps_on (begun_in limits start) opening (gone_since entries swept (k + 1)) c d

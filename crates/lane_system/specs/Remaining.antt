@@ -3,7 +3,7 @@ use Rattle.std.specs.Prelude.{◌≤◌, ℕ, List}
 use Rattle.ost_types.specs.declared.limits.Limits.{Limits}
 use Rattle.fs_trait.specs.View.{View}
 use Rattle.rely_guarantee.specs.declared.books.Entry.{Entry}
-use Rattle.rely_guarantee.specs.State.{State, first}
+use Rattle.rely_guarantee.specs.State.{SystemState, opening_state}
 use Rattle.command.specs.Meaning.{Meaning}
 use Rattle.command.specs.Since.{begun_in}
 use Rattle.lane_system.specs.declared.lane.Lane.{Lane}
@@ -19,10 +19,10 @@ abbrev pub IsLast : {T W A : Type 0} → List (Lane T W A) → Reply A → Type 
 IsLast {T} {W} {A} lanes r = (lane number : ℕ) (q : Reply A) → IsTo lanes lane number q → q.order ≤ r.order
 
 -- what that one shows behind its act is so in this view
-abbrev pub LastRemainsIn : {T W A : Type 0} → Meaning W A → Limits → State → List Entry → List (Lane T W A) → View → Type 0
+abbrev pub LastRemainsIn : {T W A : Type 0} → Meaning W A → Limits → SystemState → List Entry → List (Lane T W A) → View → Type 0
 LastRemainsIn {T} {W} {A} m limits begin entries lanes v = (lane number : ℕ) (r : Reply A) (c : W) → IsTo lanes lane number r → IsCommand lanes lane number c → IsLast lanes r
     → IfAnswer (λ a. m.remains (begun_in limits (state_after begin entries r.start)) v a c) r.answer
 
 -- so of a system that has no command left
 abbrev pub LastRemains : {F T W A : Type 0} → Meaning W A → System F T W A → View → Type 0
-LastRemains m s v = IsOver s → LastRemainsIn m s.limits (first s.base.books.start.items) s.base.books.history.items s.lanes v
+LastRemains m s v = IsOver s → LastRemainsIn m s.limits (opening_state s.base.books.start) s.base.books.history.items s.lanes v

@@ -8,7 +8,7 @@ use Rattle.rely_guarantee.specs.declared.books.Entry.{Entry}
 use Rattle.rely_guarantee.specs.declared.event.Event.{Event}
 use Rattle.rely_guarantee.specs.declared.kind.Halt.{Halt}
 use Rattle.rely_guarantee.specs.declared.kind.Halt.TheVariants as halt
-use Rattle.rely_guarantee.specs.State.{State}
+use Rattle.rely_guarantee.specs.State.{SystemState}
 use Rattle.command.specs.declared.ended.Ended.{Ended}
 use Rattle.command.specs.declared.ended.Ended.TheVariants.{Answered, NoMemory, DiskFault, Outside, Halted}
 use Rattle.command.specs.Meaning.{Meaning}
@@ -93,7 +93,7 @@ abbrev pub Shown : {W A : Type 0} → Meaning W A → Since → Option View → 
 Shown m since view halted before now c x = ((v : View) → view ≡ Some v → IsSoundStore since.limits v.now → IfAnswer (λ a. m.shows since v a c) x) × IsCaused halted before now x
 
 -- A reply to a command of a lane: by the state at its start and the one at its place, which come in this order.
-pub record IsReply {W A : Type 0} (told : Type 0) (m : Meaning W A) (limits : Limits) (begin : State) (entries : List Entry) (lane number : ℕ) (c : W) (r : Reply A) : Type 0 where
+pub record IsReply {W A : Type 0} (told : Type 0) (m : Meaning W A) (limits : Limits) (begin : SystemState) (entries : List Entry) (lane number : ℕ) (c : W) (r : Reply A) : Type 0 where
   pub begun : r.start ≤ r.place
   pub within : r.place ≤ length entries
   pub answer : IfAnswer (Answers m lane number (placed (begun_in limits (state_after begin entries r.start)) (state_after begin entries r.place)) (take r.place entries) c) r.answer

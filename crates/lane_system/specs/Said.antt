@@ -6,7 +6,7 @@ use Rattle.rely_guarantee.specs.declared.books.Entry.{Entry}
 use Rattle.rely_guarantee.specs.declared.books.Pending.{Pending}
 use Rattle.rely_guarantee.specs.declared.event.Event.{Event}
 use Rattle.rely_guarantee.specs.Headline.{Has}
-use Rattle.rely_guarantee.specs.State.{State, after, first, stored}
+use Rattle.rely_guarantee.specs.State.{State, after, stored, SystemState, opening_state}
 use Rattle.durable_store.specs.Full.{IsFull}
 use Rattle.command.specs.Meaning.{Meaning}
 use Rattle.command.specs.Since.{begun_in}
@@ -28,7 +28,7 @@ pub record SeesRefs (begin : State) (events : List Event) (place : ℕ) (d : Dis
 -- At a moment since the opening, when the changes at the reply's start lasted, or later, reads had this view; and in it what the reply
 -- tells of the disk is so. It is one of the time when so many changes lasted, no fewer than at the reply's start and no more than at its
 -- place: so reads had it before the reply was given.
-pub record WasSeen {W A : Type 0} (m : Meaning W A) (was : ℕ → View → Type 0) (opened : ℕ) (limits : Limits) (begin : State) (entries : List Entry) (pending : Option Pending) (r : Reply A) (c : W) : Type 0 where
+pub record WasSeen {W A : Type 0} (m : Meaning W A) (was : ℕ → View → Type 0) (opened : ℕ) (limits : Limits) (begin : SystemState) (entries : List Entry) (pending : Option Pending) (r : Reply A) (c : W) : Type 0 where
   pub moment : ℕ
   pub shown : View
   pub since : opened ≤ moment
@@ -37,14 +37,14 @@ pub record WasSeen {W A : Type 0} (m : Meaning W A) (was : ℕ → View → Type
   pub place : ℕ
   pub from : r.start ≤ place
   pub to : place ≤ r.place
-  pub refs : SeesRefs begin (stored entries pending) place shown.now
+  pub refs : SeesRefs begin.refs (stored entries pending) place shown.now
   pub seen : IfAnswer (λ a. m.shows (begun_in limits (state_after begin entries r.start)) shown a c) r.answer
   pub full : IfAnswer (λ a. m.full a → IsFull limits shown.now) r.answer
 
 -- so of each reply to a command of these lanes
-abbrev pub RepliesHeldAtAPointIn : {T W A : Type 0} → Meaning W A → (ℕ → View → Type 0) → ℕ → Limits → State → List Entry → Option Pending → List (Lane T W A) → Type 0
+abbrev pub RepliesHeldAtAPointIn : {T W A : Type 0} → Meaning W A → (ℕ → View → Type 0) → ℕ → Limits → SystemState → List Entry → Option Pending → List (Lane T W A) → Type 0
 RepliesHeldAtAPointIn {T} {W} {A} m was opened limits begin entries pending lanes = (lane number : ℕ) (r : Reply A) (c : W) → IsTo lanes lane number r → IsCommand lanes lane number c → WasSeen m was opened limits begin entries pending r c
 
 -- so of a system, since its opening
 abbrev pub RepliesHeldAtAPoint : {F T W A : Type 0} → Meaning W A → (F → ℕ → View → Type 0) → System F T W A → Type 0
-RepliesHeldAtAPoint m was s = RepliesHeldAtAPointIn m (was s.base.fs) s.base.books.opened s.limits (first s.base.books.start.items) s.base.books.history.items s.base.books.pending s.lanes
+RepliesHeldAtAPoint m was s = RepliesHeldAtAPointIn m (was s.base.fs) s.base.books.opened s.limits (opening_state s.base.books.start) s.base.books.history.items s.base.books.pending s.lanes

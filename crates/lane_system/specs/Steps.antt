@@ -51,7 +51,7 @@ pub record Stepped {F T : Type 0} (f : FsSpec F) (k : TaskSpec T) (actor lane nu
   pub time : Elapses (f.clock old.fs) (f.clock new.fs) (f.was old.fs) (f.was new.fs) (f.view new.fs)
   pub cause : Causes (f.faults old.fs) (f.faults new.fs) outcome
   pub live : IsLive outcome old.books.halted new.books.halted
-  pub tracks : Tracks refs' (now_of new.books)
+  pub tracks : Tracks refs' (now_of new.books).refs
   pub rooms : (name : List ℕ) → HasRoom refs name → HasRoom refs' name
 
 -- one more is in the store after a step that stored an object, as far as 32 bits go

@@ -6,7 +6,7 @@ use Rattle.fs_trait.specs.Seen.{Seen, Vacant}
 use Rattle.fs_trait.specs.View.{View}
 use Rattle.repo_model.specs.Objects.{Store}
 use Rattle.rely_guarantee.specs.declared.books.Entry.{Entry}
-use Rattle.rely_guarantee.specs.State.{State, first}
+use Rattle.rely_guarantee.specs.State.{SystemState, opening_state}
 use Rattle.sys_open.specs.Damages.{ShowsConfig}
 use Rattle.durable_store.specs.Keeping.{KeepsGood}
 use Rattle.command.specs.Meaning.{Meaning}
@@ -28,7 +28,7 @@ HasBegun {T} {W} {A} lanes lane number start =
     ⊎ ((r : Running T) × IsRunning lanes lane number r × (r.start ≡ start))
 
 -- These bytes are among those that a command of the lanes brings under the name, which began.
-pub record IsBroughtIn {T W A : Type 0} (m : Meaning W A) (limits : Limits) (begin : State) (entries : List Entry) (lanes : List (Lane T W A)) (name : ObjName) (bytes : List ℕ) : Type 0 where
+pub record IsBroughtIn {T W A : Type 0} (m : Meaning W A) (limits : Limits) (begin : SystemState) (entries : List Entry) (lanes : List (Lane T W A)) (name : ObjName) (bytes : List ℕ) : Type 0 where
   pub lane : ℕ
   pub number : ℕ
   pub command : W
@@ -39,7 +39,7 @@ pub record IsBroughtIn {T W A : Type 0} (m : Meaning W A) (limits : Limits) (beg
 
 -- so of a system
 abbrev pub WasBrought : {F T W A : Type 0} → Meaning W A → System F T W A → Store
-WasBrought m s = IsBroughtIn m s.limits (first s.base.books.start.items) s.base.books.history.items s.lanes
+WasBrought m s = IsBroughtIn m s.limits (opening_state s.base.books.start) s.base.books.history.items s.lanes
 
 -- of the configuration: there is none, or one that is
 abbrev pub IsConfigured : Seen → Type 0

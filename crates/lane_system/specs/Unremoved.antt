@@ -7,7 +7,7 @@ use Rattle.rely_guarantee.specs.declared.books.Entry.{Entry}
 use Rattle.rely_guarantee.specs.declared.books.Pending.{Pending}
 use Rattle.rely_guarantee.specs.Books.{Books}
 use Rattle.rely_guarantee.specs.Lasting.{StaysFinished}
-use Rattle.rely_guarantee.specs.State.{State}
+use Rattle.rely_guarantee.specs.State.{SystemState}
 use Rattle.command.specs.ChangeLaws.{Founds, IsRightSince}
 use Rattle.command.specs.Meaning.{Meaning}
 use Rattle.command.specs.Since.{begun_in}
@@ -25,7 +25,7 @@ AreUnpruned entries = (k : ℕ) (e : Entry) → IsAt entries k e → removed_by 
 
 -- What a change left in the store stands now, and on each disk that a crash left since the change lasts.
 pub record IsChangeWhole {W A : Type 0} (m : Meaning W A) (was : ℕ → View → Type 0) (opening : View) (limits : Limits) (e : Entry) (c : W) (v : View) : Type 0 where
-  pub start : State
+  pub start : SystemState
   pub makes : m.changes (begun_in limits start) c e.event
   pub now : m.keeps (begun_in limits start) opening [] c v
   pub since : (t : ℕ) (d : Disk) → e.moment ≤ t → Left was t d → m.keeps_on (begun_in limits start) opening [] c d
@@ -48,6 +48,6 @@ pub record AllRefsNameDurableCommits {T W A : Type 0} (m : Meaning W A) (opening
   pub present : AllArePresent m (StaysFinished opening) entries lanes
 
 -- `AreStayingIn` so
-abbrev pub AllAreStaying : {T W A : Type 0} → Meaning W A → Limits → State → List Entry → List (Lane T W A) → View → Books → Type 0
+abbrev pub AllAreStaying : {T W A : Type 0} → Meaning W A → Limits → SystemState → List Entry → List (Lane T W A) → View → Books → Type 0
 AllAreStaying {T} {W} {A} m limits begin entries lanes v b = (lane number : ℕ) (r : Reply A) (c : W) → IsTo lanes lane number r → IsCommand lanes lane number c
     → IfAnswer (λ a. m.stays (begun_in limits (state_after begin entries r.start)) [] a c v b) r.answer

@@ -44,7 +44,7 @@ pub(crate) fn lane_act<F: Watch, C: Command>(
 ) -> Came<C::Answer>
     requires few { lane < 8 }
     requires sound { SystemInvariant F.view F.clock F.spare F.was base.old }
-    requires tracks { Tracks refs.old (now_of base.old.books) }
+    requires tracks { Tracks refs.old (now_of base.old.books).refs }
     requires home { (v : View) → F.view base.old.fs ≡ Some v → StagingPathFree lane v }
     requires free { AreFree (F.view base.old.fs) }
     requires kept { LaneKept (fs_spec F.view F.clock F.spare F.was F.faults F.refused) (family (task_spec C.kind_of C.writes_of C.stepped C.leaves C.refuses C.facts) C.means C.doing) limits lane refs.old base.old run.old }
@@ -70,7 +70,7 @@ fn live_act<F: Watch, C: Command>(
     requires few { lane < 8 }
     requires sound { SystemInvariant F.view F.clock F.spare F.was base.old }
     requires live { base.old.books.halted ≡ None }
-    requires tracks { Tracks refs.old (now_of base.old.books) }
+    requires tracks { Tracks refs.old (now_of base.old.books).refs }
     requires home { (v : View) → F.view base.old.fs ≡ Some v → StagingPathFree lane v }
     requires free { AreFree (F.view base.old.fs) }
     requires kept { LaneKept (fs_spec F.view F.clock F.spare F.was F.faults F.refused) (family (task_spec C.kind_of C.writes_of C.stepped C.leaves C.refuses C.facts) C.means C.doing) limits lane refs.old base.old run.old }
@@ -94,7 +94,7 @@ fn halted<F: Watch, C: Command>(
     run: &mut Lane<C, C::Words, C::Answer>,
 ) -> Came<C::Answer>
     requires over { base.now.books.halted ≡ Some why }
-    requires tracks { Tracks _refs.now (now_of base.now.books) }
+    requires tracks { Tracks _refs.now (now_of base.now.books).refs }
     requires next { length run.old.replies.items < length run.old.words.items }
     ensures { LaneActs (fs_spec F.view F.clock F.spare F.was F.faults F.refused) (family (task_spec C.kind_of C.writes_of C.stepped C.leaves C.refuses C.facts) C.means C.doing) _limits _lane _lane _refs.now _refs.now _objects.now _objects.now base.now base.now run.old run.new result }
 {
@@ -125,7 +125,7 @@ fn begins<F: Watch, C: Command>(
     requires few { lane < 8 }
     requires sound { SystemInvariant F.view F.clock F.spare F.was base.old }
     requires live { base.old.books.halted ≡ None }
-    requires tracks { Tracks refs.old (now_of base.old.books) }
+    requires tracks { Tracks refs.old (now_of base.old.books).refs }
     requires home { (v : View) → F.view base.old.fs ≡ Some v → StagingPathFree lane v }
     requires free { AreFree (F.view base.old.fs) }
     requires kept { LaneKept (fs_spec F.view F.clock F.spare F.was F.faults F.refused) (family (task_spec C.kind_of C.writes_of C.stepped C.leaves C.refuses C.facts) C.means C.doing) limits lane refs.old base.old run.old }
@@ -135,7 +135,14 @@ fn begins<F: Watch, C: Command>(
     let start = base.books.history.len();
     let number = run.replies.len();
     let words = &run.words[number];
-    match C::begin(alloc, refs, limits, lane, words) {
+    match C::begin(
+        alloc,
+        refs,
+        limits,
+        lane,
+        &base.books.start.deployments,
+        words,
+    ) {
         Err(NoMemory) => Came::Answered {
             answer: Ended::NoMemory,
             start,
@@ -177,7 +184,7 @@ fn goes_on<F: Watch, C: Command>(
     requires sound { SystemInvariant F.view F.clock F.spare F.was base.old }
     requires live { base.old.books.halted ≡ None }
     requires free { AreFree (F.view base.old.fs) }
-    requires tracks { Tracks refs.old (now_of base.old.books) }
+    requires tracks { Tracks refs.old (now_of base.old.books).refs }
     requires kept { LaneKept (fs_spec F.view F.clock F.spare F.was F.faults F.refused) (family (task_spec C.kind_of C.writes_of C.stepped C.leaves C.refuses C.facts) C.means C.doing) _limits lane refs.old base.old (record run.old { task = Some running }) }
     requires next { (length run.old.replies.items < length run.old.words.items) × (run.old.task ≡ None) }
     ensures { LaneActs (fs_spec F.view F.clock F.spare F.was F.faults F.refused) (family (task_spec C.kind_of C.writes_of C.stepped C.leaves C.refuses C.facts) C.means C.doing) _limits lane lane refs.old refs.new objects.old objects.new base.old base.new (record run.old { task = Some running }) run.new result }

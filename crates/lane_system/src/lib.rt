@@ -4,6 +4,7 @@
 mod act;
 mod ask;
 mod lane;
+mod opening;
 mod step;
 mod system;
 mod unremoved;

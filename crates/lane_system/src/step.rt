@@ -31,7 +31,7 @@ pub(crate) fn told_act<F: Watch, C: Command>(
 ) -> Outcome
     requires ready { Ready F.view F.clock F.spare F.was (Runs C.kind_of C.facts lane work.old) base.old }
     requires free { AreFree (F.view base.old.fs) }
-    requires tracks { Tracks refs.old (now_of base.old.books) }
+    requires tracks { Tracks refs.old (now_of base.old.books).refs }
     requires room { (e : Event) → C.kind_of (told_by C.doing objects.old work.old) ≡ MakeDurable e → HasEventRoom refs.old e }
     ensures step { (t : C) × Stepped (fs_spec F.view F.clock F.spare F.was F.faults F.refused) (learning (task_spec C.kind_of C.writes_of C.stepped C.leaves C.refuses C.facts) C.doing) lane lane number refs.old refs.new result (told_by C.doing objects.old work.old) t base.old base.new × ((result ≡ came.Blocked → ⊥) → work.new ≡ t) }
     ensures back { result ≡ came.Blocked → work.new ≡ work.old }
@@ -66,7 +66,7 @@ fn running_act<F: Watch, C: Command>(
     work: &mut C,
 ) -> Outcome
     requires ready { Ready F.view F.clock F.spare F.was (Runs C.kind_of C.facts lane work.old) base.old }
-    requires tracks { Tracks refs.old (now_of base.old.books) }
+    requires tracks { Tracks refs.old (now_of base.old.books).refs }
     requires room { (e : Event) → C.kind_of work.old ≡ MakeDurable e → HasEventRoom refs.old e }
     ensures { Stepped (fs_spec F.view F.clock F.spare F.was F.faults F.refused) (task_spec C.kind_of C.writes_of C.stepped C.leaves C.refuses C.facts) lane lane number refs.old refs.new result work.old work.new base.old base.new }
 {

@@ -10,6 +10,7 @@ ghost use Rattle.lane_system.specs.declared.lane.Reply.{Reply};
 ghost use Rattle.lane_system.specs.Booked.{Acted, AnswerTells, HasCommand, IsLater, IsReplied, commands_of};
 ghost use Rattle.lane_system.specs.Causes.{AreCausedIn};
 ghost use Rattle.lane_system.specs.Counts.{Objects};
+ghost use Rattle.lane_system.specs.Deployments.{ids_of};
 ghost use Rattle.lane_system.specs.Family.{family, fs_spec};
 ghost use Rattle.lane_system.specs.Held.{Held};
 ghost use Rattle.lane_system.specs.Kept.{AreIdle};
@@ -22,11 +23,13 @@ ghost use Rattle.lane_system.specs.Sweeping.{IsAllTold};
 use crate::Ask;
 use crate::act::{Came, lane_act, number_of};
 use crate::lane::{Lane, Reply};
+use crate::opening::known_at_opening;
+use boot_model::DepId;
 use command::Command;
 use fs_watch::Watch;
 use ost_types::{Limits, NoMemory};
 use ref_book::RefBook;
-use rely_guarantee::{Base, Entry, Pending, certify};
+use rely_guarantee::{Base, Entry, Pending, Start, certify};
 use std::alloc::Global;
 use std::marker::Model;
 use sys_open::{Opened, OpenedParts};
@@ -80,14 +83,15 @@ impl<F: Watch, C: Command> System<F, C> {
     ) -> Result<System<F, C>, (Opened<F>, NoMemory)>
         requires few { length lanes.items ≤ 8 }
         requires idle { AreIdle C.means opened.limits lanes.items }
-        ensures parts { IfOk result (λ s. (s.base.fs ≡ opened.fs) × (s.base.books.start.items ≡ opened.refs) × (s.base.books.opened ≡ opened.clock) × (s.lanes ≡ lanes.items)) }
+        ensures parts { IfOk result (λ s. (s.base.fs ≡ opened.fs) × (s.base.books.start.refs.items ≡ opened.refs) × (s.base.books.opened ≡ opened.clock) × (s.lanes ≡ lanes.items)) }
+        ensures deployments { IfOk result (λ s. s.base.books.start.deployments.items ≡ ids_of opened.rows) }
         ensures bounds { IfOk result (λ s. (s.limits ≡ opened.limits) × (s.objects ≡ min (length opened.objects) 4294967295)) }
         ensures caused { IfOk result (λ s. AreCausedIn (F.faults opened.fs) (F.faults s.base.fs) s.base.books.halted s.lanes) }
         ensures stands { IfOk result (λ s. (v : View) → F.view s.base.fs ≡ Some v → Stands (fs_spec F.view F.clock F.spare F.was F.faults F.refused) (family (task_spec C.kind_of C.writes_of C.stepped C.leaves C.refuses C.facts) C.means C.doing) (F.faults opened.fs) v s v) }
         ensures back { IfErr result (λ e. e.0 ≡ opened) }
     {
-        match RefBook::new(alloc, opened.refs()) {
-            Ok(refs) => Ok(System::begun(alloc, opened, refs, lanes)),
+        match known_at_opening(alloc, &opened) {
+            Ok((refs, deployments)) => Ok(System::begun(alloc, opened, refs, deployments, lanes)),
             Err(NoMemory) => Err((opened, NoMemory)),
         }
     }
@@ -96,19 +100,21 @@ impl<F: Watch, C: Command> System<F, C> {
         alloc: Global,
         opened: Opened<F>,
         refs: RefBook,
+        deployments: Vec<DepId>,
         lanes: Vec<Lane<C, C::Words, C::Answer>>,
     ) -> System<F, C>
         requires few { length lanes.items ≤ 8 }
         requires refs { Tracks refs (first opened.refs) }
         requires idle { AreIdle C.means opened.limits lanes.items }
-        ensures parts { (result.base.fs ≡ opened.fs) × (result.base.books.start.items ≡ opened.refs) × (result.base.books.opened ≡ opened.clock) × (result.lanes ≡ lanes.items) }
+        ensures parts { (result.base.fs ≡ opened.fs) × (result.base.books.start.refs.items ≡ opened.refs) × (result.base.books.opened ≡ opened.clock) × (result.lanes ≡ lanes.items) }
+        ensures deployments { result.base.books.start.deployments ≡ deployments }
         ensures bounds { (result.limits ≡ opened.limits) × (result.objects ≡ min (length opened.objects) 4294967295) }
         ensures caused { AreCausedIn (F.faults opened.fs) (F.faults result.base.fs) result.base.books.halted result.lanes }
         ensures stands { (v : View) → F.view result.base.fs ≡ Some v → Stands (fs_spec F.view F.clock F.spare F.was F.faults F.refused) (family (task_spec C.kind_of C.writes_of C.stepped C.leaves C.refuses C.facts) C.means C.doing) (F.faults opened.fs) v result v }
     {
         let OpenedParts {
             fs,
-            refs: start,
+            refs: named,
             clock,
             faults: _,
             limits,
@@ -116,6 +122,10 @@ impl<F: Watch, C: Command> System<F, C> {
             rows: _,
             checkouts: _,
         } = opened.into_parts();
+        let start = Start {
+            refs: named,
+            deployments,
+        };
         System {
             alloc,
             base: Base::new(alloc, fs, clock, start),

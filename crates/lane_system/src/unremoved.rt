@@ -8,7 +8,7 @@ ghost use Rattle.rely_guarantee.specs.declared.books.Entry.{Entry};
 ghost use Rattle.rely_guarantee.specs.declared.books.Pending.{Pending};
 ghost use Rattle.rely_guarantee.specs.Books.{Books};
 ghost use Rattle.rely_guarantee.specs.Lasting.{StaysFinished};
-ghost use Rattle.rely_guarantee.specs.State.{State};
+ghost use Rattle.rely_guarantee.specs.State.{SystemState};
 ghost use Rattle.lane_system.specs.declared.lane.Lane.{Lane};
 ghost use Rattle.lane_system.specs.Founded.{RefsNameDurableCommitsIn, ArePresentIn};
 ghost use Rattle.lane_system.specs.Lasting.{AreKeptIn};
@@ -37,5 +37,5 @@ pub fn all_is_said<F: Fs, C: Command>()
     ensures kept { (fs : F) (opening v : View) (limits : Limits) (lanes : List (Lane C C.Words C.Answer)) (entries : List Entry) → AreUnpruned entries → AreKeptIn C.means (F.was fs) opening limits lanes entries [] v ↔ AllAreKept C.means (F.was fs) opening limits lanes entries v }
     ensures present { (opening : View) (lanes : List (Lane C C.Words C.Answer)) (entries : List Entry) → AreUnpruned entries → ArePresentIn C.means (StaysFinished opening) entries lanes ↔ AllArePresent C.means (StaysFinished opening) entries lanes }
     ensures founded { (opening v : View) (lanes : List (Lane C C.Words C.Answer)) (entries : List Entry) (pending : Option Pending) → AreUnpruned entries → RefsNameDurableCommitsIn C.means opening entries [] pending lanes v ↔ AllRefsNameDurableCommits C.means opening entries pending lanes v }
-    ensures staying { (v : View) (b : Books) (limits : Limits) (begin : State) (lanes : List (Lane C C.Words C.Answer)) (entries : List Entry) → AreUnpruned entries → AreStayingIn C.means limits begin entries [] lanes v b ↔ AllAreStaying C.means limits begin entries lanes v b }
+    ensures staying { (v : View) (b : Books) (limits : Limits) (begin : SystemState) (lanes : List (Lane C C.Words C.Answer)) (entries : List Entry) → AreUnpruned entries → AreStayingIn C.means limits begin entries [] lanes v b ↔ AllAreStaying C.means limits begin entries lanes v b }
 {}

@@ -2,6 +2,7 @@ ghost use Rattle.lane_system_check.specs.Family.{wait_doing, wait_means};
 ghost use Rattle.lane_system_check.specs.Laws.{wait_command_laws};
 
 use crate::{WaitTask, WaitWords};
+use boot_model::DepId;
 use command::{Begun, Command, Query, Told};
 use obj_store::Put;
 use ost_types::{Limits, NoMemory, ObjName};
@@ -23,6 +24,7 @@ impl Command for WaitTask {
         _refs: &mut RefBook,
         _limits: Limits,
         _lane: u8,
+        _deployments: &[DepId],
         words: &WaitWords,
     ) -> Result<Begun<WaitTask, u8>, NoMemory> {
         match words {

@@ -1,22 +1,23 @@
--- What the command that lists the refs says. It runs no task.
-use Rattle.std.specs.Prelude.{◌≡◌, ℕ, List, None}
-use Rattle.std.specs.Global.{Vec}
+-- What the commands that list what the state says tell. They run no task.
+use Rattle.std.specs.Prelude.{◌≡◌, ℕ, List, map, None}
+use Rattle.boot_model.specs.declared.item.DepId.{DepId}
 use Rattle.fs_trait.specs.declared.task.StepResult.{StepResult}
 use Rattle.fs_trait.specs.declared.task.StepResult.TheVariants as turns
 use Rattle.fs_trait.specs.Change.{Nothing}
 use Rattle.fs_trait.specs.View.{View}
 use Rattle.rely_guarantee.specs.Books.{Books}
 use Rattle.rely_guarantee.specs.Laws.{Kind, Laws, Quiet}
+use Rattle.rely_guarantee.specs.State.{SystemState}
 use Rattle.ref_book.specs.Tracks.{Lists}
+use Rattle.script.specs.declared.rows.StatusRow.{StatusRow}
 use Rattle.command.specs.Doing.{Doing}
 use Rattle.command.specs.LearnLaws.{learns_nothing}
 use Rattle.command.specs.Meaning.{Meaning}
+use Rattle.list_family.specs.declared.answer.ListAnswer.{ListAnswer}
+use Rattle.list_family.specs.declared.answer.ListAnswer.TheVariants as answer
 use Rattle.list_family.specs.declared.task.ListTask.{ListTask}
 use Rattle.list_family.specs.declared.words.ListWords.{ListWords}
-
--- the refs' names with their commits
-abbrev pub Rows : Type 0
-Rows = Vec (List ℕ × List ℕ)
+use Rattle.list_family.specs.declared.words.ListWords.TheVariants as words
 
 abbrev pub list_kind : ListTask → Kind
 list_kind t = Quiet
@@ -43,14 +44,23 @@ list_task_laws = record {
   claims = λ lane t new v w b name is step f leaves. cc;
 }
 
--- each ref of the state once, with its commit, ascending by their names
-abbrev pub list_means : Meaning ListWords Rows
+-- a row for each deployment, in their order; there is no command yet by which a lane uses one
+abbrev pub unused : List DepId → List StatusRow
+unused deployments = map (λ id. record { id = id; lane = None }) deployments
+
+-- each ref of the state once, with its commit, ascending by their names; or the deployments that boot
+abbrev pub list_says : SystemState → ListAnswer → ListWords → Type 0
+list_says p (answer.Refs rows) words.Refs = Lists rows.items p.refs
+list_says p (answer.Status rows) words.Status = rows.items ≡ unused p.deployments
+list_says p a c = ⊥
+
+abbrev pub list_means : Meaning ListWords ListAnswer
 list_means = record {
   fit = λ limits c. Unit {0};
   changes = λ since c e. ⊥;
   makes = λ a c. ⊥;
   tells = λ a e. Unit {0};
-  says = λ since a c. Lists a.items since.place;
+  says = λ since. list_says since.place;
   knows = λ since a c. Unit {0};
   shows = λ since v a c. Unit {0};
   remains = λ since v a c. Unit {0};
@@ -69,7 +79,7 @@ list_means = record {
 }
 
 -- no command of the family runs
-abbrev pub list_doing : Doing ListTask ListWords Rows
+abbrev pub list_doing : Doing ListTask ListWords ListAnswer
 list_doing = record {
   begins = λ lane t. ⊥;
   pursues = λ since c t. ⊥;

@@ -1,33 +1,39 @@
 ghost use Rattle.list_family.specs.Family.{list_doing, list_means};
 ghost use Rattle.list_family.specs.Laws.{list_command_laws};
 
-use crate::{ListTask, ListWords};
+use crate::status::status_rows;
+use crate::{ListAnswer, ListTask, ListWords};
+use boot_model::DepId;
 use command::{Begun, Command, Query, Told};
 use obj_store::Put;
-use ost_types::{Csum, Limits, NoMemory, ObjName};
+use ost_types::{Limits, NoMemory, ObjName};
 use ref_book::RefBook;
 use rely_guarantee::Pin;
-use repo_layout::RefName;
 use std::alloc::Global;
 
 impl Command for ListTask {
     type Words = ListWords;
 
-    type Answer = Vec<(RefName, Csum)>;
+    type Answer = ListAnswer;
 
     ghost means = { list_means };
 
     ghost doing = { list_doing };
 
     fn begin(
-        _alloc: Global,
+        alloc: Global,
         refs: &mut RefBook,
         _limits: Limits,
         _lane: u8,
+        deployments: &[DepId],
         words: &ListWords,
-    ) -> Result<Begun<ListTask, Vec<(RefName, Csum)>>, NoMemory> {
+    ) -> Result<Begun<ListTask, ListAnswer>, NoMemory> {
         match words {
-            ListWords::Refs => Ok(Begun::Answered(refs.rows()?)),
+            ListWords::Refs => Ok(Begun::Answered(ListAnswer::Refs(refs.rows()?))),
+            ListWords::Status => {
+                let rows = status_rows(alloc, deployments)?;
+                Ok(Begun::Answered(ListAnswer::Status(rows)))
+            }
         }
     }
 
@@ -45,7 +51,7 @@ impl Command for ListTask {
         None
     }
 
-    fn into_answer(self) -> Option<Vec<(RefName, Csum)>> {
+    fn into_answer(self) -> Option<ListAnswer> {
         None
     }
 

@@ -3,4 +3,6 @@
 pub enum ListWords {
     /// `refs` lists the refs.
     Refs,
+    /// `status` lists the deployments that boot.
+    Status,
 }

@@ -35,6 +35,14 @@ Lists the refs, ascending by the bytes of their names.
   ok COUNT                 and rows BRANCH COMMIT
 ";
 
+const STATUS: &[u8] = b"\
+ostree_cli status
+
+Lists the deployments that boot, the one that boots first in front.
+  ok COUNT                 and rows INDEX STATEROOT COMMIT.SERIAL LANE, where
+                           LANE is - as long as no lane uses the deployment
+";
+
 const REV_PARSE: &[u8] = b"\
 ostree_cli rev-parse REV
 
@@ -120,6 +128,7 @@ pub fn detail(command: &str) -> &'static [u8] {
         "run" => RUN,
         "commit" => COMMIT,
         "refs" => REFS,
+        "status" => STATUS,
         "rev-parse" => REV_PARSE,
         "log" => LOG,
         "ls" => LS,

@@ -28,6 +28,7 @@ Commands:
   init                  check the repository, and lay out what is missing
   run                   read a script from the input, and run its lanes
   refs                  list the refs with their commits
+  status                list the deployments that boot
   rev-parse REV         print the commit that REV names
   log REV               list the commit, its parent and so on, each with its
                         time and subject

@@ -2,6 +2,7 @@ ghost use Rattle.prune_family.specs.Family.{prune_doing, prune_means};
 ghost use Rattle.prune_family.specs.Laws.{prune_command_laws};
 
 use crate::{PruneTask, PruneWords};
+use boot_model::DepId;
 use command::{Begun, Command, Query, Told};
 use obj_store::Put;
 use ost_types::{Limits, NoMemory, ObjName};
@@ -24,6 +25,7 @@ impl Command for PruneTask {
         _refs: &mut RefBook,
         limits: Limits,
         lane: u8,
+        _deployments: &[DepId],
         words: &PruneWords,
     ) -> Result<Begun<PruneTask, PruneAnswer>, NoMemory> {
         let work = PruneCommand::new(alloc, lane, words.depth, limits);

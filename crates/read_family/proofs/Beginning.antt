@@ -2,7 +2,7 @@
 use Rattle.std.proofs.Common.{◌≡◌, ◌≤◌, ℕ, subst, List, Option, Some}
 use Rattle.ost_types.specs.declared.limits.Limits.{Limits}
 use Rattle.ref_book.specs.declared.book.RefBook.{RefBook}
-use Rattle.rely_guarantee.specs.State.{State}
+use Rattle.rely_guarantee.specs.State.{State, SystemState}
 use Rattle.script.specs.declared.command.Rev.{Rev}
 use Rattle.read_command.specs.declared.command.ReadCommand.{ReadCommand}
 use Rattle.read_command.specs.Asked.{asked}
@@ -16,6 +16,6 @@ use Rattle.read_family.specs.Family.{read_doing, read_means}
 pub named : (rev : Rev) (s : State) (found : Option (List ℕ)) (commit : List ℕ) → found ≡ Some commit → IsNamed rev s found → IsRev rev s commit
 named rev s found commit is names = subst (IsNamed rev s) is names
 
-pub task_begun : (limits : Limits) (lane : ℕ) (s : State) (c : ReadWords) (commit : List ℕ) (t : ReadCommand) (refs : RefBook) → IsRev c.rev s commit → IsNew t → asked t ≡ Some (record { limits = limits; commit = commit; ask = c.ask }) → read_left t ≤ most
+pub task_begun : (limits : Limits) (lane : ℕ) (s : SystemState) (c : ReadWords) (commit : List ℕ) (t : ReadCommand) (refs : RefBook) → IsRev c.rev s.refs commit → IsNew t → asked t ≡ Some (record { limits = limits; commit = commit; ask = c.ask }) → read_left t ≤ most
     → IsFirst read_means read_doing lane (begun_in limits s) c refs (record { work = t })
 task_begun limits lane s c commit t refs names new asks left = (new, (commit, names, asks), (λ e bad. absurd bad), left)

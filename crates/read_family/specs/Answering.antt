@@ -8,7 +8,7 @@ use Rattle.fs_trait.specs.View.{Disk, View}
 use Rattle.repo_layout.specs.Paths.{object_path}
 use Rattle.store_check.specs.Good.{IsGoodStore}
 use Rattle.rely_guarantee.specs.Books.{Books}
-use Rattle.rely_guarantee.specs.State.{State}
+use Rattle.rely_guarantee.specs.State.{SystemState}
 use Rattle.rely_guarantee.specs.Lasting.{StaysFinished}
 use Rattle.ref_command.specs.declared.look_up.Found.TheVariants.{Missing, Partial}
 use Rattle.ref_command.specs.Found.{IsFound}
@@ -49,7 +49,7 @@ fitting t new q a is step given =
     let same : step.0 ≡ a = (let e : Some step.0 ≡ Some a = sym (ap answer_of step.1) ∙ given in cc) in
     subst (Fits q.ask q.commit) same (subst (λ o. IsFitting o step.0) is step.2)
 
-pub ends_say : (since : Since) (p : State) (c : ReadWords) (t new : ReadCommand) (a : ReadReply) → read_pursues since c t → read_stepped t (turn.Done tt) new → read_reply (answer_of new) ≡ Some a → read_says (placed since p) a c
+pub ends_say : (since : Since) (p : SystemState) (c : ReadWords) (t new : ReadCommand) (a : ReadReply) → read_pursues since c t → read_stepped t (turn.Done tt) new → read_reply (answer_of new) ≡ Some a → read_says (placed since p) a c
 ends_say since p c t new NoRef is step given = absurd (outer (answer_of new) given)
 ends_say since p c t new (Read a) is step given =
     (is.0, is.1, fitting t new (record { limits = since.limits; commit = is.0; ask = c.ask }) a is.2 step (inner (answer_of new) a given))

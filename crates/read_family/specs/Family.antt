@@ -31,13 +31,13 @@ use Rattle.read_family.specs.declared.words.ReadWords.{ReadWords}
 
 -- the answer is one to what was asked, of the commit that was named at the beginning
 abbrev pub read_says : Since → ReadReply → ReadWords → Type 0
-read_says since NoRef c = IsNoRev c.rev since.start
-read_says since (Read a) c = (commit : List ℕ) × IsRev c.rev since.start commit × Fits c.ask commit a
+read_says since NoRef c = IsNoRev c.rev since.start.refs
+read_says since (Read a) c = (commit : List ℕ) × IsRev c.rev since.start.refs commit × Fits c.ask commit a
 
 -- and what it says of that commit is so; unless it says that the commit isn't there, or has a mark, it is there without one
 abbrev pub read_shows : Since → View → ReadReply → ReadWords → Type 0
 read_shows since v NoRef c = Unit {0}
-read_shows since v (Read a) c = (commit : List ℕ) × IsRev c.rev since.start commit × Says v.now since.limits commit c.ask a × (IsRead a → IsFinishedNow v commit)
+read_shows since v (Read a) c = (commit : List ℕ) × IsRev c.rev since.start.refs commit × Says v.now since.limits commit c.ask a × (IsRead a → IsFinishedNow v commit)
 
 -- from one commit to another by parents, where each is what bytes that have its name say; a commit comes to itself
 abbrev pub Reaches : List ℕ → List ℕ → Type 0
@@ -88,8 +88,8 @@ read_means = record {
   stays = λ since out a c v b. Unit {0};
   keeps = λ since opening out c v. Unit {0};
   keeps_on = λ since opening out c disk. Unit {0};
-  works = λ since c name. (commit : List ℕ) × IsRev c.rev since.start commit × works_of c.ask commit name;
-  reaches = λ since c name. (commit : List ℕ) × IsRev c.rev since.start commit × reaches_of c.ask commit name;
+  works = λ since c name. (commit : List ℕ) × IsRev c.rev since.start.refs commit × works_of c.ask commit name;
+  reaches = λ since c name. (commit : List ℕ) × IsRev c.rev since.start.refs commit × reaches_of c.ask commit name;
   finds = λ a c name. ⊥;
   claims = λ c name. ⊥;
   checks_out = λ a c name. ⊥;
@@ -100,7 +100,7 @@ read_means = record {
 }
 
 abbrev pub read_pursues : Since → ReadWords → ReadCommand → Type 0
-read_pursues since c t = (commit : List ℕ) × IsRev c.rev since.start commit × (asked t ≡ Some (record { limits = since.limits; commit = commit; ask = c.ask }))
+read_pursues since c t = (commit : List ℕ) × IsRev c.rev since.start.refs commit × (asked t ≡ Some (record { limits = since.limits; commit = commit; ask = c.ask }))
 
 abbrev pub read_reply : Option ReadAnswer → Option ReadReply
 read_reply None = None

@@ -6,6 +6,7 @@ ghost use Rattle.read_family.specs.Family.{read_means, read_doing, read_reply};
 ghost use Rattle.read_family.specs.Laws.{read_command_laws};
 
 use crate::{ReadReply, ReadTask, ReadWords};
+use boot_model::DepId;
 use command::{Begun, Command, Query, Told, commit_of};
 use obj_store::Put;
 use ost_types::{Csum, Limits, NoMemory, ObjName, TryCopy};
@@ -49,6 +50,7 @@ impl Command for ReadTask {
         refs: &mut RefBook,
         limits: Limits,
         _lane: u8,
+        _deployments: &[DepId],
         words: &ReadWords,
     ) -> Result<Begun<ReadTask, ReadReply>, NoMemory> {
         match commit_of(refs, &words.rev) {

@@ -48,5 +48,5 @@ drop_knows s p branch a = Unit {0}
 
 abbrev pub ref_knows : Since → RefAnswer → RefWords → Type 0
 ref_knows since a (RevParse rev) = Unit {0}
-ref_knows since a (Reset branch commit) = reset_knows since.start since.place branch a
-ref_knows since a (DropRef branch) = drop_knows since.start since.place branch a
+ref_knows since a (Reset branch commit) = reset_knows since.start.refs since.place.refs branch a
+ref_knows since a (DropRef branch) = drop_knows since.start.refs since.place.refs branch a

@@ -72,7 +72,7 @@ step_laws = record {
   begun = λ start entries pending lane t v b. begins_of start entries pending lane v b t.work;
   quiet = λ lane t. ref_holds lane t.work;
   stages = λ who actor lane t v w b is by f wrote home. (let same : who ≡ lane = ⊎_elim (λ x. x ∙ own_step actor lane t.work by) (λ x. x) is in subst (λ k. StagingPathFree k w) (sym same) (home_task actor lane t.work v w b f wrote (subst (λ k. StagingPathFree k v) same home)));
-  goes_on = λ since c t new is step. ref_step since.start c t.work new.work step is;
+  goes_on = λ since c t new is step. ref_step since.start.refs c t.work new.work step is;
   falls = λ t new. falls_always t.work new.work;
   locks = λ since c t wants is. refs_light t.work wants;
   refused = λ start entries pending lane t v b e. refused_of start entries pending lane v b t.work e;
@@ -94,11 +94,11 @@ learn_laws = no_learning ref_tasks ref_doing (λ refs pins t new is. is)
 
 change_laws : ChangeLaws ref_tasks ref_means ref_doing
 change_laws = record {
-  shown = λ since c t. ref_shown since.start c t.work;
-  settled = λ since c t. ref_settled since.start c t.work;
+  shown = λ since c t. ref_shown since.start.refs c t.work;
+  settled = λ since c t. ref_settled since.start.refs c t.work;
   founds = λ lane t. ref_founds lane t.work;
-  makes = λ since c t new a is step given k. (let e = ref_ends since.start c t.work new.work is step in subst (λ x. ref_makes x c) (one (answer_of new.work) e.given a e.answer given) (e.makes k));
-  makes_not = λ since c t new a is step given k m. (let e = ref_ends since.start c t.work new.work is step in e.makes_not k (subst (λ x. ref_makes x c) (sym (one (answer_of new.work) e.given a e.answer given)) m));
+  makes = λ since c t new a is step given k. (let e = ref_ends since.start.refs c t.work new.work is step in subst (λ x. ref_makes x c) (one (answer_of new.work) e.given a e.answer given) (e.makes k));
+  makes_not = λ since c t new a is step given k m. (let e = ref_ends since.start.refs c t.work new.work is step in e.makes_not k (subst (λ x. ref_makes x c) (sym (one (answer_of new.work) e.given a e.answer given)) m));
   tells = λ since c t new a e is step given kind. tt;
   kept = λ since opening lane c t new v w b right is f leaves k. tt;
   keeps = λ since opening out removed c v w right stays is. tt;
@@ -109,9 +109,9 @@ change_laws = record {
 
 answer_laws : AnswerLaws ref_tasks ref_means ref_doing
 answer_laws = record {
-  answers = λ since c t new is step. subst IsSome (sym (ref_ends since.start c t.work new.work is step).answer) refl;
-  says = λ since p c t new a is step given. (let e = ref_ends since.start c t.work new.work is step in subst (λ x. ref_says since.start x c) (one (answer_of new.work) e.given a e.answer given) e.says);
-  shows = λ since lane c t new v w b a is f leaves given sound. tells since.start lane c v w b a t.work is f (says_of lane t.work new.work v w b a f leaves given);
+  answers = λ since c t new is step. subst IsSome (sym (ref_ends since.start.refs c t.work new.work is step).answer) refl;
+  says = λ since p c t new a is step given. (let e = ref_ends since.start.refs c t.work new.work is step in subst (λ x. ref_says since.start.refs x c) (one (answer_of new.work) e.given a e.answer given) e.says);
+  shows = λ since lane c t new v w b a is f leaves given sound. tells since.start.refs lane c v w b a t.work is f (says_of lane t.work new.work v w b a f leaves given);
   remains = λ since lane c t new v w b a is f leaves given. tt;
   remains_at_once = λ since c a v is. tt;
   knows = λ since p lane c t new v w b a. ref_tells (λ s branch commit work is. change_is s (words.Reset branch commit) work is) lane since p c t.work new.work v w b a;
@@ -127,7 +127,7 @@ answer_laws = record {
 store_laws : StoreLaws ref_tasks ref_means ref_doing
 store_laws = record {
   holds = λ lane t v b f. tt;
-  works = λ since c t wants name. pins_work since.start c t.work wants name;
+  works = λ since c t wants name. pins_work since.start.refs c t.work wants name;
   reaches = λ since lane c t v b wants name is f kind pin. tt;
   brings = λ since actor lane c t v b name s bytes is f sum wrote reads. no_object actor lane t.work v b name s f sum wrote;
   room = λ told since actor lane c t v b name s is f sum wrote stands. no_object actor lane t.work v b name s f sum wrote;

@@ -38,7 +38,7 @@ use Rattle.rely_guarantee.specs.declared.event.Event.TheVariants as event
 use Rattle.rely_guarantee.specs.Books.{Books}
 use Rattle.rely_guarantee.specs.Disks.{IsLeaf, Logical, Says}
 use Rattle.rely_guarantee.specs.Laws.{MakeDurable}
-use Rattle.rely_guarantee.specs.State.{State, Topic, RefOf, Said, gives, target}
+use Rattle.rely_guarantee.specs.State.{State, Topic, RefOf, Said, gives, target, SystemState}
 use Rattle.rely_guarantee.proofs.States.{says_one}
 use Rattle.command.specs.Sees.{IsState, Sees}
 use Rattle.command.specs.Since.{Since, placed}
@@ -219,15 +219,15 @@ stopped_tells s p branch None look plan (task.Change work) v w a l e = absurd l
 stopped_tells s p branch (Some found) look plan new v w a l e = absurd l
 
 pub ref_tells : ((s : State) (branch commit : List ℕ) (work : RefWork) → ref_pursues s (words.Reset branch commit) (task.Change work) → event work.task ≡ event.SetRef branch (s (RefOf branch)) commit)
-    → (lane : ℕ) (since : Since) (p : State) (c : RefWords) (t new : RefCommand) (v w : View) (b : Books) (a : RefAnswer) → ref_pursues since.start c t → command_facts lane t v b → command_leaves t (turn.Done tt) new v w → answer_of new ≡ Some a → Sees (command_kind t) lane b v w p → ref_knows (placed since p) a c
+    → (lane : ℕ) (since : Since) (p : SystemState) (c : RefWords) (t new : RefCommand) (v w : View) (b : Books) (a : RefAnswer) → ref_pursues since.start.refs c t → command_facts lane t v b → command_leaves t (turn.Done tt) new v w → answer_of new ≡ Some a → Sees (command_kind t) lane b v w p.refs → ref_knows (placed since p) a c
 ref_tells sets lane since p (words.RevParse rev) t new v w b a is f l e sees = tt
 ref_tells sets lane since p (words.Reset branch commit) (task.Parse look) new v w b a is f l e sees = absurd is
-ref_tells sets lane since p (words.Reset branch commit) (task.Reset look plan) new v w b a is f l e sees = stopped_tells since.start p branch look.found look plan new v w a l e
-ref_tells sets lane since p (words.Reset branch commit) (task.Change work) (task.Change new) v w b a is f l e sees = reset_tells lane since.start p branch (Some commit) work new v w b f.ref is sees commit new.answer a (sets since.start branch commit work is) l e
+ref_tells sets lane since p (words.Reset branch commit) (task.Reset look plan) new v w b a is f l e sees = stopped_tells since.start.refs p.refs branch look.found look plan new v w a l e
+ref_tells sets lane since p (words.Reset branch commit) (task.Change work) (task.Change new) v w b a is f l e sees = reset_tells lane since.start.refs p.refs branch (Some commit) work new v w b f.ref is sees commit new.answer a (sets since.start.refs branch commit work is) l e
 ref_tells sets lane since p (words.Reset branch commit) (task.Change work) (task.Parse look) v w b a is f l e sees = absurd l
 ref_tells sets lane since p (words.Reset branch commit) (task.Change work) (task.Reset look plan) v w b a is f l e sees = absurd l
 ref_tells sets lane since p (words.DropRef branch) (task.Parse look) new v w b a is f l e sees = absurd is
 ref_tells sets lane since p (words.DropRef branch) (task.Reset look plan) new v w b a is f l e sees = absurd is
-ref_tells sets lane since p (words.DropRef branch) (task.Change work) (task.Change new) v w b a is f l e sees = drop_tells lane since.start p branch None work new v w b f.ref is.0 sees new.answer a refl is.1 l e
+ref_tells sets lane since p (words.DropRef branch) (task.Change work) (task.Change new) v w b a is f l e sees = drop_tells lane since.start.refs p.refs branch None work new v w b f.ref is.0 sees new.answer a refl is.1 l e
 ref_tells sets lane since p (words.DropRef branch) (task.Change work) (task.Parse look) v w b a is f l e sees = absurd l
 ref_tells sets lane since p (words.DropRef branch) (task.Change work) (task.Reset look plan) v w b a is f l e sees = absurd l

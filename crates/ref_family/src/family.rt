@@ -2,6 +2,7 @@ ghost use Rattle.ref_family.specs.Family.{ref_means, ref_doing};
 ghost use Rattle.ref_family.specs.Laws.{ref_command_laws};
 
 use crate::{RefWords, RefsTask};
+use boot_model::DepId;
 use command::{Begun, Command, Query, Told, commit_of};
 use obj_store::Put;
 use ost_types::{Limits, NoMemory, ObjName, TryCopy};
@@ -24,6 +25,7 @@ impl Command for RefsTask {
         refs: &mut RefBook,
         _limits: Limits,
         lane: u8,
+        _deployments: &[DepId],
         words: &RefWords,
     ) -> Result<Begun<RefsTask, RefAnswer>, NoMemory> {
         match words {

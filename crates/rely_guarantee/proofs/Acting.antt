@@ -15,6 +15,7 @@ use Rattle.rely_guarantee.specs.declared.books.Base.{Base}
 use Rattle.rely_guarantee.specs.declared.books.Books as rust
 use Rattle.rely_guarantee.specs.declared.books.Claim as claim
 use Rattle.rely_guarantee.specs.declared.books.Pending.{Pending}
+use Rattle.rely_guarantee.specs.declared.books.Start.{Start}
 use Rattle.rely_guarantee.specs.declared.event.Event.{Event}
 use Rattle.rely_guarantee.specs.declared.kind.Outcome.{Outcome}
 use Rattle.rely_guarantee.specs.declared.kind.Outcome.TheVariants as came
@@ -148,13 +149,13 @@ module _ {F : Type 0} (view : F → Option View) (clock spare : F → ℕ) (was 
       sound_goes view clock spare was fslaws old new [] ready.sound (subst (Calls old.fs) (sym ends.fs) time)
       (ends_ordered old mid new actor lane same ends none time.later room ready.sound.ordered)
       (ends.opened ∙ ap (λ b. b.opened) same)
-      (ap (λ v. v.items) (ends.start ∙ ap (λ b. b.start) same))
+      (ap (λ (v : Start). v.refs.items) (ends.start ∙ ap (λ b. b.start) same))
       (rw (history, pending) (sym (append-nil (stored old.books.history.items old.books.pending))))
       (λ t le. rw history refl)
       (λ v w told_v told_w stands.
       let parts = quiet_parts old actor lane t by is stood ready v told_v in
       let wrote_w : Writes (writes actor t v) v w = told_same (view mid.fs) w (ap view (sym ends.fs) ∙ told_w) (wrote v told_v) in
-      rw (history, pending) (stands_quiet (first old.books.start.items) old.books.history.items (books_of old.books) actor lane (writes actor t v) v w wrote_w parts.0 parts.1 ready.sound.ordered.owner none stands))
+      rw (history, pending) (stands_quiet (first old.books.start.refs.items) old.books.history.items (books_of old.books) actor lane (writes actor t v) v w wrote_w parts.0 parts.1 ready.sound.ordered.owner none stands))
       (λ v w told_v told_w there.
       let parts = quiet_parts old actor lane t by is stood ready v told_v in
       let wrote_w : Writes (writes actor t v) v w = told_same (view mid.fs) w (ap view (sym ends.fs) ∙ told_w) (wrote v told_v) in

@@ -28,8 +28,8 @@ headline view clock spare was base sound v told tree = record { crash = crash; n
           has = record { sane = f.sane; logical = logical; refs = λ name. has_ref d name _ (logical (RefOf name)) };
         }
 
-    now : base.books.pending ≡ None → Has v.now (after (events_of base.books.history.items) (first base.books.start.items))
+    now : base.books.pending ≡ None → Has v.now (after (events_of base.books.history.items) (first base.books.start.refs.items))
     now none =
-        let stands : Stands (first base.books.start.items) base.books.history.items None v = subst (λ (o : Option Pending). Stands (first base.books.start.items) base.books.history.items o v) none (sound.stands v told) in
-        let f = fits_all (first base.books.start.items) base.books.history.items v stands v.now (Image-now v tree) in
+        let stands : Stands (first base.books.start.refs.items) base.books.history.items None v = subst (λ (o : Option Pending). Stands (first base.books.start.refs.items) base.books.history.items o v) none (sound.stands v told) in
+        let f = fits_all (first base.books.start.refs.items) base.books.history.items v stands v.now (Image-now v tree) in
         record { sane = f.0; logical = f.1; refs = λ name. has_ref v.now name _ (f.1 (RefOf name)) }

@@ -180,5 +180,5 @@ granted_spared w actor lane b b' same frees shared exclusive turn sysroot holds 
   grows = ap (λ (y : rust.Books). y.history.items) same ∙ sym (append-nil b.history.items);
   replies = (let e : b'.replies ≡ b.replies = ap (λ (y : rust.Books). y.replies) same in omega (arith, e));
   opened = ap (λ (y : rust.Books). y.opened) same;
-  start = ap (λ (y : rust.Books). y.start.items) same;
+  start = ap (λ (y : rust.Books). y.start) same;
 }

@@ -97,8 +97,8 @@ module _ {X : Type 0} where
 
 pub sound_begins : {F : Type 0} (view : F → Option View) (clock spare : F → ℕ) (was : F → ℕ → View → Type 0) → ((fs : F) (v : View) → view fs ≡ Some v → IsTree v.now) → (base : Base F)
     → base.books.exclusive ≡ None → base.books.turn ≡ None → base.books.history.items ≡ [] → base.books.claims.items ≡ [] → base.books.gone ≡ 0 → base.books.pending ≡ None → base.books.owed ≡ 0 → base.books.opened ≤ clock base.fs
-    → ((v : View) → view base.fs ≡ Some v → IsOpening (first base.books.start.items) v)
-    → ((v : View) → view base.fs ≡ Some v → HasSince (Left (was base.fs)) base.books.opened (first base.books.start.items)) → SystemInvariant view clock spare was base
+    → ((v : View) → view base.fs ≡ Some v → IsOpening (first base.books.start.refs.items) v)
+    → ((v : View) → view base.fs ≡ Some v → HasSince (Left (was base.fs)) base.books.opened (first base.books.start.refs.items)) → SystemInvariant view clock spare was base
 sound_begins view clock spare was trees base alone turn empty unclaimed uncounted none nothing opened begins since = record {
   ordered = record {
     agrees = record { turn = λ x y ex. absurd (let z : None ≡ Some x = sym alone ∙ ex in cc); shared = λ x ex. absurd (let z : None ≡ Some x = sym alone ∙ ex in cc); doomed = doomed_held base.books.exclusive base.books.pending };
@@ -109,7 +109,7 @@ sound_begins view clock spare was trees base alone turn empty unclaimed uncounte
     entry = λ more. absurd (let z : 0 < 0 = subst (λ n. 0 < n) nothing more in omega (arith, z));
     counted = rw (uncounted, nothing) (omega arith);
   };
-  stands = λ v told. rw (empty, none) (stands_begins (first base.books.start.items) v (trees base.fs v told) (begins v told));
+  stands = λ v told. rw (empty, none) (stands_begins (first base.books.start.refs.items) v (trees base.fs v told) (begins v told));
   crash = λ v told. rw (empty, none) (record {
     each = λ t d from left.
         let has = since v told t d from left in
@@ -120,11 +120,11 @@ sound_begins view clock spare was trees base alone turn empty unclaimed uncounte
 
 -- so it is of books that are new
 pub sound_new : {F : Type 0} (view : F → Option View) (clock spare : F → ℕ) (was : F → ℕ → View → Type 0) → ((fs : F) (v : View) → view fs ≡ Some v → IsTree v.now) → (fs : F) (books : Books) (opened : ℕ) (start : List (List ℕ × List ℕ))
-    → books.exclusive ≡ None → books.turn ≡ None → books.history.items ≡ [] → books.claims.items ≡ [] → books.gone ≡ 0 → books.pending ≡ None → books.owed ≡ 0 → books.opened ≡ opened → books.start.items ≡ start
+    → books.exclusive ≡ None → books.turn ≡ None → books.history.items ≡ [] → books.claims.items ≡ [] → books.gone ≡ 0 → books.pending ≡ None → books.owed ≡ 0 → books.opened ≡ opened → books.start.refs.items ≡ start
     → opened ≤ clock fs → ((v : View) → view fs ≡ Some v → IsOpening (first start) v) → ((v : View) → view fs ≡ Some v → HasSince (Left (was fs)) opened (first start))
     → SystemInvariant view clock spare was (record { fs = fs; books = books })
 sound_new view clock spare was trees fs books opened start alone turn empty unclaimed uncounted none nothing at these past begins since =
     sound_begins view clock spare was trees (record { fs = fs; books = books }) alone turn empty unclaimed uncounted none nothing
     (subst (λ n. n ≤ clock fs) (sym at) past)
     (λ v told. subst (λ l. IsOpening (first l) v) (sym these) (begins v told))
-    (λ v told. subst (λ n. HasSince (Left (was fs)) n (first books.start.items)) (sym at) (subst (λ l. HasSince (Left (was fs)) opened (first l)) (sym these) (since v told)))
+    (λ v told. subst (λ n. HasSince (Left (was fs)) n (first books.start.refs.items)) (sym at) (subst (λ l. HasSince (Left (was fs)) opened (first l)) (sym these) (since v told)))

@@ -10,6 +10,7 @@ use Rattle.rely_guarantee.specs.declared.books.Hold.{Hold}
 use Rattle.rely_guarantee.specs.declared.books.Pending.{Pending}
 use Rattle.rely_guarantee.specs.declared.books.Pin.{Pin}
 use Rattle.rely_guarantee.specs.declared.books.Share.{Share}
+use Rattle.rely_guarantee.specs.declared.books.Start.{Start}
 use Rattle.rely_guarantee.specs.declared.books.Use.{Use}
 use Rattle.rely_guarantee.specs.declared.books.Want.{Want}
 use Rattle.rely_guarantee.specs.declared.kind.Halt.{Halt}
@@ -36,7 +37,7 @@ pub record Books : Type 0 where
   pub owed : ℕ
   pub halted : Option Halt
   pub opened : ℕ
-  pub start : List (List ℕ × List ℕ)
+  pub start : Start
 
 -- what the holder of Exclusive removes is what its change that is published says
 abbrev pub doomed_of : Option ℕ → Option Pending → List ObjName
@@ -62,7 +63,7 @@ books_of b = record {
   owed = b.owed;
   halted = b.halted;
   opened = b.opened;
-  start = b.start.items;
+  start = b.start;
 }
 
 -- nobody else holds it

@@ -15,7 +15,7 @@ pub record Has (d : Disk) (state : State) : Type 0 where
 
 -- the state after the first k events of the stored history
 abbrev pub state_at : {F : Type 0} → Base F → ℕ → State
-state_at base k = after (take k (stored base.books.history.items base.books.pending)) (first base.books.start.items)
+state_at base k = after (take k (stored base.books.history.items base.books.pending)) (first base.books.start.refs.items)
 
 -- What a crash left since this moment: the state after a prefix of the stored history that has each change that was
 -- acknowledged by then.
@@ -29,6 +29,6 @@ pub record CrashFits {F : Type 0} (base : Base F) (t : ℕ) (d : Disk) : Type 0 
 -- change. Each event of the stored history could follow the state before it, and the moments of the entries don't fall.
 pub record Headline {F : Type 0} (clock : F → ℕ) (was : F → ℕ → View → Type 0) (base : Base F) (v : View) : Type 0 where
   pub crash : (t : ℕ) (d : Disk) → base.books.opened ≤ t → Left (was base.fs) t d → CrashFits base t d
-  pub now : base.books.pending ≡ None → Has v.now (after (events_of base.books.history.items) (first base.books.start.items))
-  pub run : IsRun (stored base.books.history.items base.books.pending) (first base.books.start.items)
+  pub now : base.books.pending ≡ None → Has v.now (after (events_of base.books.history.items) (first base.books.start.refs.items))
+  pub run : IsRun (stored base.books.history.items base.books.pending) (first base.books.start.refs.items)
   pub moments : Ascends base.books.opened base.books.history.items (clock base.fs)

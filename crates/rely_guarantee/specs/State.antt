@@ -3,11 +3,13 @@ use Rattle.std.specs.Prelude.{◌≡◌, ◌↔◌, ◌+◌, ◌≤◌, ℕ, Boo
 use Rattle.ost_types.specs.declared.object.Kind.TheVariants.{Commit}
 use Rattle.ost_types.specs.declared.object.ObjName.{ObjName}
 use Rattle.ost_types.specs.Path.{same_name}
+use Rattle.boot_model.specs.declared.item.DepId.{DepId}
 use Rattle.repo_layout.specs.RefName.{IsRefName}
 use Rattle.repo_layout.specs.RefFile.{IsSum}
 use Rattle.repo_model.specs.Trees.{name_of}
 use Rattle.rely_guarantee.specs.declared.books.Entry.{Entry}
 use Rattle.rely_guarantee.specs.declared.books.Pending.{Pending}
+use Rattle.rely_guarantee.specs.declared.books.Start.{Start}
 use Rattle.rely_guarantee.specs.declared.event.Event.{Event}
 use Rattle.rely_guarantee.specs.declared.event.Event.TheVariants.{SetRef, DropRef, Pruned}
 
@@ -25,10 +27,19 @@ State = Topic → Said
 abbrev pub same_topic : Topic → Topic → Bool
 same_topic (RefOf a) (RefOf b) = same_name a b
 
+-- The whole: the refs, and the deployments that boot, the one that boots first in front. No command changes which boot yet.
+pub record SystemState : Type 0 where
+  pub refs : State
+  pub deployments : List DepId
+
 -- the state that these refs are
 abbrev pub first : List (List ℕ × List ℕ) → State
 first [] t = None
 first (r ∷ refs) t = if same_topic t (RefOf r.0) then Some r.1 else first refs t
+
+-- what stood at the opening
+abbrev pub opening_state : Start → SystemState
+opening_state s = record { refs = first s.refs.items; deployments = s.deployments.items }
 
 -- the commits that are named so
 abbrev pub commits_of : Said → List (List ℕ)
@@ -90,6 +101,9 @@ pub record Applies (e : Event) (s : State) : Type 0 where
 abbrev pub after : List Event → State → State
 after [] s = s
 after (e ∷ es) s = after es (next e s)
+
+abbrev pub after_events : List Event → SystemState → SystemState
+after_events es s = record s { refs = after es s.refs }
 
 -- each may follow the state before it
 abbrev pub IsRun : List Event → State → Type 0

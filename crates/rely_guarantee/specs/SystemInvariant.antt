@@ -86,6 +86,6 @@ AreThere claims v = (c : Claim) → Contains claims c → shows v.now (checkout_
 -- What every value keeps.
 pub record SystemInvariant {F : Type 0} (view : F → Option View) (clock spare : F → ℕ) (was : F → ℕ → View → Type 0) (base : Base F) : Type 0 where
   pub ordered : Ordered clock spare base
-  pub stands : (v : View) → view base.fs ≡ Some v → Stands (first base.books.start.items) base.books.history.items base.books.pending v
-  pub crash : (v : View) → view base.fs ≡ Some v → Crash (Left (was base.fs)) base.books.opened (first base.books.start.items) base.books.history.items base.books.pending
+  pub stands : (v : View) → view base.fs ≡ Some v → Stands (first base.books.start.refs.items) base.books.history.items base.books.pending v
+  pub crash : (v : View) → view base.fs ≡ Some v → Crash (Left (was base.fs)) base.books.opened (first base.books.start.refs.items) base.books.history.items base.books.pending
   pub claims : (v : View) → view base.fs ≡ Some v → AreThere base.books.claims.items v

@@ -1,4 +1,5 @@
 use crate::{Event, Halt};
+use boot_model::DepId;
 use ost_types::{Csum, Name, ObjName};
 use repo_layout::{OsName, RefName};
 
@@ -66,6 +67,15 @@ pub struct Use {
     pub serial: u32,
 }
 
+/// What stood at the opening.
+#[derive(Drop, Debug)]
+pub struct Start {
+    /// The refs, ascending by their names.
+    pub refs: Vec<(RefName, Csum)>,
+    /// The deployments that boot, the one that boots first in front.
+    pub deployments: Vec<DepId>,
+}
+
 /// All that the system knows beside the disk: who holds what, and what was changed.
 #[derive(Drop, Debug)]
 pub struct Books {
@@ -93,8 +103,8 @@ pub struct Books {
     pub halted: Option<Halt>,
     /// The file system's clock at the opening.
     pub opened: u64,
-    /// The refs at the opening.
-    pub start: Vec<(RefName, Csum)>,
+    /// What stood at the opening.
+    pub start: Start,
 }
 
 /// The file system with the books.

@@ -16,7 +16,7 @@ mod work;
 
 pub use act::task_act;
 pub use barrier::Barrier;
-pub use books::{Base, Books, Claim, Entry, Hold, Pending, Pin, Share, Use, Want};
+pub use books::{Base, Books, Claim, Entry, Hold, Pending, Pin, Share, Start, Use, Want};
 pub use crash::certify;
 pub use either::Either;
 pub use event::Event;

@@ -5,15 +5,13 @@ ghost use Rattle.rely_guarantee.specs.SystemInvariant.{SystemInvariant};
 ghost use Rattle.rely_guarantee.specs.Opening.{IsOpening, HasSince};
 ghost use Rattle.fs_trait.specs.Change.{Left};
 
-use crate::{Base, Books};
+use crate::{Base, Books, Start};
 use fs_trait::Fs;
-use ost_types::Csum;
-use repo_layout::RefName;
 use std::alloc::Global;
 
 impl Books {
     /// The books at the opening: nobody holds anything, and nothing has changed.
-    fn new(alloc: Global, opened: u64, start: Vec<(RefName, Csum)>) -> Books
+    fn new(alloc: Global, opened: u64, start: Start) -> Books
         ensures fresh { result ≡ record { shared = result.shared; exclusive = None; turn = None; sysroot = None; holds = result.holds; wants = result.wants; pins = result.pins; gone = 0; claims = result.claims; uses = result.uses; history = result.history; pending = None; replies = 0; owed = 0; halted = None; opened = opened; start = start } }
         ensures history { result.history.items ≡ [] }
         ensures shared { result.shared.items ≡ [] }
@@ -45,9 +43,9 @@ impl Books {
 impl<F: Fs> Base<F> {
     /// The file system at the opening, on which everything is synced, with these refs. `opened` is a moment since which each
     /// crash left a sane disk with them.
-    pub fn new(alloc: Global, fs: F, opened: u64, start: Vec<(RefName, Csum)>) -> Base<F>
-        requires opening { (v : View) → F.view fs ≡ Some v → IsOpening (first start.items) v }
-        requires since { (v : View) → F.view fs ≡ Some v → HasSince (Left (F.was fs)) opened (first start.items) }
+    pub fn new(alloc: Global, fs: F, opened: u64, start: Start) -> Base<F>
+        requires opening { (v : View) → F.view fs ≡ Some v → IsOpening (first start.refs.items) v }
+        requires since { (v : View) → F.view fs ≡ Some v → HasSince (Left (F.was fs)) opened (first start.refs.items) }
         requires past { opened ≤ F.clock fs }
         ensures fs { result.fs ≡ fs }
         ensures start { result.books.start ≡ start }

@@ -19,6 +19,7 @@ end_no_written words more (written.Commit l) e is = end_word Commit (heads _ _ _
 
 no_commit : (c : Command) (fields : List (List ℕ)) → keyword_of c ≡ Commit → HasFields c fields → ⊥
 no_commit command.Refs fields kind has = cc
+no_commit command.Status fields kind has = cc
 no_commit (command.RevParse rev) fields kind has = cc
 no_commit (command.Log rev) fields kind has = cc
 no_commit (command.Ls rev path) fields kind has = cc

@@ -14,7 +14,7 @@ use Rattle.script.specs.declared.command.CommitLine.{CommitLine}
 use Rattle.script.specs.declared.command.Written.{Written}
 use Rattle.script.specs.declared.command.Written.TheVariants as written
 use Rattle.script.specs.declared.words.Keyword.{Keyword}
-use Rattle.script.specs.declared.words.Keyword.TheVariants.{Refs, RevParse, Log, Ls, Cat, Checkout, Reset, DropRef, Prune, Commit}
+use Rattle.script.specs.declared.words.Keyword.TheVariants.{Refs, Status, RevParse, Log, Ls, Cat, Checkout, Reset, DropRef, Prune, Commit}
 use Rattle.script.proofs.Slices.{two_of}
 use Rattle.script.proofs.Spelling.{field_one}
 
@@ -64,7 +64,7 @@ no_rev_name now fs b two none rev name are =
     none name (subst (λ f. IsNameField f name) second are.4)
 
 keywords : List Keyword
-keywords = Refs ∷ RevParse ∷ Log ∷ Ls ∷ Cat ∷ Checkout ∷ Reset ∷ DropRef ∷ Prune ∷ Commit ∷ []
+keywords = Refs ∷ Status ∷ RevParse ∷ Log ∷ Ls ∷ Cat ∷ Checkout ∷ Reset ∷ DropRef ∷ Prune ∷ Commit ∷ []
 
 -- the first of these keywords with this spelling
 first_spelled : List ℕ → List Keyword → Option Keyword
@@ -74,6 +74,7 @@ first_spelled word (k ∷ ks) = cond (same_name (spelled k) word) (Some k) (firs
 found : (k : Keyword) → first_spelled (spelled k) keywords ≡ Some k
 unfolding keywords first_spelled
 found Refs = refl
+found Status = refl
 found RevParse = refl
 found Log = refl
 found Ls = refl
@@ -95,6 +96,7 @@ end_word k e = let none : None ≡ Some k = ap (λ w. first_spelled w keywords) 
 -- they are the fields of no command with this keyword
 abbrev NoneHas : Keyword → List (List ℕ) → Type 0
 NoneHas Refs fields = ¬ (HasFields command.Refs fields)
+NoneHas Status fields = ¬ (HasFields command.Status fields)
 NoneHas RevParse fields = (rev : Rev) → ¬ (HasFields (command.RevParse rev) fields)
 NoneHas Log fields = (rev : Rev) → ¬ (HasFields (command.Log rev) fields)
 NoneHas Ls fields = (rev : Rev) (path : Path) → ¬ (HasFields (command.Ls rev path) fields)
@@ -107,6 +109,7 @@ NoneHas Commit fields = (line : CommitLine) → ¬ (IsCommitLine fields line)
 
 not_had : (c : Command) (fields : List (List ℕ)) → NoneHas (keyword_of c) fields → ¬ (HasFields c fields)
 not_had command.Refs fields none = none
+not_had command.Status fields none = none
 not_had (command.RevParse rev) fields none = none rev
 not_had (command.Log rev) fields none = none rev
 not_had (command.Ls rev path) fields none = none rev path
@@ -141,6 +144,12 @@ module _ (words fields : List (List ℕ)) (word : List ℕ) (line : words ≡ wo
       → MatchOption o (AreNoCommand words) (IsWritten words)
   refs_from is None none = no_command Refs is none
   refs_from is (Some w) it = subst (IsWritten words) (sym it.0) (is_command command.Refs is it.1)
+
+  pub status_from : word ≡ spelled Status → (o : Option Written)
+      → MatchOption o (NoneHas Status fields) (λ w. (w ≡ written.Command command.Status) × HasFields command.Status fields)
+      → MatchOption o (AreNoCommand words) (IsWritten words)
+  status_from is None none = no_command Status is none
+  status_from is (Some w) it = subst (IsWritten words) (sym it.0) (is_command command.Status is it.1)
 
   pub rev_parse_from : word ≡ spelled RevParse → (o : Option Written)
       → MatchOption o (NoneHas RevParse fields) (λ w. (rev : Rev) × (w ≡ written.Command (command.RevParse rev)) × HasFields (command.RevParse rev) fields)

@@ -1,8 +1,9 @@
--- One line more, and the lines of one lane more.
+-- One line more, the lines of one lane more, and one deployment more.
 use Rattle.std.proofs.Common.{◌≡◌, ◌<◌, ◌+◌, ℕ, List, [], ◌∷◌, ◌++◌, length, take, get_or, refl, sym, ◌∙◌, ap, arith, append_assoc, append-nil, map}
 use Rattle.std.proofs.lemmas.List.{take_more, length-take, length-map, map-append}
 use Rattle.script.specs.declared.answer.Reply.{Reply}
-use Rattle.script.specs.Lines.{reply_line, lane_lines, lines_from}
+use Rattle.script.specs.declared.rows.StatusRow.{StatusRow}
+use Rattle.script.specs.Lines.{reply_line, lane_lines, lines_from, status_row, status_rows}
 
 pub lane_lines-push : (lane first : ℕ) (replies : List Reply) (reply : Reply)
     → lane_lines lane first (replies ++ reply ∷ []) ≡ lane_lines lane first replies ++ reply_line lane (first + length replies) reply.answer
@@ -45,3 +46,23 @@ lines_step items text new i lanes lane in_range is before step =
     let count : length (map items (take i lanes)) ≡ i = length-map (take i lanes) items ∙ length-take i lanes ∙ omega arith in
     step ∙ ap (λ t. t ++ lane_lines i 0 (items lane)) before
     ∙ sym (ap (λ l. lines_from 0 (map items l)) more ∙ ap (lines_from 0) (map-append items (take i lanes) (lane ∷ [])) ∙ lines_from-push 0 (map items (take i lanes)) (items lane) ∙ ap (λ k. lines_from 0 (map items (take i lanes)) ++ lane_lines k 0 (items lane)) (omega (arith, count)))
+
+-- ---- deployments
+
+status_rows-push : (first : ℕ) (rows : List StatusRow) (row : StatusRow) → status_rows first (rows ++ row ∷ []) ≡ status_rows first rows ++ status_row (first + length rows) row
+unfolding status_rows
+status_rows-push first [] row = append-nil (status_row first row) ∙ ap (λ k. status_row k row) (omega arith)
+status_rows-push first (x ∷ rows) row =
+    ap (λ t. status_row first x ++ t) (status_rows-push (first + 1) rows row ∙ ap (λ k. status_rows (first + 1) rows ++ status_row k row) (omega arith)) ∙ sym (append_assoc (status_row first x) _ _)
+
+pub status_rows-nil : (first : ℕ) → status_rows first [] ≡ []
+unfolding status_rows
+status_rows-nil first = refl
+
+pub status_step : (had count text new : List ℕ) (i : ℕ) (rows : List StatusRow) (row : StatusRow) → i < length rows → row ≡ get_or rows i row
+    → text ≡ had ++ (count ++ status_rows 0 (take i rows)) → new ≡ text ++ status_row i row → new ≡ had ++ (count ++ status_rows 0 (take (i + 1) rows))
+status_step had count text new i rows row in_range is before step =
+    let more : take (i + 1) rows ≡ take i rows ++ row ∷ [] = take_more rows i row in_range ∙ ap (λ r. take i rows ++ r ∷ []) (sym is) in
+    let taken : length (take i rows) ≡ i = length-take i rows ∙ omega arith in
+    step ∙ ap (λ t. t ++ status_row i row) before ∙ append_assoc had _ _ ∙ ap (λ t. had ++ t) (append_assoc count _ _)
+    ∙ ap (λ t. had ++ (count ++ t)) (sym (ap (status_rows 0) more ∙ status_rows-push 0 (take i rows) row ∙ ap (λ k. status_rows 0 (take i rows) ++ status_row k row) (omega (arith, taken))))

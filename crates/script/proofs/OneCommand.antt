@@ -9,7 +9,7 @@ use Rattle.script.specs.Words.{AreRevName, AreRevPath, HasFields, IsBranch, IsCo
 use Rattle.script.specs.declared.command.Rev.{Rev}
 use Rattle.script.specs.declared.command.Rev.TheVariants.{Ref, Commit}
 use Rattle.script.specs.declared.command.Command.{Command}
-use Rattle.script.specs.declared.command.Command.TheVariants.{Refs, RevParse, Log, Ls, Cat, Checkout, Reset, DropRef, Prune, Commit as CommitTree}
+use Rattle.script.specs.declared.command.Command.TheVariants.{Refs, Status, RevParse, Log, Ls, Cat, Checkout, Reset, DropRef, Prune, Commit as CommitTree}
 use Rattle.script.specs.declared.words.Keyword.{Keyword}
 use Rattle.script.specs.declared.words.Keyword.TheVariants as word
 use Rattle.script.proofs.Alone.{same_fields, same_keyword}
@@ -52,6 +52,7 @@ both_same f g h k fields p q = let e : h ∷ k ∷ [] ≡ f ∷ g ∷ [] = sym q
 -- a command with these fields, by its keyword
 abbrev Shape : Keyword → List (List ℕ) → Command → Type 0
 Shape word.Refs fields c = c ≡ Refs
+Shape word.Status fields c = c ≡ Status
 Shape word.RevParse fields c = (rev : Rev) × (c ≡ RevParse rev) × HasFields (RevParse rev) fields
 Shape word.Log fields c = (rev : Rev) × (c ≡ Log rev) × HasFields (Log rev) fields
 Shape word.Ls fields c = (rev : Rev) × (path : Path) × (c ≡ Ls rev path) × HasFields (Ls rev path) fields
@@ -64,6 +65,7 @@ Shape word.Commit fields c = ⊥
 
 shape : (c : Command) (fields : List (List ℕ)) → HasFields c fields → Shape (keyword_of c) fields c
 shape Refs fields has = refl
+shape Status fields has = refl
 shape (RevParse rev) fields has = (rev, refl, has)
 shape (Log rev) fields has = (rev, refl, has)
 shape (Ls rev path) fields has = (rev, path, refl, has)
@@ -89,6 +91,7 @@ rev_name_one fields a b n m p q =
 
 shape_one : (k : Keyword) (fields : List (List ℕ)) (c d : Command) → Shape k fields c → Shape k fields d → c ≡ d
 shape_one word.Refs fields c d p q = p ∙ sym q
+shape_one word.Status fields c d p q = p ∙ sym q
 shape_one word.RevParse fields c d p q = p.1 ∙ ap RevParse (rev_field_one fields p.0 q.0 p.2 q.2) ∙ sym q.1
 shape_one word.Log fields c d p q = p.1 ∙ ap Log (rev_field_one fields p.0 q.0 p.2 q.2) ∙ sym q.1
 shape_one word.Ls fields c d p q = let same = rev_path_one fields p.0 q.0 p.1 q.1 p.3 q.3 in p.2 ∙ ap₂ Ls same.0 same.1 ∙ sym q.2

@@ -4,13 +4,15 @@ use Rattle.std.specs.List.{flat_map}
 use Rattle.std.specs.Fmt.{decimal, digits}
 use Rattle.ost_types.specs.Path.{Path, text_of}
 use Rattle.ost_types.specs.Csum.{hex_of}
+use Rattle.boot_model.specs.declared.item.DepId.{DepId}
 use Rattle.script.specs.Field.{escaped, field_text}
 use Rattle.script.specs.declared.answer.Answer.{Answer}
-use Rattle.script.specs.declared.answer.Answer.TheVariants.{Nothing, Refs, Commit, Log, Ls, Content, Pruned, NoRef, NoCommit, Partial, NoPath, NotFile, DestExists, RefMoved, RefClash, BadTree, TooMany, NoMemory, DiskFault, Halted, Outside}
+use Rattle.script.specs.declared.answer.Answer.TheVariants.{Nothing, Refs, Status, Commit, Log, Ls, Content, Pruned, NoRef, NoCommit, Partial, NoPath, NotFile, DestExists, RefMoved, RefClash, BadTree, TooMany, NoMemory, DiskFault, Halted, Outside}
 use Rattle.script.specs.declared.answer.Reply.{Reply}
 use Rattle.script.specs.declared.rows.LogRow.{LogRow}
 use Rattle.script.specs.declared.rows.LsRow.{LsRow}
 use Rattle.script.specs.declared.rows.LsRow.TheVariants.{Folder, Leaf}
+use Rattle.script.specs.declared.rows.StatusRow.{StatusRow}
 
 -- how many rows there are
 abbrev pub count_text : ℕ → List ℕ
@@ -43,6 +45,24 @@ abbrev pub ls_row : LsRow → List ℕ
 ls_row (Folder uid gid mode path) = folder_row uid gid mode path
 ls_row (Leaf file path) = leaf_row file path
 
+-- a deployment: its stateroot, its commit, and behind a dot (46) its serial number
+abbrev pub deployment_text : DepId → List ℕ
+deployment_text id = id.os ++ (32 ∷ (hex_of id.commit ++ (46 ∷ decimal id.serial)))
+
+-- the lane that uses it, if any does
+abbrev pub lane_text : Option ℕ → List ℕ
+lane_text None = codes "-"
+lane_text (Some lane) = decimal lane
+
+-- a deployment, with its place in the order of booting
+abbrev pub status_row : ℕ → StatusRow → List ℕ
+status_row index row = codes "\n " ++ (decimal index ++ (32 ∷ (deployment_text row.id ++ (32 ∷ lane_text row.lane))))
+
+-- rows, the first of them with this number
+unfoldable pub status_rows : ℕ → List StatusRow → List ℕ
+status_rows index [] = []
+status_rows index (row ∷ rows) = status_row index row ++ status_rows (index + 1) rows
+
 abbrev pub value_text : Option (List ℕ) → List ℕ
 value_text None = codes "none"
 value_text (Some sum) = hex_of sum
@@ -55,6 +75,7 @@ pruned_text kept removed = codes "ok " ++ (decimal kept ++ (32 ∷ decimal remov
 abbrev pub answer_text : Answer → List ℕ
 answer_text Nothing = codes "ok"
 answer_text (Refs rows) = rows_text ref_row rows.items
+answer_text (Status rows) = count_text (length rows.items) ++ status_rows 0 rows.items
 answer_text (Commit sum) = codes "ok " ++ hex_of sum
 answer_text (Log rows) = rows_text log_row rows.items
 answer_text (Ls rows) = rows_text ls_row rows.items

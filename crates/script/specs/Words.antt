@@ -9,7 +9,7 @@ use Rattle.script.specs.Field.{IsField, IsNameField, IsNumber, IsPathField, IsTe
 use Rattle.script.specs.declared.command.Rev.{Rev}
 use Rattle.script.specs.declared.command.Rev.TheVariants.{Ref, Commit}
 use Rattle.script.specs.declared.command.Command.{Command}
-use Rattle.script.specs.declared.command.Command.TheVariants.{Refs, RevParse, Log, Ls, Cat, Checkout, Reset, DropRef, Prune, Commit as CommitTree}
+use Rattle.script.specs.declared.command.Command.TheVariants.{Refs, Status, RevParse, Log, Ls, Cat, Checkout, Reset, DropRef, Prune, Commit as CommitTree}
 use Rattle.script.specs.declared.command.CommitLine.{CommitLine}
 use Rattle.script.specs.declared.command.Written.{Written}
 use Rattle.script.specs.declared.command.Written.TheVariants as written
@@ -35,6 +35,7 @@ IsRev field (Commit sum) = IsCommit field sum
 
 abbrev pub spelled : Keyword → List ℕ
 spelled word.Refs = codes "refs"
+spelled word.Status = codes "status"
 spelled word.RevParse = codes "rev-parse"
 spelled word.Log = codes "log"
 spelled word.Ls = codes "ls"
@@ -47,6 +48,7 @@ spelled word.Commit = codes "commit"
 
 abbrev pub keyword_of : Command → Keyword
 keyword_of Refs = word.Refs
+keyword_of Status = word.Status
 keyword_of (RevParse rev) = word.RevParse
 keyword_of (Log rev) = word.Log
 keyword_of (Ls rev path) = word.Ls
@@ -67,6 +69,7 @@ AreRevName fields rev name = (f g : List ℕ) × (fields ≡ f ∷ g ∷ []) × 
 
 abbrev pub HasFields : Command → List (List ℕ) → Type 0
 HasFields Refs fields = fields ≡ []
+HasFields Status fields = fields ≡ []
 HasFields (RevParse rev) fields = (f : List ℕ) × (fields ≡ f ∷ []) × IsRev f rev
 HasFields (Log rev) fields = (f : List ℕ) × (fields ≡ f ∷ []) × IsRev f rev
 HasFields (Ls rev path) fields = AreRevPath fields rev path

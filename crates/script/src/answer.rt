@@ -1,8 +1,8 @@
-use crate::rows::{LogRow, LsRow};
+use crate::rows::{LogRow, LsRow, StatusRow};
 use ost_types::{Bytes, Csum, FsPath};
 use repo_layout::RefName;
 
-/// What a command answered. The first seven are those of a command that was done, the next ten refuse it, and the
+/// What a command answered. The first eight are those of a command that was done, the next ten refuse it, and the
 /// others end it for want of something outside.
 #[derive(Drop, Debug)]
 pub enum Answer {
@@ -10,6 +10,8 @@ pub enum Answer {
     Nothing,
     /// The refs, ascending by their names.
     Refs(Vec<(RefName, Csum)>),
+    /// The deployments, the one that boots first in front.
+    Status(Vec<StatusRow>),
     /// The name of a commit.
     Commit(Csum),
     /// The commit, its parent and so on.

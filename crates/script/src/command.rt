@@ -14,6 +14,8 @@ pub enum Rev {
 pub enum Command {
     /// `refs` lists the refs.
     Refs,
+    /// `status` lists the deployments that boot.
+    Status,
     /// `rev-parse` tells the commit.
     RevParse {
         rev: Rev,

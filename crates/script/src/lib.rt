@@ -24,5 +24,5 @@ pub use field::{byte_of, read_field, unescape};
 pub use lines::write_replies;
 pub use number::{number_of, read_text, read_u32, read_u64};
 pub use path::read_path;
-pub use rows::{LogRow, LsRow};
+pub use rows::{LogRow, LsRow, StatusRow};
 pub use words::{read_words, read_written};

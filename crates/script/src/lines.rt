@@ -8,7 +8,7 @@ ghost use Rattle.script.specs.Lines.{answer_text, lane_lines, pruned_text, repli
 
 use crate::answer::{Answer, Reply};
 use crate::escape::{append_bytes, append_field};
-use crate::row_lines::{append_log, append_ls, append_refs};
+use crate::row_lines::{append_log, append_ls, append_refs, append_status};
 use ost_types::{Bytes, Csum, FsPath, NoMemory};
 use repo_layout::RefName;
 use std::alloc::Global;
@@ -59,6 +59,7 @@ fn append_answer(alloc: Global, text: &mut Bytes, answer: &Answer) -> Result<(),
     match answer {
         Answer::Nothing => text.append(b"ok"),
         Answer::Refs(rows) => append_refs(alloc, text, rows),
+        Answer::Status(rows) => append_status(alloc, text, rows),
         Answer::Commit(commit) => append_sum(text, b"ok ", commit),
         Answer::Log(rows) => append_log(alloc, text, rows),
         Answer::Ls(rows) => append_ls(alloc, text, rows),

@@ -24,6 +24,15 @@ pub fn read_refs(fields: &[&[u8]]) -> Option<Written>
     }
 }
 
+pub fn read_status(fields: &[&[u8]]) -> Option<Written>
+    ensures { MatchOption result (¬ (HasFields command.Status (map (λ f. f.now) fields.now))) (λ c. (c ≡ written.Command command.Status) × HasFields command.Status (map (λ f. f.now) fields.now)) }
+{
+    match fields {
+        [] => Some(Written::Command(Command::Status)),
+        _ => None,
+    }
+}
+
 pub fn read_rev_parse(alloc: Global, fields: &[&[u8]]) -> Result<Option<Written>, NoMemory>
     ensures { IfOk result (λ o. MatchOption o ((rev : Rev) → ¬ (HasFields (command.RevParse rev) (map (λ f. f.now) fields.now))) (λ c. (rev : Rev) × (c ≡ written.Command (command.RevParse rev)) × HasFields (command.RevParse rev) (map (λ f. f.now) fields.now))) }
 {

@@ -5,11 +5,12 @@ ghost use Rattle.std.specs.Fmt.{decimal};
 ghost use Rattle.ost_types.specs.Csum.{hex_of};
 ghost use Rattle.ost_types.specs.Path.{text_of};
 ghost use Rattle.script.specs.Field.{escaped};
-ghost use Rattle.script.specs.Lines.{count_text, folder_row, leaf_row, log_row, ls_row, octal, ref_row, rows_text};
+ghost use Rattle.script.specs.Lines.{count_text, deployment_text, folder_row, lane_text, leaf_row, log_row, ls_row, octal, ref_row, rows_text, status_row, status_rows};
 
 use crate::escape::append_bytes;
 use crate::lines::{append_path, append_sum};
-use crate::rows::{LogRow, LsRow};
+use crate::rows::{LogRow, LsRow, StatusRow};
+use boot_model::DepId;
 use ost_types::{Bytes, Csum, FsPath, NoMemory};
 use repo_layout::RefName;
 use std::alloc::Global;
@@ -44,6 +45,16 @@ pub fn append_ls(alloc: Global, text: &mut Bytes, rows: &[LsRow]) -> Result<(), 
     append_count(alloc, text, rows.len())?;
     for row in rows {
         append_ls_row(alloc, text, row)?;
+    }
+    Ok(())
+}
+
+pub fn append_status(alloc: Global, text: &mut Bytes, rows: &[StatusRow]) -> Result<(), NoMemory>
+    ensures { OnOk result (text.new ≡ text.old ++ (count_text (length rows.now) ++ status_rows 0 rows.now)) }
+{
+    append_count(alloc, text, rows.len())?;
+    for (index, row) in rows.iter().enumerate() {
+        append_status_row(alloc, text, index, row)?;
     }
     Ok(())
 }
@@ -104,4 +115,37 @@ fn append_leaf(text: &mut Bytes, file: &Csum, path: &FsPath) -> Result<(), NoMem
 {
     append_sum(text, b"\n leaf ", file)?;
     append_path(text, b" ", path)
+}
+
+fn append_status_row(
+    alloc: Global,
+    text: &mut Bytes,
+    index: usize,
+    row: &StatusRow,
+) -> Result<(), NoMemory>
+    ensures { OnOk result (text.new ≡ text.old ++ status_row index row.now) }
+{
+    text.append(format!(in alloc; "\n {index} ")?.as_bytes())?;
+    append_deployment(alloc, text, &row.id)?;
+    text.push(b' ')?;
+    append_user(alloc, text, row.lane)
+}
+
+fn append_deployment(alloc: Global, text: &mut Bytes, id: &DepId) -> Result<(), NoMemory>
+    ensures { OnOk result (text.new ≡ text.old ++ deployment_text id.now) }
+{
+    text.append(id.os.as_slice())?;
+    append_sum(text, b" ", &id.commit)?;
+    let serial = id.serial;
+    text.append(format!(in alloc; ".{serial}")?.as_bytes())
+}
+
+// the lane that uses a deployment
+fn append_user(alloc: Global, text: &mut Bytes, lane: Option<u8>) -> Result<(), NoMemory>
+    ensures { OnOk result (text.new ≡ text.old ++ lane_text lane) }
+{
+    match lane {
+        None => text.append(b"-"),
+        Some(lane) => text.append(format!(in alloc; "{lane}")?.as_bytes()),
+    }
 }

@@ -1,3 +1,4 @@
+use boot_model::DepId;
 use ost_types::{Csum, FsPath, Text};
 
 /// A commit of a log.
@@ -24,4 +25,12 @@ pub enum LsRow {
         file: Csum,
         path: FsPath,
     },
+}
+
+/// A deployment that boots.
+#[derive(Drop, Debug)]
+pub struct StatusRow {
+    pub id: DepId,
+    /// The least lane that uses it.
+    pub lane: Option<u8>,
 }

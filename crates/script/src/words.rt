@@ -6,7 +6,7 @@ use crate::command::{Command, Lane, Written};
 use crate::fault::ScriptFault;
 use crate::read::{
     read_cat, read_checkout, read_commit_words, read_drop, read_log, read_ls, read_prune,
-    read_refs, read_reset, read_rev_parse,
+    read_refs, read_reset, read_rev_parse, read_status,
 };
 use ost_types::{NoMemory, Text};
 use std::alloc::Global;
@@ -53,6 +53,7 @@ pub fn read_written(alloc: Global, words: &[&[u8]]) -> Result<Option<Written>, N
     };
     match keyword_of(keyword) {
         Some(Keyword::Refs) => Ok(read_refs(fields)),
+        Some(Keyword::Status) => Ok(read_status(fields)),
         Some(Keyword::RevParse) => read_rev_parse(alloc, fields),
         Some(Keyword::Log) => read_log(alloc, fields),
         Some(Keyword::Ls) => read_ls(alloc, fields),
@@ -70,6 +71,7 @@ pub fn read_written(alloc: Global, words: &[&[u8]]) -> Result<Option<Written>, N
 #[derive(Clone, Copy, Debug, PartialEq, Eq)]
 enum Keyword {
     Refs,
+    Status,
     RevParse,
     Log,
     Ls,
@@ -86,6 +88,7 @@ fn keyword_of(word: &[u8]) -> Option<Keyword>
 {
     match word {
         b"refs" => Some(Keyword::Refs),
+        b"status" => Some(Keyword::Status),
         b"rev-parse" => Some(Keyword::RevParse),
         b"log" => Some(Keyword::Log),
         b"ls" => Some(Keyword::Ls),

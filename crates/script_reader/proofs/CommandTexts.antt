@@ -12,7 +12,7 @@ use Rattle.repo_layout.specs.RefFile.{IsSum}
 use Rattle.script.specs.Words.{AreRevName, AreRevPath, IsBranch, IsCommit, IsRev, IsWritten}
 use Rattle.script.specs.declared.command.Rev.{Rev}
 use Rattle.script.specs.declared.command.Rev.TheVariants.{Ref, Commit}
-use Rattle.script.specs.declared.command.Command.TheVariants.{Refs, RevParse, Log, Ls, Cat, Checkout, Reset, DropRef, Prune, Commit as CommitTree}
+use Rattle.script.specs.declared.command.Command.TheVariants.{Refs, Status, RevParse, Log, Ls, Cat, Checkout, Reset, DropRef, Prune, Commit as CommitTree}
 use Rattle.script.specs.declared.command.Written.{Written}
 use Rattle.script.specs.declared.command.Written.TheVariants as written
 use Rattle.script.specs.Field.{IsNameField, IsPathText, field_text}
@@ -74,6 +74,7 @@ HasShortTree (written.Commit line) = line.tree < 2 ^ 32
 
 words_visible : (w : Written) → IsWritable w → HasShortTree w → All (All IsVisible) (command_words w)
 words_visible (written.Command Refs) is short = All-from_recursion (All IsVisible) (command_words (written.Command Refs)) (visible_all (codes "refs") refl, tt)
+words_visible (written.Command Status) is short = All-from_recursion (All IsVisible) (command_words (written.Command Status)) (visible_all (codes "status") refl, tt)
 words_visible (written.Command (RevParse rev)) is short = All-from_recursion (All IsVisible) (command_words (written.Command (RevParse rev))) (visible_all (codes "rev-parse") refl, (rev_visible rev is, tt))
 words_visible (written.Command (Log rev)) is short = All-from_recursion (All IsVisible) (command_words (written.Command (Log rev))) (visible_all (codes "log") refl, (rev_visible rev is, tt))
 words_visible (written.Command (Ls rev path)) is short =
@@ -99,6 +100,7 @@ words_visible (written.Commit line) is short =
 
 words_back : (w : Written) → IsWritable w → HasShortTree w → IsWritten (command_words w) w
 words_back (written.Command Refs) is short = record { fields = []; line = refl; has = refl }
+words_back (written.Command Status) is short = record { fields = []; line = refl; has = refl }
 words_back (written.Command (RevParse rev)) is short = record { fields = rev_text rev ∷ []; line = refl; has = (rev_text rev, refl, rev_back rev is) }
 words_back (written.Command (Log rev)) is short = record { fields = rev_text rev ∷ []; line = refl; has = (rev_text rev, refl, rev_back rev is) }
 words_back (written.Command (Ls rev path)) is short = record { fields = rev_path_fields rev path; line = refl; has = rev_path_back rev path is }

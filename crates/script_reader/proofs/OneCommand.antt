@@ -4,7 +4,7 @@ use Rattle.std.specs.Prelude.{slice_get}
 use Rattle.script.specs.Words.{IsCommitLine, IsCommitLineAt, IsWritten, Resolves}
 use Rattle.script.specs.declared.command.CommitLine.{CommitLine}
 use Rattle.script.specs.declared.command.Command.{Command}
-use Rattle.script.specs.declared.command.Command.TheVariants.{Refs, RevParse, Log, Ls, Cat, Checkout, Reset, DropRef, Prune, Commit as CommitTree}
+use Rattle.script.specs.declared.command.Command.TheVariants.{Refs, Status, RevParse, Log, Ls, Cat, Checkout, Reset, DropRef, Prune, Commit as CommitTree}
 use Rattle.script.specs.declared.command.Written.{Written}
 use Rattle.script.specs.declared.command.Written.TheVariants as written
 use Rattle.script.proofs.Alone.{commit_alone}
@@ -43,6 +43,7 @@ line_one words k l s t =
 
 same_one : (c d : Command) → c ≡ d → IsSame c d
 same_one Refs d e = e
+same_one Status d e = e
 same_one (RevParse r) d e = e
 same_one (Log r) d e = e
 same_one (Ls r p) d e = e
@@ -59,6 +60,7 @@ commit_same trees k l (CommitTree b t s m n) (CommitTree b' t' s' m' n') same p 
     let items : t.items ≡ t'.items = cc in
     (p.0 ∙ same.branch ∙ sym q.0, items, p.2 ∙ same.subject ∙ sym q.2, p.3 ∙ same.body ∙ sym q.3, p.4 ∙ same.time ∙ sym q.4)
 commit_same trees k l (CommitTree b t s m n) Refs same p q = absurd q
+commit_same trees k l (CommitTree b t s m n) Status same p q = absurd q
 commit_same trees k l (CommitTree b t s m n) (RevParse r) same p q = absurd q
 commit_same trees k l (CommitTree b t s m n) (Log r) same p q = absurd q
 commit_same trees k l (CommitTree b t s m n) (Ls r x) same p q = absurd q
@@ -68,6 +70,7 @@ commit_same trees k l (CommitTree b t s m n) (Reset x y) same p q = absurd q
 commit_same trees k l (CommitTree b t s m n) (DropRef x) same p q = absurd q
 commit_same trees k l (CommitTree b t s m n) (Prune x) same p q = absurd q
 commit_same trees k l Refs d same p q = absurd p
+commit_same trees k l Status d same p q = absurd p
 commit_same trees k l (RevParse r) d same p q = absurd p
 commit_same trees k l (Log r) d same p q = absurd p
 commit_same trees k l (Ls r x) d same p q = absurd p

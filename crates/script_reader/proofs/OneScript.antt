@@ -95,6 +95,7 @@ known_tree trees words (written.Commit k) (written.Commit l) (command.Commit bra
     let none : slice_get trees k.tree ≡ None = slice_get_past trees k.tree past in
     let n : None ≡ Some tree.items = sym none ∙ r.1 in cc
 known_tree trees words (written.Commit k) (written.Commit l) command.Refs n s r t un = r
+known_tree trees words (written.Commit k) (written.Commit l) command.Status n s r t un = r
 known_tree trees words (written.Commit k) (written.Commit l) (command.RevParse rev) n s r t un = r
 known_tree trees words (written.Commit k) (written.Commit l) (command.Log rev) n s r t un = r
 known_tree trees words (written.Commit k) (written.Commit l) (command.Ls rev path) n s r t un = r

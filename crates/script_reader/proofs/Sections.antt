@@ -94,6 +94,7 @@ short_tree : (trees : List Tree) (w : Written) (c : Command) → Resolves trees 
 short_tree trees (written.Command d) c is few = tt
 short_tree trees (written.Commit line) (command.Commit branch tree subject body time) is few = omega (arith, few, there trees line.tree tree.items is.1)
 short_tree trees (written.Commit line) command.Refs is few = absurd is
+short_tree trees (written.Commit line) command.Status is few = absurd is
 short_tree trees (written.Commit line) (command.RevParse rev) is few = absurd is
 short_tree trees (written.Commit line) (command.Log rev) is few = absurd is
 short_tree trees (written.Commit line) (command.Ls rev path) is few = absurd is

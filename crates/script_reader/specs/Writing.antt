@@ -18,7 +18,7 @@ use Rattle.script.specs.Words.{Resolves, keyword_of, spelled}
 use Rattle.script.specs.declared.command.Rev.{Rev}
 use Rattle.script.specs.declared.command.Rev.TheVariants.{Ref, Commit}
 use Rattle.script.specs.declared.command.Command.{Command}
-use Rattle.script.specs.declared.command.Command.TheVariants.{Refs, RevParse, Log, Ls, Cat, Checkout, Reset, DropRef, Prune, Commit as CommitTree}
+use Rattle.script.specs.declared.command.Command.TheVariants.{Refs, Status, RevParse, Log, Ls, Cat, Checkout, Reset, DropRef, Prune, Commit as CommitTree}
 use Rattle.script.specs.declared.command.Written.{Written}
 use Rattle.script.specs.declared.command.Written.TheVariants as written
 use Rattle.script_reader.specs.declared.node.NodeKind.TheVariants.{Folder, File, Link}
@@ -90,6 +90,7 @@ rev_name_fields rev name = rev_text rev ∷ field_text name ∷ []
 -- A commit is written with its tree's number, and not as a command that stands for itself.
 abbrev pub command_fields : Command → List (List ℕ)
 command_fields Refs = []
+command_fields Status = []
 command_fields (RevParse rev) = rev_text rev ∷ []
 command_fields (Log rev) = rev_text rev ∷ []
 command_fields (Ls rev path) = rev_path_fields rev path
@@ -172,6 +173,7 @@ IsWritableRev (Commit sum) = IsSum sum
 
 abbrev pub IsWritable : Written → Type 0
 IsWritable (written.Command Refs) = Unit {0}
+IsWritable (written.Command Status) = Unit {0}
 IsWritable (written.Command (RevParse rev)) = IsWritableRev rev
 IsWritable (written.Command (Log rev)) = IsWritableRev rev
 IsWritable (written.Command (Ls rev path)) = IsWritableRev rev × IsPathText (text_of path) path

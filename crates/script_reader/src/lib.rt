@@ -19,7 +19,7 @@ pub use commands::COMMAND_LIMIT;
 pub use laws::readings;
 pub use read::{SCRIPT_LIMIT, read_script};
 pub use script::{
-    Answer, Command, CommitLine, Lane, LogRow, LsRow, Reply, Rev, ScriptFault, Written,
+    Answer, Command, CommitLine, Lane, LogRow, LsRow, Reply, Rev, ScriptFault, StatusRow, Written,
     append_bytes, append_field, read_words, write_replies,
 };
 pub use step::LANE_LIMIT;

@@ -12,7 +12,7 @@ use Rattle.ost_forms.specs.declared.tree_item.BodySpec.{BodySpec}
 use Rattle.ost_forms.specs.declared.tree_item.TreeItem.{TreeItem}
 use Rattle.script.specs.Words.{IsCommand, IsCommitLineAt, IsWritten as IsCommandWritten, Resolves}
 use Rattle.script.specs.declared.command.Command.{Command}
-use Rattle.script.specs.declared.command.Command.TheVariants.{Refs, RevParse, Log, Ls, Cat, Checkout, Reset, DropRef, Prune, Commit}
+use Rattle.script.specs.declared.command.Command.TheVariants.{Refs, Status, RevParse, Log, Ls, Cat, Checkout, Reset, DropRef, Prune, Commit}
 use Rattle.script.specs.declared.command.CommitLine.{CommitLine}
 use Rattle.script.specs.declared.command.Written.{Written}
 use Rattle.script.specs.declared.command.Written.TheVariants as written
@@ -59,6 +59,7 @@ IsStateFit n (in_lane trees lanes commands) = AreSectionsFit trees lanes × (len
 
 plain : (words : List (List ℕ)) (c : Command) → IsCommand words c → IsCommandFit c
 plain words Refs is = tt
+plain words Status is = tt
 plain words (RevParse rev) is = tt
 plain words (Log rev) is = tt
 plain words (Ls rev path) is = tt
@@ -76,6 +77,7 @@ both_short line b n s m t fields l e is at =
 
 committed : (trees : List Tree) (line : List ℕ) (l : CommitLine) (c : Command) → All (IsTreeWithin limit) trees → length line ≤ limit → IsCommandWritten (fields_of line) (written.Commit l) → Resolves trees (written.Commit l) c → IsCommandFit c
 committed trees line l Refs all few is r = absurd r
+committed trees line l Status all few is r = absurd r
 committed trees line l (RevParse rev) all few is r = absurd r
 committed trees line l (Log rev) all few is r = absurd r
 committed trees line l (Ls rev path) all few is r = absurd r
@@ -193,6 +195,7 @@ fit_commit limits items subject body wide tree s b le =
 
 fit_command : (limits : Limits) → IsWide limits → (c : Command) → IsCommandFit c → IsFit limits c
 fit_command limits wide Refs is = tt
+fit_command limits wide Status is = tt
 fit_command limits wide (RevParse rev) is = tt
 fit_command limits wide (Log rev) is = tt
 fit_command limits wide (Ls rev path) is = tt

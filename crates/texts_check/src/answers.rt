@@ -1,5 +1,7 @@
-use ost_types::{Bytes, FsPath, NoMemory, Text};
-use script::{Answer, Command, LsRow, Reply, ScriptFault, read_words, write_replies};
+use boot_model::DepId;
+use ost_types::{Bytes, Csum, FsPath, NoMemory, Text};
+use repo_layout::OsName;
+use script::{Answer, Command, LsRow, Reply, ScriptFault, StatusRow, read_words, write_replies};
 use std::alloc::Global;
 use std::test::Fail;
 
@@ -43,6 +45,33 @@ fn prints_rows_that_no_case_has(rt: HostRuntime) -> Result<(), Fail> {
     })?;
     let told = printed(alloc, Answer::Ls(rows))?;
     assert!(&rt; told.as_slice() == b"0 0 ok 1\n folder 0 4294967295 1755 /~\n".as_slice());
+    Ok(())
+}
+
+fn deployment(alloc: Global, serial: u32, lane: Option<u8>) -> Result<StatusRow, Fail> {
+    let os = OsName::parse(alloc, b"os1")?.ok_or("no stateroot")?;
+    Ok(StatusRow {
+        id: DepId {
+            os,
+            commit: Csum::from_bytes([0x5c; 32]),
+            serial,
+        },
+        lane,
+    })
+}
+
+#[test]
+fn prints_deployments(rt: HostRuntime) -> Result<(), Fail> {
+    let alloc = rt.alloc();
+    let told = printed(alloc, Answer::Status(Vec::new(alloc)))?;
+    assert!(&rt; told.as_slice() == b"0 0 ok 0\n".as_slice());
+    let mut rows = Vec::new(alloc);
+    rows.push(deployment(alloc, 0, None)?)?;
+    rows.push(deployment(alloc, 3, Some(2))?)?;
+    let told = printed(alloc, Answer::Status(rows))?;
+    let text =
+        b"0 0 ok 2\n 0 os1 5c5c5c5c5c5c5c5c5c5c5c5c5c5c5c5c5c5c5c5c5c5c5c5c5c5c5c5c5c5c5c5c.0 -\n 1 os1 5c5c5c5c5c5c5c5c5c5c5c5c5c5c5c5c5c5c5c5c5c5c5c5c5c5c5c5c5c5c5c5c.3 2\n";
+    assert!(&rt; told.as_slice() == text.as_slice());
     Ok(())
 }
 

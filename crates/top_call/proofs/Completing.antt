@@ -29,6 +29,7 @@ risen_tested before now is = grind (arith, nat_tests)
 -- `run` is no command
 not_run : (command : Command) (fields : List (List ℕ)) → IsCommand run command → ⊥
 not_run command.Refs fields is = let e = is.line in cc
+not_run command.Status fields is = let e = is.line in cc
 not_run (command.RevParse rev) fields is = let e = is.line in cc
 not_run (command.Log rev) fields is = let e = is.line in cc
 not_run (command.Ls rev path) fields is = let e = is.line in cc

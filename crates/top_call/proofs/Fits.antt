@@ -4,7 +4,7 @@ use Rattle.std.specs.Prelude.{All}
 use Rattle.std.proofs.lemmas.List.{get_or-map, length-map}
 use Rattle.ost_types.specs.declared.limits.Limits.{Limits}
 use Rattle.script.specs.declared.command.Command.{Command}
-use Rattle.script.specs.declared.command.Command.TheVariants.{Refs, RevParse, Log, Ls, Cat, Checkout, Reset, DropRef, Prune, Commit}
+use Rattle.script.specs.declared.command.Command.TheVariants.{Refs, Status, RevParse, Log, Ls, Cat, Checkout, Reset, DropRef, Prune, Commit}
 use Rattle.script.specs.declared.command.Lane as script
 use Rattle.script_reader.specs.Script.{command_limit, lane_limit}
 use Rattle.script_trees.specs.Fit.{AreFit, IsFit, IsWide}
@@ -22,6 +22,7 @@ at_place P xs i x all at = subst P at.1 (all i x at.0)
 
 fit_command : (limits : Limits) (c : Command) → IsFit limits c → means.fit limits (words_of c)
 fit_command limits Refs is = tt
+fit_command limits Status is = tt
 fit_command limits (RevParse rev) is = tt
 fit_command limits (Log rev) is = tt
 fit_command limits (Ls rev path) is = tt

@@ -20,7 +20,7 @@ none_shown (Some p) is = cc
 
 module _ {F : Type 0} (clock : F → ℕ) (was : F → ℕ → View → Type 0) (base : Base F) (v : View) where
   abbrev start : State
-  start = first base.books.start.items
+  start = first base.books.start.refs.items
 
   abbrev events : List Event
   events = events_of base.books.history.items ++ pending_of base.books.pending

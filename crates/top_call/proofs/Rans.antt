@@ -5,7 +5,7 @@ use Rattle.fs_trait.specs.Image.{IsTree, Told}
 use Rattle.fs_trait.specs.View.{Disk, View}
 use Rattle.rely_guarantee.specs.Books.{books_of}
 use Rattle.rely_guarantee.specs.Opening.{IsOpening}
-use Rattle.rely_guarantee.specs.State.{first}
+use Rattle.rely_guarantee.specs.State.{first, opening_state}
 use Rattle.rely_guarantee.specs.Disks.{Logical}
 use Rattle.rely_guarantee.specs.declared.books.Entry.{Entry}
 use Rattle.rely_guarantee.specs.declared.books.Pending.{Pending}
@@ -95,7 +95,7 @@ named_of lanes d name (inl there) = inl there
 named_of lanes d name (inr (lane, number, by)) = inr (lane, number, by.0)
 
 module _ {F : Type 0} (f : FsSpec F) (opened : Opened F) (limits : Limits) (v : View) (before : ℕ) (commands : List (List Command)) (good : IsGood limits v.now) (within : opened.limits ≡ limits) (barrier : opened.clock ≡ before + 1) (begins : Told (f.view opened.fs) (Begins opened.refs v)) (tree : IsTree begins.0.now)
-    (holds : KeepsKnown (f.was opened.fs) (Stores v.now) opened.clock begins.0) (rows : List BootRow) (listed : AreRowsOf v.now rows) (lists : KeepsList (f.was opened.fs) rows opened.clock begins.0) where
+    (holds : KeepsKnown (f.was opened.fs) (Stores v.now) opened.clock begins.0) (listed : AreRowsOf v.now opened.rows) (lists : KeepsList (f.was opened.fs) opened.rows opened.clock begins.0) where
   module _ (own : List (List Words)) (scripted_as : own ≡ map (λ row. map words_of row) commands) (fs : F) (history : List Entry) (pending : Option Pending) (replies : List (List Reply)) (is : RanOn f opened own fs history pending replies) where
     abbrev s : System F Task Words Answer
     s = is.system
@@ -112,15 +112,15 @@ module _ {F : Type 0} (f : FsSpec F) (opened : Opened F) (limits : Limits) (v : 
     holds_since : Told (f.view s.base.fs) (λ w. AreKnown f means v.now s w)
     holds_since = is.known v.now begins.0 begins.1 holds
 
-    boots_since : Told (f.view s.base.fs) (λ w. BootsStill f rows s w)
-    boots_since = is.boots rows begins.0 begins.1 lists
+    boots_since : Told (f.view s.base.fs) (λ w. BootsStill f opened.rows s w)
+    boots_since = is.boots opened.rows begins.0 begins.1 lists
 
-    ran_there : (w : View) → f.view s.base.fs ≡ Some w → Stands f program (f.faults opened.fs) begins.0 s w → AreKnown f means v.now s w → BootsStill f rows s w → Ran s.limits f.view f.clock f.was v before commands s.base.fs s.base.books.history.items (event_of s.base.books.pending) (replies_of s.lanes) w
+    ran_there : (w : View) → f.view s.base.fs ≡ Some w → Stands f program (f.faults opened.fs) begins.0 s w → AreKnown f means v.now s w → BootsStill f opened.rows s w → Ran s.limits f.view f.clock f.was v before commands s.base.fs s.base.books.history.items (event_of s.base.books.pending) (replies_of s.lanes) w
     ran_there w told stands knows boots = record {
       good = subst (λ l. IsGood l v.now) (sym same) good;
-      start = first s.base.books.start.items;
+      start = opening_state s.base.books.start;
       state = subst (λ refs. Logical v.now (first refs)) (sym is.start) begins.2.same;
-      headline = subst (λ n. Headline f.clock f.was n (first s.base.books.start.items) s.base.fs s.base.books.history.items (event_of s.base.books.pending) w) moment (plain f.clock f.was s.base w (is.headline w told));
+      headline = subst (λ n. Headline f.clock f.was n (first s.base.books.start.refs.items) s.base.fs s.base.books.history.items (event_of s.base.books.pending) w) moment (plain f.clock f.was s.base w (is.headline w told));
       lanes = s.lanes;
       each = is.words ∙ scripted_as;
       given = refl;
@@ -134,9 +134,9 @@ module _ {F : Type 0} (f : FsSpec F) (opened : Opened F) (limits : Limits) (v : 
       swept = swept_in s.base.books;
       whole = is.swept is.ended;
       kept = stands.lasts;
-      stored = λ t d from left. left_good f s w stands.good (λ u e late was. (rows, boots.since u e late was)) t d (subst (λ n. n ≤ t) (sym moment) from) left;
+      stored = λ t d from left. left_good f s w stands.good (λ u e late was. (opened.rows, boots.since u e late was)) t d (subst (λ n. n ≤ t) (sym moment) from) left;
       inside = subst (λ n. NoExternalChangeIn means (f.was s.base.fs) n (WasBrought means s) s.lanes) moment stands.inside;
-      said = subst (λ n. RepliesHeldAtAPointIn means (f.was s.base.fs) n s.limits (first s.base.books.start.items) s.base.books.history.items s.base.books.pending s.lanes) moment stands.said;
+      said = subst (λ n. RepliesHeldAtAPointIn means (f.was s.base.fs) n s.limits (opening_state s.base.books.start) s.base.books.history.items s.base.books.pending s.lanes) moment stands.said;
       known = subst (λ n. KeepsKnown (f.was s.base.fs) (KnownBytes v.now (WasBrought means s)) n w) moment knows;
       present = record {
         finished = λ lane number r commit to absent unremoved finished. stands.founded.present.finished lane number r commit to absent unremoved (finished_opened (first opened.refs) begins.0 begins.2.opening tree commit finished.0 finished.1);
@@ -146,9 +146,10 @@ module _ {F : Type 0} (f : FsSpec F) (opened : Opened F) (limits : Limits) (v : 
       stays = stands.stays;
       remains = stands.remains (λ lane has. omega (arith, has.2, is.ended lane has.0 has.1));
       folders = folders_before s.lanes v.now begins.0.now w.now begins.2.keeps (record { made = λ name there. named_of s.lanes begins.0.now name (stands.folders.made name there); taken = stands.folders.taken; clear = clear_in s.lanes begins.0.now w.now stands.folders.clear });
-      rows = rows;
+      rows = opened.rows;
       listed = listed;
-      boots = subst (λ n. KeepsList (f.was s.base.fs) rows n w) moment boots;
+      list = is.deployments;
+      boots = subst (λ n. KeepsList (f.was s.base.fs) opened.rows n w) moment boots;
     }
 
     pub ran_on : Told (f.view fs) (Ran limits f.view f.clock f.was v before commands fs history (event_of pending) replies)
@@ -179,13 +180,13 @@ module _ {F : Type 0} (f : FsSpec F) (opened : Opened F) (own : List (List Words
       (subst (λ p. Answered limits f.view f.faults f.refused commands at_end.base.fs at_end.base.books.history.items (event_of p) replies) (sym is.change)
       (subst (λ r. Answered limits f.view f.faults f.refused commands at_end.base.fs at_end.base.books.history.items (event_of at_end.base.books.pending) r) (sym is.given)
       (record {
-        start = first at_end.base.books.start.items;
+        start = opening_state at_end.base.books.start;
         lanes = at_end.lanes;
         each = is.words ∙ scripted_as;
         given = refl;
         by = at_end.base.books.pending;
         shown = refl;
-        replied = subst (λ l. Replied (IsTold f.view) means l (first at_end.base.books.start.items) at_end.base.books.history.items at_end.base.books.pending at_end.lanes) (is.limits ∙ within) is.replied;
+        replied = subst (λ l. Replied (IsTold f.view) means l (opening_state at_end.base.books.start) at_end.base.books.history.items at_end.base.books.pending at_end.lanes) (is.limits ∙ within) is.replied;
         ended = ended_as at_end.lanes commands (is.words ∙ scripted_as) is.ended;
         halted = at_end.base.books.halted;
         ends = is.ends;
@@ -199,12 +200,12 @@ answered f opened limits scripts (Ok p) within is =
     answered_on f opened (map (λ lane. map words_of lane.commands.items) scripts) p.fs p.history.items p.pending (map (λ replies. replies.items) p.replies.items) is limits (commands_of scripts) (scripted scripts) within
 
 pub ran : {F : Type 0} (f : FsSpec F) (opened : Opened F) (limits : Limits) (v : View) (before : ℕ) (scripts : List script.Lane) (r : Result (LanesEnd F) (F × TopFault)) → IsGood limits v.now → opened.limits ≡ limits → opened.clock ≡ before + 1
-    → (begins : Told (f.view opened.fs) (Begins opened.refs v)) → IsTree begins.0.now → KeepsKnown (f.was opened.fs) (Stores v.now) opened.clock begins.0 → (rows : List BootRow) → AreRowsOf v.now rows → KeepsList (f.was opened.fs) rows opened.clock begins.0
+    → (begins : Told (f.view opened.fs) (Begins opened.refs v)) → IsTree begins.0.now → KeepsKnown (f.was opened.fs) (Stores v.now) opened.clock begins.0 → AreRowsOf v.now opened.rows → KeepsList (f.was opened.fs) opened.rows opened.clock begins.0
     → IfOk r (λ p. RanOn f opened (map (λ lane. map words_of lane.commands.items) scripts) p.fs p.history.items p.pending (map (λ replies. replies.items) p.replies.items))
     → IfOk r (λ p. Told (f.view p.fs) (Ran limits f.view f.clock f.was v before (commands_of scripts) p.fs p.history.items (event_of p.pending) (map (λ replies. replies.items) p.replies.items)))
-ran f opened limits v before scripts (Err e) good within barrier begins tree holds rows listed lists is = tt
-ran f opened limits v before scripts (Ok p) good within barrier begins tree holds rows listed lists is =
-    ran_on f opened limits v before (commands_of scripts) good within barrier begins tree holds rows listed lists (map (λ lane. map words_of lane.commands.items) scripts) (scripted scripts) p.fs p.history.items p.pending (map (λ replies. replies.items) p.replies.items) is
+ran f opened limits v before scripts (Err e) good within barrier begins tree holds listed lists is = tt
+ran f opened limits v before scripts (Ok p) good within barrier begins tree holds listed lists is =
+    ran_on f opened limits v before (commands_of scripts) good within barrier begins tree holds listed lists (map (λ lane. map words_of lane.commands.items) scripts) (scripted scripts) p.fs p.history.items p.pending (map (λ replies. replies.items) p.replies.items) is
 
 pub caused : {F : Type 0} (f : FsSpec F) (opened : Opened F) (scripts : List script.Lane) (r : Result (LanesEnd F) (F × TopFault))
     → IfOk r (λ p. RanOn f opened (map (λ lane. map words_of lane.commands.items) scripts) p.fs p.history.items p.pending (map (λ replies. replies.items) p.replies.items))

@@ -18,6 +18,7 @@ IsSmall n = (n ≡ 0) ⊎ (n ≡ 1) ⊎ (n ≡ 3)
 answer_small : (a : Answer) → ¬ (IsOutside a) → IsSmall (answer_status a)
 answer_small answer.Nothing inside = inl refl
 answer_small (answer.Refs rows) inside = inl refl
+answer_small (answer.Status rows) inside = inl refl
 answer_small (answer.Commit sum) inside = inl refl
 answer_small (answer.Log rows) inside = inl refl
 answer_small (answer.Ls rows) inside = inl refl

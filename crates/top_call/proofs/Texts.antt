@@ -15,7 +15,7 @@ use Rattle.script.specs.Words.{AreRevName, AreRevPath, IsCommand, HasFields, IsB
 use Rattle.script.specs.declared.command.Rev.TheVariants.{Ref, Commit}
 use Rattle.script.specs.declared.command.Rev.{Rev}
 use Rattle.script.specs.declared.command.Command.{Command}
-use Rattle.script.specs.declared.command.Command.TheVariants.{Refs, RevParse, Log, Ls, Cat, Checkout, Reset, DropRef, Prune, Commit as CommitTree}
+use Rattle.script.specs.declared.command.Command.TheVariants.{Refs, Status, RevParse, Log, Ls, Cat, Checkout, Reset, DropRef, Prune, Commit as CommitTree}
 
 -- from the space to `~`
 abbrev IsPrinted : ℕ → Type 0
@@ -102,6 +102,7 @@ rev_name_text rev name fields has = subst (All IsText) (sym has.2) (All-cons IsT
 
 fields_text : (command : Command) (fields : List (List ℕ)) → HasFields command fields → All IsText fields
 fields_text Refs fields has = subst (All IsText) (sym has) (All-nil IsText)
+fields_text Status fields has = subst (All IsText) (sym has) (All-nil IsText)
 fields_text (RevParse rev) fields has = subst (All IsText) (sym has.1) (alone has.0 (rev_text has.0 rev has.2))
 fields_text (Log rev) fields has = subst (All IsText) (sym has.1) (alone has.0 (rev_text has.0 rev has.2))
 fields_text (Ls rev path) fields has = rev_path_text rev path fields has
@@ -135,6 +136,7 @@ tested (b ∷ text) is =
 keyword_text : (command : Command) → IsText (spelled (keyword_of command))
 unfolding are_printed is_printed
 keyword_text Refs = text_from (codes "refs") (tested (codes "refs") refl)
+keyword_text Status = text_from (codes "status") (tested (codes "status") refl)
 keyword_text (RevParse rev) = text_from (codes "rev-parse") (tested (codes "rev-parse") refl)
 keyword_text (Log rev) = text_from (codes "log") (tested (codes "log") refl)
 keyword_text (Ls rev path) = text_from (codes "ls") (tested (codes "ls") refl)

@@ -7,7 +7,7 @@ use Rattle.rely_guarantee.specs.declared.books.Entry.{Entry}
 use Rattle.rely_guarantee.specs.declared.books.Pending.{Pending}
 use Rattle.rely_guarantee.specs.declared.event.Event.{Event}
 use Rattle.rely_guarantee.specs.declared.kind.Halt.{Halt}
-use Rattle.rely_guarantee.specs.State.{State}
+use Rattle.rely_guarantee.specs.State.{SystemState}
 use Rattle.script.specs.declared.answer.Reply.{Reply}
 use Rattle.script.specs.declared.command.Command.{Command}
 use Rattle.lane_system.specs.Lanes.{IsTo}
@@ -25,7 +25,7 @@ use Rattle.top_call.specs.Words.{IsLine}
 -- all commands is what each reply says that tells so: a call that failed, by the count of such calls at the end, or one that was refused for
 -- what stands at its path, by the path that the file system remembers.
 pub record Answered {F : Type 0} (limits : Limits) (view : F → Option View) (faults : F → ℕ) (refused : F → Option Path) (commands : List (List Command)) (fs : F) (history : List Entry) (pending : Option Event) (replies : List (List Reply)) : Type 0 where
-  pub start : State
+  pub start : SystemState
   pub lanes : List Lane
   pub each : words_in lanes ≡ map (λ row. map words_of row) commands
   pub given : replies_of lanes ≡ replies

@@ -12,6 +12,7 @@ use Rattle.sys_open.specs.Opened.{Opened}
 use Rattle.lane_system.specs.declared.lane.Reply.{Reply}
 use Rattle.lane_system.specs.Booked.{IsReplied}
 use Rattle.lane_system.specs.Causes.{AreCaused}
+use Rattle.lane_system.specs.Deployments.{ids_of}
 use Rattle.lane_system.specs.Family.{FsSpec}
 use Rattle.boot_read.specs.declared.row.BootRow.{BootRow}
 use Rattle.durable_list.specs.Standing.{KeepsList}
@@ -36,7 +37,8 @@ pub record RanOn {F : Type 0} (f : FsSpec F) (opened : Opened F) (commands : Lis
   pub change : pending ≡ system.base.books.pending
   pub given : replies ≡ replies_of system.lanes
   pub words : words_in system.lanes ≡ commands
-  pub start : system.base.books.start.items ≡ opened.refs
+  pub start : system.base.books.start.refs.items ≡ opened.refs
+  pub deployments : system.base.books.start.deployments.items ≡ ids_of opened.rows
   pub opening : system.base.books.opened ≡ opened.clock
   pub limits : system.limits ≡ opened.limits
   pub ended : HasEnded system

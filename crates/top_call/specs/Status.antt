@@ -18,6 +18,7 @@ has_risen before now = nat_lt before now || (now == last)
 abbrev pub answer_status : Answer → ℕ
 answer_status answer.Nothing = 0
 answer_status (answer.Refs rows) = 0
+answer_status (answer.Status rows) = 0
 answer_status (answer.Commit sum) = 0
 answer_status (answer.Log rows) = 0
 answer_status (answer.Ls rows) = 0

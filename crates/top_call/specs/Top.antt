@@ -9,12 +9,13 @@ use Rattle.rely_guarantee.specs.declared.event.Event.{Event}
 use Rattle.rely_guarantee.specs.Books.{Books}
 use Rattle.rely_guarantee.specs.Disks.{Logical}
 use Rattle.rely_guarantee.specs.Opening.{IsOpening}
-use Rattle.rely_guarantee.specs.State.{State}
+use Rattle.rely_guarantee.specs.State.{SystemState}
 use Rattle.ost_types.specs.declared.limits.Limits.{Limits}
 use Rattle.ost_types.specs.declared.object.ObjName.{ObjName}
 use Rattle.ost_types.specs.Path.{Path}
 use Rattle.script.specs.declared.answer.Reply.{Reply}
 use Rattle.script.specs.declared.command.Command.{Command}
+use Rattle.lane_system.specs.Deployments.{ids_of}
 use Rattle.lane_system.specs.Folders.{AreFoldersIn}
 use Rattle.lane_system.specs.Founded.{ArePresentIn}
 use Rattle.lane_system.specs.Inside.{NoExternalChangeIn}
@@ -132,9 +133,9 @@ pub record LeftGood (limits : Limits) (brings : Store) (d : Disk) : Type 0 where
 -- And the disk boots the list of deployments that it booted at the beginning, at the end and after each crash since the first barrier.
 pub record Ran {F : Type 0} (limits : Limits) (view : F → Option View) (clock : F → ℕ) (was : F → ℕ → View → Type 0) (v : View) (before : ℕ) (commands : List (List Command)) (fs : F) (history : List Entry) (pending : Option Event) (replies : List (List Reply)) (w : View) : Type 0 where
   pub good : IsGood limits v.now
-  pub start : State
-  pub state : Logical v.now start
-  pub headline : Headline clock was (before + 1) start fs history pending w
+  pub start : SystemState
+  pub state : Logical v.now start.refs
+  pub headline : Headline clock was (before + 1) start.refs fs history pending w
   pub lanes : List Lane
   pub each : words_in lanes ≡ map (λ row. map words_of row) commands
   pub given : replies_of lanes ≡ replies
@@ -144,7 +145,7 @@ pub record Ran {F : Type 0} (limits : Limits) (view : F → Option View) (clock 
   pub ended : map (λ row. length row) replies ≡ map (λ row. length row) commands
   pub begun : View
   pub opens : Keeps v.now begun.now
-  pub opened : IsOpening start begun
+  pub opened : IsOpening start.refs begun
   pub swept : List ObjName
   pub whole : AreWhole (IsTold view) lanes → swept ≡ []
   pub kept : AreKeptIn means (was fs) begun limits lanes history swept w
@@ -159,6 +160,7 @@ pub record Ran {F : Type 0} (limits : Limits) (view : F → Option View) (clock 
   pub folders : AreFoldersIn means lanes v.now w.now
   pub rows : List BootRow
   pub listed : AreRowsOf v.now rows
+  pub list : start.deployments ≡ ids_of rows
   pub boots : KeepsList (was fs) rows (before + 1) w
 
 -- so, of lanes that these words ask for, where an input has this left

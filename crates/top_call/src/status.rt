@@ -80,6 +80,7 @@ fn answer_status(answer: &Answer) -> u8
     match answer {
         Answer::Nothing
         | Answer::Refs(_)
+        | Answer::Status(_)
         | Answer::Commit(_)
         | Answer::Log(_)
         | Answer::Ls(_)

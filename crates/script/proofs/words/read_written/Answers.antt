@@ -1,13 +1,18 @@
 use Rattle.std.proofs.Common.{Some, ◌∙◌, ap}
 use Rattle.std.proofs.lemmas.Result.{IfOk-weaker}
 use Rattle.script.proofs.Slices.{first_of}
-use Rattle.script.proofs.Fields.{some_of, refs_from, rev_parse_from, log_from, ls_from, cat_from, checkout_from, reset_from, drop_from, prune_from, commit_from, no_word}
+use Rattle.script.proofs.Fields.{some_of, refs_from, status_from, rev_parse_from, log_from, ls_from, cat_from, checkout_from, reset_from, drop_from, prune_from, commit_from, no_word}
 use Rattle.script.proofs.words.read_written.Goals as goal
 
 pub returns-in-Some-Refs : goal.returns-in-Some-Refs
 returns-in-Some-Refs c =
     let word = some_of _ _ c.keyword_of.result _ c.keyword_of.ensures (c.in-Some-Refs.is ∙ ap Some c.in-Some-Refs.field-0-is) in
     refs_from _ _ _ (first_of (λ w. w.now) c.args.words.now _ c.in-len1-up.len_at_least) word _ c.read_refs.ensures
+
+pub returns-in-Some-Status : goal.returns-in-Some-Status
+returns-in-Some-Status c =
+    let word = some_of _ _ c.keyword_of.result _ c.keyword_of.ensures (c.in-Some-Status.is ∙ ap Some c.in-Some-Status.field-0-is) in
+    status_from _ _ _ (first_of (λ w. w.now) c.args.words.now _ c.in-len1-up.len_at_least) word _ c.read_status.ensures
 
 pub returns-in-Some-RevParse : goal.returns-in-Some-RevParse
 returns-in-Some-RevParse c =

@@ -7,6 +7,7 @@ use Rattle.top_call.proofs.Lists.{list_after}
 use Rattle.top_call.proofs.Rans.{counts_same}
 use Rattle.top_call.proofs.Runs.{room_kept}
 use Rattle.top_call.proofs.Standing.{stands_after}
+use Rattle.rely_guarantee.specs.declared.books.Start.{Start}
 use Rattle.top_call.proofs.lanes.run_prepared.Goals as goal
 
 pub end_of-requires : goal.end_of-requires
@@ -29,7 +30,8 @@ returns-in-Ok-clause-ran g c =
       change = end.same.2 ∙ parts.parts.2;
       given = end.replies ∙ ap replies_of parts.parts.3;
       words = run.driven.commands ∙ ap (map (λ (l : Lane). l.words.items)) begun.parts.3;
-      start = run.driven.later.0 ∙ begun.parts.1;
+      start = ap (λ (s : Start). s.refs.items) run.driven.later.0 ∙ begun.parts.1;
+      deployments = ap (λ (s : Start). s.deployments.items) run.driven.later.0 ∙ begun.deployments;
       opening = run.driven.later.1 ∙ begun.parts.2;
       limits = run.driven.later.4 ∙ begun.bounds.0;
       ended = run.ended;

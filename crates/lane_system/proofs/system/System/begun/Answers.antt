@@ -2,6 +2,7 @@ use Rattle.std.proofs.Common.{rules, ◌≡◌, ◌∙◌, ℕ, List, length, ap
 use Rattle.std.specs.Prelude.{min}
 use Rattle.ost_types.specs.declared.limits.Limits.{Limits}
 use Rattle.rely_guarantee.specs.declared.books.Entry.{Entry}
+use Rattle.rely_guarantee.specs.declared.books.Start.{Start}
 use Rattle.rely_guarantee.specs.State.{State, after, events_of, first}
 use Rattle.ref_book.specs.Tracks.{Tracks}
 use Rattle.durable_store.proofs.Shapes.{good_free}
@@ -36,9 +37,9 @@ invariant_of-result g c =
     let base = c.new.result in
     let parts = c.into_parts-fs.result in
     let opened = c.into_parts-fs.ensures in
-    let no_events = ap (λ (l : List Entry). after (events_of l) (first base.books.start.items)) e.history in
-    let start = ap (λ (l : List (List ℕ × List ℕ)). first l) (ap (λ s. s.items) e.start ∙ opened.refs) in
-    let tracks : Tracks c.args.refs (now_of base.books) = subst (λ (s : State). Tracks c.args.refs s) (sym (no_events ∙ start)) c.requires.refs in
+    let no_events = ap (λ (l : List Entry). after (events_of l) (first base.books.start.refs.items)) e.history in
+    let start = ap (λ (l : List (List ℕ × List ℕ)). first l) (ap (λ (s : Start). s.refs.items) e.start ∙ opened.refs) in
+    let tracks : Tracks c.args.refs (now_of base.books).refs = subst (λ (s : State). Tracks c.args.refs s) (sym (no_events ∙ start)) c.requires.refs in
     let idle = subst (λ (l : Limits). AreIdle g.C.Command.means l c.args.lanes.items) (sym opened.limits) c.requires.idle in
     let homes = subst (λ x. AreHomes (g.F.Fs.view x)) (sym e.fs) (homes_of g.F.Fs.view g.F.Fs.clock g.F.Fs.was parts.fs parts.clock parts.refs.items opened.opened) in
     let free : AreFree (g.F.Fs.view base.fs) = λ v told. good_free parts.limits v.now (opened.good.store v (subst (λ x. g.F.Fs.view x ≡ Some v) e.fs told)) in
@@ -54,7 +55,8 @@ returns g c =
     let now : g.F.Fs.faults base.fs ≡ g.F.Fs.faults c.args.opened.fs = ap g.F.Fs.faults (e.fs ∙ opened.fs) in
     let idle = subst (λ (l : Limits). AreIdle g.C.Command.means l c.args.lanes.items) (sym opened.limits) c.requires.idle in
     record {
-      parts = (e.fs ∙ opened.fs, ap (λ s. s.items) e.start ∙ opened.refs, e.opened ∙ opened.clock, refl);
+      parts = (e.fs ∙ opened.fs, ap (λ (s : Start). s.refs.items) e.start ∙ opened.refs, e.opened ∙ opened.clock, refl);
+      deployments = ap (λ (s : Start). s.deployments) e.start;
       bounds = (opened.limits, c.count_of.ensures ∙ ap (λ n. min n 4294967295) (size ∙ ap length opened.objects));
       caused = caused_first (files_of g) (family_of g) parts.limits base c.args.refs c.args.lanes.items e.history e.pending idle (g.F.Fs.faults c.args.opened.fs) now e.live;
       stands = λ v told.

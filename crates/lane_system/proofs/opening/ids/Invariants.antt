@@ -1,0 +1,6 @@
+use Rattle.std.proofs.Common.{◌≡◌, take}
+use Rattle.lane_system.specs.Deployments.{ids_of}
+use Rattle.lane_system.proofs.opening.ids.Given as goal
+
+abbrev pub invariant-loop-row : goal.invariant-loop-row
+invariant-loop-row l = l.ids.items ≡ ids_of (take l.row-index l.rows)
