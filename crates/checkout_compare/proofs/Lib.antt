@@ -1,7 +1,7 @@
-mod Orders
+pub mod Orders
 mod Lists
-mod Values
+pub mod Values
 mod Listings
-mod Walking
+pub mod Walking
 mod Ends
 pub mod Checkouts

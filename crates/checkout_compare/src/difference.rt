@@ -20,7 +20,7 @@ pub fn first_difference<F: Fs>(
     into: &FsPath,
     tree: &PathMap,
 ) -> Result<Option<FsPath>, FsErr>
-    requires { IsTreeMap tree.now }
+    requires { (v : View) → F.view fs.old ≡ Some v → IsTreeMap tree.now }
     ensures told { (v : View) → F.view fs.old ≡ Some v → Finds v.now into.now tree.now result }
     ensures named { IfErr result OfFinding }
     ensures quiet { IsQuiet (F.clock fs.old) (F.clock fs.new) (F.was fs.old) (F.was fs.new) (F.view fs.old) (F.view fs.new) }

@@ -25,7 +25,7 @@ loop-path-preserved-then-not-is_outside_etc g c =
 pub returns-then-comes_before-clause-told : goal.returns-then-comes_before-clause-told
 returns-then-comes_before-clause-told g c = λ v told.
     subst (λ m. Tells v.now c.args.into.now m c.loop-path.least) c.as_slice-nodes.ensures.value
-    (stopped_told v.now (g.met.F.Fs.tree c.args.fs.now v told) c.args.into.now c.as_slice-nodes.result.now c.as_slice-nodes.ensures.map.ascending (subst IsTreeMap (sym c.as_slice-nodes.ensures.value) c.requires) c.loop-path.path-index
+    (stopped_told v.now (g.met.F.Fs.tree c.args.fs.now v told) c.args.into.now c.as_slice-nodes.result.now c.as_slice-nodes.ensures.map.ascending (subst IsTreeMap (sym c.as_slice-nodes.ensures.value) (c.requires v told)) c.loop-path.path-index
     c.loop-path-item.result (c.loop-path-test.true, c.loop-path-item.is) c.loop-path.least (c.loop-path.invariant.known v told) (c.comes_before.ensures.0 c.if-comes_before.true))
 
 pub returns-in-Other-clause-told : goal.returns-in-Other-clause-told
@@ -36,7 +36,7 @@ returns-in-Other-clause-told g c = λ v told.
     let other = subst (λ (l : Looked). Looks v.now c.args.into.now c.args.tree.now c.loop-path-item.result.0 c.loop-path-item.result.1 (Ok l)) c.in-Other.is (c.in_ok-look.ensures.told v (i.quiet.view ∙ told)) in
     subst (λ m. Tells v.now c.args.into.now m (Some c.in_ok-copy-in-Other.field-0)) c.as_slice-nodes.ensures.value
     (subst (λ p. Tells v.now c.args.into.now c.as_slice-nodes.result.now (Some p)) (sym c.in_ok-copy-in-Other.ensures)
-    (other_told v.now (g.met.F.Fs.tree c.args.fs.now v told) c.args.into.now c.as_slice-nodes.result.now c.as_slice-nodes.ensures.map.ascending (subst IsTreeMap (sym c.as_slice-nodes.ensures.value) c.requires) c.loop-path.path-index
+    (other_told v.now (g.met.F.Fs.tree c.args.fs.now v told) c.args.into.now c.as_slice-nodes.result.now c.as_slice-nodes.ensures.map.ascending (subst IsTreeMap (sym c.as_slice-nodes.ensures.value) (c.requires v told)) c.loop-path.path-index
     c.loop-path-item.result (c.loop-path-test.true, c.loop-path-item.is) c.loop-path.least (i.known v told) (c.is_outside_etc.ensures.0 on) (not_so c.comes_before.result c.if-comes_before.false c.comes_before.ensures.1) path other))
 
 pub loop-path-preserved : goal.loop-path-preserved
@@ -55,5 +55,5 @@ loop-path-preserved g c =
 pub returns-clause-told : goal.returns-clause-told
 returns-clause-told g c = λ v told.
     subst (λ m. Tells v.now c.args.into.now m c.loop-path.least) c.as_slice-nodes.ensures.value
-    (ended_told v.now (g.met.F.Fs.tree c.args.fs.now v told) c.args.into.now c.as_slice-nodes.result.now c.as_slice-nodes.ensures.map.ascending (subst IsTreeMap (sym c.as_slice-nodes.ensures.value) c.requires) c.loop-path.path-index
+    (ended_told v.now (g.met.F.Fs.tree c.args.fs.now v told) c.args.into.now c.as_slice-nodes.result.now c.as_slice-nodes.ensures.map.ascending (subst IsTreeMap (sym c.as_slice-nodes.ensures.value) (c.requires v told)) c.loop-path.path-index
     c.loop-path.least (c.loop-path.invariant.known v told) c.loop-path-test.false)

@@ -1,0 +1,6 @@
+mod Rooms
+mod Trees
+mod Lacking
+mod Telling
+mod Maps
+mod Once
