@@ -1,5 +1,5 @@
 //! The lanes that words ask for, on a disk whose calls are counted.
-ghost use Rattle.std.specs.Prelude.{◌≤◌, All, length};
+ghost use Rattle.std.specs.Prelude.{◌≡◌, ◌≤◌, All, IfOk, Ok, length};
 ghost use Rattle.commands.specs.Family.{means};
 ghost use Rattle.commands.specs.Words.{words_of};
 ghost use Rattle.script_reader.specs.Script.{command_limit, lane_limit};
@@ -10,7 +10,7 @@ use crate::system::run_counted;
 use commands::lanes_of;
 use counted_files::{Counted, Most, Tally};
 use fs_memory::MemSource;
-use fs_trait::Fs;
+use fs_trait::{Fs, Source};
 use fs_watch::{Watch, Watched};
 use ost_types::{Bytes, Limits};
 use script_reader::Lane;
@@ -32,8 +32,26 @@ pub fn run_words<R: Threads + Sync, F: Fs>(
     requires wide { IsWide limits }
 {
     let mut source = MemSource::new(input, Vec::new(alloc));
-    match asked_lanes(alloc, words, &mut source) {
-        Ok(asked) => run_on(threads, alloc, fs, asked.lanes, limits),
+    let lanes = lanes_asked(alloc, words, &mut source)?;
+    run_on(threads, alloc, fs, lanes, limits)
+}
+
+fn lanes_asked<S: Source>(
+    alloc: Global,
+    words: &[String],
+    source: &mut S,
+) -> Result<Vec<Lane>, Stop>
+    ensures { IfOk result (λ lanes. AreFit (commands_of lanes.items)) }
+{
+    Ok(made(asked_lanes(alloc, words, source))?.lanes)
+}
+
+// What was made. Why it couldn't be is no matter here.
+fn made<T, E: Drop>(answer: Result<T, E>) -> Result<T, Stop>
+    ensures { IfOk result (λ value. answer ≡ Ok value) }
+{
+    match answer {
+        Ok(value) => Ok(value),
         Err(_) => Err(Stop::Unmade),
     }
 }
@@ -65,10 +83,19 @@ fn run_lanes<R: Threads + Sync, F: Watch>(
     requires wide { IsWide limits }
     requires fit { AreFit (commands_of lanes.items) }
 {
-    match adopt(threads, alloc, fs, limits) {
-        Ok(opened) => run_opened(alloc, opened, lanes, tally),
-        Err(_) => Err(Stop::Unmade),
-    }
+    let opened = adopted(threads, alloc, fs, limits)?;
+    run_opened(alloc, opened, lanes, tally)
+}
+
+fn adopted<R: Threads + Sync, F: Fs>(
+    threads: &R,
+    alloc: Global,
+    fs: F,
+    limits: Limits,
+) -> Result<Opened<F>, Stop>
+    ensures { IfOk result (λ opened. opened.limits ≡ limits) }
+{
+    made(adopt(threads, alloc, fs, limits))
 }
 
 fn run_opened<F: Watch>(

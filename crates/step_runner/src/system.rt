@@ -24,8 +24,13 @@ pub fn run_counted<F: Watch, C: Command>(
     requires few { length lanes.items ≤ 8 }
     requires idle { AreIdle C.means opened.limits lanes.items }
 {
-    match System::new(alloc, opened, lanes) {
-        Ok(system) => run_begun(system, tally),
+    let system = begun(System::new(alloc, opened, lanes))?;
+    run_begun(system, tally)
+}
+
+fn begun<T, E: Drop>(made: Result<T, E>) -> Result<T, Stop> {
+    match made {
+        Ok(system) => Ok(system),
         Err(_) => Err(Stop::NoMemory),
     }
 }
@@ -71,9 +76,13 @@ fn rounds<F: Watch, C: Command>(system: &mut System<F, C>, tally: &Tally) -> Opt
 fn round<F: Watch, C: Command>(system: &mut System<F, C>, tally: &Tally, most: Most) -> Most {
     let mut most = most;
     for lane in 0..8 {
-        if system.act(lane) != Ask::Ended {
+        if has_acted(system, lane) {
             most = most.with(tally.take());
         }
     }
     most
+}
+
+fn has_acted<F: Watch, C: Command>(system: &mut System<F, C>, lane: u8) -> bool {
+    system.act(lane) != Ask::Ended
 }

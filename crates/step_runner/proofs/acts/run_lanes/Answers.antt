@@ -9,5 +9,5 @@ pub run_opened-requires : goal.run_opened-requires
 run_opened-requires g c = record {
   few = few_lanes c.args.lanes.items c.requires.fit;
   short = short_lanes c.args.lanes.items c.requires.fit;
-  fit = subst (λ limits. All (λ lane. All (λ x. means.fit limits (words_of x)) lane.commands.items) c.args.lanes.items) (sym c.in-Ok.ensures.begun.1) (fit_within c.args.limits c.args.lanes.items c.requires.wide c.requires.fit);
+  fit = subst (λ limits. All (λ lane. All (λ x. means.fit limits (words_of x)) lane.commands.items) c.args.lanes.items) (sym c.in_ok-opened.ensures) (fit_within c.args.limits c.args.lanes.items c.requires.wide c.requires.fit);
 }
