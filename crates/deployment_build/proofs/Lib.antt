@@ -1,0 +1,10 @@
+pub mod PathBounds
+pub mod Apart
+pub mod Keeping
+pub mod Spared
+pub mod Parts
+pub mod Working
+pub mod Telling
+pub mod Begins
+pub mod Same
+pub mod Stable

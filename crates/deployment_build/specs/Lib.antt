@@ -1,0 +1,3 @@
+pub mod Deployment
+pub mod Work
+pub mod Steps
