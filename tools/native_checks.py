@@ -431,14 +431,23 @@ def booted(folder):
     return told
 
 
+def lists_alike(folder, what):
+    """Ours lists the deployments that ostree lists, in the same order."""
+    rows = re.findall(r"(?m)^[ *]*(one|two) ([0-9a-f]{64}\.[0-9]+)", admin(folder, "status"))
+    listed = "".join(f"\n {place} {stateroot} {deployment} -" for place, (stateroot, deployment) in enumerate(rows))
+    holds(ours(folder, "status") == f"0 0 ok {len(rows)}{listed}\n", f"status: {what}")
+
+
 def check_deployments(room):
-    """Ours opens what ostree deploys, and leaves all of it as it is."""
+    """Ours opens what ostree deploys, lists it, and leaves all of it as it is."""
     folder = new_sysroot(room, "deployments")
     holds(ours(folder, "init") == "", "a sysroot without deployments")
+    lists_alike(folder, "no deployments")
     for count in range(8):
         deploy(folder, count, count // 3)
         before = booted(folder)
         holds(ours(folder, "init") == "", f"{count + 1} deployments")
+        lists_alike(folder, f"{count + 1} deployments")
         ours(folder, "run", text=script_of({"file": f"{count}"}, f"commit own 0 c{count} ~ {1700000000 + count}"))
         ours(folder, "checkout", "own", f"c{count}")
         ours(folder, "prune", "0")
@@ -448,7 +457,7 @@ def check_deployments(room):
     holds(ours(folder, "refs", status=8).startswith("fault open Damaged /boot/loader.") and admin(folder, "status"), "nine deployments")
     for count in range(9, 1, -1):
         admin(folder, "undeploy", str((count * 5) % count))
-        holds(ours(folder, "init") == "", f"{count - 1} deployments after an undeploy")
+        lists_alike(folder, f"{count - 1} deployments after an undeploy")
     admin(folder, "cleanup")
     theirs(folder, "refs", "--delete", "main")
     ours(folder, "prune", "0")
@@ -456,7 +465,7 @@ def check_deployments(room):
     left = re.search("[0-9a-f]{64}", admin(folder, "status"))[0]
     theirs(folder, "checkout", "-U", left, "checked")
     take(folder)
-    print("deployments: of lists of none to eight deployments ours opens each and changes nothing, and a ninth is told; after a prune the last is whole")
+    print("deployments: of lists of none to eight deployments ours opens each, lists it as ostree does, and changes nothing; a ninth is told; after a prune the last is whole")
 
 
 def check_lists(room):
