@@ -1,5 +1,5 @@
 -- What is told of a folder: that it is the checkout of the tree outside its `etc`, or what is first wrong.
-use Rattle.std.proofs.Common.{◌≡◌, ◌⊎◌, inl, inr, ⊎_elim, ℕ, Bool, true, false, refl, ◌∙◌, ap, List, [], ◌∷◌, ◌++◌, Option, Some, None}
+use Rattle.std.proofs.Common.{◌≡◌, ◌⊎◌, inl, inr, ⊎_elim, ℕ, Bool, true, false, refl, sym, ◌∙◌, ap, List, [], ◌∷◌, ◌++◌, Option, Some, None}
 use Rattle.std.specs.Prelude.{◌==◌}
 use Rattle.std.specs.Bool.{Decides}
 use Rattle.std.proofs.lemmas.Bool.Decides.{Decides-eqb}
@@ -13,7 +13,7 @@ use Rattle.fs_trait.specs.View.{Disk}
 use Rattle.fs_trait.specs.Seen.{Seen, Vacant, Directory, Symlink, Leaf, shows}
 use Rattle.repo_layout.specs.Place.{IsOutsideEtc}
 use Rattle.checkout.specs.CheckoutFolder.{IsLeaf, Stands, leaf_path}
-use Rattle.checkout_compare.specs.Compare.{HasFar, IsCheckoutOutsideEtc, Tells}
+use Rattle.checkout_compare.specs.Compare.{AreEmptyAlike, HasFar, IsCheckoutOutsideEtc, IsDeployedOutsideEtc, StandsAs, Tells}
 use Rattle.checkout_compare.proofs.Orders.{not_apart}
 
 -- ---- whether two are the same
@@ -93,20 +93,48 @@ leaves (Directory m) = inr (λ leaf. leaf)
 leaves (Symlink m t) = inl tt
 leaves (Leaf k m b) = inl tt
 
-stood : (d : Disk) (into p : Path) (o : Option NodeName) → Decided (Stands d into p o)
+empties : (s t : Seen) → Decided (AreEmptyAlike s t)
+empties Vacant t = inr (λ both. both.first)
+empties (Directory m) t = inr (λ both. both.first)
+empties (Symlink m u) t = inr (λ both. both.first)
+empties (Leaf k m b) Vacant = inr (λ both. both.second)
+empties (Leaf k m b) (Directory n) = inr (λ both. both.second)
+empties (Leaf k m b) (Symlink n u) = inr (λ both. both.second)
+empties (Leaf k m b) (Leaf j n c) =
+    both_of (λ (p : m ≡ n) (q : (b ≡ []) × (c ≡ [])). record { meta = n; first = (p, q.0); second = (refl, q.1) })
+    (λ both. both.first.0 ∙ sym both.second.0) (λ both. (both.first.1, both.second.1))
+    (metas m n) (both_of (λ p q. (p, q)) (λ r. r.0) (λ r. r.1) (bytes b []) (bytes c []))
+
+either_of : {P Q : Type 0} → Decided P → Decided Q → Decided (P ⊎ Q)
+either_of (inl p) q = inl (inl p)
+either_of (inr no_p) (inl q) = inl (inr q)
+either_of (inr no_p) (inr no_q) = inr (λ either. ⊎_elim no_p no_q either)
+
+stood : (d : Disk) (into p : Path) (o : Option NodeName) → Decided (StandsAs d into p o)
 stood d into p None = seens (shows d (into ++ p)) Vacant
 stood d into p (Some (tree.Folder m)) = seens (shows d (into ++ p)) (Directory m)
-stood d into p (Some (tree.Leaf sum)) = both_of (λ a b. (a, b)) (λ r. r.0) (λ r. r.1) (leaves (shows d (into ++ p))) (seens (shows d (into ++ p)) (shows d (leaf_path sum)))
+stood d into p (Some (tree.Leaf sum)) = either_of
+    (both_of (λ a b. (a, b)) (λ r. r.0) (λ r. r.1) (leaves (shows d (into ++ p))) (seens (shows d (into ++ p)) (shows d (leaf_path sum))))
+    (empties (shows d (into ++ p)) (shows d (leaf_path sum)))
 
 unless_not : {P : Type 0} → Decided P → ¬ (¬ P) → P
 unless_not (inl p) no_not = p
 unless_not (inr no_p) no_not = absurd (no_not no_p)
 
-pub is_checkout_outside_etc : (d : Disk) (into : Path) (map : Nodes) → Tells d into map None → IsCheckoutOutsideEtc d into map
-is_checkout_outside_etc d into map none p outside = unless_not (stood d into p (node_at map p)) (λ other. none p (record { outside = outside; wrong = inl other }))
+pub is_deployed_outside_etc : (d : Disk) (into : Path) (map : Nodes) → Tells d into map None → IsDeployedOutsideEtc d into map
+is_deployed_outside_etc d into map none p outside = unless_not (stood d into p (node_at map p)) (λ other. none p (record { outside = outside; wrong = inl other }))
 
-pub nothing_wrong : (d : Disk) (into : Path) (map : Nodes) → IsCheckoutOutsideEtc d into map → ((p : Path) → IsOutsideEtc p → ¬ (HasFar d (into ++ p))) → Tells d into map None
+pub nothing_wrong : (d : Disk) (into : Path) (map : Nodes) → IsDeployedOutsideEtc d into map → ((p : Path) → IsOutsideEtc p → ¬ (HasFar d (into ++ p))) → Tells d into map None
 nothing_wrong d into map stands near p wrong = ⊎_elim (λ other. other (stands p wrong.outside)) (λ far. near p wrong.outside far) wrong.wrong
+
+-- a checkout by inodes alone is such a folder
+stands_strictly : (d : Disk) (into p : Path) (o : Option NodeName) → Stands d into p o → StandsAs d into p o
+stands_strictly d into p None stands = stands
+stands_strictly d into p (Some (tree.Folder m)) stands = stands
+stands_strictly d into p (Some (tree.Leaf sum)) stands = inl stands
+
+pub strict_deployed : (d : Disk) (into : Path) (map : Nodes) → IsCheckoutOutsideEtc d into map → IsDeployedOutsideEtc d into map
+strict_deployed d into map stands p outside = stands_strictly d into p (node_at map p) (stands p outside)
 
 -- of two paths that are the first to be wrong, neither comes before the other
 pub told_once : (d : Disk) (into : Path) (map : Nodes) (a b : Option Path) → Tells d into map a → Tells d into map b → a ≡ b

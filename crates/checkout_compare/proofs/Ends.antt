@@ -10,9 +10,9 @@ use Rattle.fs_trait.specs.View.{Disk}
 use Rattle.fs_trait.specs.Image.{IsTree}
 use Rattle.fs_trait.specs.Seen.{Vacant, shows}
 use Rattle.repo_layout.specs.Place.{IsOutsideEtc}
-use Rattle.checkout.specs.CheckoutFolder.{IsTreeMap, Stands}
+use Rattle.checkout.specs.CheckoutFolder.{IsTreeMap}
 use Rattle.checkout.proofs.CheckoutMaps.{found_at}
-use Rattle.checkout_compare.specs.Compare.{IsWrong, Tells}
+use Rattle.checkout_compare.specs.Compare.{IsWrong, StandsAs, Tells}
 use Rattle.checkout_compare.specs.Order.{ComesBefore}
 use Rattle.checkout_compare.specs.Looking.{IsExtra, IsOther}
 use Rattle.checkout_compare.specs.SoFar.{IsSoFar}
@@ -22,7 +22,7 @@ use Rattle.checkout_compare.proofs.Walking.{IsNumber, IsPassed, outside_folder, 
 
 -- what is none of the tree is wrong
 extra_wrong : (d : Disk) (into : Path) (tree : Nodes) (p : Path) → IsExtra d into tree p → IsWrong d into tree p
-extra_wrong d into tree p extra = record { outside = extra.new.0; wrong = inl (λ stands. extra.there (subst (Stands d into p) extra.new.1 stands)) }
+extra_wrong d into tree p extra = record { outside = extra.new.0; wrong = inl (λ stands. extra.there (subst (StandsAs d into p) extra.new.1 stands)) }
 
 module _ (d : Disk) (is_tree : IsTree d) (into : Path) (tree : Nodes) (ascending : IsAscending (paths_of tree)) (shape : IsTreeMap tree) (k : ℕ) where
   -- where all before the least path was passed, or just all where there is none
@@ -49,13 +49,13 @@ module _ (d : Disk) (is_tree : IsTree d) (into : Path) (tree : Nodes) (ascending
       node_here : node_at tree e.0 ≡ Some e.1
       node_here = found_at tree k e ascending at.0 (sym at.1)
 
-      not_as : ¬ (Stands d into e.0 (Some e.1)) → IsWrong d into tree e.0
-      not_as other = record { outside = outside; wrong = inl (λ stands. other (subst (Stands d into e.0) node_here stands)) }
+      not_as : ¬ (StandsAs d into e.0 (Some e.1)) → IsWrong d into tree e.0
+      not_as other = record { outside = outside; wrong = inl (λ stands. other (subst (StandsAs d into e.0) node_here stands)) }
 
-      past_bounds : IsPath into → ¬ (IsPath (into ++ e.0)) → ¬ (Stands d into e.0 (Some e.1))
+      past_bounds : IsPath into → ¬ (IsPath (into ++ e.0)) → ¬ (StandsAs d into e.0 (Some e.1))
       past_bounds path far = λ stands. by stands (root_or_under e.0)
         where
-          by : Stands d into e.0 (Some e.1) → (e.0 ≡ []) ⊎ ((f : Path) × (x : Name) × (e.0 ≡ under f x)) → ⊥
+          by : StandsAs d into e.0 (Some e.1) → (e.0 ≡ []) ⊎ ((f : Path) × (x : Name) × (e.0 ≡ under f x)) → ⊥
           by stands (inl root) = far (subst IsPath (sym (ap (λ p. into ++ p) root ∙ append-nil into)) path)
           by stands (inr (f, x, is)) =
               let folder = shape.inner f x e.1 (subst (λ p. node_at tree p ≡ Some e.1) is node_here) in

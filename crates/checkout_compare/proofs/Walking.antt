@@ -11,9 +11,9 @@ use Rattle.fs_trait.specs.View.{Disk}
 use Rattle.fs_trait.specs.Image.{IsTree}
 use Rattle.fs_trait.specs.Seen.{Vacant, shows}
 use Rattle.repo_layout.specs.Place.{IsOutsideEtc}
-use Rattle.checkout.specs.CheckoutFolder.{IsTreeMap, Stands}
+use Rattle.checkout.specs.CheckoutFolder.{IsTreeMap}
 use Rattle.checkout.proofs.CheckoutMaps.{found_back, found_before}
-use Rattle.checkout_compare.specs.Compare.{HasFar, IsWrong}
+use Rattle.checkout_compare.specs.Compare.{HasFar, IsWrong, StandsAs}
 use Rattle.checkout_compare.specs.Order.{IsLesser, IsUpTo}
 use Rattle.checkout_compare.specs.Looking.{IsAs, IsExtra, IsInside}
 use Rattle.checkout_compare.specs.SoFar.{IsSoFar}
@@ -113,6 +113,6 @@ module _ (d : Disk) (is_tree : IsTree d) (into : Path) (tree : Nodes) (shape : I
       by : (o : Option NodeName) → node_at tree q ≡ o → IsUpTo least q
       by (Some n) e =
           let has = passed q n (inl refl) e in
-          absurd (⊎_elim (λ other. other (subst (Stands d into q) (sym e) (as_stands d into q n (so.stands q n has wrong.outside)))) (λ far. so.near q n has wrong.outside far) wrong.wrong)
+          absurd (⊎_elim (λ other. other (subst (StandsAs d into q) (sym e) (as_stands d into q n (so.stands q n has wrong.outside)))) (λ far. so.near q n has wrong.outside far) wrong.wrong)
       by None e =
-          climb q passed (λ none. ⊎_elim (λ other. other (subst (Stands d into q) (sym e) none)) (λ far. directory_there (shows d (into ++ q)) far.is_folder none) wrong.wrong) e wrong.outside q [] refl (Folder shape.root.0) shape.root.1
+          climb q passed (λ none. ⊎_elim (λ other. other (subst (StandsAs d into q) (sym e) none)) (λ far. directory_there (shows d (into ++ q)) far.is_folder none) wrong.wrong) e wrong.outside q [] refl (Folder shape.root.0) shape.root.1

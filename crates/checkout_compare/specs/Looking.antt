@@ -8,18 +8,22 @@ use Rattle.ost_types.specs.PathMap.{Nodes, node_at}
 use Rattle.fs_trait.specs.declared.types.FsErr.{FsErr}
 use Rattle.fs_trait.specs.Effect.{OfNone}
 use Rattle.fs_trait.specs.View.{Disk}
-use Rattle.fs_trait.specs.Seen.{Vacant, Directory, shows}
+use Rattle.fs_trait.specs.Seen.{Seen, Vacant, Directory, shows}
 use Rattle.repo_layout.specs.Place.{IsOutsideEtc}
 use Rattle.checkout.specs.CheckoutFolder.{IsLeaf, leaf_path}
-use Rattle.checkout_compare.specs.Compare.{HasFar}
+use Rattle.checkout_compare.specs.Compare.{AreEmptyAlike, HasFar}
 use Rattle.checkout_compare.specs.Order.{IsUpTo}
 use Rattle.checkout_compare.specs.declared.look.Looked.{Looked}
 use Rattle.checkout_compare.specs.declared.look.Looked.TheVariants.{Other, Same}
 
+-- by what its object's path shows, a leaf stands here, or an empty file of its own in its place
+abbrev pub IsLeafOf : Seen → Seen → Type 0
+IsLeafOf object here = (IsLeaf here × (here ≡ object)) ⊎ AreEmptyAlike here object
+
 -- the node stands at this path of the disk
 abbrev pub IsAs : Disk → Path → NodeName → Type 0
 IsAs d at (Folder m) = shows d at ≡ Directory m
-IsAs d at (Leaf sum) = IsLeaf (shows d at) × (shows d at ≡ shows d (leaf_path sum))
+IsAs d at (Leaf sum) = IsLeafOf (shows d (leaf_path sum)) (shows d at)
 
 -- a path outside `etc` that is none of the tree
 abbrev pub IsNew : Nodes → Path → Type 0

@@ -13,7 +13,7 @@ use ost_types::{FsPath, PathMap, TryCopy};
 use std::alloc::Global;
 
 /// The first path of the folder, in the order of paths, at which something else stands than the tree has there; None where the folder
-/// is the checkout of the tree. What stands at the folder's `etc` and below it is passed over.
+/// is the checkout of the tree. What stands at the folder's `etc` and below it is passed over, and an empty file may be one of its own.
 pub fn first_difference<F: Fs>(
     alloc: Global,
     fs: &mut F,

@@ -1,6 +1,6 @@
 //! Whether what stands at a path is a folder or a link with given attributes.
 ghost use Rattle.std.specs.Prelude.{◌≡◌, ◌↔◌, IsTrue, Some};
-ghost use Rattle.fs_trait.specs.declared.types.Node.TheVariants.{Folder, Link};
+ghost use Rattle.fs_trait.specs.declared.types.Node.TheVariants.{File, Folder, Link};
 
 use fs_trait::Node;
 use ost_types::{Meta, Text, Xattr};
@@ -12,6 +12,18 @@ pub(crate) fn is_folder_of(node: &Option<Node>, meta: &Meta) -> bool
     match node {
         Some(Node::Folder(found)) => is_same_meta(found, meta),
         Some(Node::File { .. }) => false,
+        Some(Node::Link { .. }) => false,
+        None => false,
+    }
+}
+
+/// Whether this is a regular file with these attributes and no bytes.
+pub(crate) fn is_empty_file_of(node: &Option<Node>, meta: &Meta) -> bool
+    ensures { IsTrue result ↔ (node.now ≡ Some (File meta.now 0)) }
+{
+    match node {
+        Some(Node::File { meta: found, len }) => *len == 0 && is_same_meta(found, meta),
+        Some(Node::Folder(_)) => false,
         Some(Node::Link { .. }) => false,
         None => false,
     }

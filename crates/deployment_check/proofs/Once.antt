@@ -8,7 +8,7 @@ use Rattle.fs_trait.specs.View.{Disk}
 use Rattle.tree_walk.specs.Standing.{AreRight}
 use Rattle.tree_walk.proofs.Rightly.{whole_rightly}
 use Rattle.boot_model.specs.declared.item.DepId.{DepId}
-use Rattle.checkout_compare.specs.Compare.{IsCheckoutOutsideEtc, Tells}
+use Rattle.checkout_compare.specs.Compare.{IsDeployedOutsideEtc, Tells}
 use Rattle.checkout_compare.proofs.Checkouts.{told_once}
 use Rattle.checkout_compare.proofs.Orders.{not_apart}
 use Rattle.tree_kernel.specs.Boots.{Boots, BootsOnce}
@@ -69,7 +69,7 @@ module _ (once : BootsOnce) (limits : Limits) (d : Disk) (id : DepId) (bootcsum 
       cc
 
   -- nor a checkout one that differs
-  not_differs : (t : Nodes) (k : TreeKernel) → Can t k → IsCheckoutOutsideEtc d (home_of id) t → (p : Path) → IsNotCheckout limits d id p → ⊥
+  not_differs : (t : Nodes) (k : TreeKernel) → Can t k → IsDeployedOutsideEtc d (home_of id) t → (p : Path) → IsNotCheckout limits d id p → ⊥
   not_differs t k can checkout p differs =
       let same = same_tree differs.tree t differs.kernel k differs.can can in
       let told : Tells d (home_of id) t (Some differs.relative) = subst (λ m. Tells d (home_of id) m (Some differs.relative)) same differs.first in

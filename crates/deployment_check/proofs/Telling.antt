@@ -12,9 +12,8 @@ use Rattle.fs_trait.specs.Seen.{Vacant, shows}
 use Rattle.fs_trait.specs.View.{Disk}
 use Rattle.repo_layout.specs.Place.{IsOutsideEtc}
 use Rattle.boot_model.specs.declared.item.DepId.{DepId}
-use Rattle.checkout.specs.CheckoutFolder.{Stands}
-use Rattle.checkout_compare.specs.Compare.{Tells}
-use Rattle.checkout_compare.proofs.Checkouts.{is_checkout_outside_etc}
+use Rattle.checkout_compare.specs.Compare.{StandsAs, Tells}
+use Rattle.checkout_compare.proofs.Checkouts.{is_deployed_outside_etc}
 use Rattle.checkout_compare.proofs.Orders.{later_below}
 use Rattle.checkout_compare.proofs.Values.{directory_there, folder_above}
 use Rattle.checkout_compare.proofs.Walking.{outside_folder}
@@ -30,7 +29,7 @@ module _ (limits : Limits) (d : Disk) (is_tree : IsTree d) (commit : List ℕ) (
     (p : Path) (told : Tells d home tree (Some p)) (far : ¬ (IsPath (home ++ p))) where
   there_none : node_at tree p ≡ None → shows d (home ++ p) ≢ Vacant
   there_none none vacant = ⊎_elim
-      (λ other. other (subst (Stands d home p) (sym none) vacant))
+      (λ other. other (subst (StandsAs d home p) (sym none) vacant))
       (λ past. directory_there (shows d (home ++ p)) past.is_folder vacant)
       told.0.wrong
 
@@ -72,4 +71,4 @@ module _ (limits : Limits) (d : Disk) (id : DepId) (tree : Nodes) (kernel : Tree
   not_checkout is_tree room relative path (inr far) told = absurd (not_past limits d is_tree id.commit tree can.has.tree_is home room relative told far)
 
   pub deployed : Tells d home tree None → IsDeployed limits d id tree kernel
-  deployed told = record { can = can; checkout = is_checkout_outside_etc d (home_of id) tree (subst (λ h. Tells d h tree None) at told) }
+  deployed told = record { can = can; checkout = is_deployed_outside_etc d (home_of id) tree (subst (λ h. Tells d h tree None) at told) }

@@ -12,12 +12,12 @@ use Rattle.fs_trait.specs.Seen.{Vacant, shows}
 use Rattle.repo_layout.specs.Place.{IsOutsideEtc}
 use Rattle.tree_walk.specs.Standing.{Standing}
 use Rattle.tree_walk.proofs.Standings.{standing_map}
-use Rattle.checkout.specs.CheckoutFolder.{IsTreeMap, Stands}
+use Rattle.checkout.specs.CheckoutFolder.{IsTreeMap}
 use Rattle.checkout.specs.CheckoutWork.{IsPlaced}
 use Rattle.checkout.proofs.CheckoutMaps.{found_back}
 use Rattle.commit_checkout.specs.TreeFolder.{HasRoomBelow}
 use Rattle.commit_checkout.proofs.TreeMaps.{tree_placed}
-use Rattle.checkout_compare.specs.Compare.{HasFar, IsCheckoutOutsideEtc}
+use Rattle.checkout_compare.specs.Compare.{HasFar, IsDeployedOutsideEtc, StandsAs}
 use Rattle.deployment_check.specs.Deployments.{IsWholeTree}
 use Rattle.deployment_check.proofs.Rooms.{etc_path}
 
@@ -36,11 +36,11 @@ module _ (limits : Limits) (d : Disk) (commit : List ℕ) (tree : Nodes) (is : I
   fits_in home room p n has = All-contains (λ (e : Path × NodeName). IsPath (home ++ e.0)) tree (p, n) (placed home room).fits (found_back tree p n has)
 
   -- so a folder that is its checkout has no name with a path past the bounds
-  module _ (home : Path) (room : HasRoomBelow home) (checkout : IsCheckoutOutsideEtc d home tree) where
+  module _ (home : Path) (room : HasRoomBelow home) (checkout : IsDeployedOutsideEtc d home tree) where
     named_far : (p : Path) → IsOutsideEtc p → shows d (home ++ p) ≢ Vacant → ¬ (IsPath (home ++ p)) → ⊥
     named_far p outside there far = by (node_at tree p) refl (checkout p outside)
       where
-        by : (o : Option NodeName) → node_at tree p ≡ o → Stands d home p o → ⊥
+        by : (o : Option NodeName) → node_at tree p ≡ o → StandsAs d home p o → ⊥
         by None none stands = there stands
         by (Some n) has stands = far (fits_in home room p n has)
 

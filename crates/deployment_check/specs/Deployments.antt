@@ -13,7 +13,7 @@ use Rattle.repo_model.specs.Whole.{Complete}
 use Rattle.tree_read.specs.Whole.{IsTree}
 use Rattle.tree_walk.specs.Standing.{Standing}
 use Rattle.boot_model.specs.declared.item.DepId.{DepId}
-use Rattle.checkout_compare.specs.Compare.{IsCheckoutOutsideEtc}
+use Rattle.checkout_compare.specs.Compare.{IsDeployedOutsideEtc}
 use Rattle.tree_kernel.specs.Boots.{Boots}
 use Rattle.tree_kernel.specs.declared.find.TreeKernel.{TreeKernel}
 use Rattle.kernel_copy.specs.Copies.{AreCopied}
@@ -54,6 +54,6 @@ pub record IsWholeDeployment (limits : Limits) (d : Disk) (id : DepId) (bootcsum
   pub kernel : TreeKernel
   pub has : HasTree limits d id.commit tree
   pub boots : Boots d tree (Ok kernel)
-  pub checkout : IsCheckoutOutsideEtc d (home_of id) tree
+  pub checkout : IsDeployedOutsideEtc d (home_of id) tree
   pub etc : IsDirectory (shows d (etc_of id))
   pub copies : AreCopied d id.os (files_of kernel bootcsum)

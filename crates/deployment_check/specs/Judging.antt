@@ -9,7 +9,7 @@ use Rattle.repo_model.specs.Objects.{Marked, Stores}
 use Rattle.repo_model.specs.Whole.{Complete}
 use Rattle.tree_walk.specs.Standing.{AreRight}
 use Rattle.boot_model.specs.declared.item.DepId.{DepId}
-use Rattle.checkout_compare.specs.Compare.{IsCheckoutOutsideEtc, Tells}
+use Rattle.checkout_compare.specs.Compare.{IsDeployedOutsideEtc, Tells}
 use Rattle.deploy_list.specs.declared.fault.KernelFault.{KernelFault}
 use Rattle.tree_kernel.specs.Boots.{Boots}
 use Rattle.tree_kernel.specs.declared.find.TreeKernel.{TreeKernel}
@@ -47,7 +47,7 @@ pub record CanDeploy (limits : Limits) (d : Disk) (commit : List ℕ) (tree : No
 -- the first two: the files are its checkout;
 pub record IsDeployed (limits : Limits) (d : Disk) (id : DepId) (tree : Nodes) (kernel : TreeKernel) : Type 0 where
   pub can : CanDeploy limits d id.commit tree kernel
-  pub checkout : IsCheckoutOutsideEtc d (home_of id) tree
+  pub checkout : IsDeployedOutsideEtc d (home_of id) tree
 
 -- the first three: there is an `etc`.
 pub record HasEtc (limits : Limits) (d : Disk) (id : DepId) (tree : Nodes) (kernel : TreeKernel) : Type 0 where
