@@ -1,7 +1,8 @@
-//! The tasks of a repository, each stepped over a disk whose calls are counted.
+//! The tasks of a repository and of deployments, each stepped over a disk whose calls are counted.
 #![tactic(auto)]
 
 mod bench;
+mod deployments;
 mod disk;
 mod files;
 mod prunes;
@@ -11,6 +12,7 @@ mod report;
 mod stop;
 mod swaps;
 mod tasks;
+mod trees;
 mod work;
 
 pub use report::Report;

@@ -12,7 +12,7 @@ use repo_layout::OsName;
 use std::alloc::Global;
 
 #[tactic(auto, using(crate::proofs::Lists::version))]
-fn kver(alloc: Global) -> Result<Name, Stop>
+pub fn kver(alloc: Global) -> Result<Name, Stop>
     ensures { IfOk result IsKver }
 {
     Name::parse(alloc, b"6")?.ok_or(Stop::Unmade)

@@ -1,5 +1,6 @@
 //! All tasks that are stepped alone.
 use crate::bench::Bench;
+use crate::deployments::step_deployments;
 use crate::disk::prepare;
 use crate::files::{put_files, remove_folder};
 use crate::prunes::prune;
@@ -33,5 +34,6 @@ fn step_all<F: Fs>(bench: &mut Bench<F>, commit: Csum) -> Result<(), Stop> {
     put_files(bench)?;
     remove_folder(bench)?;
     swap_lists(bench)?;
-    prune(bench, commit)
+    prune(bench, commit)?;
+    step_deployments(bench)
 }

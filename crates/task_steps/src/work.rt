@@ -3,6 +3,8 @@ use crate::stop::Stop;
 use boot_swap::SwapTask;
 use checkout::RemoveTask;
 use counted_files::Counted;
+use deploy_clean::CleanTask;
+use deployment_build::DeploymentBuild;
 use fs_trait::{Fs, StepResult};
 use obj_store::PutTask;
 use ost_types::Limits;
@@ -10,6 +12,8 @@ use prune_mark::Marking;
 use prune_sweep::{Listing, Sweep};
 use ref_store::RefTask;
 use staged_file::StagedFile;
+use tree_copy::TreeCopy;
+use tree_kernel::KernelSum;
 use tree_read::TreeTask;
 use tree_walk::WalkTask;
 
@@ -83,6 +87,30 @@ impl Work for Marking {
 }
 
 impl Work for Sweep {
+    fn advance<'a, F: Fs>(&mut self, fs: &mut Counted<'a, F>) -> Result<bool, Stop> {
+        Ok(is_over(self.step(fs)?))
+    }
+}
+
+impl Work for KernelSum {
+    fn advance<'a, F: Fs>(&mut self, fs: &mut Counted<'a, F>) -> Result<bool, Stop> {
+        Ok(is_over(self.step(fs)?))
+    }
+}
+
+impl Work for TreeCopy {
+    fn advance<'a, F: Fs>(&mut self, fs: &mut Counted<'a, F>) -> Result<bool, Stop> {
+        Ok(is_over(self.step(fs)?))
+    }
+}
+
+impl Work for DeploymentBuild {
+    fn advance<'a, F: Fs>(&mut self, fs: &mut Counted<'a, F>) -> Result<bool, Stop> {
+        Ok(is_over(self.step(fs)?))
+    }
+}
+
+impl Work for CleanTask {
     fn advance<'a, F: Fs>(&mut self, fs: &mut Counted<'a, F>) -> Result<bool, Stop> {
         Ok(is_over(self.step(fs)?))
     }
