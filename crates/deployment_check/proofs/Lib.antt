@@ -3,4 +3,4 @@ mod Trees
 mod Lacking
 mod Telling
 mod Maps
-mod Once
+pub mod Once

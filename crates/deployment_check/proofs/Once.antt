@@ -13,6 +13,7 @@ use Rattle.checkout_compare.proofs.Checkouts.{told_once}
 use Rattle.checkout_compare.proofs.Orders.{not_apart}
 use Rattle.tree_kernel.specs.Boots.{Boots, BootsOnce}
 use Rattle.tree_kernel.specs.declared.find.TreeKernel.{TreeKernel}
+use Rattle.tree_kernel.proofs.OnceLemmas.{boots_once}
 use Rattle.kernel_copy.specs.declared.files.KernelFiles.{KernelFiles}
 use Rattle.kernel_copy.specs.Copies.{AreCopied, IsFirstOther, IsOther}
 use Rattle.deployment_check.specs.declared.judgement.Judgement.{Judgement}
@@ -51,7 +52,7 @@ module _ (once : BootsOnce) (limits : Limits) (d : Disk) (id : DepId) (bootcsum 
   Can = CanDeploy limits d id.commit
 
   same_tree : (s t : Nodes) (k l : TreeKernel) → Can s k → Can t l → s ≡ t
-  same_tree s t k l a b = one_tree limits d id.commit s t a.has.tree_is b.has.tree_is
+  same_tree s t k l a b = one_tree limits d id.commit s t a.has b.has
 
   same_kernel : (s t : Nodes) (k l : TreeKernel) → Can s k → Can t l → k ≡ l
   same_kernel s t k l a b =
@@ -60,10 +61,9 @@ module _ (once : BootsOnce) (limits : Limits) (d : Disk) (id : DepId) (bootcsum 
 
   -- that which can be deployed is no such
   not_none : (t : Nodes) (k : TreeKernel) → Can t k → IsNoDeployment limits d id.commit → ⊥
-  not_none t k can (inl marked) = can.has.unmarked marked
-  not_none t k can (inr (inl incomplete)) = incomplete (whole_rightly d limits right id.commit can.has.tree_is.whole)
-  not_none t k can (inr (inr fault)) =
-      let same = one_tree limits d id.commit t fault.tree can.has.tree_is fault.has.tree_is in
+  not_none t k can (inl incomplete) = incomplete (whole_rightly d limits right id.commit can.has.whole)
+  not_none t k can (inr fault) =
+      let same = one_tree limits d id.commit t fault.tree can.has fault.has in
       let e : Ok k ≡ Err fault.fault = once d fault.tree (Ok k) (Err fault.fault) (subst (λ m. Boots d m (Ok k)) same can.boots) fault.boots in
       let no : Ok k ≡ Err fault.fault = e in
       cc
@@ -75,7 +75,7 @@ module _ (once : BootsOnce) (limits : Limits) (d : Disk) (id : DepId) (bootcsum 
       let told : Tells d (home_of id) t (Some differs.relative) = subst (λ m. Tells d (home_of id) m (Some differs.relative)) same differs.first in
       ⊎_elim
       (λ other. other (checkout differs.relative told.0.outside))
-      (λ far. none_far limits d id.commit t can.has.tree_is (home_of id) (room_below id is) checkout differs.relative told.0.outside far)
+      (λ far. none_far limits d id.commit t can.has (home_of id) (room_below id is) checkout differs.relative told.0.outside far)
       told.0.wrong
 
   differs_once : (p q : Path) → IsNotCheckout limits d id p → IsNotCheckout limits d id q → p ≡ q
@@ -142,3 +142,6 @@ judged_once once limits d id bootcsum NoDeployment b is right x y = none_alone o
 judged_once once limits d id bootcsum (NotCheckout p) b is right x y = differs_alone once limits d id bootcsum is right p x b y
 judged_once once limits d id bootcsum (WrongKind p) b is right x y = etc_alone once limits d id bootcsum is right p x b y
 judged_once once limits d id bootcsum (KernelCopy p) b is right x y = copy_alone once limits d id bootcsum is right p x b y
+
+pub one_judgement : JudgedOnce
+one_judgement = judged_once boots_once

@@ -68,7 +68,7 @@ module _ (limits : Limits) (d : Disk) (id : DepId) (tree : Nodes) (kernel : Tree
     first = subst (λ h. Tells d h tree (Some relative)) at told;
     path_is = is ∙ ap (λ h. h ++ relative) at;
   }
-  not_checkout is_tree room relative path (inr far) told = absurd (not_past limits d is_tree id.commit tree can.has.tree_is home room relative told far)
+  not_checkout is_tree room relative path (inr far) told = absurd (not_past limits d is_tree id.commit tree can.has home room relative told far)
 
   pub deployed : Tells d home tree None → IsDeployed limits d id tree kernel
   deployed told = record { can = can; checkout = is_deployed_outside_etc d (home_of id) tree (subst (λ h. Tells d h tree None) at told) }

@@ -8,7 +8,6 @@ use Rattle.fs_trait.specs.View.{Disk}
 use Rattle.repo_layout.specs.OsName.{IsOsName}
 use Rattle.repo_layout.specs.Paths.{deploy_path}
 use Rattle.repo_layout.specs.RefFile.{IsSum}
-use Rattle.repo_model.specs.Objects.{Marked}
 use Rattle.repo_model.specs.Whole.{Complete}
 use Rattle.tree_read.specs.Whole.{IsTree}
 use Rattle.tree_walk.specs.Standing.{Standing}
@@ -38,11 +37,6 @@ pub record IsWholeTree (limits : Limits) (d : Disk) (commit : List ℕ) (tree : 
   pub shown : IsTree (Standing d) commit tree
   pub map : IsPathMap tree
 
--- The same of a commit of which no mark says that objects may be missing.
-pub record HasTree (limits : Limits) (d : Disk) (commit : List ℕ) (tree : Nodes) : Type 0 where
-  pub unmarked : ¬ (Marked d commit)
-  pub tree_is : IsWholeTree limits d commit tree
-
 -- the files of which there are to be copies, in the folder that this sum names
 abbrev pub files_of : TreeKernel → List ℕ → KernelFiles
 files_of k bootcsum = record { kver = k.kver; bootcsum = bootcsum; kernel = k.kernel; initramfs = k.initramfs }
@@ -52,7 +46,7 @@ files_of k bootcsum = record { kver = k.kver; bootcsum = bootcsum; kernel = k.ke
 pub record IsWholeDeployment (limits : Limits) (d : Disk) (id : DepId) (bootcsum : List ℕ) : Type 0 where
   pub tree : Nodes
   pub kernel : TreeKernel
-  pub has : HasTree limits d id.commit tree
+  pub has : IsWholeTree limits d id.commit tree
   pub boots : Boots d tree (Ok kernel)
   pub checkout : IsDeployedOutsideEtc d (home_of id) tree
   pub etc : IsDirectory (shows d (etc_of id))

@@ -5,7 +5,7 @@ use Rattle.ost_types.specs.Path.{Path}
 use Rattle.ost_types.specs.PathMap.{Nodes}
 use Rattle.fs_trait.specs.Seen.{shows, IsDirectory, NotDirectory}
 use Rattle.fs_trait.specs.View.{Disk}
-use Rattle.repo_model.specs.Objects.{Marked, Stores}
+use Rattle.repo_model.specs.Objects.{Stores}
 use Rattle.repo_model.specs.Whole.{Complete}
 use Rattle.tree_walk.specs.Standing.{AreRight}
 use Rattle.boot_model.specs.declared.item.DepId.{DepId}
@@ -16,32 +16,27 @@ use Rattle.tree_kernel.specs.declared.find.TreeKernel.{TreeKernel}
 use Rattle.kernel_copy.specs.Copies.{IsFirstOther}
 use Rattle.deployment_check.specs.declared.judgement.Judgement.{Judgement}
 use Rattle.deployment_check.specs.declared.judgement.Judgement.TheVariants.{Whole, NoDeployment, NotCheckout, WrongKind, KernelCopy}
-use Rattle.deployment_check.specs.Deployments.{HasTree, IsId, IsWholeDeployment, IsWholeTree, etc_of, files_of, home_of}
+use Rattle.deployment_check.specs.Deployments.{IsId, IsWholeDeployment, IsWholeTree, etc_of, files_of, home_of}
 
 -- the commit isn't there whole within the limits
 abbrev pub IsIncomplete : Limits → Disk → List ℕ → Type 0
 IsIncomplete limits d commit = ¬ (Complete (Stores d) limits commit)
 
--- what is told of a commit that is walked: its tree, or that it isn't whole;
+-- what is told of a commit: its tree, or that it isn't whole
 abbrev pub Walks : Limits → Disk → List ℕ → Option Nodes → Type 0
 Walks limits d commit None = IsIncomplete limits d commit
 Walks limits d commit (Some tree) = IsWholeTree limits d commit tree
-
--- and the same where it may have a mark
-abbrev pub TellsTree : Limits → Disk → List ℕ → Option Nodes → Type 0
-TellsTree limits d commit None = Marked d commit ⊎ IsIncomplete limits d commit
-TellsTree limits d commit (Some tree) = HasTree limits d commit tree
 
 -- its tree is none that can be deployed
 pub record HasFault (limits : Limits) (d : Disk) (commit : List ℕ) : Type 0 where
   pub tree : Nodes
   pub fault : KernelFault
-  pub has : HasTree limits d commit tree
+  pub has : IsWholeTree limits d commit tree
   pub boots : Boots d tree (Err fault)
 
 -- The first rule holds: this is the tree, and boots the kernel;
 pub record CanDeploy (limits : Limits) (d : Disk) (commit : List ℕ) (tree : Nodes) (kernel : TreeKernel) : Type 0 where
-  pub has : HasTree limits d commit tree
+  pub has : IsWholeTree limits d commit tree
   pub boots : Boots d tree (Ok kernel)
 
 -- the first two: the files are its checkout;
@@ -54,9 +49,9 @@ pub record HasEtc (limits : Limits) (d : Disk) (id : DepId) (tree : Nodes) (kern
   pub deployed : IsDeployed limits d id tree kernel
   pub etc : IsDirectory (shows d (etc_of id))
 
--- 1. the commit has a mark or isn't whole, or its tree is none that can be deployed
+-- 1. the commit isn't whole, or its tree is none that can be deployed
 abbrev pub IsNoDeployment : Limits → Disk → List ℕ → Type 0
-IsNoDeployment limits d commit = Marked d commit ⊎ IsIncomplete limits d commit ⊎ HasFault limits d commit
+IsNoDeployment limits d commit = IsIncomplete limits d commit ⊎ HasFault limits d commit
 
 -- 2. the files aren't its checkout; the first path at which they aren't is told
 pub record IsNotCheckout (limits : Limits) (d : Disk) (id : DepId) (path : Path) : Type 0 where

@@ -5,7 +5,7 @@ use ost_types::FsPath;
 pub enum Judgement {
     /// It is the checkout of its commit, and its kernel's copies are the kernel's.
     Whole,
-    /// Its commit isn't there whole, or has a mark, or its tree is none that can be deployed.
+    /// Its commit isn't there whole, or its tree is none that can be deployed.
     NoDeployment,
     /// The first path of the deployment, outside its `etc`, where something else stands than the commit has there.
     NotCheckout(FsPath),

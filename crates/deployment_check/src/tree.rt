@@ -1,52 +1,30 @@
 //! The tree of a deployment's commit.
-ghost use Rattle.std.specs.Prelude.{◌≡◌, ◌≤◌, Some, IfOk, IfErr, MatchResult};
+ghost use Rattle.std.specs.Prelude.{◌≡◌, ◌≤◌, Some, MatchResult};
 ghost use Rattle.ost_types.specs.PathMap.{IsPathMap};
 ghost use Rattle.fs_trait.specs.View.{View};
 ghost use Rattle.fs_trait.specs.Effect.{HasCause, IsQuiet, OfNone};
-ghost use Rattle.repo_layout.specs.Paths.{mark_path};
-ghost use Rattle.repo_layout.specs.Refs.{is_leaf};
 ghost use Rattle.tree_read.specs.Reading.{unread};
-ghost use Rattle.deployment_check.specs.Judging.{TellsTree, Walks};
+ghost use Rattle.deployment_check.specs.Judging.{Walks};
 
-use fs_trait::{Fs, FsErr, Node, StepResult};
+use fs_trait::{Fs, FsErr, StepResult};
 use ost_types::{Csum, Limits, PathMap};
-use repo_layout::mark_path;
 use std::alloc::Global;
 use tree_walk::WalkTask;
 
-/// The tree of the commit; None where the commit has a mark, or isn't there whole.
+/// The tree of the commit; None where the commit isn't there whole. Its mark isn't asked for: it says that objects may be missing, and they
+/// are looked for.
 pub(crate) fn commit_tree<F: Fs>(
     alloc: Global,
     fs: &mut F,
     limits: Limits,
     commit: &Csum,
 ) -> Result<Option<PathMap>, FsErr>
-    ensures told { (v : View) → F.view fs.old ≡ Some v → MatchResult result (TellsTree limits v.now commit.now) OfNone }
+    ensures told { (v : View) → F.view fs.old ≡ Some v → MatchResult result (Walks limits v.now commit.now) OfNone }
     ensures quiet { IsQuiet (F.clock fs.old) (F.clock fs.new) (F.was fs.old) (F.was fs.new) (F.view fs.old) (F.view fs.new) }
     ensures room { F.spare fs.old ≤ F.spare fs.new }
     ensures cause { HasCause (F.faults fs.old) (F.faults fs.new) result }
 {
-    if has_mark(alloc, fs, commit)? {
-        return Ok(None);
-    }
     walk(fs, WalkTask::new(alloc, *commit, limits))
-}
-
-// whether a mark says that objects of the commit may be missing
-fn has_mark<F: Fs>(alloc: Global, fs: &mut F, commit: &Csum) -> Result<bool, FsErr>
-    ensures told { (v : View) → F.view fs.old ≡ Some v → IfOk result (λ b. b ≡ is_leaf (v.now.at (mark_path commit.now))) }
-    ensures named { IfErr result OfNone }
-    ensures quiet { IsQuiet (F.clock fs.old) (F.clock fs.new) (F.was fs.old) (F.was fs.new) (F.view fs.old) (F.view fs.new) }
-    ensures room { F.spare fs.old ≤ F.spare fs.new }
-    ensures cause { HasCause (F.faults fs.old) (F.faults fs.new) result }
-{
-    let at = mark_path(alloc, commit)?;
-    match fs.stat(&at)? {
-        Some(Node::File { .. }) => Ok(true),
-        Some(Node::Link { .. }) => Ok(true),
-        Some(Node::Folder(_)) => Ok(false),
-        None => Ok(false),
-    }
 }
 
 // the walk from its first step to its last

@@ -1,6 +1,6 @@
 mod PathLemmas
 pub mod FindLemmas
-mod OnceLemmas
+pub mod OnceLemmas
 mod StepLemmas
 mod SumLemmas
 pub mod Kept
