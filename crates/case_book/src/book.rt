@@ -1,6 +1,6 @@
 //! What a book of cases says.
 use ost_forms::TreeItem;
-use ost_types::{Bytes, FsPath};
+use ost_types::{Bytes, FsPath, NoMemory, TryCopy};
 
 /// Texts and disks with names, and cases that speak of them.
 #[derive(Drop)]
@@ -21,6 +21,25 @@ pub struct NamedText {
 pub struct Disk {
     pub name: Bytes,
     pub nodes: Vec<TreeItem>,
+    /// Given when all nodes are there.
+    pub names: Vec<SecondName>,
+}
+
+/// One leaf stands at both paths.
+#[derive(Drop)]
+pub struct SecondName {
+    /// Where it stands before.
+    pub first: FsPath,
+    pub second: FsPath,
+}
+
+impl TryCopy for SecondName {
+    fn copy(&self) -> Result<SecondName, NoMemory> {
+        Ok(SecondName {
+            first: self.first.copy()?,
+            second: self.second.copy()?,
+        })
+    }
 }
 
 /// Calls of the program, one after the other on one disk.
@@ -40,6 +59,8 @@ pub enum Step {
     Add(Vec<TreeItem>),
     /// The leaf that is unlinked.
     Remove(FsPath),
+    /// Leaves get second names.
+    Names(Vec<SecondName>),
     Call(Call),
 }
 

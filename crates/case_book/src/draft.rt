@@ -9,8 +9,8 @@ use crate::fault::LineFault;
 use crate::fields::{names, number, numbers, path, ranges, status};
 use crate::keyword::Keyword;
 use crate::nodes::read_nodes;
-use ost_forms::TreeItem;
-use ost_types::{Bytes, TryCopy};
+use crate::second_name::read_second_names;
+use ost_types::{Bytes, TryCopy, copy_all};
 use std::alloc::Global;
 
 /// What was read so far, and what was said of the call that comes next.
@@ -20,6 +20,8 @@ pub(crate) struct Draft {
     book: Book,
     plan: Plan,
     family: Family,
+    // what was opened last is a disk, and no case
+    is_disk: bool,
 }
 
 impl Draft {
@@ -33,6 +35,7 @@ impl Draft {
             },
             plan: no_plan(alloc),
             family: Family::Once,
+            is_disk: false,
         }
     }
 
@@ -57,6 +60,7 @@ impl Draft {
             }
             Keyword::Add => self.take_add(block),
             Keyword::Remove => self.take_remove(fields),
+            Keyword::Names => self.take_names(block),
             Keyword::Call => self.take_call(fields, block),
             Keyword::Or => self.take_or(fields, block),
             Keyword::Check(word) => {
@@ -110,22 +114,27 @@ impl Draft {
     }
 
     fn take_disk(&mut self, fields: &[&[u8]], block: &Block) -> Result<(), LineFault> {
-        let (name, mut nodes) = match fields {
-            [name] => (name, Vec::new(self.alloc)),
-            [name, b"of", base] => (name, self.nodes_of(base)?),
+        let mut disk = match fields {
+            [name] => empty_disk(self.alloc, name)?,
+            [name, b"of", base] => self.disk_of(name, base)?,
             _ => return Err(LineFault::Bad),
         };
         for node in read_nodes(self.alloc, block.text.as_slice())? {
-            nodes.push(node)?;
+            disk.nodes.push(node)?;
         }
-        let name = Bytes::from_slice(self.alloc, name)?;
-        Ok(self.book.disks.push(Disk { name, nodes })?)
+        self.is_disk = true;
+        Ok(self.book.disks.push(disk)?)
     }
 
-    fn nodes_of(&self, base: &[u8]) -> Result<Vec<TreeItem>, LineFault> {
+    // With all that the base has.
+    fn disk_of(&self, name: &[u8], base: &[u8]) -> Result<Disk, LineFault> {
         for disk in &self.book.disks {
             if disk.name.as_slice() == base {
-                return copies(self.alloc, &disk.nodes);
+                return Ok(Disk {
+                    name: Bytes::from_slice(self.alloc, name)?,
+                    nodes: copy_all(self.alloc, &disk.nodes)?,
+                    names: copy_all(self.alloc, &disk.names)?,
+                });
             }
         }
         Err(LineFault::Bad)
@@ -138,6 +147,7 @@ impl Draft {
             is_host: false,
             steps: Vec::new(self.alloc),
         };
+        self.is_disk = false;
         Ok(self.book.cases.push(case)?)
     }
 
@@ -158,6 +168,19 @@ impl Draft {
         };
         let at = path(self.alloc, field)?;
         Ok(self.last_case()?.steps.push(Step::Remove(at))?)
+    }
+
+    // Of the disk or the case, whichever was opened last.
+    fn take_names(&mut self, block: &Block) -> Result<(), LineFault> {
+        let names = read_second_names(self.alloc, block.text.as_slice())?;
+        if !self.is_disk {
+            return Ok(self.last_case()?.steps.push(Step::Names(names))?);
+        }
+        let disk = self.last_disk()?;
+        for name in names {
+            disk.names.push(name)?;
+        }
+        Ok(())
     }
 
     fn take_sink(&mut self, fields: &[&[u8]]) -> Result<(), LineFault> {
@@ -213,6 +236,10 @@ impl Draft {
         Ok(self.last_call()?.outcomes.push(outcome)?)
     }
 
+    fn last_disk(&mut self) -> Result<&mut Disk, LineFault> {
+        self.book.disks.last_mut().ok_or(LineFault::Bad)
+    }
+
     fn last_case(&mut self) -> Result<&mut Case, LineFault> {
         self.book.cases.last_mut().ok_or(LineFault::Bad)
     }
@@ -238,12 +265,12 @@ fn no_plan(alloc: Global) -> Plan {
     }
 }
 
-fn copies(alloc: Global, nodes: &[TreeItem]) -> Result<Vec<TreeItem>, LineFault> {
-    let mut all = Vec::new(alloc);
-    for node in nodes {
-        all.push(node.copy()?)?;
-    }
-    Ok(all)
+fn empty_disk(alloc: Global, name: &[u8]) -> Result<Disk, LineFault> {
+    Ok(Disk {
+        name: Bytes::from_slice(alloc, name)?,
+        nodes: Vec::new(alloc),
+        names: Vec::new(alloc),
+    })
 }
 
 fn only_name(alloc: Global, fields: &[&[u8]]) -> Result<Bytes, LineFault> {

@@ -10,10 +10,11 @@ mod fields;
 mod keyword;
 mod nodes;
 mod read;
+mod second_name;
 
 pub use book::{
     Asked, Book, Call, Case, Check, Crash, Disk, FailingCalls, Family, NamedText, Outcome, Plan,
-    Printed, Range, Removals, Schedules, Step, Ways,
+    Printed, Range, Removals, Schedules, SecondName, Step, Ways,
 };
 pub use fault::BookFault;
 pub use read::read_book;

@@ -1,6 +1,6 @@
 //! The runs of a case.
 use crate::call::{Ran, call_program};
-use crate::disk::{CaseDisk, add_nodes, copy_of};
+use crate::disk::{CaseDisk, add_disk, add_names, add_nodes, copy_of};
 use crate::say::{Member, say_call};
 use crate::stop::Stop;
 use case_book::{Asked, Book, Call, Case, Family, Plan, Step};
@@ -56,7 +56,7 @@ impl<'a, R: Threads + Sync> Bench<'a, R> {
         };
         for disk in &self.book.disks {
             if disk.name == *name {
-                return add_nodes(self.alloc, fs, &disk.nodes);
+                return add_disk(self.alloc, fs, disk);
             }
         }
         Err(Stop::Unknown(name.copy()?))
@@ -75,6 +75,7 @@ impl<'a, R: Threads + Sync> Bench<'a, R> {
         match step {
             Step::Add(nodes) => add_nodes(self.alloc, &mut fs, nodes)?,
             Step::Remove(at) => fs.unlink(at)?,
+            Step::Names(names) => add_names(&mut fs, names)?,
             Step::Call(call) => return self.run_call(fs, call),
         }
         Ok(fs)

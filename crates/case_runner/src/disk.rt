@@ -1,6 +1,7 @@
 //! Disks that cases begin with.
 use crate::meddled::Meddled;
 use crate::stop::Stop;
+use case_book::{Disk, SecondName};
 use fs_host::HostFs;
 use fs_memory::{Choice, MemFs};
 use fs_trait::Fs;
@@ -41,6 +42,20 @@ pub fn copy_of<D: CaseDisk>(alloc: Global, fs: &D) -> Result<Option<MemFs>, Stop
         fill: 0,
     };
     fs.left(0, &choice)
+}
+
+/// Adds all that the disk has, and makes it last.
+pub fn add_disk<D: CaseDisk>(alloc: Global, fs: &mut D, disk: &Disk) -> Result<(), Stop> {
+    add_nodes(alloc, fs, &disk.nodes)?;
+    add_names(fs, &disk.names)
+}
+
+/// Gives the leaves their second names, and makes them last.
+pub fn add_names<D: CaseDisk>(fs: &mut D, names: &[SecondName]) -> Result<(), Stop> {
+    for name in names {
+        fs.link(&name.first, &name.second)?;
+    }
+    Ok(fs.sync_all()?)
 }
 
 /// Adds the nodes, and makes them last.

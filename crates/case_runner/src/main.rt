@@ -100,7 +100,7 @@ fn run_over_host<R: Threads + Sync>(
     book: &Book,
     case: &Case,
 ) -> io::Result<bool> {
-    for folder in ["ostree", "checkout"] {
+    for folder in ["boot", "ostree", "checkout"] {
         let _ = fs::remove_dir_all(rt, folder);
     }
     let mut bench = Bench::new(threads, rt.alloc(), book);

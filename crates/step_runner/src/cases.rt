@@ -65,7 +65,7 @@ impl<'a, R: Threads + Sync> Runs<'a, R> {
         match step {
             Step::Call(call) => self.run_call(disk, call),
             Step::Remove(at) => remove(disk, at),
-            Step::Add(_) => Err(Stop::Unmade),
+            Step::Add(_) | Step::Names(_) => Err(Stop::Unmade),
         }
     }
 
