@@ -469,7 +469,7 @@ def check_deployments(room):
 
 
 def check_lists(room):
-    """What is wrong in a list of deployments that ostree made is told at its path."""
+    """What is wrong in a list of deployments that ostree made, or in one of them, is told at its path."""
     folder = new_sysroot(room, "lists")
     for count in range(2):
         deploy(folder, count, 0)
@@ -480,6 +480,8 @@ def check_lists(room):
         link = re.search("ostree=/(.*)", it.read())[1]
     link = link.replace(f"boot.{version}", os.readlink(f"{folder}/ostree/boot.{version}"))
     deployment = os.path.normpath(os.path.join(os.path.dirname(link), os.readlink(f"{folder}/{link}")))
+    with open(f"{folder}/{entries}/{first}", encoding="utf-8") as it:
+        kernel = "boot" + re.search("(?m)^linux (.*)", it.read())[1].removeprefix("/boot")
     rows = [
         ("ln -sfn loader.7 boot/loader", "/boot/loader BadLink"),
         ("rm boot/loader && touch boot/loader", "/boot/loader BadLink"),
@@ -494,6 +496,13 @@ def check_lists(room):
         (f"rm {link}", f"/{entries}/{first} NoDeployment"),
         (f"chattr -f -i {deployment}; mv {deployment} gone", f"/{entries}/{first} NoDeployment"),
         (f"cp {entries}/{first} {entries}/z.conf", f"/{entries}/{first} NoDeployment"),
+        (f"rm {deployment}/usr/lib/os-release", f"/{deployment}/usr/lib/os-release NotCheckout"),
+        (f"cp -p {deployment}/usr/lib/os-release new && mv new {deployment}/usr/lib/os-release", f"/{deployment}/usr/lib/os-release NotCheckout"),
+        (f"touch {deployment}/usr/new", f"/{deployment}/usr/new NotCheckout"),
+        (f"chmod 700 {deployment}/usr/lib", f"/{deployment}/usr/lib NotCheckout"),
+        (f"rm -r {deployment}/etc && touch {deployment}/etc", f"/{deployment}/etc WrongKind"),
+        (f"cp -p {kernel} new && echo >>new && mv new {kernel}", f"/{kernel} KernelCopy"),
+        (f"rm {kernel}", f"/{kernel} KernelCopy"),
     ]
     for change, fault in rows:
         place = f"{folder}/changed"
@@ -504,7 +513,7 @@ def check_lists(room):
         holds(said == f"fault open Damaged {fault}\n", f"{change}: {said}")
         take(place)
     take(folder)
-    print(f"lists: each of {len(rows)} faults in a list that ostree made is told at its path")
+    print(f"lists: each of {len(rows)} faults in a list that ostree made, or in a deployment of it, is told at its path")
 
 
 def this_machine(top):

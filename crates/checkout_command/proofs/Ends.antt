@@ -17,7 +17,7 @@ use Rattle.rely_guarantee.specs.Books.{Books, IsClaimed}
 use Rattle.rely_guarantee.specs.Laws.{Quiet, Take, Claim, IsQuiet}
 use Rattle.rely_guarantee.specs.Pinning.{pin_in}
 use Rattle.rely_guarantee.specs.SystemInvariant.{Stands}
-use Rattle.rely_guarantee.specs.State.{State}
+use Rattle.rely_guarantee.specs.State.{SystemState}
 use Rattle.ref_command.specs.Commands.{pin_wants}
 use Rattle.ref_command.specs.Found.{commit_name}
 use Rattle.checkout.specs.declared.checkout_phase.CheckoutPhase.TheVariants.{Ended as EndedPhase}
@@ -45,7 +45,7 @@ use Rattle.checkout_command.specs.MakeSteps.{IsFar, IsMadeBy, MakeSays, Makes, m
 use Rattle.checkout_command.specs.Reads.{Reads}
 use Rattle.checkout_command.proofs.MakeKinds.{kind_name}
 
-pub begins_of : (start : State) (entries : List Entry) (pending : Option Pending) (lane : ℕ) (v : View) (b : Books) (t : CheckoutCommand) → Stands start entries pending v → IsNew t → checkout_facts lane t v b
+pub begins_of : (start : SystemState) (entries : List Entry) (pending : Option Pending) (lane : ℕ) (v : View) (b : Books) (t : CheckoutCommand) → Stands start entries pending v → IsNew t → checkout_facts lane t v b
 begins_of start entries pending lane v b (command.Look r) stands sum = record {
   known = tt;
   founded = (sum, stands.kinds (mark_path r.commit) (shows v.now (mark_path r.commit)) (may_now v (mark_path r.commit)));

@@ -51,7 +51,7 @@ hear_laws = record {
 }
 
 learn_laws : LearnLaws checkout_tasks checkout_doing
-learn_laws = no_learning checkout_tasks checkout_doing (λ refs pins t new is. is)
+learn_laws = no_learning checkout_tasks checkout_doing (λ refs ids pins t new is. is)
 
 change_laws : ChangeLaws checkout_tasks checkout_means checkout_doing
 change_laws = record {
@@ -72,8 +72,8 @@ answer_laws : AnswerLaws checkout_tasks checkout_means checkout_doing
 answer_laws = record {
   answers = λ since c t new is. has_answer t.work new.work;
   says = λ since p c t new a. ends_say since p c t.work new.work a;
-  shows = λ since lane c t new v w b a is f leaves given sound. ends_publish since lane c t.work new.work v w b a is f leaves given sound;
-  remains = λ since lane c t new v w b a is f leaves given. tt;
+  shows = λ since lane c t new v w b a listed is f leaves given sound. ends_publish since lane c t.work new.work v w b a is f leaves given sound;
+  remains = λ since lane c t new v w b a listed is f leaves given. tt;
   remains_at_once = λ since c a v is. tt;
   knows = λ since p lane c t new v w b a is f leaves given sees. tt;
   lacks_alone = λ since lane c t new v w b a commit is f leaves given lacks sum. checkouts_alone t.work new.work v w a commit leaves given lacks;

@@ -26,12 +26,13 @@ abbrev pub HasNoClaims : ℕ → Books → Type 0
 HasNoClaims lane b = (c : Claim) → Contains b.claims c → c.lane ≢ lane
 
 pub record AnswerLaws {T W A : Type 0} (k : TaskSpec T) (m : Meaning W A) (d : Doing T W A) : Type 0 where
-  -- the last step has an answer, and what it says is so; and what it shows, where the store is sound
+  -- the last step has an answer, and what it says is so; and what it shows, where the store is sound, and the deployments are those of the
+  -- opening
   pub answers : (since : Since) (c : W) (t new : T) → d.pursues since c t → k.stepped t (turn.Done tt) new → IsSome (d.answer new)
   pub says : (since : Since) (p : SystemState) (c : W) (t new : T) (a : A) → d.pursues since c t → k.stepped t (turn.Done tt) new → d.answer new ≡ Some a → m.says (placed since p) a c
-  pub shows : (since : Since) (lane : ℕ) (c : W) (t new : T) (v w : View) (b : Books) (a : A) → d.pursues since c t → k.facts lane t v b → k.leaves t (turn.Done tt) new v w → d.answer new ≡ Some a → IsSoundStore since.limits v.now → m.shows since v a c
+  pub shows : (since : Since) (lane : ℕ) (c : W) (t new : T) (v w : View) (b : Books) (a : A) → since.start.deployments ≡ b.start.deployments.items → d.pursues since c t → k.facts lane t v b → k.leaves t (turn.Done tt) new v w → d.answer new ≡ Some a → IsSoundStore since.limits v.now → m.shows since v a c
   -- so is what it shows behind that step; an answer by the state alone shows nothing there
-  pub remains : (since : Since) (lane : ℕ) (c : W) (t new : T) (v w : View) (b : Books) (a : A) → d.pursues since c t → k.facts lane t v b → k.leaves t (turn.Done tt) new v w → d.answer new ≡ Some a → m.remains since w a c
+  pub remains : (since : Since) (lane : ℕ) (c : W) (t new : T) (v w : View) (b : Books) (a : A) → since.start.deployments ≡ b.start.deployments.items → d.pursues since c t → k.facts lane t v b → k.leaves t (turn.Done tt) new v w → d.answer new ≡ Some a → m.remains since w a c
   pub remains_at_once : (since : Since) (c : W) (a : A) (v : View) → IsAnswer m since c a → m.remains since v a c
   -- and so is what it says where the view is told: the last step sees a state
   pub knows : (since : Since) (p : SystemState) (lane : ℕ) (c : W) (t new : T) (v w : View) (b : Books) (a : A) → d.pursues since c t → k.facts lane t v b → k.leaves t (turn.Done tt) new v w → d.answer new ≡ Some a → Sees (k.kind t) lane b v w p.refs → m.knows (placed since p) a c

@@ -5,6 +5,7 @@ use Rattle.ost_types.specs.declared.object.ObjName.{ObjName}
 use Rattle.ost_types.specs.Path.{Name}
 use Rattle.fs_trait.specs.View.{View}
 use Rattle.obj_store.specs.declared.phase.Put.{Put}
+use Rattle.boot_model.specs.declared.item.DepId.{DepId}
 use Rattle.rely_guarantee.specs.declared.books.Pin.{Pin}
 use Rattle.rely_guarantee.specs.declared.event.Event.{Event}
 use Rattle.rely_guarantee.specs.Books.{Books}
@@ -31,7 +32,7 @@ pub record Doing (T W A : Type 0) : Type 1 where
   pub hears : Told → T → T
   pub heard : T → Told
   -- the task before and after it was told what refs name and what is pinned
-  pub learns : RefBook → List Pin → T → T → Type 0
+  pub learns : RefBook → List DepId → List Pin → T → T → Type 0
   -- what the next step of an actor waits for
   pub asks : ℕ → T → Option Query
   -- what the last step stored or found

@@ -62,13 +62,13 @@ module _ {S T W V A B : Type 0} {k : TaskSpec S} {l : TaskSpec T} {d : Doing S W
 
   learn_laws : LearnLaws k d → LearnLaws l e → LearnLaws (either_tasks k l) (either_doing d e)
   learn_laws one two = record {
-    kind = λ refs pins. elim [ Left t ↦ elim [ Left new ↦ one.kind refs pins t new | Right new ↦ λ learns. absurd learns ] | Right t ↦ elim [ Left new ↦ λ learns. absurd learns | Right new ↦ two.kind refs pins t new ] ];
-    pursues = λ refs pins since. elim [ Left c ↦ elim [ Left t ↦ elim [ Left new ↦ one.pursues refs pins since c t new | Right new ↦ λ learns. absurd learns ] | Right t ↦ λ new learns after. absurd after ] | Right c ↦ elim [ Left t ↦ λ new learns after. absurd after | Right t ↦ elim [ Left new ↦ λ learns. absurd learns | Right new ↦ two.pursues refs pins since c t new ] ] ];
-    left = λ refs pins. elim [ Left t ↦ elim [ Left new ↦ one.left refs pins t new | Right new ↦ λ learns. absurd learns ] | Right t ↦ elim [ Left new ↦ λ learns. absurd learns | Right new ↦ two.left refs pins t new ] ];
-    met = λ refs pins. elim [ Left t ↦ elim [ Left new ↦ one.met refs pins t new | Right new ↦ λ learns. absurd learns ] | Right t ↦ elim [ Left new ↦ λ learns. absurd learns | Right new ↦ two.met refs pins t new ] ];
-    made = λ refs pins. elim [ Left t ↦ elim [ Left new ↦ one.made refs pins t new | Right new ↦ λ name learns. absurd learns ] | Right t ↦ elim [ Left new ↦ λ name learns. absurd learns | Right new ↦ two.made refs pins t new ] ];
-    unmade = λ refs pins. elim [ Left t ↦ elim [ Left new ↦ one.unmade refs pins t new | Right new ↦ λ name learns. absurd learns ] | Right t ↦ elim [ Left new ↦ λ name learns. absurd learns | Right new ↦ two.unmade refs pins t new ] ];
-    facts = λ start entries pending refs pins lane. elim [ Left t ↦ elim [ Left new ↦ one.facts start entries pending refs pins lane t new | Right new ↦ λ v b is learns. absurd learns ] | Right t ↦ elim [ Left new ↦ λ v b is learns. absurd learns | Right new ↦ two.facts start entries pending refs pins lane t new ] ];
+    kind = λ refs ids pins. elim [ Left t ↦ elim [ Left new ↦ one.kind refs ids pins t new | Right new ↦ λ learns. absurd learns ] | Right t ↦ elim [ Left new ↦ λ learns. absurd learns | Right new ↦ two.kind refs ids pins t new ] ];
+    pursues = λ refs ids pins since. elim [ Left c ↦ elim [ Left t ↦ elim [ Left new ↦ one.pursues refs ids pins since c t new | Right new ↦ λ learns. absurd learns ] | Right t ↦ λ new learns after. absurd after ] | Right c ↦ elim [ Left t ↦ λ new learns after. absurd after | Right t ↦ elim [ Left new ↦ λ learns. absurd learns | Right new ↦ two.pursues refs ids pins since c t new ] ] ];
+    left = λ refs ids pins. elim [ Left t ↦ elim [ Left new ↦ one.left refs ids pins t new | Right new ↦ λ learns. absurd learns ] | Right t ↦ elim [ Left new ↦ λ learns. absurd learns | Right new ↦ two.left refs ids pins t new ] ];
+    met = λ refs ids pins. elim [ Left t ↦ elim [ Left new ↦ one.met refs ids pins t new | Right new ↦ λ learns. absurd learns ] | Right t ↦ elim [ Left new ↦ λ learns. absurd learns | Right new ↦ two.met refs ids pins t new ] ];
+    made = λ refs ids pins. elim [ Left t ↦ elim [ Left new ↦ one.made refs ids pins t new | Right new ↦ λ name learns. absurd learns ] | Right t ↦ elim [ Left new ↦ λ name learns. absurd learns | Right new ↦ two.made refs ids pins t new ] ];
+    unmade = λ refs ids pins. elim [ Left t ↦ elim [ Left new ↦ one.unmade refs ids pins t new | Right new ↦ λ name learns. absurd learns ] | Right t ↦ elim [ Left new ↦ λ name learns. absurd learns | Right new ↦ two.unmade refs ids pins t new ] ];
+    facts = λ start entries pending refs ids pins lane. elim [ Left t ↦ elim [ Left new ↦ one.facts start entries pending refs ids pins lane t new | Right new ↦ λ v b is learns. absurd learns ] | Right t ↦ elim [ Left new ↦ λ v b is learns. absurd learns | Right new ↦ two.facts start entries pending refs ids pins lane t new ] ];
   }
 
 module _ {S T : Type 0} {k : TaskSpec S} {l : TaskSpec T} where
@@ -99,8 +99,8 @@ module _ {S T W V A B : Type 0} {k : TaskSpec S} {l : TaskSpec T} {m : Meaning W
   answer_laws one two = record {
     answers = λ since. elim [ Left c ↦ elim [ Left t ↦ elim [ Left new ↦ λ after step. is_wrapped Left (d.answer new) (one.answers since c t new after step) | Right new ↦ λ after step. absurd step ] | Right t ↦ λ new after step. absurd after ] | Right c ↦ elim [ Left t ↦ λ new after step. absurd after | Right t ↦ elim [ Left new ↦ λ after step. absurd step | Right new ↦ λ after step. is_wrapped Right (e.answer new) (two.answers since c t new after step) ] ] ];
     says = λ since p. elim [ Left c ↦ elim [ Left t ↦ elim [ Left new ↦ elim [ Left a ↦ λ after step is. one.says since p c t new a after step (from_left (d.answer new) a is) | Right a ↦ λ after step is. absurd (not_right (d.answer new) a is) ] | Right new ↦ λ a after step is. absurd step ] | Right t ↦ λ new a after step is. absurd after ] | Right c ↦ elim [ Left t ↦ λ new a after step is. absurd after | Right t ↦ elim [ Left new ↦ λ a after step is. absurd step | Right new ↦ elim [ Left a ↦ λ after step is. absurd (not_left (e.answer new) a is) | Right a ↦ λ after step is. two.says since p c t new a after step (from_right (e.answer new) a is) ] ] ] ];
-    shows = λ since lane. elim [ Left c ↦ elim [ Left t ↦ elim [ Left new ↦ λ v w b. elim [ Left a ↦ λ after f leaves is. one.shows since lane c t new v w b a after f leaves (from_left (d.answer new) a is) | Right a ↦ λ after f leaves is. absurd (not_right (d.answer new) a is) ] | Right new ↦ λ v w b a after f leaves is. absurd leaves ] | Right t ↦ λ new v w b a after f leaves is. absurd after ] | Right c ↦ elim [ Left t ↦ λ new v w b a after f leaves is. absurd after | Right t ↦ elim [ Left new ↦ λ v w b a after f leaves is. absurd leaves | Right new ↦ λ v w b. elim [ Left a ↦ λ after f leaves is. absurd (not_left (e.answer new) a is) | Right a ↦ λ after f leaves is. two.shows since lane c t new v w b a after f leaves (from_right (e.answer new) a is) ] ] ] ];
-    remains = λ since lane. elim [ Left c ↦ elim [ Left t ↦ elim [ Left new ↦ λ v w b. elim [ Left a ↦ λ after f leaves is. one.remains since lane c t new v w b a after f leaves (from_left (d.answer new) a is) | Right a ↦ λ after f leaves is. absurd (not_right (d.answer new) a is) ] | Right new ↦ λ v w b a after f leaves is. absurd leaves ] | Right t ↦ λ new v w b a after f leaves is. absurd after ] | Right c ↦ elim [ Left t ↦ λ new v w b a after f leaves is. absurd after | Right t ↦ elim [ Left new ↦ λ v w b a after f leaves is. absurd leaves | Right new ↦ λ v w b. elim [ Left a ↦ λ after f leaves is. absurd (not_left (e.answer new) a is) | Right a ↦ λ after f leaves is. two.remains since lane c t new v w b a after f leaves (from_right (e.answer new) a is) ] ] ] ];
+    shows = λ since lane. elim [ Left c ↦ elim [ Left t ↦ elim [ Left new ↦ λ v w b. elim [ Left a ↦ λ listed after f leaves is. one.shows since lane c t new v w b a listed after f leaves (from_left (d.answer new) a is) | Right a ↦ λ listed after f leaves is. absurd (not_right (d.answer new) a is) ] | Right new ↦ λ v w b a listed after f leaves is. absurd leaves ] | Right t ↦ λ new v w b a listed after f leaves is. absurd after ] | Right c ↦ elim [ Left t ↦ λ new v w b a listed after f leaves is. absurd after | Right t ↦ elim [ Left new ↦ λ v w b a listed after f leaves is. absurd leaves | Right new ↦ λ v w b. elim [ Left a ↦ λ listed after f leaves is. absurd (not_left (e.answer new) a is) | Right a ↦ λ listed after f leaves is. two.shows since lane c t new v w b a listed after f leaves (from_right (e.answer new) a is) ] ] ] ];
+    remains = λ since lane. elim [ Left c ↦ elim [ Left t ↦ elim [ Left new ↦ λ v w b. elim [ Left a ↦ λ listed after f leaves is. one.remains since lane c t new v w b a listed after f leaves (from_left (d.answer new) a is) | Right a ↦ λ listed after f leaves is. absurd (not_right (d.answer new) a is) ] | Right new ↦ λ v w b a listed after f leaves is. absurd leaves ] | Right t ↦ λ new v w b a listed after f leaves is. absurd after ] | Right c ↦ elim [ Left t ↦ λ new v w b a listed after f leaves is. absurd after | Right t ↦ elim [ Left new ↦ λ v w b a listed after f leaves is. absurd leaves | Right new ↦ λ v w b. elim [ Left a ↦ λ listed after f leaves is. absurd (not_left (e.answer new) a is) | Right a ↦ λ listed after f leaves is. two.remains since lane c t new v w b a listed after f leaves (from_right (e.answer new) a is) ] ] ] ];
     remains_at_once = λ since. elim [ Left c ↦ elim [ Left a ↦ one.remains_at_once since c a | Right a ↦ λ v is. absurd is.0 ] | Right c ↦ elim [ Left a ↦ λ v is. absurd is.0 | Right a ↦ two.remains_at_once since c a ] ];
     knows = λ since p lane. elim [ Left c ↦ elim [ Left t ↦ elim [ Left new ↦ λ v w b. elim [ Left a ↦ λ after f leaves is sees. one.knows since p lane c t new v w b a after f leaves (from_left (d.answer new) a is) sees | Right a ↦ λ after f leaves is sees. absurd (not_right (d.answer new) a is) ] | Right new ↦ λ v w b a after f leaves is sees. absurd leaves ] | Right t ↦ λ new v w b a after f leaves is sees. absurd after ] | Right c ↦ elim [ Left t ↦ λ new v w b a after f leaves is sees. absurd after | Right t ↦ elim [ Left new ↦ λ v w b a after f leaves is sees. absurd leaves | Right new ↦ λ v w b. elim [ Left a ↦ λ after f leaves is sees. absurd (not_left (e.answer new) a is) | Right a ↦ λ after f leaves is sees. two.knows since p lane c t new v w b a after f leaves (from_right (e.answer new) a is) sees ] ] ] ];
     lacks_alone = λ since lane. elim [ Left c ↦ elim [ Left t ↦ elim [ Left new ↦ λ v w b. elim [ Left a ↦ λ commit after f leaves is. one.lacks_alone since lane c t new v w b a commit after f leaves (from_left (d.answer new) a is) | Right a ↦ λ commit after f leaves is. absurd (not_right (d.answer new) a is) ] | Right new ↦ λ v w b a commit after f leaves is. absurd leaves ] | Right t ↦ λ new v w b a commit after f leaves is. absurd after ] | Right c ↦ elim [ Left t ↦ λ new v w b a commit after f leaves is. absurd after | Right t ↦ elim [ Left new ↦ λ v w b a commit after f leaves is. absurd leaves | Right new ↦ λ v w b. elim [ Left a ↦ λ commit after f leaves is. absurd (not_left (e.answer new) a is) | Right a ↦ λ commit after f leaves is. two.lacks_alone since lane c t new v w b a commit after f leaves (from_right (e.answer new) a is) ] ] ] ];

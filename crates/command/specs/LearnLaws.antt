@@ -2,12 +2,13 @@
 use Rattle.std.proofs.Common.{◌≡◌, ◌≤◌, ℕ, List, Option, Some, None, sym, ap, subst, arith}
 use Rattle.ost_types.specs.Path.{Name}
 use Rattle.fs_trait.specs.View.{View}
+use Rattle.boot_model.specs.declared.item.DepId.{DepId}
 use Rattle.rely_guarantee.specs.declared.books.Entry.{Entry}
 use Rattle.rely_guarantee.specs.declared.books.Pending.{Pending}
 use Rattle.rely_guarantee.specs.declared.books.Pin.{Pin}
 use Rattle.rely_guarantee.specs.Books.{Books}
 use Rattle.rely_guarantee.specs.Laws.{Holds, NotPending}
-use Rattle.rely_guarantee.specs.State.{State, after, events_of}
+use Rattle.rely_guarantee.specs.State.{after, events_of, SystemState}
 use Rattle.rely_guarantee.specs.SystemInvariant.{Stands}
 use Rattle.ref_book.specs.declared.book.RefBook.{RefBook}
 use Rattle.ref_book.specs.Tracks.{Tracks}
@@ -16,38 +17,39 @@ use Rattle.command.specs.Doing.{Doing}
 use Rattle.command.specs.Since.{Since}
 use Rattle.command.specs.Tasks.{TaskSpec}
 
--- What a lane's task is told is so: these are the refs after all changes that last, and all pins; and nothing is shown where the lane has the
+-- What a lane's task is told is so: these are the refs after all changes that last, the deployments that boot, and all pins; and nothing is shown where the lane has the
 -- lock of those that remove and shows nothing itself.
-pub record IsLearnt (start : State) (entries : List Entry) (pending : Option Pending) (refs : RefBook) (pins : List Pin) (lane : ℕ) (v : View) (b : Books) : Type 0 where
+pub record IsLearnt (start : SystemState) (entries : List Entry) (pending : Option Pending) (refs : RefBook) (ids : List DepId) (pins : List Pin) (lane : ℕ) (v : View) (b : Books) : Type 0 where
   pub stands : Stands start entries pending v
-  pub tracks : Tracks refs (after (events_of entries) start)
+  pub tracks : Tracks refs (after (events_of entries) start).refs
+  pub listed : ids ≡ b.start.deployments.items
   pub pins_are : pins ≡ b.pins
   pub free : ObjectPathsFree v.now
   pub clear : b.exclusive ≡ Some lane → NotPending lane b → pending ≡ None
 
 pub record LearnLaws {T W A : Type 0} (k : TaskSpec T) (d : Doing T W A) : Type 0 where
   -- what the next step is to the system stays, and what the task is after, and has done
-  pub kind : (refs : RefBook) (pins : List Pin) (t new : T) → d.learns refs pins t new → k.kind new ≡ k.kind t
-  pub pursues : (refs : RefBook) (pins : List Pin) (since : Since) (c : W) (t new : T) → d.learns refs pins t new → d.pursues since c t → d.pursues since c new
-  pub left : (refs : RefBook) (pins : List Pin) (t new : T) → d.learns refs pins t new → d.left new ≤ d.left t
-  pub met : (refs : RefBook) (pins : List Pin) (t new : T) → d.learns refs pins t new → d.met new ≡ d.met t
-  pub made : (refs : RefBook) (pins : List Pin) (t new : T) (name : Name) → d.learns refs pins t new → d.made t name → d.made new name
-  pub unmade : (refs : RefBook) (pins : List Pin) (t new : T) (name : Name) → d.learns refs pins t new → d.made new name → d.made t name
+  pub kind : (refs : RefBook) (ids : List DepId) (pins : List Pin) (t new : T) → d.learns refs ids pins t new → k.kind new ≡ k.kind t
+  pub pursues : (refs : RefBook) (ids : List DepId) (pins : List Pin) (since : Since) (c : W) (t new : T) → d.learns refs ids pins t new → d.pursues since c t → d.pursues since c new
+  pub left : (refs : RefBook) (ids : List DepId) (pins : List Pin) (t new : T) → d.learns refs ids pins t new → d.left new ≤ d.left t
+  pub met : (refs : RefBook) (ids : List DepId) (pins : List Pin) (t new : T) → d.learns refs ids pins t new → d.met new ≡ d.met t
+  pub made : (refs : RefBook) (ids : List DepId) (pins : List Pin) (t new : T) (name : Name) → d.learns refs ids pins t new → d.made t name → d.made new name
+  pub unmade : (refs : RefBook) (ids : List DepId) (pins : List Pin) (t new : T) (name : Name) → d.learns refs ids pins t new → d.made new name → d.made t name
   -- it has its facts, where what it is told is so
-  pub facts : (start : State) (entries : List Entry) (pending : Option Pending) (refs : RefBook) (pins : List Pin) (lane : ℕ) (t new : T) (v : View) (b : Books) → IsLearnt start entries pending refs pins lane v b → d.learns refs pins t new → Holds (k.kind t) lane b → k.facts lane t v b → k.facts lane new v b
+  pub facts : (start : SystemState) (entries : List Entry) (pending : Option Pending) (refs : RefBook) (ids : List DepId) (pins : List Pin) (lane : ℕ) (t new : T) (v : View) (b : Books) → IsLearnt start entries pending refs ids pins lane v b → d.learns refs ids pins t new → Holds (k.kind t) lane b → k.facts lane t v b → k.facts lane new v b
 
 -- a task that learns nothing is as it was
-abbrev pub learns_nothing : {T : Type 0} → RefBook → List Pin → T → T → Type 0
-learns_nothing refs pins t new = new ≡ t
+abbrev pub learns_nothing : {T : Type 0} → RefBook → List DepId → List Pin → T → T → Type 0
+learns_nothing refs ids pins t new = new ≡ t
 
 -- and then the laws hold
-pub no_learning : {T W A : Type 0} (k : TaskSpec T) (d : Doing T W A) → ((refs : RefBook) (pins : List Pin) (t new : T) → d.learns refs pins t new → new ≡ t) → LearnLaws k d
+pub no_learning : {T W A : Type 0} (k : TaskSpec T) (d : Doing T W A) → ((refs : RefBook) (ids : List DepId) (pins : List Pin) (t new : T) → d.learns refs ids pins t new → new ≡ t) → LearnLaws k d
 no_learning {T} k d same = record {
-  kind = λ refs pins t new is. ap k.kind (same refs pins t new is);
-  pursues = λ refs pins since c t new is after. subst (d.pursues since c) (sym (same refs pins t new is)) after;
-  left = λ refs pins t new is. omega (arith, ap d.left (same refs pins t new is));
-  met = λ refs pins t new is. ap d.met (same refs pins t new is);
-  made = λ refs pins t new name is made. subst (λ (x : T). d.made x name) (sym (same refs pins t new is)) made;
-  unmade = λ refs pins t new name is made. subst (λ (x : T). d.made x name) (same refs pins t new is) made;
-  facts = λ start entries pending refs pins lane t new v b told is holds facts. subst (λ (x : T). k.facts lane x v b) (sym (same refs pins t new is)) facts;
+  kind = λ refs ids pins t new is. ap k.kind (same refs ids pins t new is);
+  pursues = λ refs ids pins since c t new is after. subst (d.pursues since c) (sym (same refs ids pins t new is)) after;
+  left = λ refs ids pins t new is. omega (arith, ap d.left (same refs ids pins t new is));
+  met = λ refs ids pins t new is. ap d.met (same refs ids pins t new is);
+  made = λ refs ids pins t new name is made. subst (λ (x : T). d.made x name) (sym (same refs ids pins t new is)) made;
+  unmade = λ refs ids pins t new name is made. subst (λ (x : T). d.made x name) (same refs ids pins t new is) made;
+  facts = λ start entries pending refs ids pins lane t new v b told is holds facts. subst (λ (x : T). k.facts lane x v b) (sym (same refs ids pins t new is)) facts;
 }

@@ -11,7 +11,7 @@ use Rattle.rely_guarantee.specs.declared.books.Pending.{Pending}
 use Rattle.rely_guarantee.specs.declared.kind.Wants.{Wants}
 use Rattle.rely_guarantee.specs.Books.{Books}
 use Rattle.rely_guarantee.specs.Laws.{Take, IsBy, Holds, NotPending}
-use Rattle.rely_guarantee.specs.State.{State}
+use Rattle.rely_guarantee.specs.State.{SystemState}
 use Rattle.rely_guarantee.specs.SystemInvariant.{Stands}
 use Rattle.command.specs.Doing.{Doing}
 use Rattle.command.specs.Since.{Since}
@@ -28,7 +28,7 @@ asks_in_order wants never = ((λ is. absurd (let z : false ≡ true = sym never.
 
 pub record StepLaws {T W A : Type 0} (k : TaskSpec T) (d : Doing T W A) : Type 0 where
   -- a task at its beginning has its facts, and nothing of it is shown
-  pub begun : (start : State) (entries : List Entry) (pending : Option Pending) (lane : ℕ) (t : T) (v : View) (b : Books) → Stands start entries pending v → StagingPathFree lane v → d.begins lane t → k.facts lane t v b
+  pub begun : (start : SystemState) (entries : List Entry) (pending : Option Pending) (lane : ℕ) (t : T) (v : View) (b : Books) → Stands start entries pending v → StagingPathFree lane v → d.begins lane t → k.facts lane t v b
   pub quiet : (lane : ℕ) (t : T) (b : Books) → d.begins lane t → NotPending lane b → Holds (k.kind t) lane b
   -- no step leaves a folder where its actor or its lane stages
   pub stages : (who actor lane : ℕ) (t : T) (v w : View) (b : Books) → (who ≡ actor) ⊎ (who ≡ lane) → IsBy (k.kind t) actor lane → k.facts lane t v b → Writes (k.writes actor t v) v w → StagingPathFree who v → StagingPathFree who w
@@ -38,4 +38,4 @@ pub record StepLaws {T W A : Type 0} (k : TaskSpec T) (d : Doing T W A) : Type 0
   -- no step takes a lock but these: that every run ends is known of them alone
   pub locks : (since : Since) (c : W) (t : T) (wants : Wants) → d.pursues since c t → k.kind t ≡ Take wants → AsksInOrder wants
   -- where the view is told a step is refused only by a call that failed or for want of memory
-  pub refused : (start : State) (entries : List Entry) (pending : Option Pending) (lane : ℕ) (t : T) (v : View) (b : Books) (e : FsErr) → IsTree v.now → Stands start entries pending v → k.facts lane t v b → k.refuses t v e → OfNone e
+  pub refused : (start : SystemState) (entries : List Entry) (pending : Option Pending) (lane : ℕ) (t : T) (v : View) (b : Books) (e : FsErr) → IsTree v.now → Stands start entries pending v → k.facts lane t v b → k.refuses t v e → OfNone e

@@ -49,9 +49,10 @@ pub trait Command: CommandTask + Drop {
         ensures hears { self.new ≡ doing.hears told self.old }
         ensures heard { result ≡ doing.heard self.old };
 
-    /// Tells the task behind a step of it that goes on what refs name then and what is pinned. One that doesn't wait for this is as it was.
-    fn learn(&mut self, refs: &RefBook, pins: &[Pin])
-        ensures { doing.learns refs.now pins.now self.old self.new };
+    /// Tells the task behind a step of it that goes on what refs name then, which deployments boot, and what is
+    /// pinned. One that doesn't wait for this is as it was.
+    fn learn(&mut self, refs: &RefBook, deployments: &[DepId], pins: &[Pin])
+        ensures { doing.learns refs.now deployments.now pins.now self.old self.new };
 
     /// What the next step of this actor waits for.
     fn asks(&self, actor: u8) -> Option<Query>

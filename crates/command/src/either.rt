@@ -45,10 +45,10 @@ impl<A: Command, B: Command> Command for Either<A, B> {
         }
     }
 
-    fn learn(&mut self, refs: &RefBook, pins: &[Pin]) {
+    fn learn(&mut self, refs: &RefBook, deployments: &[DepId], pins: &[Pin]) {
         match self {
-            Either::Left(task) => task.learn(refs, pins),
-            Either::Right(task) => task.learn(refs, pins),
+            Either::Left(task) => task.learn(refs, deployments, pins),
+            Either::Right(task) => task.learn(refs, deployments, pins),
         }
     }
 

@@ -33,7 +33,7 @@ use Rattle.commit_build.proofs.PutSteps.{kept_as}
 use Rattle.commit_build.proofs.Wholes.{of_commit_sum}
 use Rattle.rely_guarantee.specs.declared.books.Entry.{Entry}
 use Rattle.rely_guarantee.specs.declared.books.Pending.{Pending}
-use Rattle.rely_guarantee.specs.State.{State}
+use Rattle.rely_guarantee.specs.State.{SystemState}
 use Rattle.rely_guarantee.specs.Books.{Books}
 use Rattle.rely_guarantee.specs.SystemInvariant.{Stands}
 use Rattle.ref_command.proofs.Refusals.{change_refused}
@@ -169,15 +169,15 @@ leaf_unsuited (Leaf n m b) suits leaf = suits
 leaf_unsuited Vacant suits leaf = leaf
 leaf_unsuited (Directory m) suits leaf = leaf
 
-no_leaf : (start : State) (entries : List Entry) (pending : Option Pending) (v : View) → Stands start entries pending v → (sum : List ℕ) → IsSum sum → IsLeaf (shows v.now (objects_folder_path sum)) → ⊥
+no_leaf : (start : SystemState) (entries : List Entry) (pending : Option Pending) (v : View) → Stands start entries pending v → (sum : List ℕ) → IsSum sum → IsLeaf (shows v.now (objects_folder_path sum)) → ⊥
 no_leaf start entries pending v stands sum is leaf =
     leaf_unsuited _ (stands.kinds (objects_folder_path sum) _ (may_now v (objects_folder_path sum)) FolderOrNothing (is_folder_of sum is)) leaf
 
-refused_by : (o : Option Naming) (start : State) (entries : List Entry) (pending : Option Pending) (lane : ℕ) (v : View) (b : Books) (t : CommitCommand) (e : FsErr) → IsTree v.now → Stands start entries pending v → facts_by o lane t v b → refuses_by o t v e
+refused_by : (o : Option Naming) (start : SystemState) (entries : List Entry) (pending : Option Pending) (lane : ℕ) (v : View) (b : Books) (t : CommitCommand) (e : FsErr) → IsTree v.now → Stands start entries pending v → facts_by o lane t v b → refuses_by o t v e
     → OfNone e
 refused_by None start entries pending lane v b t e tree stands f why = refused_at v (no_leaf start entries pending v stands) (commit_in t.build.phase) t f.needs e why
 refused_by (Some n) start entries pending lane v b t e tree stands f why = change_refused start entries pending v n.work.task e tree stands f.ref.needs why
 
-pub refused_of : (start : State) (entries : List Entry) (pending : Option Pending) (lane : ℕ) (v : View) (b : Books) (t : CommitCommand) (e : FsErr) → IsTree v.now → Stands start entries pending v → commit_facts lane t v b → commit_refuses t v e
+pub refused_of : (start : SystemState) (entries : List Entry) (pending : Option Pending) (lane : ℕ) (v : View) (b : Books) (t : CommitCommand) (e : FsErr) → IsTree v.now → Stands start entries pending v → commit_facts lane t v b → commit_refuses t v e
     → OfNone e
 refused_of start entries pending lane v b t e tree stands f why = refused_by t.change start entries pending lane v b t e tree stands f why

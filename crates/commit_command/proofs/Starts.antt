@@ -17,7 +17,7 @@ use Rattle.commit_build.specs.Steps.{Needs, WritesIn, needs_in, HasHomes}
 use Rattle.commit_build.proofs.Stable.{relied_in, commit_lies}
 use Rattle.rely_guarantee.specs.declared.books.Entry.{Entry}
 use Rattle.rely_guarantee.specs.declared.books.Pending.{Pending}
-use Rattle.rely_guarantee.specs.State.{State}
+use Rattle.rely_guarantee.specs.State.{SystemState}
 use Rattle.rely_guarantee.specs.Books.{Books}
 use Rattle.rely_guarantee.specs.SystemInvariant.{Stands}
 use Rattle.ref_command.specs.Facts.{Facts, StagingPathFree}
@@ -47,13 +47,13 @@ relied_none : (t : Committing) (ph : Phase) → ph ≡ phase.Check → (o : tree
 relied_none t ph is o r = subst (λ f. relied_in f t o) is r
 
 -- the folders of the layout are there, and the lane's staging path is no folder
-homes_of : (start : State) (entries : List Entry) (pending : Option Pending) (lane : ℕ) (v : View) → Stands start entries pending v → StagingPathFree lane v → HasHomes lane v.now
+homes_of : (start : SystemState) (entries : List Entry) (pending : Option Pending) (lane : ℕ) (v : View) → Stands start entries pending v → StagingPathFree lane v → HasHomes lane v.now
 homes_of start entries pending lane v stands home = record { objects = at folder.Objects; staging = at folder.Tmp; state = at folder.State; stage = home }
   where
     at : (f : Folder) → IsDirectory (shows v.now (folder_path f))
     at f = stands.folders f (folder_path f) _ (may_now v (folder_path f)) (is_below-self (folder_path f))
 
-begins_build : (start : State) (entries : List Entry) (pending : Option Pending) (lane : ℕ) (v : View) (b : Books) (t : CommitCommand) → Stands start entries pending v → StagingPathFree lane v → Begins lane t → Building lane t v b
+begins_build : (start : SystemState) (entries : List Entry) (pending : Option Pending) (lane : ℕ) (v : View) (b : Books) (t : CommitCommand) → Stands start entries pending v → StagingPathFree lane v → Begins lane t → Building lane t v b
 begins_build start entries pending lane v b t stands home begins = record {
   needs = record {
     made = begins.made;
@@ -69,6 +69,6 @@ begins_build start entries pending lane v b t stands home begins = record {
       (begins_change start entries pending lane v b stands home (subst (λ a. a < 16) begins.mine begins.made.actor) t.name t.build.message.parent (Some commit) begins.named (λ e. let n : Some commit ≡ None = e in cc));
 }
 
-pub begins_of : (start : State) (entries : List Entry) (pending : Option Pending) (lane : ℕ) (v : View) (b : Books) (t : CommitCommand) → Stands start entries pending v → StagingPathFree lane v → Begins lane t → commit_facts lane t v b
+pub begins_of : (start : SystemState) (entries : List Entry) (pending : Option Pending) (lane : ℕ) (v : View) (b : Books) (t : CommitCommand) → Stands start entries pending v → StagingPathFree lane v → Begins lane t → commit_facts lane t v b
 begins_of start entries pending lane v b t stands home begins =
     subst (λ o. facts_by o lane t v b) (sym begins.change) (begins_build start entries pending lane v b t stands home begins)

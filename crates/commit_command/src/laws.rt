@@ -12,7 +12,7 @@ ghost use Rattle.fs_trait.specs.declared.task.StepResult.TheVariants as turn;
 ghost use Rattle.rely_guarantee.specs.declared.books.Entry.{Entry};
 ghost use Rattle.rely_guarantee.specs.declared.books.Pending.{Pending};
 ghost use Rattle.rely_guarantee.specs.declared.event.Event.{Event};
-ghost use Rattle.rely_guarantee.specs.State.{State};
+ghost use Rattle.rely_guarantee.specs.State.{SystemState};
 ghost use Rattle.rely_guarantee.specs.Books.{Books};
 ghost use Rattle.rely_guarantee.specs.Laws.{Publish};
 ghost use Rattle.rely_guarantee.specs.SystemInvariant.{Stands};
@@ -31,7 +31,7 @@ ghost use Rattle.commit_command.specs.Kinds.{commit_kind, commit_leaves, commit_
 /// system's view stands, a new commit has its facts.
 pub fn lanes_that_commit()
     ensures own { (actor lane : ℕ) (t : CommitCommand) (v w : View) (b : Books) → commit_facts lane t v b → Writes (commit_writes actor t v) v w → StagingPathFree lane v → StagingPathFree lane w }
-    ensures begins { (start : State) (entries : List Entry) (pending : Option Pending) (lane : ℕ) (v : View) (b : Books) (t : CommitCommand) → Stands start entries pending v → StagingPathFree lane v → Begins lane t → commit_facts lane t v b }
+    ensures begins { (start : SystemState) (entries : List Entry) (pending : Option Pending) (lane : ℕ) (v : View) (b : Books) (t : CommitCommand) → Stands start entries pending v → StagingPathFree lane v → Begins lane t → commit_facts lane t v b }
 {}
 
 /// What a commit that runs has stored or found is pinned for its lane and stands at its path, and is what it goes on to have; no crash
@@ -78,5 +78,5 @@ pub fn steps_of_a_commit_fall()
 
 /// Where the view is told, a commit is refused only by a call that failed or for want of memory.
 pub fn told_refusals_of_a_commit()
-    ensures { (start : State) (entries : List Entry) (pending : Option Pending) (lane : ℕ) (v : View) (b : Books) (t : CommitCommand) (e : FsErr) → IsTree v.now → Stands start entries pending v → commit_facts lane t v b → commit_refuses t v e → OfNone e }
+    ensures { (start : SystemState) (entries : List Entry) (pending : Option Pending) (lane : ℕ) (v : View) (b : Books) (t : CommitCommand) (e : FsErr) → IsTree v.now → Stands start entries pending v → commit_facts lane t v b → commit_refuses t v e → OfNone e }
 {}

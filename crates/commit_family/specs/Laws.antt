@@ -66,7 +66,7 @@ hear_laws = record {
 }
 
 learn_laws : LearnLaws commit_tasks commit_doing
-learn_laws = no_learning commit_tasks commit_doing (λ refs pins t new is. is)
+learn_laws = no_learning commit_tasks commit_doing (λ refs ids pins t new is. is)
 
 change_laws : ChangeLaws commit_tasks commit_means commit_doing
 change_laws = record {
@@ -87,8 +87,8 @@ answer_laws : AnswerLaws commit_tasks commit_means commit_doing
 answer_laws = record {
   answers = λ since c t new is step. subst IsSome (sym (commits_end since c t.work is new.work step.0).answer) refl;
   says = λ since p c t new a is step given. (let e = commits_end since c t.work is new.work step.0 in subst (λ x. commit_says since x c) (one (answer_of new.work) e.given a e.answer given) e.says);
-  shows = λ since lane c t new v w b a is f l given sound. tells since c t.work is v w a (says_of lane t.work new.work v w b a f l given);
-  remains = λ since lane c t new v w b a is f leaves given. tt;
+  shows = λ since lane c t new v w b a listed is f l given sound. tells since c t.work is v w a (says_of lane t.work new.work v w b a f l given);
+  remains = λ since lane c t new v w b a listed is f leaves given. tt;
   remains_at_once = λ since c a v is. tt;
   knows = λ since p lane c t new v w b a is f l given sees. commits_know lane since p c v w b t.work new.work a given is f l sees;
   lacks_alone = λ since lane c t new v w b a commit is f l given lacks sum. absurd lacks;

@@ -51,7 +51,7 @@ impl Command for CommitsTask {
         }
     }
 
-    fn learn(&mut self, _refs: &RefBook, _pins: &[Pin]) {}
+    fn learn(&mut self, _refs: &RefBook, _deployments: &[DepId], _pins: &[Pin]) {}
 
     fn asks(&self, _actor: u8) -> Option<Query> {
         None

@@ -22,10 +22,10 @@ use Rattle.boot_read.specs.Links.{HasSub, IsItemLink, LeadsOn, item_link}
 use Rattle.boot_read.specs.Rows.{AreBootRows, AreRowsOf, IsBootRow}
 use Rattle.durable_list.specs.Standing.{IsInVersion, IsListPath}
 
-same_reads : (d e : Disk) (p : Path) → shows e p ≡ shows d p → reads e p ≡ reads d p
+pub same_reads : (d e : Disk) (p : Path) → shows e p ≡ shows d p → reads e p ≡ reads d p
 same_reads d e p same = reads_shows e p ∙ ap bytes_in same ∙ sym (reads_shows d p)
 
-folder_directory : (d : Disk) (z : Value) → is_folder z ≡ true → IsDirectory (seen d z)
+pub folder_directory : (d : Disk) (z : Value) → is_folder z ≡ true → IsDirectory (seen d z)
 folder_directory d (Folder m) is = tt
 folder_directory d Absent is = let n : false ≡ true = is in cc
 folder_directory d (Link m t) is = let n : false ≡ true = is in cc

@@ -34,7 +34,7 @@ module _ (v : View) (d : Disk) (tree : IsTree v.now) (i : Image v d) where
       (along (under g x) rest (subst (λ f. (p : Path) (s : Seen) → IsTrue (is_below p f) → MayBe v p s → s ≡ shows v.now p) (sym again) sure)
       (below_one g x (λ s may. sure (under g x) s on may) here (folder_or_not (d.at g))))
 
-  left_there : (p : Path) → ((q : Path) (s : Seen) → IsTrue (is_below q p) → MayBe v q s → s ≡ shows v.now q) → shows d p ≡ shows v.now p
+  pub left_there : (p : Path) → ((q : Path) (s : Seen) → IsTrue (is_below q p) → MayBe v q s → s ≡ shows v.now q) → shows d p ≡ shows v.now p
   left_there p sure = along [] p sure (sure [] (shows d []) (is_below-before [] p) (Image-root v d i))
 
   pub stands_left : (rows : List BootRow) → ListStands rows v → AreRowsOf d rows

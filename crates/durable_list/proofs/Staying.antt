@@ -1,6 +1,6 @@
 -- Runs of acts: each disk that a crash left has the list.
 use Rattle.std.proofs.Common.{◌≡◌, ⊎_elim, ℕ, ◌≤◌, sym, ◌∙◌, subst, arith, List, Option, Some}
-use Rattle.fs_trait.specs.View.{Disk, View}
+use Rattle.fs_trait.specs.View.{View}
 use Rattle.fs_trait.specs.Image.{Image, IsTree}
 use Rattle.fs_trait.specs.Effect.{Elapses}
 use Rattle.fs_trait.proofs.Claims.{passes}

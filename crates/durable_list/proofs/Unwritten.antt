@@ -30,7 +30,7 @@ IsBoot (KernelCopy os bootcsum rest) = Unit {0}
 IsBoot (Other p) = Unit {0}
 IsBoot x = ⊥
 
-unwritten : (b : Books) (actor lane : ℕ) (x : Place) (s : Seen) → IsBoot x → may_at b actor lane x s → ⊥
+pub unwritten : (b : Books) (actor lane : ℕ) (x : Place) (s : Seen) → IsBoot x → may_at b actor lane x s → ⊥
 unwritten b actor lane Config s is at = is
 unwritten b actor lane (Stage a) s is at = is
 unwritten b actor lane (Ref n) s is at = is
@@ -116,11 +116,11 @@ at_root = tt
 
 -- ---- what lies on the way
 
-way_boot : (p rest more : Path) → codes "boot" ∷ more ≡ p ++ rest → IsBoot (place p)
+pub way_boot : (p rest more : Path) → codes "boot" ∷ more ≡ p ++ rest → IsBoot (place p)
 way_boot [] rest more e = at_root
 way_boot (x ∷ p) rest more e = let first : codes "boot" ≡ x = cc in subst (λ y. IsBoot (place (y ∷ p))) first (below_boot p)
 
-way_ostree : (p rest more : Path) (part : Name) → same_name part (codes "repo") ≡ false → codes "ostree" ∷ part ∷ more ≡ p ++ rest → IsBoot (place p)
+pub way_ostree : (p rest more : Path) (part : Name) → same_name part (codes "repo") ≡ false → codes "ostree" ∷ part ∷ more ≡ p ++ rest → IsBoot (place p)
 way_ostree [] rest more part other e = at_root
 way_ostree (x ∷ []) rest more part other e = let first : codes "ostree" ≡ x = cc in subst (λ y. IsBoot (place (y ∷ []))) first at_ostree
 way_ostree (x ∷ y ∷ p) rest more part other e =

@@ -148,7 +148,7 @@ module _ (v w : View) (W : Path → Seen → Type 0) (writes : Writes W v w) (ke
     module _ (config : Seen → Type 0) (names : List ObjName) (b : Books) (lane : ℕ) (kept : AreKept keep b v lane) where
       refs_stay : (name commit : List ℕ) (s : Seen) → MayBe v (ref_path name) s → Says (RefOf name) (Some commit) s → Spared (name_of Commit commit)
       refs_stay name commit s may says e =
-          takes.gone (subst keep e (kept.roots (name_of Commit commit) (inr (RefOf name, Some commit, s, may, says, commit, (0, omega arith, refl), refl))))
+          takes.gone (subst keep e (kept.roots (name_of Commit commit) (inr (inl (RefOf name, Some commit, s, may, says, commit, (0, omega arith, refl), refl)))))
 
       config_stays : (s : Seen) → MayBe w config_path s → MayBe v config_path s
       config_stays = object_elsewhere config_path (λ e. config_object takes.name takes.sum e)

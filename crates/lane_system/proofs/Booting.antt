@@ -1,21 +1,44 @@
 -- An act leaves what boots.
-use Rattle.std.proofs.Common.{◌≡◌, ℕ, sym, subst, List, Some}
+use Rattle.std.proofs.Common.{◌≡◌, ◌∙◌, ℕ, ap, arith, sym, subst, List, Contains, Some}
+use Rattle.std.proofs.lemmas.List.{get_or-map, length-map}
+use Rattle.ost_types.specs.declared.limits.Limits.{Limits}
 use Rattle.fs_trait.specs.View.{View}
+use Rattle.boot_model.specs.declared.item.DepId.{DepId}
 use Rattle.boot_read.specs.declared.row.BootRow.{BootRow}
 use Rattle.rely_guarantee.specs.declared.books.Base.{Base}
+use Rattle.rely_guarantee.specs.declared.books.Start.{Start}
 use Rattle.rely_guarantee.specs.Books.{books_of}
-use Rattle.durable_list.specs.Standing.{KeepsList}
 use Rattle.durable_list.proofs.Staying.{list_on}
 use Rattle.durable_list.proofs.Unwritten.{act_spares}
+use Rattle.durable_deployments.proofs.Staying.{deployments_on}
+use Rattle.durable_deployments.proofs.Unwritten.{act_spares_all}
 use Rattle.ref_book.specs.declared.book.RefBook.{RefBook}
+use Rattle.lane_system.specs.declared.lane.Lane.{Lane}
 use Rattle.lane_system.specs.Acts.{Acts}
+use Rattle.lane_system.specs.Booting.{BootsStill, KeepsBoots}
+use Rattle.lane_system.specs.Deployments.{ids_of}
 use Rattle.lane_system.specs.Family.{FsSpec}
 use Rattle.lane_system.proofs.Family.{FsLaws}
 
-pub list_still : {F : Type 0} (f : FsSpec F) (fl : FsLaws f) (actor lane : ℕ) (refs refs' : RefBook) (old new : Base F) (acts : Acts f actor lane refs refs' old new) (v : View) (told : f.view old.fs ≡ Some v) (rows : List BootRow)
-    → KeepsList (f.was old.fs) rows old.books.opened v → KeepsList (f.was new.fs) rows new.books.opened (acts.does v told).0
-list_still f fl actor lane refs refs' old new acts v told rows keeps =
-    let w = (acts.does v told).0 in
-    subst (λ (m : ℕ). KeepsList (f.was new.fs) rows m w) (sym acts.books.opened)
-    (list_on f.view f.clock f.was fl.is.only_now fl.tree rows old.fs new.fs v w old.books.opened (acts.does v told).1 acts.time
-    (act_spares rows v w (books_of old.books) (books_of new.books) actor lane (acts.does v told).2) keeps)
+deployed : (rows : List BootRow) (row : BootRow) → Contains rows row → Contains (ids_of rows) row.id
+deployed rows row (k, less, is) = (k, omega (arith, less, length-map rows (λ (r : BootRow). r.id)), get_or-map (λ (r : BootRow). r.id) rows k row row.id less ∙ ap (λ (r : BootRow). r.id) is)
+
+module _ {F : Type 0} (f : FsSpec F) (fl : FsLaws f) (actor lane : ℕ) (refs refs' : RefBook) (old new : Base F) (acts : Acts f actor lane refs refs' old new) (v : View) (told : f.view old.fs ≡ Some v) (limits : Limits) (rows : List BootRow) where
+  boots_on : old.books.start.deployments.items ≡ ids_of rows → KeepsBoots (f.was old.fs) limits rows old.books.opened v → KeepsBoots (f.was new.fs) limits rows old.books.opened (acts.does v told).0
+  boots_on is keeps =
+      let w = (acts.does v told).0 in
+      let does = (acts.does v told).2 in
+      let listed : (row : BootRow) → Contains rows row → Contains old.books.start.deployments.items row.id = λ row among. subst (λ (ids : List DepId). Contains ids row.id) (sym is) (deployed rows row among) in
+      record {
+        list = list_on f.view f.clock f.was fl.is.only_now fl.tree rows old.fs new.fs v w old.books.opened (acts.does v told).1 acts.time
+            (act_spares rows v w (books_of old.books) (books_of new.books) actor lane does) keeps.list;
+        deployments = deployments_on f.view f.clock f.was fl.is.only_now fl.tree limits rows old.fs new.fs v w old.books.opened (acts.does v told).1 acts.time
+            (act_spares_all limits rows v w (books_of old.books) (books_of new.books) actor lane does listed keeps.deployments.stands) keeps.deployments;
+      }
+
+  pub list_still : {T W A : Type 0} (lanes lanes' : List (Lane T W A)) (objects objects' : ℕ) → BootsStill f rows (record { base = old; lanes = lanes; limits = limits; objects = objects }) v
+      → BootsStill f rows (record { base = new; lanes = lanes'; limits = limits; objects = objects' }) (acts.does v told).0
+  list_still lanes lanes' objects objects' is = record {
+    listed = ap (λ (s : Start). s.deployments.items) acts.books.start ∙ is.listed;
+    keeps = subst (λ (m : ℕ). KeepsBoots (f.was new.fs) limits rows m (acts.does v told).0) (sym acts.books.opened) (boots_on is.listed is.keeps);
+  }

@@ -38,6 +38,7 @@ use Rattle.lane_system.specs.Removals.{swept_in}
 use Rattle.lane_system.specs.Replies.{Answers, EndsBy, HasMade, IfAnswer, IsCaused, IsCutOff, IsTold, Knows, OfAnswer, Shown}
 use Rattle.lane_system.specs.States.{now_of, since_in}
 use Rattle.lane_system.specs.Steps.{HasEnded, IsEndedAs, Stepped}
+use Rattle.lane_system.proofs.Prefixes.{deployed_in}
 use Rattle.lane_system.proofs.Endings.{IsMine, IsSettled, answer_only, cut_off, ends, ends_by, failed_only, halted_only, outside_only, pending_by}
 use Rattle.lane_system.proofs.Family.{FamilyLaws, FsLaws}
 use Rattle.lane_system.proofs.Histories.{EndsUnpublished, over_idle}
@@ -150,14 +151,14 @@ module _ {F T W A : Type 0} (f : FsSpec F) (c : Family T W A) (fl : FsLaws f) (c
     answer_a = (cl.commands.answers.says since (now_of new.books) words t t' a after done.steps only.1, makes_it)
 
     shows_a : (v : View) → f.view old.fs ≡ Some v → IsSoundStore limits v.now → c.means.shows since v a words
-    shows_a v is_v sound_v = let l = done.tells v is_v in cl.commands.answers.shows since lane words t t' v l.0 (books_of old.books) a after (facts v is_v) l.2 only.1 sound_v
+    shows_a v is_v sound_v = let l = done.tells v is_v in cl.commands.answers.shows since lane words t t' v l.0 (books_of old.books) a (deployed_in old.books start) after (facts v is_v) l.2 only.1 sound_v
 
     remains_a : (v w : View) → f.view old.fs ≡ Some v → f.view new.fs ≡ Some w → c.means.remains since w a words
     remains_a v w is_v is_w =
         let l = done.tells v is_v in
         let one : Some l.0 ≡ Some w = sym l.1 ∙ is_w in
         let e : l.0 ≡ w = cc in
-        cl.commands.answers.remains since lane words t t' v w (books_of old.books) a after (facts v is_v) (subst (c.tasks.leaves t (turn.Done tt) t' v) e l.2) only.1
+        cl.commands.answers.remains since lane words t t' v w (books_of old.books) a (deployed_in old.books start) after (facts v is_v) (subst (c.tasks.leaves t (turn.Done tt) t' v) e l.2) only.1
 
     knows_a : IsTold f.view → c.means.knows (placed since (now_of new.books)) a words
     knows_a is_told =

@@ -10,7 +10,7 @@ use Rattle.rely_guarantee.specs.declared.kind.Outcome.TheVariants as came
 use Rattle.rely_guarantee.specs.Books.{books_of}
 use Rattle.rely_guarantee.specs.Exact.{IsBooked}
 use Rattle.rely_guarantee.specs.Laws.{Kind, Quiet, Store, Take, Claim, Publish, Published, Remove, MakeDurable, Holds, NotPending}
-use Rattle.rely_guarantee.specs.State.{first, after, events_of}
+use Rattle.rely_guarantee.specs.State.{after, events_of, opening_state}
 use Rattle.rely_guarantee.proofs.States.{after_push, events_push}
 use Rattle.lane_system.specs.States.{now_of}
 
@@ -97,17 +97,17 @@ module _ (lane command moment : ℕ) (old new : rust.Books) where
 -- the state after what was added
 module _ (k : Kind) (old new : rust.Books) where
   pub now_goes : new.start ≡ old.start → (new.history.items ≡ old.history.items) ⊎ IsLonger k old.history.items new.history.items
-      → after (events_of (drop (length old.history.items) new.history.items)) (now_of old).refs ≡ (now_of new).refs
+      → after (events_of (drop (length old.history.items) new.history.items)) (now_of old) ≡ (now_of new)
   now_goes start (inl same) =
-      ap (λ l. after (events_of l) (now_of old).refs) (drop_all (length old.history.items) new.history.items (omega (arith, ap length same)))
-      ∙ ap (λ l. after (events_of l) (first old.start.refs.items)) (sym same) ∙ ap (λ (s : Start). after (events_of new.history.items) (first s.refs.items)) (sym start)
+      ap (λ l. after (events_of l) (now_of old)) (drop_all (length old.history.items) new.history.items (omega (arith, ap length same)))
+      ∙ ap (λ l. after (events_of l) (opening_state old.start)) (sym same) ∙ ap (λ (s : Start). after (events_of new.history.items) (opening_state s)) (sym start)
   now_goes start (inr longer) =
       let x = longer.entry in
-      ap (λ l. after (events_of l) (now_of old).refs) (ap (drop (length old.history.items)) longer.grows ∙ drop_at old.history.items (x ∷ []) (length old.history.items) refl)
-      ∙ sym (after_push (events_of old.history.items) x.event (first old.start.refs.items))
-      ∙ ap (λ l. after l (first old.start.refs.items)) (sym (events_push old.history.items x))
-      ∙ ap (λ l. after (events_of l) (first old.start.refs.items)) (sym longer.grows)
-      ∙ ap (λ (s : Start). after (events_of new.history.items) (first s.refs.items)) (sym start)
+      ap (λ l. after (events_of l) (now_of old)) (ap (drop (length old.history.items)) longer.grows ∙ drop_at old.history.items (x ∷ []) (length old.history.items) refl)
+      ∙ sym (after_push (events_of old.history.items) x.event (opening_state old.start))
+      ∙ ap (λ l. after l (opening_state old.start)) (sym (events_push old.history.items x))
+      ∙ ap (λ l. after (events_of l) (opening_state old.start)) (sym longer.grows)
+      ∙ ap (λ (s : Start). after (events_of new.history.items) (opening_state s)) (sym start)
 
   -- at most one more entry
   pub few_more : (new.history.items ≡ old.history.items) ⊎ IsLonger k old.history.items new.history.items → length new.history.items ≤ length old.history.items + 1

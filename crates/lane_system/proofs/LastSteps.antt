@@ -13,7 +13,7 @@ use Rattle.rely_guarantee.specs.Books.{Agrees, Books, Free, books_of}
 use Rattle.rely_guarantee.specs.Exact.{IsBooked, IsUnbooked, Opens}
 use Rattle.rely_guarantee.specs.Laws.{Kind, Quiet, Store, Take, Claim, Publish, Published, Remove, MakeDurable, Holds, NotPending}
 use Rattle.rely_guarantee.specs.SystemInvariant.{Stands}
-use Rattle.rely_guarantee.specs.State.{State, Topic, first, gives, is_topic, target, after, events_of}
+use Rattle.rely_guarantee.specs.State.{Topic, gives, is_topic, target, after, events_of, opening_state, SystemState}
 use Rattle.rely_guarantee.proofs.Goods.{fits_all}
 use Rattle.rely_guarantee.proofs.States.{after_push, events_push, next_here, topic_self}
 use Rattle.command.specs.Sees.{HoldsOff, IsState, Sees}
@@ -28,7 +28,7 @@ none_pending turn None lane owner none free = refl
 none_pending turn (Some p) lane owner none free = absurd (none p refl (free p.lane (owner p refl)))
 
 -- and there the disk has the state of the history
-pub state_of : (start : State) (entries : List Entry) (pending : Option Pending) (v : View) → Stands start entries pending v → pending ≡ None → IsTree v.now → IsState v.now (after (events_of entries) start)
+pub state_of : (start : SystemState) (entries : List Entry) (pending : Option Pending) (v : View) → Stands start entries pending v → pending ≡ None → IsTree v.now → IsState v.now (after (events_of entries) start).refs
 state_of start entries pending v stands none tree =
     let f = fits_all start entries v (subst (λ o. Stands start entries o v) none stands) v.now (Image-now v tree) in
     record { tree = tree; sane = f.0; logical = f.1 }
@@ -39,20 +39,20 @@ held_free lane b agrees (inl mine) = free_of b.turn lane mine
 held_free lane b agrees (inr alone) = λ y is. agrees.turn lane y alone is
 
 module _ (lane command moment : ℕ) (old new : rust.Books) (agrees : Agrees (books_of old)) (start : new.start ≡ old.start) (owner : (p : Pending) → old.pending ≡ Some p → old.turn ≡ Some p.lane)
-    (v w : View) (stands : Stands (first old.start.refs.items) old.history.items old.pending v) (then : Stands (first new.start.refs.items) new.history.items new.pending w) (tree : IsTree v.now) (tree' : IsTree w.now) where
+    (v w : View) (stands : Stands (opening_state old.start) old.history.items old.pending v) (then : Stands (opening_state new.start) new.history.items new.pending w) (tree : IsTree v.now) (tree' : IsTree w.now) where
   before : NotPending lane (books_of old) → Free old.turn lane → IsUnbooked old new → IsState v.now (now_of new).refs
   before none free same =
-      let is : (now_of new).refs ≡ (now_of old).refs = ap (λ (h : List Entry). after (events_of h) (first new.start.refs.items)) same.0 ∙ ap (λ (x : Start). after (events_of old.history.items) (first x.refs.items)) start in
-      subst (IsState v.now) (sym is) (state_of (first old.start.refs.items) old.history.items old.pending v stands (none_pending old.turn old.pending lane owner none free) tree)
+      let is : (now_of new).refs ≡ (now_of old).refs = ap (λ (h : List Entry). (after (events_of h) (opening_state new.start)).refs) same.0 ∙ ap (λ (x : Start). (after (events_of old.history.items) (opening_state x)).refs) start in
+      subst (IsState v.now) (sym is) (state_of (opening_state old.start) old.history.items old.pending v stands (none_pending old.turn old.pending lane owner none free) tree)
 
   entered : (x : Entry) → new.history.items ≡ old.history.items ++ x ∷ [] → (t : Topic) → target x.event ≡ Some t → (now_of new).refs t ≡ gives x.event
   entered x grows t is =
-      let from : State = first new.start.refs.items in
-      let past : State = after (events_of old.history.items) from in
-      ap (λ (h : List Entry). after (events_of h) from t) grows
-      ∙ ap (λ (l : List Event). after l from t) (events_push old.history.items x)
-      ∙ ap (λ (s : State). s t) (after_push (events_of old.history.items) x.event from)
-      ∙ next_here x.event t past (ap (λ o. is_topic o t) is ∙ topic_self t)
+      let from : SystemState = opening_state new.start in
+      let past : SystemState = after (events_of old.history.items) from in
+      ap (λ (h : List Entry). (after (events_of h) from).refs t) grows
+      ∙ ap (λ (l : List Event). (after l from).refs t) (events_push old.history.items x)
+      ∙ ap (λ (s : SystemState). s.refs t) (after_push (events_of old.history.items) x.event from)
+      ∙ next_here x.event t past.refs (ap (λ o. is_topic o t) is ∙ topic_self t)
 
   pub sees : (k : Kind) → Holds k lane (books_of old) → Opens k lane (books_of old) → IsBooked k lane command moment came.Done old new → Sees k lane (books_of old) v w (now_of new).refs
   sees Quiet holds opens booked = λ has. before holds (held_free lane (books_of old) agrees has) booked
@@ -63,6 +63,6 @@ module _ (lane command moment : ℕ) (old new : rust.Books) (agrees : Agrees (bo
   sees (Published e owed) holds opens booked = absurd booked
   sees (Remove e owed) holds opens booked = absurd booked
   sees (MakeDurable e) holds opens booked = (
-    state_of (first new.start.refs.items) new.history.items new.pending w then booked.0 tree',
+    state_of (opening_state new.start) new.history.items new.pending w then booked.0 tree',
     entered (record { lane = lane; command = holds.command; event = e; moment = moment }) (booked.1 _ holds.pending),
   )

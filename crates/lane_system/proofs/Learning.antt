@@ -24,8 +24,8 @@ module _ {T W A : Type 0} (k : TaskSpec T) (m : Meaning W A) (d : Doing T W A) (
     begun = l.begun;
     quiet = l.quiet;
     stages = l.stages;
-    goes_on = λ since c t new after step. learns.pursues step.2.0 step.2.1 since c step.0 new step.2.2 (l.goes_on since c t step.0 after step.1);
-    falls = λ t new step. omega (arith, l.falls t step.0 step.1, learns.left step.2.0 step.2.1 step.0 new step.2.2);
+    goes_on = λ since c t new after step. learns.pursues step.2.0 step.2.1 step.2.2 since c step.0 new step.2.3 (l.goes_on since c t step.0 after step.1);
+    falls = λ t new step. omega (arith, l.falls t step.0 step.1, learns.left step.2.0 step.2.1 step.2.2 step.0 new step.2.3);
     locks = l.locks;
     refused = l.refused;
   })
@@ -75,9 +75,9 @@ module _ {T W A : Type 0} (k : TaskSpec T) (m : Meaning W A) (d : Doing T W A) (
     reaches = l.reaches;
     brings = l.brings;
     room = l.room;
-    stored = λ actor lane t new v w b name s f leaves sum writes some. subst (λ x. (w ≡ v) ⊎ (x ≡ Some (name, Stored))) (sym (learns.met leaves.2.0 leaves.2.1 leaves.0 new leaves.2.2)) (l.stored actor lane t leaves.0 v w b name s f leaves.1 sum writes some);
+    stored = λ actor lane t new v w b name s f leaves sum writes some. subst (λ x. (w ≡ v) ⊎ (x ≡ Some (name, Stored))) (sym (learns.met leaves.2.0 leaves.2.1 leaves.2.2 leaves.0 new leaves.2.3)) (l.stored actor lane t leaves.0 v w b name s f leaves.1 sum writes some);
     done = l.done;
-    lacked = λ told since c t new v w name after leaves met. l.lacked told since c t leaves.0 v w name after leaves.1 (sym (learns.met leaves.2.0 leaves.2.1 leaves.0 new leaves.2.2) ∙ met);
+    lacked = λ told since c t new v w name after leaves met. l.lacked told since c t leaves.0 v w name after leaves.1 (sym (learns.met leaves.2.0 leaves.2.1 leaves.2.2 leaves.0 new leaves.2.3) ∙ met);
     there = l.there;
     keeps = l.keeps;
   })
@@ -94,10 +94,10 @@ module _ {T W A : Type 0} (k : TaskSpec T) (m : Meaning W A) (d : Doing T W A) (
     claims = l.claims;
     claimed = l.claimed;
     finds = l.finds;
-    made = λ t new v w name leaves is. learns.made leaves.2.0 leaves.2.1 leaves.0 new name leaves.2.2 (l.made t leaves.0 v w name leaves.1 is);
-    goes_on = λ t new v w name leaves made. learns.made leaves.2.0 leaves.2.1 leaves.0 new name leaves.2.2 (l.goes_on t leaves.0 v w name leaves.1 made);
+    made = λ t new v w name leaves is. learns.made leaves.2.0 leaves.2.1 leaves.2.2 leaves.0 new name leaves.2.3 (l.made t leaves.0 v w name leaves.1 is);
+    goes_on = λ t new v w name leaves made. learns.made leaves.2.0 leaves.2.1 leaves.2.2 leaves.0 new name leaves.2.3 (l.goes_on t leaves.0 v w name leaves.1 made);
     begun = l.begun;
-    by_claim = λ t new v w name leaves made. l.by_claim t leaves.0 v w name leaves.1 (learns.unmade leaves.2.0 leaves.2.1 leaves.0 new name leaves.2.2 made);
+    by_claim = λ t new v w name leaves made. l.by_claim t leaves.0 v w name leaves.1 (learns.unmade leaves.2.0 leaves.2.1 leaves.2.2 leaves.0 new name leaves.2.3 made);
     ends = l.ends;
     late = l.late;
   })

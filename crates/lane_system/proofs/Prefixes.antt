@@ -6,7 +6,8 @@ use Rattle.rely_guarantee.specs.declared.books.Start.{Start}
 use Rattle.rely_guarantee.specs.declared.books.Books as rust
 use Rattle.rely_guarantee.specs.declared.books.Entry.{Entry}
 use Rattle.rely_guarantee.specs.Books.{Spared, books_of}
-use Rattle.rely_guarantee.specs.State.{SystemState, after_events, events_of, opening_state}
+use Rattle.rely_guarantee.specs.State.{SystemState, after, events_of, opening_state}
+use Rattle.rely_guarantee.proofs.States.{same_deployments}
 use Rattle.command.specs.Meaning.{Meaning}
 use Rattle.command.specs.Since.{begun_in, placed}
 use Rattle.lane_system.specs.declared.lane.Reply.{Reply}
@@ -14,11 +15,18 @@ use Rattle.lane_system.specs.Replies.{Answers, IfAnswer, IsReply, Knows}
 use Rattle.lane_system.specs.States.{now_of, since_in, state_after, state_in}
 
 pub state_stays : (begin : SystemState) (h more : List Entry) (k : ℕ) → k ≤ length h → state_after begin (h ++ more) k ≡ state_after begin h k
-state_stays begin h more k le = ap (λ (l : List Entry). after_events (events_of l) begin) (take-append-le k h more le)
+state_stays begin h more k le = ap (λ (l : List Entry). after (events_of l) begin) (take-append-le k h more le)
 
 -- where all changes are counted
 pub state_all : (b : rust.Books) (n : ℕ) → n ≡ length b.history.items → state_in b n ≡ now_of b
-state_all b n at = ap (λ (l : List Entry). after_events (events_of l) (opening_state b.start)) (ap (λ k. take k b.history.items) at ∙ take-length b.history.items)
+state_all b n at = ap (λ (l : List Entry). after (events_of l) (opening_state b.start)) (ap (λ k. take k b.history.items) at ∙ take-length b.history.items)
+
+-- no change deploys anything
+pub deployed_in : (b : rust.Books) (k : ℕ) → (state_in b k).deployments ≡ b.start.deployments.items
+deployed_in b k = same_deployments (events_of (take k b.history.items)) (opening_state b.start)
+
+pub deployed_now : (b : rust.Books) → (now_of b).deployments ≡ b.start.deployments.items
+deployed_now b = same_deployments (events_of b.history.items) (opening_state b.start)
 
 module _ (actor lane : ℕ) (b b' : rust.Books) (spared : Spared actor lane (books_of b) (books_of b')) where
   pub state_is : (k : ℕ) → k ≤ length b.history.items → state_in b' k ≡ state_in b k
@@ -40,7 +48,7 @@ reply_stays {W} {A} told m limits begin h more lane number c r is = record {
   within = omega (arith, is.within, length-append h more);
   answer =
       subst (λ (s : SystemState). IfAnswer (Answers m lane number (placed (begun_in limits s) (state_after begin (h ++ more) r.place)) (take r.place (h ++ more)) c) r.answer) (sym (state_stays begin h more r.start (omega (arith, is.begun, is.within))))
-      (subst (λ (l : List Entry). IfAnswer (Answers m lane number (placed (begun_in limits (state_after begin h r.start)) (after_events (events_of l) begin)) l c) r.answer) (sym (take-append-le r.place h more is.within)) is.answer);
+      (subst (λ (l : List Entry). IfAnswer (Answers m lane number (placed (begun_in limits (state_after begin h r.start)) (after (events_of l) begin)) l c) r.answer) (sym (take-append-le r.place h more is.within)) is.answer);
   known = λ t.
       subst (λ (s : SystemState). Knows m (placed (begun_in limits s) (state_after begin (h ++ more) r.place)) c r.answer) (sym (state_stays begin h more r.start (omega (arith, is.begun, is.within))))
       (subst (λ (p : SystemState). Knows m (placed (begun_in limits (state_after begin h r.start)) p) c r.answer) (sym (state_stays begin h more r.place is.within)) (is.known t));

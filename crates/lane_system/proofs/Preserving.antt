@@ -17,7 +17,7 @@ use Rattle.rely_guarantee.specs.Books.{books_of}
 use Rattle.rely_guarantee.specs.Lasting.{Outlasts, StaysFinished, StaysOn}
 use Rattle.rely_guarantee.specs.Rely.{Interference}
 use Rattle.repo_layout.specs.RefFile.{IsSum}
-use Rattle.rely_guarantee.specs.State.{IsRun, IsValid, State, events_of, first, next, pending_of, stored, opening_state}
+use Rattle.rely_guarantee.specs.State.{IsRun, IsValid, SystemState, events_of, next, pending_of, stored, opening_state}
 use Rattle.rely_guarantee.specs.SystemInvariant.{Ordered, SystemInvariant}
 use Rattle.rely_guarantee.proofs.Finished.{finished_stays}
 use Rattle.rely_guarantee.proofs.Lasting.{none_out, stays_image}
@@ -62,7 +62,7 @@ sets_sum commit (DropRef name seen) sets valid = absurd sets
 sets_sum commit (Pruned depth roots held removed) sets valid = absurd sets
 
 -- each change of the history can be
-valid_at : (entries : List Entry) (more : List Event) (s : State) (k : ℕ) (e : Entry) → IsRun (events_of entries ++ more) s → IsAt entries k e → IsValid e.event
+valid_at : (entries : List Entry) (more : List Event) (s : SystemState) (k : ℕ) (e : Entry) → IsRun (events_of entries ++ more) s → IsAt entries k e → IsValid e.event
 valid_at [] more s k e run at = absurd (omega (arith, at.0))
 valid_at (x ∷ rest) more s zero e run at = subst (λ (y : Entry). IsValid y.event) at.1 run.0.valid
 valid_at (x ∷ rest) more s (suc k) e run at = valid_at rest more (next x.event s) k e run.1 (omega (arith, at.0), at.1)
@@ -163,8 +163,8 @@ module _ {F T W A : Type 0} (f : FsSpec F) (c : Family T W A) (fl : FsLaws f) (c
     place = x.place;
     from = x.from;
     to = x.to;
-    refs = sees_stay (first old.books.start.refs.items) (first new.books.start.refs.items) (stored old.books.history.items old.books.pending) (stored new.books.history.items new.books.pending) acts.grows.0 x.place x.shown.now
-        (ap (λ (s : Start). first s.refs.items) acts.books.start) acts.grows.1 x.refs;
+    refs = sees_stay (opening_state old.books.start) (opening_state new.books.start) (stored old.books.history.items old.books.pending) (stored new.books.history.items new.books.pending) acts.grows.0 x.place x.shown.now
+        (ap (λ (s : Start). opening_state s) acts.books.start) acts.grows.1 x.refs;
     seen = subst (λ (s : Since). IfAnswer (λ a. c.means.shows s x.shown a words) r.answer) (sym (since_same r.start le)) x.seen;
     full = x.full;
   }
@@ -305,7 +305,7 @@ module _ {F T W A : Type 0} (f : FsSpec F) (c : Family T W A) (fl : FsLaws f) (c
 
       -- what a change sets its ref to is a sum
       set_sum : (k : ℕ) (e : Entry) → IsAt new.books.history.items k e → (commit : List ℕ) → Sets commit e.event → IsSum commit
-      set_sum k e at commit sets = sets_sum commit e.event sets (valid_at new.books.history.items (pending_of new.books.pending) (first new.books.start.refs.items) k e (acts.sound.stands w told_w).run at)
+      set_sum k e at commit sets = sets_sum commit e.event sets (valid_at new.books.history.items (pending_of new.books.pending) (opening_state new.books.start) k e (acts.sound.stands w told_w).run at)
 
       never : (r : Reply A) (words : W) (commit : List ℕ) → IsNew r words → OfAnswer (λ a. c.means.lacks a commit) r.answer → StaysFinished v commit → ⊥
       never r words commit given lacks lasts =

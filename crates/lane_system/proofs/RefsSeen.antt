@@ -10,7 +10,7 @@ use Rattle.rely_guarantee.specs.declared.books.Entry.{Entry}
 use Rattle.rely_guarantee.specs.declared.books.Pending.{Pending}
 use Rattle.rely_guarantee.specs.declared.event.Event.{Event}
 use Rattle.rely_guarantee.specs.Headline.{Has}
-use Rattle.rely_guarantee.specs.State.{Ascends, State, acked, after, events_of, first, pending_of, stored}
+use Rattle.rely_guarantee.specs.State.{Ascends, acked, after, events_of, pending_of, stored, opening_state, SystemState}
 use Rattle.rely_guarantee.specs.SystemInvariant.{SystemInvariant}
 use Rattle.rely_guarantee.proofs.Headlines.{headline}
 use Rattle.rely_guarantee.proofs.States.{length-events}
@@ -33,7 +33,7 @@ stored_few entries pending = omega (arith, length-append (events_of entries) (pe
 
 -- reads see what a crash may leave: the refs after all changes that last, or after the one that is shown too
 pub sees_now : {F : Type 0} (f : FsSpec F) → FsLaws f → (base : Base F) → SystemInvariant f.view f.clock f.spare f.was base → (v : View) → f.view base.fs ≡ Some v
-    → SeesRefs (first base.books.start.refs.items) (stored base.books.history.items base.books.pending) (length base.books.history.items) v.now
+    → SeesRefs (opening_state base.books.start) (stored base.books.history.items base.books.pending) (length base.books.history.items) v.now
 sees_now f fl base sound v told =
     let tree = fl.tree base.fs v told in
     let clock = f.clock base.fs in
@@ -50,7 +50,7 @@ sees_now f fl base sound v told =
     }
 
 -- and they saw so from then on
-pub sees_stay : (begin begin' : State) (events events' more : List Event) (place : ℕ) (d : Disk) → begin' ≡ begin → events' ≡ events ++ more → SeesRefs begin events place d → SeesRefs begin' events' place d
+pub sees_stay : (begin begin' : SystemState) (events events' more : List Event) (place : ℕ) (d : Disk) → begin' ≡ begin → events' ≡ events ++ more → SeesRefs begin events place d → SeesRefs begin' events' place d
 sees_stay begin begin' events events' more place d same grows sees =
     let front : take sees.count events' ≡ take sees.count events = ap (take sees.count) grows ∙ take-append-le sees.count events more sees.within in
     record {
@@ -58,5 +58,5 @@ sees_stay begin begin' events events' more place d same grows sees =
       least = sees.least;
       most = sees.most;
       within = omega (arith, sees.within, ap length grows, length-append events more);
-      has = subst (λ (s : State). Has d (after (take sees.count events') s)) (sym same) (subst (λ (l : List Event). Has d (after l begin)) (sym front) sees.has);
+      has = subst (λ (s : SystemState). Has d (after (take sees.count events') s).refs) (sym same) (subst (λ (l : List Event). Has d (after l begin).refs) (sym front) sees.has);
     }

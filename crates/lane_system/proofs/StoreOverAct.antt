@@ -48,7 +48,7 @@ use Rattle.rely_guarantee.specs.Books.{books_of}
 use Rattle.rely_guarantee.specs.Exact.{Tells}
 use Rattle.rely_guarantee.specs.Lasting.{Outlasts, Stays}
 use Rattle.rely_guarantee.specs.SystemInvariant.{SystemInvariant}
-use Rattle.rely_guarantee.specs.State.{first}
+use Rattle.rely_guarantee.specs.State.{opening_state}
 use Rattle.ref_book.specs.declared.book.RefBook.{RefBook}
 use Rattle.command.specs.declared.told.Told.{Told}
 use Rattle.command.specs.Since.{Since}
@@ -246,7 +246,7 @@ module _ {F T W A : Type 0} (f : FsSpec F) (c : Family T W A) (fl : FsLaws f) (c
     refused_still : (e : FsErr) → ((e ≡ err.NoMemory) ⊎ c.tasks.refuses t v e) × (OfNone e → f.view new.fs ≡ Some v) → w ≡ v
     refused_still e said = sym (here v (said.1 (⊎_elim
         (λ none. subst OfNone (sym none) tt)
-        (λ why. cl.commands.steps.refused (first old.books.start.refs.items) old.books.history.items old.books.pending lane t v (books_of old.books) e (fl.tree old.fs v told_v) (sound.stands v told_v) facts why)
+        (λ why. cl.commands.steps.refused (opening_state old.books.start) old.books.history.items old.books.pending lane t v (books_of old.books) e (fl.tree old.fs v told_v) (sound.stands v told_v) facts why)
         said.0)))
 
     abbrev kind : Kind

@@ -5,6 +5,7 @@ use Rattle.fs_trait.specs.Seen.{NotDirectory, shows}
 use Rattle.fs_trait.specs.View.{View}
 use Rattle.repo_layout.proofs.Places.{place-object}
 use Rattle.repo_model.specs.Objects.{path_of}
+use Rattle.boot_model.specs.declared.item.DepId.{DepId}
 use Rattle.rely_guarantee.specs.declared.books.Base.{Base}
 use Rattle.rely_guarantee.specs.declared.books.Books as rust
 use Rattle.rely_guarantee.specs.declared.books.Pending.{Pending}
@@ -17,7 +18,7 @@ use Rattle.rely_guarantee.specs.Books.{Agrees, books_of}
 use Rattle.rely_guarantee.specs.Exact.{Steps, Tells}
 use Rattle.rely_guarantee.specs.Laws.{Holds, Kind, NotPending, Ready, Runs, MakeDurable}
 use Rattle.rely_guarantee.specs.Rely.{Interference}
-use Rattle.rely_guarantee.specs.State.{first}
+use Rattle.rely_guarantee.specs.State.{opening_state}
 use Rattle.rely_guarantee.proofs.Mays.{objects_harmless}
 use Rattle.rely_guarantee.proofs.Sounds.{IsFs}
 use Rattle.ref_book.specs.declared.book.RefBook.{RefBook}
@@ -69,24 +70,24 @@ free_after f is actor lane base new does free w told_w o sum =
     (d.2.writes.now (path_of o))
 
 -- what it is told behind it is so
-module _ {F T W A : Type 0} (f : FsSpec F) (k : TaskSpec T) (d : Doing T W A) (laws : LearnLaws k d) (lane number : ℕ) (refs refs' : RefBook) (t mid new_t : T) (base new : Base F) (pins : List Pin)
-    (step : Stepped f k lane lane number refs refs' came.More t mid base new) (pins_are : pins ≡ new.books.pins.items) (free : AreFree (f.view new.fs)) (learns : d.learns refs' pins mid new_t) where
+module _ {F T W A : Type 0} (f : FsSpec F) (k : TaskSpec T) (d : Doing T W A) (laws : LearnLaws k d) (lane number : ℕ) (refs refs' : RefBook) (t mid new_t : T) (base new : Base F) (ids : List DepId) (pins : List Pin)
+    (step : Stepped f k lane lane number refs refs' came.More t mid base new) (ids_are : ids ≡ new.books.start.deployments.items) (pins_are : pins ≡ new.books.pins.items) (free : AreFree (f.view new.fs)) (learns : d.learns refs' ids pins mid new_t) where
   learnt_runs : Runs k.kind k.facts lane new_t (f.view new.fs) (books_of new.books)
   learnt_runs =
       let ordered = step.acts.sound.ordered in
       record {
-        facts = λ v told. laws.facts (first new.books.start.refs.items) new.books.history.items new.books.pending refs' pins lane mid new_t v (books_of new.books)
-            (record { stands = step.acts.sound.stands v told; tracks = step.tracks; pins_are = pins_are; free = free v told; clear = clear_of new.books lane ordered.agrees ordered.owner })
+        facts = λ v told. laws.facts (opening_state new.books.start) new.books.history.items new.books.pending refs' ids pins lane mid new_t v (books_of new.books)
+            (record { stands = step.acts.sound.stands v told; tracks = step.tracks; listed = ids_are; pins_are = pins_are; free = free v told; clear = clear_of new.books lane ordered.agrees ordered.owner })
             learns step.acts.tells.holds (step.acts.tells.facts v told);
-        holds = subst (λ (x : Kind). Holds x lane (books_of new.books)) (sym (laws.kind refs' pins mid new_t learns)) step.acts.tells.holds;
+        holds = subst (λ (x : Kind). Holds x lane (books_of new.books)) (sym (laws.kind refs' ids pins mid new_t learns)) step.acts.tells.holds;
       }
 
   pub learnt_step : Stepped f (learning k d) lane lane number refs refs' came.More t new_t base new
   learnt_step = record {
     acts = record { sound = step.acts.sound; does = step.acts.does; books = step.acts.books; tells = learnt_runs };
-    steps = (mid, step.steps, (refs', pins, learns));
+    steps = (mid, step.steps, (refs', ids, pins, learns));
     wrote = step.wrote;
-    tells = λ v told. (let x = step.tells v told in (x.0, x.1, (mid, x.2, (refs', pins, learns), step.steps)));
+    tells = λ v told. (let x = step.tells v told in (x.0, x.1, (mid, x.2, (refs', ids, pins, learns), step.steps)));
     by = step.by;
     blocked = step.blocked;
     opens = step.opens;
@@ -105,7 +106,7 @@ module _ {F T W A : Type 0} (f : FsSpec F) (k : TaskSpec T) (d : Doing T W A) (l
 
   -- and it counts what it counted
   pub learnt_counts : (left now : ℕ) → IsCounted left (d.met mid) now → CountsAt d left new_t came.More now
-  learnt_counts left now = subst (λ x. IsCounted left x now) (sym (laws.met refs' pins mid new_t learns))
+  learnt_counts left now = subst (λ x. IsCounted left x now) (sym (laws.met refs' ids pins mid new_t learns))
 
 -- a step that doesn't go on is told nothing
 pub still_step : {F T W A : Type 0} (f : FsSpec F) (k : TaskSpec T) (d : Doing T W A) (lane number : ℕ) (refs refs' : RefBook) (o : Outcome) (t new_t : T) (base new : Base F) → (o ≡ came.More → ⊥) → Stepped f k lane lane number refs refs' o t new_t base new → Stepped f (learning k d) lane lane number refs refs' o t new_t base new

@@ -4,6 +4,7 @@ use Rattle.ost_types.specs.Path.{Path}
 use Rattle.fs_trait.specs.declared.task.StepResult.{StepResult}
 use Rattle.fs_trait.specs.declared.task.StepResult.TheVariants as turn
 use Rattle.fs_trait.specs.View.{View}
+use Rattle.boot_model.specs.declared.item.DepId.{DepId}
 use Rattle.rely_guarantee.specs.declared.books.Pin.{Pin}
 use Rattle.ref_book.specs.declared.book.RefBook.{RefBook}
 use Rattle.command.specs.Doing.{Doing}
@@ -23,7 +24,7 @@ fs_spec view clock spare was faults refused = record { view = view; clock = cloc
 
 -- A step that goes on, with what the task is told behind it: what refs name then, and what is pinned.
 abbrev pub learns_in : {T W A : Type 0} → Doing T W A → T → T → Type 0
-learns_in d t new = (refs : RefBook) × (pins : List Pin) × d.learns refs pins t new
+learns_in d t new = (refs : RefBook) × (ids : List DepId) × (pins : List Pin) × d.learns refs ids pins t new
 
 abbrev pub stepped_on : {T W A : Type 0} → TaskSpec T → Doing T W A → T → StepResult (Unit {0}) → T → Type 0
 stepped_on {T} k d t turn.More new = (mid : T) × k.stepped t turn.More mid × learns_in d mid new

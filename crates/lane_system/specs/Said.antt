@@ -6,7 +6,7 @@ use Rattle.rely_guarantee.specs.declared.books.Entry.{Entry}
 use Rattle.rely_guarantee.specs.declared.books.Pending.{Pending}
 use Rattle.rely_guarantee.specs.declared.event.Event.{Event}
 use Rattle.rely_guarantee.specs.Headline.{Has}
-use Rattle.rely_guarantee.specs.State.{State, after, stored, SystemState, opening_state}
+use Rattle.rely_guarantee.specs.State.{after, stored, SystemState, opening_state}
 use Rattle.durable_store.specs.Full.{IsFull}
 use Rattle.command.specs.Meaning.{Meaning}
 use Rattle.command.specs.Since.{begun_in}
@@ -18,12 +18,12 @@ use Rattle.lane_system.specs.States.{state_after}
 use Rattle.lane_system.specs.System.{System}
 
 -- Reads see a sane disk with the refs after the first so many of these changes, or after one more, which was shown and didn't last yet.
-pub record SeesRefs (begin : State) (events : List Event) (place : ℕ) (d : Disk) : Type 0 where
+pub record SeesRefs (begin : SystemState) (events : List Event) (place : ℕ) (d : Disk) : Type 0 where
   pub count : ℕ
   pub least : place ≤ count
   pub most : count ≤ place + 1
   pub within : count ≤ length events
-  pub has : Has d (after (take count events) begin)
+  pub has : Has d (after (take count events) begin).refs
 
 -- At a moment since the opening, when the changes at the reply's start lasted, or later, reads had this view; and in it what the reply
 -- tells of the disk is so. It is one of the time when so many changes lasted, no fewer than at the reply's start and no more than at its
@@ -37,7 +37,7 @@ pub record WasSeen {W A : Type 0} (m : Meaning W A) (was : ℕ → View → Type
   pub place : ℕ
   pub from : r.start ≤ place
   pub to : place ≤ r.place
-  pub refs : SeesRefs begin.refs (stored entries pending) place shown.now
+  pub refs : SeesRefs begin (stored entries pending) place shown.now
   pub seen : IfAnswer (λ a. m.shows (begun_in limits (state_after begin entries r.start)) shown a c) r.answer
   pub full : IfAnswer (λ a. m.full a → IsFull limits shown.now) r.answer
 

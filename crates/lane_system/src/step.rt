@@ -4,7 +4,7 @@ ghost use Rattle.rely_guarantee.specs.declared.books.Entry.{Entry};
 ghost use Rattle.rely_guarantee.specs.declared.event.Event.{Event};
 ghost use Rattle.rely_guarantee.specs.declared.kind.Outcome.TheVariants as came;
 ghost use Rattle.rely_guarantee.specs.Laws.{Ready, Runs, MakeDurable};
-ghost use Rattle.rely_guarantee.specs.State.{State, after, events_of};
+ghost use Rattle.rely_guarantee.specs.State.{SystemState, after, events_of};
 ghost use Rattle.ref_book.specs.Tracks.{Tracks, HasEventRoom, HasRoom};
 ghost use Rattle.command.specs.Tasks.{task_spec};
 ghost use Rattle.lane_system.specs.Family.{fs_spec, learning};
@@ -47,7 +47,8 @@ pub(crate) fn told_act<F: Watch, C: Command>(
         Outcome::More => {
             count_removed(objects, gone, base.books.gone);
             count(objects, work);
-            work.learn(refs, base.books.pins());
+            let books = &base.books;
+            work.learn(refs, &books.start.deployments, books.pins());
             Outcome::More
         }
         outcome => {
@@ -98,7 +99,7 @@ fn count<C: Command>(objects: &mut u32, work: &C)
 fn note(history: &[Entry], refs: &mut RefBook, before: usize)
     requires few { length history.now ≤ before + 1 }
     requires room { (d : Entry) → before < length history.now → HasEventRoom refs.old (slice_index_or history.now before d).event }
-    ensures refs { (s : State) → Tracks refs.old s → Tracks refs.new (after (events_of (drop before history.now)) s) }
+    ensures refs { (s : SystemState) → Tracks refs.old s.refs → Tracks refs.new (after (events_of (drop before history.now)) s).refs }
     ensures rooms { (name : List ℕ) → HasRoom refs.old name → HasRoom refs.new name }
 {
     if let Some(entry) = history.get(before) {

@@ -97,7 +97,7 @@ hear_laws = record {
 }
 
 learn_laws : LearnLaws wait_tasks wait_doing
-learn_laws = no_learning wait_tasks wait_doing (λ refs pins t new is. is)
+learn_laws = no_learning wait_tasks wait_doing (λ refs ids pins t new is. is)
 
 change_laws : ChangeLaws wait_tasks wait_means wait_doing
 change_laws = record {
@@ -118,8 +118,8 @@ answer_laws : AnswerLaws wait_tasks wait_means wait_doing
 answer_laws = record {
   answers = λ since c t new is step. refl;
   says = λ since p c t new a is step given. ends c t new a is step given;
-  shows = λ since lane c t new v w b a is f leaves given sound. tt;
-  remains = λ since lane c t new v w b a is f leaves given. tt;
+  shows = λ since lane c t new v w b a listed is f leaves given sound. tt;
+  remains = λ since lane c t new v w b a listed is f leaves given. tt;
   remains_at_once = λ since c a v is. tt;
   knows = λ since p lane c t new v w b a is f leaves given sees. tt;
   lacks_alone = λ since lane c t new v w b a commit is f leaves given lacks sum. absurd lacks;

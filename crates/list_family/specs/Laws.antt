@@ -46,7 +46,7 @@ hear_laws = record {
 }
 
 learn_laws : LearnLaws list_tasks list_doing
-learn_laws = no_learning list_tasks list_doing (λ refs pins t new is. is)
+learn_laws = no_learning list_tasks list_doing (λ refs ids pins t new is. is)
 
 change_laws : ChangeLaws list_tasks list_means list_doing
 change_laws = record {
@@ -67,8 +67,8 @@ answer_laws : AnswerLaws list_tasks list_means list_doing
 answer_laws = record {
   answers = λ since c t new is step. absurd is;
   says = λ since p c t new a is step given. absurd is;
-  shows = λ since lane c t new v w b a is f leaves given sound. tt;
-  remains = λ since lane c t new v w b a is f leaves given. tt;
+  shows = λ since lane c t new v w b a listed is f leaves given sound. tt;
+  remains = λ since lane c t new v w b a listed is f leaves given. tt;
   remains_at_once = λ since c a v is. tt;
   knows = λ since p lane c t new v w b a is f leaves given sees. tt;
   lacks_alone = λ since lane c t new v w b a commit is f leaves given lacks sum. absurd lacks;

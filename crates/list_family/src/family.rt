@@ -41,7 +41,7 @@ impl Command for ListTask {
         Told { objects: 0 }
     }
 
-    fn learn(&mut self, _refs: &RefBook, _pins: &[Pin]) {}
+    fn learn(&mut self, _refs: &RefBook, _deployments: &[DepId], _pins: &[Pin]) {}
 
     fn asks(&self, _actor: u8) -> Option<Query> {
         None

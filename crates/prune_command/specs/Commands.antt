@@ -9,6 +9,7 @@ use Rattle.fs_trait.specs.Seen.{Seen}
 use Rattle.fs_trait.specs.View.{View}
 use Rattle.store_check.specs.Listing.{AreBelow}
 use Rattle.prune_command.specs.Answers.{HasDamaged}
+use Rattle.boot_model.specs.declared.item.DepId.{DepId}
 use Rattle.rely_guarantee.specs.declared.books.Pin.{Pin}
 use Rattle.rely_guarantee.specs.declared.event.Event.{Event}
 use Rattle.rely_guarantee.specs.declared.event.Event.TheVariants.{Pruned}
@@ -26,7 +27,7 @@ use Rattle.prune_command.specs.declared.command.PruneCommand.{PruneCommand}
 use Rattle.prune_command.specs.declared.known.Known.{Known}
 use Rattle.prune_command.specs.declared.phase.Phase.{Phase}
 use Rattle.prune_command.specs.declared.phase.Phase.TheVariants as phase
-use Rattle.prune_command.specs.Learned.{AreOfRefs, from_of, object_of}
+use Rattle.prune_command.specs.Learned.{AreOfState, from_of, object_of}
 use Rattle.prune_command.specs.Phases.{phase_left, turn_of}
 use Rattle.prune_command.specs.SweepSteps.{Did, sweep_kind, sweep_needs, sweep_writes}
 
@@ -126,14 +127,14 @@ abbrev pub IsNew : PruneCommand → Type 0
 IsNew t = t.phase ≡ phase.Waiting
 
 -- Where it waits for it and there is memory, it is told where it begins.
-abbrev pub Learns : RefBook → List Pin → PruneCommand → Phase → PruneCommand → Type 0
-Learns refs pins old phase.Unlearned new =
+abbrev pub Learns : RefBook → List DepId → List Pin → PruneCommand → Phase → PruneCommand → Type 0
+Learns refs ids pins old phase.Unlearned new =
     (new ≡ old)
-    ⊎ ((k : Known) × AreOfRefs refs k.roots × (k.held ≡ map object_of (without old.lane pins)) × (new ≡ record old { known = k; phase = phase.Listing (record { names = []; first = 0 }) }))
-Learns refs pins old p new = new ≡ old
+    ⊎ ((k : Known) × AreOfState refs ids k.roots × (k.held ≡ map object_of (without old.lane pins)) × (new ≡ record old { known = k; phase = phase.Listing (record { names = []; first = 0 }) }))
+Learns refs ids pins old p new = new ≡ old
 
-abbrev pub prune_learns : RefBook → List Pin → PruneCommand → PruneCommand → Type 0
-prune_learns refs pins old new = Learns refs pins old old.phase new
+abbrev pub prune_learns : RefBook → List DepId → List Pin → PruneCommand → PruneCommand → Type 0
+prune_learns refs ids pins old new = Learns refs ids pins old old.phase new
 
 -- it goes on in this phase, if another one comes next
 abbrev pub goes : Option Phase → PruneCommand → StepResult (Unit {0}) → PruneCommand → Type 0

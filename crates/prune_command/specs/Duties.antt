@@ -30,7 +30,7 @@ use Rattle.rely_guarantee.specs.Laws as rely
 use Rattle.rely_guarantee.specs.Laws.{Chain, Claim, IsLastly, Kind, Quiet, Remove, MakeDurable, Publish, Published, StepObligation, Take, Within}
 use Rattle.rely_guarantee.specs.Rely.{Guarantee, HasNoRefs, NotPinned, may_at}
 use Rattle.rely_guarantee.specs.Removing.{IsGuarded, next_of}
-use Rattle.rely_guarantee.specs.State.{HasRoots, IsCommitOf, RefOf, Said, State, commits_of, target}
+use Rattle.rely_guarantee.specs.State.{IsCommitOf, RefOf, Said, commits_of, SystemState, IsDeployedCommit}
 use Rattle.rely_guarantee.proofs.States.{says_one}
 use Rattle.durable_store.proofs.Apart.{mark_object}
 use Rattle.durable_store.proofs.Kept.{kept_guarded}
@@ -58,17 +58,20 @@ named_by : (name : List ℕ) (v : View) (roots held : List ObjName) (lane : ℕ)
 named_by name v roots held lane b are o None commit says among is = absurd (omega (arith, among.1))
 named_by name v roots held lane b are o (Some c) commit says among is = are.all o (RefOf name, Some c, shows v.now (ref_path name), may_now v (ref_path name), says, commit, among, is)
 
-has_roots : (depth : ℕ) (k : Known) (removed : List ObjName) (lane : ℕ) (v : View) (b : Books) → AreRootsOf k.roots k.held lane v b → (s : State) → Logical v.now s → (o : ObjName) → Contains k.roots o ↔ IsCommitOf s o
-has_roots depth k removed lane v b are s shown o = (to, from)
+has_roots : (depth : ℕ) (k : Known) (removed : List ObjName) (lane : ℕ) (v : View) (b : Books) → AreRootsOf k.roots k.held lane v b → (s : SystemState) → Logical v.now s.refs → s.deployments ≡ b.start.deployments.items → (o : ObjName) → Contains k.roots o ↔ IsCommitOf s o
+has_roots depth k removed lane v b are s shown same o = (to, from)
   where
     to : Contains k.roots o → IsCommitOf s o
-    to has =
-        let at = are.right o has in
-        let says : s (RefOf at.0) ≡ Some at.1 = says_one (RefOf at.0) (s (RefOf at.0)) (Some at.1) (shows v.now (ref_path at.0)) (shown (RefOf at.0)) at.2 in
-        (RefOf at.0, at.1, subst (λ (x : Said). Contains (commits_of x) at.1) (sym says) (0, omega arith, refl), at.3)
+    to has = ⊎_elim
+        (λ at.
+        let says : s.refs (RefOf at.0) ≡ Some at.1 = says_one (RefOf at.0) (s.refs (RefOf at.0)) (Some at.1) (shows v.now (ref_path at.0)) (shown (RefOf at.0)) at.2 in
+        inl (RefOf at.0, at.1, subst (λ (x : Said). Contains (commits_of x) at.1) (sym says) (0, omega arith, refl), at.3))
+        (λ listed. inr (subst (λ ids. IsDeployedCommit ids o) (sym same) listed))
+        (are.right o has)
 
     from : IsCommitOf s o → Contains k.roots o
-    from (RefOf name, commit, among, is) = named_by name v k.roots k.held lane b are o (s (RefOf name)) commit (shown (RefOf name)) among is
+    from (inl (RefOf name, commit, among, is)) = named_by name v k.roots k.held lane b are o (s.refs (RefOf name)) commit (shown (RefOf name)) among is
+    from (inr deployed) = are.listed o (subst (λ ids. IsDeployedCommit ids o) same deployed)
 
 -- ---- what goes may go
 
@@ -173,12 +176,12 @@ module _ (t : PruneCommand) (actor lane : ℕ) (r : Sweeping) (v : View) (b : Bo
   none_final : (w : View) → Final event w
   none_final w = record { only = λ x at. absurd (let no : None ≡ Some x = at in cc); leads = λ x commit at. absurd (let no : None ≡ Some x = at in cc) }
 
-  shows_it : Shows (sweep_writes part.Begin r) v event
+  shows_it : Shows b.start.deployments.items (sweep_writes part.Begin r) v event
   shows_it = record {
     writes = λ x s wrote. absurd wrote;
     valid = tt;
     was = λ x at. absurd (let no : None ≡ Some x = at in cc);
-    roots = λ s shown. has_roots t.depth t.known r.removed lane v b begun.roots s shown;
+    roots = λ s shown same. has_roots t.depth t.known r.removed lane v b begun.roots s shown same;
   }
 
   left_to_go : (x : Part) → r.part ≡ x → (x ≡ part.Commit) ⊎ (x ≡ part.Object) → IsGoing t.known t.depth lane r v b → b.gone < length b.doomed

@@ -14,7 +14,7 @@ use Rattle.store_check.specs.Listing.{AreBelow, IsThere}
 use Rattle.rely_guarantee.specs.declared.books.Pin.{Pin}
 use Rattle.rely_guarantee.specs.Books.{Books}
 use Rattle.rely_guarantee.specs.Disks.{Says}
-use Rattle.rely_guarantee.specs.Removing.{IsOfState}
+use Rattle.rely_guarantee.specs.Removing.{IsListed, IsOfState}
 use Rattle.rely_guarantee.specs.State.{RefOf}
 use Rattle.durable_store.specs.Free.{ObjectPathsFree}
 use Rattle.durable_store.specs.Removals.{AreKept, Except, IsSettled}
@@ -36,11 +36,12 @@ use Rattle.prune_command.specs.Learned.{from_of}
 abbrev pub IsOfRef : Disk → ObjNames
 IsOfRef d o = (name : List ℕ) × (commit : List ℕ) × Says (RefOf name) (Some commit) (shows d (ref_path name)) × (o ≡ name_of Commit commit)
 
--- Where it begins: each commit that a ref names, or may name after a crash, which each is one that a ref names now; and whatever other
--- lanes have pinned.
+-- Where it begins: each commit that a ref names, or may name after a crash, which each is one that a ref names now; those of the
+-- deployments that boot; and whatever other lanes have pinned.
 pub record AreRootsOf (roots others : List ObjName) (lane : ℕ) (v : View) (b : Books) : Type 0 where
   pub all : (o : ObjName) → IsOfState v o → Contains roots o
-  pub right : (o : ObjName) → Contains roots o → IsOfRef v.now o
+  pub listed : (o : ObjName) → IsListed b o → Contains roots o
+  pub right : (o : ObjName) → Contains roots o → IsOfRef v.now o ⊎ IsListed b o
   pub held : (p : Pin) → Contains b.pins p → p.lane ≢ lane → Contains others p.object
 
 -- The lane has both locks, and knows where it begins.

@@ -15,12 +15,13 @@ use Rattle.repo_layout.proofs.Places.{place-ref}
 use Rattle.repo_model.specs.Objects.{path_of}
 use Rattle.layout_rules.proofs.Layouts.{fixed_other}
 use Rattle.store_check.specs.Listing.{IsThere}
+use Rattle.rely_guarantee.specs.declared.books.Start.{Start}
 use Rattle.rely_guarantee.specs.declared.books.Pin.{Pin}
 use Rattle.rely_guarantee.specs.Books.{Books, Free, Keeps}
 use Rattle.rely_guarantee.specs.Disks.{Says}
 use Rattle.rely_guarantee.specs.Rely.{Guarantee, Interference}
-use Rattle.rely_guarantee.specs.Removing.{IsOfState}
-use Rattle.rely_guarantee.specs.State.{RefOf}
+use Rattle.rely_guarantee.specs.Removing.{IsListed, IsOfState}
+use Rattle.rely_guarantee.specs.State.{RefOf, IsDeployedCommit}
 use Rattle.rely_guarantee.proofs.Mays.{at_place, not_other}
 use Rattle.durable_store.specs.Removals.{AreKept, Except, IsSettled}
 use Rattle.durable_store.proofs.Kept.{object_still, others_kept, others_never, others_settled}
@@ -46,10 +47,14 @@ pub record SparesRefs (v w : View) : Type 0 where
   pub may : (name commit : List ℕ) (s : Seen) → Says (RefOf name) (Some commit) s → MayBe w (ref_path name) s → MayBe v (ref_path name) s
   pub now : (name : List ℕ) → shows w.now (ref_path name) ≡ shows v.now (ref_path name)
 
-pub roots_on : (roots others : List ObjName) (lane : ℕ) (v w : View) (b b' : Books) → SparesRefs v w → ((p : Pin) → p.lane ≢ lane → Contains b'.pins p → Contains b.pins p) → AreRootsOf roots others lane v b → AreRootsOf roots others lane w b'
-roots_on roots others lane v w b b' refs pins was = record {
+pub roots_on : (roots others : List ObjName) (lane : ℕ) (v w : View) (b b' : Books) → SparesRefs v w → b'.start ≡ b.start → ((p : Pin) → p.lane ≢ lane → Contains b'.pins p → Contains b.pins p) → AreRootsOf roots others lane v b → AreRootsOf roots others lane w b'
+roots_on roots others lane v w b b' refs begin pins was = record {
   all = all;
-  right = λ o has. let at = was.right o has in (at.0, at.1, subst (Says (RefOf at.0) (Some at.1)) (sym (refs.now at.0)) at.2, at.3);
+  listed = λ o has. was.listed o (subst (λ (s : Start). IsDeployedCommit s.deployments.items o) begin has);
+  right = λ o has. ⊎_elim
+      (λ at. inl (at.0, at.1, subst (Says (RefOf at.0) (Some at.1)) (sym (refs.now at.0)) at.2, at.3))
+      (λ listed. inr (subst (λ (s : Start). IsDeployedCommit s.deployments.items o) (sym begin) listed))
+      (was.right o has);
   held = λ p has other. was.held p (pins p other has) other;
 }
   where
@@ -57,12 +62,12 @@ roots_on roots others lane v w b b' refs pins was = record {
     all o (RefOf name, None, s, may, says, commit, among, is) = absurd (omega (arith, among.1))
     all o (RefOf name, Some c, s, may, says, commit, among, is) = was.all o (RefOf name, Some c, s, refs.may name c s says may, says, commit, among, is)
 
-pub begun_on : (k : Known) (lane : ℕ) (v w : View) (b b' : Books) → b'.exclusive ≡ Some lane → b'.turn ≡ Some lane → SparesRefs v w → ((p : Pin) → p.lane ≢ lane → Contains b'.pins p → Contains b.pins p)
+pub begun_on : (k : Known) (lane : ℕ) (v w : View) (b b' : Books) → b'.exclusive ≡ Some lane → b'.turn ≡ Some lane → SparesRefs v w → b'.start ≡ b.start → ((p : Pin) → p.lane ≢ lane → Contains b'.pins p → Contains b.pins p)
     → (ObjectPathsFree v.now → ObjectPathsFree w.now) → (IsDirectory (shows v.now (folder_path State)) → IsDirectory (shows w.now (folder_path State))) → HasBegun k lane v b → HasBegun k lane w b'
-begun_on k lane v w b b' exclusive turn refs pins leaves state was = record {
+begun_on k lane v w b b' exclusive turn refs begin pins leaves state was = record {
   exclusive = exclusive;
   turn = turn;
-  roots = roots_on k.roots k.held lane v w b b' refs pins was.roots;
+  roots = roots_on k.roots k.held lane v w b b' refs begin pins was.roots;
   leaves = leaves was.leaves;
   state = state was.state;
 }
@@ -72,15 +77,20 @@ spares_same v = record { may = λ name commit s says may. may; now = λ name. re
 
 -- what the lane gains is no harm
 pub begun_gains : (k : Known) (lane : ℕ) (v : View) (b b' : Books) → Keeps lane b b' → HasBegun k lane v b → HasBegun k lane v b'
-begun_gains k lane v b b' keeps was = begun_on k lane v v b b' (keeps.exclusive was.exclusive) (keeps.turn was.turn) (spares_same v) keeps.pinned (λ l. l) (λ s. s) was
+begun_gains k lane v b b' keeps was = begun_on k lane v v b b' (keeps.exclusive was.exclusive) (keeps.turn was.turn) (spares_same v) keeps.start keeps.pinned (λ l. l) (λ s. s) was
 
 pub there_from : (d e : Disk) (o : ObjName) → shows e (path_of o) ≡ shows d (path_of o) → IsThere e o → IsThere d o
 there_from d e o same there = record { sum = there.sum; there = λ absent. there.there (vacant_absent e (path_of o) (same ∙ ap (seen d) absent)) }
 
+-- the deployments are those of the opening
+pub listed_before : (lane : ℕ) (b b' : Books) (o : ObjName) → Keeps lane b b' → IsListed b' o → IsListed b o
+listed_before lane b b' o keeps = subst (λ (s : Start). IsDeployedCommit s.deployments.items o) keeps.start
+
 -- what is kept goes on to be, where nobody else pins anything
-pub kept_pins : (doomed : List ObjName) (v : View) (b b' : Books) (lane : ℕ) → ((p : Pin) → p.lane ≢ lane → Contains b'.pins p → Contains b.pins p) → AreKept (Except doomed) b v lane → AreKept (Except doomed) b' v lane
-kept_pins doomed v b b' lane pins kept = record {
-  roots = λ o. ⊎_elim (λ pin. kept.roots o (inl (pin.0, pins pin.0 pin.2 pin.1, pin.2, pin.3))) (λ named. kept.roots o (inr named));
+pub kept_pins : (doomed : List ObjName) (v : View) (b b' : Books) (lane : ℕ) → Keeps lane b b' → AreKept (Except doomed) b v lane → AreKept (Except doomed) b' v lane
+kept_pins doomed v b b' lane keeps kept = record {
+  roots = λ o. ⊎_elim (λ pin. kept.roots o (inl (pin.0, keeps.pinned pin.0 pin.2 pin.1, pin.2, pin.3)))
+      (λ root. kept.roots o (inr (⊎_elim inl (λ listed. inr (listed_before lane b b' o keeps listed)) root)));
   closed = kept.closed;
 }
 
@@ -93,7 +103,7 @@ going_gains k depth lane r v b b' keeps same was = record {
   either = was.either;
   doomed = same.0 ∙ was.doomed;
   gone = same.1 ∙ was.gone;
-  kept = kept_pins r.removed v b b' lane keeps.pinned was.kept;
+  kept = kept_pins r.removed v b b' lane keeps was.kept;
   behind = was.behind;
 }
 
@@ -142,7 +152,7 @@ module _ (actor lane mine : ℕ) (v w : View) (b b' : Books) (other : mine ≢ l
   others_pins p apart has = ⊎_elim (λ was. was) (λ new. absurd (not_free new.1)) (does.books.pinned p has)
 
   begun_kept : (k : Known) → HasBegun k mine v b → HasBegun k mine w b'
-  begun_kept k was = begun_on k mine v w b b' (does.books.exclusive mine other was.exclusive) (does.books.turn mine other was.turn) others_refs others_pins
+  begun_kept k was = begun_on k mine v w b b' (does.books.exclusive mine other was.exclusive) (does.books.turn mine other was.turn) others_refs does.books.start others_pins
       (λ leaves o sum. subst NotDirectory (sym (same_objects o sum)) (leaves o sum)) state_still was
 
   never_kept : (marks : List Path) → AreNever v marks → AreNever w marks

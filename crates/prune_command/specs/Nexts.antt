@@ -31,7 +31,7 @@ use Rattle.rely_guarantee.specs.Books.{Books, Keeps}
 use Rattle.rely_guarantee.specs.Disks.{IsLeaf, Says}
 use Rattle.rely_guarantee.specs.Laws.{Kind, Owned, Stood}
 use Rattle.rely_guarantee.specs.declared.event.Event.{Event}
-use Rattle.rely_guarantee.specs.State.{RefOf, removed_by}
+use Rattle.rely_guarantee.specs.State.{removed_by}
 use Rattle.rely_guarantee.proofs.Locking.{spared_refl}
 use Rattle.rely_guarantee.proofs.States.{says_leaf}
 use Rattle.durable_store.specs.Removals.{AreKept, Except, IsRemoval, IsSettled, TakesMark, TakesObject}
@@ -55,7 +55,7 @@ use Rattle.prune_command.specs.declared.phase.Phase.TheVariants as phase
 use Rattle.prune_command.specs.Commands as command
 use Rattle.prune_command.specs.Commands.{change_of, kind_in, prune_kind, prune_leaves}
 use Rattle.prune_command.specs.Facts.{AreNever, Facts, HasBegun, IsBehind, IsGoing, IsToGo, KnownIn, SweepKnows}
-use Rattle.prune_command.specs.Kept.{SparesRefs, begun_gains, begun_on, kept_pins, there_from}
+use Rattle.prune_command.specs.Kept.{SparesRefs, begun_gains, begun_on, kept_pins, listed_before, there_from}
 use Rattle.prune_command.specs.Learned.{from_of}
 use Rattle.prune_command.specs.SweepSteps.{Did, TookObject, sweep_kind}
 
@@ -88,7 +88,7 @@ module _ (v w : View) (W : Path → Seen → Type 0) (writes : Writes W v w) (sp
 
   -- so what it began with is still so
   pub own_begun : (k : Known) (lane : ℕ) (b b' : Books) → Keeps lane b b' → HasBegun k lane v b → HasBegun k lane w b'
-  own_begun k lane b b' keeps was = begun_on k lane v w b b' (keeps.exclusive was.exclusive) (keeps.turn was.turn) own_refs keeps.pinned own_leaves own_state was
+  own_begun k lane b b' keeps was = begun_on k lane v w b b' (keeps.exclusive was.exclusive) (keeps.turn was.turn) own_refs keeps.start keeps.pinned own_leaves own_state was
 
 -- one path is vacant from then on
 abbrev pub Vacated : Path → Path → Seen → Type 0
@@ -317,7 +317,7 @@ module _ (k : Known) (depth lane : ℕ) (r : Sweeping) (v : View) (b : Books) (g
       doomed = doomed ∙ going.doomed ∙ sym on.removed;
       gone = count ∙ ap (λ n. n + 1) going.gone ∙ sym gone;
       kept = subst (λ (l : List ObjName). AreKept (Except l) b' taken_view lane) (sym on.removed)
-          (kept_pins r.removed taken_view b b' lane keeps.pinned (removal_kept (Except r.removed) b b lane lane v taken_view TakesAway (spared_refl lane lane b) wrote_object removal_object going.kept));
+          (kept_pins r.removed taken_view b b' lane keeps (removal_kept (Except r.removed) b b lane lane v taken_view TakesAway (spared_refl lane lane b) wrote_object removal_object going.kept));
       behind = behind;
     }
 
@@ -347,7 +347,7 @@ module _ (k : Known) (depth lane : ℕ) (r new : Sweeping) (v : View) (b b' : Bo
       doomed = doomed ∙ going.doomed ∙ sym on.removed;
       gone = count ∙ going.gone ∙ sym same;
       kept = subst (λ (l : List ObjName). AreKept (Except l) b' w lane) (sym on.removed)
-          (kept_pins r.removed w b b' lane keeps.pinned (removal_kept (Except r.removed) b b lane lane v w W (spared_refl lane lane b) wrote removal going.kept));
+          (kept_pins r.removed w b b' lane keeps (removal_kept (Except r.removed) b b lane lane v w W (spared_refl lane lane b) wrote removal going.kept));
       behind = behind;
     }
 
@@ -396,7 +396,7 @@ module _ (k : Known) (depth lane : ℕ) (r new : Sweeping) (v w : View) (b b' : 
     kept_now = record {
       roots = λ o. ⊎_elim
           (λ pin. subst (λ x. ¬ (Contains r.removed x)) pin.3 (to_go.plan.roots pin.0.object (Contains-append_right k.roots k.held pin.0.object (begun.roots.held pin.0 (keeps.pinned pin.0 pin.2 pin.1) pin.2))))
-          (λ named. to_go.plan.roots o (Contains-append_left k.roots k.held o (begun.roots.all o named)));
+          (λ root. to_go.plan.roots o (Contains-append_left k.roots k.held o (⊎_elim (begun.roots.all o) (λ listed. begun.roots.listed o (listed_before lane b b' o keeps listed)) root)));
       closed = λ o next kept refers. to_go.plan.closed o next kept (refers_where (Stores v.now) (Stores to_go.planned) o next (planned_there o) refers);
     }
 

@@ -9,6 +9,7 @@ ghost use Rattle.prune_command.specs.Laws.{prune_laws};
 use crate::list::list;
 use crate::sweep::{kind_of, owed_by, removed_of, sweep_next};
 use crate::{Known, Phase, PruneAnswer};
+use boot_model::DepId;
 use fs_trait::{Fs, FsErr, StepResult};
 use ost_types::{Limits, Name, NoMemory, TryCopy};
 use prune_sweep::{Listing, Sweep};
@@ -48,11 +49,11 @@ impl PruneCommand {
     }
 
     /// What refs and pins there are, once it has the locks. At any other time this changes nothing, nor where memory is wanting.
-    pub fn learn(&mut self, refs: &RefBook, pins: &[Pin])
-        ensures { prune_learns refs.now pins.now self.old self.new }
+    pub fn learn(&mut self, refs: &RefBook, deployments: &[DepId], pins: &[Pin])
+        ensures { prune_learns refs.now deployments.now pins.now self.old self.new }
     {
         if let Phase::Unlearned = self.phase {
-            if let Ok(known) = Known::of(self.alloc, self.lane, refs, pins) {
+            if let Ok(known) = Known::of(self.alloc, self.lane, refs, deployments, pins) {
                 self.begin(known);
             }
         }

@@ -1,4 +1,4 @@
-//! The removal of what no ref and no pin leads to, as a task of the system.
+//! The removal of what no ref, no deployment that boots and no pin leads to, as a task of the system.
 #![tactic(auto)]
 
 mod answer;

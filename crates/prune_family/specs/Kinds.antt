@@ -8,6 +8,7 @@ use Rattle.fs_trait.specs.declared.task.StepResult.TheVariants as turn
 use Rattle.fs_trait.specs.Seen.{Seen, Vacant}
 use Rattle.fs_trait.specs.View.{View}
 use Rattle.repo_model.specs.Objects.{object_in}
+use Rattle.boot_model.specs.declared.item.DepId.{DepId}
 use Rattle.rely_guarantee.specs.declared.books.Pin.{Pin}
 use Rattle.rely_guarantee.specs.declared.event.Event.{Event}
 use Rattle.rely_guarantee.specs.declared.kind.Wants.{Wants}
@@ -95,13 +96,13 @@ goes_on_its_way since c t new is step = record {
   goes = follows_way t.depth t.phase new.phase is.goes step.1;
 }
 
-pub learns_on : (since : Since) (c : PruneWords) (refs : RefBook) (pins : List Pin) (t new : PruneCommand) → prune_learns refs pins t new → IsPruning since c t → IsPruning since c new
-learns_on since c refs pins t new learns is = by t.phase learns
+pub learns_on : (since : Since) (c : PruneWords) (refs : RefBook) (ids : List DepId) (pins : List Pin) (t new : PruneCommand) → prune_learns refs ids pins t new → IsPruning since c t → IsPruning since c new
+learns_on since c refs ids pins t new learns is = by t.phase learns
   where
     same : new ≡ t → IsPruning since c new
     same e = subst (IsPruning since c) (sym e) is
 
-    by : (p : Phase) → Learns refs pins t p new → IsPruning since c new
+    by : (p : Phase) → Learns refs ids pins t p new → IsPruning since c new
     by phase.Unlearned l = ⊎_elim same (λ told. subst (IsPruning since c) (sym told.3) (record { depth = is.depth; limits = is.limits; goes = tt })) l
     by phase.Waiting l = same l
     by (phase.Listing x) l = same l

@@ -46,13 +46,13 @@ hear_laws = record {
 
 learn_laws : LearnLaws prune_tasks prune_doing
 learn_laws = record {
-  kind = λ refs pins t new learns. learn_kind refs pins t.work new.work learns;
-  pursues = λ refs pins since c t new learns is. learns_on since c refs pins t.work new.work learns is;
-  left = λ refs pins t new learns. learn_left refs pins t.work new.work learns;
-  met = λ refs pins t new learns. refl;
-  made = λ refs pins t new name learns made. made;
-  unmade = λ refs pins t new name learns made. made;
-  facts = λ start entries pending refs pins lane t new v b told learns holds f. learn_facts start entries pending refs pins lane t.work new.work v b told learns holds f;
+  kind = λ refs ids pins t new learns. learn_kind refs ids pins t.work new.work learns;
+  pursues = λ refs ids pins since c t new learns is. learns_on since c refs ids pins t.work new.work learns is;
+  left = λ refs ids pins t new learns. learn_left refs ids pins t.work new.work learns;
+  met = λ refs ids pins t new learns. refl;
+  made = λ refs ids pins t new name learns made. made;
+  unmade = λ refs ids pins t new name learns made. made;
+  facts = λ start entries pending refs ids pins lane t new v b told learns holds f. learn_facts start entries pending refs ids pins lane t.work new.work v b told learns holds f;
 }
 
 change_laws : ChangeLaws prune_tasks prune_means prune_doing
@@ -74,13 +74,13 @@ answer_laws : AnswerLaws prune_tasks prune_means prune_doing
 answer_laws = record {
   answers = λ since c t new is step. has_answer t.work new.work step;
   says = λ since p c t new a is step given. tt;
-  shows = λ since lane c t new v w b a is f leaves given sound. ends_say since lane c t.work new.work v w b a is f leaves given;
-  remains = λ since lane c t new v w b a is f leaves given. ends_remain since lane c t.work new.work v w b a is f leaves given;
+  shows = λ since lane c t new v w b a listed is f leaves given sound. ends_say since lane c t.work new.work v w b a listed is f leaves given;
+  remains = λ since lane c t new v w b a listed is f leaves given. ends_remain since lane c t.work new.work v w b a listed is f leaves given;
   remains_at_once = λ since c a v is. is.5 v;
   knows = λ since p lane c t new v w b a is f leaves given sees. tt;
   lacks_alone = λ since lane c t new v w b a commit is f leaves given lacks sum. absurd lacks;
   lacks = λ since v a c commit files shows lacks finished. lacks;
-  outside = λ since v a c good shows outside. outside_no since.limits c.depth v a good shows outside;
+  outside = λ since v a c good shows outside. outside_no since.start.deployments since.limits c.depth v a good shows outside;
   full = λ told since c t new a is step given full. absurd full;
   left = λ since actor lane c t new v w b b' a is f leaves given does gone sound. tt;
   stays = λ since actor lane out removed a c v w b b' does only is. tt;

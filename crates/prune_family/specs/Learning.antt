@@ -1,7 +1,8 @@
 -- What a prune is told behind the step that takes the locks.
-use Rattle.std.proofs.Common.{◌≡◌, ◌≢◌, ⊎_elim, ◌≤◌, ℕ, zero, suc, Bool, true, false, not, nat_eq, List, [], ◌∷◌, map, Contains, Option, Some, None, refl, sym, ◌∙◌, ap, subst, arith}
+use Rattle.std.proofs.Common.{◌≡◌, ◌≢◌, ◌⊎◌, inl, inr, ⊎_elim, ◌≤◌, ℕ, zero, suc, Bool, true, false, not, nat_eq, List, [], ◌∷◌, map, Contains, Option, Some, None, refl, sym, ◌∙◌, ap, subst, arith}
 use Rattle.std.specs.List.{filter}
 use Rattle.std.proofs.lemmas.Bool.Decides.{nat_tests}
+use Rattle.std.proofs.lemmas.List.Elements.{Contains-append_left, Contains-append_right, Contains-append_cases}
 use Rattle.ost_types.specs.declared.object.ObjName.{ObjName}
 use Rattle.ost_types.proofs.Paths.{is_below-self}
 use Rattle.fs_trait.specs.Seen.{IsDirectory, MayBe, Seen, shows}
@@ -10,6 +11,7 @@ use Rattle.fs_trait.proofs.Effects.{may_now}
 use Rattle.repo_layout.specs.declared.folder.Folder.TheVariants as folder
 use Rattle.repo_layout.specs.Paths.{folder_path, ref_path}
 use Rattle.store_check.proofs.Gathering.{none_below}
+use Rattle.boot_model.specs.declared.item.DepId.{DepId}
 use Rattle.rely_guarantee.specs.declared.books.Entry.{Entry}
 use Rattle.rely_guarantee.specs.declared.books.Pending.{Pending}
 use Rattle.rely_guarantee.specs.declared.books.Pin.{Pin}
@@ -17,8 +19,8 @@ use Rattle.rely_guarantee.specs.Books.{Books}
 use Rattle.rely_guarantee.specs.Disks.{Says}
 use Rattle.rely_guarantee.specs.Laws.{Holds, NotPending}
 use Rattle.rely_guarantee.specs.Pinning.{is_others, without}
-use Rattle.rely_guarantee.specs.Removing.{IsOfState}
-use Rattle.rely_guarantee.specs.State.{RefOf, Said, State, after, commits_of, events_of}
+use Rattle.rely_guarantee.specs.Removing.{IsListed, IsOfState}
+use Rattle.rely_guarantee.specs.State.{RefOf, Said, State, after, commits_of, events_of, SystemState}
 use Rattle.rely_guarantee.specs.SystemInvariant.{Stands}
 use Rattle.rely_guarantee.proofs.States.{says_one}
 use Rattle.ref_book.specs.declared.book.RefBook.{RefBook}
@@ -29,7 +31,7 @@ use Rattle.prune_command.specs.declared.phase.Phase.{Phase}
 use Rattle.prune_command.specs.declared.phase.Phase.TheVariants as phase
 use Rattle.prune_command.specs.Commands.{Learns, kind_in, prune_kind, prune_learns, prune_left}
 use Rattle.prune_command.specs.Facts.{AreRootsOf, IsOfRef, KnownIn, prune_facts}
-use Rattle.prune_command.specs.Learned.{AreOfRefs, commit_of, object_of}
+use Rattle.prune_command.specs.Learned.{AreOfState, commit_of, deployed_of, object_of}
 use Rattle.prune_command.specs.Phases.{phase_left}
 use Rattle.command.specs.LearnLaws.{IsLearnt}
 
@@ -80,16 +82,16 @@ some_commit None commit (k, less, is) = absurd (omega (arith, less))
 some_commit (Some c) commit (zero, less, is) = ap Some is
 some_commit (Some c) commit (suc k, less, is) = absurd (omega (arith, less))
 
-module _ (start : State) (entries : List Entry) (refs : RefBook) (lane : ℕ) (v : View) (b : Books) (stands : Stands start entries None v) (tracks : Tracks refs (after (events_of entries) start)) where
+module _ (start : SystemState) (entries : List Entry) (refs : RefBook) (lane : ℕ) (v : View) (b : Books) (stands : Stands start entries None v) (tracks : Tracks refs (after (events_of entries) start).refs) where
   abbrev now : State
-  now = after (events_of entries) start
+  now = (after (events_of entries) start).refs
 
   -- each path of the state may say nothing else
   says_now : (name : List ℕ) (s : Seen) → MayBe v (ref_path name) s → Says (RefOf name) (now (RefOf name)) s
   says_now name s may = ⊎_elim (λ says. says) (λ shown. absurd shown) (stands.known.each (RefOf name) s may)
 
-  learnt_roots : (k : Known) (pins : List Pin) → AreOfRefs refs k.roots → k.held ≡ map object_of (without lane pins) → pins ≡ b.pins → AreRootsOf k.roots k.held lane v b
-  learnt_roots k pins are held pins_are = record { all = all; right = right; held = others }
+  learnt_roots : (k : Known) (ids : List DepId) (pins : List Pin) → AreOfState refs ids k.roots → k.held ≡ map object_of (without lane pins) → pins ≡ b.pins → ids ≡ b.start.deployments.items → AreRootsOf k.roots k.held lane v b
+  learnt_roots k ids pins are held pins_are ids_are = record { all = all; listed = listed; right = right; held = others }
     where
       rows : List (List ℕ × List ℕ)
       rows = are.0
@@ -101,21 +103,31 @@ module _ (start : State) (entries : List Entry) (refs : RefBook) (lane : ℕ) (v
       all o (RefOf name, value, s, may, says, commit, among, is) =
           let value_is : now (RefOf name) ≡ Some commit = says_one (RefOf name) (now (RefOf name)) value s (says_now name s may) says ∙ some_commit value commit among in
           let row = (lists.refs name commit).1 value_is in
-          subst (λ l. Contains l o) (sym are.2) (subst (Contains (map commit_of rows)) (sym is) (map_in commit_of rows (name, commit) row))
+          subst (λ l. Contains l o) (sym are.2) (Contains-append_left (map commit_of rows) (map deployed_of ids) o (subst (Contains (map commit_of rows)) (sym is) (map_in commit_of rows (name, commit) row)))
 
-      right : (o : ObjName) → Contains k.roots o → IsOfRef v.now o
-      right o has =
-          let from = map_of commit_of rows o (subst (λ l. Contains l o) are.2 has) in
+      listed : (o : ObjName) → IsListed b o → Contains k.roots o
+      listed o one = subst (λ l. Contains l o) (sym are.2) (Contains-append_right (map commit_of rows) (map deployed_of ids) o
+          (subst (Contains (map deployed_of ids)) (sym one.2) (map_in deployed_of ids one.0 (subst (λ (l : List DepId). Contains l one.0) (sym ids_are) one.1))))
+
+      deployed : (o : ObjName) → Contains (map deployed_of ids) o → IsListed b o
+      deployed o has = let from = map_of deployed_of ids o has in (from.0, subst (λ (l : List DepId). Contains l from.0) ids_are from.1, from.2)
+
+      named : (o : ObjName) → Contains (map commit_of rows) o → IsOfRef v.now o
+      named o has =
+          let from = map_of commit_of rows o has in
           let name = from.0.0 in
           let commit = from.0.1 in
           let value_is = (lists.refs name commit).0 from.1 in
           (name, commit, subst (λ (x : Said). Says (RefOf name) x (shows v.now (ref_path name))) value_is (says_now name (shows v.now (ref_path name)) (may_now v (ref_path name))), from.2)
 
+      right : (o : ObjName) → Contains k.roots o → IsOfRef v.now o ⊎ IsListed b o
+      right o has = ⊎_elim (λ by. inl (named o by)) (λ by. inr (deployed o by)) (Contains-append_cases (map commit_of rows) (map deployed_of ids) o (subst (λ l. Contains l o) are.2 has))
+
       others : (p : Pin) → Contains b.pins p → p.lane ≢ lane → Contains k.held p.object
       others p has other = subst (λ l. Contains l p.object) (sym held)
           (map_in object_of (without lane pins) p (filter_in (is_others lane) pins p (others_test p.lane lane other) (subst (λ l. Contains l p) (sym pins_are) has)))
 
-state_folder : (start : State) (entries : List Entry) (pending : Option Pending) (v : View) → Stands start entries pending v → IsDirectory (shows v.now (folder_path folder.State))
+state_folder : (start : SystemState) (entries : List Entry) (pending : Option Pending) (v : View) → Stands start entries pending v → IsDirectory (shows v.now (folder_path folder.State))
 state_folder start entries pending v stands = stands.folders folder.State (folder_path folder.State) _ (may_now v (folder_path folder.State)) (is_below-self (folder_path folder.State))
 
 -- ---- by the phase
@@ -123,34 +135,34 @@ state_folder start entries pending v stands = stands.folders folder.State (folde
 abbrev first_phase : Phase
 first_phase = phase.Listing (record { names = []; first = 0 })
 
-learns_same : (p : Phase) (refs : RefBook) (pins : List Pin) (t new : PruneCommand) (A : PruneCommand → Type 0) → A t
-    → ((k : Known) → p ≡ phase.Unlearned → AreOfRefs refs k.roots → k.held ≡ map object_of (without t.lane pins) → A (record t { known = k; phase = first_phase })) → Learns refs pins t p new → A new
-learns_same phase.Waiting refs pins t new A same told is = subst A (sym is) same
-learns_same phase.Unlearned refs pins t new A same told is = ⊎_elim
+learns_same : (p : Phase) (refs : RefBook) (ids : List DepId) (pins : List Pin) (t new : PruneCommand) (A : PruneCommand → Type 0) → A t
+    → ((k : Known) → p ≡ phase.Unlearned → AreOfState refs ids k.roots → k.held ≡ map object_of (without t.lane pins) → A (record t { known = k; phase = first_phase })) → Learns refs ids pins t p new → A new
+learns_same phase.Waiting refs ids pins t new A same told is = subst A (sym is) same
+learns_same phase.Unlearned refs ids pins t new A same told is = ⊎_elim
     (λ e. subst A (sym e) same)
     (λ k. subst A (sym k.3) (told k.0 refl k.1 k.2))
     is
-learns_same (phase.Listing l) refs pins t new A same told is = subst A (sym is) same
-learns_same (phase.Marking m) refs pins t new A same told is = subst A (sym is) same
-learns_same (phase.Sweeping r) refs pins t new A same told is = subst A (sym is) same
-learns_same (phase.Over a) refs pins t new A same told is = subst A (sym is) same
+learns_same (phase.Listing l) refs ids pins t new A same told is = subst A (sym is) same
+learns_same (phase.Marking m) refs ids pins t new A same told is = subst A (sym is) same
+learns_same (phase.Sweeping r) refs ids pins t new A same told is = subst A (sym is) same
+learns_same (phase.Over a) refs ids pins t new A same told is = subst A (sym is) same
 
 -- what the next step is to the system stays,
-pub learn_kind : (refs : RefBook) (pins : List Pin) (t new : PruneCommand) → prune_learns refs pins t new → prune_kind new ≡ prune_kind t
-learn_kind refs pins t new learns = learns_same t.phase refs pins t new (λ x. prune_kind x ≡ prune_kind t) refl
+pub learn_kind : (refs : RefBook) (ids : List DepId) (pins : List Pin) (t new : PruneCommand) → prune_learns refs ids pins t new → prune_kind new ≡ prune_kind t
+learn_kind refs ids pins t new learns = learns_same t.phase refs ids pins t new (λ x. prune_kind x ≡ prune_kind t) refl
     (λ k at are held. sym (ap (λ p. kind_in p t) at))
     learns
 
 -- and no more steps are left
-pub learn_left : (refs : RefBook) (pins : List Pin) (t new : PruneCommand) → prune_learns refs pins t new → prune_left new ≤ prune_left t
-learn_left refs pins t new learns = learns_same t.phase refs pins t new (λ x. prune_left x ≤ prune_left t) (omega arith)
+pub learn_left : (refs : RefBook) (ids : List DepId) (pins : List Pin) (t new : PruneCommand) → prune_learns refs ids pins t new → prune_left new ≤ prune_left t
+learn_left refs ids pins t new learns = learns_same t.phase refs ids pins t new (λ x. prune_left x ≤ prune_left t) (omega arith)
     (λ k at are held. (let is = ap phase_left at in omega (arith, is)))
     learns
 
 -- it knows where it begins
-pub learn_facts : (start : State) (entries : List Entry) (pending : Option Pending) (refs : RefBook) (pins : List Pin) (lane : ℕ) (t new : PruneCommand) (v : View) (b : Books) → IsLearnt start entries pending refs pins lane v b
-    → prune_learns refs pins t new → Holds (prune_kind t) lane b → prune_facts lane t v b → prune_facts lane new v b
-learn_facts start entries pending refs pins lane t new v b told learns holds f = learns_same t.phase refs pins t new (λ x. prune_facts lane x v b) f
+pub learn_facts : (start : SystemState) (entries : List Entry) (pending : Option Pending) (refs : RefBook) (ids : List DepId) (pins : List Pin) (lane : ℕ) (t new : PruneCommand) (v : View) (b : Books) → IsLearnt start entries pending refs ids pins lane v b
+    → prune_learns refs ids pins t new → Holds (prune_kind t) lane b → prune_facts lane t v b → prune_facts lane new v b
+learn_facts start entries pending refs ids pins lane t new v b told learns holds f = learns_same t.phase refs ids pins t new (λ x. prune_facts lane x v b) f
     (λ k at are held.
     let known : KnownIn phase.Unlearned t lane v b = subst (λ p. KnownIn p t lane v b) at f.known in
     let none : NotPending lane b = subst (λ p. Holds (kind_in p t) lane b) at holds in
@@ -162,7 +174,7 @@ learn_facts start entries pending refs pins lane t new v b told learns holds f =
         record {
           exclusive = known.0;
           turn = known.1;
-          roots = learnt_roots start entries refs lane v b stands told.tracks k pins are (held ∙ ap (λ n. map object_of (without n pins)) f.mine) told.pins_are;
+          roots = learnt_roots start entries refs lane v b stands told.tracks k ids pins are (held ∙ ap (λ n. map object_of (without n pins)) f.mine) told.pins_are told.listed;
           leaves = told.free;
           state = state_folder start entries pending v told.stands;
         },

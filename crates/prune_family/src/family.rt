@@ -36,8 +36,8 @@ impl Command for PruneTask {
         Told { objects: 0 }
     }
 
-    fn learn(&mut self, refs: &RefBook, pins: &[Pin]) {
-        self.work.learn(refs, pins);
+    fn learn(&mut self, refs: &RefBook, deployments: &[DepId], pins: &[Pin]) {
+        self.work.learn(refs, deployments, pins);
     }
 
     fn asks(&self, _actor: u8) -> Option<Query> {

@@ -9,7 +9,7 @@ use Rattle.rely_guarantee.specs.declared.books.Entry.{Entry}
 use Rattle.rely_guarantee.specs.declared.books.Pending.{Pending}
 use Rattle.rely_guarantee.specs.Books.{Books}
 use Rattle.rely_guarantee.specs.SystemInvariant.{Stands}
-use Rattle.rely_guarantee.specs.State.{State}
+use Rattle.rely_guarantee.specs.State.{SystemState}
 use Rattle.read_command.specs.declared.answer.ReadAnswer.{ReadAnswer}
 use Rattle.read_command.specs.declared.answer.ReadAnswer.TheVariants as answer
 use Rattle.read_command.specs.declared.command.ReadCommand.{ReadCommand}
@@ -19,7 +19,7 @@ use Rattle.read_command.specs.Asked.{Answers, asked}
 use Rattle.read_command.specs.Commands.{IsNew, Tells, answer_of, read_facts, read_leaves}
 use Rattle.read_command.specs.Founded.{IsFinishedOf, IsRead}
 
-pub begins_of : (start : State) (entries : List Entry) (pending : Option Pending) (lane : ℕ) (v : View) (b : Books) (t : ReadCommand) → Stands start entries pending v → IsNew t → read_facts lane t v b
+pub begins_of : (start : SystemState) (entries : List Entry) (pending : Option Pending) (lane : ℕ) (v : View) (b : Books) (t : ReadCommand) → Stands start entries pending v → IsNew t → read_facts lane t v b
 begins_of start entries pending lane v b (Look l) stands sum = (tt, (sum, stands.kinds (mark_path l.commit) (shows v.now (mark_path l.commit)) (may_now v (mark_path l.commit))), tt)
 begins_of start entries pending lane v b (Cat c) stands new = absurd new
 begins_of start entries pending lane v b (Ls s) stands new = absurd new

@@ -7,7 +7,7 @@ ghost use Rattle.rely_guarantee.specs.declared.books.Entry.{Entry};
 ghost use Rattle.rely_guarantee.specs.declared.books.Pending.{Pending};
 ghost use Rattle.rely_guarantee.specs.Books.{Books};
 ghost use Rattle.rely_guarantee.specs.SystemInvariant.{Stands};
-ghost use Rattle.rely_guarantee.specs.State.{State};
+ghost use Rattle.rely_guarantee.specs.State.{SystemState};
 ghost use Rattle.ref_command.specs.Facts.{StagingPathFree};
 ghost use Rattle.read_command.specs.declared.answer.ReadAnswer.{ReadAnswer as Answer};
 ghost use Rattle.read_command.specs.declared.command.ReadCommand.{ReadCommand as Command};
@@ -33,6 +33,6 @@ pub fn steps_of_reads_fall()
 
 /// A new command has its facts, and no step leaves a folder where the lane stages.
 pub fn lanes_that_read()
-    ensures begins { (start : State) (entries : List Entry) (pending : Option Pending) (lane : ℕ) (v : View) (b : Books) (t : Command) → Stands start entries pending v → IsNew t → read_facts lane t v b }
+    ensures begins { (start : SystemState) (entries : List Entry) (pending : Option Pending) (lane : ℕ) (v : View) (b : Books) (t : Command) → Stands start entries pending v → IsNew t → read_facts lane t v b }
     ensures own { (actor lane : ℕ) (t : Command) (v w : View) → Writes (read_writes actor t v) v w → StagingPathFree lane v → StagingPathFree lane w }
 {}

@@ -49,7 +49,7 @@ hear_laws = record {
 }
 
 learn_laws : LearnLaws read_tasks read_doing
-learn_laws = no_learning read_tasks read_doing (λ refs pins t new is. is)
+learn_laws = no_learning read_tasks read_doing (λ refs ids pins t new is. is)
 
 change_laws : ChangeLaws read_tasks read_means read_doing
 change_laws = record {
@@ -70,8 +70,8 @@ answer_laws : AnswerLaws read_tasks read_means read_doing
 answer_laws = record {
   answers = λ since c t new is. has_answer t.work new.work;
   says = λ since p c t new a. ends_say since p c t.work new.work a;
-  shows = λ since lane c t new v w b a is f leaves given sound. ends_publish since lane c t.work new.work v w b a is f leaves given;
-  remains = λ since lane c t new v w b a is f leaves given. tt;
+  shows = λ since lane c t new v w b a listed is f leaves given sound. ends_publish since lane c t.work new.work v w b a is f leaves given;
+  remains = λ since lane c t new v w b a listed is f leaves given. tt;
   remains_at_once = λ since c a v is. tt;
   knows = λ since p lane c t new v w b a is f leaves given sees. tt;
   lacks_alone = λ since lane c t new v w b a commit is f leaves given lacks sum. reads_alone t.work new.work v w a commit leaves given lacks sum;

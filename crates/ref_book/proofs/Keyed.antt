@@ -9,7 +9,7 @@ use Rattle.std.specs.Bool.{Decides}
 use Rattle.std.specs.Cmp.Lexicographic.{slice_cmp, texts_ties}
 use Rattle.ost_types.specs.Path.{same_name}
 use Rattle.ost_types.proofs.Paths.{same_name-Decides}
-use Rattle.rely_guarantee.specs.State.{State, RefOf, first, next}
+use Rattle.rely_guarantee.specs.State.{State, RefOf, first, next_refs}
 use Rattle.rely_guarantee.specs.declared.event.Event.{Event}
 use Rattle.rely_guarantee.specs.declared.event.Event.TheVariants.{SetRef, DropRef}
 use Rattle.ref_book.specs.Tracks.{Tracks, said, said_at}

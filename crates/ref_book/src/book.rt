@@ -1,6 +1,6 @@
 ghost use Rattle.std.specs.Prelude.{◌≡◌, ℕ, List, Some, IfOk, OnOk, if◌then◌else◌};
 ghost use Rattle.ost_types.specs.Path.{same_name};
-ghost use Rattle.rely_guarantee.specs.State.{State, RefOf, first, next};
+ghost use Rattle.rely_guarantee.specs.State.{State, RefOf, first, next_refs};
 ghost use Rattle.ref_book.specs.Tracks.{Tracks, HasEventRoom, HasRoom, Lists, said_at};
 
 use ost_types::{Csum, NoMemory, TryCopy};
@@ -59,7 +59,7 @@ impl RefBook {
     /// The ref changes, for which there is room, if the event changes one.
     pub fn change(&mut self, event: &Event)
         requires { HasEventRoom self.old event.now }
-        ensures refs { (s : State) → Tracks self.old s → Tracks self.new (next event.now s) }
+        ensures refs { (s : State) → Tracks self.old s → Tracks self.new (next_refs event.now s) }
         ensures keeps { (other : List ℕ) → HasRoom self.old other → HasRoom self.new other }
     {
         match event {

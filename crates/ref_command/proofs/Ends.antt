@@ -20,7 +20,7 @@ use Rattle.ref_command.specs.declared.answer.RefAnswer.TheVariants as answer
 use Rattle.rely_guarantee.specs.declared.event.Event.{Event}
 use Rattle.rely_guarantee.specs.Books.{Books}
 use Rattle.rely_guarantee.specs.SystemInvariant.{Stands}
-use Rattle.rely_guarantee.specs.State.{State}
+use Rattle.rely_guarantee.specs.State.{SystemState}
 use Rattle.rely_guarantee.specs.declared.books.Entry.{Entry}
 use Rattle.rely_guarantee.specs.declared.books.Pending.{Pending}
 use Rattle.rely_guarantee.specs.Laws.{MakeDurable}
@@ -124,7 +124,7 @@ pub falls_of : (lane : ℕ) (t new : RefCommand) (v : View) (b : Books) → comm
 falls_of lane t new v b f step = falls_always t new step
 
 -- the facts at the beginning
-pub begins_of : (start : State) (entries : List Entry) (pending : Option Pending) (lane : ℕ) (v : View) (b : Books) (t : RefCommand) → Stands start entries pending v → StagingPathFree lane v → Begins lane t → command_facts lane t v b
+pub begins_of : (start : SystemState) (entries : List Entry) (pending : Option Pending) (lane : ℕ) (v : View) (b : Books) (t : RefCommand) → Stands start entries pending v → StagingPathFree lane v → Begins lane t → command_facts lane t v b
 begins_of start entries pending lane v b (Parse look) stands home begins = tt
 begins_of start entries pending lane v b (Reset look plan) stands home begins = record {
   change = subst (λ l. Facts lane (record { actor = l; name = plan.name; seen = plan.seen; value = Some plan.commit; phase = phase.Look }) v b) (sym begins.0)

@@ -23,7 +23,7 @@ use Rattle.ref_store.specs.Steps.{Needs, begins, writes_in, WritesOf}
 use Rattle.ref_store.proofs.StepLemmas.{meets_in, made}
 use Rattle.rely_guarantee.specs.declared.books.Entry.{Entry}
 use Rattle.rely_guarantee.specs.declared.books.Pending.{Pending}
-use Rattle.rely_guarantee.specs.State.{State}
+use Rattle.rely_guarantee.specs.State.{SystemState}
 use Rattle.rely_guarantee.specs.Books.{Books}
 use Rattle.rely_guarantee.specs.SystemInvariant.{Stands}
 use Rattle.ref_command.specs.declared.command.RefCommand.{RefCommand}
@@ -81,7 +81,7 @@ home_task actor lane (Parse look) v w b f writes home = ⊎_elim (λ same. subst
 home_task actor lane (Reset look plan) v w b f writes home = ⊎_elim (λ same. subst NotDirectory (sym same) home) (λ bad. absurd bad) (writes.now (stage_path lane))
 home_task actor lane (Change work) v w b f writes home = home_own lane work.task v f.ref.needs f.ref.mine w writes home
 
-begins_there : (start : State) (entries : List Entry) (pending : Option Pending) (lane : ℕ) (v : View) → Stands start entries pending v → StagingPathFree lane v → (o : Option (List ℕ)) → begins o lane v
+begins_there : (start : SystemState) (entries : List Entry) (pending : Option Pending) (lane : ℕ) (v : View) → Stands start entries pending v → StagingPathFree lane v → (o : Option (List ℕ)) → begins o lane v
 begins_there start entries pending lane v stands home None = tt
 begins_there start entries pending lane v stands home (Some commit) = record {
   firm = stands.folders folder.Heads;
@@ -92,7 +92,7 @@ begins_there start entries pending lane v stands home (Some commit) = record {
 }
 
 -- a change begins where the folders of the layout stand and the lane's stage is no folder
-pub begins_change : (start : State) (entries : List Entry) (pending : Option Pending) (lane : ℕ) (v : View) (b : Books) → Stands start entries pending v → StagingPathFree lane v → lane < 16
+pub begins_change : (start : SystemState) (entries : List Entry) (pending : Option Pending) (lane : ℕ) (v : View) (b : Books) → Stands start entries pending v → StagingPathFree lane v → lane < 16
     → (name : List ℕ) (seen value : Option (List ℕ)) → IsRefName name → (value ≡ None → IsSome seen) → Facts lane (record { actor = lane; name = name; seen = seen; value = value; phase = phase.Look }) v b
 begins_change start entries pending lane v b stands home few name seen value named removed = record {
   needs = record { named = named; actor = few; made = removed; meets = begins_there start entries pending lane v stands home value };

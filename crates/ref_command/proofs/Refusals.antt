@@ -29,7 +29,7 @@ use Rattle.ref_store.specs.Steps.{Needs, refuses_in}
 use Rattle.ref_store.proofs.StepLemmas.{made}
 use Rattle.rely_guarantee.specs.declared.books.Entry.{Entry}
 use Rattle.rely_guarantee.specs.declared.books.Pending.{Pending}
-use Rattle.rely_guarantee.specs.State.{State}
+use Rattle.rely_guarantee.specs.State.{SystemState}
 use Rattle.rely_guarantee.specs.Books.{Books}
 use Rattle.rely_guarantee.specs.SystemInvariant.{Stands}
 use Rattle.rely_guarantee.proofs.Goods.{fits_now}
@@ -106,11 +106,11 @@ module _ (t : store.Change) (v : View) (needs : Needs t v) (sane : IsSane v.now)
   refused phase.Ended is NotEmpty why = absurd why
 
 -- so it is of a change that any command makes
-pub change_refused : (start : State) (entries : List Entry) (pending : Option Pending) (v : View) (t : store.Change) (e : FsErr) → IsTree v.now → Stands start entries pending v → Needs t v → refuses_in t.phase t v e → OfNone e
+pub change_refused : (start : SystemState) (entries : List Entry) (pending : Option Pending) (v : View) (t : store.Change) (e : FsErr) → IsTree v.now → Stands start entries pending v → Needs t v → refuses_in t.phase t v e → OfNone e
 change_refused start entries pending v t e tree stands needs why =
     refused t v needs (fits_now start entries pending v stands 0 v.now (Image-now v tree)).sane (λ p. stands.reached p (shows v.now p) (may_now v p)) t.phase refl e why
 
-pub refused_of : (start : State) (entries : List Entry) (pending : Option Pending) (lane : ℕ) (v : View) (b : Books) (t : RefCommand) (e : FsErr) → IsTree v.now → Stands start entries pending v → command_facts lane t v b → command_refuses t v e
+pub refused_of : (start : SystemState) (entries : List Entry) (pending : Option Pending) (lane : ℕ) (v : View) (b : Books) (t : RefCommand) (e : FsErr) → IsTree v.now → Stands start entries pending v → command_facts lane t v b → command_refuses t v e
     → OfNone e
 refused_of start entries pending lane v b (Parse look) e tree stands f why = why
 refused_of start entries pending lane v b (Reset look plan) e tree stands f why = why

@@ -12,7 +12,7 @@ ghost use Rattle.repo_layout.specs.Place.{Ref, Stage, place};
 ghost use Rattle.ref_command.specs.declared.answer.RefAnswer.{RefAnswer};
 ghost use Rattle.rely_guarantee.specs.declared.books.Entry.{Entry};
 ghost use Rattle.rely_guarantee.specs.declared.books.Pending.{Pending};
-ghost use Rattle.rely_guarantee.specs.State.{State};
+ghost use Rattle.rely_guarantee.specs.State.{SystemState};
 ghost use Rattle.rely_guarantee.specs.Books.{Books};
 ghost use Rattle.rely_guarantee.specs.declared.event.Event.TheVariants.{SetRef};
 ghost use Rattle.rely_guarantee.specs.Lasting.{StaysFinished};
@@ -29,7 +29,7 @@ ghost use Rattle.ref_command.specs.Answers.{Begins, Says};
 pub fn lanes_without_a_task()
     ensures others { (actor lane mine : ℕ) (v w : View) (b b' : Books) → mine < 16 → mine ≢ actor → mine ≢ lane → Interference actor lane v b w b' → StagingPathFree mine v → StagingPathFree mine w }
     ensures own { (actor lane : ℕ) (t : RefCommand) (v w : View) (b : Books) → command_facts lane t v b → Writes (command_writes actor t v) v w → StagingPathFree lane v → StagingPathFree lane w }
-    ensures begins { (start : State) (entries : List Entry) (pending : Option Pending) (lane : ℕ) (v : View) (b : Books) (t : RefCommand) → Stands start entries pending v → StagingPathFree lane v → Begins lane t → command_facts lane t v b }
+    ensures begins { (start : SystemState) (entries : List Entry) (pending : Option Pending) (lane : ℕ) (v : View) (b : Books) (t : RefCommand) → Stands start entries pending v → StagingPathFree lane v → Begins lane t → command_facts lane t v b }
 {}
 
 /// What each answer says of the view before the step that gave it.
@@ -52,5 +52,5 @@ pub fn steps_fall()
 
 /// Where the view is told, a command is refused only by a call that failed or for want of memory.
 pub fn told_refusals()
-    ensures { (start : State) (entries : List Entry) (pending : Option Pending) (lane : ℕ) (v : View) (b : Books) (t : RefCommand) (e : FsErr) → IsTree v.now → Stands start entries pending v → command_facts lane t v b → command_refuses t v e → OfNone e }
+    ensures { (start : SystemState) (entries : List Entry) (pending : Option Pending) (lane : ℕ) (v : View) (b : Books) (t : RefCommand) (e : FsErr) → IsTree v.now → Stands start entries pending v → command_facts lane t v b → command_refuses t v e → OfNone e }
 {}

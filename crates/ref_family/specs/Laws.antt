@@ -90,7 +90,7 @@ hear_laws = record {
 }
 
 learn_laws : LearnLaws ref_tasks ref_doing
-learn_laws = no_learning ref_tasks ref_doing (λ refs pins t new is. is)
+learn_laws = no_learning ref_tasks ref_doing (λ refs ids pins t new is. is)
 
 change_laws : ChangeLaws ref_tasks ref_means ref_doing
 change_laws = record {
@@ -111,8 +111,8 @@ answer_laws : AnswerLaws ref_tasks ref_means ref_doing
 answer_laws = record {
   answers = λ since c t new is step. subst IsSome (sym (ref_ends since.start.refs c t.work new.work is step).answer) refl;
   says = λ since p c t new a is step given. (let e = ref_ends since.start.refs c t.work new.work is step in subst (λ x. ref_says since.start.refs x c) (one (answer_of new.work) e.given a e.answer given) e.says);
-  shows = λ since lane c t new v w b a is f leaves given sound. tells since.start.refs lane c v w b a t.work is f (says_of lane t.work new.work v w b a f leaves given);
-  remains = λ since lane c t new v w b a is f leaves given. tt;
+  shows = λ since lane c t new v w b a listed is f leaves given sound. tells since.start.refs lane c v w b a t.work is f (says_of lane t.work new.work v w b a f leaves given);
+  remains = λ since lane c t new v w b a listed is f leaves given. tt;
   remains_at_once = λ since c a v is. tt;
   knows = λ since p lane c t new v w b a. ref_tells (λ s branch commit work is. change_is s (words.Reset branch commit) work is) lane since p c t.work new.work v w b a;
   lacks_alone = λ since lane c t new v w b a commit is f leaves given lacks sum. refs_alone t.work new.work v w a commit leaves given lacks;

@@ -15,13 +15,12 @@ use Rattle.rely_guarantee.specs.declared.books.Base.{Base}
 use Rattle.rely_guarantee.specs.declared.books.Books as rust
 use Rattle.rely_guarantee.specs.declared.books.Claim as claim
 use Rattle.rely_guarantee.specs.declared.books.Pending.{Pending}
-use Rattle.rely_guarantee.specs.declared.books.Start.{Start}
 use Rattle.rely_guarantee.specs.declared.event.Event.{Event}
 use Rattle.rely_guarantee.specs.declared.kind.Outcome.{Outcome}
 use Rattle.rely_guarantee.specs.declared.kind.Outcome.TheVariants as came
 use Rattle.rely_guarantee.specs.Exact as exact
 use Rattle.rely_guarantee.specs.Exact.{IsRefusedBy, why_of}
-use Rattle.rely_guarantee.specs.State.{first, stored}
+use Rattle.rely_guarantee.specs.State.{stored, opening_state}
 use Rattle.rely_guarantee.specs.Books.{Books, books_of, Spared, Keeps}
 use Rattle.rely_guarantee.specs.Rely.{Guarantee, Interference}
 use Rattle.rely_guarantee.specs.SystemInvariant.{Ordered, SystemInvariant}
@@ -37,7 +36,7 @@ pub told_same : {P : View → Type 0} (view : Option View) (w : View) → view �
 told_same {P} view w is told = let e : Some told.0 ≡ Some w = sym told.1 ∙ is in let k : told.0 ≡ w = cc in subst P k told.2
 
 pub keeps_refl : (lane : ℕ) (b : Books) → Keeps lane b b
-keeps_refl lane b = record { exclusive = λ k. k; turn = λ k. k; sysroot = λ k. k; holds = λ h l k. k; wants = λ w l k. k; pins = λ p l k. k; pinned = λ p l k. k; claims = λ c k. k; others = λ c l k. k }
+keeps_refl lane b = record { exclusive = λ k. k; turn = λ k. k; sysroot = λ k. k; holds = λ h l k. k; wants = λ w l k. k; pins = λ p l k. k; pinned = λ p l k. k; claims = λ c k. k; others = λ c l k. k; start = refl }
 
 -- what is to be held for the next step
 pub before_holds : (next : Kind) (lane : ℕ) (b : Books) → IsBefore next → NotPending lane b → Holds next lane b
@@ -149,13 +148,13 @@ module _ {F : Type 0} (view : F → Option View) (clock spare : F → ℕ) (was 
       sound_goes view clock spare was fslaws old new [] ready.sound (subst (Calls old.fs) (sym ends.fs) time)
       (ends_ordered old mid new actor lane same ends none time.later room ready.sound.ordered)
       (ends.opened ∙ ap (λ b. b.opened) same)
-      (ap (λ (v : Start). v.refs.items) (ends.start ∙ ap (λ b. b.start) same))
+      (ends.start ∙ ap (λ b. b.start) same)
       (rw (history, pending) (sym (append-nil (stored old.books.history.items old.books.pending))))
       (λ t le. rw history refl)
       (λ v w told_v told_w stands.
       let parts = quiet_parts old actor lane t by is stood ready v told_v in
       let wrote_w : Writes (writes actor t v) v w = told_same (view mid.fs) w (ap view (sym ends.fs) ∙ told_w) (wrote v told_v) in
-      rw (history, pending) (stands_quiet (first old.books.start.refs.items) old.books.history.items (books_of old.books) actor lane (writes actor t v) v w wrote_w parts.0 parts.1 ready.sound.ordered.owner none stands))
+      rw (history, pending) (stands_quiet (opening_state old.books.start) old.books.history.items (books_of old.books) actor lane (writes actor t v) v w wrote_w parts.0 parts.1 ready.sound.ordered.owner none stands))
       (λ v w told_v told_w there.
       let parts = quiet_parts old actor lane t by is stood ready v told_v in
       let wrote_w : Writes (writes actor t v) v w = told_same (view mid.fs) w (ap view (sym ends.fs) ∙ told_w) (wrote v told_v) in

@@ -16,6 +16,7 @@ use Rattle.repo_layout.specs.Place.{Checkout, Mark, Object, Stage, Ref, place}
 use Rattle.repo_layout.proofs.Places.{place-checkout, place-ref, ref_path-injective}
 use Rattle.layout_rules.specs.InLayout.{InLayout}
 use Rattle.layout_rules.proofs.RulePlaces.{no_checkout, no_ref, no_stage}
+use Rattle.boot_model.specs.declared.item.DepId.{DepId}
 use Rattle.rely_guarantee.specs.declared.event.Event.TheVariants.{SetRef, DropRef}
 use Rattle.rely_guarantee.specs.State.{Topic, RefOf, Said}
 use Rattle.rely_guarantee.specs.Disks.{path_of, IsLeaf, Says}
@@ -95,14 +96,14 @@ said_at : (name : List ℕ) (t : Topic) (said : Said) (v : View) → Some (RefOf
 said_at name t said v at is = at_ref name t (λ r. Says r said (shows v.now (path_of r))) at is
 
 -- The rename of a ref's staged file to its path.
-pub set_shows : (W : Path → Seen → Type 0) (v : View) (actor : ℕ) (name commit : List ℕ) (seen : Option (List ℕ))
+pub set_shows : (ids : List DepId) (W : Path → Seen → Type 0) (v : View) (actor : ℕ) (name commit : List ℕ) (seen : Option (List ℕ))
     → ((p : Path) (s : Seen) → W p s → (place p ≡ Stage actor) ⊎ ((p ≡ ref_path name) × (bytes_in s ≡ Some (ref_text commit))))
-    → IsRefName name → IsSum commit → Says (RefOf name) seen (shows v.now (ref_path name)) → Shows W v (SetRef name seen commit)
-set_shows W v actor name commit seen lies is sum was = record {
+    → IsRefName name → IsSum commit → Says (RefOf name) seen (shows v.now (ref_path name)) → Shows ids W v (SetRef name seen commit)
+set_shows ids W v actor name commit seen lies is sum was = record {
   writes = writes;
   valid = (is, sum);
   was = λ t at. said_at name t seen v at was;
-  roots = λ s shown. tt;
+  roots = λ s shown same. tt;
 }
   where
     writes : (t : Topic) (s : Seen) → W (path_of t) s → PublishedBy (SetRef name seen commit) t s
@@ -112,9 +113,9 @@ set_shows W v actor name commit seen lies is sum was = record {
         (lies (ref_path n) s wrote)
 
 -- The unlink of a ref's file.
-pub drop_shows : (W : Path → Seen → Type 0) (v : View) (name seen : List ℕ) → ((p : Path) (s : Seen) → W p s → (p ≡ ref_path name) × (s ≡ Vacant))
-    → IsRefName name → Says (RefOf name) (Some seen) (shows v.now (ref_path name)) → Shows W v (DropRef name seen)
-drop_shows W v name seen lies is was = record { writes = writes; valid = is; was = λ t at. said_at name t (Some seen) v at was; roots = λ s shown. tt }
+pub drop_shows : (ids : List DepId) (W : Path → Seen → Type 0) (v : View) (name seen : List ℕ) → ((p : Path) (s : Seen) → W p s → (p ≡ ref_path name) × (s ≡ Vacant))
+    → IsRefName name → Says (RefOf name) (Some seen) (shows v.now (ref_path name)) → Shows ids W v (DropRef name seen)
+drop_shows ids W v name seen lies is was = record { writes = writes; valid = is; was = λ t at. said_at name t (Some seen) v at was; roots = λ s shown same. tt }
   where
     writes : (t : Topic) (s : Seen) → W (path_of t) s → PublishedBy (DropRef name seen) t s
     writes (RefOf n) s wrote =

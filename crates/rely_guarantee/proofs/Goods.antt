@@ -18,7 +18,7 @@ use Rattle.layout_rules.proofs.Suiting.{from_seen, vacant_suits}
 use Rattle.rely_guarantee.specs.declared.books.Entry.{Entry}
 use Rattle.rely_guarantee.specs.declared.books.Pending.{Pending}
 use Rattle.rely_guarantee.specs.declared.event.Event.{Event}
-use Rattle.rely_guarantee.specs.State.{Topic, RefOf, Said, State, is_topic, target, gives, next, after, IsNamed, events_of, stored, acked}
+use Rattle.rely_guarantee.specs.State.{Topic, RefOf, Said, State, is_topic, target, gives, after, IsNamed, events_of, stored, acked, SystemState, next_refs}
 use Rattle.rely_guarantee.specs.Disks.{path_of, IsLeaf, Says, Logical, HasRef, IsOther}
 use Rattle.rely_guarantee.specs.SystemInvariant.{PublishedBy, Published, Known, NoStray, Stands, Fits}
 use Rattle.rely_guarantee.proofs.States.{topic_is, topic_none, next_here, next_apart, after_push, run_front, after_named, length-events, acked_few, says_vacant}
@@ -59,7 +59,7 @@ has_ref d name None says = seen_leaf d (d.at (ref_path name)) says
 has_ref d name (Some commit) says = record { sum = says.0; file = reads_shows d (ref_path name) ∙ says.1 }
 
 -- a disk of this state is sane
-module _ (start : State) (entries : List Entry) (pending : Option Pending) (v : View) (stands : Stands start entries pending v) (d : Disk) (i : Image v d) (state : State) (named : IsNamed state) (logical : Logical d state) where
+module _ (start : SystemState) (entries : List Entry) (pending : Option Pending) (v : View) (stands : Stands start entries pending v) (d : Disk) (i : Image v d) (state : State) (named : IsNamed state) (logical : Logical d state) where
   ref_at : (p : Path) (name : List ℕ) → p ≡ ref_path name → is_leaf (d.at p) ≡ true → (said : Said) → state (RefOf name) ≡ said → IsRefAt d p
   ref_at p name e leaf None is =
       let none : is_leaf (d.at (ref_path name)) ≡ false = has_ref d name None (subst (λ y. Says (RefOf name) y (shows d (ref_path name))) is (logical (RefOf name))) in
@@ -86,14 +86,14 @@ few : (t : ℕ) (entries : List Entry) → acked t entries ≤ length (events_of
 few t entries = omega (arith, acked_few t entries, length-events entries)
 
 -- While a change is published, a disk is before it or after it.
-published_fits : (start : State) (entries : List Entry) (p : Pending) (v : View) → Stands start entries (Some p) v → (t : ℕ) (d : Disk) → Image v d → Fits start entries (events_of entries ++ p.event ∷ []) t d
+published_fits : (start : SystemState) (entries : List Entry) (p : Pending) (v : View) → Stands start entries (Some p) v → (t : ℕ) (d : Disk) → Image v d → Fits start entries (events_of entries ++ p.event ∷ []) t d
 published_fits start entries p v stands t d i = by (target p.event) refl
   where
     events : List Event
     events = events_of entries
 
     value : State
-    value = after events start
+    value = (after events start).refs
 
     known : (q : Topic) → Says q (value q) (shows d (path_of q)) ⊎ PublishedBy p.event q (shows d (path_of q))
     known q = known_at (Published (Some p)) value v stands.known d i q
@@ -101,7 +101,7 @@ published_fits start entries p v stands t d i = by (target p.event) refl
     named : IsNamed value
     named = after_named events start (run_front events (p.event ∷ []) start stands.run) stands.named
 
-    both : IsNamed (after (events ++ p.event ∷ []) start)
+    both : IsNamed (after (events ++ p.event ∷ []) start).refs
     both = after_named (events ++ p.event ∷ []) start stands.run stands.named
 
     old : ((q : Topic) → target p.event ≡ Some q → Says q (value q) (shows d (path_of q))) → Fits start entries (events ++ p.event ∷ []) t d
@@ -116,16 +116,16 @@ published_fits start entries p v stands t d i = by (target p.event) refl
       split = append-nil (events ++ p.event ∷ []);
       has_acked = omega (arith, few t entries, length-append events (p.event ∷ []));
       shows = logical;
-      sane = sane start entries (Some p) v stands d i (after (events ++ p.event ∷ []) start) both logical;
+      sane = sane start entries (Some p) v stands d i (after (events ++ p.event ∷ []) start).refs both logical;
     }
       where
-        at : (q : Topic) (b : Bool) → is_topic (target p.event) q ≡ b → Says q (next p.event value q) (shows d (path_of q))
+        at : (q : Topic) (b : Bool) → is_topic (target p.event) q ≡ b → Says q (next_refs p.event value q) (shows d (path_of q))
         at q true same = subst (λ y. Says q y (shows d (path_of q))) (sym (next_here p.event q value same)) (is q (topic_is (target p.event) q same))
         at q false other =
             subst (λ y. Says q y (shows d (path_of q))) (sym (next_apart p.event q value other)) (⊎_elim (λ k. k) (λ s. absurd (topic_none (target p.event) q other s.0)) (known q))
 
-        logical : Logical d (after (events ++ p.event ∷ []) start)
-        logical q = subst (λ (f : State). Says q (f q) (shows d (path_of q))) (sym (after_push events p.event start)) (at q (is_topic (target p.event) q) refl)
+        logical : Logical d (after (events ++ p.event ∷ []) start).refs
+        logical q = subst (λ (f : SystemState). Says q (f.refs q) (shows d (path_of q))) (sym (after_push events p.event start)) (at q (is_topic (target p.event) q) refl)
 
     by : (o : Option Topic) → target p.event ≡ o → Fits start entries (events ++ p.event ∷ []) t d
     by None e = old (λ q is. absurd (let z : None ≡ Some q = sym e ∙ is in cc))
@@ -138,23 +138,23 @@ published_fits start entries p v stands t d i = by (target p.event) refl
         one q is = let z : Some x ≡ Some q = sym e ∙ is in cc
 
 -- what a crash leaves now
-pub fits_now : (start : State) (entries : List Entry) (pending : Option Pending) (v : View) → Stands start entries pending v → (t : ℕ) (d : Disk) → Image v d → Fits start entries (stored entries pending) t d
+pub fits_now : (start : SystemState) (entries : List Entry) (pending : Option Pending) (v : View) → Stands start entries pending v → (t : ℕ) (d : Disk) → Image v d → Fits start entries (stored entries pending) t d
 fits_now start entries (Some p) v stands t d i = published_fits start entries p v stands t d i
 fits_now start entries None v stands t d i =
     let events = events_of entries in
-    let logical : Logical d (after events start) = λ q. ⊎_elim (λ k. k) (λ bad. absurd bad) (known_at (Published None) (after events start) v stands.known d i q) in
+    let logical : Logical d (after events start).refs = λ q. ⊎_elim (λ k. k) (λ bad. absurd bad) (known_at (Published None) (after events start).refs v stands.known d i q) in
     record {
       past = events;
       rest = [];
       split = refl;
       has_acked = few t entries;
       shows = logical;
-      sane = sane start entries None v stands d i (after events start) (after_named events start (run_front events [] start stands.run) stands.named) logical;
+      sane = sane start entries None v stands d i (after events start).refs (after_named events start (run_front events [] start stands.run) stands.named) logical;
     }
 
 -- and where nothing is pending, what there is at all
-pub fits_all : (start : State) (entries : List Entry) (v : View) → Stands start entries None v → (d : Disk) → Image v d → IsSane d × Logical d (after (events_of entries) start)
+pub fits_all : (start : SystemState) (entries : List Entry) (v : View) → Stands start entries None v → (d : Disk) → Image v d → IsSane d × Logical d (after (events_of entries) start).refs
 fits_all start entries v stands d i =
     let events = events_of entries in
-    let logical : Logical d (after events start) = λ q. ⊎_elim (λ k. k) (λ bad. absurd bad) (known_at (Published None) (after events start) v stands.known d i q) in
-    (sane start entries None v stands d i (after events start) (after_named events start (run_front events [] start stands.run) stands.named) logical, logical)
+    let logical : Logical d (after events start).refs = λ q. ⊎_elim (λ k. k) (λ bad. absurd bad) (known_at (Published None) (after events start).refs v stands.known d i q) in
+    (sane start entries None v stands d i (after events start).refs (after_named events start (run_front events [] start stands.run) stands.named) logical, logical)

@@ -8,17 +8,18 @@ use Rattle.fs_trait.specs.Change.{Writes, Nothing, Harmless, LeadsTo}
 use Rattle.fs_trait.proofs.Effects.{may_now}
 use Rattle.fs_trait.proofs.Kept.{firm_kept}
 use Rattle.repo_layout.specs.Paths.{folder_path, ref_path}
+use Rattle.boot_model.specs.declared.item.DepId.{DepId}
 use Rattle.rely_guarantee.specs.declared.books.Entry.{Entry}
 use Rattle.rely_guarantee.specs.declared.books.Pending.{Pending}
 use Rattle.rely_guarantee.specs.declared.event.Event.{Event}
-use Rattle.rely_guarantee.specs.State.{Topic, RefOf, Said, State, is_topic, target, before, gives, next, after, IsRun, events_of}
+use Rattle.rely_guarantee.specs.State.{Topic, RefOf, Said, State, is_topic, target, before, gives, next, after, IsRun, events_of, SystemState, next_refs}
 use Rattle.rely_guarantee.specs.Disks.{path_of, IsLeaf, Logical, Says}
 use Rattle.rely_guarantee.specs.Books.{Books}
 use Rattle.rely_guarantee.specs.Rely.{Guarantee}
 use Rattle.rely_guarantee.specs.SystemInvariant.{Published, Leads, NoStray, Known, Stands}
 use Rattle.rely_guarantee.specs.Change.{Still, Away, Shows, Final}
 use Rattle.rely_guarantee.specs.Laws.{Within, NotPending}
-use Rattle.rely_guarantee.proofs.States.{topic_is, topic_none, next_here, next_apart, after_push, events_push, run_push, says_leaf, says_one}
+use Rattle.rely_guarantee.proofs.States.{same_deployments, topic_is, topic_none, next_here, next_apart, after_push, events_push, run_push, says_leaf, says_one}
 use Rattle.layout_rules.specs.InLayout.{IsBounded, IsSuited}
 use Rattle.layout_rules.proofs.Layouts.{above_ref}
 use Rattle.rely_guarantee.proofs.Mays.{not_other, ref_turn, leads_stay, folders_harmless, kinds_harmless, reached_harmless, strays_harmless}
@@ -82,8 +83,8 @@ module _ (W : Path → Seen → Type 0) (v w : View) (writes : Writes W v w) whe
       by (Some p) is = known_away b actor lane (Published b.pending) value within (still_away b actor lane p is (owner p is) not within) known
 
   -- the one that publishes a change
-  pub known_publish : (b : Books) (actor lane : ℕ) (value : State) (p : Pending) → Within W (Guarantee b v actor lane) → Shows W v p.event → Known (Published None) value v → Known (Published (Some p)) value w
-  known_publish b actor lane value p within change known = record {
+  pub known_publish : (ids : List DepId) (b : Books) (actor lane : ℕ) (value : State) (p : Pending) → Within W (Guarantee b v actor lane) → Shows ids W v p.event → Known (Published None) value v → Known (Published (Some p)) value w
+  known_publish ids b actor lane value p within change known = record {
     each = λ t s may. ⊎_elim
         (λ was. ⊎_elim (λ k. inl k) (λ bad. absurd bad) (known.each t s was))
         (λ wrote. inr (change.writes t s wrote))
@@ -105,7 +106,7 @@ module _ (W : Path → Seen → Type 0) (v w : View) (writes : Writes W v w) whe
   reached_kept b actor lane within was = firm_kept W IsBounded v w writes (λ p s wrote. reached_harmless b v actor lane p s (within p s wrote)) was
 
 -- the sync that makes it durable
-pub known_make_durable : (value : State) (v w : View) (p : Pending) → Writes Nothing v w → Final p.event w → Known (Published (Some p)) value v → Known (Published None) (next p.event value) w
+pub known_make_durable : (value : State) (v w : View) (p : Pending) → Writes Nothing v w → Final p.event w → Known (Published (Some p)) value v → Known (Published None) (next_refs p.event value) w
 known_make_durable value v w p writes final known = record {
   each = λ t s may. inl (each t s may (is_topic (target p.event) t) refl);
   leads = λ t f x e. leads t f x e (is_topic (target p.event) t) refl;
@@ -114,7 +115,7 @@ known_make_durable value v w p writes final known = record {
     was : (q : Path) (s : Seen) → MayBe w q s → MayBe v q s
     was q s may = ⊎_elim (λ m. m) (λ bad. absurd bad) (writes.only q s may)
 
-    each : (t : Topic) (s : Seen) → MayBe w (path_of t) s → (b : Bool) → is_topic (target p.event) t ≡ b → Says t (next p.event value t) s
+    each : (t : Topic) (s : Seen) → MayBe w (path_of t) s → (b : Bool) → is_topic (target p.event) t ≡ b → Says t (next_refs p.event value t) s
     each t s may true same = subst (λ y. Says t y s) (sym (next_here p.event t value same)) (final.only t (topic_is (target p.event) t same) s may)
     each t s may false other =
         subst (λ y. Says t y s) (sym (next_apart p.event t value other)) (⊎_elim (λ k. k) (λ k. absurd (topic_none (target p.event) t other k.0)) (known.each t s (was (path_of t) s may)))
@@ -123,7 +124,7 @@ known_make_durable value v w p writes final known = record {
     given t at None is f x e = inl refl
     given t at (Some commit) is f x e = inr (final.leads t commit at is f x e)
 
-    leads : (t : Topic) (f : Path) (x : List ℕ) → path_of t ≡ under f x → (b : Bool) → is_topic (target p.event) t ≡ b → (next p.event value t ≡ None) ⊎ Leads w f
+    leads : (t : Topic) (f : Path) (x : List ℕ) → path_of t ≡ under f x → (b : Bool) → is_topic (target p.event) t ≡ b → (next_refs p.event value t ≡ None) ⊎ Leads w f
     leads t f x e true same = ⊎_elim (λ none. inl (next_here p.event t value same ∙ none)) (λ l. inr l) (given t (topic_is (target p.event) t same) (gives p.event) refl f x e)
     leads t f x e false other = ⊎_elim
         (λ none. inl (next_apart p.event t value other ∙ none))
@@ -131,57 +132,57 @@ known_make_durable value v w p writes final known = record {
         (known.leads t f x e)
 
 -- All of it, for each kind of change.
-pub stands_quiet : (start : State) (entries : List Entry) (b : Books) (actor lane : ℕ) (W : Path → Seen → Type 0) (v w : View) → Writes W v w → Within W (Guarantee b v actor lane) → Still W v
+pub stands_quiet : (start : SystemState) (entries : List Entry) (b : Books) (actor lane : ℕ) (W : Path → Seen → Type 0) (v w : View) → Writes W v w → Within W (Guarantee b v actor lane) → Still W v
     → ((p : Pending) → b.pending ≡ Some p → b.turn ≡ Some p.lane) → NotPending lane b → Stands start entries b.pending v → Stands start entries b.pending w
 stands_quiet start entries b actor lane W v w writes within still owner not was = record {
   named = was.named;
   run = was.run;
-  known = known_quiet W v w writes b actor lane (after (events_of entries) start) within still owner not was.known;
+  known = known_quiet W v w writes b actor lane (after (events_of entries) start).refs within still owner not was.known;
   folders = folders_kept W v w writes b actor lane within was.folders;
   strays = strays_kept W v w writes b actor lane within was.strays;
   kinds = kinds_kept W v w writes b actor lane within was.kinds;
   reached = reached_kept W v w writes b actor lane within was.reached;
 }
 
-pub stands_away : (start : State) (entries : List Entry) (b : Books) (actor lane : ℕ) (W : Path → Seen → Type 0) (v w : View) → Writes W v w → Within W (Guarantee b v actor lane) → Away W
+pub stands_away : (start : SystemState) (entries : List Entry) (b : Books) (actor lane : ℕ) (W : Path → Seen → Type 0) (v w : View) → Writes W v w → Within W (Guarantee b v actor lane) → Away W
     → Stands start entries b.pending v → Stands start entries b.pending w
 stands_away start entries b actor lane W v w writes within away was = record {
   named = was.named;
   run = was.run;
-  known = known_away W v w writes b actor lane (Published b.pending) (after (events_of entries) start) within away was.known;
+  known = known_away W v w writes b actor lane (Published b.pending) (after (events_of entries) start).refs within away was.known;
   folders = folders_kept W v w writes b actor lane within was.folders;
   strays = strays_kept W v w writes b actor lane within was.strays;
   kinds = kinds_kept W v w writes b actor lane within was.kinds;
   reached = reached_kept W v w writes b actor lane within was.reached;
 }
 
-pub stands_publish : (start : State) (entries : List Entry) (b : Books) (actor lane : ℕ) (p : Pending) (W : Path → Seen → Type 0) (v w : View) → Writes W v w → Within W (Guarantee b v actor lane) → Shows W v p.event
+pub stands_publish : (start : SystemState) (entries : List Entry) (b : Books) (actor lane : ℕ) (p : Pending) (W : Path → Seen → Type 0) (v w : View) → Writes W v w → Within W (Guarantee b v actor lane) → Shows start.deployments W v p.event
     → Stands start entries None v → Stands start entries (Some p) w
 stands_publish start entries b actor lane p W v w writes within change was = record {
   named = was.named;
-  run = run_push (events_of entries) p.event start (subst (λ (l : List Event). IsRun l start) (append-nil (events_of entries)) was.run) (record { valid = change.valid; was = seen_now; roots = change.roots value shown_now });
-  known = known_publish W v w writes b actor lane (after (events_of entries) start) p within change was.known;
+  run = run_push (events_of entries) p.event start (subst (λ (l : List Event). IsRun l start) (append-nil (events_of entries)) was.run) (record { valid = change.valid; was = seen_now; roots = change.roots value shown_now (same_deployments (events_of entries) start) });
+  known = known_publish W v w writes start.deployments b actor lane (after (events_of entries) start).refs p within change was.known;
   folders = folders_kept W v w writes b actor lane within was.folders;
   strays = strays_kept W v w writes b actor lane within was.strays;
   kinds = kinds_kept W v w writes b actor lane within was.kinds;
   reached = reached_kept W v w writes b actor lane within was.reached;
 }
   where
-    value : State
+    value : SystemState
     value = after (events_of entries) start
 
-    shown_now : Logical v.now value
+    shown_now : Logical v.now value.refs
     shown_now t = ⊎_elim (λ k. k) (λ bad. absurd bad) (was.known.each t _ (may_now v (path_of t)))
 
-    seen_now : (t : Topic) → target p.event ≡ Some t → value t ≡ before p.event
-    seen_now t at = says_one t (value t) (before p.event) _ (shown_now t) (change.was t at)
+    seen_now : (t : Topic) → target p.event ≡ Some t → value.refs t ≡ before p.event
+    seen_now t at = says_one t (value.refs t) (before p.event) _ (shown_now t) (change.was t at)
 
-pub stands_make_durable : (start : State) (entries : List Entry) (p : Pending) (e : Entry) (v w : View) → e.event ≡ p.event → Writes Nothing v w → Final p.event w
+pub stands_make_durable : (start : SystemState) (entries : List Entry) (p : Pending) (e : Entry) (v w : View) → e.event ≡ p.event → Writes Nothing v w → Final p.event w
     → Stands start entries (Some p) v → Stands start (entries ++ e ∷ []) None w
 stands_make_durable start entries p e v w same writes final was = record {
   named = was.named;
   run = subst (λ (l : List Event). IsRun l start) (sym (append-nil (events_of (entries ++ e ∷ [])) ∙ pushed)) was.run;
-  known = subst (λ (s : State). Known (Published None) s w) (sym state) (known_make_durable (after (events_of entries) start) v w p writes final was.known);
+  known = subst (λ (s : SystemState). Known (Published None) s.refs w) (sym state) (known_make_durable (after (events_of entries) start).refs v w p writes final was.known);
   folders = λ f q s may. was.folders f q s (kept q s may);
   strays = λ q s may. was.strays q s (kept q s may);
   kinds = λ q s may. was.kinds q s (kept q s may);

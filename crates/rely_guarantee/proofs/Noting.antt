@@ -79,7 +79,7 @@ module _ {F : Type 0} (view : F → Option View) (clock spare : F → ℕ) (was 
     no_others c other has = ⊎_elim (λ was_there. was_there) (λ e. absurd (other (sym (ap (λ (x : claim.Claim). x.lane) e)))) (claim_cases c has)
 
     noted_keeps : Keeps lane (books_of old.books) (books_of (claimed_books old.books noted))
-    noted_keeps = record { exclusive = λ k. k; turn = λ k. k; sysroot = λ k. k; holds = λ h l k. k; wants = λ w l k. k; pins = λ p l k. k; pinned = λ p l k. k; claims = claim_stays; others = no_others }
+    noted_keeps = record { exclusive = λ k. k; turn = λ k. k; sysroot = λ k. k; holds = λ h l k. k; wants = λ w l k. k; pins = λ p l k. k; pinned = λ p l k. k; claims = claim_stays; others = no_others; start = refl }
 
     noted_spared : Spared lane lane (books_of old.books) (books_of (claimed_books old.books noted))
     noted_spared =

@@ -13,9 +13,10 @@ use Rattle.repo_layout.specs.Paths.{folder_path, ref_path}
 use Rattle.repo_layout.specs.Place.{Ref, place}
 use Rattle.repo_layout.specs.Refs.{is_leaf}
 use Rattle.repo_layout.proofs.Places.{place-ref}
+use Rattle.boot_model.specs.declared.item.DepId.{DepId}
 use Rattle.rely_guarantee.specs.declared.books.Base.{Base}
 use Rattle.rely_guarantee.specs.declared.books.Books.{Books}
-use Rattle.rely_guarantee.specs.State.{Topic, RefOf, Said, State, first, IsNamed}
+use Rattle.rely_guarantee.specs.State.{Topic, RefOf, Said, State, first, IsNamed, opening_state}
 use Rattle.rely_guarantee.specs.Disks.{path_of, IsLeaf, Says, IsOther}
 use Rattle.rely_guarantee.specs.SystemInvariant.{Leads, NoStray, Stands, SystemInvariant}
 use Rattle.rely_guarantee.specs.Opening.{IsOpening, HasSince}
@@ -76,8 +77,8 @@ module _ (start : State) (v : View) (tree : IsTree v.now) (begins : IsOpening st
   within_bounds : (p : Path) (s : Seen) → MayBe v p s → IsBounded p s
   within_bounds p s may searched there = bounded v.now begins.sane p searched (λ none. there (only p s may ∙ ap (seen v.now) none))
 
-  pub stands_begins : Stands start [] None v
-  stands_begins = record {
+  pub stands_begins : (ids : List DepId) → Stands (record { refs = start; deployments = ids }) [] None v
+  stands_begins ids = record {
     named = named;
     run = tt;
     known = record {
@@ -97,8 +98,8 @@ module _ {X : Type 0} where
 
 pub sound_begins : {F : Type 0} (view : F → Option View) (clock spare : F → ℕ) (was : F → ℕ → View → Type 0) → ((fs : F) (v : View) → view fs ≡ Some v → IsTree v.now) → (base : Base F)
     → base.books.exclusive ≡ None → base.books.turn ≡ None → base.books.history.items ≡ [] → base.books.claims.items ≡ [] → base.books.gone ≡ 0 → base.books.pending ≡ None → base.books.owed ≡ 0 → base.books.opened ≤ clock base.fs
-    → ((v : View) → view base.fs ≡ Some v → IsOpening (first base.books.start.refs.items) v)
-    → ((v : View) → view base.fs ≡ Some v → HasSince (Left (was base.fs)) base.books.opened (first base.books.start.refs.items)) → SystemInvariant view clock spare was base
+    → ((v : View) → view base.fs ≡ Some v → IsOpening (opening_state base.books.start).refs v)
+    → ((v : View) → view base.fs ≡ Some v → HasSince (Left (was base.fs)) base.books.opened (opening_state base.books.start).refs) → SystemInvariant view clock spare was base
 sound_begins view clock spare was trees base alone turn empty unclaimed uncounted none nothing opened begins since = record {
   ordered = record {
     agrees = record { turn = λ x y ex. absurd (let z : None ≡ Some x = sym alone ∙ ex in cc); shared = λ x ex. absurd (let z : None ≡ Some x = sym alone ∙ ex in cc); doomed = doomed_held base.books.exclusive base.books.pending };
@@ -109,7 +110,7 @@ sound_begins view clock spare was trees base alone turn empty unclaimed uncounte
     entry = λ more. absurd (let z : 0 < 0 = subst (λ n. 0 < n) nothing more in omega (arith, z));
     counted = rw (uncounted, nothing) (omega arith);
   };
-  stands = λ v told. rw (empty, none) (stands_begins (first base.books.start.refs.items) v (trees base.fs v told) (begins v told));
+  stands = λ v told. rw (empty, none) (stands_begins (opening_state base.books.start).refs v (trees base.fs v told) (begins v told) base.books.start.deployments.items);
   crash = λ v told. rw (empty, none) (record {
     each = λ t d from left.
         let has = since v told t d from left in
@@ -127,4 +128,4 @@ sound_new view clock spare was trees fs books opened start alone turn empty uncl
     sound_begins view clock spare was trees (record { fs = fs; books = books }) alone turn empty unclaimed uncounted none nothing
     (subst (λ n. n ≤ clock fs) (sym at) past)
     (λ v told. subst (λ l. IsOpening (first l) v) (sym these) (begins v told))
-    (λ v told. subst (λ n. HasSince (Left (was fs)) n (first books.start.refs.items)) (sym at) (subst (λ l. HasSince (Left (was fs)) opened (first l)) (sym these) (since v told)))
+    (λ v told. subst (λ n. HasSince (Left (was fs)) n (opening_state books.start).refs) (sym at) (subst (λ l. HasSince (Left (was fs)) opened (first l)) (sym these) (since v told)))

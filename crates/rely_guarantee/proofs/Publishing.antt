@@ -17,12 +17,11 @@ use Rattle.rely_guarantee.specs.declared.books.Books as rust
 use Rattle.rely_guarantee.specs.declared.books.Claim as claim
 use Rattle.rely_guarantee.specs.declared.books.Entry.{Entry}
 use Rattle.rely_guarantee.specs.declared.books.Pending.{Pending}
-use Rattle.rely_guarantee.specs.declared.books.Start.{Start}
 use Rattle.rely_guarantee.specs.declared.event.Event.{Event}
 use Rattle.rely_guarantee.specs.declared.kind.Halt.{Halt}
 use Rattle.rely_guarantee.specs.declared.kind.Outcome.{Outcome}
 use Rattle.rely_guarantee.specs.declared.kind.Outcome.TheVariants as came
-use Rattle.rely_guarantee.specs.State.{first, events_of, stored}
+use Rattle.rely_guarantee.specs.State.{events_of, stored, opening_state}
 use Rattle.rely_guarantee.specs.Books.{Books, books_of, doomed_of, Free, Agrees, Spared}
 use Rattle.rely_guarantee.specs.Rely.{Guarantee, Interference}
 use Rattle.rely_guarantee.specs.SystemInvariant.{AreThere, Ordered, Stands, SystemInvariant}
@@ -134,13 +133,13 @@ module _ {F : Type 0} (view : F → Option View) (clock spare : F → ℕ) (was 
         sound = sound_goes view clock spare was fslaws old new [] ready.sound (subst (Calls old.fs) (sym ends.fs) time)
             (ends_ordered view clock spare was fslaws laws old mid new actor lane same ends none time.later room ready.sound.ordered)
             (ends.opened ∙ ap (λ b. b.opened) same)
-            (ap (λ (v : Start). v.refs.items) (ends.start ∙ ap (λ b. b.start) same))
+            (ends.start ∙ ap (λ b. b.start) same)
             (rw (history, pending) (sym (append-nil (stored old.books.history.items old.books.pending))))
             (λ t le. rw history refl)
             (λ v w told_v told_w stands.
             let one : Some v ≡ Some w = sym (unchanged v told_v) ∙ sym (ap view ends.fs) ∙ told_w in
             let k : v ≡ w = cc in
-            rw (history, pending) (subst (λ x. Stands (first old.books.start.refs.items) old.books.history.items old.books.pending x) k stands))
+            rw (history, pending) (subst (λ x. Stands (opening_state old.books.start) old.books.history.items old.books.pending x) k stands))
             (λ v w told_v told_w there.
             let one : Some v ≡ Some w = sym (unchanged v told_v) ∙ sym (ap view ends.fs) ∙ told_w in
             let k : v ≡ w = cc in
@@ -163,7 +162,7 @@ module _ {F : Type 0} (view : F → Option View) (clock spare : F → ℕ) (was 
   pending_books b lane command e owed halted = record b { turn = Some lane; pending = Some (record { lane = lane; command = command; event = e }); gone = 0; owed = owed; halted = halted }
 
   publish_duty : (old : Base F) (lane : ℕ) (t : T) (e : Event) → kind t ≡ Publish e → Free old.books.turn lane → Free old.books.exclusive lane → Ready view clock spare was (Runs kind facts lane t) old → (v : View) → view old.fs ≡ Some v
-      → Within (writes lane t v) (Guarantee (books_of old.books) v lane lane) × Shows (writes lane t v) v e × Dooms lane (books_of old.books) e
+      → Within (writes lane t v) (Guarantee (books_of old.books) v lane lane) × Shows old.books.start.deployments.items (writes lane t v) v e × Dooms lane (books_of old.books) e
   publish_duty old lane t e is turn_free free ready v told =
       subst (λ (k : Kind). StepObligation k lane lane v (books_of old.books) (writes lane t v) (leaves t (turn.Done tt) t v)) is
       (laws.duty lane lane t t v (books_of old.books) ready.sound.ordered.agrees (inl refl) (subst (λ (k : Kind). Stood k lane lane (books_of old.books)) (sym is) (turn_free, free)) (ready.task.facts v told))
@@ -225,8 +224,8 @@ module _ {F : Type 0} (view : F → Option View) (clock spare : F → ℕ) (was 
             (λ t le. refl)
             (λ v w told_v told_w stands.
             let d = publish_duty old lane t e is turn_free free ready v told_v in
-            stands_publish (first old.books.start.refs.items) old.books.history.items (books_of old.books) lane lane p (writes lane t v) v w (told_same (view fs) w told_w (wrote v told_v)) d.0 d.1
-            (subst (λ (o : Option Pending). Stands (first old.books.start.refs.items) old.books.history.items o v) none stands))
+            stands_publish (opening_state old.books.start) old.books.history.items (books_of old.books) lane lane p (writes lane t v) v w (told_same (view fs) w told_w (wrote v told_v)) d.0 d.1
+            (subst (λ (o : Option Pending). Stands (opening_state old.books.start) old.books.history.items o v) none stands))
             (λ v w told_v told_w there.
             let d = publish_duty old lane t e is turn_free free ready v told_v in
             claims_stand (books_of old.books) v w lane lane (weaker (writes lane t v) (Guarantee (books_of old.books) v lane lane) v w d.0 (told_same (view fs) w told_w (wrote v told_v))) old.books.claims.items old.books.claims.items (λ c has. has) there);
@@ -248,7 +247,7 @@ module _ {F : Type 0} (view : F → Option View) (clock spare : F → ℕ) (was 
             let v = fslaws.told fs old.fs w told_w in
             laws.next lane lane t next v.0 w (books_of old.books) b (subst (λ (k : Kind). Stood k lane lane (books_of old.books)) (sym is) (turn_free, free)) (ready.task.facts v.0 v.1)
             (told_same (view fs) w told_w (subst (λ x. Told (view fs) (λ w. leaves t x next v.0 w)) more (after v.0 v.1)))
-            (record { exclusive = λ k. k; turn = λ k. refl; sysroot = λ k. k; holds = λ x l k. k; wants = λ x l k. k; pins = λ x l k. k; pinned = λ x l k. k; claims = λ c k. k; others = λ c l k. k })
+            (record { exclusive = λ k. k; turn = λ k. refl; sysroot = λ k. k; holds = λ x l k. k; wants = λ x l k. k; pins = λ x l k. k; pinned = λ x l k. k; claims = λ c k. k; others = λ c l k. k; start = refl })
             (subst (λ (k : Kind). Owned k lane (books_of old.books) b) (sym is) (doomed_published lane command e (books_of old.books) (publish_duty old lane t e is turn_free free ready v.0 v.1).2, refl));
         holds = follows_holds e (owed_by (kind next)) (kind next) lane b chain (record { command = command; turn = refl; pending = refl; owes = omega arith });
       }
@@ -299,7 +298,7 @@ module _ {F : Type 0} (view : F → Option View) (clock spare : F → ℕ) (was 
             refl refl (sym (append-nil (stored old.books.history.items old.books.pending))) (λ t le. refl)
             (λ v w told_v told_w stands.
             let d = parts v told_v in
-            stands_away (first old.books.start.refs.items) old.books.history.items (books_of old.books) lane lane (writes lane t v) v w (told_same (view fs) w told_w (wrote v told_v)) d.0 d.1 stands)
+            stands_away (opening_state old.books.start) old.books.history.items (books_of old.books) lane lane (writes lane t v) v w (told_same (view fs) w told_w (wrote v told_v)) d.0 d.1 stands)
             (λ v w told_v told_w there.
             claims_stand (books_of old.books) v w lane lane (weaker (writes lane t v) (Guarantee (books_of old.books) v lane lane) v w (parts v told_v).0 (told_same (view fs) w told_w (wrote v told_v))) old.books.claims.items old.books.claims.items (λ c has. has) there);
         does = λ v told. let w = wrote v told in let d = parts v told in
@@ -362,7 +361,7 @@ module _ {F : Type 0} (view : F → Option View) (clock spare : F → ℕ) (was 
             let v = fslaws.told fs old.fs w told_w in
             laws.next lane lane t next v.0 w (books_of old.books) b (subst (λ (x : Kind). Stood x lane lane (books_of old.books)) (sym is) stood) (ready.task.facts v.0 v.1)
             (told_same (view fs) w told_w (subst (λ x. Told (view fs) (λ w. leaves t x next v.0 w)) more (after v.0 v.1)))
-            (record { exclusive = λ h. h; turn = λ h. h; sysroot = λ h. h; holds = λ x l h. h; wants = λ x l h. h; pins = λ x l h. h; pinned = λ x l h. h; claims = λ c h. h; others = λ c l h. h })
+            (record { exclusive = λ h. h; turn = λ h. h; sysroot = λ h. h; holds = λ x l h. h; wants = λ x l h. h; pins = λ x l h. h; pinned = λ x l h. h; claims = λ c h. h; others = λ c l h. h; start = refl })
             (subst (λ (x : Kind). Owned x lane (books_of old.books) b) (sym is) owned);
         holds = follows_holds e chain.0 (kind next) lane b chain.2
             (record { command = pend.command; turn = pend.turn; pending = pend.pending; owes = omega (arith, follows_owed e chain.0 (kind next) chain.2, chain.1, pend.owes) });
@@ -440,7 +439,7 @@ module _ {F : Type 0} (view : F → Option View) (clock spare : F → ℕ) (was 
       let none : new.books.pending ≡ None = ends.pending ∙ ap (λ b. b.pending) same in
       let nothing : new.books.owed ≡ 0 = ends.owed ∙ ap (λ b. b.owed) same in
       let opened : new.books.opened ≡ old.books.opened = ends.opened ∙ ap (λ b. b.opened) same in
-      let start : new.books.start.refs.items ≡ old.books.start.refs.items = ap (λ (v : Start). v.refs.items) (ends.start ∙ ap (λ b. b.start) same) in
+      let start : new.books.start ≡ old.books.start = ends.start ∙ ap (λ b. b.start) same in
       let now : clock new.fs ≡ clock mid.fs = ap clock ends.fs in
       let fewer : (c : claim.Claim) → Contains new.books.claims.items c → Contains old.books.claims.items c = (λ c has. subst (λ (b : rust.Books). Contains b.claims.items c) same (ends.claims c has)) in
       let ord = ready.sound.ordered in
@@ -463,10 +462,10 @@ module _ {F : Type 0} (view : F → Option View) (clock spare : F → ℕ) (was 
             (λ v w told_v told_w stands.
             let told_m : view mid.fs ≡ Some w = ap view (sym ends.fs) ∙ told_w in
             let d = make_durable_duty old lane t next e is ready v told_v in
-            rw (history, none) (stands_make_durable (first old.books.start.refs.items) old.books.history.items p en v w refl
+            rw (history, none) (stands_make_durable (opening_state old.books.start) old.books.history.items p en v w refl
             (weaker (writes lane t v) Nothing v w d.0 (told_same (view mid.fs) w told_m (wrote v told_v)))
             (d.1 w (told_same (view mid.fs) w told_m (subst (λ x. Told (view mid.fs) (λ w. leaves t x next v w)) done (after v told_v))))
-            (subst (λ (o : Option Pending). Stands (first old.books.start.refs.items) old.books.history.items o v) pend.pending stands)))
+            (subst (λ (o : Option Pending). Stands (opening_state old.books.start) old.books.history.items o v) pend.pending stands)))
             (λ v w told_v told_w there.
             let told_m : view mid.fs ≡ Some w = ap view (sym ends.fs) ∙ told_w in
             let d = make_durable_duty old lane t next e is ready v told_v in
@@ -520,7 +519,7 @@ module _ {F : Type 0} (view : F → Option View) (clock spare : F → ℕ) (was 
       let gone : made.gone ≡ old.books.gone = ap (λ b. b.gone) same in
       let turn : made.turn ≡ old.books.turn = ap (λ b. b.turn) same in
       let opened : made.opened ≡ old.books.opened = ap (λ b. b.opened) same in
-      let start : made.start.refs.items ≡ old.books.start.refs.items = ap (λ b. b.start.refs.items) same in
+      let start : made.start ≡ old.books.start = ap (λ b. b.start) same in
       record {
         sound = record {
           ordered = record {

@@ -101,7 +101,7 @@ module _ (b : Books) (v w : View) (actor lane : ℕ) (writes : Writes (Guarantee
   -- So does a commit that a path of the state names, now or after a crash.
   pub state_guards : (t : Topic) (value : Said) (seen : Seen) → MayBe v (topic_path t) seen → Says t value seen → (commit : List ℕ) → Contains (commits_of value) commit → (o : ObjName) → Reach (Stores v.now) (Is (name_of Commit commit)) o → IsGuarded b v lane o
   state_guards t value seen may says commit named =
-      reach_up (Stores v.now) (Stores v.now) (Is (name_of Commit commit)) (IsRoot b v lane) (λ o is. inr (t, value, seen, may, says, commit, named, is)) (λ o c stored. stored)
+      reach_up (Stores v.now) (Stores v.now) (Is (name_of Commit commit)) (IsRoot b v lane) (λ o is. inr (inl (t, value, seen, may, says, commit, named, is))) (λ o c stored. stored)
 
   pub state_whole : (t : Topic) (value : Said) (seen : Seen) → MayBe v (topic_path t) seen → Says t value seen → (limits : Limits) (commit : List ℕ) → Contains (commits_of value) commit → Complete (Stores v.now) limits commit → Complete (Stores w.now) limits commit
   state_whole t value seen may says limits commit named whole =

@@ -30,7 +30,7 @@ module _ {F : Type 0} (view : F → Option View) (clock spare : F → ℕ) (was 
       let gone : made.gone ≡ old.books.gone = ap (λ b. b.gone) eq in
       let turn : made.turn ≡ old.books.turn = ap (λ b. b.turn) eq in
       let opened : made.opened ≡ old.books.opened = ap (λ b. b.opened) eq in
-      let start : made.start.refs.items ≡ old.books.start.refs.items = ap (λ b. b.start.refs.items) eq in
+      let start : made.start ≡ old.books.start = ap (λ b. b.start) eq in
       let claims : made.claims.items ≡ old.books.claims.items = ap (λ b. b.claims) eq in
       let ord = ready.sound.ordered in
       record {

@@ -5,16 +5,17 @@ use Rattle.fs_trait.specs.Image.{Told}
 use Rattle.fs_trait.specs.Change.{Passes, Left}
 use Rattle.fs_trait.specs.Effect.{Elapses}
 use Rattle.fs_trait.proofs.Claims.{passes}
+use Rattle.rely_guarantee.specs.declared.books.Start.{Start}
 use Rattle.rely_guarantee.specs.declared.books.Base.{Base}
 use Rattle.rely_guarantee.specs.declared.books.Entry.{Entry}
 use Rattle.rely_guarantee.specs.declared.books.Pending.{Pending}
 use Rattle.rely_guarantee.specs.declared.event.Event.{Event}
-use Rattle.rely_guarantee.specs.State.{State, first, stored, acked}
+use Rattle.rely_guarantee.specs.State.{stored, acked, SystemState, opening_state}
 use Rattle.rely_guarantee.specs.SystemInvariant.{AreThere, Stands, Fits, Crash, Ordered, SystemInvariant}
 use Rattle.rely_guarantee.proofs.Goods.{fits_now}
 
 -- What a crash left before goes on to fit while the history grows, since what it gained came later; what it leaves now fits.
-pub crash_goes : (past since : ℕ → Disk → Type 0) (before now opened : ℕ) (view : Option View) (start : State) (entries more_entries : List Entry) (pending more_pending : Option Pending) (more : List Event)
+pub crash_goes : (past since : ℕ → Disk → Type 0) (before now opened : ℕ) (view : Option View) (start : SystemState) (entries more_entries : List Entry) (pending more_pending : Option Pending) (more : List Event)
     → Crash past opened start entries pending → Passes before now past since view → ((t : ℕ) (d : Disk) → past t d → t ≤ before)
     → stored more_entries more_pending ≡ stored entries pending ++ more
     → ((t : ℕ) → t ≤ before → acked t more_entries ≡ acked t entries)
@@ -49,20 +50,20 @@ module _ {F : Type 0} (view : F → Option View) (clock spare : F → ℕ) (was 
 
   -- One act: the books are in order again, the stored history grew only at its end, and what is so of a told view is so again.
   pub sound_goes : (old new : Base F) (more : List Event) → SystemInvariant view clock spare was old → Calls old.fs new.fs → Ordered clock spare new
-      → new.books.opened ≡ old.books.opened → new.books.start.refs.items ≡ old.books.start.refs.items
+      → new.books.opened ≡ old.books.opened → new.books.start ≡ old.books.start
       → stored new.books.history.items new.books.pending ≡ stored old.books.history.items old.books.pending ++ more
       → ((t : ℕ) → t ≤ clock old.fs → acked t new.books.history.items ≡ acked t old.books.history.items)
-      → ((v w : View) → view old.fs ≡ Some v → view new.fs ≡ Some w → Stands (first old.books.start.refs.items) old.books.history.items old.books.pending v → Stands (first old.books.start.refs.items) new.books.history.items new.books.pending w)
+      → ((v w : View) → view old.fs ≡ Some v → view new.fs ≡ Some w → Stands (opening_state old.books.start) old.books.history.items old.books.pending v → Stands (opening_state old.books.start) new.books.history.items new.books.pending w)
       → ((v w : View) → view old.fs ≡ Some v → view new.fs ≡ Some w → AreThere old.books.claims.items v → AreThere new.books.claims.items w)
       → SystemInvariant view clock spare was new
   sound_goes old new more sound time ordered opened start grows same stands there = record {
     ordered = ordered;
-    stands = λ w is. subst (λ l. Stands (first l) new.books.history.items new.books.pending w) (sym start) (now w is);
+    stands = λ w is. subst (λ (l : Start). Stands (opening_state l) new.books.history.items new.books.pending w) (sym start) (now w is);
     crash = λ w is.
         let v = laws.told new.fs old.fs w is in
-        subst (λ l. Crash (Left (was new.fs)) new.books.opened (first l) new.books.history.items new.books.pending) (sym start)
-        (subst (λ n. Crash (Left (was new.fs)) n (first old.books.start.refs.items) new.books.history.items new.books.pending) (sym opened)
-        (crash_goes (Left (was old.fs)) (Left (was new.fs)) (clock old.fs) (clock new.fs) old.books.opened (view new.fs) (first old.books.start.refs.items) old.books.history.items new.books.history.items old.books.pending new.books.pending more
+        subst (λ (l : Start). Crash (Left (was new.fs)) new.books.opened (opening_state l) new.books.history.items new.books.pending) (sym start)
+        (subst (λ n. Crash (Left (was new.fs)) n (opening_state old.books.start) new.books.history.items new.books.pending) (sym opened)
+        (crash_goes (Left (was old.fs)) (Left (was new.fs)) (clock old.fs) (clock new.fs) old.books.opened (view new.fs) (opening_state old.books.start) old.books.history.items new.books.history.items old.books.pending new.books.pending more
         (sound.crash v.0 v.1)
         (passes (clock old.fs) (clock new.fs) (was old.fs) (was new.fs) (view new.fs) (laws.only_now new.fs) time)
         (λ t d left. laws.bound old.fs t left.0 left.1)
@@ -70,5 +71,5 @@ module _ {F : Type 0} (view : F → Option View) (clock spare : F → ℕ) (was 
     claims = λ w is. let v = laws.told new.fs old.fs w is in there v.0 w v.1 is (sound.claims v.0 v.1);
   }
     where
-      now : (w : View) → view new.fs ≡ Some w → Stands (first old.books.start.refs.items) new.books.history.items new.books.pending w
+      now : (w : View) → view new.fs ≡ Some w → Stands (opening_state old.books.start) new.books.history.items new.books.pending w
       now w is = let v = laws.told new.fs old.fs w is in stands v.0 w v.1 is (sound.stands v.0 v.1)

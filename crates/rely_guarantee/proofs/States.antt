@@ -14,7 +14,7 @@ use Rattle.repo_layout.proofs.Places.{mark_path-injective}
 use Rattle.rely_guarantee.specs.declared.books.Entry.{Entry}
 use Rattle.rely_guarantee.specs.declared.event.Event.{Event}
 use Rattle.rely_guarantee.specs.declared.event.Event.TheVariants.{SetRef, DropRef, Pruned}
-use Rattle.rely_guarantee.specs.State.{Topic, RefOf, Said, State, same_topic, is_topic, target, gives, IsValid, next, Applies, after, IsRun, IsNamed, events_of, acked, Ascends}
+use Rattle.rely_guarantee.specs.State.{Topic, RefOf, Said, State, same_topic, is_topic, target, gives, IsValid, next, Applies, after, IsRun, IsNamed, events_of, acked, Ascends, SystemState, next_refs}
 use Rattle.rely_guarantee.specs.Disks.{IsLeaf, Says}
 
 pub topic_same : (a b : Topic) → same_topic a b ≡ true → a ≡ b
@@ -33,21 +33,26 @@ topic_is (Some x) t e = ap Some (sym (topic_same t x e))
 pub topic_none : (o : Option Topic) (t : Topic) → is_topic o t ≡ false → o ≡ Some t → ⊥
 topic_none o t f e = let k : same_topic t t ≡ false = subst (λ (x : Option Topic). is_topic x t ≡ false) e f in topic_not t t k refl
 
-pub next_here : (e : Event) (t : Topic) (s : State) → is_topic (target e) t ≡ true → next e s t ≡ gives e
+pub next_here : (e : Event) (t : Topic) (s : State) → is_topic (target e) t ≡ true → next_refs e s t ≡ gives e
 next_here e t s is = rw is refl
 
-pub next_apart : (e : Event) (t : Topic) (s : State) → is_topic (target e) t ≡ false → next e s t ≡ s t
+pub next_apart : (e : Event) (t : Topic) (s : State) → is_topic (target e) t ≡ false → next_refs e s t ≡ s t
 next_apart e t s is = rw is refl
 
-pub after_push : (es : List Event) (e : Event) (s : State) → after (es ++ e ∷ []) s ≡ next e (after es s)
+pub after_push : (es : List Event) (e : Event) (s : SystemState) → after (es ++ e ∷ []) s ≡ next e (after es s)
 after_push [] e s = refl
 after_push (x ∷ es) e s = after_push es e (next x s)
 
-pub run_push : (es : List Event) (e : Event) (s : State) → IsRun es s → Applies e (after es s) → IsRun (es ++ e ∷ []) s
+-- no event changes which deployments boot
+pub same_deployments : (es : List Event) (s : SystemState) → (after es s).deployments ≡ s.deployments
+same_deployments [] s = refl
+same_deployments (e ∷ es) s = same_deployments es (next e s)
+
+pub run_push : (es : List Event) (e : Event) (s : SystemState) → IsRun es s → Applies e (after es s) → IsRun (es ++ e ∷ []) s
 run_push [] e s run one = (one, tt)
 run_push (x ∷ es) e s run one = (run.0, run_push es e (next x s) run.1 one)
 
-pub run_front : (es more : List Event) (s : State) → IsRun (es ++ more) s → IsRun es s
+pub run_front : (es more : List Event) (s : SystemState) → IsRun (es ++ more) s → IsRun es s
 run_front [] more s run = tt
 run_front (x ∷ es) more s run = (run.0, run_front es more (next x s) run.1)
 
@@ -82,14 +87,14 @@ event_named (SetRef n seen c) name commit valid at is = let e : Some (RefOf n) �
 event_named (DropRef n seen) name commit valid at is = let e : None ≡ Some commit = is in cc
 event_named (Pruned depth roots held removed) name commit valid at is = let e : None ≡ Some commit = is in cc
 
-next_named : (e : Event) (s : State) → Applies e s → IsNamed s → IsNamed (next e s)
+next_named : (e : Event) (s : SystemState) → Applies e s → IsNamed s.refs → IsNamed (next e s).refs
 next_named e s one was name commit is = by (is_topic (target e) (RefOf name)) refl
   where
     by : (b : Bool) → is_topic (target e) (RefOf name) ≡ b → IsRefName name
-    by true at = event_named e name commit one.valid (topic_is (target e) (RefOf name) at) (sym (next_here e (RefOf name) s at) ∙ is)
-    by false at = was name commit (sym (next_apart e (RefOf name) s at) ∙ is)
+    by true at = event_named e name commit one.valid (topic_is (target e) (RefOf name) at) (sym (next_here e (RefOf name) s.refs at) ∙ is)
+    by false at = was name commit (sym (next_apart e (RefOf name) s.refs at) ∙ is)
 
-pub after_named : (es : List Event) (s : State) → IsRun es s → IsNamed s → IsNamed (after es s)
+pub after_named : (es : List Event) (s : SystemState) → IsRun es s → IsNamed s.refs → IsNamed (after es s).refs
 after_named [] s run was = was
 after_named (e ∷ es) s run was = after_named es (next e s) run.1 (next_named e s run.0 was)
 

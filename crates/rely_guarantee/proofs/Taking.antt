@@ -12,6 +12,8 @@ use Rattle.repo_layout.specs.Place.{Place, Config, Stage, Ref, ObjectsFolder, Ob
 use Rattle.repo_model.specs.Objects.{Stores}
 use Rattle.repo_model.specs.Trees.{name_of}
 use Rattle.reach.proofs.Reaching.{reach_up}
+use Rattle.rely_guarantee.specs.State.{IsDeployedCommit}
+use Rattle.rely_guarantee.specs.declared.books.Start.{Start}
 use Rattle.rely_guarantee.specs.declared.books.Base.{Base}
 use Rattle.rely_guarantee.specs.declared.books.Books as rust
 use Rattle.rely_guarantee.specs.declared.books.Claim as claim
@@ -69,7 +71,9 @@ may_less b b' v actor lane sp ke same next p s m = record {
 }
   where
     root_before : (o : ObjName) → IsRoot b v lane o → IsRoot b' v lane o
-    root_before o = ⊎_elim (λ pin. inl (pin.0, sp.pins pin.0 pin.2 pin.1, pin.2, pin.3)) (λ named. inr named)
+    root_before o = ⊎_elim
+        (λ pin. inl (pin.0, sp.pins pin.0 pin.2 pin.1, pin.2, pin.3))
+        (λ more. inr (⊎_elim (λ named. inl named) (λ listed. inr (subst (λ (s : Start). IsDeployedCommit s.deployments.items o) (sym sp.start) listed)) more))
 
     guarded_before : (o : ObjName) → IsGuarded b v lane o → IsGuarded b' v lane o
     guarded_before = reach_up (Stores v.now) (Stores v.now) (IsRoot b v lane) (IsRoot b' v lane) root_before (λ o c stored. stored)
@@ -139,7 +143,7 @@ module _ (b : rust.Books) (left : rust.Books) (lane : ℕ) (kept : (x : Share) �
   left_books = record b { shared = left.shared }
 
   left_keeps : Keeps lane (books_of b) (books_of left_books)
-  left_keeps = record { exclusive = λ k. k; turn = λ k. k; sysroot = λ k. k; holds = λ h l k. k; wants = λ w l k. k; pins = λ p l k. k; pinned = λ p l k. k; claims = λ c k. k; others = λ c l k. k }
+  left_keeps = record { exclusive = λ k. k; turn = λ k. k; sysroot = λ k. k; holds = λ h l k. k; wants = λ w l k. k; pins = λ p l k. k; pinned = λ p l k. k; claims = λ c k. k; others = λ c l k. k; start = refl }
 
   left_spared : Spared lane lane (books_of b) (books_of left_books)
   left_spared =

@@ -153,3 +153,4 @@ pub record Keeps (lane : ℕ) (b b' : Books) : Type 0 where
   pub pinned : (p : Pin) → p.lane ≢ lane → Contains b'.pins p → Contains b.pins p
   pub claims : (c : Claim) → Contains b.claims c → Contains b'.claims c
   pub others : (c : Claim) → c.lane ≢ lane → Contains b'.claims c → Contains b.claims c
+  pub start : b'.start ≡ b.start

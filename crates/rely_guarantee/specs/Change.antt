@@ -6,10 +6,11 @@ use Rattle.fs_trait.specs.View.{View}
 use Rattle.fs_trait.specs.Seen.{Seen, Vacant, shows, MayBe}
 use Rattle.repo_layout.specs.Paths.{object_path}
 use Rattle.repo_layout.specs.RefFile.{IsSum}
+use Rattle.boot_model.specs.declared.item.DepId.{DepId}
 use Rattle.rely_guarantee.specs.declared.event.Event.{Event}
 use Rattle.rely_guarantee.specs.declared.event.Event.TheVariants.{Pruned}
 use Rattle.rely_guarantee.specs.Books.{Books}
-use Rattle.rely_guarantee.specs.State.{Topic, State, target, before, gives, IsValid, HasRoots}
+use Rattle.rely_guarantee.specs.State.{Topic, target, before, gives, IsValid, HasRoots, SystemState}
 use Rattle.rely_guarantee.specs.Disks.{path_of, Logical, Says}
 use Rattle.rely_guarantee.specs.SystemInvariant.{PublishedBy, Leads}
 
@@ -32,11 +33,11 @@ Dooms lane b e = Unit {0}
 
 -- The event's value, and nothing else, is written at the paths that the state speaks of; the event can be, what it changes shows now
 -- what it says that it was, and its roots are those of the state that the view shows.
-pub record Shows (W : Path → Seen → Type 0) (v : View) (e : Event) : Type 0 where
+pub record Shows (ids : List DepId) (W : Path → Seen → Type 0) (v : View) (e : Event) : Type 0 where
   pub writes : (t : Topic) (s : Seen) → W (path_of t) s → PublishedBy e t s
   pub valid : IsValid e
   pub was : (t : Topic) → target e ≡ Some t → Says t (before e) (shows v.now (path_of t))
-  pub roots : (s : State) → Logical v.now s → HasRoots e s
+  pub roots : (s : SystemState) → Logical v.now s.refs → s.deployments ≡ ids → HasRoots e s
 
 -- Only the event's value is left at its path, and folders lead there, where there is one.
 pub record Final (e : Event) (w : View) : Type 0 where

@@ -13,7 +13,7 @@ use Rattle.rely_guarantee.specs.declared.books.Pin.{Pin}
 use Rattle.rely_guarantee.specs.Books.{Books}
 use Rattle.rely_guarantee.specs.Disks.{path_of, Says}
 use Rattle.rely_guarantee.specs.Objects.{IsObjectSeen}
-use Rattle.rely_guarantee.specs.State.{Topic, Said, commits_of}
+use Rattle.rely_guarantee.specs.State.{Topic, Said, IsDeployedCommit, commits_of}
 
 -- the lane has pinned the object
 abbrev pub IsPinned : ℕ → Books → ObjNames
@@ -27,9 +27,13 @@ IsOthersPin pins lane o = (p : Pin) × Contains pins p × (p.lane ≢ lane) × (
 abbrev pub IsOfState : View → ObjNames
 IsOfState v o = (t : Topic) × (value : Said) × (s : Seen) × MayBe v (path_of t) s × Says t value s × (commit : List ℕ) × Contains (commits_of value) commit × (o ≡ name_of Commit commit)
 
+-- the commit of a deployment that boots
+abbrev pub IsListed : Books → ObjNames
+IsListed b o = IsDeployedCommit b.start.deployments.items o
+
 -- what no act for this lane takes
 abbrev pub IsRoot : Books → View → ℕ → ObjNames
-IsRoot b v lane o = IsOthersPin b.pins lane o ⊎ IsOfState v o
+IsRoot b v lane o = IsOthersPin b.pins lane o ⊎ IsOfState v o ⊎ IsListed b o
 
 -- nor what is reached from there in the store as it is
 abbrev pub IsGuarded : Books → View → ℕ → ObjNames

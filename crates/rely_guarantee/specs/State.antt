@@ -1,5 +1,5 @@
 -- What the stored history says: the state at the beginning, and after each event.
-use Rattle.std.specs.Prelude.{◌≡◌, ◌↔◌, ◌+◌, ◌≤◌, ℕ, Bool, false, List, [], ◌∷◌, ◌++◌, map, nat_le, Contains, Option, Some, None, if◌then◌else◌}
+use Rattle.std.specs.Prelude.{◌≡◌, ◌⊎◌, ◌↔◌, ◌+◌, ◌≤◌, ℕ, Bool, false, List, [], ◌∷◌, ◌++◌, map, nat_le, Contains, Option, Some, None, if◌then◌else◌}
 use Rattle.ost_types.specs.declared.object.Kind.TheVariants.{Commit}
 use Rattle.ost_types.specs.declared.object.ObjName.{ObjName}
 use Rattle.ost_types.specs.Path.{same_name}
@@ -78,35 +78,43 @@ abbrev pub is_topic : Option Topic → Topic → Bool
 is_topic None t = false
 is_topic (Some x) t = same_topic t x
 
--- the state after an event
-abbrev pub next : Event → State → State
-next e s t = if is_topic (target e) t then gives e else s t
+-- the refs after an event, and the state
+abbrev pub next_refs : Event → State → State
+next_refs e s t = if is_topic (target e) t then gives e else s t
+
+abbrev pub next : Event → SystemState → SystemState
+next e s = record s { refs = next_refs e s.refs }
+
+-- the commit is one that a ref names
+abbrev pub IsRefCommit : State → ObjName → Type 0
+IsRefCommit s o = (t : Topic) × (commit : List ℕ) × Contains (commits_of (s t)) commit × (o ≡ name_of Commit commit)
+
+-- or one that is deployed
+abbrev pub IsDeployedCommit : List DepId → ObjName → Type 0
+IsDeployedCommit ids o = (id : DepId) × Contains ids id × (o ≡ name_of Commit id.commit)
 
 -- the commit is one that the state names
-abbrev pub IsCommitOf : State → ObjName → Type 0
-IsCommitOf s o = (t : Topic) × (commit : List ℕ) × Contains (commits_of (s t)) commit × (o ≡ name_of Commit commit)
+abbrev pub IsCommitOf : SystemState → ObjName → Type 0
+IsCommitOf s o = IsRefCommit s.refs o ⊎ IsDeployedCommit s.deployments o
 
 -- a prune's roots are the commits that the state names
-abbrev pub HasRoots : Event → State → Type 0
+abbrev pub HasRoots : Event → SystemState → Type 0
 HasRoots (Pruned depth roots held removed) s = (o : ObjName) → Contains roots o ↔ IsCommitOf s o
 HasRoots e s = Unit {0}
 
 -- the event may follow this state
-pub record Applies (e : Event) (s : State) : Type 0 where
+pub record Applies (e : Event) (s : SystemState) : Type 0 where
   pub valid : IsValid e
-  pub was : (t : Topic) → target e ≡ Some t → s t ≡ before e
+  pub was : (t : Topic) → target e ≡ Some t → s.refs t ≡ before e
   pub roots : HasRoots e s
 
 -- the state after events
-abbrev pub after : List Event → State → State
+abbrev pub after : List Event → SystemState → SystemState
 after [] s = s
 after (e ∷ es) s = after es (next e s)
 
-abbrev pub after_events : List Event → SystemState → SystemState
-after_events es s = record s { refs = after es s.refs }
-
 -- each may follow the state before it
-abbrev pub IsRun : List Event → State → Type 0
+abbrev pub IsRun : List Event → SystemState → Type 0
 IsRun [] s = Unit {0}
 IsRun (e ∷ es) s = Applies e s × IsRun es (next e s)
 

@@ -17,7 +17,7 @@ use Rattle.rely_guarantee.specs.declared.books.Claim.{Claim}
 use Rattle.rely_guarantee.specs.declared.books.Entry.{Entry}
 use Rattle.rely_guarantee.specs.declared.books.Pending.{Pending}
 use Rattle.rely_guarantee.specs.declared.event.Event.{Event}
-use Rattle.rely_guarantee.specs.State.{Topic, State, first, target, gives, after, IsRun, IsNamed, events_of, stored, acked, Ascends}
+use Rattle.rely_guarantee.specs.State.{Topic, State, target, gives, after, IsRun, IsNamed, events_of, stored, acked, Ascends, SystemState, opening_state}
 use Rattle.rely_guarantee.specs.Disks.{path_of, IsLeaf, Says, Logical, IsOther}
 use Rattle.rely_guarantee.specs.Books.{books_of, Agrees}
 
@@ -45,26 +45,26 @@ pub record Known (shown : Topic → Seen → Type 0) (value : State) (v : View) 
   pub leads : (t : Topic) (f : Path) (x : List ℕ) → path_of t ≡ under f x → (value t ≡ None) ⊎ Leads v f
 
 -- What is so of a view that is told.
-pub record Stands (start : State) (entries : List Entry) (pending : Option Pending) (v : View) : Type 0 where
-  pub named : IsNamed start
+pub record Stands (start : SystemState) (entries : List Entry) (pending : Option Pending) (v : View) : Type 0 where
+  pub named : IsNamed start.refs
   pub run : IsRun (stored entries pending) start
-  pub known : Known (Published pending) (after (events_of entries) start) v
+  pub known : Known (Published pending) (after (events_of entries) start).refs v
   pub folders : (f : Folder) → Leads v (folder_path f)
   pub strays : (p : Path) (s : Seen) → MayBe v p s → NoStray p s
   pub kinds : (p : Path) (s : Seen) → MayBe v p s → IsSuited p s
   pub reached : (p : Path) (s : Seen) → MayBe v p s → IsBounded p s
 
 -- The disk is sane, and its state is that after a prefix of the stored history that has all that was acknowledged by then.
-pub record Fits (start : State) (entries : List Entry) (all : List Event) (t : ℕ) (d : Disk) : Type 0 where
+pub record Fits (start : SystemState) (entries : List Entry) (all : List Event) (t : ℕ) (d : Disk) : Type 0 where
   pub past : List Event
   pub rest : List Event
   pub split : past ++ rest ≡ all
   pub has_acked : acked t entries ≤ length past
-  pub shows : Logical d (after past start)
+  pub shows : Logical d (after past start).refs
   pub sane : IsSane d
 
 -- so it is of each disk that a crash left since the opening
-pub record Crash (left : ℕ → Disk → Type 0) (opened : ℕ) (start : State) (entries : List Entry) (pending : Option Pending) : Type 0 where
+pub record Crash (left : ℕ → Disk → Type 0) (opened : ℕ) (start : SystemState) (entries : List Entry) (pending : Option Pending) : Type 0 where
   pub each : (t : ℕ) (d : Disk) → opened ≤ t → left t d → Fits start entries (stored entries pending) t d
 
 -- What is so of the books, whether or not the view is told: no two locks that exclude each other are held, what is pending
@@ -86,6 +86,6 @@ AreThere claims v = (c : Claim) → Contains claims c → shows v.now (checkout_
 -- What every value keeps.
 pub record SystemInvariant {F : Type 0} (view : F → Option View) (clock spare : F → ℕ) (was : F → ℕ → View → Type 0) (base : Base F) : Type 0 where
   pub ordered : Ordered clock spare base
-  pub stands : (v : View) → view base.fs ≡ Some v → Stands (first base.books.start.refs.items) base.books.history.items base.books.pending v
-  pub crash : (v : View) → view base.fs ≡ Some v → Crash (Left (was base.fs)) base.books.opened (first base.books.start.refs.items) base.books.history.items base.books.pending
+  pub stands : (v : View) → view base.fs ≡ Some v → Stands (opening_state base.books.start) base.books.history.items base.books.pending v
+  pub crash : (v : View) → view base.fs ≡ Some v → Crash (Left (was base.fs)) base.books.opened (opening_state base.books.start) base.books.history.items base.books.pending
   pub claims : (v : View) → view base.fs ≡ Some v → AreThere base.books.claims.items v

@@ -22,7 +22,7 @@ use Rattle.sys_open.specs.declared.fault.OpenFault.TheVariants as fault
 use Rattle.sys_open.specs.declared.fault.Why.TheVariants.{BadConfig, BadRef, WrongKind}
 use Rattle.layout_rules.specs.Checks as rules
 use Rattle.layout_rules.specs.Checks.{HoldsRefs}
-use Rattle.sys_open.specs.Damages.{Check, Places, Config, RefFiles, Objects, Commits, BootList, Staging, turn, HasConfig, IsGood, Passes}
+use Rattle.sys_open.specs.Damages.{Check, Places, Config, RefFiles, Objects, Commits, BootList, Deployments, Staging, turn, HasConfig, IsGood, Passes}
 use Rattle.sys_open.specs.Stored.{ToldOfStore}
 use Rattle.sys_open.specs.Walk.{IsSoBelow, Looked, Walked}
 use Rattle.sys_open.specs.Gathered.{Refs, Has, AreOf, HasAllBelow}
@@ -81,6 +81,7 @@ module _ (limits : Limits) (d : Disk) where
   before_places Objects less = absurd (omega (arith, less))
   before_places Commits less = absurd (omega (arith, less))
   before_places BootList less = absurd (omega (arith, less))
+  before_places Deployments less = absurd (omega (arith, less))
   before_places Staging less = absurd (omega (arith, less))
 
   module _ (places : Passes Places limits d) where
@@ -91,6 +92,7 @@ module _ (limits : Limits) (d : Disk) where
     before_config Objects less = absurd (omega (arith, less))
     before_config Commits less = absurd (omega (arith, less))
     before_config BootList less = absurd (omega (arith, less))
+    before_config Deployments less = absurd (omega (arith, less))
     before_config Staging less = absurd (omega (arith, less))
 
     module _ (config : Passes Config limits d) where
@@ -101,6 +103,7 @@ module _ (limits : Limits) (d : Disk) where
       before_refs Objects less = absurd (omega (arith, less))
       before_refs Commits less = absurd (omega (arith, less))
       before_refs BootList less = absurd (omega (arith, less))
+      before_refs Deployments less = absurd (omega (arith, less))
       before_refs Staging less = absurd (omega (arith, less))
 
       module _ (refs : Passes RefFiles limits d) where
@@ -111,6 +114,7 @@ module _ (limits : Limits) (d : Disk) where
         before_objects Objects less = absurd (omega (arith, less))
         before_objects Commits less = absurd (omega (arith, less))
         before_objects BootList less = absurd (omega (arith, less))
+        before_objects Deployments less = absurd (omega (arith, less))
         before_objects Staging less = absurd (omega (arith, less))
 
         before_commits : Passes Objects limits d → (c : Check) → turn c < 5 → Passes c limits d
@@ -120,6 +124,7 @@ module _ (limits : Limits) (d : Disk) where
         before_commits objects Objects less = objects
         before_commits objects Commits less = absurd (omega (arith, less))
         before_commits objects BootList less = absurd (omega (arith, less))
+        before_commits objects Deployments less = absurd (omega (arith, less))
         before_commits objects Staging less = absurd (omega (arith, less))
 
         pub before_list : Passes Objects limits d × Passes Commits limits d → (c : Check) → turn c < 6 → Passes c limits d
@@ -129,25 +134,39 @@ module _ (limits : Limits) (d : Disk) where
         before_list store Objects less = store.0
         before_list store Commits less = store.1
         before_list store BootList less = absurd (omega (arith, less))
+        before_list store Deployments less = absurd (omega (arith, less))
         before_list store Staging less = absurd (omega (arith, less))
 
-        pub before_staging : Passes Objects limits d × Passes Commits limits d → Passes BootList limits d → (c : Check) → turn c < 8 → Passes c limits d
-        before_staging store list Places less = places
-        before_staging store list Config less = config
-        before_staging store list RefFiles less = refs
-        before_staging store list Objects less = store.0
-        before_staging store list Commits less = store.1
-        before_staging store list BootList less = list
-        before_staging store list Staging less = absurd (omega (arith, less))
+        module _ (store : Passes Objects limits d × Passes Commits limits d) (list : Passes BootList limits d) where
+          pub before_deployments : (c : Check) → turn c < 7 → Passes c limits d
+          before_deployments Places less = places
+          before_deployments Config less = config
+          before_deployments RefFiles less = refs
+          before_deployments Objects less = store.0
+          before_deployments Commits less = store.1
+          before_deployments BootList less = list
+          before_deployments Deployments less = absurd (omega (arith, less))
+          before_deployments Staging less = absurd (omega (arith, less))
 
-        pub all_good : Passes Objects limits d × Passes Commits limits d → Passes BootList limits d → Passes Staging limits d → IsGood limits d
-        all_good store list staging Places = places
-        all_good store list staging Config = config
-        all_good store list staging RefFiles = refs
-        all_good store list staging Objects = store.0
-        all_good store list staging Commits = store.1
-        all_good store list staging BootList = list
-        all_good store list staging Staging = staging
+          pub before_staging : Passes Deployments limits d → (c : Check) → turn c < 8 → Passes c limits d
+          before_staging whole Places less = places
+          before_staging whole Config less = config
+          before_staging whole RefFiles less = refs
+          before_staging whole Objects less = store.0
+          before_staging whole Commits less = store.1
+          before_staging whole BootList less = list
+          before_staging whole Deployments less = whole
+          before_staging whole Staging less = absurd (omega (arith, less))
+
+          pub all_good : Passes Deployments limits d → Passes Staging limits d → IsGood limits d
+          all_good whole staging Places = places
+          all_good whole staging Config = config
+          all_good whole staging RefFiles = refs
+          all_good whole staging Objects = store.0
+          all_good whole staging Commits = store.1
+          all_good whole staging BootList = list
+          all_good whole staging Deployments = whole
+          all_good whole staging Staging = staging
 
         pub store_fault : (T U : Type 0) (f : OpenFault) → ToldOfStore {T = T} limits d (Err f) → Answers {T = U} limits d (Err f)
         store_fault T U fault.Disk told = tt

@@ -28,6 +28,10 @@ mod Crashing
 pub mod Goods
 mod Reopening
 mod ListKept
+mod DeploymentsKept
+mod EntryPlaces
+mod Booting
+mod Leasts
 mod StoreKept
 mod Opens
 pub mod Exclusive

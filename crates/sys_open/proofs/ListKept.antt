@@ -1,12 +1,11 @@
 -- What an opening leaves of the list that boots.
-use Rattle.std.proofs.Common.{◌≡◌, ◌⊎◌, inl, inr, ⊎_elim, ℕ, ◌≤◌, ◌<◌, ◌+◌, arith, refl, sym, ◌∙◌, ap, subst, List, [], ◌∷◌, ◌++◌, length, codes}
-use Rattle.ost_types.specs.Path.{Name, Path, is_below}
+use Rattle.std.proofs.Common.{◌≡◌, ◌⊎◌, inl, inr, ⊎_elim, ℕ, ◌≤◌, ◌<◌, arith, refl, sym, ◌∙◌, ap, subst, List, [], ◌∷◌, length, codes}
+use Rattle.ost_types.specs.Path.{Name, Path}
 use Rattle.fs_trait.specs.View.{Disk}
 use Rattle.fs_trait.specs.Seen.{Seen, shows}
 use Rattle.repo_layout.specs.declared.folder.Folder.{Folder}
 use Rattle.repo_layout.specs.declared.folder.Folder.TheVariants.{Ostree, Repo, Objects, Refs, Heads, State, Tmp, Deploy, Boot, Kernels, Checkouts}
-use Rattle.repo_layout.specs.BootPaths.{boot_folder_path, boot_link_path, entry_path, loader_path}
-use Rattle.repo_layout.specs.Paths.{config_path, deploy_path, folder_path, stage_path}
+use Rattle.repo_layout.specs.Paths.{deploy_path, folder_path}
 use Rattle.repo_layout.specs.Place.{Place, BootFolder, BootLink, Config, Loader, LoaderFolder, Other, Stage, place}
 use Rattle.repo_layout.proofs.Places.{place-boot_folder, place-boot_link, place-config, place-loader, place-loader_folder}
 use Rattle.boot_read.specs.declared.row.BootRow.{BootRow}
@@ -15,12 +14,11 @@ use Rattle.durable_list.specs.Standing.{IsInVersion, IsListPath}
 use Rattle.durable_list.proofs.Same.{same_rows}
 use Rattle.durable_list.proofs.Standing.{itself}
 use Rattle.durable_list.proofs.Unwritten.{IsBoot, on_the_way}
-use Rattle.sys_open.specs.Changes.{Changes, Keeps, Lays}
-use Rattle.sys_open.specs.Damages.{BootsList}
+use Rattle.sys_open.specs.Changes.{Changes, Keeps}
 use Rattle.sys_open.proofs.ChangedPlaces.{stage_place_is, staged_place}
 use Rattle.sys_open.proofs.Reopening.{other}
 
-few_names : (f : Folder) → length (folder_path f) ≤ 4
+pub few_names : (f : Folder) → length (folder_path f) ≤ 4
 few_names Ostree = omega arith
 few_names Repo = omega arith
 few_names Objects = omega arith
@@ -33,7 +31,7 @@ few_names Boot = omega arith
 few_names Kernels = omega arith
 few_names Checkouts = omega arith
 
-five_names : (os : Name) (commit : List ℕ) (serial : ℕ) → length (deploy_path os commit serial) ≡ 5
+pub five_names : (os : Name) (commit : List ℕ) (serial : ℕ) → length (deploy_path os commit serial) ≡ 5
 unfolding deploy_path
 five_names os commit serial = refl
 
@@ -58,7 +56,7 @@ not_laid d rows f p e (inr (inl (loader, selects, inside))) = by inside
 not_laid d rows f p e (inr (inr (row, among, is))) =
     omega (arith, few_names f, ap length (sym e ∙ is), five_names row.id.os row.id.commit row.id.serial)
 
-boot_at : (p : Path) (x : Place) → place p ≡ x → IsBoot (place p) → IsBoot x
+pub boot_at : (p : Path) (x : Place) → place p ≡ x → IsBoot (place p) → IsBoot x
 boot_at p x is boot = subst IsBoot is boot
 
 list_unchanged : (d : Disk) (rows : List BootRow) (p : Path) (s : Seen) → IsListPath d rows p → Changes d p s → ⊥
@@ -72,6 +70,3 @@ list_unchanged d rows p s is (inr (inr puts)) = ⊎_elim
 module _ (d e : Disk) (keeps : Keeps d e) where
   pub rows_kept : (rows : List BootRow) → AreRowsOf d rows → AreRowsOf e rows
   rows_kept rows = same_rows d e rows (λ p is. ⊎_elim (λ same. same) (λ changes. absurd (list_unchanged d rows p (shows e p) is changes)) (keeps p))
-
-  pub list_kept : BootsList d → BootsList e
-  list_kept boots = (boots.0, rows_kept boots.0 boots.1)

@@ -41,10 +41,12 @@ module _ {F : Type 0} (view : F → Option View) (clock : F → ℕ) (was : F �
     since = λ w now t e from left. is.since w (sym quiet.view ∙ now) t e from (left_still t e left);
   }
 
-  pub rows_still : (opened : ℕ) (rows : List BootRow) → KeepsRows view was fs opened rows → KeepsRows view was gs opened rows
-  rows_still opened rows is = record {
+  pub rows_still : (opened : ℕ) (limits : Limits) (rows : List BootRow) → KeepsRows view was fs opened limits rows → KeepsRows view was gs opened limits rows
+  rows_still opened limits rows is = record {
     now = λ w now. is.now w (sym quiet.view ∙ now);
+    whole = λ w now. is.whole w (sym quiet.view ∙ now);
     since = λ w now t e from left. is.since w (sym quiet.view ∙ now) t e from (left_still t e left);
+    whole_since = λ w now t e from left. is.whole_since w (sym quiet.view ∙ now) t e from (left_still t e left);
   }
 
   pub checkouts_still : (names : List Name) → AreCheckouts view fs names → AreCheckouts view gs names

@@ -101,7 +101,7 @@ unfolding kernel_path
 copy_in x y is copy = (is.0, is.1, (is.2.0, is.2.1, inr (refl, (y, copy, ap (λ z. under (under (folder_path layout.Kernels) z) y) is.2.2))))
 
 -- all of them are paths
-joined_within : (p : Path) → length (joined p) ≤ length (text_of p)
+pub joined_within : (p : Path) → length (joined p) ≤ length (text_of p)
 unfolding joined
 joined_within [] = omega arith
 joined_within (x ∷ p) = omega arith

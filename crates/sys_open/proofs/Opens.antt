@@ -23,7 +23,7 @@ use Rattle.sys_open.specs.Damages.{IsGood}
 use Rattle.sys_open.specs.Opened.{IsListed, IsOpened, KeepsGood, KeepsRows}
 use Rattle.sys_open.specs.Opening.{AreAscending, Begins, IsGoodSince, KeepsSince}
 use Rattle.sys_open.proofs.Beginning.{logical_kept}
-use Rattle.sys_open.proofs.Goods.{sane_of, store_of}
+use Rattle.sys_open.proofs.Goods.{deployments_of, sane_of, store_of}
 use Rattle.sys_open.proofs.ListKept.{rows_kept}
 use Rattle.sys_open.proofs.Reopening.{still_sane}
 use Rattle.sys_open.proofs.StoreKept.{all_kept, still_good}
@@ -72,11 +72,20 @@ module _ {F : Type 0} (view : F → Option View) (clock : F → ℕ) (was : F �
   pub is_listed : (names : List ObjName) → ((v : View) → view old ≡ Some v → AreAll v.now names) → IsListed view new names
   is_listed names all w now = let h = here w now in all_kept h.0.now w.now h.2.keeps names (all h.0 h.1)
 
-  pub keeps_rows : (rows : List BootRow) → ((v : View) → view old ≡ Some v → AreRowsOf v.now rows) → KeepsRows view was new opened rows
-  keeps_rows rows are = record {
-    now = λ w now. let h = here w now in rows_kept h.0.now w.now h.2.keeps rows (are h.0 h.1);
-    since = λ w now t e from left. let h = here w now in rows_kept h.0.now e (keeps h.0 h.1 t e from left) rows (are h.0 h.1);
-  }
+  module _ (rows : List BootRow) (are : (v : View) → view old ≡ Some v → AreRowsOf v.now rows) where
+    rows_now : (w : View) → view new ≡ Some w → AreRowsOf w.now rows
+    rows_now w now = let h = here w now in rows_kept h.0.now w.now h.2.keeps rows (are h.0 h.1)
+
+    rows_since : (w : View) → view new ≡ Some w → (t : ℕ) (e : Disk) → opened ≤ t → Left (was new) t e → AreRowsOf e rows
+    rows_since w now t e from left = let h = here w now in rows_kept h.0.now e (keeps h.0 h.1 t e from left) rows (are h.0 h.1)
+
+    pub keeps_rows : KeepsRows view was new opened limits rows
+    keeps_rows = record {
+      now = rows_now;
+      whole = λ w now. let h = here w now in deployments_of limits w.now (still_good h.0.now w.now h.2.keeps limits (good h.0 h.1)) rows (rows_now w now);
+      since = rows_since;
+      whole_since = λ w now t e from left. deployments_of limits e (since w now t e from left).0 rows (rows_since w now t e from left);
+    }
 
   pub folders_there : (w : View) → view new ≡ Some w → (f : Folder) → is_folder (w.now.at (folder_path f)) ≡ true
   folders_there w now = (here w now).2.opening.folders

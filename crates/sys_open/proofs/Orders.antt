@@ -28,6 +28,13 @@ not_less_itself p e = not_both_less p p e e
 pub less_trans : (p q r : Path) → path_cmp p q ≡ Less → path_cmp q r ≡ Less → path_cmp p r ≡ Less
 less_trans p q r a b = path_order.trans p q r a b
 
+-- the same of names
+pub name_trans : (x y z : Name) → slice_cmp nat_cmp x y ≡ Less → slice_cmp nat_cmp y z ≡ Less → slice_cmp nat_cmp x z ≡ Less
+name_trans x y z a b = nat_list_cmp_total.trans x y z a b
+
+pub not_name_itself : (x : Name) → slice_cmp nat_cmp x x ≡ Less → ⊥
+not_name_itself x less = let n : Less ≡ Equal = sym less ∙ name_itself x in cc
+
 -- what is before one path is before another that isn't
 pub less_before : (r p q : Path) → path_cmp r p ≡ Less → path_cmp q p ≢ Less → path_cmp r q ≡ Less
 less_before r p q before after = by (path_cmp p q) refl
@@ -54,3 +61,12 @@ less_by_name at x y r s less =
     ∙ ap (path_cmp (at ++ x ∷ r)) (append_assoc at (y ∷ []) s)
     ∙ common at (x ∷ r) (y ∷ s)
     ∙ rw less refl
+
+-- paths that differ in their last names alone come as these do
+by_last : (x y : Name) (o : Ordering) → slice_cmp nat_cmp x y ≡ o → path_cmp (x ∷ []) (y ∷ []) ≡ Less → slice_cmp nat_cmp x y ≡ Less
+by_last x y Less is less = is
+by_last x y Equal is less = let c : path_cmp (x ∷ []) (y ∷ []) ≡ Equal = rw is refl in let n : Equal ≡ Less = sym c ∙ less in cc
+by_last x y Greater is less = let c : path_cmp (x ∷ []) (y ∷ []) ≡ Greater = rw is refl in let n : Greater ≡ Less = sym c ∙ less in cc
+
+pub less_names : (at : Path) (a x y : Name) → path_cmp (at ++ a ∷ x ∷ []) (at ++ a ∷ y ∷ []) ≡ Less → slice_cmp nat_cmp x y ≡ Less
+less_names at a x y less = by_last x y (slice_cmp nat_cmp x y) refl (sym (common (a ∷ []) (x ∷ []) (y ∷ [])) ∙ sym (common at (a ∷ x ∷ []) (a ∷ y ∷ [])) ∙ less)

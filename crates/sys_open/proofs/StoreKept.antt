@@ -27,8 +27,9 @@ use Rattle.sys_open.specs.Damages.{HasConfig, IsGood, ShowsConfig}
 use Rattle.sys_open.proofs.Beginning.{leaf_shown, leaf_value, leaf_was}
 use Rattle.sys_open.proofs.Holding.{commit_leaf}
 use Rattle.sys_open.proofs.ChangedPlaces.{config_put, mark_unchanged, object_unchanged}
-use Rattle.sys_open.proofs.Goods.{config_of, good_of, list_of, sane_of, store_of}
-use Rattle.sys_open.proofs.ListKept.{list_kept}
+use Rattle.sys_open.proofs.Goods.{config_of, deployments_of, good_of, list_of, sane_of, store_of}
+use Rattle.sys_open.proofs.DeploymentsKept.{deployment_kept}
+use Rattle.sys_open.proofs.ListKept.{rows_kept}
 use Rattle.sys_open.proofs.Reopening.{still_sane}
 
 module _ (d e : Disk) (keeps : Keeps d e) where
@@ -100,4 +101,6 @@ module _ (d e : Disk) (keeps : Keeps d e) where
   pub still_good : (limits : Limits) → IsGood limits d → IsGood limits e
   still_good limits good =
       let sane = sane_of limits d good in
-      good_of limits e (still_sane d e sane keeps) (config_kept (config_of limits d good)) (store_kept limits sane (store_of limits d good)) (list_kept d e keeps (list_of limits d good))
+      let list = list_of limits d good in
+      good_of limits e (still_sane d e sane keeps) (config_kept (config_of limits d good)) (store_kept limits sane (store_of limits d good)) list.0 (rows_kept d e keeps list.0 list.1)
+      (λ row among. deployment_kept row.id row.bootcsum limits d e keeps (deployments_of limits d good list.0 list.1 row among))

@@ -90,6 +90,8 @@ module _ (limits : Limits) (d : Disk) (refs : List Ref) (ascending : AreAscendin
   commits_fault T U (fault.Damaged p why.BadLink) told = absurd told
   commits_fault T U (fault.Damaged p (why.BadEntry found)) told = absurd told
   commits_fault T U (fault.Damaged p why.NoDeployment) told = absurd told
+  commits_fault T U (fault.Damaged p why.NotCheckout) told = absurd told
+  commits_fault T U (fault.Damaged p why.KernelCopy) told = absurd told
 
   pub store_passes : (T : Type 0) (x : T) → LooksAtCommits limits d refs (Ok x) → Passes Objects limits d × Passes Commits limits d
   store_passes T x told = (sound, (told.0, all_founded d refs ascending logical told.1))

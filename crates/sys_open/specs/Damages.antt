@@ -20,11 +20,13 @@ use Rattle.boot_read.specs.declared.fault.ListFault.TheVariants as list
 use Rattle.boot_read.specs.declared.row.BootRow.{BootRow}
 use Rattle.boot_read.specs.Faults as lists
 use Rattle.boot_read.specs.Rows.{AreRowsOf}
+use Rattle.durable_deployments.specs.Standing as deployments
 use Rattle.store_check.specs.Commits.{IsFinished, IsFirstIncomplete, IsWhole}
 use Rattle.store_check.specs.Listing.{HasFew, HasMore}
 use Rattle.store_check.specs.Objects.{IsFirstBad, IsSound}
 use Rattle.sys_open.specs.declared.fault.Why.{Why}
 use Rattle.sys_open.specs.declared.fault.Why.TheVariants.{BadConfig, BadRef, BadObject, Incomplete, TooMany, WrongKind, BadLink, BadEntry, NoDeployment}
+use Rattle.sys_open.specs.Booted.{HasBroken, HasUnfit}
 
 -- The checks, in the order in which they are made.
 pub data Check : Type 0 where
@@ -34,6 +36,7 @@ pub data Check : Type 0 where
   Objects : Check  -- each object is what its name says, and there aren't too many
   Commits : Check  -- each commit without a mark is whole, and each ref names one that is there
   BootList : Check  -- the disk boots a list of deployments, or nothing
+  Deployments : Check  -- each deployment of the list is the checkout of its commit, with copies of its kernel
   Staging : Check  -- what stands at a staging path can be removed
 
 abbrev pub turn : Check → ℕ
@@ -43,6 +46,7 @@ turn RefFiles = 3
 turn Objects = 4
 turn Commits = 5
 turn BootList = 6
+turn Deployments = 7
 turn Staging = 8
 
 -- a regular file is shown that is a configuration
@@ -69,6 +73,10 @@ AreFounded d = (name commit : List ℕ) → Names d name commit → IsFinished d
 abbrev pub BootsList : Disk → Type 0
 BootsList d = (rows : List BootRow) × AreRowsOf d rows
 
+-- each deployment of the list is whole
+abbrev pub BootsWhole : Limits → Disk → Type 0
+BootsWhole limits d = (rows : List BootRow) → AreRowsOf d rows → deployments.AreWhole limits d rows
+
 -- What a check asks of a disk.
 abbrev pub Passes : Check → Limits → Disk → Type 0
 Passes Places limits d = (p : Path) → rules.Asks rules.Kinds d p
@@ -77,6 +85,7 @@ Passes RefFiles limits d = (p : Path) → rules.Asks rules.RefFiles d p
 Passes Objects limits d = AreSound limits d
 Passes Commits limits d = AreWhole limits d × AreFounded d
 Passes BootList limits d = BootsList d
+Passes Deployments limits d = BootsWhole limits d
 Passes Staging limits d = (p : Path) → rules.Asks rules.Staging d p
 
 -- A repository is opened on a disk that passes all of them.
@@ -141,6 +150,7 @@ Fails RefFiles limits d p why = (why ≡ BadRef) × IsLeast (rules.Asks rules.Re
 Fails Objects limits d p why = HasTooMany limits d p why ⊎ HasBadObject limits d p why
 Fails Commits limits d p why = HasIncomplete limits d p why
 Fails BootList limits d p why = HasBadList d p why
+Fails Deployments limits d p why = HasUnfit limits d p why ⊎ HasBroken limits d p why
 Fails Staging limits d p why = (why ≡ WrongKind) × IsLeast (rules.Asks rules.Staging d) p
 
 -- The first check that fails, and what is told of it.

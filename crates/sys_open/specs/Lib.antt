@@ -1,9 +1,11 @@
 pub mod Faults
+pub mod Booted
 pub mod Damages
 pub mod Walk
 pub mod Changes
 pub mod Gathered
 pub mod Stored
+pub mod Judged
 pub mod Opening
 pub mod Opened
 pub mod Folders

@@ -11,6 +11,7 @@ use Rattle.repo_layout.specs.declared.folder.Folder.TheVariants.{Checkouts}
 use Rattle.repo_layout.specs.Paths.{config_path, folder_path}
 use Rattle.boot_read.specs.declared.row.BootRow.{BootRow}
 use Rattle.boot_read.specs.Rows.{AreRowsOf}
+use Rattle.durable_deployments.specs.Standing.{AreWhole}
 use Rattle.store_check.specs.Good.{IsGoodStore}
 use Rattle.store_check.specs.Listing.{AreAll}
 use Rattle.rely_guarantee.specs.State.{first}
@@ -50,10 +51,13 @@ pub record KeepsGood {F : Type 0} (view : F → Option View) (was : F → ℕ �
   pub config : (w : View) → view fs ≡ Some w → ShowsConfig (shows w.now config_path)
   pub since : (w : View) → view fs ≡ Some w → IsGoodSince (Left (was fs)) opened limits (first refs)
 
--- Where the view is told: these are the rows of the list that boots, and each disk that a crash left since the first barrier boots it.
-pub record KeepsRows {F : Type 0} (view : F → Option View) (was : F → ℕ → View → Type 0) (fs : F) (opened : ℕ) (rows : List BootRow) : Type 0 where
+-- Where the view is told: these are the rows of the list that boots, and their deployments are whole; and so they are on each disk that a
+-- crash left since the first barrier.
+pub record KeepsRows {F : Type 0} (view : F → Option View) (was : F → ℕ → View → Type 0) (fs : F) (opened : ℕ) (limits : Limits) (rows : List BootRow) : Type 0 where
   pub now : (w : View) → view fs ≡ Some w → AreRowsOf w.now rows
+  pub whole : (w : View) → view fs ≡ Some w → AreWhole limits w.now rows
   pub since : (w : View) → view fs ≡ Some w → (t : ℕ) (d : Disk) → opened ≤ t → Left (was fs) t d → AreRowsOf d rows
+  pub whole_since : (w : View) → view fs ≡ Some w → (t : ℕ) (d : Disk) → opened ≤ t → Left (was fs) t d → AreWhole limits d rows
 
 -- where the view is told, these are the names in the folder of checkouts
 abbrev pub AreCheckouts : {F : Type 0} → (F → Option View) → F → List Name → Type 0

@@ -30,9 +30,9 @@ use std::thread::Threads;
 /// An open repository, on which a system can begin.
 ///
 /// Each value keeps, for any file system that tells its view: all is synced, the folders of the layout and the configuration are
-/// there, nothing stands at a staging path, these are the names of all objects and of the checkouts and the list that boots, its
-/// objects, commits and refs are good, and each crash since the first barrier left a good disk with these refs and this list, which
-/// opens again with them.
+/// there, nothing stands at a staging path, these are the names of all objects and of the checkouts and the list that boots, whose
+/// deployments are whole, its objects, commits and refs are good, and each crash since the first barrier left a good disk with these
+/// refs and this list, which opens again with them.
 #[derive(Drop)]
 pub struct Opened<F: Fs> {
     fs: F,
@@ -52,7 +52,7 @@ impl<F: Fs> Model for Opened<F> {
 
     ghost view = { λ o. record { fs = o.fs; refs = o.refs.items; clock = o.clock; faults = o.faults; limits = o.limits; objects = o.objects.items; rows = o.rows.items; checkouts = o.checkouts } };
 
-    ghost invariant = { λ o. IsOpened F.view F.clock F.was o.fs o.clock o.refs.items × IsListed F.view o.fs o.objects.items × KeepsGood F.view F.was o.fs o.clock o.limits o.refs.items × AreCheckouts F.view o.fs o.checkouts × KeepsRows F.view F.was o.fs o.clock o.rows.items };
+    ghost invariant = { λ o. IsOpened F.view F.clock F.was o.fs o.clock o.refs.items × IsListed F.view o.fs o.objects.items × KeepsGood F.view F.was o.fs o.clock o.limits o.refs.items × AreCheckouts F.view o.fs o.checkouts × KeepsRows F.view F.was o.fs o.clock o.limits o.rows.items };
 }
 
 /// What an open repository is taken apart into, for a system that begins on it.
@@ -94,7 +94,7 @@ impl<F: Fs> Opened<F> {
     /// The list of deployments that boots, the one that boots first coming first.
     pub fn rows(&self) -> &[BootRow]
         ensures rows { result.now ≡ self.now.rows }
-        ensures keeps { KeepsRows F.view F.was self.now.fs self.now.clock self.now.rows }
+        ensures keeps { KeepsRows F.view F.was self.now.fs self.now.clock self.now.limits self.now.rows }
     {
         &self.rows
     }
@@ -154,7 +154,7 @@ impl<F: Fs> Opened<F> {
         ensures listed { IsListed F.view result.fs result.objects.items }
         ensures good { KeepsGood F.view F.was result.fs result.clock result.limits result.refs.items }
         ensures named { AreCheckouts F.view result.fs result.checkouts }
-        ensures boots { KeepsRows F.view F.was result.fs result.clock result.rows.items }
+        ensures boots { KeepsRows F.view F.was result.fs result.clock result.limits result.rows.items }
     {
         let Opened {
             fs,
@@ -196,7 +196,7 @@ pub fn adopt<R: Threads + Sync, F: Fs>(
     ensures works { (v : View) → F.view fs ≡ Some v → IfOk result (λ o. Works (Changes v.now) v (F.clock fs) (F.clock o.fs) (F.was fs) (F.was o.fs) (F.view o.fs)) }
     ensures undone { (v : View) → F.view fs ≡ Some v → IfErr result (λ e. Works (Changes v.now) v (F.clock fs) (F.clock e.0) (F.was fs) (F.was e.0) (F.view e.0)) }
     ensures objects { (v : View) → F.view fs ≡ Some v → IfOk result (λ o. Told (F.view o.fs) (λ w. AreAll w.now o.objects)) }
-    ensures stands { IfOk result (λ o. AreCheckouts F.view o.fs o.checkouts × KeepsRows F.view F.was o.fs o.clock o.rows) }
+    ensures stands { IfOk result (λ o. AreCheckouts F.view o.fs o.checkouts × KeepsRows F.view F.was o.fs o.clock o.limits o.rows) }
     ensures ascending { IfOk result (λ o. AreAscending o.refs) }
     ensures opened { IfOk result (λ o. Next (F.clock fs) o.clock) }
     ensures begun { IfOk result (λ o. (o.faults ≡ F.faults fs) × (o.limits ≡ limits)) }

@@ -16,6 +16,7 @@ ghost use Rattle.sys_open.specs.Stored.{ToldOfStore};
 
 use crate::boot_list::read_boot_list;
 use crate::config::check_config;
+use crate::deployments::check_deployments;
 use crate::fault::{OpenFault, Why};
 use crate::found::Found;
 use crate::inside::check_inside;
@@ -109,6 +110,7 @@ pub fn check<R: Threads + Sync, F: Fs>(
     let refs = refs_of(alloc, fs)?;
     let objects = objects_of(rt, alloc, fs, refs.as_slice(), limits)?;
     let rows = read_boot_list(alloc, fs)?;
+    check_deployments(alloc, fs, limits, rows.as_slice())?;
     check_stages(alloc, fs)?;
     Ok(Contents {
         refs,

@@ -24,15 +24,19 @@ pub enum Why {
     /// There are more objects than the limit, which is one less than this; or, at the folder of boot entries, more of them than the
     /// eight that there may be.
     TooMany(u64),
-    /// Something else than a folder stands in a folder's place, a folder where a leaf belongs, or something else than a
-    /// regular file at the path of a mark; or a folder at a staging path has a name that is too long for a path.
+    /// Something else than a folder stands in a folder's place, as in that of a deployment's `etc`, a folder where a leaf belongs, or
+    /// something else than a regular file at the path of a mark; or a folder at a staging path has a name that is too long for a path.
     WrongKind,
     /// What stands there isn't the link by which a list of deployments boots.
     BadLink,
     /// The file is no boot entry.
     BadEntry(EntryFault),
-    /// The boot entry leads to no deployment of its own.
+    /// The boot entry leads to no deployment of its own, or to one of a commit that isn't there whole or can't be deployed.
     NoDeployment,
+    /// Something else stands there, in a deployment, than its commit has.
+    NotCheckout,
+    /// What stands there isn't the copy of the deployment's kernel, or of what that first mounts.
+    KernelCopy,
 }
 
 /// Why a repository isn't opened.

@@ -2,10 +2,9 @@
 use Rattle.std.proofs.Common.{◌≡◌, ◌≤◌, ◌++◌, ℕ, List, length, take, Option, Some, None, refl, sym, ap, subst}
 use Rattle.fs_trait.specs.View.{View}
 use Rattle.rely_guarantee.specs.declared.books.Base.{Base}
-use Rattle.rely_guarantee.specs.declared.books.Entry.{Entry}
 use Rattle.rely_guarantee.specs.declared.books.Pending.{Pending}
 use Rattle.rely_guarantee.specs.declared.event.Event.{Event}
-use Rattle.rely_guarantee.specs.State.{State, first, after, events_of, pending_of, IsRun}
+use Rattle.rely_guarantee.specs.State.{after, events_of, pending_of, IsRun, opening_state, SystemState}
 use Rattle.rely_guarantee.specs.Headline as system
 use Rattle.top_call.specs.Headline.{Headline, shown, stored}
 use Rattle.top_call.specs.Top.{event_of}
@@ -19,8 +18,8 @@ none_shown None is = refl
 none_shown (Some p) is = cc
 
 module _ {F : Type 0} (clock : F → ℕ) (was : F → ℕ → View → Type 0) (base : Base F) (v : View) where
-  abbrev start : State
-  start = first base.books.start.refs.items
+  abbrev start : SystemState
+  start = opening_state base.books.start
 
   abbrev events : List Event
   events = events_of base.books.history.items ++ pending_of base.books.pending
@@ -34,7 +33,7 @@ module _ {F : Type 0} (clock : F → ℕ) (was : F → ℕ → View → Type 0) 
       count = f.count;
       has_acked = f.has_acked;
       within = subst (λ es. f.count ≤ length es) (sym same) f.within;
-      has = subst (λ es. system.Has d (after (take f.count es) start)) (sym same) f.has;
+      has = subst (λ es. system.Has d (after (take f.count es) start).refs) (sym same) f.has;
     };
     now = λ none. h.now (none_shown base.books.pending none);
     run = subst (λ es. IsRun es start) (sym same) h.run;

@@ -1,5 +1,5 @@
 -- Lanes that run, and the room for their replies.
-use Rattle.std.proofs.Common.{◌≡◌, ℕ, sym, ◌∙◌, ap, subst, List, length, map, Result, Ok, Err, IfOk, Option}
+use Rattle.std.proofs.Common.{◌≡◌, ℕ, sym, ◌∙◌, ap, subst, List, length, map, Result, Ok, Err, IfOk}
 use Rattle.script.specs.declared.answer.Reply.{Reply}
 use Rattle.std.specs.Global.{Vec}
 use Rattle.lane_system.specs.Family.{FsSpec}

@@ -1,5 +1,5 @@
 -- What is told where the repository isn't opened.
-use Rattle.std.proofs.Common.{◌≡◌, ◌⊎◌, ⊎_elim, ℕ, refl, sym, ◌∙◌, subst, List, [], ◌∷◌, Option, Some, None, IfSome}
+use Rattle.std.proofs.Common.{◌≡◌, ◌⊎◌, ⊎_elim, ℕ, refl, sym, subst, List, [], ◌∷◌, Option, Some, None, IfSome}
 use Rattle.ost_types.specs.declared.limits.Limits.{Limits}
 use Rattle.ost_types.specs.Path.{Path}
 use Rattle.fs_trait.specs.Count.{Rose}

@@ -1,7 +1,6 @@
 -- What a whole call tells of its words and of the disk, what it takes, and what it prints.
 use Rattle.std.specs.Prelude.{◌≡◌, ◌≢◌, ◌⊎◌, ◌≤◌, ℕ, List, [], Option, Some, None, IfSome}
 use Rattle.ost_types.specs.Path.{Path}
-use Rattle.fs_trait.specs.Count.{Rose}
 use Rattle.fs_trait.specs.View.{View, all_synced}
 use Rattle.rely_guarantee.specs.declared.books.Entry.{Entry}
 use Rattle.rely_guarantee.specs.declared.event.Event.{Event}

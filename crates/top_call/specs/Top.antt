@@ -38,6 +38,7 @@ use Rattle.store_check.specs.Commits.{IsFinished}
 use Rattle.boot_read.specs.declared.row.BootRow.{BootRow}
 use Rattle.boot_read.specs.Rows.{AreRowsOf}
 use Rattle.durable_list.specs.Standing.{KeepsList}
+use Rattle.durable_deployments.specs.Standing.{KeepsDeployments}
 use Rattle.durable_store.specs.Keeping.{IsGoodDisk}
 use Rattle.durable_store.specs.Brought.{NoHashCollisionOn}
 use Rattle.durable_store.specs.Known.{KeepsKnown, KnownBytes}
@@ -130,12 +131,13 @@ pub record LeftGood (limits : Limits) (brings : Store) (d : Disk) : Type 0 where
 -- folder of a checkout that was done, which is its commit's tree; each such folder that stands then stood at the beginning, or a command
 -- checks out to its name; and none is told to stand in the way but one that stood at the beginning, or that another command checks out to.
 -- What the reply that came last shows behind its command is so at the end, as that of a prune, that what is reachable is all that there is.
--- And the disk boots the list of deployments that it booted at the beginning, at the end and after each crash since the first barrier.
+-- And the disk boots the list of deployments that it booted at the beginning, at the end and after each crash since the first barrier; and
+-- there each of these deployments is the checkout of its commit, with copies of its kernel.
 pub record Ran {F : Type 0} (limits : Limits) (view : F → Option View) (clock : F → ℕ) (was : F → ℕ → View → Type 0) (v : View) (before : ℕ) (commands : List (List Command)) (fs : F) (history : List Entry) (pending : Option Event) (replies : List (List Reply)) (w : View) : Type 0 where
   pub good : IsGood limits v.now
   pub start : SystemState
   pub state : Logical v.now start.refs
-  pub headline : Headline clock was (before + 1) start.refs fs history pending w
+  pub headline : Headline clock was (before + 1) start fs history pending w
   pub lanes : List Lane
   pub each : words_in lanes ≡ map (λ row. map words_of row) commands
   pub given : replies_of lanes ≡ replies
@@ -162,6 +164,7 @@ pub record Ran {F : Type 0} (limits : Limits) (view : F → Option View) (clock 
   pub listed : AreRowsOf v.now rows
   pub list : start.deployments ≡ ids_of rows
   pub boots : KeepsList (was fs) rows (before + 1) w
+  pub deployments : KeepsDeployments (was fs) limits rows (before + 1) w
 
 -- so, of lanes that these words ask for, where an input has this left
 abbrev pub RanBy : {F : Type 0} → Option (List ℕ) → List (List ℕ) → (F → Option View) → (F → ℕ) → (F → ℕ → View → Type 0) → View → ℕ → F → List Entry → Option Event → List (List Reply) → View → Type 0

@@ -15,7 +15,7 @@ use Rattle.ost_objects.specs.declared.fault.CheckFault.{CheckFault}
 use Rattle.ost_objects.specs.declared.fault.CheckFault.TheVariants.{WrongSum, Unreadable}
 use Rattle.ost_objects.specs.declared.fault.CheckFault.TheVariants as check
 use Rattle.sys_open.specs.declared.fault.Why.{Why}
-use Rattle.sys_open.specs.declared.fault.Why.TheVariants.{BadConfig, BadRef, BadObject, Incomplete, TooMany, WrongKind, BadLink, BadEntry, NoDeployment}
+use Rattle.sys_open.specs.declared.fault.Why.TheVariants.{BadConfig, BadRef, BadObject, Incomplete, TooMany, WrongKind, BadLink, BadEntry, NoDeployment, NotCheckout, KernelCopy}
 
 -- of bytes that don't read; want of memory is never told as a damage
 abbrev pub unreadable_end : ObjFault → List ℕ
@@ -60,3 +60,5 @@ why_end WrongKind = codes " WrongKind\n"
 why_end BadLink = codes " BadLink\n"
 why_end (BadEntry fault) = entry_end fault
 why_end NoDeployment = codes " NoDeployment\n"
+why_end NotCheckout = codes " NotCheckout\n"
+why_end KernelCopy = codes " KernelCopy\n"

@@ -26,6 +26,8 @@ pub fn why_end(alloc: Global, why: Why) -> Result<Bytes, NoMemory>
         Why::BadLink => Bytes::from_slice(alloc, b" BadLink\n"),
         Why::BadEntry(fault) => entry_end(alloc, fault),
         Why::NoDeployment => Bytes::from_slice(alloc, b" NoDeployment\n"),
+        Why::NotCheckout => Bytes::from_slice(alloc, b" NotCheckout\n"),
+        Why::KernelCopy => Bytes::from_slice(alloc, b" KernelCopy\n"),
     }
 }
 

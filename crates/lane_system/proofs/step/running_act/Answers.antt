@@ -1,6 +1,6 @@
 use Rattle.std.proofs.Common.{rules, inl, refl, ◌≡◌, ◌⊎◌, ◌<◌, sym, ◌∙◌, ap, subst, arith, List, drop, length, slice_index_or}
 use Rattle.rely_guarantee.specs.declared.books.Entry.{Entry}
-use Rattle.rely_guarantee.specs.State.{after, events_of}
+use Rattle.rely_guarantee.specs.State.{after, events_of, SystemState}
 use Rattle.ref_book.specs.Tracks.{HasEventRoom, Tracks}
 use Rattle.lane_system.specs.States.{now_of}
 use Rattle.lane_system.proofs.Histories.{IsLonger, added, few_more, grown, now_goes}
@@ -38,9 +38,9 @@ returns g c =
     let at : c.len-before.result ≡ length old.history.items = search rules in
     let is : c.deref.result.now ≡ new.history.items = search rules in
     let gr = grown c.args.lane c.args.number (g.F.Fs.clock c.task_act-outcome.new.base.fs) old new (g.C.CommandTask.kind_of c.args.work.now) c.task_act-outcome.result c.requires.ready.task.holds e.booked in
-    let s : after (events_of (drop c.len-before.result c.deref.result.now)) (now_of old).refs ≡ (now_of new).refs =
-    ap (λ n. after (events_of (drop n c.deref.result.now)) (now_of old).refs) at ∙ ap (λ (l : List Entry). after (events_of (drop (length old.history.items) l)) (now_of old).refs) is
-    ∙ now_goes (g.C.CommandTask.kind_of c.args.work.now) old new e.acts.books.start gr in
+    let s : (after (events_of (drop c.len-before.result c.deref.result.now)) (now_of old)).refs ≡ (now_of new).refs =
+    ap (λ n. (after (events_of (drop n c.deref.result.now)) (now_of old)).refs) at ∙ ap (λ (l : List Entry). (after (events_of (drop (length old.history.items) l)) (now_of old)).refs) is
+    ∙ ap (λ (x : SystemState). x.refs) (now_goes (g.C.CommandTask.kind_of c.args.work.now) old new e.acts.books.start gr) in
     record {
       acts = e.acts;
       steps = e.steps;
@@ -58,6 +58,6 @@ returns g c =
       time = e.time;
       cause = e.cause;
       live = e.live;
-      tracks = subst (Tracks c.note.new.refs) s (c.note.ensures.refs (now_of old).refs c.requires.tracks);
+      tracks = subst (Tracks c.note.new.refs) s (c.note.ensures.refs (now_of old) c.requires.tracks);
       rooms = c.note.ensures.rooms;
     }

@@ -3,12 +3,14 @@ use Rattle.std.proofs.lemmas.Result.{err_from_is_err_and}
 use Rattle.std.specs.Global.{Vec}
 use Rattle.ost_types.specs.declared.object.ObjName.{ObjName}
 use Rattle.boot_read.specs.declared.row.BootRow.{BootRow}
+use Rattle.boot_read.specs.Rows.{AreRowsOf}
 use Rattle.rely_guarantee.specs.State.{first}
 use Rattle.rely_guarantee.specs.Disks.{Logical}
 use Rattle.sys_open.specs.declared.check.Contents.{Contents}
-use Rattle.sys_open.specs.Damages.{Places, Config, RefFiles, BootList, Staging}
+use Rattle.sys_open.specs.Damages.{Places, Config, RefFiles, BootList, Deployments, Staging}
 use Rattle.sys_open.specs.Opening.{AreAscending}
-use Rattle.sys_open.proofs.Checking.{all_good, before_config, before_list, before_places, before_refs, before_staging, config_told, first_fault, places_pass, places_told, refs_pass, refs_told, stages_pass, stages_told, store_fault}
+use Rattle.sys_open.proofs.Checking.{all_good, before_config, before_deployments, before_list, before_places, before_refs, before_staging, config_told, first_fault, places_pass, places_told, refs_pass, refs_told, stages_pass, stages_told, store_fault}
+use Rattle.sys_open.proofs.Booting.{right_objects}
 use Rattle.sys_open.proofs.check.check.Goals as goal
 
 pub returns-in_err-check_places-clause-told : goal.returns-in_err-check_places-clause-told
@@ -63,6 +65,23 @@ returns-in_err-rows-clause-told g c = λ v told.
     let refs = refs_pass c.args.limits.now v.now (c.in_ok-refs.ensures.told v configured) in
     rw (error.1, error.2) (first_fault (Vec BootRow) Contents BootList c.args.limits.now v.now _ (before_list c.args.limits.now v.now places config refs (c.in_ok-objects.ensures.told v read)) (c.in_err-rows.ensures.told v c.args.limits.now now))
 
+pub returns-in_err-check_deployments-clause-told : goal.returns-in_err-check_deployments-clause-told
+returns-in_err-check_deployments-clause-told g c = λ v told.
+    let error = err_from_is_err_and c.from_residual-in_err-check_deployments.result c.from_residual-in_err-check_deployments.ensures.1 in
+    let placed = c.check_places.ensures.quiet.view ∙ told in
+    let configured = c.check_config.ensures.quiet.view ∙ placed in
+    let read = c.refs_of.ensures.quiet.view ∙ configured in
+    let stored = c.objects_of.ensures.quiet.view ∙ read in
+    let listed = c.read_boot_list.ensures.quiet.view ∙ stored in
+    let places = places_pass c.args.limits.now v.now (c.in_ok-check_places.ensures.told v told) in
+    let config = c.in_ok-check_config.ensures.told v placed in
+    let refs = refs_pass c.args.limits.now v.now (c.in_ok-refs.ensures.told v configured) in
+    let store = c.in_ok-objects.ensures.told v read in
+    let list = c.in_ok-rows.ensures.told v c.args.limits.now stored in
+    let right = right_objects c.args.limits.now v.now store.0 in
+    let rows = subst (AreRowsOf v.now) (sym c.as_slice-2.ensures.value) (c.in_ok-rows.ensures.rows v stored) in
+    rw (error.1, error.2) (first_fault (Unit {0}) Contents Deployments c.args.limits.now v.now _ (before_deployments c.args.limits.now v.now places config refs store list) (c.in_err-check_deployments.ensures.told v listed right rows))
+
 pub returns-in_err-check_stages-clause-told : goal.returns-in_err-check_stages-clause-told
 returns-in_err-check_stages-clause-told g c = λ v told.
     let error = err_from_is_err_and c.from_residual-in_err-check_stages.result c.from_residual-in_err-check_stages.ensures.1 in
@@ -70,11 +89,17 @@ returns-in_err-check_stages-clause-told g c = λ v told.
     let configured = c.check_config.ensures.quiet.view ∙ placed in
     let read = c.refs_of.ensures.quiet.view ∙ configured in
     let stored = c.objects_of.ensures.quiet.view ∙ read in
-    let now = c.read_boot_list.ensures.quiet.view ∙ stored in
+    let listed = c.read_boot_list.ensures.quiet.view ∙ stored in
     let places = places_pass c.args.limits.now v.now (c.in_ok-check_places.ensures.told v told) in
     let config = c.in_ok-check_config.ensures.told v placed in
     let refs = refs_pass c.args.limits.now v.now (c.in_ok-refs.ensures.told v configured) in
-    rw (error.1, error.2) (first_fault (Unit {0}) Contents Staging c.args.limits.now v.now _ (before_staging c.args.limits.now v.now places config refs (c.in_ok-objects.ensures.told v read) (c.in_ok-rows.ensures.told v c.args.limits.now stored)) (stages_told (Unit {0}) c.args.limits.now v.now _ (c.in_err-check_stages.ensures.told v now)))
+    let store = c.in_ok-objects.ensures.told v read in
+    let list = c.in_ok-rows.ensures.told v c.args.limits.now stored in
+    let right = right_objects c.args.limits.now v.now store.0 in
+    let rows = subst (AreRowsOf v.now) (sym c.as_slice-2.ensures.value) (c.in_ok-rows.ensures.rows v stored) in
+    let whole = c.in_ok-check_deployments.ensures.told v listed right rows in
+    let now = c.check_deployments.ensures.quiet.view ∙ listed in
+    rw (error.1, error.2) (first_fault (Unit {0}) Contents Staging c.args.limits.now v.now _ (before_staging c.args.limits.now v.now places config refs store list whole) (stages_told (Unit {0}) c.args.limits.now v.now _ (c.in_err-check_stages.ensures.told v now)))
 
 pub returns-clause-told : goal.returns-clause-told
 returns-clause-told g c = λ v told.
@@ -82,11 +107,17 @@ returns-clause-told g c = λ v told.
     let configured = c.check_config.ensures.quiet.view ∙ placed in
     let read = c.refs_of.ensures.quiet.view ∙ configured in
     let stored = c.objects_of.ensures.quiet.view ∙ read in
-    let now = c.read_boot_list.ensures.quiet.view ∙ stored in
+    let listed = c.read_boot_list.ensures.quiet.view ∙ stored in
     let places = places_pass c.args.limits.now v.now (c.in_ok-check_places.ensures.told v told) in
     let config = c.in_ok-check_config.ensures.told v placed in
     let refs = refs_pass c.args.limits.now v.now (c.in_ok-refs.ensures.told v configured) in
-    all_good c.args.limits.now v.now places config refs (c.in_ok-objects.ensures.told v read) (c.in_ok-rows.ensures.told v c.args.limits.now stored) (stages_pass c.args.limits.now v.now (c.in_ok-check_stages.ensures.told v now))
+    let store = c.in_ok-objects.ensures.told v read in
+    let list = c.in_ok-rows.ensures.told v c.args.limits.now stored in
+    let right = right_objects c.args.limits.now v.now store.0 in
+    let rows = subst (AreRowsOf v.now) (sym c.as_slice-2.ensures.value) (c.in_ok-rows.ensures.rows v stored) in
+    let whole = c.in_ok-check_deployments.ensures.told v listed right rows in
+    let now = c.check_deployments.ensures.quiet.view ∙ listed in
+    all_good c.args.limits.now v.now places config refs store list whole (stages_pass c.args.limits.now v.now (c.in_ok-check_stages.ensures.told v now))
 
 pub returns-clause-refs : goal.returns-clause-refs
 returns-clause-refs g c = λ v told.

@@ -1,4 +1,3 @@
-use Rattle.std.proofs.Common.{◌∙◌, subst, Result, Ok, Err, IfOk}
 use Rattle.lane_system.specs.Family.{fs_spec}
 use Rattle.top_call.proofs.Fits.{all_idle, as_many}
 use Rattle.top_call.proofs.Runs.{ran_words}

@@ -3,7 +3,7 @@ use Rattle.std.specs.Prelude.{min}
 use Rattle.ost_types.specs.declared.limits.Limits.{Limits}
 use Rattle.rely_guarantee.specs.declared.books.Entry.{Entry}
 use Rattle.rely_guarantee.specs.declared.books.Start.{Start}
-use Rattle.rely_guarantee.specs.State.{State, after, events_of, first}
+use Rattle.rely_guarantee.specs.State.{State, SystemState, after, events_of, first, opening_state}
 use Rattle.ref_book.specs.Tracks.{Tracks}
 use Rattle.durable_store.proofs.Shapes.{good_free}
 use Rattle.sys_open.specs.Opened as opening
@@ -37,9 +37,9 @@ invariant_of-result g c =
     let base = c.new.result in
     let parts = c.into_parts-fs.result in
     let opened = c.into_parts-fs.ensures in
-    let no_events = ap (λ (l : List Entry). after (events_of l) (first base.books.start.refs.items)) e.history in
+    let no_events = ap (λ (l : List Entry). after (events_of l) (opening_state base.books.start)) e.history in
     let start = ap (λ (l : List (List ℕ × List ℕ)). first l) (ap (λ (s : Start). s.refs.items) e.start ∙ opened.refs) in
-    let tracks : Tracks c.args.refs (now_of base.books).refs = subst (λ (s : State). Tracks c.args.refs s) (sym (no_events ∙ start)) c.requires.refs in
+    let tracks : Tracks c.args.refs (now_of base.books).refs = subst (λ (s : State). Tracks c.args.refs s) (sym (ap (λ (s : SystemState). s.refs) no_events ∙ start)) c.requires.refs in
     let idle = subst (λ (l : Limits). AreIdle g.C.Command.means l c.args.lanes.items) (sym opened.limits) c.requires.idle in
     let homes = subst (λ x. AreHomes (g.F.Fs.view x)) (sym e.fs) (homes_of g.F.Fs.view g.F.Fs.clock g.F.Fs.was parts.fs parts.clock parts.refs.items opened.opened) in
     let free : AreFree (g.F.Fs.view base.fs) = λ v told. good_free parts.limits v.now (opened.good.store v (subst (λ x. g.F.Fs.view x ≡ Some v) e.fs told)) in

@@ -33,6 +33,7 @@ returns-then-held-clause-keeps c = record {
   pinned = λ p other has. ⊎_elim (λ was. was) (λ new. absurd (other new.1)) (c.add_pin-pinned.ensures.no_more p has);
   claims = λ x has. has;
   others = λ x other has. has;
+  start = refl;
 }
 
 pub returns-then-held-clause-shared : goal.returns-then-held-clause-shared
@@ -49,6 +50,7 @@ returns-else-held-clause-keeps c = record {
   pinned = λ p other has. ⊎_elim (λ was. was) (λ new. absurd (other new.1)) (c.add_pin-pinned.ensures.no_more p has);
   claims = λ x has. has;
   others = λ x other has. has;
+  start = refl;
 }
 
 pub returns-else-held-clause-shared : goal.returns-else-held-clause-shared

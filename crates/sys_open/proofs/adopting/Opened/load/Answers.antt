@@ -10,5 +10,5 @@ invariant_of-self g c =
       listed_still g.F.Fs.view g.F.Fs.clock g.F.Fs.was o.fs c.load.new.fs quiet o.objects.items i.1,
       good_still g.F.Fs.view g.F.Fs.clock g.F.Fs.was o.fs c.load.new.fs quiet o.clock o.limits o.refs.items i.2,
       checkouts_still g.F.Fs.view g.F.Fs.clock g.F.Fs.was o.fs c.load.new.fs quiet o.checkouts i.3,
-      rows_still g.F.Fs.view g.F.Fs.clock g.F.Fs.was o.fs c.load.new.fs quiet o.clock o.rows.items i.4,
+      rows_still g.F.Fs.view g.F.Fs.clock g.F.Fs.was o.fs c.load.new.fs quiet o.clock o.limits o.rows.items i.4,
     )

@@ -1,0 +1,5 @@
+pub mod Stores
+pub mod Same
+pub mod Standing
+pub mod Unwritten
+pub mod Staying

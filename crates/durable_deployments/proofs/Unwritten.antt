@@ -1,0 +1,83 @@
+-- No act writes where a deployment of the list is read.
+use Rattle.std.proofs.Common.{◌≡◌, ◌++◌, ◌∷◌, [], inl, inr, ⊎_elim, ℕ, List, Contains, codes, refl, sym, ◌∙◌, subst}
+use Rattle.std.specs.Fmt.{decimal}
+use Rattle.ost_types.specs.Csum.{hex_of}
+use Rattle.ost_types.specs.declared.limits.Limits.{Limits}
+use Rattle.ost_types.specs.declared.object.Kind.TheVariants.{Commit}
+use Rattle.ost_types.specs.declared.object.ObjName.{ObjName}
+use Rattle.ost_types.specs.Path.{Name, Path, under}
+use Rattle.fs_trait.specs.View.{View}
+use Rattle.fs_trait.specs.Seen.{Seen, shows}
+use Rattle.fs_trait.specs.Change.{LeadsTo}
+use Rattle.fs_trait.proofs.Effects.{may_now}
+use Rattle.fs_trait.proofs.Kept.{firm_kept}
+use Rattle.repo_layout.specs.BootPaths.{kernel_folder, kernel_path}
+use Rattle.repo_layout.specs.Paths.{deploy_path, objects_folder_path}
+use Rattle.repo_layout.specs.Place.{place}
+use Rattle.repo_layout.proofs.Places.{place-object}
+use Rattle.repo_model.specs.Objects.{Stores, path_of}
+use Rattle.repo_model.specs.Trees.{name_of}
+use Rattle.reach.specs.Reach.{Is}
+use Rattle.reach.proofs.Reaching.{reach_up}
+use Rattle.layout_rules.proofs.Layouts.{below_split}
+use Rattle.boot_model.specs.declared.item.DepId.{DepId}
+use Rattle.boot_read.specs.declared.row.BootRow.{BootRow}
+use Rattle.durable_list.proofs.Unwritten.{IsBoot, unwritten, way_boot, way_ostree}
+use Rattle.rely_guarantee.specs.Books.{Books}
+use Rattle.rely_guarantee.specs.Rely.{Guarantee, Interference}
+use Rattle.rely_guarantee.specs.Removing.{IsGuarded, IsRoot}
+use Rattle.rely_guarantee.proofs.Lasting.{leads_harmless}
+use Rattle.durable_deployments.specs.Standing.{AreSpared, AreStanding, DeploymentStands, IsInDeployment, IsKept, IsOnTheWay, IsReached, SparesDeployment}
+
+-- ---- whose places a deployment's own paths are
+
+below_home : (p rest more : Path) (os : Name) (commit : List ℕ) (serial : ℕ) → deploy_path os commit serial ++ more ≡ p ++ rest → IsBoot (place p)
+unfolding deploy_path
+below_home p rest more os commit serial e = way_ostree p rest (os ∷ codes "deploy" ∷ (hex_of commit ++ (46 ∷ decimal serial)) ∷ more) (codes "deploy") refl e
+
+below_copies : (p rest : Path) (os : Name) (bootcsum : List ℕ) (file : Name) → under (kernel_path os bootcsum) file ≡ p ++ rest → IsBoot (place p)
+unfolding kernel_path
+below_copies p rest os bootcsum file e = way_boot p rest (codes "ostree" ∷ kernel_folder os bootcsum ∷ file ∷ []) e
+
+pub on_the_way : (id : DepId) (bootcsum : List ℕ) (p : Path) → IsOnTheWay id bootcsum p → IsBoot (place p)
+on_the_way id bootcsum p (at, inside, below) = by inside
+  where
+    split : (rest : Path) × (at ≡ p ++ rest)
+    split = below_split p at below
+
+    by : IsInDeployment id bootcsum at → IsBoot (place p)
+    by (inl (more, outside, e)) = below_home p split.0 more id.os id.commit id.serial (sym e ∙ split.1)
+    by (inr (inl e)) = below_home p split.0 (codes "etc" ∷ []) id.os id.commit id.serial (sym e ∙ split.1)
+    by (inr (inr (file, e))) = below_copies p split.0 id.os bootcsum file (sym e ∙ split.1)
+
+-- ---- one act
+
+-- what its commit leads to is guarded
+pub listed_guards : (b : Books) (v : View) (lane : ℕ) (id : DepId) → Contains b.start.deployments.items id → (o : ObjName) → IsReached v.now id.commit o → IsGuarded b v lane o
+listed_guards b v lane id among = reach_up (Stores v.now) (Stores v.now) (Is (name_of Commit id.commit)) (IsRoot b v lane) (λ o is. inr (inr (id, among, is))) (λ o c stored. stored)
+
+module _ (limits : Limits) (v w : View) (b b' : Books) (actor lane : ℕ) (id : DepId) (bootcsum : List ℕ)
+    (does : Interference actor lane v b w b') (among : Contains b.start.deployments.items id) (stands : DeploymentStands limits v id bootcsum) where
+  object_unwritten : (o : ObjName) → IsReached v.now id.commit o → (s : Seen) → Guarantee b v actor lane (path_of o) s → ⊥
+  object_unwritten o reached s may =
+      let safe = (stands.objects o reached).safe in
+      ⊎_elim
+      (λ comes. safe.there (shows v.now (path_of o)) (may_now v (path_of o)) comes.0)
+      (λ goes. goes.2 (listed_guards b v lane id among o reached))
+      (may.objects o.kind o.csum (place-object o.kind o.csum safe.sum))
+
+  kept_unwritten : (p : Path) (s : Seen) → IsKept v.now id bootcsum p → Guarantee b v actor lane p s → ⊥
+  kept_unwritten p s (inl (o, reached, at)) may = object_unwritten o reached s (subst (λ q. Guarantee b v actor lane q s) at may)
+  kept_unwritten p s (inr way) may = unwritten b actor lane (place p) s (on_the_way id bootcsum p way) may.at
+
+  pub act_spares : SparesDeployment v w id bootcsum
+  act_spares = record {
+    now = λ p kept. ⊎_elim (λ same. same) (λ wrote. absurd (kept_unwritten p (shows w.now p) kept wrote)) (does.writes.now p);
+    each = λ p s kept may. ⊎_elim (λ was. inl was) (λ wrote. absurd (kept_unwritten p s kept wrote)) (does.writes.only p s may);
+    leads = λ o reached above. firm_kept (Guarantee b v actor lane) (LeadsTo (objects_folder_path o.csum)) v w does.writes (leads_harmless b v w actor lane does.writes o.csum) above;
+  }
+
+-- the same of all deployments of a list
+pub act_spares_all : (limits : Limits) (rows : List BootRow) (v w : View) (b b' : Books) (actor lane : ℕ) → Interference actor lane v b w b' → ((row : BootRow) → Contains rows row → Contains b.start.deployments.items row.id)
+    → AreStanding limits rows v → AreSpared rows v w
+act_spares_all limits rows v w b b' actor lane does listed stand row among = act_spares limits v w b b' actor lane row.id row.bootcsum does (listed row among) (stand row among)
