@@ -4,6 +4,7 @@
 mod bench;
 mod deployments;
 mod disk;
+mod edits;
 mod files;
 mod prunes;
 mod puts;

@@ -2,6 +2,7 @@
 use crate::bench::Bench;
 use crate::deployments::step_deployments;
 use crate::disk::prepare;
+use crate::edits::edit_etc;
 use crate::files::{put_files, remove_folder};
 use crate::prunes::prune;
 use crate::puts::{put_all, read_tree, walk_tree};
@@ -35,5 +36,6 @@ fn step_all<F: Fs>(bench: &mut Bench<F>, commit: Csum) -> Result<(), Stop> {
     remove_folder(bench)?;
     swap_lists(bench)?;
     prune(bench, commit)?;
-    step_deployments(bench)
+    step_deployments(bench)?;
+    edit_etc(bench)
 }

@@ -6,6 +6,7 @@ use counted_files::Counted;
 use deploy_clean::CleanTask;
 use deployment_build::DeploymentBuild;
 use fs_trait::{Fs, StepResult};
+use host_edit::EditTask;
 use obj_store::PutTask;
 use ost_types::Limits;
 use prune_mark::Marking;
@@ -111,6 +112,12 @@ impl Work for DeploymentBuild {
 }
 
 impl Work for CleanTask {
+    fn advance<'a, F: Fs>(&mut self, fs: &mut Counted<'a, F>) -> Result<bool, Stop> {
+        Ok(is_over(self.step(fs)?))
+    }
+}
+
+impl Work for EditTask {
     fn advance<'a, F: Fs>(&mut self, fs: &mut Counted<'a, F>) -> Result<bool, Stop> {
         Ok(is_over(self.step(fs)?))
     }

@@ -1,0 +1,7 @@
+mod Places
+mod Looking
+pub mod Judging
+pub mod Changing
+mod Telling
+pub mod Keeping
+pub mod Olds

@@ -1,0 +1,22 @@
+use Rattle.std.proofs.Common.{sym, ◌∙◌, ap, subst}
+use Rattle.std.proofs.lemmas.Result.{err_from_is_err_and}
+use Rattle.host_edit.specs.Editing.{Editing}
+use Rattle.host_edit.specs.Steps.{Needs}
+use Rattle.host_edit.proofs.Telling.{told_err, told_more}
+use Rattle.host_edit.proofs.Changing.{make_folder}
+use Rattle.host_edit.proofs.task.EditTask.make_folder.Goals as goal
+
+pub returns-in_err-mkdir-clause-told : goal.returns-in_err-mkdir-clause-told
+returns-in_err-mkdir-clause-told g c = λ v told.
+    let needs = subst (λ t. Needs t v) (sym c.self.view_is) (c.requires.needs v told) in
+    let is = ap (λ (t : Editing). t.phase) c.self.view_is ∙ c.requires.phase in
+    let tree = g.met.F.Fs.tree c.args.fs.now v told in
+    let error = err_from_is_err_and c.from_residual-in_err-mkdir.result c.from_residual-in_err-mkdir.ensures.1 in
+    rw (error.1, error.2) (told_err _ _ c.self.view_is v _ _ _ (make_folder _ v tree needs _ c.in-Folder.is is) _ _ (c.in_err-mkdir.ensures.effect v (c.in_ok-reserve.ensures.quiet.view ∙ told)))
+
+pub returns-clause-told : goal.returns-clause-told
+returns-clause-told g c = λ v told.
+    let needs = subst (λ t. Needs t v) (sym c.self.view_is) (c.requires.needs v told) in
+    let is = ap (λ (t : Editing). t.phase) c.self.view_is ∙ c.requires.phase in
+    let tree = g.met.F.Fs.tree c.args.fs.now v told in
+    told_more _ _ c.self.view_is v _ _ _ (make_folder _ v tree needs _ c.in-Folder.is is) _ is tt _ (c.in_ok-mkdir.ensures.effect v (c.in_ok-reserve.ensures.quiet.view ∙ told))
