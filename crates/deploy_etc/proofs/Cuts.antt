@@ -1,5 +1,5 @@
 -- Nodes below a path, with that path cut off.
-use Rattle.std.proofs.Common.{◌≡◌, ◌≢◌, ◌⊎◌, inl, inr, ℕ, zero, suc, ◌<◌, ◌≤◌, ◌+◌, Bool, true, false, [], ◌∷◌, ◌++◌, length, take, drop, get_or, Option, Some, None, refl, sym, ◌∙◌, ap, subst, append-nil}
+use Rattle.std.proofs.Common.{◌≡◌, ◌≢◌, ◌⊎◌, inl, inr, ℕ, zero, suc, ◌<◌, ◌≤◌, ◌+◌, Bool, true, false, [], ◌∷◌, ◌++◌, length, take, drop, get_or, Option, Some, None, refl, sym, ◌∙◌, ap, subst, arith, append-nil, length-append}
 use Rattle.std.specs.Prelude.{MatchOption, map}
 use Rattle.std.specs.List.{AllByRecursion}
 use Rattle.std.specs.List.Sorted.{IsStrictlySortedBy}
@@ -7,7 +7,7 @@ use Rattle.std.specs.Cmp.Lexicographic.{pointwise}
 use Rattle.std.specs.Ordering.{ordering_then}
 use Rattle.std.specs.declared.cmp.Ordering.TheVariants.{Less}
 use Rattle.std.proofs.lemmas.Cmp.{nat_list_cmp_total, tied_itself}
-use Rattle.std.proofs.lemmas.List.{append_cancel_left, drop_more, map-append, take-append-drop, take_all, take_more}
+use Rattle.std.proofs.lemmas.List.{append_cancel_left, drop_more, length-map, map-append, take-append-drop, take_all, take_more}
 use Rattle.std.proofs.lemmas.Slice.Eq.{slice_eq-Decides}
 use Rattle.ost_types.specs.declared.node.NodeName.{NodeName}
 use Rattle.ost_types.specs.Path.{Name, Path, IsPath, path_cmp, is_below, same_name}
@@ -166,6 +166,19 @@ pub cut_all : (tree : Nodes) (at : Path) (nodes : Nodes) (k : ℕ) (part : Nodes
 cut_all tree at nodes k part from so over p =
     let all : take k nodes ≡ nodes = take_all k nodes over in
     ap (λ m. node_at m p) so.is ∙ cut_at at (take k nodes) p so.below ∙ ap (λ m. node_at m (at ++ p)) all ∙ from_there tree at nodes from p
+
+take_few : (k : ℕ) (m : Nodes) → length (take k m) ≤ length m
+take_few zero [] = omega arith
+take_few zero (e ∷ m) = omega arith
+take_few (suc k) [] = omega arith
+take_few (suc k) (e ∷ m) = let r = take_few k m in omega (arith, r)
+
+pub cut_few : (tree : Nodes) (at : Path) (nodes : Nodes) (k : ℕ) (part : Nodes) → IsFrom tree at nodes → IsCut at nodes k part → length part ≤ length tree
+cut_few tree at nodes k part from so =
+    let cuts : length part ≡ length (take k nodes) = ap length so.is ∙ length-map (take k nodes) (λ (x : Path × NodeName). (drop (length at) x.0, x.1)) in
+    let all : length tree ≡ length from.front + length nodes = ap length from.is ∙ length-append from.front nodes in
+    let fewer = take_few k nodes in
+    omega (arith, cuts, all, fewer)
 
 append_more : (m n : Nodes) (p : Path) → node_at n p ≡ None → node_at (m ++ n) p ≡ node_at m p
 append_more [] n p none = none

@@ -1,5 +1,5 @@
 //! The defaults of a deployment's `etc`.
-ghost use Rattle.std.specs.Prelude.{◌≡◌, IfOk};
+ghost use Rattle.std.specs.Prelude.{◌≡◌, ◌≤◌, IfOk, length};
 ghost use Rattle.ost_types.specs.Text.{IsName};
 ghost use Rattle.deploy_etc.specs.Defaults.{AreDefaults, defaults_path};
 
@@ -9,7 +9,8 @@ use std::alloc::Global;
 
 /// What stands in the tree at `/usr/etc` and below, as a map of its own: the defaults of a deployment's `etc`.
 pub fn defaults_of(alloc: Global, tree: &PathMap) -> Result<PathMap, NoMemory>
-    ensures { IfOk result (AreDefaults tree.now) }
+    ensures defaults { IfOk result (AreDefaults tree.now) }
+    ensures few { IfOk result (λ defaults. length defaults ≤ length tree.now) }
 {
     let at = defaults_path(alloc)?;
     part_of(alloc, tree, &at)

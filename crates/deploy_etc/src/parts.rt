@@ -1,5 +1,5 @@
 //! What a tree has below a path, as a map of its own.
-ghost use Rattle.std.specs.Prelude.{◌≡◌, ◌++◌, IfOk, MatchOption, false};
+ghost use Rattle.std.specs.Prelude.{◌≡◌, ◌++◌, ◌≤◌, IfOk, MatchOption, false, length};
 ghost use Rattle.ost_types.specs.Path.{IsPath, is_below};
 ghost use Rattle.ost_types.specs.PathMap.{IsPathMap};
 ghost use Rattle.etc_merge.specs.Entries.{IsFrom};
@@ -10,7 +10,8 @@ use std::alloc::Global;
 
 /// What stands in the tree at the path and below, each by its path from there on.
 pub(crate) fn part_of(alloc: Global, tree: &PathMap, at: &FsPath) -> Result<PathMap, NoMemory>
-    ensures { IfOk result (IsPartAt at.now tree.now) }
+    ensures part { IfOk result (IsPartAt at.now tree.now) }
+    ensures few { IfOk result (λ part. length part ≤ length tree.now) }
 {
     let mut part = PathMap::new(alloc);
     let nodes = from_path(tree, at);

@@ -1,5 +1,5 @@
 //! Numbers of deployments of one commit.
-ghost use Rattle.std.specs.Prelude.{◌≡◌, ◌<◌, ◌+◌, ◌^◌, length};
+ghost use Rattle.std.specs.Prelude.{◌≡◌, ◌≤◌, ◌<◌, ◌+◌, ◌^◌, length};
 ghost use Rattle.deploy_list.specs.Lists.{IsLeastFree, has_serial, is_id};
 
 use crate::dep::Dep;
@@ -7,10 +7,11 @@ use boot_model::DepId;
 use ost_types::Csum;
 use repo_layout::OsName;
 
-/// The least number that no listed deployment of this stateroot and commit has.
+/// The least number that no listed deployment of this stateroot and commit has. There are at least so many members in the list.
 pub fn serial_for(list: &[Dep], os: &OsName, commit: &Csum) -> u32
     requires { length list.now + 1 < 2 ^ 32 }
-    ensures { IsLeastFree list.now os.now commit.now result }
+    ensures least { IsLeastFree list.now os.now commit.now result }
+    ensures small { result ≤ length list.now }
 {
     let mut serial = 0;
     while has_serial(list, os, commit, serial) {

@@ -13,3 +13,4 @@ mod step;
 pub use conflicts::conflict;
 pub use fault::MergeFault;
 pub use merging::merge;
+pub use same::is_same;

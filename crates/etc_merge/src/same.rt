@@ -4,7 +4,7 @@ ghost use Rattle.std.specs.Prelude.{◌≡◌, ◌↔◌, IsTrue};
 use ost_types::{Meta, NodeName, Xattr};
 
 /// Leaves are the same by the names of their objects, folders by their attributes.
-pub(crate) fn is_same(one: &NodeName, other: &NodeName) -> bool
+pub fn is_same(one: &NodeName, other: &NodeName) -> bool
     ensures { IsTrue result ↔ (one.now ≡ other.now) }
 {
     match (one, other) {
