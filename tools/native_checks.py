@@ -3,7 +3,7 @@
 
     tools/native_checks.py [WORD]...
 
-The words choose from: reads, writes, odd, rounds, prunes, killed, deployments, lists, system, lock. Without words all are done. It needs root, `ostree`, and the
+The words choose from: reads, writes, odd, rounds, prunes, killed, deployments, lists, unlisted, system, lock. Without words all are done. It needs root, `ostree`, and the
 program at build/ostree_native (tools/build.py ostree_native), or at the path that OSTREE_NATIVE names. All is done in a fresh folder below
 TMPDIR, where /usr/share has to have room. `system` takes a tree of Debian's packages where `debootstrap` is there and its packages are
 within reach, and else one of this machine's own programs. Status: 0 where all comparisons hold, else 1.
@@ -516,6 +516,33 @@ def check_lists(room):
     print(f"lists: each of {len(rows)} faults in a list that ostree made, or in a deployment of it, is told at its path")
 
 
+def check_unlisted(room):
+    """Ours removes a deployment that the list doesn't name, but not while there is no list, or one is staged."""
+    folder = new_sysroot(room, "unlisted")
+    deploy(folder, 0, 0)
+    deploy(folder, 1, 0)
+    before = booted(folder)
+    place = next(os.path.join(folder, "ostree/deploy", it, "deploy") for it in sorted(os.listdir(f"{folder}/ostree/deploy")))
+    one = next(it for it in sorted(os.listdir(place)) if not it.endswith(".origin"))
+    left = os.path.join(place, one.partition(".")[0] + ".77")
+    shutil.copytree(os.path.join(place, one), left, symlinks=True)
+    write(left + ".origin", "[origin]\n")
+    record = f"{folder}/run/ostree/staged-deployment"
+    write(record, "")
+    holds(ours(folder, "refs", status=4) == "fault open Disk\n" and os.path.isdir(left), "one is staged")
+    os.remove(record)
+    loader = f"{folder}/boot/loader"
+    os.rename(loader, loader + ".away")
+    ours(folder, "refs")
+    holds(os.path.isdir(left) and os.path.isdir(os.path.join(place, one)), "nothing selects a list")
+    os.rename(loader + ".away", loader)
+    ours(folder, "refs")
+    holds(not os.path.lexists(left) and not os.path.lexists(left + ".origin"), "it is left")
+    holds(booted(folder) == before, "something of the listed ones was changed")
+    take(folder)
+    print("unlisted: ours removes a deployment that the list doesn't name and leaves the others; it removes none without a list, nor while one is staged")
+
+
 def this_machine(top):
     """A tree of this machine's programs and libraries."""
     for name in ("bin", "sbin", "lib", "lib32", "lib64", "libx32"):
@@ -587,6 +614,7 @@ CHECKS = {
     "killed": check_killed,
     "deployments": check_deployments,
     "lists": check_lists,
+    "unlisted": check_unlisted,
     "system": check_system,
     "lock": check_lock,
 }

@@ -12,6 +12,7 @@ use Rattle.repo_layout.specs.RefFile.{IsSum}
 use Rattle.repo_layout.proofs.Places.{place-object}
 use Rattle.repo_model.specs.Objects.{path_of}
 use Rattle.rely_guarantee.specs.Laws.{Claim}
+use Rattle.rely_guarantee.specs.Rely.{IsBoot}
 use Rattle.ref_command.specs.Facts.{StagingPathFree}
 use Rattle.checkout_command.specs.declared.command.CheckoutCommand.{CheckoutCommand}
 use Rattle.checkout_command.specs.declared.command.CheckoutCommand.TheVariants as command
@@ -35,6 +36,9 @@ no_objects actor t v name s sum a =
     let at = writes_inside actor t v (path_of name) s a in
     let no : Object name.kind name.csum ≡ Checkout at.0 at.1 = sym (place-object name.kind name.csum sum) ∙ at.3 in
     cc
+
+pub no_boots_written : (actor : ℕ) (t : CheckoutCommand) (v : View) (p : Path) (s : Seen) → checkout_writes actor t v p s → IsBoot (place p) → ⊥
+no_boots_written actor t v p s a boot = let at = writes_inside actor t v p s a in let n : IsBoot (Checkout at.0 at.1) = subst IsBoot at.3 boot in n
 
 -- nor where a lane stages
 not_staged : (actor : ℕ) (name : Name) (rest : Path) → stage_path actor ≡ checkout_path name ++ rest → ⊥

@@ -4,8 +4,9 @@ use Rattle.rely_guarantee.specs.Laws.{IsMakeDurable}
 use Rattle.checkout_command.specs.Commands.{checkout_facts, checkout_kind, checkout_leaves, checkout_refuses, checkout_stepped, checkout_writes}
 use Rattle.checkout_command.proofs.Ends.{begins_of, made_claim, made_more}
 use Rattle.checkout_family.specs.Claimed.{made_by_claim, not_begun}
-use Rattle.checkout_command.proofs.Writing.{makes_folder, no_objects, own_of}
+use Rattle.checkout_command.proofs.Writing.{makes_folder, no_boots_written, no_objects, own_of}
 use Rattle.command.specs.AnswerLaws.{AnswerLaws}
+use Rattle.command.specs.BootLaws.{BootLaws, no_boots}
 use Rattle.command.specs.ChangeLaws.{ChangeLaws}
 use Rattle.command.specs.FolderLaws.{FolderLaws}
 use Rattle.command.specs.HearLaws.{HearLaws}
@@ -102,6 +103,9 @@ store_laws = record {
 remove_laws : RemoveLaws checkout_tasks
 remove_laws = no_removals checkout_tasks (λ t. no_removal t.work)
 
+boot_laws : BootLaws checkout_tasks
+boot_laws = no_boots checkout_tasks (λ actor lane t v b p s by f wrote. no_boots_written actor t.work v p s wrote)
+
 folder_laws : FolderLaws checkout_tasks checkout_means checkout_doing
 folder_laws = record {
   claims = λ actor lane t v b name s f wrote. (makes_folder actor t.work v name s wrote).0;
@@ -124,5 +128,6 @@ checkout_command_laws = record {
   answers = answer_laws;
   store = store_laws;
   removes = remove_laws;
+  boots = boot_laws;
   folders = folder_laws;
 }

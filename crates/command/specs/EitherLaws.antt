@@ -10,6 +10,7 @@ use Rattle.command.specs.StepLaws.{StepLaws}
 use Rattle.command.specs.HearLaws.{HearLaws}
 use Rattle.command.specs.LearnLaws.{LearnLaws}
 use Rattle.command.specs.RemoveLaws.{RemoveLaws}
+use Rattle.command.specs.BootLaws.{BootLaws}
 use Rattle.command.specs.ChangeLaws.{ChangeLaws}
 use Rattle.command.specs.AnswerLaws.{AnswerLaws}
 use Rattle.command.specs.StoreLaws.{StoreLaws}
@@ -72,6 +73,13 @@ module _ {S T W V A B : Type 0} {k : TaskSpec S} {l : TaskSpec T} {d : Doing S W
   }
 
 module _ {S T : Type 0} {k : TaskSpec S} {l : TaskSpec T} where
+  boot_laws : BootLaws k → BootLaws l → BootLaws (either_tasks k l)
+  boot_laws one two = record {
+    list = λ actor lane. elim [ Left t ↦ one.list actor lane t | Right t ↦ two.list actor lane t ];
+    deployments = λ actor lane. elim [ Left t ↦ one.deployments actor lane t | Right t ↦ two.deployments actor lane t ];
+    clears = λ actor lane. elim [ Left t ↦ one.clears actor lane t | Right t ↦ two.clears actor lane t ];
+  }
+
   remove_laws : RemoveLaws k → RemoveLaws l → RemoveLaws (either_tasks k l)
   remove_laws one two = record {
     removes = λ actor lane. elim [ Left t ↦ one.removes actor lane t | Right t ↦ two.removes actor lane t ];
@@ -148,5 +156,6 @@ module _ {S T W V A B : Type 0} {k : TaskSpec S} {l : TaskSpec T} {m : Meaning W
     answers = answer_laws one.answers two.answers;
     store = store_laws one.store two.store;
     removes = remove_laws one.removes two.removes;
+    boots = boot_laws one.boots two.boots;
     folders = folder_laws one.folders two.folders;
   }

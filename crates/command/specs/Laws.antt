@@ -9,6 +9,7 @@ use Rattle.command.specs.ChangeLaws.{ChangeLaws}
 use Rattle.command.specs.AnswerLaws.{AnswerLaws}
 use Rattle.command.specs.StoreLaws.{StoreLaws}
 use Rattle.command.specs.RemoveLaws.{RemoveLaws}
+use Rattle.command.specs.BootLaws.{BootLaws}
 use Rattle.command.specs.FolderLaws.{FolderLaws}
 
 pub record CommandLaws {T W A : Type 0} (k : TaskSpec T) (m : Meaning W A) (d : Doing T W A) : Type 0 where
@@ -19,4 +20,5 @@ pub record CommandLaws {T W A : Type 0} (k : TaskSpec T) (m : Meaning W A) (d : 
   pub answers : AnswerLaws k m d
   pub store : StoreLaws k m d
   pub removes : RemoveLaws k
+  pub boots : BootLaws k
   pub folders : FolderLaws k m d

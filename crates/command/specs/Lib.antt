@@ -13,6 +13,7 @@ pub mod HearLaws
 pub mod LearnLaws
 pub mod Removing
 pub mod RemoveLaws
+pub mod BootLaws
 pub mod ChangeLaws
 pub mod AnswerLaws
 pub mod StoreLaws

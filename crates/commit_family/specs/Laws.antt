@@ -14,6 +14,7 @@ use Rattle.commit_command.proofs.Starts.{begins_of, own_of}
 use Rattle.commit_command.proofs.Stored.{commit_done, commit_stored}
 use Rattle.rely_guarantee.specs.Laws as kinds
 use Rattle.command.specs.AnswerLaws.{AnswerLaws}
+use Rattle.command.specs.BootLaws.{BootLaws, no_boots}
 use Rattle.command.specs.ChangeLaws.{ChangeLaws}
 use Rattle.command.specs.FolderLaws.{FolderLaws}
 use Rattle.command.specs.HearLaws.{HearLaws}
@@ -31,7 +32,7 @@ use Rattle.commit_family.specs.Ends.{commits_end}
 use Rattle.commit_family.specs.Family.{commit_brings, commit_doing, commit_full, commit_makes, commit_means, commit_says}
 use Rattle.commit_family.specs.Kept.{commits_keep, commits_keep_on, commits_kept, commits_on_wider, commits_wider, lasts_whole}
 use Rattle.commit_family.specs.Keeping.{commits_keep_store}
-use Rattle.commit_family.specs.Objects.{commits_bring, commits_lacked, commits_light, commits_pin, commits_room, its_object, no_checkout, no_removal}
+use Rattle.commit_family.specs.Objects.{commits_bring, commits_lacked, commits_light, commits_pin, commits_room, its_object, no_boot, no_checkout, no_removal}
 use Rattle.commit_family.specs.RefAnswers.{commits_know}
 use Rattle.commit_family.specs.Steps.{begins_holds, commits_founds, commits_settled, commits_shown, commits_step, commits_told, own_step}
 use Rattle.commit_family.specs.Stored.{commit_there}
@@ -117,6 +118,9 @@ store_laws = record {
 remove_laws : RemoveLaws commit_tasks
 remove_laws = no_removals commit_tasks (λ t. no_removal t.work)
 
+boot_laws : BootLaws commit_tasks
+boot_laws = no_boots commit_tasks (λ actor lane t v b p s by f wrote. no_boot actor lane t.work v b p s f wrote)
+
 folder_laws : FolderLaws commit_tasks commit_means commit_doing
 folder_laws = record {
   claims = λ actor lane t v b name s f wrote. absurd (no_checkout actor lane t.work v b name s f wrote);
@@ -139,5 +143,6 @@ commit_command_laws = record {
   answers = answer_laws;
   store = store_laws;
   removes = remove_laws;
+  boots = boot_laws;
   folders = folder_laws;
 }

@@ -2,6 +2,7 @@
 use Rattle.std.proofs.Common.{◌≡◌, inl, inr, ⊎_elim, ◌<◌, ℕ, Bool, refl, sym, ◌∙◌, ap, subst, List, [], Option, Some, None}
 use Rattle.ost_types.specs.declared.limits.Limits.{Limits}
 use Rattle.ost_types.specs.declared.object.ObjName.{ObjName}
+use Rattle.ost_types.specs.Path.{Path}
 use Rattle.ost_forms.specs.declared.tree_item.TreeItem.{TreeItem}
 use Rattle.ost_objects.specs.Object.{IsNamed}
 use Rattle.fs_trait.specs.declared.task.StepResult.TheVariants as turn
@@ -9,8 +10,9 @@ use Rattle.fs_trait.specs.declared.types.Value.TheVariants.{Absent}
 use Rattle.fs_trait.specs.Seen.{Seen}
 use Rattle.fs_trait.specs.View.{View}
 use Rattle.repo_layout.specs.BootPaths.{checkout_path}
+use Rattle.repo_layout.specs.Place.{Place, place}
 use Rattle.repo_layout.specs.RefFile.{IsSum}
-use Rattle.repo_layout.proofs.Places.{place-checkout, place-object}
+use Rattle.repo_layout.proofs.Places.{place-checkout, place-object, place-objects_folder}
 use Rattle.repo_model.specs.Objects.{object_in, path_of}
 use Rattle.repo_model.proofs.Named.{IsSum-named}
 use Rattle.obj_store.specs.declared.phase.Put.TheVariants.{Stored}
@@ -30,22 +32,24 @@ use Rattle.commit_build.specs.Whole.{IsOfCommit, its_commit}
 use Rattle.commit_build.proofs.Mild.{mark_object, object_folder, stage_object}
 use Rattle.commit_build.proofs.Named.{work_named}
 use Rattle.commit_build.proofs.PutSteps.{kept_as, needs_as}
-use Rattle.commit_build.proofs.Stable.{commit_lies}
+use Rattle.commit_build.proofs.Stable.{Lies, commit_lies}
 use Rattle.commit_durability.specs.Lasting.{IsOf}
 use Rattle.rely_guarantee.specs.declared.kind.Wants.{Wants}
 use Rattle.rely_guarantee.specs.Books.{Books}
 use Rattle.rely_guarantee.specs.Laws.{Take}
 use Rattle.rely_guarantee.specs.Pinning.{pin_in}
+use Rattle.rely_guarantee.specs.Rely.{IsBoot}
 use Rattle.commit_command.specs.declared.naming.Naming.{Naming}
 use Rattle.commit_command.specs.declared.command.CommitCommand.{CommitCommand}
 use Rattle.commit_command.specs.Facts.{commit_facts, facts_by}
 use Rattle.commit_command.specs.Kinds.{build_kind, commit_kind, commit_leaves, commit_writes, kind_by, met_in, put_wants, writes_by}
-use Rattle.commit_command.specs.Lying.{OfBuild, OfRef, build_place, ref_place}
+use Rattle.commit_command.specs.Lying.{OfBuild, OfRef, build_place, mark_place, object_place, ref_place, stage_place}
 use Rattle.commit_command.proofs.Holding.{stored_of}
 use Rattle.commit_command.proofs.Pinning.{pin_of}
 use Rattle.commit_command.proofs.Stored.{commit_room}
 use Rattle.ref_store.specs.Change.{progress_in}
 use Rattle.ref_command.specs.Kinds.{event}
+use Rattle.ref_command.specs.Placed.{ref_places}
 use Rattle.command.specs.Removing.{IsRemoving}
 use Rattle.command.specs.StepLaws.{AsksInOrder, asks_in_order}
 use Rattle.ref_family.specs.Objects.{change_light}
@@ -83,6 +87,29 @@ off_by (Some n) actor lane t v b name s f wrote = subst (OfRef n.work.task.actor
 
 pub no_checkout : (actor lane : ℕ) (t : CommitCommand) (v : View) (b : Books) (name : List ℕ) (s : Seen) → commit_facts lane t v b → commit_writes actor t v (checkout_path name) s → ⊥
 no_checkout actor lane t v b name s f wrote = off_by t.change actor lane t v b name s f wrote
+
+-- nor where what boots stands
+moved : {x y : Place} → x ≡ y → (IsBoot y → ⊥) → IsBoot x → ⊥
+moved same none boot = none (subst IsBoot same boot)
+
+build_boot : (t : Committing) (v : View) → t.actor < 16 → (p : Path) (s : Seen) → Lies t v p s → IsBoot (place p) → ⊥
+build_boot t v few p s l = ⊎_elim
+    (λ a. moved (ap place a.0 ∙ stage_place t.actor few) (λ boot. boot))
+    (λ b. ⊎_elim
+    (λ a. moved (ap place a.2 ∙ place-objects_folder a.0.name.csum) (λ boot. boot))
+    (λ c. ⊎_elim
+    (λ a. moved (ap place a.4 ∙ object_place t a.0 a.2) (λ boot. boot))
+    (λ a. moved (ap place a.0 ∙ mark_place t) (λ boot. boot))
+    c)
+    b)
+    l.place
+
+boot_by : (o : Option Naming) (actor lane : ℕ) (t : CommitCommand) (v : View) (b : Books) (p : Path) (s : Seen) → facts_by o lane t v b → writes_by o actor t v p s → IsBoot (place p) → ⊥
+boot_by None actor lane t v b p s f wrote boot = build_boot t.build v f.needs.made.actor p s (commit_lies t.build v f.needs p s wrote.0) boot
+boot_by (Some n) actor lane t v b p s f wrote boot = ⊎_elim (λ stage. moved stage (λ is. is) boot) (λ ref. moved ref.1 (λ is. is) boot) (ref_places n.work.task v lane f.ref.needs f.ref.mine p s wrote)
+
+pub no_boot : (actor lane : ℕ) (t : CommitCommand) (v : View) (b : Books) (p : Path) (s : Seen) → commit_facts lane t v b → commit_writes actor t v p s → IsBoot (place p) → ⊥
+no_boot actor lane t v b p s f wrote boot = boot_by t.change actor lane t v b p s f wrote boot
 
 -- a put writes at the path of its object alone, and the object there
 module _ (o : Object) (named : IsNamed o.name o.bytes) (actor : ℕ) (q : Putting) (v : View) (has : put.Needs q v) (puts : Puts actor o q) (name : ObjName) (sum : IsSum name.csum) (s : Seen) where

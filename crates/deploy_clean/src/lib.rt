@@ -8,4 +8,6 @@ mod phase;
 mod stateroot;
 mod task;
 
+pub use named::is_unlisted_name;
+pub use paths::{deployed_path, deployments_path};
 pub use task::CleanTask;

@@ -9,7 +9,7 @@ use repo_layout::OsName;
 use std::alloc::Global;
 
 /// Whether this is the name of a deployment of the stateroot that isn't listed, or of its origin file.
-pub(crate) fn is_unlisted_name(
+pub fn is_unlisted_name(
     alloc: Global,
     listed: &[DepId],
     os: &OsName,

@@ -9,7 +9,7 @@ use repo_layout::{Folder, OsName, folder_path};
 use std::alloc::Global;
 
 /// The folder of a stateroot's deployments: `/ostree/deploy/<stateroot>/deploy`.
-pub(crate) fn deployments_path(alloc: Global, os: &OsName) -> Result<FsPath, NoMemory>
+pub fn deployments_path(alloc: Global, os: &OsName) -> Result<FsPath, NoMemory>
     ensures { IfOk result (λ p. p ≡ deployments os.now) }
 {
     let stateroots = folder_path(alloc, Folder::Deploy)?;
@@ -18,7 +18,7 @@ pub(crate) fn deployments_path(alloc: Global, os: &OsName) -> Result<FsPath, NoM
 }
 
 /// The path of this name in the folder of a stateroot's deployments.
-pub(crate) fn deployed_path(alloc: Global, os: &OsName, name: &Name) -> Result<FsPath, NoMemory>
+pub fn deployed_path(alloc: Global, os: &OsName, name: &Name) -> Result<FsPath, NoMemory>
     ensures { IfOk result (λ p. p ≡ under (deployments os.now) name.now) }
 {
     let folder = deployments_path(alloc, os)?;

@@ -1,5 +1,5 @@
--- No act writes where a deployment of the list is read.
-use Rattle.std.proofs.Common.{◌≡◌, ◌++◌, ◌∷◌, [], inl, inr, ⊎_elim, ℕ, List, Contains, codes, refl, sym, ◌∙◌, subst}
+-- Whose places those are where a deployment of the list is read, and that no act takes an object of its commit.
+use Rattle.std.proofs.Common.{◌≡◌, ◌⊎◌, ◌++◌, ◌∷◌, [], inl, inr, ⊎_elim, ℕ, List, Contains, codes, refl, sym, ◌∙◌, subst}
 use Rattle.std.specs.Fmt.{decimal}
 use Rattle.ost_types.specs.Csum.{hex_of}
 use Rattle.ost_types.specs.declared.limits.Limits.{Limits}
@@ -7,8 +7,8 @@ use Rattle.ost_types.specs.declared.object.Kind.TheVariants.{Commit}
 use Rattle.ost_types.specs.declared.object.ObjName.{ObjName}
 use Rattle.ost_types.specs.Path.{Name, Path, under}
 use Rattle.fs_trait.specs.View.{View}
-use Rattle.fs_trait.specs.Seen.{Seen, shows}
-use Rattle.fs_trait.specs.Change.{LeadsTo}
+use Rattle.fs_trait.specs.Seen.{Seen, MayBe, shows}
+use Rattle.fs_trait.specs.Change.{LeadsTo, Writes}
 use Rattle.fs_trait.proofs.Effects.{may_now}
 use Rattle.fs_trait.proofs.Kept.{firm_kept}
 use Rattle.repo_layout.specs.BootPaths.{kernel_folder, kernel_path}
@@ -22,12 +22,12 @@ use Rattle.reach.proofs.Reaching.{reach_up}
 use Rattle.layout_rules.proofs.Layouts.{below_split}
 use Rattle.boot_model.specs.declared.item.DepId.{DepId}
 use Rattle.boot_read.specs.declared.row.BootRow.{BootRow}
-use Rattle.durable_list.proofs.Unwritten.{IsBoot, unwritten, way_boot, way_ostree}
+use Rattle.durable_list.proofs.Unwritten.{way_boot, way_ostree}
 use Rattle.rely_guarantee.specs.Books.{Books}
-use Rattle.rely_guarantee.specs.Rely.{Guarantee, Interference}
+use Rattle.rely_guarantee.specs.Rely.{Guarantee, Interference, IsBoot}
 use Rattle.rely_guarantee.specs.Removing.{IsGuarded, IsRoot}
 use Rattle.rely_guarantee.proofs.Lasting.{leads_harmless}
-use Rattle.durable_deployments.specs.Standing.{AreSpared, AreStanding, DeploymentStands, IsInDeployment, IsKept, IsOnTheWay, IsReached, SparesDeployment}
+use Rattle.durable_deployments.specs.Standing.{AreOwnSpared, AreSpared, AreStanding, DeploymentStands, IsInDeployment, IsKept, IsOnTheWay, IsReached, SparesDeployment, SparesOwn}
 
 -- ---- whose places a deployment's own paths are
 
@@ -66,18 +66,31 @@ module _ (limits : Limits) (v w : View) (b b' : Books) (actor lane : ℕ) (id : 
       (λ goes. goes.2 (listed_guards b v lane id among o reached))
       (may.objects o.kind o.csum (place-object o.kind o.csum safe.sum))
 
-  kept_unwritten : (p : Path) (s : Seen) → IsKept v.now id bootcsum p → Guarantee b v actor lane p s → ⊥
-  kept_unwritten p s (inl (o, reached, at)) may = object_unwritten o reached s (subst (λ q. Guarantee b v actor lane q s) at may)
-  kept_unwritten p s (inr way) may = unwritten b actor lane (place p) s (on_the_way id bootcsum p way) may.at
+  -- so one that spares its own paths spares it
+  module _ (own : SparesOwn v w id bootcsum) where
+    now_kept : (p : Path) → IsKept v.now id bootcsum p → shows w.now p ≡ shows v.now p
+    now_kept p (inl (o, reached, at)) = ⊎_elim (λ same. same) (λ wrote. absurd (object_unwritten o reached (shows w.now p) (subst (λ q. Guarantee b v actor lane q (shows w.now p)) at wrote))) (does.writes.now p)
+    now_kept p (inr way) = own.now p way
 
-  pub act_spares : SparesDeployment v w id bootcsum
-  act_spares = record {
-    now = λ p kept. ⊎_elim (λ same. same) (λ wrote. absurd (kept_unwritten p (shows w.now p) kept wrote)) (does.writes.now p);
-    each = λ p s kept may. ⊎_elim (λ was. inl was) (λ wrote. absurd (kept_unwritten p s kept wrote)) (does.writes.only p s may);
-    leads = λ o reached above. firm_kept (Guarantee b v actor lane) (LeadsTo (objects_folder_path o.csum)) v w does.writes (leads_harmless b v w actor lane does.writes o.csum) above;
-  }
+    each_kept : (p : Path) (s : Seen) → IsKept v.now id bootcsum p → MayBe w p s → MayBe v p s ⊎ (s ≡ shows v.now p)
+    each_kept p s (inl (o, reached, at)) may = ⊎_elim (λ was. inl was) (λ wrote. absurd (object_unwritten o reached s (subst (λ q. Guarantee b v actor lane q s) at wrote))) (does.writes.only p s may)
+    each_kept p s (inr way) may = own.each p s way may
+
+    pub act_spares : SparesDeployment v w id bootcsum
+    act_spares = record {
+      now = now_kept;
+      each = each_kept;
+      leads = λ o reached above. firm_kept (Guarantee b v actor lane) (LeadsTo (objects_folder_path o.csum)) v w does.writes (leads_harmless b v w actor lane does.writes o.csum) above;
+    }
 
 -- the same of all deployments of a list
-pub act_spares_all : (limits : Limits) (rows : List BootRow) (v w : View) (b b' : Books) (actor lane : ℕ) → Interference actor lane v b w b' → ((row : BootRow) → Contains rows row → Contains b.start.deployments.items row.id)
+pub act_spares_all : (limits : Limits) (rows : List BootRow) (v w : View) (b b' : Books) (actor lane : ℕ) → Interference actor lane v b w b' → ((row : BootRow) → Contains rows row → Contains b.start.deployments.items row.id) → AreOwnSpared rows v w
     → AreStanding limits rows v → AreSpared rows v w
-act_spares_all limits rows v w b b' actor lane does listed stand row among = act_spares limits v w b b' actor lane row.id row.bootcsum does (listed row among) (stand row among)
+act_spares_all limits rows v w b b' actor lane does listed own stand row among = act_spares limits v w b b' actor lane row.id row.bootcsum does (listed row among) (stand row among) (own row among)
+
+-- whoever writes nothing there spares its own paths
+pub aside_spares : (v w : View) (id : DepId) (bootcsum : List ℕ) (W : Path → Seen → Type 0) → ((p : Path) (s : Seen) → W p s → IsOnTheWay id bootcsum p → ⊥) → Writes W v w → SparesOwn v w id bootcsum
+aside_spares v w id bootcsum W aside writes = record {
+  now = λ p way. ⊎_elim (λ same. same) (λ wrote. absurd (aside p (shows w.now p) wrote way)) (writes.now p);
+  each = λ p s way may. ⊎_elim (λ was. inl was) (λ wrote. absurd (aside p s wrote way)) (writes.only p s may);
+}

@@ -67,6 +67,11 @@ pub record SparesDeployment (v w : View) (id : DepId) (bootcsum : List ℕ) : Ty
   pub each : (p : Path) (s : Seen) → IsKept v.now id bootcsum p → MayBe w p s → MayBe v p s ⊎ (s ≡ shows v.now p)
   pub leads : (o : ObjName) → IsReached v.now id.commit o → Leads v (objects_folder_path o.csum) → Leads w (objects_folder_path o.csum)
 
+-- so at its own paths, and on the way there
+pub record SparesOwn (v w : View) (id : DepId) (bootcsum : List ℕ) : Type 0 where
+  pub now : (p : Path) → IsOnTheWay id bootcsum p → shows w.now p ≡ shows v.now p
+  pub each : (p : Path) (s : Seen) → IsOnTheWay id bootcsum p → MayBe w p s → MayBe v p s ⊎ (s ≡ shows v.now p)
+
 -- ---- the same of all deployments of a list
 
 abbrev pub AreWhole : Limits → Disk → List BootRow → Type 0
@@ -74,6 +79,9 @@ AreWhole limits d rows = (row : BootRow) → Contains rows row → IsWholeDeploy
 
 abbrev pub AreStanding : Limits → List BootRow → View → Type 0
 AreStanding limits rows v = (row : BootRow) → Contains rows row → DeploymentStands limits v row.id row.bootcsum
+
+abbrev pub AreOwnSpared : List BootRow → View → View → Type 0
+AreOwnSpared rows v w = (row : BootRow) → Contains rows row → SparesOwn v w row.id row.bootcsum
 
 abbrev pub AreSpared : List BootRow → View → View → Type 0
 AreSpared rows v w = (row : BootRow) → Contains rows row → SparesDeployment v w row.id row.bootcsum

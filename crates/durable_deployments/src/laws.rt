@@ -5,13 +5,14 @@ ghost use Rattle.ost_types.specs.Path.{Path};
 ghost use Rattle.fs_trait.specs.View.{Disk, View};
 ghost use Rattle.fs_trait.specs.Image.{Image, IsTree};
 ghost use Rattle.fs_trait.specs.Seen.{Always, shows};
+ghost use Rattle.repo_layout.specs.Place.{place};
 ghost use Rattle.fs_trait.specs.Effect.{Elapses};
 ghost use Rattle.boot_model.specs.declared.item.DepId.{DepId};
 ghost use Rattle.boot_read.specs.declared.row.BootRow.{BootRow};
 ghost use Rattle.deployment_check.specs.Deployments.{IsWholeDeployment};
 ghost use Rattle.rely_guarantee.specs.Books.{Books};
-ghost use Rattle.rely_guarantee.specs.Rely.{Interference};
-ghost use Rattle.durable_deployments.specs.Standing.{AreSpared, AreStanding, DeploymentStands, IsDeploymentPath, KeepsDeployments, SparesDeployment};
+ghost use Rattle.rely_guarantee.specs.Rely.{Interference, IsBoot};
+ghost use Rattle.durable_deployments.specs.Standing.{AreOwnSpared, AreSpared, AreStanding, DeploymentStands, IsDeploymentPath, IsOnTheWay, KeepsDeployments, SparesDeployment, SparesOwn};
 
 use fs_trait::Fs;
 
@@ -34,8 +35,10 @@ pub fn deployments_stay<F: Fs>()
     ensures goes_on { (limits : Limits) (rows : List BootRow) (old new : F) (v w : View) (moment : ℕ) → F.view new ≡ Some w → Elapses (F.clock old) (F.clock new) (F.was old) (F.was new) (F.view new) → AreSpared rows v w → KeepsDeployments (F.was old) limits rows moment v → KeepsDeployments (F.was new) limits rows moment w }
 {}
 
-/// No act writes where a deployment that boots is read: no command changes one, and no prune takes an object of its commit.
+/// An act that spares a deployment's own paths spares the deployment: no prune takes an object of its commit. These paths, and those on the
+/// way there, are what boots, what is deployed, or no place of the layout.
 pub fn acts_spare_deployments()
-    ensures one { (limits : Limits) (v w : View) (b b' : Books) (actor lane : ℕ) (id : DepId) (bootcsum : List ℕ) → Interference actor lane v b w b' → Contains b.start.deployments.items id → DeploymentStands limits v id bootcsum → SparesDeployment v w id bootcsum }
-    ensures all { (limits : Limits) (rows : List BootRow) (v w : View) (b b' : Books) (actor lane : ℕ) → Interference actor lane v b w b' → ((row : BootRow) → Contains rows row → Contains b.start.deployments.items row.id) → AreStanding limits rows v → AreSpared rows v w }
+    ensures one { (limits : Limits) (v w : View) (b b' : Books) (actor lane : ℕ) (id : DepId) (bootcsum : List ℕ) → Interference actor lane v b w b' → Contains b.start.deployments.items id → DeploymentStands limits v id bootcsum → SparesOwn v w id bootcsum → SparesDeployment v w id bootcsum }
+    ensures all { (limits : Limits) (rows : List BootRow) (v w : View) (b b' : Books) (actor lane : ℕ) → Interference actor lane v b w b' → ((row : BootRow) → Contains rows row → Contains b.start.deployments.items row.id) → AreOwnSpared rows v w → AreStanding limits rows v → AreSpared rows v w }
+    ensures boots { (id : DepId) (bootcsum : List ℕ) (p : Path) → IsOnTheWay id bootcsum p → IsBoot (place p) }
 {}

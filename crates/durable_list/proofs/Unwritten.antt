@@ -1,56 +1,18 @@
--- No act writes where the list is read, nor on the way there.
+-- Whose places those are where the list is read, and on the way there.
 use Rattle.std.proofs.Common.{◌≡◌, inl, inr, ⊎_elim, ℕ, Bool, true, false, refl, sym, ◌∙◌, subst, List, [], ◌∷◌, ◌++◌, codes, if◌then◌else◌, ◌==◌, length, take, drop}
 use Rattle.std.specs.Fmt.{decimal}
 use Rattle.ost_types.specs.Csum.{hex_of}
 use Rattle.ost_types.specs.Path.{Name, Path, same_name, same_path}
 use Rattle.fs_trait.specs.View.{Disk, View}
 use Rattle.fs_trait.specs.Seen.{Seen, shows}
+use Rattle.fs_trait.specs.Change.{Writes}
 use Rattle.repo_layout.specs.BootPaths.{boot_folder_path, boot_link_path, boot_link_stage_path, entry_path, loader_folder_path, loader_path, loader_stage_path, origin_path, staged_path}
 use Rattle.repo_layout.specs.Paths.{deploy_path}
 use Rattle.repo_layout.specs.Place.{Place, Config, Stage, Ref, ObjectsFolder, Object, Mark, Summary, Deployment, Etc, Origin, Staged, BootLink, BootLinkStage, BootFolder, Loader, LoaderStage, LoaderFolder, KernelCopy, Checkout, Other, place, only_at, sum_of, boot_place, kernel_place, ostree_place, deploy_place, deployed_place, boot_links_place, in_deployment}
 use Rattle.layout_rules.proofs.Layouts.{below_split}
-use Rattle.rely_guarantee.specs.Books.{Books}
-use Rattle.rely_guarantee.specs.Rely.{Guarantee, Interference, may_at}
+use Rattle.rely_guarantee.specs.Rely.{IsBoot}
 use Rattle.boot_read.specs.declared.row.BootRow.{BootRow}
 use Rattle.durable_list.specs.Standing.{IsInVersion, IsListPath, IsOnTheWay, SparesList}
-
--- what boots, what is deployed, and what is no place of the layout
-abbrev pub IsBoot : Place → Type 0
-IsBoot (Deployment os commit serial rest) = Unit {0}
-IsBoot (Etc os commit serial rest) = Unit {0}
-IsBoot (Origin os commit serial) = Unit {0}
-IsBoot Staged = Unit {0}
-IsBoot (BootLink version) = Unit {0}
-IsBoot BootLinkStage = Unit {0}
-IsBoot (BootFolder version sub rest) = Unit {0}
-IsBoot Loader = Unit {0}
-IsBoot LoaderStage = Unit {0}
-IsBoot (LoaderFolder version rest) = Unit {0}
-IsBoot (KernelCopy os bootcsum rest) = Unit {0}
-IsBoot (Other p) = Unit {0}
-IsBoot x = ⊥
-
-pub unwritten : (b : Books) (actor lane : ℕ) (x : Place) (s : Seen) → IsBoot x → may_at b actor lane x s → ⊥
-unwritten b actor lane Config s is at = is
-unwritten b actor lane (Stage a) s is at = is
-unwritten b actor lane (Ref n) s is at = is
-unwritten b actor lane (ObjectsFolder d) s is at = is
-unwritten b actor lane (Object k c) s is at = is
-unwritten b actor lane (Mark c) s is at = is
-unwritten b actor lane Summary s is at = is
-unwritten b actor lane (Deployment o c n r) s is at = at
-unwritten b actor lane (Etc o c n r) s is at = at
-unwritten b actor lane (Origin o c n) s is at = at
-unwritten b actor lane Staged s is at = at
-unwritten b actor lane (BootLink n) s is at = at
-unwritten b actor lane BootLinkStage s is at = at
-unwritten b actor lane (BootFolder n m r) s is at = at
-unwritten b actor lane Loader s is at = at
-unwritten b actor lane LoaderStage s is at = at
-unwritten b actor lane (LoaderFolder n r) s is at = at
-unwritten b actor lane (KernelCopy o c r) s is at = at
-unwritten b actor lane (Checkout n r) s is at = is
-unwritten b actor lane (Other p) s is at = at
 
 either : (b : Bool) (x y : Place) → IsBoot x → IsBoot y → IsBoot (if b then x else y)
 either true x y one other = one
@@ -160,11 +122,9 @@ on_the_way d rows p (at, is, below) = by is
     by (inr (inl (loader, selects, inside))) = in_version loader inside
     by (inr (inr (row, among, e))) = from_deployment p split.0 row.id.os row.id.commit row.id.serial (sym e ∙ split.1)
 
-pub act_spares : (rows : List BootRow) (v w : View) (b b' : Books) (actor lane : ℕ) → Interference actor lane v b w b' → SparesList rows v w
-act_spares rows v w b b' actor lane does = record {
-  now = λ p way. ⊎_elim (λ same. same) (λ may. absurd (none p (shows w.now p) way may)) (does.writes.now p);
-  each = λ p s way may. ⊎_elim (λ was. inl was) (λ wrote. absurd (none p s way wrote)) (does.writes.only p s may);
+-- So whoever writes nothing there spares the list.
+pub aside_spares : (rows : List BootRow) (v w : View) (W : Path → Seen → Type 0) → ((p : Path) (s : Seen) → W p s → IsOnTheWay v.now rows p → ⊥) → Writes W v w → SparesList rows v w
+aside_spares rows v w W aside writes = record {
+  now = λ p way. ⊎_elim (λ same. same) (λ wrote. absurd (aside p (shows w.now p) wrote way)) (writes.now p);
+  each = λ p s way may. ⊎_elim (λ was. inl was) (λ wrote. absurd (aside p s wrote way)) (writes.only p s may);
 }
-  where
-    none : (p : Path) (s : Seen) → IsOnTheWay v.now rows p → Guarantee b v actor lane p s → ⊥
-    none p s way may = unwritten b actor lane (place p) s (on_the_way v.now rows p way) may.at

@@ -1,15 +1,20 @@
 -- That each crash leaves the list of deployments that boots (OSTree manual, "Deployments").
-use Rattle.std.specs.Prelude.{◌≡◌, ◌⊎◌, ◌≤◌, ◌++◌, ℕ, IsTrue, List, Contains}
+use Rattle.std.specs.Prelude.{◌≡◌, ◌⊎◌, ◌≤◌, ◌++◌, ℕ, IsTrue, List, Contains, map}
 use Rattle.ost_types.specs.Path.{Name, Path, is_below}
 use Rattle.fs_trait.specs.View.{Disk, View}
 use Rattle.fs_trait.specs.Seen.{Seen, MayBe, shows}
 use Rattle.fs_trait.specs.Change.{Left}
 use Rattle.repo_layout.specs.BootPaths.{boot_folder_path, boot_link_path, entry_path, loader_path}
 use Rattle.repo_layout.specs.Paths.{deploy_path}
+use Rattle.boot_model.specs.declared.item.DepId.{DepId}
 use Rattle.boot_model.specs.Listing.{Selects}
 use Rattle.boot_read.specs.declared.row.BootRow.{BootRow}
 use Rattle.boot_read.specs.Links.{HasSub}
 use Rattle.boot_read.specs.Rows.{AreRowsOf}
+
+-- the deployments of a list, by their names, the one that boots first in front
+abbrev pub ids_of : List BootRow → List DepId
+ids_of rows = map (λ (r : BootRow). r.id) rows
 
 -- the version's link, a file beside its entries, or what stands in the folder that its link names
 abbrev pub IsInVersion : Disk → ℕ → Path → Type 0

@@ -4,12 +4,12 @@ ghost use Rattle.ost_types.specs.Path.{Path};
 ghost use Rattle.fs_trait.specs.View.{Disk, View};
 ghost use Rattle.fs_trait.specs.Image.{Image, IsTree};
 ghost use Rattle.fs_trait.specs.Seen.{Always, shows};
+ghost use Rattle.repo_layout.specs.Place.{place};
 ghost use Rattle.fs_trait.specs.Effect.{Elapses};
-ghost use Rattle.rely_guarantee.specs.Books.{Books};
-ghost use Rattle.rely_guarantee.specs.Rely.{Interference};
+ghost use Rattle.rely_guarantee.specs.Rely.{IsBoot};
 ghost use Rattle.boot_read.specs.declared.row.BootRow.{BootRow};
 ghost use Rattle.boot_read.specs.Rows.{AreRowsOf};
-ghost use Rattle.durable_list.specs.Standing.{KeepsList, ListStands, SparesList};
+ghost use Rattle.durable_list.specs.Standing.{IsOnTheWay, KeepsList, ListStands, SparesList};
 
 use fs_trait::Fs;
 
@@ -26,7 +26,7 @@ pub fn lists_stay<F: Fs>()
     ensures goes_on { (rows : List BootRow) (old new : F) (v w : View) (moment : ℕ) → F.view new ≡ Some w → Elapses (F.clock old) (F.clock new) (F.was old) (F.was new) (F.view new) → SparesList rows v w → KeepsList (F.was old) rows moment v → KeepsList (F.was new) rows moment w }
 {}
 
-/// No act writes where the list is read: no command changes what boots.
-pub fn acts_spare_lists()
-    ensures { (rows : List BootRow) (v w : View) (b b' : Books) (actor lane : ℕ) → Interference actor lane v b w b' → SparesList rows v w }
+/// Where the list is read, and on the way there, is what boots, what is deployed, or no place of the layout.
+pub fn lists_are_apart()
+    ensures { (d : Disk) (rows : List BootRow) (p : Path) → IsOnTheWay d rows p → IsBoot (place p) }
 {}

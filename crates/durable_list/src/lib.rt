@@ -3,4 +3,4 @@
 
 mod laws;
 
-pub use laws::{acts_spare_lists, lists_stand, lists_stay};
+pub use laws::{lists_are_apart, lists_stand, lists_stay};

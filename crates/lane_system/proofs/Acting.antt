@@ -51,6 +51,7 @@ use Rattle.lane_system.proofs.Keeping.{kept_given, kept_more, others_kept, start
 use Rattle.lane_system.proofs.Locking.{locked_ended, locked_more, locked_same, pinned_ended, pinned_more, pinned_same}
 use Rattle.lane_system.proofs.Places.{at_set_back, at_set_is, here_or_apart}
 use Rattle.lane_system.proofs.Setting.{comes_same}
+use Rattle.lane_system.proofs.Sparing.{spared_same}
 use Rattle.lane_system.proofs.Telling.{free_after}
 use Rattle.lane_system.proofs.Taking.{taken_acts, told, told_after, told_facts}
 
@@ -66,6 +67,7 @@ nothing_acts f fl actor lane base refs refs' sound tracks rooms = record {
     still = λ o has. Contains-append_right (flat_map removed_by (ends_refl actor lane base).spared.more) (swept_in base.books) o has;
     prunes = λ o has p is. absurd (none_out o has);
   };
+  boots = λ v told. (v, told, spared_same (books_of base.books) v);
   sound = sound;
   does = λ v told. (v, told, record { writes = record { only = λ p s may. inl may; now = λ p. inl refl }; books = (ends_refl actor lane base).spared; claims = λ c has. inl has });
   books = (ends_refl actor lane base).spared;

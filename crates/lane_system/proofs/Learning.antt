@@ -10,6 +10,7 @@ use Rattle.command.specs.Laws.{CommandLaws}
 use Rattle.command.specs.LearnLaws.{LearnLaws}
 use Rattle.command.specs.Meaning.{Meaning}
 use Rattle.command.specs.RemoveLaws.{RemoveLaws}
+use Rattle.command.specs.BootLaws.{BootLaws}
 use Rattle.command.specs.StepLaws.{StepLaws}
 use Rattle.command.specs.StoreLaws.{StoreLaws}
 use Rattle.command.specs.Tasks.{TaskSpec}
@@ -89,6 +90,9 @@ module _ {T W A : Type 0} (k : TaskSpec T) (m : Meaning W A) (d : Doing T W A) (
     ends = l.ends;
   })
 
+  boots_on : BootLaws (learning k d)
+  boots_on = (let l = laws.boots in record { list = l.list; deployments = l.deployments; clears = l.clears })
+
   folders_on : FolderLaws (learning k d) m d
   folders_on = (let l = laws.folders in record {
     claims = l.claims;
@@ -103,4 +107,4 @@ module _ {T W A : Type 0} (k : TaskSpec T) (m : Meaning W A) (d : Doing T W A) (
   })
 
   pub laws_on : CommandLaws (learning k d) m d
-  laws_on = record { steps = steps_on; hears = hears_on; learns = learns_on; changes = changes_on; answers = answers_on; store = store_on; removes = removes_on; folders = folders_on }
+  laws_on = record { steps = steps_on; hears = hears_on; learns = learns_on; changes = changes_on; answers = answers_on; store = store_on; removes = removes_on; boots = boots_on; folders = folders_on }

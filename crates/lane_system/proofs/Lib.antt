@@ -1,4 +1,6 @@
 pub mod Places
+pub mod Sparing
+pub mod LeftOvers
 pub mod Histories
 pub mod Setting
 pub mod LastSteps

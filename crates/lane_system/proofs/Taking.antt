@@ -35,6 +35,8 @@ use Rattle.lane_system.specs.Kept.{AreHomes, AreInOrder}
 use Rattle.lane_system.specs.LaneActs.{Takes, task_start, told_by}
 use Rattle.lane_system.specs.Removals.{removed_by, swept_in}
 use Rattle.lane_system.specs.States.{since_in}
+use Rattle.lane_system.proofs.Sparing.{spared_by, spared_same}
+use Rattle.lane_system.specs.Booting.{SparesBoots}
 use Rattle.lane_system.proofs.Family.{FamilyLaws, FsLaws}
 use Rattle.lane_system.proofs.Growing.{stored_grows}
 use Rattle.lane_system.proofs.Locking.{in_order_on}
@@ -170,11 +172,18 @@ module _ {F T W A : Type 0} (f : FsSpec F) (c : Family T W A) (fl : FsLaws f) (c
         })
         (held_or outcome)
 
+    boots_after : (v : View) → f.view old.fs ≡ Some v → Told (f.view new.fs) (λ w. SparesBoots (books_of old.books) v w)
+    boots_after v told_v = ⊎_elim
+        (λ held. (v, subst (λ (b : Base F). f.view b.fs ≡ Some v) (sym (x.step.blocked held).0) told_v, spared_same (books_of old.books) v))
+        (λ not. (let k = x.step.wrote v told_v in (k.0, k.1, spared_by c.tasks cl.commands.boots actor lane told v k.0 (books_of old.books) (x.step.by not) (told_facts v told_v) k.2)))
+        (held_or outcome)
+
     pub taken_acts : Acts f actor lane refs refs' old new
     taken_acts = record {
       locks = locks_after;
       out = out;
       removal = removal_after;
+      boots = boots_after;
       lasts = x.step.lasts;
       sound = x.step.acts.sound;
       does = x.step.acts.does;

@@ -22,6 +22,7 @@ use Rattle.ref_book.specs.Tracks.{HasRoom, Tracks}
 use Rattle.command.specs.ChangeLaws.{Founds}
 use Rattle.command.specs.Removed.{AreAmong, RemovesOnly}
 use Rattle.command.specs.Removing.{IsPrune}
+use Rattle.lane_system.specs.Booting.{SparesBoots}
 use Rattle.lane_system.specs.Family.{FsSpec}
 use Rattle.lane_system.specs.Kept.{AreHomes, AreInOrder}
 use Rattle.lane_system.specs.Lanes.{IsAt}
@@ -63,6 +64,8 @@ pub record Acts {F : Type 0} (f : FsSpec F) (actor lane : ℕ) (refs refs' : Ref
   -- the objects that it may have removed, the others, which stay, and time
   pub out : List ObjName
   pub removal : IsRemovalOf f out actor lane old new books.more
+  -- what boots goes on to
+  pub boots : (v : View) → f.view old.fs ≡ Some v → Told (f.view new.fs) (λ w. SparesBoots (books_of old.books) v w)
   pub lasts : Lasts out f.view f.clock f.was old.fs new.fs
   pub time : Elapses (f.clock old.fs) (f.clock new.fs) (f.was old.fs) (f.was new.fs) (f.view new.fs)
   -- a change that it made to last has the moment behind it, and one that it shows names no commit but one that lasts

@@ -1,19 +1,40 @@
 -- That the disk boots the same list of the same deployments all along.
-use Rattle.std.specs.Prelude.{◌≡◌, ℕ, List}
+use Rattle.std.specs.Prelude.{◌≡◌, ◌⊎◌, ◌≤◌, ℕ, List}
 use Rattle.ost_types.specs.declared.limits.Limits.{Limits}
-use Rattle.fs_trait.specs.View.{View}
+use Rattle.ost_types.specs.Path.{Path}
+use Rattle.fs_trait.specs.View.{Disk, View}
+use Rattle.fs_trait.specs.Seen.{Seen, MayBe, Vacant}
+use Rattle.fs_trait.specs.Change.{Left}
+use Rattle.repo_layout.specs.Place.{place}
 use Rattle.boot_read.specs.declared.row.BootRow.{BootRow}
-use Rattle.durable_list.specs.Standing.{KeepsList}
-use Rattle.durable_deployments.specs.Standing.{KeepsDeployments}
-use Rattle.lane_system.specs.Deployments.{ids_of}
+use Rattle.rely_guarantee.specs.Books.{Books}
+use Rattle.rely_guarantee.specs.Rely.{IsBoot}
+use Rattle.durable_list.specs.Standing.{KeepsList, SparesList, ids_of}
+use Rattle.durable_deployments.specs.Standing.{AreOwnSpared, KeepsDeployments}
+use Rattle.command.specs.BootLaws.{BootRows}
+use Rattle.sys_open.specs.LeftOver.{CanGo, LiesIn}
 use Rattle.lane_system.specs.Family.{FsSpec}
 use Rattle.lane_system.specs.System.{System}
 
--- These are the rows of the list in the view now, and each disk that a crash left at this moment or later has them; and their deployments
--- are whole, now and on each such disk.
+-- From one view to a later one: where the list that boots is read, and its deployments' own paths, nothing else is shown, or may be after a
+-- crash; and where what boots or is deployed may stand nothing comes.
+pub record SparesBoots (b : Books) (v w : View) : Type 0 where
+  pub list : (rows : List BootRow) → BootRows b v rows → SparesList rows v w
+  pub deployments : (rows : List BootRow) → BootRows b v rows → AreOwnSpared rows v w
+  pub clears : (p : Path) (s : Seen) → IsBoot (place p) → MayBe w p s → MayBe v p s ⊎ (s ≡ Vacant)
+
+-- Nothing stands where only what no list boots would, whatever a crash leaves; and from each disk that a crash left at this moment or later
+-- an opening can remove what stands there.
+pub record KeepsClear (was : ℕ → View → Type 0) (moment : ℕ) (v : View) : Type 0 where
+  pub clear : (p : Path) (s : Seen) → LiesIn v.now p → MayBe v p s → s ≡ Vacant
+  pub since : (t : ℕ) (d : Disk) → moment ≤ t → Left was t d → (p : Path) → CanGo d p
+
+-- These are the rows of the list in the view now, and each disk that a crash left at this moment or later has them; their deployments are
+-- whole, now and on each such disk; and nothing that no list boots stands beside them.
 pub record KeepsBoots (was : ℕ → View → Type 0) (limits : Limits) (rows : List BootRow) (moment : ℕ) (v : View) : Type 0 where
   pub list : KeepsList was rows moment v
   pub deployments : KeepsDeployments was limits rows moment v
+  pub left_over : KeepsClear was moment v
 
 -- The rows are those of the system's deployments, and so it is since the opening.
 pub record BootsStill {F T W A : Type 0} (f : FsSpec F) (rows : List BootRow) (s : System F T W A) (v : View) : Type 0 where

@@ -11,7 +11,6 @@ pub mod LaneActs
 pub mod Booked
 pub mod Ranks
 pub mod Counts
-pub mod Deployments
 pub mod Pins
 pub mod Held
 pub mod Booting

@@ -2,7 +2,7 @@
 ghost use Rattle.std.specs.Prelude.{◌≡◌, IfOk};
 ghost use Rattle.rely_guarantee.specs.State.{first};
 ghost use Rattle.ref_book.specs.Tracks.{Tracks};
-ghost use Rattle.lane_system.specs.Deployments.{ids_of};
+ghost use Rattle.durable_list.specs.Standing.{ids_of};
 
 use boot_model::DepId;
 use boot_read::BootRow;

@@ -10,7 +10,7 @@ ghost use Rattle.lane_system.specs.declared.lane.Reply.{Reply};
 ghost use Rattle.lane_system.specs.Booked.{Acted, AnswerTells, HasCommand, IsLater, IsReplied, commands_of};
 ghost use Rattle.lane_system.specs.Causes.{AreCausedIn};
 ghost use Rattle.lane_system.specs.Counts.{Objects};
-ghost use Rattle.lane_system.specs.Deployments.{ids_of};
+ghost use Rattle.durable_list.specs.Standing.{ids_of};
 ghost use Rattle.lane_system.specs.Family.{family, fs_spec};
 ghost use Rattle.lane_system.specs.Held.{Held};
 ghost use Rattle.lane_system.specs.Kept.{AreIdle};

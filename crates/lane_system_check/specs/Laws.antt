@@ -15,6 +15,7 @@ use Rattle.rely_guarantee.specs.declared.kind.Wants.{Wants}
 use Rattle.rely_guarantee.specs.Books.{Books}
 use Rattle.rely_guarantee.specs.Laws.{Holds, IsClaim, IsMakeDurable, NotPending, Publish, Take}
 use Rattle.command.specs.AnswerLaws.{AnswerLaws}
+use Rattle.command.specs.BootLaws.{BootLaws, no_boots}
 use Rattle.command.specs.ChangeLaws.{ChangeLaws}
 use Rattle.command.specs.FolderLaws.{FolderLaws}
 use Rattle.command.specs.HearLaws.{HearLaws}
@@ -148,6 +149,9 @@ store_laws = record {
 remove_laws : RemoveLaws wait_tasks
 remove_laws = no_removals wait_tasks (λ t. no_removal t.holds (t.taken == 0))
 
+boot_laws : BootLaws wait_tasks
+boot_laws = no_boots wait_tasks (λ actor lane t v b p s by f wrote. absurd wrote)
+
 folder_laws : FolderLaws wait_tasks wait_means wait_doing
 folder_laws = record {
   claims = λ actor lane t v b name s f wrote. absurd wrote;
@@ -170,5 +174,6 @@ wait_command_laws = record {
   answers = answer_laws;
   store = store_laws;
   removes = remove_laws;
+  boots = boot_laws;
   folders = folder_laws;
 }

@@ -8,6 +8,7 @@ use Rattle.fs_trait.proofs.Facts.{shows_kept}
 use Rattle.repo_layout.specs.Paths.{stage_path}
 use Rattle.rely_guarantee.specs.Books.{Books}
 use Rattle.command.specs.AnswerLaws.{AnswerLaws}
+use Rattle.command.specs.BootLaws.{BootLaws, no_boots}
 use Rattle.command.specs.ChangeLaws.{ChangeLaws}
 use Rattle.command.specs.FolderLaws.{FolderLaws}
 use Rattle.command.specs.HearLaws.{HearLaws}
@@ -97,6 +98,9 @@ store_laws = record {
 remove_laws : RemoveLaws list_tasks
 remove_laws = no_removals list_tasks (λ t removes. removes)
 
+boot_laws : BootLaws list_tasks
+boot_laws = no_boots list_tasks (λ actor lane t v b p s by f wrote. absurd wrote)
+
 folder_laws : FolderLaws list_tasks list_means list_doing
 folder_laws = record {
   claims = λ actor lane t v b name s f wrote. absurd wrote;
@@ -119,5 +123,6 @@ list_command_laws = record {
   answers = answer_laws;
   store = store_laws;
   removes = remove_laws;
+  boots = boot_laws;
   folders = folder_laws;
 }

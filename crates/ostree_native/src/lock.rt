@@ -10,7 +10,12 @@ const REPOSITORY: &str = "./ostree/repo";
 
 const LOCK: &str = "./ostree/repo/.lock";
 
-/// Another program works on the repository, or it can't be locked.
+/// What `ostree` knows of a deployment that is to boot only from the next shutdown on, which no list names yet.
+const STAGED: &str = "./run/ostree/staged-deployment";
+
+const ABOVE_STAGED: [&str; 2] = ["./run", "./run/ostree"];
+
+/// Another program works on the repository, or has yet to end what it began there, or it can't be locked.
 #[derive(Clone, Copy, Debug, PartialEq, Eq)]
 pub struct Held;
 
@@ -20,14 +25,31 @@ impl From<io::Error> for Held {
     }
 }
 
-/// Takes the lock for as long as the file is open. Where there is no repository yet, there is nothing to be locked.
+/// Takes the lock for as long as the file is open. Where there is no repository yet, there is nothing to be locked. While `ostree` has a
+/// deployment staged the repository counts as held: no list names that one yet, so it would go as one that nothing boots.
 pub fn hold(rt: &HostRuntime) -> Result<Option<File>, Held> {
+    if is_staged(rt)? {
+        return Err(Held);
+    }
     if !is_folder(rt, ABOVE)? || !is_folder(rt, REPOSITORY)? {
         return Ok(None);
     }
     let file = open_lock(rt)?;
     match file.try_lock() {
         Ok(()) => Ok(Some(file)),
+        Err(_) => Err(Held),
+    }
+}
+
+fn is_staged(rt: &HostRuntime) -> Result<bool, Held> {
+    for folder in ABOVE_STAGED {
+        if !is_folder(rt, folder)? {
+            return Ok(false);
+        }
+    }
+    match fs::symlink_metadata(rt, STAGED) {
+        Ok(_) => Ok(true),
+        Err(e) if e.kind() == ErrorKind::NotFound => Ok(false),
         Err(_) => Err(Held),
     }
 }

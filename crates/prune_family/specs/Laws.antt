@@ -1,6 +1,7 @@
 -- The laws of a prune as a command.
 use Rattle.std.proofs.Common.{◌≡◌, refl, sym, ◌∙◌, ap, subst, arith}
 use Rattle.command.specs.AnswerLaws.{AnswerLaws}
+use Rattle.command.specs.BootLaws.{BootLaws, no_boots}
 use Rattle.command.specs.ChangeLaws.{ChangeLaws}
 use Rattle.command.specs.FolderLaws.{FolderLaws}
 use Rattle.command.specs.HearLaws.{HearLaws}
@@ -16,7 +17,7 @@ use Rattle.prune_family.specs.declared.task.PruneTask.{PruneTask}
 use Rattle.prune_family.specs.Family.{prune_doing, prune_means}
 use Rattle.prune_family.specs.Kinds.{asks_both, begins_of, begun_holds, ends_made, ends_tell, goes_on_its_way, has_answer, learns_on, never_claims, never_pins, not_made, makes_durable_prune, shows_founded, shows_prune, writes_no_bytes}
 use Rattle.prune_family.specs.Learning.{learn_facts, learn_kind, learn_left}
-use Rattle.prune_family.specs.Removing.{ends_of, keeps_of, no_checkout, no_stage, removes_of, takes_of, vacant_only}
+use Rattle.prune_family.specs.Removing.{ends_of, keeps_of, no_boot, no_checkout, no_stage, removes_of, takes_of, vacant_only}
 use Rattle.prune_family.specs.Says.{ends_remain, ends_say, outside_no}
 
 abbrev pub prune_tasks : TaskSpec PruneTask
@@ -108,6 +109,9 @@ remove_laws = record {
   ends = λ lane t new v w b e f kind prune leaves. ends_of lane t.work new.work v w b e f kind prune leaves;
 }
 
+boot_laws : BootLaws prune_tasks
+boot_laws = no_boots prune_tasks (λ actor lane t v b p s by f wrote. no_boot lane t.work v b p s f wrote)
+
 folder_laws : FolderLaws prune_tasks prune_means prune_doing
 folder_laws = record {
   claims = λ actor lane t v b name s f wrote. absurd (no_checkout lane actor t.work v b name s f wrote);
@@ -130,5 +134,6 @@ prune_command_laws = record {
   answers = answer_laws;
   store = store_laws;
   removes = remove_laws;
+  boots = boot_laws;
   folders = folder_laws;
 }

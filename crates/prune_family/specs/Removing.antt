@@ -19,6 +19,7 @@ use Rattle.store_check.specs.Listing.{IsThere}
 use Rattle.rely_guarantee.specs.declared.event.Event.{Event}
 use Rattle.rely_guarantee.specs.Books.{Books}
 use Rattle.rely_guarantee.specs.Laws.{Quiet, Remove, MakeDurable, Publish, Published, Take}
+use Rattle.rely_guarantee.specs.Rely.{IsBoot}
 use Rattle.rely_guarantee.specs.Removing.{next_of}
 use Rattle.durable_store.specs.Removals.{AreDifferent, Except, IsSettled}
 use Rattle.durable_store.specs.Writing.{KeepsStore}
@@ -292,3 +293,10 @@ no_checkout lane actor t v b name s f wrote = ⊎_elim
     (λ o. (let n : Checkout name [] ≡ Object o.0.kind o.0.csum = sym (place-checkout name []) ∙ ap place o.2 ∙ place-object o.0.kind o.0.csum o.1 in cc))
     (λ m. (let n : Checkout name [] ≡ Mark m.0 = sym (place-checkout name []) ∙ ap place m.2 ∙ place-mark m.0 m.1 in cc))
     (where_in t.phase t lane v b f.known (checkout_path name) s wrote)
+
+-- nor where what boots stands
+pub no_boot : (lane : ℕ) (t : PruneCommand) (v : View) (b : Books) (p : Path) (s : Seen) → prune_facts lane t v b → writes_in t.phase p s → IsBoot (place p) → ⊥
+no_boot lane t v b p s f wrote boot = ⊎_elim
+    (λ o. (let n : IsBoot (Object o.0.kind o.0.csum) = subst IsBoot (ap place o.2 ∙ place-object o.0.kind o.0.csum o.1) boot in n))
+    (λ m. (let n : IsBoot (Mark m.0) = subst IsBoot (ap place m.2 ∙ place-mark m.0 m.1) boot in n))
+    (where_in t.phase t lane v b f.known p s wrote)

@@ -7,6 +7,7 @@ use Rattle.read_command.specs.Commands.{read_facts, read_kind, read_leaves, read
 use Rattle.read_command.specs.Laws.{no_read_claim}
 use Rattle.read_command.proofs.Ends.{begins_of}
 use Rattle.command.specs.AnswerLaws.{AnswerLaws}
+use Rattle.command.specs.BootLaws.{BootLaws, no_boots}
 use Rattle.command.specs.ChangeLaws.{ChangeLaws}
 use Rattle.command.specs.FolderLaws.{FolderLaws}
 use Rattle.command.specs.HearLaws.{HearLaws}
@@ -100,6 +101,9 @@ store_laws = record {
 remove_laws : RemoveLaws read_tasks
 remove_laws = no_removals read_tasks (λ t. reads_stay t.work)
 
+boot_laws : BootLaws read_tasks
+boot_laws = no_boots read_tasks (λ actor lane t v b p s by f wrote. absurd wrote)
+
 folder_laws : FolderLaws read_tasks read_means read_doing
 folder_laws = record {
   claims = λ actor lane t v b name s f wrote. absurd wrote;
@@ -122,5 +126,6 @@ read_command_laws = record {
   answers = answer_laws;
   store = store_laws;
   removes = remove_laws;
+  boots = boot_laws;
   folders = folder_laws;
 }

@@ -17,6 +17,7 @@ use Rattle.ref_command.proofs.Ends.{begins_of, falls_always, says_of}
 use Rattle.ref_command.proofs.Homes.{home_task}
 use Rattle.ref_command.proofs.Refusals.{refused_of}
 use Rattle.command.specs.AnswerLaws.{AnswerLaws}
+use Rattle.command.specs.BootLaws.{BootLaws, no_boots}
 use Rattle.command.specs.ChangeLaws.{ChangeLaws}
 use Rattle.command.specs.FolderLaws.{FolderLaws}
 use Rattle.command.specs.HearLaws.{HearLaws}
@@ -33,7 +34,7 @@ use Rattle.ref_family.specs.declared.words.RefWords.TheVariants as words
 use Rattle.ref_family.specs.Ends.{ref_ends}
 use Rattle.ref_family.specs.Family.{commit_lasts, ref_doing, ref_makes, ref_means, ref_pursues, ref_says, ref_shows}
 use Rattle.ref_family.specs.Keeping.{refs_keep}
-use Rattle.ref_family.specs.Objects.{lacks_none, no_checkout, no_object, pins_work, refs_light}
+use Rattle.ref_family.specs.Objects.{lacks_none, no_boot, no_checkout, no_object, pins_work, refs_light}
 use Rattle.ref_family.specs.Removing.{refs_alone, refs_stay}
 use Rattle.ref_family.specs.Steps.{change_is, own_step, ref_founds, ref_holds, ref_settled, ref_shown, ref_step}
 use Rattle.ref_family.specs.Telling.{ref_tells}
@@ -141,6 +142,9 @@ store_laws = record {
 remove_laws : RemoveLaws ref_tasks
 remove_laws = no_removals ref_tasks (λ t. refs_stay t.work)
 
+boot_laws : BootLaws ref_tasks
+boot_laws = no_boots ref_tasks (λ actor lane t v b p s by f wrote. no_boot actor lane t.work v b p s f wrote)
+
 folder_laws : FolderLaws ref_tasks ref_means ref_doing
 folder_laws = record {
   claims = λ actor lane t v b name s f wrote. no_checkout actor lane t.work v b name s f wrote;
@@ -163,5 +167,6 @@ ref_command_laws = record {
   answers = answer_laws;
   store = store_laws;
   removes = remove_laws;
+  boots = boot_laws;
   folders = folder_laws;
 }

@@ -2,12 +2,13 @@
 use Rattle.std.proofs.Common.{◌≡◌, ⊎_elim, ℕ, true, false, refl, sym, ◌∙◌, ap, subst, List, [], Option, Some, None, IsSome}
 use Rattle.ost_types.specs.declared.object.Kind.TheVariants.{Commit}
 use Rattle.ost_types.specs.declared.object.ObjName.{ObjName}
+use Rattle.ost_types.specs.Path.{Path}
 use Rattle.fs_trait.specs.Image.{reads}
 use Rattle.fs_trait.specs.Seen.{Seen}
 use Rattle.fs_trait.specs.View.{View}
 use Rattle.repo_layout.specs.BootPaths.{checkout_path}
 use Rattle.repo_layout.specs.Paths.{object_path}
-use Rattle.repo_layout.specs.Place.{Checkout, Object, Ref, Stage}
+use Rattle.repo_layout.specs.Place.{Checkout, Object, Ref, Stage, place}
 use Rattle.repo_layout.specs.RefFile.{IsSum}
 use Rattle.repo_layout.proofs.Places.{place-checkout, place-object}
 use Rattle.repo_model.specs.Objects.{path_of}
@@ -19,6 +20,7 @@ use Rattle.rely_guarantee.specs.declared.kind.Wants.{Wants}
 use Rattle.rely_guarantee.specs.Books.{Books}
 use Rattle.rely_guarantee.specs.Lasting.{StaysFinished}
 use Rattle.rely_guarantee.specs.Laws.{Take}
+use Rattle.rely_guarantee.specs.Rely.{IsBoot}
 use Rattle.rely_guarantee.specs.State.{State}
 use Rattle.ref_command.specs.declared.answer.RefAnswer.{RefAnswer}
 use Rattle.ref_command.specs.declared.answer.RefAnswer.TheVariants as answer
@@ -97,6 +99,13 @@ no_checkout actor lane t v b name s f wrote = absurd (⊎_elim
     (λ stage. (let n : Checkout name [] ≡ Stage lane = sym (place-checkout name []) ∙ stage in cc))
     (λ ref. (let n : Checkout name [] ≡ Ref ref.0 = sym (place-checkout name []) ∙ ref.1 in cc))
     (command_places actor lane t v b f (checkout_path name) s wrote))
+
+-- nor where what boots stands
+pub no_boot : (actor lane : ℕ) (t : RefCommand) (v : View) (b : Books) (p : Path) (s : Seen) → command_facts lane t v b → command_writes actor t v p s → IsBoot (place p) → ⊥
+no_boot actor lane t v b p s f wrote boot = ⊎_elim
+    (λ stage. (let n : IsBoot (Stage lane) = subst IsBoot stage boot in n))
+    (λ ref. (let n : IsBoot (Ref ref.0) = subst IsBoot ref.1 boot in n))
+    (command_places actor lane t v b f p s wrote)
 
 none_not : {A : Type 0} (o : Option A) → o ≡ None → IsSome o → ⊥
 none_not o none some = let n : false ≡ true = subst IsSome none some in cc

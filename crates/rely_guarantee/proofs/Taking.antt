@@ -23,7 +23,7 @@ use Rattle.rely_guarantee.specs.declared.event.Event.{Event}
 use Rattle.rely_guarantee.specs.declared.kind.Outcome.{Outcome}
 use Rattle.rely_guarantee.specs.declared.kind.Outcome.TheVariants as came
 use Rattle.rely_guarantee.specs.declared.kind.Wants.{Wants}
-use Rattle.rely_guarantee.specs.Books.{Books, books_of, doomed_of, Agrees, Frees, Spared, Keeps}
+use Rattle.rely_guarantee.specs.Books.{Books, books_of, doomed_of, Agrees, Free, Frees, Spared, Keeps}
 use Rattle.rely_guarantee.specs.Rely.{Guarantee, may_at, NotPinned}
 use Rattle.rely_guarantee.specs.Removing.{Goes, IsGuarded, IsRoot, next_of}
 use Rattle.rely_guarantee.specs.Exact.{NoNewShares, lock_taken}
@@ -33,6 +33,9 @@ use Rattle.rely_guarantee.proofs.Lists.{all_of, other_or_own}
 use Rattle.rely_guarantee.proofs.Locking.{doomed_taken, free_before, spared_refl, spared_then}
 
 -- With more locks of its own a lane may write no more than before.
+links_before : (b b' : Books) (lane actor : ℕ) → Spared actor lane b b' → Free b'.sysroot lane × Free b'.turn lane × Free b'.exclusive lane → Free b.sysroot lane × Free b.turn lane × Free b.exclusive lane
+links_before b b' lane actor sp m = (free_before b.sysroot b'.sysroot lane sp.sysroot m.0, free_before b.turn b'.turn lane sp.turn m.1, free_before b.exclusive b'.exclusive lane sp.exclusive m.2)
+
 may_before : (b b' : Books) (actor lane : ℕ) → Spared actor lane b b' → Keeps lane b b' → b'.claims ≡ b.claims → (x : Place) (s : Seen) → may_at b' actor lane x s → may_at b actor lane x s
 may_before b b' actor lane sp ke same Config s m = m
 may_before b b' actor lane sp ke same (Stage a) s m = m
@@ -44,17 +47,17 @@ may_before b b' actor lane sp ke same (Object k c) s m = (free_before b.exclusiv
     pinned p none has kk cc_ = other_or_own p.lane lane (λ other. none p (sp.pins p other has) kk cc_)
 may_before b b' actor lane sp ke same (Mark c) s m = m
 may_before b b' actor lane sp ke same Summary s m = (free_before b.turn b'.turn lane sp.turn m.0, free_before b.exclusive b'.exclusive lane sp.exclusive m.1)
-may_before b b' actor lane sp ke same (Deployment o c n r) s m = m
-may_before b b' actor lane sp ke same (Etc o c n r) s m = m
-may_before b b' actor lane sp ke same (Origin o c n) s m = m
+may_before b b' actor lane sp ke same (Deployment o c n r) s m = free_before b.sysroot b'.sysroot lane sp.sysroot m
+may_before b b' actor lane sp ke same (Etc o c n r) s m = free_before b.sysroot b'.sysroot lane sp.sysroot m
+may_before b b' actor lane sp ke same (Origin o c n) s m = free_before b.sysroot b'.sysroot lane sp.sysroot m
 may_before b b' actor lane sp ke same Staged s m = m
-may_before b b' actor lane sp ke same (BootLink n) s m = m
-may_before b b' actor lane sp ke same BootLinkStage s m = m
-may_before b b' actor lane sp ke same (BootFolder n k r) s m = m
-may_before b b' actor lane sp ke same Loader s m = m
-may_before b b' actor lane sp ke same LoaderStage s m = m
-may_before b b' actor lane sp ke same (LoaderFolder n r) s m = m
-may_before b b' actor lane sp ke same (KernelCopy o c r) s m = m
+may_before b b' actor lane sp ke same (BootLink n) s m = links_before b b' lane actor sp m
+may_before b b' actor lane sp ke same BootLinkStage s m = free_before b.sysroot b'.sysroot lane sp.sysroot m
+may_before b b' actor lane sp ke same (BootFolder n k r) s m = free_before b.sysroot b'.sysroot lane sp.sysroot m
+may_before b b' actor lane sp ke same Loader s m = links_before b b' lane actor sp m
+may_before b b' actor lane sp ke same LoaderStage s m = free_before b.sysroot b'.sysroot lane sp.sysroot m
+may_before b b' actor lane sp ke same (LoaderFolder n r) s m = free_before b.sysroot b'.sysroot lane sp.sysroot m
+may_before b b' actor lane sp ke same (KernelCopy o c r) s m = free_before b.sysroot b'.sysroot lane sp.sysroot m
 may_before b b' actor lane sp ke same (Checkout n []) s m = m
 may_before b b' actor lane sp ke same (Checkout n (x ∷ r)) s m = subst (λ (l : List claim.Claim). Contains l (record { lane = lane; name = n })) same m
 may_before b b' actor lane sp ke same (Other p) s m = m

@@ -24,7 +24,24 @@ use Rattle.rely_guarantee.specs.Removing.{Comes, Goes}
 abbrev pub NotPinned : List Pin → ℕ → object.Kind → List ℕ → Type 0
 NotPinned pins lane kind sum = (p : Pin) → Contains pins p → p.object.kind ≡ kind → p.object.csum ≡ sum → p.lane ≡ lane
 
--- What this actor, for this lane, may write at a place. Where no command of those that there are writes, nobody may.
+-- what boots, what is deployed, and what is no place of the layout
+abbrev pub IsBoot : Place → Type 0
+IsBoot (Deployment os commit serial rest) = Unit {0}
+IsBoot (Etc os commit serial rest) = Unit {0}
+IsBoot (Origin os commit serial) = Unit {0}
+IsBoot Staged = Unit {0}
+IsBoot (BootLink version) = Unit {0}
+IsBoot BootLinkStage = Unit {0}
+IsBoot (BootFolder version sub rest) = Unit {0}
+IsBoot Loader = Unit {0}
+IsBoot LoaderStage = Unit {0}
+IsBoot (LoaderFolder version rest) = Unit {0}
+IsBoot (KernelCopy os bootcsum rest) = Unit {0}
+IsBoot (Other p) = Unit {0}
+IsBoot x = ⊥
+
+-- What this actor, for this lane, may write at a place. What boots and what is deployed is for the lane alone that works on the list of
+-- deployments, and the two links by which another list boots are a change that is published. Where no command writes, nobody may.
 abbrev pub may_at : Books → ℕ → ℕ → Place → Seen → Type 0
 may_at b actor lane (Stage a) s = a ≡ actor
 may_at b actor lane (Ref name) s = Free b.turn lane × Free b.exclusive lane
@@ -32,17 +49,17 @@ may_at b actor lane (ObjectsFolder digits) s = IsDirectory s
 may_at b actor lane (Object kind sum) s = Free b.exclusive lane × NotDirectory s × (s ≡ Vacant → NotPinned b.pins lane kind sum)
 may_at b actor lane (Mark commit) s = NotDirectory s
 may_at b actor lane Summary s = Free b.turn lane × Free b.exclusive lane
-may_at b actor lane (Deployment os commit serial rest) s = ⊥
-may_at b actor lane (Origin os commit serial) s = ⊥
+may_at b actor lane (Deployment os commit serial rest) s = Free b.sysroot lane
+may_at b actor lane (Etc os commit serial rest) s = Free b.sysroot lane
+may_at b actor lane (Origin os commit serial) s = Free b.sysroot lane
 may_at b actor lane Staged s = ⊥
-may_at b actor lane (BootLink version) s = ⊥
-may_at b actor lane BootLinkStage s = ⊥
-may_at b actor lane (BootFolder version sub rest) s = ⊥
-may_at b actor lane Loader s = ⊥
-may_at b actor lane LoaderStage s = ⊥
-may_at b actor lane (LoaderFolder version rest) s = ⊥
-may_at b actor lane (KernelCopy os bootcsum rest) s = ⊥
-may_at b actor lane (Etc os commit serial rest) s = ⊥
+may_at b actor lane (BootLink version) s = Free b.sysroot lane × Free b.turn lane × Free b.exclusive lane
+may_at b actor lane BootLinkStage s = Free b.sysroot lane
+may_at b actor lane (BootFolder version sub rest) s = Free b.sysroot lane
+may_at b actor lane Loader s = Free b.sysroot lane × Free b.turn lane × Free b.exclusive lane
+may_at b actor lane LoaderStage s = Free b.sysroot lane
+may_at b actor lane (LoaderFolder version rest) s = Free b.sysroot lane
+may_at b actor lane (KernelCopy os bootcsum rest) s = Free b.sysroot lane
 may_at b actor lane (Checkout name []) s = IsDirectory s
 may_at b actor lane (Checkout name (x ∷ rest)) s = Contains b.claims (record { lane = lane; name = name })
 may_at b actor lane Config s = ⊥

@@ -1,5 +1,5 @@
 -- What is left where the folders were laid out and the staging paths cleared.
-use Rattle.std.proofs.Common.{◌≡◌, inl, inr, ⊎_elim, ◌<◌, ℕ, true, false, refl, sym, ◌∙◌, ap, subst, Option, Some, Result, Ok, Err}
+use Rattle.std.proofs.Common.{◌≡◌, inl, inr, ⊎_elim, ℕ, true, false, refl, sym, ◌∙◌, ap, subst, Option, Some, Result, Ok, Err}
 use Rattle.std.specs.Prelude.{OnOk}
 use Rattle.ost_types.specs.Path.{Name, Path, is_below, under}
 use Rattle.ost_types.proofs.Paths.{is_below-under}
@@ -18,11 +18,10 @@ use Rattle.repo_layout.specs.Paths.{config_path, folder_path, stage_path}
 use Rattle.sys_open.specs.declared.fault.OpenFault.{OpenFault}
 use Rattle.sys_open.specs.Faults.{IsRefusal, IsInterruption}
 use Rattle.layout_rules.specs.Checks.{Asks, Staging, IsSane}
-use Rattle.sys_open.specs.Changes.{Changes, Configures, Lays, ClearsStages, IsArranged}
+use Rattle.sys_open.specs.Changes.{Changes, Configures, Lays, ClearsStages}
 use Rattle.sys_open.specs.Damages.{HasConfig, ShowsConfig}
 use Rattle.sys_open.proofs.ChangedPlaces.{config_put, laid_not_put, put_is_path}
 use Rattle.sys_open.proofs.Clearings.{folder_still}
-use Rattle.sys_open.proofs.Working.{one_view}
 
 -- no folder of the layout lies at a staging path
 apart : (f : Folder) (actor : ℕ) → is_below (stage_path actor) (folder_path f) ≡ false
@@ -74,7 +73,7 @@ none_before v u writes none = ⊎_elim
 -- what is written then was written from the beginning's view
 pub configures_from : (v u : View) → Writes (Lays v.now) v u → (p : Path) (s : Seen) → Configures u.now p s → Changes v.now p s
 configures_from v u writes p s (inl clears) = inr (inl clears)
-configures_from v u writes p s (inr puts) = inr (inr (record { none = none_before v u writes puts.none; puts = puts.puts }))
+configures_from v u writes p s (inr puts) = inr (inr (inl (record { none = none_before v u writes puts.none; puts = puts.puts })))
 
 pub folders_stand : (v u : View) → Writes (Configures v.now) v u → (f : Folder) → is_folder (v.now.at (folder_path f)) ≡ true → is_folder (u.now.at (folder_path f)) ≡ true
 folders_stand v u writes f folder = ⊎_elim
@@ -105,19 +104,6 @@ sync_interrupted at err.Exists f named is = absurd named
 sync_interrupted at err.Missing f named is = absurd named
 sync_interrupted at err.NotFolder f named is = absurd named
 sync_interrupted at err.NotEmpty f named is = absurd named
-
-pub arranged_of : {T : Type 0} (u w : View) → Writes ClearsStages u w → ((f : Folder) → is_folder (u.now.at (folder_path f)) ≡ true) → ShowsConfig (shows u.now config_path) → (view : Option View) (r : Result T OpenFault) → view ≡ Some w
-    → OnOk r (Told view (λ x. (actor : ℕ) → actor < 16 → shows x.now (stage_path actor) ≡ Vacant)) → OnOk r (Told view (λ x. IsArranged x.now))
-arranged_of u w writes laid config view (Ok x) told clear = (
-  w,
-  told,
-  record {
-    folders = λ f. folders_stay u w writes f (laid f);
-    config = config_stays u w writes config;
-    staging = subst (λ (y : View). (actor : ℕ) → actor < 16 → shows y.now (stage_path actor) ≡ Vacant) (one_view view clear.0 w clear.1 told) clear.2;
-  },
-)
-arranged_of u w writes laid config view (Err e) told clear = tt
 
 -- a sync of all changes nothing that reads see, and makes it last
 pub synced_now : (v : View) → (all_synced v).now ≡ v.now

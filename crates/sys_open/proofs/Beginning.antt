@@ -20,7 +20,12 @@ use Rattle.sys_open.specs.Faults.{IsInterruption}
 use Rattle.layout_rules.specs.Checks.{IsSane, IsRefAt, RefFiles}
 use Rattle.layout_rules.proofs.Sanes.{ref_below}
 use Rattle.sys_open.specs.Changes.{Changes, Keeps, Puts, PutsConfig, file_meta}
+use Rattle.sys_open.specs.LeftOver.{LiesIn}
 use Rattle.sys_open.specs.Opening.{Answers, OnDamage}
+use Rattle.repo_layout.specs.Place.{Ref}
+use Rattle.repo_layout.proofs.Places.{place-ref}
+use Rattle.rely_guarantee.specs.Rely.{IsBoot}
+use Rattle.sys_open.proofs.LeftOvers.{lies_boot}
 
 pub interrupted_answer : (T : Type 0) (limits : Limits) (d : Disk) (f : OpenFault) → IsInterruption f → Answers {T = T} limits d (Err f)
 interrupted_answer T limits d fault.Disk is = tt
@@ -87,7 +92,8 @@ module _ (d e : Disk) (sane : IsSane d) (keeps : Keeps d e) where
       by (inl same) = same
       by (inr (inl lays)) = let bad : IsLeaf (Directory folder_meta) = subst IsLeaf lays.1 leaf in absurd bad
       by (inr (inr (inl clears))) = let bad : IsLeaf Vacant = subst IsLeaf clears.2.1 leaf in absurd bad
-      by (inr (inr (inr puts))) = absurd (not_put d p (shows e p) below puts)
+      by (inr (inr (inr (inl puts)))) = absurd (not_put d p (shows e p) below puts)
+      by (inr (inr (inr (inr cleared)))) = let bad : IsLeaf Vacant = subst IsLeaf cleared.1 leaf in absurd bad
 
   pub leaf_was : (p : Path) → is_below heads p ≡ true → is_leaf (e.at p) ≡ true → (shows e p ≡ shows d p) × IsRefAt d p
   leaf_was p below leaf =
@@ -98,6 +104,9 @@ module _ (d e : Disk) (sane : IsSane d) (keeps : Keeps d e) where
   unfolding ref_path
   unstaged actor name below = let n : false ≡ true = sym (not_staged actor (parts_of name)) ∙ below in cc
 
+  uncleared : (name : List ℕ) → LiesIn d (ref_path name) → ⊥
+  uncleared name lies = let n : IsBoot (Ref name) = subst IsBoot (place-ref name) (lies_boot d (ref_path name) lies) in n
+
   says_still : (said : Said) (name : List ℕ) → Says (RefOf name) said (shows d (ref_path name)) → Says (RefOf name) said (shows e (ref_path name))
   says_still said name says = by said says (keeps (ref_path name))
     where
@@ -106,7 +115,8 @@ module _ (d e : Disk) (sane : IsSane d) (keeps : Keeps d e) where
       by None says (inr (inl lays)) = λ leaf. let bad : IsLeaf (Directory folder_meta) = subst IsLeaf lays.1 leaf in absurd bad
       by (Some commit) says (inr (inl lays)) = let n : None ≡ Some (ref_text commit) = sym (ap bytes_in lays.2) ∙ says.1 in cc
       by said says (inr (inr (inl clears))) = absurd (unstaged clears.0 name clears.2.0)
-      by said says (inr (inr (inr puts))) = absurd (not_put d (ref_path name) (shows e (ref_path name)) (ref_below name) puts)
+      by said says (inr (inr (inr (inl puts)))) = absurd (not_put d (ref_path name) (shows e (ref_path name)) (ref_below name) puts)
+      by said says (inr (inr (inr (inr cleared)))) = absurd (uncleared name cleared.0)
 
   pub logical_kept : (refs : List (List ℕ × List ℕ)) → Logical d (first refs) → Logical e (first refs)
   logical_kept refs logical (RefOf name) = says_still (first refs (RefOf name)) name (logical (RefOf name))

@@ -1,7 +1,6 @@
 -- From what is wrong with the deployments of the list to what an opening tells.
-use Rattle.std.proofs.Common.{◌≡◌, inl, inr, ℕ, arith, refl, sym, ◌∙◌, ap, subst, List, [], Contains, codes, Some, None, Err}
+use Rattle.std.proofs.Common.{◌≡◌, inl, inr, ℕ, refl, sym, ◌∙◌, ap, subst, List, Contains, codes, Some, None, Err}
 use Rattle.std.specs.declared.cmp.Ordering.TheVariants.{Less}
-use Rattle.std.proofs.lemmas.List.Elements.{All-contains}
 use Rattle.ost_types.specs.declared.limits.Limits.{Limits}
 use Rattle.ost_types.specs.declared.object.Kind.TheVariants.{File}
 use Rattle.ost_types.specs.Path.{Name, Path, path_cmp}
@@ -16,8 +15,8 @@ use Rattle.repo_model.specs.Trees.{name_of}
 use Rattle.tree_walk.specs.Standing.{AreRight, IsLeaf}
 use Rattle.boot_model.specs.Listing.{Selects}
 use Rattle.boot_read.specs.declared.row.BootRow.{BootRow}
-use Rattle.boot_read.specs.Rows.{AreRowsOf, IsBootRow}
-use Rattle.deployment_check.specs.Deployments.{IsId, IsWholeDeployment, home_of}
+use Rattle.boot_read.specs.Rows.{AreRowsOf}
+use Rattle.deployment_check.specs.Deployments.{IsWholeDeployment, home_of}
 use Rattle.sys_open.specs.declared.fault.OpenFault.{OpenFault}
 use Rattle.sys_open.specs.declared.fault.OpenFault.TheVariants as fault
 use Rattle.sys_open.specs.declared.fault.Why.TheVariants.{NoDeployment}
@@ -28,22 +27,13 @@ use Rattle.sys_open.specs.Faults.{IsInterruption, IsRefusal}
 use Rattle.sys_open.specs.Judged.{ComesFirst, IsBrokenAs, IsFit, IsLeastOf, IsUnbroken, IsUnfitAs, StandsFirst}
 use Rattle.sys_open.specs.Opening.{ToldBy}
 use Rattle.sys_open.proofs.Goods.{whole_rows}
+use Rattle.sys_open.proofs.LeftOvers.{no_row}
 use Rattle.sys_open.proofs.Orders.{less_names}
 
 -- ---- what is known of the list and of the objects
 
-no_row : (row : BootRow) → Contains [] row → ⊥
-no_row row (k, less, is) = omega (arith, less)
-
 module _ (d : Disk) (rows : List BootRow) (row : BootRow) (among : Contains rows row) where
-  -- a row has the name of a deployment
-  pub row_id : AreRowsOf d rows → IsId row.id
-  row_id (inl (none, empty)) = absurd (no_row row (subst (λ l. Contains l row) empty among))
-  row_id (inr (loader, sub, selects, has, are)) =
-      let leads = (All-contains (IsBootRow d loader sub) rows row are.each among).led.leads.link.leads in
-      record { stateroot = leads.stateroot; sum = leads.sum; small = leads.small }
-
-  -- and the disk selects a version where there is one
+  -- the disk selects a version where there is a row
   pub selects_some : AreRowsOf d rows → (loader : ℕ) × Selects d loader
   selects_some (inl (none, empty)) = absurd (no_row row (subst (λ l. Contains l row) empty among))
   selects_some (inr (loader, sub, selects, has, are)) = (loader, selects)

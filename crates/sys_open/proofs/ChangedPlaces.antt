@@ -13,7 +13,7 @@ use Rattle.repo_layout.specs.declared.folder.Folder.TheVariants as layout
 use Rattle.repo_layout.specs.BootPaths.{boot_folder_path, kernel_path, loader_folder_path}
 use Rattle.repo_layout.specs.Fixed.{number}
 use Rattle.repo_layout.specs.Paths.{config_path, folder_path, in_repo, mark_path, stage_path}
-use Rattle.repo_layout.specs.Place.{Place, Config, Mark, Object, ObjectsFolder, Other, Stage, place, deploy_place, object_place, ostree_place, repo_place}
+use Rattle.repo_layout.specs.Place.{Place, BootFolder, BootLink, BootLinkStage, Checkout, Config, Deployment, Etc, KernelCopy, Loader, LoaderFolder, LoaderStage, Mark, Object, ObjectsFolder, Origin, Other, Ref, Stage, Staged, Summary, place, deploy_place, object_place, ostree_place, repo_place}
 use Rattle.repo_layout.specs.RefFile.{IsSum}
 use Rattle.repo_layout.proofs.KnownPaths.{config-known}
 use Rattle.repo_layout.proofs.Places.{place-boot_folder, place-boot_link, place-config, place-kernel, place-loader_folder, place-mark, place-object, place-stage, place-summary}
@@ -34,6 +34,8 @@ use Rattle.repo_config.proofs.NewConfig.{new_is}
 use Rattle.staged_file.specs.Steps.{IsFileWith}
 use Rattle.sys_open.specs.Damages.{ShowsConfig}
 use Rattle.sys_open.specs.Changes.{Changes, Puts, PutsConfig, file_meta}
+use Rattle.rely_guarantee.specs.Rely.{IsBoot}
+use Rattle.sys_open.proofs.LeftOvers.{lies_boot}
 
 pub config_is_path : IsPath config_path
 config_is_path = let k = config-known in record { names = k.names; few = omega (arith, k.few); short = omega (arith, k.short) }
@@ -51,8 +53,7 @@ PutsAt p s = Puts (stage_path 0) config_path file_meta config_text p s
 abbrev IsOpenedAt : Place → Type 0
 IsOpenedAt Config = Unit {0}
 IsOpenedAt (Stage actor) = Unit {0}
-IsOpenedAt (Other p) = Unit {0}
-IsOpenedAt x = ⊥
+IsOpenedAt x = IsBoot x
 
 opened_at : (p : Path) (x : Place) → place p ≡ x → IsOpenedAt x → IsOpenedAt (place p)
 opened_at p x is here = subst IsOpenedAt (sym is) here
@@ -64,10 +65,33 @@ puts_place d p s puts = by puts.puts
     by (inl staged) = opened_at p (Stage 0) (stage_place_is 0 p (omega arith) staged.0) tt
     by (inr put) = opened_at p Config (ap place put.0 ∙ place-config) tt
 
+boot_opened : (x : Place) → IsBoot x → IsOpenedAt x
+boot_opened Config is = tt
+boot_opened (Stage a) is = tt
+boot_opened (Ref n) is = is
+boot_opened (ObjectsFolder g) is = is
+boot_opened (Object k c) is = is
+boot_opened (Mark c) is = is
+boot_opened Summary is = is
+boot_opened (Deployment o c n r) is = is
+boot_opened (Etc o c n r) is = is
+boot_opened (Origin o c n) is = is
+boot_opened Staged is = is
+boot_opened (BootLink n) is = is
+boot_opened BootLinkStage is = is
+boot_opened (BootFolder n m r) is = is
+boot_opened Loader is = is
+boot_opened LoaderStage is = is
+boot_opened (LoaderFolder n r) is = is
+boot_opened (KernelCopy o c r) is = is
+boot_opened (Checkout n r) is = is
+boot_opened (Other p) is = is
+
 changed_place : (d : Disk) (p : Path) (s : Seen) → Changes d p s → IsOpenedAt (place p)
 changed_place d p s (inl lays) = opened_at p (Other (folder_path lays.0.0)) (ap place lays.0.1 ∙ fixed_other lays.0.0 (folder_path lays.0.0) (is_below-self (folder_path lays.0.0))) tt
 changed_place d p s (inr (inl clears)) = opened_at p (Stage clears.0) (staged_place clears.0 p clears.1 clears.2.0) tt
-changed_place d p s (inr (inr puts)) = puts_place d p s puts
+changed_place d p s (inr (inr (inl puts))) = puts_place d p s puts
+changed_place d p s (inr (inr (inr cleared))) = boot_opened (place p) (lies_boot d p cleared.0)
 
 -- neither an object, a mark nor a ref is written
 pub object_unchanged : (d : Disk) (name : ObjName) (s : Seen) → IsSum name.csum → Changes d (path_of name) s → ⊥
@@ -173,4 +197,5 @@ config_put d s changes = by changes
     by : Changes d config_path s → ShowsConfig s
     by (inl lays) = let n : Config ≡ Other (folder_path lays.0.0) = sym place-config ∙ ap place lays.0.1 ∙ fixed_other lays.0.0 (folder_path lays.0.0) (is_below-self (folder_path lays.0.0)) in cc
     by (inr (inl clears)) = let n : Config ≡ Stage clears.0 = sym place-config ∙ staged_place clears.0 config_path clears.1 clears.2.0 in cc
-    by (inr (inr puts)) = put puts.puts
+    by (inr (inr (inl puts))) = put puts.puts
+    by (inr (inr (inr cleared))) = let n : IsBoot Config = subst IsBoot place-config (lies_boot d config_path cleared.0) in absurd n

@@ -22,7 +22,7 @@ use Rattle.sys_open.specs.declared.fault.OpenFault.TheVariants as fault
 use Rattle.sys_open.specs.declared.fault.Why.TheVariants.{BadConfig, BadRef, WrongKind}
 use Rattle.layout_rules.specs.Checks as rules
 use Rattle.layout_rules.specs.Checks.{HoldsRefs}
-use Rattle.sys_open.specs.Damages.{Check, Places, Config, RefFiles, Objects, Commits, BootList, Deployments, Staging, turn, HasConfig, IsGood, Passes}
+use Rattle.sys_open.specs.Damages.{Check, Clearable, Places, Config, RefFiles, Objects, Commits, BootList, Deployments, Staging, turn, HasConfig, IsGood, Passes}
 use Rattle.sys_open.specs.Stored.{ToldOfStore}
 use Rattle.sys_open.specs.Walk.{IsSoBelow, Looked, Walked}
 use Rattle.sys_open.specs.Gathered.{Refs, Has, AreOf, HasAllBelow}
@@ -51,7 +51,7 @@ refs_told T limits d fault.NoMemory walked = tt
 refs_told T limits d (fault.Outside p) walked = walked
 refs_told T limits d (fault.Damaged p y) walked = (walked.0, record { wrong = λ asks. walked.1.wrong (asks walked.1.below); least = λ q less below. walked.1.least q below less })
 
-pub stages_told : (T : Type 0) (limits : Limits) (d : Disk) (f : OpenFault) → Walked {T = T} (rules.Asks rules.Staging d) WrongKind [] (Err f) → ToldBy {T = T} Staging limits d (Err f)
+pub stages_told : (T : Type 0) (limits : Limits) (d : Disk) (f : OpenFault) → Walked {T = T} (Clearable d) WrongKind [] (Err f) → ToldBy {T = T} Staging limits d (Err f)
 stages_told T limits d fault.Disk walked = tt
 stages_told T limits d fault.NoMemory walked = tt
 stages_told T limits d (fault.Outside p) walked = walked
@@ -63,7 +63,7 @@ places_pass limits d all p = all p (root p)
 pub refs_pass : (limits : Limits) (d : Disk) → IsSoBelow (HoldsRefs d) heads → Passes RefFiles limits d
 refs_pass limits d all p = all p
 
-pub stages_pass : (limits : Limits) (d : Disk) → IsSoBelow (rules.Asks rules.Staging d) [] → Passes Staging limits d
+pub stages_pass : (limits : Limits) (d : Disk) → IsSoBelow (Clearable d) [] → Passes Staging limits d
 stages_pass limits d all p = all p (root p)
 
 -- the first check that fails

@@ -39,7 +39,8 @@ module _ (u w : View) (tree : IsTree u.now) (settled : (p : Path) → Always u p
       by (inl same) = inl (vacant ∙ sym (ap (seen u.now) (tree.folders f x (was_none f none same))))
       by (inr (inl lays)) = absurd (not_both (folder_shows d f (subst IsDirectory (sym lays.1) tt)) none)
       by (inr (inr (inl clears))) = inr (inr (inl (clears.0, clears.1, (is_below-under (stage_path clears.0) f x clears.2.0, vacant))))
-      by (inr (inr (inr puts))) = below_put puts.puts
+      by (inr (inr (inr (inr cleared)))) = inr (inr (inr (inr ((cleared.0.0, cleared.0.1, is_below-under cleared.0.0 f x cleared.0.2), vacant))))
+      by (inr (inr (inr (inl puts)))) = below_put puts.puts
         where
           no_folder : f ≡ config_path → is_folder (u.now.at f) ≡ false
           no_folder e = ap is_folder (vacant_absent u.now f (ap (shows u.now) e ∙ puts.none))

@@ -16,7 +16,8 @@ use Rattle.store_check.proofs.Excluded.{damaged_has, few_more, whole_lacks}
 use Rattle.sys_open.specs.declared.fault.Why.{Why}
 use Rattle.sys_open.specs.Booted.{BootedRow, HasBroken, HasUnfit, IsToldOfJudgement}
 use Rattle.sys_open.specs.Damages.{BootsWhole, Check, Places, Config, RefFiles, Objects, Commits, BootList, Deployments, Staging, Fails, IsFault, IsGood, IsToldOfList, Passes}
-use Rattle.sys_open.proofs.Booting.{right_objects, row_id}
+use Rattle.sys_open.proofs.Booting.{right_objects}
+use Rattle.sys_open.proofs.LeftOvers.{row_id}
 
 -- what is told of the list is of the disk, and of no call
 of_disk : (fault : ListFault) (p : Path) (why : Why) → IsToldOfList fault p why → lists.IsOfDisk (Err fault)

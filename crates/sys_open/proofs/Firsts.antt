@@ -34,7 +34,7 @@ module _ (A B : Path → Type 0) where
   lesser_least (Some p) (Some q) one (inr is) a b = subst (IsLeastWrong Both) (sym is.1) (record { below = a.below; wrong = λ both. a.wrong both.0; least = λ r below less. (a.least r below less, b.least r below (less_before r p q less is.0)) })
 
 -- what is asked of a path may be said in another way
-least_same : (A B : Path → Type 0) → ((q : Path) → A q → B q) → ((q : Path) → B q → A q) → (one : Option Path) → IsLeastWrong A one → IsLeastWrong B one
+pub least_same : (A B : Path → Type 0) → ((q : Path) → A q → B q) → ((q : Path) → B q → A q) → (one : Option Path) → IsLeastWrong A one → IsLeastWrong B one
 least_same A B to from None wrong = λ q below. to q (wrong q below)
 least_same A B to from (Some p) wrong = record { below = wrong.below; wrong = λ b. wrong.wrong (from p b); least = λ q below less. to q (wrong.least q below less) }
 

@@ -21,7 +21,7 @@ use Rattle.sys_open.specs.declared.judged.Broken.{Broken}
 use Rattle.sys_open.specs.declared.judged.Faults.{Faults}
 use Rattle.sys_open.specs.Booted.{IsBroken}
 use Rattle.sys_open.specs.Judged.{Adds, AddsBroken, AddsUnfit, AreFaultsOf, ComesFirst, IsBrokenAs, IsFit, IsLeastOf, IsLesserOf, IsUnbroken, IsUnfitAs, StandsFirst}
-use Rattle.sys_open.proofs.Booting.{row_id}
+use Rattle.sys_open.proofs.LeftOvers.{row_id}
 use Rattle.sys_open.proofs.Orders.{less_trans, name_trans, not_less_itself, not_name_itself}
 
 module _ {V : Type 0} (Wrong Before : BootRow → V → Type 0) (Right : BootRow → Type 0) (done : List BootRow) (row : BootRow) where

@@ -20,6 +20,9 @@ mod Stores
 mod BootLists
 mod Laying
 mod StageClearing
+mod SeveralPaths
+mod Gathering
+pub mod LeftOvers
 mod ChangedPlaces
 mod Configuring
 mod Arranging
@@ -28,6 +31,7 @@ mod Crashing
 pub mod Goods
 mod Reopening
 mod ListKept
+mod LeftClearing
 mod DeploymentsKept
 mod EntryPlaces
 mod Booting

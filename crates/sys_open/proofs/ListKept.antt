@@ -1,10 +1,11 @@
 -- What an opening leaves of the list that boots.
-use Rattle.std.proofs.Common.{◌≡◌, ◌⊎◌, inl, inr, ⊎_elim, ℕ, ◌≤◌, ◌<◌, arith, refl, sym, ◌∙◌, ap, subst, List, [], ◌∷◌, length, codes}
+use Rattle.std.proofs.Common.{◌≡◌, inl, inr, ⊎_elim, ℕ, ◌≤◌, ◌<◌, arith, refl, sym, ◌∙◌, ap, subst, List, [], ◌∷◌, length, codes}
 use Rattle.ost_types.specs.Path.{Name, Path}
 use Rattle.fs_trait.specs.View.{Disk}
 use Rattle.fs_trait.specs.Seen.{Seen, shows}
 use Rattle.repo_layout.specs.declared.folder.Folder.{Folder}
 use Rattle.repo_layout.specs.declared.folder.Folder.TheVariants.{Ostree, Repo, Objects, Refs, Heads, State, Tmp, Deploy, Boot, Kernels, Checkouts}
+use Rattle.repo_layout.specs.BootPaths.{loader_path}
 use Rattle.repo_layout.specs.Paths.{deploy_path, folder_path}
 use Rattle.repo_layout.specs.Place.{Place, BootFolder, BootLink, Config, Loader, LoaderFolder, Other, Stage, place}
 use Rattle.repo_layout.proofs.Places.{place-boot_folder, place-boot_link, place-config, place-loader, place-loader_folder}
@@ -13,9 +14,11 @@ use Rattle.boot_read.specs.Rows.{AreRowsOf}
 use Rattle.durable_list.specs.Standing.{IsInVersion, IsListPath}
 use Rattle.durable_list.proofs.Same.{same_rows}
 use Rattle.durable_list.proofs.Standing.{itself}
-use Rattle.durable_list.proofs.Unwritten.{IsBoot, on_the_way}
+use Rattle.durable_list.proofs.Unwritten.{on_the_way}
+use Rattle.rely_guarantee.specs.Rely.{IsBoot}
 use Rattle.sys_open.specs.Changes.{Changes, Keeps}
 use Rattle.sys_open.proofs.ChangedPlaces.{stage_place_is, staged_place}
+use Rattle.sys_open.proofs.LeftOvers.{list_stays}
 use Rattle.sys_open.proofs.Reopening.{other}
 
 pub few_names : (f : Folder) → length (folder_path f) ≤ 4
@@ -59,14 +62,22 @@ not_laid d rows f p e (inr (inr (row, among, is))) =
 pub boot_at : (p : Path) (x : Place) → place p ≡ x → IsBoot (place p) → IsBoot x
 boot_at p x is boot = subst IsBoot is boot
 
-list_unchanged : (d : Disk) (rows : List BootRow) (p : Path) (s : Seen) → IsListPath d rows p → Changes d p s → ⊥
-list_unchanged d rows p s is (inl lays) = not_laid d rows lays.0.0 p lays.0.1 is
-list_unchanged d rows p s is (inr (inl clears)) = boot_at p (Stage clears.0) (staged_place clears.0 p clears.1 clears.2.0) (on_the_way d rows p (p, is, itself p))
-list_unchanged d rows p s is (inr (inr puts)) = ⊎_elim
+list_unchanged : (d : Disk) (rows : List BootRow) → AreRowsOf d rows → (p : Path) (s : Seen) → IsListPath d rows p → Changes d p s → ⊥
+list_unchanged d rows are p s is (inl lays) = not_laid d rows lays.0.0 p lays.0.1 is
+list_unchanged d rows are p s is (inr (inl clears)) = boot_at p (Stage clears.0) (staged_place clears.0 p clears.1 clears.2.0) (on_the_way d rows p (p, is, itself p))
+list_unchanged d rows are p s is (inr (inr (inr cleared))) = list_stays d rows are p is cleared.0
+list_unchanged d rows are p s is (inr (inr (inl puts))) = ⊎_elim
     (λ staged. boot_at p (Stage 0) (stage_place_is 0 p (omega arith) staged.0) (on_the_way d rows p (p, is, itself p)))
     (λ put. boot_at p Config (ap place put.0 ∙ place-config) (on_the_way d rows p (p, is, itself p)))
     puts.puts
 
 module _ (d e : Disk) (keeps : Keeps d e) where
+  list_kept : (rows : List BootRow) → AreRowsOf d rows → (p : Path) → IsListPath d rows p → shows e p ≡ shows d p
+  list_kept rows are p is = ⊎_elim (λ same. same) (λ changes. absurd (list_unchanged d rows are p (shows e p) is changes)) (keeps p)
+
   pub rows_kept : (rows : List BootRow) → AreRowsOf d rows → AreRowsOf e rows
-  rows_kept rows = same_rows d e rows (λ p is. ⊎_elim (λ same. same) (λ changes. absurd (list_unchanged d rows p (shows e p) is changes)) (keeps p))
+  rows_kept rows are = same_rows d e rows (list_kept rows are) are
+
+  -- so the boot loader's link is the same
+  pub loader_kept : (rows : List BootRow) → AreRowsOf d rows → shows e loader_path ≡ shows d loader_path
+  loader_kept rows are = list_kept rows are loader_path (inl refl)

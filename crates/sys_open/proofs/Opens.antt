@@ -10,7 +10,7 @@ use Rattle.fs_trait.specs.Change.{Left}
 use Rattle.repo_layout.specs.declared.folder.Folder.{Folder}
 use Rattle.rely_guarantee.specs.State.{first}
 use Rattle.rely_guarantee.specs.Disks.{Logical}
-use Rattle.fs_trait.specs.Seen.{Always, seen, shows}
+use Rattle.fs_trait.specs.Seen.{Always, Vacant, seen, shows}
 use Rattle.fs_trait.proofs.Facts.{vacant_absent}
 use Rattle.repo_layout.specs.Paths.{folder_path, stage_path}
 use Rattle.boot_read.specs.declared.row.BootRow.{BootRow}
@@ -19,26 +19,32 @@ use Rattle.store_check.specs.Listing.{AreAll}
 use Rattle.layout_rules.specs.Checks.{IsSane}
 use Rattle.layout_rules.proofs.Layouts.{below_split}
 use Rattle.sys_open.specs.Changes.{IsArranged, Keeps}
-use Rattle.sys_open.specs.Damages.{IsGood}
+use Rattle.sys_open.specs.Damages.{BootsList, IsGood}
+use Rattle.sys_open.specs.LeftOver.{LiesIn}
 use Rattle.sys_open.specs.Opened.{IsListed, IsOpened, KeepsGood, KeepsRows}
 use Rattle.sys_open.specs.Opening.{AreAscending, Begins, IsGoodSince, KeepsSince}
 use Rattle.sys_open.proofs.Beginning.{logical_kept}
 use Rattle.sys_open.proofs.Goods.{deployments_of, sane_of, store_of}
-use Rattle.sys_open.proofs.ListKept.{rows_kept}
+use Rattle.sys_open.proofs.LeftOvers.{lies_still}
+use Rattle.sys_open.proofs.ListKept.{loader_kept, rows_kept}
 use Rattle.sys_open.proofs.Reopening.{still_sane}
 use Rattle.sys_open.proofs.StoreKept.{all_kept, still_good}
 use Rattle.sys_open.proofs.Walks.{absent_below}
 use Rattle.sys_open.proofs.Working.{one_view}
 
 -- what a system can begin with, where a sane disk was arranged
-pub begins : (v w : View) → IsSane v.now → Keeps v.now w.now → IsTree w.now → IsArranged w.now → ((p : Path) → Always w p (shows w.now p)) → (refs : List (List ℕ × List ℕ)) → Logical v.now (first refs) → Begins refs v w
-begins v w sane keeps tree arranged settled refs logical = record {
+pub begins : (v w : View) → IsSane v.now → BootsList v.now → Keeps v.now w.now → IsTree w.now → IsArranged v.now w.now → ((p : Path) → Always w p (shows w.now p)) → (refs : List (List ℕ × List ℕ)) → Logical v.now (first refs) → Begins refs v w
+begins v w sane boots keeps tree arranged settled refs logical = record {
   opening = record { settled = settled; folders = arranged.folders; sane = still_sane v.now w.now sane keeps; state = logical_kept v.now w.now sane keeps refs logical };
   same = logical;
   keeps = keeps;
   config = arranged.config;
   staging = λ actor small p below. let s = below_split (stage_path actor) p below in ap (seen w.now) (subst (λ q. w.now.at q ≡ Absent) (sym s.1) (absent_below w.now tree (stage_path actor) s.0 (vacant_absent w.now (stage_path actor) (arranged.staging actor small))));
+  left_over = λ p lies. nothing p (lies_still v.now w.now boots.0 boots.1 (rows_kept v.now w.now keeps boots.0 boots.1) (loader_kept v.now w.now keeps boots.0 boots.1) p lies);
 }
+  where
+    nothing : (p : Path) → LiesIn v.now p → shows w.now p ≡ Vacant
+    nothing p (q, is, below) = let s = below_split q p below in ap (seen w.now) (subst (λ r. w.now.at r ≡ Absent) (sym s.1) (absent_below w.now tree q s.0 (vacant_absent w.now q (arranged.left_over q is))))
 
 -- each disk that a crash left is good, and has the refs
 pub good_since : (limits : Limits) (left : ℕ → Disk → Type 0) (opened : ℕ) (d : Disk) (refs : List (List ℕ × List ℕ)) → IsGood limits d → Logical d (first refs) → KeepsSince left opened d → IsGoodSince left opened limits (first refs)
@@ -59,6 +65,7 @@ module _ {F : Type 0} (view : F → Option View) (clock : F → ℕ) (was : F �
     past = past;
     opening = λ w now. (here w now).2.opening;
     staging = λ w now. (here w now).2.staging;
+    left_over = λ w now. (here w now).2.left_over;
     since = λ w now t e from left. let s = since w now t e from left in (sane_of limits e s.0, s.1);
   }
 

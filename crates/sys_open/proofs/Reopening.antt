@@ -74,20 +74,22 @@ laid_rule NoFolder f p (inr w) e = laid_in w.0 NoFolder f p w.1 e
 laid_rule FileOrNothing f p (inr w) e = laid_in w.0 FileOrNothing f p w.1 e
 
 module _ (d e : Disk) (sane : IsSane d) (keeps : Keeps d e) where
-  reached_kept : (p : Path) → IsReached d p → IsReached e p
+  pub reached_kept : (p : Path) → IsReached d p → IsReached e p
   reached_kept p reached x there = by (keeps (under p x))
     where
       by : (shows e (under p x) ≡ shows d (under p x)) ⊎ Changes d (under p x) (shows e (under p x)) → IsPath (under p x)
       by (inl same) = reached x (λ none. there (vacant_absent e (under p x) (same ∙ ap (seen d) none)))
       by (inr (inl lays)) = subst IsPath (sym lays.0.1) (folder_is_path lays.0.0)
       by (inr (inr (inl clears))) = absurd (there (vacant_absent e (under p x) clears.2.1))
-      by (inr (inr (inr puts))) = put_is_path d (under p x) (shows e (under p x)) puts
+      by (inr (inr (inr (inl puts)))) = put_is_path d (under p x) (shows e (under p x)) puts
+      by (inr (inr (inr (inr cleared)))) = absurd (there (vacant_absent e (under p x) cleared.1))
 
   kind_kept : (rule : Rule) (p : Path) → IsFor rule p → Suits rule (d.at p) → (shows e p ≡ shows d p) ⊎ Changes d p (shows e p) → Suits rule (e.at p)
   kind_kept rule p w suits (inl same) = suits_same rule d e (d.at p) (e.at p) same suits
   kind_kept rule p w suits (inr (inl lays)) = subst (λ r. Suits r (e.at p)) (sym (laid_rule rule lays.0.0 p w lays.0.1)) (folder_suits e (e.at p) (subst IsDirectory (sym lays.1) tt))
   kind_kept rule p w suits (inr (inr (inl clears))) = absent_suits rule (e.at p) (vacant_absent e p clears.2.1)
-  kind_kept rule p w suits (inr (inr (inr puts))) = absurd (no_rule rule d p (shows e p) w puts)
+  kind_kept rule p w suits (inr (inr (inr (inl puts)))) = absurd (no_rule rule d p (shows e p) w puts)
+  kind_kept rule p w suits (inr (inr (inr (inr cleared)))) = absent_suits rule (e.at p) (vacant_absent e p cleared.1)
 
   holds_kept : (p : Path) → is_below heads p ≡ true → HoldsRefs e p
   holds_kept p below = record {

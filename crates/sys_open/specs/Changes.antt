@@ -17,6 +17,7 @@ use Rattle.staged_file.specs.Staged.{Staged}
 use Rattle.staged_file.specs.Steps.{IsFileWith}
 use Rattle.ref_room.specs.Way.{folder_meta}
 use Rattle.sys_open.specs.Damages.{ShowsConfig}
+use Rattle.sys_open.specs.LeftOver.{IsLeftOver, LiesBelow, LiesIn}
 
 -- A folder that is there from the beginning comes where nothing stood.
 abbrev pub Lays : Disk → Path → Seen → Type 0
@@ -51,10 +52,19 @@ Configures d p s = ClearsStages p s ⊎ PutsConfig d p s
 abbrev pub of_config : Staged
 of_config = record { stage = stage_path 0; folder = folder_path Repo; at = config_path; meta = file_meta; bytes = config_text; lock = need.Nothing; phase = Clear; written = 0 }
 
-abbrev pub Changes : Disk → Path → Seen → Type 0
-Changes d p s = Lays d p s ⊎ ClearsStages p s ⊎ PutsConfig d p s
+-- what stands at one of these paths goes, with all that is in it
+abbrev pub ClearsAll : List Path → Path → Seen → Type 0
+ClearsAll paths p s = LiesBelow paths p × (s ≡ Vacant)
 
--- The other disk shows what this one shows, but where a folder or the configuration came, or a staging path was cleared.
+-- what no list boots goes, with all that is in it
+abbrev pub ClearsUnlisted : Disk → Path → Seen → Type 0
+ClearsUnlisted d p s = LiesIn d p × (s ≡ Vacant)
+
+abbrev pub Changes : Disk → Path → Seen → Type 0
+Changes d p s = Lays d p s ⊎ ClearsStages p s ⊎ PutsConfig d p s ⊎ ClearsUnlisted d p s
+
+-- The other disk shows what this one shows, but where a folder or the configuration came, a staging path was cleared, or what no list
+-- boots went.
 abbrev pub Keeps : Disk → Disk → Type 0
 Keeps d e = (p : Path) → (shows e p ≡ shows d p) ⊎ Changes d p (shows e p)
 
@@ -75,8 +85,10 @@ pub record IsEmptied (d : Disk) (at : Path) : Type 0 where
   pub below_root : at ≢ []
   pub empty : (x : Name) → d.at (under at x) ≡ Absent
 
--- All folders that are there from the beginning are, the configuration is, and nothing stands at a staging path.
-pub record IsArranged (d : Disk) : Type 0 where
+-- All folders that are there from the beginning are, the configuration is, and nothing stands at a staging path, or at one of what no
+-- list of that disk boots.
+pub record IsArranged (was d : Disk) : Type 0 where
   pub folders : (f : Folder) → is_folder (d.at (folder_path f)) ≡ true
   pub staging : (actor : ℕ) → actor < 16 → shows d (stage_path actor) ≡ Vacant
   pub config : ShowsConfig (shows d config_path)
+  pub left_over : (q : Path) → IsLeftOver was q → shows d q ≡ Vacant

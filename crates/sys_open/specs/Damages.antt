@@ -27,6 +27,7 @@ use Rattle.store_check.specs.Objects.{IsFirstBad, IsSound}
 use Rattle.sys_open.specs.declared.fault.Why.{Why}
 use Rattle.sys_open.specs.declared.fault.Why.TheVariants.{BadConfig, BadRef, BadObject, Incomplete, TooMany, WrongKind, BadLink, BadEntry, NoDeployment}
 use Rattle.sys_open.specs.Booted.{HasBroken, HasUnfit}
+use Rattle.sys_open.specs.LeftOver.{CanGo}
 
 -- The checks, in the order in which they are made.
 pub data Check : Type 0 where
@@ -37,7 +38,7 @@ pub data Check : Type 0 where
   Commits : Check  -- each commit without a mark is whole, and each ref names one that is there
   BootList : Check  -- the disk boots a list of deployments, or nothing
   Deployments : Check  -- each deployment of the list is the checkout of its commit, with copies of its kernel
-  Staging : Check  -- what stands at a staging path can be removed
+  Staging : Check  -- what stands at a staging path, or is what no list boots, can be removed
 
 abbrev pub turn : Check → ℕ
 turn Places = 1
@@ -77,6 +78,10 @@ BootsList d = (rows : List BootRow) × AreRowsOf d rows
 abbrev pub BootsWhole : Limits → Disk → Type 0
 BootsWhole limits d = (rows : List BootRow) → AreRowsOf d rows → deployments.AreWhole limits d rows
 
+-- what an opening removes can be removed
+abbrev pub Clearable : Disk → Path → Type 0
+Clearable d p = rules.Asks rules.Staging d p × CanGo d p
+
 -- What a check asks of a disk.
 abbrev pub Passes : Check → Limits → Disk → Type 0
 Passes Places limits d = (p : Path) → rules.Asks rules.Kinds d p
@@ -86,7 +91,7 @@ Passes Objects limits d = AreSound limits d
 Passes Commits limits d = AreWhole limits d × AreFounded d
 Passes BootList limits d = BootsList d
 Passes Deployments limits d = BootsWhole limits d
-Passes Staging limits d = (p : Path) → rules.Asks rules.Staging d p
+Passes Staging limits d = (p : Path) → Clearable d p
 
 -- A repository is opened on a disk that passes all of them.
 abbrev pub IsGood : Limits → Disk → Type 0
@@ -151,7 +156,7 @@ Fails Objects limits d p why = HasTooMany limits d p why ⊎ HasBadObject limits
 Fails Commits limits d p why = HasIncomplete limits d p why
 Fails BootList limits d p why = HasBadList d p why
 Fails Deployments limits d p why = HasUnfit limits d p why ⊎ HasBroken limits d p why
-Fails Staging limits d p why = (why ≡ WrongKind) × IsLeast (rules.Asks rules.Staging d) p
+Fails Staging limits d p why = (why ≡ WrongKind) × IsLeast (Clearable d) p
 
 -- The first check that fails, and what is told of it.
 pub record IsFault (limits : Limits) (d : Disk) (p : Path) (why : Why) : Type 0 where

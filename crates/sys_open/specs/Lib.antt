@@ -1,4 +1,5 @@
 pub mod Faults
+pub mod LeftOver
 pub mod Booted
 pub mod Damages
 pub mod Walk

@@ -14,6 +14,7 @@ use Rattle.rely_guarantee.specs.Opening.{IsOpening}
 use Rattle.sys_open.specs.declared.fault.OpenFault.{OpenFault}
 use Rattle.sys_open.specs.declared.fault.OpenFault.TheVariants as fault
 use Rattle.sys_open.specs.Changes.{Keeps}
+use Rattle.sys_open.specs.LeftOver.{HasNoLeftOvers}
 use Rattle.sys_open.specs.Damages.{Check, Fails, IsFault, IsGood, Passes, ShowsConfig}
 
 -- Whether it is opened, by what reads see at the beginning.
@@ -46,8 +47,8 @@ pub record AreRefsOf (d : Disk) (refs : List (List ℕ × List ℕ)) : Type 0 wh
 abbrev pub HasNoStages : Disk → Type 0
 HasNoStages d = (actor : ℕ) → actor < 16 → (p : Path) → IsTrue (is_below (stage_path actor) p) → shows d p ≡ Vacant
 
--- Each disk that a crash left since that moment shows what this one shows, but where a folder or the configuration came, or a
--- staging path was cleared.
+-- Each disk that a crash left since that moment shows what this one shows, but where a folder or the configuration came, a
+-- staging path was cleared, or what no list boots went.
 abbrev pub KeepsSince : (ℕ → Disk → Type 0) → ℕ → Disk → Type 0
 KeepsSince left opened d = (t : ℕ) (e : Disk) → opened ≤ t → left t e → Keeps d e
 
@@ -55,13 +56,14 @@ KeepsSince left opened d = (t : ℕ) (e : Disk) → opened ≤ t → left t e �
 abbrev pub IsGoodSince : (ℕ → Disk → Type 0) → ℕ → Limits → State → Type 0
 IsGoodSince left opened limits start = (t : ℕ) (d : Disk) → opened ≤ t → left t d → IsGood limits d × Logical d start
 
--- What it leaves: a system can begin with these refs, which are those of the beginning, nothing stands at a staging path,
--- and the configuration is there.
+-- What it leaves: a system can begin with these refs, which are those of the beginning, nothing stands at a staging path or is what no
+-- list boots, and the configuration is there.
 pub record Begins (refs : List (List ℕ × List ℕ)) (v w : View) : Type 0 where
   pub opening : IsOpening (first refs) w
   pub same : Logical v.now (first refs)
   pub keeps : Keeps v.now w.now
   pub staging : HasNoStages w.now
+  pub left_over : HasNoLeftOvers w.now
   pub config : ShowsConfig (shows w.now config_path)
 
 -- after damage was told all is as it was, and outlasts a crash

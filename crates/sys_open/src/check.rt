@@ -10,6 +10,7 @@ ghost use Rattle.store_check.specs.Listing.{AreAll};
 ghost use Rattle.sys_open.specs.declared.fault.Why.TheVariants.{BadRef, WrongKind};
 ghost use Rattle.sys_open.specs.Faults.{HasReason};
 ghost use Rattle.layout_rules.specs.Checks.{Asks, HoldsRefs, Kinds};
+ghost use Rattle.sys_open.specs.LeftOver.{AreLeftOvers};
 ghost use Rattle.sys_open.specs.Walk.{Walked};
 ghost use Rattle.sys_open.specs.Opening.{Answers, AreAscending, AreRefsOf};
 ghost use Rattle.sys_open.specs.Stored.{ToldOfStore};
@@ -23,11 +24,12 @@ use crate::inside::check_inside;
 use crate::kinds::check_kinds;
 use crate::least::{damage, lesser};
 use crate::refs::read_refs;
-use crate::stages::check_stages;
+use crate::removal::check_removal;
 use crate::store::{look_at_commits, read_objects};
+use crate::unlisted::left_overs;
 use boot_read::BootRow;
 use fs_trait::Fs;
-use ost_types::{Csum, Limits, ObjName};
+use ost_types::{Csum, FsPath, Limits, ObjName};
 use repo_layout::{Folder, RefName, folder_path};
 use std::alloc::Global;
 use std::thread::Threads;
@@ -41,6 +43,8 @@ pub struct Contents {
     pub objects: Vec<ObjName>,
     /// The list that boots, the one that boots first coming first.
     pub rows: Vec<BootRow>,
+    /// The paths of what no list boots.
+    pub left_overs: Vec<FsPath>,
 }
 
 // Looks at each place of the layout. The least one is told at which something stands that it doesn't allow.
@@ -101,6 +105,7 @@ pub fn check<R: Threads + Sync, F: Fs>(
     ensures refs { (v : View) → F.view fs.old ≡ Some v → IfOk result (λ c. Logical v.now (first c.refs.items)) }
     ensures objects { (v : View) → F.view fs.old ≡ Some v → IfOk result (λ c. AreAll v.now c.objects.items) }
     ensures rows { (v : View) → F.view fs.old ≡ Some v → IfOk result (λ c. AreRowsOf v.now c.rows.items) }
+    ensures left_overs { (v : View) → F.view fs.old ≡ Some v → IfOk result (λ c. AreLeftOvers v.now c.left_overs.items) }
     ensures ascending { IfOk result (λ c. AreAscending c.refs.items) }
     ensures quiet { IsQuiet (F.clock fs.old) (F.clock fs.new) (F.was fs.old) (F.was fs.new) (F.view fs.old) (F.view fs.new) }
     ensures reason { HasReason (F.faults fs.old) (F.faults fs.new) result }
@@ -111,10 +116,12 @@ pub fn check<R: Threads + Sync, F: Fs>(
     let objects = objects_of(rt, alloc, fs, refs.as_slice(), limits)?;
     let rows = read_boot_list(alloc, fs)?;
     check_deployments(alloc, fs, limits, rows.as_slice())?;
-    check_stages(alloc, fs)?;
+    let left_overs = left_overs(alloc, fs, rows.as_slice())?;
+    check_removal(alloc, fs, left_overs.as_slice())?;
     Ok(Contents {
         refs,
         objects,
         rows,
+        left_overs,
     })
 }

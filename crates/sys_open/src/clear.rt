@@ -19,7 +19,7 @@ use std::alloc::Global;
 /// Removes what stands at a path, a folder with all that is in it.
 #[cycle(clear)]
 pub fn clear<F: Fs>(alloc: Global, fs: &mut F, at: &FsPath) -> Result<(), OpenFault>
-    requires { at.now ≢ [] }
+    requires { (v : View) → F.view fs.old ≡ Some v → at.now ≢ [] }
     ensures works { (v : View) → F.view fs.old ≡ Some v → Works (Clears at.now) v (F.clock fs.old) (F.clock fs.new) (F.was fs.old) (F.was fs.new) (F.view fs.new) }
     ensures cleared { (v : View) → F.view fs.old ≡ Some v → OnOk result (Told (F.view fs.new) (λ w. shows w.now at.now ≡ Vacant)) }
     ensures fails { (v : View) → F.view fs.old ≡ Some v → IsSoBelow (IsReached v.now) at.now → IfErr result IsInterruption }
@@ -37,7 +37,7 @@ pub fn clear<F: Fs>(alloc: Global, fs: &mut F, at: &FsPath) -> Result<(), OpenFa
 #[cycle(clear)]
 fn clear_folder<F: Fs>(alloc: Global, fs: &mut F, at: &FsPath) -> Result<(), OpenFault>
     requires folder { (v : View) → F.view fs.old ≡ Some v → is_folder (v.now.at at.now) ≡ true }
-    requires below_root { at.now ≢ [] }
+    requires below_root { (v : View) → F.view fs.old ≡ Some v → at.now ≢ [] }
     ensures works { (v : View) → F.view fs.old ≡ Some v → Works (Clears at.now) v (F.clock fs.old) (F.clock fs.new) (F.was fs.old) (F.was fs.new) (F.view fs.new) }
     ensures cleared { (v : View) → F.view fs.old ≡ Some v → OnOk result (Told (F.view fs.new) (λ w. shows w.now at.now ≡ Vacant)) }
     ensures fails { (v : View) → F.view fs.old ≡ Some v → IsSoBelow (IsReached v.now) at.now → IfErr result IsInterruption }
@@ -51,7 +51,7 @@ fn clear_folder<F: Fs>(alloc: Global, fs: &mut F, at: &FsPath) -> Result<(), Ope
 #[cycle(clear)]
 fn clear_inside<F: Fs>(alloc: Global, fs: &mut F, at: &FsPath) -> Result<(), OpenFault>
     requires folder { (v : View) → F.view fs.old ≡ Some v → is_folder (v.now.at at.now) ≡ true }
-    requires below_root { at.now ≢ [] }
+    requires below_root { (v : View) → F.view fs.old ≡ Some v → at.now ≢ [] }
     ensures works { (v : View) → F.view fs.old ≡ Some v → Works (ClearsInside at.now) v (F.clock fs.old) (F.clock fs.new) (F.was fs.old) (F.was fs.new) (F.view fs.new) }
     ensures emptied { (v : View) → F.view fs.old ≡ Some v → OnOk result (Told (F.view fs.new) (λ w. IsEmptied w.now at.now)) }
     ensures fails { (v : View) → F.view fs.old ≡ Some v → IsSoBelow (IsReached v.now) at.now → IfErr result IsInterruption }

@@ -12,6 +12,7 @@ ghost use Rattle.sys_open.specs.Walk.{Finds};
 use crate::fault::OpenFault;
 use crate::refs::node_at;
 use boot_model::loader_target;
+use boot_plan::loader_path;
 use fs_trait::{Fs, Node};
 use ost_types::{FsPath, Name, NoMemory};
 use repo_layout::{Fixed, Folder, Version, fixed_path, folder_path};
@@ -26,15 +27,6 @@ pub fn entry_at<F: Fs>(alloc: Global, fs: &mut F, file: &Name) -> Result<FsPath,
     let at = loader_path(alloc)?;
     let node = node_at(fs, &at)?;
     Ok(in_version(alloc, selected(node), file)?)
-}
-
-fn loader_path(alloc: Global) -> Result<FsPath, NoMemory>
-    ensures { IfOk result (λ p. p ≡ loader_path) }
-{
-    let Some(name) = Name::parse(alloc, b"loader")? else {
-        unreachable!()
-    };
-    folder_path(alloc, Folder::Boot)?.child(&name)
 }
 
 // which of the two versions this selects, where it selects one

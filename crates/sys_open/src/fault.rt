@@ -25,7 +25,8 @@ pub enum Why {
     /// eight that there may be.
     TooMany(u64),
     /// Something else than a folder stands in a folder's place, as in that of a deployment's `etc`, a folder where a leaf belongs, or
-    /// something else than a regular file at the path of a mark; or a folder at a staging path has a name that is too long for a path.
+    /// something else than a regular file at the path of a mark; or a folder that an opening removes has a name that is too long for
+    /// a path.
     WrongKind,
     /// What stands there isn't the link by which a list of deployments boots.
     BadLink,

@@ -143,8 +143,8 @@ fn check_copy<F: Fs>(fs: &mut F, folder: &FsPath, name: &Name) -> Result<(), Ope
     }
 }
 
-// The names of all that stands in the folder at a path; none where no folder stands there.
-fn names_in<F: Fs>(alloc: Global, fs: &mut F, at: &FsPath) -> Result<Names, OpenFault>
+/// The names of all that stands in the folder at a path; none where no folder stands there.
+pub fn names_in<F: Fs>(alloc: Global, fs: &mut F, at: &FsPath) -> Result<Names, OpenFault>
     ensures told { (v : View) → F.view fs.old ≡ Some v → Finds (IsListing v.now at.now) result }
     ensures quiet { IsQuiet (F.clock fs.old) (F.clock fs.new) (F.was fs.old) (F.was fs.new) (F.view fs.old) (F.view fs.new) }
     ensures reason { HasReason (F.faults fs.old) (F.faults fs.new) result }

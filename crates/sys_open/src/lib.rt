@@ -1,5 +1,5 @@
 //! Opening the repository of a file system: it is checked, its folders are laid out, its configuration is written where there is
-//! none, and what was staged is removed.
+//! none, and what was staged or no list boots is removed.
 #![tactic(auto)]
 
 mod adopting;
@@ -24,8 +24,11 @@ mod least;
 mod opening;
 mod reaching;
 mod refs;
+mod removal;
+mod several;
 mod stages;
 mod store;
+mod unlisted;
 
 pub use adopting::{Opened, OpenedParts, adopt};
 pub use fault::{OpenFault, Why};

@@ -11,6 +11,7 @@ ghost use Rattle.boot_read.specs.Rows.{AreRowsOf};
 ghost use Rattle.store_check.specs.Listing.{AreAll};
 ghost use Rattle.sys_open.specs.Changes.{Changes, IsArranged, Works};
 ghost use Rattle.sys_open.specs.Damages.{HasConfig};
+ghost use Rattle.sys_open.specs.LeftOver.{AreLeftOvers, CanGo};
 ghost use Rattle.sys_open.specs.Opening.{Answers, AreAscending, Begins, KeepsSince, OnDamage};
 
 use crate::arrange::arrange;
@@ -19,25 +20,27 @@ use crate::check::check;
 use crate::fault::OpenFault;
 use boot_read::BootRow;
 use fs_trait::Fs;
-use ost_types::{Csum, Limits, ObjName};
+use ost_types::{Csum, FsPath, Limits, ObjName};
 use repo_layout::RefName;
 use std::alloc::Global;
 use std::thread::Threads;
 
 // arranges what the checks allow, and makes it outlast a crash where something was changed
-fn settle<F: Fs>(alloc: Global, fs: &mut F) -> Result<(), OpenFault>
+fn settle<F: Fs>(alloc: Global, fs: &mut F, left_overs: &[FsPath]) -> Result<(), OpenFault>
     requires sane { (v : View) → F.view fs.old ≡ Some v → IsSane v.now }
     requires config { (v : View) → F.view fs.old ≡ Some v → HasConfig v.now }
+    requires left_overs { (v : View) → F.view fs.old ≡ Some v → AreLeftOvers v.now left_overs.now }
+    requires can_go { (v : View) → F.view fs.old ≡ Some v → (p : Path) → CanGo v.now p }
     requires settled { (v : View) → F.view fs.old ≡ Some v → (p : Path) → Always v p (shows v.now p) }
     ensures works { (v : View) → F.view fs.old ≡ Some v → Works (Changes v.now) v (F.clock fs.old) (F.clock fs.new) (F.was fs.old) (F.was fs.new) (F.view fs.new) }
-    ensures arranged { (v : View) → F.view fs.old ≡ Some v → OnOk result (Told (F.view fs.new) (λ w. IsArranged w.now)) }
+    ensures arranged { (v : View) → F.view fs.old ≡ Some v → OnOk result (Told (F.view fs.new) (λ w. IsArranged v.now w.now)) }
     ensures settled { (v : View) → F.view fs.old ≡ Some v → OnOk result (Told (F.view fs.new) (λ w. (p : Path) → Always w p (shows w.now p))) }
     ensures fails { (v : View) → F.view fs.old ≡ Some v → IfErr result IsInterruption }
     ensures later { F.clock fs.old ≤ F.clock fs.new }
     ensures reason { HasReason (F.faults fs.old) (F.faults fs.new) result }
 {
     let before = fs.clock();
-    arrange(alloc, fs)?;
+    arrange(alloc, fs, left_overs)?;
     if fs.clock() == before {
         Ok(())
     } else {
@@ -59,7 +62,7 @@ pub struct Findings {
 }
 
 /// Opens the repository: makes all that is there outlast a crash, checks it, and then makes the folders that are absent, writes the
-/// configuration where there is none, and clears the staging paths.
+/// configuration where there is none, and removes what stands at the staging paths and what no list boots.
 pub fn open<R: Threads + Sync, F: Fs>(
     rt: &R,
     alloc: Global,
@@ -81,7 +84,7 @@ pub fn open<R: Threads + Sync, F: Fs>(
     barrier(alloc, fs)?;
     let clock = fs.clock();
     let contents = check(rt, alloc, fs, limits)?;
-    settle(alloc, fs)?;
+    settle(alloc, fs, contents.left_overs.as_slice())?;
     Ok(Findings {
         refs: contents.refs,
         objects: contents.objects,

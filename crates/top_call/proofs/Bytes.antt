@@ -19,10 +19,12 @@ use Rattle.repo_model.proofs.Named.{IsSum-named}
 use Rattle.repo_model.proofs.Stored.{stores_same}
 use Rattle.rely_guarantee.specs.Opening.{IsOpening}
 use Rattle.rely_guarantee.specs.State.{State}
+use Rattle.rely_guarantee.specs.Rely.{IsBoot}
 use Rattle.durable_store.specs.Known.{HoldsOnly, KeepsKnown, KnownBytes}
 use Rattle.durable_store.proofs.Knowing.{known_wider}
 use Rattle.sys_open.specs.Changes.{Changes, Keeps, Puts, Works, file_meta}
 use Rattle.sys_open.specs.Opening.{KeepsSince}
+use Rattle.sys_open.proofs.LeftOvers.{lies_boot}
 use Rattle.lane_system.specs.Family.{Family, FsSpec}
 use Rattle.lane_system.specs.Known.{AreKnown}
 use Rattle.lane_system.specs.Preserves.{Preserves}
@@ -56,7 +58,8 @@ module _ (name : ObjName) (sum : IsSum name.csum) where
   not_changed : (d : Disk) (s : Seen) → Changes d (path_of name) s → ⊥
   not_changed d s (inl lays) = not_laid lays.0.0 lays.0.1
   not_changed d s (inr (inl clears)) = not_cleared clears.0 clears.1 clears.2.0
-  not_changed d s (inr (inr puts)) = not_put s puts.puts
+  not_changed d s (inr (inr (inl puts))) = not_put s puts.puts
+  not_changed d s (inr (inr (inr cleared))) = let n : IsBoot (Object name.kind name.csum) = subst IsBoot at_object (lies_boot d (path_of name) cleared.0) in n
 
 -- so the objects behind it were there before it
 stores_before : (d e : Disk) (name : ObjName) (bytes : List ℕ) → (shows e (path_of name) ≡ shows d (path_of name)) → Stores e name bytes → Stores d name bytes

@@ -1,5 +1,5 @@
 -- The folders of checkouts, from the disk at the beginning to the end of a run.
-use Rattle.std.proofs.Common.{◌≡◌, ◌≢◌, inl, inr, ⊎_elim, ◌<◌, ℕ, true, sym, ◌∙◌, ap, arith, List, [], append-nil}
+use Rattle.std.proofs.Common.{◌≡◌, ◌≢◌, inl, inr, ⊎_elim, ◌<◌, ℕ, true, sym, ◌∙◌, ap, arith, subst, List, [], append-nil}
 use Rattle.ost_types.specs.Path.{Name, is_below}
 use Rattle.ost_types.proofs.Paths.{is_below-self}
 use Rattle.fs_trait.specs.Seen.{Seen, Vacant, shows}
@@ -11,7 +11,9 @@ use Rattle.repo_layout.specs.Place.{Checkout, Config, Other, Stage, place}
 use Rattle.repo_layout.proofs.Places.{place-checkout, place-config, place-stage}
 use Rattle.layout_rules.proofs.Layouts.{below_split, fixed_other}
 use Rattle.lane_system.specs.Folders.{AreClear, AreClearIn, AreFoldersIn, IsNamed, IsTaken}
+use Rattle.rely_guarantee.specs.Rely.{IsBoot}
 use Rattle.sys_open.specs.Changes.{Changes, Keeps, Puts, file_meta}
+use Rattle.sys_open.proofs.LeftOvers.{lies_boot}
 use Rattle.repo_config.specs.Config.{config_text}
 use Rattle.commands.specs.Family.{Lane, doing, means}
 
@@ -38,7 +40,8 @@ not_cleared name actor few below =
 not_changed : (d : Disk) (name : Name) (s : Seen) → Changes d (checkout_path name) s → ⊥
 not_changed d name s (inl lays) = not_laid name lays.0.0 lays.0.1
 not_changed d name s (inr (inl clears)) = not_cleared name clears.0 clears.1 clears.2.0
-not_changed d name s (inr (inr puts)) = not_put name s puts.puts
+not_changed d name s (inr (inr (inl puts))) = not_put name s puts.puts
+not_changed d name s (inr (inr (inr cleared))) = let n : IsBoot (Checkout name []) = subst IsBoot (place-checkout name []) (lies_boot d (checkout_path name) cleared.0) in n
 
 -- so what stands after it stood before
 still : (d e : Disk) → Keeps d e → (name : Name) → shows e (checkout_path name) ≡ shows d (checkout_path name)

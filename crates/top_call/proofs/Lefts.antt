@@ -18,5 +18,5 @@ left_good f s w rows stored boots t d from left =
     let is = stored.keeps.since t d from left in
     record {
       store = is;
-      opens = λ sane alone. good_of s.limits d sane is.same (good_store s.limits (WasBrought means s) _ d is alone) rows (boots.list.since t d from left) (boots.deployments.since t d from left);
+      opens = λ sane alone. good_of s.limits d sane is.same (good_store s.limits (WasBrought means s) _ d is alone) rows (boots.list.since t d from left) (boots.deployments.since t d from left) (boots.left_over.since t d from left);
     }

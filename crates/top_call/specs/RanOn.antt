@@ -12,7 +12,7 @@ use Rattle.sys_open.specs.Opened.{Opened}
 use Rattle.lane_system.specs.declared.lane.Reply.{Reply}
 use Rattle.lane_system.specs.Booked.{IsReplied}
 use Rattle.lane_system.specs.Causes.{AreCaused}
-use Rattle.lane_system.specs.Deployments.{ids_of}
+use Rattle.durable_list.specs.Standing.{ids_of}
 use Rattle.lane_system.specs.Family.{FsSpec}
 use Rattle.lane_system.specs.Booting.{BootsStill, KeepsBoots}
 use Rattle.lane_system.specs.Known.{AreKnown}

@@ -15,7 +15,7 @@ use Rattle.ost_types.specs.declared.object.ObjName.{ObjName}
 use Rattle.ost_types.specs.Path.{Path}
 use Rattle.script.specs.declared.answer.Reply.{Reply}
 use Rattle.script.specs.declared.command.Command.{Command}
-use Rattle.lane_system.specs.Deployments.{ids_of}
+use Rattle.durable_list.specs.Standing.{ids_of, KeepsList}
 use Rattle.lane_system.specs.Folders.{AreFoldersIn}
 use Rattle.lane_system.specs.Founded.{ArePresentIn}
 use Rattle.lane_system.specs.Inside.{NoExternalChangeIn}
@@ -37,7 +37,6 @@ use Rattle.repo_layout.specs.RefFile.{IsSum}
 use Rattle.store_check.specs.Commits.{IsFinished}
 use Rattle.boot_read.specs.declared.row.BootRow.{BootRow}
 use Rattle.boot_read.specs.Rows.{AreRowsOf}
-use Rattle.durable_list.specs.Standing.{KeepsList}
 use Rattle.durable_deployments.specs.Standing.{KeepsDeployments}
 use Rattle.durable_store.specs.Keeping.{IsGoodDisk}
 use Rattle.durable_store.specs.Brought.{NoHashCollisionOn}

@@ -1,5 +1,5 @@
 use Rattle.std.proofs.Common.{◌≡◌, take}
-use Rattle.lane_system.specs.Deployments.{ids_of}
+use Rattle.durable_list.specs.Standing.{ids_of}
 use Rattle.lane_system.proofs.opening.ids.Given as goal
 
 abbrev pub invariant-loop-row : goal.invariant-loop-row

@@ -75,4 +75,4 @@ clear_inside-returns-clause-emptied g t c = λ v told.
     let listed = c.in_ok-inside.ensures.listed in
     let works = c.loop-path.invariant.1 v told in
     let u = works.left.0 in
-    (u, works.left.1, emptied c.args.at.now c.as_slice-path-items.result.now listed.0 (c.as_slice-path-items.ensures.value ∙ listed.1) v u works.left.2 (listed.2 v told) (c.requires.folder v told) c.requires.below_root c.loop-path.path-index c.loop-path-test.false (c.loop-path.invariant.2 v told u works.left.1))
+    (u, works.left.1, emptied c.args.at.now c.as_slice-path-items.result.now listed.0 (c.as_slice-path-items.ensures.value ∙ listed.1) v u works.left.2 (listed.2 v told) (c.requires.folder v told) (c.requires.below_root v told) c.loop-path.path-index c.loop-path-test.false (c.loop-path.invariant.2 v told u works.left.1))

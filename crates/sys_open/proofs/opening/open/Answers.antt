@@ -12,12 +12,13 @@ use Rattle.layout_rules.specs.Checks.{IsSane}
 use Rattle.sys_open.specs.declared.check.Contents.{Contents}
 use Rattle.sys_open.specs.declared.opening.Findings.{Findings}
 use Rattle.sys_open.specs.Damages.{HasConfig, IsGood}
+use Rattle.sys_open.specs.LeftOver.{AreLeftOvers, CanGo}
 use Rattle.sys_open.specs.Opening.{Answers, KeepsSince}
-use Rattle.sys_open.specs.Changes.{Changes, Keeps}
+use Rattle.sys_open.specs.Changes.{Changes, IsArranged, Keeps}
 use Rattle.sys_open.proofs.Arranging.{synced_now, synced_always}
 use Rattle.sys_open.proofs.Beginning.{interrupted_answer, still_answers, interrupted_damage}
 use Rattle.sys_open.proofs.Crashing.{since_keeps}
-use Rattle.sys_open.proofs.Goods.{config_of, sane_of}
+use Rattle.sys_open.proofs.Goods.{can_go_of, config_of, list_of, sane_of}
 use Rattle.sys_open.proofs.Opens.{begins}
 use Rattle.sys_open.proofs.Working.{one_view, works_quiet, works_then, works_weaker}
 use Rattle.sys_open.proofs.opening.open.Goals as goal
@@ -53,6 +54,19 @@ settle-requires-clause-sane g c = λ u now.
     let b = g.met.F.Fs.told c.check.new.fs c.args.fs.now u now in
     let synced = c.in_ok-barrier.ensures.synced b.0 b.1 in
     subst (λ (x : View). IsSane x.now) (one_view _ (all_synced b.0) u (c.check.ensures.quiet.view ∙ synced) now) (sane_of c.args.limits.now (all_synced b.0).now (c.in_ok-contents.ensures.told (all_synced b.0) synced))
+
+pub settle-requires-clause-left_overs : goal.settle-requires-clause-left_overs
+settle-requires-clause-left_overs g c = λ u now.
+    let b = g.met.F.Fs.told c.check.new.fs c.args.fs.now u now in
+    let synced = c.in_ok-barrier.ensures.synced b.0 b.1 in
+    subst (λ (x : View). AreLeftOvers x.now c.as_slice.result.now) (one_view _ (all_synced b.0) u (c.check.ensures.quiet.view ∙ synced) now)
+    (subst (AreLeftOvers (all_synced b.0).now) (sym c.as_slice.ensures.value) (c.in_ok-contents.ensures.left_overs (all_synced b.0) synced))
+
+pub settle-requires-clause-can_go : goal.settle-requires-clause-can_go
+settle-requires-clause-can_go g c = λ u now.
+    let b = g.met.F.Fs.told c.check.new.fs c.args.fs.now u now in
+    let synced = c.in_ok-barrier.ensures.synced b.0 b.1 in
+    subst (λ (x : View). (p : Path) → CanGo x.now p) (one_view _ (all_synced b.0) u (c.check.ensures.quiet.view ∙ synced) now) (can_go_of c.args.limits.now (all_synced b.0).now (c.in_ok-contents.ensures.told (all_synced b.0) synced))
 
 pub settle-requires-clause-config : goal.settle-requires-clause-config
 settle-requires-clause-config g c = λ u now.
@@ -95,7 +109,7 @@ returns-clause-begins g c = λ v told.
     let keeps : Keeps v.now w.now = subst (λ d. Keeps d w.now) (synced_now v) writes.now in (
       w,
       arranged.1,
-      begins v w (sane_of c.args.limits.now v.now (subst (IsGood c.args.limits.now) (synced_now v) (c.in_ok-contents.ensures.told (all_synced v) synced))) keeps (g.met.F.Fs.tree c.settle.new.fs w arranged.1) arranged.2
+      begins v w (sane_of c.args.limits.now v.now (subst (IsGood c.args.limits.now) (synced_now v) (c.in_ok-contents.ensures.told (all_synced v) synced))) (list_of c.args.limits.now v.now (subst (IsGood c.args.limits.now) (synced_now v) (c.in_ok-contents.ensures.told (all_synced v) synced))) keeps (g.met.F.Fs.tree c.settle.new.fs w arranged.1) (subst (λ d. IsArranged d w.now) (synced_now v) arranged.2)
           (subst (λ (x : View). (p : Path) → Always x p (shows x.now p)) (one_view _ settled.0 w settled.1 arranged.1) settled.2)
           c.in_ok-contents.contents.refs.items (subst (λ d. Logical d (first c.in_ok-contents.contents.refs.items)) (synced_now v) (c.in_ok-contents.ensures.refs (all_synced v) synced)),
     )

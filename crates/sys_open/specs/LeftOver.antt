@@ -1,0 +1,74 @@
+-- What an opening removes beside what is staged for a change of refs: what no list boots (OSTree manual, "Deployments").
+use Rattle.std.specs.Prelude.{◌≡◌, ◌≢◌, ◌⊎◌, IsTrue, List, Contains, map}
+use Rattle.ost_types.specs.Path.{Name, Path, is_below, under}
+use Rattle.fs_trait.specs.declared.types.Value.TheVariants.{Absent}
+use Rattle.fs_trait.specs.View.{Disk}
+use Rattle.fs_trait.specs.Seen.{Vacant, shows}
+use Rattle.repo_layout.specs.BootPaths.{boot_link_stage_path, loader_path, loader_stage_path}
+use Rattle.layout_rules.specs.Checks.{IsReached}
+use Rattle.boot_model.specs.declared.item.DepId.{DepId}
+use Rattle.boot_read.specs.declared.row.BootRow.{BootRow}
+use Rattle.boot_read.specs.Rows.{AreRowsOf}
+use Rattle.durable_list.specs.Standing.{ids_of}
+use Rattle.deploy_clean.specs.Unlisted.{IsUnlisted, deployments}
+
+-- A list is selected: something stands at the boot loader's link.
+abbrev pub HasLoader : Disk → Type 0
+HasLoader d = shows d loader_path ≢ Vacant
+
+-- The path of a deployment that the list which the disk boots doesn't name, or of its origin file. Where no list is selected there is
+-- none: the folder with the boot loader's link may just not be mounted.
+pub record IsOfNoRow (d : Disk) (p : Path) : Type 0 where
+  pub selected : HasLoader d
+  pub rows : List BootRow
+  pub are : AreRowsOf d rows
+  pub unlisted : IsUnlisted (ids_of rows) p
+
+-- The path where one of the two links by which a list boots is staged, or one of what no list boots.
+abbrev pub IsLeftOver : Disk → Path → Type 0
+IsLeftOver d p = (p ≡ loader_stage_path) ⊎ (p ≡ boot_link_stage_path) ⊎ IsOfNoRow d p
+
+-- The path is at or below one of them.
+abbrev pub LiesIn : Disk → Path → Type 0
+LiesIn d p = (q : Path) × IsLeftOver d q × IsTrue (is_below q p)
+
+-- What stands there can be removed.
+abbrev pub CanGo : Disk → Path → Type 0
+CanGo d p = LiesIn d p → IsReached d p
+
+-- nothing stands at such a path or below it
+abbrev pub HasNoLeftOvers : Disk → Type 0
+HasNoLeftOvers d = (p : Path) → LiesIn d p → shows d p ≡ Vacant
+
+-- These are such paths, and all of them at which something stands.
+pub record AreLeftOvers (d : Disk) (paths : List Path) : Type 0 where
+  pub each : (q : Path) → Contains paths q → IsLeftOver d q
+  pub all : (q : Path) → IsLeftOver d q → d.at q ≢ Absent → Contains paths q
+
+-- ---- as they are gathered
+
+-- What came to these paths is so, and all is there of which this is so; none was lost.
+pub record Gathers (May Must : Path → Type 0) (old new : List Path) : Type 0 where
+  pub may : (q : Path) → Contains new q → Contains old q ⊎ May q
+  pub kept : (q : Path) → Contains old q → Contains new q
+  pub must : (q : Path) → Must q → Contains new q
+
+-- the path of what no list boots, in the folder of a stateroot's deployments,
+abbrev pub IsUnlistedIn : List DepId → Name → Path → Type 0
+IsUnlistedIn listed os q = ((name : Name) × (q ≡ under (deployments os) name)) × IsUnlisted listed q
+
+-- or under this name in it
+abbrev pub IsUnlistedAt : List DepId → Name → Name → Path → Type 0
+IsUnlistedAt listed os name q = (q ≡ under (deployments os) name) × IsUnlisted listed q
+
+-- one of these paths, and one at which something stands
+abbrev pub IsThere : (Path → Type 0) → Disk → Path → Type 0
+IsThere Is d q = Is q × (d.at q ≢ Absent)
+
+-- at or below one of these paths
+abbrev pub LiesBelow : List Path → Path → Type 0
+LiesBelow paths p = (q : Path) × Contains paths q × IsTrue (is_below q p)
+
+-- what is asked of all at or below these
+abbrev pub AsksBelow : List Path → Disk → Path → Type 0
+AsksBelow paths d p = LiesBelow paths p → IsReached d p
