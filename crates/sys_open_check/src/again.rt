@@ -1,5 +1,7 @@
 ghost use Rattle.std.specs.Prelude.{◌≡◌, Some, IfOk, IfErr};
 ghost use Rattle.fs_trait.specs.View.{View};
+ghost use Rattle.rely_guarantee.specs.Disks.{Logical};
+ghost use Rattle.rely_guarantee.specs.State.{first};
 ghost use Rattle.sys_open.specs.Damages.{IsGood};
 ghost use Rattle.sys_open.specs.Opening.{AreAscending, IsToldOf};
 
@@ -26,6 +28,7 @@ pub fn open_again<R: Threads + Sync, F: Fs>(
     limits: Limits,
 ) -> Result<Found<F>, (F, OpenFault)>
     ensures good { (v : View) → F.view fs ≡ Some v → IfOk result (λ f. IsGood limits v.now) }
+    ensures refs { (v : View) → F.view fs ≡ Some v → IfOk result (λ f. Logical v.now (first f.refs.items)) }
     ensures told { (v : View) → F.view fs ≡ Some v → IfErr result (λ e. IsToldOf limits v.now e.1) }
     ensures ascending { IfOk result (λ f. AreAscending f.refs.items) }
 {
