@@ -1,4 +1,5 @@
 pub mod Same
 pub mod Standing
 pub mod Staying
+pub mod Swapping
 pub mod Unwritten

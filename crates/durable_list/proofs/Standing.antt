@@ -43,7 +43,7 @@ module _ (v : View) (d : Disk) (tree : IsTree v.now) (i : Image v d) where
 pub stands_begins : (rows : List BootRow) (v : View) → ((p : Path) → Always v p (shows v.now p)) → AreRowsOf v.now rows → ListStands rows v
 stands_begins rows v settled are = record { are = are; sure = λ p s way may. (settled p).each s may }
 
-pub stands_on : (rows : List BootRow) (v w : View) → SparesList rows v w → ListStands rows v → ListStands rows w
+pub stands_on : (rows : List BootRow) (v w : View) → SparesList v.now rows v w → ListStands rows v → ListStands rows w
 stands_on rows v w spares stands = record {
   are = same_rows v.now w.now rows same stands.are;
   sure = λ p s way may.

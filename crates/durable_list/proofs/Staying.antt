@@ -23,7 +23,7 @@ module _ {F : Type 0} (view : F → Option View) (clock : F → ℕ) (was : F �
   }
 
   -- over one act
-  pub list_on : (rows : List BootRow) (old new : F) (v w : View) (moment : ℕ) → view new ≡ Some w → Elapses (clock old) (clock new) (was old) (was new) (view new) → SparesList rows v w
+  pub list_on : (rows : List BootRow) (old new : F) (v w : View) (moment : ℕ) → view new ≡ Some w → Elapses (clock old) (clock new) (was old) (was new) (view new) → SparesList v.now rows v w
       → KeepsList (was old) rows moment v → KeepsList (was new) rows moment w
   list_on rows old new v w moment told time spares keeps = record {
     stands = stands_on rows v w spares keeps.stands;

@@ -8,7 +8,7 @@ use Rattle.fs_trait.specs.Seen.{Seen, shows}
 use Rattle.fs_trait.specs.Change.{Writes}
 use Rattle.repo_layout.specs.BootPaths.{boot_folder_path, boot_link_path, boot_link_stage_path, entry_path, loader_folder_path, loader_path, loader_stage_path, origin_path, staged_path}
 use Rattle.repo_layout.specs.Paths.{deploy_path}
-use Rattle.repo_layout.specs.Place.{Place, Config, Stage, Ref, ObjectsFolder, Object, Mark, Summary, Deployment, Etc, Origin, Staged, BootLink, BootLinkStage, BootFolder, Loader, LoaderStage, LoaderFolder, KernelCopy, Checkout, Other, place, only_at, sum_of, boot_place, kernel_place, ostree_place, deploy_place, deployed_place, boot_links_place, in_deployment}
+use Rattle.repo_layout.specs.Place.{Place, Deployment, Etc, Origin, Staged, BootLink, BootLinkStage, BootFolder, Loader, LoaderStage, LoaderFolder, KernelCopy, Other, place, only_at, sum_of, boot_place, kernel_place, ostree_place, deploy_place, deployed_place, boot_links_place, in_deployment}
 use Rattle.layout_rules.proofs.Layouts.{below_split}
 use Rattle.rely_guarantee.specs.Rely.{IsBoot}
 use Rattle.boot_read.specs.declared.row.BootRow.{BootRow}
@@ -123,8 +123,8 @@ on_the_way d rows p (at, is, below) = by is
     by (inr (inr (row, among, e))) = from_deployment p split.0 row.id.os row.id.commit row.id.serial (sym e ∙ split.1)
 
 -- So whoever writes nothing there spares the list.
-pub aside_spares : (rows : List BootRow) (v w : View) (W : Path → Seen → Type 0) → ((p : Path) (s : Seen) → W p s → IsOnTheWay v.now rows p → ⊥) → Writes W v w → SparesList rows v w
-aside_spares rows v w W aside writes = record {
+pub aside_spares : (base : Disk) (rows : List BootRow) (v w : View) (W : Path → Seen → Type 0) → ((p : Path) (s : Seen) → W p s → IsOnTheWay base rows p → ⊥) → Writes W v w → SparesList base rows v w
+aside_spares base rows v w W aside writes = record {
   now = λ p way. ⊎_elim (λ same. same) (λ wrote. absurd (aside p (shows w.now p) wrote way)) (writes.now p);
   each = λ p s way may. ⊎_elim (λ was. inl was) (λ wrote. absurd (aside p s wrote way)) (writes.only p s may);
 }

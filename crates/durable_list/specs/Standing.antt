@@ -1,7 +1,8 @@
 -- That each crash leaves the list of deployments that boots (OSTree manual, "Deployments").
-use Rattle.std.specs.Prelude.{◌≡◌, ◌⊎◌, ◌≤◌, ◌++◌, ℕ, IsTrue, List, Contains, map}
+use Rattle.std.specs.Prelude.{◌≡◌, ◌⊎◌, ◌≤◌, ◌++◌, ℕ, IsTrue, List, Contains, Option, Some, None, map}
 use Rattle.ost_types.specs.Path.{Name, Path, is_below}
 use Rattle.fs_trait.specs.View.{Disk, View}
+use Rattle.fs_trait.specs.Image.{IsTree}
 use Rattle.fs_trait.specs.Seen.{Seen, MayBe, shows}
 use Rattle.fs_trait.specs.Change.{Left}
 use Rattle.repo_layout.specs.BootPaths.{boot_folder_path, boot_link_path, entry_path, loader_path}
@@ -41,12 +42,48 @@ pub record ListStands (rows : List BootRow) (v : View) : Type 0 where
   pub are : AreRowsOf v.now rows
   pub sure : (p : Path) (s : Seen) → IsOnTheWay v.now rows p → MayBe v p s → s ≡ shows v.now p
 
--- From one view to a later one: where the list is read, and on the way there, nothing else is shown, or may be after a crash.
-pub record SparesList (rows : List BootRow) (v w : View) : Type 0 where
-  pub now : (p : Path) → IsOnTheWay v.now rows p → shows w.now p ≡ shows v.now p
-  pub each : (p : Path) (s : Seen) → IsOnTheWay v.now rows p → MayBe w p s → MayBe v p s ⊎ (s ≡ shows v.now p)
+-- From one view to a later one: where the list of a disk is read, and on the way there, nothing else is shown, or may be after a crash.
+pub record SparesList (base : Disk) (rows : List BootRow) (v w : View) : Type 0 where
+  pub now : (p : Path) → IsOnTheWay base rows p → shows w.now p ≡ shows v.now p
+  pub each : (p : Path) (s : Seen) → IsOnTheWay base rows p → MayBe w p s → MayBe v p s ⊎ (s ≡ shows v.now p)
 
 -- The list stands in the view now, and each disk that a crash left at this moment or later has it.
 pub record KeepsList (was : ℕ → View → Type 0) (rows : List BootRow) (moment : ℕ) (v : View) : Type 0 where
   pub stands : ListStands rows v
   pub since : (t : ℕ) (d : Disk) → moment ≤ t → Left was t d → AreRowsOf d rows
+
+-- ---- one list in the place of another
+
+-- where another list may be selected: at no path, or at one link
+abbrev pub IsLink : Option Path → Path → Type 0
+IsLink None p = ⊥
+IsLink (Some link) p = p ≡ link
+
+-- The rows are the list of that disk; and wherever it is read there, and on the way, each crash of the view leaves what that disk has, but
+-- at the link.
+pub record ListOf (link : Option Path) (base : Disk) (rows : List BootRow) (v : View) : Type 0 where
+  pub are : AreRowsOf base rows
+  pub sure : (p : Path) (s : Seen) → IsOnTheWay base rows p → MayBe v p s → (s ≡ shows base p) ⊎ IsLink link p
+
+-- One of two lists boots: at the link, which is on the way to the old one, each crash leaves what the one disk has there, or what the other
+-- has.
+pub record ListsSwap (link : Path) (old new : Disk) (before after : List BootRow) (v : View) : Type 0 where
+  pub trees : IsTree old × IsTree new
+  pub there : IsOnTheWay old before link
+  pub left : ListOf (Some link) old before v
+  pub come : ListOf (Some link) new after v
+  pub either : (s : Seen) → MayBe v link s → (s ≡ shows old link) ⊎ (s ≡ shows new link)
+
+-- What begins a swap of a list that stands: where that is read, a crash leaves what there was, but at the link; there it leaves what there
+-- was, or what the new disk has; and the new list is sure.
+pub record BeginsSwap (link : Path) (new : Disk) (before after : List BootRow) (v w : View) : Type 0 where
+  pub trees : IsTree v.now × IsTree new
+  pub there : IsOnTheWay v.now before link
+  pub stays : (p : Path) (s : Seen) → IsOnTheWay v.now before p → MayBe w p s → (s ≡ shows v.now p) ⊎ (p ≡ link)
+  pub come : ListOf (Some link) new after w
+  pub either : (s : Seen) → MayBe w link s → (s ≡ shows v.now link) ⊎ (s ≡ shows new link)
+
+-- What ends it: a crash leaves nothing that it wouldn't have left, and the link is the new one in each.
+pub record EndsSwap (link : Path) (new : Disk) (v w : View) : Type 0 where
+  pub only : (p : Path) (s : Seen) → MayBe w p s → MayBe v p s
+  pub shown : (s : Seen) → MayBe w link s → s ≡ shows new link
