@@ -482,6 +482,9 @@ def check_lists(room):
     deployment = os.path.normpath(os.path.join(os.path.dirname(link), os.readlink(f"{folder}/{link}")))
     with open(f"{folder}/{entries}/{first}", encoding="utf-8") as it:
         kernel = "boot" + re.search("(?m)^linux (.*)", it.read())[1].removeprefix("/boot")
+    # so many folders of this name fit into the 2,048 bytes of a path
+    name = "n" * 200
+    fits = (2048 - len(f"/{deployment}/etc")) // (len(name) + 1)
     rows = [
         ("ln -sfn loader.7 boot/loader", "/boot/loader BadLink"),
         ("rm boot/loader && touch boot/loader", "/boot/loader BadLink"),
@@ -501,6 +504,7 @@ def check_lists(room):
         (f"touch {deployment}/usr/new", f"/{deployment}/usr/new NotCheckout"),
         (f"chmod 700 {deployment}/usr/lib", f"/{deployment}/usr/lib NotCheckout"),
         (f"rm -r {deployment}/etc && touch {deployment}/etc", f"/{deployment}/etc WrongKind"),
+        (f"cd {deployment}/etc && for i in $(seq {fits + 1}); do mkdir {name} && cd {name} || exit; done", f"/{deployment}/etc{('/' + name) * fits} WrongKind"),
         (f"cp -p {kernel} new && echo >>new && mv new {kernel}", f"/{kernel} KernelCopy"),
         (f"rm {kernel}", f"/{kernel} KernelCopy"),
     ]

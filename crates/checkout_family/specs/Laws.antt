@@ -58,6 +58,7 @@ change_laws : ChangeLaws checkout_tasks checkout_means checkout_doing
 change_laws = record {
   shown = λ since c t e is kind. no_publish t.work e kind;
   settled = λ since c t e is kind. no_make_durable t.work (subst IsMakeDurable (sym kind) tt);
+  unlisted = λ since c e none. absurd none;
   founds = λ lane t v b e f kind. no_publish t.work e kind;
   makes = λ since c t new a is step given settles. no_make_durable t.work settles;
   makes_not = λ since c t new a is step given settles made. made;
@@ -73,8 +74,8 @@ answer_laws : AnswerLaws checkout_tasks checkout_means checkout_doing
 answer_laws = record {
   answers = λ since c t new is. has_answer t.work new.work;
   says = λ since p c t new a. ends_say since p c t.work new.work a;
-  shows = λ since lane c t new v w b a listed is f leaves given sound. ends_publish since lane c t.work new.work v w b a is f leaves given sound;
-  remains = λ since lane c t new v w b a listed is f leaves given. tt;
+  shows = λ since p lane c t new v w b a listed is f leaves given sound. ends_publish since lane c t.work new.work v w b a is f leaves given sound;
+  remains = λ since p lane c t new v w b a listed is f leaves given. tt;
   remains_at_once = λ since c a v is. tt;
   knows = λ since p lane c t new v w b a is f leaves given sees. tt;
   lacks_alone = λ since lane c t new v w b a commit is f leaves given lacks sum. checkouts_alone t.work new.work v w a commit leaves given lacks;

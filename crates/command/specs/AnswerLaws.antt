@@ -6,7 +6,7 @@ use Rattle.fs_trait.specs.View.{View}
 use Rattle.repo_layout.specs.RefFile.{IsSum}
 use Rattle.store_check.specs.Good.{IsGoodStore}
 use Rattle.rely_guarantee.specs.declared.books.Claim.{Claim}
-use Rattle.rely_guarantee.specs.Books.{Books}
+use Rattle.rely_guarantee.specs.Books.{Books, listed_in}
 use Rattle.rely_guarantee.specs.Lasting.{StaysFinished}
 use Rattle.rely_guarantee.specs.Rely.{Interference}
 use Rattle.rely_guarantee.specs.State.{SystemState}
@@ -16,7 +16,7 @@ use Rattle.command.specs.Doing.{Doing, IsAnswer}
 use Rattle.command.specs.Meaning.{Meaning}
 use Rattle.command.specs.Removed.{AreAmong, RemovesOnly}
 use Rattle.command.specs.Removing.{IsAlone}
-use Rattle.command.specs.Sees.{Sees}
+use Rattle.command.specs.Sees.{Sees, listed_behind}
 use Rattle.command.specs.Since.{Since, placed}
 use Rattle.command.specs.Sound.{IsSoundStore}
 use Rattle.command.specs.Tasks.{TaskSpec}
@@ -26,13 +26,12 @@ abbrev pub HasNoClaims : ℕ → Books → Type 0
 HasNoClaims lane b = (c : Claim) → Contains b.claims c → c.lane ≢ lane
 
 pub record AnswerLaws {T W A : Type 0} (k : TaskSpec T) (m : Meaning W A) (d : Doing T W A) : Type 0 where
-  -- the last step has an answer, and what it says is so; and what it shows, where the store is sound, and the deployments are those of the
-  -- opening
+  -- the last step has an answer, and what it says is so; and what it shows, where the store is sound, with the deployments before that step
   pub answers : (since : Since) (c : W) (t new : T) → d.pursues since c t → k.stepped t (turn.Done tt) new → IsSome (d.answer new)
   pub says : (since : Since) (p : SystemState) (c : W) (t new : T) (a : A) → d.pursues since c t → k.stepped t (turn.Done tt) new → d.answer new ≡ Some a → m.says (placed since p) a c
-  pub shows : (since : Since) (lane : ℕ) (c : W) (t new : T) (v w : View) (b : Books) (a : A) → since.start.deployments ≡ b.start.deployments.items → d.pursues since c t → k.facts lane t v b → k.leaves t (turn.Done tt) new v w → d.answer new ≡ Some a → IsSoundStore since.limits v.now → m.shows since v a c
+  pub shows : (since : Since) (p : SystemState) (lane : ℕ) (c : W) (t new : T) (v w : View) (b : Books) (a : A) → p.deployments ≡ listed_in b → d.pursues since c t → k.facts lane t v b → k.leaves t (turn.Done tt) new v w → d.answer new ≡ Some a → IsSoundStore since.limits v.now → m.shows (placed since p) v a c
   -- so is what it shows behind that step; an answer by the state alone shows nothing there
-  pub remains : (since : Since) (lane : ℕ) (c : W) (t new : T) (v w : View) (b : Books) (a : A) → since.start.deployments ≡ b.start.deployments.items → d.pursues since c t → k.facts lane t v b → k.leaves t (turn.Done tt) new v w → d.answer new ≡ Some a → m.remains since w a c
+  pub remains : (since : Since) (p : SystemState) (lane : ℕ) (c : W) (t new : T) (v w : View) (b : Books) (a : A) → p.deployments ≡ listed_behind (k.kind t) b → d.pursues since c t → k.facts lane t v b → k.leaves t (turn.Done tt) new v w → d.answer new ≡ Some a → m.remains (placed since p) w a c
   pub remains_at_once : (since : Since) (c : W) (a : A) (v : View) → IsAnswer m since c a → m.remains since v a c
   -- and so is what it says where the view is told: the last step sees a state
   pub knows : (since : Since) (p : SystemState) (lane : ℕ) (c : W) (t new : T) (v w : View) (b : Books) (a : A) → d.pursues since c t → k.facts lane t v b → k.leaves t (turn.Done tt) new v w → d.answer new ≡ Some a → Sees (k.kind t) lane b v w p.refs → m.knows (placed since p) a c

@@ -77,7 +77,6 @@ module _ {S T : Type 0} {k : TaskSpec S} {l : TaskSpec T} where
   boot_laws one two = record {
     list = λ actor lane. elim [ Left t ↦ one.list actor lane t | Right t ↦ two.list actor lane t ];
     deployments = λ actor lane. elim [ Left t ↦ one.deployments actor lane t | Right t ↦ two.deployments actor lane t ];
-    clears = λ actor lane. elim [ Left t ↦ one.clears actor lane t | Right t ↦ two.clears actor lane t ];
   }
 
   remove_laws : RemoveLaws k → RemoveLaws l → RemoveLaws (either_tasks k l)
@@ -92,6 +91,7 @@ module _ {S T W V A B : Type 0} {k : TaskSpec S} {l : TaskSpec T} {m : Meaning W
   change_laws one two = record {
     shown = λ since. elim [ Left c ↦ elim [ Left t ↦ one.shown since c t | Right t ↦ λ event after is. absurd after ] | Right c ↦ elim [ Left t ↦ λ event after is. absurd after | Right t ↦ two.shown since c t ] ];
     settled = λ since. elim [ Left c ↦ elim [ Left t ↦ one.settled since c t | Right t ↦ λ event after is. absurd after ] | Right c ↦ elim [ Left t ↦ λ event after is. absurd after | Right t ↦ two.settled since c t ] ];
+    unlisted = λ since. elim [ Left c ↦ one.unlisted since c | Right c ↦ two.unlisted since c ];
     founds = λ lane. elim [ Left t ↦ one.founds lane t | Right t ↦ two.founds lane t ];
     makes = λ since. elim [ Left c ↦ elim [ Left t ↦ elim [ Left new ↦ elim [ Left a ↦ λ after step is settles. one.makes since c t new a after step (from_left (d.answer new) a is) settles | Right a ↦ λ after step is settles. absurd (not_right (d.answer new) a is) ] | Right new ↦ λ a after step is settles. absurd step ] | Right t ↦ λ new a after step is settles. absurd after ] | Right c ↦ elim [ Left t ↦ λ new a after step is settles. absurd after | Right t ↦ elim [ Left new ↦ λ a after step is settles. absurd step | Right new ↦ elim [ Left a ↦ λ after step is settles. absurd (not_left (e.answer new) a is) | Right a ↦ λ after step is settles. two.makes since c t new a after step (from_right (e.answer new) a is) settles ] ] ] ];
     makes_not = λ since. elim [ Left c ↦ elim [ Left t ↦ elim [ Left new ↦ elim [ Left a ↦ λ after step is. one.makes_not since c t new a after step (from_left (d.answer new) a is) | Right a ↦ λ after step is. absurd (not_right (d.answer new) a is) ] | Right new ↦ λ a after step is. absurd step ] | Right t ↦ λ new a after step is. absurd after ] | Right c ↦ elim [ Left t ↦ λ new a after step is. absurd after | Right t ↦ elim [ Left new ↦ λ a after step is. absurd step | Right new ↦ elim [ Left a ↦ λ after step is. absurd (not_left (e.answer new) a is) | Right a ↦ λ after step is. two.makes_not since c t new a after step (from_right (e.answer new) a is) ] ] ] ];
@@ -107,8 +107,8 @@ module _ {S T W V A B : Type 0} {k : TaskSpec S} {l : TaskSpec T} {m : Meaning W
   answer_laws one two = record {
     answers = λ since. elim [ Left c ↦ elim [ Left t ↦ elim [ Left new ↦ λ after step. is_wrapped Left (d.answer new) (one.answers since c t new after step) | Right new ↦ λ after step. absurd step ] | Right t ↦ λ new after step. absurd after ] | Right c ↦ elim [ Left t ↦ λ new after step. absurd after | Right t ↦ elim [ Left new ↦ λ after step. absurd step | Right new ↦ λ after step. is_wrapped Right (e.answer new) (two.answers since c t new after step) ] ] ];
     says = λ since p. elim [ Left c ↦ elim [ Left t ↦ elim [ Left new ↦ elim [ Left a ↦ λ after step is. one.says since p c t new a after step (from_left (d.answer new) a is) | Right a ↦ λ after step is. absurd (not_right (d.answer new) a is) ] | Right new ↦ λ a after step is. absurd step ] | Right t ↦ λ new a after step is. absurd after ] | Right c ↦ elim [ Left t ↦ λ new a after step is. absurd after | Right t ↦ elim [ Left new ↦ λ a after step is. absurd step | Right new ↦ elim [ Left a ↦ λ after step is. absurd (not_left (e.answer new) a is) | Right a ↦ λ after step is. two.says since p c t new a after step (from_right (e.answer new) a is) ] ] ] ];
-    shows = λ since lane. elim [ Left c ↦ elim [ Left t ↦ elim [ Left new ↦ λ v w b. elim [ Left a ↦ λ listed after f leaves is. one.shows since lane c t new v w b a listed after f leaves (from_left (d.answer new) a is) | Right a ↦ λ listed after f leaves is. absurd (not_right (d.answer new) a is) ] | Right new ↦ λ v w b a listed after f leaves is. absurd leaves ] | Right t ↦ λ new v w b a listed after f leaves is. absurd after ] | Right c ↦ elim [ Left t ↦ λ new v w b a listed after f leaves is. absurd after | Right t ↦ elim [ Left new ↦ λ v w b a listed after f leaves is. absurd leaves | Right new ↦ λ v w b. elim [ Left a ↦ λ listed after f leaves is. absurd (not_left (e.answer new) a is) | Right a ↦ λ listed after f leaves is. two.shows since lane c t new v w b a listed after f leaves (from_right (e.answer new) a is) ] ] ] ];
-    remains = λ since lane. elim [ Left c ↦ elim [ Left t ↦ elim [ Left new ↦ λ v w b. elim [ Left a ↦ λ listed after f leaves is. one.remains since lane c t new v w b a listed after f leaves (from_left (d.answer new) a is) | Right a ↦ λ listed after f leaves is. absurd (not_right (d.answer new) a is) ] | Right new ↦ λ v w b a listed after f leaves is. absurd leaves ] | Right t ↦ λ new v w b a listed after f leaves is. absurd after ] | Right c ↦ elim [ Left t ↦ λ new v w b a listed after f leaves is. absurd after | Right t ↦ elim [ Left new ↦ λ v w b a listed after f leaves is. absurd leaves | Right new ↦ λ v w b. elim [ Left a ↦ λ listed after f leaves is. absurd (not_left (e.answer new) a is) | Right a ↦ λ listed after f leaves is. two.remains since lane c t new v w b a listed after f leaves (from_right (e.answer new) a is) ] ] ] ];
+    shows = λ since p lane. elim [ Left c ↦ elim [ Left t ↦ elim [ Left new ↦ λ v w b. elim [ Left a ↦ λ listed after f leaves is. one.shows since p lane c t new v w b a listed after f leaves (from_left (d.answer new) a is) | Right a ↦ λ listed after f leaves is. absurd (not_right (d.answer new) a is) ] | Right new ↦ λ v w b a listed after f leaves is. absurd leaves ] | Right t ↦ λ new v w b a listed after f leaves is. absurd after ] | Right c ↦ elim [ Left t ↦ λ new v w b a listed after f leaves is. absurd after | Right t ↦ elim [ Left new ↦ λ v w b a listed after f leaves is. absurd leaves | Right new ↦ λ v w b. elim [ Left a ↦ λ listed after f leaves is. absurd (not_left (e.answer new) a is) | Right a ↦ λ listed after f leaves is. two.shows since p lane c t new v w b a listed after f leaves (from_right (e.answer new) a is) ] ] ] ];
+    remains = λ since p lane. elim [ Left c ↦ elim [ Left t ↦ elim [ Left new ↦ λ v w b. elim [ Left a ↦ λ listed after f leaves is. one.remains since p lane c t new v w b a listed after f leaves (from_left (d.answer new) a is) | Right a ↦ λ listed after f leaves is. absurd (not_right (d.answer new) a is) ] | Right new ↦ λ v w b a listed after f leaves is. absurd leaves ] | Right t ↦ λ new v w b a listed after f leaves is. absurd after ] | Right c ↦ elim [ Left t ↦ λ new v w b a listed after f leaves is. absurd after | Right t ↦ elim [ Left new ↦ λ v w b a listed after f leaves is. absurd leaves | Right new ↦ λ v w b. elim [ Left a ↦ λ listed after f leaves is. absurd (not_left (e.answer new) a is) | Right a ↦ λ listed after f leaves is. two.remains since p lane c t new v w b a listed after f leaves (from_right (e.answer new) a is) ] ] ] ];
     remains_at_once = λ since. elim [ Left c ↦ elim [ Left a ↦ one.remains_at_once since c a | Right a ↦ λ v is. absurd is.0 ] | Right c ↦ elim [ Left a ↦ λ v is. absurd is.0 | Right a ↦ two.remains_at_once since c a ] ];
     knows = λ since p lane. elim [ Left c ↦ elim [ Left t ↦ elim [ Left new ↦ λ v w b. elim [ Left a ↦ λ after f leaves is sees. one.knows since p lane c t new v w b a after f leaves (from_left (d.answer new) a is) sees | Right a ↦ λ after f leaves is sees. absurd (not_right (d.answer new) a is) ] | Right new ↦ λ v w b a after f leaves is sees. absurd leaves ] | Right t ↦ λ new v w b a after f leaves is sees. absurd after ] | Right c ↦ elim [ Left t ↦ λ new v w b a after f leaves is sees. absurd after | Right t ↦ elim [ Left new ↦ λ v w b a after f leaves is sees. absurd leaves | Right new ↦ λ v w b. elim [ Left a ↦ λ after f leaves is sees. absurd (not_left (e.answer new) a is) | Right a ↦ λ after f leaves is sees. two.knows since p lane c t new v w b a after f leaves (from_right (e.answer new) a is) sees ] ] ] ];
     lacks_alone = λ since lane. elim [ Left c ↦ elim [ Left t ↦ elim [ Left new ↦ λ v w b. elim [ Left a ↦ λ commit after f leaves is. one.lacks_alone since lane c t new v w b a commit after f leaves (from_left (d.answer new) a is) | Right a ↦ λ commit after f leaves is. absurd (not_right (d.answer new) a is) ] | Right new ↦ λ v w b a commit after f leaves is. absurd leaves ] | Right t ↦ λ new v w b a commit after f leaves is. absurd after ] | Right c ↦ elim [ Left t ↦ λ new v w b a commit after f leaves is. absurd after | Right t ↦ elim [ Left new ↦ λ v w b a commit after f leaves is. absurd leaves | Right new ↦ λ v w b. elim [ Left a ↦ λ commit after f leaves is. absurd (not_left (e.answer new) a is) | Right a ↦ λ commit after f leaves is. two.lacks_alone since lane c t new v w b a commit after f leaves (from_right (e.answer new) a is) ] ] ] ];

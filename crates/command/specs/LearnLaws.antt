@@ -6,7 +6,7 @@ use Rattle.boot_model.specs.declared.item.DepId.{DepId}
 use Rattle.rely_guarantee.specs.declared.books.Entry.{Entry}
 use Rattle.rely_guarantee.specs.declared.books.Pending.{Pending}
 use Rattle.rely_guarantee.specs.declared.books.Pin.{Pin}
-use Rattle.rely_guarantee.specs.Books.{Books}
+use Rattle.rely_guarantee.specs.Books.{Books, listed_in}
 use Rattle.rely_guarantee.specs.Laws.{Holds, NotPending}
 use Rattle.rely_guarantee.specs.State.{after, events_of, SystemState}
 use Rattle.rely_guarantee.specs.SystemInvariant.{Stands}
@@ -22,7 +22,7 @@ use Rattle.command.specs.Tasks.{TaskSpec}
 pub record IsLearnt (start : SystemState) (entries : List Entry) (pending : Option Pending) (refs : RefBook) (ids : List DepId) (pins : List Pin) (lane : ℕ) (v : View) (b : Books) : Type 0 where
   pub stands : Stands start entries pending v
   pub tracks : Tracks refs (after (events_of entries) start).refs
-  pub listed : ids ≡ b.start.deployments.items
+  pub listed : ids ≡ listed_in b
   pub pins_are : pins ≡ b.pins
   pub free : ObjectPathsFree v.now
   pub clear : b.exclusive ≡ Some lane → NotPending lane b → pending ≡ None

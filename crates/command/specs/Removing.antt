@@ -6,7 +6,7 @@ use Rattle.fs_trait.specs.View.{View, all_synced}
 use Rattle.fs_trait.specs.Seen.{Seen, Vacant, shows}
 use Rattle.repo_model.specs.Objects.{path_of}
 use Rattle.rely_guarantee.specs.declared.event.Event.{Event}
-use Rattle.rely_guarantee.specs.declared.event.Event.TheVariants.{SetRef, DropRef, Pruned}
+use Rattle.rely_guarantee.specs.declared.event.Event.TheVariants.{SetRef, DropRef, Pruned, SetDeployments}
 use Rattle.rely_guarantee.specs.Books.{Books}
 use Rattle.rely_guarantee.specs.Laws.{Kind, Store, Take, Publish, Published, Remove, MakeDurable}
 use Rattle.durable_store.specs.Removals.{AreDifferent, AreKept, Except, IsRemoval}
@@ -16,6 +16,7 @@ abbrev pub IsPrune : Event → Type 0
 IsPrune (SetRef name seen commit) = ⊥
 IsPrune (DropRef name seen) = ⊥
 IsPrune (Pruned depth roots held removed) = Unit {0}
+IsPrune (SetDeployments change list) = ⊥
 
 -- the step comes behind the one that shows such a change
 abbrev pub IsRemoving : Kind → Type 0

@@ -1,5 +1,5 @@
 -- The laws of a commit.
-use Rattle.std.proofs.Common.{◌≡◌, ⊎_elim, refl, sym, ◌∙◌, subst, Option, Some, IsSome, arith}
+use Rattle.std.proofs.Common.{◌≡◌, ⊎_elim, ap, refl, sym, ◌∙◌, subst, Option, Some, IsSome, arith}
 use Rattle.obj_store.specs.declared.phase.Put.TheVariants.{Stored}
 use Rattle.rely_guarantee.specs.Laws.{IsClaim}
 use Rattle.commit_command.specs.declared.answer.CommitAnswer.{CommitAnswer}
@@ -29,6 +29,7 @@ use Rattle.commit_family.specs.declared.task.CommitsTask.{CommitsTask}
 use Rattle.commit_family.specs.Commits.{message_in}
 use Rattle.commit_family.specs.DiskAnswers.{tells}
 use Rattle.commit_family.specs.Ends.{commits_end}
+use Rattle.rely_guarantee.specs.State.{list_in}
 use Rattle.commit_family.specs.Family.{commit_brings, commit_doing, commit_full, commit_makes, commit_means, commit_says}
 use Rattle.commit_family.specs.Kept.{commits_keep, commits_keep_on, commits_kept, commits_on_wider, commits_wider, lasts_whole}
 use Rattle.commit_family.specs.Keeping.{commits_keep_store}
@@ -73,6 +74,7 @@ change_laws : ChangeLaws commit_tasks commit_means commit_doing
 change_laws = record {
   shown = λ since c t e is. commits_shown since.limits c.branch c.tree.items (message_in since.start.refs c) t.work e is;
   settled = λ since c t e is. commits_settled since.limits c.branch c.tree.items (message_in since.start.refs c) t.work e is;
+  unlisted = λ since c e is. ap list_in is;
   founds = λ lane t. commits_founds lane t.work;
   makes = λ since c t new a is step given k. (let e = commits_end since c t.work is new.work step.0 in subst commit_makes (one (answer_of new.work) e.given a e.answer given) (e.makes k));
   makes_not = λ since c t new a is step given none m. (let e = commits_end since c t.work is new.work step.0 in e.makes_not none (subst commit_makes (sym (one (answer_of new.work) e.given a e.answer given)) m));
@@ -88,8 +90,8 @@ answer_laws : AnswerLaws commit_tasks commit_means commit_doing
 answer_laws = record {
   answers = λ since c t new is step. subst IsSome (sym (commits_end since c t.work is new.work step.0).answer) refl;
   says = λ since p c t new a is step given. (let e = commits_end since c t.work is new.work step.0 in subst (λ x. commit_says since x c) (one (answer_of new.work) e.given a e.answer given) e.says);
-  shows = λ since lane c t new v w b a listed is f l given sound. tells since c t.work is v w a (says_of lane t.work new.work v w b a f l given);
-  remains = λ since lane c t new v w b a listed is f leaves given. tt;
+  shows = λ since p lane c t new v w b a listed is f l given sound. tells since c t.work is v w a (says_of lane t.work new.work v w b a f l given);
+  remains = λ since p lane c t new v w b a listed is f leaves given. tt;
   remains_at_once = λ since c a v is. tt;
   knows = λ since p lane c t new v w b a is f l given sees. commits_know lane since p c v w b t.work new.work a given is f l sees;
   lacks_alone = λ since lane c t new v w b a commit is f l given lacks sum. absurd lacks;

@@ -156,3 +156,4 @@ pub commits_founds : (lane : ℕ) (t : CommitCommand) (v : View) (b : Books) (e 
 commits_founds lane t v b (event.SetRef name seen commit) f k = commit_founded lane t v b name seen commit f k
 commits_founds lane t v b (event.DropRef name seen) f k = tt
 commits_founds lane t v b (event.Pruned depth roots held removed) f k = tt
+commits_founds lane t v b (event.SetDeployments change list) f k = tt

@@ -1,4 +1,4 @@
-mod NameTexts
+pub mod NameTexts
 mod PathBounds
 mod Listings
 mod Lasts

@@ -111,10 +111,10 @@ id_itself a =
     both_true (same_name a.os a.os && same_name a.commit a.commit) (a.serial == a.serial)
     (both_true (same_name a.os a.os) (same_name a.commit a.commit) ((same_name-Decides a.os a.os).1 refl) ((same_name-Decides a.commit a.commit).1 refl)) ((Decides-eqb a.serial a.serial).1 refl)
 
-listed_there : (listed : List DepId) (id : DepId) → is_listed listed id ≡ true → Contains listed id
+pub listed_there : (listed : List DepId) (id : DepId) → is_listed listed id ≡ true → Contains listed id
 listed_there listed id is = Contains-from_any same_ids id listed is
 
-there_listed : (listed : List DepId) (id : DepId) → Contains listed id → is_listed listed id ≡ true
+pub there_listed : (listed : List DepId) (id : DepId) → Contains listed id → is_listed listed id ≡ true
 there_listed listed id has = list_any_at (same_id id) listed has.0 id has.1 (ap (same_id id) has.2 ∙ id_itself id)
 
 not_true : (b : Bool) → b ≡ true → not b ≡ true → ⊥

@@ -1,5 +1,5 @@
-mod Rooms
-mod Trees
+pub mod Rooms
+pub mod Trees
 mod Lacking
 mod Telling
 mod Maps

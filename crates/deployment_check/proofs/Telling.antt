@@ -71,4 +71,8 @@ module _ (limits : Limits) (d : Disk) (id : DepId) (tree : Nodes) (kernel : Tree
   not_checkout is_tree room relative path (inr far) told = absurd (not_past limits d is_tree id.commit tree can.has home room relative told far)
 
   pub deployed : Tells d home tree None → IsDeployed limits d id tree kernel
-  deployed told = record { can = can; checkout = is_deployed_outside_etc d (home_of id) tree (subst (λ h. Tells d h tree None) at told) }
+  deployed told = let none = subst (λ h. Tells d h tree None) at told in record {
+    can = can;
+    checkout = is_deployed_outside_etc d (home_of id) tree none;
+    within = λ p outside far. none p (record { outside = outside; wrong = inr far });
+  }

@@ -37,28 +37,24 @@ module _ (limits : Limits) (d : Disk) (commit : List ℕ) (tree : Nodes) (is : I
 
   -- so a folder that is its checkout has no name with a path past the bounds
   module _ (home : Path) (room : HasRoomBelow home) (checkout : IsDeployedOutsideEtc d home tree) where
-    named_far : (p : Path) → IsOutsideEtc p → shows d (home ++ p) ≢ Vacant → ¬ (IsPath (home ++ p)) → ⊥
-    named_far p outside there far = by (node_at tree p) refl (checkout p outside)
+    stands_within : (p : Path) → IsOutsideEtc p → shows d (home ++ p) ≢ Vacant → IsPath (home ++ p)
+    stands_within p outside there = by (node_at tree p) refl (checkout p outside)
       where
-        by : (o : Option NodeName) → node_at tree p ≡ o → StandsAs d home p o → ⊥
-        by None none stands = there stands
-        by (Some n) has stands = far (fits_in home room p n has)
+        by : (o : Option NodeName) → node_at tree p ≡ o → StandsAs d home p o → IsPath (home ++ p)
+        by None none stands = absurd (there stands)
+        by (Some n) has stands = fits_in home room p n has
 
-    below_outside : (p : Path) (x : Name) → IsOutsideEtc p → (p ≢ []) → IsOutsideEtc (under p x)
-    below_outside [] x outside some = absurd (some refl)
-    below_outside (a ∷ p) x outside some = outside
+    at_top : (x : Name) (b : Bool) → Decides b (x ≡ codes "etc") → shows d (under home x) ≢ Vacant → IsPath (under home x)
+    at_top x true is there = subst (λ y. IsPath (under home y)) (sym (is.0 refl)) (etc_path home room)
+    at_top x false is there = stands_within (x ∷ []) (λ same. let n : false ≡ true = is.1 same in cc) there
 
-    at_top : (x : Name) (b : Bool) → Decides b (x ≡ codes "etc") → shows d (under home x) ≢ Vacant → ¬ (IsPath (under home x)) → ⊥
-    at_top x true is there far = far (subst (λ y. IsPath (under home y)) (sym (is.0 refl)) (etc_path home room))
-    at_top x false is there far = named_far (x ∷ []) (λ same. let n : false ≡ true = is.1 same in cc) there far
+    pub named_within : (p : Path) (x : Name) → IsOutsideEtc p → shows d (under (home ++ p) x) ≢ Vacant → IsPath (under (home ++ p) x)
+    named_within [] x outside there =
+        subst (λ f. IsPath (under f x)) (sym (append-nil home))
+        (at_top x (same_name x (codes "etc")) (same_name-Decides x (codes "etc")) (subst (λ f. shows d (under f x) ≢ Vacant) (append-nil home) there))
+    named_within (a ∷ p) x outside there =
+        let same = append_assoc home (a ∷ p) (x ∷ []) in
+        subst IsPath (sym same) (stands_within (under (a ∷ p) x) outside (subst (λ q. shows d q ≢ Vacant) same there))
 
     pub none_far : (p : Path) → IsOutsideEtc p → HasFar d (home ++ p) → ⊥
-    none_far [] outside far =
-        at_top far.name (same_name far.name (codes "etc")) (same_name-Decides far.name (codes "etc"))
-        (subst (λ f. shows d (under f far.name) ≢ Vacant) (append-nil home) far.there)
-        (subst (λ f. ¬ (IsPath (under f far.name))) (append-nil home) far.far)
-    none_far (a ∷ p) outside far =
-        let same = append_assoc home (a ∷ p) (far.name ∷ []) in
-        named_far (under (a ∷ p) far.name) (below_outside (a ∷ p) far.name outside (λ e. cc))
-        (subst (λ q. shows d q ≢ Vacant) same far.there)
-        (subst (λ q. ¬ (IsPath q)) same far.far)
+    none_far p outside far = far.far (named_within p far.name outside far.there)

@@ -16,7 +16,7 @@ use Rattle.tree_kernel.specs.declared.find.TreeKernel.{TreeKernel}
 use Rattle.kernel_copy.specs.Copies.{IsFirstOther}
 use Rattle.deployment_check.specs.declared.judgement.Judgement.{Judgement}
 use Rattle.deployment_check.specs.declared.judgement.Judgement.TheVariants.{Whole, NoDeployment, NotCheckout, WrongKind, KernelCopy}
-use Rattle.deployment_check.specs.Deployments.{IsId, IsWholeDeployment, IsWholeTree, etc_of, files_of, home_of}
+use Rattle.deployment_check.specs.Deployments.{IsId, IsWholeDeployment, IsWholeTree, IsWithin, etc_of, files_of, home_of}
 
 -- the commit isn't there whole within the limits
 abbrev pub IsIncomplete : Limits → Disk → List ℕ → Type 0
@@ -39,10 +39,11 @@ pub record CanDeploy (limits : Limits) (d : Disk) (commit : List ℕ) (tree : No
   pub has : IsWholeTree limits d commit tree
   pub boots : Boots d tree (Ok kernel)
 
--- the first two: the files are its checkout;
+-- the first two: the files are its checkout, within the bounds of paths;
 pub record IsDeployed (limits : Limits) (d : Disk) (id : DepId) (tree : Nodes) (kernel : TreeKernel) : Type 0 where
   pub can : CanDeploy limits d id.commit tree kernel
   pub checkout : IsDeployedOutsideEtc d (home_of id) tree
+  pub within : IsWithin d id
 
 -- the first three: there is an `etc`.
 pub record HasEtc (limits : Limits) (d : Disk) (id : DepId) (tree : Nodes) (kernel : TreeKernel) : Type 0 where

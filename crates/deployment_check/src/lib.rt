@@ -11,3 +11,4 @@ mod tree;
 pub use check::judge;
 pub use judgement::Judgement;
 pub use laws::judgements_are_told_once;
+pub use paths::etc_path;

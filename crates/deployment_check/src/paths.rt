@@ -30,8 +30,8 @@ fn home_at(alloc: Global, os: &OsName, commit: &Csum, serial: u32) -> Result<FsP
     deploy_path(alloc, os, commit, serial)
 }
 
-/// Its `etc`.
-pub(crate) fn etc_path(alloc: Global, id: &DepId) -> Result<FsPath, NoMemory>
+/// The `etc` of the deployment, in its folder.
+pub fn etc_path(alloc: Global, id: &DepId) -> Result<FsPath, NoMemory>
     ensures { IfOk result (λ p. p ≡ etc_of id.now) }
 {
     let name = known_name(alloc, b"etc")?;

@@ -1,22 +1,24 @@
 -- A deployment is whole where a disk shows the same as one on which it is.
-use Rattle.std.proofs.Common.{◌≡◌, ◌++◌, inl, inr, ℕ, List, Option, Some, None, refl, sym, ◌∙◌, subst}
+use Rattle.std.proofs.Common.{◌≡◌, ◌≢◌, ◌++◌, ◌∷◌, [], inl, inr, ℕ, Bool, true, false, List, Option, Some, None, append-nil, append_assoc, codes, refl, sym, ◌∙◌, subst}
+use Rattle.std.specs.Bool.{Decides}
 use Rattle.ost_types.specs.declared.limits.Limits.{Limits}
 use Rattle.ost_types.specs.declared.node.NodeName.{NodeName}
 use Rattle.ost_types.specs.declared.node.NodeName.TheVariants.{Folder, Leaf}
 use Rattle.ost_types.specs.declared.object.Kind.TheVariants.{File}
 use Rattle.ost_types.specs.declared.object.ObjName.{ObjName}
-use Rattle.ost_types.specs.Path.{Path, under}
+use Rattle.ost_types.specs.Path.{Name, Path, same_name, under}
 use Rattle.ost_types.specs.PathMap.{node_at}
+use Rattle.ost_types.proofs.Paths.{same_name-Decides}
 use Rattle.fs_trait.specs.View.{Disk}
 use Rattle.fs_trait.specs.Image.{reads}
-use Rattle.fs_trait.specs.Seen.{IsDirectory, shows}
+use Rattle.fs_trait.specs.Seen.{IsDirectory, Vacant, shows}
 use Rattle.repo_layout.specs.BootPaths.{kernel_path}
 use Rattle.repo_layout.specs.Place.{IsOutsideEtc}
 use Rattle.repo_model.specs.Objects.{path_of}
 use Rattle.repo_model.specs.Trees.{name_of}
 use Rattle.boot_model.specs.declared.item.DepId.{DepId}
 use Rattle.checkout.specs.CheckoutFolder.{IsLeaf, leaf_path}
-use Rattle.checkout_compare.specs.Compare.{AreEmptyAlike, IsEmptyFile, StandsAs}
+use Rattle.checkout_compare.specs.Compare.{AreEmptyAlike, HasFar, IsEmptyFile, StandsAs}
 use Rattle.deploy_list.specs.Kernels.{kernel_path as kernel_in}
 use Rattle.tree_kernel.specs.Boots.{IsFileAt, initramfs_path as initramfs_in}
 use Rattle.kernel_copy.specs.Copies.{IsCopy, IsFor, initramfs_name, vmlinuz_name}
@@ -58,6 +60,23 @@ module _ (limits : Limits) (d e : Disk) (id : DepId) (bootcsum : List ℕ) (same
   stands_on p outside (Some (Leaf sum)) at (inl (leaf, equal)) = inl (subst IsLeaf (sym (home_same p outside)) leaf, home_same p outside ∙ equal ∙ sym (leaf_same p sum at))
   stands_on p outside (Some (Leaf sum)) at (inr alike) = inr (alike_on p sum (home_same p outside) (leaf_same p sum at) alike)
 
+  -- what is in a folder of theirs: one of them, or the `etc`
+  at_top : (x : Name) (b : Bool) → Decides b (x ≡ codes "etc") → shows e (under (home_of id) x) ≡ shows d (under (home_of id) x)
+  at_top x true is = subst (λ y. shows e (under (home_of id) y) ≡ shows d (under (home_of id) y)) (sym (is.0 refl)) (same (etc_of id) (inr (inr (inl refl))))
+  at_top x false is = home_same (x ∷ []) (λ etc. let n : false ≡ true = is.1 etc in cc)
+
+  inside_same : (p : Path) (x : Name) → IsOutsideEtc p → shows e (under (home_of id ++ p) x) ≡ shows d (under (home_of id ++ p) x)
+  inside_same [] x outside = subst (λ f. shows e (under f x) ≡ shows d (under f x)) (sym (append-nil (home_of id))) (at_top x (same_name x (codes "etc")) (same_name-Decides x (codes "etc")))
+  inside_same (a ∷ p) x outside = subst (λ q. shows e q ≡ shows d q) (sym (append_assoc (home_of id) (a ∷ p) (x ∷ []))) (home_same (under (a ∷ p) x) outside)
+
+  far_on : (p : Path) → IsOutsideEtc p → HasFar e (home_of id ++ p) → HasFar d (home_of id ++ p)
+  far_on p outside far = record {
+    is_folder = subst IsDirectory (home_same p outside) far.is_folder;
+    name = far.name;
+    there = subst (λ s. s ≢ Vacant) (inside_same p far.name outside) far.there;
+    far = far.far;
+  }
+
   -- the copies
   copy_on : (file : List ℕ) (at p : Path) (sum : List ℕ) → at ≡ under (kernel_path id.os bootcsum) file → node_at is.tree p ≡ Some (Leaf sum) → IsCopy d at sum → IsCopy e at sum
   copy_on file at p sum is_at leaf (bytes, copy, object) = (bytes, same_reads d e at (same at (inr (inr (inr (file, is_at))))) ∙ copy, leaf_reads p sum leaf ∙ object)
@@ -78,6 +97,7 @@ module _ (limits : Limits) (d e : Disk) (id : DepId) (bootcsum : List ℕ) (same
     has = same_tree limits d id.commit is.tree is.has e object_same;
     boots = (is.boots.0, file_on (kernel_in is.kernel.kver) (Some is.kernel.kernel) is.boots.1, file_on (initramfs_in is.kernel.kver) is.kernel.initramfs is.boots.2);
     checkout = λ p outside. stands_on p outside (node_at is.tree p) refl (is.checkout p outside);
+    within = λ p outside far. is.within p outside (far_on p outside far);
     etc = subst IsDirectory (sym (same (etc_of id) (inr (inr (inl refl))))) is.etc;
     copies = copies_on;
   }

@@ -23,7 +23,7 @@ use Rattle.layout_rules.proofs.Layouts.{below_split}
 use Rattle.boot_model.specs.declared.item.DepId.{DepId}
 use Rattle.boot_read.specs.declared.row.BootRow.{BootRow}
 use Rattle.durable_list.proofs.Unwritten.{way_boot, way_ostree}
-use Rattle.rely_guarantee.specs.Books.{Books}
+use Rattle.rely_guarantee.specs.Books.{Books, listed_in}
 use Rattle.rely_guarantee.specs.Rely.{Guarantee, Interference, IsBoot}
 use Rattle.rely_guarantee.specs.Removing.{IsGuarded, IsRoot}
 use Rattle.rely_guarantee.proofs.Lasting.{leads_harmless}
@@ -53,11 +53,11 @@ on_the_way id bootcsum p (at, inside, below) = by inside
 -- ---- one act
 
 -- what its commit leads to is guarded
-pub listed_guards : (b : Books) (v : View) (lane : ℕ) (id : DepId) → Contains b.start.deployments.items id → (o : ObjName) → IsReached v.now id.commit o → IsGuarded b v lane o
+pub listed_guards : (b : Books) (v : View) (lane : ℕ) (id : DepId) → Contains (listed_in b) id → (o : ObjName) → IsReached v.now id.commit o → IsGuarded b v lane o
 listed_guards b v lane id among = reach_up (Stores v.now) (Stores v.now) (Is (name_of Commit id.commit)) (IsRoot b v lane) (λ o is. inr (inr (id, among, is))) (λ o c stored. stored)
 
 module _ (limits : Limits) (v w : View) (b b' : Books) (actor lane : ℕ) (id : DepId) (bootcsum : List ℕ)
-    (does : Interference actor lane v b w b') (among : Contains b.start.deployments.items id) (stands : DeploymentStands limits v id bootcsum) where
+    (does : Interference actor lane v b w b') (among : Contains (listed_in b) id) (stands : DeploymentStands limits v id bootcsum) where
   object_unwritten : (o : ObjName) → IsReached v.now id.commit o → (s : Seen) → Guarantee b v actor lane (path_of o) s → ⊥
   object_unwritten o reached s may =
       let safe = (stands.objects o reached).safe in
@@ -84,7 +84,7 @@ module _ (limits : Limits) (v w : View) (b b' : Books) (actor lane : ℕ) (id : 
     }
 
 -- the same of all deployments of a list
-pub act_spares_all : (limits : Limits) (rows : List BootRow) (v w : View) (b b' : Books) (actor lane : ℕ) → Interference actor lane v b w b' → ((row : BootRow) → Contains rows row → Contains b.start.deployments.items row.id) → AreOwnSpared rows v w
+pub act_spares_all : (limits : Limits) (rows : List BootRow) (v w : View) (b b' : Books) (actor lane : ℕ) → Interference actor lane v b w b' → ((row : BootRow) → Contains rows row → Contains (listed_in b) row.id) → AreOwnSpared rows v w
     → AreStanding limits rows v → AreSpared rows v w
 act_spares_all limits rows v w b b' actor lane does listed own stand row among = act_spares limits v w b b' actor lane row.id row.bootcsum does (listed row among) (stand row among) (own row among)
 

@@ -10,7 +10,7 @@ ghost use Rattle.fs_trait.specs.Effect.{Elapses};
 ghost use Rattle.boot_model.specs.declared.item.DepId.{DepId};
 ghost use Rattle.boot_read.specs.declared.row.BootRow.{BootRow};
 ghost use Rattle.deployment_check.specs.Deployments.{IsWholeDeployment};
-ghost use Rattle.rely_guarantee.specs.Books.{Books};
+ghost use Rattle.rely_guarantee.specs.Books.{Books, listed_in};
 ghost use Rattle.rely_guarantee.specs.Rely.{Interference, IsBoot};
 ghost use Rattle.durable_deployments.specs.Standing.{AreOwnSpared, AreSpared, AreStanding, DeploymentStands, IsDeploymentPath, IsOnTheWay, KeepsDeployments, SparesDeployment, SparesOwn};
 
@@ -38,7 +38,7 @@ pub fn deployments_stay<F: Fs>()
 /// An act that spares a deployment's own paths spares the deployment: no prune takes an object of its commit. These paths, and those on the
 /// way there, are what boots, what is deployed, or no place of the layout.
 pub fn acts_spare_deployments()
-    ensures one { (limits : Limits) (v w : View) (b b' : Books) (actor lane : ℕ) (id : DepId) (bootcsum : List ℕ) → Interference actor lane v b w b' → Contains b.start.deployments.items id → DeploymentStands limits v id bootcsum → SparesOwn v w id bootcsum → SparesDeployment v w id bootcsum }
-    ensures all { (limits : Limits) (rows : List BootRow) (v w : View) (b b' : Books) (actor lane : ℕ) → Interference actor lane v b w b' → ((row : BootRow) → Contains rows row → Contains b.start.deployments.items row.id) → AreOwnSpared rows v w → AreStanding limits rows v → AreSpared rows v w }
+    ensures one { (limits : Limits) (v w : View) (b b' : Books) (actor lane : ℕ) (id : DepId) (bootcsum : List ℕ) → Interference actor lane v b w b' → Contains (listed_in b) id → DeploymentStands limits v id bootcsum → SparesOwn v w id bootcsum → SparesDeployment v w id bootcsum }
+    ensures all { (limits : Limits) (rows : List BootRow) (v w : View) (b b' : Books) (actor lane : ℕ) → Interference actor lane v b w b' → ((row : BootRow) → Contains rows row → Contains (listed_in b) row.id) → AreOwnSpared rows v w → AreStanding limits rows v → AreSpared rows v w }
     ensures boots { (id : DepId) (bootcsum : List ℕ) (p : Path) → IsOnTheWay id bootcsum p → IsBoot (place p) }
 {}

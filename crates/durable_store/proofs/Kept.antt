@@ -20,9 +20,8 @@ use Rattle.reach.specs.Lines.{Reachable}
 use Rattle.reach.specs.Marking.{AreDoomed}
 use Rattle.reach.specs.Reach.{ObjNames, onward, start}
 use Rattle.reach.proofs.Reaching.{reach_least, refers_in, refers_where}
-use Rattle.rely_guarantee.specs.declared.books.Start.{Start}
 use Rattle.rely_guarantee.specs.declared.books.Pin.{Pin}
-use Rattle.rely_guarantee.specs.Books.{Books, Free, Spared}
+use Rattle.rely_guarantee.specs.Books.{Books, Free, Spared, listed_in}
 use Rattle.rely_guarantee.specs.Disks.{Says, path_of as topic_path}
 use Rattle.rely_guarantee.specs.Rely.{Guarantee}
 use Rattle.rely_guarantee.specs.Removing.{IsGuarded, IsRoot}
@@ -52,7 +51,7 @@ pub kept_guarded : (keep : ObjNames) (b : Books) (v : View) (lane : ℕ) → Are
 kept_guarded keep b v lane kept = reach_least (Stores v.now) (IsRoot b v lane) keep kept.roots kept.closed
 
 -- Where no object comes, no ref changes and nothing is pinned.
-module _ (keep : ObjNames) (b b' : Books) (v w : View) (lane : ℕ) (begin : b'.start ≡ b.start)
+module _ (keep : ObjNames) (b b' : Books) (v w : View) (lane : ℕ) (same : listed_in b' ≡ listed_in b)
     (pins : (p : Pin) → p.lane ≢ lane → Contains b'.pins p → Contains b.pins p)
     (refs : (name commit : List ℕ) (s : Seen) → MayBe w (ref_path name) s → Says (RefOf name) (Some commit) s → MayBe v (ref_path name) s)
     (fewer : (o : ObjName) (c : List ℕ) → Stores w.now o c → Stores v.now o c) where
@@ -63,7 +62,7 @@ module _ (keep : ObjNames) (b b' : Books) (v w : View) (lane : ℕ) (begin : b'.
   root_before : (o : ObjName) → IsRoot b' w lane o → IsRoot b v lane o
   root_before o (inl pin) = inl (pin.0, pins pin.0 pin.2 pin.1, pin.2, pin.3)
   root_before o (inr (inl (t, value, s, may, says, commit, among, is))) = inr (inl (t, value, s, named_before t value s commit among says may, says, commit, among, is))
-  root_before o (inr (inr listed)) = inr (inr (subst (λ (x : Start). IsDeployedCommit x.deployments.items o) begin listed))
+  root_before o (inr (inr listed)) = inr (inr (subst (λ ids. IsDeployedCommit ids o) same listed))
 
   kept_on : AreKept keep b v lane → AreKept keep b' w lane
   kept_on kept = record {
@@ -97,8 +96,8 @@ removal_fewer keep v w W writes removal o c has = ⊎_elim
     (λ none. absurd (stored_there o.kind (shows w.now (path_of o)) c has.there none))
     (removal_now keep v w W writes removal (path_of o))
 
-pub removal_kept : (keep : ObjNames) (b b' : Books) (actor lane : ℕ) (v w : View) (W : Path → Seen → Type 0) → Spared actor lane b b' → Writes W v w → IsRemoval keep v W → AreKept keep b v lane → AreKept keep b' w lane
-removal_kept keep b b' actor lane v w W spared writes removal = kept_on keep b b' v w lane spared.start
+pub removal_kept : (keep : ObjNames) (b b' : Books) (actor lane : ℕ) (v w : View) (W : Path → Seen → Type 0) → Spared actor lane b b' → listed_in b' ≡ listed_in b → Writes W v w → IsRemoval keep v W → AreKept keep b v lane → AreKept keep b' w lane
+removal_kept keep b b' actor lane v w W spared same writes removal = kept_on keep b b' v w lane same
     (λ p other has. ⊎_elim (λ was. was) (λ new. absurd (other new.0)) (spared.pinned p has))
     (λ name commit s may says. removal_there keep v w W writes removal (ref_path name) s may (no_vacant_leaf s (says_leaf name commit s says)))
     (removal_fewer keep v w W writes removal)
@@ -155,7 +154,7 @@ module _ (keep : ObjNames) (b b' : Books) (v w : View) (actor other lane : ℕ) 
   ref_as name s may = ⊎_elim (λ was. was) (λ m. absurd (not_free (at_place b v actor other (ref_path name) s (Ref name) (place-ref name) m).1)) (writes.only (ref_path name) s may)
 
   pub others_kept : Spared actor other b b' → AreKept keep b v lane → AreKept keep b' w lane
-  others_kept spared = kept_on keep b b' v w lane spared.start
+  others_kept spared = kept_on keep b b' v w lane (spared.listed lane apart alone)
       (λ p mine has. ⊎_elim (λ was. was) (λ new. absurd (not_free new.1)) (spared.pinned p has))
       (λ name commit s may says. ref_as name s may)
       (λ o c has. stores_same w.now v.now o c (sym (object_still o (IsSum-named o c has.named))) has)

@@ -21,7 +21,7 @@ ghost use Rattle.reach.specs.Lines.{Reachable};
 ghost use Rattle.reach.specs.Marking.{AreDoomed};
 ghost use Rattle.store_check.specs.Good.{IsGoodStore};
 ghost use Rattle.store_check.specs.Listing.{AreAll, HasFew};
-ghost use Rattle.rely_guarantee.specs.Books.{Books, Spared};
+ghost use Rattle.rely_guarantee.specs.Books.{Books, Spared, listed_in};
 ghost use Rattle.rely_guarantee.specs.Lasting.{Stays};
 ghost use Rattle.rely_guarantee.specs.Opening.{IsOpening};
 ghost use Rattle.rely_guarantee.specs.Rely.{Interference};
@@ -86,7 +86,7 @@ pub fn removals_stand<B: Storing, S: Writing>()
     ensures begins { (doomed roots : List ObjName) (depth : ℕ) (b : Books) (v : View) (lane : ℕ) → ((o : ObjName) → IsRoot b v lane o → Contains roots o) → AreDoomed (Stores v.now) (Reachable (Stores v.now) (Contains roots) depth) (Contains doomed) → AreKept (Except doomed) b v lane }
     ensures unguarded { (doomed : List ObjName) (b : Books) (v : View) (lane : ℕ) (o : ObjName) → AreKept (Except doomed) b v lane → Contains doomed o → ¬ (IsGuarded b v lane o) }
     ensures goes_on { (limits : Limits) (names doomed : List ObjName) (b : Books) (lane : ℕ) (v w : View) → AreKept (Except doomed) b v lane → Writes S.writes v w → IsRemoval (Except doomed) v S.writes → StoreStands limits B.brings B.config names v → StoreStands limits B.brings B.config names w }
-    ensures kept { (doomed : List ObjName) (b b' : Books) (actor lane : ℕ) (v w : View) → Spared actor lane b b' → Writes S.writes v w → IsRemoval (Except doomed) v S.writes → AreKept (Except doomed) b v lane → AreKept (Except doomed) b' w lane }
+    ensures kept { (doomed : List ObjName) (b b' : Books) (actor lane : ℕ) (v w : View) → Spared actor lane b b' → listed_in b' ≡ listed_in b → Writes S.writes v w → IsRemoval (Except doomed) v S.writes → AreKept (Except doomed) b v lane → AreKept (Except doomed) b' w lane }
     ensures settled { (doomed : List ObjName) (v w : View) → Writes S.writes v w → IsRemoval (Except doomed) v S.writes → IsSettled (Except doomed) v → IsSettled (Except doomed) w }
     ensures never { (doomed : List ObjName) (v w : View) (commit : List ℕ) → Writes S.writes v w → IsRemoval (Except doomed) v S.writes → IsNeverThere v commit → IsNeverThere w commit }
     ensures gone { (doomed : List ObjName) (v w : View) (p : Path) → Writes S.writes v w → IsRemoval (Except doomed) v S.writes → shows v.now p ≡ Vacant → shows w.now p ≡ Vacant }

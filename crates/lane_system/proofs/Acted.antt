@@ -6,6 +6,7 @@ use Rattle.fs_trait.specs.Image.{Told}
 use Rattle.fs_trait.specs.Seen.{Vacant, shows}
 use Rattle.fs_trait.specs.View.{Disk, View}
 use Rattle.repo_layout.specs.BootPaths.{checkout_path}
+use Rattle.rely_guarantee.specs.State.{SystemState}
 use Rattle.rely_guarantee.specs.declared.books.Base.{Base}
 use Rattle.rely_guarantee.specs.declared.books.Entry.{Entry}
 use Rattle.rely_guarantee.specs.declared.kind.Outcome.TheVariants as came
@@ -43,7 +44,7 @@ use Rattle.lane_system.specs.Preserves.{Preserves}
 use Rattle.lane_system.specs.Remaining.{IsLast, LastRemains}
 use Rattle.lane_system.specs.Replies.{IfAnswer, IsOutside, Knows, OfAnswer}
 use Rattle.lane_system.specs.Said.{RepliesHeldAtAPoint}
-use Rattle.lane_system.specs.States.{now_of, since_in}
+use Rattle.lane_system.specs.States.{now_of, since_in, state_in}
 use Rattle.lane_system.specs.Staying.{AreStaying}
 use Rattle.lane_system.specs.Storing.{AreStored, IsConfigured, WasBrought}
 use Rattle.lane_system.specs.System.{System}
@@ -56,7 +57,7 @@ use Rattle.lane_system.proofs.Family.{FamilyLaws, FsLaws}
 use Rattle.lane_system.proofs.Folding.{comes, made_goes, made_still, none_in_the_way, stands_in_the_way, taken_by, taken_stays}
 use Rattle.lane_system.proofs.Giving.{Gives, is_answer}
 use Rattle.lane_system.proofs.Places.{at_set, at_split}
-use Rattle.lane_system.proofs.Prefixes.{longer, since_is}
+use Rattle.lane_system.proofs.Prefixes.{longer, since_is, state_all}
 use Rattle.lane_system.proofs.Preserving.{SaysNow, founded_on, inside_on, lasts_on, said_on, staying_on}
 use Rattle.lane_system.proofs.StoreByEnding.{alone_given, alone_more, counted_given, counted_more, known_given, known_more, no_outside_given, sound_given, stored_given, stored_more}
 use Rattle.lane_system.proofs.Taking.{told}
@@ -150,7 +151,7 @@ module _ {F T W A : Type 0} (f : FsSpec F) (c : Family T W A) (fl : FsLaws f) (c
         },
       );
       counted = λ has. (w, (acts.does v told_v).1, counted_more f c fl cl limits lane refs refs' objects objects' old new lanes given l kept at v told_v l' x has);
-      said = λ stored has. said_on f c fl cl limits lane lane refs refs' objects objects' old new lanes (set lanes lane l') acts kept.sound.ordered (command_was lanes lane l l' at x.same) (length l.replies.items) _ begin None_ split (λ r words n. absurd n) starts v told_v kept.sound (λ r words n. absurd n);
+      said = λ stored has. said_on f c fl cl limits lane lane refs refs' objects objects' old new lanes (set lanes lane l') acts kept.sound.ordered (command_was lanes lane l l' at x.same) (length l.replies.items) _ begin None_ split (λ r words n. absurd n) starts v told_v kept.sound (λ r words n. absurd n) placed;
       known = λ opening is. (w, (acts.does v told_v).1, known_more f c fl cl limits lane refs refs' objects objects' old new lanes given l kept at v told_v l' x opening is);
       boots = λ rows is. (w, (acts.does v told_v).1, list_still f fl lane lane refs refs' old new acts v told_v limits rows lanes (set lanes lane l') objects objects' is);
       stays = λ stored. staying_on f c fl cl limits lane lane refs refs' objects objects' old new lanes (set lanes lane l') acts kept.sound.ordered (command_was lanes lane l l' at x.same) (length l.replies.items) _ begin None_ split (λ r words n. absurd n) starts v told_v placed (λ r words n. absurd n);
@@ -193,11 +194,11 @@ module _ {F T W A : Type 0} (f : FsSpec F) (c : Family T W A) (fl : FsLaws f) (c
     of_new P is q words new_one = subst (λ (y : Reply A). P y.start words y.answer) (sym new_one.0)
         (subst (λ (d : W). P r.start d r.answer) (sym new_one.1) (subst (λ n. P n x.words r.answer) (sym begun) (subst (P start x.words) (sym answered) is)))
 
-    shows_new : IsSoundStore limits v.now → (q : Reply A) (words : W) → IsNew q words → IfAnswer (λ a. c.means.shows (since_in limits old.books q.start) v a words) q.answer
-    shows_new sound = of_new (λ n d y. IfAnswer (λ a. c.means.shows (since_in limits old.books n) v a d) y) (g.shown.0 v told_v sound)
+    shows_new : IsSoundStore limits v.now → (q : Reply A) (words : W) → IsNew q words → IfAnswer (λ a. c.means.shows (placed_at (since_in limits old.books q.start) (now_of old.books)) v a words) q.answer
+    shows_new sound = of_new (λ n d y. IfAnswer (λ a. c.means.shows (placed_at (since_in limits old.books n) (now_of old.books)) v a d) y) (g.shown.0 v told_v sound)
 
     -- it tells of the view before the act
-    says_now : IsSoundStore limits v.now → HasAsMany v.now objects → (q : Reply A) (words : W) → IsNew q words → SaysNow c.means (since_in limits old.books q.start) limits v (length old.books.history.items) q words
+    says_now : IsSoundStore limits v.now → HasAsMany v.now objects → (q : Reply A) (words : W) → IsNew q words → SaysNow c.means (placed_at (since_in limits old.books q.start) (now_of old.books)) limits v (length old.books.history.items) q words
     says_now sound has q words n = record {
       shows = shows_new sound q words n;
       full = of_new (λ k d y. IfAnswer (λ a. c.means.full a → IsFull limits v.now) y) (full_by c.means.full limits objects v z has g.full) q words n;
@@ -215,11 +216,12 @@ module _ {F T W A : Type 0} (f : FsSpec F) (c : Family T W A) (fl : FsLaws f) (c
     outside_not (ended.Halted n) knows is = is
 
     -- behind the act its reply is the last one
-    last_remains : (a n : ℕ) (q : Reply A) (words : W) → IsTo (set lanes lane l'') a n q → IsCommand (set lanes lane l'') a n words → IsLast (set lanes lane l'') q → IfAnswer (λ a. c.means.remains (since_in limits new.books q.start) w_ a words) q.answer
+    last_remains : (a n : ℕ) (q : Reply A) (words : W) → IsTo (set lanes lane l'') a n q → IsCommand (set lanes lane l'') a n words → IsLast (set lanes lane l'') q → IfAnswer (λ a. c.means.remains (placed_at (since_in limits new.books q.start) (state_in new.books q.place)) w_ a words) q.answer
     last_remains a n q words to is last = ⊎_elim
         (λ before. absurd (let least = last lane (length l.replies.items) r (to_new lanes lane l l'' at same r grows) in omega (arith, least, order, kept.accounted.count, kept.accounted.numbered.below a n q before)))
-        (λ one. subst (λ (s : Since). IfAnswer (λ b. c.means.remains s w_ b words) q.answer) (sym (since_is lane lane old.books new.books acts_.books limits q.start (omega (arith, ap (λ (y : Reply A). y.start) one.0, begun, is_start))))
-        (of_new (λ k d y. IfAnswer (λ b. c.means.remains (since_in limits old.books k) w_ b d) y) (g.remains v w_ told_v (acts_.does v told_v).1) q words one))
+        (λ one. subst (λ (p : SystemState). IfAnswer (λ b. c.means.remains (placed_at (since_in limits new.books q.start) p) w_ b words) q.answer) (sym (state_all new.books q.place (ap (λ (y : Reply A). y.place) one.0 ∙ place)))
+        (subst (λ (s : Since). IfAnswer (λ b. c.means.remains (placed_at s (now_of new.books)) w_ b words) q.answer) (sym (since_is lane lane old.books new.books acts_.books limits q.start (omega (arith, ap (λ (y : Reply A). y.start) one.0, begun, is_start))))
+        (of_new (λ k d y. IfAnswer (λ b. c.means.remains (placed_at (since_in limits old.books k) (now_of new.books)) w_ b d) y) (g.remains v w_ told_v (acts_.does v told_v).1) q words one)))
         (split_ a n q words to is)
 
     -- its change is its command's
@@ -291,7 +293,7 @@ module _ {F T W A : Type 0} (f : FsSpec F) (c : Family T W A) (fl : FsLaws f) (c
         (λ new_one.
         (let answer = is_answer c.means.outside q.answer is in
         let shown = shows_new (sound_of stored) q x.words (new_one.2, refl) in
-        no_outside_given f c fl cl limits lane refs refs' objects objects' old new lanes given l kept at v told_v l' z start x l'' r same grows begun stored alone q.start answer.0 (subst (IfAnswer (λ y. c.means.shows (since_in limits old.books q.start) v y x.words)) answer.1 shown) answer.2))
+        no_outside_given f c fl cl limits lane refs refs' objects objects' old new lanes given l kept at v told_v l' z start x l'' r same grows begun stored alone q.start answer.0 (subst (IfAnswer (λ y. c.means.shows (placed_at (since_in limits old.books q.start) (now_of old.books)) v y x.words)) answer.1 shown) answer.2))
         (to_split lanes lane l l'' at same r grows a n q to)
 
     pub given_keeps : ActKeeps f c (record { base = old; lanes = lanes; limits = limits; objects = objects }) (record { base = new; lanes = set lanes lane l''; limits = limits; objects = objects' }) v
@@ -321,7 +323,7 @@ module _ {F T W A : Type 0} (f : FsSpec F) (c : Family T W A) (fl : FsLaws f) (c
         },
       );
       counted = λ has. (w_, (acts_.does v told_v).1, counted_given f c fl cl limits lane refs refs' objects objects' old new lanes given l kept at v told_v l' z start x l'' r same grows begun has);
-      said = λ stored has. said_on f c fl cl limits lane lane refs refs' objects objects' old new lanes (set lanes lane l'') acts_ kept.sound.ordered (command_was lanes lane l l'' at same) (length l.replies.items) start is_start IsNew split_ (λ q words n. ap (λ (y : Reply A). y.start) n.0 ∙ begun) starts_ v told_v kept.sound (says_now (sound_of stored) has);
+      said = λ stored has. said_on f c fl cl limits lane lane refs refs' objects objects' old new lanes (set lanes lane l'') acts_ kept.sound.ordered (command_was lanes lane l l'' at same) (length l.replies.items) start is_start IsNew split_ (λ q words n. ap (λ (y : Reply A). y.start) n.0 ∙ begun) starts_ v told_v kept.sound (says_now (sound_of stored) has) placed;
       known = λ opening is. (w_, (acts_.does v told_v).1, known_given f c fl cl limits lane refs refs' objects objects' old new lanes given l kept at v told_v l' z start x l'' r same grows begun opening is);
       boots = λ rows is. (w_, (acts_.does v told_v).1, list_still f fl lane lane refs refs' old new acts_ v told_v limits rows lanes (set lanes lane l'') objects objects' is);
       stays = λ stored. staying_on f c fl cl limits lane lane refs refs' objects objects' old new lanes (set lanes lane l'') acts_ kept.sound.ordered (command_was lanes lane l l'' at same) (length l.replies.items) start is_start IsNew split_ (λ q words n. ap (λ (y : Reply A). y.start) n.0 ∙ begun) starts_ v told_v placed

@@ -16,7 +16,7 @@ use Rattle.rely_guarantee.specs.declared.kind.Wants.{Wants}
 use Rattle.rely_guarantee.specs.Books.{books_of}
 use Rattle.rely_guarantee.specs.Laws.{Kind, Quiet, Store, Take, Claim, Publish, Published, Remove, MakeDurable}
 use Rattle.rely_guarantee.specs.Pinning.{pin_in}
-use Rattle.rely_guarantee.specs.State.{stored}
+use Rattle.rely_guarantee.specs.State.{list_in, stored}
 use Rattle.rely_guarantee.specs.SystemInvariant.{SystemInvariant}
 use Rattle.rely_guarantee.proofs.Acting.{ends_refl}
 use Rattle.rely_guarantee.proofs.Lasting.{lasts_refl, none_out}
@@ -69,7 +69,7 @@ nothing_acts f fl actor lane base refs refs' sound tracks rooms = record {
   };
   boots = λ v told. (v, told, spared_same (books_of base.books) v);
   sound = sound;
-  does = λ v told. (v, told, record { writes = record { only = λ p s may. inl may; now = λ p. inl refl }; books = (ends_refl actor lane base).spared; claims = λ c has. inl has });
+  does = λ v told. (v, told, record { writes = record { only = λ p s may. inl may; now = λ p. inl refl }; books = (ends_refl actor lane base).spared; claims = λ c has. inl has; listed = λ x other held. refl });
   books = (ends_refl actor lane base).spared;
   homes = λ homes. homes;
   live = λ x. x;
@@ -80,6 +80,7 @@ nothing_acts f fl actor lane base refs refs' sound tracks rooms = record {
   moments = λ k e at. inl at;
   grows = ([], sym (append-nil (stored base.books.history.items base.books.pending)));
   fails = (omega arith, λ is. inl is);
+  unlisted = comes_same (λ e. list_in e ≡ None) base.books base.books (refl, refl);
   founded = λ v told. comes_same (Founds v) base.books base.books (refl, refl);
 }
 

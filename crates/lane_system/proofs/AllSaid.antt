@@ -12,7 +12,7 @@ use Rattle.repo_model.specs.Trees.{name_of}
 use Rattle.rely_guarantee.specs.declared.books.Entry.{Entry}
 use Rattle.rely_guarantee.specs.declared.books.Pending.{Pending}
 use Rattle.rely_guarantee.specs.declared.event.Event.{Event}
-use Rattle.rely_guarantee.specs.declared.event.Event.TheVariants.{SetRef, DropRef, Pruned}
+use Rattle.rely_guarantee.specs.declared.event.Event.TheVariants.{SetRef, DropRef, Pruned, SetDeployments}
 use Rattle.rely_guarantee.specs.Books.{Books}
 use Rattle.rely_guarantee.specs.Lasting.{StaysFinished}
 use Rattle.rely_guarantee.specs.State.{SystemState}
@@ -50,6 +50,7 @@ founds_of : (v : View) (e : Event) → SetsFinished [] v e → Founds v e
 founds_of v (SetRef name seen commit) is = is commit refl (none_out (name_of Commit commit))
 founds_of v (DropRef name seen) is = tt
 founds_of v (Pruned depth roots held removed) is = tt
+founds_of v (SetDeployments change list) is = tt
 
 module _ {T W A : Type 0} (m : Meaning W A) (lanes : List (Lane T W A)) (entries : List Entry) (none : AreUnpruned entries) where
   gone : (k : ℕ) → gone_since entries [] k ≡ []

@@ -32,10 +32,11 @@ module _ {F T W A : Type 0} (f : FsSpec F) (c : Family T W A) (cl : FamilyLaws c
   at_end = length base.books.history.items
 
   -- the state at the beginning is the one now
+  now_is : since_in limits base.books at_end ≡ placed (since_in limits base.books at_end) (now_of base.books)
+  now_is = ap (λ (s : SystemState). placed (since_in limits base.books at_end) s) (state_all base.books at_end refl)
+
   here : (a : A) → IsAnswer c.means (since_in limits base.books at_end) words a → c.means.says (placed (since_in limits base.books at_end) (now_of base.books)) a words × c.means.knows (placed (since_in limits base.books at_end) (now_of base.books)) a words
-  here a is =
-      let same : since_in limits base.books at_end ≡ placed (since_in limits base.books at_end) (now_of base.books) = ap (λ (s : SystemState). placed (since_in limits base.books at_end) s) (state_all base.books at_end refl) in
-      (subst (λ (s : Since). c.means.says s a words) same is.0, subst (λ (s : Since). c.means.knows s a words) same is.1)
+  here a is = (subst (λ (s : Since). c.means.says s a words) now_is is.0, subst (λ (s : Since). c.means.knows s a words) now_is is.1)
 
   -- so is one that was given since no command goes on
   over_gives : (why : Halt) → base.books.halted ≡ Some why → (x : Ended A) → EndsBy base.books.halted (f.refused base.fs) (f.faults base.fs) x → (IsTold f.view → Knows c.means (placed (since_in limits base.books (task_start base.books.history.items task)) (now_of base.books)) words x)
@@ -76,8 +77,8 @@ module _ {F T W A : Type 0} (f : FsSpec F) (c : Family T W A) (cl : FamilyLaws c
   at_once_gives (ended.Answered a) is = subst (λ (o : Option (Running T)). Gives f c limits lane number objects base base words (task_start base.books.history.items o) (ended.Answered a)) (sym is.1) (record {
     answer = ((here a is.2).0, λ makes. absurd (is.2.2 makes));
     known = λ told. (here a is.2).1;
-    shown = (λ v told sound. is.2.5 v, tt);
-    remains = λ v w is_v is_w. cl.commands.answers.remains_at_once (since_in limits base.books at_end) words a w is.2;
+    shown = (λ v told sound. subst (λ (s : Since). c.means.shows s v a words) now_is (is.2.5 v), tt);
+    remains = λ v w is_v is_w. subst (λ (s : Since). c.means.remains s w a words) now_is (cl.commands.answers.remains_at_once (since_in limits base.books at_end) words a w is.2);
     full = λ full. absurd (is.2.3 full);
     idle = idle is.1;
     halts = tt;

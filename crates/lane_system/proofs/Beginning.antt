@@ -26,10 +26,10 @@ use Rattle.lane_system.specs.Preserves.{Stands}
 use Rattle.lane_system.specs.States.{now_of}
 use Rattle.lane_system.specs.Storing.{AreStored}
 
-none_some : {X P : Type 0} (o : Option X) (x : X) → o ≡ None → o ≡ Some x → P
+pub none_some : {X P : Type 0} (o : Option X) (x : X) → o ≡ None → o ≡ Some x → P
 none_some o x none is = absurd (let z : None ≡ Some x = sym none ∙ is in cc)
 
-none_at : {X P : Type 0} (xs : List X) (n : ℕ) (x : X) → xs ≡ [] → IsAt xs n x → P
+pub none_at : {X P : Type 0} (xs : List X) (n : ℕ) (x : X) → xs ≡ [] → IsAt xs n x → P
 none_at xs n x none at = absurd (omega (arith, at.0, ap length none))
 
 count_none : {T W A : Type 0} (lanes : List (Lane T W A)) → ((a : ℕ) (l : Lane T W A) → IsAt lanes a l → l.replies.items ≡ []) → count_of lanes ≡ 0

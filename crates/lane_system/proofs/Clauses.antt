@@ -10,6 +10,7 @@ use Rattle.obj_store.specs.declared.phase.Put.TheVariants as put
 use Rattle.rely_guarantee.specs.declared.books.Base.{Base}
 use Rattle.ref_book.specs.declared.book.RefBook.{RefBook}
 use Rattle.command.specs.declared.ended.Ended.{Ended}
+use Rattle.command.specs.Since.{placed}
 use Rattle.lane_system.specs.declared.act.Came.TheVariants.{Answered, More}
 use Rattle.lane_system.specs.declared.ask.Ask.TheVariants as ask
 use Rattle.lane_system.specs.declared.lane.Lane.{Lane}
@@ -22,7 +23,7 @@ use Rattle.lane_system.specs.Kept.{Kept}
 use Rattle.lane_system.specs.LaneActs.{LaneActs, task_start}
 use Rattle.lane_system.specs.Lanes.{IsAt}
 use Rattle.lane_system.specs.Replies.{Shown}
-use Rattle.lane_system.specs.States.{since_in}
+use Rattle.lane_system.specs.States.{now_of, since_in}
 use Rattle.lane_system.specs.Steps.{IsCounted, standing}
 use Rattle.lane_system.specs.System.{System}
 use Rattle.lane_system.proofs.Acting.{given_acts, given_start, gives, more_acts}
@@ -96,8 +97,8 @@ module _ {F T W A : Type 0} (f : FsSpec F) (c : Family T W A) (fl : FsLaws f) (c
     tells : AnswerTells c.means f.view (f.faults old.fs) (f.faults new.fs) s l r.answer
     tells = subst (AnswerTells c.means f.view (f.faults old.fs) (f.faults new.fs) s l) (sym answered) (
       (λ d next. (let same : x.words ≡ d = at_one l.words.items (length l.replies.items) x.words d x.next next in
-          subst (λ (e : W). Shown c.means (since_in limits old.books (task_start old.books.history.items l.task)) (f.view old.fs) old.books.halted (f.faults old.fs) (f.faults new.fs) e z) same
-          (subst (λ n. Shown c.means (since_in limits old.books n) (f.view old.fs) old.books.halted (f.faults old.fs) (f.faults new.fs) x.words z) is_start g.shown))),
+          subst (λ (e : W). Shown c.means (placed (since_in limits old.books (task_start old.books.history.items l.task)) (now_of old.books)) (f.view old.fs) old.books.halted (f.faults old.fs) (f.faults new.fs) e z) same
+          (subst (λ n. Shown c.means (placed (since_in limits old.books n) (now_of old.books)) (f.view old.fs) old.books.halted (f.faults old.fs) (f.faults new.fs) x.words z) is_start g.shown))),
       g.full,
     )
 

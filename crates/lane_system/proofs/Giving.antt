@@ -28,6 +28,7 @@ use Rattle.command.specs.declared.ended.Ended.{Ended}
 use Rattle.command.specs.declared.ended.Ended.TheVariants as ended
 use Rattle.command.specs.ChangeLaws.{IsRightSince}
 use Rattle.command.specs.Removing.{IsAlone}
+use Rattle.command.specs.Sees.{listed_behind}
 use Rattle.command.specs.Since.{Since, placed}
 use Rattle.command.specs.Sound.{IsSoundStore}
 use Rattle.lane_system.specs.declared.lane.Running.{Running}
@@ -38,7 +39,7 @@ use Rattle.lane_system.specs.Removals.{swept_in}
 use Rattle.lane_system.specs.Replies.{Answers, EndsBy, HasMade, IfAnswer, IsCaused, IsCutOff, IsTold, Knows, OfAnswer, Shown}
 use Rattle.lane_system.specs.States.{now_of, since_in}
 use Rattle.lane_system.specs.Steps.{HasEnded, IsEndedAs, Stepped}
-use Rattle.lane_system.proofs.Prefixes.{deployed_in}
+use Rattle.lane_system.proofs.Relisting.{listed_at}
 use Rattle.lane_system.proofs.Endings.{IsMine, IsSettled, answer_only, cut_off, ends, ends_by, failed_only, halted_only, outside_only, pending_by}
 use Rattle.lane_system.proofs.Family.{FamilyLaws, FsLaws}
 use Rattle.lane_system.proofs.Histories.{EndsUnpublished, over_idle}
@@ -56,8 +57,8 @@ Grows Makes lane number x old new = ((new ≡ old) × (OfAnswer Makes x → ⊥)
 pub record Gives {F T W A : Type 0} (f : FsSpec F) (c : Family T W A) (limits : Limits) (lane number objects : ℕ) (old new : Base F) (words : W) (start : ℕ) (x : Ended A) : Type 0 where
   pub answer : IfAnswer (Answers c.means lane number (placed (since_in limits old.books start) (now_of new.books)) new.books.history.items words) x
   pub known : IsTold f.view → Knows c.means (placed (since_in limits old.books start) (now_of new.books)) words x
-  pub shown : Shown c.means (since_in limits old.books start) (f.view old.fs) old.books.halted (f.faults old.fs) (f.faults new.fs) words x
-  pub remains : (v w : View) → f.view old.fs ≡ Some v → f.view new.fs ≡ Some w → IfAnswer (λ a. c.means.remains (since_in limits old.books start) w a words) x
+  pub shown : Shown c.means (placed (since_in limits old.books start) (now_of old.books)) (f.view old.fs) old.books.halted (f.faults old.fs) (f.faults new.fs) words x
+  pub remains : (v w : View) → f.view old.fs ≡ Some v → f.view new.fs ≡ Some w → IfAnswer (λ a. c.means.remains (placed (since_in limits old.books start) (now_of new.books)) w a words) x
   pub full : IfAnswer (λ a. c.means.full a → limits.objects ≤ objects) x
   -- nothing of the lane is pending, unless all were ended
   pub idle : new.books.halted ≡ None → NotPending lane (books_of new.books)
@@ -150,15 +151,19 @@ module _ {F T W A : Type 0} (f : FsSpec F) (c : Family T W A) (fl : FsLaws f) (c
     answer_a : Answers c.means lane number (placed since (now_of new.books)) new.books.history.items words a
     answer_a = (cl.commands.answers.says since (now_of new.books) words t t' a after done.steps only.1, makes_it)
 
-    shows_a : (v : View) → f.view old.fs ≡ Some v → IsSoundStore limits v.now → c.means.shows since v a words
-    shows_a v is_v sound_v = let l = done.tells v is_v in cl.commands.answers.shows since lane words t t' v l.0 (books_of old.books) a (deployed_in old.books start) after (facts v is_v) l.2 only.1 sound_v
+    shows_a : (v : View) → f.view old.fs ≡ Some v → IsSoundStore limits v.now → c.means.shows (placed since (now_of old.books)) v a words
+    shows_a v is_v sound_v = let l = done.tells v is_v in cl.commands.answers.shows since (now_of old.books) lane words t t' v l.0 (books_of old.books) a refl after (facts v is_v) l.2 only.1 sound_v
 
-    remains_a : (v w : View) → f.view old.fs ≡ Some v → f.view new.fs ≡ Some w → c.means.remains since w a words
+    -- which deployments boot then
+    listed_then : outcome ≡ came.Done → (now_of new.books).deployments ≡ listed_behind (c.tasks.kind t) (books_of old.books)
+    listed_then is_done = listed_at lane number (f.clock new.fs) old.books new.books y.step.acts.books.start (c.tasks.kind t) outcome is_done its_end
+
+    remains_a : (v w : View) → f.view old.fs ≡ Some v → f.view new.fs ≡ Some w → c.means.remains (placed since (now_of new.books)) w a words
     remains_a v w is_v is_w =
         let l = done.tells v is_v in
         let one : Some l.0 ≡ Some w = sym l.1 ∙ is_w in
         let e : l.0 ≡ w = cc in
-        cl.commands.answers.remains since lane words t t' v w (books_of old.books) a (deployed_in old.books start) after (facts v is_v) (subst (c.tasks.leaves t (turn.Done tt) t' v) e l.2) only.1
+        cl.commands.answers.remains since (now_of new.books) lane words t t' v w (books_of old.books) a (listed_then only.0) after (facts v is_v) (subst (c.tasks.leaves t (turn.Done tt) t' v) e l.2) only.1
 
     knows_a : IsTold f.view → c.means.knows (placed since (now_of new.books)) a words
     knows_a is_told =

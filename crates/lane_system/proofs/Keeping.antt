@@ -7,7 +7,7 @@ use Rattle.rely_guarantee.specs.declared.books.Start.{Start}
 use Rattle.rely_guarantee.specs.declared.books.Base.{Base}
 use Rattle.rely_guarantee.specs.declared.books.Entry.{Entry}
 use Rattle.rely_guarantee.specs.declared.event.Event.{Event}
-use Rattle.rely_guarantee.specs.declared.event.Event.TheVariants.{SetRef, DropRef, Pruned}
+use Rattle.rely_guarantee.specs.declared.event.Event.TheVariants.{SetRef, DropRef, Pruned, SetDeployments}
 use Rattle.rely_guarantee.specs.declared.kind.Halt.{Halt}
 use Rattle.rely_guarantee.specs.declared.kind.Halt.TheVariants as halt
 use Rattle.rely_guarantee.specs.declared.kind.Outcome.TheVariants as came
@@ -41,6 +41,7 @@ event_room : (refs refs' : RefBook) → (e : Event) → ((name : List ℕ) → H
 event_room refs refs' (SetRef name seen commit) rooms has = rooms name has
 event_room refs refs' (DropRef name seen) rooms has = rooms name has
 event_room refs refs' (Pruned depth roots held removed) rooms has = tt
+event_room refs refs' (SetDeployments change list) rooms has = tt
 
 -- what ended all commands goes on to be what ended them, since nothing is done any more
 pub ends_stay : {F A : Type 0} (f : FsSpec F) (old new : Base F) → ((why : Halt) → old.books.halted ≡ Some why → new ≡ old) → (x : Ended A) → EndsBy old.books.halted (f.refused old.fs) (f.faults old.fs) x → EndsBy new.books.halted (f.refused new.fs) (f.faults new.fs) x

@@ -40,6 +40,7 @@ module _ {T W A : Type 0} (k : TaskSpec T) (m : Meaning W A) (d : Doing T W A) (
   changes_on : ChangeLaws (learning k d) m d
   changes_on = (let l = laws.changes in record {
     shown = l.shown;
+    unlisted = l.unlisted;
     settled = l.settled;
     founds = l.founds;
     makes = l.makes;
@@ -91,7 +92,7 @@ module _ {T W A : Type 0} (k : TaskSpec T) (m : Meaning W A) (d : Doing T W A) (
   })
 
   boots_on : BootLaws (learning k d)
-  boots_on = (let l = laws.boots in record { list = l.list; deployments = l.deployments; clears = l.clears })
+  boots_on = (let l = laws.boots in record { list = l.list; deployments = l.deployments })
 
   folders_on : FolderLaws (learning k d) m d
   folders_on = (let l = laws.folders in record {

@@ -1,23 +1,22 @@
--- Nothing comes to where only what no list boots would stand.
-use Rattle.std.proofs.Common.{◌≡◌, ◌⊎◌, inl, inr, ⊎_elim, ℕ, ◌≤◌, refl, sym, ◌∙◌, ap, subst, List, [], ◌∷◌, ◌++◌, append-nil, append_assoc, Option, Some}
-use Rattle.ost_types.specs.Path.{Path, under}
+-- What stands where deployments may can be removed, whatever a crash leaves.
+use Rattle.std.proofs.Common.{◌≡◌, ◌≢◌, ◌⊎◌, inl, inr, ⊎_elim, ℕ, ◌≤◌, true, refl, sym, ◌∙◌, ap, subst, List, [], ◌∷◌, ◌++◌, append-nil, append_assoc, Option, Some}
+use Rattle.ost_types.specs.Path.{Name, Path, IsPath, under}
+use Rattle.ost_types.proofs.Paths.{is_below-under}
 use Rattle.fs_trait.specs.View.{Disk, View}
-use Rattle.fs_trait.specs.Image.{Image, IsTree, is_folder}
+use Rattle.fs_trait.specs.Image.{Image, is_folder}
 use Rattle.fs_trait.specs.Effect.{Elapses}
+use Rattle.fs_trait.specs.Change.{Writes}
 use Rattle.fs_trait.specs.Seen.{Seen, MayBe, Vacant, seen, shows}
 use Rattle.fs_trait.proofs.Claims.{Image-root, Image-under, passes}
 use Rattle.fs_trait.proofs.Facts.{vacant_absent}
 use Rattle.fs_trait.proofs.Images.{folder_or_not}
-use Rattle.repo_layout.specs.BootPaths.{loader_path}
-use Rattle.layout_rules.specs.Checks.{IsReached}
 use Rattle.rely_guarantee.specs.Books.{Books}
-use Rattle.boot_read.specs.declared.row.BootRow.{BootRow}
-use Rattle.durable_list.specs.Standing.{IsOnTheWay, ListStands, SparesList}
-use Rattle.durable_list.proofs.Standing.{itself, left_there, stands_left, stands_on}
-use Rattle.sys_open.specs.LeftOver.{CanGo, LiesIn}
-use Rattle.sys_open.proofs.LeftOvers.{lies_boot, lies_still}
-use Rattle.command.specs.BootLaws.{BootRows}
-use Rattle.lane_system.specs.Booting.{KeepsClear, SparesBoots}
+use Rattle.rely_guarantee.specs.Rely.{Guarantee}
+use Rattle.sys_open.specs.LeftOver.{CanGo, LiesWithin}
+use Rattle.lane_system.specs.Booting.{KeepsClear}
+
+abbrev IsBounded : View → Type 0
+IsBounded v = (p : Path) (s : Seen) → LiesWithin p → MayBe v p s → s ≢ Vacant → IsPath p
 
 -- what a crash leaves at a path is what may be there, or nothing
 module _ (v : View) (d : Disk) (i : Image v d) where
@@ -32,49 +31,29 @@ module _ (v : View) (d : Disk) (i : Image v d) where
   may_stand : (p : Path) → MayStand p
   may_stand p = from_folder [] p (inl (Image-root v d i))
 
-  reached_none : (p : Path) → shows d p ≡ Vacant → IsReached d p
-  reached_none p none x there = absurd (there (i.gone p x (ap is_folder (vacant_absent d p none))))
+  -- so an opening can remove what stands there
+  can_go : IsBounded v → (p : Path) → CanGo d p
+  can_go bounded p (q, may, below) x there =
+      let some : shows d (under p x) ≢ Vacant = λ vacant. there (vacant_absent d (under p x) vacant) in
+      ⊎_elim
+      (λ may_be. bounded (under p x) (shows d (under p x)) (q, may, is_below-under q p x below) may_be some)
+      (λ none. absurd (some none))
+      (may_stand (under p x))
 
-abbrev IsClear : View → Type 0
-IsClear v = (p : Path) (s : Seen) → LiesIn v.now p → MayBe v p s → s ≡ Vacant
-
-loader_way : (d : Disk) (rows : List BootRow) → IsOnTheWay d rows loader_path
-loader_way d rows = (loader_path, inl refl, itself loader_path)
-
--- so an opening has nothing to remove there
-can_go : (rows : List BootRow) (v : View) (d : Disk) → IsTree v.now → ListStands rows v → IsClear v → Image v d → (p : Path) → CanGo d p
-can_go rows v d tree stands clear i p lies = reached_none v d i p (⊎_elim (λ may. clear p (shows d p) before may) (λ none. none) (may_stand v d i p))
-  where
-    loader : shows d loader_path ≡ shows v.now loader_path
-    loader = left_there v d tree i loader_path (λ q s below may. stands.sure q s (loader_path, inl refl, below) may)
-
-    before : LiesIn v.now p
-    before = lies_still v.now d rows stands.are (stands_left v d tree i rows stands) loader p lies
-
-module _ (rows : List BootRow) (v w : View) (b : Books) (spares : SparesBoots b v w) (are : BootRows b v rows) (stands : ListStands rows v) (clear : IsClear v) where
-  list : SparesList rows v w
-  list = spares.list rows are
-
-  still_clear : IsClear w
-  still_clear p s lies may = ⊎_elim
-      (λ was. clear p s (lies_still v.now w.now rows stands.are (stands_on rows v w list stands).are (list.now loader_path (loader_way v.now rows)) p lies) was)
-      (λ vacant. vacant)
-      (spares.clears p s (lies_boot w.now p lies) may)
-
-module _ {F : Type 0} (view : F → Option View) (clock : F → ℕ) (was : F → ℕ → View → Type 0) (only_now : (fs : F) (t : ℕ) (v : View) → clock fs ≤ t → was fs t v → view fs ≡ Some v)
-    (tree : (fs : F) (v : View) → view fs ≡ Some v → IsTree v.now) where
+module _ {F : Type 0} (view : F → Option View) (clock : F → ℕ) (was : F → ℕ → View → Type 0) (only_now : (fs : F) (t : ℕ) (v : View) → clock fs ≤ t → was fs t v → view fs ≡ Some v) where
   same_told : (fs : F) (u v : View) → view fs ≡ Some u → view fs ≡ Some v → u ≡ v
   same_told fs u v is told = let e : Some u ≡ Some v = sym is ∙ told in cc
 
-  pub clear_on : (rows : List BootRow) (old new : F) (v w : View) (b : Books) (moment : ℕ) → view new ≡ Some w → Elapses (clock old) (clock new) (was old) (was new) (view new) → SparesBoots b v w → BootRows b v rows
-      → ListStands rows v → KeepsClear (was old) moment v → KeepsClear (was new) moment w
-  clear_on rows old new v w b moment told time spares are stands keeps = record {
-    clear = now;
+  -- nobody writes outside the bounds
+  pub clear_on : (old new : F) (v w : View) (b : Books) (actor lane moment : ℕ) → view new ≡ Some w → Elapses (clock old) (clock new) (was old) (was new) (view new) → Writes (Guarantee b v actor lane) v w
+      → KeepsClear (was old) moment v → KeepsClear (was new) moment w
+  clear_on old new v w b actor lane moment told time writes keeps = record {
+    bounded = now;
     since = λ t d from left. ⊎_elim
         (λ before. keeps.since t d from before)
-        (λ here. can_go rows w d (tree new w told) (stands_on rows v w (spares.list rows are) stands) now (subst (λ u. Image u d) (same_told new here.0 w here.1 told) here.2))
+        (λ here. can_go w d (subst (λ u. Image u d) (same_told new here.0 w here.1 told) here.2) now)
         ((passes (clock old) (clock new) (was old) (was new) (view new) (only_now new) time).nothing_else t d left);
   }
     where
-      now : IsClear w
-      now = still_clear rows v w b spares are stands keeps.clear
+      now : IsBounded w
+      now p s lies may some = ⊎_elim (λ was_there. keeps.bounded p s lies was_there some) (λ wrote. wrote.fits.bounds some) (writes.only p s may)

@@ -14,6 +14,7 @@ pub mod Growing
 pub mod Sweeping
 pub mod Taking
 pub mod Endings
+pub mod Relisting
 pub mod Giving
 pub mod AtOnce
 pub mod Keeping

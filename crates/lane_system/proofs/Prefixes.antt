@@ -7,7 +7,6 @@ use Rattle.rely_guarantee.specs.declared.books.Books as rust
 use Rattle.rely_guarantee.specs.declared.books.Entry.{Entry}
 use Rattle.rely_guarantee.specs.Books.{Spared, books_of}
 use Rattle.rely_guarantee.specs.State.{SystemState, after, events_of, opening_state}
-use Rattle.rely_guarantee.proofs.States.{same_deployments}
 use Rattle.command.specs.Meaning.{Meaning}
 use Rattle.command.specs.Since.{begun_in, placed}
 use Rattle.lane_system.specs.declared.lane.Reply.{Reply}
@@ -20,13 +19,6 @@ state_stays begin h more k le = ap (λ (l : List Entry). after (events_of l) beg
 -- where all changes are counted
 pub state_all : (b : rust.Books) (n : ℕ) → n ≡ length b.history.items → state_in b n ≡ now_of b
 state_all b n at = ap (λ (l : List Entry). after (events_of l) (opening_state b.start)) (ap (λ k. take k b.history.items) at ∙ take-length b.history.items)
-
--- no change deploys anything
-pub deployed_in : (b : rust.Books) (k : ℕ) → (state_in b k).deployments ≡ b.start.deployments.items
-deployed_in b k = same_deployments (events_of (take k b.history.items)) (opening_state b.start)
-
-pub deployed_now : (b : rust.Books) → (now_of b).deployments ≡ b.start.deployments.items
-deployed_now b = same_deployments (events_of b.history.items) (opening_state b.start)
 
 module _ (actor lane : ℕ) (b b' : rust.Books) (spared : Spared actor lane (books_of b) (books_of b')) where
   pub state_is : (k : ℕ) → k ≤ length b.history.items → state_in b' k ≡ state_in b k

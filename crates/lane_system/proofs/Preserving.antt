@@ -1,5 +1,5 @@
 -- What an act keeps of what was so since the opening.
-use Rattle.std.proofs.Common.{◌≡◌, ◌⊎◌, ⊎_elim, ◌<◌, ◌≤◌, ◌+◌, ℕ, zero, suc, sym, ◌∙◌, ap, subst, arith, List, [], ◌∷◌, ◌++◌, length, Contains, Some}
+use Rattle.std.proofs.Common.{◌≡◌, ◌⊎◌, ⊎_elim, ◌<◌, ◌≤◌, ◌+◌, ℕ, zero, suc, sym, ◌∙◌, ap, subst, arith, List, [], ◌∷◌, ◌++◌, length, Contains, Some, refl}
 use Rattle.std.proofs.lemmas.List.Elements.{Contains-append_cases, Contains-append_right}
 use Rattle.ost_types.specs.declared.limits.Limits.{Limits}
 use Rattle.ost_types.specs.declared.object.Kind.TheVariants.{Commit}
@@ -12,7 +12,7 @@ use Rattle.rely_guarantee.specs.declared.books.Start.{Start}
 use Rattle.rely_guarantee.specs.declared.books.Base.{Base}
 use Rattle.rely_guarantee.specs.declared.books.Entry.{Entry}
 use Rattle.rely_guarantee.specs.declared.event.Event.{Event}
-use Rattle.rely_guarantee.specs.declared.event.Event.TheVariants.{SetRef, DropRef, Pruned}
+use Rattle.rely_guarantee.specs.declared.event.Event.TheVariants.{SetRef, DropRef, Pruned, SetDeployments}
 use Rattle.rely_guarantee.specs.Books.{books_of}
 use Rattle.rely_guarantee.specs.Lasting.{Outlasts, StaysFinished, StaysOn}
 use Rattle.rely_guarantee.specs.Rely.{Interference}
@@ -28,7 +28,7 @@ use Rattle.command.specs.ChangeLaws.{Founds, IsRightSince}
 use Rattle.command.specs.Meaning.{Meaning}
 use Rattle.command.specs.Removed.{AreAmong, RemovesOnly}
 use Rattle.command.specs.Removing.{IsPrune}
-use Rattle.command.specs.Since.{Since, begun_in}
+use Rattle.command.specs.Since.{Since, begun_in, placed}
 use Rattle.lane_system.specs.declared.lane.Lane.{Lane}
 use Rattle.lane_system.specs.declared.lane.Reply.{Reply}
 use Rattle.lane_system.specs.Acts.{Acts, ComesFrom}
@@ -40,13 +40,13 @@ use Rattle.lane_system.specs.Lasting.{AreKept, IsChangeKept}
 use Rattle.lane_system.specs.Removals.{gone_since, removed_in, swept_in}
 use Rattle.lane_system.specs.Replies.{IfAnswer, IsOutside, OfAnswer}
 use Rattle.lane_system.specs.Said.{RepliesHeldAtAPoint, WasSeen}
-use Rattle.lane_system.specs.States.{since_in, state_in}
+use Rattle.lane_system.specs.States.{now_of, since_in, state_in}
 use Rattle.lane_system.specs.Staying.{AreStaying}
 use Rattle.lane_system.specs.System.{System}
 use Rattle.lane_system.proofs.Family.{FamilyLaws, FsLaws}
 use Rattle.lane_system.proofs.Giving.{if_answer, is_answer}
 use Rattle.lane_system.proofs.Moments.{moment_by, opened_by}
-use Rattle.lane_system.proofs.Prefixes.{since_is}
+use Rattle.lane_system.proofs.Prefixes.{since_is, state_all, state_is}
 use Rattle.lane_system.proofs.Removals.{gone_on, none_among, removed_before}
 use Rattle.lane_system.proofs.RefsSeen.{sees_now, sees_stay}
 
@@ -55,11 +55,13 @@ pub set_lasts : (v : View) (commit : List ℕ) (e : Event) → Founds v e → Se
 set_lasts v commit (SetRef name seen to) founds sets = subst (StaysFinished v) sets founds
 set_lasts v commit (DropRef name seen) founds sets = absurd sets
 set_lasts v commit (Pruned depth roots held removed) founds sets = absurd sets
+set_lasts v commit (SetDeployments change list) founds sets = absurd sets
 
 sets_sum : (commit : List ℕ) (e : Event) → Sets commit e → IsValid e → IsSum commit
 sets_sum commit (SetRef name seen to) sets valid = subst IsSum sets valid.1
 sets_sum commit (DropRef name seen) sets valid = absurd sets
 sets_sum commit (Pruned depth roots held removed) sets valid = absurd sets
+sets_sum commit (SetDeployments change list) sets valid = absurd sets
 
 -- each change of the history can be
 valid_at : (entries : List Entry) (more : List Event) (s : SystemState) (k : ℕ) (e : Entry) → IsRun (events_of entries ++ more) s → IsAt entries k e → IsValid e.event
@@ -72,6 +74,7 @@ sets_no_prune : (commit : List ℕ) (e : Event) → Sets commit e → IsPrune e 
 sets_no_prune commit (SetRef name seen to) sets prune = prune
 sets_no_prune commit (DropRef name seen) sets prune = sets
 sets_no_prune commit (Pruned depth roots held removed) sets prune = sets
+sets_no_prune commit (SetDeployments change list) sets prune = sets
 
 -- A reply that an act gives tells of the view before it; its place is no earlier than all changes that lasted there.
 pub record SaysNow {W A : Type 0} (m : Meaning W A) (since : Since) (limits : Limits) (v : View) (past : ℕ) (r : Reply A) (words : W) : Type 0 where
@@ -110,6 +113,9 @@ module _ {F T W A : Type 0} (f : FsSpec F) (c : Family T W A) (fl : FsLaws f) (c
 
   since_same : (n : ℕ) → n ≤ length old.books.history.items → since_in limits new.books n ≡ since_in limits old.books n
   since_same n le = since_is actor lane old.books new.books acts.books limits n le
+
+  state_same : (n : ℕ) → n ≤ length old.books.history.items → state_in new.books n ≡ state_in old.books n
+  state_same n le = state_is actor lane old.books new.books acts.books n le
 
   entry_was : (n : ℕ) (e : Entry) → IsAt new.books.history.items n e → n < length old.books.history.items → IsAt old.books.history.items n e
   entry_was n e at lt = ⊎_elim (λ was. was) (λ late. absurd (omega (arith, late.0, lt))) (acts.moments n e at)
@@ -153,8 +159,8 @@ module _ {F T W A : Type 0} (f : FsSpec F) (c : Family T W A) (fl : FsLaws f) (c
   abbrev pub WasSeenIn : Base F → Reply A → W → Type 0
   WasSeenIn base r words = WasSeen c.means (f.was base.fs) base.books.opened limits (opening_state base.books.start) base.books.history.items base.books.pending r words
 
-  still_seen : (r : Reply A) (words : W) → r.start ≤ length old.books.history.items → WasSeenIn old r words → WasSeenIn new r words
-  still_seen r words le x = record {
+  still_seen : (r : Reply A) (words : W) → r.start ≤ length old.books.history.items → (x : WasSeenIn old r words) → x.place ≤ length old.books.history.items → WasSeenIn new r words
+  still_seen r words le x short = record {
     moment = x.moment;
     shown = x.shown;
     since = omega (arith, acts.books.opened, x.since);
@@ -165,11 +171,12 @@ module _ {F T W A : Type 0} (f : FsSpec F) (c : Family T W A) (fl : FsLaws f) (c
     to = x.to;
     refs = sees_stay (opening_state old.books.start) (opening_state new.books.start) (stored old.books.history.items old.books.pending) (stored new.books.history.items new.books.pending) acts.grows.0 x.place x.shown.now
         (ap (λ (s : Start). opening_state s) acts.books.start) acts.grows.1 x.refs;
-    seen = subst (λ (s : Since). IfAnswer (λ a. c.means.shows s x.shown a words) r.answer) (sym (since_same r.start le)) x.seen;
+    seen = subst (λ (p : SystemState). IfAnswer (λ a. c.means.shows (placed (since_in limits new.books r.start) p) x.shown a words) r.answer) (sym (state_same x.place short))
+        (subst (λ (s : Since). IfAnswer (λ a. c.means.shows (placed s (state_in old.books x.place)) x.shown a words) r.answer) (sym (since_same r.start le)) x.seen);
     full = x.full;
   }
 
-  module _ (sound : SystemInvariant f.view f.clock f.spare f.was old) (says : (r : Reply A) (words : W) → IsNew r words → SaysNow c.means (since_in limits old.books r.start) limits v (length old.books.history.items) r words) where
+  module _ (sound : SystemInvariant f.view f.clock f.spare f.was old) (says : (r : Reply A) (words : W) → IsNew r words → SaysNow c.means (placed (since_in limits old.books r.start) (now_of old.books)) limits v (length old.books.history.items) r words) where
     seen_now : (r : Reply A) (words : W) → IsNew r words → WasSeenIn old r words
     seen_now r words given =
         let said = says r words given in
@@ -183,14 +190,18 @@ module _ {F T W A : Type 0} (f : FsSpec F) (c : Family T W A) (fl : FsLaws f) (c
           from = omega (arith, its_start r words given, early);
           to = said.place;
           refs = sees_now f fl old sound v told;
-          seen = said.shows;
+          seen = subst (λ (p : SystemState). IfAnswer (λ a. c.means.shows (placed (since_in limits old.books r.start) p) v a words) r.answer) (sym (state_all old.books (length old.books.history.items) refl)) said.shows;
           full = said.full;
         }
 
-    pub said_on : RepliesHeldAtAPoint c.means f.was before → RepliesHeldAtAPoint c.means f.was behind
-    said_on said a n r words to is = ⊎_elim
-        (λ was. still_seen r words (within a n r was) (said a n r words was (commands a n words is)))
-        (λ given. still_seen r words (omega (arith, its_start r words given, early)) (seen_now r words given))
+    place_now : (r : Reply A) (words : W) (given : IsNew r words) → (seen_now r words given).place ≡ length old.books.history.items
+    unfolding seen_now
+    place_now r words given = refl
+
+    pub said_on : ((a n : ℕ) (r : Reply A) → IsTo lanes a n r → r.place ≤ length old.books.history.items) → RepliesHeldAtAPoint c.means f.was before → RepliesHeldAtAPoint c.means f.was behind
+    said_on ends said a n r words to is = ⊎_elim
+        (λ was. (let x = said a n r words was (commands a n words is) in still_seen r words (within a n r was) x (omega (arith, x.to, ends a n r was))))
+        (λ given. still_seen r words (omega (arith, its_start r words given, early)) (seen_now r words given) (omega (arith, place_now r words given)))
         (split a n r words to is)
 
   -- what they left outside of the store
@@ -267,10 +278,10 @@ module _ {F T W A : Type 0} (f : FsSpec F) (c : Family T W A) (fl : FsLaws f) (c
           stays_image w d (subst (λ u. Image u d) e left.2)
 
   -- and which commits are there
-  pub founded_on : (opening : View) → CommitsAreFiles v.now → ((r : Reply A) (words : W) → IsNew r words → IfAnswer (λ a. c.means.shows (since_in limits old.books r.start) v a words) r.answer) → ((a n : ℕ) (r : Reply A) → IsTo lanes' a n r → (words : W) × IsCommand lanes' a n words)
+  pub founded_on : (opening : View) → CommitsAreFiles v.now → ((r : Reply A) (words : W) → IsNew r words → IfAnswer (λ a. c.means.shows (placed (since_in limits old.books r.start) (now_of old.books)) v a words) r.answer) → ((a n : ℕ) (r : Reply A) → IsTo lanes' a n r → (words : W) × IsCommand lanes' a n words)
       → ((a n : ℕ) (r : Reply A) → IsTo lanes a n r → r.place ≤ length old.books.history.items) → ((r : Reply A) (words : W) → IsNew r words → r.place ≡ length new.books.history.items) → ((r : Reply A) (words : W) (commit : List ℕ) → IsNew r words → IsSum commit → OfAnswer (λ a. c.means.lacks a commit) r.answer → swept_in new.books ≡ [])
       → RefsNameDurableCommits c.means opening before v → Told (f.view new.fs) (λ u. RefsNameDurableCommits c.means opening behind u)
-  founded_on opening files new_one has placed ends alone was = (
+  founded_on opening files new_one has places ends alone was = (
     w,
     told_w,
     record {
@@ -279,11 +290,11 @@ module _ {F T W A : Type 0} (f : FsSpec F) (c : Family T W A) (fl : FsLaws f) (c
       shown = λ p is commit sets still. on commit (λ took. sets_no_prune commit p.event sets (acts.removal.prunes (name_of Commit commit) took p is)) (⊎_elim (λ before. was.shown p before commit sets still) (λ founds. set_lasts v commit p.event founds sets) (come.shown p is));
       present = record {
         finished = λ a n r commit to lacks still is. (let x = has a n r to in ⊎_elim
-            (λ there. was.present.finished a n r commit there lacks (λ gone. still (subst (λ (l : List ObjName). IsOut l commit) (sym (removed_same 0 r.place (placed a n r there))) gone)) is)
+            (λ there. was.present.finished a n r commit there lacks (λ gone. still (subst (λ (l : List ObjName). IsOut l commit) (sym (removed_same 0 r.place (places a n r there))) gone)) is)
             (λ given. never r x.0 commit given lacks (was.stays commit (λ gone. still (told_at_end (alone r x.0 commit given is.there.sum lacks) 0 r.place (omega arith) (ends r x.0 given) (name_of Commit commit) gone)) is))
             (split a n r x.0 to x.1));
         set = λ a n r commit to lacks k e at lt still sets. (let x = has a n r to in ⊎_elim
-            (λ there. was.present.set a n r commit there lacks k e (entry_was k e at (omega (arith, lt, placed a n r there))) lt (λ gone. still (subst (λ (l : List ObjName). IsOut l commit) (sym (removed_same (k + 1) r.place (placed a n r there))) gone)) sets)
+            (λ there. was.present.set a n r commit there lacks k e (entry_was k e at (omega (arith, lt, places a n r there))) lt (λ gone. still (subst (λ (l : List ObjName). IsOut l commit) (sym (removed_same (k + 1) r.place (places a n r there))) gone)) sets)
             (λ given. never r x.0 commit given lacks (set_before k e at commit sets (λ there gone. still (told_at_end (alone r x.0 commit given (set_sum k e at commit sets) lacks) (k + 1) r.place (omega (arith, there.0)) (ends r x.0 given) (name_of Commit commit) gone))))
             (split a n r x.0 to x.1));
       };
@@ -310,4 +321,4 @@ module _ {F T W A : Type 0} (f : FsSpec F) (c : Family T W A) (fl : FsLaws f) (c
       never : (r : Reply A) (words : W) (commit : List ℕ) → IsNew r words → OfAnswer (λ a. c.means.lacks a commit) r.answer → StaysFinished v commit → ⊥
       never r words commit given lacks lasts =
           let a = is_answer (λ a. c.means.lacks a commit) r.answer lacks in
-          cl.commands.answers.lacks (since_in limits old.books r.start) v a.0 words commit files (subst (IfAnswer _) a.1 (new_one r words given)) a.2 lasts
+          cl.commands.answers.lacks (placed (since_in limits old.books r.start) (now_of old.books)) v a.0 words commit files (subst (IfAnswer _) a.1 (new_one r words given)) a.2 lasts

@@ -1,6 +1,5 @@
--- A change that a step of a task shows sets its ref to no commit but one that lasts.
+-- Which changes last behind a step of a task, and which one is published.
 use Rattle.std.proofs.Common.{◌≡◌, inl, inr, ⊎_elim, ℕ, refl, sym, ◌∙◌, ap, subst, List, ◌∷◌, ◌++◌, [], Some, None}
-use Rattle.fs_trait.specs.View.{View}
 use Rattle.rely_guarantee.specs.declared.books.Books as rust
 use Rattle.rely_guarantee.specs.declared.books.Entry.{Entry}
 use Rattle.rely_guarantee.specs.declared.books.Pending.{Pending}
@@ -10,14 +9,13 @@ use Rattle.rely_guarantee.specs.declared.kind.Outcome.TheVariants as came
 use Rattle.rely_guarantee.specs.Books.{books_of}
 use Rattle.rely_guarantee.specs.Exact.{IsBooked, IsNoted, IsUnbooked}
 use Rattle.rely_guarantee.specs.Laws.{Kind, Quiet, Store, Take, Claim, Publish, Published, Remove, MakeDurable, Holds}
-use Rattle.command.specs.ChangeLaws.{Founds}
 use Rattle.lane_system.specs.Acts.{ComesFrom}
 use Rattle.lane_system.specs.Lanes.{IsAt}
 use Rattle.lane_system.proofs.Places.{at_split}
 
--- the change that such a step shows does so
-abbrev pub ShowsFinished : View → Kind → Type 0
-ShowsFinished v k = (e : Event) → k ≡ Publish e → Founds v e
+-- the change that such a step publishes is of this kind
+abbrev pub Publishes : (Event → Type 0) → Kind → Type 0
+Publishes P k = (e : Event) → k ≡ Publish e → P e
 
 -- changes as they were
 pub comes_same : (P : Event → Type 0) (old new : rust.Books) → IsUnbooked old new → ComesFrom P old new
@@ -46,37 +44,37 @@ comes_settled P old new p moment pending none longer = record {
   shown = λ q is. absurd (let z : None ≡ Some q = sym none ∙ is in cc);
 }
 
-module _ (lane command moment : ℕ) (old new : rust.Books) (v : View) where
+module _ (lane command moment : ℕ) (old new : rust.Books) (P : Event → Type 0) where
   abbrev Goes : Type 0
-  Goes = ComesFrom (Founds v) old new
+  Goes = ComesFrom P old new
 
-  publish_step : (e : Event) (outcome : Outcome) → IsBooked (Publish e) lane command moment outcome old new → Founds v e → Goes
-  publish_step e came.More b is = comes_shown (Founds v) lane command e old new b is
-  publish_step e (came.Halted why) b is = comes_shown (Founds v) lane command e old new b is
-  publish_step e came.Blocked b is = comes_same (Founds v) old new b
-  publish_step e (came.Refused f) b is = comes_same (Founds v) old new b
+  publish_step : (e : Event) (outcome : Outcome) → IsBooked (Publish e) lane command moment outcome old new → P e → Goes
+  publish_step e came.More b is = comes_shown P lane command e old new b is
+  publish_step e (came.Halted why) b is = comes_shown P lane command e old new b is
+  publish_step e came.Blocked b is = comes_same P old new b
+  publish_step e (came.Refused f) b is = comes_same P old new b
   publish_step e came.Done b is = absurd b
 
   published_step : (e : Event) (n : ℕ) (outcome : Outcome) → IsBooked (Published e n) lane command moment outcome old new → Goes
-  published_step e n came.More b = comes_same (Founds v) old new b
-  published_step e n (came.Halted why) b = comes_same (Founds v) old new b
+  published_step e n came.More b = comes_same P old new b
+  published_step e n (came.Halted why) b = comes_same P old new b
   published_step e n came.Blocked b = absurd b
   published_step e n (came.Refused f) b = absurd b
   published_step e n came.Done b = absurd b
 
   make_durable_step : (e : Event) (outcome : Outcome) → Holds (MakeDurable e) lane (books_of old) → IsBooked (MakeDurable e) lane command moment outcome old new → Goes
-  make_durable_step e came.Done h b = comes_settled (Founds v) old new (record { lane = lane; command = h.command; event = e }) moment h.pending b.0 (b.1 _ h.pending)
-  make_durable_step e (came.Halted why) h b = comes_same (Founds v) old new b
+  make_durable_step e came.Done h b = comes_settled P old new (record { lane = lane; command = h.command; event = e }) moment h.pending b.0 (b.1 _ h.pending)
+  make_durable_step e (came.Halted why) h b = comes_same P old new b
   make_durable_step e came.More h b = absurd b
   make_durable_step e came.Blocked h b = absurd b
   make_durable_step e (came.Refused f) h b = absurd b
 
-  pub founded_step : (k : Kind) (outcome : Outcome) → Holds k lane (books_of old) → IsBooked k lane command moment outcome old new → ShowsFinished v k → Goes
-  founded_step Quiet outcome h b shows = comes_same (Founds v) old new b
-  founded_step Store outcome h b shows = comes_same (Founds v) old new b
-  founded_step (Take wants) outcome h b shows = comes_same (Founds v) old new b
-  founded_step (Claim name) outcome h b shows = comes_same (Founds v) old new b
-  founded_step (Publish e) outcome h b shows = publish_step e outcome b (shows e refl)
-  founded_step (Published e n) outcome h b shows = published_step e n outcome b
-  founded_step (Remove e n) outcome h b shows = published_step e n outcome b
-  founded_step (MakeDurable e) outcome h b shows = make_durable_step e outcome h b
+  pub comes_step : (k : Kind) (outcome : Outcome) → Holds k lane (books_of old) → IsBooked k lane command moment outcome old new → Publishes P k → Goes
+  comes_step Quiet outcome h b shows = comes_same P old new b
+  comes_step Store outcome h b shows = comes_same P old new b
+  comes_step (Take wants) outcome h b shows = comes_same P old new b
+  comes_step (Claim name) outcome h b shows = comes_same P old new b
+  comes_step (Publish e) outcome h b shows = publish_step e outcome b (shows e refl)
+  comes_step (Published e n) outcome h b shows = published_step e n outcome b
+  comes_step (Remove e n) outcome h b shows = published_step e n outcome b
+  comes_step (MakeDurable e) outcome h b shows = make_durable_step e outcome h b

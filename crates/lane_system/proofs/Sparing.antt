@@ -17,13 +17,11 @@ pub spared_same : (b : Books) (v : View) → SparesBoots b v v
 spared_same b v = record {
   list = λ rows are. record { now = λ p way. refl; each = λ p s way may. inl may };
   deployments = λ rows are row among. record { now = λ p way. refl; each = λ p s way may. inl may };
-  clears = λ p s boot may. inl may;
 }
 
 module _ {T : Type 0} (k : TaskSpec T) (laws : BootLaws k) (actor lane : ℕ) (t : T) (v w : View) (b : Books) (by : IsBy (k.kind t) actor lane) (facts : k.facts lane t v b) (wrote : Writes (k.writes actor t v) v w) where
   pub spared_by : SparesBoots b v w
   spared_by = record {
-    list = λ rows are. list.aside_spares rows v w (k.writes actor t v) (λ p s writes way. laws.list actor lane t v b rows p s by facts are writes way) wrote;
+    list = λ rows are. list.aside_spares v.now rows v w (k.writes actor t v) (λ p s writes way. laws.list actor lane t v b rows p s by facts are writes way) wrote;
     deployments = λ rows are row among. deployments.aside_spares v w row.id row.bootcsum (k.writes actor t v) (λ p s writes way. laws.deployments actor lane t v b rows row p s by facts are among writes way) wrote;
-    clears = λ p s boot may. ⊎_elim (λ was. inl was) (λ writes. inr (laws.clears actor lane t v b p s by facts writes boot)) (wrote.only p s may);
   }

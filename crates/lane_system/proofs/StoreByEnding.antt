@@ -13,6 +13,7 @@ use Rattle.durable_store.specs.Full.{HasAsMany}
 use Rattle.command.specs.declared.ended.Ended.{Ended}
 use Rattle.command.specs.Removed.{RemovesOnly}
 use Rattle.command.specs.Sound.{IsSoundStore}
+use Rattle.command.specs.Since.{placed}
 use Rattle.lane_system.specs.declared.act.Came.TheVariants.{Answered, More}
 use Rattle.lane_system.specs.declared.lane.Lane.{Lane}
 use Rattle.lane_system.specs.declared.lane.Reply.{Reply}
@@ -23,7 +24,7 @@ use Rattle.lane_system.specs.Kept.{Kept}
 use Rattle.lane_system.specs.Known.{AreKnown}
 use Rattle.lane_system.specs.LaneActs.{LaneActs, task_start}
 use Rattle.lane_system.specs.Lanes.{IsAt, IsRunning, IsTo}
-use Rattle.lane_system.specs.States.{since_in}
+use Rattle.lane_system.specs.States.{now_of, since_in}
 use Rattle.lane_system.specs.Steps.{CountsAt, HasEnded, standing}
 use Rattle.lane_system.specs.Storing.{AreStored, HasBegun, WasBrought}
 use Rattle.lane_system.specs.System.{System}
@@ -169,6 +170,6 @@ module _ {F T W A : Type 0} (f : FsSpec F) (c : Family T W A) (fl : FsLaws f) (c
     sound_given stored = sound_now f c fl cl limits lane lane refs refs' objects objects' old new lanes (set lanes lane l'') acts_ (command_stays lanes lane l l'' at same) begun_then begun_early v told_v
         stored (opened_by old.books.opened old.books.history.items (f.clock old.fs) kept.sound.ordered.ascends)
 
-    pub no_outside_given : AreStored f c.means before v → ((u : View) → f.was new.fs new.books.opened u → NoHashCollisionOn (WasBrought c.means behind_) u.now) → (n : ℕ) (a : A) → c.means.shows (since_in limits old.books n) v a x.words → c.means.outside a → ⊥
+    pub no_outside_given : AreStored f c.means before v → ((u : View) → f.was new.fs new.books.opened u → NoHashCollisionOn (WasBrought c.means behind_) u.now) → (n : ℕ) (a : A) → c.means.shows (placed (since_in limits old.books n) (now_of old.books)) v a x.words → c.means.outside a → ⊥
     no_outside_given stored alone n a = no_outside f c fl cl limits lane lane refs refs' objects objects' old new lanes (set lanes lane l'') acts_ (command_stays lanes lane l l'' at same) begun_then begun_early v told_v
-        stored (opened_by old.books.opened old.books.history.items (f.clock old.fs) kept.sound.ordered.ascends) alone (since_in limits old.books n) a x.words refl
+        stored (opened_by old.books.opened old.books.history.items (f.clock old.fs) kept.sound.ordered.ascends) alone (placed (since_in limits old.books n) (now_of old.books)) a x.words refl

@@ -12,7 +12,7 @@ use Rattle.repo_layout.specs.Place.{Object}
 use Rattle.repo_layout.proofs.Places.{place-object}
 use Rattle.store_check.specs.Listing.{IsThere}
 use Rattle.rely_guarantee.specs.declared.event.Event.{Event}
-use Rattle.rely_guarantee.specs.declared.event.Event.TheVariants.{SetRef, DropRef, Pruned}
+use Rattle.rely_guarantee.specs.declared.event.Event.TheVariants.{SetRef, DropRef, Pruned, SetDeployments}
 use Rattle.rely_guarantee.specs.Exact.{IsBooked, Locks, gone_in}
 use Rattle.rely_guarantee.specs.Laws.{Holds, Kind, Quiet, Store, Take, Claim, Publish, Published, Remove, MakeDurable, StepObligation, Stood}
 use Rattle.rely_guarantee.specs.Removing.{next_of}
@@ -96,6 +96,7 @@ event_or : (e : Event) → IsPrune e ⊎ ¬ (IsPrune e)
 event_or (SetRef name seen commit) = inr (λ is. is)
 event_or (DropRef name seen) = inr (λ is. is)
 event_or (Pruned depth roots held removed) = inl tt
+event_or (SetDeployments change list) = inr (λ is. is)
 
 -- a step removes, or it doesn't
 removing_or : (k : Kind) → IsRemoving k ⊎ ¬ (IsRemoving k)

@@ -17,7 +17,7 @@ use Rattle.rely_guarantee.specs.declared.books.Books as rust
 use Rattle.rely_guarantee.specs.declared.books.Entry.{Entry}
 use Rattle.rely_guarantee.specs.declared.books.Pending.{Pending}
 use Rattle.rely_guarantee.specs.declared.event.Event.{Event}
-use Rattle.rely_guarantee.specs.declared.event.Event.TheVariants.{SetRef, DropRef, Pruned}
+use Rattle.rely_guarantee.specs.declared.event.Event.TheVariants.{SetRef, DropRef, Pruned, SetDeployments}
 use Rattle.rely_guarantee.specs.declared.kind.Outcome.{Outcome}
 use Rattle.rely_guarantee.specs.declared.kind.Outcome.TheVariants as came
 use Rattle.rely_guarantee.specs.Books.{Free, Spared, books_of, doomed_of}
@@ -66,6 +66,7 @@ removes_prune : (e : Event) (o : ObjName) → Contains (state.removed_by e) o �
 removes_prune (SetRef name seen commit) o has = absurd (none_out o has)
 removes_prune (DropRef name seen) o has = absurd (none_out o has)
 removes_prune (Pruned depth roots held removed) o has = tt
+removes_prune (SetDeployments change list) o has = absurd (none_out o has)
 
 no_prune : (e : Event) → ¬ (IsPrune e) → (o : ObjName) → ¬ (Contains (state.removed_by e) o)
 no_prune e not o has = not (removes_prune e o has)

@@ -1,5 +1,5 @@
 -- What a step of a lane's task does that others may rely on.
-use Rattle.std.proofs.Common.{◌≡◌, ◌≢◌, ◌⊎◌, inl, inr, ⊎_elim, ◌<◌, ℕ, true, refl, sym, ◌∙◌, ap, subst, arith, List, [], append-nil, Contains, Option, Some}
+use Rattle.std.proofs.Common.{◌≡◌, ◌≢◌, ◌⊎◌, inl, inr, ⊎_elim, ◌<◌, ℕ, true, refl, sym, ◌∙◌, ap, subst, arith, List, [], append-nil, Contains, Option, Some, None}
 use Rattle.std.specs.List.{flat_map}
 use Rattle.std.proofs.lemmas.List.Elements.{Contains-append_right}
 use Rattle.ost_types.specs.declared.object.ObjName.{ObjName}
@@ -19,11 +19,13 @@ use Rattle.rely_guarantee.specs.declared.kind.Outcome.TheVariants as came
 use Rattle.rely_guarantee.specs.Books.{Books, books_of}
 use Rattle.rely_guarantee.specs.declared.kind.Wants.{Wants}
 use Rattle.rely_guarantee.specs.Exact.{Opens, taken_in}
+use Rattle.rely_guarantee.specs.State.{list_in}
 use Rattle.rely_guarantee.specs.Laws.{Holds, Kind, Quiet, Store, Take, Claim, Publish, Published, Remove, MakeDurable, StepObligation, Stood}
 use Rattle.rely_guarantee.specs.Rely.{Guarantee, Interference}
 use Rattle.rely_guarantee.specs.SystemInvariant.{SystemInvariant}
 use Rattle.rely_guarantee.proofs.Lasting.{none_out}
 use Rattle.rely_guarantee.proofs.Mays.{stage_apart}
+use Rattle.command.specs.ChangeLaws.{Founds}
 use Rattle.command.specs.Removed.{RemovesOnly}
 use Rattle.ref_book.specs.declared.book.RefBook.{RefBook}
 use Rattle.command.specs.Since.{Since}
@@ -42,7 +44,7 @@ use Rattle.lane_system.proofs.Growing.{stored_grows}
 use Rattle.lane_system.proofs.Locking.{in_order_on}
 use Rattle.lane_system.proofs.Moments.{fails_by, later_at, moment_is}
 use Rattle.lane_system.proofs.Places.{here_or_apart}
-use Rattle.lane_system.proofs.Setting.{founded_step}
+use Rattle.lane_system.proofs.Setting.{comes_step}
 use Rattle.lane_system.proofs.Sweeping.{only_idle, only_nothing, only_removing, only_taking, prunes_on, still_on, takes_on, told_on}
 
 -- held off, or not
@@ -196,5 +198,6 @@ module _ {F T W A : Type 0} (f : FsSpec F) (c : Family T W A) (fl : FsLaws f) (c
       moments = later_at (f.clock new.fs) old.books.history.items new.books.history.items (moment_is lane number (f.clock new.fs) old.books new.books (c.tasks.kind told) outcome told_holds x.step.booked);
       grows = stored_grows actor lane number (f.clock new.fs) old.books new.books x.step.acts.books (c.tasks.kind told) outcome told_holds x.step.booked;
       fails = fails_by (f.faults old.fs) (f.faults new.fs) outcome old.books.halted new.books.halted x.step.cause x.step.live;
-      founded = λ v is. founded_step lane number (f.clock new.fs) old.books new.books v (c.tasks.kind told) outcome told_holds x.step.booked (λ e k. cl.commands.changes.founds lane told v (books_of old.books) e (told_facts v is) k);
+      unlisted = comes_step lane number (f.clock new.fs) old.books new.books (λ e. list_in e ≡ None) (c.tasks.kind told) outcome told_holds x.step.booked (λ e k. cl.commands.changes.unlisted since words e (cl.commands.changes.shown since words told e told_after k));
+      founded = λ v is. comes_step lane number (f.clock new.fs) old.books new.books (Founds v) (c.tasks.kind told) outcome told_holds x.step.booked (λ e k. cl.commands.changes.founds lane told v (books_of old.books) e (told_facts v is) k);
     }

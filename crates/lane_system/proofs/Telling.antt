@@ -14,7 +14,7 @@ use Rattle.rely_guarantee.specs.declared.event.Event.{Event}
 use Rattle.rely_guarantee.specs.declared.kind.Halt.TheVariants as halt
 use Rattle.rely_guarantee.specs.declared.kind.Outcome.{Outcome}
 use Rattle.rely_guarantee.specs.declared.kind.Outcome.TheVariants as came
-use Rattle.rely_guarantee.specs.Books.{Agrees, books_of}
+use Rattle.rely_guarantee.specs.Books.{Agrees, books_of, listed_in}
 use Rattle.rely_guarantee.specs.Exact.{Steps, Tells}
 use Rattle.rely_guarantee.specs.Laws.{Holds, Kind, NotPending, Ready, Runs, MakeDurable}
 use Rattle.rely_guarantee.specs.Rely.{Interference}
@@ -71,7 +71,7 @@ free_after f is actor lane base new does free w told_w o sum =
 
 -- what it is told behind it is so
 module _ {F T W A : Type 0} (f : FsSpec F) (k : TaskSpec T) (d : Doing T W A) (laws : LearnLaws k d) (lane number : ℕ) (refs refs' : RefBook) (t mid new_t : T) (base new : Base F) (ids : List DepId) (pins : List Pin)
-    (step : Stepped f k lane lane number refs refs' came.More t mid base new) (ids_are : ids ≡ new.books.start.deployments.items) (pins_are : pins ≡ new.books.pins.items) (free : AreFree (f.view new.fs)) (learns : d.learns refs' ids pins mid new_t) where
+    (step : Stepped f k lane lane number refs refs' came.More t mid base new) (ids_are : ids ≡ listed_in (books_of new.books)) (pins_are : pins ≡ new.books.pins.items) (free : AreFree (f.view new.fs)) (learns : d.learns refs' ids pins mid new_t) where
   learnt_runs : Runs k.kind k.facts lane new_t (f.view new.fs) (books_of new.books)
   learnt_runs =
       let ordered = step.acts.sound.ordered in

@@ -15,7 +15,7 @@ use Rattle.rely_guarantee.specs.declared.kind.Halt.TheVariants as halt
 use Rattle.rely_guarantee.specs.Books.{Spared, books_of}
 use Rattle.rely_guarantee.specs.Lasting.{Lasts}
 use Rattle.rely_guarantee.specs.Rely.{Interference}
-use Rattle.rely_guarantee.specs.State.{stored}
+use Rattle.rely_guarantee.specs.State.{list_in, stored}
 use Rattle.rely_guarantee.specs.SystemInvariant.{SystemInvariant}
 use Rattle.ref_book.specs.declared.book.RefBook.{RefBook}
 use Rattle.ref_book.specs.Tracks.{HasRoom, Tracks}
@@ -74,3 +74,5 @@ pub record Acts {F : Type 0} (f : FsSpec F) (actor lane : ℕ) (refs refs' : Ref
   pub grows : (more : List Event) × (stored new.books.history.items new.books.pending ≡ stored old.books.history.items old.books.pending ++ more)
   pub fails : Fails (f.faults old.fs) (f.faults new.fs) old.books.halted new.books.halted
   pub founded : (v : View) → f.view old.fs ≡ Some v → ComesFrom (Founds v) old.books new.books
+  -- and none is of the list of deployments
+  pub unlisted : ComesFrom (λ e. list_in e ≡ None) old.books new.books

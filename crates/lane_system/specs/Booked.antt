@@ -5,6 +5,7 @@ use Rattle.rely_guarantee.specs.declared.books.Entry.{Entry}
 use Rattle.rely_guarantee.specs.State.{opening_state}
 use Rattle.command.specs.declared.ended.Ended.{Ended}
 use Rattle.command.specs.Meaning.{Meaning}
+use Rattle.command.specs.Since.{placed}
 use Rattle.lane_system.specs.declared.ask.Ask.{Ask}
 use Rattle.lane_system.specs.declared.ask.Ask.TheVariants.{Blocked, Done, Ended as Over, More}
 use Rattle.lane_system.specs.declared.lane.Lane.{Lane}
@@ -14,7 +15,7 @@ use Rattle.lane_system.specs.LaneActs.{task_start}
 use Rattle.lane_system.specs.Lanes.{IsAt, IsNext, count_of}
 use Rattle.lane_system.specs.Replied.{Replied}
 use Rattle.lane_system.specs.Replies.{IfAnswer, IsTold, Shown}
-use Rattle.lane_system.specs.States.{since_in}
+use Rattle.lane_system.specs.States.{now_of, since_in}
 use Rattle.lane_system.specs.System.{System}
 
 -- the lane has a command without a reply
@@ -34,7 +35,7 @@ IsLater old new = (new.base.books.start ≡ old.base.books.start) × (new.base.b
 -- the store.
 abbrev pub AnswerTells : {F T W A : Type 0} → Meaning W A → (F → Option View) → ℕ → ℕ → System F T W A → Lane T W A → Ended A → Type 0
 AnswerTells {F} {T} {W} {A} m view before now s l x =
-    ((c : W) → IsNext l c → Shown m (since_in s.limits s.base.books (task_start s.base.books.history.items l.task)) (view s.base.fs) s.base.books.halted before now c x)
+    ((c : W) → IsNext l c → Shown m (placed (since_in s.limits s.base.books (task_start s.base.books.history.items l.task)) (now_of s.base.books)) (view s.base.fs) s.base.books.halted before now c x)
     × IfAnswer (λ a. m.full a → s.limits.objects ≤ s.objects) x
 
 -- This lane is otherwise than it was, but for its commands; and no other.

@@ -7,7 +7,7 @@ use Rattle.repo_model.specs.Trees.{name_of}
 use Rattle.rely_guarantee.specs.declared.books.Entry.{Entry}
 use Rattle.rely_guarantee.specs.declared.books.Pending.{Pending}
 use Rattle.rely_guarantee.specs.declared.event.Event.{Event}
-use Rattle.rely_guarantee.specs.declared.event.Event.TheVariants.{SetRef, DropRef, Pruned}
+use Rattle.rely_guarantee.specs.declared.event.Event.TheVariants.{SetRef, DropRef, Pruned, SetDeployments}
 use Rattle.rely_guarantee.specs.Lasting.{StaysFinished}
 use Rattle.command.specs.Meaning.{Meaning}
 use Rattle.lane_system.specs.declared.lane.Lane.{Lane}
@@ -22,6 +22,7 @@ abbrev pub Sets : List ℕ → Event → Type 0
 Sets commit (SetRef name seen to) = to ≡ commit
 Sets commit (DropRef name seen) = ⊥
 Sets commit (Pruned depth roots held removed) = ⊥
+Sets commit (SetDeployments change list) = ⊥
 
 -- the commit is one of these objects
 abbrev pub IsOut : List ObjName → List ℕ → Type 0

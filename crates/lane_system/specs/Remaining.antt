@@ -5,7 +5,7 @@ use Rattle.fs_trait.specs.View.{View}
 use Rattle.rely_guarantee.specs.declared.books.Entry.{Entry}
 use Rattle.rely_guarantee.specs.State.{SystemState, opening_state}
 use Rattle.command.specs.Meaning.{Meaning}
-use Rattle.command.specs.Since.{begun_in}
+use Rattle.command.specs.Since.{begun_in, placed}
 use Rattle.lane_system.specs.declared.lane.Lane.{Lane}
 use Rattle.lane_system.specs.declared.lane.Reply.{Reply}
 use Rattle.lane_system.specs.Lanes.{IsCommand, IsTo}
@@ -21,7 +21,7 @@ IsLast {T} {W} {A} lanes r = (lane number : ℕ) (q : Reply A) → IsTo lanes la
 -- what that one shows behind its act is so in this view
 abbrev pub LastRemainsIn : {T W A : Type 0} → Meaning W A → Limits → SystemState → List Entry → List (Lane T W A) → View → Type 0
 LastRemainsIn {T} {W} {A} m limits begin entries lanes v = (lane number : ℕ) (r : Reply A) (c : W) → IsTo lanes lane number r → IsCommand lanes lane number c → IsLast lanes r
-    → IfAnswer (λ a. m.remains (begun_in limits (state_after begin entries r.start)) v a c) r.answer
+    → IfAnswer (λ a. m.remains (placed (begun_in limits (state_after begin entries r.start)) (state_after begin entries r.place)) v a c) r.answer
 
 -- so of a system that has no command left
 abbrev pub LastRemains : {F T W A : Type 0} → Meaning W A → System F T W A → View → Type 0

@@ -9,7 +9,7 @@ use Rattle.rely_guarantee.specs.Headline.{Has}
 use Rattle.rely_guarantee.specs.State.{after, stored, SystemState, opening_state}
 use Rattle.durable_store.specs.Full.{IsFull}
 use Rattle.command.specs.Meaning.{Meaning}
-use Rattle.command.specs.Since.{begun_in}
+use Rattle.command.specs.Since.{begun_in, placed}
 use Rattle.lane_system.specs.declared.lane.Lane.{Lane}
 use Rattle.lane_system.specs.declared.lane.Reply.{Reply}
 use Rattle.lane_system.specs.Lanes.{IsAt, IsCommand, IsTo}
@@ -38,7 +38,7 @@ pub record WasSeen {W A : Type 0} (m : Meaning W A) (was : ℕ → View → Type
   pub from : r.start ≤ place
   pub to : place ≤ r.place
   pub refs : SeesRefs begin (stored entries pending) place shown.now
-  pub seen : IfAnswer (λ a. m.shows (begun_in limits (state_after begin entries r.start)) shown a c) r.answer
+  pub seen : IfAnswer (λ a. m.shows (placed (begun_in limits (state_after begin entries r.start)) (state_after begin entries place)) shown a c) r.answer
   pub full : IfAnswer (λ a. m.full a → IsFull limits shown.now) r.answer
 
 -- so of each reply to a command of these lanes

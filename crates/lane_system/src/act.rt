@@ -135,14 +135,7 @@ fn begins<F: Watch, C: Command>(
     let start = base.books.history.len();
     let number = run.replies.len();
     let words = &run.words[number];
-    match C::begin(
-        alloc,
-        refs,
-        limits,
-        lane,
-        &base.books.start.deployments,
-        words,
-    ) {
+    match C::begin(alloc, refs, limits, lane, base.books.deployments(), words) {
         Err(NoMemory) => Came::Answered {
             answer: Ended::NoMemory,
             start,

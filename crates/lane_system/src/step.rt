@@ -48,7 +48,7 @@ pub(crate) fn told_act<F: Watch, C: Command>(
             count_removed(objects, gone, base.books.gone);
             count(objects, work);
             let books = &base.books;
-            work.learn(refs, &books.start.deployments, books.pins());
+            work.learn(refs, books.deployments(), books.pins());
             Outcome::More
         }
         outcome => {

@@ -104,6 +104,7 @@ change_laws : ChangeLaws wait_tasks wait_means wait_doing
 change_laws = record {
   shown = λ since c t e is kind. no_publish t.holds (t.taken == 0) e kind;
   settled = λ since c t e is kind. no_make_durable t.holds (t.taken == 0) (subst IsMakeDurable (sym kind) tt);
+  unlisted = λ since c e none. absurd none;
   founds = λ lane t v b e f kind. no_publish t.holds (t.taken == 0) e kind;
   makes = λ since c t new a is step given settles. no_make_durable t.holds (t.taken == 0) settles;
   makes_not = λ since c t new a is step given settles made. made;
@@ -119,8 +120,8 @@ answer_laws : AnswerLaws wait_tasks wait_means wait_doing
 answer_laws = record {
   answers = λ since c t new is step. refl;
   says = λ since p c t new a is step given. ends c t new a is step given;
-  shows = λ since lane c t new v w b a listed is f leaves given sound. tt;
-  remains = λ since lane c t new v w b a listed is f leaves given. tt;
+  shows = λ since p lane c t new v w b a listed is f leaves given sound. tt;
+  remains = λ since p lane c t new v w b a listed is f leaves given. tt;
   remains_at_once = λ since c a v is. tt;
   knows = λ since p lane c t new v w b a is f leaves given sees. tt;
   lacks_alone = λ since lane c t new v w b a commit is f leaves given lacks sum. absurd lacks;

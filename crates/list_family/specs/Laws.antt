@@ -53,6 +53,7 @@ change_laws : ChangeLaws list_tasks list_means list_doing
 change_laws = record {
   shown = λ since c t e is kind. is;
   settled = λ since c t e is kind. is;
+  unlisted = λ since c e none. absurd none;
   founds = λ lane t v b e f kind. cc;
   makes = λ since c t new a is step given settles. is;
   makes_not = λ since c t new a is step given settles made. made;
@@ -68,8 +69,8 @@ answer_laws : AnswerLaws list_tasks list_means list_doing
 answer_laws = record {
   answers = λ since c t new is step. absurd is;
   says = λ since p c t new a is step given. absurd is;
-  shows = λ since lane c t new v w b a listed is f leaves given sound. tt;
-  remains = λ since lane c t new v w b a listed is f leaves given. tt;
+  shows = λ since p lane c t new v w b a listed is f leaves given sound. tt;
+  remains = λ since p lane c t new v w b a listed is f leaves given. tt;
   remains_at_once = λ since c a v is. tt;
   knows = λ since p lane c t new v w b a is f leaves given sees. tt;
   lacks_alone = λ since lane c t new v w b a commit is f leaves given lacks sum. absurd lacks;

@@ -23,7 +23,7 @@ use Rattle.repo_model.specs.Trees.{name_of}
 use Rattle.store_check.specs.Listing.{IsThere}
 use Rattle.rely_guarantee.specs.declared.books.Pin.{Pin}
 use Rattle.rely_guarantee.specs.declared.event.Event.{Event}
-use Rattle.rely_guarantee.specs.Books.{Books, Free}
+use Rattle.rely_guarantee.specs.Books.{Books, Free, listed_in}
 use Rattle.rely_guarantee.specs.Change.{Away, Dooms, Final, Shows, TakesNone}
 use Rattle.rely_guarantee.specs.Disks.{Logical, Says}
 use Rattle.rely_guarantee.specs.Laws as rely
@@ -58,7 +58,7 @@ named_by : (name : List ℕ) (v : View) (roots held : List ObjName) (lane : ℕ)
 named_by name v roots held lane b are o None commit says among is = absurd (omega (arith, among.1))
 named_by name v roots held lane b are o (Some c) commit says among is = are.all o (RefOf name, Some c, shows v.now (ref_path name), may_now v (ref_path name), says, commit, among, is)
 
-has_roots : (depth : ℕ) (k : Known) (removed : List ObjName) (lane : ℕ) (v : View) (b : Books) → AreRootsOf k.roots k.held lane v b → (s : SystemState) → Logical v.now s.refs → s.deployments ≡ b.start.deployments.items → (o : ObjName) → Contains k.roots o ↔ IsCommitOf s o
+has_roots : (depth : ℕ) (k : Known) (removed : List ObjName) (lane : ℕ) (v : View) (b : Books) → AreRootsOf k.roots k.held lane v b → (s : SystemState) → Logical v.now s.refs → s.deployments ≡ listed_in b → (o : ObjName) → Contains k.roots o ↔ IsCommitOf s o
 has_roots depth k removed lane v b are s shown same o = (to, from)
   where
     to : Contains k.roots o → IsCommitOf s o
@@ -176,12 +176,13 @@ module _ (t : PruneCommand) (actor lane : ℕ) (r : Sweeping) (v : View) (b : Bo
   none_final : (w : View) → Final event w
   none_final w = record { only = λ x at. absurd (let no : None ≡ Some x = at in cc); leads = λ x commit at. absurd (let no : None ≡ Some x = at in cc) }
 
-  shows_it : Shows b.start.deployments.items (sweep_writes part.Begin r) v event
+  shows_it : Shows (listed_in b) (sweep_writes part.Begin r) v event
   shows_it = record {
     writes = λ x s wrote. absurd wrote;
     valid = tt;
     was = λ x at. absurd (let no : None ≡ Some x = at in cc);
     roots = λ s shown same. has_roots t.depth t.known r.removed lane v b begun.roots s shown same;
+    list = tt;
   }
 
   left_to_go : (x : Part) → r.part ≡ x → (x ≡ part.Commit) ⊎ (x ≡ part.Object) → IsGoing t.known t.depth lane r v b → b.gone < length b.doomed

@@ -15,9 +15,8 @@ use Rattle.repo_layout.proofs.Places.{place-ref}
 use Rattle.repo_model.specs.Objects.{path_of}
 use Rattle.layout_rules.proofs.Layouts.{fixed_other}
 use Rattle.store_check.specs.Listing.{IsThere}
-use Rattle.rely_guarantee.specs.declared.books.Start.{Start}
 use Rattle.rely_guarantee.specs.declared.books.Pin.{Pin}
-use Rattle.rely_guarantee.specs.Books.{Books, Free, Keeps}
+use Rattle.rely_guarantee.specs.Books.{Books, Free, Keeps, listed_in}
 use Rattle.rely_guarantee.specs.Disks.{Says}
 use Rattle.rely_guarantee.specs.Rely.{Guarantee, Interference}
 use Rattle.rely_guarantee.specs.Removing.{IsListed, IsOfState}
@@ -47,13 +46,13 @@ pub record SparesRefs (v w : View) : Type 0 where
   pub may : (name commit : List ℕ) (s : Seen) → Says (RefOf name) (Some commit) s → MayBe w (ref_path name) s → MayBe v (ref_path name) s
   pub now : (name : List ℕ) → shows w.now (ref_path name) ≡ shows v.now (ref_path name)
 
-pub roots_on : (roots others : List ObjName) (lane : ℕ) (v w : View) (b b' : Books) → SparesRefs v w → b'.start ≡ b.start → ((p : Pin) → p.lane ≢ lane → Contains b'.pins p → Contains b.pins p) → AreRootsOf roots others lane v b → AreRootsOf roots others lane w b'
+pub roots_on : (roots others : List ObjName) (lane : ℕ) (v w : View) (b b' : Books) → SparesRefs v w → listed_in b' ≡ listed_in b → ((p : Pin) → p.lane ≢ lane → Contains b'.pins p → Contains b.pins p) → AreRootsOf roots others lane v b → AreRootsOf roots others lane w b'
 roots_on roots others lane v w b b' refs begin pins was = record {
   all = all;
-  listed = λ o has. was.listed o (subst (λ (s : Start). IsDeployedCommit s.deployments.items o) begin has);
+  listed = λ o has. was.listed o (subst (λ ids. IsDeployedCommit ids o) begin has);
   right = λ o has. ⊎_elim
       (λ at. inl (at.0, at.1, subst (Says (RefOf at.0) (Some at.1)) (sym (refs.now at.0)) at.2, at.3))
-      (λ listed. inr (subst (λ (s : Start). IsDeployedCommit s.deployments.items o) (sym begin) listed))
+      (λ listed. inr (subst (λ ids. IsDeployedCommit ids o) (sym begin) listed))
       (was.right o has);
   held = λ p has other. was.held p (pins p other has) other;
 }
@@ -62,7 +61,7 @@ roots_on roots others lane v w b b' refs begin pins was = record {
     all o (RefOf name, None, s, may, says, commit, among, is) = absurd (omega (arith, among.1))
     all o (RefOf name, Some c, s, may, says, commit, among, is) = was.all o (RefOf name, Some c, s, refs.may name c s says may, says, commit, among, is)
 
-pub begun_on : (k : Known) (lane : ℕ) (v w : View) (b b' : Books) → b'.exclusive ≡ Some lane → b'.turn ≡ Some lane → SparesRefs v w → b'.start ≡ b.start → ((p : Pin) → p.lane ≢ lane → Contains b'.pins p → Contains b.pins p)
+pub begun_on : (k : Known) (lane : ℕ) (v w : View) (b b' : Books) → b'.exclusive ≡ Some lane → b'.turn ≡ Some lane → SparesRefs v w → listed_in b' ≡ listed_in b → ((p : Pin) → p.lane ≢ lane → Contains b'.pins p → Contains b.pins p)
     → (ObjectPathsFree v.now → ObjectPathsFree w.now) → (IsDirectory (shows v.now (folder_path State)) → IsDirectory (shows w.now (folder_path State))) → HasBegun k lane v b → HasBegun k lane w b'
 begun_on k lane v w b b' exclusive turn refs begin pins leaves state was = record {
   exclusive = exclusive;
@@ -77,14 +76,14 @@ spares_same v = record { may = λ name commit s says may. may; now = λ name. re
 
 -- what the lane gains is no harm
 pub begun_gains : (k : Known) (lane : ℕ) (v : View) (b b' : Books) → Keeps lane b b' → HasBegun k lane v b → HasBegun k lane v b'
-begun_gains k lane v b b' keeps was = begun_on k lane v v b b' (keeps.exclusive was.exclusive) (keeps.turn was.turn) (spares_same v) keeps.start keeps.pinned (λ l. l) (λ s. s) was
+begun_gains k lane v b b' keeps was = begun_on k lane v v b b' (keeps.exclusive was.exclusive) (keeps.turn was.turn) (spares_same v) keeps.listed keeps.pinned (λ l. l) (λ s. s) was
 
 pub there_from : (d e : Disk) (o : ObjName) → shows e (path_of o) ≡ shows d (path_of o) → IsThere e o → IsThere d o
 there_from d e o same there = record { sum = there.sum; there = λ absent. there.there (vacant_absent e (path_of o) (same ∙ ap (seen d) absent)) }
 
--- the deployments are those of the opening
+-- the deployments are those that they were
 pub listed_before : (lane : ℕ) (b b' : Books) (o : ObjName) → Keeps lane b b' → IsListed b' o → IsListed b o
-listed_before lane b b' o keeps = subst (λ (s : Start). IsDeployedCommit s.deployments.items o) keeps.start
+listed_before lane b b' o keeps = subst (λ ids. IsDeployedCommit ids o) keeps.listed
 
 -- what is kept goes on to be, where nobody else pins anything
 pub kept_pins : (doomed : List ObjName) (v : View) (b b' : Books) (lane : ℕ) → Keeps lane b b' → AreKept (Except doomed) b v lane → AreKept (Except doomed) b' v lane
@@ -152,7 +151,7 @@ module _ (actor lane mine : ℕ) (v w : View) (b b' : Books) (other : mine ≢ l
   others_pins p apart has = ⊎_elim (λ was. was) (λ new. absurd (not_free new.1)) (does.books.pinned p has)
 
   begun_kept : (k : Known) → HasBegun k mine v b → HasBegun k mine w b'
-  begun_kept k was = begun_on k mine v w b b' (does.books.exclusive mine other was.exclusive) (does.books.turn mine other was.turn) others_refs does.books.start others_pins
+  begun_kept k was = begun_on k mine v w b b' (does.books.exclusive mine other was.exclusive) (does.books.turn mine other was.turn) others_refs (does.books.listed mine other was.exclusive) others_pins
       (λ leaves o sum. subst NotDirectory (sym (same_objects o sum)) (leaves o sum)) state_still was
 
   never_kept : (marks : List Path) → AreNever v marks → AreNever w marks

@@ -88,7 +88,7 @@ module _ (v w : View) (W : Path → Seen → Type 0) (writes : Writes W v w) (sp
 
   -- so what it began with is still so
   pub own_begun : (k : Known) (lane : ℕ) (b b' : Books) → Keeps lane b b' → HasBegun k lane v b → HasBegun k lane w b'
-  own_begun k lane b b' keeps was = begun_on k lane v w b b' (keeps.exclusive was.exclusive) (keeps.turn was.turn) own_refs keeps.start keeps.pinned own_leaves own_state was
+  own_begun k lane b b' keeps was = begun_on k lane v w b b' (keeps.exclusive was.exclusive) (keeps.turn was.turn) own_refs keeps.listed keeps.pinned own_leaves own_state was
 
 -- one path is vacant from then on
 abbrev pub Vacated : Path → Path → Seen → Type 0
@@ -317,7 +317,7 @@ module _ (k : Known) (depth lane : ℕ) (r : Sweeping) (v : View) (b : Books) (g
       doomed = doomed ∙ going.doomed ∙ sym on.removed;
       gone = count ∙ ap (λ n. n + 1) going.gone ∙ sym gone;
       kept = subst (λ (l : List ObjName). AreKept (Except l) b' taken_view lane) (sym on.removed)
-          (kept_pins r.removed taken_view b b' lane keeps (removal_kept (Except r.removed) b b lane lane v taken_view TakesAway (spared_refl lane lane b) wrote_object removal_object going.kept));
+          (kept_pins r.removed taken_view b b' lane keeps (removal_kept (Except r.removed) b b lane lane v taken_view TakesAway (spared_refl lane lane b) refl wrote_object removal_object going.kept));
       behind = behind;
     }
 
@@ -347,7 +347,7 @@ module _ (k : Known) (depth lane : ℕ) (r new : Sweeping) (v : View) (b b' : Bo
       doomed = doomed ∙ going.doomed ∙ sym on.removed;
       gone = count ∙ going.gone ∙ sym same;
       kept = subst (λ (l : List ObjName). AreKept (Except l) b' w lane) (sym on.removed)
-          (kept_pins r.removed w b b' lane keeps (removal_kept (Except r.removed) b b lane lane v w W (spared_refl lane lane b) wrote removal going.kept));
+          (kept_pins r.removed w b b' lane keeps (removal_kept (Except r.removed) b b lane lane v w W (spared_refl lane lane b) refl wrote removal going.kept));
       behind = behind;
     }
 

@@ -1,7 +1,7 @@
 -- What a prune says, and what its task is to it.
 use Rattle.std.specs.Prelude.{◌≡◌, ◌≢◌, ℕ, length, Option, None}
 use Rattle.rely_guarantee.specs.declared.event.Event.{Event}
-use Rattle.rely_guarantee.specs.declared.event.Event.TheVariants.{SetRef, DropRef, Pruned}
+use Rattle.rely_guarantee.specs.declared.event.Event.TheVariants.{SetRef, DropRef, Pruned, SetDeployments}
 use Rattle.prune_sweep.specs.declared.part.Part.TheVariants as part
 use Rattle.prune_command.specs.declared.answer.PruneAnswer.{PruneAnswer}
 use Rattle.prune_command.specs.declared.answer.PruneAnswer.TheVariants as answer
@@ -21,6 +21,7 @@ abbrev pub IsPruneOf : ℕ → Event → Type 0
 IsPruneOf depth (Pruned d roots held removed) = d ≡ depth
 IsPruneOf depth (SetRef name seen commit) = ⊥
 IsPruneOf depth (DropRef name seen) = ⊥
+IsPruneOf depth (SetDeployments change list) = ⊥
 
 -- it was made
 abbrev pub prune_makes : PruneAnswer → Type 0
@@ -45,8 +46,8 @@ prune_means = record {
   tells = prune_tells;
   says = λ since a c. Unit {0};
   knows = λ since a c. Unit {0};
-  shows = λ since v a c. Says since.start.deployments c.depth since.limits.content v.now a;
-  remains = λ since v a c. Says since.start.deployments c.depth since.limits.content v.now a;
+  shows = λ since v a c. Says since.place.deployments c.depth since.limits.content v.now a;
+  remains = λ since v a c. Says since.place.deployments c.depth since.limits.content v.now a;
   stays = λ since out a c v b. Unit {0};
   keeps = λ since opening out c v. Unit {0};
   keeps_on = λ since opening out c disk. Unit {0};

@@ -18,7 +18,7 @@ use Rattle.prune_family.specs.Family.{prune_doing, prune_means}
 use Rattle.prune_family.specs.Kinds.{asks_both, begins_of, begun_holds, ends_made, ends_tell, goes_on_its_way, has_answer, learns_on, never_claims, never_pins, not_made, makes_durable_prune, shows_founded, shows_prune, writes_no_bytes}
 use Rattle.prune_family.specs.Learning.{learn_facts, learn_kind, learn_left}
 use Rattle.prune_family.specs.Removing.{ends_of, keeps_of, no_boot, no_checkout, no_stage, removes_of, takes_of, vacant_only}
-use Rattle.prune_family.specs.Says.{ends_remain, ends_say, outside_no}
+use Rattle.prune_family.specs.Says.{prune_unlisted, ends_remain, ends_say, outside_no}
 
 abbrev pub prune_tasks : TaskSpec PruneTask
 prune_tasks = task_spec (λ t. prune_kind t.work) (λ actor t. prune_writes actor t.work) (λ t u new. prune_stepped t.work u new.work) (λ t u new. prune_leaves t.work u new.work) (λ t. prune_refuses t.work) (λ lane t. prune_facts lane t.work)
@@ -60,6 +60,7 @@ change_laws : ChangeLaws prune_tasks prune_means prune_doing
 change_laws = record {
   shown = λ since c t e is kind. shows_prune since c t.work e is kind;
   settled = λ since c t e is kind. makes_durable_prune since c t.work e is kind;
+  unlisted = λ since c e. prune_unlisted c.depth e;
   founds = λ lane t v b e f kind. shows_founded t.work v e kind;
   makes = λ since c t new a is step given settles. ends_made t.work new.work a step given settles;
   makes_not = λ since c t new a is step given settles made. not_made since c t.work new.work a is step given settles made;
@@ -75,13 +76,13 @@ answer_laws : AnswerLaws prune_tasks prune_means prune_doing
 answer_laws = record {
   answers = λ since c t new is step. has_answer t.work new.work step;
   says = λ since p c t new a is step given. tt;
-  shows = λ since lane c t new v w b a listed is f leaves given sound. ends_say since lane c t.work new.work v w b a listed is f leaves given;
-  remains = λ since lane c t new v w b a listed is f leaves given. ends_remain since lane c t.work new.work v w b a listed is f leaves given;
+  shows = λ since p lane c t new v w b a listed is f leaves given sound. ends_say since p lane c t.work new.work v w b a listed is f leaves given;
+  remains = λ since p lane c t new v w b a listed is f leaves given. ends_remain since p lane c t.work new.work v w b a listed is f leaves given;
   remains_at_once = λ since c a v is. is.5 v;
   knows = λ since p lane c t new v w b a is f leaves given sees. tt;
   lacks_alone = λ since lane c t new v w b a commit is f leaves given lacks sum. absurd lacks;
   lacks = λ since v a c commit files shows lacks finished. lacks;
-  outside = λ since v a c good shows outside. outside_no since.start.deployments since.limits c.depth v a good shows outside;
+  outside = λ since v a c good shows outside. outside_no since.place.deployments since.limits c.depth v a good shows outside;
   full = λ told since c t new a is step given full. absurd full;
   left = λ since actor lane c t new v w b b' a is f leaves given does gone sound. tt;
   stays = λ since actor lane out removed a c v w b b' does only is. tt;

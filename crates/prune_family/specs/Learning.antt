@@ -15,7 +15,7 @@ use Rattle.boot_model.specs.declared.item.DepId.{DepId}
 use Rattle.rely_guarantee.specs.declared.books.Entry.{Entry}
 use Rattle.rely_guarantee.specs.declared.books.Pending.{Pending}
 use Rattle.rely_guarantee.specs.declared.books.Pin.{Pin}
-use Rattle.rely_guarantee.specs.Books.{Books}
+use Rattle.rely_guarantee.specs.Books.{Books, listed_in}
 use Rattle.rely_guarantee.specs.Disks.{Says}
 use Rattle.rely_guarantee.specs.Laws.{Holds, NotPending}
 use Rattle.rely_guarantee.specs.Pinning.{is_others, without}
@@ -90,7 +90,7 @@ module _ (start : SystemState) (entries : List Entry) (refs : RefBook) (lane : �
   says_now : (name : List ℕ) (s : Seen) → MayBe v (ref_path name) s → Says (RefOf name) (now (RefOf name)) s
   says_now name s may = ⊎_elim (λ says. says) (λ shown. absurd shown) (stands.known.each (RefOf name) s may)
 
-  learnt_roots : (k : Known) (ids : List DepId) (pins : List Pin) → AreOfState refs ids k.roots → k.held ≡ map object_of (without lane pins) → pins ≡ b.pins → ids ≡ b.start.deployments.items → AreRootsOf k.roots k.held lane v b
+  learnt_roots : (k : Known) (ids : List DepId) (pins : List Pin) → AreOfState refs ids k.roots → k.held ≡ map object_of (without lane pins) → pins ≡ b.pins → ids ≡ listed_in b → AreRootsOf k.roots k.held lane v b
   learnt_roots k ids pins are held pins_are ids_are = record { all = all; listed = listed; right = right; held = others }
     where
       rows : List (List ℕ × List ℕ)

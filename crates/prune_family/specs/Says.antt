@@ -1,5 +1,5 @@
 -- What a prune's answer shows, by its last step.
-use Rattle.std.proofs.Common.{◌≡◌, ◌⊎◌, ◌↔◌, inl, inr, ⊎_elim, ℕ, ◌<◌, Bool, true, false, not, List, length, get_or, take, take_all, Contains, Some, refl, sym, ◌∙◌, ap, subst, arith}
+use Rattle.std.proofs.Common.{◌≡◌, ◌⊎◌, ◌↔◌, inl, inr, ⊎_elim, ℕ, ◌<◌, Bool, true, false, not, List, length, get_or, take, take_all, Contains, Some, None, refl, sym, ◌∙◌, ap, subst, arith}
 use Rattle.std.specs.Bool.{Decides}
 use Rattle.std.specs.List.{IsDistinct, filter}
 use Rattle.std.specs.Ordering.{eq_by_cmp, is_eq}
@@ -40,9 +40,11 @@ use Rattle.store_check.specs.Listing.{AreAll, IsThere}
 use Rattle.store_check.proofs.Damages.{nothing_at}
 use Rattle.store_check.proofs.Excluded.{damaged_has}
 use Rattle.boot_model.specs.declared.item.DepId.{DepId}
-use Rattle.rely_guarantee.specs.Books.{Books}
+use Rattle.rely_guarantee.specs.Books.{Books, listed_in}
 use Rattle.rely_guarantee.specs.Removing.{IsListed}
-use Rattle.rely_guarantee.specs.State.{RefOf}
+use Rattle.rely_guarantee.specs.declared.event.Event.{Event}
+use Rattle.rely_guarantee.specs.declared.event.Event.TheVariants.{SetRef, DropRef, Pruned, SetDeployments}
+use Rattle.rely_guarantee.specs.State.{RefOf, SystemState, list_in}
 use Rattle.durable_store.proofs.Images.{there_true, true_there}
 use Rattle.durable_store.proofs.Names.{contains_kept, kept_ascends, kept_contains}
 use Rattle.prune_sweep.specs.declared.part.Part.{Part}
@@ -58,13 +60,15 @@ use Rattle.prune_command.specs.declared.known.Known.{Known}
 use Rattle.prune_command.specs.declared.phase.Phase.{Phase}
 use Rattle.prune_command.specs.declared.phase.Phase.TheVariants as phase
 use Rattle.prune_command.specs.Answers.{HasDamaged, IsNamed, Says, ShowsPruned}
-use Rattle.prune_command.specs.Commands.{Ends, Tells, prune_answer, prune_leaves}
+use Rattle.prune_command.specs.Commands.{Ends, Tells, prune_answer, prune_kind, prune_leaves}
 use Rattle.prune_command.specs.Facts.{AreRootsOf, HasBegun, IsGoing, KnownIn, SweepKnows, prune_facts}
 use Rattle.prune_command.specs.Learned.{from_of}
 use Rattle.prune_command.specs.SweepSteps.{Did}
+use Rattle.command.specs.Sees.{listed_behind, same_behind}
 use Rattle.command.specs.Since.{Since}
 use Rattle.prune_family.specs.declared.words.PruneWords.{PruneWords}
-use Rattle.prune_family.specs.Family.{IsPruning, prune_outside}
+use Rattle.prune_family.specs.Family.{IsPruneOf, IsPruning, prune_outside}
+use Rattle.prune_family.specs.Kinds.{makes_durable_prune}
 
 -- ---- the roots are the commits that refs name, and those of the deployments
 
@@ -197,7 +201,7 @@ all_gone r so = ⊎_elim
     (λ end. let is : sweeping.IsIn part.End r = subst (λ x. sweeping.IsIn x r) end so.part in is.0)
     (λ over. let is : sweeping.IsIn part.Over r = subst (λ x. sweeping.IsIn x r) over so.part in is.0)
 
-pruned_shown : (k : Known) (depth lane : ℕ) (r : Sweeping) (v : View) (b : Books) (kept : ℕ) → HasBegun k lane v b → IsGoing k depth lane r v b → r.gone ≡ length r.removed → kept ≡ r.kept → ShowsPruned b.start.deployments.items depth kept v.now
+pruned_shown : (k : Known) (depth lane : ℕ) (r : Sweeping) (v : View) (b : Books) (kept : ℕ) → HasBegun k lane v b → IsGoing k depth lane r v b → r.gone ≡ length r.removed → kept ≡ r.kept → ShowsPruned (listed_in b) depth kept v.now
 pruned_shown k depth lane r v b kept begun going all is = record {
   roots = k.roots;
   held = k.held;
@@ -208,7 +212,7 @@ pruned_shown k depth lane r v b kept begun going all is = record {
   count = is ∙ left_many going.planned v.now (from_of k) depth k.held r going.plan going.swept all going.fewer going.either;
 }
 
-shown_in : (p : Phase) (t : PruneCommand) (lane : ℕ) (v w : View) (b : Books) (a : PruneAnswer) → KnownIn p t lane v b → Ends p a → Tells t p a v w → Says b.start.deployments.items t.depth t.limits.content v.now a
+shown_in : (p : Phase) (t : PruneCommand) (lane : ℕ) (v w : View) (b : Books) (a : PruneAnswer) → KnownIn p t lane v b → Ends p a → Tells t p a v w → Says (listed_in b) t.depth t.limits.content v.now a
 shown_in (phase.Marking m) t lane v w b (answer.Outside path) known ends told = told.1
 shown_in (phase.Sweeping r) t lane v w b (answer.Pruned kept removed) known ends told =
     pruned_shown t.known t.depth lane r v b kept known.0 (going_ends t.known t.depth lane r v b ends.0 known.2) (all_gone r known.1 ends.0) ends.1
@@ -219,9 +223,9 @@ shown_in phase.Unlearned t lane v w b a known ends told = absurd ends
 shown_in (phase.Listing l) t lane v w b a known ends told = absurd ends
 shown_in (phase.Over x) t lane v w b a known ends told = absurd known
 
-ends_publish : (lane : ℕ) (t new : PruneCommand) (v w : View) (b : Books) (a : PruneAnswer) → prune_facts lane t v b → prune_leaves t (turn.Done tt) new v w → prune_answer new ≡ Some a → Says b.start.deployments.items t.depth t.limits.content v.now a
+ends_publish : (lane : ℕ) (t new : PruneCommand) (v w : View) (b : Books) (a : PruneAnswer) → prune_facts lane t v b → prune_leaves t (turn.Done tt) new v w → prune_answer new ≡ Some a → Says (listed_in b) t.depth t.limits.content v.now a
 ends_publish lane t new v w b a f leaves given =
-    subst (Says b.start.deployments.items t.depth t.limits.content v.now) same (shown_in t.phase t lane v w b leaves.0 f.known leaves.2 leaves.3)
+    subst (Says (listed_in b) t.depth t.limits.content v.now) same (shown_in t.phase t lane v w b leaves.0 f.known leaves.2 leaves.3)
   where
     same : leaves.0 ≡ a
     same = let e : Some leaves.0 ≡ Some a = sym (ap prune_answer leaves.1) ∙ given in cc
@@ -234,10 +238,10 @@ outside_none limits v path good says =
 
 -- ---- by the words that it was given
 
-pub ends_say : (since : Since) (lane : ℕ) (c : PruneWords) (t new : PruneCommand) (v w : View) (b : Books) (a : PruneAnswer) → since.start.deployments ≡ b.start.deployments.items → IsPruning since c t → prune_facts lane t v b → prune_leaves t (turn.Done tt) new v w → prune_answer new ≡ Some a → Says since.start.deployments c.depth since.limits.content v.now a
-ends_say since lane c t new v w b a listed is f leaves given =
+pub ends_say : (since : Since) (p : SystemState) (lane : ℕ) (c : PruneWords) (t new : PruneCommand) (v w : View) (b : Books) (a : PruneAnswer) → p.deployments ≡ listed_in b → IsPruning since c t → prune_facts lane t v b → prune_leaves t (turn.Done tt) new v w → prune_answer new ≡ Some a → Says p.deployments c.depth since.limits.content v.now a
+ends_say since p lane c t new v w b a listed is f leaves given =
     subst (λ (ids : List DepId). Says ids c.depth since.limits.content v.now a) (sym listed)
-    (subst (λ (n : ℕ). Says b.start.deployments.items n since.limits.content v.now a) is.depth (subst (λ (l : Limits). Says b.start.deployments.items t.depth l.content v.now a) is.limits (ends_publish lane t new v w b a f leaves given)))
+    (subst (λ (n : ℕ). Says (listed_in b) n since.limits.content v.now a) is.depth (subst (λ (l : Limits). Says (listed_in b) t.depth l.content v.now a) is.limits (ends_publish lane t new v w b a f leaves given)))
 
 -- the last step changes nothing that reads see
 did_now : (p : Part) (r : Sweeping) (v w : View) → (p ≡ part.End) ⊎ (p ≡ part.Over) → Did p r v w → w.now ≡ v.now
@@ -255,8 +259,17 @@ still_now phase.Unlearned t a v w ends told = absurd ends
 still_now (phase.Listing l) t a v w ends told = absurd ends
 still_now (phase.Over x) t a v w ends told = absurd told
 
-pub ends_remain : (since : Since) (lane : ℕ) (c : PruneWords) (t new : PruneCommand) (v w : View) (b : Books) (a : PruneAnswer) → since.start.deployments ≡ b.start.deployments.items → IsPruning since c t → prune_facts lane t v b → prune_leaves t (turn.Done tt) new v w → prune_answer new ≡ Some a → Says since.start.deployments c.depth since.limits.content w.now a
-ends_remain since lane c t new v w b a listed is f leaves given = subst (λ d. Says since.start.deployments c.depth since.limits.content d a) (sym (still_now t.phase t leaves.0 v w leaves.2 leaves.3)) (ends_say since lane c t new v w b a listed is f leaves given)
+-- a removal changes no list of deployments
+pub prune_unlisted : (depth : ℕ) (e : Event) → IsPruneOf depth e → list_in e ≡ None
+prune_unlisted depth (Pruned d roots held removed) is = refl
+prune_unlisted depth (SetRef name seen commit) is = absurd is
+prune_unlisted depth (DropRef name seen) is = absurd is
+prune_unlisted depth (SetDeployments change list) is = absurd is
+
+pub ends_remain : (since : Since) (p : SystemState) (lane : ℕ) (c : PruneWords) (t new : PruneCommand) (v w : View) (b : Books) (a : PruneAnswer) → p.deployments ≡ listed_behind (prune_kind t) b → IsPruning since c t → prune_facts lane t v b → prune_leaves t (turn.Done tt) new v w → prune_answer new ≡ Some a → Says p.deployments c.depth since.limits.content w.now a
+ends_remain since p lane c t new v w b a listed is f leaves given =
+    let same : listed_behind (prune_kind t) b ≡ listed_in b = same_behind (prune_kind t) b (λ e kind. prune_unlisted c.depth e (makes_durable_prune since c t e is kind)) in
+    subst (λ d. Says p.deployments c.depth since.limits.content d a) (sym (still_now t.phase t leaves.0 v w leaves.2 leaves.3)) (ends_say since p lane c t new v w b a (listed ∙ same) is f leaves given)
 
 pub outside_no : (ids : List DepId) (limits : Limits) (depth : ℕ) (v : View) (a : PruneAnswer) → IsGoodStore limits v.now → Says ids depth limits.content v.now a → prune_outside a → ⊥
 outside_no ids limits depth v (answer.Outside path) good says outside = outside_none limits v path good says

@@ -56,6 +56,7 @@ change_laws : ChangeLaws read_tasks read_means read_doing
 change_laws = record {
   shown = λ since c t e is kind. no_publish t.work e kind;
   settled = λ since c t e is kind. no_make_durable t.work (subst IsMakeDurable (sym kind) tt);
+  unlisted = λ since c e none. absurd none;
   founds = λ lane t v b e f kind. no_publish t.work e kind;
   makes = λ since c t new a is step given settles. no_make_durable t.work settles;
   makes_not = λ since c t new a is step given settles made. made;
@@ -71,8 +72,8 @@ answer_laws : AnswerLaws read_tasks read_means read_doing
 answer_laws = record {
   answers = λ since c t new is. has_answer t.work new.work;
   says = λ since p c t new a. ends_say since p c t.work new.work a;
-  shows = λ since lane c t new v w b a listed is f leaves given sound. ends_publish since lane c t.work new.work v w b a is f leaves given;
-  remains = λ since lane c t new v w b a listed is f leaves given. tt;
+  shows = λ since p lane c t new v w b a listed is f leaves given sound. ends_publish since lane c t.work new.work v w b a is f leaves given;
+  remains = λ since p lane c t new v w b a listed is f leaves given. tt;
   remains_at_once = λ since c a v is. tt;
   knows = λ since p lane c t new v w b a is f leaves given sees. tt;
   lacks_alone = λ since lane c t new v w b a commit is f leaves given lacks sum. reads_alone t.work new.work v w a commit leaves given lacks sum;

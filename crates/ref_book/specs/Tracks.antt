@@ -5,7 +5,7 @@ use Rattle.std.specs.Cmp.Lexicographic.{slice_cmp}
 use Rattle.std.specs.List.Sorted.{IsStrictlySortedBy}
 use Rattle.std.specs.Ordering.{nat_cmp}
 use Rattle.rely_guarantee.specs.declared.event.Event.{Event}
-use Rattle.rely_guarantee.specs.declared.event.Event.TheVariants.{SetRef, DropRef, Pruned}
+use Rattle.rely_guarantee.specs.declared.event.Event.TheVariants.{SetRef, DropRef, Pruned, SetDeployments}
 use Rattle.rely_guarantee.specs.State.{State, RefOf}
 use Rattle.ref_book.specs.declared.book.RefBook.{RefBook}
 
@@ -30,6 +30,7 @@ abbrev pub HasEventRoom : RefBook → Event → Type 0
 HasEventRoom b (SetRef name seen commit) = HasRoom b name
 HasEventRoom b (DropRef name seen) = HasRoom b name
 HasEventRoom b (Pruned depth roots held removed) = Unit {0}
+HasEventRoom b (SetDeployments change list) = Unit {0}
 
 -- the refs of a state, each once, ascending by their names
 pub record Lists (rows : List (List ℕ × List ℕ)) (s : State) : Type 0 where

@@ -74,7 +74,8 @@ impl RefBook {
                 roots: _,
                 held: _,
                 removed: _,
-            } => {}
+            }
+            | Event::SetDeployments { change: _, list: _ } => {}
         }
     }
 

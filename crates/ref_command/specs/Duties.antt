@@ -31,7 +31,7 @@ use Rattle.ref_store.proofs.Stable.{Lies, ref_lies}
 use Rattle.rely_guarantee.specs.State.{RefOf}
 use Rattle.rely_guarantee.specs.Disks as disks
 use Rattle.rely_guarantee.specs.Disks.{Says}
-use Rattle.rely_guarantee.specs.Books.{Books, Free, Agrees}
+use Rattle.rely_guarantee.specs.Books.{Books, Free, Agrees, listed_in}
 use Rattle.rely_guarantee.specs.Objects.{IsObjectSeen}
 use Rattle.rely_guarantee.specs.Rely.{Guarantee, may_at, NotOthers, OwnTree, IsEmpty, HasNoRefs}
 use Rattle.rely_guarantee.specs.SystemInvariant.{Leads}
@@ -172,9 +172,9 @@ module _ (b : Books) (v : View) (actor lane : ℕ) (t : Change) (f : Facts lane 
     moved p s (inl a) = inr (a.0 ∙ file_of.at, ap bytes_in a.1.1 ∙ ap Some file_of.bytes)
     moved p s (inr a) = inl (at_stage p a.0)
 
-    shown : g.phase ≡ file.Replace → Shows b.start.deployments.items (staging.writes_in file.Replace g v) v (event t)
-    shown e = subst (λ o. Shows b.start.deployments.items (staging.writes_in file.Replace g v) v (event_of o t.name t.seen)) (sym file_of.value)
-        (set_shows b.start.deployments.items (staging.writes_in file.Replace g v) v lane t.name file_of.commit t.seen moved f.needs.named file_of.sum (was (ap awaits is ∙ ap awaits_file e)))
+    shown : g.phase ≡ file.Replace → Shows (listed_in b) (staging.writes_in file.Replace g v) v (event t)
+    shown e = subst (λ o. Shows (listed_in b) (staging.writes_in file.Replace g v) v (event_of o t.name t.seen)) (sym file_of.value)
+        (set_shows (listed_in b) (staging.writes_in file.Replace g v) v lane t.name file_of.commit t.seen moved f.needs.named file_of.sum (was (ap awaits is ∙ ap awaits_file e)))
 
     final : (w : View) → IsDone t w → Final (event t) w
     final w done = final_in t.value t.seen t.name w done.0 done.1 (subst IsSomeSum (sym file_of.value) file_of.sum)
@@ -190,12 +190,12 @@ module _ (b : Books) (v : View) (actor lane : ℕ) (t : Change) (f : Facts lane 
     put_duty agrees Done file.SyncFolder done e stood turn = ((λ p s a. absurd a), (λ w last. final w (done tt w last)))
     put_duty agrees Done file.Ended done e stood turn = ((λ p s a. absurd a), (λ q s a. absurd a))
 
-  drop_by : (o : Option (List ℕ)) → t.phase ≡ phase.Unlink → Says (RefOf t.name) o (shows v.now (ref_path t.name)) → Shows b.start.deployments.items (writes_in phase.Unlink t v) v (event_of None t.name o)
-  drop_by (Some seen) is says = drop_shows b.start.deployments.items (writes_in phase.Unlink t v) v t.name seen (λ p s a. a) f.needs.named says
+  drop_by : (o : Option (List ℕ)) → t.phase ≡ phase.Unlink → Says (RefOf t.name) o (shows v.now (ref_path t.name)) → Shows (listed_in b) (writes_in phase.Unlink t v) v (event_of None t.name o)
+  drop_by (Some seen) is says = drop_shows (listed_in b) (writes_in phase.Unlink t v) v t.name seen (λ p s a. a) f.needs.named says
   drop_by None is says = absurd (says (leaf_is (shows v.now (ref_path t.name)) (meets_in t v f.needs phase.Unlink is)))
 
-  unlink_shows : t.phase ≡ phase.Unlink → Shows b.start.deployments.items (writes_in phase.Unlink t v) v (event t)
-  unlink_shows is = subst (λ o. Shows b.start.deployments.items (writes_in phase.Unlink t v) v (event_of o t.name t.seen)) (sym (made t v f.needs phase.Unlink is)) (drop_by t.seen is (was (ap awaits is)))
+  unlink_shows : t.phase ≡ phase.Unlink → Shows (listed_in b) (writes_in phase.Unlink t v) v (event t)
+  unlink_shows is = subst (λ o. Shows (listed_in b) (writes_in phase.Unlink t v) v (event_of o t.name t.seen)) (sym (made t v f.needs phase.Unlink is)) (drop_by t.seen is (was (ap awaits is)))
 
   sync_final : t.phase ≡ phase.SyncFolder → (w : View) → IsDone t w → Final (event t) w
   sync_final is w done = final_in t.value t.seen t.name w done.0 done.1 (subst IsSomeSum (sym (made t v f.needs phase.SyncFolder is)) tt)

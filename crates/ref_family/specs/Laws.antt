@@ -36,7 +36,7 @@ use Rattle.ref_family.specs.Family.{commit_lasts, ref_doing, ref_makes, ref_mean
 use Rattle.ref_family.specs.Keeping.{refs_keep}
 use Rattle.ref_family.specs.Objects.{lacks_none, no_boot, no_checkout, no_object, pins_work, refs_light}
 use Rattle.ref_family.specs.Removing.{refs_alone, refs_stay}
-use Rattle.ref_family.specs.Steps.{change_is, own_step, ref_founds, ref_holds, ref_settled, ref_shown, ref_step}
+use Rattle.ref_family.specs.Steps.{ref_unlisted, change_is, own_step, ref_founds, ref_holds, ref_settled, ref_shown, ref_step}
 use Rattle.ref_family.specs.Telling.{ref_tells}
 
 abbrev pub ref_tasks : TaskSpec RefsTask
@@ -97,6 +97,7 @@ change_laws : ChangeLaws ref_tasks ref_means ref_doing
 change_laws = record {
   shown = λ since c t. ref_shown since.start.refs c t.work;
   settled = λ since c t. ref_settled since.start.refs c t.work;
+  unlisted = λ since. ref_unlisted since.start.refs;
   founds = λ lane t. ref_founds lane t.work;
   makes = λ since c t new a is step given k. (let e = ref_ends since.start.refs c t.work new.work is step in subst (λ x. ref_makes x c) (one (answer_of new.work) e.given a e.answer given) (e.makes k));
   makes_not = λ since c t new a is step given k m. (let e = ref_ends since.start.refs c t.work new.work is step in e.makes_not k (subst (λ x. ref_makes x c) (sym (one (answer_of new.work) e.given a e.answer given)) m));
@@ -112,8 +113,8 @@ answer_laws : AnswerLaws ref_tasks ref_means ref_doing
 answer_laws = record {
   answers = λ since c t new is step. subst IsSome (sym (ref_ends since.start.refs c t.work new.work is step).answer) refl;
   says = λ since p c t new a is step given. (let e = ref_ends since.start.refs c t.work new.work is step in subst (λ x. ref_says since.start.refs x c) (one (answer_of new.work) e.given a e.answer given) e.says);
-  shows = λ since lane c t new v w b a listed is f leaves given sound. tells since.start.refs lane c v w b a t.work is f (says_of lane t.work new.work v w b a f leaves given);
-  remains = λ since lane c t new v w b a listed is f leaves given. tt;
+  shows = λ since p lane c t new v w b a listed is f leaves given sound. tells since.start.refs lane c v w b a t.work is f (says_of lane t.work new.work v w b a f leaves given);
+  remains = λ since p lane c t new v w b a listed is f leaves given. tt;
   remains_at_once = λ since c a v is. tt;
   knows = λ since p lane c t new v w b a. ref_tells (λ s branch commit work is. change_is s (words.Reset branch commit) work is) lane since p c t.work new.work v w b a;
   lacks_alone = λ since lane c t new v w b a commit is f leaves given lacks sum. refs_alone t.work new.work v w a commit leaves given lacks;

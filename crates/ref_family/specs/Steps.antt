@@ -9,7 +9,7 @@ use Rattle.rely_guarantee.specs.declared.event.Event.{Event}
 use Rattle.rely_guarantee.specs.declared.event.Event.TheVariants as event
 use Rattle.rely_guarantee.specs.Books.{Books}
 use Rattle.rely_guarantee.specs.Laws.{Publish, MakeDurable, Store, IsBy, Holds, NotPending}
-use Rattle.rely_guarantee.specs.State.{State, RefOf}
+use Rattle.rely_guarantee.specs.State.{State, RefOf, list_in}
 use Rattle.ref_command.specs.declared.work.RefWork.{RefWork}
 use Rattle.ref_command.specs.declared.look_up.LookUp.{LookUp}
 use Rattle.ref_command.specs.declared.look_up.Found.{Found}
@@ -124,7 +124,14 @@ ref_settled s c (Parse look) e is k = cc
 ref_settled s c (Reset look plan) e is k = found_makes_durable look.found look.commit e k
 ref_settled s c (Change work) e is k = subst (ref_changes s c) (kind_makes_durable (progress_in work.task.phase) (event work.task) e k) (change_is s c work is)
 
+-- no change of a ref is one of the list of deployments
+pub ref_unlisted : (s : State) (c : RefWords) (e : Event) → ref_changes s c e → list_in e ≡ None
+ref_unlisted s (words.RevParse rev) e is = absurd is
+ref_unlisted s (words.Reset branch commit) e is = ap list_in is
+ref_unlisted s (words.DropRef branch) e is = ap list_in is.2
+
 pub ref_founds : (lane : ℕ) (t : RefCommand) (v : View) (b : Books) (e : Event) → command_facts lane t v b → command_kind t ≡ Publish e → Founds v e
 ref_founds lane t v b (event.SetRef name seen commit) f k = reset_founded lane t v b name seen commit f k
 ref_founds lane t v b (event.DropRef name seen) f k = tt
 ref_founds lane t v b (event.Pruned depth roots held removed) f k = tt
+ref_founds lane t v b (event.SetDeployments change list) f k = tt

@@ -29,14 +29,14 @@ use Rattle.rely_guarantee.specs.Laws.{Kind, Quiet, Store, Take, Claim, Publish, 
 use Rattle.rely_guarantee.proofs.States.{ascends_later}
 use Rattle.rely_guarantee.proofs.Knowns.{stands_quiet}
 use Rattle.rely_guarantee.proofs.Claiming.{claims_stand}
-use Rattle.rely_guarantee.proofs.Locking.{spared_refl}
+use Rattle.rely_guarantee.proofs.Locking.{listed_same, spared_refl}
 use Rattle.rely_guarantee.proofs.Sounds.{IsFs, sound_goes}
 
 pub told_same : {P : View → Type 0} (view : Option View) (w : View) → view ≡ Some w → Told view P → P w
 told_same {P} view w is told = let e : Some told.0 ≡ Some w = sym told.1 ∙ is in let k : told.0 ≡ w = cc in subst P k told.2
 
 pub keeps_refl : (lane : ℕ) (b : Books) → Keeps lane b b
-keeps_refl lane b = record { exclusive = λ k. k; turn = λ k. k; sysroot = λ k. k; holds = λ h l k. k; wants = λ w l k. k; pins = λ p l k. k; pinned = λ p l k. k; claims = λ c k. k; others = λ c l k. k; start = refl }
+keeps_refl lane b = record { exclusive = λ k. k; turn = λ k. k; sysroot = λ k. k; holds = λ h l k. k; wants = λ w l k. k; pins = λ p l k. k; pinned = λ p l k. k; claims = λ c k. k; others = λ c l k. k; start = refl; listed = refl }
 
 -- what is to be held for the next step
 pub before_holds : (next : Kind) (lane : ℕ) (b : Books) → IsBefore next → NotPending lane b → Holds next lane b
@@ -159,13 +159,17 @@ module _ {F : Type 0} (view : F → Option View) (clock spare : F → ℕ) (was 
       let parts = quiet_parts old actor lane t by is stood ready v told_v in
       let wrote_w : Writes (writes actor t v) v w = told_same (view mid.fs) w (ap view (sym ends.fs) ∙ told_w) (wrote v told_v) in
       claims_stand (books_of old.books) v w actor lane (weaker (writes actor t v) (Guarantee (books_of old.books) v actor lane) v w parts.0 wrote_w) old.books.claims.items new.books.claims.items (ended_claims old mid new actor lane same ends) there)
+      (λ v told_v relists p is more.
+      let before : old.books.pending ≡ Some p = sym pending ∙ is in
+      let spared = subst (λ b. Spared actor lane (books_of b) (books_of new.books)) same ends.spared in
+      spared.sysroot p.lane (none p before) (relists p before more))
 
   pub quiet_does : (old mid new : Base F) (actor lane : ℕ) (t : T) → mid.books ≡ old.books → Ends actor lane mid new → IsBy (kind t) actor lane → IsQuiet (kind t) → Stood (kind t) actor lane (books_of old.books) → Ready view clock spare was (Runs kind facts lane t) old
       → Wrote old.fs mid.fs actor t → (v : View) → view old.fs ≡ Some v → (w : View) × (view new.fs ≡ Some w) × Interference actor lane v (books_of old.books) w (books_of new.books)
   quiet_does old mid new actor lane t same ends by is stood ready wrote v told =
       let w = wrote v told in
       let parts = quiet_parts old actor lane t by is stood ready v told in
-      (w.0, ap view ends.fs ∙ w.1, record { writes = weaker (writes actor t v) (Guarantee (books_of old.books) v actor lane) v w.0 parts.0 w.2; books = subst (λ b. Spared actor lane (books_of b) (books_of new.books)) same ends.spared; claims = λ c has. inl (ended_claims old mid new actor lane same ends c has) })
+      (w.0, ap view ends.fs ∙ w.1, record { writes = weaker (writes actor t v) (Guarantee (books_of old.books) v actor lane) v w.0 parts.0 w.2; books = subst (λ b. Spared actor lane (books_of b) (books_of new.books)) same ends.spared; claims = λ c has. inl (ended_claims old mid new actor lane same ends c has); listed = λ x other held. listed_same old.books new.books (ends.history ∙ ap (λ b. b.history) same) (ends.start ∙ ap (λ b. b.start) same) })
 
   pub quiet_runs : (old : Base F) (fs : F) (actor lane : ℕ) (t new : T) → IsPlain (kind t) → Stood (kind t) actor lane (books_of old.books) → Ready view clock spare was (Runs kind facts lane t) old
       → stepped t turn.More new → ((v : View) → view old.fs ≡ Some v → Told (view fs) (λ w. leaves t turn.More new v w))

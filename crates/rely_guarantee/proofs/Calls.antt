@@ -104,6 +104,7 @@ set_shows ids W v actor name commit seen lies is sum was = record {
   valid = (is, sum);
   was = λ t at. said_at name t seen v at was;
   roots = λ s shown same. tt;
+  list = tt;
 }
   where
     writes : (t : Topic) (s : Seen) → W (path_of t) s → PublishedBy (SetRef name seen commit) t s
@@ -115,7 +116,7 @@ set_shows ids W v actor name commit seen lies is sum was = record {
 -- The unlink of a ref's file.
 pub drop_shows : (ids : List DepId) (W : Path → Seen → Type 0) (v : View) (name seen : List ℕ) → ((p : Path) (s : Seen) → W p s → (p ≡ ref_path name) × (s ≡ Vacant))
     → IsRefName name → Says (RefOf name) (Some seen) (shows v.now (ref_path name)) → Shows ids W v (DropRef name seen)
-drop_shows ids W v name seen lies is was = record { writes = writes; valid = is; was = λ t at. said_at name t (Some seen) v at was; roots = λ s shown same. tt }
+drop_shows ids W v name seen lies is was = record { writes = writes; valid = is; was = λ t at. said_at name t (Some seen) v at was; roots = λ s shown same. tt; list = tt }
   where
     writes : (t : Topic) (s : Seen) → W (path_of t) s → PublishedBy (DropRef name seen) t s
     writes (RefOf n) s wrote =

@@ -19,7 +19,7 @@ use Rattle.rely_guarantee.specs.Rely.{Guarantee}
 use Rattle.rely_guarantee.specs.SystemInvariant.{Published, Leads, NoStray, Known, Stands}
 use Rattle.rely_guarantee.specs.Change.{Still, Away, Shows, Final}
 use Rattle.rely_guarantee.specs.Laws.{Within, NotPending}
-use Rattle.rely_guarantee.proofs.States.{same_deployments, topic_is, topic_none, next_here, next_apart, after_push, events_push, run_push, says_leaf, says_one}
+use Rattle.rely_guarantee.proofs.States.{topic_is, topic_none, next_here, next_apart, after_push, events_push, run_push, says_leaf, says_one}
 use Rattle.layout_rules.specs.InLayout.{IsBounded, IsSuited}
 use Rattle.layout_rules.proofs.Layouts.{above_ref}
 use Rattle.rely_guarantee.proofs.Mays.{not_other, ref_turn, leads_stay, folders_harmless, kinds_harmless, reached_harmless, strays_harmless}
@@ -83,8 +83,8 @@ module _ (W : Path → Seen → Type 0) (v w : View) (writes : Writes W v w) whe
       by (Some p) is = known_away b actor lane (Published b.pending) value within (still_away b actor lane p is (owner p is) not within) known
 
   -- the one that publishes a change
-  pub known_publish : (ids : List DepId) (b : Books) (actor lane : ℕ) (value : State) (p : Pending) → Within W (Guarantee b v actor lane) → Shows ids W v p.event → Known (Published None) value v → Known (Published (Some p)) value w
-  known_publish ids b actor lane value p within change known = record {
+  pub known_publish : (list : List DepId) (b : Books) (actor lane : ℕ) (value : State) (p : Pending) → Within W (Guarantee b v actor lane) → Shows list W v p.event → Known (Published None) value v → Known (Published (Some p)) value w
+  known_publish list b actor lane value p within change known = record {
     each = λ t s may. ⊎_elim
         (λ was. ⊎_elim (λ k. inl k) (λ bad. absurd bad) (known.each t s was))
         (λ wrote. inr (change.writes t s wrote))
@@ -156,12 +156,12 @@ stands_away start entries b actor lane W v w writes within away was = record {
   reached = reached_kept W v w writes b actor lane within was.reached;
 }
 
-pub stands_publish : (start : SystemState) (entries : List Entry) (b : Books) (actor lane : ℕ) (p : Pending) (W : Path → Seen → Type 0) (v w : View) → Writes W v w → Within W (Guarantee b v actor lane) → Shows start.deployments W v p.event
+pub stands_publish : (start : SystemState) (entries : List Entry) (b : Books) (actor lane : ℕ) (p : Pending) (W : Path → Seen → Type 0) (v w : View) → Writes W v w → Within W (Guarantee b v actor lane) → Shows (after (events_of entries) start).deployments W v p.event
     → Stands start entries None v → Stands start entries (Some p) w
 stands_publish start entries b actor lane p W v w writes within change was = record {
   named = was.named;
-  run = run_push (events_of entries) p.event start (subst (λ (l : List Event). IsRun l start) (append-nil (events_of entries)) was.run) (record { valid = change.valid; was = seen_now; roots = change.roots value shown_now (same_deployments (events_of entries) start) });
-  known = known_publish W v w writes start.deployments b actor lane (after (events_of entries) start).refs p within change was.known;
+  run = run_push (events_of entries) p.event start (subst (λ (l : List Event). IsRun l start) (append-nil (events_of entries)) was.run) (record { valid = change.valid; was = seen_now; roots = change.roots value shown_now refl; list = change.list });
+  known = known_publish W v w writes value.deployments b actor lane (after (events_of entries) start).refs p within change was.known;
   folders = folders_kept W v w writes b actor lane within was.folders;
   strays = strays_kept W v w writes b actor lane within was.strays;
   kinds = kinds_kept W v w writes b actor lane within was.kinds;

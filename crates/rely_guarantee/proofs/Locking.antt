@@ -10,13 +10,24 @@ use Rattle.rely_guarantee.specs.declared.books.Pending.{Pending}
 use Rattle.rely_guarantee.specs.declared.books.Pin.{Pin}
 use Rattle.rely_guarantee.specs.declared.books.Share.{Share}
 use Rattle.rely_guarantee.specs.declared.event.Event.{Event}
-use Rattle.rely_guarantee.specs.declared.event.Event.TheVariants.{SetRef, DropRef, Pruned}
+use Rattle.rely_guarantee.specs.declared.event.Event.TheVariants.{SetRef, DropRef, Pruned, SetDeployments}
 use Rattle.rely_guarantee.specs.declared.kind.Wants.{Wants}
-use Rattle.rely_guarantee.specs.Books.{Books, books_of, doomed_of, Free, Frees, Agrees, Spared}
+use Rattle.rely_guarantee.specs.Books.{Books, books_of, doomed_of, listed_in, Free, Frees, Agrees, Spared}
 use Rattle.rely_guarantee.specs.Change.{Dooms}
 use Rattle.rely_guarantee.specs.Exact.{NoNewShares, lock_taken}
-use Rattle.rely_guarantee.specs.State.{removed_by}
+use Rattle.rely_guarantee.specs.State.{list_in, removed_by}
 use Rattle.rely_guarantee.proofs.Lists.{all_of}
+
+-- which deployments boot goes by the history
+pub listed_same : (b b' : rust.Books) → b'.history ≡ b.history → b'.start ≡ b.start → listed_in (books_of b') ≡ listed_in (books_of b)
+listed_same b b' history start = rw (history, start) refl
+
+-- another list is published by who works on it
+pub relisted_by : (e : Event) (lane : ℕ) (b : Books) → Dooms lane b e → IsSome (list_in e) → b.sysroot ≡ Some lane
+relisted_by (SetRef name seen commit) lane b dooms some = let z : false ≡ true = some in cc
+relisted_by (DropRef name seen) lane b dooms some = let z : false ≡ true = some in cc
+relisted_by (Pruned depth roots held removed) lane b dooms some = let z : false ≡ true = some in cc
+relisted_by (SetDeployments change list) lane b dooms some = dooms
 
 -- behind a step that left those that store as they were
 pub shares_since : (old mid new : rust.Books) → mid.shared.items ≡ old.shared.items → NoNewShares mid new → NoNewShares old new
@@ -80,6 +91,7 @@ doomed_published lane command e b dooms = by e b.exclusive dooms refl
     by : (d : Event) (lock : Option ℕ) → Dooms lane b d → b.exclusive ≡ lock → doomed_of lock (Some (shown d)) ≡ removed_by d
     by (SetRef name seen commit) lock dooms is = none (SetRef name seen commit) refl lock
     by (DropRef name seen) lock dooms is = none (DropRef name seen) refl lock
+    by (SetDeployments change list) lock dooms is = none (SetDeployments change list) refl lock
     by (Pruned depth roots held removed) lock dooms is =
         subst (λ (l : Option ℕ). doomed_of l (Some (shown (Pruned depth roots held removed))) ≡ removed) (sym dooms ∙ is) (doomed_own lane (shown (Pruned depth roots held removed)) refl)
 
@@ -122,6 +134,7 @@ spared_refl actor lane b = record {
   replies = omega arith;
   opened = refl;
   start = refl;
+  listed = λ x other held. refl;
 }
 
 pub spared_then : (actor lane : ℕ) (a b c : Books) → Spared actor lane a b → Spared actor lane b c → Spared actor lane a c
@@ -149,6 +162,7 @@ spared_then actor lane a b c p q = record {
   replies = omega (arith, p.replies, q.replies);
   opened = q.opened ∙ p.opened;
   start = q.start ∙ p.start;
+  listed = λ x other is. q.listed x other (p.exclusive x other is) ∙ p.listed x other is;
 }
 
 -- it stays while another has the lock, and what is shown stays
@@ -181,4 +195,5 @@ granted_spared w actor lane b b' same frees shared exclusive turn sysroot holds 
   replies = (let e : b'.replies ≡ b.replies = ap (λ (y : rust.Books). y.replies) same in omega (arith, e));
   opened = ap (λ (y : rust.Books). y.opened) same;
   start = ap (λ (y : rust.Books). y.start) same;
+  listed = λ x other is. ap (λ (y : rust.Books). listed_in (books_of y)) same;
 }

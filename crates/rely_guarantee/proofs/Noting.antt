@@ -79,7 +79,7 @@ module _ {F : Type 0} (view : F → Option View) (clock spare : F → ℕ) (was 
     no_others c other has = ⊎_elim (λ was_there. was_there) (λ e. absurd (other (sym (ap (λ (x : claim.Claim). x.lane) e)))) (claim_cases c has)
 
     noted_keeps : Keeps lane (books_of old.books) (books_of (claimed_books old.books noted))
-    noted_keeps = record { exclusive = λ k. k; turn = λ k. k; sysroot = λ k. k; holds = λ h l k. k; wants = λ w l k. k; pins = λ p l k. k; pinned = λ p l k. k; claims = claim_stays; others = no_others; start = refl }
+    noted_keeps = record { exclusive = λ k. k; turn = λ k. k; sysroot = λ k. k; holds = λ h l k. k; wants = λ w l k. k; pins = λ p l k. k; pinned = λ p l k. k; claims = claim_stays; others = no_others; start = refl; listed = refl }
 
     noted_spared : Spared lane lane (books_of old.books) (books_of (claimed_books old.books noted))
     noted_spared =
@@ -105,6 +105,7 @@ module _ {F : Type 0} (view : F → Option View) (clock spare : F → ℕ) (was 
           replies = s.replies;
           opened = refl;
           start = refl;
+          listed = λ x other held. refl;
         }
 
     -- nobody had it, since its folder would have stood
@@ -148,6 +149,7 @@ module _ {F : Type 0} (view : F → Option View) (clock spare : F → ℕ) (was 
           (λ was_there. sound.claims w told_w c was_there)
           (λ e vacant. let v = fslaws.told fs old.fs w told_w in (both v.0 w v.1 told_w).1 (ap (λ (x : claim.Claim). shows w.now (checkout_path x.name)) e ∙ vacant))
           (claim_cases c has);
+      relists = sound.relists;
     }
 
     noted_acts : Acts view clock spare was lane lane came.Done (Runs kind facts lane next) old (record { fs = fs; books = old.books }) → Acts view clock spare was lane lane came.More (Runs kind facts lane next) old (record { fs = fs; books = claimed_books old.books noted })
@@ -160,6 +162,7 @@ module _ {F : Type 0} (view : F → Option View) (clock spare : F → ℕ) (was 
           writes = d.2.writes;
           books = noted_spared;
           claims = λ c has. ⊎_elim (λ was_there. inl was_there) (λ e. inr (ap (λ (x : claim.Claim). shows v.now (checkout_path x.name)) (sym e) ∙ (both v d.0 told_v d.1).0)) (claim_cases c has);
+          listed = λ x other held. refl;
         },
       );
       books = noted_spared;

@@ -117,6 +117,7 @@ sound_begins view clock spare was trees base alone turn empty unclaimed uncounte
         record { past = []; rest = []; split = refl; has_acked = omega arith; shows = has.1; sane = has.0 };
   });
   claims = λ v told c has. absurd (no_member base.books.claims.items unclaimed c has);
+  relists = λ v told p is. absurd (let z : None ≡ Some p = sym none ∙ is in cc);
 }
 
 -- so it is of books that are new

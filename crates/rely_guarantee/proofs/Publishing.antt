@@ -1,7 +1,8 @@
 -- The step that publishes a change, those behind it, and the one that makes it durable.
-use Rattle.std.proofs.Common.{◌≡◌, inl, inr, ◌+◌, ◌-◌, ◌<◌, ◌≤◌, ℕ, suc, refl, sym, ◌∙◌, ap, subst, arith, List, [], ◌∷◌, ◌++◌, append-nil, Contains, Option, Some, None}
+use Rattle.std.proofs.Common.{◌≡◌, ◌≢◌, inl, inr, ◌+◌, ◌-◌, ◌<◌, ◌≤◌, ℕ, suc, refl, sym, ◌∙◌, ap, subst, arith, List, [], ◌∷◌, ◌++◌, append-nil, Contains, IsSome, Option, Some, None}
 use Rattle.std.specs.Vec.{vec_len, vec_capacity}
 use Rattle.ost_types.specs.Path.{Path}
+use Rattle.boot_model.specs.declared.item.DepId.{DepId}
 use Rattle.fs_trait.specs.declared.task.StepResult.{StepResult}
 use Rattle.fs_trait.specs.declared.task.StepResult.TheVariants as turn
 use Rattle.fs_trait.specs.declared.types.FsErr.{FsErr}
@@ -21,16 +22,16 @@ use Rattle.rely_guarantee.specs.declared.event.Event.{Event}
 use Rattle.rely_guarantee.specs.declared.kind.Halt.{Halt}
 use Rattle.rely_guarantee.specs.declared.kind.Outcome.{Outcome}
 use Rattle.rely_guarantee.specs.declared.kind.Outcome.TheVariants as came
-use Rattle.rely_guarantee.specs.State.{events_of, stored, opening_state}
-use Rattle.rely_guarantee.specs.Books.{Books, books_of, doomed_of, Free, Agrees, Spared}
+use Rattle.rely_guarantee.specs.State.{SystemState, events_of, list_in, next_list, stored, opening_state}
+use Rattle.rely_guarantee.specs.Books.{Books, books_of, doomed_of, listed_in, Free, Agrees, Spared}
 use Rattle.rely_guarantee.specs.Rely.{Guarantee, Interference}
 use Rattle.rely_guarantee.specs.SystemInvariant.{AreThere, Ordered, Stands, SystemInvariant}
 use Rattle.rely_guarantee.specs.Change.{Away, TakesNone, Dooms, Shows, Final}
 use Rattle.rely_guarantee.specs.Laws.{Kind, Quiet, Store, Take, Claim, Publish, Published, Remove, MakeDurable, Laws, StepObligation, Within, Owned, IsPublish, IsPublished, IsRemove, IsMakeDurable, IsLastly, Chain, Follows, Holds, Stood, NotPending, IsPending, Runs, Ready, Tells, Acts, Ends, owed_by}
-use Rattle.rely_guarantee.proofs.States.{ascends_later, ascends_push, events_push, acked_late}
+use Rattle.rely_guarantee.proofs.States.{ascends_later, ascends_push, events_push, acked_late, list_push}
 use Rattle.rely_guarantee.proofs.Knowns.{stands_publish, stands_away, stands_make_durable}
 use Rattle.rely_guarantee.proofs.Claiming.{claims_stand}
-use Rattle.rely_guarantee.proofs.Locking.{doomed_apart, doomed_held, doomed_idle, doomed_published, spared_refl, spared_then}
+use Rattle.rely_guarantee.proofs.Locking.{listed_same, relisted_by, doomed_apart, doomed_held, doomed_idle, doomed_published, spared_refl, spared_then}
 use Rattle.rely_guarantee.proofs.Sounds.{IsFs, sound_goes}
 use Rattle.rely_guarantee.proofs.Acting.{told_same, ended_claims, ends_ordered}
 
@@ -115,7 +116,7 @@ module _ {F : Type 0} (view : F → Option View) (clock spare : F → ℕ) (was 
   pub blocked_acts : (base : Base F) (actor lane : ℕ) (t : T) → Ready view clock spare was (Runs kind facts lane t) base → Acts view clock spare was actor lane came.Blocked (Runs kind facts lane t) base base
   blocked_acts base actor lane t ready = record {
     sound = ready.sound;
-    does = λ v told. (v, told, record { writes = same_view (Guarantee (books_of base.books) v actor lane) v; books = spared_refl actor lane (books_of base.books); claims = λ c has. inl has });
+    does = λ v told. (v, told, record { writes = same_view (Guarantee (books_of base.books) v actor lane) v; books = spared_refl actor lane (books_of base.books); claims = λ c has. inl has; listed = λ x other held. refl });
     books = spared_refl actor lane (books_of base.books);
     tells = ready.task;
   }
@@ -143,8 +144,9 @@ module _ {F : Type 0} (view : F → Option View) (clock spare : F → ℕ) (was 
             (λ v w told_v told_w there.
             let one : Some v ≡ Some w = sym (unchanged v told_v) ∙ sym (ap view ends.fs) ∙ told_w in
             let k : v ≡ w = cc in
-            subst (λ x. AreThere new.books.claims.items x) k (λ c has. there c (fewer c has)));
-        does = λ v told. (v, ap view ends.fs ∙ unchanged v told, record { writes = same_view (Guarantee (books_of old.books) v actor lane) v; books = spared; claims = λ c has. inl (fewer c has) });
+            subst (λ x. AreThere new.books.claims.items x) k (λ c has. there c (fewer c has)))
+            (λ v told_v relists p is more. let before : old.books.pending ≡ Some p = sym pending ∙ is in spared.sysroot p.lane (none p before) (relists p before more));
+        does = λ v told. (v, ap view ends.fs ∙ unchanged v told, record { writes = same_view (Guarantee (books_of old.books) v actor lane) v; books = spared; claims = λ c has. inl (fewer c has); listed = λ x other held. listed_same old.books new.books history (ends.start ∙ ap (λ b. b.start) same) });
         books = spared;
         tells = tt;
       }
@@ -162,7 +164,7 @@ module _ {F : Type 0} (view : F → Option View) (clock spare : F → ℕ) (was 
   pending_books b lane command e owed halted = record b { turn = Some lane; pending = Some (record { lane = lane; command = command; event = e }); gone = 0; owed = owed; halted = halted }
 
   publish_duty : (old : Base F) (lane : ℕ) (t : T) (e : Event) → kind t ≡ Publish e → Free old.books.turn lane → Free old.books.exclusive lane → Ready view clock spare was (Runs kind facts lane t) old → (v : View) → view old.fs ≡ Some v
-      → Within (writes lane t v) (Guarantee (books_of old.books) v lane lane) × Shows old.books.start.deployments.items (writes lane t v) v e × Dooms lane (books_of old.books) e
+      → Within (writes lane t v) (Guarantee (books_of old.books) v lane lane) × Shows (listed_in (books_of old.books)) (writes lane t v) v e × Dooms lane (books_of old.books) e
   publish_duty old lane t e is turn_free free ready v told =
       subst (λ (k : Kind). StepObligation k lane lane v (books_of old.books) (writes lane t v) (leaves t (turn.Done tt) t v)) is
       (laws.duty lane lane t t v (books_of old.books) ready.sound.ordered.agrees (inl refl) (subst (λ (k : Kind). Stood k lane lane (books_of old.books)) (sym is) (turn_free, free)) (ready.task.facts v told))
@@ -197,6 +199,7 @@ module _ {F : Type 0} (view : F → Option View) (clock spare : F → ℕ) (was 
         replies = s.replies;
         opened = refl;
         start = refl;
+        listed = λ x other held. refl;
       }
 
   pub publish_acts : (old : Base F) (fs : F) (lane command : ℕ) (t next : T) (e : Event) (owed : ℕ) (h : Option Halt) (outcome : Outcome) → kind t ≡ Publish e → Free old.books.turn lane → Free old.books.exclusive lane → vec_len old.books.history < vec_capacity old.books.history
@@ -228,9 +231,12 @@ module _ {F : Type 0} (view : F → Option View) (clock spare : F → ℕ) (was 
             (subst (λ (o : Option Pending). Stands (opening_state old.books.start) old.books.history.items o v) none stands))
             (λ v w told_v told_w there.
             let d = publish_duty old lane t e is turn_free free ready v told_v in
-            claims_stand (books_of old.books) v w lane lane (weaker (writes lane t v) (Guarantee (books_of old.books) v lane lane) v w d.0 (told_same (view fs) w told_w (wrote v told_v))) old.books.claims.items old.books.claims.items (λ c has. has) there);
+            claims_stand (books_of old.books) v w lane lane (weaker (writes lane t v) (Guarantee (books_of old.books) v lane lane) v w d.0 (told_same (view fs) w told_w (wrote v told_v))) old.books.claims.items old.books.claims.items (λ c has. has) there)
+            (λ v told_v relists q is_q more.
+            let k : p ≡ q = cc in
+            subst (λ (x : Pending). old.books.sysroot ≡ Some x.lane) k (relisted_by e lane (books_of old.books) (publish_duty old lane t e is turn_free free ready v told_v).2 (subst (λ (x : Pending). IsSome (list_in x.event)) (sym k) more)));
         does = λ v told. let w = wrote v told in let d = publish_duty old lane t e is turn_free free ready v told in
-            (w.0, w.1, record { writes = weaker (writes lane t v) (Guarantee (books_of old.books) v lane lane) v w.0 d.0 w.2; books = spared; claims = λ c has. inl has });
+            (w.0, w.1, record { writes = weaker (writes lane t v) (Guarantee (books_of old.books) v lane lane) v w.0 d.0 w.2; books = spared; claims = λ c has. inl has; listed = λ x other held. refl });
         books = spared;
         tells = tells;
       }
@@ -247,7 +253,7 @@ module _ {F : Type 0} (view : F → Option View) (clock spare : F → ℕ) (was 
             let v = fslaws.told fs old.fs w told_w in
             laws.next lane lane t next v.0 w (books_of old.books) b (subst (λ (k : Kind). Stood k lane lane (books_of old.books)) (sym is) (turn_free, free)) (ready.task.facts v.0 v.1)
             (told_same (view fs) w told_w (subst (λ x. Told (view fs) (λ w. leaves t x next v.0 w)) more (after v.0 v.1)))
-            (record { exclusive = λ k. k; turn = λ k. refl; sysroot = λ k. k; holds = λ x l k. k; wants = λ x l k. k; pins = λ x l k. k; pinned = λ x l k. k; claims = λ c k. k; others = λ c l k. k; start = refl })
+            (record { exclusive = λ k. k; turn = λ k. refl; sysroot = λ k. k; holds = λ x l k. k; wants = λ x l k. k; pins = λ x l k. k; pinned = λ x l k. k; claims = λ c k. k; others = λ c l k. k; start = refl; listed = refl })
             (subst (λ (k : Kind). Owned k lane (books_of old.books) b) (sym is) (doomed_published lane command e (books_of old.books) (publish_duty old lane t e is turn_free free ready v.0 v.1).2, refl));
         holds = follows_holds e (owed_by (kind next)) (kind next) lane b chain (record { command = command; turn = refl; pending = refl; owes = omega arith });
       }
@@ -283,6 +289,7 @@ module _ {F : Type 0} (view : F → Option View) (clock spare : F → ℕ) (was 
         replies = s.replies;
         opened = refl;
         start = refl;
+        listed = λ x other held. refl;
       } in
       record {
         sound = sound_goes view clock spare was fslaws old (record { fs = fs; books = record old.books { owed = old.books.owed - 1; gone = g; halted = h } }) [] sound time
@@ -300,9 +307,10 @@ module _ {F : Type 0} (view : F → Option View) (clock spare : F → ℕ) (was 
             let d = parts v told_v in
             stands_away (opening_state old.books.start) old.books.history.items (books_of old.books) lane lane (writes lane t v) v w (told_same (view fs) w told_w (wrote v told_v)) d.0 d.1 stands)
             (λ v w told_v told_w there.
-            claims_stand (books_of old.books) v w lane lane (weaker (writes lane t v) (Guarantee (books_of old.books) v lane lane) v w (parts v told_v).0 (told_same (view fs) w told_w (wrote v told_v))) old.books.claims.items old.books.claims.items (λ c has. has) there);
+            claims_stand (books_of old.books) v w lane lane (weaker (writes lane t v) (Guarantee (books_of old.books) v lane lane) v w (parts v told_v).0 (told_same (view fs) w told_w (wrote v told_v))) old.books.claims.items old.books.claims.items (λ c has. has) there)
+            (λ v told_v relists. relists);
         does = λ v told. let w = wrote v told in let d = parts v told in
-            (w.0, w.1, record { writes = weaker (writes lane t v) (Guarantee (books_of old.books) v lane lane) v w.0 d.0 w.2; books = spared; claims = λ c has. inl has });
+            (w.0, w.1, record { writes = weaker (writes lane t v) (Guarantee (books_of old.books) v lane lane) v w.0 d.0 w.2; books = spared; claims = λ c has. inl has; listed = λ x other held. refl });
         books = spared;
         tells = tells;
       }
@@ -361,7 +369,7 @@ module _ {F : Type 0} (view : F → Option View) (clock spare : F → ℕ) (was 
             let v = fslaws.told fs old.fs w told_w in
             laws.next lane lane t next v.0 w (books_of old.books) b (subst (λ (x : Kind). Stood x lane lane (books_of old.books)) (sym is) stood) (ready.task.facts v.0 v.1)
             (told_same (view fs) w told_w (subst (λ x. Told (view fs) (λ w. leaves t x next v.0 w)) more (after v.0 v.1)))
-            (record { exclusive = λ h. h; turn = λ h. h; sysroot = λ h. h; holds = λ x l h. h; wants = λ x l h. h; pins = λ x l h. h; pinned = λ x l h. h; claims = λ c h. h; others = λ c l h. h; start = refl })
+            (record { exclusive = λ h. h; turn = λ h. h; sysroot = λ h. h; holds = λ x l h. h; wants = λ x l h. h; pins = λ x l h. h; pinned = λ x l h. h; claims = λ c h. h; others = λ c l h. h; start = refl; listed = refl })
             (subst (λ (x : Kind). Owned x lane (books_of old.books) b) (sym is) owned);
         holds = follows_holds e chain.0 (kind next) lane b chain.2
             (record { command = pend.command; turn = pend.turn; pending = pend.pending; owes = omega (arith, follows_owed e chain.0 (kind next) chain.2, chain.1, pend.owes) });
@@ -395,8 +403,8 @@ module _ {F : Type 0} (view : F → Option View) (clock spare : F → ℕ) (was 
   pub make_durable_more : (t next : T) (u : StepResult (Unit {0})) (e : Event) → kind t ≡ MakeDurable e → u ≡ turn.More → stepped t u next → ⊥
   make_durable_more t next u e is more step = let bad : Chain (MakeDurable e) (kind next) = subst (λ (k : Kind). Chain k (kind next)) is (laws.chain t next (subst (λ x. stepped t x next) more step)) in bad
 
-  make_durable_spared : (b b' : rust.Books) (lane : ℕ) (en : Entry) (p : Pending) → b' ≡ record b { history = b'.history; pending = None; owed = 0 } → b'.history.items ≡ b.history.items ++ en ∷ [] → b.pending ≡ Some p → p.lane ≡ lane → Spared lane lane (books_of b) (books_of b')
-  make_durable_spared b b' lane en p same grows pend own_p =
+  make_durable_spared : (b b' : rust.Books) (lane : ℕ) (en : Entry) (p : Pending) → b' ≡ record b { history = b'.history; pending = None; owed = 0 } → b'.history.items ≡ b.history.items ++ en ∷ [] → b.pending ≡ Some p → p.lane ≡ lane → b.turn ≡ Some lane → Agrees (books_of b) → Spared lane lane (books_of b) (books_of b')
+  make_durable_spared b b' lane en p same grows pend own_p turn_is agrees =
       let s = spared_refl lane lane (books_of b) in
       let mine : (q : Pending) → b.pending ≡ Some q → q.lane ≡ lane = (λ q is. let one : Some p ≡ Some q = sym pend ∙ is in let k : p ≡ q = cc in ap (λ (x : Pending). x.lane) (sym k) ∙ own_p) in
       subst (λ (x : rust.Books). Spared lane lane (books_of b) (books_of x)) (sym same)
@@ -421,7 +429,25 @@ module _ {F : Type 0} (view : F → Option View) (clock spare : F → ℕ) (was 
         replies = s.replies;
         opened = refl;
         start = refl;
+        listed = λ x other held. absurd (other (sym (agrees.turn x lane held turn_is)));
       })
+
+  -- while another lane works on the list none comes to last
+  relisted : (old new : Base F) (lane : ℕ) (e : Event) (en : Entry) (x : ℕ) → x ≢ lane → old.books.sysroot ≡ Some x → new.books.history.items ≡ old.books.history.items ++ en ∷ [] → new.books.start ≡ old.books.start
+      → (IsSome (list_in en.event) → old.books.sysroot ≡ Some lane) → listed_in (books_of new.books) ≡ listed_in (books_of old.books)
+  relisted old new lane e en x other held history start mine = by (list_in en.event) refl
+    where
+      begin : SystemState
+      begin = opening_state old.books.start
+
+      pushed : listed_in (books_of new.books) ≡ next_list (list_in en.event) (listed_in (books_of old.books))
+      pushed = rw (history, start) (list_push old.books.history.items en begin)
+
+      by : (o : Option (List DepId)) → list_in en.event ≡ o → listed_in (books_of new.books) ≡ listed_in (books_of old.books)
+      by None is = pushed ∙ ap (λ (o : Option (List DepId)). next_list o (listed_in (books_of old.books))) is
+      by (Some list) is =
+          let both : Some lane ≡ Some x = sym (mine (subst (λ (o : Option (List DepId)). IsSome o) (sym is) refl)) ∙ held in
+          absurd (other (let k : x ≡ lane = cc in k))
 
   -- The step that makes the change durable.
   pub make_durable_acts : (old mid new : Base F) (lane : ℕ) (t next : T) (u : StepResult (Unit {0})) (e : Event) (runs : Option View → Books → Type 0) → kind t ≡ MakeDurable e
@@ -444,7 +470,7 @@ module _ {F : Type 0} (view : F → Option View) (clock spare : F → ℕ) (was 
       let fewer : (c : claim.Claim) → Contains new.books.claims.items c → Contains old.books.claims.items c = (λ c has. subst (λ (b : rust.Books). Contains b.claims.items c) same (ends.claims c has)) in
       let ord = ready.sound.ordered in
       let agrees : Agrees (books_of mid.books) = subst (λ (b : rust.Books). Agrees (books_of b)) (sym same) (record { turn = ord.agrees.turn; shared = ord.agrees.shared; doomed = doomed_held old.books.exclusive None }) in
-      let spared = spared_then lane lane (books_of old.books) (books_of mid.books) (books_of new.books) (make_durable_spared old.books mid.books lane en p same grows pend.pending refl) ends.spared in
+      let spared = spared_then lane lane (books_of old.books) (books_of mid.books) (books_of new.books) (make_durable_spared old.books mid.books lane en p same grows pend.pending refl pend.turn ord.agrees) ends.spared in
       record {
         sound = sound_goes view clock spare was fslaws old new [] ready.sound (subst (Calls old.fs) (sym ends.fs) time)
             (record {
@@ -469,9 +495,10 @@ module _ {F : Type 0} (view : F → Option View) (clock spare : F → ℕ) (was 
             (λ v w told_v told_w there.
             let told_m : view mid.fs ≡ Some w = ap view (sym ends.fs) ∙ told_w in
             let d = make_durable_duty old lane t next e is ready v told_v in
-            claims_stand (books_of old.books) v w lane lane (weaker (writes lane t v) (Guarantee (books_of old.books) v lane lane) v w (λ q s k. absurd (d.0 q s k)) (told_same (view mid.fs) w told_m (wrote v told_v))) old.books.claims.items new.books.claims.items fewer there);
+            claims_stand (books_of old.books) v w lane lane (weaker (writes lane t v) (Guarantee (books_of old.books) v lane lane) v w (λ q s k. absurd (d.0 q s k)) (told_same (view mid.fs) w told_m (wrote v told_v))) old.books.claims.items new.books.claims.items fewer there)
+            (λ v told_v relists q bad. absurd (let z : None ≡ Some q = sym none ∙ bad in cc));
         does = λ v told. let w = wrote v told in let d = make_durable_duty old lane t next e is ready v told in
-            (w.0, ap view ends.fs ∙ w.1, record { writes = weaker (writes lane t v) (Guarantee (books_of old.books) v lane lane) v w.0 (λ q s k. absurd (d.0 q s k)) w.2; books = spared; claims = λ c has. inl (fewer c has) });
+            (w.0, ap view ends.fs ∙ w.1, record { writes = weaker (writes lane t v) (Guarantee (books_of old.books) v lane lane) v w.0 (λ q s k. absurd (d.0 q s k)) w.2; books = spared; claims = λ c has. inl (fewer c has); listed = λ x other held. relisted old new lane e en x other held history start (λ more. ready.sound.relists v told p pend.pending more) });
         books = spared;
         tells = tt;
       }
@@ -518,6 +545,7 @@ module _ {F : Type 0} (view : F → Option View) (clock spare : F → ℕ) (was 
       let owed : made.owed ≡ old.books.owed = ap (λ b. b.owed) same in
       let gone : made.gone ≡ old.books.gone = ap (λ b. b.gone) same in
       let turn : made.turn ≡ old.books.turn = ap (λ b. b.turn) same in
+      let sysroot : made.sysroot ≡ old.books.sysroot = ap (λ b. b.sysroot) same in
       let opened : made.opened ≡ old.books.opened = ap (λ b. b.opened) same in
       let start : made.start ≡ old.books.start = ap (λ b. b.start) same in
       record {
@@ -534,6 +562,7 @@ module _ {F : Type 0} (view : F → Option View) (clock spare : F → ℕ) (was 
           stands = rw (items, pending, start) ready.sound.stands;
           crash = rw (items, pending, start, opened) ready.sound.crash;
           claims = rw (ap (λ b. b.claims.items) same) ready.sound.claims;
+          relists = λ v told p is more. sysroot ∙ ready.sound.relists v told p (sym pending ∙ is) more;
         };
         live = ap (λ b. b.halted) same ∙ ready.live;
         task = subst (runs (view old.fs)) (sym eq) ready.task;

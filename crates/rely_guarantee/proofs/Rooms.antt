@@ -29,6 +29,7 @@ module _ {F : Type 0} (view : F → Option View) (clock spare : F → ℕ) (was 
       let owed : made.owed ≡ old.books.owed = ap (λ b. b.owed) eq in
       let gone : made.gone ≡ old.books.gone = ap (λ b. b.gone) eq in
       let turn : made.turn ≡ old.books.turn = ap (λ b. b.turn) eq in
+      let sysroot : made.sysroot ≡ old.books.sysroot = ap (λ b. b.sysroot) eq in
       let opened : made.opened ≡ old.books.opened = ap (λ b. b.opened) eq in
       let start : made.start ≡ old.books.start = ap (λ b. b.start) eq in
       let claims : made.claims.items ≡ old.books.claims.items = ap (λ b. b.claims) eq in
@@ -47,6 +48,7 @@ module _ {F : Type 0} (view : F → Option View) (clock spare : F → ℕ) (was 
           stands = rw (history, pending, start) ready.sound.stands;
           crash = rw (history, pending, start, opened) ready.sound.crash;
           claims = rw claims ready.sound.claims;
+          relists = λ v told p has more. sysroot ∙ ready.sound.relists v told p (sym pending ∙ has) more;
         };
         live = ap (λ b. b.halted) eq ∙ ready.live;
         task = subst (runs (view old.fs)) (sym eq) ready.task;

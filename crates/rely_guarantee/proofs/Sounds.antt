@@ -10,8 +10,9 @@ use Rattle.rely_guarantee.specs.declared.books.Base.{Base}
 use Rattle.rely_guarantee.specs.declared.books.Entry.{Entry}
 use Rattle.rely_guarantee.specs.declared.books.Pending.{Pending}
 use Rattle.rely_guarantee.specs.declared.event.Event.{Event}
+use Rattle.rely_guarantee.specs.Books.{books_of}
 use Rattle.rely_guarantee.specs.State.{stored, acked, SystemState, opening_state}
-use Rattle.rely_guarantee.specs.SystemInvariant.{AreThere, Stands, Fits, Crash, Ordered, SystemInvariant}
+use Rattle.rely_guarantee.specs.SystemInvariant.{AreThere, IsRelistedByHolder, Stands, Fits, Crash, Ordered, SystemInvariant}
 use Rattle.rely_guarantee.proofs.Goods.{fits_now}
 
 -- What a crash left before goes on to fit while the history grows, since what it gained came later; what it leaves now fits.
@@ -55,8 +56,9 @@ module _ {F : Type 0} (view : F → Option View) (clock spare : F → ℕ) (was 
       → ((t : ℕ) → t ≤ clock old.fs → acked t new.books.history.items ≡ acked t old.books.history.items)
       → ((v w : View) → view old.fs ≡ Some v → view new.fs ≡ Some w → Stands (opening_state old.books.start) old.books.history.items old.books.pending v → Stands (opening_state old.books.start) new.books.history.items new.books.pending w)
       → ((v w : View) → view old.fs ≡ Some v → view new.fs ≡ Some w → AreThere old.books.claims.items v → AreThere new.books.claims.items w)
+      → ((v : View) → view old.fs ≡ Some v → IsRelistedByHolder (books_of old.books) → IsRelistedByHolder (books_of new.books))
       → SystemInvariant view clock spare was new
-  sound_goes old new more sound time ordered opened start grows same stands there = record {
+  sound_goes old new more sound time ordered opened start grows same stands there relists = record {
     ordered = ordered;
     stands = λ w is. subst (λ (l : Start). Stands (opening_state l) new.books.history.items new.books.pending w) (sym start) (now w is);
     crash = λ w is.
@@ -69,6 +71,7 @@ module _ {F : Type 0} (view : F → Option View) (clock spare : F → ℕ) (was 
         (λ t d left. laws.bound old.fs t left.0 left.1)
         grows same now));
     claims = λ w is. let v = laws.told new.fs old.fs w is in there v.0 w v.1 is (sound.claims v.0 v.1);
+    relists = λ w is. let v = laws.told new.fs old.fs w is in relists v.0 v.1 (sound.relists v.0 v.1);
   }
     where
       now : (w : View) → view new.fs ≡ Some w → Stands (opening_state old.books.start) new.books.history.items new.books.pending w

@@ -1,7 +1,7 @@
 -- The state after events.
-use Rattle.std.proofs.Common.{◌≡◌, ◌+◌, ◌<◌, ◌≤◌, ℕ, suc, Bool, true, false, refl, sym, ◌∙◌, ap, subst, arith, List, [], ◌∷◌, ◌++◌, length, nat_le, Option, Some, None, if◌then◌else◌, take, codes}
+use Rattle.std.proofs.Common.{◌≡◌, ◌+◌, ◌<◌, ◌≤◌, ℕ, suc, Bool, true, false, refl, sym, ◌∙◌, ap, subst, arith, List, [], ◌∷◌, ◌++◌, length, nat_le, Option, Some, None, if◌then◌else◌, get_or, take, codes}
 use Rattle.std.proofs.lemmas.Bool.Decides.{nat_tests}
-use Rattle.std.proofs.Math.Seq.{take-append_seam}
+use Rattle.std.proofs.Math.Seq.{take-append_seam, take-suc}
 use Rattle.ost_types.proofs.Paths.{same_name-Decides}
 use Rattle.ost_types.specs.Csum.{hex_of}
 use Rattle.ost_types.proofs.HexSums.{IsHexSum-hex_of}
@@ -13,8 +13,8 @@ use Rattle.repo_layout.specs.Paths.{in_repo, mark_path}
 use Rattle.repo_layout.proofs.Places.{mark_path-injective}
 use Rattle.rely_guarantee.specs.declared.books.Entry.{Entry}
 use Rattle.rely_guarantee.specs.declared.event.Event.{Event}
-use Rattle.rely_guarantee.specs.declared.event.Event.TheVariants.{SetRef, DropRef, Pruned}
-use Rattle.rely_guarantee.specs.State.{Topic, RefOf, Said, State, same_topic, is_topic, target, gives, IsValid, next, Applies, after, IsRun, IsNamed, events_of, acked, Ascends, SystemState, next_refs}
+use Rattle.rely_guarantee.specs.declared.event.Event.TheVariants.{SetRef, DropRef, Pruned, SetDeployments}
+use Rattle.rely_guarantee.specs.State.{Topic, RefOf, Said, State, same_topic, is_topic, target, gives, IsValid, next, Applies, after, IsRun, IsNamed, events_of, acked, Ascends, SystemState, list_in, next_list, next_refs}
 use Rattle.rely_guarantee.specs.Disks.{IsLeaf, Says}
 
 pub topic_same : (a b : Topic) → same_topic a b ≡ true → a ≡ b
@@ -43,11 +43,6 @@ pub after_push : (es : List Event) (e : Event) (s : SystemState) → after (es +
 after_push [] e s = refl
 after_push (x ∷ es) e s = after_push es e (next x s)
 
--- no event changes which deployments boot
-pub same_deployments : (es : List Event) (s : SystemState) → (after es s).deployments ≡ s.deployments
-same_deployments [] s = refl
-same_deployments (e ∷ es) s = same_deployments es (next e s)
-
 pub run_push : (es : List Event) (e : Event) (s : SystemState) → IsRun es s → Applies e (after es s) → IsRun (es ++ e ∷ []) s
 run_push [] e s run one = (one, tt)
 run_push (x ∷ es) e s run one = (run.0, run_push es e (next x s) run.1 one)
@@ -59,6 +54,19 @@ run_front (x ∷ es) more s run = (run.0, run_front es more (next x s) run.1)
 pub events_push : (es : List Entry) (e : Entry) → events_of (es ++ e ∷ []) ≡ events_of es ++ e.event ∷ []
 events_push [] e = refl
 events_push (x ∷ es) e = ap (λ (l : List Event). x.event ∷ l) (events_push es e)
+
+-- which deployments boot behind one more
+pub list_push : (es : List Entry) (e : Entry) (s : SystemState) → (after (events_of (es ++ e ∷ [])) s).deployments ≡ next_list (list_in e.event) (after (events_of es) s).deployments
+list_push es e s = ap (λ (l : List Event). (after l s).deployments) (events_push es e) ∙ ap (λ (x : SystemState). x.deployments) (after_push (events_of es) e.event s)
+
+next_count : (i : ℕ) → i + 1 ≡ suc i
+next_count i = omega arith
+
+-- behind the first so many and one more
+pub list_item : (i : ℕ) (es : List Entry) (e : Entry) (s : SystemState) → i < length es → e ≡ get_or es i e → (after (events_of (take (i + 1) es)) s).deployments ≡ next_list (list_in e.event) (after (events_of (take i es)) s).deployments
+list_item i es e s less is =
+    let more : take (i + 1) es ≡ take i es ++ e ∷ [] = ap (λ n. take n es) (next_count i) ∙ take-suc es i e less ∙ ap (λ z. take i es ++ z ∷ []) (sym is) in
+    ap (λ (l : List Entry). (after (events_of l) s).deployments) more ∙ list_push (take i es) e s
 
 pub length-events : (es : List Entry) → length (events_of es) ≡ length es
 length-events [] = refl
@@ -86,6 +94,7 @@ event_named : (e : Event) (name commit : List ℕ) → IsValid e → target e �
 event_named (SetRef n seen c) name commit valid at is = let e : Some (RefOf n) ≡ Some (RefOf name) = at in let k : n ≡ name = cc in subst IsRefName k valid.0
 event_named (DropRef n seen) name commit valid at is = let e : None ≡ Some commit = is in cc
 event_named (Pruned depth roots held removed) name commit valid at is = let e : None ≡ Some commit = is in cc
+event_named (SetDeployments change list) name commit valid at is = let e : None ≡ Some commit = is in cc
 
 next_named : (e : Event) (s : SystemState) → Applies e s → IsNamed s.refs → IsNamed (next e s).refs
 next_named e s one was name commit is = by (is_topic (target e) (RefOf name)) refl

@@ -9,11 +9,11 @@ use Rattle.fs_trait.specs.View.{View}
 use Rattle.fs_trait.specs.Seen.{Seen}
 use Rattle.fs_trait.proofs.Kept.{weaker}
 use Rattle.repo_layout.specs.Place.{Place, Config, Stage, Ref, ObjectsFolder, Object, Mark, Summary, Deployment, Etc, Origin, Staged, BootLink, BootLinkStage, BootFolder, Loader, LoaderStage, LoaderFolder, KernelCopy, Checkout, Other, place}
+use Rattle.boot_model.specs.declared.item.DepId.{DepId}
 use Rattle.repo_model.specs.Objects.{Stores}
 use Rattle.repo_model.specs.Trees.{name_of}
 use Rattle.reach.proofs.Reaching.{reach_up}
 use Rattle.rely_guarantee.specs.State.{IsDeployedCommit}
-use Rattle.rely_guarantee.specs.declared.books.Start.{Start}
 use Rattle.rely_guarantee.specs.declared.books.Base.{Base}
 use Rattle.rely_guarantee.specs.declared.books.Books as rust
 use Rattle.rely_guarantee.specs.declared.books.Claim as claim
@@ -76,7 +76,7 @@ may_less b b' v actor lane sp ke same next p s m = record {
     root_before : (o : ObjName) → IsRoot b v lane o → IsRoot b' v lane o
     root_before o = ⊎_elim
         (λ pin. inl (pin.0, sp.pins pin.0 pin.2 pin.1, pin.2, pin.3))
-        (λ more. inr (⊎_elim (λ named. inl named) (λ listed. inr (subst (λ (s : Start). IsDeployedCommit s.deployments.items o) (sym sp.start) listed)) more))
+        (λ more. inr (⊎_elim (λ named. inl named) (λ listed. inr (subst (λ (list : List DepId). IsDeployedCommit list o) (sym ke.listed) listed)) more))
 
     guarded_before : (o : ObjName) → IsGuarded b v lane o → IsGuarded b' v lane o
     guarded_before = reach_up (Stores v.now) (Stores v.now) (IsRoot b v lane) (IsRoot b' v lane) root_before (λ o c stored. stored)
@@ -146,7 +146,7 @@ module _ (b : rust.Books) (left : rust.Books) (lane : ℕ) (kept : (x : Share) �
   left_books = record b { shared = left.shared }
 
   left_keeps : Keeps lane (books_of b) (books_of left_books)
-  left_keeps = record { exclusive = λ k. k; turn = λ k. k; sysroot = λ k. k; holds = λ h l k. k; wants = λ w l k. k; pins = λ p l k. k; pinned = λ p l k. k; claims = λ c k. k; others = λ c l k. k; start = refl }
+  left_keeps = record { exclusive = λ k. k; turn = λ k. k; sysroot = λ k. k; holds = λ h l k. k; wants = λ w l k. k; pins = λ p l k. k; pinned = λ p l k. k; claims = λ c k. k; others = λ c l k. k; start = refl; listed = refl }
 
   left_spared : Spared lane lane (books_of b) (books_of left_books)
   left_spared =
@@ -172,6 +172,7 @@ module _ (b : rust.Books) (left : rust.Books) (lane : ℕ) (kept : (x : Share) �
         replies = s.replies;
         opened = refl;
         start = refl;
+        listed = λ x other held. refl;
       }
 
   left_agrees : Agrees (books_of b) → Agrees (books_of left_books)
@@ -215,6 +216,7 @@ module _ {F : Type 0} (view : F → Option View) (clock spare : F → ℕ) (was 
           stands = rw (history, pending, start) ready.sound.stands;
           crash = rw (history, pending, start, opened) ready.sound.crash;
           claims = rw (ap (λ x. x.claims) same) ready.sound.claims;
+          relists = λ v told p has more. let before : old.books.pending ≡ Some p = sym pending ∙ has in spared.sysroot p.lane (none p before) (ready.sound.relists v told p before more);
         };
         live = ap (λ x. x.halted) same ∙ ready.live;
         task = record {
@@ -228,7 +230,7 @@ module _ {F : Type 0} (view : F → Option View) (clock spare : F → ℕ) (was 
   take_acts old new b lane outcome runs same next spared keeps acts = record {
     sound = acts.sound;
     does = λ v told. let d = acts.does v told in
-        (d.0, d.1, record { writes = weaker (Guarantee (books_of b) v lane lane) (Guarantee (books_of old.books) v lane lane) v d.0 (may_less (books_of old.books) (books_of b) v lane lane spared keeps (ap (λ l. l.items) same) next) d.2.writes; books = spared_then lane lane (books_of old.books) (books_of b) (books_of new.books) spared d.2.books; claims = λ c has. ⊎_elim (λ was. inl (subst (λ l. Contains l.items c) same was)) (λ none. inr none) (d.2.claims c has) });
+        (d.0, d.1, record { writes = weaker (Guarantee (books_of b) v lane lane) (Guarantee (books_of old.books) v lane lane) v d.0 (may_less (books_of old.books) (books_of b) v lane lane spared keeps (ap (λ l. l.items) same) next) d.2.writes; books = spared_then lane lane (books_of old.books) (books_of b) (books_of new.books) spared d.2.books; claims = λ c has. ⊎_elim (λ was. inl (subst (λ l. Contains l.items c) same was)) (λ none. inr none) (d.2.claims c has); listed = λ x other held. d.2.listed x other (spared.sysroot x other held) ∙ keeps.listed });
     books = spared_then lane lane (books_of old.books) (books_of b) (books_of new.books) spared acts.books;
     tells = acts.tells;
   }
@@ -259,8 +261,8 @@ module _ {F : Type 0} (view : F → Option View) (clock spare : F → ℕ) (was 
 
     left_acts : (outcome : Outcome) (t : T) → Acts view clock spare was lane lane outcome (Runs kind facts lane t) old new → Acts view clock spare was lane lane outcome (Runs kind facts lane t) old left_base
     left_acts outcome t acts = record {
-      sound = record { ordered = left_ordered acts.sound.ordered; stands = acts.sound.stands; crash = acts.sound.crash; claims = acts.sound.claims };
-      does = λ v told. let d = acts.does v told in (d.0, d.1, record { writes = d.2.writes; books = left_spares d.2.books; claims = d.2.claims });
+      sound = record { ordered = left_ordered acts.sound.ordered; stands = acts.sound.stands; crash = acts.sound.crash; claims = acts.sound.claims; relists = acts.sound.relists };
+      does = λ v told. let d = acts.does v told in (d.0, d.1, record { writes = d.2.writes; books = left_spares d.2.books; claims = d.2.claims; listed = d.2.listed });
       books = left_spares acts.books;
       tells = left_tells outcome t acts.tells;
     }

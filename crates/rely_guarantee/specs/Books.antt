@@ -1,6 +1,7 @@
 -- Who holds what, and what was changed.
 use Rattle.std.specs.Prelude.{◌≡◌, ◌≢◌, ◌⊎◌, ◌<◌, ◌≤◌, ℕ, IsTrue, IsSome, List, [], ◌++◌, All, Contains, Option, Some, nat_eq, if◌then◌else◌}
 use Rattle.std.specs.Vec.{vec_len, vec_capacity}
+use Rattle.boot_model.specs.declared.item.DepId.{DepId}
 use Rattle.ost_types.specs.declared.object.ObjName.{ObjName}
 use Rattle.ost_types.specs.Path.{Name}
 use Rattle.rely_guarantee.specs.declared.books.Books as rust
@@ -15,7 +16,7 @@ use Rattle.rely_guarantee.specs.declared.books.Use.{Use}
 use Rattle.rely_guarantee.specs.declared.books.Want.{Want}
 use Rattle.rely_guarantee.specs.declared.kind.Halt.{Halt}
 use Rattle.rely_guarantee.specs.declared.kind.Wants.{Wants}
-use Rattle.rely_guarantee.specs.State.{removed_by}
+use Rattle.rely_guarantee.specs.State.{after, events_of, opening_state, removed_by}
 
 -- the books as plain data: all that the system knows beside the disk
 pub record Books : Type 0 where
@@ -65,6 +66,10 @@ books_of b = record {
   opened = b.opened;
   start = b.start;
 }
+
+-- the deployments that boot, after all changes that last
+abbrev pub listed_in : Books → List DepId
+listed_in b = (after (events_of b.history) (opening_state b.start)).deployments
 
 -- nobody else holds it
 abbrev pub Free : Option ℕ → ℕ → Type 0
@@ -122,9 +127,11 @@ pub record Spared (actor lane : ℕ) (b b' : Books) : Type 0 where
   pub holds : (h : Hold) → h.lane ≢ lane → Contains b.holds h → Contains b'.holds h
   pub wants : (w : Want) → w.actor ≢ actor → w.lane ≢ lane → Contains b.wants w → Contains b'.wants w
   pub pins : (p : Pin) → p.lane ≢ lane → Contains b.pins p → Contains b'.pins p
-  -- nothing is pinned while another lane may remove, and what that one removes stays as it is
+  -- nothing is pinned while another lane may remove, and what that one removes stays as it is;
   pub pinned : (p : Pin) → Contains b'.pins p → Contains b.pins p ⊎ ((p.lane ≡ lane) × Free b.exclusive lane)
   pub doomed : (x : ℕ) → x ≢ lane → b.exclusive ≡ Some x → (b'.doomed ≡ b.doomed) × (b'.gone ≡ b.gone)
+  -- nor does another list come to last
+  pub listed : (x : ℕ) → x ≢ lane → b.exclusive ≡ Some x → listed_in b' ≡ listed_in b
   pub uses : (u : Use) → u.lane ≢ lane → Contains b.uses u → Contains b'.uses u
   -- the claims of others stay, and none comes
   pub claims : (c : Claim) → c.lane ≢ lane → Contains b.claims c → Contains b'.claims c
@@ -154,3 +161,4 @@ pub record Keeps (lane : ℕ) (b b' : Books) : Type 0 where
   pub claims : (c : Claim) → Contains b.claims c → Contains b'.claims c
   pub others : (c : Claim) → c.lane ≢ lane → Contains b'.claims c → Contains b.claims c
   pub start : b'.start ≡ b.start
+  pub listed : listed_in b' ≡ listed_in b

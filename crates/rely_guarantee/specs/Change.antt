@@ -8,9 +8,9 @@ use Rattle.repo_layout.specs.Paths.{object_path}
 use Rattle.repo_layout.specs.RefFile.{IsSum}
 use Rattle.boot_model.specs.declared.item.DepId.{DepId}
 use Rattle.rely_guarantee.specs.declared.event.Event.{Event}
-use Rattle.rely_guarantee.specs.declared.event.Event.TheVariants.{Pruned}
+use Rattle.rely_guarantee.specs.declared.event.Event.TheVariants.{Pruned, SetDeployments}
 use Rattle.rely_guarantee.specs.Books.{Books}
-use Rattle.rely_guarantee.specs.State.{Topic, target, before, gives, IsValid, HasRoots, SystemState}
+use Rattle.rely_guarantee.specs.State.{Topic, target, before, gives, IsValid, HasList, HasRoots, SystemState}
 use Rattle.rely_guarantee.specs.Disks.{path_of, Logical, Says}
 use Rattle.rely_guarantee.specs.SystemInvariant.{PublishedBy, Leads}
 
@@ -26,18 +26,20 @@ Away W = (t : Topic) (s : Seen) → W (path_of t) s → ⊥
 abbrev pub TakesNone : (Path → Seen → Type 0) → View → Type 0
 TakesNone W v = (kind : object.Kind) (sum : List ℕ) → IsSum sum → W (object_path kind sum) Vacant → shows v.now (object_path kind sum) ≡ Vacant
 
--- a change that takes objects away is shown by the holder of Exclusive alone
+-- A change that takes objects away is published by the holder of Exclusive alone, and one of the list by who works on it.
 abbrev pub Dooms : ℕ → Books → Event → Type 0
 Dooms lane b (Pruned depth roots held removed) = b.exclusive ≡ Some lane
+Dooms lane b (SetDeployments change list) = b.sysroot ≡ Some lane
 Dooms lane b e = Unit {0}
 
 -- The event's value, and nothing else, is written at the paths that the state speaks of; the event can be, what it changes shows now
--- what it says that it was, and its roots are those of the state that the view shows.
+-- what it says that it was, its roots are those of the state that the view shows, and its list comes from this one.
 pub record Shows (ids : List DepId) (W : Path → Seen → Type 0) (v : View) (e : Event) : Type 0 where
   pub writes : (t : Topic) (s : Seen) → W (path_of t) s → PublishedBy e t s
   pub valid : IsValid e
   pub was : (t : Topic) → target e ≡ Some t → Says t (before e) (shows v.now (path_of t))
   pub roots : (s : SystemState) → Logical v.now s.refs → s.deployments ≡ ids → HasRoots e s
+  pub list : HasList e ids
 
 -- Only the event's value is left at its path, and folders lead there, where there is one.
 pub record Final (e : Event) (w : View) : Type 0 where

@@ -18,7 +18,7 @@ use Rattle.rely_guarantee.specs.declared.kind.Outcome.TheVariants as came
 use Rattle.rely_guarantee.specs.declared.kind.StepKind.{StepKind}
 use Rattle.rely_guarantee.specs.declared.kind.StepKind.TheVariants as step
 use Rattle.rely_guarantee.specs.declared.kind.Wants.{Wants}
-use Rattle.rely_guarantee.specs.Books.{Books, books_of, Free, Granted, Agrees, Spared, Keeps, IsClaimed}
+use Rattle.rely_guarantee.specs.Books.{Books, books_of, listed_in, Free, Granted, Agrees, Spared, Keeps, IsClaimed}
 use Rattle.rely_guarantee.specs.Rely.{Guarantee, Interference}
 use Rattle.rely_guarantee.specs.State.{removed_by}
 use Rattle.rely_guarantee.specs.SystemInvariant.{SystemInvariant}
@@ -195,7 +195,7 @@ StepObligation Quiet actor lane v b W Done = Within W (Guarantee b v lane lane) 
 StepObligation Store actor lane v b W Done = Within W (Guarantee b v actor lane) × Still W v
 StepObligation (Take wants) actor lane v b W Done = Within W (Guarantee b v lane lane) × Still W v
 StepObligation (Claim name) actor lane v b W Done = Within W (Guarantee b v lane lane) × Still W v
-StepObligation (Publish e) actor lane v b W Done = Within W (Guarantee b v lane lane) × Shows b.start.deployments.items W v e × Dooms lane b e
+StepObligation (Publish e) actor lane v b W Done = Within W (Guarantee b v lane lane) × Shows (listed_in b) W v e × Dooms lane b e
 StepObligation (Published e owed) actor lane v b W Done = Within W (Guarantee b v lane lane) × Away W × TakesNone W v
 StepObligation (Remove e owed) actor lane v b W Done = Within W (Guarantee b v lane lane) × Away W × (b.gone < length b.doomed)
 StepObligation (MakeDurable e) actor lane v b W Done = Within W Nothing × ((w : View) → Done w → Final e w)

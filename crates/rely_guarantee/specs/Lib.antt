@@ -1,4 +1,5 @@
 pub mod Books
+pub mod Deployments
 pub mod State
 pub mod Disks
 pub mod Objects

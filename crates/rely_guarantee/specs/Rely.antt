@@ -1,5 +1,5 @@
 -- What an actor may write, as far as what the others hold goes, and what an act keeps for them.
-use Rattle.std.specs.Prelude.{◌≡◌, ◌≢◌, ◌⊎◌, ℕ, List, [], ◌∷◌, Contains, IsTrue}
+use Rattle.std.specs.Prelude.{◌≡◌, ◌≢◌, ◌⊎◌, ℕ, List, [], ◌∷◌, Contains, IsTrue, Some}
 use Rattle.ost_types.specs.declared.meta.Meta.{Meta}
 use Rattle.ost_types.specs.declared.object.Kind as object
 use Rattle.ost_types.specs.declared.object.Kind.TheVariants.{Commit}
@@ -17,7 +17,7 @@ use Rattle.layout_rules.specs.InLayout.{InLayout}
 use Rattle.rely_guarantee.specs.declared.books.Claim.{Claim}
 use Rattle.rely_guarantee.specs.declared.books.Pin.{Pin}
 use Rattle.rely_guarantee.specs.Disks.{IsLeaf}
-use Rattle.rely_guarantee.specs.Books.{Books, Free, Spared}
+use Rattle.rely_guarantee.specs.Books.{Books, Free, Spared, listed_in}
 use Rattle.rely_guarantee.specs.Removing.{Comes, Goes}
 
 -- no other lane has pinned the object
@@ -95,8 +95,10 @@ pub record Guarantee (b : Books) (v : View) (actor lane : ℕ) (p : Path) (s : S
   pub comes : (n : ℕ) (m : Meta) (bytes : List ℕ) → s ≡ Leaf n m bytes → IsFresh n v ⊎ ((q : Path) × Holds v q (File n) × NotOthers actor (place q))
   pub folders : IsDirectory s ⊎ NotDirectory (shows v.now p) ⊎ OwnTree actor (place p) ⊎ IsEmpty v p ⊎ HasNoRefs v p
 
--- An act of this actor for this lane: its writes, and all that others hold stays; a checkout is claimed only where nothing stands.
+-- An act of this actor for this lane: its writes, and all that others hold stays; a checkout is claimed only where nothing stands; and while
+-- another lane works on the list of deployments no other list comes to last.
 pub record Interference (actor lane : ℕ) (v : View) (b : Books) (w : View) (b' : Books) : Type 0 where
   pub writes : Writes (Guarantee b v actor lane) v w
   pub books : Spared actor lane b b'
   pub claims : (c : Claim) → Contains b'.claims c → Contains b.claims c ⊎ (shows v.now (checkout_path c.name) ≡ Vacant)
+  pub listed : (x : ℕ) → x ≢ lane → b.sysroot ≡ Some x → listed_in b' ≡ listed_in b

@@ -10,7 +10,7 @@ use Rattle.repo_model.specs.Objects.{Stores}
 use Rattle.repo_model.specs.Trees.{name_of}
 use Rattle.reach.specs.Reach.{ObjNames, Reach}
 use Rattle.rely_guarantee.specs.declared.books.Pin.{Pin}
-use Rattle.rely_guarantee.specs.Books.{Books}
+use Rattle.rely_guarantee.specs.Books.{Books, listed_in}
 use Rattle.rely_guarantee.specs.Disks.{path_of, Says}
 use Rattle.rely_guarantee.specs.Objects.{IsObjectSeen}
 use Rattle.rely_guarantee.specs.State.{Topic, Said, IsDeployedCommit, commits_of}
@@ -29,7 +29,7 @@ IsOfState v o = (t : Topic) × (value : Said) × (s : Seen) × MayBe v (path_of 
 
 -- the commit of a deployment that boots
 abbrev pub IsListed : Books → ObjNames
-IsListed b o = IsDeployedCommit b.start.deployments.items o
+IsListed b o = IsDeployedCommit (listed_in b) o
 
 -- what no act for this lane takes
 abbrev pub IsRoot : Books → View → ℕ → ObjNames

@@ -1,5 +1,5 @@
 -- What the stored history says: the state at the beginning, and after each event.
-use Rattle.std.specs.Prelude.{◌≡◌, ◌⊎◌, ◌↔◌, ◌+◌, ◌≤◌, ℕ, Bool, false, List, [], ◌∷◌, ◌++◌, map, nat_le, Contains, Option, Some, None, if◌then◌else◌}
+use Rattle.std.specs.Prelude.{◌≡◌, ◌⊎◌, ◌↔◌, ◌+◌, ◌≤◌, ℕ, Bool, false, List, [], ◌∷◌, ◌++◌, length, map, nat_le, Contains, Option, Some, None, if◌then◌else◌}
 use Rattle.ost_types.specs.declared.object.Kind.TheVariants.{Commit}
 use Rattle.ost_types.specs.declared.object.ObjName.{ObjName}
 use Rattle.ost_types.specs.Path.{same_name}
@@ -11,7 +11,8 @@ use Rattle.rely_guarantee.specs.declared.books.Entry.{Entry}
 use Rattle.rely_guarantee.specs.declared.books.Pending.{Pending}
 use Rattle.rely_guarantee.specs.declared.books.Start.{Start}
 use Rattle.rely_guarantee.specs.declared.event.Event.{Event}
-use Rattle.rely_guarantee.specs.declared.event.Event.TheVariants.{SetRef, DropRef, Pruned}
+use Rattle.rely_guarantee.specs.declared.event.Event.TheVariants.{SetRef, DropRef, Pruned, SetDeployments}
+use Rattle.rely_guarantee.specs.Deployments.{ChangesList, deployments_limit}
 
 -- what the state speaks of: a ref, by its name
 pub data Topic : Type 0 where
@@ -27,7 +28,7 @@ State = Topic → Said
 abbrev pub same_topic : Topic → Topic → Bool
 same_topic (RefOf a) (RefOf b) = same_name a b
 
--- The whole: the refs, and the deployments that boot, the one that boots first in front. No command changes which boot yet.
+-- The whole: the refs, and the deployments that boot, the one that boots first in front.
 pub record SystemState : Type 0 where
   pub refs : State
   pub deployments : List DepId
@@ -46,21 +47,29 @@ abbrev pub commits_of : Said → List (List ℕ)
 commits_of None = []
 commits_of (Some commit) = commit ∷ []
 
--- what an event changes, from what, and to what; a prune changes nothing that the state speaks of
+-- which ref an event changes, from what, and to what
 abbrev pub target : Event → Option Topic
 target (SetRef name seen commit) = Some (RefOf name)
 target (DropRef name seen) = Some (RefOf name)
 target (Pruned depth roots held removed) = None
+target (SetDeployments change list) = None
 
 abbrev pub before : Event → Said
 before (SetRef name seen commit) = seen
 before (DropRef name seen) = Some seen
 before (Pruned depth roots held removed) = None
+before (SetDeployments change list) = None
 
 abbrev pub gives : Event → Said
 gives (SetRef name seen commit) = Some commit
 gives (DropRef name seen) = None
 gives (Pruned depth roots held removed) = None
+gives (SetDeployments change list) = None
+
+-- the list that boots from then on, where it is another one
+abbrev pub list_in : Event → Option (List DepId)
+list_in (SetDeployments change list) = Some list.items
+list_in e = None
 
 -- the objects that it took away, in this order
 abbrev pub removed_by : Event → List ObjName
@@ -72,18 +81,23 @@ abbrev pub IsValid : Event → Type 0
 IsValid (SetRef name seen commit) = IsRefName name × IsSum commit
 IsValid (DropRef name seen) = IsRefName name
 IsValid (Pruned depth roots held removed) = Unit {0}
+IsValid (SetDeployments change list) = length list.items ≤ deployments_limit
 
 -- whether it is this topic
 abbrev pub is_topic : Option Topic → Topic → Bool
 is_topic None t = false
 is_topic (Some x) t = same_topic t x
 
--- the refs after an event, and the state
+-- the refs after an event, the deployments, and the state
 abbrev pub next_refs : Event → State → State
 next_refs e s t = if is_topic (target e) t then gives e else s t
 
+abbrev pub next_list : Option (List DepId) → List DepId → List DepId
+next_list None old = old
+next_list (Some list) old = list
+
 abbrev pub next : Event → SystemState → SystemState
-next e s = record s { refs = next_refs e s.refs }
+next e s = record { refs = next_refs e s.refs; deployments = next_list (list_in e) s.deployments }
 
 -- the commit is one that a ref names
 abbrev pub IsRefCommit : State → ObjName → Type 0
@@ -102,11 +116,17 @@ abbrev pub HasRoots : Event → SystemState → Type 0
 HasRoots (Pruned depth roots held removed) s = (o : ObjName) → Contains roots o ↔ IsCommitOf s o
 HasRoots e s = Unit {0}
 
+-- another list comes from the one before it
+abbrev pub HasList : Event → List DepId → Type 0
+HasList (SetDeployments change list) old = ChangesList change old list.items
+HasList e old = Unit {0}
+
 -- the event may follow this state
 pub record Applies (e : Event) (s : SystemState) : Type 0 where
   pub valid : IsValid e
   pub was : (t : Topic) → target e ≡ Some t → s.refs t ≡ before e
   pub roots : HasRoots e s
+  pub list : HasList e s.deployments
 
 -- the state after events
 abbrev pub after : List Event → SystemState → SystemState

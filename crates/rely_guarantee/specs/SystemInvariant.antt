@@ -1,5 +1,5 @@
 -- What every value of the system keeps.
-use Rattle.std.specs.Prelude.{◌≡◌, ◌≢◌, ◌⊎◌, ◌+◌, ◌<◌, ◌≤◌, ℕ, IsTrue, List, ◌++◌, length, Contains, Option, Some, None}
+use Rattle.std.specs.Prelude.{◌≡◌, ◌≢◌, ◌⊎◌, ◌+◌, ◌<◌, ◌≤◌, ℕ, IsTrue, IsSome, List, ◌++◌, length, Contains, Option, Some, None}
 use Rattle.std.specs.Vec.{vec_len, vec_capacity}
 use Rattle.ost_types.specs.Path.{Path, is_below, under}
 use Rattle.fs_trait.specs.Count.{last}
@@ -17,9 +17,9 @@ use Rattle.rely_guarantee.specs.declared.books.Claim.{Claim}
 use Rattle.rely_guarantee.specs.declared.books.Entry.{Entry}
 use Rattle.rely_guarantee.specs.declared.books.Pending.{Pending}
 use Rattle.rely_guarantee.specs.declared.event.Event.{Event}
-use Rattle.rely_guarantee.specs.State.{Topic, State, target, gives, after, IsRun, IsNamed, events_of, stored, acked, Ascends, SystemState, opening_state}
+use Rattle.rely_guarantee.specs.State.{Topic, State, list_in, target, gives, after, IsRun, IsNamed, events_of, stored, acked, Ascends, SystemState, opening_state}
 use Rattle.rely_guarantee.specs.Disks.{path_of, IsLeaf, Says, Logical, IsOther}
-use Rattle.rely_guarantee.specs.Books.{books_of, Agrees}
+use Rattle.rely_guarantee.specs.Books.{Books, books_of, Agrees}
 
 -- what is shown is the event's value
 abbrev pub PublishedBy : Event → Topic → Seen → Type 0
@@ -83,9 +83,14 @@ pub record Ordered {F : Type 0} (clock spare : F → ℕ) (base : Base F) : Type
 abbrev pub AreThere : List Claim → View → Type 0
 AreThere claims v = (c : Claim) → Contains claims c → shows v.now (checkout_path c.name) ≢ Vacant
 
+-- another list of deployments is published by the lane alone that works on it
+abbrev pub IsRelistedByHolder : Books → Type 0
+IsRelistedByHolder b = (p : Pending) → b.pending ≡ Some p → IsSome (list_in p.event) → b.sysroot ≡ Some p.lane
+
 -- What every value keeps.
 pub record SystemInvariant {F : Type 0} (view : F → Option View) (clock spare : F → ℕ) (was : F → ℕ → View → Type 0) (base : Base F) : Type 0 where
   pub ordered : Ordered clock spare base
   pub stands : (v : View) → view base.fs ≡ Some v → Stands (opening_state base.books.start) base.books.history.items base.books.pending v
   pub crash : (v : View) → view base.fs ≡ Some v → Crash (Left (was base.fs)) base.books.opened (opening_state base.books.start) base.books.history.items base.books.pending
   pub claims : (v : View) → view base.fs ≡ Some v → AreThere base.books.claims.items v
+  pub relists : (v : View) → view base.fs ≡ Some v → IsRelistedByHolder (books_of base.books)

@@ -1,3 +1,6 @@
+ghost use Rattle.std.specs.Prelude.{◌≡◌};
+ghost use Rattle.rely_guarantee.specs.Books.{books_of, listed_in};
+
 use crate::{Event, Halt};
 use boot_model::DepId;
 use ost_types::{Csum, Name, ObjName};
@@ -105,6 +108,19 @@ pub struct Books {
     pub opened: u64,
     /// What stood at the opening.
     pub start: Start,
+}
+
+impl Books {
+    /// The deployments that boot after all changes that last, the one that boots first in front.
+    pub fn deployments(&self) -> &[DepId]
+        ensures { result.now ≡ listed_in (books_of self.now) }
+    {
+        let mut list = self.start.deployments.as_slice();
+        for entry in &self.history {
+            list = entry.event.list_after(list);
+        }
+        list
+    }
 }
 
 /// The file system with the books.

@@ -1,3 +1,7 @@
+ghost use Rattle.std.specs.Prelude.{◌≡◌};
+ghost use Rattle.rely_guarantee.specs.State.{list_in, next_list};
+
+use boot_model::DepId;
 use ost_types::{Csum, ObjNames};
 use repo_layout::RefName;
 
@@ -26,4 +30,31 @@ pub enum Event {
         /// What it removed, in this order.
         removed: ObjNames,
     },
+    /// Another list of deployments boots. No ref changes.
+    SetDeployments {
+        change: DeploymentChange,
+        /// The list from then on, the one that boots first in front.
+        list: Vec<DepId>,
+    },
+}
+
+/// How a list of deployments comes from the one before it (OSTree manual, "Deployments").
+#[derive(Drop, Debug)]
+pub enum DeploymentChange {
+    /// A new one comes to its front. Behind it stay those of other stateroots, the first of its own, and these, which are in use.
+    Deploy { used: Vec<DepId> },
+    /// The one at this place goes.
+    Undeploy { place: u8 },
+}
+
+impl Event {
+    /// The list that boots after this change, where that one did before it.
+    pub fn list_after<'a>(&'a self, list: &'a [DepId]) -> &'a [DepId]
+        ensures { result.now ≡ next_list (list_in self.now) list.now }
+    {
+        match self {
+            Event::SetDeployments { change: _, list } => list.as_slice(),
+            _ => list,
+        }
+    }
 }

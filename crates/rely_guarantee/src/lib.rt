@@ -19,7 +19,7 @@ pub use barrier::Barrier;
 pub use books::{Base, Books, Claim, Entry, Hold, Pending, Pin, Share, Start, Use, Want};
 pub use crash::certify;
 pub use either::Either;
-pub use event::Event;
+pub use event::{DeploymentChange, Event};
 pub use kind::{Halt, Outcome, StepKind, Wants};
 pub use last::{openings_last, runs_outlast, stores_that_last};
 pub(crate) use locks::is_free;

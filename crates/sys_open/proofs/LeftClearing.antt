@@ -26,7 +26,7 @@ use Rattle.durable_list.specs.Standing.{ids_of}
 use Rattle.sys_open.specs.Walk.{IsSoBelow}
 use Rattle.sys_open.proofs.ChangedPlaces.{stage_place_is}
 use Rattle.sys_open.proofs.Clearings.{folder_still}
-use Rattle.sys_open.proofs.LeftOvers.{left_over_boot, lies_boot, none_left}
+use Rattle.sys_open.proofs.LeftOvers.{left_over_boot, lies_boot, lies_within, none_left}
 use Rattle.sys_open.proofs.ListKept.{few_names}
 use Rattle.sys_open.proofs.Reopening.{reached_kept}
 use Rattle.sys_open.proofs.Working.{one_view}
@@ -93,7 +93,7 @@ still_none d e keeps q is none = by (keeps q)
 
 -- what can be removed still can
 pub still_can_go : (d e : Disk) → IsSane d → Keeps d e → ((p : Path) → CanGo d p) → (paths : List Path) → AreLeftOvers d paths → (q : Path) → Contains paths q → IsSoBelow (IsReached e) q
-still_can_go d e sane keeps can_go paths are q has p below = reached_kept d e sane keeps p (can_go p (q, are.each q has, below))
+still_can_go d e sane keeps can_go paths are q has p below = reached_kept d e sane keeps p (can_go p (lies_within d p (q, are.each q has, below)))
 
 module _ (was : Disk) (paths : List Path) (are : AreLeftOvers was paths) (v u : View) (writes : Writes (ClearsAll paths) v u) where
   lies : (p : Path) → LiesBelow paths p → LiesIn was p

@@ -17,14 +17,14 @@ use Rattle.boot_read.specs.declared.row.BootRow.{BootRow}
 use Rattle.boot_read.specs.Rows.{AreRowsOf, IsBootRow}
 use Rattle.boot_read.proofs.Answered.{answered_once}
 use Rattle.deploy_clean.specs.Unlisted.{IsFree, IsPathOf, IsUnlisted, deployments, id_name}
-use Rattle.deploy_clean.proofs.Places.{id_under, unlisted_under}
+use Rattle.deploy_clean.proofs.Places.{id_under, origin_under, unlisted_under}
 use Rattle.deployment_check.specs.Deployments.{IsId, home_of}
 use Rattle.durable_deployments.specs.Standing.{IsInDeployment}
 use Rattle.durable_list.specs.Standing.{IsInVersion, IsListPath, ids_of}
 use Rattle.durable_list.proofs.Unwritten.{way_boot, way_ostree}
 use Rattle.rely_guarantee.specs.Rely.{IsBoot}
 use Rattle.sys_open.specs.Changes.{ClearsAll, ClearsUnlisted}
-use Rattle.sys_open.specs.LeftOver.{AreLeftOvers, IsLeftOver, IsOfNoRow, LiesIn}
+use Rattle.sys_open.specs.LeftOver.{AreLeftOvers, IsLeftOver, IsOfNoRow, LiesIn, LiesWithin, MayBeLeftOver}
 use Rattle.sys_open.proofs.Walks.{absent_or_not}
 
 -- ---- there is one list
@@ -49,17 +49,38 @@ row_id d rows row among (inr (loader, sub, selects, has, are)) =
 pub named_row : (rows : List BootRow) (row : BootRow) → Contains rows row → Contains (ids_of rows) row.id
 named_row rows row (k, less, is) = (k, omega (arith, less, length-map rows (λ (r : BootRow). r.id)), get_or-map (λ (r : BootRow). r.id) rows k row row.id less ∙ ap (λ (r : BootRow). r.id) is)
 
+-- ---- it is what may be left over
+
+pub may_unlisted : (listed : List DepId) (q : Path) → IsUnlisted listed q → (id : DepId) × IsId id × IsPathOf id q
+may_unlisted listed q (id, free, of) = (id, record { stateroot = free.stateroot; sum = free.sum; small = free.small }, of)
+
+pub may_left : (d : Disk) (q : Path) → IsLeftOver d q → MayBeLeftOver q
+may_left d q (inl is) = inl is
+may_left d q (inr (inl is)) = inr (inl is)
+may_left d q (inr (inr of)) = inr (inr (may_unlisted (ids_of of.rows) q of.unlisted))
+
+pub lies_within : (d : Disk) (p : Path) → LiesIn d p → LiesWithin p
+lies_within d p (q, is, below) = (q, may_left d q is, below)
+
 -- ---- whose place it is
 
+under_boot : (os name : Name) (rest : Path) → IsBoot (place (under (deployments os) name ++ rest))
+under_boot os name rest = way_ostree (under (deployments os) name ++ rest) [] (os ∷ codes "deploy" ∷ name ∷ rest) (codes "deploy") refl (sym (append-nil (under (deployments os) name ++ rest)))
+
+may_boot : (q rest : Path) → MayBeLeftOver q → IsBoot (place (q ++ rest))
+may_boot q rest (inl is) = way_boot (q ++ rest) [] (codes "loader.tmp" ∷ rest) (ap (λ r. r ++ rest) (sym is) ∙ sym (append-nil (q ++ rest)))
+may_boot q rest (inr (inl is)) = way_ostree (q ++ rest) [] rest (codes "boot.tmp") refl (ap (λ r. r ++ rest) (sym is) ∙ sym (append-nil (q ++ rest)))
+may_boot q rest (inr (inr (id, is, inl home))) = subst (λ r. IsBoot (place (r ++ rest))) (sym (home ∙ id_under id)) (under_boot id.os (id_name id) rest)
+may_boot q rest (inr (inr (id, is, inr origin))) = subst (λ r. IsBoot (place (r ++ rest))) (sym (origin ∙ origin_under id)) (under_boot id.os (id_name id ++ codes ".origin") rest)
+
+pub within_boot : (p : Path) → LiesWithin p → IsBoot (place p)
+within_boot p (q, may, below) = let s = below_split q p below in subst (λ r. IsBoot (place r)) (sym s.1) (may_boot q s.0 may)
+
 pub left_over_boot : (d : Disk) (q rest : Path) → IsLeftOver d q → IsBoot (place (q ++ rest))
-left_over_boot d q rest (inl is) = way_boot (q ++ rest) [] (codes "loader.tmp" ∷ rest) (ap (λ r. r ++ rest) (sym is) ∙ sym (append-nil (q ++ rest)))
-left_over_boot d q rest (inr (inl is)) = way_ostree (q ++ rest) [] rest (codes "boot.tmp") refl (ap (λ r. r ++ rest) (sym is) ∙ sym (append-nil (q ++ rest)))
-left_over_boot d q rest (inr (inr of)) =
-    let u = unlisted_under (ids_of of.rows) q of.unlisted in
-    way_ostree (q ++ rest) [] (u.os ∷ codes "deploy" ∷ u.name ∷ rest) (codes "deploy") refl (ap (λ r. r ++ rest) (sym u.at) ∙ sym (append-nil (q ++ rest)))
+left_over_boot d q rest is = may_boot q rest (may_left d q is)
 
 pub lies_boot : (d : Disk) (p : Path) → LiesIn d p → IsBoot (place p)
-lies_boot d p (q, is, below) = let s = below_split q p below in subst (λ r. IsBoot (place r)) (sym s.1) (left_over_boot d q s.0 is)
+lies_boot d p lies = within_boot p (lies_within d p lies)
 
 -- where links are staged, and below
 abbrev IsStaging : Place → Type 0

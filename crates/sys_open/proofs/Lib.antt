@@ -22,7 +22,10 @@ mod Laying
 mod StageClearing
 mod SeveralPaths
 mod Gathering
+mod Stays
 pub mod LeftOvers
+pub mod Bounds
+mod Within
 mod ChangedPlaces
 mod Configuring
 mod Arranging

@@ -29,6 +29,7 @@ module _ {F : Type 0} (view : F → Option View) (clock : F → ℕ) (was : F �
     opening = λ w now. is.opening w (sym quiet.view ∙ now);
     staging = λ w now. is.staging w (sym quiet.view ∙ now);
     left_over = λ w now. is.left_over w (sym quiet.view ∙ now);
+    bounded = λ w now. is.bounded w (sym quiet.view ∙ now);
     since = λ w now t e from left. is.since w (sym quiet.view ∙ now) t e from (left_still t e left);
   }
 

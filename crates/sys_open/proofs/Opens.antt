@@ -24,7 +24,8 @@ use Rattle.sys_open.specs.LeftOver.{LiesIn}
 use Rattle.sys_open.specs.Opened.{IsListed, IsOpened, KeepsGood, KeepsRows}
 use Rattle.sys_open.specs.Opening.{AreAscending, Begins, IsGoodSince, KeepsSince}
 use Rattle.sys_open.proofs.Beginning.{logical_kept}
-use Rattle.sys_open.proofs.Goods.{deployments_of, sane_of, store_of}
+use Rattle.sys_open.proofs.Bounds.{bounded_of}
+use Rattle.sys_open.proofs.Goods.{can_go_of, deployments_of, sane_of, store_of}
 use Rattle.sys_open.proofs.LeftOvers.{lies_still}
 use Rattle.sys_open.proofs.ListKept.{loader_kept, rows_kept}
 use Rattle.sys_open.proofs.Reopening.{still_sane}
@@ -66,6 +67,7 @@ module _ {F : Type 0} (view : F → Option View) (clock : F → ℕ) (was : F �
     opening = λ w now. (here w now).2.opening;
     staging = λ w now. (here w now).2.staging;
     left_over = λ w now. (here w now).2.left_over;
+    bounded = λ w now. let h = here w now in bounded_of w.now (can_go_of limits w.now (still_good h.0.now w.now h.2.keeps limits (good h.0 h.1)));
     since = λ w now t e from left. let s = since w now t e from left in (sane_of limits e s.0, s.1);
   }
 

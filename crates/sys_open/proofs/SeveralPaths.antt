@@ -3,23 +3,18 @@ use Rattle.std.proofs.Common.{◌≡◌, ◌⊎◌, ⊎_elim, ◌<◌, ◌≤◌
 use Rattle.std.specs.Prelude.{Contains}
 use Rattle.std.proofs.lemmas.List.{get_or_default}
 use Rattle.ost_types.specs.Path.{Path, is_below, under}
-use Rattle.fs_trait.specs.declared.types.Value.TheVariants.{Absent}
 use Rattle.fs_trait.specs.View.{Disk, View}
-use Rattle.fs_trait.specs.Image.{IsTree}
 use Rattle.fs_trait.specs.Seen.{Seen, Vacant, seen, shows}
 use Rattle.fs_trait.specs.Change.{Writes}
 use Rattle.fs_trait.proofs.Facts.{vacant_absent}
 use Rattle.layout_rules.specs.Checks.{IsReached}
-use Rattle.layout_rules.proofs.Layouts.{below_split}
 use Rattle.sys_open.specs.declared.fault.OpenFault.{OpenFault}
 use Rattle.sys_open.specs.declared.fault.OpenFault.TheVariants as fault
 use Rattle.sys_open.specs.declared.fault.Why.TheVariants.{WrongKind}
 use Rattle.sys_open.specs.Changes.{Clears, ClearsAll}
-use Rattle.sys_open.specs.LeftOver.{AreLeftOvers, AsksBelow, CanGo}
+use Rattle.sys_open.specs.LeftOver.{AsksBelow}
 use Rattle.sys_open.specs.Walk.{IsLeastWrong, IsLesser, IsSoBelow, Walked}
 use Rattle.sys_open.proofs.Firsts.{Both, least_same, lesser_least}
-use Rattle.sys_open.proofs.ReachedPlaces.{reached_vacant}
-use Rattle.sys_open.proofs.Walks.{absent_below, absent_or_not}
 
 -- ---- looked at
 
@@ -73,19 +68,6 @@ module _ (d : Disk) (paths : List Path) where
 
       from : (q : Path) → AsksBelow paths d q → AsksFirst paths i d q
       from q asks k less inside below = asks (get_or paths k [], (k, inside, get_or_default paths k (get_or paths k []) [] inside), below)
-
--- what is asked of what no list boots
-pub left_least : (d : Disk) → IsTree d → (paths : List Path) → AreLeftOvers d paths → (one : Option Path) → IsLeastWrong (AsksBelow paths d) one → IsLeastWrong (CanGo d) one
-left_least d tree paths are one wrong = least_same (AsksBelow paths d) (CanGo d) to from one wrong
-  where
-    to : (p : Path) → AsksBelow paths d p → CanGo d p
-    to p asks (q, is, below) = ⊎_elim
-        (λ none. let s = below_split q p below in reached_vacant d tree p (subst (λ r. d.at r ≡ Absent) (sym s.1) (absent_below d tree q s.0 none)))
-        (λ there. asks (q, are.all q is there, below))
-        (absent_or_not (d.at q))
-
-    from : (p : Path) → CanGo d p → AsksBelow paths d p
-    from p can_go (q, has, below) = can_go (q, are.each q has, below)
 
 -- ---- cleared
 

@@ -29,8 +29,7 @@ use Rattle.sys_open.proofs.Holding.{commit_leaf}
 use Rattle.sys_open.proofs.ChangedPlaces.{config_put, mark_unchanged, object_unchanged}
 use Rattle.sys_open.proofs.Goods.{can_go_of, config_of, deployments_of, good_of, list_of, sane_of, store_of}
 use Rattle.sys_open.proofs.DeploymentsKept.{deployment_kept, row_of}
-use Rattle.sys_open.proofs.LeftOvers.{lies_still}
-use Rattle.sys_open.proofs.ListKept.{loader_kept, rows_kept}
+use Rattle.sys_open.proofs.ListKept.{rows_kept}
 use Rattle.sys_open.proofs.Reopening.{reached_kept, still_sane}
 
 module _ (d e : Disk) (keeps : Keeps d e) where
@@ -105,4 +104,4 @@ module _ (d e : Disk) (keeps : Keeps d e) where
       let list = list_of limits d good in
       good_of limits e (still_sane d e sane keeps) (config_kept (config_of limits d good)) (store_kept limits sane (store_of limits d good)) list.0 (rows_kept d e keeps list.0 list.1)
       (λ row among. deployment_kept row.id row.bootcsum limits d e keeps (row_of d list.0 row list.1 among) (deployments_of limits d good list.0 list.1 row among))
-      (λ p lies. reached_kept d e sane keeps p (can_go_of limits d good p (lies_still d e list.0 list.1 (rows_kept d e keeps list.0 list.1) (loader_kept d e keeps list.0 list.1) p lies)))
+      (λ p lies. reached_kept d e sane keeps p (can_go_of limits d good p lies))

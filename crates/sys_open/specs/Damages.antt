@@ -38,7 +38,7 @@ pub data Check : Type 0 where
   Commits : Check  -- each commit without a mark is whole, and each ref names one that is there
   BootList : Check  -- the disk boots a list of deployments, or nothing
   Deployments : Check  -- each deployment of the list is the checkout of its commit, with copies of its kernel
-  Staging : Check  -- what stands at a staging path, or is what no list boots, can be removed
+  Staging : Check  -- what stands at a staging path, or may be what no list boots, now or later, can be removed
 
 abbrev pub turn : Check → ℕ
 turn Places = 1
@@ -78,7 +78,7 @@ BootsList d = (rows : List BootRow) × AreRowsOf d rows
 abbrev pub BootsWhole : Limits → Disk → Type 0
 BootsWhole limits d = (rows : List BootRow) → AreRowsOf d rows → deployments.AreWhole limits d rows
 
--- what an opening removes can be removed
+-- what an opening removes, this one or a later one, can be removed
 abbrev pub Clearable : Disk → Path → Type 0
 Clearable d p = rules.Asks rules.Staging d p × CanGo d p
 

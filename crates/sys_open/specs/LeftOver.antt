@@ -1,16 +1,18 @@
--- What an opening removes beside what is staged for a change of refs: what no list boots (OSTree manual, "Deployments").
-use Rattle.std.specs.Prelude.{◌≡◌, ◌≢◌, ◌⊎◌, IsTrue, List, Contains, map}
-use Rattle.ost_types.specs.Path.{Name, Path, is_below, under}
+-- What an opening removes beside what is staged for a change of refs: what no list boots (OSTree manual, "Deployments"); and what may come
+-- to be so later.
+use Rattle.std.specs.Prelude.{◌≡◌, ◌≢◌, ◌⊎◌, IsTrue, List, Contains}
+use Rattle.ost_types.specs.Path.{Name, Path, IsPath, is_below, under}
 use Rattle.fs_trait.specs.declared.types.Value.TheVariants.{Absent}
 use Rattle.fs_trait.specs.View.{Disk}
 use Rattle.fs_trait.specs.Seen.{Vacant, shows}
-use Rattle.repo_layout.specs.BootPaths.{boot_link_stage_path, loader_path, loader_stage_path}
+use Rattle.repo_layout.specs.BootPaths.{boot_link_stage_path, loader_path, loader_stage_path, origin_path}
 use Rattle.layout_rules.specs.Checks.{IsReached}
 use Rattle.boot_model.specs.declared.item.DepId.{DepId}
 use Rattle.boot_read.specs.declared.row.BootRow.{BootRow}
 use Rattle.boot_read.specs.Rows.{AreRowsOf}
+use Rattle.deploy_clean.specs.Unlisted.{IsPathOf, IsUnlisted, deployments}
+use Rattle.deployment_check.specs.Deployments.{IsId, etc_of}
 use Rattle.durable_list.specs.Standing.{ids_of}
-use Rattle.deploy_clean.specs.Unlisted.{IsUnlisted, deployments}
 
 -- A list is selected: something stands at the boot loader's link.
 abbrev pub HasLoader : Disk → Type 0
@@ -32,9 +34,22 @@ IsLeftOver d p = (p ≡ loader_stage_path) ⊎ (p ≡ boot_link_stage_path) ⊎ 
 abbrev pub LiesIn : Disk → Path → Type 0
 LiesIn d p = (q : Path) × IsLeftOver d q × IsTrue (is_below q p)
 
--- What stands there can be removed.
+-- A path where a deployment or its origin file may stand, named by a list or not, or where one of the two links by which a list boots is
+-- staged: no list may boot it now or later.
+abbrev pub MayBeLeftOver : Path → Type 0
+MayBeLeftOver q = (q ≡ loader_stage_path) ⊎ (q ≡ boot_link_stage_path) ⊎ ((id : DepId) × IsId id × IsPathOf id q)
+
+-- The path is at or below one of them.
+abbrev pub LiesWithin : Path → Type 0
+LiesWithin p = (q : Path) × MayBeLeftOver q × IsTrue (is_below q p)
+
+-- What stands there can be removed, now or where a later list doesn't name it.
 abbrev pub CanGo : Disk → Path → Type 0
-CanGo d p = LiesIn d p → IsReached d p
+CanGo d p = LiesWithin p → IsReached d p
+
+-- all that stands at such a path or below it is within the bounds of paths
+abbrev pub HasBoundedDeployments : Disk → Type 0
+HasBoundedDeployments d = (p : Path) → LiesWithin p → shows d p ≢ Vacant → IsPath p
 
 -- nothing stands at such a path or below it
 abbrev pub HasNoLeftOvers : Disk → Type 0
@@ -44,6 +59,21 @@ HasNoLeftOvers d = (p : Path) → LiesIn d p → shows d p ≡ Vacant
 pub record AreLeftOvers (d : Disk) (paths : List Path) : Type 0 where
   pub each : (q : Path) → Contains paths q → IsLeftOver d q
   pub all : (q : Path) → IsLeftOver d q → d.at q ≢ Absent → Contains paths q
+
+-- the path of a deployment's own `etc`, or of its origin file
+abbrev pub IsOwnPath : DepId → Path → Type 0
+IsOwnPath id q = (q ≡ etc_of id) ⊎ (q ≡ origin_path id.os id.commit id.serial)
+
+-- the same of one of these
+abbrev pub IsOwnOf : List DepId → Path → Type 0
+IsOwnOf listed q = (id : DepId) × Contains listed id × IsOwnPath id q
+
+-- These are the paths of what stays where these deployments are listed, and isn't compared with a commit: what is their own, and where
+-- no list is selected all other deployments that stand.
+pub record AreStaying (d : Disk) (listed : List DepId) (paths : List Path) : Type 0 where
+  pub each : (q : Path) → Contains paths q → IsOwnOf listed q ⊎ IsUnlisted listed q
+  pub own : (q : Path) → IsOwnOf listed q → Contains paths q
+  pub others : ¬ (HasLoader d) → (q : Path) → IsUnlisted listed q → d.at q ≢ Absent → Contains paths q
 
 -- ---- as they are gathered
 

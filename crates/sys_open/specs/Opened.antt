@@ -17,7 +17,7 @@ use Rattle.store_check.specs.Listing.{AreAll}
 use Rattle.rely_guarantee.specs.State.{first}
 use Rattle.rely_guarantee.specs.Opening.{IsOpening, HasSince}
 use Rattle.sys_open.specs.Damages.{ShowsConfig}
-use Rattle.sys_open.specs.LeftOver.{HasNoLeftOvers}
+use Rattle.sys_open.specs.LeftOver.{HasNoLeftOvers, HasBoundedDeployments}
 use Rattle.sys_open.specs.Opening.{AreAscending, HasNoStages, IsGoodSince}
 
 -- An open repository as plain data: the file system, the refs, the clock after the first barrier, the count of failed calls at
@@ -40,6 +40,7 @@ pub record IsOpened {F : Type 0} (view : F → Option View) (clock : F → ℕ) 
   pub opening : (w : View) → view fs ≡ Some w → IsOpening (first refs) w
   pub staging : (w : View) → view fs ≡ Some w → HasNoStages w.now
   pub left_over : (w : View) → view fs ≡ Some w → HasNoLeftOvers w.now
+  pub bounded : (w : View) → view fs ≡ Some w → HasBoundedDeployments w.now
   pub since : (w : View) → view fs ≡ Some w → HasSince (Left (was fs)) opened (first refs)
 
 -- where the view is told, these are the names of all objects

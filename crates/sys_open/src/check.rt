@@ -24,9 +24,8 @@ use crate::inside::check_inside;
 use crate::kinds::check_kinds;
 use crate::least::{damage, lesser};
 use crate::refs::read_refs;
-use crate::removal::check_removal;
+use crate::removal::check_left_overs;
 use crate::store::{look_at_commits, read_objects};
-use crate::unlisted::left_overs;
 use boot_read::BootRow;
 use fs_trait::Fs;
 use ost_types::{Csum, FsPath, Limits, ObjName};
@@ -116,8 +115,7 @@ pub fn check<R: Threads + Sync, F: Fs>(
     let objects = objects_of(rt, alloc, fs, refs.as_slice(), limits)?;
     let rows = read_boot_list(alloc, fs)?;
     check_deployments(alloc, fs, limits, rows.as_slice())?;
-    let left_overs = left_overs(alloc, fs, rows.as_slice())?;
-    check_removal(alloc, fs, left_overs.as_slice())?;
+    let left_overs = check_left_overs(alloc, fs, rows.as_slice())?;
     Ok(Contents {
         refs,
         objects,

@@ -27,6 +27,7 @@ mod refs;
 mod removal;
 mod several;
 mod stages;
+mod staying;
 mod store;
 mod unlisted;
 

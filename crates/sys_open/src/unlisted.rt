@@ -45,8 +45,8 @@ pub fn left_overs<F: Fs>(
     Ok(found)
 }
 
-// without the boot loader's link nobody knows what boots: its folder may just not be mounted
-fn has_loader<F: Fs>(alloc: Global, fs: &mut F) -> Result<bool, OpenFault>
+/// Whether a list is selected. Without the boot loader's link nobody knows what boots: its folder may just not be mounted.
+pub fn has_loader<F: Fs>(alloc: Global, fs: &mut F) -> Result<bool, OpenFault>
     ensures told { (v : View) → F.view fs.old ≡ Some v → Finds (λ found. IsTrue found ↔ HasLoader v.now) result }
     ensures quiet { IsQuiet (F.clock fs.old) (F.clock fs.new) (F.was fs.old) (F.was fs.new) (F.view fs.old) (F.view fs.new) }
     ensures reason { HasReason (F.faults fs.old) (F.faults fs.new) result }
@@ -60,7 +60,8 @@ fn has_loader<F: Fs>(alloc: Global, fs: &mut F) -> Result<bool, OpenFault>
     }
 }
 
-fn ids_of(alloc: Global, rows: &[BootRow]) -> Result<Vec<DepId>, NoMemory>
+/// The deployments of the list.
+pub fn ids_of(alloc: Global, rows: &[BootRow]) -> Result<Vec<DepId>, NoMemory>
     ensures { IfOk result (λ ids. ids.items ≡ ids_of rows.now) }
 {
     let mut ids = Vec::with_capacity(alloc, rows.len())?;
@@ -70,8 +71,8 @@ fn ids_of(alloc: Global, rows: &[BootRow]) -> Result<Vec<DepId>, NoMemory>
     Ok(ids)
 }
 
-// those of each stateroot
-fn add_all<F: Fs>(
+/// Adds the paths at which a deployment stands that isn't listed, or its origin file, of each stateroot.
+pub fn add_all<F: Fs>(
     alloc: Global,
     fs: &mut F,
     listed: &[DepId],

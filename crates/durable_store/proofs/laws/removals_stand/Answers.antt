@@ -14,7 +14,7 @@ returns-clause-goes_on g c limits names doomed b lane v w kept writes removal wa
     removal_stands limits g.B.Storing.brings g.B.Storing.config names v w g.S.Writing.writes writes (Except doomed) b lane kept removal was
 
 pub returns-clause-kept : goal.returns-clause-kept
-returns-clause-kept g c doomed b b' actor lane v w spared writes removal kept = removal_kept (Except doomed) b b' actor lane v w g.S.Writing.writes spared writes removal kept
+returns-clause-kept g c doomed b b' actor lane v w spared same writes removal kept = removal_kept (Except doomed) b b' actor lane v w g.S.Writing.writes spared same writes removal kept
 
 pub returns-clause-settled : goal.returns-clause-settled
 returns-clause-settled g c doomed v w writes removal is = removal_settled (Except doomed) v w g.S.Writing.writes writes removal is

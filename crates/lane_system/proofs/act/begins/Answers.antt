@@ -13,7 +13,7 @@ use Rattle.lane_system.specs.Lanes.{IsNext}
 use Rattle.lane_system.specs.States.{now_of, since_in}
 use Rattle.lane_system.proofs.Coming.{comes_answered, comes_ended, comes_held, comes_more, first_ready, first_room, first_takes, has_ended, refused_named}
 use Rattle.lane_system.proofs.Doing.{once_acts}
-use Rattle.lane_system.proofs.Prefixes.{deployed_now, state_all}
+use Rattle.lane_system.proofs.Prefixes.{state_all}
 use Rattle.lane_system.proofs.Learning.{laws_on}
 use Rattle.lane_system.proofs.act.begins.Given as given
 use Rattle.lane_system.proofs.act.begins.Goals as goal
@@ -50,8 +50,7 @@ told_act-requires-clause-ready g c =
     let l = c.args.run.now in
     let words = c.index-words.result.now in
     let is : c.in-Ok-Runs.field-0 ≡ begun.Runs c.in-Ok-Runs.work = search rules in
-    let listed : base.books.start.deployments.items ≡ c.deref.result.now = search rules in
-    let began = subst (IsBegun g.C.Command.means g.C.Command.doing c.args.limits c.args.lane (now_of base.books) words c.begin.new.refs) is (c.in-Ok-Runs.ensures.begun (now_of base.books) c.requires.tracks (deployed_now base.books ∙ listed)) in
+    let began = subst (IsBegun g.C.Command.means g.C.Command.doing c.args.limits c.args.lane (now_of base.books) words c.begin.new.refs) is (c.in-Ok-Runs.ensures.begun (now_of base.books) c.requires.tracks (sym c.deployments.ensures)) in
     first_ready (f g) (family_of g) (command_laws g) c.args.limits c.args.lane c.args.refs.now c.begin.new.refs c.args.objects.now base l words c.requires.kept c.requires.next.1 c.requires.live c.requires.home c.requires.sound c.begin.ensures.rooms c.in-Ok-Runs.work began
 
 pub told_act-requires-clause-tracks : goal.told_act-requires-clause-tracks
@@ -63,8 +62,7 @@ told_act-requires-clause-room g c =
     let l = c.args.run.now in
     let words = c.index-words.result.now in
     let is : c.in-Ok-Runs.field-0 ≡ begun.Runs c.in-Ok-Runs.work = search rules in
-    let listed : base.books.start.deployments.items ≡ c.deref.result.now = search rules in
-    let began = subst (IsBegun g.C.Command.means g.C.Command.doing c.args.limits c.args.lane (now_of base.books) words c.begin.new.refs) is (c.in-Ok-Runs.ensures.begun (now_of base.books) c.requires.tracks (deployed_now base.books ∙ listed)) in
+    let began = subst (IsBegun g.C.Command.means g.C.Command.doing c.args.limits c.args.lane (now_of base.books) words c.begin.new.refs) is (c.in-Ok-Runs.ensures.begun (now_of base.books) c.requires.tracks (sym c.deployments.ensures)) in
     first_room (f g) (family_of g) (command_laws g) c.args.limits c.args.lane c.args.refs.now c.begin.new.refs c.args.objects.now base l words c.requires.kept c.requires.next.1 c.requires.live c.requires.home c.requires.sound c.begin.ensures.rooms c.in-Ok-Runs.work began
 
 pub answer_at_end-requires : goal.answer_at_end-requires
@@ -75,8 +73,7 @@ answer_at_end-requires g c =
     let at : c.len-number.result ≡ length l.replies.items = search rules in
     let next : IsNext l words = (c.requires.next.0, search rules) in
     let is : c.in-Ok-Runs.field-0 ≡ begun.Runs c.in-Ok-Runs.work = search rules in
-    let listed : base.books.start.deployments.items ≡ c.deref.result.now = search rules in
-    let began = subst (IsBegun g.C.Command.means g.C.Command.doing c.args.limits c.args.lane (now_of base.books) words c.begin.new.refs) is (c.in-Ok-Runs.ensures.begun (now_of base.books) c.requires.tracks (deployed_now base.books ∙ listed)) in
+    let began = subst (IsBegun g.C.Command.means g.C.Command.doing c.args.limits c.args.lane (now_of base.books) words c.begin.new.refs) is (c.in-Ok-Runs.ensures.begun (now_of base.books) c.requires.tracks (sym c.deployments.ensures)) in
     record {
       ended = has_ended c.told_act.result (λ is. c.in_default.not-Blocked is) (λ is. c.in_default.not-More is);
       told = comes_answered (f g) (family_of g) c.args.limits c.args.lane c.number_of.result c.args.refs.now c.begin.new.refs c.told_act.new.refs c.args.objects.now c.told_act.new.objects base c.told_act.new.base l words next (c.number_of.ensures ∙ at) c.in-Ok-Runs.work c.told_act.new.work c.told_act.result
@@ -103,8 +100,7 @@ returns-in-Ok-Answered g c =
     let next : IsNext l words = (c.requires.next.0, search rules) in
     let from : c.len-start.result ≡ task_start base.books.history.items l.task = (let n : c.len-start.result ≡ length base.books.history.items = search rules in n) ∙ ap (task_start base.books.history.items) (sym c.requires.next.1) in
     let is : c.in-Ok-Answered.field-0 ≡ begun.Answered c.in-Ok-Answered.answer = search rules in
-    let listed : base.books.start.deployments.items ≡ c.deref.result.now = search rules in
-    let began = subst (IsBegun g.C.Command.means g.C.Command.doing c.args.limits c.args.lane (now_of base.books) words c.begin.new.refs) is (c.in-Ok-Answered.ensures.begun (now_of base.books) c.requires.tracks (deployed_now base.books ∙ listed)) in
+    let began = subst (IsBegun g.C.Command.means g.C.Command.doing c.args.limits c.args.lane (now_of base.books) words c.begin.new.refs) is (c.in-Ok-Answered.ensures.begun (now_of base.books) c.requires.tracks (sym c.deployments.ensures)) in
     let same : begun_in c.args.limits (now_of base.books) ≡ since_in c.args.limits base.books (length base.books.history.items) = ap (begun_in c.args.limits) (sym (state_all base.books (length base.books.history.items) refl)) in
     subst (λ (o : Option (Running g.row.C.Denot)). LaneActs (f g) (family_of g) c.args.limits c.args.lane c.args.lane c.args.refs.now c.begin.new.refs c.args.objects.now c.args.objects.now base base l (record { words = l.words; task = o; replies = l.replies }) (Answered (ended.Answered c.in-Ok-Answered.answer) c.len-start.result)) (sym c.requires.next.1)
     (once_acts (f g) (family_of g) c.args.limits c.args.lane c.args.refs.now c.begin.new.refs c.args.objects.now base l words (ended.Answered c.in-Ok-Answered.answer) c.len-start.result next (c.begin.ensures.refs (now_of base.books).refs c.requires.tracks) c.begin.ensures.rooms from
@@ -118,8 +114,7 @@ returns-in-Blocked g c =
     let at : c.len-number.result ≡ length l.replies.items = search rules in
     let next : IsNext l words = (c.requires.next.0, search rules) in
     let is : c.in-Ok-Runs.field-0 ≡ begun.Runs c.in-Ok-Runs.work = search rules in
-    let listed : base.books.start.deployments.items ≡ c.deref.result.now = search rules in
-    let began = subst (IsBegun g.C.Command.means g.C.Command.doing c.args.limits c.args.lane (now_of base.books) words c.begin.new.refs) is (c.in-Ok-Runs.ensures.begun (now_of base.books) c.requires.tracks (deployed_now base.books ∙ listed)) in
+    let began = subst (IsBegun g.C.Command.means g.C.Command.doing c.args.limits c.args.lane (now_of base.books) words c.begin.new.refs) is (c.in-Ok-Runs.ensures.begun (now_of base.books) c.requires.tracks (sym c.deployments.ensures)) in
     comes_held (f g) (family_of g) c.args.limits c.args.lane c.number_of.result c.args.refs.now c.begin.new.refs c.told_act.new.refs c.args.objects.now c.told_act.new.objects base c.told_act.new.base l words next (c.number_of.ensures ∙ at) c.in-Ok-Runs.work c.told_act.new.work c.told_act.result
     (first_takes (f g) (family_of g) (command_laws g) c.args.limits c.args.lane c.args.refs.now c.begin.new.refs c.args.objects.now base l words c.requires.kept c.requires.next.1 c.requires.live c.requires.home c.requires.sound c.begin.ensures.rooms c.in-Ok-Runs.work began c.told_act.new.refs c.told_act.new.base)
     c.told_act.ensures.step c.told_act.ensures.counts c.in-Blocked.is
@@ -132,8 +127,7 @@ returns-in-More g c =
     let at : c.len-number.result ≡ length l.replies.items = search rules in
     let next : IsNext l words = (c.requires.next.0, search rules) in
     let is : c.in-Ok-Runs.field-0 ≡ begun.Runs c.in-Ok-Runs.work = search rules in
-    let listed : base.books.start.deployments.items ≡ c.deref.result.now = search rules in
-    let began = subst (IsBegun g.C.Command.means g.C.Command.doing c.args.limits c.args.lane (now_of base.books) words c.begin.new.refs) is (c.in-Ok-Runs.ensures.begun (now_of base.books) c.requires.tracks (deployed_now base.books ∙ listed)) in
+    let began = subst (IsBegun g.C.Command.means g.C.Command.doing c.args.limits c.args.lane (now_of base.books) words c.begin.new.refs) is (c.in-Ok-Runs.ensures.begun (now_of base.books) c.requires.tracks (sym c.deployments.ensures)) in
     let from : c.len-start.result ≡ task_start base.books.history.items l.task = (let n : c.len-start.result ≡ length base.books.history.items = search rules in n) ∙ ap (task_start base.books.history.items) (sym c.requires.next.1) in
     subst (λ (o : Option (Running g.row.C.Denot)). LaneActs (f g) (family_of g) c.args.limits c.args.lane c.args.lane c.args.refs.now c.told_act.new.refs c.args.objects.now c.told_act.new.objects base c.told_act.new.base l (record { words = l.words; task = o; replies = l.replies }) More) (sym c.replace.ensures.after)
     (comes_more (f g) (family_of g) c.args.limits c.args.lane c.number_of.result c.args.refs.now c.begin.new.refs c.told_act.new.refs c.args.objects.now c.told_act.new.objects base c.told_act.new.base l words next (c.number_of.ensures ∙ at) c.in-Ok-Runs.work c.told_act.new.work c.told_act.result
@@ -148,8 +142,7 @@ returns-in_default g c =
     let at : c.len-number.result ≡ length l.replies.items = search rules in
     let next : IsNext l words = (c.requires.next.0, search rules) in
     let is : c.in-Ok-Runs.field-0 ≡ begun.Runs c.in-Ok-Runs.work = search rules in
-    let listed : base.books.start.deployments.items ≡ c.deref.result.now = search rules in
-    let began = subst (IsBegun g.C.Command.means g.C.Command.doing c.args.limits c.args.lane (now_of base.books) words c.begin.new.refs) is (c.in-Ok-Runs.ensures.begun (now_of base.books) c.requires.tracks (deployed_now base.books ∙ listed)) in
+    let began = subst (IsBegun g.C.Command.means g.C.Command.doing c.args.limits c.args.lane (now_of base.books) words c.begin.new.refs) is (c.in-Ok-Runs.ensures.begun (now_of base.books) c.requires.tracks (sym c.deployments.ensures)) in
     let from : c.len-start.result ≡ task_start base.books.history.items l.task = (let n : c.len-start.result ≡ length base.books.history.items = search rules in n) ∙ ap (task_start base.books.history.items) (sym c.requires.next.1) in
     subst (λ (o : Option (Running g.row.C.Denot)). LaneActs (f g) (family_of g) c.args.limits c.args.lane c.args.lane c.args.refs.now c.told_act.new.refs c.args.objects.now c.told_act.new.objects base c.told_act.new.base l (record { words = l.words; task = o; replies = l.replies }) (Answered c.answer_at_end.result c.len-start.result)) (sym c.requires.next.1)
     (comes_ended (f g) (family_of g) c.args.limits c.args.lane c.number_of.result c.args.refs.now c.begin.new.refs c.told_act.new.refs c.args.objects.now c.told_act.new.objects base c.told_act.new.base l words next (c.number_of.ensures ∙ at) c.in-Ok-Runs.work c.told_act.new.work c.told_act.result

@@ -50,14 +50,14 @@ returns-in-More-clause-step g c = (
   c.learn.new.self,
   learnt_step (files_of g) (tasks_of g) g.C.Command.doing g.met.C.Command.command_laws.learns c.args.lane c.args.number c.args.refs.now c.running_act.new.refs _ c.running_act.new.work c.learn.new.self c.args.base.now c.running_act.new.base _ c.pins.result.now
       (told_step (files_of g) (tasks_of g) c.args.lane c.args.base.now c.args.number c.args.refs.now c.running_act.new.refs c.running_act.result came.More _ c.hear-former.new.self c.running_act.new.work c.running_act.new.base c.hear-former.ensures.hears c.in-More.is c.running_act.ensures)
-      (search rules) c.pins.ensures (free_after (files_of g) (fs_of g) c.args.lane c.args.lane c.args.base.now c.running_act.new.base c.running_act.ensures.acts.does c.requires.free) c.learn.ensures,
+      c.deployments.ensures c.pins.ensures (free_after (files_of g) (fs_of g) c.args.lane c.args.lane c.args.base.now c.running_act.new.base c.running_act.ensures.acts.does c.requires.free) c.learn.ensures,
   λ not. refl,
 )
 
 pub returns-in-More-clause-counts : goal.returns-in-More-clause-counts
 returns-in-More-clause-counts g c = learnt_counts (files_of g) (tasks_of g) g.C.Command.doing g.met.C.Command.command_laws.learns c.args.lane c.args.number c.args.refs.now c.running_act.new.refs _ c.running_act.new.work c.learn.new.self c.args.base.now c.running_act.new.base _ c.pins.result.now
     (told_step (files_of g) (tasks_of g) c.args.lane c.args.base.now c.args.number c.args.refs.now c.running_act.new.refs c.running_act.result came.More _ c.hear-former.new.self c.running_act.new.work c.running_act.new.base c.hear-former.ensures.hears c.in-More.is c.running_act.ensures)
-    (search rules) c.pins.ensures (free_after (files_of g) (fs_of g) c.args.lane c.args.lane c.args.base.now c.running_act.new.base c.running_act.ensures.acts.does c.requires.free) c.learn.ensures _ _ (search rules)
+    c.deployments.ensures c.pins.ensures (free_after (files_of g) (fs_of g) c.args.lane c.args.lane c.args.base.now c.running_act.new.base c.running_act.ensures.acts.does c.requires.free) c.learn.ensures _ _ (search rules)
 
 pub returns-in_default-clause-step : goal.returns-in_default-clause-step
 returns-in_default-clause-step g c = (

@@ -2,16 +2,15 @@ use Rattle.std.proofs.Common.{◌∙◌, sym, subst, List, ℕ}
 use Rattle.std.proofs.lemmas.Result.{err_from_is_err_and}
 use Rattle.std.specs.Global.{Vec}
 use Rattle.ost_types.specs.declared.object.ObjName.{ObjName}
+use Rattle.ost_types.specs.Path.{Path}
 use Rattle.boot_read.specs.declared.row.BootRow.{BootRow}
 use Rattle.boot_read.specs.Rows.{AreRowsOf}
 use Rattle.rely_guarantee.specs.State.{first}
 use Rattle.rely_guarantee.specs.Disks.{Logical}
 use Rattle.sys_open.specs.declared.check.Contents.{Contents}
 use Rattle.sys_open.specs.Damages.{Places, Config, RefFiles, BootList, Deployments, Staging}
-use Rattle.sys_open.specs.LeftOver.{AreLeftOvers}
 use Rattle.sys_open.specs.Opening.{AreAscending}
 use Rattle.sys_open.proofs.Checking.{all_good, before_config, before_deployments, before_list, before_places, before_refs, before_staging, config_told, first_fault, places_pass, places_told, refs_pass, refs_told, stages_pass, stages_told, store_fault}
-use Rattle.sys_open.proofs.Beginning.{interrupted_answer}
 use Rattle.sys_open.proofs.Booting.{right_objects}
 use Rattle.sys_open.proofs.check.check.Goals as goal
 
@@ -102,28 +101,7 @@ returns-in_err-left_overs-clause-told g c = λ v told.
     let whole = c.in_ok-check_deployments.ensures.told v listed right rows in
     let now = c.check_deployments.ensures.quiet.view ∙ listed in
     let listed_rows = subst (AreRowsOf v.now) (sym c.as_slice-3.ensures.value) (c.in_ok-rows.ensures.rows v stored) in
-    rw (error.1, error.2) (interrupted_answer Contents c.args.limits.now v.now _ (c.in_err-left_overs.ensures.told v now listed_rows))
-
-pub returns-in_err-check_removal-clause-told : goal.returns-in_err-check_removal-clause-told
-returns-in_err-check_removal-clause-told g c = λ v told.
-    let error = err_from_is_err_and c.from_residual-in_err-check_removal.result c.from_residual-in_err-check_removal.ensures.1 in
-    let placed = c.check_places.ensures.quiet.view ∙ told in
-    let configured = c.check_config.ensures.quiet.view ∙ placed in
-    let read = c.refs_of.ensures.quiet.view ∙ configured in
-    let stored = c.objects_of.ensures.quiet.view ∙ read in
-    let listed = c.read_boot_list.ensures.quiet.view ∙ stored in
-    let places = places_pass c.args.limits.now v.now (c.in_ok-check_places.ensures.told v told) in
-    let config = c.in_ok-check_config.ensures.told v placed in
-    let refs = refs_pass c.args.limits.now v.now (c.in_ok-refs.ensures.told v configured) in
-    let store = c.in_ok-objects.ensures.told v read in
-    let list = c.in_ok-rows.ensures.told v c.args.limits.now stored in
-    let right = right_objects c.args.limits.now v.now store.0 in
-    let rows = subst (AreRowsOf v.now) (sym c.as_slice-2.ensures.value) (c.in_ok-rows.ensures.rows v stored) in
-    let whole = c.in_ok-check_deployments.ensures.told v listed right rows in
-    let now = c.check_deployments.ensures.quiet.view ∙ listed in
-    let listed_rows = subst (AreRowsOf v.now) (sym c.as_slice-3.ensures.value) (c.in_ok-rows.ensures.rows v stored) in
-    let left = subst (AreLeftOvers v.now) (sym c.as_slice-4.ensures.value) (c.in_ok-left_overs.ensures.told v now listed_rows) in
-    rw (error.1, error.2) (first_fault (Unit {0}) Contents Staging c.args.limits.now v.now _ (before_staging c.args.limits.now v.now places config refs store list whole) (stages_told (Unit {0}) c.args.limits.now v.now _ (c.in_err-check_removal.ensures.told v (c.left_overs.ensures.quiet.view ∙ now) left)))
+    rw (error.1, error.2) (first_fault (Vec Path) Contents Staging c.args.limits.now v.now _ (before_staging c.args.limits.now v.now places config refs store list whole) (stages_told (Vec Path) c.args.limits.now v.now _ (c.in_err-left_overs.ensures.told v c.args.limits.now now listed_rows (whole _ listed_rows))))
 
 pub returns-clause-told : goal.returns-clause-told
 returns-clause-told g c = λ v told.
@@ -142,8 +120,7 @@ returns-clause-told g c = λ v told.
     let whole = c.in_ok-check_deployments.ensures.told v listed right rows in
     let now = c.check_deployments.ensures.quiet.view ∙ listed in
     let listed_rows = subst (AreRowsOf v.now) (sym c.as_slice-3.ensures.value) (c.in_ok-rows.ensures.rows v stored) in
-    let left = subst (AreLeftOvers v.now) (sym c.as_slice-4.ensures.value) (c.in_ok-left_overs.ensures.told v now listed_rows) in
-    all_good c.args.limits.now v.now places config refs store list whole (stages_pass c.args.limits.now v.now (c.in_ok-check_removal.ensures.told v (c.left_overs.ensures.quiet.view ∙ now) left))
+    all_good c.args.limits.now v.now places config refs store list whole (stages_pass c.args.limits.now v.now (c.in_ok-left_overs.ensures.told v c.args.limits.now now listed_rows (whole _ listed_rows)))
 
 pub returns-clause-refs : goal.returns-clause-refs
 returns-clause-refs g c = λ v told.
@@ -161,4 +138,4 @@ pub returns-clause-left_overs : goal.returns-clause-left_overs
 returns-clause-left_overs g c = λ v told.
     let stored = c.objects_of.ensures.quiet.view ∙ (c.refs_of.ensures.quiet.view ∙ (c.check_config.ensures.quiet.view ∙ (c.check_places.ensures.quiet.view ∙ told))) in
     let now = c.check_deployments.ensures.quiet.view ∙ (c.read_boot_list.ensures.quiet.view ∙ stored) in
-    c.in_ok-left_overs.ensures.told v now (subst (AreRowsOf v.now) (sym c.as_slice-3.ensures.value) (c.in_ok-rows.ensures.rows v stored))
+    c.in_ok-left_overs.ensures.left_overs v now (subst (AreRowsOf v.now) (sym c.as_slice-3.ensures.value) (c.in_ok-rows.ensures.rows v stored))

@@ -11,7 +11,7 @@ use Rattle.command.specs.Tasks.{task_spec}
 use Rattle.lane_system.specs.Family.{Family, FsSpec, family, fs_spec}
 use Rattle.lane_system.specs.Kept.{AreFree, AreHomes, AreIdle}
 use Rattle.lane_system.specs.States.{now_of}
-use Rattle.lane_system.proofs.Beginning.{caused_first, homes_of, kept_first, stands_first}
+use Rattle.lane_system.proofs.Beginning.{caused_first, homes_of, kept_first, none_at, none_some, stands_first}
 use Rattle.lane_system.proofs.system.System.begun.Given as given
 use Rattle.lane_system.proofs.StoreAtStart.{counted_first, stored_first}
 use Rattle.lane_system.proofs.system.System.begun.Goals as goal
@@ -57,6 +57,10 @@ returns g c =
     record {
       parts = (e.fs ∙ opened.fs, ap (λ (s : Start). s.refs.items) e.start ∙ opened.refs, e.opened ∙ opened.clock, refl);
       deployments = ap (λ (s : Start). s.deployments) e.start;
+      unlisted = record {
+        lasting = λ k x at. none_at base.books.history.items k x e.history at;
+        shown = λ p is. none_some base.books.pending p e.pending is;
+      };
       bounds = (opened.limits, c.count_of.ensures ∙ ap (λ n. min n 4294967295) (size ∙ ap length opened.objects));
       caused = caused_first (files_of g) (family_of g) parts.limits base c.args.refs c.args.lanes.items e.history e.pending idle (g.F.Fs.faults c.args.opened.fs) now e.live;
       stands = λ v told.

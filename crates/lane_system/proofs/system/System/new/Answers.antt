@@ -10,4 +10,4 @@ begun-requires-clause-idle g c = c.requires.idle
 pub returns-in-Ok : goal.returns-in-Ok
 returns-in-Ok g c =
     let e = c.begun.ensures in
-    record { parts = e.parts; deployments = ap (λ v. v.items) e.deployments ∙ (search rules); bounds = e.bounds; caused = e.caused; stands = e.stands; back = tt }
+    record { parts = e.parts; deployments = ap (λ v. v.items) e.deployments ∙ (search rules); unlisted = e.unlisted; bounds = e.bounds; caused = e.caused; stands = e.stands; back = tt }

@@ -34,6 +34,7 @@ returns-then-held-clause-keeps c = record {
   claims = λ x has. has;
   others = λ x other has. has;
   start = refl;
+  listed = refl;
 }
 
 pub returns-then-held-clause-shared : goal.returns-then-held-clause-shared
@@ -51,6 +52,7 @@ returns-else-held-clause-keeps c = record {
   claims = λ x has. has;
   others = λ x other has. has;
   start = refl;
+  listed = refl;
 }
 
 pub returns-else-held-clause-shared : goal.returns-else-held-clause-shared

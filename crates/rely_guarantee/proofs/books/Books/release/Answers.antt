@@ -34,4 +34,5 @@ returns-clause-spared c = record {
   replies = omega arith;
   opened = refl;
   start = refl;
+  listed = λ x other held. refl;
 }
