@@ -1,8 +1,8 @@
-mod Placed
+pub mod Placed
 mod Filed
 mod Words
 mod Links
 mod Leading
-mod Reading
-mod Telling
-mod Short
+pub mod Reading
+pub mod Telling
+pub mod Short

@@ -19,7 +19,7 @@ use Rattle.boot_model.specs.declared.item.BootItem.{BootItem}
 use Rattle.boot_model.specs.Items.{link_number}
 use Rattle.boot_model.specs.Entries.{deploy_target, entry_text, item_link_path}
 use Rattle.boot_model.specs.Listing.{HasEntry, IsLinkTo, ShowsEntries}
-use Rattle.boot_swap.specs.Steps.{EachShows, HasPlaces, IsAround, IsRead, IsSure, ShowsLinks}
+use Rattle.boot_swap.specs.Steps.{EachShows, HasPlaces, IsAround, IsRead, IsSure, IsSureAt, ShowsLinks}
 use Rattle.boot_swap.proofs.Spots.{IsApart, Spot, apart_around, below_trans, off_boot, off_deployment, off_ostree, path_of}
 
 -- nothing is written at a path, nor on the way to it, nor below it
@@ -72,6 +72,9 @@ module _ (W : Path → Seen → Type 0) (v w : View) (writes : Writes W v w) whe
 
   pub each_missed : (S : Seen → Type 0) (a : Path) → Misses W a → EachShows v a S → EachShows w a S
   each_missed S a misses was = each_kept S a (at_missed a misses) was
+
+  pub settled_kept : (a : Path) → Misses W a → IsSureAt v a → IsSureAt w a
+  settled_kept a misses was s may = each_missed (λ x. x ≡ shows v.now a) a misses was s may ∙ sym (shows_kept W v w a writes (at_missed a misses))
 
   pub same_around : (a : Path) → Misses W a → (p : Path) → IsAround a p → shows w.now p ≡ shows v.now p
   same_around a misses p around = shows_kept W v w p writes (λ s wrote. misses p s wrote around)

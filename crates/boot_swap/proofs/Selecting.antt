@@ -87,6 +87,10 @@ link_value d (value.Link k l) m t e =
 pub firm_link : (v : View) (z : Value) (s : Seen) (t : List ℕ) → IsLinkTo t (seen v.now z) → MayShow v z s → IsLinkTo t s
 firm_link v z s t is may = (is.0, subst (λ y. MayShow v y s) (link_value v.now z is.0 t is.1) may)
 
+-- and that is the link itself
+pub firm_as_now : (v : View) (z : Value) (s : Seen) (t : List ℕ) → IsLinkTo t (seen v.now z) → MayShow v z s → s ≡ seen v.now z
+firm_as_now v z s t is may = subst (λ y. MayShow v y s) (link_value v.now z is.0 t is.1) may ∙ sym is.1
+
 module _ (n : Version) (v : View) (sure : IsSureAt v (boot_link_path (number n))) (found : Option node.Node) (is : IsNode v.now (v.now.at (boot_link_path (number n))) found) where
   -- a link that a crash leaves is the one that was found
   found_is : (sub : Version) (s : Seen) → MayBe v (boot_link_path (number n)) s → IsTheLink n sub s → IsLinkOf n sub found

@@ -29,7 +29,7 @@ use Rattle.boot_swap.specs.Swap.{IsLoaderLink, IsMade, IsVersionLink, keeps_fold
 use Rattle.boot_swap.specs.Steps.{HasPlaces, IsAside, IsTheLink, IsTheLoader, IsWhole, Needs, ready_in}
 use Rattle.boot_swap.proofs.Spots.{IsApart, Link, LinkFolder, LinkStage, LoaderFolder, LoaderStage, Spot, apart_around, around_self, path_of, spots_apart}
 use Rattle.boot_swap.proofs.Spots.{Loader as LoaderLink}
-use Rattle.boot_swap.proofs.Keeping.{Misses, Spotted, each_kept, each_missed, entries_kept, links_kept, places_kept, sure_kept}
+use Rattle.boot_swap.proofs.Keeping.{Misses, Spotted, each_kept, each_missed, entries_kept, links_kept, places_kept, settled_kept, sure_kept}
 use Rattle.boot_swap.proofs.Parts.{is_put, link_begins, link_same, more_lies}
 use Rattle.boot_swap.proofs.Making.{at_phase}
 
@@ -246,6 +246,7 @@ module _ (items : List BootItem) (n : Version) (l : Linking) (v : View) where
             sub = whole.sub;
             sure = sure_kept (linking.WritesOf l v) v w writes n whole.sub items (loader_misses_entries n) (loader_misses_links n whole.sub) loader_spotted whole.sure;
             link = each_missed (linking.WritesOf l v) v w writes (IsTheLink n whole.sub) (boot_link_path (number n)) (loader_misses_link n) whole.link;
+            settled = settled_kept (linking.WritesOf l v) v w writes (boot_link_path (number n)) (loader_misses_link n) whole.settled;
           }
 
       loader_places : HasPlaces items w.now

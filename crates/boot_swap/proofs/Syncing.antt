@@ -1,5 +1,5 @@
 -- The syncs of a swap.
-use Rattle.std.proofs.Common.{◌≡◌, ℕ, List, refl, sym, ◌∙◌, subst, Option, Some, None}
+use Rattle.std.proofs.Common.{◌≡◌, ℕ, List, refl, sym, ◌∙◌, ap, subst, Option, Some, None}
 use Rattle.ost_types.specs.Path.{Name, Path, under}
 use Rattle.fs_trait.specs.View.{View, all_synced, folder_synced}
 use Rattle.fs_trait.specs.Image.{IsTree}
@@ -24,10 +24,10 @@ use Rattle.boot_compare.specs.declared.choosing.Swap.TheVariants.{Loader, Sub}
 use Rattle.boot_swap.specs.declared.phase.Phase.{Phase}
 use Rattle.boot_swap.specs.declared.phase.Phase.TheVariants as phase
 use Rattle.boot_swap.specs.Swap.{barred, folder_of, keeps_folder, version_of}
-use Rattle.boot_swap.specs.Steps.{EachShows, HasMade, HasPlaces, IsAside, IsSure, IsTheLink, IsTheLoader, Needs, barred_in, shown_in}
-use Rattle.boot_swap.proofs.Keeping.{Misses, Spotted, each_missed, entries_kept, links_kept, places_kept, sure_kept}
+use Rattle.boot_swap.specs.Steps.{EachShows, HasMade, HasPlaces, IsAside, IsSure, IsSureAt, IsTheLink, IsTheLoader, Needs, barred_in, shown_in}
+use Rattle.boot_swap.proofs.Keeping.{Misses, Spotted, each_missed, entries_kept, links_kept, places_kept, settled_kept, sure_kept}
 use Rattle.boot_swap.proofs.Making.{aside_kept, at_phase}
-use Rattle.boot_swap.proofs.Selecting.{firm_link}
+use Rattle.boot_swap.proofs.Selecting.{firm_as_now, firm_link}
 use Rattle.boot_swap.proofs.Showing.{link_place}
 
 misses : (a : Path) → Misses Nothing a
@@ -74,6 +74,7 @@ module _ (items : List BootItem) (u : which.Swap) (sub : Version) (v : View) (ne
             sub = sub;
             sure = made_sure n made;
             link = λ s may. subst (IsTheLink n sub) (sym (firm (boot_link_path (number n)) s may ∙ same (boot_link_path (number n)))) there;
+            settled = firm (boot_link_path (number n));
           },
         );
       }
@@ -100,6 +101,13 @@ module _ (items : List BootItem) (v : View) (f : Path) where
       let here : IsLinkTo target (shows v.now (under f x)) = subst (λ q. IsLinkTo target (shows v.now q)) is there in
       firm_link v (v.now.at (under f x)) s target here (folder_synced-firm v f x s (subst (λ q. MayBe (folder_synced f v) q s) is may))
 
+-- the sync of its folder makes a link sure
+link_settled : (v : View) (f at : Path) (x : Name) (target : List ℕ) → at ≡ under f x → IsLinkTo target (shows v.now at) → IsSureAt (folder_synced f v) at
+link_settled v f at x target is there s may =
+    let here : IsLinkTo target (shows v.now (under f x)) = subst (λ q. IsLinkTo target (shows v.now q)) is there in
+    let firm = firm_as_now v (v.now.at (under f x)) s target here (folder_synced-firm v f x s (subst (λ q. MayBe (folder_synced f v) q s) is may)) in
+    firm ∙ ap (λ q. shows v.now q) (sym is) ∙ sym (shows_kept Nothing v (folder_synced f v) at (folder_synced-writes v f) (λ x none. none))
+
 pub folder_done : (items : List BootItem) (u : which.Swap) (v : View) → Needs (at_phase items (phase.SyncFolder u)) v → Needs (at_phase items phase.Ended) (folder_synced (folder_of u) v)
 folder_done items u v needs = by u needs.meets
   where
@@ -115,7 +123,12 @@ folder_done items u v needs = by u needs.meets
           places = places f;
           meets = (
             n,
-            record { sub = whole.sub; sure = sure_still items v f n whole.sub whole.sure; link = each_still items v f (IsTheLink n whole.sub) (boot_link_path (number n)) whole.link },
+            record {
+              sub = whole.sub;
+              sure = sure_still items v f n whole.sub whole.sure;
+              link = each_still items v f (IsTheLink n whole.sub) (boot_link_path (number n)) whole.link;
+              settled = settled_kept Nothing v (folder_synced f v) (folder_synced-writes v f) (boot_link_path (number n)) (misses (boot_link_path (number n))) whole.settled;
+            },
             link_firm items v f loader_path _ (loader_target (number n)) refl shown.1,
           );
         }
@@ -131,6 +144,7 @@ folder_done items u v needs = by u needs.meets
               sub = sub;
               sure = sure_still items v f n sub shown.2;
               link = link_firm items v f (boot_link_path (number n)) _ (boot_target (number n) (number sub)) (link_place n) shown.3;
+              settled = link_settled v f (boot_link_path (number n)) _ (boot_target (number n) (number sub)) (link_place n) shown.3;
             },
             each_still items v f (IsTheLoader n) loader_path shown.0,
           );

@@ -116,11 +116,12 @@ abbrev pub barred_in : which.Swap → Version → View → Type 0
 barred_in (Loader n) sub v = IsTheLink n sub (shows v.now (boot_link_path (number n)))
 barred_in (Sub n) sub v = Unit {0}
 
--- the version is whole, with its link
+-- the version is whole, with its link, which each crash leaves as it is
 pub record IsWhole (n : Version) (items : List BootItem) (v : View) : Type 0 where
   pub sub : Version
   pub sure : IsSure v n sub items
   pub link : EachShows v (boot_link_path (number n)) (IsTheLink n sub)
+  pub settled : IsSureAt v (boot_link_path (number n))
 
 -- the shown link is to outlast a crash
 abbrev pub shown_in : which.Swap → List BootItem → View → Type 0

@@ -103,7 +103,7 @@ module _ (W : Path → Seen → Type 0) (items : List BootItem) (v w : View) (wr
   }
 
   whole_on : (n : Version) → IsWhole n items v → IsWhole n items w
-  whole_on n was = record { sub = was.sub; sure = sure_on n was.sub was.sure; link = each_on (Link n) (IsTheLink n was.sub) was.link }
+  whole_on n was = record { sub = was.sub; sure = sure_on n was.sub was.sure; link = each_on (Link n) (IsTheLink n was.sub) was.link; settled = sure_at_on (Link n) was.settled }
 
   -- ---- what is compared
 

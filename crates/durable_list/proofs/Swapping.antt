@@ -1,17 +1,22 @@
 -- While one list is put in the place of another, each crash leaves one of both.
 use Rattle.std.proofs.Common.{◌≡◌, ◌⊎◌, inl, inr, ⊎_elim, true, false, sym, ◌∙◌, ap, subst, List, [], ◌∷◌, ◌++◌, append-nil, append_assoc, Some}
 use Rattle.ost_types.specs.Path.{Name, Path, is_below, under}
+use Rattle.ost_types.proofs.Paths.{is_below-under}
 use Rattle.fs_trait.specs.View.{Disk, View}
-use Rattle.fs_trait.specs.Image.{Image, IsTree, is_folder}
-use Rattle.fs_trait.specs.Seen.{Seen, MayBe, seen, shows}
-use Rattle.fs_trait.proofs.Claims.{Image-root, Image-under, is_below-before}
+use Rattle.fs_trait.specs.Image.{EachImage, Image, IsTree, is_folder}
+use Rattle.fs_trait.specs.Seen.{Seen, IsDirectory, MayBe, seen, shows}
+use Rattle.fs_trait.specs.Change.{LeadsTo}
+use Rattle.fs_trait.proofs.Claims.{Image-root, Image-under, folder_shows, is_below-before}
+use Rattle.fs_trait.proofs.Converse.{image_shows}
 use Rattle.fs_trait.proofs.Effects.{may_now}
+use Rattle.fs_trait.proofs.Facts.{under-not_below}
 use Rattle.fs_trait.proofs.Images.{folder_or_not, not_both}
+use Rattle.fs_trait.proofs.Ways.{above}
 use Rattle.layout_rules.proofs.Layouts.{below_split}
 use Rattle.boot_read.specs.declared.row.BootRow.{BootRow}
 use Rattle.boot_read.specs.Rows.{AreRowsOf}
-use Rattle.durable_list.specs.Standing.{BeginsSwap, EndsSwap, IsListPath, IsOnTheWay, ListOf, ListStands, ListsSwap, SparesList}
-use Rattle.durable_list.proofs.Same.{path_back, same_folder, same_rows}
+use Rattle.durable_list.specs.Standing.{BeginsSwap, EndsSwap, IsListPath, LeavesNoMore, IsOnTheWay, ListOf, ListStands, ListsSwap, SparesList}
+use Rattle.durable_list.proofs.Same.{folder_directory, path_back, same_folder, same_rows}
 use Rattle.durable_list.proofs.Standing.{itself}
 
 -- what is on the way to a path on the way is there, too
@@ -92,6 +97,7 @@ pub swap_on : (link : Path) (old new : Disk) (before after : List BootRow) (v w 
 swap_on link old new before after v w swap one two = record {
   trees = swap.trees;
   there = swap.there;
+  home = swap.home;
   left = list_of_on link old before v w one swap.left;
   come = list_of_on link new after v w two swap.come;
   either = λ s may. swap.either s (spared_may old before v w one link s swap.there may);
@@ -103,6 +109,7 @@ pub swap_begins : (link : Path) (new : Disk) (before after : List BootRow) (v w 
 swap_begins link new before after v w stands begins = record {
   trees = begins.trees;
   there = begins.there;
+  home = begins.home;
   left = record { are = stands.are; sure = begins.stays };
   come = begins.come;
   either = begins.either;
@@ -125,3 +132,46 @@ module _ (link : Path) (old new : Disk) (before after : List BootRow) (v w : Vie
     where
       same : (p : Path) → IsListPath new after p → shows w.now p ≡ shows new p
       same p is = each_new p (shows w.now p) (p, is, itself p) (may_now w p)
+
+-- ---- where no crash leaves the old list
+
+module _ (link : Path) (old new : Disk) (before after : List BootRow) (v w : View) (swap : ListsSwap link old new before after v) (only : LeavesNoMore v w) where
+  f : Path
+  f = swap.home.0
+
+  at_link : link ≡ under f swap.home.1
+  unfolding f
+  at_link = swap.home.2
+
+  there : IsDirectory (shows old f)
+  unfolding f
+  there = swap.home.3
+
+  still : ListOf (Some link) old before w
+  still = record { are = swap.left.are; sure = λ p s way may. swap.left.sure p s way (only p s may) }
+
+  -- folders lead to the link in each crash
+  leads : (p : Path) (s : Seen) → MayBe w p s → LeadsTo f p s
+  leads p s may below = ⊎_elim (λ same. subst IsDirectory (sym same) folder) not_link (still.sure p s (way_above old before p link on swap.there) may)
+    where
+      on : is_below p link ≡ true
+      on = subst (λ q. is_below p q ≡ true) (sym at_link) (is_below-under p f swap.home.1 below)
+
+      folder : IsDirectory (shows old p)
+      folder =
+          let split = below_split p f below in
+          folder_directory old (old.at p) (above old swap.trees.0 p split.0 (subst (λ q. is_folder (old.at q) ≡ true) split.1 (folder_shows old f there)))
+
+      not_link : p ≡ link → IsDirectory s
+      not_link is = absurd (not_both (subst (λ q. is_below q f ≡ true) (is ∙ at_link) below) (under-not_below f swap.home.1))
+
+  -- what may be at the link, some crash leaves there
+  module _ (gone : EachImage w (λ d. AreRowsOf d before → ⊥)) where
+    each_gone : (s : Seen) → MayBe w link s → s ≡ shows old link → ⊥
+    each_gone s may same =
+        let d = image_shows w f swap.home.1 s (subst (λ q. MayBe w q s) at_link may) leads in
+        gone d.0 d.1 (list_left link old before w swap.trees.0 still d.0 d.1 (subst (λ q. shows d.0 q ≡ s) (sym at_link) d.2 ∙ same))
+
+    pub swap_settles : ListStands after w
+    swap_settles = swap_ends link old new before after v w swap
+        (record { only = only; shown = λ s may. ⊎_elim (λ was. absurd (each_gone s may was)) (λ is. is) (swap.either s (only link s may)) })

@@ -1,9 +1,9 @@
 -- That each crash leaves the list of deployments that boots (OSTree manual, "Deployments").
 use Rattle.std.specs.Prelude.{◌≡◌, ◌⊎◌, ◌≤◌, ◌++◌, ℕ, IsTrue, List, Contains, Option, Some, None, map}
-use Rattle.ost_types.specs.Path.{Name, Path, is_below}
+use Rattle.ost_types.specs.Path.{Name, Path, is_below, under}
 use Rattle.fs_trait.specs.View.{Disk, View}
 use Rattle.fs_trait.specs.Image.{IsTree}
-use Rattle.fs_trait.specs.Seen.{Seen, MayBe, shows}
+use Rattle.fs_trait.specs.Seen.{Seen, IsDirectory, MayBe, shows}
 use Rattle.fs_trait.specs.Change.{Left}
 use Rattle.repo_layout.specs.BootPaths.{boot_folder_path, boot_link_path, entry_path, loader_path}
 use Rattle.repo_layout.specs.Paths.{deploy_path}
@@ -65,11 +65,16 @@ pub record ListOf (link : Option Path) (base : Disk) (rows : List BootRow) (v : 
   pub are : AreRowsOf base rows
   pub sure : (p : Path) (s : Seen) → IsOnTheWay base rows p → MayBe v p s → (s ≡ shows base p) ⊎ IsLink link p
 
+-- the disk has the folder in which the link stands, or is to stand
+abbrev pub HasFolderOf : Path → Disk → Type 0
+HasFolderOf link d = (f : Path) × (x : Name) × (link ≡ under f x) × IsDirectory (shows d f)
+
 -- One of two lists boots: at the link, which is on the way to the old one, each crash leaves what the one disk has there, or what the other
 -- has.
 pub record ListsSwap (link : Path) (old new : Disk) (before after : List BootRow) (v : View) : Type 0 where
   pub trees : IsTree old × IsTree new
   pub there : IsOnTheWay old before link
+  pub home : HasFolderOf link old
   pub left : ListOf (Some link) old before v
   pub come : ListOf (Some link) new after v
   pub either : (s : Seen) → MayBe v link s → (s ≡ shows old link) ⊎ (s ≡ shows new link)
@@ -79,11 +84,16 @@ pub record ListsSwap (link : Path) (old new : Disk) (before after : List BootRow
 pub record BeginsSwap (link : Path) (new : Disk) (before after : List BootRow) (v w : View) : Type 0 where
   pub trees : IsTree v.now × IsTree new
   pub there : IsOnTheWay v.now before link
+  pub home : HasFolderOf link v.now
   pub stays : (p : Path) (s : Seen) → IsOnTheWay v.now before p → MayBe w p s → (s ≡ shows v.now p) ⊎ (p ≡ link)
   pub come : ListOf (Some link) new after w
   pub either : (s : Seen) → MayBe w link s → (s ≡ shows v.now link) ⊎ (s ≡ shows new link)
 
--- What ends it: a crash leaves nothing that it wouldn't have left, and the link is the new one in each.
+-- a crash leaves nothing that it wouldn't have left
+abbrev pub LeavesNoMore : View → View → Type 0
+LeavesNoMore v w = (p : Path) (s : Seen) → MayBe w p s → MayBe v p s
+
+-- What ends it: nothing is new, and the link is the new one in each crash.
 pub record EndsSwap (link : Path) (new : Disk) (v w : View) : Type 0 where
-  pub only : (p : Path) (s : Seen) → MayBe w p s → MayBe v p s
+  pub only : LeavesNoMore v w
   pub shown : (s : Seen) → MayBe w link s → s ≡ shows new link

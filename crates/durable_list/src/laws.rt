@@ -2,14 +2,14 @@
 ghost use Rattle.std.specs.Prelude.{◌≡◌, ◌⊎◌, ◌≤◌, ℕ, List, Some};
 ghost use Rattle.ost_types.specs.Path.{Path};
 ghost use Rattle.fs_trait.specs.View.{Disk, View};
-ghost use Rattle.fs_trait.specs.Image.{Image, IsTree};
+ghost use Rattle.fs_trait.specs.Image.{EachImage, Image, IsTree};
 ghost use Rattle.fs_trait.specs.Seen.{Always, shows};
 ghost use Rattle.repo_layout.specs.Place.{place};
 ghost use Rattle.fs_trait.specs.Effect.{Elapses};
 ghost use Rattle.rely_guarantee.specs.Rely.{IsBoot};
 ghost use Rattle.boot_read.specs.declared.row.BootRow.{BootRow};
 ghost use Rattle.boot_read.specs.Rows.{AreRowsOf};
-ghost use Rattle.durable_list.specs.Standing.{BeginsSwap, EndsSwap, IsOnTheWay, KeepsList, ListStands, ListsSwap, SparesList};
+ghost use Rattle.durable_list.specs.Standing.{BeginsSwap, EndsSwap, IsOnTheWay, KeepsList, LeavesNoMore, ListStands, ListsSwap, SparesList};
 
 use fs_trait::Fs;
 
@@ -33,6 +33,7 @@ pub fn lists_swap()
     ensures spared { (link : Path) (old new : Disk) (before after : List BootRow) (v w : View) → ListsSwap link old new before after v → SparesList old before v w → SparesList new after v w → ListsSwap link old new before after w }
     ensures images { (link : Path) (old new : Disk) (before after : List BootRow) (v : View) (d : Disk) → ListsSwap link old new before after v → Image v d → AreRowsOf d before ⊎ AreRowsOf d after }
     ensures ends { (link : Path) (old new : Disk) (before after : List BootRow) (v w : View) → ListsSwap link old new before after v → EndsSwap link new v w → ListStands after w }
+    ensures settles { (link : Path) (old new : Disk) (before after : List BootRow) (v w : View) → ListsSwap link old new before after v → LeavesNoMore v w → EachImage w (λ d. ¬ (AreRowsOf d before)) → ListStands after w }
 {}
 
 /// Where the list is read, and on the way there, is what boots, what is deployed, or no place of the layout.

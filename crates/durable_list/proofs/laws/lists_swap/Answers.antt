@@ -1,4 +1,4 @@
-use Rattle.durable_list.proofs.Swapping.{one_left, swap_begins, swap_ends, swap_on}
+use Rattle.durable_list.proofs.Swapping.{one_left, swap_begins, swap_ends, swap_on, swap_settles}
 use Rattle.durable_list.proofs.laws.lists_swap.Goals as goal
 
 pub returns-clause-begins : goal.returns-clause-begins
@@ -12,3 +12,6 @@ returns-clause-images c link old new before after v d swap i = one_left link old
 
 pub returns-clause-ends : goal.returns-clause-ends
 returns-clause-ends c link old new before after v w swap ends = swap_ends link old new before after v w swap ends
+
+pub returns-clause-settles : goal.returns-clause-settles
+returns-clause-settles c link old new before after v w swap only gone = swap_settles link old new before after v w swap only gone
