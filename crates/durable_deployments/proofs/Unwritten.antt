@@ -25,7 +25,7 @@ use Rattle.boot_read.specs.declared.row.BootRow.{BootRow}
 use Rattle.durable_list.proofs.Unwritten.{way_boot, way_ostree}
 use Rattle.rely_guarantee.specs.Books.{Books, listed_in}
 use Rattle.rely_guarantee.specs.Rely.{Guarantee, Interference, IsBoot}
-use Rattle.rely_guarantee.specs.Removing.{IsGuarded, IsRoot}
+use Rattle.rely_guarantee.specs.Removing.{IsGuarded, IsRoot, next_of}
 use Rattle.rely_guarantee.proofs.Lasting.{leads_harmless}
 use Rattle.durable_deployments.specs.Standing.{AreOwnSpared, AreSpared, AreStanding, DeploymentStands, IsInDeployment, IsKept, IsOnTheWay, IsReached, SparesDeployment, SparesOwn}
 
@@ -57,13 +57,13 @@ pub listed_guards : (b : Books) (v : View) (lane : ℕ) (id : DepId) → Contain
 listed_guards b v lane id among = reach_up (Stores v.now) (Stores v.now) (Is (name_of Commit id.commit)) (IsRoot b v lane) (λ o is. inr (inr (id, among, is))) (λ o c stored. stored)
 
 module _ (limits : Limits) (v w : View) (b b' : Books) (actor lane : ℕ) (id : DepId) (bootcsum : List ℕ)
-    (does : Interference actor lane v b w b') (among : Contains (listed_in b) id) (stands : DeploymentStands limits v id bootcsum) where
+    (does : Interference actor lane v b w b') (guarded : (o : ObjName) → IsReached v.now id.commit o → Contains (next_of b) o → IsGuarded b v lane o) (stands : DeploymentStands limits v id bootcsum) where
   object_unwritten : (o : ObjName) → IsReached v.now id.commit o → (s : Seen) → Guarantee b v actor lane (path_of o) s → ⊥
   object_unwritten o reached s may =
       let safe = (stands.objects o reached).safe in
       ⊎_elim
       (λ comes. safe.there (shows v.now (path_of o)) (may_now v (path_of o)) comes.0)
-      (λ goes. goes.2 (listed_guards b v lane id among o reached))
+      (λ goes. goes.2 (guarded o reached goes.1))
       (may.objects o.kind o.csum (place-object o.kind o.csum safe.sum))
 
   -- so one that spares its own paths spares it
@@ -76,8 +76,8 @@ module _ (limits : Limits) (v w : View) (b b' : Books) (actor lane : ℕ) (id : 
     each_kept p s (inl (o, reached, at)) may = ⊎_elim (λ was. inl was) (λ wrote. absurd (object_unwritten o reached s (subst (λ q. Guarantee b v actor lane q s) at wrote))) (does.writes.only p s may)
     each_kept p s (inr way) may = own.each p s way may
 
-    pub act_spares : SparesDeployment v w id bootcsum
-    act_spares = record {
+    pub act_spares_kept : SparesDeployment v w id bootcsum
+    act_spares_kept = record {
       now = now_kept;
       each = each_kept;
       leads = λ o reached above. firm_kept (Guarantee b v actor lane) (LeadsTo (objects_folder_path o.csum)) v w does.writes (leads_harmless b v w actor lane does.writes o.csum) above;
@@ -86,7 +86,8 @@ module _ (limits : Limits) (v w : View) (b b' : Books) (actor lane : ℕ) (id : 
 -- the same of all deployments of a list
 pub act_spares_all : (limits : Limits) (rows : List BootRow) (v w : View) (b b' : Books) (actor lane : ℕ) → Interference actor lane v b w b' → ((row : BootRow) → Contains rows row → Contains (listed_in b) row.id) → AreOwnSpared rows v w
     → AreStanding limits rows v → AreSpared rows v w
-act_spares_all limits rows v w b b' actor lane does listed own stand row among = act_spares limits v w b b' actor lane row.id row.bootcsum does (listed row among) (stand row among) (own row among)
+act_spares_all limits rows v w b b' actor lane does listed own stand row among =
+    act_spares_kept limits v w b b' actor lane row.id row.bootcsum does (λ o reached next. listed_guards b v lane row.id (listed row among) o reached) (stand row among) (own row among)
 
 -- whoever writes nothing there spares its own paths
 pub aside_spares : (v w : View) (id : DepId) (bootcsum : List ℕ) (W : Path → Seen → Type 0) → ((p : Path) (s : Seen) → W p s → IsOnTheWay id bootcsum p → ⊥) → Writes W v w → SparesOwn v w id bootcsum

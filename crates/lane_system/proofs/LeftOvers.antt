@@ -12,7 +12,8 @@ use Rattle.fs_trait.proofs.Facts.{vacant_absent}
 use Rattle.fs_trait.proofs.Images.{folder_or_not}
 use Rattle.rely_guarantee.specs.Books.{Books}
 use Rattle.rely_guarantee.specs.Rely.{Guarantee}
-use Rattle.sys_open.specs.LeftOver.{CanGo, LiesWithin}
+use Rattle.sys_open.specs.LeftOver.{CanGo}
+use Rattle.durable_deployments.specs.Bounds.{LiesWithin}
 use Rattle.lane_system.specs.Booting.{KeepsClear}
 
 abbrev IsBounded : View → Type 0

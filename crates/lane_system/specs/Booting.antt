@@ -14,7 +14,8 @@ use Rattle.rely_guarantee.specs.State.{list_in}
 use Rattle.durable_list.specs.Standing.{KeepsList, SparesList, ids_of}
 use Rattle.durable_deployments.specs.Standing.{AreOwnSpared, KeepsDeployments}
 use Rattle.command.specs.BootLaws.{BootRows}
-use Rattle.sys_open.specs.LeftOver.{CanGo, LiesWithin}
+use Rattle.sys_open.specs.LeftOver.{CanGo}
+use Rattle.durable_deployments.specs.Bounds.{LiesWithin}
 use Rattle.lane_system.specs.Family.{FsSpec}
 use Rattle.lane_system.specs.Lanes.{IsAt}
 use Rattle.lane_system.specs.System.{System}

@@ -16,7 +16,8 @@ use Rattle.deployment_build.proofs.Apart.{origin_under}
 use Rattle.deployment_build.proofs.PathBounds.{deployed-path, deployments-path, origin-name, os-name}
 use Rattle.deployment_check.specs.Deployments.{IsId}
 use Rattle.deployment_check.proofs.Rooms.{room_below}
-use Rattle.sys_open.specs.LeftOver.{CanGo, HasBoundedDeployments, MayBeLeftOver}
+use Rattle.sys_open.specs.LeftOver.{CanGo, HasBoundedDeployments}
+use Rattle.durable_deployments.specs.Bounds.{MayBeLeftOver}
 
 -- ---- these are paths
 

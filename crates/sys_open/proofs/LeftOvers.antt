@@ -24,7 +24,8 @@ use Rattle.durable_list.specs.Standing.{IsInVersion, IsListPath, ids_of}
 use Rattle.durable_list.proofs.Unwritten.{way_boot, way_ostree}
 use Rattle.rely_guarantee.specs.Rely.{IsBoot}
 use Rattle.sys_open.specs.Changes.{ClearsAll, ClearsUnlisted}
-use Rattle.sys_open.specs.LeftOver.{AreLeftOvers, IsLeftOver, IsOfNoRow, LiesIn, LiesWithin, MayBeLeftOver}
+use Rattle.sys_open.specs.LeftOver.{AreLeftOvers, IsLeftOver, IsOfNoRow, LiesIn}
+use Rattle.durable_deployments.specs.Bounds.{LiesWithin, MayBeLeftOver}
 use Rattle.sys_open.proofs.Walks.{absent_or_not}
 
 -- ---- there is one list

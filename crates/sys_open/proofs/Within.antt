@@ -27,7 +27,8 @@ use Rattle.deployment_check.proofs.Trees.{named_within}
 use Rattle.durable_list.specs.Standing.{ids_of}
 use Rattle.durable_deployments.specs.Standing.{AreWhole}
 use Rattle.sys_open.specs.Damages.{Clearable}
-use Rattle.sys_open.specs.LeftOver.{AreLeftOvers, AreStaying, AsksBelow, CanGo, IsLeftOver, IsOwnOf, IsOwnPath, LiesWithin}
+use Rattle.sys_open.specs.LeftOver.{AreLeftOvers, AreStaying, AsksBelow, CanGo, IsLeftOver, IsOwnOf, IsOwnPath}
+use Rattle.durable_deployments.specs.Bounds.{LiesWithin}
 use Rattle.sys_open.specs.Walk.{IsLeastWrong, IsLesser}
 use Rattle.sys_open.proofs.Firsts.{Both, least_same, lesser_least}
 use Rattle.sys_open.proofs.LeftOvers.{may_left, may_unlisted, row_id}

@@ -10,9 +10,10 @@ use Rattle.layout_rules.specs.Checks.{IsReached}
 use Rattle.boot_model.specs.declared.item.DepId.{DepId}
 use Rattle.boot_read.specs.declared.row.BootRow.{BootRow}
 use Rattle.boot_read.specs.Rows.{AreRowsOf}
-use Rattle.deploy_clean.specs.Unlisted.{IsPathOf, IsUnlisted, deployments}
-use Rattle.deployment_check.specs.Deployments.{IsId, etc_of}
+use Rattle.deploy_clean.specs.Unlisted.{IsUnlisted, deployments}
+use Rattle.deployment_check.specs.Deployments.{etc_of}
 use Rattle.durable_list.specs.Standing.{ids_of}
+use Rattle.durable_deployments.specs.Bounds.{LiesWithin}
 
 -- A list is selected: something stands at the boot loader's link.
 abbrev pub HasLoader : Disk → Type 0
@@ -33,15 +34,6 @@ IsLeftOver d p = (p ≡ loader_stage_path) ⊎ (p ≡ boot_link_stage_path) ⊎ 
 -- The path is at or below one of them.
 abbrev pub LiesIn : Disk → Path → Type 0
 LiesIn d p = (q : Path) × IsLeftOver d q × IsTrue (is_below q p)
-
--- A path where a deployment or its origin file may stand, named by a list or not, or where one of the two links by which a list boots is
--- staged: no list may boot it now or later.
-abbrev pub MayBeLeftOver : Path → Type 0
-MayBeLeftOver q = (q ≡ loader_stage_path) ⊎ (q ≡ boot_link_stage_path) ⊎ ((id : DepId) × IsId id × IsPathOf id q)
-
--- The path is at or below one of them.
-abbrev pub LiesWithin : Path → Type 0
-LiesWithin p = (q : Path) × MayBeLeftOver q × IsTrue (is_below q p)
 
 -- What stands there can be removed, now or where a later list doesn't name it.
 abbrev pub CanGo : Disk → Path → Type 0
