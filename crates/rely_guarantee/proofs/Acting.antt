@@ -20,7 +20,7 @@ use Rattle.rely_guarantee.specs.declared.kind.Outcome.{Outcome}
 use Rattle.rely_guarantee.specs.declared.kind.Outcome.TheVariants as came
 use Rattle.rely_guarantee.specs.Exact as exact
 use Rattle.rely_guarantee.specs.Exact.{IsRefusedBy, why_of}
-use Rattle.rely_guarantee.specs.State.{stored, opening_state}
+use Rattle.rely_guarantee.specs.State.{acked, stored, opening_state}
 use Rattle.rely_guarantee.specs.Books.{Books, books_of, Spared, Keeps}
 use Rattle.rely_guarantee.specs.Rely.{Guarantee, Interference}
 use Rattle.rely_guarantee.specs.SystemInvariant.{Ordered, SystemInvariant}
@@ -191,6 +191,7 @@ module _ {F : Type 0} (view : F → Option View) (clock spare : F → ℕ) (was 
         sound = quiet_sound old mid new actor lane t same ends by is stood ready wrote time room;
         does = quiet_does old mid new actor lane t same ends by is stood ready wrote;
         books = subst (λ b. Spared actor lane (books_of b) (books_of new.books)) same ends.spared;
+        past = λ t le. ap (λ h. acked t h.items) (ends.history ∙ ap (λ b. b.history) same);
         tells = tells;
       }
 

@@ -166,6 +166,7 @@ module _ {F : Type 0} (view : F → Option View) (clock spare : F → ℕ) (was 
         },
       );
       books = noted_spared;
+      past = acts.past;
       tells = noted_runs;
     }
 

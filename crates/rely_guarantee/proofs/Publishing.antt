@@ -22,7 +22,7 @@ use Rattle.rely_guarantee.specs.declared.event.Event.{Event}
 use Rattle.rely_guarantee.specs.declared.kind.Halt.{Halt}
 use Rattle.rely_guarantee.specs.declared.kind.Outcome.{Outcome}
 use Rattle.rely_guarantee.specs.declared.kind.Outcome.TheVariants as came
-use Rattle.rely_guarantee.specs.State.{SystemState, events_of, list_in, next_list, stored, opening_state}
+use Rattle.rely_guarantee.specs.State.{SystemState, acked, events_of, list_in, next_list, stored, opening_state}
 use Rattle.rely_guarantee.specs.Books.{Books, books_of, doomed_of, listed_in, Free, Agrees, Spared}
 use Rattle.rely_guarantee.specs.Rely.{Guarantee, Interference}
 use Rattle.rely_guarantee.specs.SystemInvariant.{AreThere, Ordered, Stands, SystemInvariant}
@@ -118,6 +118,7 @@ module _ {F : Type 0} (view : F → Option View) (clock spare : F → ℕ) (was 
     sound = ready.sound;
     does = λ v told. (v, told, record { writes = same_view (Guarantee (books_of base.books) v actor lane) v; books = spared_refl actor lane (books_of base.books); claims = λ c has. inl has; listed = λ x other held. refl });
     books = spared_refl actor lane (books_of base.books);
+    past = λ t le. refl;
     tells = ready.task;
   }
 
@@ -148,6 +149,7 @@ module _ {F : Type 0} (view : F → Option View) (clock spare : F → ℕ) (was 
             (λ v told_v relists p is more. let before : old.books.pending ≡ Some p = sym pending ∙ is in spared.sysroot p.lane (none p before) (relists p before more));
         does = λ v told. (v, ap view ends.fs ∙ unchanged v told, record { writes = same_view (Guarantee (books_of old.books) v actor lane) v; books = spared; claims = λ c has. inl (fewer c has); listed = λ x other held. listed_same old.books new.books history (ends.start ∙ ap (λ b. b.start) same) });
         books = spared;
+        past = λ t le. rw history refl;
         tells = tt;
       }
 
@@ -238,6 +240,7 @@ module _ {F : Type 0} (view : F → Option View) (clock spare : F → ℕ) (was 
         does = λ v told. let w = wrote v told in let d = publish_duty old lane t e is turn_free free ready v told in
             (w.0, w.1, record { writes = weaker (writes lane t v) (Guarantee (books_of old.books) v lane lane) v w.0 d.0 w.2; books = spared; claims = λ c has. inl has; listed = λ x other held. refl });
         books = spared;
+        past = λ t le. refl;
         tells = tells;
       }
 
@@ -312,6 +315,7 @@ module _ {F : Type 0} (view : F → Option View) (clock spare : F → ℕ) (was 
         does = λ v told. let w = wrote v told in let d = parts v told in
             (w.0, w.1, record { writes = weaker (writes lane t v) (Guarantee (books_of old.books) v lane lane) v w.0 d.0 w.2; books = spared; claims = λ c has. inl has; listed = λ x other held. refl });
         books = spared;
+        past = λ t le. refl;
         tells = tells;
       }
 
@@ -500,6 +504,7 @@ module _ {F : Type 0} (view : F → Option View) (clock spare : F → ℕ) (was 
         does = λ v told. let w = wrote v told in let d = make_durable_duty old lane t next e is ready v told in
             (w.0, ap view ends.fs ∙ w.1, record { writes = weaker (writes lane t v) (Guarantee (books_of old.books) v lane lane) v w.0 (λ q s k. absurd (d.0 q s k)) w.2; books = spared; claims = λ c has. inl (fewer c has); listed = λ x other held. relisted old new lane e en x other held history start (λ more. ready.sound.relists v told p pend.pending more) });
         books = spared;
+        past = λ t le. rw history (acked_late t old.books.history.items en (omega (arith, le, ticks.is)));
         tells = tt;
       }
 
@@ -576,5 +581,6 @@ module _ {F : Type 0} (view : F → Option View) (clock spare : F → ℕ) (was 
         sound = acts.sound;
         does = λ v told. let d = acts.does v told in (d.0, d.1, subst (λ b. Interference actor lane v b d.0 (books_of new.books)) eq d.2);
         books = subst (λ b. Spared actor lane b (books_of new.books)) eq acts.books;
+        past = λ t le. acts.past t le ∙ ap (λ b. acked t b.history) eq;
         tells = acts.tells;
       }

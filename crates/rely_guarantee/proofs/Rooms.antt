@@ -5,6 +5,7 @@ use Rattle.rely_guarantee.specs.declared.books.Base.{Base}
 use Rattle.rely_guarantee.specs.declared.books.Books as rust
 use Rattle.rely_guarantee.specs.declared.kind.Outcome.{Outcome}
 use Rattle.rely_guarantee.specs.Books.{Agrees, Books, books_of, Spared}
+use Rattle.rely_guarantee.specs.State.{acked}
 use Rattle.rely_guarantee.specs.Rely.{Interference}
 use Rattle.rely_guarantee.specs.Laws.{Ready, Acts}
 
@@ -60,5 +61,6 @@ module _ {F : Type 0} (view : F → Option View) (clock spare : F → ℕ) (was 
     sound = acts.sound;
     does = λ v told. let d = acts.does v told in (d.0, d.1, subst (λ b. Interference actor lane v b d.0 (books_of new.books)) eq d.2);
     books = subst (λ b. Spared actor lane b (books_of new.books)) eq acts.books;
+    past = λ t le. acts.past t le ∙ ap (λ b. acked t b.history) eq;
     tells = acts.tells;
   }

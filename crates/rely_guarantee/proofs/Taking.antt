@@ -13,7 +13,7 @@ use Rattle.boot_model.specs.declared.item.DepId.{DepId}
 use Rattle.repo_model.specs.Objects.{Stores}
 use Rattle.repo_model.specs.Trees.{name_of}
 use Rattle.reach.proofs.Reaching.{reach_up}
-use Rattle.rely_guarantee.specs.State.{IsDeployedCommit}
+use Rattle.rely_guarantee.specs.State.{IsDeployedCommit, acked}
 use Rattle.rely_guarantee.specs.declared.books.Base.{Base}
 use Rattle.rely_guarantee.specs.declared.books.Books as rust
 use Rattle.rely_guarantee.specs.declared.books.Claim as claim
@@ -225,13 +225,14 @@ module _ {F : Type 0} (view : F → Option View) (clock spare : F → ℕ) (was 
         };
       }
 
-  pub take_acts : (old new : Base F) (b : rust.Books) (lane : ℕ) (outcome : Outcome) (runs : Option View → Books → Type 0) → b.claims ≡ old.books.claims → next_of (books_of b) ≡ next_of (books_of old.books) → Spared lane lane (books_of old.books) (books_of b) → Keeps lane (books_of old.books) (books_of b)
+  pub take_acts : (old new : Base F) (b : rust.Books) (lane : ℕ) (outcome : Outcome) (runs : Option View → Books → Type 0) → b.claims ≡ old.books.claims → b.history ≡ old.books.history → next_of (books_of b) ≡ next_of (books_of old.books) → Spared lane lane (books_of old.books) (books_of b) → Keeps lane (books_of old.books) (books_of b)
       → Acts view clock spare was lane lane outcome runs (record old { books = b }) new → Acts view clock spare was lane lane outcome runs old new
-  take_acts old new b lane outcome runs same next spared keeps acts = record {
+  take_acts old new b lane outcome runs same history next spared keeps acts = record {
     sound = acts.sound;
     does = λ v told. let d = acts.does v told in
         (d.0, d.1, record { writes = weaker (Guarantee (books_of b) v lane lane) (Guarantee (books_of old.books) v lane lane) v d.0 (may_less (books_of old.books) (books_of b) v lane lane spared keeps (ap (λ l. l.items) same) next) d.2.writes; books = spared_then lane lane (books_of old.books) (books_of b) (books_of new.books) spared d.2.books; claims = λ c has. ⊎_elim (λ was. inl (subst (λ l. Contains l.items c) same was)) (λ none. inr none) (d.2.claims c has); listed = λ x other held. d.2.listed x other (spared.sysroot x other held) ∙ keeps.listed });
     books = spared_then lane lane (books_of old.books) (books_of b) (books_of new.books) spared acts.books;
+    past = λ t le. acts.past t le ∙ ap (λ h. acked t h.items) history;
     tells = acts.tells;
   }
 
@@ -264,6 +265,7 @@ module _ {F : Type 0} (view : F → Option View) (clock spare : F → ℕ) (was 
       sound = record { ordered = left_ordered acts.sound.ordered; stands = acts.sound.stands; crash = acts.sound.crash; claims = acts.sound.claims; relists = acts.sound.relists };
       does = λ v told. let d = acts.does v told in (d.0, d.1, record { writes = d.2.writes; books = left_spares d.2.books; claims = d.2.claims; listed = d.2.listed });
       books = left_spares acts.books;
+      past = acts.past;
       tells = left_tells outcome t acts.tells;
     }
 

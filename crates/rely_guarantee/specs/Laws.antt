@@ -20,7 +20,7 @@ use Rattle.rely_guarantee.specs.declared.kind.StepKind.TheVariants as step
 use Rattle.rely_guarantee.specs.declared.kind.Wants.{Wants}
 use Rattle.rely_guarantee.specs.Books.{Books, books_of, listed_in, Free, Granted, Agrees, Spared, Keeps, IsClaimed}
 use Rattle.rely_guarantee.specs.Rely.{Guarantee, Interference}
-use Rattle.rely_guarantee.specs.State.{removed_by}
+use Rattle.rely_guarantee.specs.State.{acked, removed_by}
 use Rattle.rely_guarantee.specs.SystemInvariant.{SystemInvariant}
 use Rattle.rely_guarantee.specs.Change.{Still, Away, TakesNone, Dooms, Shows, Final}
 
@@ -250,6 +250,8 @@ pub record Acts {F : Type 0} (view : F → Option View) (clock spare : F → ℕ
   pub sound : SystemInvariant view clock spare was new
   pub does : (v : View) → view old.fs ≡ Some v → (w : View) × (view new.fs ≡ Some w) × Interference actor lane v (books_of old.books) w (books_of new.books)
   pub books : Spared actor lane (books_of old.books) (books_of new.books)
+  -- what had been acknowledged by a moment stays what it was
+  pub past : (t : ℕ) → t ≤ clock old.fs → acked t new.books.history.items ≡ acked t old.books.history.items
   pub tells : Tells view runs outcome new
 
 -- A command has ended: its lane may have given up what it holds, and nothing else is otherwise.

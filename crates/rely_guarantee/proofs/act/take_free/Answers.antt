@@ -12,7 +12,7 @@ returns-clause-acts g c =
     let s = c.stop_storing.ensures in
     let is = take_is c.args.wants (g.T.CommandTask.kind_of c.args.task.now) c.requires.kind in
     stopped_acts g.F.Fs.view g.F.Fs.clock g.F.Fs.spare g.F.Fs.was g.met.T.CommandTask.laws old c.quiet-outcome.new.base c.stop_storing.new.self lane s.kept s.no_more c.quiet-outcome.result c.quiet-outcome.new.task s.same
-    (take_acts g.F.Fs.view g.F.Fs.clock g.F.Fs.spare g.F.Fs.was g.met.T.CommandTask.laws old c.quiet-outcome.new.base c.grant.new.self lane c.quiet-outcome.result _ (ap (λ x. x.claims) e.same)
+    (take_acts g.F.Fs.view g.F.Fs.clock g.F.Fs.spare g.F.Fs.was g.met.T.CommandTask.laws old c.quiet-outcome.new.base c.grant.new.self lane c.quiet-outcome.result _ (ap (λ x. x.claims) e.same) (ap (λ x. x.history) e.same)
     (granted_next old.books c.grant.new.self lane c.args.wants e.same c.requires.free e.taken.1 (take_not g.F.Fs.view g.F.Fs.clock g.F.Fs.spare g.F.Fs.was g.met.T.CommandTask.laws old lane c.args.task.now c.args.wants is c.requires.ready))
     e.spared e.keeps c.quiet-outcome.ensures.acts)
 
