@@ -6,7 +6,7 @@ use Rattle.checkout_command.proofs.Ends.{begins_of, made_claim, made_more}
 use Rattle.checkout_family.specs.Claimed.{made_by_claim, not_begun}
 use Rattle.checkout_command.proofs.Writing.{makes_folder, no_boots_written, no_objects, own_of}
 use Rattle.command.specs.AnswerLaws.{AnswerLaws}
-use Rattle.command.specs.BootLaws.{BootLaws, no_boots}
+use Rattle.command.specs.BootLaws.{BootLaws, ChangesNoList, no_boots}
 use Rattle.command.specs.ChangeLaws.{ChangeLaws}
 use Rattle.command.specs.FolderLaws.{FolderLaws}
 use Rattle.command.specs.HearLaws.{HearLaws}
@@ -58,7 +58,6 @@ change_laws : ChangeLaws checkout_tasks checkout_means checkout_doing
 change_laws = record {
   shown = λ since c t e is kind. no_publish t.work e kind;
   settled = λ since c t e is kind. no_make_durable t.work (subst IsMakeDurable (sym kind) tt);
-  unlisted = λ since c e none. absurd none;
   founds = λ lane t v b e f kind. no_publish t.work e kind;
   makes = λ since c t new a is step given settles. no_make_durable t.work settles;
   makes_not = λ since c t new a is step given settles made. made;
@@ -104,8 +103,11 @@ store_laws = record {
 remove_laws : RemoveLaws checkout_tasks
 remove_laws = no_removals checkout_tasks (λ t. no_removal t.work)
 
-boot_laws : BootLaws checkout_tasks
-boot_laws = no_boots checkout_tasks (λ actor lane t v b p s by f wrote. no_boots_written actor t.work v p s wrote)
+pub checkout_lists : ChangesNoList checkout_means
+checkout_lists = λ since c e none. absurd none
+
+boot_laws : BootLaws checkout_tasks checkout_doing
+boot_laws = no_boots checkout_tasks checkout_means checkout_doing change_laws checkout_lists (λ actor lane t v b p s by f wrote. no_boots_written actor t.work v p s wrote)
 
 folder_laws : FolderLaws checkout_tasks checkout_means checkout_doing
 folder_laws = record {

@@ -1,5 +1,5 @@
 -- What a family proves of the change that a command makes.
-use Rattle.std.specs.Prelude.{◌≡◌, ℕ, List, [], ◌++◌, Some, None}
+use Rattle.std.specs.Prelude.{◌≡◌, ℕ, List, [], ◌++◌, Some}
 use Rattle.ost_types.specs.declared.object.ObjName.{ObjName}
 use Rattle.fs_trait.specs.declared.task.StepResult.TheVariants as turn
 use Rattle.fs_trait.specs.View.{Disk, View}
@@ -8,7 +8,6 @@ use Rattle.rely_guarantee.specs.declared.event.Event.TheVariants.{SetRef, DropRe
 use Rattle.rely_guarantee.specs.Books.{Books}
 use Rattle.rely_guarantee.specs.Lasting.{IsRight, Stays, StaysFinished, StaysOn}
 use Rattle.rely_guarantee.specs.Laws.{Publish, MakeDurable, IsMakeDurable}
-use Rattle.rely_guarantee.specs.State.{list_in}
 use Rattle.command.specs.Doing.{Doing}
 use Rattle.command.specs.Meaning.{Meaning}
 use Rattle.command.specs.Removed.{AreAmong}
@@ -30,8 +29,6 @@ pub record ChangeLaws {T W A : Type 0} (k : TaskSpec T) (m : Meaning W A) (d : D
   -- what a step shows and makes last is the command's change; a ref is set to a commit that lasts
   pub shown : (since : Since) (c : W) (t : T) (e : Event) → d.pursues since c t → k.kind t ≡ Publish e → m.changes since c e
   pub settled : (since : Since) (c : W) (t : T) (e : Event) → d.pursues since c t → k.kind t ≡ MakeDurable e → m.changes since c e
-  -- no command changes which deployments boot yet
-  pub unlisted : (since : Since) (c : W) (e : Event) → m.changes since c e → list_in e ≡ None
   pub founds : (lane : ℕ) (t : T) (v : View) (b : Books) (e : Event) → k.facts lane t v b → k.kind t ≡ Publish e → Founds v e
   -- the answer of the last step says so exactly where that step made the change last
   pub makes : (since : Since) (c : W) (t new : T) (a : A) → d.pursues since c t → k.stepped t (turn.Done tt) new → d.answer new ≡ Some a → IsMakeDurable (k.kind t) → m.makes a c

@@ -1,16 +1,19 @@
 -- The laws of two families are those of both.
-use Rattle.std.specs.Prelude.{◌≡◌, Option, Some, None, IsSome, refl}
+use Rattle.std.specs.Prelude.{◌≡◌, ℕ, Option, Some, None, IsSome, refl}
 use Rattle.std.proofs.Common.{ap}
+use Rattle.fs_trait.specs.View.{View}
+use Rattle.rely_guarantee.specs.Books.{Books}
 use Rattle.rely_guarantee.specs.declared.either.Either.{Either}
 use Rattle.rely_guarantee.specs.declared.either.Either.TheVariants.{Left, Right}
 use Rattle.command.specs.Doing.{Doing}
+use Rattle.command.specs.Since.{Since}
 use Rattle.command.specs.Meaning.{Meaning}
 use Rattle.command.specs.Tasks.{TaskSpec}
 use Rattle.command.specs.StepLaws.{StepLaws}
 use Rattle.command.specs.HearLaws.{HearLaws}
 use Rattle.command.specs.LearnLaws.{LearnLaws}
 use Rattle.command.specs.RemoveLaws.{RemoveLaws}
-use Rattle.command.specs.BootLaws.{BootLaws}
+use Rattle.command.specs.BootLaws.{BootLaws, ChangesNoList, IsTaken}
 use Rattle.command.specs.ChangeLaws.{ChangeLaws}
 use Rattle.command.specs.AnswerLaws.{AnswerLaws}
 use Rattle.command.specs.StoreLaws.{StoreLaws}
@@ -37,6 +40,14 @@ not_right (Some x) b is = cc
 not_left : {A B : Type 0} (o : Option B) (a : A) → wrapped {A = B} {B = Either A B} Right o ≡ Some (Left a) → ⊥
 not_left None a is = cc
 not_left (Some x) a is = cc
+
+-- what is known of a task of one of them
+module _ {S T W V A B : Type 0} (k : TaskSpec S) (l : TaskSpec T) (d : Doing S W A) (e : Doing T V B) where
+  taken_left : (since : Since) (c : W) (actor lane : ℕ) (t : S) (v : View) (b : Books) → IsTaken (either_tasks k l) (either_doing d e) since (Left c) actor lane (Left t) v b → IsTaken k d since c actor lane t v b
+  taken_left since c actor lane t v b is = record { after = is.after; by = is.by; holds = is.holds; facts = is.facts }
+
+  taken_right : (since : Since) (c : V) (actor lane : ℕ) (t : T) (v : View) (b : Books) → IsTaken (either_tasks k l) (either_doing d e) since (Right c) actor lane (Right t) v b → IsTaken l e since c actor lane t v b
+  taken_right since c actor lane t v b is = record { after = is.after; by = is.by; holds = is.holds; facts = is.facts }
 
 module _ {S T W V A B : Type 0} {k : TaskSpec S} {l : TaskSpec T} {d : Doing S W A} {e : Doing T V B} where
   steps_laws : StepLaws k d → StepLaws l e → StepLaws (either_tasks k l) (either_doing d e)
@@ -72,13 +83,33 @@ module _ {S T W V A B : Type 0} {k : TaskSpec S} {l : TaskSpec T} {d : Doing S W
     facts = λ start entries pending refs ids pins lane. elim [ Left t ↦ elim [ Left new ↦ one.facts start entries pending refs ids pins lane t new | Right new ↦ λ v b is learns. absurd learns ] | Right t ↦ elim [ Left new ↦ λ v b is learns. absurd learns | Right new ↦ two.facts start entries pending refs ids pins lane t new ] ];
   }
 
-module _ {S T : Type 0} {k : TaskSpec S} {l : TaskSpec T} where
-  boot_laws : BootLaws k → BootLaws l → BootLaws (either_tasks k l)
+  boot_laws : BootLaws k d → BootLaws l e → BootLaws (either_tasks k l) (either_doing d e)
   boot_laws one two = record {
-    list = λ actor lane. elim [ Left t ↦ one.list actor lane t | Right t ↦ two.list actor lane t ];
-    deployments = λ actor lane. elim [ Left t ↦ one.deployments actor lane t | Right t ↦ two.deployments actor lane t ];
+    list = λ since. elim [
+      | Left c ↦ λ actor lane. elim [ Left t ↦ λ v b base rows p s taken. one.list since c actor lane t v b base rows p s (taken_left k l d e since c actor lane t v b taken) | Right t ↦ λ v b base rows p s taken. absurd taken.after ]
+      | Right c ↦ λ actor lane. elim [ Left t ↦ λ v b base rows p s taken. absurd taken.after | Right t ↦ λ v b base rows p s taken. two.list since c actor lane t v b base rows p s (taken_right k l d e since c actor lane t v b taken) ]
+    ];
+    deployments = λ since. elim [
+      | Left c ↦ λ actor lane. elim [ Left t ↦ λ v b base rows row p s taken. one.deployments since c actor lane t v b base rows row p s (taken_left k l d e since c actor lane t v b taken) | Right t ↦ λ v b base rows row p s taken. absurd taken.after ]
+      | Right c ↦ λ actor lane. elim [ Left t ↦ λ v b base rows row p s taken. absurd taken.after | Right t ↦ λ v b base rows row p s taken. two.deployments since c actor lane t v b base rows row p s (taken_right k l d e since c actor lane t v b taken) ]
+    ];
+    publishes = λ since. elim [
+      | Left c ↦ λ lane. elim [ Left t ↦ λ v w b event rows kind some taken. one.publishes since c lane t v w b event rows kind some (taken_left k l d e since c lane lane t v b taken) | Right t ↦ λ v w b event rows kind some taken. absurd taken.after ]
+      | Right c ↦ λ lane. elim [ Left t ↦ λ v w b event rows kind some taken. absurd taken.after | Right t ↦ λ v w b event rows kind some taken. two.publishes since c lane t v w b event rows kind some (taken_right k l d e since c lane lane t v b taken) ]
+    ];
+    settles = λ since. elim [
+      | Left c ↦ λ lane. elim [
+        | Left t ↦ elim [ Left new ↦ λ v w b event link old come before after kind is taken. one.settles since c lane t new v w b event link old come before after kind is (taken_left k l d e since c lane lane t v b taken) | Right new ↦ λ v w b event link old come before after kind is taken wrote leaves. absurd leaves ]
+        | Right t ↦ λ new v w b event link old come before after kind is taken. absurd taken.after
+      ]
+      | Right c ↦ λ lane. elim [
+        | Left t ↦ λ new v w b event link old come before after kind is taken. absurd taken.after
+        | Right t ↦ elim [ Left new ↦ λ v w b event link old come before after kind is taken wrote leaves. absurd leaves | Right new ↦ λ v w b event link old come before after kind is taken. two.settles since c lane t new v w b event link old come before after kind is (taken_right k l d e since c lane lane t v b taken) ]
+      ]
+    ];
   }
 
+module _ {S T : Type 0} {k : TaskSpec S} {l : TaskSpec T} where
   remove_laws : RemoveLaws k → RemoveLaws l → RemoveLaws (either_tasks k l)
   remove_laws one two = record {
     removes = λ actor lane. elim [ Left t ↦ one.removes actor lane t | Right t ↦ two.removes actor lane t ];
@@ -86,12 +117,14 @@ module _ {S T : Type 0} {k : TaskSpec S} {l : TaskSpec T} where
     ends = λ lane. elim [ Left t ↦ elim [ Left new ↦ one.ends lane t new | Right new ↦ λ v w b e f is prune leaves. absurd leaves ] | Right t ↦ elim [ Left new ↦ λ v w b e f is prune leaves. absurd leaves | Right new ↦ two.ends lane t new ] ];
   }
 
+pub either_no_list : {W V A B : Type 0} (m : Meaning W A) (n : Meaning V B) → ChangesNoList m → ChangesNoList n → ChangesNoList (either_means m n)
+either_no_list m n one two since = elim [ Left c ↦ one since c | Right c ↦ two since c ]
+
 module _ {S T W V A B : Type 0} {k : TaskSpec S} {l : TaskSpec T} {m : Meaning W A} {n : Meaning V B} {d : Doing S W A} {e : Doing T V B} where
   change_laws : ChangeLaws k m d → ChangeLaws l n e → ChangeLaws (either_tasks k l) (either_means m n) (either_doing d e)
   change_laws one two = record {
     shown = λ since. elim [ Left c ↦ elim [ Left t ↦ one.shown since c t | Right t ↦ λ event after is. absurd after ] | Right c ↦ elim [ Left t ↦ λ event after is. absurd after | Right t ↦ two.shown since c t ] ];
     settled = λ since. elim [ Left c ↦ elim [ Left t ↦ one.settled since c t | Right t ↦ λ event after is. absurd after ] | Right c ↦ elim [ Left t ↦ λ event after is. absurd after | Right t ↦ two.settled since c t ] ];
-    unlisted = λ since. elim [ Left c ↦ one.unlisted since c | Right c ↦ two.unlisted since c ];
     founds = λ lane. elim [ Left t ↦ one.founds lane t | Right t ↦ two.founds lane t ];
     makes = λ since. elim [ Left c ↦ elim [ Left t ↦ elim [ Left new ↦ elim [ Left a ↦ λ after step is settles. one.makes since c t new a after step (from_left (d.answer new) a is) settles | Right a ↦ λ after step is settles. absurd (not_right (d.answer new) a is) ] | Right new ↦ λ a after step is settles. absurd step ] | Right t ↦ λ new a after step is settles. absurd after ] | Right c ↦ elim [ Left t ↦ λ new a after step is settles. absurd after | Right t ↦ elim [ Left new ↦ λ a after step is settles. absurd step | Right new ↦ elim [ Left a ↦ λ after step is settles. absurd (not_left (e.answer new) a is) | Right a ↦ λ after step is settles. two.makes since c t new a after step (from_right (e.answer new) a is) settles ] ] ] ];
     makes_not = λ since. elim [ Left c ↦ elim [ Left t ↦ elim [ Left new ↦ elim [ Left a ↦ λ after step is. one.makes_not since c t new a after step (from_left (d.answer new) a is) | Right a ↦ λ after step is. absurd (not_right (d.answer new) a is) ] | Right new ↦ λ a after step is. absurd step ] | Right t ↦ λ new a after step is. absurd after ] | Right c ↦ elim [ Left t ↦ λ new a after step is. absurd after | Right t ↦ elim [ Left new ↦ λ a after step is. absurd step | Right new ↦ elim [ Left a ↦ λ after step is. absurd (not_left (e.answer new) a is) | Right a ↦ λ after step is. two.makes_not since c t new a after step (from_right (e.answer new) a is) ] ] ] ];

@@ -20,5 +20,5 @@ pub record CommandLaws {T W A : Type 0} (k : TaskSpec T) (m : Meaning W A) (d : 
   pub answers : AnswerLaws k m d
   pub store : StoreLaws k m d
   pub removes : RemoveLaws k
-  pub boots : BootLaws k
+  pub boots : BootLaws k d
   pub folders : FolderLaws k m d

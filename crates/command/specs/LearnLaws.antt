@@ -3,22 +3,27 @@ use Rattle.std.proofs.Common.{◌≡◌, ◌≤◌, ℕ, List, Option, Some, Non
 use Rattle.ost_types.specs.Path.{Name}
 use Rattle.fs_trait.specs.View.{View}
 use Rattle.boot_model.specs.declared.item.DepId.{DepId}
+use Rattle.boot_read.specs.declared.row.BootRow.{BootRow}
+use Rattle.durable_list.specs.Standing.{ListStands, ids_of}
+use Rattle.durable_deployments.specs.Bounds.{AreBounded}
 use Rattle.rely_guarantee.specs.declared.books.Entry.{Entry}
 use Rattle.rely_guarantee.specs.declared.books.Pending.{Pending}
 use Rattle.rely_guarantee.specs.declared.books.Pin.{Pin}
 use Rattle.rely_guarantee.specs.Books.{Books, listed_in}
 use Rattle.rely_guarantee.specs.Laws.{Holds, NotPending}
 use Rattle.rely_guarantee.specs.State.{after, events_of, SystemState}
-use Rattle.rely_guarantee.specs.SystemInvariant.{Stands}
+use Rattle.rely_guarantee.specs.SystemInvariant.{IsRelistedByHolder, Stands}
 use Rattle.ref_book.specs.declared.book.RefBook.{RefBook}
 use Rattle.ref_book.specs.Tracks.{Tracks}
 use Rattle.durable_store.specs.Free.{ObjectPathsFree}
 use Rattle.command.specs.Doing.{Doing}
+use Rattle.command.specs.MayBoot.{coming_in}
 use Rattle.command.specs.Since.{Since}
 use Rattle.command.specs.Tasks.{TaskSpec}
 
--- What a lane's task is told is so: these are the refs after all changes that last, the deployments that boot, and all pins; and nothing is shown where the lane has the
--- lock of those that remove and shows nothing itself.
+-- What a lane's task is told is so: these are the refs after all changes that last, the deployments that boot, and all pins; nothing is shown
+-- where the lane has the lock of those that remove and shows nothing itself; what stands where deployments may is within the bounds of paths;
+-- and the list that boots stands, where no other one is published, as only the lane that works on the list does.
 pub record IsLearnt (start : SystemState) (entries : List Entry) (pending : Option Pending) (refs : RefBook) (ids : List DepId) (pins : List Pin) (lane : ℕ) (v : View) (b : Books) : Type 0 where
   pub stands : Stands start entries pending v
   pub tracks : Tracks refs (after (events_of entries) start).refs
@@ -26,6 +31,9 @@ pub record IsLearnt (start : SystemState) (entries : List Entry) (pending : Opti
   pub pins_are : pins ≡ b.pins
   pub free : ObjectPathsFree v.now
   pub clear : b.exclusive ≡ Some lane → NotPending lane b → pending ≡ None
+  pub bounded : AreBounded v
+  pub boots : coming_in b ≡ None → (rows : List BootRow) × (listed_in b ≡ ids_of rows) × ListStands rows v
+  pub relists : IsRelistedByHolder b
 
 pub record LearnLaws {T W A : Type 0} (k : TaskSpec T) (d : Doing T W A) : Type 0 where
   -- what the next step is to the system stays, and what the task is after, and has done

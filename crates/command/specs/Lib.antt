@@ -5,6 +5,7 @@ pub mod Staging
 pub mod CommitFiles
 pub mod Sound
 pub mod Sees
+pub mod MayBoot
 pub mod Meaning
 pub mod Doing
 pub mod Tasks
@@ -13,8 +14,8 @@ pub mod HearLaws
 pub mod LearnLaws
 pub mod Removing
 pub mod RemoveLaws
-pub mod BootLaws
 pub mod ChangeLaws
+pub mod BootLaws
 pub mod AnswerLaws
 pub mod StoreLaws
 pub mod FolderLaws

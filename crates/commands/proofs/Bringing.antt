@@ -1,5 +1,5 @@
 -- The objects of a commit that a change is of are brought by its command.
-use Rattle.std.proofs.Common.{◌≡◌, inl, ⊎_elim, ◌<◌, ◌≤◌, ◌+◌, ℕ, zero, suc, refl, sym, ◌∙◌, ap, subst, arith, List, [], ◌∷◌, ◌++◌, length, length-append, length-take, take, Option}
+use Rattle.std.proofs.Common.{◌≡◌, inl, ◌+◌, ℕ, refl, sym, ◌∙◌, ap, subst, List, [], ◌∷◌, ◌++◌, take, Option}
 use Rattle.ost_types.specs.declared.limits.Limits.{Limits}
 use Rattle.fs_trait.specs.View.{Disk}
 use Rattle.commit_build.specs.declared.message.Message.{Message}
@@ -20,22 +20,8 @@ use Rattle.lane_system.specs.Replies.{Answers, HasMade, IfAnswer}
 use Rattle.lane_system.specs.States.{state_after}
 use Rattle.lane_system.specs.Storing.{IsBroughtIn}
 use Rattle.lane_system.proofs.Giving.{is_answer}
-use Rattle.lane_system.proofs.Places.{at_one, at_split}
+use Rattle.lane_system.proofs.Places.{at_one, front_last}
 use Rattle.commands.specs.Family.{Answer, Lane, Reply, Words, means}
-
--- what stands at a place stands there in a longer front
-at_front : (xs : List Entry) (k n : ℕ) (e : Entry) → IsAt xs k e → k < n → IsAt (take n xs) k e
-at_front [] k n e at lt = absurd (omega (arith, at.0))
-at_front (x ∷ xs) k zero e at lt = absurd (omega (arith, lt))
-at_front (x ∷ xs) zero (suc n) e at lt = (omega arith, at.1)
-at_front (x ∷ xs) (suc k) (suc n) e at lt = let rest = at_front xs k n e (omega (arith, at.0), at.1) (omega (arith, lt)) in (omega (arith, rest.0), rest.1)
-
--- so it is the last one of the shortest such front
-front_last : (xs before : List Entry) (k : ℕ) (e last : Entry) → IsAt xs k e → take (k + 1) xs ≡ before ++ last ∷ [] → e ≡ last
-front_last xs before k e last at is = ⊎_elim
-    (λ early. absurd (omega (arith, early.0, ap length is, length-append before (last ∷ []), length-take (k + 1) xs)))
-    (λ here. here.1)
-    (at_split before last e k (subst (λ l. IsAt l k e) is (at_front xs k (k + 1) e at (omega arith))))
 
 one_command : (lanes : List Lane) (lane number : ℕ) (c d : Words) → IsCommand lanes lane number c → IsCommand lanes lane number d → c ≡ d
 one_command lanes lane number c d one two =

@@ -1,3 +1,4 @@
+pub mod Lists
 pub mod Rooms
 pub mod Rows
 pub mod Telling

@@ -14,7 +14,7 @@ use Rattle.commit_command.proofs.Starts.{begins_of, own_of}
 use Rattle.commit_command.proofs.Stored.{commit_done, commit_stored}
 use Rattle.rely_guarantee.specs.Laws as kinds
 use Rattle.command.specs.AnswerLaws.{AnswerLaws}
-use Rattle.command.specs.BootLaws.{BootLaws, no_boots}
+use Rattle.command.specs.BootLaws.{BootLaws, ChangesNoList, no_boots}
 use Rattle.command.specs.ChangeLaws.{ChangeLaws}
 use Rattle.command.specs.FolderLaws.{FolderLaws}
 use Rattle.command.specs.HearLaws.{HearLaws}
@@ -74,7 +74,6 @@ change_laws : ChangeLaws commit_tasks commit_means commit_doing
 change_laws = record {
   shown = λ since c t e is. commits_shown since.limits c.branch c.tree.items (message_in since.start.refs c) t.work e is;
   settled = λ since c t e is. commits_settled since.limits c.branch c.tree.items (message_in since.start.refs c) t.work e is;
-  unlisted = λ since c e is. ap list_in is;
   founds = λ lane t. commits_founds lane t.work;
   makes = λ since c t new a is step given k. (let e = commits_end since c t.work is new.work step.0 in subst commit_makes (one (answer_of new.work) e.given a e.answer given) (e.makes k));
   makes_not = λ since c t new a is step given none m. (let e = commits_end since c t.work is new.work step.0 in e.makes_not none (subst commit_makes (sym (one (answer_of new.work) e.given a e.answer given)) m));
@@ -120,8 +119,11 @@ store_laws = record {
 remove_laws : RemoveLaws commit_tasks
 remove_laws = no_removals commit_tasks (λ t. no_removal t.work)
 
-boot_laws : BootLaws commit_tasks
-boot_laws = no_boots commit_tasks (λ actor lane t v b p s by f wrote. no_boot actor lane t.work v b p s f wrote)
+pub commit_lists : ChangesNoList commit_means
+commit_lists = λ since c e is. ap list_in is
+
+boot_laws : BootLaws commit_tasks commit_doing
+boot_laws = no_boots commit_tasks commit_means commit_doing change_laws commit_lists (λ actor lane t v b p s by f wrote. no_boot actor lane t.work v b p s f wrote)
 
 folder_laws : FolderLaws commit_tasks commit_means commit_doing
 folder_laws = record {

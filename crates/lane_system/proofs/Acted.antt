@@ -87,7 +87,7 @@ module _ {F T W A : Type 0} (f : FsSpec F) (c : Family T W A) (fl : FsLaws f) (c
 
   -- it goes on
   module _ (l' : Lane T W A) (x : LaneActs f c limits lane lane refs refs' objects objects' old new l l' More) (kept' : Kept f c limits new refs' (set lanes lane l') given) where
-    acts : Acts f lane lane refs refs' old new
+    acts : Acts f limits lane lane refs refs' old new
     acts = more_acts f c fl cl limits lane refs refs' objects objects' old new lanes given l l' kept at x
 
     abbrev None_ : Reply A → W → Type 0
@@ -153,7 +153,7 @@ module _ {F T W A : Type 0} (f : FsSpec F) (c : Family T W A) (fl : FsLaws f) (c
       counted = λ has. (w, (acts.does v told_v).1, counted_more f c fl cl limits lane refs refs' objects objects' old new lanes given l kept at v told_v l' x has);
       said = λ stored has. said_on f c fl cl limits lane lane refs refs' objects objects' old new lanes (set lanes lane l') acts kept.sound.ordered (command_was lanes lane l l' at x.same) (length l.replies.items) _ begin None_ split (λ r words n. absurd n) starts v told_v kept.sound (λ r words n. absurd n) placed;
       known = λ opening is. (w, (acts.does v told_v).1, known_more f c fl cl limits lane refs refs' objects objects' old new lanes given l kept at v told_v l' x opening is);
-      boots = λ rows is. (w, (acts.does v told_v).1, list_still f fl lane lane refs refs' old new acts v told_v limits rows lanes (set lanes lane l') objects objects' is);
+      boots = λ rows is. (w, (acts.does v told_v).1, list_still f fl limits lane lane refs refs' old new acts v told_v rows lanes (set lanes lane l') objects objects' is);
       stays = λ stored. staying_on f c fl cl limits lane lane refs refs' objects objects' old new lanes (set lanes lane l') acts kept.sound.ordered (command_was lanes lane l l' at x.same) (length l.replies.items) _ begin None_ split (λ r words n. absurd n) starts v told_v placed (λ r words n. absurd n);
       remains = λ was. (w, (acts.does v told_v).1, λ over. absurd (over lane (l', at_set lanes lane l' at.0, still_has)));
       founded = λ opening stored files. founded_on f c fl cl limits lane lane refs refs' objects objects' old new lanes (set lanes lane l') acts kept.sound.ordered (command_was lanes lane l l' at x.same) (length l.replies.items) _ begin None_ split (λ r words n. absurd n) starts v told_v opening files
@@ -163,7 +163,7 @@ module _ {F T W A : Type 0} (f : FsSpec F) (c : Family T W A) (fl : FsLaws f) (c
   -- it has an answer
   module _ (l' : Lane T W A) (z : Ended A) (start : ℕ) (x : LaneActs f c limits lane lane refs refs' objects objects' old new l l' (Answered z start)) (l'' : Lane T W A) (r : Reply A) (same : l''.words ≡ l.words) (free : l''.task ≡ None) (grows : l''.replies.items ≡ l.replies.items ++ r ∷ [])
       (answered : r.answer ≡ z) (begun : r.start ≡ start) (place : r.place ≡ length new.books.history.items) (kept' : Kept f c limits new refs' (set lanes lane l'') (given + 1)) (order : r.order ≡ given) where
-    acts_ : Acts f lane lane refs refs' old new
+    acts_ : Acts f limits lane lane refs refs' old new
     acts_ = given_acts f c fl cl limits lane refs refs' objects objects' old new lanes given l l' kept at z start x
 
     g : Gives f c limits lane (length l.replies.items) objects old new x.words start z
@@ -325,7 +325,7 @@ module _ {F T W A : Type 0} (f : FsSpec F) (c : Family T W A) (fl : FsLaws f) (c
       counted = λ has. (w_, (acts_.does v told_v).1, counted_given f c fl cl limits lane refs refs' objects objects' old new lanes given l kept at v told_v l' z start x l'' r same grows begun has);
       said = λ stored has. said_on f c fl cl limits lane lane refs refs' objects objects' old new lanes (set lanes lane l'') acts_ kept.sound.ordered (command_was lanes lane l l'' at same) (length l.replies.items) start is_start IsNew split_ (λ q words n. ap (λ (y : Reply A). y.start) n.0 ∙ begun) starts_ v told_v kept.sound (says_now (sound_of stored) has) placed;
       known = λ opening is. (w_, (acts_.does v told_v).1, known_given f c fl cl limits lane refs refs' objects objects' old new lanes given l kept at v told_v l' z start x l'' r same grows begun opening is);
-      boots = λ rows is. (w_, (acts_.does v told_v).1, list_still f fl lane lane refs refs' old new acts_ v told_v limits rows lanes (set lanes lane l'') objects objects' is);
+      boots = λ rows is. (w_, (acts_.does v told_v).1, list_still f fl limits lane lane refs refs' old new acts_ v told_v rows lanes (set lanes lane l'') objects objects' is);
       stays = λ stored. staying_on f c fl cl limits lane lane refs refs' objects objects' old new lanes (set lanes lane l'') acts_ kept.sound.ordered (command_was lanes lane l l'' at same) (length l.replies.items) start is_start IsNew split_ (λ q words n. ap (λ (y : Reply A). y.start) n.0 ∙ begun) starts_ v told_v placed
           (of_new (λ n d y. IfAnswer (λ a. c.means.stays (since_in limits old.books n) [] a d w_ (books_of new.books)) y) (g.stays v w_ told_v (acts_.does v told_v).1 (sound_of stored)));
       remains = λ was. (w_, (acts_.does v told_v).1, λ over. last_remains);

@@ -16,7 +16,7 @@ use Rattle.rely_guarantee.specs.declared.kind.Wants.{Wants}
 use Rattle.rely_guarantee.specs.Books.{books_of}
 use Rattle.rely_guarantee.specs.Laws.{Kind, Quiet, Store, Take, Claim, Publish, Published, Remove, MakeDurable}
 use Rattle.rely_guarantee.specs.Pinning.{pin_in}
-use Rattle.rely_guarantee.specs.State.{list_in, stored}
+use Rattle.rely_guarantee.specs.State.{stored}
 use Rattle.rely_guarantee.specs.SystemInvariant.{SystemInvariant}
 use Rattle.rely_guarantee.proofs.Acting.{ends_refl}
 use Rattle.rely_guarantee.proofs.Lasting.{lasts_refl, none_out}
@@ -51,13 +51,12 @@ use Rattle.lane_system.proofs.Keeping.{kept_given, kept_more, others_kept, start
 use Rattle.lane_system.proofs.Locking.{locked_ended, locked_more, locked_same, pinned_ended, pinned_more, pinned_same}
 use Rattle.lane_system.proofs.Places.{at_set_back, at_set_is, here_or_apart}
 use Rattle.lane_system.proofs.Setting.{comes_same}
-use Rattle.lane_system.proofs.Sparing.{spared_same}
-use Rattle.lane_system.proofs.Telling.{free_after}
+use Rattle.lane_system.proofs.Disks.{disk_on}
 use Rattle.lane_system.proofs.Taking.{taken_acts, told, told_after, told_facts}
 
 -- nothing was done to the books and the disk
-pub nothing_acts : {F : Type 0} (f : FsSpec F) → FsLaws f → (actor lane : ℕ) (base : Base F) (refs refs' : RefBook) → SystemInvariant f.view f.clock f.spare f.was base → Tracks refs' (now_of base.books).refs → ((name : List ℕ) → HasRoom refs name → HasRoom refs' name) → Acts f actor lane refs refs' base base
-nothing_acts f fl actor lane base refs refs' sound tracks rooms = record {
+pub nothing_acts : {F : Type 0} (f : FsSpec F) → FsLaws f → (limits : Limits) (actor lane : ℕ) (base : Base F) (refs refs' : RefBook) → SystemInvariant f.view f.clock f.spare f.was base → Tracks refs' (now_of base.books).refs → ((name : List ℕ) → HasRoom refs name → HasRoom refs' name) → Acts f limits actor lane refs refs' base base
+nothing_acts f fl limits actor lane base refs refs' sound tracks rooms = record {
   locks = λ order. order;
   out = [];
   removal = record {
@@ -67,7 +66,8 @@ nothing_acts f fl actor lane base refs refs' sound tracks rooms = record {
     still = λ o has. Contains-append_right (flat_map removed_by (ends_refl actor lane base).spared.more) (swept_in base.books) o has;
     prunes = λ o has p is. absurd (none_out o has);
   };
-  boots = λ v told. (v, told, spared_same (books_of base.books) v);
+  boots = λ opening v told may. (v, told, may);
+  past = λ t le. refl;
   sound = sound;
   does = λ v told. (v, told, record { writes = record { only = λ p s may. inl may; now = λ p. inl refl }; books = (ends_refl actor lane base).spared; claims = λ c has. inl has; listed = λ x other held. refl });
   books = (ends_refl actor lane base).spared;
@@ -80,7 +80,6 @@ nothing_acts f fl actor lane base refs refs' sound tracks rooms = record {
   moments = λ k e at. inl at;
   grows = ([], sym (append-nil (stored base.books.history.items base.books.pending)));
   fails = (omega arith, λ is. inl is);
-  unlisted = comes_same (λ e. list_in e ≡ None) base.books base.books (refl, refl);
   founded = λ v told. comes_same (Founds v) base.books base.books (refl, refl);
 }
 
@@ -138,13 +137,13 @@ module _ {F T W A : Type 0} (f : FsSpec F) (c : Family T W A) (fl : FsLaws f) (c
     number = length l.replies.items
 
     -- by what it came to
-    acts_taken : (outcome : Outcome) (t' : T) → Takes f c limits lane lane number refs refs' objects old new x.words l.task outcome t' → Acts f lane lane refs refs' old new
+    acts_taken : (outcome : Outcome) (t' : T) → Takes f c limits lane lane number refs refs' objects old new x.words l.task outcome t' → Acts f limits lane lane refs refs' old new
     acts_taken outcome t' y = taken_acts f c fl cl limits lane lane number refs refs' objects old new x.words l.task outcome t' y kept.sound
 
-    acts_same : new ≡ old → Acts f lane lane refs refs' old new
-    acts_same same = subst (λ (b : Base F). Acts f lane lane refs refs' old b) (sym same) (nothing_acts f fl lane lane old refs refs' kept.sound (subst (λ (b : Base F). Tracks refs' (now_of b.books).refs) same x.tracks) x.rooms)
+    acts_same : new ≡ old → Acts f limits lane lane refs refs' old new
+    acts_same same = subst (λ (b : Base F). Acts f limits lane lane refs refs' old b) (sym same) (nothing_acts f fl limits lane lane old refs refs' kept.sound (subst (λ (b : Base F). Tracks refs' (now_of b.books).refs) same x.tracks) x.rooms)
 
-    each_lane : (acts : Acts f lane lane refs refs' old new) (m : Lane T W A) → LaneKept f c limits lane refs' new m → ((why : Halt) → old.books.halted ≡ Some why → new ≡ old) → (a : ℕ) (y : Lane T W A) → IsAt (set lanes lane m) a y → LaneKept f c limits a refs' new y
+    each_lane : (acts : Acts f limits lane lane refs refs' old new) (m : Lane T W A) → LaneKept f c limits lane refs' new m → ((why : Halt) → old.books.halted ≡ Some why → new ≡ old) → (a : ℕ) (y : Lane T W A) → IsAt (set lanes lane m) a y → LaneKept f c limits a refs' new y
     each_lane acts m here over a y is = here_or_apart a lane
         (λ e. subst (λ i. LaneKept f c limits i refs' new y) (sym e) (subst (LaneKept f c limits lane refs' new) (sym (at_set_is lanes lane m y at.0 (subst (λ i. IsAt (set lanes lane m) i y) e is))) here))
         (λ ne. (let was = at_set_back lanes lane a m y ne is in others_kept f c fl cl limits lane lane refs refs' old new acts a ne ne over y (kept.each a y was)))
@@ -160,7 +159,7 @@ module _ {F T W A : Type 0} (f : FsSpec F) (c : Family T W A) (fl : FsLaws f) (c
     abbrev r' : Running T
     r' = record { work = t'; start = task_start old.books.history.items l.task }
 
-    pub more_acts : Acts f lane lane refs refs' old new
+    pub more_acts : Acts f limits lane lane refs refs' old new
     more_acts = taken_acts f c fl cl limits lane lane (length l.replies.items) refs refs' objects old new x.words l.task came.More t' y kept.sound
 
     abbrev t : T
@@ -186,7 +185,7 @@ module _ {F T W A : Type 0} (f : FsSpec F) (c : Family T W A) (fl : FsLaws f) (c
       tracks = x.tracks;
       few = omega (arith, length-set lanes lane l', kept.few);
       homes = more_acts.homes kept.homes;
-      free = free_after f fl.is lane lane old new more_acts.does kept.free;
+      disk = disk_on f fl.is limits lane lane old new more_acts.does more_acts.boots kept.disk;
       each = each_lane More x more_acts l' (kept_more f c fl cl limits lane lane refs refs' objects old new more_acts l l' x.words x.next x.same k t' x.replies x.did.1 y) (λ why over. absurd (let z : Some why ≡ None = sym over ∙ y.live in cc));
       locked = λ live. locked_more lanes lane l l' at x.same old.books new.books (kept.locked y.live) (c.tasks.kind t) r' x.did.1 y.step.locks;
       ordered = more_acts.locks kept.ordered;
@@ -215,11 +214,11 @@ module _ {F T W A : Type 0} (f : FsSpec F) (c : Family T W A) (fl : FsLaws f) (c
       tracks = tracks;
       few = kept.few;
       homes = kept.homes;
-      free = kept.free;
+      disk = kept.disk;
       each = λ a y is. (let z = kept.each a y is in record {
         is = z.is;
         runs = z.runs;
-        started = λ r task. started_stays f c fl cl limits lane lane refs refs' old old (nothing_acts f fl lane lane old refs refs' kept.sound tracks x.rooms) y r (z.started r task);
+        started = λ r task. started_stays f c fl cl limits lane lane refs refs' old old (nothing_acts f fl limits lane lane old refs refs' kept.sound tracks x.rooms) y r (z.started r task);
         replies = z.replies;
         in_order = z.in_order;
         halts = z.halts;
@@ -242,7 +241,7 @@ module _ {F T W A : Type 0} (f : FsSpec F) (c : Family T W A) (fl : FsLaws f) (c
     pub given_within : start ≤ length old.books.history.items
     given_within = omega (arith, given_start, start_within)
 
-    pub given_acts : Acts f lane lane refs refs' old new
+    pub given_acts : Acts f limits lane lane refs refs' old new
     given_acts = ⊎_elim
         (λ at_once. acts_same (Answered z start) x at_once.0)
         (λ ended. acts_taken (Answered z start) x ended.0 ended.1 ended.4)
@@ -302,7 +301,7 @@ module _ {F T W A : Type 0} (f : FsSpec F) (c : Family T W A) (fl : FsLaws f) (c
         tracks = x.tracks;
         few = omega (arith, length-set lanes lane l'', kept.few);
         homes = given_acts.homes kept.homes;
-        free = free_after f fl.is lane lane old new given_acts.does kept.free;
+        disk = disk_on f fl.is limits lane lane old new given_acts.does given_acts.boots kept.disk;
         each = each_lane (Answered z start) x given_acts l'' (kept_given f c fl cl limits lane lane refs refs' objects old new given_acts l l'' x.words x.next words k z start given_start given_within task gives r answered begun place grows room) gives.over;
         locked = locked_given;
         ordered = given_acts.locks kept.ordered;

@@ -1,11 +1,27 @@
 -- A system at its beginning.
-use Rattle.std.proofs.Common.{◌≡◌, inl, inr, ◌≤◌, ℕ, suc, refl, sym, ◌∙◌, ap, subst, arith, List, [], ◌∷◌, length, Contains, Option, Some, None}
+use Rattle.std.proofs.Common.{◌≡◌, ◌≢◌, inl, inr, ◌≤◌, ℕ, suc, refl, sym, ◌∙◌, ap, subst, arith, List, [], ◌∷◌, ◌++◌, length, Contains, Option, Some, None}
 use Rattle.ost_types.specs.declared.limits.Limits.{Limits}
-use Rattle.ost_types.specs.Path.{Name}
+use Rattle.ost_types.specs.Path.{Name, Path}
 use Rattle.ost_types.proofs.Paths.{is_below-self}
-use Rattle.fs_trait.specs.Seen.{NotDirectory}
+use Rattle.fs_trait.specs.Seen.{Always, NotDirectory, Seen, Vacant, shows}
 use Rattle.fs_trait.specs.View.{View}
 use Rattle.repo_layout.specs.Paths.{stage_path}
+use Rattle.fs_trait.specs.Change.{Left}
+use Rattle.fs_trait.specs.Image.{IsTree}
+use Rattle.boot_read.specs.declared.row.BootRow.{BootRow}
+use Rattle.durable_list.specs.Standing.{ids_of}
+use Rattle.durable_list.proofs.Standing as list
+use Rattle.durable_deployments.specs.Bounds.{AreBounded}
+use Rattle.durable_deployments.proofs.Standing as deployments
+use Rattle.rely_guarantee.specs.declared.books.Entry.{Entry}
+use Rattle.rely_guarantee.specs.declared.books.Pending.{Pending}
+use Rattle.rely_guarantee.specs.declared.event.Event.{Event}
+use Rattle.rely_guarantee.specs.State.{State, SystemState, events_of, opening_state}
+use Rattle.command.specs.MayBoot.{coming_of}
+use Rattle.sys_open.specs.LeftOver.{HasBoundedDeployments}
+use Rattle.sys_open.specs.Opening.{IsGoodSince}
+use Rattle.sys_open.proofs.Goods.{can_go_of}
+use Rattle.lane_system.specs.Booting.{AreRowsBehind, BootsOne, BootsStill, MayBootBy, MayBootNow}
 use Rattle.rely_guarantee.specs.declared.books.Base.{Base}
 use Rattle.rely_guarantee.specs.declared.kind.Halt.TheVariants as halt
 use Rattle.rely_guarantee.specs.declared.books.Pin.{Pin}
@@ -13,14 +29,14 @@ use Rattle.rely_guarantee.specs.declared.books.Share.{Share}
 use Rattle.rely_guarantee.specs.SystemInvariant.{SystemInvariant}
 use Rattle.ref_book.specs.declared.book.RefBook.{RefBook}
 use Rattle.ref_book.specs.Tracks.{Tracks}
-use Rattle.sys_open.specs.Opened.{IsOpened}
+use Rattle.sys_open.specs.Opened.{IsOpened, KeepsRows}
 use Rattle.durable_store.specs.Full.{HasAsMany}
 use Rattle.lane_system.specs.declared.lane.Lane.{Lane}
 use Rattle.lane_system.specs.declared.lane.Reply.{Reply}
 use Rattle.lane_system.specs.Causes.{AreCausedIn}
 use Rattle.lane_system.specs.Family.{Family, FsSpec}
 use Rattle.lane_system.specs.Folders.{HasItself}
-use Rattle.lane_system.specs.Kept.{AreFree, AreHomes, AreIdle, Kept, RunsIn}
+use Rattle.lane_system.specs.Kept.{AreHomes, AreIdle, DiskKept, Kept, RunsIn}
 use Rattle.lane_system.specs.Lanes.{IsAt, IsTo, count_of}
 use Rattle.lane_system.specs.Preserves.{Stands}
 use Rattle.lane_system.specs.States.{now_of}
@@ -52,13 +68,13 @@ module _ {F T W A : Type 0} (f : FsSpec F) (c : Family T W A) (limits : Limits) 
   no_replies : count_of lanes ≡ 0
   no_replies = count_none lanes (λ a l at. (idle a l at).replies)
 
-  pub kept_first : SystemInvariant f.view f.clock f.spare f.was base → Tracks refs (now_of base.books).refs → length lanes ≤ 8 → AreHomes (f.view base.fs) → AreFree (f.view base.fs) → (base.books.turn ≡ None) × (base.books.exclusive ≡ None) × (base.books.shared.items ≡ []) → base.books.pins.items ≡ [] → base.books.halted ≡ None → Kept f c limits base refs lanes 0
-  kept_first sound tracks few homes free locks pins live = record {
+  pub kept_first : SystemInvariant f.view f.clock f.spare f.was base → Tracks refs (now_of base.books).refs → length lanes ≤ 8 → AreHomes (f.view base.fs) → DiskKept limits (f.view base.fs) base.books → (base.books.turn ≡ None) × (base.books.exclusive ≡ None) × (base.books.shared.items ≡ []) → base.books.pins.items ≡ [] → base.books.halted ≡ None → Kept f c limits base refs lanes 0
+  kept_first sound tracks few homes disk locks pins live = record {
     sound = sound;
     tracks = tracks;
     few = few;
     homes = homes;
-    free = free;
+    disk = disk;
     each = λ a l at. (let i = idle a l at in record {
       is = i.is;
       runs = λ live. subst (RunsIn c a (f.view base.fs) base.books) (sym i.task) (λ p is. none_some base.books.pending p pending is);
@@ -125,5 +141,55 @@ module _ {F T W A : Type 0} (f : FsSpec F) (c : Family T W A) (limits : Limits) 
       each = λ k e at. none_at base.books.history.items k e history at;
       shown = λ p is. none_some base.books.pending p pending is;
       present = record { finished = λ a n r commit to lacks still is. no_reply a n r to; set = λ a n r commit to lacks k e at lt still is. no_reply a n r to };
+    };
+  }
+
+-- ---- what boots
+
+front_none : (past rest : List Event) → past ++ rest ≡ [] → past ≡ []
+front_none [] rest split = refl
+front_none (e ∷ past) rest split = cc
+
+-- what stands at the opening is within the bounds of paths in each crash
+pub bounded_first : (v : View) → ((p : Path) → Always v p (shows v.now p)) → HasBoundedDeployments v.now → AreBounded v
+bounded_first v settled bounded p s lies may some = bounded p lies (subst (λ (x : Seen). x ≢ Vacant) ((settled p).each s may) some)
+
+module _ {F : Type 0} (f : FsSpec F) (limits within : Limits) (refs : State) (rows : List BootRow) (base : Base F) (history : base.books.history.items ≡ []) (pending : base.books.pending ≡ None) (start : base.books.start.deployments.items ≡ ids_of rows)
+    (v : View) (told : f.view base.fs ≡ Some v) (tree : IsTree v.now) (settled : (p : Path) → Always v p (shows v.now p)) (keeps : KeepsRows f.view f.was base.fs base.books.opened limits rows) where
+  abbrev begin : SystemState
+  begin = opening_state base.books.start
+
+  pub boots_first : MayBootNow limits rows base.books v
+  boots_first =
+      let one : BootsOne limits rows begin [] v = record {
+        rows = rows;
+        are = record { listed = start; same = λ none. refl };
+        boots = record {
+          list = list.stands_begins rows v settled (keeps.now v told);
+          deployments = λ row among. deployments.stands_begins v tree settled limits row.id row.bootcsum (keeps.whole v told row among);
+        };
+      } in
+      subst (λ (o : Option Pending). MayBootBy limits rows begin (events_of base.books.history.items) (coming_of o) v) (sym pending)
+      (subst (λ (h : List Entry). MayBootBy limits rows begin (events_of h) None v) (sym history) one)
+
+  -- and each crash leaves it
+  pub still_first : {T W A : Type 0} (lanes : List (Lane T W A)) (objects : ℕ) → SystemInvariant f.view f.clock f.spare f.was base → HasBoundedDeployments v.now → IsGoodSince (Left (f.was base.fs)) base.books.opened within refs
+      → BootsStill f rows (record { base = base; lanes = lanes; limits = limits; objects = objects }) v
+  still_first lanes objects sound bounded good = record {
+    listed = start;
+    now = boots_first;
+    since = λ t d from left.
+        let fits = (sound.crash v told).each t d from left in
+        let none : fits.past ≡ [] = front_none fits.past fits.rest (fits.split ∙ rw (history, pending) refl) in
+        record {
+          fits = fits;
+          rows = rows;
+          are = keeps.since v told t d from left;
+          listed = subst (λ (l : List Event). AreRowsBehind rows begin l rows) (sym none) (record { listed = start; same = λ nothing. refl });
+          whole = keeps.whole_since v told t d from left;
+        };
+    left_over = record {
+      bounded = bounded_first v settled bounded;
+      since = λ t d from left. can_go_of within d (good t d from left).0;
     };
   }

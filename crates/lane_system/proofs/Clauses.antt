@@ -33,9 +33,9 @@ use Rattle.lane_system.proofs.Places.{at_one, at_set, at_set_is}
 use Rattle.lane_system.proofs.Telling.{standing_less, standing_same}
 
 -- the books go on from what they were
-later_by : {F T W A : Type 0} (f : FsSpec F) (actor lane : ℕ) (refs refs' : RefBook) (old new : Base F) (acts : Acts f actor lane refs refs' old new) (lanes lanes' : List (Lane T W A)) (limits : Limits) (objects objects' : ℕ)
+later_by : {F T W A : Type 0} (f : FsSpec F) (limits : Limits) (actor lane : ℕ) (refs refs' : RefBook) (old new : Base F) (acts : Acts f limits actor lane refs refs' old new) (lanes lanes' : List (Lane T W A)) (objects objects' : ℕ)
     → IsLater (record { base = old; lanes = lanes; limits = limits; objects = objects }) (record { base = new; lanes = lanes'; limits = limits; objects = objects' })
-later_by f actor lane refs refs' old new acts lanes lanes' limits objects objects' = (acts.books.start, acts.books.opened, acts.books.more, acts.books.grows, refl)
+later_by f limits actor lane refs refs' old new acts lanes lanes' objects objects' = (acts.books.start, acts.books.opened, acts.books.more, acts.books.grows, refl)
 
 -- the count stays within the bound
 bounded_by : (count most next : ℕ) (met : Option (ObjName × Put)) → IsCounted count met next → ((name : ObjName) → met ≡ Some (name, put.Stored) → count < most) → count ≤ most → next ≤ most
@@ -53,7 +53,7 @@ module _ {F T W A : Type 0} (f : FsSpec F) (c : Family T W A) (fl : FsLaws f) (c
 
   -- it goes on
   module _ (x : LaneActs f c limits lane lane refs refs' objects objects' old new l l' More) where
-    acts : Acts f lane lane refs refs' old new
+    acts : Acts f limits lane lane refs refs' old new
     acts = more_acts f c fl cl limits lane refs refs' objects objects' old new lanes given l l' kept at x
 
     pub moves_more : Moves s (after l') lane l l'
@@ -62,7 +62,7 @@ module _ {F T W A : Type 0} (f : FsSpec F) (c : Family T W A) (fl : FsLaws f) (c
       now = refl;
       words = x.same;
       command = x.next.0;
-      later = later_by f lane lane refs refs' old new acts lanes (set lanes lane l') limits objects objects';
+      later = later_by f limits lane lane refs refs' old new acts lanes (set lanes lane l') objects objects';
     }
 
     pub acted_more : (Tells : Lane T W A → Ended A → Type 0) → Acted Tells s (after l') lane ask.More
@@ -108,7 +108,7 @@ module _ {F T W A : Type 0} (f : FsSpec F) (c : Family T W A) (fl : FsLaws f) (c
       now = refl;
       words = words;
       command = x.next.0;
-      later = later_by f lane lane refs refs' old new (given_acts f c fl cl limits lane refs refs' objects objects' old new lanes given l l' kept at z start x) lanes (set lanes lane l'') limits objects objects';
+      later = later_by f limits lane lane refs refs' old new (given_acts f c fl cl limits lane refs refs' objects objects' old new lanes given l l' kept at z start x) lanes (set lanes lane l'') objects objects';
     }
 
     pub acted_done : Acted (AnswerTells c.means f.view (f.faults old.fs) (f.faults new.fs) s) s (after l'') lane (ask.Done lane (length l.replies.items))

@@ -12,9 +12,9 @@ use Rattle.rely_guarantee.specs.declared.kind.Halt.{Halt}
 use Rattle.rely_guarantee.specs.declared.kind.Halt.TheVariants as halt
 use Rattle.rely_guarantee.specs.declared.kind.Outcome.{Outcome}
 use Rattle.rely_guarantee.specs.declared.kind.Outcome.TheVariants as came
-use Rattle.rely_guarantee.specs.Exact.{Causes, HasRisen}
 use Rattle.rely_guarantee.specs.Laws.{Ready, Runs, MakeDurable}
 use Rattle.rely_guarantee.specs.SystemInvariant.{SystemInvariant}
+use Rattle.rely_guarantee.specs.State.{SystemState}
 use Rattle.ref_book.specs.declared.book.RefBook.{RefBook}
 use Rattle.ref_book.specs.Tracks.{HasEventRoom, HasRoom}
 use Rattle.command.specs.declared.begun.Begun.TheVariants as begun
@@ -32,7 +32,7 @@ use Rattle.lane_system.specs.Family.{Family, FsSpec}
 use Rattle.lane_system.specs.Kept.{LaneKept, RunsIn}
 use Rattle.lane_system.specs.LaneActs.{IsAtOnce, LaneActs, Takes, task_start, told_by}
 use Rattle.lane_system.specs.Lanes.{IsAt, IsNext}
-use Rattle.lane_system.specs.States.{now_of}
+use Rattle.lane_system.specs.States.{now_of, since_in}
 use Rattle.lane_system.specs.Steps.{CountsAt, HasEnded, IsCutShort, IsEndedAs, IsRefusal, IsStray, Stepped, standing}
 use Rattle.lane_system.proofs.Telling.{standing_same}
 use Rattle.lane_system.proofs.Doing.{begun_room, begun_runs, begun_takes, ended_acts, has_answer, held_acts, more_acts, running_takes, started_room}
@@ -56,18 +56,6 @@ counts_end d before now t came.Blocked more is = is
 counts_end d before now t came.Done more is = is
 counts_end d before now t (came.Halted why) more is = is
 counts_end d before now t (came.Refused e) more is = is
-
--- a step is refused only for a failed call and for want of memory
-pub refused_named : (before now : ℕ) (outcome : Outcome) → Causes before now outcome → (e : FsErr) → outcome ≡ came.Refused e → OfNone e
-refused_named before now outcome cause e is = by e (subst (Causes before now) is cause).1
-  where
-    by : (x : FsErr) → HasRisen before now (came.Refused x) → OfNone x
-    by err.Failed rose = tt
-    by err.NoMemory rose = tt
-    by err.Exists none = none
-    by err.Missing none = none
-    by err.NotFolder none = none
-    by err.NotEmpty none = none
 
 -- and one that doesn't want for memory, for a failed call
 pub refused_failed : (A : Type 0) (e : FsErr) → OfNone e → (e ≡ err.NoMemory → ⊥) → IsRefusal {A = A} e ended.DiskFault
@@ -151,6 +139,10 @@ module _ {F T W A : Type 0} (f : FsSpec F) (c : Family T W A) (laws : CommandLaw
 
   pub next_room : (e : Event) → c.tasks.kind (told_by c.doing objects r.work) ≡ MakeDurable e → HasEventRoom refs e
   next_room = started_room c laws limits refs old.books l r (k.started r task) objects
+
+  -- it is after what its command is to do
+  pub next_after : (start : SystemState) × (place : SystemState) × (words : W) × c.doing.pursues (record { limits = limits; start = start; place = place }) words r.work
+  next_after = (let s = since_in limits old.books r.start in (s.start, s.place, (k.started r task).words, (k.started r task).after))
 
   abbrev pub next_words : W
   next_words = (k.started r task).words

@@ -54,7 +54,7 @@ ends_stay f old new over ended.DiskFault is = tt
 others_idle : (actor lane mine : ℕ) (b b' : Books) → mine ≢ lane → Spared actor lane b b' → NotPending mine b → NotPending mine b'
 others_idle actor lane mine b b' other spared none p is = ⊎_elim (λ was. none p was) (λ theirs e. other (sym e ∙ theirs)) (spared.shown p is)
 
-module _ {F T W A : Type 0} (f : FsSpec F) (c : Family T W A) (fl : FsLaws f) (cl : FamilyLaws c) (limits : Limits) (actor lane : ℕ) (refs refs' : RefBook) (old new : Base F) (acts : Acts f actor lane refs refs' old new) where
+module _ {F T W A : Type 0} (f : FsSpec F) (c : Family T W A) (fl : FsLaws f) (cl : FamilyLaws c) (limits : Limits) (actor lane : ℕ) (refs refs' : RefBook) (old new : Base F) (acts : Acts f limits actor lane refs refs' old new) where
   -- a command that began is so while the history grows
   pub started_stays : (l : Lane T W A) (r : Running T) → Started c limits refs old.books l r → Started c limits refs' new.books l r
   started_stays l r s =
@@ -89,7 +89,7 @@ module _ {F T W A : Type 0} (f : FsSpec F) (c : Family T W A) (fl : FsLaws f) (c
       halts = λ number r at. ends_stay f old new over r.answer (k.halts number r at);
     }
 
-module _ {F T W A : Type 0} (f : FsSpec F) (c : Family T W A) (fl : FsLaws f) (cl : FamilyLaws c) (limits : Limits) (actor lane : ℕ) (refs refs' : RefBook) (objects : ℕ) (old new : Base F) (acts : Acts f actor lane refs refs' old new) (l l' : Lane T W A) (words : W) (next : IsNext l words) (same : l'.words ≡ l.words)
+module _ {F T W A : Type 0} (f : FsSpec F) (c : Family T W A) (fl : FsLaws f) (cl : FamilyLaws c) (limits : Limits) (actor lane : ℕ) (refs refs' : RefBook) (objects : ℕ) (old new : Base F) (acts : Acts f limits actor lane refs refs' old new) (l l' : Lane T W A) (words : W) (next : IsNext l words) (same : l'.words ≡ l.words)
     (k : LaneKept f c limits lane refs old l) where
   -- the lane's replies were given before its command began
   pub later_start : (number : ℕ) (q : Reply A) → IsAt l.replies.items number q → (o : Option (Running T)) → l.task ≡ o → q.place ≤ task_start old.books.history.items o

@@ -1,6 +1,8 @@
 -- A task that is told something behind each step that goes on: its laws are those of its family.
-use Rattle.std.proofs.Common.{◌≡◌, ◌⊎◌, sym, ◌∙◌, subst, arith, Some}
+use Rattle.std.proofs.Common.{◌≡◌, ◌⊎◌, ℕ, sym, ◌∙◌, subst, arith, Some}
+use Rattle.fs_trait.specs.View.{View}
 use Rattle.obj_store.specs.declared.phase.Put.TheVariants.{Stored}
+use Rattle.rely_guarantee.specs.Books.{Books}
 use Rattle.command.specs.AnswerLaws.{AnswerLaws}
 use Rattle.command.specs.ChangeLaws.{ChangeLaws}
 use Rattle.command.specs.Doing.{Doing}
@@ -10,7 +12,8 @@ use Rattle.command.specs.Laws.{CommandLaws}
 use Rattle.command.specs.LearnLaws.{LearnLaws}
 use Rattle.command.specs.Meaning.{Meaning}
 use Rattle.command.specs.RemoveLaws.{RemoveLaws}
-use Rattle.command.specs.BootLaws.{BootLaws}
+use Rattle.command.specs.BootLaws.{BootLaws, IsTaken}
+use Rattle.command.specs.Since.{Since}
 use Rattle.command.specs.StepLaws.{StepLaws}
 use Rattle.command.specs.StoreLaws.{StoreLaws}
 use Rattle.command.specs.Tasks.{TaskSpec}
@@ -40,7 +43,6 @@ module _ {T W A : Type 0} (k : TaskSpec T) (m : Meaning W A) (d : Doing T W A) (
   changes_on : ChangeLaws (learning k d) m d
   changes_on = (let l = laws.changes in record {
     shown = l.shown;
-    unlisted = l.unlisted;
     settled = l.settled;
     founds = l.founds;
     makes = l.makes;
@@ -91,8 +93,16 @@ module _ {T W A : Type 0} (k : TaskSpec T) (m : Meaning W A) (d : Doing T W A) (
     ends = l.ends;
   })
 
-  boots_on : BootLaws (learning k d)
-  boots_on = (let l = laws.boots in record { list = l.list; deployments = l.deployments })
+  taken_on : (since : Since) (c : W) (actor lane : ℕ) (t : T) (v : View) (b : Books) → IsTaken (learning k d) d since c actor lane t v b → IsTaken k d since c actor lane t v b
+  taken_on since c actor lane t v b is = record { after = is.after; by = is.by; holds = is.holds; facts = is.facts }
+
+  boots_on : BootLaws (learning k d) d
+  boots_on = (let l = laws.boots in record {
+    list = λ since c actor lane t v b base rows p s taken. l.list since c actor lane t v b base rows p s (taken_on since c actor lane t v b taken);
+    deployments = λ since c actor lane t v b base rows row p s taken. l.deployments since c actor lane t v b base rows row p s (taken_on since c actor lane t v b taken);
+    publishes = λ since c lane t v w b e rows kind some taken. l.publishes since c lane t v w b e rows kind some (taken_on since c lane lane t v b taken);
+    settles = λ since c lane t new v w b e link old come before after kind is taken. l.settles since c lane t new v w b e link old come before after kind is (taken_on since c lane lane t v b taken);
+  })
 
   folders_on : FolderLaws (learning k d) m d
   folders_on = (let l = laws.folders in record {

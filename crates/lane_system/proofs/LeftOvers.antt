@@ -1,23 +1,21 @@
 -- What stands where deployments may can be removed, whatever a crash leaves.
-use Rattle.std.proofs.Common.{◌≡◌, ◌≢◌, ◌⊎◌, inl, inr, ⊎_elim, ℕ, ◌≤◌, true, refl, sym, ◌∙◌, ap, subst, List, [], ◌∷◌, ◌++◌, append-nil, append_assoc, Option, Some}
-use Rattle.ost_types.specs.Path.{Name, Path, IsPath, under}
+use Rattle.std.proofs.Common.{◌≡◌, ◌≢◌, ◌⊎◌, inl, inr, ⊎_elim, ℕ, ◌≤◌, sym, ◌∙◌, ap, subst, [], ◌∷◌, ◌++◌, append-nil, append_assoc, Option, Some}
+use Rattle.ost_types.specs.Path.{Path, under}
 use Rattle.ost_types.proofs.Paths.{is_below-under}
 use Rattle.fs_trait.specs.View.{Disk, View}
-use Rattle.fs_trait.specs.Image.{Image, is_folder}
+use Rattle.fs_trait.specs.Image.{Image}
 use Rattle.fs_trait.specs.Effect.{Elapses}
 use Rattle.fs_trait.specs.Change.{Writes}
-use Rattle.fs_trait.specs.Seen.{Seen, MayBe, Vacant, seen, shows}
+use Rattle.fs_trait.specs.Seen.{MayBe, Vacant, seen, shows}
 use Rattle.fs_trait.proofs.Claims.{Image-root, Image-under, passes}
 use Rattle.fs_trait.proofs.Facts.{vacant_absent}
 use Rattle.fs_trait.proofs.Images.{folder_or_not}
+use Rattle.durable_deployments.specs.Bounds.{AreBounded}
 use Rattle.rely_guarantee.specs.Books.{Books}
 use Rattle.rely_guarantee.specs.Rely.{Guarantee}
 use Rattle.sys_open.specs.LeftOver.{CanGo}
-use Rattle.durable_deployments.specs.Bounds.{LiesWithin}
 use Rattle.lane_system.specs.Booting.{KeepsClear}
-
-abbrev IsBounded : View → Type 0
-IsBounded v = (p : Path) (s : Seen) → LiesWithin p → MayBe v p s → s ≢ Vacant → IsPath p
+use Rattle.lane_system.proofs.Disks.{bounded_on}
 
 -- what a crash leaves at a path is what may be there, or nothing
 module _ (v : View) (d : Disk) (i : Image v d) where
@@ -33,7 +31,7 @@ module _ (v : View) (d : Disk) (i : Image v d) where
   may_stand p = from_folder [] p (inl (Image-root v d i))
 
   -- so an opening can remove what stands there
-  can_go : IsBounded v → (p : Path) → CanGo d p
+  can_go : AreBounded v → (p : Path) → CanGo d p
   can_go bounded p (q, may, below) x there =
       let some : shows d (under p x) ≢ Vacant = λ vacant. there (vacant_absent d (under p x) vacant) in
       ⊎_elim
@@ -45,7 +43,6 @@ module _ {F : Type 0} (view : F → Option View) (clock : F → ℕ) (was : F �
   same_told : (fs : F) (u v : View) → view fs ≡ Some u → view fs ≡ Some v → u ≡ v
   same_told fs u v is told = let e : Some u ≡ Some v = sym is ∙ told in cc
 
-  -- nobody writes outside the bounds
   pub clear_on : (old new : F) (v w : View) (b : Books) (actor lane moment : ℕ) → view new ≡ Some w → Elapses (clock old) (clock new) (was old) (was new) (view new) → Writes (Guarantee b v actor lane) v w
       → KeepsClear (was old) moment v → KeepsClear (was new) moment w
   clear_on old new v w b actor lane moment told time writes keeps = record {
@@ -56,5 +53,5 @@ module _ {F : Type 0} (view : F → Option View) (clock : F → ℕ) (was : F �
         ((passes (clock old) (clock new) (was old) (was new) (view new) (only_now new) time).nothing_else t d left);
   }
     where
-      now : IsBounded w
-      now p s lies may some = ⊎_elim (λ was_there. keeps.bounded p s lies was_there some) (λ wrote. wrote.fits.bounds some) (writes.only p s may)
+      now : AreBounded w
+      now = bounded_on v w b actor lane writes keeps.bounded

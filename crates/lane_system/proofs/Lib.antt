@@ -1,5 +1,7 @@
 pub mod Places
 pub mod Sparing
+pub mod Swapping
+pub mod Disks
 pub mod LeftOvers
 pub mod Histories
 pub mod Setting
@@ -43,5 +45,6 @@ pub mod StoreByEnding
 pub mod StoreAtStart
 pub mod Booting
 pub mod Acted
+pub mod Unlisted
 pub mod Holding
 pub mod Asking

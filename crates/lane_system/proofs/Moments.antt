@@ -1,5 +1,8 @@
 -- The moments of changes, and the count of failed calls, over a step.
 use Rattle.std.proofs.Common.{◌≡◌, ◌⊎◌, inl, inr, ⊎_elim, ◌≤◌, ℕ, zero, suc, refl, sym, ◌∙◌, subst, arith, List, ◌∷◌, ◌++◌, [], length, Option, Some}
+use Rattle.fs_trait.specs.declared.types.FsErr.{FsErr}
+use Rattle.fs_trait.specs.declared.types.FsErr.TheVariants as err
+use Rattle.fs_trait.specs.Effect.{OfNone}
 use Rattle.rely_guarantee.specs.declared.books.Books as rust
 use Rattle.rely_guarantee.specs.declared.books.Entry.{Entry}
 use Rattle.rely_guarantee.specs.declared.event.Event.{Event}
@@ -8,7 +11,7 @@ use Rattle.rely_guarantee.specs.declared.kind.Halt.TheVariants as halt
 use Rattle.rely_guarantee.specs.declared.kind.Outcome.{Outcome}
 use Rattle.rely_guarantee.specs.declared.kind.Outcome.TheVariants as came
 use Rattle.rely_guarantee.specs.Books.{books_of}
-use Rattle.rely_guarantee.specs.Exact.{Causes, IsBooked, IsLive}
+use Rattle.rely_guarantee.specs.Exact.{Causes, HasRisen, IsBooked, IsLive}
 use Rattle.rely_guarantee.specs.Laws.{Kind, Quiet, Store, Take, Claim, Publish, Published, Remove, MakeDurable, Holds}
 use Rattle.rely_guarantee.specs.State.{Ascends}
 use Rattle.lane_system.specs.Acts.{Fails}
@@ -56,6 +59,18 @@ fails_by before now came.Blocked old new cause live = (cause.0, λ is. inl (sym 
 fails_by before now came.More old new cause live = (cause.0, λ is. inl (sym live ∙ is))
 fails_by before now came.Done old new cause live = (cause.0, λ is. inl (sym live ∙ is))
 fails_by before now (came.Refused e) old new cause live = (cause.0, λ is. inl (sym live ∙ is))
+
+-- a step is refused only for a failed call and for want of memory
+pub refused_named : (before now : ℕ) (outcome : Outcome) → Causes before now outcome → (e : FsErr) → outcome ≡ came.Refused e → OfNone e
+refused_named before now outcome cause e is = by e (subst (Causes before now) is cause).1
+  where
+    by : (x : FsErr) → HasRisen before now (came.Refused x) → OfNone x
+    by err.Failed rose = tt
+    by err.NoMemory rose = tt
+    by err.Exists none = none
+    by err.Missing none = none
+    by err.NotFolder none = none
+    by err.NotEmpty none = none
 
 -- the moments of a history lie between the opening and its end
 pub opened_by : (from : ℕ) (es : List Entry) (to : ℕ) → Ascends from es to → from ≤ to

@@ -84,7 +84,7 @@ pub record SaysNow {W A : Type 0} (m : Meaning W A) (since : Since) (limits : Li
 
 -- One act of one lane: the replies of the lanes behind it are those of before, or the one that it gave.
 module _ {F T W A : Type 0} (f : FsSpec F) (c : Family T W A) (fl : FsLaws f) (cl : FamilyLaws c) (limits : Limits) (actor lane : ℕ) (refs refs' : RefBook) (objects objects' : ℕ) (old new : Base F) (lanes lanes' : List (Lane T W A))
-    (acts : Acts f actor lane refs refs' old new) (ordered : Ordered f.clock f.spare old)
+    (acts : Acts f limits actor lane refs refs' old new) (ordered : Ordered f.clock f.spare old)
     (commands : (a n : ℕ) (words : W) → IsCommand lanes' a n words → IsCommand lanes a n words) (number start : ℕ) (early : start ≤ length old.books.history.items)
     (IsNew : Reply A → W → Type 0) (split : (a n : ℕ) (r : Reply A) (words : W) → IsTo lanes' a n r → IsCommand lanes' a n words → IsTo lanes a n r ⊎ IsNew r words) (its_start : (r : Reply A) (words : W) → IsNew r words → r.start ≡ start)
     (within : (a n : ℕ) (r : Reply A) → IsTo lanes a n r → r.start ≤ length old.books.history.items)

@@ -20,7 +20,7 @@ use Rattle.lane_system.proofs.Family.{FsLaws}
 use Rattle.lane_system.proofs.Moments.{opened_by}
 
 -- at the end of a history all of it is acknowledged
-acked_all : (from : ℕ) (es : List Entry) (to : ℕ) → Ascends from es to → acked to es ≡ length es
+pub acked_all : (from : ℕ) (es : List Entry) (to : ℕ) → Ascends from es to → acked to es ≡ length es
 acked_all from [] to up = refl
 acked_all from (e ∷ es) to up = let h = acked_all e.moment es to up.1 in let x = opened_by e.moment es to up.1 in grind (arith, nat_tests, h, x)
 

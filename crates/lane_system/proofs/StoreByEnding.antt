@@ -73,7 +73,7 @@ module _ {F T W A : Type 0} (f : FsSpec F) (c : Family T W A) (fl : FsLaws f) (c
   begun_early a n start (inl (r, to, is)) = subst (λ k. k ≤ length old.books.history.items) is (within f c fl cl limits lane refs refs' objects objects' old new lanes given l l kept at a n r to)
   begun_early a n start (inr (r, runs, is)) = subst (λ k. k ≤ length old.books.history.items) is (early f c fl cl limits lane refs refs' objects objects' old new lanes given l l kept at a n r runs)
 
-  only_of : (a : Acts f lane lane refs refs' old new) → RemovesOnly a.out v (a.does v told_v).0
+  only_of : (a : Acts f limits lane lane refs refs' old new) → RemovesOnly a.out v (a.does v told_v).0
   only_of a =
       let k = a.removal.only v told_v in
       let e : Some k.0 ≡ Some (a.does v told_v).0 = sym k.1 ∙ (a.does v told_v).1 in
@@ -82,7 +82,7 @@ module _ {F T W A : Type 0} (f : FsSpec F) (c : Family T W A) (fl : FsLaws f) (c
 
   -- it goes on
   module _ (l' : Lane T W A) (x : LaneActs f c limits lane lane refs refs' objects objects' old new l l' More) where
-    abbrev acts : Acts f lane lane refs refs' old new
+    abbrev acts : Acts f limits lane lane refs refs' old new
     acts = more_acts f c fl cl limits lane refs refs' objects objects' old new lanes given l l' kept at x
 
     abbrev number : ℕ
@@ -117,7 +117,7 @@ module _ {F T W A : Type 0} (f : FsSpec F) (c : Family T W A) (fl : FsLaws f) (c
 
   -- it has an answer
   module _ (l' : Lane T W A) (z : Ended A) (start : ℕ) (x : LaneActs f c limits lane lane refs refs' objects objects' old new l l' (Answered z start)) (l'' : Lane T W A) (r : Reply A) (same : l''.words ≡ l.words) (grows : l''.replies.items ≡ l.replies.items ++ r ∷ []) (begun : r.start ≡ start) where
-    abbrev acts_ : Acts f lane lane refs refs' old new
+    abbrev acts_ : Acts f limits lane lane refs refs' old new
     acts_ = given_acts f c fl cl limits lane refs refs' objects objects' old new lanes given l l' kept at z start x
 
     abbrev behind_ : System F T W A

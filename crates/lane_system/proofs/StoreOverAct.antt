@@ -111,7 +111,7 @@ removing_or (Publish e) = inr (λ is. is)
 
 -- An act, by which no command is forgotten that began.
 module _ {F T W A : Type 0} (f : FsSpec F) (c : Family T W A) (fl : FsLaws f) (cl : FamilyLaws c) (limits : Limits) (actor lane : ℕ) (refs refs' : RefBook) (objects objects' : ℕ) (old new : Base F) (lanes lanes' : List (Lane T W A))
-    (acts : Acts f actor lane refs refs' old new) (commands : (a n : ℕ) (words : W) → IsCommand lanes a n words → IsCommand lanes' a n words) (begun : (a n start : ℕ) → HasBegun lanes a n start → HasBegun lanes' a n start)
+    (acts : Acts f limits actor lane refs refs' old new) (commands : (a n : ℕ) (words : W) → IsCommand lanes a n words → IsCommand lanes' a n words) (begun : (a n start : ℕ) → HasBegun lanes a n start → HasBegun lanes' a n start)
     (early : (a n start : ℕ) → HasBegun lanes a n start → start ≤ length old.books.history.items) (v : View) (told_v : f.view old.fs ≡ Some v) where
   abbrev before : System F T W A
   before = record { base = old; lanes = lanes; limits = limits; objects = objects }

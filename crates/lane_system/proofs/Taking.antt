@@ -1,5 +1,5 @@
 -- What a step of a lane's task does that others may rely on.
-use Rattle.std.proofs.Common.{◌≡◌, ◌≢◌, ◌⊎◌, inl, inr, ⊎_elim, ◌<◌, ℕ, true, refl, sym, ◌∙◌, ap, subst, arith, List, [], append-nil, Contains, Option, Some, None}
+use Rattle.std.proofs.Common.{◌≡◌, ◌≢◌, ◌⊎◌, inl, inr, ⊎_elim, ◌<◌, ℕ, true, refl, sym, ◌∙◌, ap, subst, arith, List, [], append-nil, Contains, Option, Some}
 use Rattle.std.specs.List.{flat_map}
 use Rattle.std.proofs.lemmas.List.Elements.{Contains-append_right}
 use Rattle.ost_types.specs.declared.object.ObjName.{ObjName}
@@ -13,14 +13,14 @@ use Rattle.fs_trait.proofs.Facts.{shows_kept}
 use Rattle.repo_layout.specs.Paths.{stage_path}
 use Rattle.repo_layout.specs.Place.{Stage, place}
 use Rattle.repo_layout.proofs.Places.{place-stage}
+use Rattle.boot_read.specs.declared.row.BootRow.{BootRow}
 use Rattle.rely_guarantee.specs.declared.books.Base.{Base}
 use Rattle.rely_guarantee.specs.declared.kind.Outcome.{Outcome}
 use Rattle.rely_guarantee.specs.declared.kind.Outcome.TheVariants as came
 use Rattle.rely_guarantee.specs.Books.{Books, books_of}
 use Rattle.rely_guarantee.specs.declared.kind.Wants.{Wants}
 use Rattle.rely_guarantee.specs.Exact.{Opens, taken_in}
-use Rattle.rely_guarantee.specs.State.{list_in}
-use Rattle.rely_guarantee.specs.Laws.{Holds, Kind, Quiet, Store, Take, Claim, Publish, Published, Remove, MakeDurable, StepObligation, Stood}
+use Rattle.rely_guarantee.specs.Laws.{Holds, Kind, Quiet, Store, Take, Claim, Publish, Published, Remove, MakeDurable, Runs, StepObligation, Stood}
 use Rattle.rely_guarantee.specs.Rely.{Guarantee, Interference}
 use Rattle.rely_guarantee.specs.SystemInvariant.{SystemInvariant}
 use Rattle.rely_guarantee.proofs.Lasting.{none_out}
@@ -37,23 +37,15 @@ use Rattle.lane_system.specs.Kept.{AreHomes, AreInOrder}
 use Rattle.lane_system.specs.LaneActs.{Takes, task_start, told_by}
 use Rattle.lane_system.specs.Removals.{removed_by, swept_in}
 use Rattle.lane_system.specs.States.{since_in}
-use Rattle.lane_system.proofs.Sparing.{spared_by, spared_same}
-use Rattle.lane_system.specs.Booting.{SparesBoots}
+use Rattle.lane_system.proofs.Swapping.{step_boots}
+use Rattle.lane_system.specs.Booting.{MayBootNow}
 use Rattle.lane_system.proofs.Family.{FamilyLaws, FsLaws}
 use Rattle.lane_system.proofs.Growing.{stored_grows}
 use Rattle.lane_system.proofs.Locking.{in_order_on}
 use Rattle.lane_system.proofs.Moments.{fails_by, later_at, moment_is}
-use Rattle.lane_system.proofs.Places.{here_or_apart}
+use Rattle.lane_system.proofs.Places.{held_or, here_or_apart}
 use Rattle.lane_system.proofs.Setting.{comes_step}
 use Rattle.lane_system.proofs.Sweeping.{only_idle, only_nothing, only_removing, only_taking, prunes_on, still_on, takes_on, told_on}
-
--- held off, or not
-pub held_or : (outcome : Outcome) → (outcome ≡ came.Blocked) ⊎ (outcome ≡ came.Blocked → ⊥)
-held_or came.Blocked = inl refl
-held_or came.More = inr (λ is. cc)
-held_or came.Done = inr (λ is. cc)
-held_or (came.Halted why) = inr (λ is. cc)
-held_or (came.Refused e) = inr (λ is. cc)
 
 -- what others do leaves no folder where an actor stages
 home_kept : (b b' : Books) (v w : View) (actor lane mine : ℕ) → mine ≢ actor → mine ≢ lane → mine < 16 → Interference actor lane v b w b' → StagingPathFree mine v → StagingPathFree mine w
@@ -174,18 +166,20 @@ module _ {F T W A : Type 0} (f : FsSpec F) (c : Family T W A) (fl : FsLaws f) (c
         })
         (held_or outcome)
 
-    boots_after : (v : View) → f.view old.fs ≡ Some v → Told (f.view new.fs) (λ w. SparesBoots (books_of old.books) v w)
-    boots_after v told_v = ⊎_elim
-        (λ held. (v, subst (λ (b : Base F). f.view b.fs ≡ Some v) (sym (x.step.blocked held).0) told_v, spared_same (books_of old.books) v))
-        (λ not. (let k = x.step.wrote v told_v in (k.0, k.1, spared_by c.tasks cl.commands.boots actor lane told v k.0 (books_of old.books) (x.step.by not) (told_facts v told_v) k.2)))
-        (held_or outcome)
+    told_runs : Runs c.tasks.kind c.tasks.facts lane told (f.view old.fs) (books_of old.books)
+    told_runs = record { facts = told_facts; holds = told_holds }
 
-    pub taken_acts : Acts f actor lane refs refs' old new
+    boots_after : (opening : List BootRow) (v : View) → f.view old.fs ≡ Some v → MayBootNow limits opening old.books v → Told (f.view new.fs) (λ w. MayBootNow limits opening new.books w)
+    boots_after opening v told_v may =
+        step_boots f c.tasks c.doing cl.commands.boots since words actor lane number x.between refs' opening outcome told t' old new x.step sound told_after told_runs v told_v (fl.tree old.fs v told_v) may
+
+    pub taken_acts : Acts f limits actor lane refs refs' old new
     taken_acts = record {
       locks = locks_after;
       out = out;
       removal = removal_after;
       boots = boots_after;
+      past = x.step.acts.past;
       lasts = x.step.lasts;
       sound = x.step.acts.sound;
       does = x.step.acts.does;
@@ -198,6 +192,5 @@ module _ {F T W A : Type 0} (f : FsSpec F) (c : Family T W A) (fl : FsLaws f) (c
       moments = later_at (f.clock new.fs) old.books.history.items new.books.history.items (moment_is lane number (f.clock new.fs) old.books new.books (c.tasks.kind told) outcome told_holds x.step.booked);
       grows = stored_grows actor lane number (f.clock new.fs) old.books new.books x.step.acts.books (c.tasks.kind told) outcome told_holds x.step.booked;
       fails = fails_by (f.faults old.fs) (f.faults new.fs) outcome old.books.halted new.books.halted x.step.cause x.step.live;
-      unlisted = comes_step lane number (f.clock new.fs) old.books new.books (λ e. list_in e ≡ None) (c.tasks.kind told) outcome told_holds x.step.booked (λ e k. cl.commands.changes.unlisted since words e (cl.commands.changes.shown since words told e told_after k));
       founded = λ v is. comes_step lane number (f.clock new.fs) old.books new.books (Founds v) (c.tasks.kind told) outcome told_holds x.step.booked (λ e k. cl.commands.changes.founds lane told v (books_of old.books) e (told_facts v is) k);
     }

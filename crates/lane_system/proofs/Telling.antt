@@ -1,11 +1,12 @@
 -- A step of a task that was told something.
-use Rattle.std.proofs.Common.{◌≡◌, ◌<◌, ◌≤◌, ◌+◌, ◌-◌, ⊎_elim, ℕ, Bool, nat_lt, true, false, if◌then◌else◌, refl, sym, ◌∙◌, ap, subst, arith, List, Option, Some, None}
+use Rattle.std.proofs.Common.{◌≡◌, ◌<◌, ◌≤◌, ◌+◌, ◌-◌, ℕ, Bool, nat_lt, true, false, if◌then◌else◌, refl, sym, ◌∙◌, ap, subst, arith, List, Option, Some, None}
 use Rattle.std.proofs.lemmas.Bool.Decides.{nat_tests}
-use Rattle.fs_trait.specs.Seen.{NotDirectory, shows}
+use Rattle.ost_types.specs.declared.limits.Limits.{Limits}
 use Rattle.fs_trait.specs.View.{View}
-use Rattle.repo_layout.proofs.Places.{place-object}
-use Rattle.repo_model.specs.Objects.{path_of}
+use Rattle.fs_trait.specs.Image.{IsTree}
 use Rattle.boot_model.specs.declared.item.DepId.{DepId}
+use Rattle.boot_read.specs.declared.row.BootRow.{BootRow}
+use Rattle.durable_list.specs.Standing.{ListStands, ids_of}
 use Rattle.rely_guarantee.specs.declared.books.Base.{Base}
 use Rattle.rely_guarantee.specs.declared.books.Books as rust
 use Rattle.rely_guarantee.specs.declared.books.Pending.{Pending}
@@ -17,21 +18,25 @@ use Rattle.rely_guarantee.specs.declared.kind.Outcome.TheVariants as came
 use Rattle.rely_guarantee.specs.Books.{Agrees, books_of, listed_in}
 use Rattle.rely_guarantee.specs.Exact.{Steps, Tells}
 use Rattle.rely_guarantee.specs.Laws.{Holds, Kind, NotPending, Ready, Runs, MakeDurable}
-use Rattle.rely_guarantee.specs.Rely.{Interference}
-use Rattle.rely_guarantee.specs.State.{opening_state}
-use Rattle.rely_guarantee.proofs.Mays.{objects_harmless}
+use Rattle.rely_guarantee.specs.State.{SystemState, events_of, opening_state}
 use Rattle.rely_guarantee.proofs.Sounds.{IsFs}
 use Rattle.ref_book.specs.declared.book.RefBook.{RefBook}
 use Rattle.ref_book.specs.Tracks.{HasEventRoom}
 use Rattle.command.specs.declared.told.Told.{Told}
+use Rattle.command.specs.BootLaws.{BootLaws}
 use Rattle.command.specs.Doing.{Doing}
 use Rattle.command.specs.HearLaws.{HearLaws}
 use Rattle.command.specs.LearnLaws.{LearnLaws}
+use Rattle.command.specs.MayBoot.{coming_of}
+use Rattle.command.specs.Since.{Since}
 use Rattle.command.specs.Tasks.{TaskSpec}
 use Rattle.lane_system.specs.Family.{FsSpec, learning, leaves_on, stepped_on}
-use Rattle.lane_system.specs.Kept.{AreFree}
+use Rattle.lane_system.specs.Booting.{BootsOne, MayBootBy, MayBootNow}
+use Rattle.lane_system.specs.Kept.{DiskKept}
 use Rattle.lane_system.specs.LaneActs.{told_by}
 use Rattle.lane_system.specs.Steps.{CountsAt, IsCounted, Stepped, standing}
+use Rattle.lane_system.proofs.Disks.{disk_on}
+use Rattle.lane_system.proofs.Swapping.{step_boots}
 
 module _ {F T : Type 0} (f : FsSpec F) (k : TaskSpec T) (lane : ℕ) (base : Base F) where
   -- before it
@@ -57,34 +62,38 @@ clear_of b lane agrees owner alone none = by b.pending refl
     by None is = is
     by (Some p) is = absurd (none p is (agrees.turn lane p.lane alone (owner p is)))
 
--- no act leaves a folder where an object would stand
-pub free_after : {F : Type 0} (f : FsSpec F) → IsFs f.view f.clock f.was → (actor lane : ℕ) (base new : Base F) → ((v : View) → f.view base.fs ≡ Some v → (w : View) × (f.view new.fs ≡ Some w) × Interference actor lane v (books_of base.books) w (books_of new.books)) → AreFree (f.view base.fs) → AreFree (f.view new.fs)
-free_after f is actor lane base new does free w told_w o sum =
-    let v = is.told new.fs base.fs w told_w in
-    let d = does v.0 v.1 in
-    let one : Some d.0 ≡ Some w = sym d.1 ∙ told_w in
-    let same : d.0 ≡ w = cc in
-    ⊎_elim
-    (λ still. subst NotDirectory (ap (λ (u : View). shows u.now (path_of o)) same) (subst NotDirectory (sym still) (free v.0 v.1 o sum)))
-    (λ wrote. subst NotDirectory (ap (λ (u : View). shows u.now (path_of o)) same) (objects_harmless (books_of base.books) v.0 actor lane o.kind o.csum (path_of o) _ wrote (place-object o.kind o.csum sum)))
-    (d.2.writes.now (path_of o))
+-- what is so of the disk beside its state behind such a step
+pub told_disk : {F T W A : Type 0} (f : FsSpec F) (k : TaskSpec T) (d : Doing T W A) → HearLaws k d → BootLaws k d → IsFs f.view f.clock f.was → ((g : F) (v : View) → f.view g ≡ Some v → IsTree v.now) → (limits : Limits) (start place : SystemState) (words : W) (lane number objects : ℕ) (refs refs' : RefBook) (t mid : T) (base new : Base F)
+    → d.pursues (record { limits = limits; start = start; place = place }) words t → Ready f.view f.clock f.spare f.was (Runs k.kind k.facts lane t) base → Stepped f k lane lane number refs refs' came.More (told_by d objects t) mid base new → DiskKept limits (f.view base.fs) base.books → DiskKept limits (f.view new.fs) new.books
+told_disk f k d hears boots is tree limits start place words lane number objects refs refs' t mid base new after ready step was =
+    let since : Since = record { limits = limits; start = start; place = place } in
+    let told_one = told_ready f k lane base d hears objects t (told_by d objects t) refl ready in
+    disk_on f is limits lane lane base new step.acts.does
+    (λ opening v told may. step_boots f k d boots since words lane lane number refs refs' opening came.More (told_by d objects t) mid base new step ready.sound (hears.pursues (record { objects = objects }) since words t after) told_one.task v told (tree base.fs v told) may)
+    was
 
 -- what it is told behind it is so
 module _ {F T W A : Type 0} (f : FsSpec F) (k : TaskSpec T) (d : Doing T W A) (laws : LearnLaws k d) (lane number : ℕ) (refs refs' : RefBook) (t mid new_t : T) (base new : Base F) (ids : List DepId) (pins : List Pin)
-    (step : Stepped f k lane lane number refs refs' came.More t mid base new) (ids_are : ids ≡ listed_in (books_of new.books)) (pins_are : pins ≡ new.books.pins.items) (free : AreFree (f.view new.fs)) (learns : d.learns refs' ids pins mid new_t) where
+    (step : Stepped f k lane lane number refs refs' came.More t mid base new) (ids_are : ids ≡ listed_in (books_of new.books)) (pins_are : pins ≡ new.books.pins.items) (limits : Limits) (disk : DiskKept limits (f.view new.fs) new.books) (learns : d.learns refs' ids pins mid new_t) where
+  -- the list that boots, where none is published
+  listed_boots : {v : View} → ((opening : List BootRow) × MayBootNow limits opening new.books v) → coming_of new.books.pending ≡ None → (rows : List BootRow) × (listed_in (books_of new.books) ≡ ids_of rows) × ListStands rows v
+  listed_boots {v} (opening, may) none =
+      let one : BootsOne limits opening (opening_state new.books.start) (events_of new.books.history.items) v = subst (λ (o : Option (List DepId)). MayBootBy limits opening (opening_state new.books.start) (events_of new.books.history.items) o v) none may in
+      (one.rows, one.are.listed, one.boots.list)
+
   learnt_runs : Runs k.kind k.facts lane new_t (f.view new.fs) (books_of new.books)
   learnt_runs =
       let ordered = step.acts.sound.ordered in
       record {
         facts = λ v told. laws.facts (opening_state new.books.start) new.books.history.items new.books.pending refs' ids pins lane mid new_t v (books_of new.books)
-            (record { stands = step.acts.sound.stands v told; tracks = step.tracks; listed = ids_are; pins_are = pins_are; free = free v told; clear = clear_of new.books lane ordered.agrees ordered.owner })
+            (record { stands = step.acts.sound.stands v told; tracks = step.tracks; listed = ids_are; pins_are = pins_are; free = disk.free v told; clear = clear_of new.books lane ordered.agrees ordered.owner; bounded = disk.bounded v told; boots = λ none. listed_boots (disk.boots v told) none; relists = step.acts.sound.relists v told })
             learns step.acts.tells.holds (step.acts.tells.facts v told);
         holds = subst (λ (x : Kind). Holds x lane (books_of new.books)) (sym (laws.kind refs' ids pins mid new_t learns)) step.acts.tells.holds;
       }
 
   pub learnt_step : Stepped f (learning k d) lane lane number refs refs' came.More t new_t base new
   learnt_step = record {
-    acts = record { sound = step.acts.sound; does = step.acts.does; books = step.acts.books; tells = learnt_runs };
+    acts = record { sound = step.acts.sound; does = step.acts.does; books = step.acts.books; past = step.acts.past; tells = learnt_runs };
     steps = (mid, step.steps, (refs', ids, pins, learns));
     wrote = step.wrote;
     tells = λ v told. (let x = step.tells v told in (x.0, x.1, (mid, x.2, (refs', ids, pins, learns), step.steps)));

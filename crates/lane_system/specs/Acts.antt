@@ -1,10 +1,12 @@
 -- What others may rely on in an act, whoever's lane it is.
 use Rattle.std.specs.Prelude.{◌≡◌, ◌⊎◌, ◌<◌, ◌≤◌, ◌++◌, ◌∷◌, ℕ, List, [], Contains, flat_map, length, Option, Some, None}
+use Rattle.ost_types.specs.declared.limits.Limits.{Limits}
 use Rattle.ost_types.specs.declared.object.ObjName.{ObjName}
 use Rattle.fs_trait.specs.Count.{Rose}
 use Rattle.fs_trait.specs.Effect.{Elapses}
 use Rattle.fs_trait.specs.Image.{Told}
 use Rattle.fs_trait.specs.View.{View}
+use Rattle.boot_read.specs.declared.row.BootRow.{BootRow}
 use Rattle.rely_guarantee.specs.declared.books.Base.{Base}
 use Rattle.rely_guarantee.specs.declared.books.Books as rust
 use Rattle.rely_guarantee.specs.declared.books.Entry.{Entry}
@@ -15,14 +17,14 @@ use Rattle.rely_guarantee.specs.declared.kind.Halt.TheVariants as halt
 use Rattle.rely_guarantee.specs.Books.{Spared, books_of}
 use Rattle.rely_guarantee.specs.Lasting.{Lasts}
 use Rattle.rely_guarantee.specs.Rely.{Interference}
-use Rattle.rely_guarantee.specs.State.{list_in, stored}
+use Rattle.rely_guarantee.specs.State.{acked, stored}
 use Rattle.rely_guarantee.specs.SystemInvariant.{SystemInvariant}
 use Rattle.ref_book.specs.declared.book.RefBook.{RefBook}
 use Rattle.ref_book.specs.Tracks.{HasRoom, Tracks}
 use Rattle.command.specs.ChangeLaws.{Founds}
 use Rattle.command.specs.Removed.{AreAmong, RemovesOnly}
 use Rattle.command.specs.Removing.{IsPrune}
-use Rattle.lane_system.specs.Booting.{SparesBoots}
+use Rattle.lane_system.specs.Booting.{MayBootNow}
 use Rattle.lane_system.specs.Family.{FsSpec}
 use Rattle.lane_system.specs.Kept.{AreHomes, AreInOrder}
 use Rattle.lane_system.specs.Lanes.{IsAt}
@@ -51,7 +53,7 @@ pub record IsRemovalOf {F : Type 0} (f : FsSpec F) (out : List ObjName) (actor l
   pub still : AreAmong (swept_in old.books) (flat_map removed_by more ++ swept_in new.books)
   pub prunes : (o : ObjName) → Contains out o → (p : Pending) → new.books.pending ≡ Some p → IsPrune p.event
 
-pub record Acts {F : Type 0} (f : FsSpec F) (actor lane : ℕ) (refs refs' : RefBook) (old new : Base F) : Type 0 where
+pub record Acts {F : Type 0} (f : FsSpec F) (limits : Limits) (actor lane : ℕ) (refs refs' : RefBook) (old new : Base F) : Type 0 where
   pub sound : SystemInvariant f.view f.clock f.spare f.was new
   pub does : (v : View) → f.view old.fs ≡ Some v → (w : View) × (f.view new.fs ≡ Some w) × Interference actor lane v (books_of old.books) w (books_of new.books)
   pub books : Spared actor lane (books_of old.books) (books_of new.books)
@@ -64,9 +66,11 @@ pub record Acts {F : Type 0} (f : FsSpec F) (actor lane : ℕ) (refs refs' : Ref
   -- the objects that it may have removed, the others, which stay, and time
   pub out : List ObjName
   pub removal : IsRemovalOf f out actor lane old new books.more
-  -- what boots goes on to
-  pub boots : (v : View) → f.view old.fs ≡ Some v → Told (f.view new.fs) (λ w. SparesBoots (books_of old.books) v w)
+  -- what the books tell to boot does behind it
+  pub boots : (opening : List BootRow) (v : View) → f.view old.fs ≡ Some v → MayBootNow limits opening old.books v → Told (f.view new.fs) (λ w. MayBootNow limits opening new.books w)
   pub lasts : Lasts out f.view f.clock f.was old.fs new.fs
+  -- what had been acknowledged by a moment stays what it was
+  pub past : (t : ℕ) → t ≤ f.clock old.fs → acked t new.books.history.items ≡ acked t old.books.history.items
   pub time : Elapses (f.clock old.fs) (f.clock new.fs) (f.was old.fs) (f.was new.fs) (f.view new.fs)
   -- a change that it made to last has the moment behind it, and one that it shows names no commit but one that lasts
   pub moments : (k : ℕ) (e : Entry) → IsAt new.books.history.items k e → IsAt old.books.history.items k e ⊎ ((length old.books.history.items ≤ k) × (e.moment ≡ f.clock new.fs))
@@ -74,5 +78,3 @@ pub record Acts {F : Type 0} (f : FsSpec F) (actor lane : ℕ) (refs refs' : Ref
   pub grows : (more : List Event) × (stored new.books.history.items new.books.pending ≡ stored old.books.history.items old.books.pending ++ more)
   pub fails : Fails (f.faults old.fs) (f.faults new.fs) old.books.halted new.books.halted
   pub founded : (v : View) → f.view old.fs ≡ Some v → ComesFrom (Founds v) old.books new.books
-  -- and none is of the list of deployments
-  pub unlisted : ComesFrom (λ e. list_in e ≡ None) old.books new.books

@@ -1,35 +1,69 @@
--- That the disk boots the same list of the same deployments all along.
-use Rattle.std.specs.Prelude.{◌≡◌, ◌≢◌, ◌≤◌, ℕ, List, Some, None}
+-- Which deployments boot, and that each crash leaves the refs and the list of one moment.
+use Rattle.std.specs.Prelude.{◌≡◌, ◌≤◌, ℕ, List, Contains, Option, Some, None}
 use Rattle.ost_types.specs.declared.limits.Limits.{Limits}
-use Rattle.ost_types.specs.Path.{Path, IsPath}
 use Rattle.fs_trait.specs.View.{Disk, View}
-use Rattle.fs_trait.specs.Seen.{Seen, MayBe, Vacant}
 use Rattle.fs_trait.specs.Change.{Left}
+use Rattle.boot_model.specs.declared.item.DepId.{DepId}
 use Rattle.boot_read.specs.declared.row.BootRow.{BootRow}
+use Rattle.boot_read.specs.Rows.{AreRowsOf}
 use Rattle.rely_guarantee.specs.declared.books.Books as rust
 use Rattle.rely_guarantee.specs.declared.books.Entry.{Entry}
-use Rattle.rely_guarantee.specs.declared.books.Pending.{Pending}
-use Rattle.rely_guarantee.specs.Books.{Books}
-use Rattle.rely_guarantee.specs.State.{list_in}
-use Rattle.durable_list.specs.Standing.{KeepsList, SparesList, ids_of}
-use Rattle.durable_deployments.specs.Standing.{AreOwnSpared, KeepsDeployments}
-use Rattle.command.specs.BootLaws.{BootRows}
+use Rattle.rely_guarantee.specs.declared.event.Event.{Event}
+use Rattle.rely_guarantee.specs.State.{SystemState, after, events_of, list_in, opening_state, stored}
+use Rattle.rely_guarantee.specs.SystemInvariant.{Fits}
+use Rattle.durable_list.specs.Standing.{KeepsList, ids_of}
+use Rattle.durable_deployments.specs.Bounds.{AreBounded}
+use Rattle.durable_deployments.specs.Standing.{AreWhole, KeepsDeployments}
+use Rattle.command.specs.MayBoot.{Boots, BootsEither, coming_of}
 use Rattle.sys_open.specs.LeftOver.{CanGo}
-use Rattle.durable_deployments.specs.Bounds.{LiesWithin}
 use Rattle.lane_system.specs.Family.{FsSpec}
-use Rattle.lane_system.specs.Lanes.{IsAt}
 use Rattle.lane_system.specs.System.{System}
+use Rattle.ost_types.specs.Path.{Path}
 
--- From one view to a later one: where the list that boots is read, and its deployments' own paths, nothing else is shown, or may be after a
--- crash.
-pub record SparesBoots (b : Books) (v w : View) : Type 0 where
-  pub list : (rows : List BootRow) → BootRows b v rows → SparesList v.now rows v w
-  pub deployments : (rows : List BootRow) → BootRows b v rows → AreOwnSpared rows v w
+-- no change among these is one of the list of deployments
+abbrev pub AreUnlisted : List Event → Type 0
+AreUnlisted events = (e : Event) → Contains events e → list_in e ≡ None
+
+-- The rows are those of the list that boots behind these changes: the rows of the opening, as long as no other list came.
+pub record AreRowsBehind (opening : List BootRow) (start : SystemState) (events : List Event) (rows : List BootRow) : Type 0 where
+  pub listed : (after events start).deployments ≡ ids_of rows
+  pub same : AreUnlisted events → rows ≡ opening
+
+-- The list behind the changes boots,
+pub record BootsOne (limits : Limits) (opening : List BootRow) (start : SystemState) (events : List Event) (v : View) : Type 0 where
+  pub rows : List BootRow
+  pub are : AreRowsBehind opening start events rows
+  pub boots : Boots limits rows v
+
+-- or while these deployments are published one of the two.
+pub record BootsOneOrOther (limits : Limits) (opening : List BootRow) (start : SystemState) (events : List Event) (ids : List DepId) (v : View) : Type 0 where
+  pub before : List BootRow
+  pub after : List BootRow
+  pub are : AreRowsBehind opening start events before
+  pub come : ids ≡ ids_of after
+  pub boots : BootsEither limits before after v
+
+abbrev pub MayBootBy : Limits → List BootRow → SystemState → List Event → Option (List DepId) → View → Type 0
+MayBootBy limits opening start events None v = BootsOne limits opening start events v
+MayBootBy limits opening start events (Some ids) v = BootsOneOrOther limits opening start events ids v
+
+-- What may boot, by the books.
+abbrev pub MayBootNow : Limits → List BootRow → rust.Books → View → Type 0
+MayBootNow limits opening b v = MayBootBy limits opening (opening_state b.start) (events_of b.history.items) (coming_of b.pending) v
+
+-- The disk is sane, and its refs and its list are those behind one prefix of the stored history that has all that was acknowledged by then;
+-- each deployment of the list is whole.
+pub record FitsWithList (limits : Limits) (opening : List BootRow) (start : SystemState) (entries : List Entry) (all : List Event) (t : ℕ) (d : Disk) : Type 0 where
+  pub fits : Fits start entries all t d
+  pub rows : List BootRow
+  pub are : AreRowsOf d rows
+  pub listed : AreRowsBehind opening start fits.past rows
+  pub whole : AreWhole limits d rows
 
 -- What stands where deployments may, or what is staged for a list, is within the bounds of paths, whatever a crash leaves; and from each disk
 -- that a crash left at this moment or later an opening can remove what stands there.
 pub record KeepsClear (was : ℕ → View → Type 0) (moment : ℕ) (v : View) : Type 0 where
-  pub bounded : (p : Path) (s : Seen) → LiesWithin p → MayBe v p s → s ≢ Vacant → IsPath p
+  pub bounded : AreBounded v
   pub since : (t : ℕ) (d : Disk) → moment ≤ t → Left was t d → (p : Path) → CanGo d p
 
 -- These are the rows of the list in the view now, and each disk that a crash left at this moment or later has them; their deployments are
@@ -39,13 +73,10 @@ pub record KeepsBoots (was : ℕ → View → Type 0) (limits : Limits) (rows : 
   pub deployments : KeepsDeployments was limits rows moment v
   pub left_over : KeepsClear was moment v
 
--- No change so far is one of the list of deployments, nor is the one that is published.
-pub record AreUnlisted (b : rust.Books) : Type 0 where
-  pub lasting : (k : ℕ) (e : Entry) → IsAt b.history.items k e → list_in e.event ≡ None
-  pub shown : (p : Pending) → b.pending ≡ Some p → list_in p.event ≡ None
-
--- The rows are those of the system's deployments, and so it is since the opening.
-pub record BootsStill {F T W A : Type 0} (f : FsSpec F) (rows : List BootRow) (s : System F T W A) (v : View) : Type 0 where
-  pub listed : s.base.books.start.deployments.items ≡ ids_of rows
-  pub unlisted : AreUnlisted s.base.books
-  pub keeps : KeepsBoots (f.was s.base.fs) s.limits rows s.base.books.opened v
+-- The rows were those of the system's deployments at its beginning. What boots is what the books tell, and each crash since leaves the refs and
+-- the list of one moment; what stands where deployments may can be removed once no list boots it.
+pub record BootsStill {F T W A : Type 0} (f : FsSpec F) (opening : List BootRow) (s : System F T W A) (v : View) : Type 0 where
+  pub listed : s.base.books.start.deployments.items ≡ ids_of opening
+  pub now : MayBootNow s.limits opening s.base.books v
+  pub since : (t : ℕ) (d : Disk) → s.base.books.opened ≤ t → Left (f.was s.base.fs) t d → FitsWithList s.limits opening (opening_state s.base.books.start) s.base.books.history.items (stored s.base.books.history.items s.base.books.pending) t d
+  pub left_over : KeepsClear (f.was s.base.fs) s.base.books.opened v

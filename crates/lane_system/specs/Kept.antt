@@ -17,10 +17,13 @@ use Rattle.ref_book.specs.Tracks.{Tracks}
 use Rattle.command.specs.Doing.{HasRoomFor}
 use Rattle.command.specs.Meaning.{Meaning}
 use Rattle.durable_store.specs.Free.{ObjectPathsFree}
+use Rattle.durable_deployments.specs.Bounds.{AreBounded}
+use Rattle.boot_read.specs.declared.row.BootRow.{BootRow}
 use Rattle.command.specs.Staging.{StagingPathFree}
 use Rattle.lane_system.specs.declared.lane.Lane.{Lane}
 use Rattle.lane_system.specs.declared.lane.Reply.{Reply}
 use Rattle.lane_system.specs.declared.lane.Running.{Running}
+use Rattle.lane_system.specs.Booting.{MayBootNow}
 use Rattle.lane_system.specs.Family.{Family, FsSpec}
 use Rattle.lane_system.specs.Lanes.{IsAt, IsNext, IsRunning, IsTo, Numbered, count_of}
 use Rattle.lane_system.specs.Pins.{AreInWork}
@@ -86,16 +89,23 @@ pub record AreInOrder (b : rust.Books) : Type 0 where
 abbrev pub AreHomes : Option View → Type 0
 AreHomes view = (actor : ℕ) (v : View) → actor < 16 → view ≡ Some v → StagingPathFree actor v
 
--- nor where an object would stand
+-- nor where an object would
 abbrev pub AreFree : Option View → Type 0
 AreFree view = (v : View) → view ≡ Some v → ObjectPathsFree v.now
+
+-- What is so of the disk beside its state: no folder stands where an object would; what stands where deployments may is within the bounds of
+-- paths; and what the books tell to boot does.
+pub record DiskKept (limits : Limits) (view : Option View) (b : rust.Books) : Type 0 where
+  pub free : AreFree view
+  pub bounded : (v : View) → view ≡ Some v → AreBounded v
+  pub boots : (v : View) → view ≡ Some v → (opening : List BootRow) × MayBootNow limits opening b v
 
 pub record Kept {F T W A : Type 0} (f : FsSpec F) (c : Family T W A) (limits : Limits) (base : Base F) (refs : RefBook) (lanes : List (Lane T W A)) (given : ℕ) : Type 0 where
   pub sound : SystemInvariant f.view f.clock f.spare f.was base
   pub tracks : Tracks refs (now_of base.books).refs
   pub few : length lanes ≤ 8
   pub homes : AreHomes (f.view base.fs)
-  pub free : AreFree (f.view base.fs)
+  pub disk : DiskKept limits (f.view base.fs) base.books
   pub each : (lane : ℕ) (l : Lane T W A) → IsAt lanes lane l → LaneKept f c limits lane refs base l
   pub locked : base.books.halted ≡ None → Locked base.books lanes
   pub ordered : AreInOrder base.books

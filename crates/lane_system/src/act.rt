@@ -9,7 +9,7 @@ ghost use Rattle.ref_book.specs.Tracks.{Tracks};
 ghost use Rattle.command.specs.Staging.{StagingPathFree};
 ghost use Rattle.command.specs.Tasks.{task_spec};
 ghost use Rattle.lane_system.specs.Family.{family, fs_spec};
-ghost use Rattle.lane_system.specs.Kept.{AreFree, LaneKept};
+ghost use Rattle.lane_system.specs.Kept.{DiskKept, LaneKept};
 ghost use Rattle.lane_system.specs.LaneActs.{LaneActs};
 ghost use Rattle.lane_system.specs.States.{now_of};
 ghost use Rattle.lane_system.specs.Steps.{HasEnded, IsCutShort, IsEndedAs, IsRefusal, IsStray};
@@ -46,7 +46,7 @@ pub(crate) fn lane_act<F: Watch, C: Command>(
     requires sound { SystemInvariant F.view F.clock F.spare F.was base.old }
     requires tracks { Tracks refs.old (now_of base.old.books).refs }
     requires home { (v : View) → F.view base.old.fs ≡ Some v → StagingPathFree lane v }
-    requires free { AreFree (F.view base.old.fs) }
+    requires disk { DiskKept limits (F.view base.old.fs) base.old.books }
     requires kept { LaneKept (fs_spec F.view F.clock F.spare F.was F.faults F.refused) (family (task_spec C.kind_of C.writes_of C.stepped C.leaves C.refuses C.facts) C.means C.doing) limits lane refs.old base.old run.old }
     requires next { length run.old.replies.items < length run.old.words.items }
     ensures { LaneActs (fs_spec F.view F.clock F.spare F.was F.faults F.refused) (family (task_spec C.kind_of C.writes_of C.stepped C.leaves C.refuses C.facts) C.means C.doing) limits lane lane refs.old refs.new objects.old objects.new base.old base.new run.old run.new result }
@@ -72,7 +72,7 @@ fn live_act<F: Watch, C: Command>(
     requires live { base.old.books.halted ≡ None }
     requires tracks { Tracks refs.old (now_of base.old.books).refs }
     requires home { (v : View) → F.view base.old.fs ≡ Some v → StagingPathFree lane v }
-    requires free { AreFree (F.view base.old.fs) }
+    requires disk { DiskKept limits (F.view base.old.fs) base.old.books }
     requires kept { LaneKept (fs_spec F.view F.clock F.spare F.was F.faults F.refused) (family (task_spec C.kind_of C.writes_of C.stepped C.leaves C.refuses C.facts) C.means C.doing) limits lane refs.old base.old run.old }
     requires next { length run.old.replies.items < length run.old.words.items }
     ensures { LaneActs (fs_spec F.view F.clock F.spare F.was F.faults F.refused) (family (task_spec C.kind_of C.writes_of C.stepped C.leaves C.refuses C.facts) C.means C.doing) limits lane lane refs.old refs.new objects.old objects.new base.old base.new run.old run.new result }
@@ -127,7 +127,7 @@ fn begins<F: Watch, C: Command>(
     requires live { base.old.books.halted ≡ None }
     requires tracks { Tracks refs.old (now_of base.old.books).refs }
     requires home { (v : View) → F.view base.old.fs ≡ Some v → StagingPathFree lane v }
-    requires free { AreFree (F.view base.old.fs) }
+    requires disk { DiskKept limits (F.view base.old.fs) base.old.books }
     requires kept { LaneKept (fs_spec F.view F.clock F.spare F.was F.faults F.refused) (family (task_spec C.kind_of C.writes_of C.stepped C.leaves C.refuses C.facts) C.means C.doing) limits lane refs.old base.old run.old }
     requires next { (length run.old.replies.items < length run.old.words.items) × (run.old.task ≡ None) }
     ensures { LaneActs (fs_spec F.view F.clock F.spare F.was F.faults F.refused) (family (task_spec C.kind_of C.writes_of C.stepped C.leaves C.refuses C.facts) C.means C.doing) limits lane lane refs.old refs.new objects.old objects.new base.old base.new run.old run.new result }
@@ -146,7 +146,15 @@ fn begins<F: Watch, C: Command>(
         },
         Ok(Begun::Runs(work)) => {
             let mut work = work;
-            match told_act(base, refs, objects, lane, number_of(number), &mut work) {
+            match told_act(
+                base,
+                refs,
+                objects,
+                limits,
+                lane,
+                number_of(number),
+                &mut work,
+            ) {
                 Outcome::Blocked => {
                     drop(work);
                     Came::Blocked
@@ -176,7 +184,7 @@ fn goes_on<F: Watch, C: Command>(
 ) -> Came<C::Answer>
     requires sound { SystemInvariant F.view F.clock F.spare F.was base.old }
     requires live { base.old.books.halted ≡ None }
-    requires free { AreFree (F.view base.old.fs) }
+    requires disk { DiskKept _limits (F.view base.old.fs) base.old.books }
     requires tracks { Tracks refs.old (now_of base.old.books).refs }
     requires kept { LaneKept (fs_spec F.view F.clock F.spare F.was F.faults F.refused) (family (task_spec C.kind_of C.writes_of C.stepped C.leaves C.refuses C.facts) C.means C.doing) _limits lane refs.old base.old (record run.old { task = Some running }) }
     requires next { (length run.old.replies.items < length run.old.words.items) × (run.old.task ≡ None) }
@@ -185,7 +193,15 @@ fn goes_on<F: Watch, C: Command>(
     let Running { work, start } = running;
     let mut work = work;
     let number = run.replies.len();
-    match told_act(base, refs, objects, lane, number_of(number), &mut work) {
+    match told_act(
+        base,
+        refs,
+        objects,
+        _limits,
+        lane,
+        number_of(number),
+        &mut work,
+    ) {
         Outcome::Blocked => {
             drop(run.task.replace(Running { work, start }));
             Came::Blocked

@@ -8,7 +8,7 @@ ghost use Rattle.rely_guarantee.specs.State.{SystemState, after, events_of};
 ghost use Rattle.ref_book.specs.Tracks.{Tracks, HasEventRoom, HasRoom};
 ghost use Rattle.command.specs.Tasks.{task_spec};
 ghost use Rattle.lane_system.specs.Family.{fs_spec, learning};
-ghost use Rattle.lane_system.specs.Kept.{AreFree};
+ghost use Rattle.lane_system.specs.Kept.{DiskKept};
 ghost use Rattle.lane_system.specs.LaneActs.{told_by};
 ghost use Rattle.lane_system.specs.States.{now_of};
 ghost use Rattle.lane_system.specs.Steps.{CountsAt, IsCounted, Stepped, standing};
@@ -16,21 +16,24 @@ ghost use Rattle.lane_system.specs.Steps.{CountsAt, IsCounted, Stepped, standing
 use command::{Command, Told};
 use fs_watch::Watch;
 use obj_store::Put;
+use ost_types::Limits;
 use ref_book::RefBook;
 use rely_guarantee::{Base, Entry, Outcome, task_act};
 
 /// One step of a command's task, once it was told how many objects are in the store; behind a step that goes on it is told what refs name
-/// then, and what is pinned. One that is held off is left as it was.
+/// then, which deployments boot, and what is pinned. One that is held off is left as it was.
 pub(crate) fn told_act<F: Watch, C: Command>(
     base: &mut Base<F>,
     refs: &mut RefBook,
     objects: &mut u32,
+    _limits: Limits,
     lane: u8,
     number: u32,
     work: &mut C,
 ) -> Outcome
     requires ready { Ready F.view F.clock F.spare F.was (Runs C.kind_of C.facts lane work.old) base.old }
-    requires free { AreFree (F.view base.old.fs) }
+    requires disk { DiskKept _limits (F.view base.old.fs) base.old.books }
+    requires after { (start : SystemState) × (place : SystemState) × (words : C.Words) × C.doing.pursues (record { limits = _limits; start = start; place = place }) words work.old }
     requires tracks { Tracks refs.old (now_of base.old.books).refs }
     requires room { (e : Event) → C.kind_of (told_by C.doing objects.old work.old) ≡ MakeDurable e → HasEventRoom refs.old e }
     ensures step { (t : C) × Stepped (fs_spec F.view F.clock F.spare F.was F.faults F.refused) (learning (task_spec C.kind_of C.writes_of C.stepped C.leaves C.refuses C.facts) C.doing) lane lane number refs.old refs.new result (told_by C.doing objects.old work.old) t base.old base.new × ((result ≡ came.Blocked → ⊥) → work.new ≡ t) }

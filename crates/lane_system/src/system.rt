@@ -1,5 +1,5 @@
-ghost use Rattle.std.specs.Prelude.{true, false, ◌≡◌, ◌<◌, ◌≤◌, ℕ, List, length, min, Some, None, IfOk, IfErr};
-ghost use Rattle.fs_trait.specs.View.{Disk, View};
+ghost use Rattle.std.specs.Prelude.{true, false, ◌≡◌, ◌<◌, ◌≤◌, ℕ, length, min, Some, None, IfOk, IfErr};
+ghost use Rattle.fs_trait.specs.View.{View};
 ghost use Rattle.rely_guarantee.specs.Headline.{Headline};
 ghost use Rattle.rely_guarantee.specs.State.{first};
 ghost use Rattle.ref_book.specs.Tracks.{Tracks};
@@ -8,7 +8,7 @@ ghost use Rattle.lane_system.specs.declared.ask.Ask.TheVariants as Ask;
 ghost use Rattle.lane_system.specs.declared.lane.Lane.{Lane};
 ghost use Rattle.lane_system.specs.declared.lane.Reply.{Reply};
 ghost use Rattle.lane_system.specs.Booked.{Acted, AnswerTells, HasCommand, IsLater, IsReplied, commands_of};
-ghost use Rattle.lane_system.specs.Booting.{AreUnlisted};
+ghost use Rattle.lane_system.specs.Booting.{BootsStill};
 ghost use Rattle.lane_system.specs.Causes.{AreCausedIn};
 ghost use Rattle.lane_system.specs.Counts.{Objects};
 ghost use Rattle.durable_list.specs.Standing.{ids_of};
@@ -86,7 +86,7 @@ impl<F: Watch, C: Command> System<F, C> {
         requires idle { AreIdle C.means opened.limits lanes.items }
         ensures parts { IfOk result (λ s. (s.base.fs ≡ opened.fs) × (s.base.books.start.refs.items ≡ opened.refs) × (s.base.books.opened ≡ opened.clock) × (s.lanes ≡ lanes.items)) }
         ensures deployments { IfOk result (λ s. s.base.books.start.deployments.items ≡ ids_of opened.rows) }
-        ensures unlisted { IfOk result (λ s. AreUnlisted s.base.books) }
+        ensures boots { IfOk result (λ s. (v : View) → F.view s.base.fs ≡ Some v → BootsStill (fs_spec F.view F.clock F.spare F.was F.faults F.refused) opened.rows s v) }
         ensures bounds { IfOk result (λ s. (s.limits ≡ opened.limits) × (s.objects ≡ min (length opened.objects) 4294967295)) }
         ensures caused { IfOk result (λ s. AreCausedIn (F.faults opened.fs) (F.faults s.base.fs) s.base.books.halted s.lanes) }
         ensures stands { IfOk result (λ s. (v : View) → F.view s.base.fs ≡ Some v → Stands (fs_spec F.view F.clock F.spare F.was F.faults F.refused) (family (task_spec C.kind_of C.writes_of C.stepped C.leaves C.refuses C.facts) C.means C.doing) (F.faults opened.fs) v s v) }
@@ -107,10 +107,11 @@ impl<F: Watch, C: Command> System<F, C> {
     ) -> System<F, C>
         requires few { length lanes.items ≤ 8 }
         requires refs { Tracks refs (first opened.refs) }
+        requires rows { deployments.items ≡ ids_of opened.rows }
         requires idle { AreIdle C.means opened.limits lanes.items }
         ensures parts { (result.base.fs ≡ opened.fs) × (result.base.books.start.refs.items ≡ opened.refs) × (result.base.books.opened ≡ opened.clock) × (result.lanes ≡ lanes.items) }
         ensures deployments { result.base.books.start.deployments ≡ deployments }
-        ensures unlisted { AreUnlisted result.base.books }
+        ensures boots { (v : View) → F.view result.base.fs ≡ Some v → BootsStill (fs_spec F.view F.clock F.spare F.was F.faults F.refused) opened.rows result v }
         ensures bounds { (result.limits ≡ opened.limits) × (result.objects ≡ min (length opened.objects) 4294967295) }
         ensures caused { AreCausedIn (F.faults opened.fs) (F.faults result.base.fs) result.base.books.halted result.lanes }
         ensures stands { (v : View) → F.view result.base.fs ≡ Some v → Stands (fs_spec F.view F.clock F.spare F.was F.faults F.refused) (family (task_spec C.kind_of C.writes_of C.stepped C.leaves C.refuses C.facts) C.means C.doing) (F.faults opened.fs) v result v }

@@ -15,7 +15,7 @@ use Rattle.rely_guarantee.specs.declared.kind.Wants.{Wants}
 use Rattle.rely_guarantee.specs.Books.{Books}
 use Rattle.rely_guarantee.specs.Laws.{Holds, IsClaim, IsMakeDurable, NotPending, Publish, Take}
 use Rattle.command.specs.AnswerLaws.{AnswerLaws}
-use Rattle.command.specs.BootLaws.{BootLaws, no_boots}
+use Rattle.command.specs.BootLaws.{BootLaws, ChangesNoList, no_boots}
 use Rattle.command.specs.ChangeLaws.{ChangeLaws}
 use Rattle.command.specs.FolderLaws.{FolderLaws}
 use Rattle.command.specs.HearLaws.{HearLaws}
@@ -104,7 +104,6 @@ change_laws : ChangeLaws wait_tasks wait_means wait_doing
 change_laws = record {
   shown = λ since c t e is kind. no_publish t.holds (t.taken == 0) e kind;
   settled = λ since c t e is kind. no_make_durable t.holds (t.taken == 0) (subst IsMakeDurable (sym kind) tt);
-  unlisted = λ since c e none. absurd none;
   founds = λ lane t v b e f kind. no_publish t.holds (t.taken == 0) e kind;
   makes = λ since c t new a is step given settles. no_make_durable t.holds (t.taken == 0) settles;
   makes_not = λ since c t new a is step given settles made. made;
@@ -150,8 +149,11 @@ store_laws = record {
 remove_laws : RemoveLaws wait_tasks
 remove_laws = no_removals wait_tasks (λ t. no_removal t.holds (t.taken == 0))
 
-boot_laws : BootLaws wait_tasks
-boot_laws = no_boots wait_tasks (λ actor lane t v b p s by f wrote. absurd wrote)
+wait_lists : ChangesNoList wait_means
+wait_lists = λ since c e none. absurd none
+
+boot_laws : BootLaws wait_tasks wait_doing
+boot_laws = no_boots wait_tasks wait_means wait_doing change_laws wait_lists (λ actor lane t v b p s by f wrote. absurd wrote)
 
 folder_laws : FolderLaws wait_tasks wait_means wait_doing
 folder_laws = record {

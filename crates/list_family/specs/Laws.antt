@@ -8,7 +8,7 @@ use Rattle.fs_trait.proofs.Facts.{shows_kept}
 use Rattle.repo_layout.specs.Paths.{stage_path}
 use Rattle.rely_guarantee.specs.Books.{Books}
 use Rattle.command.specs.AnswerLaws.{AnswerLaws}
-use Rattle.command.specs.BootLaws.{BootLaws, no_boots}
+use Rattle.command.specs.BootLaws.{BootLaws, ChangesNoList, no_boots}
 use Rattle.command.specs.ChangeLaws.{ChangeLaws}
 use Rattle.command.specs.FolderLaws.{FolderLaws}
 use Rattle.command.specs.HearLaws.{HearLaws}
@@ -53,7 +53,6 @@ change_laws : ChangeLaws list_tasks list_means list_doing
 change_laws = record {
   shown = λ since c t e is kind. is;
   settled = λ since c t e is kind. is;
-  unlisted = λ since c e none. absurd none;
   founds = λ lane t v b e f kind. cc;
   makes = λ since c t new a is step given settles. is;
   makes_not = λ since c t new a is step given settles made. made;
@@ -99,8 +98,11 @@ store_laws = record {
 remove_laws : RemoveLaws list_tasks
 remove_laws = no_removals list_tasks (λ t removes. removes)
 
-boot_laws : BootLaws list_tasks
-boot_laws = no_boots list_tasks (λ actor lane t v b p s by f wrote. absurd wrote)
+pub list_lists : ChangesNoList list_means
+list_lists = λ since c e none. absurd none
+
+boot_laws : BootLaws list_tasks list_doing
+boot_laws = no_boots list_tasks list_means list_doing change_laws list_lists (λ actor lane t v b p s by f wrote. absurd wrote)
 
 folder_laws : FolderLaws list_tasks list_means list_doing
 folder_laws = record {

@@ -1,7 +1,7 @@
 -- The laws of a prune as a command.
-use Rattle.std.proofs.Common.{◌≡◌, refl, sym, ◌∙◌, ap, subst, arith}
+use Rattle.std.proofs.Common.{refl, arith}
 use Rattle.command.specs.AnswerLaws.{AnswerLaws}
-use Rattle.command.specs.BootLaws.{BootLaws, no_boots}
+use Rattle.command.specs.BootLaws.{BootLaws, ChangesNoList, no_boots}
 use Rattle.command.specs.ChangeLaws.{ChangeLaws}
 use Rattle.command.specs.FolderLaws.{FolderLaws}
 use Rattle.command.specs.HearLaws.{HearLaws}
@@ -60,7 +60,6 @@ change_laws : ChangeLaws prune_tasks prune_means prune_doing
 change_laws = record {
   shown = λ since c t e is kind. shows_prune since c t.work e is kind;
   settled = λ since c t e is kind. makes_durable_prune since c t.work e is kind;
-  unlisted = λ since c e. prune_unlisted c.depth e;
   founds = λ lane t v b e f kind. shows_founded t.work v e kind;
   makes = λ since c t new a is step given settles. ends_made t.work new.work a step given settles;
   makes_not = λ since c t new a is step given settles made. not_made since c t.work new.work a is step given settles made;
@@ -110,8 +109,11 @@ remove_laws = record {
   ends = λ lane t new v w b e f kind prune leaves. ends_of lane t.work new.work v w b e f kind prune leaves;
 }
 
-boot_laws : BootLaws prune_tasks
-boot_laws = no_boots prune_tasks (λ actor lane t v b p s by f wrote. no_boot lane t.work v b p s f wrote)
+pub prune_lists : ChangesNoList prune_means
+prune_lists = λ since c e. prune_unlisted c.depth e
+
+boot_laws : BootLaws prune_tasks prune_doing
+boot_laws = no_boots prune_tasks prune_means prune_doing change_laws prune_lists (λ actor lane t v b p s by f wrote. no_boot lane t.work v b p s f wrote)
 
 folder_laws : FolderLaws prune_tasks prune_means prune_doing
 folder_laws = record {

@@ -7,7 +7,7 @@ use Rattle.read_command.specs.Commands.{read_facts, read_kind, read_leaves, read
 use Rattle.read_command.specs.Laws.{no_read_claim}
 use Rattle.read_command.proofs.Ends.{begins_of}
 use Rattle.command.specs.AnswerLaws.{AnswerLaws}
-use Rattle.command.specs.BootLaws.{BootLaws, no_boots}
+use Rattle.command.specs.BootLaws.{BootLaws, ChangesNoList, no_boots}
 use Rattle.command.specs.ChangeLaws.{ChangeLaws}
 use Rattle.command.specs.FolderLaws.{FolderLaws}
 use Rattle.command.specs.HearLaws.{HearLaws}
@@ -56,7 +56,6 @@ change_laws : ChangeLaws read_tasks read_means read_doing
 change_laws = record {
   shown = λ since c t e is kind. no_publish t.work e kind;
   settled = λ since c t e is kind. no_make_durable t.work (subst IsMakeDurable (sym kind) tt);
-  unlisted = λ since c e none. absurd none;
   founds = λ lane t v b e f kind. no_publish t.work e kind;
   makes = λ since c t new a is step given settles. no_make_durable t.work settles;
   makes_not = λ since c t new a is step given settles made. made;
@@ -102,8 +101,11 @@ store_laws = record {
 remove_laws : RemoveLaws read_tasks
 remove_laws = no_removals read_tasks (λ t. reads_stay t.work)
 
-boot_laws : BootLaws read_tasks
-boot_laws = no_boots read_tasks (λ actor lane t v b p s by f wrote. absurd wrote)
+pub read_lists : ChangesNoList read_means
+read_lists = λ since c e none. absurd none
+
+boot_laws : BootLaws read_tasks read_doing
+boot_laws = no_boots read_tasks read_means read_doing change_laws read_lists (λ actor lane t v b p s by f wrote. absurd wrote)
 
 folder_laws : FolderLaws read_tasks read_means read_doing
 folder_laws = record {

@@ -17,7 +17,7 @@ use Rattle.ref_command.proofs.Ends.{begins_of, falls_always, says_of}
 use Rattle.ref_command.proofs.Homes.{home_task}
 use Rattle.ref_command.proofs.Refusals.{refused_of}
 use Rattle.command.specs.AnswerLaws.{AnswerLaws}
-use Rattle.command.specs.BootLaws.{BootLaws, no_boots}
+use Rattle.command.specs.BootLaws.{BootLaws, ChangesNoList, no_boots}
 use Rattle.command.specs.ChangeLaws.{ChangeLaws}
 use Rattle.command.specs.FolderLaws.{FolderLaws}
 use Rattle.command.specs.HearLaws.{HearLaws}
@@ -97,7 +97,6 @@ change_laws : ChangeLaws ref_tasks ref_means ref_doing
 change_laws = record {
   shown = λ since c t. ref_shown since.start.refs c t.work;
   settled = λ since c t. ref_settled since.start.refs c t.work;
-  unlisted = λ since. ref_unlisted since.start.refs;
   founds = λ lane t. ref_founds lane t.work;
   makes = λ since c t new a is step given k. (let e = ref_ends since.start.refs c t.work new.work is step in subst (λ x. ref_makes x c) (one (answer_of new.work) e.given a e.answer given) (e.makes k));
   makes_not = λ since c t new a is step given k m. (let e = ref_ends since.start.refs c t.work new.work is step in e.makes_not k (subst (λ x. ref_makes x c) (sym (one (answer_of new.work) e.given a e.answer given)) m));
@@ -143,8 +142,11 @@ store_laws = record {
 remove_laws : RemoveLaws ref_tasks
 remove_laws = no_removals ref_tasks (λ t. refs_stay t.work)
 
-boot_laws : BootLaws ref_tasks
-boot_laws = no_boots ref_tasks (λ actor lane t v b p s by f wrote. no_boot actor lane t.work v b p s f wrote)
+pub ref_lists : ChangesNoList ref_means
+ref_lists = λ since. ref_unlisted since.start.refs
+
+boot_laws : BootLaws ref_tasks ref_doing
+boot_laws = no_boots ref_tasks ref_means ref_doing change_laws ref_lists (λ actor lane t v b p s by f wrote. no_boot actor lane t.work v b p s f wrote)
 
 folder_laws : FolderLaws ref_tasks ref_means ref_doing
 folder_laws = record {

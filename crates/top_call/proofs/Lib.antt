@@ -9,7 +9,6 @@ pub mod Checkouts
 pub mod Lefts
 pub mod Stops
 pub mod Bytes
-pub mod Lists
 pub mod Rans
 pub mod Runs
 pub mod Outcomes

@@ -22,6 +22,8 @@ use Rattle.boot_read.specs.Rows.{AreRowsOf}
 use Rattle.durable_list.specs.Standing.{KeepsList}
 use Rattle.durable_deployments.specs.Standing.{KeepsDeployments}
 use Rattle.lane_system.specs.Booting.{BootsStill, KeepsBoots}
+use Rattle.lane_system.proofs.Unlisted.{boots_same, none_relisted}
+use Rattle.commands.proofs.Lists.{no_lists}
 use Rattle.lane_system.specs.Known.{AreKnown}
 use Rattle.lane_system.specs.Lanes.{IsAt}
 use Rattle.lane_system.specs.Preserves.{Stands}
@@ -95,7 +97,7 @@ named_of lanes d name (inl there) = inl there
 named_of lanes d name (inr (lane, number, by)) = inr (lane, number, by.0)
 
 module _ {F : Type 0} (f : FsSpec F) (opened : Opened F) (limits : Limits) (v : View) (before : ℕ) (commands : List (List Command)) (good : IsGood limits v.now) (within : opened.limits ≡ limits) (barrier : opened.clock ≡ before + 1) (begins : Told (f.view opened.fs) (Begins opened.refs v)) (tree : IsTree begins.0.now)
-    (holds : KeepsKnown (f.was opened.fs) (Stores v.now) opened.clock begins.0) (listed : AreRowsOf v.now opened.rows) (lists : KeepsBoots (f.was opened.fs) opened.limits opened.rows opened.clock begins.0) where
+    (holds : KeepsKnown (f.was opened.fs) (Stores v.now) opened.clock begins.0) (listed : AreRowsOf v.now opened.rows) where
   module _ (own : List (List Words)) (scripted_as : own ≡ map (λ row. map words_of row) commands) (fs : F) (history : List Entry) (pending : Option Pending) (replies : List (List Reply)) (is : RanOn f opened own fs history pending replies) where
     abbrev s : System F Task Words Answer
     s = is.system
@@ -113,7 +115,11 @@ module _ {F : Type 0} (f : FsSpec F) (opened : Opened F) (limits : Limits) (v : 
     holds_since = is.known v.now begins.0 begins.1 holds
 
     boots_since : Told (f.view s.base.fs) (λ w. BootsStill f opened.rows s w)
-    boots_since = is.boots begins.0 begins.1 lists
+    boots_since = is.boots begins.0 begins.1
+
+    -- no command changes the list
+    keeps_boots : (w : View) → BootsStill f opened.rows s w → KeepsBoots (f.was s.base.fs) s.limits opened.rows s.base.books.opened w
+    keeps_boots w boots = boots_same f opened.rows s w boots (none_relisted (IsTold f.view) means s.limits (opening_state s.base.books.start) s.base.books.history.items s.base.books.pending s.lanes is.replied no_lists)
 
     ran_there : (w : View) → f.view s.base.fs ≡ Some w → Stands f program (f.faults opened.fs) begins.0 s w → AreKnown f means v.now s w → BootsStill f opened.rows s w → Ran s.limits f.view f.clock f.was v before commands s.base.fs s.base.books.history.items (event_of s.base.books.pending) (replies_of s.lanes) w
     ran_there w told stands knows boots = record {
@@ -134,7 +140,7 @@ module _ {F : Type 0} (f : FsSpec F) (opened : Opened F) (limits : Limits) (v : 
       swept = swept_in s.base.books;
       whole = is.swept is.ended;
       kept = stands.lasts;
-      stored = λ t d from left. left_good f s w opened.rows stands.good boots.keeps t d (subst (λ n. n ≤ t) (sym moment) from) left;
+      stored = λ t d from left. left_good f s w opened.rows stands.good (keeps_boots w boots) t d (subst (λ n. n ≤ t) (sym moment) from) left;
       inside = subst (λ n. NoExternalChangeIn means (f.was s.base.fs) n (WasBrought means s) s.lanes) moment stands.inside;
       said = subst (λ n. RepliesHeldAtAPointIn means (f.was s.base.fs) n s.limits (opening_state s.base.books.start) s.base.books.history.items s.base.books.pending s.lanes) moment stands.said;
       known = subst (λ n. KeepsKnown (f.was s.base.fs) (KnownBytes v.now (WasBrought means s)) n w) moment knows;
@@ -149,8 +155,9 @@ module _ {F : Type 0} (f : FsSpec F) (opened : Opened F) (limits : Limits) (v : 
       rows = opened.rows;
       listed = listed;
       list = is.deployments;
-      boots = subst (λ n. KeepsList (f.was s.base.fs) opened.rows n w) moment boots.keeps.list;
-      deployments = subst (λ n. KeepsDeployments (f.was s.base.fs) s.limits opened.rows n w) moment boots.keeps.deployments;
+      boots = subst (λ n. KeepsList (f.was s.base.fs) opened.rows n w) moment (keeps_boots w boots).list;
+      deployments = subst (λ n. KeepsDeployments (f.was s.base.fs) s.limits opened.rows n w) moment (keeps_boots w boots).deployments;
+      crashes = λ t d from left. boots.since t d (subst (λ n. n ≤ t) (sym moment) from) left;
     }
 
     pub ran_on : Told (f.view fs) (Ran limits f.view f.clock f.was v before commands fs history (event_of pending) replies)
@@ -201,12 +208,12 @@ answered f opened limits scripts (Ok p) within is =
     answered_on f opened (map (λ lane. map words_of lane.commands.items) scripts) p.fs p.history.items p.pending (map (λ replies. replies.items) p.replies.items) is limits (commands_of scripts) (scripted scripts) within
 
 pub ran : {F : Type 0} (f : FsSpec F) (opened : Opened F) (limits : Limits) (v : View) (before : ℕ) (scripts : List script.Lane) (r : Result (LanesEnd F) (F × TopFault)) → IsGood limits v.now → opened.limits ≡ limits → opened.clock ≡ before + 1
-    → (begins : Told (f.view opened.fs) (Begins opened.refs v)) → IsTree begins.0.now → KeepsKnown (f.was opened.fs) (Stores v.now) opened.clock begins.0 → AreRowsOf v.now opened.rows → KeepsBoots (f.was opened.fs) opened.limits opened.rows opened.clock begins.0
+    → (begins : Told (f.view opened.fs) (Begins opened.refs v)) → IsTree begins.0.now → KeepsKnown (f.was opened.fs) (Stores v.now) opened.clock begins.0 → AreRowsOf v.now opened.rows
     → IfOk r (λ p. RanOn f opened (map (λ lane. map words_of lane.commands.items) scripts) p.fs p.history.items p.pending (map (λ replies. replies.items) p.replies.items))
     → IfOk r (λ p. Told (f.view p.fs) (Ran limits f.view f.clock f.was v before (commands_of scripts) p.fs p.history.items (event_of p.pending) (map (λ replies. replies.items) p.replies.items)))
-ran f opened limits v before scripts (Err e) good within barrier begins tree holds listed lists is = tt
-ran f opened limits v before scripts (Ok p) good within barrier begins tree holds listed lists is =
-    ran_on f opened limits v before (commands_of scripts) good within barrier begins tree holds listed lists (map (λ lane. map words_of lane.commands.items) scripts) (scripted scripts) p.fs p.history.items p.pending (map (λ replies. replies.items) p.replies.items) is
+ran f opened limits v before scripts (Err e) good within barrier begins tree holds listed is = tt
+ran f opened limits v before scripts (Ok p) good within barrier begins tree holds listed is =
+    ran_on f opened limits v before (commands_of scripts) good within barrier begins tree holds listed (map (λ lane. map words_of lane.commands.items) scripts) (scripted scripts) p.fs p.history.items p.pending (map (λ replies. replies.items) p.replies.items) is
 
 pub caused : {F : Type 0} (f : FsSpec F) (opened : Opened F) (scripts : List script.Lane) (r : Result (LanesEnd F) (F × TopFault))
     → IfOk r (λ p. RanOn f opened (map (λ lane. map words_of lane.commands.items) scripts) p.fs p.history.items p.pending (map (λ replies. replies.items) p.replies.items))

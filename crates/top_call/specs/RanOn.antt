@@ -14,7 +14,7 @@ use Rattle.lane_system.specs.Booked.{IsReplied}
 use Rattle.lane_system.specs.Causes.{AreCaused}
 use Rattle.durable_list.specs.Standing.{ids_of}
 use Rattle.lane_system.specs.Family.{FsSpec}
-use Rattle.lane_system.specs.Booting.{BootsStill, KeepsBoots}
+use Rattle.lane_system.specs.Booting.{BootsStill}
 use Rattle.lane_system.specs.Known.{AreKnown}
 use Rattle.lane_system.specs.Lanes.{IsTo}
 use Rattle.lane_system.specs.Preserves.{Stands}
@@ -27,7 +27,7 @@ use Rattle.commands.specs.Lanes.{replies_of, words_in}
 
 -- A system of lanes with these commands, which have all ended, as it was taken apart: it began with what was opened, and all of it stands. What
 -- is said of failed calls, and of what ended all commands, is so of any file system. If a disk held the objects of this one alone since the
--- opening, it holds at the end those and what commands brought; and it boots at the end what it booted, by the same whole deployments.
+-- opening, it holds at the end those and what commands brought; and what boots is what the history tells, by whole deployments.
 pub record RanOn {F : Type 0} (f : FsSpec F) (opened : Opened F) (commands : List (List Words)) (fs : F) (history : List Entry) (pending : Option Pending) (replies : List (List script.Reply)) : Type 0 where
   pub system : System F Task Words Answer
   pub disk : fs ≡ system.base.fs
@@ -47,4 +47,4 @@ pub record RanOn {F : Type 0} (f : FsSpec F) (opened : Opened F) (commands : Lis
   pub swept : IsAllTold f.view system
   pub stands : (begun : View) → f.view opened.fs ≡ Some begun → Told (f.view system.base.fs) (λ w. Stands f program (f.faults opened.fs) begun system w)
   pub known : (d : Disk) (begun : View) → f.view opened.fs ≡ Some begun → KeepsKnown (f.was opened.fs) (Stores d) opened.clock begun → Told (f.view system.base.fs) (λ w. AreKnown f means d system w)
-  pub boots : (begun : View) → f.view opened.fs ≡ Some begun → KeepsBoots (f.was opened.fs) opened.limits opened.rows opened.clock begun → Told (f.view system.base.fs) (λ w. BootsStill f opened.rows system w)
+  pub boots : (begun : View) → f.view opened.fs ≡ Some begun → Told (f.view system.base.fs) (λ w. BootsStill f opened.rows system w)

@@ -9,13 +9,14 @@ use Rattle.rely_guarantee.specs.declared.event.Event.{Event}
 use Rattle.rely_guarantee.specs.Books.{Books}
 use Rattle.rely_guarantee.specs.Disks.{Logical}
 use Rattle.rely_guarantee.specs.Opening.{IsOpening}
-use Rattle.rely_guarantee.specs.State.{SystemState}
+use Rattle.rely_guarantee.specs.State.{SystemState, stored}
 use Rattle.ost_types.specs.declared.limits.Limits.{Limits}
 use Rattle.ost_types.specs.declared.object.ObjName.{ObjName}
 use Rattle.ost_types.specs.Path.{Path}
 use Rattle.script.specs.declared.answer.Reply.{Reply}
 use Rattle.script.specs.declared.command.Command.{Command}
 use Rattle.durable_list.specs.Standing.{ids_of, KeepsList}
+use Rattle.lane_system.specs.Booting.{FitsWithList}
 use Rattle.lane_system.specs.Folders.{AreFoldersIn}
 use Rattle.lane_system.specs.Founded.{ArePresentIn}
 use Rattle.lane_system.specs.Inside.{NoExternalChangeIn}
@@ -131,7 +132,8 @@ pub record LeftGood (limits : Limits) (brings : Store) (d : Disk) : Type 0 where
 -- checks out to its name; and none is told to stand in the way but one that stood at the beginning, or that another command checks out to.
 -- What the reply that came last shows behind its command is so at the end, as that of a prune, that what is reachable is all that there is.
 -- And the disk boots the list of deployments that it booted at the beginning, at the end and after each crash since the first barrier; and
--- there each of these deployments is the checkout of its commit, with copies of its kernel.
+-- there each of these deployments is the checkout of its commit, with copies of its kernel. The refs and the list that a crash leaves are those
+-- behind one and the same prefix of the changes.
 pub record Ran {F : Type 0} (limits : Limits) (view : F → Option View) (clock : F → ℕ) (was : F → ℕ → View → Type 0) (v : View) (before : ℕ) (commands : List (List Command)) (fs : F) (history : List Entry) (pending : Option Event) (replies : List (List Reply)) (w : View) : Type 0 where
   pub good : IsGood limits v.now
   pub start : SystemState
@@ -164,6 +166,7 @@ pub record Ran {F : Type 0} (limits : Limits) (view : F → Option View) (clock 
   pub list : start.deployments ≡ ids_of rows
   pub boots : KeepsList (was fs) rows (before + 1) w
   pub deployments : KeepsDeployments (was fs) limits rows (before + 1) w
+  pub crashes : (t : ℕ) (d : Disk) → before + 1 ≤ t → Left (was fs) t d → FitsWithList limits rows start history (stored history by) t d
 
 -- so, of lanes that these words ask for, where an input has this left
 abbrev pub RanBy : {F : Type 0} → Option (List ℕ) → List (List ℕ) → (F → Option View) → (F → ℕ) → (F → ℕ → View → Type 0) → View → ℕ → F → List Entry → Option Event → List (List Reply) → View → Type 0

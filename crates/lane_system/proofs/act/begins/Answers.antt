@@ -11,7 +11,8 @@ use Rattle.lane_system.specs.Family.{Family, FsSpec, family, fs_spec}
 use Rattle.lane_system.specs.LaneActs.{LaneActs, task_start}
 use Rattle.lane_system.specs.Lanes.{IsNext}
 use Rattle.lane_system.specs.States.{now_of, since_in}
-use Rattle.lane_system.proofs.Coming.{comes_answered, comes_ended, comes_held, comes_more, first_ready, first_room, first_takes, has_ended, refused_named}
+use Rattle.lane_system.proofs.Coming.{comes_answered, comes_ended, comes_held, comes_more, first_ready, first_room, first_takes, has_ended}
+use Rattle.lane_system.proofs.Moments.{refused_named}
 use Rattle.lane_system.proofs.Doing.{once_acts}
 use Rattle.lane_system.proofs.Prefixes.{state_all}
 use Rattle.lane_system.proofs.Learning.{laws_on}
@@ -55,6 +56,14 @@ told_act-requires-clause-ready g c =
 
 pub told_act-requires-clause-tracks : goal.told_act-requires-clause-tracks
 told_act-requires-clause-tracks g c = c.begin.ensures.refs (now_of c.args.base.now.books).refs c.requires.tracks
+
+pub told_act-requires-clause-after : goal.told_act-requires-clause-after
+told_act-requires-clause-after g c =
+    let base = c.args.base.now in
+    let words = c.index-words.result.now in
+    let is : c.in-Ok-Runs.field-0 ≡ begun.Runs c.in-Ok-Runs.work = search rules in
+    let began = subst (IsBegun g.C.Command.means g.C.Command.doing c.args.limits c.args.lane (now_of base.books) words c.begin.new.refs) is (c.in-Ok-Runs.ensures.begun (now_of base.books) c.requires.tracks (sym c.deployments.ensures)) in
+    (now_of base.books, now_of base.books, words, began.1)
 
 pub told_act-requires-clause-room : goal.told_act-requires-clause-room
 told_act-requires-clause-room g c =

@@ -6,7 +6,8 @@ use Rattle.lane_system.specs.declared.lane.Lane.{Lane}
 use Rattle.lane_system.specs.declared.lane.Running.{Running}
 use Rattle.lane_system.specs.Family.{Family, FsSpec, family, fs_spec}
 use Rattle.lane_system.specs.LaneActs.{LaneActs}
-use Rattle.lane_system.proofs.Coming.{comes_answered, comes_ended, comes_held, comes_more, has_ended, next_is, next_ready, next_room, next_takes, next_words, refused_named}
+use Rattle.lane_system.proofs.Coming.{comes_answered, comes_ended, comes_held, comes_more, has_ended, next_after, next_is, next_ready, next_room, next_takes, next_words}
+use Rattle.lane_system.proofs.Moments.{refused_named}
 use Rattle.lane_system.proofs.Learning.{laws_on}
 use Rattle.lane_system.proofs.act.goes_on.Given as given
 use Rattle.lane_system.proofs.act.goes_on.Goals as goal
@@ -35,6 +36,12 @@ told_act-requires-clause-ready g c =
 
 pub told_act-requires-clause-tracks : goal.told_act-requires-clause-tracks
 told_act-requires-clause-tracks g c = c.requires.tracks
+
+pub told_act-requires-clause-after : goal.told_act-requires-clause-after
+told_act-requires-clause-after g c =
+    let base = c.args.base.now in
+    let l : Lane g.row.C.Denot g.row.C-Words.Denot g.row.C-Answer.Denot = record { words = c.args.run.now.words; task = Some c.args.running; replies = c.args.run.now.replies } in
+    next_after (f g) (family_of g) (command_laws g) c.args._limits c.args.lane c.args.refs.now c.args.objects.now base l c.args.running c.requires.kept refl c.requires.live
 
 pub told_act-requires-clause-room : goal.told_act-requires-clause-room
 told_act-requires-clause-room g c =

@@ -5,7 +5,7 @@ use Rattle.rely_guarantee.proofs.Sounds.{IsFs}
 use Rattle.command.specs.Tasks.{TaskSpec, task_spec}
 use Rattle.lane_system.specs.Family.{FsSpec, fs_spec}
 use Rattle.lane_system.specs.Steps.{standing}
-use Rattle.lane_system.proofs.Telling.{counts_rest, free_after, learnt_counts, learnt_step, standing_same, still_step, told_back, told_ready, told_room, told_step}
+use Rattle.lane_system.proofs.Telling.{counts_rest, learnt_counts, learnt_step, standing_same, still_step, told_back, told_disk, told_ready, told_room, told_step}
 use Rattle.lane_system.proofs.step.told_act.Given as given
 use Rattle.lane_system.proofs.step.told_act.Goals as goal
 
@@ -50,14 +50,20 @@ returns-in-More-clause-step g c = (
   c.learn.new.self,
   learnt_step (files_of g) (tasks_of g) g.C.Command.doing g.met.C.Command.command_laws.learns c.args.lane c.args.number c.args.refs.now c.running_act.new.refs _ c.running_act.new.work c.learn.new.self c.args.base.now c.running_act.new.base _ c.pins.result.now
       (told_step (files_of g) (tasks_of g) c.args.lane c.args.base.now c.args.number c.args.refs.now c.running_act.new.refs c.running_act.result came.More _ c.hear-former.new.self c.running_act.new.work c.running_act.new.base c.hear-former.ensures.hears c.in-More.is c.running_act.ensures)
-      c.deployments.ensures c.pins.ensures (free_after (files_of g) (fs_of g) c.args.lane c.args.lane c.args.base.now c.running_act.new.base c.running_act.ensures.acts.does c.requires.free) c.learn.ensures,
+      c.deployments.ensures c.pins.ensures c.args._limits
+      (told_disk (files_of g) (tasks_of g) g.C.Command.doing g.met.C.Command.command_laws.hears g.met.C.Command.command_laws.boots (fs_of g) g.met.F.Fs.tree c.args._limits c.requires.after.0 c.requires.after.1 c.requires.after.2
+      c.args.lane c.args.number c.args.objects.now c.args.refs.now c.running_act.new.refs c.args.work.now c.running_act.new.work c.args.base.now c.running_act.new.base c.requires.after.3 c.requires.ready
+      (told_step (files_of g) (tasks_of g) c.args.lane c.args.base.now c.args.number c.args.refs.now c.running_act.new.refs c.running_act.result came.More _ c.hear-former.new.self c.running_act.new.work c.running_act.new.base c.hear-former.ensures.hears c.in-More.is c.running_act.ensures) c.requires.disk) c.learn.ensures,
   λ not. refl,
 )
 
 pub returns-in-More-clause-counts : goal.returns-in-More-clause-counts
 returns-in-More-clause-counts g c = learnt_counts (files_of g) (tasks_of g) g.C.Command.doing g.met.C.Command.command_laws.learns c.args.lane c.args.number c.args.refs.now c.running_act.new.refs _ c.running_act.new.work c.learn.new.self c.args.base.now c.running_act.new.base _ c.pins.result.now
     (told_step (files_of g) (tasks_of g) c.args.lane c.args.base.now c.args.number c.args.refs.now c.running_act.new.refs c.running_act.result came.More _ c.hear-former.new.self c.running_act.new.work c.running_act.new.base c.hear-former.ensures.hears c.in-More.is c.running_act.ensures)
-    c.deployments.ensures c.pins.ensures (free_after (files_of g) (fs_of g) c.args.lane c.args.lane c.args.base.now c.running_act.new.base c.running_act.ensures.acts.does c.requires.free) c.learn.ensures _ _ (search rules)
+    c.deployments.ensures c.pins.ensures c.args._limits
+    (told_disk (files_of g) (tasks_of g) g.C.Command.doing g.met.C.Command.command_laws.hears g.met.C.Command.command_laws.boots (fs_of g) g.met.F.Fs.tree c.args._limits c.requires.after.0 c.requires.after.1 c.requires.after.2
+    c.args.lane c.args.number c.args.objects.now c.args.refs.now c.running_act.new.refs c.args.work.now c.running_act.new.work c.args.base.now c.running_act.new.base c.requires.after.3 c.requires.ready
+    (told_step (files_of g) (tasks_of g) c.args.lane c.args.base.now c.args.number c.args.refs.now c.running_act.new.refs c.running_act.result came.More _ c.hear-former.new.self c.running_act.new.work c.running_act.new.base c.hear-former.ensures.hears c.in-More.is c.running_act.ensures) c.requires.disk) c.learn.ensures _ _ (search rules)
 
 pub returns-in_default-clause-step : goal.returns-in_default-clause-step
 returns-in_default-clause-step g c = (

@@ -5,9 +5,6 @@ use Rattle.commands.specs.Family.{means}
 use Rattle.commands.specs.Words.{words_of}
 use Rattle.top_call.proofs.Bytes.{known_opened}
 use Rattle.top_call.proofs.Completing.{caused_since}
-use Rattle.sys_open.proofs.Bounds.{bounded_of}
-use Rattle.sys_open.proofs.Goods.{can_go_of}
-use Rattle.top_call.proofs.Lists.{bounded_kept, boots_opened}
 use Rattle.top_call.proofs.Fits.{few_lanes, fit_within, short_lanes}
 use Rattle.top_call.proofs.Outcomes.{back_from}
 use Rattle.top_call.proofs.Rans.{answered, caused, ran}
@@ -28,7 +25,7 @@ returns-in-Ok-clause-ran g c = λ v told.
     ran (fs_spec g.F.Fs.view g.F.Fs.clock g.F.Fs.spare g.F.Fs.was g.F.Fs.faults g.F.Watch.refused) c.in-Ok.opened c.args.limits v (g.F.Fs.clock c.args.fs) c.args.lanes.items c.run_opened.result
     (o.good v told).0 o.begun.1 o.opened.is begins (g.met.F.Fs.tree c.in-Ok.opened.fs begins.0 begins.1)
     (known_opened g.F.Fs.view g.F.Fs.clock g.F.Fs.was g.met.F.Fs.bound c.args.fs c.in-Ok.opened.fs c.in-Ok.opened.clock _ v begins.0 o.opened.is begins.2.opening begins.2.keeps (o.keeps v told) (o.works v told))
-    (o.good v told).1 (boots_opened g.F.Fs.view g.F.Fs.was c.in-Ok.opened.fs c.in-Ok.opened.clock c.in-Ok.opened.limits c.args.limits _ c.in-Ok.opened.rows begins.0 begins.1 (g.met.F.Fs.tree c.in-Ok.opened.fs begins.0 begins.1) begins.2.opening.settled (bounded_kept v.now begins.0.now begins.2.keeps (bounded_of v.now (can_go_of c.args.limits v.now (o.good v told).0))) (o.since v told) o.stands.1) c.run_opened.ensures.ran
+    (o.good v told).1 c.run_opened.ensures.ran
 
 pub returns-in-Ok-clause-undone : goal.returns-in-Ok-clause-undone
 returns-in-Ok-clause-undone g c = λ v told. back_from _ _ c.in-Ok.opened.fs c.run_opened.result c.run_opened.ensures.back (c.in-Ok.ensures.works v told)

@@ -3,7 +3,6 @@ use Rattle.lane_system.specs.Family.{fs_spec}
 use Rattle.commands.specs.Family.{Lane, program}
 use Rattle.commands.specs.Lanes.{replies_of}
 use Rattle.top_call.proofs.Bytes.{known_after}
-use Rattle.top_call.proofs.Lists.{boots_after}
 use Rattle.top_call.proofs.Runs.{room_kept}
 use Rattle.top_call.proofs.Standing.{stands_after}
 use Rattle.rely_guarantee.specs.declared.books.Start.{Start}
@@ -42,5 +41,5 @@ returns-in-Ok-clause-ran g c =
       stands = λ v told. (let there = ap g.F.Fs.view begun.parts.0 ∙ told in
           stands_after f program c.in-Ok.system s (g.F.Fs.faults c.args.opened.fs) v v there run.driven.preserves (begun.stands v there));
       known = λ opening v told holds. known_after f program c.in-Ok.system s c.args.opened.fs c.args.opened.clock opening v begun.parts.0 begun.parts.2 told run.driven.preserves holds;
-      boots = λ v told keeps. boots_after f program c.in-Ok.system s c.args.opened.fs c.args.opened.clock c.args.opened.limits c.args.opened.rows v begun.parts.0 begun.parts.2 begun.bounds.0 begun.deployments begun.unlisted told run.driven.preserves keeps;
+      boots = λ v told. (let there = ap g.F.Fs.view begun.parts.0 ∙ told in run.driven.preserves.boots c.args.opened.rows v there (begun.boots v there));
     }

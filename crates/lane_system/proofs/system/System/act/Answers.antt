@@ -60,7 +60,7 @@ lane_act-requires g c =
       sound = kept.sound;
       tracks = kept.tracks;
       home = λ v told. kept.homes c.args.actor v (omega (arith, within, kept.few)) told;
-      free = kept.free;
+      disk = kept.disk;
       kept = kept.each c.args.actor c.index_mut-lane.result.now at;
       next = omega (arith, c.if-command-len.false, c.len-command.ensures, c.len-2.ensures, c.index_mut-lane.result.now.words.ok.0, c.index_mut-lane.result.now.replies.ok.0);
     }

@@ -1,17 +1,22 @@
 use Rattle.std.proofs.Common.{rules, ◌≡◌, ◌∙◌, ℕ, List, length, ap, refl, sym, subst, Some}
 use Rattle.std.specs.Prelude.{min}
 use Rattle.ost_types.specs.declared.limits.Limits.{Limits}
+use Rattle.fs_trait.specs.Change.{Left}
+use Rattle.boot_read.specs.declared.row.BootRow.{BootRow}
+use Rattle.durable_list.specs.Standing.{ids_of}
 use Rattle.rely_guarantee.specs.declared.books.Entry.{Entry}
 use Rattle.rely_guarantee.specs.declared.books.Start.{Start}
 use Rattle.rely_guarantee.specs.State.{State, SystemState, after, events_of, first, opening_state}
 use Rattle.ref_book.specs.Tracks.{Tracks}
 use Rattle.durable_store.proofs.Shapes.{good_free}
 use Rattle.sys_open.specs.Opened as opening
+use Rattle.sys_open.specs.Opening.{IsGoodSince}
 use Rattle.command.specs.Tasks.{task_spec}
 use Rattle.lane_system.specs.Family.{Family, FsSpec, family, fs_spec}
-use Rattle.lane_system.specs.Kept.{AreFree, AreHomes, AreIdle}
+use Rattle.lane_system.specs.Booting.{BootsStill}
+use Rattle.lane_system.specs.Kept.{AreFree, AreHomes, AreIdle, DiskKept}
 use Rattle.lane_system.specs.States.{now_of}
-use Rattle.lane_system.proofs.Beginning.{caused_first, homes_of, kept_first, none_at, none_some, stands_first}
+use Rattle.lane_system.proofs.Beginning.{boots_first, bounded_first, caused_first, homes_of, kept_first, stands_first, still_first}
 use Rattle.lane_system.proofs.system.System.begun.Given as given
 use Rattle.lane_system.proofs.StoreAtStart.{counted_first, stored_first}
 use Rattle.lane_system.proofs.system.System.begun.Goals as goal
@@ -43,7 +48,15 @@ invariant_of-result g c =
     let idle = subst (λ (l : Limits). AreIdle g.C.Command.means l c.args.lanes.items) (sym opened.limits) c.requires.idle in
     let homes = subst (λ x. AreHomes (g.F.Fs.view x)) (sym e.fs) (homes_of g.F.Fs.view g.F.Fs.clock g.F.Fs.was parts.fs parts.clock parts.refs.items opened.opened) in
     let free : AreFree (g.F.Fs.view base.fs) = λ v told. good_free parts.limits v.now (opened.good.store v (subst (λ x. g.F.Fs.view x ≡ Some v) e.fs told)) in
-    kept_first (files_of g) (family_of g) parts.limits base c.args.refs c.args.lanes.items e.history e.pending idle e.sound tracks c.requires.few homes free e.free e.pins e.live
+    let rows = subst (λ x. opening.KeepsRows g.F.Fs.view g.F.Fs.was x base.books.opened parts.limits parts.rows.items) (sym e.fs) (subst (λ (n : ℕ). opening.KeepsRows g.F.Fs.view g.F.Fs.was parts.fs n parts.limits parts.rows.items) (sym e.opened) opened.boots) in
+    let listed : base.books.start.deployments.items ≡ ids_of parts.rows.items = ap (λ (s : Start). s.deployments.items) e.start ∙ c.requires.rows ∙ ap ids_of (sym opened.rows) in
+    let disk : DiskKept parts.limits (g.F.Fs.view base.fs) base.books = record {
+      free = free;
+      bounded = λ v told. (let there = subst (λ x. g.F.Fs.view x ≡ Some v) e.fs told in bounded_first v (opened.opened.opening v there).settled (opened.opened.bounded v there));
+      boots = λ v told. (let there = subst (λ x. g.F.Fs.view x ≡ Some v) e.fs told in
+          (parts.rows.items, boots_first (files_of g) parts.limits parts.limits (first parts.refs.items) parts.rows.items base e.history e.pending listed v told (g.met.F.Fs.tree parts.fs v there) (opened.opened.opening v there).settled rows));
+    } in
+    kept_first (files_of g) (family_of g) parts.limits base c.args.refs c.args.lanes.items e.history e.pending idle e.sound tracks c.requires.few homes disk e.free e.pins e.live
 
 pub returns : goal.returns
 returns g c =
@@ -57,10 +70,13 @@ returns g c =
     record {
       parts = (e.fs ∙ opened.fs, ap (λ (s : Start). s.refs.items) e.start ∙ opened.refs, e.opened ∙ opened.clock, refl);
       deployments = ap (λ (s : Start). s.deployments) e.start;
-      unlisted = record {
-        lasting = λ k x at. none_at base.books.history.items k x e.history at;
-        shown = λ p is. none_some base.books.pending p e.pending is;
-      };
+      boots = λ v told.
+          let there = subst (λ x. g.F.Fs.view x ≡ Some v) e.fs told in
+          let rows = subst (λ x. opening.KeepsRows g.F.Fs.view g.F.Fs.was x base.books.opened parts.limits parts.rows.items) (sym e.fs) (subst (λ (n : ℕ). opening.KeepsRows g.F.Fs.view g.F.Fs.was parts.fs n parts.limits parts.rows.items) (sym e.opened) opened.boots) in
+          let listed : base.books.start.deployments.items ≡ ids_of parts.rows.items = ap (λ (s : Start). s.deployments.items) e.start ∙ c.requires.rows ∙ ap ids_of (sym opened.rows) in
+          let good = subst (λ x. IsGoodSince (Left (g.F.Fs.was x)) base.books.opened parts.limits (first parts.refs.items)) (sym e.fs) (subst (λ (n : ℕ). IsGoodSince (Left (g.F.Fs.was parts.fs)) n parts.limits (first parts.refs.items)) (sym e.opened) (opened.good.since v there)) in
+          subst (λ (r : List BootRow). BootsStill (files_of g) r (record { base = base; lanes = c.args.lanes.items; limits = parts.limits; objects = c.count_of.result }) v) opened.rows
+          (still_first (files_of g) parts.limits parts.limits (first parts.refs.items) parts.rows.items base e.history e.pending listed v told (g.met.F.Fs.tree parts.fs v there) (opened.opened.opening v there).settled rows c.args.lanes.items c.count_of.result e.sound (opened.opened.bounded v there) good);
       bounds = (opened.limits, c.count_of.ensures ∙ ap (λ n. min n 4294967295) (size ∙ ap length opened.objects));
       caused = caused_first (files_of g) (family_of g) parts.limits base c.args.refs c.args.lanes.items e.history e.pending idle (g.F.Fs.faults c.args.opened.fs) now e.live;
       stands = λ v told.
