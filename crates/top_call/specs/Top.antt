@@ -9,7 +9,8 @@ use Rattle.rely_guarantee.specs.declared.event.Event.{Event}
 use Rattle.rely_guarantee.specs.Books.{Books}
 use Rattle.rely_guarantee.specs.Disks.{Logical}
 use Rattle.rely_guarantee.specs.Opening.{IsOpening}
-use Rattle.rely_guarantee.specs.State.{SystemState, stored}
+use Rattle.rely_guarantee.specs.State as states
+use Rattle.rely_guarantee.specs.State.{SystemState}
 use Rattle.ost_types.specs.declared.limits.Limits.{Limits}
 use Rattle.ost_types.specs.declared.object.ObjName.{ObjName}
 use Rattle.ost_types.specs.Path.{Path}
@@ -166,7 +167,7 @@ pub record Ran {F : Type 0} (limits : Limits) (view : F → Option View) (clock 
   pub list : start.deployments ≡ ids_of rows
   pub boots : KeepsList (was fs) rows (before + 1) w
   pub deployments : KeepsDeployments (was fs) limits rows (before + 1) w
-  pub crashes : (t : ℕ) (d : Disk) → before + 1 ≤ t → Left (was fs) t d → FitsWithList limits rows start history (stored history by) t d
+  pub crashes : (t : ℕ) (d : Disk) → before + 1 ≤ t → Left (was fs) t d → FitsWithList limits rows start history (states.stored history by) t d
 
 -- so, of lanes that these words ask for, where an input has this left
 abbrev pub RanBy : {F : Type 0} → Option (List ℕ) → List (List ℕ) → (F → Option View) → (F → ℕ) → (F → ℕ → View → Type 0) → View → ℕ → F → List Entry → Option Event → List (List Reply) → View → Type 0
