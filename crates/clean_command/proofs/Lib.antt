@@ -1,0 +1,3 @@
+mod Refusing
+pub mod Ends
+pub mod Sparing
