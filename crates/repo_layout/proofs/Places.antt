@@ -1,5 +1,5 @@
 -- Each path has its place, from which the name can be told.
-use Rattle.std.proofs.Common.{◌≡◌, ◌≢◌, ◌==◌, ◌+◌, ◌-◌, ◌<◌, ◌^◌, ℕ, suc, if◌then◌else◌, List, [], ◌∷◌, ◌++◌, length, take, drop, codes, refl, sym, ◌∙◌, ap, arith, Bool, true, false, subst}
+use Rattle.std.proofs.Common.{◌≡◌, ◌≢◌, ◌==◌, ◌+◌, ◌-◌, ◌<◌, ◌^◌, ℕ, suc, if◌then◌else◌, List, [], ◌∷◌, ◌++◌, length, take, drop, codes, refl, sym, ◌∙◌, ap, arith, Bool, true, false, subst, append-nil}
 use Rattle.std.specs.Char.{digit_value}
 use Rattle.std.specs.Fmt.{decimal}
 use Rattle.std.specs.Result.{result_unwrap_or}
@@ -125,7 +125,7 @@ same_name-apart : (x y : Name) → x ≢ y → same_name x y ≡ false
 same_name-apart x y apart = false_from_ne_true _ (λ e. apart ((same_name-Decides x y).0 e))
 
 deployed-parts : (os id : Name) (rest p : Path) → deployed_place os id rest p
-    ≡ (if same_path (origin_path os (sum_of (take 64 id)) (digits_value 10 (take (length id - 72) (drop 65 id)))) p then Origin os (sum_of (take 64 id)) (digits_value 10 (take (length id - 72) (drop 65 id)))
+    ≡ (if same_path (origin_path os (sum_of (take 64 id)) (digits_value 10 (take (length id - 72) (drop 65 id))) ++ rest) p then Origin os (sum_of (take 64 id)) (digits_value 10 (take (length id - 72) (drop 65 id)))
     else deployment_at os (sum_of (take 64 id)) (digits_value 10 (drop 65 id)) rest p)
 unfolding deployed_place
 deployed-parts os id rest p = refl
@@ -175,7 +175,7 @@ no_dot_in (x ∷ front) back digits = no_dot_in front back digits.1
 no_dot : (n : ℕ) (front back : List ℕ) → n < 2 ^ 64 → decimal n ≡ front ++ 46 ∷ back → ⊥
 no_dot n front back less e = no_dot_in front back (subst (AllDigits 10) e (decimal_is_IsNumeral n less).0.1)
 
-not_origin : (os : Name) (commit : List ℕ) (serial n : ℕ) (rest : Path) → serial < 2 ^ 64 → origin_path os commit n ≢ deploy_path os commit serial ++ rest
+not_origin : (os : Name) (commit : List ℕ) (serial n : ℕ) (rest : Path) → serial < 2 ^ 64 → origin_path os commit n ++ rest ≢ deploy_path os commit serial ++ rest
 unfolding origin_path deploy_path
 not_origin os commit serial n rest less e =
     let h = hex_of commit in
@@ -198,8 +198,8 @@ module _ (os : Name) (commit : List ℕ) (serial : ℕ) (is : IsSum commit) (les
       let n = digits_value 10 (take (length id - 72) (drop 65 id)) in
       deploy-dispatch os id rest
       ∙ deployed-parts os id rest p
-      ∙ ap (λ s. if same_path (origin_path os s n) p then Origin os s n else deployment_at os s (digits_value 10 (drop 65 id)) rest p) (front_sum (46 ∷ decimal serial))
-      ∙ ap (λ b. if b then Origin os commit n else deployment_at os commit (digits_value 10 (drop 65 id)) rest p) (same_path-apart (origin_path os commit n) p (not_origin os commit serial n rest less))
+      ∙ ap (λ s. if same_path (origin_path os s n ++ rest) p then Origin os s n else deployment_at os s (digits_value 10 (drop 65 id)) rest p) (front_sum (46 ∷ decimal serial))
+      ∙ ap (λ b. if b then Origin os commit n else deployment_at os commit (digits_value 10 (drop 65 id)) rest p) (same_path-apart (origin_path os commit n ++ rest) p (not_origin os commit serial n rest less))
       ∙ ap (λ d. deployment_at os commit (digits_value 10 d) rest p) (digits_behind (decimal serial))
       ∙ ap (λ k. deployment_at os commit k rest p) (value serial less)
       ∙ only_at-self p (in_deployment os commit serial rest)
@@ -210,20 +210,23 @@ module _ (os : Name) (commit : List ℕ) (serial : ℕ) (is : IsSum commit) (les
   pub place-etc : (rest : Path) → place (deploy_path os commit serial ++ codes "etc" ∷ rest) ≡ Etc os commit serial rest
   place-etc rest = deployed (codes "etc" ∷ rest)
 
-  pub place-origin : place (origin_path os commit serial) ≡ Origin os commit serial
-  place-origin = unfold origin_path in
-      let p = origin_path os commit serial in
+  pub place-origin_in : (rest : Path) → place (origin_path os commit serial ++ rest) ≡ Origin os commit serial
+  place-origin_in rest = unfold origin_path in
+      let p = origin_path os commit serial ++ rest in
       let h = hex_of commit in
       let d = decimal serial in
       let id = h ++ ((46 ∷ d) ++ codes ".origin") in
       let size : length id - 72 ≡ length d = omega (arith, length-append h ((46 ∷ d) ++ codes ".origin"), length-append d (codes ".origin"), digits_whole commit is) in
       let digits : take (length id - 72) (drop 65 id) ≡ d = ap (λ k. take k (drop 65 id)) size ∙ ap (take (length d)) (digits_behind (d ++ codes ".origin")) ∙ take-append_seam d (codes ".origin") in
       let n = digits_value 10 (take (length id - 72) (drop 65 id)) in
-      deploy-dispatch os id []
-      ∙ deployed-parts os id [] p
-      ∙ ap (λ s. if same_path (origin_path os s n) p then Origin os s n else deployment_at os s (digits_value 10 (drop 65 id)) [] p) (front_sum ((46 ∷ d) ++ codes ".origin"))
-      ∙ ap (λ k. if same_path (origin_path os commit k) p then Origin os commit k else deployment_at os commit (digits_value 10 (drop 65 id)) [] p) (ap (digits_value 10) digits ∙ value serial less)
-      ∙ ap (λ b. if b then Origin os commit serial else deployment_at os commit (digits_value 10 (drop 65 id)) [] p) (same_path-self p)
+      deploy-dispatch os id rest
+      ∙ deployed-parts os id rest p
+      ∙ ap (λ s. if same_path (origin_path os s n ++ rest) p then Origin os s n else deployment_at os s (digits_value 10 (drop 65 id)) rest p) (front_sum ((46 ∷ d) ++ codes ".origin"))
+      ∙ ap (λ k. if same_path (origin_path os commit k ++ rest) p then Origin os commit k else deployment_at os commit (digits_value 10 (drop 65 id)) rest p) (ap (digits_value 10) digits ∙ value serial less)
+      ∙ ap (λ b. if b then Origin os commit serial else deployment_at os commit (digits_value 10 (drop 65 id)) rest p) (same_path-self p)
+
+  pub place-origin : place (origin_path os commit serial) ≡ Origin os commit serial
+  place-origin = ap place (sym (append-nil (origin_path os commit serial))) ∙ place-origin_in []
 
 -- the record, the boot links, the loader, kernels and checkouts
 pub place-staged : place staged_path ≡ Staged
@@ -358,11 +361,11 @@ repo-back p (part ∷ rest) =
     (if_both P (same_name part (codes "config")) _ _ (at config_path p Config refl)
     (if_both P (same_name part (codes "summary")) _ _ (at summary_path p Summary refl) refl)))))
 
-origin-back : (os : Name) (commit : List ℕ) (serial : ℕ) (p : Path) (x : Place) → IsAt x p → IsAt (if same_path (origin_path os commit serial) p then Origin os commit serial else x) p
-origin-back os commit serial p x is = by (same_path (origin_path os commit serial) p) refl
+origin-back : (os : Name) (commit : List ℕ) (serial : ℕ) (rest p : Path) (x : Place) → IsAt x p → IsAt (if same_path (origin_path os commit serial ++ rest) p then Origin os commit serial else x) p
+origin-back os commit serial rest p x is = by (same_path (origin_path os commit serial ++ rest) p) refl
   where
-    by : (b : Bool) → same_path (origin_path os commit serial) p ≡ b → IsAt (if b then Origin os commit serial else x) p
-    by true e = sym ((same_path-Decides (origin_path os commit serial) p).0 e)
+    by : (b : Bool) → same_path (origin_path os commit serial ++ rest) p ≡ b → IsAt (if b then Origin os commit serial else x) p
+    by true e = (rest, sym ((same_path-Decides (origin_path os commit serial ++ rest) p).0 e))
     by false e = is
 
 in_deployment-back : (os : Name) (commit : List ℕ) (serial : ℕ) (rest : Path) → IsAt (in_deployment os commit serial rest) (deploy_path os commit serial ++ rest)
@@ -378,7 +381,7 @@ unfolding deployed_place
 deployed-back os id rest p =
     let commit = sum_of (take 64 id) in
     let serial = digits_value 10 (drop 65 id) in
-    origin-back os commit (digits_value 10 (take (length id - 72) (drop 65 id))) p (deployment_at os commit serial rest p)
+    origin-back os commit (digits_value 10 (take (length id - 72) (drop 65 id))) rest p (deployment_at os commit serial rest p)
     (at (deploy_path os commit serial ++ rest) p (in_deployment os commit serial rest) (in_deployment-back os commit serial rest))
 
 deploy-back : (p rest : Path) → IsAt (deploy_place p rest) p

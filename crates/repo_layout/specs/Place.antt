@@ -20,7 +20,7 @@ pub data Place : Type 0 where
   Summary : Place  -- the summary of the refs
   Deployment : Name → List ℕ → ℕ → Path → Place  -- in a deployment, by stateroot, commit and serial: the path in its files
   Etc : Name → List ℕ → ℕ → Path → Place  -- in the changeable `etc` of a deployment: the path in it
-  Origin : Name → List ℕ → ℕ → Place  -- the origin file of a deployment
+  Origin : Name → List ℕ → ℕ → Place  -- the origin file of a deployment, and all below its path
   Staged : Place  -- the record of a deployment that is to come
   BootLink : ℕ → Place  -- the link to the boot links of a version
   BootLinkStage : Place  -- where such a link is staged
@@ -113,7 +113,7 @@ deployment_at os commit serial rest p = only_at (deploy_path os commit serial ++
 -- what stands beside the deployments of a stateroot: an origin file, or one of them
 unfoldable pub deployed_place : Name → Name → Path → Path → Place
 deployed_place os id rest p =
-    if same_path (origin_path os (sum_of (take 64 id)) (digits_value 10 (take (length id - 72) (drop 65 id)))) p then Origin os (sum_of (take 64 id)) (digits_value 10 (take (length id - 72) (drop 65 id)))
+    if same_path (origin_path os (sum_of (take 64 id)) (digits_value 10 (take (length id - 72) (drop 65 id))) ++ rest) p then Origin os (sum_of (take 64 id)) (digits_value 10 (take (length id - 72) (drop 65 id)))
     else deployment_at os (sum_of (take 64 id)) (digits_value 10 (drop 65 id)) rest p
 
 unfoldable pub deploy_place : Path → Path → Place
@@ -183,7 +183,7 @@ IsAt (Mark commit) p = p ≡ mark_path commit
 IsAt Summary p = p ≡ summary_path
 IsAt (Deployment os commit serial rest) p = p ≡ deploy_path os commit serial ++ rest
 IsAt (Etc os commit serial rest) p = p ≡ deploy_path os commit serial ++ codes "etc" ∷ rest
-IsAt (Origin os commit serial) p = p ≡ origin_path os commit serial
+IsAt (Origin os commit serial) p = (rest : Path) × (p ≡ origin_path os commit serial ++ rest)
 IsAt Staged p = p ≡ staged_path
 IsAt (BootLink version) p = p ≡ boot_link_path version
 IsAt BootLinkStage p = p ≡ boot_link_stage_path

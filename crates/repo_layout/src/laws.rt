@@ -20,7 +20,7 @@ pub fn places_of_things()
     ensures summary { place summary_path ≡ Summary }
     ensures deployments { (os : Name) (commit : List ℕ) (serial : ℕ) (rest : Path) → IsSum commit → serial < 2 ^ 32 → IsOutsideEtc rest → place (deploy_path os commit serial ++ rest) ≡ Deployment os commit serial rest }
     ensures changeable { (os : Name) (commit : List ℕ) (serial : ℕ) (rest : Path) → IsSum commit → serial < 2 ^ 32 → place (deploy_path os commit serial ++ codes "etc" ∷ rest) ≡ Etc os commit serial rest }
-    ensures origins { (os : Name) (commit : List ℕ) (serial : ℕ) → IsSum commit → serial < 2 ^ 32 → place (origin_path os commit serial) ≡ Origin os commit serial }
+    ensures origins { (os : Name) (commit : List ℕ) (serial : ℕ) (rest : Path) → IsSum commit → serial < 2 ^ 32 → place (origin_path os commit serial ++ rest) ≡ Origin os commit serial }
     ensures back { (p : Path) → IsAt (place p) p }
     ensures apart { (p q : Path) → place p ≢ place q → p ≢ q }
 {}

@@ -1,5 +1,5 @@
 use Rattle.std.proofs.Common.{arith}
-use Rattle.repo_layout.proofs.Places.{place-config, place-stage, place-ref, place-objects_folder, place-object, place-mark, place-deployment, place-etc, place-origin, place-summary, place-back}
+use Rattle.repo_layout.proofs.Places.{place-config, place-stage, place-ref, place-objects_folder, place-object, place-mark, place-deployment, place-etc, place-origin_in, place-summary, place-back}
 use Rattle.repo_layout.proofs.laws.places_of_things.Goals as goal
 
 pub returns-clause-config : goal.returns-clause-config
@@ -27,7 +27,7 @@ pub returns-clause-changeable : goal.returns-clause-changeable
 returns-clause-changeable c = λ os commit serial rest is less. place-etc os commit serial is (omega (arith, less)) rest
 
 pub returns-clause-origins : goal.returns-clause-origins
-returns-clause-origins c = λ os commit serial is less. place-origin os commit serial is (omega (arith, less))
+returns-clause-origins c = λ os commit serial rest is less. place-origin_in os commit serial is (omega (arith, less)) rest
 
 pub returns-clause-summary : goal.returns-clause-summary
 returns-clause-summary c = place-summary
