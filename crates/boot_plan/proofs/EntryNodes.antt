@@ -2,10 +2,11 @@
 use Rattle.std.proofs.Common.{◌≡◌, ◌≢◌, ◌⊎◌, inl, inr, ⊎_elim, ℕ, ◌+◌, ◌-◌, ◌<◌, ◌≤◌, arith, true, List, [], ◌∷◌, ◌++◌, length, codes, Some, None, if◌then◌else◌, refl, sym, ◌∙◌, ap, subst, length-append, append_assoc}
 use Rattle.std.proofs.lemmas.List.{append_cancel_left, get_or_default}
 use Rattle.std.proofs.lemmas.Bool.Decides.{leb_tells}
-use Rattle.ost_types.specs.Path.{Name, Path, is_below, under}
+use Rattle.ost_types.specs.Path.{Name, Path, IsPath, is_below, under}
 use Rattle.ost_types.proofs.Paths.{is_below-self, is_below-under, same_path-apart, same_path-self, under-not_folder}
 use Rattle.repo_layout.specs.BootPaths.{entry_path, loader_folder_path}
-use Rattle.repo_layout.specs.Fixed.{entries_path}
+use Rattle.repo_layout.specs.declared.fixed.Version.{Version}
+use Rattle.repo_layout.specs.Fixed.{entries_path, number}
 use Rattle.boot_model.specs.declared.item.BootItem.{BootItem}
 use Rattle.boot_model.specs.Items.{IsAt}
 use Rattle.boot_model.specs.Entries.{entry_name, entry_text}
@@ -15,9 +16,9 @@ use Rattle.folder_build.specs.declared.node.NewNode.{NewNode}
 use Rattle.folder_build.specs.Node.{content_at}
 use Rattle.folder_build.specs.Build.{IsPlan, MayFollow}
 use Rattle.folder_build.proofs.Nodes.{push_here, push_found}
-use Rattle.boot_plan.specs.Plans.{AreEntries, entry_folders, entry_node}
-use Rattle.boot_plan.proofs.Growing.{Grown, grown_none, grown_push, none_or_some, plan_of, push_cases}
-use Rattle.boot_plan.proofs.Plain.{entry_name-injective}
+use Rattle.boot_plan.specs.Plans.{AreEntries, AreLaid, entry_folders, entry_node}
+use Rattle.boot_plan.proofs.Growing.{Grown, grown_none, grown_push, laid_none, laid_push, none_of_two, none_or_some, plan_of, push_cases}
+use Rattle.boot_plan.proofs.Plain.{entries_bounds, entries_child, entry_name-injective, entry_name-name, loader_folder_bounds}
 
 -- with the entries of the first members
 pub record SoFar (loader : ℕ) (items : List BootItem) (k : ℕ) (nodes : List NewNode) : Type 0 where
@@ -142,3 +143,20 @@ module _ (loader : ℕ) (items : List BootItem) where
 
   pub is_plan : (nodes : List NewNode) (k : ℕ) → SoFar loader items k nodes → IsPlan (loader_folder_path loader) nodes
   is_plan nodes k so = plan_of (loader_folder_path loader) nodes (root_not loader) (λ e. let no : None ≡ Some Folder = sym (ap (λ m. content_at m (entries_path loader)) e) ∙ so.inner in cc) so.grown
+
+-- where they lie
+module _ (version : Version) (items : List BootItem) where
+  abbrev folders : List Path
+  folders = loader_folder_path (number version) ∷ entries_path (number version) ∷ []
+
+  pub laid_begins : AreLaid folders (entry_folders (number version))
+  laid_begins = laid_push folders (one (number version) items ∷ []) (two (number version) items)
+      (laid_push folders [] (one (number version) items) (laid_none folders) (loader_folder_bounds version) (λ among. refl))
+      (entries_bounds version) (λ among. refl)
+
+  pub laid_goes_on : length items ≤ 8 → (k : ℕ) (item : BootItem) (nodes : List NewNode) → AreLaid folders nodes → AreLaid folders (nodes ++ entry_node (number version) items k item ∷ [])
+  laid_goes_on few k item nodes laid =
+      let file = entry_name (length items - k) in
+      laid_push folders nodes (entry_node (number version) items k item) laid
+      (subst IsPath (sym (entry_under (number version) items file)) (entries_child version file (entry_name-name (length items - k) (omega (arith, few)))))
+      (λ among. absurd (none_of_two (loader_folder_path (number version)) (entries_path (number version)) (entry_path (number version) file) (off_top (number version) items file) (off_inner (number version) items file) among))

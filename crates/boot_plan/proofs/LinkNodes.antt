@@ -2,17 +2,22 @@
 use Rattle.std.proofs.Common.{◌≡◌, ◌≢◌, ◌⊎◌, inl, inr, ⊎_elim, ℕ, zero, suc, ◌+◌, ◌-◌, ◌<◌, ◌≤◌, arith, Bool, true, false, ◌&&◌, List, [], ◌∷◌, ◌++◌, length, take, drop, get_or, Ok, Option, Some, None, if◌then◌else◌, refl, sym, ◌∙◌, ap, subst, length-append, append_assoc}
 use Rattle.std.specs.Prelude.{count_by}
 use Rattle.std.specs.Fmt.{decimal}
-use Rattle.std.proofs.lemmas.List.{append_cancel_left, get_or_default}
+use Rattle.std.proofs.lemmas.List.{append_cancel_left, get_or_default, length-take-le}
 use Rattle.std.proofs.lemmas.List.Sums.{count_by_more_yes, count_by-le-length, sum_by-append}
 use Rattle.std.proofs.Math.Seq.{take-add}
 use Rattle.std.proofs.lemmas.Bool.Decides.{leb_tells}
 use Rattle.hex.proofs.HexLemmas.{decode_of-encode_lower}
 use Rattle.hex.specs.Hex.{decode_of}
-use Rattle.ost_types.specs.Csum.{hex_of}
+use Rattle.ost_types.specs.Csum.{hex_of, IsHexSum}
+use Rattle.ost_types.specs.Text.{IsName}
+use Rattle.ost_types.proofs.HexSums.{IsHexSum-hex_of}
 use Rattle.ost_types.specs.Path.{Name, Path, is_below, same_name, under}
 use Rattle.ost_types.proofs.Paths.{is_below-self, is_below-under, same_name-Decides}
+use Rattle.repo_layout.specs.OsName.{IsOsName}
 use Rattle.repo_layout.specs.RefFile.{IsSum}
 use Rattle.repo_layout.specs.BootPaths.{boot_folder_path}
+use Rattle.repo_layout.specs.declared.fixed.Version.{Version}
+use Rattle.repo_layout.specs.Fixed.{number}
 use Rattle.boot_model.specs.declared.item.BootItem.{BootItem}
 use Rattle.boot_model.specs.Items.{AreItems, IsAt, is_like, link_number}
 use Rattle.boot_model.specs.Entries.{deploy_target, item_link_path}
@@ -22,9 +27,9 @@ use Rattle.folder_build.specs.declared.node.NewNode.{NewNode}
 use Rattle.folder_build.specs.Node.{content_at}
 use Rattle.folder_build.specs.Build.{IsPlan}
 use Rattle.folder_build.proofs.Nodes.{push_here, push_found}
-use Rattle.boot_plan.specs.Plans.{AreLinks, kernel_links_path, link_nodes, link_path, os_path}
-use Rattle.boot_plan.proofs.Growing.{Grown, grown_none, grown_push, none_or_some, plan_of, push_cases}
-use Rattle.boot_plan.proofs.Plain.{decimal-injective}
+use Rattle.boot_plan.specs.Plans.{AreLaid, AreLinks, kernel_links_path, link_nodes, link_path, os_path}
+use Rattle.boot_plan.proofs.Growing.{Grown, grown_none, grown_push, laid_none, laid_push, none_of_one, none_or_some, plan_of, push_cases}
+use Rattle.boot_plan.proofs.Plain.{decimal-injective, decimal-name, digits-name, links_bounds, links_child, links_child_2, links_child_3, os-name}
 
 -- ---- numbers
 
@@ -33,6 +38,9 @@ count_more p xs i d =
     let e : count_by p (take (i + d) xs) ≡ count_by p (take i xs ++ take d (drop i xs)) = ap (count_by p) (take-add i d xs) in
     let f : count_by p (take i xs ++ take d (drop i xs)) ≡ count_by p (take i xs) + count_by p (take d (drop i xs)) = sum_by-append (λ x. if p x then 1 else 0) (take i xs) (take d (drop i xs)) in
     omega (arith, e, f)
+
+sum_text : (sum : List ℕ) → IsSum sum → IsHexSum (hex_of sum)
+sum_text sum is = IsHexSum-hex_of sum is.whole is.bytes
 
 hex-injective : (a b : List ℕ) → IsSum a → IsSum b → hex_of a ≡ hex_of b → a ≡ b
 hex-injective a b is has e =
@@ -229,6 +237,32 @@ module _ (version sub : ℕ) (items : List BootItem) where
           → ((c ≡ Folder) × (length p ≤ length (boot_folder_path version sub) + 2)) ⊎ ((i : ℕ) × (a : BootItem) × (i < 0) × IsAt items i a × (p ≡ link_path version sub a (link_number items i a)))
       only p c (inl none) = let n : ◌≡◌ {A = Option Content} None (Some c) = none in cc
       only p c (inr (same, what, none)) = inl (sym what, subst (λ q. length q ≤ length (boot_folder_path version sub) + 2) same (omega arith))
+
+-- where they lie
+module _ (version sub : Version) (items : List BootItem) where
+  abbrev links_top : Path
+  links_top = boot_folder_path (number version) (number sub)
+
+  pub laid_begins : AreLaid (links_top ∷ []) (record { at = links_top; what = Folder } ∷ [])
+  laid_begins = laid_push (links_top ∷ []) [] (record { at = links_top; what = Folder }) (laid_none (links_top ∷ [])) (links_bounds version sub) (λ among. refl)
+
+  pub laid_goes_on : AreItems items → (k : ℕ) (item : BootItem) → IsAt items k item → (nodes : List NewNode) → AreLaid (links_top ∷ []) nodes → AreLaid (links_top ∷ []) (nodes ++ link_nodes (number version) (number sub) items k item)
+  laid_goes_on are k item at nodes laid =
+      let is = are.each k item at.0 in
+      let os : IsName item.id.os = os-name item.id.os (subst (λ (x : BootItem). IsOsName x.id.os) at.1 is.os) in
+      let sum : IsName (hex_of item.kernel.bootcsum) = digits-name (hex_of item.kernel.bootcsum) (sum_text item.kernel.bootcsum (subst (λ (x : BootItem). IsSum x.kernel.bootcsum) at.1 is.bootcsum)) in
+      let l = link_number items k item in
+      let small : l < 8 = omega (arith, are.few, at.0, count_by-le-length (λ other. is_like item other) (take k items), length-take-le k items (omega (arith, at.0))) in
+      let number_is : IsName (decimal l) = decimal-name l small in
+      let a : NewNode = record { at = os_path (number version) (number sub) item; what = Folder } in
+      let b : NewNode = record { at = kernel_links_path (number version) (number sub) item; what = Folder } in
+      let c : NewNode = record { at = link_path (number version) (number sub) item l; what = Link (deploy_target item.id) } in
+      let one = laid_push (links_top ∷ []) nodes a laid (links_child version sub item.id.os os) (λ among. refl) in
+      let two = laid_push (links_top ∷ []) (nodes ++ a ∷ []) b one (links_child_2 version sub item.id.os (hex_of item.kernel.bootcsum) os sum) (λ among. refl) in
+      let long_link : length (link_path (number version) (number sub) item l) ≡ length links_top + 3 = long (number version) (number sub) items item l in
+      let three = laid_push (links_top ∷ []) ((nodes ++ a ∷ []) ++ b ∷ []) c two (links_child_3 version sub item.id.os (hex_of item.kernel.bootcsum) (decimal l) os sum number_is)
+      (λ among. absurd (none_of_one links_top (link_path (number version) (number sub) item l) (λ e. omega (arith, ap length e, long_link)) among)) in
+      subst (AreLaid (links_top ∷ [])) (append_assoc (nodes ++ a ∷ []) (b ∷ []) (c ∷ []) ∙ append_assoc nodes (a ∷ []) (b ∷ c ∷ [])) three
 
 -- as they are put together
 pub links_pushed : (version sub : ℕ) (items : List BootItem) (k : ℕ) (item x : BootItem) → IsAt items k item → x ≡ get_or items k x

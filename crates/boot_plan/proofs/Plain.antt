@@ -21,7 +21,7 @@ use Rattle.repo_layout.specs.RefName.{IsPart, is_part_byte}
 use Rattle.repo_layout.specs.declared.folder.Folder.{Folder}
 use Rattle.repo_layout.specs.declared.fixed.Version.{Version}
 use Rattle.repo_layout.specs.declared.fixed.Version.TheVariants.{Zero, One}
-use Rattle.repo_layout.specs.declared.fixed.Fixed.TheVariants.{Entries, BootFolder}
+use Rattle.repo_layout.specs.declared.fixed.Fixed.TheVariants.{LoaderFolder, Entries, BootFolder}
 use Rattle.repo_layout.specs.BootPaths.{boot_folder_path, loader_folder_path}
 use Rattle.repo_layout.specs.Fixed.{entries_path, fixed_path, number}
 use Rattle.repo_layout.specs.Paths.{folder_path}
@@ -214,6 +214,9 @@ fit_path p bytes names less fewer fit = record {
   short = subst (λ t. length t ≤ 2048) (sym (some_text p fit.some)) (omega (arith, fit.short, less));
 }
 
+bounds_of : {p : Path} → IsFit p 1024 64 → IsPath p
+bounds_of fit = fit_path _ 1024 64 (omega arith) (omega arith) fit
+
 not_root : (p : Path) (x : Name) → p ++ x ∷ [] ≢ []
 not_root [] x e = cc
 not_root (a ∷ p) x e = cc
@@ -266,3 +269,15 @@ module _ (version sub : Version) where
   pub links_child_3 : (x y z : Name) → IsName x → IsName y → IsName z → IsPath (under (under (under (fixed_path (BootFolder version sub)) x) y) z)
   links_child_3 x y z name two three =
       fit_path (under (under (under top x) y) z) 1792 67 (omega arith) (omega arith) (fit_under (under (under top x) y) z 1536 66 (fit_under (under top x) y 1280 65 (fit_under top x 1024 64 (links_fit version sub) name) two) three)
+
+-- ---- the folders that are made
+
+pub loader_folder_bounds : (version : Version) → IsPath (loader_folder_path (number version))
+unfolding loader_folder_path
+loader_folder_bounds version = bounds_of (known_fit (fixed_path (LoaderFolder version)) (λ e. cc) (fixed-known (LoaderFolder version)))
+
+pub entries_bounds : (version : Version) → IsPath (entries_path (number version))
+entries_bounds version = bounds_of (entries_fit version)
+
+pub links_bounds : (version sub : Version) → IsPath (fixed_path (BootFolder version sub))
+links_bounds version sub = bounds_of (links_fit version sub)

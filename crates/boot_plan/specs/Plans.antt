@@ -1,7 +1,7 @@
 -- What the two folders that a swap makes have.
-use Rattle.std.specs.Prelude.{◌≡◌, ◌-◌, ◌++◌, ◌∷◌, [], ℕ, List, length, Some}
+use Rattle.std.specs.Prelude.{◌≡◌, ◌-◌, ◌++◌, ◌∷◌, [], ℕ, List, length, Contains, Some}
 use Rattle.std.specs.Fmt.{decimal}
-use Rattle.ost_types.specs.Path.{Name, Path}
+use Rattle.ost_types.specs.Path.{Name, Path, IsPath}
 use Rattle.ost_types.specs.Csum.{hex_of}
 use Rattle.repo_layout.specs.BootPaths.{boot_folder_path, entry_path, loader_folder_path}
 use Rattle.repo_layout.specs.Fixed.{entries_path}
@@ -12,7 +12,11 @@ use Rattle.folder_build.specs.declared.node.Content.{Content}
 use Rattle.folder_build.specs.declared.node.Content.TheVariants.{Folder, File, Link}
 use Rattle.folder_build.specs.declared.node.NewNode.{NewNode}
 use Rattle.folder_build.specs.Node.{content_at}
-use Rattle.folder_build.specs.Build.{Building, IsMade, begun}
+use Rattle.folder_build.specs.Build.{Building, IsMade, IsNumber, begun}
+
+-- Each node's path is within the bounds of paths, and a node at one of these paths is a folder.
+abbrev pub AreLaid : List Path → List NewNode → Type 0
+AreLaid folders nodes = (k : ℕ) (e : NewNode) → IsNumber nodes k e → IsPath e.at × (Contains folders e.at → e.what ≡ Folder)
 
 -- the folder of a version, and that of its entries
 abbrev pub entry_folders : ℕ → List NewNode
@@ -32,6 +36,7 @@ pub record IsEntries (loader : ℕ) (items : List BootItem) (t : Building) : Typ
   pub new : t ≡ begun (loader_folder_path loader) t.nodes
   pub made : IsMade t
   pub nodes : AreEntries loader items t.nodes
+  pub laid : AreLaid (loader_folder_path loader ∷ entries_path loader ∷ []) t.nodes
 
 -- the folders of a stateroot's links and of a kernel's
 abbrev pub os_path : ℕ → ℕ → BootItem → Path
@@ -61,3 +66,4 @@ pub record IsLinks (version sub : ℕ) (items : List BootItem) (t : Building) : 
   pub new : t ≡ begun (boot_folder_path version sub) t.nodes
   pub made : IsMade t
   pub nodes : AreLinks version sub items t.nodes
+  pub laid : AreLaid (boot_folder_path version sub ∷ []) t.nodes

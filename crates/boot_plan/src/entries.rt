@@ -1,11 +1,11 @@
 //! The folder of entries of a list.
-ghost use Rattle.std.specs.Prelude.{◌≡◌, ◌-◌, ◌≤◌, ◌<◌, IfOk, length};
+ghost use Rattle.std.specs.Prelude.{◌≡◌, ◌-◌, ◌≤◌, ◌<◌, ◌∷◌, [], IfOk, length};
 ghost use Rattle.repo_layout.specs.BootPaths.{loader_folder_path};
-ghost use Rattle.repo_layout.specs.Fixed.{number};
+ghost use Rattle.repo_layout.specs.Fixed.{entries_path, number};
 ghost use Rattle.boot_model.specs.declared.item.BootItem.{BootItem as Item};
 ghost use Rattle.boot_model.specs.Items.{AreItems, IsAt};
 ghost use Rattle.folder_build.specs.Build.{IsPlan};
-ghost use Rattle.boot_plan.specs.Plans.{AreEntries, IsEntries, entry_node, entry_folders};
+ghost use Rattle.boot_plan.specs.Plans.{AreEntries, AreLaid, IsEntries, entry_node, entry_folders};
 
 use crate::names::entry_name;
 use boot_model::{BootItem, entry_text};
@@ -32,6 +32,7 @@ fn entry_nodes(alloc: Global, loader: Version, items: &[BootItem]) -> Result<Vec
     requires { length items.now ≤ 8 }
     ensures plan { IfOk result (λ v. IsPlan (loader_folder_path (number loader)) v.items) }
     ensures entries { IfOk result (λ v. AreEntries (number loader) items.now v.items) }
+    ensures laid { IfOk result (λ v. AreLaid (loader_folder_path (number loader) ∷ entries_path (number loader) ∷ []) v.items) }
 {
     let mut nodes = entry_folders(alloc, loader)?;
     for index in 0..items.len() {

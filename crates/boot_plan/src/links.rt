@@ -6,7 +6,7 @@ ghost use Rattle.boot_model.specs.declared.item.BootItem.{BootItem as Item};
 ghost use Rattle.boot_model.specs.Items.{AreItems, IsAt};
 ghost use Rattle.folder_build.specs.Build.{IsPlan};
 ghost use Rattle.boot_model.specs.Entries.{deploy_target};
-ghost use Rattle.boot_plan.specs.Plans.{AreLinks, IsLinks, link_nodes};
+ghost use Rattle.boot_plan.specs.Plans.{AreLaid, AreLinks, IsLinks, link_nodes};
 
 use crate::names::{known_text, link_name, os_name, sum_name};
 use boot_model::{BootItem, DepId, deploy_target, link_number};
@@ -39,6 +39,7 @@ fn all_nodes(
     requires { AreItems items.now }
     ensures plan { IfOk result (λ v. IsPlan (boot_folder_path (number version) (number sub)) v.items) }
     ensures links { IfOk result (λ v. AreLinks (number version) (number sub) items.now v.items) }
+    ensures laid { IfOk result (λ v. AreLaid (boot_folder_path (number version) (number sub) ∷ []) v.items) }
 {
     let mut nodes = Vec::new(alloc);
     nodes.push(NewNode {

@@ -51,7 +51,7 @@ use Rattle.deploy_task.proofs.BuildPart.{built_at, built_unread, own_at, sums_of
 
 -- ---- where it writes
 
-swap_lies : (items : List BootItem) (ph : swapping.Phase) (v : View) → swaps.Needs (at_phase items ph) v → (p : Path) (s : Seen) → swaps.writes_in ph v p s → swaps_in ph v p s
+pub swap_lies : (items : List BootItem) (ph : swapping.Phase) (v : View) → swaps.Needs (at_phase items ph) v → (p : Path) (s : Seen) → swaps.writes_in ph v p s → swaps_in ph v p s
 swap_lies items (phase.Entries n b) v needs p s a = (needs.meets.0, entries_lie items n b v needs p s a)
 swap_lies items (phase.Links u sub b) v needs p s a = (needs.meets.0, links_lie items u sub b v needs p s a)
 swap_lies items (phase.ShowLink u sub l) v needs p s a = (

@@ -5,8 +5,8 @@ use Rattle.ost_types.specs.Path.{Name, Path, is_below, is_in}
 use Rattle.ost_types.proofs.Paths.{is_below-self, under-is_in}
 use Rattle.fs_trait.specs.declared.types.Value.TheVariants.{File}
 use Rattle.fs_trait.specs.View.{View}
-use Rattle.fs_trait.specs.Seen.{Seen, Leaf, shows, IsDirectory, bytes_in}
-use Rattle.fs_trait.specs.Change.{Writes}
+use Rattle.fs_trait.specs.Seen.{Seen, Leaf, MayBe, shows, IsDirectory, bytes_in}
+use Rattle.fs_trait.specs.Change.{Own, Writes}
 use Rattle.fs_trait.proofs.Claims.{is_below-before, reads_shows}
 use Rattle.fs_trait.proofs.Facts.{shows_kept}
 use Rattle.repo_layout.specs.declared.fixed.Version.{Version}
@@ -35,12 +35,13 @@ use Rattle.boot_swap.specs.Swap.{Swapping, made_in, version_of}
 use Rattle.boot_swap.specs.Steps.{EachShows, HasMade, HasPlaces, IsAside, IsRead, IsSettled, IsSure, IsSureAt, IsTheLink, IsTheLoader, IsWhole, Needs, needs_in, ready_in}
 use Rattle.boot_swap.proofs.Keeping.{Misses, each_missed, entry_below, entries_kept, links_kept, same_around}
 use Rattle.boot_swap.proofs.Spots.{Link, LinkFolder, LinkStage, Loader, LoaderFolder, LoaderStage, Spot, around_self, path_of}
+use Rattle.deploy_task.specs.Spared.{IsMadeFolder}
 
--- They write nothing at a place of a swap, nor on the way to it or below it, and give no inode that stands there another name; and
--- nothing at the deployments of its list, nor on the way to these.
+-- They write nothing at a place of a swap, nor on the way to it or below it, and give no inode that stands in a folder there by one name
+-- alone, now and whatever a crash leaves, another name; and nothing at the deployments of its list, nor on the way to these.
 pub record SparesSwap (W : Path → Seen → Type 0) (items : List BootItem) (v : View) : Type 0 where
   pub spots : (a : Spot) → Misses W (path_of a)
-  pub comes : (a : Spot) (p at : Path) (s : Seen) (n : ℕ) (m : Meta) (b : List ℕ) → W p s → s ≡ Leaf n m b → is_below (path_of a) at ≡ true → v.now.at at ≢ File n
+  pub comes : (a : Spot) → IsMadeFolder a → (p at : Path) (s : Seen) (n : ℕ) (m : Meta) (b : List ℕ) → W p s → s ≡ Leaf n m b → is_below (path_of a) at ≡ true → ((q : Path) (x : Seen) → MayBe v q x → Own n at q x) → v.now.at at ≢ File n
   pub deployments : (i : ℕ) (item : BootItem) → IsAt items i item → (p : Path) (s : Seen) → W p s → is_below p (deploy_path item.id.os item.id.commit item.id.serial) ≡ true → ⊥
 
 boot_above : is_below (folder_path Boot) (path_of Loader) ≡ true
@@ -154,11 +155,11 @@ module _ (W : Path → Seen → Type 0) (items : List BootItem) (v w : View) (wr
   on_way : (p top : Path) → is_in p top ≡ true → is_below p top ≡ true
   on_way p top in_ = let u = under-is_in p top in_ in subst (λ q. is_below p q ≡ true) (sym u.1) (is_below-before p (u.0 ∷ []))
 
-  making_on : (b : Building) (a : Spot) → b.top ≡ path_of a → folders.Needs b v → folders.Needs b w
-  making_on b a top needs = build_kept W b v w writes (record {
+  making_on : (b : Building) (a : Spot) → IsMadeFolder a → b.top ≡ path_of a → folders.Needs b v → folders.Needs b w
+  making_on b a folder top needs = build_kept W b v w writes (record {
     apart = λ p s wrote below. spares.spots a p s wrote (inr (subst (λ q. is_below q p ≡ true) top below));
     folders = λ p s wrote in_. absurd (spares.spots a p s wrote (inl (subst (λ q. is_below p q ≡ true) top (on_way p b.top in_))));
-    comes = λ p at s n m c wrote leaf below. spares.comes a p at s n m c wrote leaf (subst (λ q. is_below q at ≡ true) top below);
+    comes = λ p at s n m c wrote leaf below. spares.comes a folder p at s n m c wrote leaf (subst (λ q. is_below q at ≡ true) top below);
   }) needs
 
   putting_on : (l : Linking) (a b : Spot) → l.stage ≡ path_of a → l.at ≡ path_of b → links.Needs l v → links.Needs l w
@@ -182,10 +183,10 @@ module _ (W : Path → Seen → Type 0) (items : List BootItem) (v w : View) (wr
   needs_on : (ph : Phase) → made_in ph items → needs_in ph items v → needs_in ph items w
   needs_on (phase.Choose c) made was = (settled_on was.0, knows_on c.phase was.1)
   needs_on (phase.BeginEntries n) made was = each_on Loader (λ s. ¬ (IsTheLoader n s)) was
-  needs_on (phase.Entries n b) made was = (each_on Loader (λ s. ¬ (IsTheLoader n s)) was.0, making_on b (LoaderFolder n) made.top was.1)
+  needs_on (phase.Entries n b) made was = (each_on Loader (λ s. ¬ (IsTheLoader n s)) was.0, making_on b (LoaderFolder n) tt made.top was.1)
   needs_on (phase.LookLink (OfLoader n)) made was = (each_on Loader (λ s. ¬ (IsTheLoader n s)) was.0, entries_on n was.1)
   needs_on (phase.LookLink (OfSub n)) made was = (each_on Loader (IsTheLoader n) was.0, sure_at_on (Link n) was.1, entries_on n was.2)
-  needs_on (phase.Links u sub b) made was = (aside_on u sub was.0, entries_on (version_of u) was.1, making_on b (LinkFolder (version_of u) sub) made.top was.2)
+  needs_on (phase.Links u sub b) made was = (aside_on u sub was.0, entries_on (version_of u) was.1, making_on b (LinkFolder (version_of u) sub) tt made.top was.2)
   needs_on (phase.BeginLink u sub) made was = (aside_on u sub was.0, ready_on u sub was.1)
   needs_on (phase.ShowLink u sub l) made was = (aside_on u sub was.0, ready_on u sub was.1, putting_on l LinkStage (Link (version_of u)) made.stage made.at was.2)
   needs_on (phase.Barrier (OfLoader n) sub) made was = (aside_on (OfLoader n) sub was.0, made_on (OfLoader n) sub was.1, subst (IsTheLink n sub) (sym (same_at (Link n))) was.2)

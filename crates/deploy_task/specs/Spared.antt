@@ -28,7 +28,7 @@ use Rattle.boot_swap.specs.declared.phase.Phase as swapping
 use Rattle.boot_swap.specs.declared.phase.Phase.TheVariants as swap
 use Rattle.boot_swap.specs.Swap.{version_of}
 use Rattle.boot_swap.specs.Steps.{IsAround, IsAside, IsTheLink, IsTheLoader, NotSelecting}
-use Rattle.boot_swap.proofs.Spots.{Spot, path_of}
+use Rattle.boot_swap.proofs.Spots.{LinkFolder, LoaderFolder, Spot, path_of}
 use Rattle.deploy_task.specs.declared.deploy.Deploy.{Deploy}
 use Rattle.deploy_task.specs.declared.phase.Phase.{Phase}
 use Rattle.deploy_task.specs.declared.phase.Phase.TheVariants.{Clean, Etc, Build, Swap}
@@ -55,10 +55,17 @@ pub record SparesNew (W : Path → Seen → Type 0) (t : Deploying) (v : View) :
   pub inodes : SparesInodes W t.id v
   pub staged : (n : ℕ) → v.now.at t.plan.stage ≡ File n → ((p : Path) (s : Seen) → MayBe v p s → Own n t.plan.stage p s) → Harmless W (Own n t.plan.stage)
 
--- They write nothing at the places of the boot loader, nor on the way to one or below it, and give no inode that stands there another name.
+-- the folders that a swap makes
+abbrev pub IsMadeFolder : Spot → Type 0
+IsMadeFolder (LoaderFolder n) = Unit {0}
+IsMadeFolder (LinkFolder n sub) = Unit {0}
+IsMadeFolder a = ⊥
+
+-- They write nothing at the places of the boot loader, nor on the way to one or below it, and give no inode that stands in a folder there by
+-- one name alone, now and whatever a crash leaves, another name.
 pub record SparesBoot (W : Path → Seen → Type 0) (v : View) : Type 0 where
   pub spots : (a : Spot) (p : Path) (s : Seen) → W p s → IsAround (path_of a) p → ⊥
-  pub comes : (a : Spot) (p at : Path) (s : Seen) (n : ℕ) (m : Meta) (b : List ℕ) → W p s → s ≡ SeenLeaf n m b → is_below (path_of a) at ≡ true → v.now.at at ≢ File n
+  pub comes : (a : Spot) → IsMadeFolder a → (p at : Path) (s : Seen) (n : ℕ) (m : Meta) (b : List ℕ) → W p s → s ≡ SeenLeaf n m b → is_below (path_of a) at ≡ true → ((q : Path) (x : Seen) → MayBe v q x → Own n at q x) → v.now.at at ≢ File n
 
 -- What is known of a commit and its tree, and of a walk of it, is known still.
 pub record KeepsCommit (limits : Limits) (v w : View) (commit : List ℕ) : Type 0 where

@@ -5,7 +5,7 @@ use Rattle.ost_types.specs.Path.{Path, is_below, is_in}
 use Rattle.ost_types.proofs.Paths.{is_below-self}
 use Rattle.fs_trait.specs.declared.types.Value.TheVariants as value
 use Rattle.fs_trait.specs.View.{View}
-use Rattle.fs_trait.specs.Seen.{Seen, Leaf, shows, IsDirectory}
+use Rattle.fs_trait.specs.Seen.{Seen, Leaf, MayBe, shows, IsDirectory}
 use Rattle.fs_trait.specs.Change.{Writes, Own}
 use Rattle.fs_trait.proofs.Facts.{leaf_file, shows_kept}
 use Rattle.fs_trait.proofs.Kept.{firm_kept}
@@ -25,11 +25,12 @@ use Rattle.folder_build.specs.LinkSteps as linked
 home_kept : (top : Path) (W : Path → Seen → Type 0) (v w : View) → Writes W v w → ((p : Path) (s : Seen) → W p s → is_in p top ≡ true → IsDirectory s) → HasHome top v.now → HasHome top w.now
 home_kept top W v w writes folders home p in_ = ⊎_elim (λ same. subst IsDirectory (sym same) (home p in_)) (λ wrote. folders p (shows w.now p) wrote in_) (writes.now p)
 
--- Others write nothing at the folder or in it, no leaf in the place of a folder above it, and no inode that stands in it.
+-- Others write nothing at the folder or in it, no leaf in the place of a folder above it, and give no other name to an inode that stands
+-- in it, now and whatever a crash leaves, by one name alone.
 pub record Spares (W : Path → Seen → Type 0) (t : Building) (v : View) : Type 0 where
   pub apart : (p : Path) (s : Seen) → W p s → is_below t.top p ≡ true → ⊥
   pub folders : (p : Path) (s : Seen) → W p s → is_in p t.top ≡ true → IsDirectory s
-  pub comes : (p at : Path) (s : Seen) (n : ℕ) (m : Meta) (b : List ℕ) → W p s → s ≡ Leaf n m b → is_below t.top at ≡ true → v.now.at at ≢ value.File n
+  pub comes : (p at : Path) (s : Seen) (n : ℕ) (m : Meta) (b : List ℕ) → W p s → s ≡ Leaf n m b → is_below t.top at ≡ true → ((q : Path) (x : Seen) → MayBe v q x → Own n at q x) → v.now.at at ≢ value.File n
 
 module _ (W : Path → Seen → Type 0) (t : Building) (v w : View) (writes : Writes W v w) (spares : Spares W t v) (needs : Needs t v) where
   same : (p : Path) → is_below t.top p ≡ true → shows w.now p ≡ shows v.now p
@@ -49,7 +50,7 @@ module _ (W : Path → Seen → Type 0) (t : Building) (v w : View) (writes : Wr
         empty = same o.node.at below ∙ o.empty;
         free = o.free;
         others = λ p under apart. subst (IsContent (content_at (take n t.nodes) p)) (sym (same p under)) (o.others p under apart);
-        own = firm_kept W (Own o.inode o.node.at) v w writes (λ p s write m b is. absurd (spares.comes p o.node.at s o.inode m b write is below file.0)) o.own;
+        own = firm_kept W (Own o.inode o.node.at) v w writes (λ p s write m b is. absurd (spares.comes p o.node.at s o.inode m b write is below o.own file.0)) o.own;
       }
 
   meets_kept : (ph : Phase) → IsWithin ph t.top t.nodes → needs_in ph t v → needs_in ph t w
