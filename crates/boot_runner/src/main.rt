@@ -7,7 +7,6 @@ mod crashes;
 mod deployments;
 mod entries;
 mod failing;
-mod fitting;
 mod listing;
 mod looks;
 mod members;

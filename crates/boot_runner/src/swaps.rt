@@ -2,13 +2,13 @@
 use crate::changes::{change, deploy, lay_out};
 use crate::crashes::{add_moments, unsynced};
 use crate::failing::add_failing;
-use crate::fitting::may_boot;
 use crate::listing::listing;
 use crate::looks::{known, look};
 use crate::members::{items_of, told_items};
 use crate::outcome::Outcome;
 use crate::reading::{read, read_failing};
 use crate::untold::Untold;
+use boot_fit::may_boot;
 use boot_model::BootItem;
 use boot_swap::swap;
 use fs_memory::MemFs;
