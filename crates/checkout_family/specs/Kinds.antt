@@ -15,7 +15,7 @@ use Rattle.checkout_command.specs.Asked.{Asked, asked}
 use Rattle.checkout_command.specs.Commands.{IsNew, checkout_kind}
 use Rattle.checkout_command.proofs.Ends.{checkout_pin, checkout_quiet, quiet_kind}
 use Rattle.command.specs.Removing.{IsRemoving}
-use Rattle.command.specs.StepLaws.{AsksInOrder, asks_in_order}
+use Rattle.command.specs.LockLaws.{AsksInOrder, asks_in_order}
 
 -- nothing is published, made durable or removed
 pub no_publish : {P : Type 0} (t : CheckoutCommand) (e : Event) → checkout_kind t ≡ Publish e → P

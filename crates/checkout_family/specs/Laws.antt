@@ -14,6 +14,7 @@ use Rattle.command.specs.Laws.{CommandLaws}
 use Rattle.command.specs.LearnLaws.{LearnLaws, no_learning}
 use Rattle.command.specs.RemoveLaws.{RemoveLaws, no_removals}
 use Rattle.command.specs.StepLaws.{StepLaws}
+use Rattle.command.specs.LockLaws.{in_order}
 use Rattle.command.specs.StoreLaws.{StoreLaws}
 use Rattle.command.specs.Tasks.{TaskSpec, task_spec}
 use Rattle.checkout_family.specs.declared.task.CheckoutsTask.{CheckoutsTask}
@@ -36,7 +37,6 @@ step_laws = record {
   stages = λ who actor lane t v w b is by f wrote home. own_of actor who t.work v w wrote home;
   goes_on = λ since c t new is step. (is.0, is.1, step.0 ∙ is.2);
   falls = λ t new step. step.1;
-  locks = λ since c t wants is. checkouts_light t.work wants;
   refused = λ start entries pending lane t v b e tree stands f why. why;
 }
 
@@ -125,6 +125,7 @@ folder_laws = record {
 pub checkout_command_laws : CommandLaws checkout_tasks checkout_means checkout_doing
 checkout_command_laws = record {
   steps = step_laws;
+  locks = in_order checkout_tasks checkout_doing (λ t. checkouts_light t.work);
   hears = hear_laws;
   learns = learn_laws;
   changes = change_laws;

@@ -10,6 +10,7 @@ use Rattle.command.specs.Since.{Since}
 use Rattle.command.specs.Meaning.{Meaning}
 use Rattle.command.specs.Tasks.{TaskSpec}
 use Rattle.command.specs.StepLaws.{StepLaws}
+use Rattle.command.specs.LockLaws.{LockLaws}
 use Rattle.command.specs.HearLaws.{HearLaws}
 use Rattle.command.specs.LearnLaws.{LearnLaws}
 use Rattle.command.specs.RemoveLaws.{RemoveLaws}
@@ -57,8 +58,14 @@ module _ {S T W V A B : Type 0} {k : TaskSpec S} {l : TaskSpec T} {d : Doing S W
     stages = λ who actor lane. elim [ Left t ↦ one.stages who actor lane t | Right t ↦ two.stages who actor lane t ];
     goes_on = λ since. elim [ Left c ↦ elim [ Left t ↦ elim [ Left new ↦ one.goes_on since c t new | Right new ↦ λ after step. absurd step ] | Right t ↦ λ new after step. absurd after ] | Right c ↦ elim [ Left t ↦ λ new after step. absurd after | Right t ↦ elim [ Left new ↦ λ after step. absurd step | Right new ↦ two.goes_on since c t new ] ] ];
     falls = elim [ Left t ↦ elim [ Left new ↦ one.falls t new | Right new ↦ λ step. absurd step ] | Right t ↦ elim [ Left new ↦ λ step. absurd step | Right new ↦ two.falls t new ] ];
-    locks = λ since. elim [ Left c ↦ elim [ Left t ↦ one.locks since c t | Right t ↦ λ wants after is. absurd after ] | Right c ↦ elim [ Left t ↦ λ wants after is. absurd after | Right t ↦ two.locks since c t ] ];
     refused = λ start entries pending lane. elim [ Left t ↦ one.refused start entries pending lane t | Right t ↦ two.refused start entries pending lane t ];
+  }
+
+  lock_laws : LockLaws k d → LockLaws l e → LockLaws (either_tasks k l) (either_doing d e)
+  lock_laws one two = record {
+    asks = λ since. elim [ Left c ↦ elim [ Left t ↦ one.asks since c t | Right t ↦ λ wants after is. absurd after ] | Right c ↦ elim [ Left t ↦ λ wants after is. absurd after | Right t ↦ two.asks since c t ] ];
+    first = elim [ Left t ↦ elim [ Left new ↦ one.first t new | Right new ↦ λ step. absurd step ] | Right t ↦ elim [ Left new ↦ λ step. absurd step | Right new ↦ two.first t new ] ];
+    heard = λ told. elim [ Left t ↦ one.heard told t | Right t ↦ two.heard told t ];
   }
 
   hear_laws : HearLaws k d → HearLaws l e → HearLaws (either_tasks k l) (either_doing d e)
@@ -183,6 +190,7 @@ module _ {S T W V A B : Type 0} {k : TaskSpec S} {l : TaskSpec T} {m : Meaning W
   pub either_command_laws : CommandLaws k m d → CommandLaws l n e → CommandLaws (either_tasks k l) (either_means m n) (either_doing d e)
   either_command_laws one two = record {
     steps = steps_laws one.steps two.steps;
+    locks = lock_laws one.locks two.locks;
     hears = hear_laws one.hears two.hears;
     learns = learn_laws one.learns two.learns;
     changes = change_laws one.changes two.changes;

@@ -22,8 +22,8 @@ use Rattle.command.specs.Since.{Since}
 use Rattle.command.specs.Tasks.{TaskSpec}
 
 -- What a lane's task is told is so: these are the refs after all changes that last, the deployments that boot, and all pins; nothing is shown
--- where the lane has the lock of those that remove and shows nothing itself; what stands where deployments may is within the bounds of paths;
--- and the list that boots stands, where no other one is published, as only the lane that works on the list does.
+-- where the lane has the lock of those that remove and shows nothing itself; what stands where deployments and what boots them may is within the
+-- bounds of paths; and the list that boots stands, where no other one is published, as only the lane that works on the list does.
 pub record IsLearnt (start : SystemState) (entries : List Entry) (pending : Option Pending) (refs : RefBook) (ids : List DepId) (pins : List Pin) (lane : ℕ) (v : View) (b : Books) : Type 0 where
   pub stands : Stands start entries pending v
   pub tracks : Tracks refs (after (events_of entries) start).refs

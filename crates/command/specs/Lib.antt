@@ -10,6 +10,7 @@ pub mod Meaning
 pub mod Doing
 pub mod Tasks
 pub mod StepLaws
+pub mod LockLaws
 pub mod HearLaws
 pub mod LearnLaws
 pub mod Removing

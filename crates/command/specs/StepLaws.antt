@@ -1,5 +1,5 @@
 -- What a family proves of the steps of its tasks.
-use Rattle.std.proofs.Common.{◌≡◌, ◌⊎◌, ◌<◌, ℕ, false, true, List, Option, None, sym, ◌∙◌}
+use Rattle.std.specs.Prelude.{◌≡◌, ◌⊎◌, ◌<◌, ℕ, List, Option}
 use Rattle.fs_trait.specs.declared.task.StepResult.TheVariants as turn
 use Rattle.fs_trait.specs.declared.types.FsErr.{FsErr}
 use Rattle.fs_trait.specs.Change.{Writes}
@@ -8,23 +8,14 @@ use Rattle.fs_trait.specs.Image.{IsTree}
 use Rattle.fs_trait.specs.View.{View}
 use Rattle.rely_guarantee.specs.declared.books.Entry.{Entry}
 use Rattle.rely_guarantee.specs.declared.books.Pending.{Pending}
-use Rattle.rely_guarantee.specs.declared.kind.Wants.{Wants}
 use Rattle.rely_guarantee.specs.Books.{Books}
-use Rattle.rely_guarantee.specs.Laws.{Take, IsBy, Holds, NotPending}
+use Rattle.rely_guarantee.specs.Laws.{IsBy, Holds, NotPending}
 use Rattle.rely_guarantee.specs.State.{SystemState}
 use Rattle.rely_guarantee.specs.SystemInvariant.{Stands}
 use Rattle.command.specs.Doing.{Doing}
 use Rattle.command.specs.Since.{Since}
 use Rattle.command.specs.Staging.{StagingPathFree}
 use Rattle.command.specs.Tasks.{TaskSpec}
-
--- No lock is asked for but that of the refs, that of those that store, and, together with that of the refs, that of those that remove.
-abbrev pub AsksInOrder : Wants → Type 0
-AsksInOrder wants = (wants.exclusive ≡ true → wants.turn ≡ true) × (wants.sysroot ≡ false) × (wants.hold ≡ None)
-
--- so of a task that never asks for the lock of those that remove
-pub asks_in_order : (wants : Wants) → (wants.exclusive ≡ false) × (wants.sysroot ≡ false) × (wants.hold ≡ None) → AsksInOrder wants
-asks_in_order wants never = ((λ is. absurd (let z : false ≡ true = sym never.0 ∙ is in cc)), never.1, never.2)
 
 pub record StepLaws {T W A : Type 0} (k : TaskSpec T) (d : Doing T W A) : Type 0 where
   -- a task at its beginning has its facts, and nothing of it is shown
@@ -35,7 +26,5 @@ pub record StepLaws {T W A : Type 0} (k : TaskSpec T) (d : Doing T W A) : Type 0
   -- a step leaves it after what it was after, and nearer to it
   pub goes_on : (since : Since) (c : W) (t new : T) → d.pursues since c t → k.stepped t turn.More new → d.pursues since c new
   pub falls : (t new : T) → k.stepped t turn.More new → d.left new < d.left t
-  -- no step takes a lock but these: that every run ends is known of them alone
-  pub locks : (since : Since) (c : W) (t : T) (wants : Wants) → d.pursues since c t → k.kind t ≡ Take wants → AsksInOrder wants
   -- where the view is told a step is refused only by a call that failed or for want of memory
   pub refused : (start : SystemState) (entries : List Entry) (pending : Option Pending) (lane : ℕ) (t : T) (v : View) (b : Books) (e : FsErr) → IsTree v.now → Stands start entries pending v → k.facts lane t v b → k.refuses t v e → OfNone e

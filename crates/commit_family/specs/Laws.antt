@@ -23,6 +23,7 @@ use Rattle.command.specs.LearnLaws.{LearnLaws, no_learning}
 use Rattle.command.specs.RemoveLaws.{RemoveLaws, no_removals}
 use Rattle.command.specs.Staging.{StagingPathFree}
 use Rattle.command.specs.StepLaws.{StepLaws}
+use Rattle.command.specs.LockLaws.{in_order}
 use Rattle.command.specs.StoreLaws.{StoreLaws}
 use Rattle.command.specs.Tasks.{TaskSpec, task_spec}
 use Rattle.commit_family.specs.declared.task.CommitsTask.{CommitsTask}
@@ -52,7 +53,6 @@ step_laws = record {
   stages = λ who actor lane t v w b is by f wrote home. (let same : who ≡ lane = ⊎_elim (λ x. x ∙ own_step actor lane t.work by) (λ x. x) is in subst (λ k. StagingPathFree k w) (sym same) (own_of actor lane t.work v w b f wrote (subst (λ k. StagingPathFree k v) same home)));
   goes_on = λ since c t new is step. commits_step since.limits c.branch c.tree.items (message_in since.start.refs c) t.work is new.work step.0 step.1;
   falls = λ t new step. falls_of t.work new.work step.0;
-  locks = λ since c t wants is. commits_light t.work wants;
   refused = λ start entries pending lane t v b e. refused_of start entries pending lane v b t.work e;
 }
 
@@ -141,6 +141,7 @@ folder_laws = record {
 pub commit_command_laws : CommandLaws commit_tasks commit_means commit_doing
 commit_command_laws = record {
   steps = step_laws;
+  locks = in_order commit_tasks commit_doing (λ t. commits_light t.work);
   hears = hear_laws;
   learns = learn_laws;
   changes = change_laws;

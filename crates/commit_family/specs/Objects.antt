@@ -51,7 +51,7 @@ use Rattle.ref_store.specs.Change.{progress_in}
 use Rattle.ref_command.specs.Kinds.{event}
 use Rattle.ref_command.specs.Placed.{ref_places}
 use Rattle.command.specs.Removing.{IsRemoving}
-use Rattle.command.specs.StepLaws.{AsksInOrder, asks_in_order}
+use Rattle.command.specs.LockLaws.{AsksInOrder, asks_in_order}
 use Rattle.ref_family.specs.Objects.{change_light}
 use Rattle.ref_family.specs.Removing.{ref_stays}
 use Rattle.commit_family.specs.Pursues.{Commits}

@@ -187,7 +187,7 @@ module _ {F T W A : Type 0} (f : FsSpec F) (c : Family T W A) (fl : FsLaws f) (c
       homes = more_acts.homes kept.homes;
       disk = disk_on f fl.is limits lane lane old new more_acts.does more_acts.boots kept.disk;
       each = each_lane More x more_acts l' (kept_more f c fl cl limits lane lane refs refs' objects old new more_acts l l' x.words x.next x.same k t' x.replies x.did.1 y) (λ why over. absurd (let z : Some why ≡ None = sym over ∙ y.live in cc));
-      locked = λ live. locked_more lanes lane l l' at x.same old.books new.books (kept.locked y.live) (c.tasks.kind t) r' x.did.1 y.step.locks;
+      locked = λ live. locked_more c.tasks.kind lanes lane l l' at x.same old.books new.books (kept.locked y.live) (c.tasks.kind t) r' x.did.1 (cl.commands.locks.first t t' y.step.steps) y.step.locks;
       ordered = more_acts.locks kept.ordered;
       pins = λ live. pinned_more (IsTold f.view) c.means limits lanes lane l l' at x.same lane old.books new.books more_acts.books early (kept.pins y.live) r' x.did.1 x.replies refl start_within x.words x.next (pin_in (c.tasks.kind t)) y.step.pins works;
       explained = λ strayed. absurd (let z : None ≡ Some halt.Strayed = sym y.live ∙ sym (live_more y.step) ∙ strayed in cc);
@@ -272,10 +272,10 @@ module _ {F T W A : Type 0} (f : FsSpec F) (c : Family T W A) (fl : FsLaws f) (c
       halts : (o : Outcome) (t' : T) → Takes f c limits lane lane (length l.replies.items) refs refs' objects old new x.words l.task o t' → (why : Halt) → o ≡ came.Halted why → new.books.halted ≡ Some why
       halts o t' y why is = (subst (λ (q : Outcome). Stepped f c.tasks lane lane (length l.replies.items) y.between refs' q (told f c fl cl limits lane lane (length l.replies.items) refs refs' objects old new x.words l.task o t' y) t' old new) is y.step).acts.tells
 
-      locked_given : new.books.halted ≡ None → Locked new.books (set lanes lane l'')
+      locked_given : new.books.halted ≡ None → Locked c.tasks.kind new.books (set lanes lane l'')
       locked_given live = ⊎_elim
-          (λ once. (let was = given_acts.live live in subst (λ (b : Base F). Locked b.books (set lanes lane l'')) (sym once.0) (locked_same lanes lane l l'' at words old.books (kept.locked was) (once_idle once.1 was))))
-          (λ over. locked_ended lanes lane l l'' at words old.books new.books (kept.locked over.4.live) _ over.0 over.2 (halts over.0 over.1 over.4) live over.4.step.locks)
+          (λ once. (let was = given_acts.live live in subst (λ (b : Base F). Locked c.tasks.kind b.books (set lanes lane l'')) (sym once.0) (locked_same c.tasks.kind lanes lane l l'' at words old.books (kept.locked was) (once_idle once.1 was))))
+          (λ over. locked_ended c.tasks.kind lanes lane l l'' at words old.books new.books (kept.locked over.4.live) _ over.0 over.2 (halts over.0 over.1 over.4) live over.4.step.locks)
           x.did.3
 
       pins_given : new.books.halted ≡ None → AreInWork (IsTold f.view) c.means limits new.books (set lanes lane l'')

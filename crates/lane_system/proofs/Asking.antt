@@ -17,7 +17,7 @@ use Rattle.lane_system.specs.Kept.{Kept}
 use Rattle.lane_system.specs.LaneActs.{LaneActs}
 use Rattle.lane_system.specs.Lanes.{IsAt}
 use Rattle.lane_system.specs.Preserves.{Preserves}
-use Rattle.lane_system.specs.Ranks.{Asks, IsHeldOff, Ranked, left_of}
+use Rattle.lane_system.specs.Ranks.{Asks, IsHeldOff, LacksRefLock, Ranked, left_of}
 use Rattle.lane_system.specs.System.{System}
 use Rattle.lane_system.proofs.Accounting.{count_few}
 use Rattle.lane_system.proofs.Acted.{given_keeps, more_keeps, preserves_by}
@@ -36,7 +36,7 @@ pub record IsAct {F T W A : Type 0} (f : FsSpec F) (c : Family T W A) (old new :
   pub preserves : Preserves f c old new
   pub ranks : Ranked c.doing old new actor x
   pub held : x ≡ ask.Blocked → IsHeldOff old actor
-  pub waits : HasCommand old actor → old.base.books.halted ≡ None → Asks c old actor → IsHeldOff old actor → x ≡ ask.Blocked
+  pub waits : HasCommand old actor → old.base.books.halted ≡ None → Asks c old actor → LacksRefLock old actor → x ≡ ask.Blocked
 
 -- there is no such lane, or it has no command without a reply
 pub no_lane : {F T W A : Type 0} (s : System F T W A) (lane : ℕ) → length s.lanes ≤ lane → ¬ (HasCommand s lane)

@@ -68,7 +68,7 @@ module _ {F T W A : Type 0} (f : FsSpec F) (c : Family T W A) (limits : Limits) 
   no_replies : count_of lanes ≡ 0
   no_replies = count_none lanes (λ a l at. (idle a l at).replies)
 
-  pub kept_first : SystemInvariant f.view f.clock f.spare f.was base → Tracks refs (now_of base.books).refs → length lanes ≤ 8 → AreHomes (f.view base.fs) → DiskKept limits (f.view base.fs) base.books → (base.books.turn ≡ None) × (base.books.exclusive ≡ None) × (base.books.shared.items ≡ []) → base.books.pins.items ≡ [] → base.books.halted ≡ None → Kept f c limits base refs lanes 0
+  pub kept_first : SystemInvariant f.view f.clock f.spare f.was base → Tracks refs (now_of base.books).refs → length lanes ≤ 8 → AreHomes (f.view base.fs) → DiskKept limits (f.view base.fs) base.books → (base.books.turn ≡ None) × (base.books.exclusive ≡ None) × (base.books.shared.items ≡ []) × (base.books.sysroot ≡ None) → base.books.pins.items ≡ [] → base.books.halted ≡ None → Kept f c limits base refs lanes 0
   kept_first sound tracks few homes disk locks pins live = record {
     sound = sound;
     tracks = tracks;
@@ -83,7 +83,7 @@ module _ {F T W A : Type 0} (f : FsSpec F) (c : Family T W A) (limits : Limits) 
       in_order = λ n m r q is too lt. none_at l.replies.items n r i.replies is;
       halts = λ n r is. none_at l.replies.items n r i.replies is;
     });
-    locked = λ live. record { turn = λ a is. none_some base.books.turn a locks.0 is };
+    locked = λ live. record { turn = λ a is. none_some base.books.turn a locks.0 is; sysroot = λ a is. none_some base.books.sysroot a locks.3 is };
     ordered = record { alone = λ a is. none_some base.books.exclusive a locks.1 is; unshared = λ y has. absurd (no_share y (subst (λ (xs : List Share). Contains xs y) locks.2 has)) };
     pins = λ live p has. absurd (empty p (subst (λ (xs : List Pin). Contains xs p) pins has));
     explained = λ strayed. absurd (let z : None ≡ Some halt.Strayed = sym live ∙ strayed in cc);

@@ -10,6 +10,7 @@ use Rattle.command.specs.FolderLaws.{FolderLaws}
 use Rattle.command.specs.HearLaws.{HearLaws}
 use Rattle.command.specs.Laws.{CommandLaws}
 use Rattle.command.specs.LearnLaws.{LearnLaws}
+use Rattle.command.specs.LockLaws.{AsksList, LockLaws}
 use Rattle.command.specs.Meaning.{Meaning}
 use Rattle.command.specs.RemoveLaws.{RemoveLaws}
 use Rattle.command.specs.BootLaws.{BootLaws, IsTaken}
@@ -30,8 +31,14 @@ module _ {T W A : Type 0} (k : TaskSpec T) (m : Meaning W A) (d : Doing T W A) (
     stages = l.stages;
     goes_on = λ since c t new after step. learns.pursues step.2.0 step.2.1 step.2.2 since c step.0 new step.2.3 (l.goes_on since c t step.0 after step.1);
     falls = λ t new step. omega (arith, l.falls t step.0 step.1, learns.left step.2.0 step.2.1 step.2.2 step.0 new step.2.3);
-    locks = l.locks;
     refused = l.refused;
+  })
+
+  locks_on : LockLaws (learning k d) d
+  locks_on = (let l = laws.locks in record {
+    asks = l.asks;
+    first = λ t new step asks. l.first t step.0 step.1 (subst AsksList (learns.kind step.2.0 step.2.1 step.2.2 step.0 new step.2.3) asks);
+    heard = l.heard;
   })
 
   hears_on : HearLaws (learning k d) d
@@ -118,4 +125,4 @@ module _ {T W A : Type 0} (k : TaskSpec T) (m : Meaning W A) (d : Doing T W A) (
   })
 
   pub laws_on : CommandLaws (learning k d) m d
-  laws_on = record { steps = steps_on; hears = hears_on; learns = learns_on; changes = changes_on; answers = answers_on; store = store_on; removes = removes_on; boots = boots_on; folders = folders_on }
+  laws_on = record { steps = steps_on; locks = locks_on; hears = hears_on; learns = learns_on; changes = changes_on; answers = answers_on; store = store_on; removes = removes_on; boots = boots_on; folders = folders_on }

@@ -9,10 +9,11 @@ use Rattle.rely_guarantee.specs.declared.kind.Outcome.{Outcome}
 use Rattle.rely_guarantee.specs.declared.kind.Outcome.TheVariants as came
 use Rattle.rely_guarantee.specs.declared.kind.Wants.{Wants}
 use Rattle.rely_guarantee.specs.Books.{Spared, books_of}
-use Rattle.rely_guarantee.specs.Exact.{IsGivenUp, Locks, exclusive_in, lock_taken, turn_in}
+use Rattle.rely_guarantee.specs.Exact.{IsGivenUp, Locks, exclusive_in, lock_taken, sysroot_in, turn_in}
 use Rattle.rely_guarantee.specs.Laws.{Kind, Quiet, Store, Take, Claim, Publish, Published, Remove, MakeDurable}
 use Rattle.rely_guarantee.specs.Pinning.{ArePinned, with_pin, without}
 use Rattle.rely_guarantee.proofs.Pinning.{with_cases, without_cases}
+use Rattle.command.specs.LockLaws.{AsksList}
 use Rattle.command.specs.Meaning.{Meaning}
 use Rattle.command.specs.Since.{Since, begun_in}
 use Rattle.lane_system.specs.declared.lane.Lane.{Lane}
@@ -51,6 +52,16 @@ exclusive_in_from (Claim name) lane a lock is = inr is
 exclusive_in_from (Published e n) lane a lock is = inr is
 exclusive_in_from (Remove e n) lane a lock is = inr is
 exclusive_in_from (MakeDurable e) lane a lock is = inr is
+
+sysroot_in_from : (k : Kind) (lane a : ℕ) (lock : Option ℕ) → sysroot_in k lane lock ≡ Some a → (a ≡ lane) ⊎ (lock ≡ Some a)
+sysroot_in_from (Take wants) lane a lock is = taken_by wants.sysroot lane a lock is
+sysroot_in_from (Publish e) lane a lock is = inr is
+sysroot_in_from Quiet lane a lock is = inr is
+sysroot_in_from Store lane a lock is = inr is
+sysroot_in_from (Claim name) lane a lock is = inr is
+sysroot_in_from (Published e n) lane a lock is = inr is
+sysroot_in_from (Remove e n) lane a lock is = inr is
+sysroot_in_from (MakeDurable e) lane a lock is = inr is
 
 -- who has the lock of those that remove behind a step is the lane, or had it before
 pub exclusive_from : (k : Kind) (lane a : ℕ) (o : Outcome) (old new : rust.Books) → (o ≡ came.Blocked → ⊥) → Locks k lane o old new → new.exclusive ≡ Some a → (a ≡ lane) ⊎ (old.exclusive ≡ Some a)
@@ -97,37 +108,60 @@ module _ (k : Kind) (actor lane : ℕ) (old new : rust.Books) (asks : (wants : W
     unshared = λ x has. was.unshared x (locks.2 x has);
   }
 
-module _ {T W A : Type 0} (lanes : List (Lane T W A)) (lane : ℕ) (l l' : Lane T W A) (at : IsAt lanes lane l) (words : l'.words ≡ l.words) (old new : rust.Books) (was : Locked old lanes) (k : Kind) where
-  -- a lane that had it before, and goes on
-  before : (a : ℕ) → a ≢ lane → old.turn ≡ Some a → (n : ℕ) × (r : Running T) × IsRunning (set lanes lane l') a n r
-  before a ne is = (let w = was.turn a is in (w.0, w.1, running_apart lanes lane l l' at words a w.0 w.1 ne w.2))
+module _ {T W A : Type 0} (kind : T → Kind) (lanes : List (Lane T W A)) (lane : ℕ) (l l' : Lane T W A) (at : IsAt lanes lane l) (words : l'.words ≡ l.words) (old new : rust.Books) (was : Locked kind old lanes) (k : Kind) where
+  -- the command of a lane, which goes on
+  abbrev Goes : ℕ → Type 0
+  Goes a = (n : ℕ) × (r : Running T) × IsRunning (set lanes lane l') a n r
 
-  pub locked_more : (r : Running T) → l'.task ≡ Some r → Locks k lane came.More old new → Locked new (set lanes lane l')
-  locked_more r task locks = record {
+  -- and doesn't wait for the lock on the list
+  abbrev GoesOn : ℕ → Type 0
+  GoesOn a = (n : ℕ) × (r : Running T) × IsRunning (set lanes lane l') a n r × ¬ (AsksList (kind r.work))
+
+  -- a lane that had it before
+  before : (a : ℕ) → a ≢ lane → old.turn ≡ Some a → GoesOn a
+  before a ne is = (let w = was.turn a is in (w.0, w.1, running_apart lanes lane l l' at words a w.0 w.1 ne w.2, w.3))
+
+  before_list : (a : ℕ) → a ≢ lane → old.sysroot ≡ Some a → Goes a
+  before_list a ne is = (let w = was.sysroot a is in (w.0, w.1, running_apart lanes lane l l' at words a w.0 w.1 ne w.2))
+
+  pub locked_more : (r : Running T) → l'.task ≡ Some r → ¬ (AsksList (kind r.work)) → Locks k lane came.More old new → Locked kind new (set lanes lane l')
+  locked_more r task never locks = record {
     turn = λ a is. here_or_apart a lane
-        (λ e. (length l'.replies.items, r, subst (λ i. IsRunning (set lanes lane l') i (length l'.replies.items) r) (sym e) (running_here lanes lane l l' at words (length l'.replies.items) r refl task)))
+        (λ e. (length l'.replies.items, r, here a e, never))
         (λ ne. ⊎_elim (λ mine. absurd (ne mine)) (λ had. before a ne had) (turn_from k lane a old.turn (sym locks.0 ∙ is)));
+    sysroot = λ a is. here_or_apart a lane
+        (λ e. (length l'.replies.items, r, here a e))
+        (λ ne. ⊎_elim (λ mine. absurd (ne mine)) (λ had. before_list a ne had) (sysroot_in_from k lane a old.sysroot (sym locks.3 ∙ is)));
   }
+    where
+      here : (a : ℕ) → a ≡ lane → IsRunning (set lanes lane l') a (length l'.replies.items) r
+      here a e = subst (λ i. IsRunning (set lanes lane l') i (length l'.replies.items) r) (sym e) (running_here lanes lane l l' at words (length l'.replies.items) r refl task)
 
-  pub locked_over : IsGivenUp lane (turn_in k lane old.turn) new.turn × IsGivenUp lane (exclusive_in k lane old.exclusive) new.exclusive → Locked new (set lanes lane l')
+  pub locked_over : IsGivenUp lane (turn_in k lane old.turn) new.turn × IsGivenUp lane (sysroot_in k lane old.sysroot) new.sysroot → Locked kind new (set lanes lane l')
   locked_over locks = record {
     turn = λ a is. (let g = locks.0 a is in ⊎_elim (λ mine. absurd (g.0 mine)) (λ had. before a g.0 had) (turn_from k lane a old.turn g.1));
+    sysroot = λ a is. (let g = locks.1 a is in ⊎_elim (λ mine. absurd (g.0 mine)) (λ had. before_list a g.0 had) (sysroot_in_from k lane a old.sysroot g.1));
   }
 
-  pub locked_ended : (o : Outcome) → HasEnded o → ((why : Halt) → o ≡ came.Halted why → new.halted ≡ Some why) → new.halted ≡ None → Locks k lane o old new → Locked new (set lanes lane l')
-  locked_ended came.Done end halts live locks = locked_over (locks.0, locks.1)
-  locked_ended (came.Refused e) end halts live locks = locked_over (locks.0, locks.1)
+  pub locked_ended : (o : Outcome) → HasEnded o → ((why : Halt) → o ≡ came.Halted why → new.halted ≡ Some why) → new.halted ≡ None → Locks k lane o old new → Locked kind new (set lanes lane l')
+  locked_ended came.Done end halts live locks = locked_over (locks.0, locks.3)
+  locked_ended (came.Refused e) end halts live locks = locked_over (locks.0, locks.3)
   locked_ended (came.Halted why) end halts live locks = absurd (let z : Some why ≡ None = sym (halts why refl) ∙ live in cc)
   locked_ended came.Blocked end halts live locks = absurd end
   locked_ended came.More end halts live locks = absurd end
 
 -- where nothing was done, by a lane without a task
-pub locked_same : {T W A : Type 0} (lanes : List (Lane T W A)) (lane : ℕ) (l l' : Lane T W A) (at : IsAt lanes lane l) (words : l'.words ≡ l.words) (b : rust.Books) → Locked b lanes → l.task ≡ None → Locked b (set lanes lane l')
-locked_same {T} {W} {A} lanes lane l l' at words b was none = record {
-  turn = λ a is. (let w = was.turn a is in here_or_apart a lane
-      (λ e. absurd (let h = running_was lanes lane l l' at words w.0 w.1 (subst (λ i. IsRunning lanes i w.0 w.1) e w.2) in let z : None ≡ Some w.1 = sym none ∙ h.1 in cc))
-      (λ ne. (w.0, w.1, running_apart lanes lane l l' at words a w.0 w.1 ne w.2)));
-}
+module _ {T W A : Type 0} (kind : T → Kind) (lanes : List (Lane T W A)) (lane : ℕ) (l l' : Lane T W A) (at : IsAt lanes lane l) (words : l'.words ≡ l.words) where
+  idle_apart : (a n : ℕ) (r : Running T) → l.task ≡ None → IsRunning lanes a n r → IsRunning (set lanes lane l') a n r
+  idle_apart a n r none runs = here_or_apart a lane
+      (λ e. absurd (let h = running_was lanes lane l l' at words n r (subst (λ i. IsRunning lanes i n r) e runs) in let z : None ≡ Some r = sym none ∙ h.1 in cc))
+      (λ ne. running_apart lanes lane l l' at words a n r ne runs)
+
+  pub locked_same : (b : rust.Books) → Locked kind b lanes → l.task ≡ None → Locked kind b (set lanes lane l')
+  locked_same b was none = record {
+    turn = λ a is. (let w = was.turn a is in (w.0, w.1, idle_apart a w.0 w.1 none w.2, w.3));
+    sysroot = λ a is. (let w = was.sysroot a is in (w.0, w.1, idle_apart a w.0 w.1 none w.2));
+  }
 
 module _ {T W A : Type 0} (told : Type 0) (m : Meaning W A) (limits : Limits) (lanes : List (Lane T W A)) (lane : ℕ) (l l' : Lane T W A) (at : IsAt lanes lane l) (words : l'.words ≡ l.words) (actor : ℕ) (old new : rust.Books) (spared : Spared actor lane (books_of old) (books_of new))
     (early : (a n : ℕ) (r : Running T) → IsRunning lanes a n r → r.start ≤ length old.history.items) (was : AreInWork told m limits old lanes) where

@@ -103,15 +103,30 @@ module _ {F T W A : Type 0} (d : Doing T W A) where
       (λ still. still.none refl a (omega (arith, has.1.0, few)) (subst (λ y. HasCommand y a) still.same has))
       p
 
-  -- and one in which some had: the lane that holds the ref lock isn't held off
+  -- the lane that holds the ref lock isn't held off
+  holder_goes : (old : System F T W A) (n : ℕ) → length old.lanes ≤ n → ((a : ℕ) → a < n → HasCommand old a → IsHeldOff old a) → (o : ℕ) → old.base.books.turn ≡ Some o → ¬ (HasCommand old o)
+  holder_goes old n few each o is has =
+      let there = each o (omega (arith, has.1.0, few)) has in
+      ⊎_elim
+      (λ refs. there.1 (let one : Some there.0 ≡ Some o = sym refs ∙ is in let same : there.0 ≡ o = cc in same))
+      (λ list. list.1 is)
+      there.2
+
+  -- and where nobody holds it, the one that holds the lock on the list of deployments isn't
+  lister_goes : (old : System F T W A) (n : ℕ) → length old.lanes ≤ n → ((a : ℕ) → a < n → HasCommand old a → IsHeldOff old a) → (o : ℕ) → old.base.books.sysroot ≡ Some o → ¬ (HasCommand old o)
+  lister_goes old n few each o is has =
+      let there = each o (omega (arith, has.1.0, few)) has in
+      ⊎_elim
+      (λ refs. holder_goes old n few each there.0 refs there.3)
+      (λ list. there.1 (let one : Some there.0 ≡ Some o = sym list.0 ∙ is in let same : there.0 ≡ o = cc in same))
+      there.2
+
+  -- so one in which some had
   pub round_falls : (old now : System F T W A) (n : ℕ) → length old.lanes ≤ n → Progress old now n true → left_in_all d now < left_in_all d old
   round_falls old now n few p = ⊎_elim
       (λ far. far.0)
       (λ still. (let off = (still.some refl).1 in
-      let there = still.each off.0 (omega (arith, off.3.1.0, few)) off.3 in
-      let one : Some off.0 ≡ Some there.0 = sym off.2 ∙ there.2 in
-      let same : there.0 ≡ off.0 = cc in
-      absurd (there.1 same)))
+      absurd (⊎_elim (λ refs. holder_goes old n few still.each off.0 refs off.3) (λ list. lister_goes old n few still.each off.0 list.0 off.3) off.2)))
       p
 
 -- lanes that have no command have ended

@@ -1,5 +1,5 @@
 -- What a step of a lane's task does that others may rely on.
-use Rattle.std.proofs.Common.{◌≡◌, ◌≢◌, ◌⊎◌, inl, inr, ⊎_elim, ◌<◌, ℕ, true, refl, sym, ◌∙◌, ap, subst, arith, List, [], append-nil, Contains, Option, Some}
+use Rattle.std.proofs.Common.{◌≡◌, ◌≢◌, ◌⊎◌, inl, inr, ⊎_elim, ◌<◌, ℕ, false, true, refl, sym, ◌∙◌, ap, subst, arith, List, [], append-nil, Contains, Option, Some}
 use Rattle.std.specs.List.{flat_map}
 use Rattle.std.proofs.lemmas.List.Elements.{Contains-append_right}
 use Rattle.ost_types.specs.declared.object.ObjName.{ObjName}
@@ -95,7 +95,7 @@ module _ {F T W A : Type 0} (f : FsSpec F) (c : Family T W A) (fl : FsLaws f) (c
       (held_or outcome)
 
   asks_both : (wants : Wants) → c.tasks.kind told ≡ Take wants → wants.exclusive ≡ true → wants.turn ≡ true
-  asks_both wants is = (cl.commands.steps.locks since words told wants told_after is).0
+  asks_both wants is on = ⊎_elim (λ order. order.0 on) (λ alone. absurd (let z : false ≡ true = sym alone.0 ∙ on in cc)) (cl.commands.locks.asks since words told wants told_after is)
 
   -- held off it leaves all as it was
   locks_after : AreInOrder old.books → AreInOrder new.books

@@ -60,8 +60,8 @@ pub record FitsWithList (limits : Limits) (opening : List BootRow) (start : Syst
   pub listed : AreRowsBehind opening start fits.past rows
   pub whole : AreWhole limits d rows
 
--- What stands where deployments may, or what is staged for a list, is within the bounds of paths, whatever a crash leaves; and from each disk
--- that a crash left at this moment or later an opening can remove what stands there.
+-- What stands where deployments and what boots them may, or what is staged for a list, is within the bounds of paths, whatever a crash leaves;
+-- and from each disk that a crash left at this moment or later an opening can remove what stands there.
 pub record KeepsClear (was : ℕ → View → Type 0) (moment : ℕ) (v : View) : Type 0 where
   pub bounded : AreBounded v
   pub since : (t : ℕ) (d : Disk) → moment ≤ t → Left was t d → (p : Path) → CanGo d p

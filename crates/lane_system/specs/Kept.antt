@@ -9,12 +9,13 @@ use Rattle.rely_guarantee.specs.declared.books.Pending.{Pending}
 use Rattle.rely_guarantee.specs.declared.books.Share.{Share}
 use Rattle.rely_guarantee.specs.declared.kind.Halt.TheVariants as halt
 use Rattle.rely_guarantee.specs.Books.{books_of}
-use Rattle.rely_guarantee.specs.Laws.{NotPending, Runs}
+use Rattle.rely_guarantee.specs.Laws.{Kind, NotPending, Runs}
 use Rattle.rely_guarantee.specs.State.{opening_state}
 use Rattle.rely_guarantee.specs.SystemInvariant.{SystemInvariant}
 use Rattle.ref_book.specs.declared.book.RefBook.{RefBook}
 use Rattle.ref_book.specs.Tracks.{Tracks}
 use Rattle.command.specs.Doing.{HasRoomFor}
+use Rattle.command.specs.LockLaws.{AsksList}
 use Rattle.command.specs.Meaning.{Meaning}
 use Rattle.durable_store.specs.Free.{ObjectPathsFree}
 use Rattle.durable_deployments.specs.Bounds.{AreBounded}
@@ -62,9 +63,11 @@ pub record LaneKept {F T W A : Type 0} (f : FsSpec F) (c : Family T W A) (limits
   pub in_order : (number next : ℕ) (r q : Reply A) → IsAt l.replies.items number r → IsAt l.replies.items next q → number < next → r.place ≤ q.start
   pub halts : (number : ℕ) (r : Reply A) → IsAt l.replies.items number r → EndsBy base.books.halted (f.refused base.fs) (f.faults base.fs) r.answer
 
--- Whose the ref lock is: that of a lane whose command runs.
-pub record Locked {T W A : Type 0} (b : rust.Books) (lanes : List (Lane T W A)) : Type 0 where
-  pub turn : (lane : ℕ) → b.turn ≡ Some lane → (number : ℕ) × (r : Running T) × IsRunning lanes lane number r
+-- Whose the ref lock is, and whose the lock on the list of deployments: that of a lane whose command runs; who has the ref lock doesn't wait
+-- for the other.
+pub record Locked {T W A : Type 0} (kind : T → Kind) (b : rust.Books) (lanes : List (Lane T W A)) : Type 0 where
+  pub turn : (lane : ℕ) → b.turn ≡ Some lane → (number : ℕ) × (r : Running T) × IsRunning lanes lane number r × ¬ (AsksList (kind r.work))
+  pub sysroot : (lane : ℕ) → b.sysroot ≡ Some lane → (number : ℕ) × (r : Running T) × IsRunning lanes lane number r
 
 -- The replies of all lanes with the history: each change that lasts was made by a command that was answered so, and the one that is
 -- pending is that of a command, which runs while commands go on. Once all commands
@@ -73,7 +76,7 @@ pub record Accounted {T W A : Type 0} (told : Type 0) (m : Meaning W A) (limits 
   pub made : (k : ℕ) (e : Entry) → IsAt b.history.items k e → WasMade m lanes k e
   pub shown : (p : Pending) → b.pending ≡ Some p → IsPendingOf told m limits (opening_state b.start) b.history.items lanes p
   pub going : (p : Pending) → b.pending ≡ Some p → b.halted ≡ None → (r : Running T) × IsRunning lanes p.lane p.command r
-  -- no command takes the lock on the list of deployments yet
+  -- no command's answer depends on which deployments are in use
   pub untaken : (lane number : ℕ) (r : Reply A) → IsTo lanes lane number r → r.taken ≡ None
   pub over : (lane number other another : ℕ) (r q : Reply A) → IsTo lanes lane number r → IsTo lanes other another q → r.order < q.order → EndsToo r.answer q.answer
   pub numbered : Numbered lanes
@@ -93,8 +96,8 @@ AreHomes view = (actor : ℕ) (v : View) → actor < 16 → view ≡ Some v → 
 abbrev pub AreFree : Option View → Type 0
 AreFree view = (v : View) → view ≡ Some v → ObjectPathsFree v.now
 
--- What is so of the disk beside its state: no folder stands where an object would; what stands where deployments may is within the bounds of
--- paths; and what the books tell to boot does.
+-- What is so of the disk beside its state: no folder stands where an object would; what stands where deployments and what boots them may is
+-- within the bounds of paths; and what the books tell to boot does.
 pub record DiskKept (limits : Limits) (view : Option View) (b : rust.Books) : Type 0 where
   pub free : AreFree view
   pub bounded : (v : View) → view ≡ Some v → AreBounded v
@@ -107,7 +110,7 @@ pub record Kept {F T W A : Type 0} (f : FsSpec F) (c : Family T W A) (limits : L
   pub homes : AreHomes (f.view base.fs)
   pub disk : DiskKept limits (f.view base.fs) base.books
   pub each : (lane : ℕ) (l : Lane T W A) → IsAt lanes lane l → LaneKept f c limits lane refs base l
-  pub locked : base.books.halted ≡ None → Locked base.books lanes
+  pub locked : base.books.halted ≡ None → Locked c.tasks.kind base.books lanes
   pub ordered : AreInOrder base.books
   pub pins : base.books.halted ≡ None → AreInWork (IsTold f.view) c.means limits base.books lanes
   pub accounted : Accounted (IsTold f.view) c.means limits base.books lanes given

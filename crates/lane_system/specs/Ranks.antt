@@ -1,5 +1,5 @@
 -- How many acts a lane may still need, and which lane holds it off.
-use Rattle.std.specs.Prelude.{◌≡◌, ◌≢◌, ◌<◌, ◌≤◌, ◌+◌, ◌-◌, ◌*◌, ℕ, zero, suc, true, List, [], ◌∷◌, length, Option, Some, None}
+use Rattle.std.specs.Prelude.{◌≡◌, ◌≢◌, ◌⊎◌, ◌<◌, ◌≤◌, ◌+◌, ◌-◌, ◌*◌, ℕ, zero, suc, true, List, [], ◌∷◌, length, Option, Some, None}
 use Rattle.rely_guarantee.specs.Laws.{Kind, Publish, Take}
 use Rattle.command.specs.Doing.{Doing, most}
 use Rattle.lane_system.specs.declared.ask.Ask.{Ask}
@@ -48,9 +48,17 @@ pub record Ranked {F T W A : Type 0} (d : Doing T W A) (old new : System F T W A
   pub done : (lane command : ℕ) → ask ≡ Done lane command → (commands_left new actor + 1 ≡ commands_left old actor) × (rank d new actor ≤ most)
   pub others : (lane : ℕ) → lane ≢ actor → (commands_left new lane ≡ commands_left old lane) × (rank d new lane ≡ rank d old lane)
 
--- another lane, which has a command without a reply, holds the ref lock
+-- the other lane holds the ref lock, or, where this one doesn't, the lock on the list of deployments
+abbrev pub HoldsOff : {F T W A : Type 0} → System F T W A → ℕ → ℕ → Type 0
+HoldsOff s lane other = (s.base.books.turn ≡ Some other) ⊎ ((s.base.books.sysroot ≡ Some other) × ¬ (s.base.books.turn ≡ Some lane))
+
+-- so does another one, which has a command without a reply
 abbrev pub IsHeldOff : {F T W A : Type 0} → System F T W A → ℕ → Type 0
-IsHeldOff s lane = (other : ℕ) × (other ≢ lane) × (s.base.books.turn ≡ Some other) × HasCommand s other
+IsHeldOff s lane = (other : ℕ) × (other ≢ lane) × HoldsOff s lane other × HasCommand s other
+
+-- another lane holds the ref lock
+abbrev pub LacksRefLock : {F T W A : Type 0} → System F T W A → ℕ → Type 0
+LacksRefLock s lane = (other : ℕ) × (other ≢ lane) × (s.base.books.turn ≡ Some other)
 
 -- a step of this kind asks for the ref lock
 abbrev pub AsksRefLock : Kind → Type 0

@@ -22,7 +22,8 @@ pub struct Reply<A> {
     pub place: u32,
     /// How many replies had been given before it.
     pub order: u32,
-    /// How many replies had been given before the step that took the lock on the list of deployments.
+    /// How many replies had been given before the step that took the lock on the list of deployments, of an answer that depends on which of
+    /// these are in use; none does so yet.
     pub taken: Option<u32>,
 }
 

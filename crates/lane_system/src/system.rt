@@ -17,7 +17,7 @@ ghost use Rattle.lane_system.specs.Held.{Held};
 ghost use Rattle.lane_system.specs.Kept.{AreIdle};
 ghost use Rattle.lane_system.specs.Lanes.{IsTo};
 ghost use Rattle.lane_system.specs.Preserves.{Preserves, Stands};
-ghost use Rattle.lane_system.specs.Ranks.{AreWithin, Asks, HasEnded, IsHeldOff, IsOver, Ranked, left_in_all, rank};
+ghost use Rattle.lane_system.specs.Ranks.{AreWithin, Asks, HasEnded, IsHeldOff, IsOver, LacksRefLock, Ranked, left_in_all, rank};
 ghost use Rattle.lane_system.specs.Replies.{EndsBy};
 ghost use Rattle.lane_system.specs.Sweeping.{IsAllTold};
 
@@ -148,7 +148,7 @@ impl<F: Watch, C: Command> System<F, C> {
         ensures preserves { Preserves (fs_spec F.view F.clock F.spare F.was F.faults F.refused) (family (task_spec C.kind_of C.writes_of C.stepped C.leaves C.refuses C.facts) C.means C.doing) self.old self.new }
         ensures ranks { Ranked C.doing self.old self.new actor result }
         ensures held { result ≡ Ask.Blocked → IsHeldOff self.old actor }
-        ensures waits { HasCommand self.old actor → self.old.base.books.halted ≡ None → Asks (family (task_spec C.kind_of C.writes_of C.stepped C.leaves C.refuses C.facts) C.means C.doing) self.old actor → IsHeldOff self.old actor → result ≡ Ask.Blocked }
+        ensures waits { HasCommand self.old actor → self.old.base.books.halted ≡ None → Asks (family (task_spec C.kind_of C.writes_of C.stepped C.leaves C.refuses C.facts) C.means C.doing) self.old actor → LacksRefLock self.old actor → result ≡ Ask.Blocked }
     {
         let number = actor as usize;
         if number >= self.lanes.len() {

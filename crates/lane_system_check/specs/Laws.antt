@@ -23,7 +23,8 @@ use Rattle.command.specs.Laws.{CommandLaws}
 use Rattle.command.specs.LearnLaws.{LearnLaws, no_learning}
 use Rattle.command.specs.RemoveLaws.{RemoveLaws, no_removals}
 use Rattle.command.specs.Removing.{IsRemoving}
-use Rattle.command.specs.StepLaws.{AsksInOrder, StepLaws, asks_in_order}
+use Rattle.command.specs.StepLaws.{StepLaws}
+use Rattle.command.specs.LockLaws.{AsksInOrder, asks_in_order, in_order}
 use Rattle.command.specs.StoreLaws.{StoreLaws}
 use Rattle.command.specs.Tasks.{TaskSpec, task_spec}
 use Rattle.lane_system_check.specs.declared.task.WaitTask.{WaitTask}
@@ -82,7 +83,6 @@ step_laws = record {
   stages = λ who actor lane t v w b is by f wrote home. subst NotDirectory (sym (shows_kept _ v w (stage_path who) wrote (λ s bad. bad))) home;
   goes_on = λ since c t new is step. goes_on c t new is step;
   falls = λ t new step. omega (arith, step.0, ap (λ (x : WaitTask). x.taken) step.1, ap (λ (x : WaitTask). x.number) step.1);
-  locks = λ since c t wants is kind. light t.holds (t.taken == 0) wants kind;
   refused = λ start entries pending lane t v b e tree stands f why. absurd why;
 }
 
@@ -171,6 +171,7 @@ folder_laws = record {
 pub wait_command_laws : CommandLaws wait_tasks wait_means wait_doing
 wait_command_laws = record {
   steps = step_laws;
+  locks = in_order wait_tasks wait_doing (λ t wants is. light t.holds (t.taken == 0) wants is);
   hears = hear_laws;
   learns = learn_laws;
   changes = change_laws;

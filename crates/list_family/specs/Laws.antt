@@ -16,6 +16,7 @@ use Rattle.command.specs.Laws.{CommandLaws}
 use Rattle.command.specs.LearnLaws.{LearnLaws, no_learning}
 use Rattle.command.specs.RemoveLaws.{RemoveLaws, no_removals}
 use Rattle.command.specs.StepLaws.{StepLaws}
+use Rattle.command.specs.LockLaws.{in_order}
 use Rattle.command.specs.StoreLaws.{StoreLaws}
 use Rattle.command.specs.Tasks.{TaskSpec, task_spec}
 use Rattle.list_family.specs.declared.task.ListTask.{ListTask}
@@ -31,7 +32,6 @@ step_laws = record {
   stages = λ who actor lane t v w b is by f wrote home. subst NotDirectory (sym (shows_kept _ v w (stage_path who) wrote (λ s bad. bad))) home;
   goes_on = λ since c t new is step. is;
   falls = λ t new step. cc;
-  locks = λ since c t wants is kind. absurd is;
   refused = λ start entries pending lane t v b e tree stands f why. absurd why;
 }
 
@@ -120,6 +120,7 @@ folder_laws = record {
 pub list_command_laws : CommandLaws list_tasks list_means list_doing
 list_command_laws = record {
   steps = step_laws;
+  locks = in_order list_tasks list_doing (λ t wants is. cc);
   hears = hear_laws;
   learns = learn_laws;
   changes = change_laws;

@@ -29,7 +29,7 @@ use Rattle.prune_command.specs.Facts.{KnownIn, prune_facts}
 use Rattle.prune_command.specs.SweepSteps.{sweep_kind}
 use Rattle.command.specs.ChangeLaws.{Founds}
 use Rattle.command.specs.Since.{Since}
-use Rattle.command.specs.StepLaws.{AsksInOrder}
+use Rattle.command.specs.LockLaws.{AsksInOrder}
 use Rattle.prune_family.specs.declared.words.PruneWords.{PruneWords}
 use Rattle.prune_family.specs.Family.{IsOnItsWay, IsPruneOf, IsPruning, prune_makes, prune_tells}
 

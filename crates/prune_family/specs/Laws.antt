@@ -9,6 +9,7 @@ use Rattle.command.specs.Laws.{CommandLaws}
 use Rattle.command.specs.LearnLaws.{LearnLaws}
 use Rattle.command.specs.RemoveLaws.{RemoveLaws}
 use Rattle.command.specs.StepLaws.{StepLaws}
+use Rattle.command.specs.LockLaws.{in_order}
 use Rattle.command.specs.StoreLaws.{StoreLaws}
 use Rattle.command.specs.Tasks.{TaskSpec, task_spec}
 use Rattle.prune_command.specs.Commands.{prune_kind, prune_leaves, prune_refuses, prune_stepped, prune_writes}
@@ -30,7 +31,6 @@ step_laws = record {
   stages = λ who actor lane t v w b is by f wrote home. no_stage lane who actor t.work v w b f wrote home;
   goes_on = λ since c t new is step. goes_on_its_way since c t.work new.work is step;
   falls = λ t new step. step.2;
-  locks = λ since c t wants is kind. asks_both t.work wants kind;
   refused = λ start entries pending lane t v b e tree stands f why. why;
 }
 
@@ -131,6 +131,7 @@ folder_laws = record {
 pub prune_command_laws : CommandLaws prune_tasks prune_means prune_doing
 prune_command_laws = record {
   steps = step_laws;
+  locks = in_order prune_tasks prune_doing (λ t. asks_both t.work);
   hears = hear_laws;
   learns = learn_laws;
   changes = change_laws;

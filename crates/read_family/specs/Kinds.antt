@@ -21,7 +21,7 @@ use Rattle.read_command.specs.Commands.{IsNew, read_facts, read_kind}
 use Rattle.read_command.specs.Kept.{chain_up}
 use Rattle.read_command.specs.LogSteps.{log_kind}
 use Rattle.command.specs.Removing.{IsRemoving}
-use Rattle.command.specs.StepLaws.{AsksInOrder, asks_in_order}
+use Rattle.command.specs.LockLaws.{AsksInOrder, asks_in_order}
 use Rattle.read_family.specs.Family.{Reaches, reaches_of, works_of}
 
 -- only the lane itself takes its steps, and they show, settle and remove nothing

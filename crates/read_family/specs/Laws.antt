@@ -15,6 +15,7 @@ use Rattle.command.specs.Laws.{CommandLaws}
 use Rattle.command.specs.LearnLaws.{LearnLaws, no_learning}
 use Rattle.command.specs.RemoveLaws.{RemoveLaws, no_removals}
 use Rattle.command.specs.StepLaws.{StepLaws}
+use Rattle.command.specs.LockLaws.{in_order}
 use Rattle.command.specs.StoreLaws.{StoreLaws}
 use Rattle.command.specs.Tasks.{TaskSpec, task_spec}
 use Rattle.read_family.specs.declared.task.ReadTask.{ReadTask}
@@ -34,7 +35,6 @@ step_laws = record {
   stages = λ who actor lane t v w b is by f wrote home. ⊎_elim (λ same. subst NotDirectory (sym same) home) (λ bad. absurd bad) (wrote.now (stage_path who));
   goes_on = λ since c t new is step. (is.0, is.1, step.0 ∙ is.2);
   falls = λ t new step. step.1;
-  locks = λ since c t wants is. reads_light t.work wants;
   refused = λ start entries pending lane t v b e tree stands f why. why;
 }
 
@@ -123,6 +123,7 @@ folder_laws = record {
 pub read_command_laws : CommandLaws read_tasks read_means read_doing
 read_command_laws = record {
   steps = step_laws;
+  locks = in_order read_tasks read_doing (λ t. reads_light t.work);
   hears = hear_laws;
   learns = learn_laws;
   changes = change_laws;

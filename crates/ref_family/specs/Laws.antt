@@ -26,6 +26,7 @@ use Rattle.command.specs.LearnLaws.{LearnLaws, no_learning}
 use Rattle.command.specs.RemoveLaws.{RemoveLaws, no_removals}
 use Rattle.command.specs.Staging.{StagingPathFree}
 use Rattle.command.specs.StepLaws.{StepLaws}
+use Rattle.command.specs.LockLaws.{in_order}
 use Rattle.command.specs.StoreLaws.{StoreLaws}
 use Rattle.command.specs.Tasks.{TaskSpec, task_spec}
 use Rattle.ref_family.specs.declared.task.RefsTask.{RefsTask}
@@ -75,7 +76,6 @@ step_laws = record {
   stages = λ who actor lane t v w b is by f wrote home. (let same : who ≡ lane = ⊎_elim (λ x. x ∙ own_step actor lane t.work by) (λ x. x) is in subst (λ k. StagingPathFree k w) (sym same) (home_task actor lane t.work v w b f wrote (subst (λ k. StagingPathFree k v) same home)));
   goes_on = λ since c t new is step. ref_step since.start.refs c t.work new.work step is;
   falls = λ t new. falls_always t.work new.work;
-  locks = λ since c t wants is. refs_light t.work wants;
   refused = λ start entries pending lane t v b e. refused_of start entries pending lane v b t.work e;
 }
 
@@ -164,6 +164,7 @@ folder_laws = record {
 pub ref_command_laws : CommandLaws ref_tasks ref_means ref_doing
 ref_command_laws = record {
   steps = step_laws;
+  locks = in_order ref_tasks ref_doing (λ t. refs_light t.work);
   hears = hear_laws;
   learns = learn_laws;
   changes = change_laws;

@@ -33,7 +33,7 @@ use Rattle.ref_command.specs.Found.{IsFound, commit_name}
 use Rattle.ref_command.specs.Kinds.{event, kind_at, turn_wants}
 use Rattle.ref_command.proofs.Resets.{command_places}
 use Rattle.command.specs.CommitFiles.{CommitsAreFiles, commit_read, no_mark_read}
-use Rattle.command.specs.StepLaws.{AsksInOrder, asks_in_order}
+use Rattle.command.specs.LockLaws.{AsksInOrder, asks_in_order}
 use Rattle.ref_family.specs.declared.words.RefWords.{RefWords}
 use Rattle.ref_family.specs.declared.words.RefWords.TheVariants as words
 use Rattle.ref_family.specs.Family.{ref_lacks, ref_pursues, ref_shows, ref_works}

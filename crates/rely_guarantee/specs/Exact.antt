@@ -135,6 +135,10 @@ abbrev pub exclusive_in : Kind → ℕ → Option ℕ → Option ℕ
 exclusive_in (Take wants) lane lock = lock_taken wants.exclusive lane lock
 exclusive_in kind lane lock = lock
 
+abbrev pub sysroot_in : Kind → ℕ → Option ℕ → Option ℕ
+sysroot_in (Take wants) lane lock = lock_taken wants.sysroot lane lock
+sysroot_in kind lane lock = lock
+
 -- the lane hasn't the lock, and who has it had it before
 abbrev pub IsGivenUp : ℕ → Option ℕ → Option ℕ → Type 0
 IsGivenUp lane old new = (x : ℕ) → new ≡ Some x → (x ≢ lane) × (old ≡ Some x)
@@ -151,10 +155,10 @@ IsLeft lane outcome old new = Unit {0}
 abbrev pub NoNewShares : rust.Books → rust.Books → Type 0
 NoNewShares old new = (x : Share) → Contains new.shared.items x → Contains old.shared.items x
 
--- Whose the ref lock is after an act that wasn't held off, and whose the lock of those that remove objects. That of those that store is
--- held for one act alone: behind it nobody has it who hadn't it before.
+-- Whose the ref lock is after an act that wasn't held off, whose the lock of those that remove objects, and whose that on the list of
+-- deployments. The lock of those that store is held for one act alone: behind it nobody has it who hadn't it before.
 abbrev pub Locks : Kind → ℕ → Outcome → rust.Books → rust.Books → Type 0
-Locks kind lane outcome old new = IsLeft lane outcome (turn_in kind lane old.turn) new.turn × IsLeft lane outcome (exclusive_in kind lane old.exclusive) new.exclusive × NoNewShares old new
+Locks kind lane outcome old new = IsLeft lane outcome (turn_in kind lane old.turn) new.turn × IsLeft lane outcome (exclusive_in kind lane old.exclusive) new.exclusive × NoNewShares old new × IsLeft lane outcome (sysroot_in kind lane old.sysroot) new.sysroot
 
 -- how many objects were removed of those that are to be: none where their change is published, and each before the call that takes it away
 abbrev pub gone_published : Outcome → ℕ → ℕ

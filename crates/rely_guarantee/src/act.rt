@@ -50,7 +50,7 @@ fn advance_with_room<T: CommandTask, F: Fs>(
 /// A command ends, and its lane holds nothing any more.
 fn end<F>(base: &mut Base<F>, actor: u8, lane: u8)
     ensures ends { Ends actor lane base.old base.new }
-    ensures given_up { IsGivenUp lane base.old.books.turn base.new.books.turn × IsGivenUp lane base.old.books.exclusive base.new.books.exclusive }
+    ensures given_up { IsGivenUp lane base.old.books.turn base.new.books.turn × IsGivenUp lane base.old.books.exclusive base.new.books.exclusive × IsGivenUp lane base.old.books.sysroot base.new.books.sysroot }
     ensures shared { NoNewShares base.old.books base.new.books }
     ensures pins { base.new.books.pins.items ≡ without lane base.old.books.pins.items }
     ensures claims { base.new.books.claims.items ≡ of_others lane base.old.books.claims.items }
@@ -77,7 +77,7 @@ fn refuse<F: Fs>(base: &mut Base<F>, actor: u8, lane: u8, before: u64, e: FsErr)
     ensures told { IsEnd result base.new }
     ensures answer { IsRefusedBy e result }
     ensures still { result ≡ Outcome.Refused e → e ≡ FsErr.Failed → F.clock base.old.fs ≡ before }
-    ensures given_up { IsLeft lane result base.old.books.turn base.new.books.turn × IsLeft lane result base.old.books.exclusive base.new.books.exclusive }
+    ensures given_up { IsLeft lane result base.old.books.turn base.new.books.turn × IsLeft lane result base.old.books.exclusive base.new.books.exclusive × IsLeft lane result base.old.books.sysroot base.new.books.sysroot }
     ensures shared { NoNewShares base.old.books base.new.books }
     ensures pins { ArePinned None lane result base.old.books.pins.items base.new.books.pins.items }
     ensures claimed { AreClaimed None lane result base.old.books.claims.items base.new.books.claims.items }
@@ -109,7 +109,7 @@ fn quiet<T: CommandTask, F: Fs>(base: &mut Base<F>, actor: u8, lane: u8, task: &
     ensures wrote { (v : View) → F.view base.old.fs ≡ Some v → Told (F.view base.new.fs) (λ w. Writes (T.writes_of actor task.old v) v w) }
     ensures tells { Tells T.leaves T.refuses task.old result task.new (F.view base.old.fs) (F.view base.new.fs) }
     ensures goes { result ≢ Outcome.Blocked }
-    ensures left { IsLeft lane result base.old.books.turn base.new.books.turn × IsLeft lane result base.old.books.exclusive base.new.books.exclusive }
+    ensures left { IsLeft lane result base.old.books.turn base.new.books.turn × IsLeft lane result base.old.books.exclusive base.new.books.exclusive × IsLeft lane result base.old.books.sysroot base.new.books.sysroot }
     ensures shared { NoNewShares base.old.books base.new.books }
     ensures pins { ArePinned None lane result base.old.books.pins.items base.new.books.pins.items }
     ensures claimed { AreClaimed None lane result base.old.books.claims.items base.new.books.claims.items }
@@ -406,7 +406,7 @@ fn claim<T: CommandTask, F: Fs>(base: &mut Base<F>, lane: u8, task: &mut T) -> O
     ensures wrote { (v : View) → F.view base.old.fs ≡ Some v → Told (F.view base.new.fs) (λ w. Writes (T.writes_of lane task.old v) v w) }
     ensures tells { Tells T.leaves T.refuses task.old result task.new (F.view base.old.fs) (F.view base.new.fs) }
     ensures goes { result ≢ Outcome.Blocked }
-    ensures left { IsLeft lane result base.old.books.turn base.new.books.turn × IsLeft lane result base.old.books.exclusive base.new.books.exclusive }
+    ensures left { IsLeft lane result base.old.books.turn base.new.books.turn × IsLeft lane result base.old.books.exclusive base.new.books.exclusive × IsLeft lane result base.old.books.sysroot base.new.books.sysroot }
     ensures shared { NoNewShares base.old.books base.new.books }
     ensures pins { ArePinned None lane result base.old.books.pins.items base.new.books.pins.items }
     ensures claimed { AreClaimed (claim_in (T.kind_of task.old)) lane result base.old.books.claims.items base.new.books.claims.items }
@@ -442,7 +442,7 @@ fn claim_named<T: CommandTask, F: Fs>(
     ensures wrote { (v : View) → F.view base.old.fs ≡ Some v → Told (F.view base.new.fs) (λ w. Writes (T.writes_of lane task.old v) v w) }
     ensures tells { Tells T.leaves T.refuses task.old result task.new (F.view base.old.fs) (F.view base.new.fs) }
     ensures goes { result ≢ Outcome.Blocked }
-    ensures left { IsLeft lane result base.old.books.turn base.new.books.turn × IsLeft lane result base.old.books.exclusive base.new.books.exclusive }
+    ensures left { IsLeft lane result base.old.books.turn base.new.books.turn × IsLeft lane result base.old.books.exclusive base.new.books.exclusive × IsLeft lane result base.old.books.sysroot base.new.books.sysroot }
     ensures shared { NoNewShares base.old.books base.new.books }
     ensures pins { ArePinned None lane result base.old.books.pins.items base.new.books.pins.items }
     ensures claimed { AreClaimed (Some name) lane result base.old.books.claims.items base.new.books.claims.items }

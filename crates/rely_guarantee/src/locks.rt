@@ -195,7 +195,7 @@ impl Books {
         ensures keeps { Keeps lane (books_of self.old) (books_of self.new) }
         ensures shared { (x : Share) → Contains self.new.shared.items x → Contains self.old.shared.items x ⊎ (x.lane ≡ lane) }
         ensures pinned { IsTrue result → self.new.pins.items ≡ with_pin wants.now.pin lane self.old.pins.items }
-        ensures taken { (self.new.turn ≡ lock_taken wants.now.turn lane self.old.turn) × (self.new.exclusive ≡ lock_taken wants.now.exclusive lane self.old.exclusive) }
+        ensures taken { (self.new.turn ≡ lock_taken wants.now.turn lane self.old.turn) × (self.new.exclusive ≡ lock_taken wants.now.exclusive lane self.old.exclusive) × (self.new.sysroot ≡ lock_taken wants.now.sysroot lane self.old.sysroot) }
         ensures agrees { Agrees (books_of self.old) → Agrees (books_of self.new) }
     {
         self.exclusive = taken(self.exclusive, wants.exclusive, lane);
@@ -220,7 +220,7 @@ impl Books {
     /// Gives up all that a lane holds.
     pub(crate) fn release(&mut self, actor: u8, lane: u8)
         ensures same { self.new ≡ record self.old { shared = self.new.shared; exclusive = self.new.exclusive; turn = self.new.turn; sysroot = self.new.sysroot; holds = self.new.holds; wants = self.new.wants; pins = self.new.pins; claims = self.new.claims } }
-        ensures given_up { IsGivenUp lane self.old.turn self.new.turn × IsGivenUp lane self.old.exclusive self.new.exclusive }
+        ensures given_up { IsGivenUp lane self.old.turn self.new.turn × IsGivenUp lane self.old.exclusive self.new.exclusive × IsGivenUp lane self.old.sysroot self.new.sysroot }
         ensures shared { NoNewShares self.old self.new }
         ensures pins { self.new.pins.items ≡ without lane self.old.pins.items }
         ensures claims { self.new.claims.items ≡ of_others lane self.old.claims.items }

@@ -54,7 +54,7 @@ impl<F: Fs> Base<F> {
         ensures live { result.books.halted ≡ None }
         ensures pins { result.books.pins.items ≡ [] }
         ensures claims { result.books.claims.items ≡ [] }
-        ensures free { (result.books.turn ≡ None) × (result.books.exclusive ≡ None) × (result.books.shared.items ≡ []) }
+        ensures free { (result.books.turn ≡ None) × (result.books.exclusive ≡ None) × (result.books.shared.items ≡ []) × (result.books.sysroot ≡ None) }
         ensures opened { result.books.opened ≡ opened }
         ensures sound { SystemInvariant F.view F.clock F.spare F.was result }
     {

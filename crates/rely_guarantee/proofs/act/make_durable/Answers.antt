@@ -39,4 +39,4 @@ returns-in-Err-clause-acts g c =
     r.ready.sound e.writes e.time e.room.at_most_one refl
 
 pub returns-else-not-acknowledge-clause-locks : goal.returns-else-not-acknowledge-clause-locks
-returns-else-not-acknowledge-clause-locks g c = (search rules, search rules, shares_since c.args.base.now.books c.acknowledge.new.self c.end.new.base.books (ap (λ b. b.shared.items) c.acknowledge.ensures.same) c.end.ensures.shared)
+returns-else-not-acknowledge-clause-locks g c = (search rules, search rules, shares_since c.args.base.now.books c.acknowledge.new.self c.end.new.base.books (ap (λ b. b.shared.items) c.acknowledge.ensures.same) c.end.ensures.shared, search rules)

@@ -43,7 +43,7 @@ publish_event-requires-clause-ready g c =
     room_ready g.F.Fs.view g.F.Fs.clock g.F.Fs.spare g.F.Fs.was (fs g) g.met.T.CommandTask.laws c.args.base.now c.make_room.new.self (Runs g.T.CommandTask.kind_of g.T.CommandTask.facts c.args.lane c.args.task.now) m.same m.items m.more c.requires.ready
 
 pub returns-then-is_err-clause-locks : goal.returns-then-is_err-clause-locks
-returns-then-is_err-clause-locks g c = (search rules, search rules, shares_since c.args.base.now.books c.make_room.new.self c.end-then-is_err.new.base.books (ap (λ b. b.shared.items) c.make_room.ensures.same) c.end-then-is_err.ensures.shared)
+returns-then-is_err-clause-locks g c = (search rules, search rules, shares_since c.args.base.now.books c.make_room.new.self c.end-then-is_err.new.base.books (ap (λ b. b.shared.items) c.make_room.ensures.same) c.end-then-is_err.ensures.shared, search rules)
 
 pub returns-clause-locks : goal.returns-clause-locks
-returns-clause-locks g c = let l = c.publish_event.ensures.locks in (search rules, search rules, shares_since c.args.base.now.books c.make_room.new.self c.publish_event.new.base.books (ap (λ b. b.shared.items) c.make_room.ensures.same) l.2)
+returns-clause-locks g c = let l = c.publish_event.ensures.locks in (search rules, search rules, shares_since c.args.base.now.books c.make_room.new.self c.publish_event.new.base.books (ap (λ b. b.shared.items) c.make_room.ensures.same) l.2, search rules)

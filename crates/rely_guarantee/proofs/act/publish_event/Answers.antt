@@ -54,4 +54,4 @@ returns-in-Ok-clause-tells g c = λ v told.
     more_tells g.F.Fs.view g.F.Fs.clock g.F.Fs.spare g.F.Fs.was (fs g) g.met.T.CommandTask.laws c.args.task.now c.advance_with_room.new.task c.in-Ok.field-0 (λ last. subst IsLastly c.requires.kind last) e.stepped v _ (e.after v told)
 
 pub returns-in-Err-NoMemory-clause-locks : goal.returns-in-Err-NoMemory-clause-locks
-returns-in-Err-NoMemory-clause-locks g c = (search rules, search rules, shares_since c.args.base.now.books c.advance_with_room.new.base.books c.end.new.base.books (ap (λ m. m.books.shared.items) c.in-Err-NoMemory.ensures.books) c.end.ensures.shared)
+returns-in-Err-NoMemory-clause-locks g c = (search rules, search rules, shares_since c.args.base.now.books c.advance_with_room.new.base.books c.end.new.base.books (ap (λ m. m.books.shared.items) c.in-Err-NoMemory.ensures.books) c.end.ensures.shared, search rules)

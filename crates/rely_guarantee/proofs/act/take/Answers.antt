@@ -49,7 +49,7 @@ take_free-requires-clause-free g c =
     subst (λ (b : Books). Frees c.args.wants c.args.lane b) (sym (grant_room c.args.base.now.books c.make_grant_room.new.self m.same m.items)) (c.frees.ensures.0 c.if-not-frees.false)
 
 pub returns-then-is_err-clause-locks : goal.returns-then-is_err-clause-locks
-returns-then-is_err-clause-locks g c = (search rules, search rules, shares_since c.args.base.now.books c.make_grant_room.new.self c.end.new.base.books c.make_grant_room.ensures.items.0 c.end.ensures.shared)
+returns-then-is_err-clause-locks g c = (search rules, search rules, shares_since c.args.base.now.books c.make_grant_room.new.self c.end.new.base.books c.make_grant_room.ensures.items.0 c.end.ensures.shared, search rules)
 
 pub returns-clause-locks : goal.returns-clause-locks
-returns-clause-locks g c = let l = c.take_free.ensures.locks in (search rules, search rules, shares_since c.args.base.now.books c.make_grant_room.new.self c.take_free.new.base.books c.make_grant_room.ensures.items.0 l.2)
+returns-clause-locks g c = let l = c.take_free.ensures.locks in (search rules, search rules, shares_since c.args.base.now.books c.make_grant_room.new.self c.take_free.new.base.books c.make_grant_room.ensures.items.0 l.2, search rules)

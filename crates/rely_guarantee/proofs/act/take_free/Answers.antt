@@ -27,7 +27,7 @@ pub returns-clause-locks : goal.returns-clause-locks
 returns-clause-locks g c =
     let q = c.quiet-outcome in
     let s = c.stop_storing.ensures in
-    (search rules, search rules, unshared c.args.base.now.books c.grant.new.self q.new.base.books c.stop_storing.new.self c.args.lane c.grant.ensures.shared q.ensures.shared s.no_more s.given_up)
+    (search rules, search rules, unshared c.args.base.now.books c.grant.new.self q.new.base.books c.stop_storing.new.self c.args.lane c.grant.ensures.shared q.ensures.shared s.no_more s.given_up, search rules)
 
 pub quiet-outcome-requires-clause-ready : goal.quiet-outcome-requires-clause-ready
 quiet-outcome-requires-clause-ready g c =
