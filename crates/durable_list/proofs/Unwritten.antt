@@ -43,7 +43,7 @@ in_deploy p [] = tt
 in_deploy p (os ∷ []) = tt
 in_deploy p (os ∷ deploy ∷ []) = tt
 in_deploy p (os ∷ deploy ∷ id ∷ rest) = either (same_name deploy (codes "deploy")) _ (Other p)
-    (either (same_path (origin_path os (sum_of (take 64 id)) _) p) (Origin os _ _) _ tt (only _ p (in_deployment os _ _ rest) (deployed os _ _ rest))) tt
+    (either (same_path (origin_path os (sum_of (take 64 id)) _ ++ rest) p) (Origin os _ _) _ tt (only _ p (in_deployment os _ _ rest) (deployed os _ _ rest))) tt
 
 in_links : (p : Path) (part : Name) (rest : Path) → IsBoot (boot_links_place p part rest)
 unfolding boot_links_place

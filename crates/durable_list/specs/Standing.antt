@@ -1,9 +1,9 @@
 -- That each crash leaves the list of deployments that boots (OSTree manual, "Deployments").
-use Rattle.std.specs.Prelude.{◌≡◌, ◌⊎◌, ◌≤◌, ◌++◌, ℕ, IsTrue, List, Contains, Option, Some, None, map}
+use Rattle.std.specs.Prelude.{◌≡◌, ◌≢◌, ◌⊎◌, ◌≤◌, ◌++◌, ℕ, IsTrue, List, Contains, Option, Some, None, map}
 use Rattle.ost_types.specs.Path.{Name, Path, is_below, under}
 use Rattle.fs_trait.specs.View.{Disk, View}
 use Rattle.fs_trait.specs.Image.{IsTree}
-use Rattle.fs_trait.specs.Seen.{Seen, IsDirectory, MayBe, shows}
+use Rattle.fs_trait.specs.Seen.{Seen, IsDirectory, MayBe, Vacant, shows}
 use Rattle.fs_trait.specs.Change.{Left}
 use Rattle.repo_layout.specs.BootPaths.{boot_folder_path, boot_link_path, entry_path, loader_path}
 use Rattle.repo_layout.specs.Paths.{deploy_path}
@@ -12,6 +12,10 @@ use Rattle.boot_model.specs.Listing.{Selects}
 use Rattle.boot_read.specs.declared.row.BootRow.{BootRow}
 use Rattle.boot_read.specs.Links.{HasSub}
 use Rattle.boot_read.specs.Rows.{AreRowsOf}
+
+-- A list is selected: something stands at the boot loader's link.
+abbrev pub HasLoader : Disk → Type 0
+HasLoader d = shows d loader_path ≢ Vacant
 
 -- the deployments of a list, by their names, the one that boots first in front
 abbrev pub ids_of : List BootRow → List DepId

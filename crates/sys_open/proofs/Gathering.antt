@@ -23,8 +23,8 @@ use Rattle.boot_read.specs.declared.row.BootRow.{BootRow}
 use Rattle.boot_read.specs.Rows.{AreRowsOf}
 use Rattle.deploy_clean.specs.Unlisted.{IsUnlisted, IsUnlistedName, deployments}
 use Rattle.deploy_clean.proofs.Places.{IsUnder, unlisted_at, unlisted_path, unlisted_under}
-use Rattle.sys_open.specs.LeftOver.{AreLeftOvers, Gathers, HasLoader, IsLeftOver, IsThere, IsUnlistedAt, IsUnlistedIn}
-use Rattle.durable_list.specs.Standing.{ids_of}
+use Rattle.sys_open.specs.LeftOver.{AreLeftOvers, Gathers, IsLeftOver, IsThere, IsUnlistedAt, IsUnlistedIn}
+use Rattle.durable_list.specs.Standing.{HasLoader, ids_of}
 use Rattle.sys_open.proofs.LeftOvers.{unlisted_of}
 use Rattle.sys_open.proofs.Walks.{absent_below}
 

@@ -8,6 +8,8 @@ use Rattle.ost_types.specs.Path.{Name, Path, is_below, same_path, under}
 use Rattle.fs_trait.specs.declared.types.Value.TheVariants.{Absent}
 use Rattle.fs_trait.specs.View.{Disk}
 use Rattle.fs_trait.specs.Seen.{Seen, Vacant, shows}
+use Rattle.repo_layout.specs.declared.fixed.Fixed.TheVariants.{LoaderFolder, Entries, BootLink, BootFolder, Summary}
+use Rattle.repo_layout.specs.Fixed.{number}
 use Rattle.repo_layout.specs.BootPaths.{boot_folder_path, boot_link_path, boot_link_stage_path, kernel_folder, kernel_path, loader_folder_path, loader_path, loader_stage_path}
 use Rattle.repo_layout.specs.Place.{Place, BootLinkStage, Deployment, LoaderStage, Origin, Other, boot_links_place, boot_place, only_at, ostree_place, place}
 use Rattle.repo_layout.proofs.Places.{deploy_path-injective, place-boot_folder, place-boot_link, place-deployment, place-etc, place-loader, place-loader_folder, place-origin}
@@ -25,7 +27,7 @@ use Rattle.durable_list.proofs.Unwritten.{way_boot, way_ostree}
 use Rattle.rely_guarantee.specs.Rely.{IsBoot}
 use Rattle.sys_open.specs.Changes.{ClearsAll, ClearsUnlisted}
 use Rattle.sys_open.specs.LeftOver.{AreLeftOvers, IsLeftOver, IsOfNoRow, LiesIn}
-use Rattle.durable_deployments.specs.Bounds.{LiesWithin, MayBeLeftOver}
+use Rattle.durable_deployments.specs.Bounds.{IsOfBoot, LiesWithin, MayBeLeftOver}
 use Rattle.sys_open.proofs.Walks.{absent_or_not}
 
 -- ---- there is one list
@@ -58,7 +60,7 @@ may_unlisted listed q (id, free, of) = (id, record { stateroot = free.stateroot;
 pub may_left : (d : Disk) (q : Path) → IsLeftOver d q → MayBeLeftOver q
 may_left d q (inl is) = inl is
 may_left d q (inr (inl is)) = inr (inl is)
-may_left d q (inr (inr of)) = inr (inr (may_unlisted (ids_of of.rows) q of.unlisted))
+may_left d q (inr (inr of)) = inr (inr (inr (may_unlisted (ids_of of.rows) q of.unlisted)))
 
 pub lies_within : (d : Disk) (p : Path) → LiesIn d p → LiesWithin p
 lies_within d p (q, is, below) = (q, may_left d q is, below)
@@ -68,11 +70,25 @@ lies_within d p (q, is, below) = (q, may_left d q is, below)
 under_boot : (os name : Name) (rest : Path) → IsBoot (place (under (deployments os) name ++ rest))
 under_boot os name rest = way_ostree (under (deployments os) name ++ rest) [] (os ∷ codes "deploy" ∷ name ∷ rest) (codes "deploy") refl (sym (append-nil (under (deployments os) name ++ rest)))
 
+loader_boot : (q rest : Path) (name : Name) → q ≡ codes "boot" ∷ name ∷ [] → IsBoot (place (q ++ rest))
+loader_boot q rest name is = way_boot (q ++ rest) [] (name ∷ rest) (ap (λ r. r ++ rest) (sym is) ∙ sym (append-nil (q ++ rest)))
+
+of_boot : (q rest : Path) → IsOfBoot q → IsBoot (place (q ++ rest))
+unfolding loader_folder_path boot_link_path boot_folder_path
+of_boot q rest (inl is) = loader_boot q rest (codes "loader") is
+of_boot q rest (inr (LoaderFolder version, so, is)) = loader_boot q rest (codes "loader." ++ decimal (number version)) is
+of_boot q rest (inr (BootLink version, so, is)) = way_ostree (q ++ rest) [] rest (codes "boot." ++ decimal (number version)) refl (ap (λ r. r ++ rest) (sym is) ∙ sym (append-nil (q ++ rest)))
+of_boot q rest (inr (BootFolder version sub, so, is)) =
+    way_ostree (q ++ rest) [] rest (codes "boot." ++ (decimal (number version) ++ (46 ∷ decimal (number sub)))) refl (ap (λ r. r ++ rest) (sym is) ∙ sym (append-nil (q ++ rest)))
+of_boot q rest (inr (Entries version, so, is)) = absurd so
+of_boot q rest (inr (Summary, so, is)) = absurd so
+
 may_boot : (q rest : Path) → MayBeLeftOver q → IsBoot (place (q ++ rest))
 may_boot q rest (inl is) = way_boot (q ++ rest) [] (codes "loader.tmp" ∷ rest) (ap (λ r. r ++ rest) (sym is) ∙ sym (append-nil (q ++ rest)))
 may_boot q rest (inr (inl is)) = way_ostree (q ++ rest) [] rest (codes "boot.tmp") refl (ap (λ r. r ++ rest) (sym is) ∙ sym (append-nil (q ++ rest)))
-may_boot q rest (inr (inr (id, is, inl home))) = subst (λ r. IsBoot (place (r ++ rest))) (sym (home ∙ id_under id)) (under_boot id.os (id_name id) rest)
-may_boot q rest (inr (inr (id, is, inr origin))) = subst (λ r. IsBoot (place (r ++ rest))) (sym (origin ∙ origin_under id)) (under_boot id.os (id_name id ++ codes ".origin") rest)
+may_boot q rest (inr (inr (inl of))) = of_boot q rest of
+may_boot q rest (inr (inr (inr (id, is, inl home)))) = subst (λ r. IsBoot (place (r ++ rest))) (sym (home ∙ id_under id)) (under_boot id.os (id_name id) rest)
+may_boot q rest (inr (inr (inr (id, is, inr origin)))) = subst (λ r. IsBoot (place (r ++ rest))) (sym (origin ∙ origin_under id)) (under_boot id.os (id_name id ++ codes ".origin") rest)
 
 pub within_boot : (p : Path) → LiesWithin p → IsBoot (place p)
 within_boot p (q, may, below) = let s = below_split q p below in subst (λ r. IsBoot (place r)) (sym s.1) (may_boot q s.0 may)

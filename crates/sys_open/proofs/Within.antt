@@ -1,5 +1,5 @@
--- What is asked of all paths of deployments, from what was asked of those that were looked at: the files of a listed deployment were compared
--- with its commit.
+-- What is asked of all paths of deployments and of what boots them, from what was asked of those that were looked at: the files of a listed
+-- deployment were compared with its commit.
 use Rattle.std.proofs.Common.{◌≡◌, ◌≢◌, ◌⊎◌, inl, inr, ⊎_elim, ℕ, Bool, true, false, refl, sym, ◌∙◌, ap, subst, List, [], ◌∷◌, ◌++◌, append_assoc, codes, Option}
 use Rattle.std.specs.Prelude.{Contains}
 use Rattle.std.specs.Bool.{Decides}
@@ -28,7 +28,7 @@ use Rattle.durable_list.specs.Standing.{ids_of}
 use Rattle.durable_deployments.specs.Standing.{AreWhole}
 use Rattle.sys_open.specs.Damages.{Clearable}
 use Rattle.sys_open.specs.LeftOver.{AreLeftOvers, AreStaying, AsksBelow, CanGo, IsLeftOver, IsOwnOf, IsOwnPath}
-use Rattle.durable_deployments.specs.Bounds.{LiesWithin}
+use Rattle.durable_deployments.specs.Bounds.{IsOfBoot, LiesWithin}
 use Rattle.sys_open.specs.Walk.{IsLeastWrong, IsLesser}
 use Rattle.sys_open.proofs.Firsts.{Both, least_same, lesser_least}
 use Rattle.sys_open.proofs.LeftOvers.{may_left, may_unlisted, row_id}
@@ -99,7 +99,8 @@ module _ (d : Disk) (tree : IsTree d) (limits : Limits) (rows : List BootRow) (a
   asked_reached : (p : Path) → Asked p → CanGo d p
   asked_reached p asked (q, inl is, below) = left_reached p asked.0 q (inl is) below
   asked_reached p asked (q, inr (inl is), below) = left_reached p asked.0 q (inr (inl is)) below
-  asked_reached p asked (q, inr (inr (id, is, of)), below) = by (is_listed (ids_of rows) id) refl
+  asked_reached p asked (q, inr (inr (inl of)), below) = asked.1 (q, stays.boot q of, below)
+  asked_reached p asked (q, inr (inr (inr (id, is, of))), below) = by (is_listed (ids_of rows) id) refl
     where
       free : is_listed (ids_of rows) id ≡ false → IsFree (ids_of rows) id
       free none = record { stateroot = is.stateroot; sum = is.sum; small = is.small; unlisted = λ has. let n : false ≡ true = sym none ∙ there_listed (ids_of rows) id has in cc }
@@ -110,12 +111,13 @@ module _ (d : Disk) (tree : IsTree d) (limits : Limits) (rows : List BootRow) (a
 
   -- and the other way round
   own_lies : (id : DepId) → IsId id → (q p : Path) → IsOwnPath id q → is_below q p ≡ true → LiesWithin p
-  own_lies id is q p (inl etc) below = (home_of id, inr (inr (id, is, inl refl)), (below_under (home_of id) (codes "etc") p (subst (λ g. is_below g p ≡ true) etc below)).2)
-  own_lies id is q p (inr origin) below = (q, inr (inr (id, is, inr origin)), below)
+  own_lies id is q p (inl etc) below = (home_of id, inr (inr (inr (id, is, inl refl))), (below_under (home_of id) (codes "etc") p (subst (λ g. is_below g p ≡ true) etc below)).2)
+  own_lies id is q p (inr origin) below = (q, inr (inr (inr (id, is, inr origin))), below)
 
-  staying_lies : (q p : Path) → IsOwnOf (ids_of rows) q ⊎ IsUnlisted (ids_of rows) q → is_below q p ≡ true → LiesWithin p
+  staying_lies : (q p : Path) → IsOwnOf (ids_of rows) q ⊎ IsUnlisted (ids_of rows) q ⊎ IsOfBoot q → is_below q p ≡ true → LiesWithin p
   staying_lies q p (inl (id, among, own)) below = let named = row_named rows id among in own_lies id (subst IsId named.2 (row_id d rows named.0 named.1 are)) q p own below
-  staying_lies q p (inr un) below = (q, inr (inr (may_unlisted (ids_of rows) q un)), below)
+  staying_lies q p (inr (inl un)) below = (q, inr (inr (inr (may_unlisted (ids_of rows) q un))), below)
+  staying_lies q p (inr (inr of)) below = (q, inr (inr (inl of)), below)
 
   reached_left : (p : Path) → CanGo d p → AsksBelow paths d p
   reached_left p can_go (q, has, below) = can_go (q, may_left d q (left.each q has), below)

@@ -1,23 +1,22 @@
 -- What an opening removes beside what is staged for a change of refs: what no list boots (OSTree manual, "Deployments"); and what may come
 -- to be so later.
-use Rattle.std.specs.Prelude.{◌≡◌, ◌≢◌, ◌⊎◌, IsTrue, List, Contains}
+use Rattle.std.specs.Prelude.{◌≡◌, ◌≢◌, ◌⊎◌, ◌∷◌, [], IsTrue, List, Contains}
 use Rattle.ost_types.specs.Path.{Name, Path, IsPath, is_below, under}
 use Rattle.fs_trait.specs.declared.types.Value.TheVariants.{Absent}
 use Rattle.fs_trait.specs.View.{Disk}
 use Rattle.fs_trait.specs.Seen.{Vacant, shows}
-use Rattle.repo_layout.specs.BootPaths.{boot_link_stage_path, loader_path, loader_stage_path, origin_path}
+use Rattle.repo_layout.specs.declared.fixed.Fixed.{Fixed}
+use Rattle.repo_layout.specs.declared.fixed.Fixed.TheVariants.{LoaderFolder, BootLink, BootFolder}
+use Rattle.repo_layout.specs.declared.fixed.Version.TheVariants.{Zero, One}
+use Rattle.repo_layout.specs.BootPaths.{boot_link_stage_path, loader_stage_path, origin_path}
 use Rattle.layout_rules.specs.Checks.{IsReached}
 use Rattle.boot_model.specs.declared.item.DepId.{DepId}
 use Rattle.boot_read.specs.declared.row.BootRow.{BootRow}
 use Rattle.boot_read.specs.Rows.{AreRowsOf}
 use Rattle.deploy_clean.specs.Unlisted.{IsUnlisted, deployments}
 use Rattle.deployment_check.specs.Deployments.{etc_of}
-use Rattle.durable_list.specs.Standing.{ids_of}
-use Rattle.durable_deployments.specs.Bounds.{LiesWithin}
-
--- A list is selected: something stands at the boot loader's link.
-abbrev pub HasLoader : Disk → Type 0
-HasLoader d = shows d loader_path ≢ Vacant
+use Rattle.durable_list.specs.Standing.{HasLoader, ids_of}
+use Rattle.durable_deployments.specs.Bounds.{IsOfBoot, LiesWithin}
 
 -- The path of a deployment that the list which the disk boots doesn't name, or of its origin file. Where no list is selected there is
 -- none: the folder with the boot loader's link may just not be mounted.
@@ -60,11 +59,16 @@ IsOwnPath id q = (q ≡ etc_of id) ⊎ (q ≡ origin_path id.os id.commit id.ser
 abbrev pub IsOwnOf : List DepId → Path → Type 0
 IsOwnOf listed q = (id : DepId) × Contains listed id × IsOwnPath id q
 
--- These are the paths of what stays where these deployments are listed, and isn't compared with a commit: what is their own, and where
--- no list is selected all other deployments that stand.
+-- what each of the two versions has
+abbrev pub all_versioned : List Fixed
+all_versioned = LoaderFolder Zero ∷ LoaderFolder One ∷ BootLink Zero ∷ BootLink One ∷ BootFolder Zero Zero ∷ BootFolder Zero One ∷ BootFolder One Zero ∷ BootFolder One One ∷ []
+
+-- These are the paths of what stays where these deployments are listed, and isn't compared with a commit: what is their own, what the boot
+-- loader follows, and where no list is selected all other deployments that stand.
 pub record AreStaying (d : Disk) (listed : List DepId) (paths : List Path) : Type 0 where
-  pub each : (q : Path) → Contains paths q → IsOwnOf listed q ⊎ IsUnlisted listed q
+  pub each : (q : Path) → Contains paths q → IsOwnOf listed q ⊎ IsUnlisted listed q ⊎ IsOfBoot q
   pub own : (q : Path) → IsOwnOf listed q → Contains paths q
+  pub boot : (q : Path) → IsOfBoot q → Contains paths q
   pub others : ¬ (HasLoader d) → (q : Path) → IsUnlisted listed q → d.at q ≢ Absent → Contains paths q
 
 -- ---- as they are gathered

@@ -30,8 +30,8 @@ use std::thread::Threads;
 /// An open repository, on which a system can begin.
 ///
 /// Each value keeps, for any file system that tells its view: all is synced, the folders of the layout and the configuration are
-/// there, nothing stands at a staging path or is what no list boots, all that stands at the paths of deployments is within the bounds of
-/// paths, these are the names of all objects and of the checkouts and the list that boots, whose
+/// there, nothing stands at a staging path or is what no list boots, all that stands at the paths of deployments and of what boots
+/// them is within the bounds of paths, these are the names of all objects and of the checkouts and the list that boots, whose
 /// deployments are whole, its objects, commits and refs are good, and each crash since the first barrier left a good disk with these
 /// refs and this list, which opens again with them.
 #[derive(Drop)]

@@ -6,8 +6,8 @@ ghost use Rattle.fs_trait.specs.Effect.{IsQuiet};
 ghost use Rattle.boot_read.specs.Rows.{AreRowsOf};
 ghost use Rattle.deploy_clean.specs.Unlisted.{IsUnlisted};
 ghost use Rattle.sys_open.specs.Faults.{HasReason};
-ghost use Rattle.sys_open.specs.LeftOver.{AreLeftOvers, Gathers, HasLoader, IsThere, IsUnlistedAt, IsUnlistedIn};
-ghost use Rattle.durable_list.specs.Standing.{ids_of};
+ghost use Rattle.sys_open.specs.LeftOver.{AreLeftOvers, Gathers, IsThere, IsUnlistedAt, IsUnlistedIn};
+ghost use Rattle.durable_list.specs.Standing.{HasLoader, ids_of};
 ghost use Rattle.sys_open.specs.Walk.{Finds};
 
 use crate::fault::{OpenFault, refused};
