@@ -1,3 +1,4 @@
+mod Looking
 mod Refusing
 pub mod Ends
 pub mod Sparing

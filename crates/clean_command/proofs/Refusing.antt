@@ -24,7 +24,7 @@ use Rattle.deploy_clean.proofs.Places.{unlisted_path}
 use Rattle.durable_deployments.specs.Bounds.{AreBounded, LiesWithin}
 
 unlisted_within : (listed : List DepId) (q p : Path) → IsUnlisted listed q → is_below q p ≡ true → LiesWithin p
-unlisted_within listed q p (id, free, of) below = (q, inr (inr (id, record { stateroot = free.stateroot; sum = free.sum; small = free.small }, of)), below)
+unlisted_within listed q p (id, free, of) below = (q, inr (inr (inr (id, record { stateroot = free.stateroot; sum = free.sum; small = free.small }, of))), below)
 
 -- what lies at or below what goes isn't too far away
 not_far : (listed : List DepId) (at p : Path) (v : View) → IsUnlisted listed at → AreBounded v → is_below at p ≡ true → IsFar v.now (Looks p) → ⊥

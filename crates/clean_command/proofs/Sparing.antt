@@ -20,7 +20,7 @@ use Rattle.deploy_clean.proofs.Keeping.{clean_lies}
 use Rattle.deploy_clean.proofs.Places.{unlisted_under}
 use Rattle.deployment_check.specs.Deployments.{IsId, home_of}
 use Rattle.durable_list.specs.Standing as list
-use Rattle.durable_list.specs.Standing.{IsInVersion, IsListPath, ids_of}
+use Rattle.durable_list.specs.Standing.{HasLoader, IsInVersion, IsListPath, ids_of}
 use Rattle.durable_deployments.specs.Standing as deployment
 use Rattle.durable_deployments.specs.Standing.{IsInDeployment}
 use Rattle.rely_guarantee.specs.declared.books.Pending.{Pending}
@@ -38,15 +38,17 @@ use Rattle.clean_command.specs.Places.{IsDeployed, writes_deployed}
 -- ---- where it writes
 
 places_in : (ph : Phase) (lane : ℕ) (v : View) (b : Books) (p : Path) (s : Seen) → KnownIn ph lane v b → writes_in ph v p s → IsDeployed (place p) × (s ≡ Vacant)
-places_in (phase.Cleaning c) lane v b p s known write = writes_deployed c v p s known.origins known.needs write
+places_in (phase.Cleaning c) lane v b p s known write = writes_deployed c v p s known.needs write
 places_in phase.Waiting lane v b p s known write = absurd write
 places_in phase.Unlearned lane v b p s known write = absurd write
+places_in (phase.Looking l) lane v b p s known write = absurd write
 places_in phase.Over lane v b p s known write = absurd write
 
 goes_in : (ph : Phase) (lane : ℕ) (v : View) (b : Books) (ids : List DepId) (p : Path) (s : Seen) → KnownIn ph lane v b → listed_in b ≡ ids → writes_in ph v p s → Goes ids p
 goes_in (phase.Cleaning c) lane v b ids p s known same write = subst (λ l. Goes l p) (sym known.listed ∙ same) (clean_lies c v known.needs.made p s write).0
 goes_in phase.Waiting lane v b ids p s known same write = absurd write
 goes_in phase.Unlearned lane v b ids p s known same write = absurd write
+goes_in (phase.Looking l) lane v b ids p s known same write = absurd write
 goes_in phase.Over lane v b ids p s known same write = absurd write
 
 -- ---- the deployments of the list
@@ -173,7 +175,14 @@ module _ (base : Disk) (rows : List BootRow) (are : AreRowsOf base rows) (p : Pa
   off_deployment : (row : BootRow) → Contains rows row → ¬ (deployment.IsOnTheWay row.id row.bootcsum p)
   off_deployment row among (at, inside, below) = deployment_aside (ids_of rows) p at goes below row.id row.bootcsum (row_id base rows row among are) (row_listed rows row among) inside
 
--- ---- no other list is published
+-- ---- a list is selected, and no other one is published
+
+selected_in : (ph : Phase) (lane : ℕ) (v : View) (b : Books) (p : Path) (s : Seen) → KnownIn ph lane v b → writes_in ph v p s → HasLoader v.now
+selected_in (phase.Cleaning c) lane v b p s known write = known.selected
+selected_in phase.Waiting lane v b p s known write = absurd write
+selected_in phase.Unlearned lane v b p s known write = absurd write
+selected_in (phase.Looking l) lane v b p s known write = absurd write
+selected_in phase.Over lane v b p s known write = absurd write
 
 unlisted_event : (o : Option (List DepId)) → ¬ (IsSome o) → o ≡ None
 unlisted_event None none = refl
@@ -184,6 +193,7 @@ alone_in (phase.Cleaning c) lane v b p s q known holds relists write shown =
     unlisted_event (list_in q.event) (λ some. (let same : Some q.lane ≡ Some lane = sym (relists q shown some) ∙ known.sysroot in holds q shown cc))
 alone_in phase.Waiting lane v b p s q known holds relists write shown = absurd write
 alone_in phase.Unlearned lane v b p s q known holds relists write shown = absurd write
+alone_in (phase.Looking l) lane v b p s q known holds relists write shown = absurd write
 alone_in phase.Over lane v b p s q known holds relists write shown = absurd write
 
 -- ---- the same of a removal
@@ -197,6 +207,9 @@ module _ (actor lane : ℕ) (t : CleanCommand) (v : View) (b : Books) (p : Path)
 
   pub written_off_deployment : (base : Disk) (rows : List BootRow) (row : BootRow) → listed_in b ≡ ids_of rows → AreRowsOf base rows → Contains rows row → ¬ (deployment.IsOnTheWay row.id row.bootcsum p)
   written_off_deployment base rows row listed are among = off_deployment base rows are p (goes_in t.phase lane v b (ids_of rows) p s f.known listed write) row among
+
+  pub written_selected : HasLoader v.now
+  written_selected = selected_in t.phase lane v b p s f.known write
 
   pub written_alone : (q : Pending) → Holds (clean_kind t) lane b → IsRelistedByHolder b → b.pending ≡ Some q → list_in q.event ≡ None
   written_alone q holds relists shown = alone_in t.phase lane v b p s q f.known holds relists write shown

@@ -1,4 +1,5 @@
 -- A removal of deployments that the list doesn't name, as a task.
+use Rattle.std.specs.Global.{Vec}
 use Rattle.std.specs.Prelude.{◌≡◌, ◌⊎◌, ◌^◌, ℕ, suc, true, false, List, Option, Some, None, Ok}
 use Rattle.ost_types.specs.Path.{Path}
 use Rattle.fs_trait.specs.declared.task.StepResult.{StepResult}
@@ -7,11 +8,12 @@ use Rattle.fs_trait.specs.declared.types.FsErr.{FsErr}
 use Rattle.fs_trait.specs.Change.{Writes}
 use Rattle.fs_trait.specs.Effect.{OfNone}
 use Rattle.fs_trait.specs.Seen.{Seen}
-use Rattle.fs_trait.specs.View.{View}
+use Rattle.fs_trait.specs.View.{Disk, View}
 use Rattle.boot_model.specs.declared.item.DepId.{DepId}
 use Rattle.deploy_clean.specs.Cleaning.{IsStepped, begun}
 use Rattle.deploy_clean.specs.Steps.{Needs, WritesOf}
 use Rattle.deploy_clean.specs.Unlisted.{IsClean}
+use Rattle.durable_list.specs.Standing.{HasLoader}
 use Rattle.durable_deployments.specs.Bounds.{AreBounded}
 use Rattle.rely_guarantee.specs.declared.books.Pin.{Pin}
 use Rattle.rely_guarantee.specs.declared.kind.Wants.{Wants}
@@ -65,11 +67,13 @@ clean_left t = left_in t.phase t.room
 -- which phase comes behind which
 abbrev pub Follows : Phase → Phase → Type 0
 Follows phase.Waiting phase.Unlearned = Unit {0}
+Follows (phase.Looking l) (phase.Cleaning n) = n ≡ begun l.items
 Follows (phase.Cleaning c) (phase.Cleaning n) = IsStepped c (Ok turn.More) n
 Follows p n = ⊥
 
 -- in which one it may end
 abbrev pub Ends : Phase → Type 0
+Ends (phase.Looking l) = Unit {0}
 Ends (phase.Cleaning c) = Unit {0}
 Ends phase.Over = Unit {0}
 Ends p = ⊥
@@ -79,14 +83,20 @@ abbrev pub clean_stepped : CleanCommand → StepResult (Unit {0}) → CleanComma
 clean_stepped t turn.More new = (new ≡ record t { room = new.room; phase = new.phase }) × Follows t.phase new.phase × (t.room ≡ suc new.room)
 clean_stepped t (turn.Done x) new = (new ≡ record t { phase = phase.Over }) × Ends t.phase
 
--- what is known of the view behind a step that goes on
+-- what is known of the view behind a step that goes on; a removal begins only where a list is selected
 abbrev pub Goes : Phase → Phase → View → View → Type 0
 Goes phase.Waiting phase.Unlearned v w = w ≡ v
+Goes (phase.Looking l) (phase.Cleaning n) v w = (w ≡ v) × HasLoader w.now
 Goes (phase.Cleaning c) (phase.Cleaning n) v w = Writes (WritesOf c v) v w × Needs n w
 Goes p n v w = ⊥
 
+-- No list is selected, or nothing stands that it doesn't name.
+abbrev pub IsCleaned : Disk → List DepId → Type 0
+IsCleaned d listed = (¬ (HasLoader d)) ⊎ IsClean d listed
+
 -- and behind the last one, which changes nothing
 abbrev pub Tells : Phase → View → View → Type 0
+Tells (phase.Looking l) v w = (w ≡ v) × (¬ (HasLoader w.now))
 Tells (phase.Cleaning c) v w = (w ≡ v) × IsClean w.now c.listed
 Tells p v w = ⊥
 
@@ -110,7 +120,7 @@ IsNew t = t.phase ≡ phase.Waiting
 
 -- Where it waits for it and there is memory, it is told what is listed.
 abbrev pub Learns : List DepId → CleanCommand → Phase → CleanCommand → Type 0
-Learns ids old phase.Unlearned new = (new ≡ old) ⊎ (new ≡ record old { phase = phase.Cleaning (begun ids) })
+Learns ids old phase.Unlearned new = (new ≡ old) ⊎ ((l : Vec DepId) × (l.items ≡ ids) × (new ≡ record old { phase = phase.Looking l }))
 Learns ids old p new = new ≡ old
 
 abbrev pub clean_learns : RefBook → List DepId → List Pin → CleanCommand → CleanCommand → Type 0

@@ -22,6 +22,7 @@ use Rattle.clean_command.specs.declared.command.CleanCommand.{CleanCommand}
 use Rattle.clean_command.specs.declared.phase.Phase.{Phase}
 use Rattle.clean_command.specs.declared.phase.Phase.TheVariants as phase
 use Rattle.clean_command.specs.Commands.{Ends, Follows, clean_kind, clean_needs, clean_stepped, clean_wants, clean_writes, kind_in, needs_in, writes_in}
+use Rattle.clean_command.specs.Following.{follow_cases}
 use Rattle.clean_command.specs.Facts.{Facts, IsCleaning, KnownIn}
 use Rattle.clean_command.specs.Places.{IsDeployed, writes_deployed}
 
@@ -75,17 +76,18 @@ deployed_within b v lane p mine is = record {
 module _ (c : Cleaning) (lane : ℕ) (v : View) (b : Books) (known : IsCleaning c lane v b) where
   cleans_within : Within (WritesOf c v) (Guarantee b v lane lane)
   cleans_within p s wrote =
-      let d = writes_deployed c v p s known.origins known.needs wrote in
+      let d = writes_deployed c v p s known.needs wrote in
       subst (Guarantee b v lane lane p) (sym d.1) (deployed_within b v lane p known.sysroot d.0)
 
   cleans_still : Still (WritesOf c v) v
-  cleans_still (RefOf name) s wrote = absurd (elsewhere (ref_path name) (Ref name) (writes_deployed c v (ref_path name) s known.origins known.needs wrote).0 (place-ref name))
+  cleans_still (RefOf name) s wrote = absurd (elsewhere (ref_path name) (Ref name) (writes_deployed c v (ref_path name) s known.needs wrote).0 (place-ref name))
 
 -- ---- what is owed
 
 duty_in : (p : Phase) (actor lane : ℕ) (v : View) (b : Books) (Done : View → Type 0) → KnownIn p lane v b → StepObligation (kind_in p) actor lane v b (writes_in p v) Done
 duty_in phase.Waiting actor lane v b Done known = ((λ p s wrote. absurd wrote), (λ x s wrote. absurd wrote))
 duty_in phase.Unlearned actor lane v b Done known = ((λ p s wrote. absurd wrote), (λ x s wrote. absurd wrote))
+duty_in (phase.Looking l) actor lane v b Done known = ((λ p s wrote. absurd wrote), (λ x s wrote. absurd wrote))
 duty_in (phase.Cleaning c) actor lane v b Done known = (cleans_within c lane v b known, cleans_still c lane v b known)
 duty_in phase.Over actor lane v b Done known = absurd known
 
@@ -97,6 +99,7 @@ duty_of t actor lane v b Done f = duty_in t.phase actor lane v b Done f.known
 ready_in : (p : Phase) (lane : ℕ) (v : View) (b : Books) → KnownIn p lane v b → needs_in p v
 ready_in phase.Waiting lane v b known = tt
 ready_in phase.Unlearned lane v b known = tt
+ready_in (phase.Looking l) lane v b known = tt
 ready_in (phase.Cleaning c) lane v b known = (known.needs, known.bounded)
 ready_in phase.Over lane v b known = known
 
@@ -106,22 +109,7 @@ ready_of actor lane t v b f = ready_in t.phase lane v b f.known
 -- ---- which kind of step may follow
 
 chain_in : (p n : Phase) → Follows p n → Chain (kind_in p) (kind_in n)
-chain_in phase.Waiting phase.Unlearned is = tt
-chain_in (phase.Cleaning c) (phase.Cleaning n) is = tt
-chain_in phase.Waiting phase.Waiting is = absurd is
-chain_in phase.Waiting (phase.Cleaning n) is = absurd is
-chain_in phase.Waiting phase.Over is = absurd is
-chain_in phase.Unlearned phase.Waiting is = absurd is
-chain_in phase.Unlearned phase.Unlearned is = absurd is
-chain_in phase.Unlearned (phase.Cleaning n) is = absurd is
-chain_in phase.Unlearned phase.Over is = absurd is
-chain_in (phase.Cleaning c) phase.Waiting is = absurd is
-chain_in (phase.Cleaning c) phase.Unlearned is = absurd is
-chain_in (phase.Cleaning c) phase.Over is = absurd is
-chain_in phase.Over phase.Waiting is = absurd is
-chain_in phase.Over phase.Unlearned is = absurd is
-chain_in phase.Over (phase.Cleaning n) is = absurd is
-chain_in phase.Over phase.Over is = absurd is
+chain_in = follow_cases (λ p n. Chain (kind_in p) (kind_in n)) tt (λ l n is. tt) (λ c n step. tt)
 
 pub chain_of : (t new : CleanCommand) → clean_stepped t turn.More new → Chain (clean_kind t) (clean_kind new)
 chain_of t new step = chain_in t.phase new.phase step.1
@@ -131,6 +119,7 @@ chain_of t new step = chain_in t.phase new.phase step.1
 last_in : (p : Phase) → Ends p → IsLastly (kind_in p)
 last_in phase.Waiting is = absurd is
 last_in phase.Unlearned is = absurd is
+last_in (phase.Looking l) is = tt
 last_in (phase.Cleaning c) is = tt
 last_in phase.Over is = tt
 
@@ -141,6 +130,7 @@ last_of t new step = last_in t.phase step.1
 unclaimed_in : (p : Phase) (name : Name) → kind_in p ≡ Claim name → ⊥
 unclaimed_in phase.Waiting name is = let no : Take clean_wants ≡ Claim name = is in cc
 unclaimed_in phase.Unlearned name is = let no : Quiet ≡ Claim name = is in cc
+unclaimed_in (phase.Looking l) name is = let no : Quiet ≡ Claim name = is in cc
 unclaimed_in (phase.Cleaning c) name is = let no : Quiet ≡ Claim name = is in cc
 unclaimed_in phase.Over name is = let no : Quiet ≡ Claim name = is in cc
 

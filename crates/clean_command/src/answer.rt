@@ -1,6 +1,6 @@
 /// What a removal of deployments answers.
 #[derive(Clone, Copy, Debug, PartialEq, Eq)]
 pub enum CleanAnswer {
-    /// No deployment stands that the list doesn't name, nor its origin file.
+    /// No deployment stands that the list doesn't name, nor its origin file; or no list is selected, and none was removed.
     Cleaned,
 }

@@ -1,10 +1,12 @@
 //! The removal of deployments that the list doesn't name, as a task of the system.
 ghost use Rattle.std.specs.Prelude.{◌≡◌, ◌<◌, ◌^◌, suc, IfOk, OnErr};
+ghost use Rattle.deploy_clean.specs.Cleaning.{begun};
 ghost use Rattle.clean_command.specs.declared.phase.Phase.TheVariants as phases;
 ghost use Rattle.clean_command.specs.Commands.{IsNew, clean_answer, clean_kind, clean_learns, clean_leaves, clean_left, clean_needs, clean_refuses, clean_stepped, clean_wants, clean_writes, goes, most_steps};
 ghost use Rattle.clean_command.specs.Facts.{clean_facts};
 ghost use Rattle.clean_command.specs.Laws.{clean_laws};
 
+use crate::look::has_loader;
 use crate::{CleanAnswer, Phase};
 use boot_model::DepId;
 use deploy_clean::CleanTask;
@@ -16,8 +18,9 @@ use std::alloc::Global;
 use std::mem;
 
 /// Removes each deployment that the list doesn't name, and its origin file. First it takes the lock of the lane that works on the list,
-/// and is told by `learn` what that names; each further step lists at most one folder, or makes at most one change. It is given 2^127
-/// steps, and refused as if memory were wanting should it need more.
+/// and is told by `learn` what that names. Then it looks whether a list is selected: where none is, it is over, and nothing goes. Each
+/// further step lists at most one folder, or makes at most one change. It is given 2^127 steps, and refused as if memory were wanting
+/// should it need more.
 #[derive(Drop, Debug)]
 pub struct CleanCommand {
     alloc: Global,
@@ -48,8 +51,7 @@ impl CleanCommand {
     {
         if let Phase::Unlearned = self.phase {
             if let Ok(listed) = copy_all(self.alloc, deployments) {
-                let cleaning = CleanTask::new(self.alloc, listed);
-                drop(mem::replace(&mut self.phase, Phase::Cleaning(cleaning)));
+                drop(mem::replace(&mut self.phase, Phase::Looking(listed)));
             }
         }
     }
@@ -81,8 +83,23 @@ impl CleanCommand {
     {
         match turn {
             StepResult::More => self.room = room,
-            StepResult::Done(()) => drop(mem::replace(&mut self.phase, Phase::Over)),
+            StepResult::Done(()) => self.end(),
         }
+    }
+
+    fn end(&mut self)
+        ensures { self.new ≡ record self.old { phase = phases.Over } }
+    {
+        drop(mem::replace(&mut self.phase, Phase::Over));
+    }
+
+    /// What isn't listed is removed from now on.
+    fn clean(&mut self, listed: Vec<DepId>, room: u128)
+        ensures { self.new ≡ record self.old { room = room; phase = phases.Cleaning (begun listed.items) } }
+    {
+        self.room = room;
+        let cleaning = CleanTask::new(self.alloc, listed);
+        drop(mem::replace(&mut self.phase, Phase::Cleaning(cleaning)));
     }
 
     /// It has the lock.
@@ -162,6 +179,16 @@ impl CommandTask for CleanCommand {
                 Ok(StepResult::More)
             }
             Phase::Unlearned => Err(FsErr::NoMemory),
+            Phase::Looking(listed) => {
+                let room = room_behind(self.room)?;
+                if has_loader(self.alloc, fs)? {
+                    let listed = mem::replace(listed, Vec::new(self.alloc));
+                    self.clean(listed, room);
+                    return Ok(StepResult::More);
+                }
+                self.end();
+                Ok(StepResult::Done(()))
+            }
             Phase::Cleaning(cleaning) => {
                 let room = room_behind(self.room)?;
                 let turn = cleaning.step(fs)?;

@@ -4,6 +4,7 @@
 mod answer;
 mod command;
 mod laws;
+mod look;
 mod phase;
 
 pub use answer::CleanAnswer;

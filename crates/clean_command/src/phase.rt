@@ -1,3 +1,4 @@
+use boot_model::DepId;
 use deploy_clean::CleanTask;
 
 /// How far a removal of deployments is.
@@ -7,6 +8,8 @@ pub enum Phase {
     Waiting,
     /// It has it, and wasn't told yet which deployments are listed.
     Unlearned,
+    /// It was, and doesn't know yet whether a list is selected.
+    Looking(Vec<DepId>),
     /// What isn't listed is removed.
     Cleaning(CleanTask),
     /// It is done.
