@@ -28,6 +28,7 @@ no_commit (command.Checkout rev name) fields kind has = cc
 no_commit (command.Reset branch sum) fields kind has = cc
 no_commit (command.DropRef branch) fields kind has = cc
 no_commit (command.Prune depth) fields kind has = cc
+no_commit command.Cleanup fields kind has = cc
 no_commit (command.Commit branch tree subject body time) fields kind has = has
 
 -- and a commit is no other command

@@ -14,7 +14,7 @@ use Rattle.script.specs.declared.command.CommitLine.{CommitLine}
 use Rattle.script.specs.declared.command.Written.{Written}
 use Rattle.script.specs.declared.command.Written.TheVariants as written
 use Rattle.script.specs.declared.words.Keyword.{Keyword}
-use Rattle.script.specs.declared.words.Keyword.TheVariants.{Refs, Status, RevParse, Log, Ls, Cat, Checkout, Reset, DropRef, Prune, Commit}
+use Rattle.script.specs.declared.words.Keyword.TheVariants.{Refs, Status, RevParse, Log, Ls, Cat, Checkout, Reset, DropRef, Prune, Cleanup, Commit}
 use Rattle.script.proofs.Slices.{two_of}
 use Rattle.script.proofs.Spelling.{field_one}
 
@@ -64,7 +64,7 @@ no_rev_name now fs b two none rev name are =
     none name (subst (λ f. IsNameField f name) second are.4)
 
 keywords : List Keyword
-keywords = Refs ∷ Status ∷ RevParse ∷ Log ∷ Ls ∷ Cat ∷ Checkout ∷ Reset ∷ DropRef ∷ Prune ∷ Commit ∷ []
+keywords = Refs ∷ Status ∷ RevParse ∷ Log ∷ Ls ∷ Cat ∷ Checkout ∷ Reset ∷ DropRef ∷ Prune ∷ Cleanup ∷ Commit ∷ []
 
 -- the first of these keywords with this spelling
 first_spelled : List ℕ → List Keyword → Option Keyword
@@ -83,6 +83,7 @@ found Checkout = refl
 found Reset = refl
 found DropRef = refl
 found Prune = refl
+found Cleanup = refl
 found Commit = refl
 
 pub spelled_one : (j k : Keyword) → spelled j ≡ spelled k → j ≡ k
@@ -105,6 +106,7 @@ NoneHas Checkout fields = (rev : Rev) (name : List ℕ) → ¬ (HasFields (comma
 NoneHas Reset fields = (branch commit : List ℕ) → ¬ (HasFields (command.Reset branch commit) fields)
 NoneHas DropRef fields = (branch : List ℕ) → ¬ (HasFields (command.DropRef branch) fields)
 NoneHas Prune fields = (depth : ℕ) → ¬ (HasFields (command.Prune depth) fields)
+NoneHas Cleanup fields = ¬ (HasFields command.Cleanup fields)
 NoneHas Commit fields = (line : CommitLine) → ¬ (IsCommitLine fields line)
 
 not_had : (c : Command) (fields : List (List ℕ)) → NoneHas (keyword_of c) fields → ¬ (HasFields c fields)
@@ -118,6 +120,7 @@ not_had (command.Checkout rev name) fields none = none rev name
 not_had (command.Reset branch commit) fields none = none branch commit
 not_had (command.DropRef branch) fields none = none branch
 not_had (command.Prune depth) fields none = none depth
+not_had command.Cleanup fields none = none
 not_had (command.Commit branch tree subject body time) fields none = λ h. h
 
 module _ (words fields : List (List ℕ)) (word : List ℕ) (line : words ≡ word ∷ fields) where
@@ -198,6 +201,12 @@ module _ (words fields : List (List ℕ)) (word : List ℕ) (line : words ≡ wo
       → MatchOption o (AreNoCommand words) (IsWritten words)
   prune_from is None none = no_command Prune is none
   prune_from is (Some w) it = subst (IsWritten words) (sym it.1) (is_command (command.Prune it.0) is it.2)
+
+  pub cleanup_from : word ≡ spelled Cleanup → (o : Option Written)
+      → MatchOption o (NoneHas Cleanup fields) (λ w. (w ≡ written.Command command.Cleanup) × HasFields command.Cleanup fields)
+      → MatchOption o (AreNoCommand words) (IsWritten words)
+  cleanup_from is None none = no_command Cleanup is none
+  cleanup_from is (Some w) it = subst (IsWritten words) (sym it.0) (is_command command.Cleanup is it.1)
 
   pub commit_from : word ≡ spelled Commit → (o : Option Written)
       → MatchOption o (NoneHas Commit fields) (λ w. (c : CommitLine) × (w ≡ written.Commit c) × IsCommitLine fields c)

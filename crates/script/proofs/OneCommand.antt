@@ -9,7 +9,7 @@ use Rattle.script.specs.Words.{AreRevName, AreRevPath, HasFields, IsBranch, IsCo
 use Rattle.script.specs.declared.command.Rev.{Rev}
 use Rattle.script.specs.declared.command.Rev.TheVariants.{Ref, Commit}
 use Rattle.script.specs.declared.command.Command.{Command}
-use Rattle.script.specs.declared.command.Command.TheVariants.{Refs, Status, RevParse, Log, Ls, Cat, Checkout, Reset, DropRef, Prune, Commit as CommitTree}
+use Rattle.script.specs.declared.command.Command.TheVariants.{Refs, Status, RevParse, Log, Ls, Cat, Checkout, Reset, DropRef, Prune, Cleanup, Commit as CommitTree}
 use Rattle.script.specs.declared.words.Keyword.{Keyword}
 use Rattle.script.specs.declared.words.Keyword.TheVariants as word
 use Rattle.script.proofs.Alone.{same_fields, same_keyword}
@@ -61,6 +61,7 @@ Shape word.Checkout fields c = (rev : Rev) × (name : List ℕ) × (c ≡ Checko
 Shape word.Reset fields c = (branch commit : List ℕ) × (c ≡ Reset branch commit) × HasFields (Reset branch commit) fields
 Shape word.DropRef fields c = (branch : List ℕ) × (c ≡ DropRef branch) × HasFields (DropRef branch) fields
 Shape word.Prune fields c = (depth : ℕ) × (c ≡ Prune depth) × HasFields (Prune depth) fields
+Shape word.Cleanup fields c = c ≡ Cleanup
 Shape word.Commit fields c = ⊥
 
 shape : (c : Command) (fields : List (List ℕ)) → HasFields c fields → Shape (keyword_of c) fields c
@@ -74,6 +75,7 @@ shape (Checkout rev name) fields has = (rev, name, refl, has)
 shape (Reset branch commit) fields has = (branch, commit, refl, has)
 shape (DropRef branch) fields has = (branch, refl, has)
 shape (Prune depth) fields has = (depth, refl, has)
+shape Cleanup fields has = refl
 shape (CommitTree branch tree subject body time) fields has = has
 
 rev_field_one : (fields : List (List ℕ)) (a b : Rev) → HasFields (RevParse a) fields → HasFields (RevParse b) fields → a ≡ b
@@ -110,6 +112,7 @@ shape_one word.Prune fields c d p q =
     let a = p.2 in
     let b = q.2 in
     p.1 ∙ ap Prune (small_one a.0 p.0 q.0 a.2 (subst (λ f. IsNumber (2 ^ 32) f q.0) (first_same a.0 b.0 fields a.1 b.1) b.2)) ∙ sym q.1
+shape_one word.Cleanup fields c d p q = p ∙ sym q
 shape_one word.Commit fields c d p q = absurd p
 
 pub command_one : (words : List (List ℕ)) (c d : Command) → IsCommand words c → IsCommand words d → c ≡ d

@@ -9,7 +9,7 @@ use Rattle.script.specs.Field.{IsField, IsNameField, IsNumber, IsPathField, IsTe
 use Rattle.script.specs.declared.command.Rev.{Rev}
 use Rattle.script.specs.declared.command.Rev.TheVariants.{Ref, Commit}
 use Rattle.script.specs.declared.command.Command.{Command}
-use Rattle.script.specs.declared.command.Command.TheVariants.{Refs, Status, RevParse, Log, Ls, Cat, Checkout, Reset, DropRef, Prune, Commit as CommitTree}
+use Rattle.script.specs.declared.command.Command.TheVariants.{Refs, Status, RevParse, Log, Ls, Cat, Checkout, Reset, DropRef, Prune, Cleanup, Commit as CommitTree}
 use Rattle.script.specs.declared.command.CommitLine.{CommitLine}
 use Rattle.script.specs.declared.command.Written.{Written}
 use Rattle.script.specs.declared.command.Written.TheVariants as written
@@ -44,6 +44,7 @@ spelled word.Checkout = codes "checkout"
 spelled word.Reset = codes "reset"
 spelled word.DropRef = codes "drop"
 spelled word.Prune = codes "prune"
+spelled word.Cleanup = codes "cleanup"
 spelled word.Commit = codes "commit"
 
 abbrev pub keyword_of : Command → Keyword
@@ -57,6 +58,7 @@ keyword_of (Checkout rev name) = word.Checkout
 keyword_of (Reset branch commit) = word.Reset
 keyword_of (DropRef branch) = word.DropRef
 keyword_of (Prune depth) = word.Prune
+keyword_of Cleanup = word.Cleanup
 keyword_of (CommitTree branch tree subject body time) = word.Commit
 
 -- REV PATH
@@ -78,6 +80,7 @@ HasFields (Checkout rev name) fields = AreRevName fields rev name
 HasFields (Reset branch commit) fields = (f g : List ℕ) × (fields ≡ f ∷ g ∷ []) × IsBranch f branch × IsCommit g commit
 HasFields (DropRef branch) fields = (f : List ℕ) × (fields ≡ f ∷ []) × IsBranch f branch
 HasFields (Prune depth) fields = (f : List ℕ) × (fields ≡ f ∷ []) × IsNumber (2 ^ 32) f depth
+HasFields Cleanup fields = fields ≡ []
 HasFields (CommitTree branch tree subject body time) fields = ⊥
 
 -- BRANCH TREE SUBJECT BODY TIME

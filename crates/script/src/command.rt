@@ -52,6 +52,8 @@ pub enum Command {
     Prune {
         depth: u32,
     },
+    /// `cleanup` removes the deployments that the list doesn't name.
+    Cleanup,
     /// `commit` commits the tree, and makes the ref name the commit. Its time is in seconds since 1970.
     Commit {
         branch: RefName,

@@ -33,6 +33,15 @@ pub fn read_status(fields: &[&[u8]]) -> Option<Written>
     }
 }
 
+pub fn read_cleanup(fields: &[&[u8]]) -> Option<Written>
+    ensures { MatchOption result (¬ (HasFields command.Cleanup (map (λ f. f.now) fields.now))) (λ c. (c ≡ written.Command command.Cleanup) × HasFields command.Cleanup (map (λ f. f.now) fields.now)) }
+{
+    match fields {
+        [] => Some(Written::Command(Command::Cleanup)),
+        _ => None,
+    }
+}
+
 pub fn read_rev_parse(alloc: Global, fields: &[&[u8]]) -> Result<Option<Written>, NoMemory>
     ensures { IfOk result (λ o. MatchOption o ((rev : Rev) → ¬ (HasFields (command.RevParse rev) (map (λ f. f.now) fields.now))) (λ c. (rev : Rev) × (c ≡ written.Command (command.RevParse rev)) × HasFields (command.RevParse rev) (map (λ f. f.now) fields.now))) }
 {

@@ -5,8 +5,8 @@ ghost use Rattle.script.specs.Words.{AreNoCommand, IsWritten, ReadsWords, spelle
 use crate::command::{Command, Lane, Written};
 use crate::fault::ScriptFault;
 use crate::read::{
-    read_cat, read_checkout, read_commit_words, read_drop, read_log, read_ls, read_prune,
-    read_refs, read_reset, read_rev_parse, read_status,
+    read_cat, read_checkout, read_cleanup, read_commit_words, read_drop, read_log, read_ls,
+    read_prune, read_refs, read_reset, read_rev_parse, read_status,
 };
 use ost_types::{NoMemory, Text};
 use std::alloc::Global;
@@ -62,6 +62,7 @@ pub fn read_written(alloc: Global, words: &[&[u8]]) -> Result<Option<Written>, N
         Some(Keyword::Reset) => read_reset(alloc, fields),
         Some(Keyword::DropRef) => read_drop(alloc, fields),
         Some(Keyword::Prune) => read_prune(alloc, fields),
+        Some(Keyword::Cleanup) => Ok(read_cleanup(fields)),
         Some(Keyword::Commit) => read_commit_words(alloc, fields),
         None => Ok(None),
     }
@@ -80,6 +81,7 @@ enum Keyword {
     Reset,
     DropRef,
     Prune,
+    Cleanup,
     Commit,
 }
 
@@ -97,6 +99,7 @@ fn keyword_of(word: &[u8]) -> Option<Keyword>
         b"reset" => Some(Keyword::Reset),
         b"drop" => Some(Keyword::DropRef),
         b"prune" => Some(Keyword::Prune),
+        b"cleanup" => Some(Keyword::Cleanup),
         b"commit" => Some(Keyword::Commit),
         _ => None,
     }

@@ -12,7 +12,7 @@ use Rattle.repo_layout.specs.RefFile.{IsSum}
 use Rattle.script.specs.Words.{AreRevName, AreRevPath, IsBranch, IsCommit, IsRev, IsWritten}
 use Rattle.script.specs.declared.command.Rev.{Rev}
 use Rattle.script.specs.declared.command.Rev.TheVariants.{Ref, Commit}
-use Rattle.script.specs.declared.command.Command.TheVariants.{Refs, Status, RevParse, Log, Ls, Cat, Checkout, Reset, DropRef, Prune, Commit as CommitTree}
+use Rattle.script.specs.declared.command.Command.TheVariants.{Refs, Status, RevParse, Log, Ls, Cat, Checkout, Reset, DropRef, Prune, Cleanup, Commit as CommitTree}
 use Rattle.script.specs.declared.command.Written.{Written}
 use Rattle.script.specs.declared.command.Written.TheVariants as written
 use Rattle.script.specs.Field.{IsNameField, IsPathText, field_text}
@@ -88,6 +88,7 @@ words_visible (written.Command (Reset branch commit)) is short =
 words_visible (written.Command (DropRef branch)) is short = All-from_recursion (All IsVisible) (command_words (written.Command (DropRef branch))) (visible_all (codes "drop") refl, (branch_visible branch is, tt))
 words_visible (written.Command (Prune depth)) is short =
     All-from_recursion (All IsVisible) (command_words (written.Command (Prune depth))) (visible_all (codes "prune") refl, (number_visible depth (omega (arith, is)), tt))
+words_visible (written.Command Cleanup) is short = All-from_recursion (All IsVisible) (command_words (written.Command Cleanup)) (visible_all (codes "cleanup") refl, tt)
 words_visible (written.Command (CommitTree branch tree subject body time)) is short = absurd is
 words_visible (written.Commit line) is short =
     All-from_recursion (All IsVisible) (command_words (written.Commit line)) (
@@ -110,6 +111,7 @@ words_back (written.Command (Reset branch commit)) is short =
     record { fields = field_text branch ∷ field_text (hex_of commit) ∷ []; line = refl; has = (field_text branch, field_text (hex_of commit), refl, branch_back branch is.0, commit_back commit is.1) }
 words_back (written.Command (DropRef branch)) is short = record { fields = field_text branch ∷ []; line = refl; has = (field_text branch, refl, branch_back branch is) }
 words_back (written.Command (Prune depth)) is short = record { fields = number_text depth ∷ []; line = refl; has = (number_text depth, refl, number_back (2 ^ 32) depth (omega arith) is) }
+words_back (written.Command Cleanup) is short = record { fields = []; line = refl; has = refl }
 words_back (written.Command (CommitTree branch tree subject body time)) is short = absurd is
 words_back (written.Commit line) is short =
     let fields : List (List ℕ) = field_text line.branch ∷ number_text line.tree ∷ field_text line.subject ∷ field_text line.body ∷ number_text line.time ∷ [] in (

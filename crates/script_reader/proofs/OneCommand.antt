@@ -4,7 +4,7 @@ use Rattle.std.specs.Prelude.{slice_get}
 use Rattle.script.specs.Words.{IsCommitLine, IsCommitLineAt, IsWritten, Resolves}
 use Rattle.script.specs.declared.command.CommitLine.{CommitLine}
 use Rattle.script.specs.declared.command.Command.{Command}
-use Rattle.script.specs.declared.command.Command.TheVariants.{Refs, Status, RevParse, Log, Ls, Cat, Checkout, Reset, DropRef, Prune, Commit as CommitTree}
+use Rattle.script.specs.declared.command.Command.TheVariants.{Refs, Status, RevParse, Log, Ls, Cat, Checkout, Reset, DropRef, Prune, Cleanup, Commit as CommitTree}
 use Rattle.script.specs.declared.command.Written.{Written}
 use Rattle.script.specs.declared.command.Written.TheVariants as written
 use Rattle.script.proofs.Alone.{commit_alone}
@@ -52,6 +52,7 @@ same_one (Checkout r n) d e = e
 same_one (Reset b s) d e = e
 same_one (DropRef b) d e = e
 same_one (Prune n) d e = e
+same_one Cleanup d e = e
 same_one (CommitTree b t s m n) d e = subst (IsSame (CommitTree b t s m n)) e (refl, refl, refl, refl, refl)
 
 commit_same : (trees : List Tree) (k l : CommitLine) (c d : Command) → SameLine k l → Resolves trees (written.Commit k) c → Resolves trees (written.Commit l) d → IsSame c d
@@ -69,6 +70,7 @@ commit_same trees k l (CommitTree b t s m n) (Checkout r x) same p q = absurd q
 commit_same trees k l (CommitTree b t s m n) (Reset x y) same p q = absurd q
 commit_same trees k l (CommitTree b t s m n) (DropRef x) same p q = absurd q
 commit_same trees k l (CommitTree b t s m n) (Prune x) same p q = absurd q
+commit_same trees k l (CommitTree b t s m n) Cleanup same p q = absurd q
 commit_same trees k l Refs d same p q = absurd p
 commit_same trees k l Status d same p q = absurd p
 commit_same trees k l (RevParse r) d same p q = absurd p
@@ -79,6 +81,7 @@ commit_same trees k l (Checkout r x) d same p q = absurd p
 commit_same trees k l (Reset x y) d same p q = absurd p
 commit_same trees k l (DropRef x) d same p q = absurd p
 commit_same trees k l (Prune x) d same p q = absurd p
+commit_same trees k l Cleanup d same p q = absurd p
 
 -- what is written by the same words is the same command
 pub command_same : (trees : List Tree) (words : List (List ℕ)) (w x : Written) (c d : Command) → IsWritten words w → IsWritten words x → Resolves trees w c → Resolves trees x d → IsSame c d

@@ -104,6 +104,7 @@ known_tree trees words (written.Commit k) (written.Commit l) (command.Checkout r
 known_tree trees words (written.Commit k) (written.Commit l) (command.Reset branch sum) n s r t un = r
 known_tree trees words (written.Commit k) (written.Commit l) (command.DropRef branch) n s r t un = r
 known_tree trees words (written.Commit k) (written.Commit l) (command.Prune depth) n s r t un = r
+known_tree trees words (written.Commit k) (written.Commit l) command.Cleanup n s r t un = r
 
 -- a line that leads on is refused for want of memory alone
 clash_start : (u : State) (line : List ℕ) (n : ℕ) (e : ScriptFault) → Leads start line u → Refuses start line n e → e ≡ NoMemory

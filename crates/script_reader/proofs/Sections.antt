@@ -103,6 +103,7 @@ short_tree trees (written.Commit line) (command.Checkout rev name) is few = absu
 short_tree trees (written.Commit line) (command.Reset branch commit) is few = absurd is
 short_tree trees (written.Commit line) (command.DropRef branch) is few = absurd is
 short_tree trees (written.Commit line) (command.Prune depth) is few = absurd is
+short_tree trees (written.Commit line) command.Cleanup is few = absurd is
 
 module _ (trees : List Tree) (lanes : List Commands) (few : length trees ≤ 2 ^ 32) where
   commands_lead : (before : Commands) (lines : List Written) (commands : Commands) → AreCommands trees lines commands → length before + length lines ≤ 64

@@ -18,7 +18,7 @@ use Rattle.script.specs.Words.{Resolves, keyword_of, spelled}
 use Rattle.script.specs.declared.command.Rev.{Rev}
 use Rattle.script.specs.declared.command.Rev.TheVariants.{Ref, Commit}
 use Rattle.script.specs.declared.command.Command.{Command}
-use Rattle.script.specs.declared.command.Command.TheVariants.{Refs, Status, RevParse, Log, Ls, Cat, Checkout, Reset, DropRef, Prune, Commit as CommitTree}
+use Rattle.script.specs.declared.command.Command.TheVariants.{Refs, Status, RevParse, Log, Ls, Cat, Checkout, Reset, DropRef, Prune, Cleanup, Commit as CommitTree}
 use Rattle.script.specs.declared.command.Written.{Written}
 use Rattle.script.specs.declared.command.Written.TheVariants as written
 use Rattle.script_reader.specs.declared.node.NodeKind.TheVariants.{Folder, File, Link}
@@ -99,6 +99,7 @@ command_fields (Checkout rev name) = rev_name_fields rev name
 command_fields (Reset branch commit) = field_text branch ∷ field_text (hex_of commit) ∷ []
 command_fields (DropRef branch) = field_text branch ∷ []
 command_fields (Prune depth) = number_text depth ∷ []
+command_fields Cleanup = []
 command_fields (CommitTree branch tree subject body time) = []
 
 abbrev pub command_words : Written → List (List ℕ)
@@ -182,6 +183,7 @@ IsWritable (written.Command (Checkout rev name)) = IsWritableRev rev × IsName n
 IsWritable (written.Command (Reset branch commit)) = IsRefName branch × IsSum commit
 IsWritable (written.Command (DropRef branch)) = IsRefName branch
 IsWritable (written.Command (Prune depth)) = depth < 2 ^ 32
+IsWritable (written.Command Cleanup) = Unit {0}
 IsWritable (written.Command (CommitTree branch tree subject body time)) = ⊥
 IsWritable (written.Commit line) = IsRefName line.branch × IsText line.subject × IsText line.body × (line.time < 2 ^ 64)
 

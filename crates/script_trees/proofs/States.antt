@@ -12,7 +12,7 @@ use Rattle.ost_forms.specs.declared.tree_item.BodySpec.{BodySpec}
 use Rattle.ost_forms.specs.declared.tree_item.TreeItem.{TreeItem}
 use Rattle.script.specs.Words.{IsCommand, IsCommitLineAt, IsWritten as IsCommandWritten, Resolves}
 use Rattle.script.specs.declared.command.Command.{Command}
-use Rattle.script.specs.declared.command.Command.TheVariants.{Refs, Status, RevParse, Log, Ls, Cat, Checkout, Reset, DropRef, Prune, Commit}
+use Rattle.script.specs.declared.command.Command.TheVariants.{Refs, Status, RevParse, Log, Ls, Cat, Checkout, Reset, DropRef, Prune, Cleanup, Commit}
 use Rattle.script.specs.declared.command.CommitLine.{CommitLine}
 use Rattle.script.specs.declared.command.Written.{Written}
 use Rattle.script.specs.declared.command.Written.TheVariants as written
@@ -68,6 +68,7 @@ plain words (Checkout rev name) is = tt
 plain words (Reset branch commit) is = tt
 plain words (DropRef branch) is = tt
 plain words (Prune depth) is = tt
+plain words Cleanup is = tt
 plain words (Commit branch tree subject body time) is = absurd is.has
 
 both_short : (line b n s m t : List ℕ) (fields : List (List ℕ)) (l : CommitLine) → fields_of line ≡ codes "commit" ∷ fields → fields ≡ b ∷ n ∷ s ∷ m ∷ t ∷ [] → IsCommitLineAt b n s m t l → length l.subject + length l.body ≤ length line
@@ -86,6 +87,7 @@ committed trees line l (Checkout rev name) all few is r = absurd r
 committed trees line l (Reset branch commit) all few is r = absurd r
 committed trees line l (DropRef branch) all few is r = absurd r
 committed trees line l (Prune depth) all few is r = absurd r
+committed trees line l Cleanup all few is r = absurd r
 committed trees line l (Commit branch tree subject body time) all few is r =
     let at = is.2.6 in
     let short = both_short line is.2.0 is.2.1 is.2.2 is.2.3 is.2.4 is.0 l is.1 is.2.5 at in (
@@ -204,6 +206,7 @@ fit_command limits wide (Checkout rev name) is = tt
 fit_command limits wide (Reset branch commit) is = tt
 fit_command limits wide (DropRef branch) is = tt
 fit_command limits wide (Prune depth) is = tt
+fit_command limits wide Cleanup is = tt
 fit_command limits wide (Commit branch tree subject body time) is = fit_commit limits tree.items subject body wide is.0 is.1 is.2 is.3
 
 pub scripts_fit : (bytes : List ℕ) (lanes : List Commands) → IsScript bytes lanes → AreFit lanes

@@ -142,6 +142,29 @@ fn reads_depths(rt: HostRuntime) -> Result<(), Fail> {
     Ok(())
 }
 
+fn is_cleanup(alloc: Global, line: &[u8]) -> Result<bool, Fail> {
+    let words = words_of(alloc, line)?;
+    let Ok(lanes) = read_words(alloc, &words) else {
+        return Ok(false);
+    };
+    let Some(lane) = lanes.first() else {
+        return Ok(false);
+    };
+    Ok(matches!(lane.commands.first(), Some(Command::Cleanup)))
+}
+
+#[test]
+fn reads_cleanups(rt: HostRuntime) -> Result<(), Fail> {
+    let alloc = rt.alloc();
+    let is = is_cleanup(alloc, b"cleanup")?;
+    assert!(&rt; is);
+    let lines = b"cleanup 0|cleanup ~|cleanup cleanup|clean|cleanups|Cleanup|%63leanup";
+    for line in lines.split(|byte| *byte == b'|') {
+        assert!(&rt; fault_of(alloc, line)? == Some(ScriptFault::BadLine(1)));
+    }
+    Ok(())
+}
+
 // The program says the same of these and of words that are no command's.
 #[test]
 fn knows_no_tree(rt: HostRuntime) -> Result<(), Fail> {

@@ -1,7 +1,7 @@
 use Rattle.std.proofs.Common.{Some, ◌∙◌, ap}
 use Rattle.std.proofs.lemmas.Result.{IfOk-weaker}
 use Rattle.script.proofs.Slices.{first_of}
-use Rattle.script.proofs.Fields.{some_of, refs_from, status_from, rev_parse_from, log_from, ls_from, cat_from, checkout_from, reset_from, drop_from, prune_from, commit_from, no_word}
+use Rattle.script.proofs.Fields.{some_of, refs_from, status_from, rev_parse_from, log_from, ls_from, cat_from, checkout_from, reset_from, drop_from, prune_from, cleanup_from, commit_from, no_word}
 use Rattle.script.proofs.words.read_written.Goals as goal
 
 pub returns-in-Some-Refs : goal.returns-in-Some-Refs
@@ -53,6 +53,11 @@ pub returns-in-Some-Prune : goal.returns-in-Some-Prune
 returns-in-Some-Prune c =
     let word = some_of _ _ c.keyword_of.result _ c.keyword_of.ensures (c.in-Some-Prune.is ∙ ap Some c.in-Some-Prune.field-0-is) in
     IfOk-weaker _ _ _ (prune_from _ _ _ (first_of (λ w. w.now) c.args.words.now _ c.in-len1-up.len_at_least) word) c.read_prune.ensures
+
+pub returns-in-Some-Cleanup : goal.returns-in-Some-Cleanup
+returns-in-Some-Cleanup c =
+    let word = some_of _ _ c.keyword_of.result _ c.keyword_of.ensures (c.in-Some-Cleanup.is ∙ ap Some c.in-Some-Cleanup.field-0-is) in
+    cleanup_from _ _ _ (first_of (λ w. w.now) c.args.words.now _ c.in-len1-up.len_at_least) word _ c.read_cleanup.ensures
 
 pub returns-in-Some-Commit : goal.returns-in-Some-Commit
 returns-in-Some-Commit c =
