@@ -31,8 +31,8 @@ _ostree_cli() {
 		[[ $COMP_CWORD != 1 ]] || words+=' --help --version'
 	else
 		case $fields,$command in
-		0,) words='init run refs status rev-parse log ls cat checkout reset drop prune' ;;
-		1,--help) [[ ${COMP_WORDS[0]} == *ostree_native ]] || words='init run commit refs status rev-parse log ls cat checkout reset drop prune' ;;
+		0,) words='init run refs status rev-parse log ls cat checkout reset drop prune cleanup' ;;
+		1,--help) [[ ${COMP_WORDS[0]} == *ostree_native ]] || words='init run commit refs status rev-parse log ls cat checkout reset drop prune cleanup' ;;
 		1,rev-parse | 1,log | 1,ls | 1,cat | 1,checkout | 1,reset | 1,drop) words=$(_ostree_cli_refs) ;;
 		esac
 	fi

@@ -484,7 +484,7 @@ def check_lists(room):
         kernel = "boot" + re.search("(?m)^linux (.*)", it.read())[1].removeprefix("/boot")
     # so many folders of this name fit into the 2,048 bytes of a path
     name = "n" * 200
-    fits = (2048 - len(f"/{deployment}/etc")) // (len(name) + 1)
+    fits, fits_here = ((2048 - len(f"/{at}")) // (len(name) + 1) for at in (f"{deployment}/etc", entries))
     rows = [
         ("ln -sfn loader.7 boot/loader", "/boot/loader BadLink"),
         ("rm boot/loader && touch boot/loader", "/boot/loader BadLink"),
@@ -505,6 +505,7 @@ def check_lists(room):
         (f"chmod 700 {deployment}/usr/lib", f"/{deployment}/usr/lib NotCheckout"),
         (f"rm -r {deployment}/etc && touch {deployment}/etc", f"/{deployment}/etc WrongKind"),
         (f"cd {deployment}/etc && for i in $(seq {fits + 1}); do mkdir {name} && cd {name} || exit; done", f"/{deployment}/etc{('/' + name) * fits} WrongKind"),
+        (f"cd {entries} && for i in $(seq {fits_here + 1}); do mkdir {name} && cd {name} || exit; done", f"/{entries}{('/' + name) * fits_here} WrongKind"),
         (f"cp -p {kernel} new && echo >>new && mv new {kernel}", f"/{kernel} KernelCopy"),
         (f"rm {kernel}", f"/{kernel} KernelCopy"),
     ]
@@ -537,10 +538,10 @@ def check_unlisted(room):
     os.remove(record)
     loader = f"{folder}/boot/loader"
     os.rename(loader, loader + ".away")
-    ours(folder, "refs")
+    holds(ours(folder, "cleanup") == "0 0 ok\n", "a cleanup without a list")
     holds(os.path.isdir(left) and os.path.isdir(os.path.join(place, one)), "nothing selects a list")
     os.rename(loader + ".away", loader)
-    ours(folder, "refs")
+    holds(ours(folder, "cleanup") == "0 0 ok\n", "a cleanup")
     holds(not os.path.lexists(left) and not os.path.lexists(left + ".origin"), "it is left")
     holds(booted(folder) == before, "something of the listed ones was changed")
     take(folder)

@@ -3,6 +3,7 @@ use Rattle.std.proofs.Common.{◌⊎◌, inl, inr}
 use Rattle.rely_guarantee.specs.declared.either.Either.TheVariants.{Left, Right}
 use Rattle.checkout_command.specs.declared.answer.CheckoutAnswer.TheVariants as checked
 use Rattle.checkout_family.specs.declared.reply.CheckoutReply.TheVariants as checkout
+use Rattle.clean_command.specs.declared.answer.CleanAnswer.TheVariants as cleaned
 use Rattle.command.specs.declared.ended.Ended.{Ended}
 use Rattle.command.specs.declared.ended.Ended.TheVariants as ended
 use Rattle.commit_command.specs.declared.answer.CommitAnswer.TheVariants as committed
@@ -41,12 +42,13 @@ outside_answer (Right (Left (committed.TooMany number))) is = is
 outside_answer (Right (Left (committed.RefMoved seen now))) is = is
 outside_answer (Right (Left (committed.RefClash other))) is = is
 outside_answer (Right (Left committed.NoRef)) is = is
-outside_answer (Right (Right (Left checkout.NoRef))) is = is
-outside_answer (Right (Right (Left (checkout.Tried checked.Done)))) is = is
-outside_answer (Right (Right (Left (checkout.Tried (checked.NoCommit sum))))) is = is
-outside_answer (Right (Right (Left (checkout.Tried (checked.Partial sum))))) is = is
-outside_answer (Right (Right (Left (checkout.Tried (checked.DestExists path))))) is = is
-outside_answer (Right (Right (Left (checkout.Tried (checked.Lacking path))))) is = tt
+outside_answer (Right (Right (Left (Left checkout.NoRef)))) is = is
+outside_answer (Right (Right (Left (Left (checkout.Tried checked.Done))))) is = is
+outside_answer (Right (Right (Left (Left (checkout.Tried (checked.NoCommit sum)))))) is = is
+outside_answer (Right (Right (Left (Left (checkout.Tried (checked.Partial sum)))))) is = is
+outside_answer (Right (Right (Left (Left (checkout.Tried (checked.DestExists path)))))) is = is
+outside_answer (Right (Right (Left (Left (checkout.Tried (checked.Lacking path)))))) is = tt
+outside_answer (Right (Right (Left (Right cleaned.Cleaned)))) is = is
 outside_answer (Right (Right (Right (Left (listed.Refs rows))))) is = is
 outside_answer (Right (Right (Right (Left (listed.Status rows))))) is = is
 outside_answer (Right (Right (Right (Right (pruned.Pruned kept removed))))) is = is

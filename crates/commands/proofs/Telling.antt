@@ -3,6 +3,7 @@ use Rattle.std.proofs.Common.{ℕ, List}
 use Rattle.rely_guarantee.specs.declared.either.Either.TheVariants.{Left, Right}
 use Rattle.checkout_command.specs.declared.answer.CheckoutAnswer.TheVariants as checked
 use Rattle.checkout_family.specs.declared.reply.CheckoutReply.TheVariants as checkout
+use Rattle.clean_command.specs.declared.answer.CleanAnswer.TheVariants as cleaned
 use Rattle.command.specs.declared.ended.Ended.{Ended}
 use Rattle.command.specs.declared.ended.Ended.TheVariants as ended
 use Rattle.commit_command.specs.declared.answer.CommitAnswer.TheVariants as committed
@@ -41,12 +42,13 @@ no_failure (Right (Left (committed.TooMany number))) is = is
 no_failure (Right (Left (committed.RefMoved seen now))) is = is
 no_failure (Right (Left (committed.RefClash other))) is = is
 no_failure (Right (Left committed.NoRef)) is = is
-no_failure (Right (Right (Left checkout.NoRef))) is = is
-no_failure (Right (Right (Left (checkout.Tried checked.Done)))) is = is
-no_failure (Right (Right (Left (checkout.Tried (checked.NoCommit sum))))) is = is
-no_failure (Right (Right (Left (checkout.Tried (checked.Partial sum))))) is = is
-no_failure (Right (Right (Left (checkout.Tried (checked.DestExists path))))) is = is
-no_failure (Right (Right (Left (checkout.Tried (checked.Lacking path))))) is = is
+no_failure (Right (Right (Left (Left checkout.NoRef)))) is = is
+no_failure (Right (Right (Left (Left (checkout.Tried checked.Done))))) is = is
+no_failure (Right (Right (Left (Left (checkout.Tried (checked.NoCommit sum)))))) is = is
+no_failure (Right (Right (Left (Left (checkout.Tried (checked.Partial sum)))))) is = is
+no_failure (Right (Right (Left (Left (checkout.Tried (checked.DestExists path)))))) is = is
+no_failure (Right (Right (Left (Left (checkout.Tried (checked.Lacking path)))))) is = is
+no_failure (Right (Right (Left (Right cleaned.Cleaned)))) is = is
 no_failure (Right (Right (Right (Left (listed.Refs rows))))) is = is
 no_failure (Right (Right (Right (Left (listed.Status rows))))) is = is
 no_failure (Right (Right (Right (Right (pruned.Pruned kept removed))))) is = is
@@ -83,12 +85,13 @@ absence_answer commit (Right (Left (committed.TooMany number))) is = is
 absence_answer commit (Right (Left (committed.RefMoved seen now))) is = is
 absence_answer commit (Right (Left (committed.RefClash other))) is = is
 absence_answer commit (Right (Left committed.NoRef)) is = is
-absence_answer commit (Right (Right (Left checkout.NoRef))) is = is
-absence_answer commit (Right (Right (Left (checkout.Tried checked.Done)))) is = is
-absence_answer commit (Right (Right (Left (checkout.Tried (checked.NoCommit sum))))) is = is
-absence_answer commit (Right (Right (Left (checkout.Tried (checked.Partial sum))))) is = is
-absence_answer commit (Right (Right (Left (checkout.Tried (checked.DestExists path))))) is = is
-absence_answer commit (Right (Right (Left (checkout.Tried (checked.Lacking path))))) is = is
+absence_answer commit (Right (Right (Left (Left checkout.NoRef)))) is = is
+absence_answer commit (Right (Right (Left (Left (checkout.Tried checked.Done))))) is = is
+absence_answer commit (Right (Right (Left (Left (checkout.Tried (checked.NoCommit sum)))))) is = is
+absence_answer commit (Right (Right (Left (Left (checkout.Tried (checked.Partial sum)))))) is = is
+absence_answer commit (Right (Right (Left (Left (checkout.Tried (checked.DestExists path)))))) is = is
+absence_answer commit (Right (Right (Left (Left (checkout.Tried (checked.Lacking path)))))) is = is
+absence_answer commit (Right (Right (Left (Right cleaned.Cleaned)))) is = is
 absence_answer commit (Right (Right (Right (Left (listed.Refs rows))))) is = is
 absence_answer commit (Right (Right (Right (Left (listed.Status rows))))) is = is
 absence_answer commit (Right (Right (Right (Right (pruned.Pruned kept removed))))) is = is

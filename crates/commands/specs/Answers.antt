@@ -6,6 +6,8 @@ use Rattle.checkout_command.specs.declared.answer.CheckoutAnswer.{CheckoutAnswer
 use Rattle.checkout_command.specs.declared.answer.CheckoutAnswer.TheVariants as checked
 use Rattle.checkout_family.specs.declared.reply.CheckoutReply.{CheckoutReply}
 use Rattle.checkout_family.specs.declared.reply.CheckoutReply.TheVariants as checkout
+use Rattle.clean_command.specs.declared.answer.CleanAnswer.{CleanAnswer}
+use Rattle.clean_command.specs.declared.answer.CleanAnswer.TheVariants as cleaned
 use Rattle.commit_command.specs.declared.answer.CommitAnswer.{CommitAnswer}
 use Rattle.commit_command.specs.declared.answer.CommitAnswer.TheVariants as committed
 use Rattle.list_family.specs.declared.answer.ListAnswer.{ListAnswer}
@@ -66,6 +68,9 @@ abbrev pub checkout_reply : CheckoutReply → script.Answer
 checkout_reply checkout.NoRef = answer.NoRef
 checkout_reply (checkout.Tried a) = checkout_answer a
 
+abbrev pub clean_answer : CleanAnswer → script.Answer
+clean_answer cleaned.Cleaned = answer.Nothing
+
 abbrev pub list_answer : ListAnswer → script.Answer
 list_answer (listed.Refs rows) = answer.Refs rows
 list_answer (listed.Status rows) = answer.Status rows
@@ -79,7 +84,8 @@ abbrev pub spoken : Answer → script.Answer
 spoken (Left (Left a)) = ref_answer a
 spoken (Left (Right a)) = read_reply a
 spoken (Right (Left a)) = commit_answer a
-spoken (Right (Right (Left a))) = checkout_reply a
+spoken (Right (Right (Left (Left a)))) = checkout_reply a
+spoken (Right (Right (Left (Right a)))) = clean_answer a
 spoken (Right (Right (Right (Left a)))) = list_answer a
 spoken (Right (Right (Right (Right a)))) = prune_answer a
 

@@ -24,6 +24,11 @@ use Rattle.checkout_family.specs.declared.task.CheckoutsTask.{CheckoutsTask}
 use Rattle.checkout_family.specs.declared.words.CheckoutWords.{CheckoutWords}
 use Rattle.checkout_family.specs.Family.{checkout_doing, checkout_means}
 use Rattle.checkout_family.specs.Laws.{checkout_tasks}
+use Rattle.clean_command.specs.declared.answer.CleanAnswer.{CleanAnswer}
+use Rattle.clean_family.specs.declared.task.CleansTask.{CleansTask}
+use Rattle.clean_family.specs.declared.words.CleanWords.{CleanWords}
+use Rattle.clean_family.specs.Family.{clean_doing, clean_means}
+use Rattle.clean_family.specs.Laws.{clean_tasks}
 use Rattle.list_family.specs.declared.answer.ListAnswer.{ListAnswer}
 use Rattle.list_family.specs.declared.task.ListTask.{ListTask}
 use Rattle.list_family.specs.declared.words.ListWords.{ListWords}
@@ -40,25 +45,25 @@ use Rattle.lane_system.specs.declared.lane.Reply as system_reply
 
 -- the tasks, the words and the answers
 abbrev pub Task : Type 0
-Task = Either (Either RefsTask ReadTask) (Either CommitsTask (Either CheckoutsTask (Either ListTask PruneTask)))
+Task = Either (Either RefsTask ReadTask) (Either CommitsTask (Either (Either CheckoutsTask CleansTask) (Either ListTask PruneTask)))
 
 abbrev pub Words : Type 0
-Words = Either (Either RefWords ReadWords) (Either CommitWords (Either CheckoutWords (Either ListWords PruneWords)))
+Words = Either (Either RefWords ReadWords) (Either CommitWords (Either (Either CheckoutWords CleanWords) (Either ListWords PruneWords)))
 
 abbrev pub Answer : Type 0
-Answer = Either (Either RefAnswer ReadReply) (Either CommitAnswer (Either CheckoutReply (Either ListAnswer PruneAnswer)))
+Answer = Either (Either RefAnswer ReadReply) (Either CommitAnswer (Either (Either CheckoutReply CleanAnswer) (Either ListAnswer PruneAnswer)))
 
 -- what they mean
 abbrev pub means : Meaning Words Answer
-means = either_means (either_means ref_means read_means) (either_means commit_means (either_means checkout_means (either_means list_means prune_means)))
+means = either_means (either_means ref_means read_means) (either_means commit_means (either_means (either_means checkout_means clean_means) (either_means list_means prune_means)))
 
 -- what the tasks are to their commands
 abbrev pub doing : Doing Task Words Answer
-doing = either_doing (either_doing ref_doing read_doing) (either_doing commit_doing (either_doing checkout_doing (either_doing list_doing prune_doing)))
+doing = either_doing (either_doing ref_doing read_doing) (either_doing commit_doing (either_doing (either_doing checkout_doing clean_doing) (either_doing list_doing prune_doing)))
 
 -- and what their steps are to the system
 abbrev pub tasks : TaskSpec Task
-tasks = either_tasks (either_tasks ref_tasks read_tasks) (either_tasks commit_tasks (either_tasks checkout_tasks (either_tasks list_tasks prune_tasks)))
+tasks = either_tasks (either_tasks ref_tasks read_tasks) (either_tasks commit_tasks (either_tasks (either_tasks checkout_tasks clean_tasks) (either_tasks list_tasks prune_tasks)))
 
 -- all of it
 abbrev pub program : Family Task Words Answer

@@ -1,10 +1,11 @@
 //! What a command answers, as a script has it.
 ghost use Rattle.std.specs.Prelude.{◌≡◌};
-ghost use Rattle.commands.specs.Answers.{answer_of, checkout_answer, checkout_reply, commit_answer, list_answer, prune_answer, read_answer, read_reply, ref_answer, reply_of, spoken};
+ghost use Rattle.commands.specs.Answers.{answer_of, checkout_answer, checkout_reply, clean_answer, commit_answer, list_answer, prune_answer, read_answer, read_reply, ref_answer, reply_of, spoken};
 
 use crate::{CommandAnswer, CommandReply};
 use checkout_command::CheckoutAnswer;
 use checkout_family::CheckoutReply;
+use clean_command::CleanAnswer;
 use command::Ended;
 use commit_command::CommitAnswer;
 use list_family::ListAnswer;
@@ -55,7 +56,8 @@ fn spoken(answer: CommandAnswer) -> Answer
         Either::Left(Either::Left(answer)) => ref_answer(answer),
         Either::Left(Either::Right(answer)) => read_reply(answer),
         Either::Right(Either::Left(answer)) => commit_answer(answer),
-        Either::Right(Either::Right(Either::Left(answer))) => checkout_reply(answer),
+        Either::Right(Either::Right(Either::Left(Either::Left(answer)))) => checkout_reply(answer),
+        Either::Right(Either::Right(Either::Left(Either::Right(answer)))) => clean_answer(answer),
         Either::Right(Either::Right(Either::Right(Either::Left(answer)))) => list_answer(answer),
         Either::Right(Either::Right(Either::Right(Either::Right(answer)))) => prune_answer(answer),
     }
@@ -130,6 +132,14 @@ fn checkout_answer(answer: CheckoutAnswer) -> Answer
         CheckoutAnswer::Partial(commit) => Answer::Partial(commit),
         CheckoutAnswer::DestExists(path) => Answer::DestExists(path),
         CheckoutAnswer::Lacking(path) => Answer::Outside(path),
+    }
+}
+
+fn clean_answer(answer: CleanAnswer) -> Answer
+    ensures { result ≡ clean_answer answer }
+{
+    match answer {
+        CleanAnswer::Cleaned => Answer::Nothing,
     }
 }
 

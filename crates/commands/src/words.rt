@@ -4,6 +4,7 @@ ghost use Rattle.commands.specs.Words.{reads, words_of};
 
 use crate::CommandWords;
 use checkout_family::CheckoutWords;
+use clean_family::CleanWords;
 use commit_family::CommitWords;
 use list_family::ListWords;
 use prune_family::PruneWords;
@@ -46,7 +47,10 @@ pub fn words_of(command: Command) -> CommandWords
             time,
         })),
         Command::Checkout { rev, name } => {
-            Either::Right(Either::Right(Either::Left(CheckoutWords { rev, name })))
+            Either::Right(Either::Right(Either::Left(Either::Left(CheckoutWords { rev, name }))))
+        }
+        Command::Cleanup => {
+            Either::Right(Either::Right(Either::Left(Either::Right(CleanWords {}))))
         }
         Command::Refs => {
             Either::Right(Either::Right(Either::Right(Either::Left(ListWords::Refs))))

@@ -121,6 +121,14 @@ another lane works with stays as well.
   ok KEPT REMOVED          how many objects stay, and how many were removed
 ";
 
+const CLEANUP: &[u8] = b"\
+ostree_cli cleanup
+
+Removes the deployments that the list of those that boot doesn't name, each with
+its origin file. Where no list is selected it removes nothing.
+  ok
+";
+
 /// What a command does, and what it answers; of any other word what `--help` alone prints.
 pub fn detail(command: &str) -> &'static [u8] {
     match command {
@@ -137,6 +145,7 @@ pub fn detail(command: &str) -> &'static [u8] {
         "reset" => RESET,
         "drop" => DROP,
         "prune" => PRUNE,
+        "cleanup" => CLEANUP,
         _ => USAGE,
     }
 }

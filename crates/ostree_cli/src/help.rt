@@ -39,6 +39,7 @@ Commands:
   drop BRANCH           remove the ref
   prune DEPTH           remove the objects that no ref leads to; DEPTH parents
                         of each ref's commit stay, too
+  cleanup               remove the deployments that the list doesn't name
   --help                print this text
   --help COMMAND        print what the command does and what it answers
   --version             print the program's version

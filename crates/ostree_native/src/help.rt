@@ -45,6 +45,7 @@ Commands:
   drop BRANCH           remove the ref
   prune DEPTH           remove the objects that no ref leads to; DEPTH parents
                         of each ref's commit stay, too
+  cleanup               remove the deployments that the list doesn't name
   --help                print this text
   --version             print the program's version
 

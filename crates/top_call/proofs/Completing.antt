@@ -38,6 +38,7 @@ not_run (command.Checkout rev name) fields is = let e = is.line in cc
 not_run (command.Reset branch commit) fields is = let e = is.line in cc
 not_run (command.DropRef branch) fields is = let e = is.line in cc
 not_run (command.Prune depth) fields is = let e = is.line in cc
+not_run command.Cleanup fields is = let e = is.line in cc
 not_run (command.Commit branch tree subject body time) fields is = let e = is.line in cc
 
 a_request : (left : Option (List ℕ)) (fields : List (List ℕ)) → Ask left fields → AreNoRequest fields → ⊥

@@ -4,7 +4,7 @@ use Rattle.std.specs.Prelude.{All}
 use Rattle.std.proofs.lemmas.List.{get_or-map, length-map}
 use Rattle.ost_types.specs.declared.limits.Limits.{Limits}
 use Rattle.script.specs.declared.command.Command.{Command}
-use Rattle.script.specs.declared.command.Command.TheVariants.{Refs, Status, RevParse, Log, Ls, Cat, Checkout, Reset, DropRef, Prune, Commit}
+use Rattle.script.specs.declared.command.Command.TheVariants.{Refs, Status, RevParse, Log, Ls, Cat, Checkout, Reset, DropRef, Prune, Cleanup, Commit}
 use Rattle.script.specs.declared.command.Lane as script
 use Rattle.script_reader.specs.Script.{command_limit, lane_limit}
 use Rattle.script_trees.specs.Fit.{AreFit, IsFit, IsWide}
@@ -31,6 +31,7 @@ fit_command limits (Checkout rev name) is = tt
 fit_command limits (Reset branch commit) is = tt
 fit_command limits (DropRef branch) is = tt
 fit_command limits (Prune depth) is = tt
+fit_command limits Cleanup is = tt
 fit_command limits (Commit branch tree subject body time) is = record { items = is.ordered; makeable = is.makeable; small = λ parent short. is.small parent time short }
 
 pub few_lanes : (lanes : List script.Lane) → AreFit (commands_of lanes) → length lanes ≤ lane_limit

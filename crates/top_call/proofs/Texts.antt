@@ -15,7 +15,7 @@ use Rattle.script.specs.Words.{AreRevName, AreRevPath, IsCommand, HasFields, IsB
 use Rattle.script.specs.declared.command.Rev.TheVariants.{Ref, Commit}
 use Rattle.script.specs.declared.command.Rev.{Rev}
 use Rattle.script.specs.declared.command.Command.{Command}
-use Rattle.script.specs.declared.command.Command.TheVariants.{Refs, Status, RevParse, Log, Ls, Cat, Checkout, Reset, DropRef, Prune, Commit as CommitTree}
+use Rattle.script.specs.declared.command.Command.TheVariants.{Refs, Status, RevParse, Log, Ls, Cat, Checkout, Reset, DropRef, Prune, Cleanup, Commit as CommitTree}
 
 -- from the space to `~`
 abbrev IsPrinted : ℕ → Type 0
@@ -112,6 +112,7 @@ fields_text (Reset branch commit) fields has =
     subst (All IsText) (sym has.2) (All-cons IsText has.0 (has.1 ∷ []) (branch_text has.0 branch has.3) (alone has.1 (commit_text has.1 commit has.4)))
 fields_text (DropRef branch) fields has = subst (All IsText) (sym has.1) (alone has.0 (branch_text has.0 branch has.2))
 fields_text (Prune depth) fields has = subst (All IsText) (sym has.1) (alone has.0 (field_text has.0 (decimal depth) has.2.spelled))
+fields_text Cleanup fields has = subst (All IsText) (sym has) (All-nil IsText)
 fields_text (CommitTree branch tree subject body time) fields has = absurd has
 
 is_printed : ℕ → Bool
@@ -145,6 +146,7 @@ keyword_text (Checkout rev name) = text_from (codes "checkout") (tested (codes "
 keyword_text (Reset branch commit) = text_from (codes "reset") (tested (codes "reset") refl)
 keyword_text (DropRef branch) = text_from (codes "drop") (tested (codes "drop") refl)
 keyword_text (Prune depth) = text_from (codes "prune") (tested (codes "prune") refl)
+keyword_text Cleanup = text_from (codes "cleanup") (tested (codes "cleanup") refl)
 keyword_text (CommitTree branch tree subject body time) = text_from (codes "commit") (tested (codes "commit") refl)
 
 pub line_texts : (words : List (List ℕ)) (command : Command) → IsCommand words command → All IsText words
